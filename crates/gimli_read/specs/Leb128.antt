@@ -1,0 +1,91 @@
+-- LEB128 numbers (DWARF 5, section 7.6): seven bits of the number in each byte, the lowest first, and the
+-- last byte alone is below 128.
+-- Own: at most ten bytes, and a value of 64 bits; anything else is BadLeb128.
+use Rattle.std.specs.Prelude.{◌≡◌, ℕ, suc, ◌+◌, ◌-◌, ◌*◌, ◌%◌, ◌^◌, ◌<◌, ◌≤◌, List, [], ◌∷◌, ◌++◌, length, take, drop, slice_index, Bool, true, Option, Some, None, Result, Ok, Err, nat_lt, if◌then◌else◌, ℤ, pos, negsuc, ◌-ℤ◌}
+use Rattle.std.specs.List.{position}
+use Rattle.gimli_read.specs.declared.error.Error.{Error}
+use Rattle.gimli_read.specs.declared.error.Error.TheVariants.{UnexpectedEof, BadLeb128}
+use Rattle.gimli_read.specs.Section.{Section}
+use Rattle.gimli_read.specs.Reading.{Reading, ◌>>=◌}
+
+-- the sum of the low seven bits of byte i times 128 ^ (from + i)
+unfoldable pub sum_from : ℕ → List ℕ → ℕ
+sum_from from [] = 0
+sum_from from (b ∷ bytes) = b % 128 * 128 ^ from + sum_from (suc from) bytes
+
+-- the unsigned number that a text stands for
+abbrev pub uleb128_value : List ℕ → ℕ
+uleb128_value text = sum_from 0 text
+
+-- the signed number that a text stands for: bit 6 of its last byte is the sign
+abbrev pub sleb128_value : List ℕ → ℤ
+sleb128_value text = if nat_lt (slice_index text (length text - 1)) 64 then pos (uleb128_value text) else pos (uleb128_value text) -ℤ pos (128 ^ length text)
+
+-- whether a number has signed 64 bits
+abbrev pub fits_i64 : ℤ → Bool
+fits_i64 (pos n) = nat_lt n (2 ^ 63)
+fits_i64 (negsuc n) = nat_lt n (2 ^ 63)
+
+-- the text is one number: at most ten bytes, the last one alone below 128
+pub record IsLeb128Text (text : List ℕ) : Type 0 where
+  pub some : 0 < length text
+  pub at_most_ten : length text ≤ 10
+  pub continued : (k : ℕ) → k + 1 < length text → 128 ≤ slice_index text k
+  pub ended : slice_index text (length text - 1) < 128
+
+-- the text is one unsigned number, and this is its value
+abbrev pub IsUleb128 : List ℕ → ℕ → Type 0
+IsUleb128 text n = IsLeb128Text text × (n ≡ uleb128_value text) × (n < 2 ^ 64)
+
+-- the text is one signed number, and this is its value
+abbrev pub IsSleb128 : List ℕ → ℤ → Type 0
+IsSleb128 text z = IsLeb128Text text × (z ≡ sleb128_value text) × (fits_i64 z ≡ true)
+
+-- a text up to the place of its last byte, and what stands behind it
+abbrev pub cut_behind : List ℕ → Option ℕ → Result (List ℕ × List ℕ) Error
+cut_behind bytes None = Err (if nat_lt (length bytes) 10 then UnexpectedEof else BadLeb128)
+cut_behind bytes (Some n) = Ok (take (n + 1) bytes, drop (n + 1) bytes)
+
+-- the text of a number at the front
+abbrev pub leb128_text : List ℕ → Result (List ℕ × List ℕ) Error
+leb128_text bytes = cut_behind bytes (position (λ b. nat_lt b 128) (take 10 bytes))
+
+-- the unsigned number at the front of bytes, and the bytes after it
+unfoldable pub uleb128_in : List ℕ → Result (ℕ × List ℕ) Error
+uleb128_in bytes = do
+  text ← leb128_text bytes
+  if nat_lt (uleb128_value text.0) (2 ^ 64) then Ok (uleb128_value text.0, text.1) else Err BadLeb128
+
+-- the signed number at the front of bytes, and the bytes after it
+unfoldable pub sleb128_in : List ℕ → Result (ℤ × List ℕ) Error
+sleb128_in bytes = do
+  text ← leb128_text bytes
+  if fits_i64 (sleb128_value text.0) then Ok (sleb128_value text.0, text.1) else Err BadLeb128
+
+-- a reading of bytes as one of a section
+abbrev pub within : {A : Type 0} → (List ℕ → Result (A × List ℕ) Error) → Section → Reading A
+within read s = read s.bytes >>= λ x. Ok (x.0, record s { bytes = x.1 })
+
+-- an unsigned number
+abbrev pub uleb128_at : Section → Reading ℕ
+uleb128_at s = within uleb128_in s
+
+-- a signed number
+abbrev pub sleb128_at : Section → Reading ℤ
+sleb128_at s = within sleb128_in s
+
+-- each text of a number is read as that number, whatever follows
+abbrev pub ReadsUleb128 : Type 0
+ReadsUleb128 = (text rest : List ℕ) (n : ℕ) → IsUleb128 text n → uleb128_in (text ++ rest) ≡ Ok (n, rest)
+
+-- and nothing else is read
+abbrev pub ReadsUleb128Alone : Type 0
+ReadsUleb128Alone = (bytes rest : List ℕ) (n : ℕ) → uleb128_in bytes ≡ Ok (n, rest) → (text : List ℕ) × IsUleb128 text n × (bytes ≡ text ++ rest)
+
+-- the same of signed numbers
+abbrev pub ReadsSleb128 : Type 0
+ReadsSleb128 = (text rest : List ℕ) (z : ℤ) → IsSleb128 text z → sleb128_in (text ++ rest) ≡ Ok (z, rest)
+
+-- and nothing else is read
+abbrev pub ReadsSleb128Alone : Type 0
+ReadsSleb128Alone = (bytes rest : List ℕ) (z : ℤ) → sleb128_in bytes ≡ Ok (z, rest) → (text : List ℕ) × IsSleb128 text z × (bytes ≡ text ++ rest)

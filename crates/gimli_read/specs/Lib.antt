@@ -1,0 +1,5 @@
+pub mod Section
+pub mod Reading
+pub mod Number
+pub mod Leb128
+pub mod Text

@@ -1,0 +1,71 @@
+//! A reader that shares its bytes.
+
+ghost use Rattle.std.specs.Prelude.{◌≡◌};
+ghost use Rattle.gimli_read.specs.Section.{Section};
+
+use crate::endian::RunTimeEndian;
+use crate::error::Error;
+use crate::reader::Reader;
+use bytes::Bytes;
+use std::marker::Model;
+
+/// Shared bytes in a byte order. Splitting and duplicating it shares the bytes and copies none.
+#[derive(Clone, Drop)]
+pub struct EndianBytes {
+    bytes: Bytes,
+    endian: RunTimeEndian,
+}
+
+impl Model for EndianBytes {
+    ghost Value = { Section };
+
+    ghost view = { λ r. record { bytes = r.bytes; endian = r.endian } };
+}
+
+impl EndianBytes {
+    /// A reader of all of `bytes`. Takes no memory.
+    pub fn new(bytes: Bytes, endian: RunTimeEndian) -> EndianBytes
+        ensures gives { result ≡ record { bytes = bytes; endian = endian } }
+    {
+        EndianBytes { bytes, endian }
+    }
+}
+
+impl Reader for EndianBytes {
+    ghost section = { λ r. r };
+
+    fn len(&self) -> u64 {
+        self.bytes.len() as u64
+    }
+
+    fn endian(&self) -> RunTimeEndian {
+        self.endian
+    }
+
+    fn to_slice(&self) -> &[u8] {
+        self.bytes.as_slice()
+    }
+
+    fn split(&mut self, len: u64) -> Result<EndianBytes, Error> {
+        if self.len() < len {
+            return Err(Error::UnexpectedEof);
+        }
+        let front = self.bytes.split_to(len as usize)?;
+        Ok(EndianBytes {
+            bytes: front,
+            endian: self.endian,
+        })
+    }
+
+    fn skip(&mut self, len: u64) -> Result<(), Error> {
+        if self.len() < len {
+            return Err(Error::UnexpectedEof);
+        }
+        self.bytes.advance(len as usize);
+        Ok(())
+    }
+
+    fn duplicate(&self) -> Result<EndianBytes, Error> {
+        Ok(self.clone()?)
+    }
+}

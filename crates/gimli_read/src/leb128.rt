@@ -1,0 +1,104 @@
+//! LEB128 numbers (DWARF 5, section 7.6).
+
+ghost use Rattle.std.specs.Prelude.{◌≡◌, ◌≤◌, ◌<◌, ◌^◌, length, drop, nat_lt, IfOk};
+ghost use Rattle.std.specs.List.{position};
+ghost use Rattle.gimli_read.specs.Reading.{Tells};
+ghost use Rattle.gimli_read.specs.Leb128.{uleb128_value, leb128_text, uleb128_in, sleb128_in, ReadsUleb128, ReadsUleb128Alone};
+
+use crate::error::Error;
+
+// A text has at most this many bytes.
+const MAX_LEN: usize = 10;
+
+// Where the first byte below 128 stands.
+fn last_of(bytes: &[u8]) -> Option<usize>
+    ensures found { result ≡ position (λ b. nat_lt b 128) bytes.now }
+{
+    bytes.iter().position(|byte| *byte < 128)
+}
+
+// The text at the front.
+fn text_of(bytes: &[u8]) -> Result<&[u8], Error>
+    ensures gives { Tells (λ text. (text.now, drop (length text.now) bytes.now)) result
+        (leb128_text bytes.now) }
+{
+    if bytes.len() < MAX_LEN {
+        return match last_of(bytes) {
+            Some(last) => Ok(&bytes[..last + 1]),
+            None => Err(Error::UnexpectedEof),
+        };
+    }
+    match last_of(&bytes[..MAX_LEN]) {
+        Some(last) => Ok(&bytes[..last + 1]),
+        None => Err(Error::BadLeb128),
+    }
+}
+
+// The sum of the bits of a text.
+#[tactic(auto, using(crate::proofs::Leb128Lemmas::leb128_steps))]
+fn sum_of(text: &[u8]) -> u128
+    requires short { length text.now ≤ 10 }
+    ensures gives { result ≡ uleb128_value text.now }
+    ensures bound { result < 128 ^ length text.now }
+{
+    let mut sum = 0;
+    let mut scale = 1u128;
+    for byte in text {
+        sum += (*byte % 128) as u128 * scale;
+        scale *= 128;
+    }
+    sum
+}
+
+/// The unsigned number at the front, and the number of its bytes.
+#[tactic(auto, unfolding(crate::specs::Leb128::uleb128_in))]
+pub(crate) fn unsigned(bytes: &[u8]) -> Result<(u64, usize), Error>
+    ensures gives { Tells (λ x. (x.0, drop x.1 bytes.now)) result (uleb128_in bytes.now) }
+    ensures bound { IfOk result (λ x. x.1 ≤ length bytes.now) }
+{
+    let text = text_of(bytes)?;
+    let sum = sum_of(text);
+    if sum > u64::MAX as u128 {
+        return Err(Error::BadLeb128);
+    }
+    Ok((sum as u64, text.len()))
+}
+
+// What the next byte after a text of this length would count.
+#[tactic(auto, using(crate::proofs::Leb128Lemmas::scale_of))]
+fn scale_behind(len: usize) -> u128
+    requires short { len ≤ 10 }
+    ensures gives { result ≡ 128 ^ len }
+{
+    1 << (7 * len)
+}
+
+/// The signed number at the front, and the number of its bytes.
+#[tactic(auto, using(crate::proofs::Leb128Lemmas::negative_is), unfolding(crate::specs::Leb128::sleb128_in))]
+pub(crate) fn signed(bytes: &[u8]) -> Result<(i64, usize), Error>
+    ensures gives { Tells (λ x. (x.0, drop x.1 bytes.now)) result (sleb128_in bytes.now) }
+    ensures bound { IfOk result (λ x. x.1 ≤ length bytes.now) }
+{
+    let text = text_of(bytes)?;
+    let sum = sum_of(text);
+    let len = text.len();
+    if text[len - 1] < 64 {
+        if sum > i64::MAX as u128 {
+            return Err(Error::BadLeb128);
+        }
+        return Ok((sum as i64, len));
+    }
+    // How far the number is below -1.
+    let below = scale_behind(len) - 1 - sum;
+    if below > i64::MAX as u128 {
+        return Err(Error::BadLeb128);
+    }
+    Ok((!(below as i64), len))
+}
+
+/// An unsigned number is read from its text, whatever follows, and from nothing else.
+pub fn uleb128_laws()
+    ensures reads { ReadsUleb128 }
+    ensures alone { ReadsUleb128Alone }
+{
+}

@@ -1,0 +1,18 @@
+//! Reading DWARF sections: readers, numbers, forms and abbreviations.
+#![tactic(auto)]
+
+mod endian;
+mod endian_bytes;
+mod endian_slice;
+mod error;
+mod leb128;
+mod range;
+mod reader;
+
+pub use crate::endian::{Encoding, Format, RunTimeEndian};
+pub use crate::endian_bytes::EndianBytes;
+pub use crate::endian_slice::EndianSlice;
+pub use crate::error::Error;
+pub use crate::leb128::uleb128_laws;
+pub use crate::range::Range;
+pub use crate::reader::{Reader, read_initial_length};

@@ -3,7 +3,7 @@
 ghost use Rattle.std.specs.Prelude.{◌≡◌, ◌≤◌, ◌<◌, ◌^◌, length, drop, nat_lt, IfOk};
 ghost use Rattle.std.specs.List.{position};
 ghost use Rattle.gimli_read.specs.Reading.{Tells};
-ghost use Rattle.gimli_read.specs.Leb128.{uleb128_value, leb128_text, uleb128_in, sleb128_in, ReadsUleb128, ReadsUleb128Alone};
+ghost use Rattle.gimli_read.specs.Leb128.{uleb128_value, leb128_text, uleb128_in, sleb128_in, ReadsUleb128, ReadsUleb128Alone, ReadsSleb128, ReadsSleb128Alone};
 
 use crate::error::Error;
 
@@ -96,9 +96,10 @@ pub(crate) fn signed(bytes: &[u8]) -> Result<(i64, usize), Error>
     Ok((!(below as i64), len))
 }
 
-/// An unsigned number is read from its text, whatever follows, and from nothing else.
-pub fn uleb128_laws()
-    ensures reads { ReadsUleb128 }
-    ensures alone { ReadsUleb128Alone }
-{
-}
+/// A number is read from its text, whatever follows, and from nothing else: a law, with no code.
+pub fn leb128_laws()
+    ensures unsigned { ReadsUleb128 }
+    ensures unsigned_alone { ReadsUleb128Alone }
+    ensures signed { ReadsSleb128 }
+    ensures signed_alone { ReadsSleb128Alone }
+{}

@@ -1,0 +1,3 @@
+pub mod Steps
+pub mod Leb128Lemmas
+pub mod Leb128Texts

@@ -1,0 +1,59 @@
+-- Small steps on what readings give.
+use Rattle.std.proofs.Common.{◌≡◌, ◌≢◌, ℕ, ◌+◌, Bool, true, false, cond, ltb, List, length, take, drop, Option, Some, None, Result, Ok, Err, ◌==◌, ◌<◌, ◌⊎◌, inl, inr, refl, ap, sym, ◌∙◌, arith}
+use Rattle.std.specs.List.{position}
+use Rattle.std.proofs.lemmas.Grind.{common_steps}
+use Rattle.gimli_read.specs.declared.error.Error.{Error}
+use Rattle.gimli_read.specs.declared.error.Error.TheVariants.{OutOfMemory, UnexpectedEof}
+use Rattle.gimli_read.specs.Section.{Section, first, after}
+use Rattle.gimli_read.specs.Reading.{◌>>=◌, done, Refuses}
+use Rattle.gimli_read.specs.Number.{split_at, skipped_at, ended_at, null_terminated_at}
+
+-- a test that did not refuse
+pub guard_ok : {A : Type 0} (b : Bool) (d : Error) (x y : A) → cond b (Err d) (Ok x) ≡ Ok y → (b ≡ false) × (x ≡ y)
+guard_ok true d x y e = absurd cc
+guard_ok false d x y e = (refl, cc)
+
+-- the value of a step that did not fail
+pub bind_ok : {A B : Type 0} (r : Result A Error) (f : A → Result B Error) (y : B) → (r >>= f) ≡ Ok y → (x : A) × (r ≡ Ok x) × (f x ≡ Ok y)
+bind_ok (Ok x) f y e = (x, refl, e)
+bind_ok (Err d) f y e = absurd cc
+
+-- which way a test went
+pub chosen : {A : Type 0} (b : Bool) (x y z : A) → cond b x y ≡ z → ((b ≡ true) × (x ≡ z)) ⊎ ((b ≡ false) × (y ≡ z))
+chosen true x y z e = inl (refl, e)
+chosen false x y z e = inr (refl, e)
+
+-- two equal answers leave the same
+pub same_rest : {A B : Type 0} (x y : A × B) → done x ≡ done y → x.1 ≡ y.1
+same_rest {A = A} {B = B} x y e = let k : x ≡ y = cc in ap (λ (p : A × B). p.1) k
+
+-- two equal answers have the same value
+pub same_value : {A B : Type 0} (x y : A × B) → done x ≡ done y → x.0 ≡ y.0
+same_value {A = A} {B = B} x y e = let k : x ≡ y = cc in ap (λ (p : A × B). p.0) k
+
+-- a fault that is given may be told
+pub refuses_fault : {Y : Type 0} (e : Error) (given : Result Y Error) → given ≡ Err e → Refuses e given
+refuses_fault e given h = λ _. h
+
+-- a part's refusal is the whole's, where the part's fault is
+pub refuses_whole : {X Y : Type 0} (e : Error) (part : Result X Error) (whole : Result Y Error) → (part ≡ Err e → whole ≡ Err e) → Refuses e part → Refuses e whole
+refuses_whole e part whole f h = λ n. f (h n)
+
+-- a part, and then bytes that nobody looks at
+split_then_skip : (s part rest end : Section) (n k : ℕ) → split_at n s ≡ Ok (part, rest) → skipped_at k rest ≡ Ok (tt, end) → done {A = Section × Section} (first n s, after (n + k) s) ≡ done {A = Section × Section} (part, end)
+split_then_skip s part rest end n k e f =
+    let p = guard_ok (ltb (length s.bytes) n) UnexpectedEof (first n s, after n s) (part, rest) e in
+    let q = guard_ok (ltb (length rest.bytes) k) UnexpectedEof (tt, after k rest) (tt, end) f in
+    let part-is : first n s ≡ part = ap (λ (x : Section × Section). x.0) p.1 in
+    let rest-is : after n s ≡ rest = ap (λ (x : Section × Section). x.1) p.1 in
+    let end-is : after k rest ≡ end = ap (λ (x : Unit {0} × Section). x.1) q.1 in
+    let joined : drop k (drop n s.bytes) ≡ drop (n + k) s.bytes = grind (arith, common_steps) in
+    let same : after (n + k) s ≡ after k (after n s) = ap (λ (b : List ℕ). record s { bytes = b }) (sym joined) in
+    ap (λ (x : Section × Section). done x) (pair_is (first n s) part (after (n + k) s) end part-is (same ∙ ap (after k) rest-is ∙ end-is))
+  where
+    pair_is : (a b c d : Section) → a ≡ b → c ≡ d → ◌≡◌ {A = Section × Section} (a, c) (b, d)
+    pair_is a b c d g h = cc
+
+-- a text up to its zero byte, and that byte
+pub null_terminated_when : (s part rest end : Section) (n : ℕ) → position (λ b. b == 0) s.bytes ≡ Some n → split_at n s ≡ Ok (part, rest) → skipped_at 1 rest ≡ Ok (tt, end) → null_terminated_at s ≡ Ok (part, end)
+null_terminated_when s part rest end n e f h = ap (ended_at s) e ∙ split_then_skip s part rest end n 1 f h

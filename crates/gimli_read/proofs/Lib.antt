@@ -1,3 +1,5 @@
 pub mod Steps
 pub mod Leb128Lemmas
 pub mod Leb128Texts
+pub mod Shorter
+pub mod RunLemmas

@@ -3,3 +3,5 @@ pub mod Reading
 pub mod Number
 pub mod Leb128
 pub mod Text
+pub mod Run
+pub mod Yields

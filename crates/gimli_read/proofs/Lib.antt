@@ -3,3 +3,4 @@ pub mod Leb128Lemmas
 pub mod Leb128Texts
 pub mod Shorter
 pub mod RunLemmas
+pub mod FormLemmas

@@ -5,3 +5,4 @@ pub mod Leb128
 pub mod Text
 pub mod Run
 pub mod Yields
+pub mod Form

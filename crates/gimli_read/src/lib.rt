@@ -1,6 +1,7 @@
 //! Reading DWARF sections: readers, numbers, forms and abbreviations.
 #![tactic(auto)]
 
+mod constants;
 mod endian;
 mod endian_bytes;
 mod endian_slice;
@@ -8,7 +9,9 @@ mod error;
 mod leb128;
 mod range;
 mod reader;
+mod value;
 
+pub use crate::constants::{DwAt, DwForm, DwLang, DwTag};
 pub use crate::endian::{Encoding, Format, RunTimeEndian};
 pub use crate::endian_bytes::EndianBytes;
 pub use crate::endian_slice::EndianSlice;
@@ -16,3 +19,4 @@ pub use crate::error::Error;
 pub use crate::leb128::leb128_laws;
 pub use crate::range::Range;
 pub use crate::reader::{Reader, read_initial_length};
+pub use crate::value::{AttributeValue, DebugInfoOffset, UnitOffset, read_value};

@@ -1,0 +1,277 @@
+//! The values of attributes, by form.
+
+ghost use Rattle.std.specs.Prelude.{◌≡◌, OnErr};
+ghost use Rattle.gimli_read.specs.Reading.{Tells, Gives};
+ghost use Rattle.gimli_read.specs.Number.{fixed_at};
+ghost use Rattle.gimli_read.specs.Form.{seen_value, direct_at, reference_at, form_at, value_at, ref_addr_at};
+
+use crate::constants::DwForm;
+use crate::endian::{Encoding, RunTimeEndian};
+use crate::error::Error;
+use crate::reader::Reader;
+use byteorder::{BigEndian, ByteOrder, LittleEndian};
+
+/// An offset in bytes from the start of a unit's length field.
+#[derive(Clone, Copy, Debug, PartialEq, Eq)]
+pub struct UnitOffset(pub u64);
+
+/// An offset in bytes from the start of `.debug_info`.
+#[derive(Clone, Copy, Debug, PartialEq, Eq)]
+pub struct DebugInfoOffset(pub u64);
+
+/// The value of an attribute, as its form alone gives it (DWARF 5, section 7.5.5).
+#[derive(Drop)]
+pub enum AttributeValue<R> {
+    /// An address, as the file has it.
+    Addr(u64),
+    /// Bytes.
+    Block(R),
+    /// A constant of one byte.
+    Data1(u8),
+    /// A constant of two bytes.
+    Data2(u16),
+    /// A constant of four bytes.
+    Data4(u32),
+    /// A constant of eight bytes.
+    Data8(u64),
+    /// A constant of sixteen bytes.
+    Data16(u128),
+    /// A signed LEB128 constant.
+    Sdata(i64),
+    /// An unsigned LEB128 constant.
+    Udata(u64),
+    /// An expression.
+    Exprloc(R),
+    /// Whether something holds.
+    Flag(bool),
+    /// An offset in a section that the attribute's name tells.
+    SecOffset(u64),
+    /// The index of an address in `.debug_addr`.
+    DebugAddrIndex(u64),
+    /// An entry of the same unit.
+    UnitRef(UnitOffset),
+    /// An entry of `.debug_info`.
+    DebugInfoRef(DebugInfoOffset),
+    /// An entry of the supplementary file's `.debug_info`.
+    DebugInfoRefSup(DebugInfoOffset),
+    /// The signature of a type unit.
+    DebugTypesRef(u64),
+    /// The index of a location list.
+    DebugLocListsIndex(u64),
+    /// The index of a range list in `.debug_rnglists`.
+    DebugRngListsIndex(u64),
+    /// The offset of a string in `.debug_str`.
+    DebugStrRef(u64),
+    /// The offset of a string in the supplementary file's `.debug_str`.
+    DebugStrRefSup(u64),
+    /// The index of a string in `.debug_str_offsets`.
+    DebugStrOffsetsIndex(u64),
+    /// The offset of a string in `.debug_line_str`.
+    DebugLineStrRef(u64),
+    /// A text, without the zero byte that ends it.
+    String(R),
+}
+
+// A number of three bytes.
+fn read_u24<R: Reader>(input: &mut R) -> Result<u32, Error>
+    ensures gives { Tells (λ x. (x, R.section input.new)) result (fixed_at 3 (R.section input.old)) }
+    ensures refused { OnErr result (R.section input.new ≡ R.section input.old) }
+{
+    let bytes = input.to_slice();
+    if bytes.len() < 3 {
+        return Err(Error::UnexpectedEof);
+    }
+    let number = match input.endian() {
+        RunTimeEndian::Little => LittleEndian::read_u24(bytes),
+        RunTimeEndian::Big => BigEndian::read_u24(bytes),
+    };
+    input.skip(3)?;
+    Ok(number)
+}
+
+// A number of sixteen bytes.
+fn read_u128<R: Reader>(input: &mut R) -> Result<u128, Error>
+    ensures gives { Tells (λ x. (x, R.section input.new)) result (fixed_at 16 (R.section input.old)) }
+    ensures refused { OnErr result (R.section input.new ≡ R.section input.old) }
+{
+    let bytes = input.to_slice();
+    if bytes.len() < 16 {
+        return Err(Error::UnexpectedEof);
+    }
+    let number = match input.endian() {
+        RunTimeEndian::Little => LittleEndian::read_u128(bytes),
+        RunTimeEndian::Big => BigEndian::read_u128(bytes),
+    };
+    input.skip(16)?;
+    Ok(number)
+}
+
+// A reference by section offset.
+fn read_ref_addr<R: Reader>(input: &mut R, encoding: Encoding) -> Result<u64, Error>
+    ensures gives { Tells (λ x. (x, R.section input.new)) result (ref_addr_at encoding (R.section input.old)) }
+    ensures refused { OnErr result (R.section input.new ≡ R.section input.old) }
+{
+    if encoding.version == 2 {
+        input.read_address(encoding.address_size)
+    } else {
+        input.read_offset(encoding.format)
+    }
+}
+
+// A string, or a reference of any kind.
+#[tactic(auto, unfolding(crate::specs::Form::reference_at))]
+fn read_reference<R: Reader>(
+    input: &mut R,
+    encoding: Encoding,
+    form: DwForm,
+) -> Result<AttributeValue<R>, Error>
+    ensures gives { Gives (λ v. (seen_value R.section v, R.section input.new)) result
+        (reference_at encoding form.0 (R.section input.old)) }
+{
+    match form {
+        DwForm::DW_FORM_string => Ok(AttributeValue::String(input.read_null_terminated()?)),
+        DwForm::DW_FORM_strp => Ok(AttributeValue::DebugStrRef(input.read_offset(
+            encoding.format,
+        )?)),
+        DwForm::DW_FORM_line_strp => {
+            Ok(AttributeValue::DebugLineStrRef(input.read_offset(encoding.format)?))
+        }
+        DwForm::DW_FORM_strp_sup => {
+            Ok(AttributeValue::DebugStrRefSup(input.read_offset(encoding.format)?))
+        }
+        DwForm::DW_FORM_GNU_strp_alt => {
+            Ok(AttributeValue::DebugStrRefSup(input.read_offset(encoding.format)?))
+        }
+        DwForm::DW_FORM_strx => Ok(AttributeValue::DebugStrOffsetsIndex(input.read_uleb128()?)),
+        DwForm::DW_FORM_GNU_str_index => {
+            Ok(AttributeValue::DebugStrOffsetsIndex(input.read_uleb128()?))
+        }
+        DwForm::DW_FORM_strx1 => {
+            Ok(AttributeValue::DebugStrOffsetsIndex(u64::from(input.read_u8()?)))
+        }
+        DwForm::DW_FORM_strx2 => {
+            Ok(AttributeValue::DebugStrOffsetsIndex(u64::from(input.read_u16()?)))
+        }
+        DwForm::DW_FORM_strx3 => {
+            Ok(AttributeValue::DebugStrOffsetsIndex(u64::from(read_u24(input)?)))
+        }
+        DwForm::DW_FORM_strx4 => {
+            Ok(AttributeValue::DebugStrOffsetsIndex(u64::from(input.read_u32()?)))
+        }
+        DwForm::DW_FORM_ref1 => Ok(AttributeValue::UnitRef(UnitOffset(u64::from(
+            input.read_u8()?,
+        )))),
+        DwForm::DW_FORM_ref2 => {
+            Ok(AttributeValue::UnitRef(UnitOffset(u64::from(input.read_u16()?))))
+        }
+        DwForm::DW_FORM_ref4 => {
+            Ok(AttributeValue::UnitRef(UnitOffset(u64::from(input.read_u32()?))))
+        }
+        DwForm::DW_FORM_ref8 => Ok(AttributeValue::UnitRef(UnitOffset(input.read_u64()?))),
+        DwForm::DW_FORM_ref_udata => Ok(AttributeValue::UnitRef(UnitOffset(input.read_uleb128()?))),
+        DwForm::DW_FORM_ref_addr => {
+            Ok(AttributeValue::DebugInfoRef(DebugInfoOffset(read_ref_addr(input, encoding)?)))
+        }
+        DwForm::DW_FORM_ref_sup4 => {
+            Ok(AttributeValue::DebugInfoRefSup(DebugInfoOffset(u64::from(input.read_u32()?))))
+        }
+        DwForm::DW_FORM_ref_sup8 => {
+            Ok(AttributeValue::DebugInfoRefSup(DebugInfoOffset(input.read_u64()?)))
+        }
+        DwForm::DW_FORM_GNU_ref_alt => Ok(AttributeValue::DebugInfoRefSup(DebugInfoOffset(
+            input.read_offset(encoding.format)?,
+        ))),
+        DwForm::DW_FORM_ref_sig8 => Ok(AttributeValue::DebugTypesRef(input.read_u64()?)),
+        DwForm::DW_FORM_sec_offset => {
+            Ok(AttributeValue::SecOffset(input.read_offset(encoding.format)?))
+        }
+        DwForm::DW_FORM_loclistx => Ok(AttributeValue::DebugLocListsIndex(input.read_uleb128()?)),
+        DwForm::DW_FORM_rnglistx => Ok(AttributeValue::DebugRngListsIndex(input.read_uleb128()?)),
+        _ => Err(Error::UnknownForm),
+    }
+}
+
+// A value of a form other than indirect and implicit_const.
+#[tactic(auto, unfolding(crate::specs::Form::direct_at))]
+fn read_direct<R: Reader>(
+    input: &mut R,
+    encoding: Encoding,
+    form: DwForm,
+) -> Result<AttributeValue<R>, Error>
+    ensures gives { Gives (λ v. (seen_value R.section v, R.section input.new)) result
+        (direct_at encoding form.0 (R.section input.old)) }
+{
+    match form {
+        DwForm::DW_FORM_addr => Ok(AttributeValue::Addr(input.read_address(
+            encoding.address_size,
+        )?)),
+        DwForm::DW_FORM_addrx => Ok(AttributeValue::DebugAddrIndex(input.read_uleb128()?)),
+        DwForm::DW_FORM_GNU_addr_index => Ok(AttributeValue::DebugAddrIndex(input.read_uleb128()?)),
+        DwForm::DW_FORM_addrx1 => Ok(AttributeValue::DebugAddrIndex(u64::from(input.read_u8()?))),
+        DwForm::DW_FORM_addrx2 => Ok(AttributeValue::DebugAddrIndex(u64::from(input.read_u16()?))),
+        DwForm::DW_FORM_addrx3 => Ok(AttributeValue::DebugAddrIndex(u64::from(read_u24(input)?))),
+        DwForm::DW_FORM_addrx4 => Ok(AttributeValue::DebugAddrIndex(u64::from(input.read_u32()?))),
+        DwForm::DW_FORM_block1 => {
+            let len = u64::from(input.read_u8()?);
+            Ok(AttributeValue::Block(input.split(len)?))
+        }
+        DwForm::DW_FORM_block2 => {
+            let len = u64::from(input.read_u16()?);
+            Ok(AttributeValue::Block(input.split(len)?))
+        }
+        DwForm::DW_FORM_block4 => {
+            let len = u64::from(input.read_u32()?);
+            Ok(AttributeValue::Block(input.split(len)?))
+        }
+        DwForm::DW_FORM_block => {
+            let len = input.read_uleb128()?;
+            Ok(AttributeValue::Block(input.split(len)?))
+        }
+        DwForm::DW_FORM_exprloc => {
+            let len = input.read_uleb128()?;
+            Ok(AttributeValue::Exprloc(input.split(len)?))
+        }
+        DwForm::DW_FORM_data1 => Ok(AttributeValue::Data1(input.read_u8()?)),
+        DwForm::DW_FORM_data2 => Ok(AttributeValue::Data2(input.read_u16()?)),
+        DwForm::DW_FORM_data4 => Ok(AttributeValue::Data4(input.read_u32()?)),
+        DwForm::DW_FORM_data8 => Ok(AttributeValue::Data8(input.read_u64()?)),
+        DwForm::DW_FORM_data16 => Ok(AttributeValue::Data16(read_u128(input)?)),
+        DwForm::DW_FORM_sdata => Ok(AttributeValue::Sdata(input.read_sleb128()?)),
+        DwForm::DW_FORM_udata => Ok(AttributeValue::Udata(input.read_uleb128()?)),
+        DwForm::DW_FORM_flag => Ok(AttributeValue::Flag(input.read_u8()? != 0)),
+        DwForm::DW_FORM_flag_present => Ok(AttributeValue::Flag(true)),
+        _ => read_reference(input, encoding, form),
+    }
+}
+
+// The form behind indirections.
+fn read_form<R: Reader>(input: &mut R) -> Result<DwForm, Error>
+    ensures gives { Tells (λ f. (f.0, R.section input.new)) result (form_at (R.section input.old)) }
+{
+    let mut form = input.read_uleb128()?;
+    while form == 0x16 {
+        form = input.read_uleb128()?;
+    }
+    Ok(DwForm(form))
+}
+
+/// Reads the value of an attribute of any form but implicit_const (DWARF 5, section 7.5.5).
+///
+/// Refused `UnknownForm` for another form, also behind indirections, the refusals of a number of the
+/// form, `UnexpectedEof` where bytes are missing, and `OutOfMemory`. After a refusal the reader may
+/// stand anywhere.
+#[tactic(auto, unfolding(crate::specs::Form::value_at))]
+pub fn read_value<R: Reader>(
+    input: &mut R,
+    encoding: Encoding,
+    form: DwForm,
+) -> Result<AttributeValue<R>, Error>
+    ensures gives { Gives (λ v. (seen_value R.section v, R.section input.new)) result
+        (value_at encoding form.0 (R.section input.old)) }
+{
+    if form.0 == 0x16 {
+        let form = read_form(input)?;
+        return read_direct(input, encoding, form);
+    }
+    read_direct(input, encoding, form)
+}

@@ -1,5 +1,5 @@
 -- The form behind indirections, one at a time (on specs/Form.antt).
-use Rattle.std.proofs.Common.{◌≡◌, ℕ, zero, suc, arith, ◌+◌, ◌<◌, length, Bool, true, false, cond, Result, Ok, Err, ◌==◌, refl, ap, ◌∙◌, add-one}
+use Rattle.std.proofs.Common.{◌≡◌, ℕ, zero, suc, arith, ◌+◌, ◌<◌, length, true, false, cond, Ok, Err, ◌==◌, refl, ap, ◌∙◌, add-one}
 use Rattle.gimli_read.specs.declared.error.Error.{Error}
 use Rattle.gimli_read.specs.Section.{Section}
 use Rattle.gimli_read.specs.Reading.{Reading, ◌>>=◌}

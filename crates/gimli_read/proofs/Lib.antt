@@ -4,3 +4,4 @@ pub mod Leb128Texts
 pub mod Shorter
 pub mod RunLemmas
 pub mod FormLemmas
+pub mod AbbrevLemmas

@@ -4,7 +4,7 @@ use Rattle.gimli_read.specs.declared.error.Error.{Error}
 use Rattle.gimli_read.specs.Section.{Section}
 use Rattle.gimli_read.specs.Reading.{Reading, ◌>>=◌}
 use Rattle.gimli_read.specs.Run.{Run, Next, More, Stop, next_of, cons, continued, run_within, run_of, collected, with_front, fold_run, fold_of}
-use Rattle.gimli_read.proofs.Shorter.{TakesBytes, shorter_by}
+use Rattle.gimli_read.proofs.Shorter.{TakesBytes, shorter_by, Shorter}
 
 -- a step that goes on leaves less
 abbrev pub Shrinks : {X S Z : Type 0} → (S → Next X S Z) → (S → ℕ) → Type 0
@@ -65,3 +65,18 @@ fold-end part takes f s t e a = ap (fold_of f a) (run_of-step part takes s ∙ a
 pub fold-fault : {X A : Type 0} (part : Section → Reading (Option X)) → TakesBytes part → (f : A → X → Result A Error) (s : Section) (d : Error) → part s ≡ Err d → (a : A) → fold_of f a (run_of part s) ≡ Err d
 unfolding fold_run
 fold-fault part takes f s d e a = ap (fold_of f a) (run_of-step part takes s ∙ ap (λ r. continued (run_of part) (next_of r)) e)
+
+-- what stands behind the parts of a run is less than it began with
+pub collected-shorter : {X : Type 0} (part : Section → Reading (Option X)) → ((s : Section) → Shorter (length s.bytes) (part s)) → (n : ℕ) (s : Section) → Shorter (length s.bytes) (collected (run_within (λ t. next_of (part t)) n s))
+unfolding run_within
+collected-shorter part sh zero s = record { by = tt }
+collected-shorter {X} part sh (suc n) s = at (collected-shorter part sh n) (part s) (sh s)
+  where
+    more : (x : X) (t : Section) (z : Result Section Error) (xs : List X) → length t.bytes < length s.bytes → Shorter (length t.bytes) (z >>= λ y. Ok (xs, y)) → Shorter (length s.bytes) (z >>= λ y. Ok (x ∷ xs, y))
+    more x t (Ok y) xs lt h = record { by = omega (arith, h.by) }
+    more x t (Err e) xs lt h = record { by = tt }
+
+    at : ((t : Section) → Shorter (length t.bytes) (collected (run_within (λ u. next_of (part u)) n t))) → (r : Reading (Option X)) → Shorter (length s.bytes) r → Shorter (length s.bytes) (collected (continued (run_within (λ u. next_of (part u)) n) (next_of r)))
+    at ih (Err e) h = record { by = tt }
+    at ih (Ok (None, t)) h = record { by = h.by }
+    at ih (Ok (Some x, t)) h = more x t (run_within (λ u. next_of (part u)) n t).end (run_within (λ u. next_of (part u)) n t).items h.by (ih t)

@@ -1,17 +1,17 @@
 -- What is read takes bytes: each value of a reading leaves less than there was.
-use Rattle.std.proofs.Common.{◌≡◌, ℕ, zero, suc, ◌+◌, ◌<◌, ◌≤◌, List, [], ◌∷◌, length, take, drop, Option, Some, None, Result, Ok, Err, Bool, true, false, cond, IfOk, IfSome, nat_lt, ltb, ◌==◌, refl, ap, sym, arith, length-drop, length-take, ℤ, ◌^◌}
+use Rattle.std.proofs.Common.{◌≡◌, ℕ, ◌+◌, ◌<◌, ◌≤◌, List, length, take, Option, Some, None, Result, Ok, Err, Bool, true, false, cond, IfOk, IfSome, nat_lt, ltb, refl, arith, length-drop, length-take, ◌^◌}
 use Rattle.std.specs.List.{position}
 use Rattle.std.proofs.lemmas.Result.{IfOk-at_ok}
 use Rattle.std.proofs.lemmas.Bool.Decides.{nat_tests}
 use Rattle.std.proofs.lemmas.List.Quantifiers.{position-Some}
 use Rattle.gimli_read.specs.declared.error.Error.{Error}
-use Rattle.gimli_read.specs.declared.error.Error.TheVariants.{UnexpectedEof, BadLeb128, UnsupportedAddressSize}
+use Rattle.gimli_read.specs.declared.error.Error.TheVariants.{UnexpectedEof, BadLeb128}
 use Rattle.gimli_read.specs.declared.endian.Format.{Format}
 use Rattle.gimli_read.specs.declared.endian.Format.TheVariants.{Dwarf32, Dwarf64}
 use Rattle.gimli_read.specs.Section.{Section, first, after}
 use Rattle.gimli_read.specs.Reading.{Reading, ◌>>=◌}
-use Rattle.gimli_read.specs.Number.{number_of, fixed_at, skipped_at, split_at, offset_at, address_at, is_address_size, ended_at, null_terminated_at, long_length_at, initial_length_at}
-use Rattle.gimli_read.specs.Leb128.{uleb128_value, sleb128_value, fits_i64, cut_behind, leb128_text, uleb128_in, sleb128_in, uleb128_at, sleb128_at, within}
+use Rattle.gimli_read.specs.Number.{number_of, fixed_at, skipped_at, split_at, offset_at, long_length_at, initial_length_at}
+use Rattle.gimli_read.specs.Leb128.{uleb128_value, sleb128_value, fits_i64, cut_behind, leb128_text, uleb128_in, sleb128_in, uleb128_at, sleb128_at}
 
 -- each value of a reading leaves fewer than n bytes
 pub record Shorter {A : Type 0} (n : ℕ) (r : Reading A) : Type 0 where

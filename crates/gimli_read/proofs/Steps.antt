@@ -1,9 +1,9 @@
 -- Small steps on what readings give.
-use Rattle.std.proofs.Common.{◌≡◌, ◌≢◌, ℕ, ◌+◌, Bool, true, false, cond, ltb, List, length, take, drop, Option, Some, None, Result, Ok, Err, ◌==◌, ◌<◌, ◌⊎◌, inl, inr, refl, ap, sym, ◌∙◌, arith}
+use Rattle.std.proofs.Common.{◌≡◌, ℕ, ◌+◌, Bool, true, false, cond, ltb, List, length, drop, Option, Some, None, Result, Ok, Err, ◌==◌, ◌⊎◌, inl, inr, refl, ap, sym, ◌∙◌, arith}
 use Rattle.std.specs.List.{position}
 use Rattle.std.proofs.lemmas.Grind.{common_steps}
 use Rattle.gimli_read.specs.declared.error.Error.{Error}
-use Rattle.gimli_read.specs.declared.error.Error.TheVariants.{OutOfMemory, UnexpectedEof}
+use Rattle.gimli_read.specs.declared.error.Error.TheVariants.{UnexpectedEof}
 use Rattle.gimli_read.specs.Section.{Section, first, after}
 use Rattle.gimli_read.specs.Reading.{◌>>=◌, done, Refuses}
 use Rattle.gimli_read.specs.Number.{split_at, skipped_at, ended_at, null_terminated_at}
@@ -57,3 +57,7 @@ split_then_skip s part rest end n k e f =
 -- a text up to its zero byte, and that byte
 pub null_terminated_when : (s part rest end : Section) (n : ℕ) → position (λ b. b == 0) s.bytes ≡ Some n → split_at n s ≡ Ok (part, rest) → skipped_at 1 rest ≡ Ok (tt, end) → null_terminated_at s ≡ Ok (part, end)
 null_terminated_when s part rest end n e f h = ap (ended_at s) e ∙ split_then_skip s part rest end n 1 f h
+
+-- the end of a list is no part of it
+pub end_is_none : {A : Type 0} (x : A) (s t : Section) → ◌≡◌ {A = Result (Option A × Section) Error} (Ok (None, s)) (Ok (Some x, t)) → ⊥
+end_is_none {A = A} x s t e = let same : None ≡ Some x = same_value {A = Option A} {B = Section} (None, s) (Some x, t) e in cc

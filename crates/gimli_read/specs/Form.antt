@@ -1,12 +1,12 @@
 -- The value of an attribute by its form (DWARF 5, sections 7.5.5 and 7.5.6).
 -- Own: a form that isn't listed is UnknownForm where a value of it is read; so is indirect to implicit_const,
 -- whose value stands in the abbreviation.
-use Rattle.std.specs.Prelude.{ℕ, zero, suc, ◌+◌, ◌==◌, not, true, length, Result, Ok, Err, if◌then◌else◌, ℤ}
+use Rattle.std.specs.Prelude.{ℕ, zero, suc, ◌+◌, ◌==◌, not, true, length, Option, Some, None, Result, Ok, Err, if◌then◌else◌, ℤ, pos, negsuc}
 use Rattle.gimli_read.specs.declared.error.Error.{Error}
 use Rattle.gimli_read.specs.declared.error.Error.TheVariants.{UnknownForm, UnexpectedEof}
 use Rattle.gimli_read.specs.declared.endian.Encoding.{Encoding}
-use Rattle.gimli_read.specs.declared.value.UnitOffset.{UnitOffset}
-use Rattle.gimli_read.specs.declared.value.DebugInfoOffset.{DebugInfoOffset}
+use Rattle.gimli_read.specs.declared.abbrev.AttributeSpecification.{AttributeSpecification}
+use Rattle.gimli_read.specs.declared.value.Attribute.{Attribute}
 use Rattle.gimli_read.specs.declared.value.AttributeValue.{AttributeValue}
 use Rattle.gimli_read.specs.declared.value.AttributeValue.TheVariants as values
 use Rattle.gimli_read.specs.Section.{Section}
@@ -134,3 +134,33 @@ unfoldable pub value_at : Encoding → ℕ → Section → Reading (AttributeVal
 value_at encoding form s =
     if form == 0x16 then (form_at s >>= λ real. direct_at encoding real.0 real.1)
     else direct_at encoding form s
+
+-- an attribute whose readers are seen as sections
+abbrev pub seen_attribute : {R : Type 0} → (R → Section) → Attribute R → Attribute Section
+seen_attribute see a = record { name = a.name; value = seen_value see a.value }
+
+-- the value that an abbreviation has for all its entries
+abbrev pub implicit_of : Option ℤ → Result (AttributeValue Section) Error
+implicit_of None = Err UnknownForm
+implicit_of (Some z) = Ok (values.Sdata z)
+
+-- the attribute of a specification
+unfoldable pub attribute_at : Encoding → AttributeSpecification → Section → Reading (Attribute Section)
+attribute_at encoding specification s =
+    if specification.form.0 == 0x21 then (implicit_of specification.constant >>= λ value. Ok (record { name = specification.name; value = value }, s))
+    else (value_at encoding specification.form.0 s >>= λ value. Ok (record { name = specification.name; value = value.0 }, value.1))
+
+-- a signed number that isn't negative
+abbrev pub unsigned_of : ℤ → Option ℕ
+unsigned_of (pos n) = Some n
+unsigned_of (negsuc n) = None
+
+-- the value of a constant (Own: the class is data1, data2, data4, data8, udata, and sdata where not negative)
+abbrev pub constant_of : {R : Type 0} → AttributeValue R → Option ℕ
+constant_of (values.Data1 n) = Some n
+constant_of (values.Data2 n) = Some n
+constant_of (values.Data4 n) = Some n
+constant_of (values.Data8 n) = Some n
+constant_of (values.Udata n) = Some n
+constant_of (values.Sdata z) = unsigned_of z
+constant_of _ = None

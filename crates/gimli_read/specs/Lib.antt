@@ -6,3 +6,5 @@ pub mod Text
 pub mod Run
 pub mod Yields
 pub mod Form
+pub mod Abbreviations
+pub mod Abbrev

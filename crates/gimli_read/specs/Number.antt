@@ -1,7 +1,7 @@
 -- Numbers of a fixed length, addresses, offsets, texts and parts (DWARF 5, sections 7.4, 7.31 and 7.32).
 -- Own: a reading past the end of the section is UnexpectedEof.
 -- Own: an address size other than 1, 2, 4 and 8 is UnsupportedAddressSize.
-use Rattle.std.specs.Prelude.{ℕ, ◌+◌, ◌==◌, ◌||◌, Bool, List, length, slice_index, Option, Some, None, Result, Ok, Err, nat_lt, if◌then◌else◌, ℤ}
+use Rattle.std.specs.Prelude.{ℕ, ◌+◌, ◌==◌, ◌||◌, Bool, List, length, slice_index, Option, Some, None, Ok, Err, nat_lt, if◌then◌else◌, ℤ}
 use Rattle.std.specs.Int.{w8, cast_signed}
 use Rattle.std.specs.List.{position}
 use Rattle.byteorder.specs.Endian.{big_number, little_number}

@@ -1,6 +1,7 @@
 //! Reading DWARF sections: readers, numbers, forms and abbreviations.
 #![tactic(auto)]
 
+mod abbrev;
 mod constants;
 mod endian;
 mod endian_bytes;
@@ -11,6 +12,7 @@ mod range;
 mod reader;
 mod value;
 
+pub use crate::abbrev::{Abbreviation, Abbreviations, AttributeSpecification};
 pub use crate::constants::{DwAt, DwForm, DwLang, DwTag};
 pub use crate::endian::{Encoding, Format, RunTimeEndian};
 pub use crate::endian_bytes::EndianBytes;
@@ -19,4 +21,6 @@ pub use crate::error::Error;
 pub use crate::leb128::leb128_laws;
 pub use crate::range::Range;
 pub use crate::reader::{Reader, read_initial_length};
-pub use crate::value::{AttributeValue, DebugInfoOffset, UnitOffset, read_value};
+pub use crate::value::{
+    Attribute, AttributeValue, DebugInfoOffset, UnitOffset, read_attribute, read_value,
+};

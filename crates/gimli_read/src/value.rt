@@ -3,9 +3,10 @@
 ghost use Rattle.std.specs.Prelude.{◌≡◌, OnErr};
 ghost use Rattle.gimli_read.specs.Reading.{Tells, Gives};
 ghost use Rattle.gimli_read.specs.Number.{fixed_at};
-ghost use Rattle.gimli_read.specs.Form.{seen_value, direct_at, reference_at, form_at, value_at, ref_addr_at};
+ghost use Rattle.gimli_read.specs.Form.{seen_value, direct_at, reference_at, form_at, value_at, ref_addr_at, seen_attribute, attribute_at, constant_of};
 
-use crate::constants::DwForm;
+use crate::abbrev::AttributeSpecification;
+use crate::constants::{DwAt, DwForm};
 use crate::endian::{Encoding, RunTimeEndian};
 use crate::error::Error;
 use crate::reader::Reader;
@@ -274,4 +275,72 @@ pub fn read_value<R: Reader>(
         return read_direct(input, encoding, form);
     }
     read_direct(input, encoding, form)
+}
+
+/// An attribute of an entry: its name, and its value as its form alone gives it.
+#[derive(Drop)]
+pub struct Attribute<R> {
+    /// What the attribute says.
+    pub name: DwAt,
+    /// What it says of the entry.
+    pub value: AttributeValue<R>,
+}
+
+impl<R: Drop> Attribute<R> {
+    /// What the attribute says. Takes no memory.
+    pub fn name(&self) -> DwAt
+        ensures gives { result ≡ self.now.name }
+    {
+        self.name
+    }
+
+    /// The value, by its form alone. Takes no memory.
+    pub fn value(self) -> AttributeValue<R>
+        ensures gives { result ≡ self.value }
+    {
+        self.value
+    }
+
+    /// The value of a constant that isn't negative; none for another value. Takes no memory.
+    pub fn udata_value(&self) -> Option<u64>
+        ensures gives { result ≡ constant_of self.now.value }
+    {
+        match self.value {
+            AttributeValue::Data1(n) => Some(u64::from(n)),
+            AttributeValue::Data2(n) => Some(u64::from(n)),
+            AttributeValue::Data4(n) => Some(u64::from(n)),
+            AttributeValue::Data8(n) => Some(n),
+            AttributeValue::Udata(n) => Some(n),
+            AttributeValue::Sdata(n) => u64::try_from(n).ok(),
+            _ => None,
+        }
+    }
+}
+
+/// Reads the value of an attribute by its specification (DWARF 5, section 7.5.5).
+///
+/// Refused `UnknownForm` for a form that isn't known, the refusals of a number of the form,
+/// `UnexpectedEof` where bytes are missing, and `OutOfMemory`. After a refusal the reader may stand
+/// anywhere.
+#[tactic(auto, unfolding(crate::specs::Form::attribute_at))]
+pub fn read_attribute<R: Reader>(
+    input: &mut R,
+    encoding: Encoding,
+    specification: AttributeSpecification,
+) -> Result<Attribute<R>, Error>
+    ensures gives { Gives (λ a. (seen_attribute R.section a, R.section input.new)) result
+        (attribute_at encoding specification (R.section input.old)) }
+{
+    let name = specification.name;
+    if specification.form == DwForm::DW_FORM_implicit_const {
+        return match specification.constant {
+            Some(constant) => Ok(Attribute {
+                name,
+                value: AttributeValue::Sdata(constant),
+            }),
+            None => Err(Error::UnknownForm),
+        };
+    }
+    let value = read_value(input, encoding, specification.form)?;
+    Ok(Attribute { name, value })
 }

@@ -1,0 +1,10 @@
+use Rattle.std.proofs.Common.{◌≡◌, length}
+use Rattle.gimli_read.specs.Abbrev.{specification_at}
+use Rattle.gimli_read.specs.Run.{collected, run_of, with_front}
+use Rattle.gimli_read.proofs.abbrev.read_specifications.Given as goal
+
+abbrev pub invariant-loop-attributes : goal.invariant-loop-attributes
+invariant-loop-attributes g l = with_front l.attributes.items (collected (run_of specification_at (g.R.Reader.section l.input))) ≡ collected (run_of specification_at (g.R.Reader.section l.fn.input))
+
+abbrev pub decreases-loop-attributes : goal.decreases-loop-attributes
+decreases-loop-attributes g l = length (g.R.Reader.section l.input).bytes

@@ -1,0 +1,64 @@
+-- Abbreviation tables (DWARF 5, section 7.5.3): a finite map from codes to abbreviations.
+-- Own: the section's end where a code would stand ends the table too.
+-- Own: a repeated code, tag 0, a children byte other than 0 and 1, and exactly one zero in a pair are
+-- BadAbbreviation, each at its field.
+use Rattle.std.specs.Prelude.{ℕ, zero, suc, ◌+◌, ◌==◌, ◌||◌, ◌&&◌, nat_lt, List, [], ◌∷◌, ◌++◌, length, Option, Some, None, is_some, Result, Ok, Err, if◌then◌else◌, ℤ}
+use Rattle.gimli_read.specs.declared.error.Error.{Error}
+use Rattle.gimli_read.specs.declared.error.Error.TheVariants.{BadAbbreviation, UnexpectedEof}
+use Rattle.gimli_read.specs.declared.abbrev.AttributeSpecification.{AttributeSpecification}
+use Rattle.gimli_read.specs.Section.{Section}
+use Rattle.gimli_read.specs.Reading.{Reading, ◌>>=◌, refused_if}
+use Rattle.gimli_read.specs.Number.{fixed_at}
+use Rattle.gimli_read.specs.Leb128.{uleb128_at, sleb128_at}
+use Rattle.gimli_read.specs.Run.{collected, run_of}
+use Rattle.gimli_read.specs.Abbreviations.{Abbrev, with_code}
+
+-- the value that an abbreviation itself has, of the form implicit_const
+abbrev pub constant_at : ℕ → Section → Reading (Option ℤ)
+constant_at form s = if form == 0x21 then (sleb128_at s >>= λ value. Ok (Some value.0, value.1)) else Ok (None, s)
+
+-- a name and a form, or none where both are 0
+unfoldable pub specification_at : Section → Reading (Option AttributeSpecification)
+specification_at s = do
+  name ← uleb128_at s
+  form ← uleb128_at name.1
+  if name.0 == 0 && form.0 == 0 then Ok (None, form.1)
+      else if name.0 == 0 || form.0 == 0 then Err BadAbbreviation
+      else (constant_at form.0 form.1 >>= λ constant. Ok (Some (record { name = record { 0 = name.0 }; form = record { 0 = form.0 }; constant = constant.0 }), constant.1))
+
+-- the pairs up to the two zeros
+abbrev pub specifications_at : Section → Reading (List AttributeSpecification)
+specifications_at s = collected (run_of specification_at s)
+
+-- what stands behind a code
+unfoldable pub declaration_at : ℕ → Section → Reading Abbrev
+declaration_at code s = do
+  tag ← uleb128_at s
+  known ← refused_if (tag.0 == 0) BadAbbreviation
+  children ← fixed_at 1 tag.1
+  flag ← refused_if (nat_lt 1 children.0) BadAbbreviation
+  attributes ← specifications_at children.1
+  Ok (record { code = code; tag = record { 0 = tag.0 }; has_children = children.0 == 1; attributes = attributes.0 }, attributes.1)
+
+-- a code that the table hasn't, and what stands behind it; none at code 0 and at the end
+unfoldable pub abbreviation_at : List Abbrev → Section → Reading (Option Abbrev)
+abbreviation_at table s = if length s.bytes == 0 then Ok (None, s) else do
+  code ← uleb128_at s
+  if code.0 == 0 then Ok (None, code.1) else do
+    new ← refused_if (is_some (with_code code.0 table)) BadAbbreviation
+    a ← declaration_at code.0 code.1
+    Ok (Some a.0, a.1)
+
+-- the table, if nothing more is read, or what goes on with one more abbreviation
+abbrev pub extended : (List Abbrev → Section → Result (List Abbrev) Error) → List Abbrev → Option Abbrev → Section → Result (List Abbrev) Error
+extended more table None s = Ok table
+extended more table (Some a) s = more (table ++ a ∷ []) s
+
+-- the table with at most n more abbreviations
+unfoldable pub table_within : ℕ → List Abbrev → Section → Result (List Abbrev) Error
+table_within zero table s = Err UnexpectedEof
+table_within (suc n) table s = abbreviation_at table s >>= λ a. extended (table_within n) table a.0 a.1
+
+-- the table at the front of a section, of which each abbreviation takes a byte at least
+abbrev pub table_at : Section → Result (List Abbrev) Error
+table_at s = table_within (length s.bytes + 1) [] s

@@ -1,0 +1,20 @@
+-- What an abbreviation table is seen as (DWARF 5, section 7.5.3).
+use Rattle.std.specs.Prelude.{◌≡◌, ℕ, ◌==◌, Bool, List, [], ◌∷◌, find, Option, None}
+use Rattle.gimli_read.specs.declared.constants.DwTag.{DwTag}
+use Rattle.gimli_read.specs.declared.abbrev.AttributeSpecification.{AttributeSpecification}
+
+-- what the entries of a code are
+pub record Abbrev : Type 0 where
+  pub code : ℕ
+  pub tag : DwTag
+  pub has_children : Bool
+  pub attributes : List AttributeSpecification
+
+-- the abbreviation of a code
+abbrev pub with_code : ℕ → List Abbrev → Option Abbrev
+with_code code table = find (λ a. a.code == code) table
+
+-- no two abbreviations have one code
+abbrev pub HasDistinctCodes : List Abbrev → Type 0
+HasDistinctCodes [] = Unit {0}
+HasDistinctCodes (a ∷ table) = (with_code a.code table ≡ None) × HasDistinctCodes table

@@ -1,0 +1,241 @@
+//! Abbreviation tables.
+
+ghost use Rattle.std.specs.Prelude.{◌≡◌, [], ◌∷◌, ◌++◌, None, OnOk, is_some, option_copied};
+ghost use Rattle.gimli_read.specs.Reading.{Tells, Gives};
+ghost use Rattle.gimli_read.specs.Abbreviations.{with_code};
+ghost use Rattle.gimli_read.specs.Abbrev.{specification_at, specifications_at, declaration_at, abbreviation_at, table_at};
+
+use crate::constants::{DwAt, DwForm, DwTag};
+use crate::error::Error;
+use crate::reader::Reader;
+use std::alloc::{AllocError, Global};
+use std::marker::Model;
+
+/// An attribute that the entries of an abbreviation have (DWARF 5, section 7.5.3).
+#[derive(Clone, Copy, Debug, PartialEq, Eq)]
+pub struct AttributeSpecification {
+    /// What the attribute says.
+    pub name: DwAt,
+    /// How its value is spelled.
+    pub form: DwForm,
+    /// Its value, where the form is implicit_const.
+    pub constant: Option<i64>,
+}
+
+impl AttributeSpecification {
+    /// What the attribute says. Takes no memory.
+    pub fn name(&self) -> DwAt
+        ensures gives { result ≡ self.now.name }
+    {
+        self.name
+    }
+
+    /// How the attribute's value is spelled. Takes no memory.
+    pub fn form(&self) -> DwForm
+        ensures gives { result ≡ self.now.form }
+    {
+        self.form
+    }
+}
+
+/// What the entries of a code are: their tag, whether they have children, and their attributes.
+#[derive(Drop)]
+pub struct Abbreviation {
+    code: u64,
+    tag: DwTag,
+    has_children: bool,
+    attributes: Vec<AttributeSpecification>,
+}
+
+impl Model for Abbreviation {
+    ghost use Rattle.gimli_read.specs.Abbreviations.{Abbrev};
+
+    ghost Value = { Abbrev };
+
+    ghost view = { λ a. record { code = a.code; tag = a.tag; has_children = a.has_children; attributes = a.attributes.items } };
+}
+
+impl Abbreviation {
+    /// The code that entries begin with. Takes no memory.
+    pub fn code(&self) -> u64
+        ensures gives { result ≡ self.now.code }
+    {
+        self.code
+    }
+
+    /// What the entries describe. Takes no memory.
+    pub fn tag(&self) -> DwTag
+        ensures gives { result ≡ self.now.tag }
+    {
+        self.tag
+    }
+
+    /// Whether children follow an entry. Takes no memory.
+    pub fn has_children(&self) -> bool
+        ensures gives { result ≡ self.now.has_children }
+    {
+        self.has_children
+    }
+
+    /// The attributes of an entry, in the order of their values. Takes no memory.
+    pub fn attributes(&self) -> &[AttributeSpecification]
+        ensures gives { result.now ≡ self.now.attributes }
+    {
+        self.attributes.as_slice()
+    }
+}
+
+/// The abbreviations of a unit, by code.
+#[derive(Drop)]
+pub struct Abbreviations {
+    entries: Vec<Abbreviation>,
+}
+
+impl Model for Abbreviations {
+    ghost use Rattle.std.specs.Prelude.{List};
+    ghost use Rattle.gimli_read.specs.Abbreviations.{Abbrev, HasDistinctCodes};
+
+    ghost Value = { List Abbrev };
+
+    ghost view = { λ t. t.entries.items };
+
+    ghost invariant = { λ t. HasDistinctCodes t.entries.items };
+}
+
+// The next attribute, or none at the end of the list.
+#[tactic(auto, unfolding(crate::specs::Abbrev::specification_at))]
+fn read_specification<R: Reader>(input: &mut R) -> Result<Option<AttributeSpecification>, Error>
+    ensures gives { Tells (λ x. (x, R.section input.new)) result (specification_at (R.section input.old)) }
+{
+    let name = input.read_uleb128()?;
+    let form = input.read_uleb128()?;
+    if name == 0 && form == 0 {
+        return Ok(None);
+    }
+    if name == 0 || form == 0 {
+        return Err(Error::BadAbbreviation);
+    }
+    let constant = if form == 0x21 {
+        Some(input.read_sleb128()?)
+    } else {
+        None
+    };
+    Ok(Some(AttributeSpecification {
+        name: DwAt(name),
+        form: DwForm(form),
+        constant,
+    }))
+}
+
+// The attributes up to the end of their list.
+fn read_specifications<R: Reader>(
+    alloc: Global,
+    input: &mut R,
+) -> Result<Vec<AttributeSpecification>, Error>
+    ensures gives { Gives (λ v. (v.items, R.section input.new)) result
+        (specifications_at (R.section input.old)) }
+{
+    let mut attributes = Vec::new(alloc);
+    while let Some(attribute) = read_specification(input)? {
+        attributes.push(attribute)?;
+    }
+    Ok(attributes)
+}
+
+// What stands behind a code.
+#[tactic(auto, unfolding(crate::specs::Abbrev::declaration_at))]
+fn read_declaration<R: Reader>(
+    alloc: Global,
+    input: &mut R,
+    code: u64,
+) -> Result<Abbreviation, Error>
+    ensures gives { Gives (λ a. (a, R.section input.new)) result
+        (declaration_at code (R.section input.old)) }
+{
+    let tag = input.read_uleb128()?;
+    if tag == 0 {
+        return Err(Error::BadAbbreviation);
+    }
+    let children = input.read_u8()?;
+    if children > 1 {
+        return Err(Error::BadAbbreviation);
+    }
+    let attributes = read_specifications(alloc, input)?;
+    Ok(Abbreviation {
+        code,
+        tag: DwTag(tag),
+        has_children: children == 1,
+        attributes,
+    })
+}
+
+impl Abbreviations {
+    /// The abbreviation of a code. Takes no memory.
+    pub fn get(&self, code: u64) -> Option<&Abbreviation>
+        ensures found { option_copied result ≡ with_code code self.now }
+    {
+        for abbreviation in &self.entries {
+            if abbreviation.code == code {
+                return Some(abbreviation);
+            }
+        }
+        None
+    }
+
+    // Whether the table has a code.
+    fn has(&self, code: u64) -> bool
+        ensures gives { result ≡ is_some (with_code code self.now) }
+    {
+        self.get(code).is_some()
+    }
+
+    // Adds an abbreviation of a code that the table hasn't.
+    fn push(&mut self, abbreviation: Abbreviation) -> Result<(), AllocError>
+        requires new { with_code abbreviation.code self.old ≡ None }
+        ensures gives { OnOk result (self.new ≡ self.old ++ abbreviation ∷ []) }
+    {
+        self.entries.push(abbreviation)?;
+        Ok(())
+    }
+
+    // The next abbreviation, or none at the table's end.
+    #[tactic(auto, unfolding(crate::specs::Abbrev::abbreviation_at))]
+    fn read_next<R: Reader>(
+        &self,
+        alloc: Global,
+        input: &mut R,
+    ) -> Result<Option<Abbreviation>, Error>
+        ensures gives { Gives (λ a. (a, R.section input.new)) result
+            (abbreviation_at self.now (R.section input.old)) }
+    {
+        if input.is_empty() {
+            return Ok(None);
+        }
+        let code = input.read_uleb128()?;
+        if code == 0 {
+            return Ok(None);
+        }
+        if self.has(code) {
+            return Err(Error::BadAbbreviation);
+        }
+        Ok(Some(read_declaration(alloc, input, code)?))
+    }
+
+    /// Reads the table at the front of `.debug_abbrev` from a unit's offset on (DWARF 5, section
+    /// 7.5.3).
+    ///
+    /// Refused `BadAbbreviation` for a repeated code, tag 0, a children byte other than 0 and 1 and
+    /// exactly one zero in a pair; `UnexpectedEof` and `BadLeb128` for its numbers; `OutOfMemory`.
+    pub fn parse<R: Reader>(alloc: Global, input: R) -> Result<Abbreviations, Error>
+        ensures gives { Gives (λ t. t) result (table_at (R.section input)) }
+    {
+        let mut input = input;
+        let mut table = Abbreviations {
+            entries: Vec::new(alloc),
+        };
+        while let Some(abbreviation) = table.read_next(alloc, &mut input)? {
+            table.push(abbreviation)?;
+        }
+        Ok(table)
+    }
+}

@@ -5,3 +5,4 @@ pub mod Shorter
 pub mod RunLemmas
 pub mod FormLemmas
 pub mod AbbrevLemmas
+pub mod Listed

@@ -56,3 +56,12 @@ with_front front r = r >>= λ x. Ok (front ++ x.0, x.1)
 -- each part of a run in turn, and then what stands after it
 abbrev pub fold_of : {X Z A : Type 0} → (A → X → Result A Error) → A → Run X Z → Result (A × Z) Error
 fold_of f a r = fold_run f a r.items r.end
+
+-- the parts as a list of answers, with the fault behind them, if there is one
+unfoldable pub listed_with : {X Z : Type 0} → List X → Result Z Error → List (Result X Error)
+listed_with [] (Ok z) = []
+listed_with [] (Err e) = Err e ∷ []
+listed_with (x ∷ xs) end = Ok x ∷ listed_with xs end
+
+abbrev pub listed : {X Z : Type 0} → Run X Z → List (Result X Error)
+listed r = listed_with r.items r.end

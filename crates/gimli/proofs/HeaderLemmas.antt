@@ -1,0 +1,79 @@
+-- A unit's header takes a byte at least (on specs/Header.antt).
+use Rattle.std.proofs.Common.{◌≡◌, ℕ, ◌+◌, ◌<◌, ◌==◌, Bool, true, false, cond, List, [], ◌∷◌, length, Option, Some, None, IfOk, IfSome, Result, Ok, Err, refl, ap, sym, ◌∙◌, arith, ltb, drop, length-drop}
+use Rattle.gimli_read.specs.declared.error.Error.{Error}
+use Rattle.gimli_read.specs.declared.error.Error.TheVariants.{UnexpectedEof}
+use Rattle.gimli_read.specs.Section.{Section, after}
+use Rattle.gimli_read.specs.Reading.{Reading, ◌>>=◌}
+use Rattle.gimli_read.specs.Number.{split_at, skipped_at, initial_length_at}
+use Rattle.gimli_read.specs.Run.{listed, run_of}
+use Rattle.gimli_read.specs.Yields.{next_given}
+use Rattle.gimli_read.proofs.Shorter.{Shorter, shorter_bind, shorter_then, shorter_ok, shorter_weaker, initial_length-shorter, split-shorter, TakesBytes}
+use Rattle.gimli_read.proofs.Steps.{end_is_none, same_rest, guard_ok}
+use Rattle.gimli_read.proofs.Listed.{listed_ends, listed_more, listed_fault}
+use Rattle.gimli.specs.declared.unit.UnitHeader.{UnitHeader}
+use Rattle.gimli.specs.Header.{fields_at, header_at, next_header_at}
+use Rattle.gimli.specs.UnitsLeft.{headers_left}
+
+header_shorter : (whole : ℕ) (s : Section) → Shorter (length s.bytes) (header_at whole s)
+unfolding header_at
+header_shorter whole s =
+    shorter_bind (initial_length-shorter s) (λ n h. shorter_bind (split-shorter n.0.0 n.1) (λ u k.
+    shorter_then _ (λ x. shorter_ok (omega arith))))
+
+pub header_takes : (whole : ℕ) → TakesBytes (next_header_at whole)
+unfolding next_header_at
+header_takes whole s = at (length s.bytes == 0)
+  where
+    out : (r : Reading (UnitHeader Section)) → Shorter (length s.bytes) r → IfOk {T = Option (UnitHeader Section) × Section} (r >>= λ x. Ok (Some x.0, x.1)) (λ p. IfSome p.0 (λ _. length p.1.bytes < length s.bytes))
+    out (Ok x) k = k.by
+    out (Err e) k = tt
+
+    at : (b : Bool) → IfOk {T = Option (UnitHeader Section) × Section} (cond b (Ok (None, s)) (header_at whole s >>= λ x. Ok (Some x.0, x.1))) (λ p. IfSome p.0 (λ _. length p.1.bytes < length s.bytes))
+    at true = tt
+    at false = out _ (header_shorter whole s)
+
+pub left_ends : (whole : ℕ) (s t : Section) → next_header_at whole s ≡ Ok (None, t) → headers_left whole s ≡ []
+left_ends whole s t e = listed_ends (next_header_at whole) (header_takes whole) s t e
+
+pub left_more : (whole : ℕ) (s t : Section) (x : UnitHeader Section) → next_header_at whole s ≡ Ok (Some x, t) → headers_left whole s ≡ Ok x ∷ headers_left whole t
+left_more whole s t x e = listed_more (next_header_at whole) (header_takes whole) s t x e
+
+pub left_fault : (whole : ℕ) (s : Section) (d : Error) → next_header_at whole s ≡ Err d → headers_left whole s ≡ Err d ∷ []
+left_fault whole s d e = listed_fault (next_header_at whole) (header_takes whole) s d e
+
+-- at the end nothing is read
+end_stays : (whole : ℕ) (s t : Section) → next_header_at whole s ≡ Ok (None, t) → s ≡ t
+unfolding next_header_at
+end_stays whole s t e = at (length s.bytes == 0) e
+  where
+    found : (r : Reading (UnitHeader Section)) → ◌≡◌ {A = Reading (Option (UnitHeader Section))} (r >>= λ x. Ok (Some x.0, x.1)) (Ok (None, t)) → s ≡ t
+    found (Ok x) k = absurd (end_is_none x.0 t x.1 (sym k))
+    found (Err d) k = cc
+
+    at : (b : Bool) → ◌≡◌ {A = Reading (Option (UnitHeader Section))} (cond b (Ok (None, s)) (header_at whole s >>= λ x. Ok (Some x.0, x.1))) (Ok (None, t)) → s ≡ t
+    at true k = same_rest {A = Option (UnitHeader Section)} {B = Section} (None, s) (None, t) k
+    at false k = found (header_at whole s) k
+
+-- what one reading takes from the headers that are left
+pub next_gives : (whole : ℕ) (s t : Section) (o : Option (UnitHeader Section)) → next_header_at whole s ≡ Ok (o, t) → next_given (headers_left whole s) ≡ Ok (o, headers_left whole t)
+next_gives whole s t None e =
+    let here = left_ends whole s t e in
+    let there : headers_left whole t ≡ [] = ap (headers_left whole) (sym (end_stays whole s t e)) ∙ here in
+    ap next_given here ∙ ap (λ (xs : List (Result (UnitHeader Section) Error)). Ok (None, xs)) (sym there)
+next_gives whole s t (Some x) e = ap next_given (left_more whole s t x e)
+
+pub next_refuses : (whole : ℕ) (s : Section) (d : Error) → next_header_at whole s ≡ Err d → next_given (headers_left whole s) ≡ Err d
+next_refuses whole s d e = ap next_given (left_fault whole s d e)
+
+-- nothing is left of no bytes
+pub none_left : (whole : ℕ) (s : Section) → length s.bytes ≡ 0 → headers_left whole s ≡ []
+unfolding next_header_at
+none_left whole s e = left_ends whole s s (ap (λ (n : ℕ). cond (n == 0) (Ok (None, s)) (header_at whole s >>= λ x. Ok (Some x.0, x.1))) e)
+
+-- after all bytes are passed over none is left
+pub skipped_all : (s t : Section) (n : ℕ) (u : Unit {0}) → n ≡ length s.bytes → skipped_at n s ≡ Ok (u, t) → length t.bytes ≡ 0
+skipped_all s t n u e h =
+    let p = guard_ok (ltb (length s.bytes) n) UnexpectedEof (tt, after n s) (u, t) h in
+    let k : after n s ≡ t = ap (λ (x : Unit {0} × Section). x.1) p.1 in
+    let len : length (drop n s.bytes) ≡ length t.bytes = ap (λ (x : Section). length x.bytes) k in
+    omega (arith, length-drop n s.bytes)

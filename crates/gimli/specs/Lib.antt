@@ -1,2 +1,4 @@
 pub mod Header
 pub mod UnitsLeft
+pub mod Sections
+pub mod Text

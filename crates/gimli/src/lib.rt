@@ -1,7 +1,15 @@
 //! Reading the sections of DWARF: units, their records and their strings.
 #![tactic(auto)]
 
+mod dwarf;
+mod sections;
+mod text;
 mod unit;
 
+pub use crate::dwarf::{Dwarf, DwarfFileType};
+pub use crate::sections::{
+    DebugAbbrev, DebugAddr, DebugAranges, DebugInfo, DebugLine, DebugLineStr, DebugRanges,
+    DebugRngLists, DebugStr, DebugStrOffsets,
+};
 pub use crate::unit::{DwoId, UnitHeader, UnitHeaders, UnitType};
 pub use gimli_read as read;

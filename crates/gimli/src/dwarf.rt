@@ -1,0 +1,59 @@
+//! The sections of a file together, and what is read from several of them.
+
+ghost use Rattle.std.specs.Prelude.{◌≡◌, Ok};
+
+use crate::sections::{
+    DebugAbbrev, DebugAddr, DebugAranges, DebugInfo, DebugLine, DebugLineStr, DebugRanges,
+    DebugRngLists, DebugStr, DebugStrOffsets,
+};
+use crate::unit::UnitHeaders;
+use gimli_read::{Error, Reader};
+
+ghost use Rattle.gimli_read.specs.Reading.{Gives};
+ghost use Rattle.gimli.specs.UnitsLeft.{all_headers};
+
+/// What kind of file sections come from.
+#[derive(Clone, Copy, Debug, PartialEq, Eq)]
+pub enum DwarfFileType {
+    /// A file of its own, or the file that split files belong to.
+    Main,
+    /// A split file (DWARF 5, section 7.3.2).
+    Dwo,
+}
+
+/// The sections of a file.
+#[derive(Drop)]
+pub struct Dwarf<R> {
+    /// `.debug_abbrev`.
+    pub debug_abbrev: DebugAbbrev<R>,
+    /// `.debug_addr`.
+    pub debug_addr: DebugAddr<R>,
+    /// `.debug_aranges`.
+    pub debug_aranges: DebugAranges<R>,
+    /// `.debug_info`.
+    pub debug_info: DebugInfo<R>,
+    /// `.debug_line`.
+    pub debug_line: DebugLine<R>,
+    /// `.debug_line_str`.
+    pub debug_line_str: DebugLineStr<R>,
+    /// `.debug_ranges`.
+    pub debug_ranges: DebugRanges<R>,
+    /// `.debug_rnglists`.
+    pub debug_rnglists: DebugRngLists<R>,
+    /// `.debug_str`.
+    pub debug_str: DebugStr<R>,
+    /// `.debug_str_offsets`.
+    pub debug_str_offsets: DebugStrOffsets<R>,
+    /// What kind of file they come from.
+    pub file_type: DwarfFileType,
+}
+
+impl<R: Reader> Dwarf<R> {
+    /// The headers of the units of `.debug_info`. Refused `OutOfMemory` alone.
+    pub fn units(&self) -> Result<UnitHeaders<R>, Error>
+        ensures gives { Gives (λ u. u) result
+            (Ok (all_headers (R.section self.now.debug_info.section))) }
+    {
+        Ok(UnitHeaders::new(self.debug_info.section.duplicate()?))
+    }
+}

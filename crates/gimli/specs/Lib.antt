@@ -2,3 +2,6 @@ pub mod Header
 pub mod UnitsLeft
 pub mod Sections
 pub mod Text
+pub mod Entry
+pub mod Cursor
+pub mod Record

@@ -1,6 +1,8 @@
 //! The sections of a file together, and what is read from several of them.
 
 ghost use Rattle.std.specs.Prelude.{◌≡◌, Ok};
+ghost use Rattle.gimli_read.specs.Reading.{Gives};
+ghost use Rattle.gimli.specs.UnitsLeft.{all_headers};
 
 use crate::sections::{
     DebugAbbrev, DebugAddr, DebugAranges, DebugInfo, DebugLine, DebugLineStr, DebugRanges,
@@ -8,9 +10,6 @@ use crate::sections::{
 };
 use crate::unit::UnitHeaders;
 use gimli_read::{Error, Reader};
-
-ghost use Rattle.gimli_read.specs.Reading.{Gives};
-ghost use Rattle.gimli.specs.UnitsLeft.{all_headers};
 
 /// What kind of file sections come from.
 #[derive(Clone, Copy, Debug, PartialEq, Eq)]

@@ -2,11 +2,14 @@
 #![tactic(auto)]
 
 mod dwarf;
+mod entries;
+mod record;
 mod sections;
 mod text;
 mod unit;
 
 pub use crate::dwarf::{Dwarf, DwarfFileType};
+pub use crate::entries::EntriesRaw;
 pub use crate::sections::{
     DebugAbbrev, DebugAddr, DebugAranges, DebugInfo, DebugLine, DebugLineStr, DebugRanges,
     DebugRngLists, DebugStr, DebugStrOffsets,

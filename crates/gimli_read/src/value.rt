@@ -73,6 +73,23 @@ pub enum AttributeValue<R> {
     String(R),
 }
 
+impl<R> AttributeValue<R> {
+    /// The value of a constant that isn't negative; none for another value. Takes no memory.
+    pub fn udata_value(&self) -> Option<u64>
+        ensures gives { result ≡ constant_of self.now }
+    {
+        match self {
+            AttributeValue::Data1(n) => Some(u64::from(*n)),
+            AttributeValue::Data2(n) => Some(u64::from(*n)),
+            AttributeValue::Data4(n) => Some(u64::from(*n)),
+            AttributeValue::Data8(n) => Some(*n),
+            AttributeValue::Udata(n) => Some(*n),
+            AttributeValue::Sdata(n) => u64::try_from(*n).ok(),
+            _ => None,
+        }
+    }
+}
+
 // A number of three bytes.
 fn read_u24<R: Reader>(input: &mut R) -> Result<u32, Error>
     ensures gives { Tells (λ x. (x, R.section input.new)) result (fixed_at 3 (R.section input.old)) }
@@ -305,15 +322,7 @@ impl<R: Drop> Attribute<R> {
     pub fn udata_value(&self) -> Option<u64>
         ensures gives { result ≡ constant_of self.now.value }
     {
-        match self.value {
-            AttributeValue::Data1(n) => Some(u64::from(n)),
-            AttributeValue::Data2(n) => Some(u64::from(n)),
-            AttributeValue::Data4(n) => Some(u64::from(n)),
-            AttributeValue::Data8(n) => Some(n),
-            AttributeValue::Udata(n) => Some(n),
-            AttributeValue::Sdata(n) => u64::try_from(n).ok(),
-            _ => None,
-        }
+        self.value.udata_value()
     }
 }
 

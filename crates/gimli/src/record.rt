@@ -1,0 +1,127 @@
+//! The record of a unit: what its first entry's attributes give.
+
+ghost use Rattle.std.specs.Prelude.{◌≡◌, option_map};
+ghost use Rattle.gimli.specs.Record.{address_value, section_offset, line_offset, newer, with_attribute, no_attributes};
+
+use gimli_read::{Attribute, AttributeValue, DwAt, Encoding, Format};
+
+/// A value of the class address (DWARF 5, section 7.5.5).
+#[derive(Clone, Copy, Debug, PartialEq, Eq)]
+pub enum AddressValue {
+    /// The address.
+    Address(u64),
+    /// Its index in `.debug_addr`.
+    Index(u64),
+}
+
+/// What the attributes of a unit's first entry say, the last of each counting.
+#[derive(Drop)]
+pub(crate) struct RootAttributes<R> {
+    pub(crate) name: Option<AttributeValue<R>>,
+    pub(crate) comp_dir: Option<AttributeValue<R>>,
+    pub(crate) low_pc: Option<AddressValue>,
+    pub(crate) stmt_list: Option<u64>,
+    pub(crate) str_offsets_base: Option<u64>,
+    pub(crate) addr_base: Option<u64>,
+    pub(crate) rnglists_base: Option<u64>,
+    pub(crate) dwo_id: Option<u64>,
+}
+
+// A value of the class address.
+fn address_value<R>(value: &AttributeValue<R>) -> Option<AddressValue>
+    ensures gives { result ≡ address_value value.now }
+{
+    match value {
+        AttributeValue::Addr(address) => Some(AddressValue::Address(*address)),
+        AttributeValue::DebugAddrIndex(index) => Some(AddressValue::Index(*index)),
+        _ => None,
+    }
+}
+
+// A value of the class section offset.
+fn section_offset<R>(value: &AttributeValue<R>) -> Option<u64>
+    ensures gives { result ≡ section_offset value.now }
+{
+    match value {
+        AttributeValue::SecOffset(offset) => Some(*offset),
+        _ => None,
+    }
+}
+
+// A value of the class section offset under stmt_list.
+fn line_offset<R>(encoding: Encoding, value: &AttributeValue<R>) -> Option<u64>
+    ensures gives { result ≡ line_offset encoding value.now }
+{
+    match value {
+        AttributeValue::SecOffset(offset) => Some(*offset),
+        AttributeValue::Data4(offset) => {
+            if encoding.version <= 3 && encoding.format == Format::Dwarf32 {
+                Some(u64::from(*offset))
+            } else {
+                None
+            }
+        }
+        AttributeValue::Data8(offset) => {
+            if encoding.version <= 3 && encoding.format == Format::Dwarf64 {
+                Some(*offset)
+            } else {
+                None
+            }
+        }
+        _ => None,
+    }
+}
+
+// The newer one, where there is one.
+fn newer<T: Copy>(new: Option<T>, old: Option<T>) -> Option<T>
+    ensures gives { result ≡ newer new old }
+{
+    match new {
+        Some(value) => Some(value),
+        None => old,
+    }
+}
+
+impl<R: Drop> RootAttributes<R> {
+    // Before the first attribute.
+    pub(crate) fn new() -> RootAttributes<R>
+        ensures gives { result ≡ no_attributes }
+    {
+        RootAttributes {
+            name: None,
+            comp_dir: None,
+            low_pc: None,
+            stmt_list: None,
+            str_offsets_base: None,
+            addr_base: None,
+            rnglists_base: None,
+            dwo_id: None,
+        }
+    }
+
+    // Takes one more attribute in.
+    pub(crate) fn take(&mut self, encoding: Encoding, attribute: Attribute<R>)
+        ensures gives { self.new ≡ with_attribute encoding self.old attribute }
+    {
+        let Attribute { name, value } = attribute;
+        match name {
+            DwAt::DW_AT_name => self.name = Some(value),
+            DwAt::DW_AT_comp_dir => self.comp_dir = Some(value),
+            DwAt::DW_AT_low_pc => self.low_pc = newer(address_value(&value), self.low_pc),
+            DwAt::DW_AT_stmt_list => {
+                self.stmt_list = newer(line_offset(encoding, &value), self.stmt_list);
+            }
+            DwAt::DW_AT_str_offsets_base => {
+                self.str_offsets_base = newer(section_offset(&value), self.str_offsets_base);
+            }
+            DwAt::DW_AT_addr_base | DwAt::DW_AT_GNU_addr_base => {
+                self.addr_base = newer(section_offset(&value), self.addr_base);
+            }
+            DwAt::DW_AT_rnglists_base | DwAt::DW_AT_GNU_ranges_base => {
+                self.rnglists_base = newer(section_offset(&value), self.rnglists_base);
+            }
+            DwAt::DW_AT_GNU_dwo_id => self.dwo_id = newer(value.udata_value(), self.dwo_id),
+            _ => {}
+        }
+    }
+}

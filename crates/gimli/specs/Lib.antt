@@ -5,3 +5,4 @@ pub mod Text
 pub mod Entry
 pub mod Cursor
 pub mod Record
+pub mod Unit

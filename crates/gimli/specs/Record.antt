@@ -76,3 +76,17 @@ with_attribute encoding root a =
 -- before the first attribute
 abbrev pub no_attributes : {R : Type 0} → RootAttributes R
 no_attributes = record { name = None; comp_dir = None; low_pc = None; stmt_list = None; str_offsets_base = None; addr_base = None; rnglists_base = None; dwo_id = None }
+
+-- root attributes whose readers are seen as sections
+abbrev pub seen_root : {R : Type 0} → (R → Section) → RootAttributes R → RootAttributes Section
+seen_root see r = record { name = option_map (seen_value see) r.name; comp_dir = option_map (seen_value see) r.comp_dir; low_pc = r.low_pc; stmt_list = r.stmt_list; str_offsets_base = r.str_offsets_base; addr_base = r.addr_base; rnglists_base = r.rnglists_base; dwo_id = r.dwo_id }
+
+-- what the attributes of the first entry say, one after another
+abbrev pub gathered : Encoding → RootAttributes Section → Result (List (Attribute Section) × Section) Error → Result (RootAttributes Section) Error
+gathered encoding root read = read >>= λ x. Ok (fold (with_attribute encoding) root x.0)
+
+-- what the attributes of a unit's first entry say
+unfoldable pub root_of : Encoding → List Abbrev → Section → Result (RootAttributes Section) Error
+root_of encoding table s = do
+  attributes ← root_attributes encoding table s
+  Ok (fold (with_attribute encoding) no_attributes attributes)

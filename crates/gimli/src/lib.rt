@@ -7,6 +7,7 @@ mod record;
 mod sections;
 mod text;
 mod unit;
+mod unit_record;
 
 pub use crate::dwarf::{Dwarf, DwarfFileType};
 pub use crate::entries::EntriesRaw;
@@ -15,4 +16,5 @@ pub use crate::sections::{
     DebugRngLists, DebugStr, DebugStrOffsets,
 };
 pub use crate::unit::{DwoId, UnitHeader, UnitHeaders, UnitType};
+pub use crate::unit_record::Unit;
 pub use gimli_read as read;

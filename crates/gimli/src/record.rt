@@ -1,9 +1,16 @@
 //! The record of a unit: what its first entry's attributes give.
 
-ghost use Rattle.std.specs.Prelude.{◌≡◌, option_map};
-ghost use Rattle.gimli.specs.Record.{address_value, section_offset, line_offset, newer, with_attribute, no_attributes};
+ghost use Rattle.std.specs.Prelude.{◌≡◌};
+ghost use Rattle.gimli_read.specs.Reading.{Gives};
+ghost use Rattle.gimli.specs.Entry.{attributes_at};
+ghost use Rattle.gimli.specs.Record.{address_value, section_offset, line_offset, newer, with_attribute, no_attributes, seen_root, gathered, root_of};
 
-use gimli_read::{Attribute, AttributeValue, DwAt, Encoding, Format};
+use crate::entries::EntriesRaw;
+use crate::unit::UnitHeader;
+use gimli_read::{
+    Abbreviations, Attribute, AttributeSpecification, AttributeValue, DwAt, Encoding, Error,
+    Format, Reader,
+};
 
 /// A value of the class address (DWARF 5, section 7.5.5).
 #[derive(Clone, Copy, Debug, PartialEq, Eq)]
@@ -123,5 +130,46 @@ impl<R: Drop> RootAttributes<R> {
             DwAt::DW_AT_GNU_dwo_id => self.dwo_id = newer(value.udata_value(), self.dwo_id),
             _ => {}
         }
+    }
+}
+
+// What the attributes of an entry say, one after another.
+fn read_root_attributes<R: Reader>(
+    entries: &mut EntriesRaw<'_, R>,
+    specifications: &[AttributeSpecification],
+) -> Result<RootAttributes<R>, Error>
+    ensures gives { Gives (seen_root R.section) result (gathered entries.old.encoding no_attributes
+        (attributes_at entries.old.encoding specifications.now (R.section entries.old.input))) }
+{
+    let mut root = RootAttributes::new();
+    for specification in specifications {
+        let attribute = entries.read_attribute(*specification)?;
+        root.take(entries.encoding, attribute);
+    }
+    Ok(root)
+}
+
+/// What the attributes of a unit's first entry say.
+///
+/// Refused `UnexpectedEof` where no entry is, `MissingUnitDie` at a closing entry,
+/// `UnknownAbbreviation`, what an attribute's value is refused for, and `OutOfMemory`.
+#[tactic(auto, unfolding(crate::specs::Record::root_of, crate::specs::Entry::root_attributes))]
+pub(crate) fn read_root<R: Reader>(
+    header: &UnitHeader<R>,
+    abbreviations: &Abbreviations,
+) -> Result<RootAttributes<R>, Error>
+    ensures gives { Gives (seen_root R.section) result
+        (root_of header.now.encoding abbreviations.now (R.section header.now.entries)) }
+{
+    let mut entries = EntriesRaw {
+        input: header.entries.duplicate()?,
+        encoding: header.encoding,
+        abbreviations,
+        end: 0,
+        depth: 0,
+    };
+    match entries.read_abbreviation()? {
+        Some(abbreviation) => read_root_attributes(&mut entries, abbreviation.attributes()),
+        None => Err(Error::MissingUnitDie),
     }
 }

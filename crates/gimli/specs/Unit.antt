@@ -1,0 +1,109 @@
+-- A unit: its header, its abbreviations and its record (DWARF 5, sections 3.1.1 and 7.5).
+-- Own: bases begin at 0; in a version 5 unit of a split file at the end of the table's header.
+-- Own: the record is faulty by its abbreviations, its first entry, its line program's header, or the index of
+-- its low_pc, in this order. A name or a directory that can't be read counts as none.
+use Rattle.std.specs.Prelude.{◌≡◌, ℕ, ◌==◌, Bool, List, option_map, option_and_then, Option, Some, None, Result, Ok, Err, unwrap_or, if◌then◌else◌}
+use Rattle.std.specs.Result.{result_ok}
+use Rattle.gimli_read.specs.declared.error.Error.{Error}
+use Rattle.gimli_read.specs.declared.endian.Encoding.{Encoding}
+use Rattle.gimli_read.specs.declared.endian.Format.{Format}
+use Rattle.gimli_read.specs.declared.endian.Format.TheVariants.{Dwarf32, Dwarf64}
+use Rattle.gimli_read.specs.declared.value.AttributeValue.{AttributeValue}
+use Rattle.gimli_read.specs.Section.{Section}
+use Rattle.gimli_read.specs.Reading.{◌>>=◌}
+use Rattle.gimli_read.specs.Abbreviations.{Abbrev}
+use Rattle.gimli_read.specs.Abbrev.{table_at}
+use Rattle.gimli.specs.declared.dwarf.DwarfFileType.{DwarfFileType}
+use Rattle.gimli.specs.declared.dwarf.DwarfFileType.TheVariants.{Main, Dwo}
+use Rattle.gimli.specs.declared.unit.DwoId.{DwoId}
+use Rattle.gimli.specs.declared.unit.UnitHeader.{UnitHeader}
+use Rattle.gimli.specs.declared.record.AddressValue.{AddressValue}
+use Rattle.gimli.specs.declared.record.AddressValue.TheVariants.{Address, Index}
+use Rattle.gimli.specs.declared.record.RootAttributes.{RootAttributes}
+use Rattle.gimli.specs.declared.unit_record.Unit.{Unit}
+use Rattle.gimli.specs.Header.{seen_header}
+use Rattle.gimli.specs.Sections.{Sections}
+use Rattle.gimli.specs.Text.{from_offset, entry_at, string_of}
+use Rattle.gimli.specs.Record.{root_of}
+
+-- a unit without where it lies in memory
+pub record UnitRecord : Type 0 where
+  pub header : UnitHeader Section
+  pub abbreviations : List Abbrev
+  pub name : Option Section
+  pub comp_dir : Option Section
+  pub low_pc : ℕ
+  pub str_offsets_base : ℕ
+  pub addr_base : ℕ
+  pub rnglists_base : ℕ
+  pub dwo_id : Option DwoId
+
+-- a unit whose readers are seen as sections
+abbrev pub seen_unit : {R : Type 0} → (R → Section) → Unit R → UnitRecord
+seen_unit see u = record {
+  header = seen_header see u.header;
+  abbreviations = u.abbreviations;
+  name = option_map see u.name;
+  comp_dir = option_map see u.comp_dir;
+  low_pc = u.low_pc;
+  str_offsets_base = u.str_offsets_base;
+  addr_base = u.addr_base;
+  rnglists_base = u.rnglists_base;
+  dwo_id = u.dwo_id;
+}
+
+-- one number for each format
+abbrev pub by_format : ℕ → ℕ → Format → ℕ
+by_format short long Dwarf32 = short
+by_format short long Dwarf64 = long
+
+-- the length of a table's header in a version 5 unit of a split file, else 0
+abbrev pub first_base : ℕ → ℕ → DwarfFileType → Encoding → ℕ
+first_base short long Main encoding = 0
+first_base short long Dwo encoding = if encoding.version == 5 then by_format short long encoding.format else 0
+
+-- the address that a value stands for, where its index counts from base
+abbrev pub address_of : Sections → Encoding → ℕ → AddressValue → Result ℕ Error
+address_of d encoding base (Address a) = Ok a
+address_of d encoding base (Index i) = entry_at encoding.address_size base i d.debug_addr
+
+-- the address of low_pc, 0 where there is none
+abbrev pub low_pc_of : Sections → Encoding → ℕ → Option AddressValue → Result ℕ Error
+low_pc_of d encoding base None = Ok 0
+low_pc_of d encoding base (Some value) = address_of d encoding base value
+
+-- the string of a value, none where it can't be read
+abbrev pub readable : Sections → Format → ℕ → Option (AttributeValue Section) → Option Section
+readable d format base value = option_and_then (λ v. result_ok (string_of d format base v)) value
+
+-- the identifier of the header, else that of the first entry
+abbrev pub dwo_id_of : Option DwoId → Option ℕ → Option DwoId
+dwo_id_of (Some id) given = Some id
+dwo_id_of None given = option_map (λ (n : ℕ). record { 0 = n }) given
+
+-- the unit of a header, whose first entry says this
+unfoldable pub completed : Sections → UnitHeader Section → List Abbrev → RootAttributes Section → Result UnitRecord Error
+completed d header table root =
+    let str_offsets_base = unwrap_or root.str_offsets_base (first_base 8 16 d.file_type header.encoding) in
+    let addr_base = unwrap_or root.addr_base 0 in
+    do
+      low_pc ← low_pc_of d header.encoding addr_base root.low_pc
+      Ok (record {
+        header = header;
+        abbreviations = table;
+        name = readable d header.encoding.format str_offsets_base root.name;
+        comp_dir = readable d header.encoding.format str_offsets_base root.comp_dir;
+        low_pc = low_pc;
+        str_offsets_base = str_offsets_base;
+        addr_base = addr_base;
+        rnglists_base = unwrap_or root.rnglists_base (first_base 12 20 d.file_type header.encoding);
+        dwo_id = dwo_id_of header.dwo_id root.dwo_id;
+      })
+
+-- the unit of a header
+unfoldable pub unit_of : Sections → UnitHeader Section → Result UnitRecord Error
+unit_of d header = do
+  rest ← from_offset header.debug_abbrev_offset d.debug_abbrev
+  table ← table_at rest
+  root ← root_of header.encoding table header.entries
+  completed d header table root

@@ -1,0 +1,169 @@
+//! Units: headers with what their first entry says.
+
+ghost use Rattle.std.specs.Prelude.{◌≡◌, Ok, option_map};
+ghost use Rattle.gimli_read.specs.Reading.{Tells, Gives};
+ghost use Rattle.gimli_read.specs.Form.{seen_value};
+ghost use Rattle.gimli.specs.Header.{seen_header};
+ghost use Rattle.gimli.specs.Sections.{seen_dwarf};
+ghost use Rattle.gimli.specs.Record.{seen_root};
+ghost use Rattle.gimli.specs.Unit.{seen_unit, by_format, first_base, low_pc_of, readable, dwo_id_of, completed, unit_of};
+
+use crate::dwarf::{Dwarf, DwarfFileType};
+use crate::record::{AddressValue, RootAttributes, read_root};
+use crate::text::{read_entry, read_from, read_string};
+use crate::unit::{DwoId, UnitHeader};
+use gimli_read::{Abbreviations, AttributeValue, Encoding, Error, Format, Reader};
+use std::alloc::Global;
+
+/// A unit: its header, its abbreviations, and what its first entry says.
+#[derive(Drop)]
+pub struct Unit<R> {
+    /// The header.
+    pub header: UnitHeader<R>,
+    /// The abbreviations of the unit's entries.
+    pub abbreviations: Abbreviations,
+    /// The name of the primary source file, where it can be read.
+    pub name: Option<R>,
+    /// The directory of the compilation, where it can be read.
+    pub comp_dir: Option<R>,
+    /// The address that range lists count from; 0 where there is none.
+    pub low_pc: u64,
+    /// Where the unit's offsets of strings begin in `.debug_str_offsets`, in bytes.
+    pub str_offsets_base: u64,
+    /// Where the unit's addresses begin in `.debug_addr`, in bytes.
+    pub addr_base: u64,
+    /// Where the unit's range lists begin in `.debug_rnglists`, in bytes.
+    pub rnglists_base: u64,
+    /// The identifier that the unit shares with a split unit, where it has one.
+    pub dwo_id: Option<DwoId>,
+}
+
+// The length of a table's header in a version 5 unit of a split file, else 0.
+fn first_base(short: u64, long: u64, file_type: DwarfFileType, encoding: Encoding) -> u64
+    ensures gives { result ≡ first_base short long file_type encoding }
+{
+    match file_type {
+        DwarfFileType::Main => 0,
+        DwarfFileType::Dwo => {
+            if encoding.version != 5 {
+                return 0;
+            }
+            match encoding.format {
+                Format::Dwarf32 => short,
+                Format::Dwarf64 => long,
+            }
+        }
+    }
+}
+
+// The address of low_pc, 0 where there is none.
+fn read_low_pc<R: Reader>(
+    dwarf: &Dwarf<R>,
+    encoding: Encoding,
+    base: u64,
+    value: Option<AddressValue>,
+) -> Result<u64, Error>
+    ensures gives { Tells (λ a. a) result (low_pc_of (seen_dwarf R.section dwarf.now) encoding base value) }
+{
+    match value {
+        None => Ok(0),
+        Some(AddressValue::Address(address)) => Ok(address),
+        Some(AddressValue::Index(index)) => {
+            read_entry(
+                &dwarf.debug_addr.section,
+                encoding.address_size,
+                base,
+                index,
+            )
+        }
+    }
+}
+
+// The string of a value, none where it can't be read. Refused `OutOfMemory` alone.
+fn read_readable<R: Reader>(
+    dwarf: &Dwarf<R>,
+    format: Format,
+    base: u64,
+    value: Option<AttributeValue<R>>,
+) -> Result<Option<R>, Error>
+    ensures gives { Gives (option_map R.section) result
+        (Ok (readable (seen_dwarf R.section dwarf.now) format base (option_map (seen_value R.section) value))) }
+{
+    let Some(value) = value else {
+        return Ok(None);
+    };
+    match read_string(dwarf, format, base, value) {
+        Ok(text) => Ok(Some(text)),
+        Err(Error::OutOfMemory) => Err(Error::OutOfMemory),
+        Err(_) => Ok(None),
+    }
+}
+
+// The identifier of the header, else that of the first entry.
+fn dwo_id_of(in_header: Option<DwoId>, given: Option<u64>) -> Option<DwoId>
+    ensures gives { result ≡ dwo_id_of in_header given }
+{
+    match in_header {
+        Some(id) => Some(id),
+        None => match given {
+            Some(id) => Some(DwoId(id)),
+            None => None,
+        },
+    }
+}
+
+// The unit of a header, whose first entry says this.
+#[tactic(auto, unfolding(crate::specs::Unit::completed))]
+fn complete<R: Reader>(
+    dwarf: &Dwarf<R>,
+    header: UnitHeader<R>,
+    abbreviations: Abbreviations,
+    root: RootAttributes<R>,
+) -> Result<Unit<R>, Error>
+    ensures gives { Gives (seen_unit R.section) result (completed (seen_dwarf R.section dwarf.now)
+        (seen_header R.section header) abbreviations (seen_root R.section root)) }
+{
+    let encoding = header.encoding;
+    let file_type = dwarf.file_type;
+    let str_offsets_base = root
+        .str_offsets_base
+        .unwrap_or(first_base(8, 16, file_type, encoding));
+    let addr_base = root.addr_base.unwrap_or(0);
+    let rnglists_base = root
+        .rnglists_base
+        .unwrap_or(first_base(12, 20, file_type, encoding));
+    let low_pc = read_low_pc(dwarf, encoding, addr_base, root.low_pc)?;
+    let dwo_id = dwo_id_of(header.dwo_id, root.dwo_id);
+    let name = read_readable(dwarf, encoding.format, str_offsets_base, root.name)?;
+    let comp_dir = read_readable(dwarf, encoding.format, str_offsets_base, root.comp_dir)?;
+    Ok(Unit {
+        header,
+        abbreviations,
+        name,
+        comp_dir,
+        low_pc,
+        str_offsets_base,
+        addr_base,
+        rnglists_base,
+        dwo_id,
+    })
+}
+
+impl<R: Reader> Dwarf<R> {
+    /// The unit of a header: its abbreviations, and what its first entry says.
+    ///
+    /// Refused by its abbreviations (`OffsetOutOfBounds`, `BadAbbreviation`), its first entry
+    /// (`UnexpectedEof`, `MissingUnitDie`, `UnknownAbbreviation`, `UnknownForm` and what a value is
+    /// refused for), or the index of its low_pc (`OffsetOutOfBounds`), in this order, and
+    /// `OutOfMemory`.
+    #[tactic(auto, unfolding(crate::specs::Unit::unit_of))]
+    pub fn unit(&self, alloc: Global, header: UnitHeader<R>) -> Result<Unit<R>, Error>
+        ensures gives { Gives (seen_unit R.section) result
+            (unit_of (seen_dwarf R.section self.now) (seen_header R.section header)) }
+    {
+        let rest = read_from(&self.debug_abbrev.section, header.debug_abbrev_offset)?;
+        let abbreviations = Abbreviations::parse(alloc, rest)?;
+        let root = read_root(&header, &abbreviations)?;
+        complete(self, header, abbreviations, root)
+    }
+}

@@ -1,0 +1,75 @@
+-- The rows of the registers are the rows of the closed form (on specs/Rows.antt and specs/Steps.antt).
+use Rattle.std.proofs.Common.{◌≡◌, ◌<◌, Bool, true, false, cond, not, ◌&&◌, nat_lt, List, [], ◌∷◌, Option, Some, None, Result, Ok, Err, refl, sym, ap, ◌∙◌}
+use Rattle.gimli_read.specs.declared.error.Error.{Error}
+use Rattle.gimli_read.specs.declared.error.Error.TheVariants.{AddressOverflow}
+use Rattle.gimli_read.specs.Section.{Section}
+use Rattle.gimli_read.specs.Reading.{◌>>=◌}
+use Rattle.gimli_line.specs.declared.encoding.LineEncoding.{LineEncoding}
+use Rattle.gimli_line.specs.declared.opcode.Opcode.{Opcode}
+use Rattle.gimli_line.specs.declared.registers.Registers.{Registers}
+use Rattle.gimli_line.specs.declared.row.LineRow.{LineRow}
+use Rattle.gimli_line.specs.Encoding.{limit}
+use Rattle.gimli_line.specs.Rows.{course, address_after, row_after, row_from, past_after, rows_after, is_end, makes_row}
+use Rattle.gimli_line.specs.Steps.{start, step, fitting, row, row_of, next, executed, with_row, continued, rows_from, rows_left, files_left}
+use Rattle.gimli_line.specs.declared.header.FileEntry.{FileEntry}
+use Rattle.gimli_line.specs.Header.{Header, Program}
+use Rattle.gimli_line.specs.Lines.{Lines, lines_of}
+use Rattle.gimli_line.specs.Opcode.{opcodes_in, instructions_of}
+use Rattle.gimli_line.proofs.Stepping.{StandsFor, start_stands, step_stands}
+
+row_is : (e : LineEncoding) (r : Registers) (past : List Opcode) (end : Bool) → StandsFor e r past → row r end ≡ row_after e past end
+row_is e r past end s = let a = s.address in let f = s.file in let l = s.line in let c = s.column in let d = s.dropping in cc
+
+module _ {Z : Type 0} (e : LineEncoding) (past : List Opcode) (op : Opcode) (ops : List Opcode) (end : Result Z Error) where
+  -- after an opcode whose address fits
+  emits : (r : Registers) → StandsFor e r (op ∷ past) → rows_from e start ops end ≡ rows_after e [] ops end → rows_from e r ops end ≡ rows_after e (op ∷ past) ops end
+      → with_row (row_of op r) (rows_from e (next op r) ops end) ≡ row_from e op (op ∷ past) (rows_after e (past_after op past) ops end)
+  emits r s anew on = at (is_end op)
+    where
+      shown : (m : Bool) → with_row (cond (m && not r.dropping) (Some (row r false)) None) (rows_from e r ops end)
+          ≡ cond (m && not (course e (op ∷ past)).dropping) (Ok (row_after e (op ∷ past) false) ∷ rows_after e (op ∷ past) ops end) (rows_after e (op ∷ past) ops end)
+      shown m = ap (λ d. with_row (cond (m && not d) (Some (row r false)) None) (rows_from e r ops end)) s.dropping ∙ by_test (m && not (course e (op ∷ past)).dropping)
+        where
+          by_test : (b : Bool) → with_row (cond b (Some (row r false)) None) (rows_from e r ops end) ≡ cond b (Ok (row_after e (op ∷ past) false) ∷ rows_after e (op ∷ past) ops end) (rows_after e (op ∷ past) ops end)
+          by_test true = let f = row_is e r (op ∷ past) false s in cc
+          by_test false = on
+
+      at : (b : Bool) → with_row (cond b (Some (row r true)) (cond (makes_row op && not r.dropping) (Some (row r false)) None)) (rows_from e (cond b start r) ops end)
+          ≡ (let rest = rows_after e (cond b [] (op ∷ past)) ops end in cond b (Ok (row_after e (op ∷ past) true) ∷ rest) (cond (makes_row op && not (course e (op ∷ past)).dropping) (Ok (row_after e (op ∷ past) false) ∷ rest) rest))
+      at true = let f = row_is e r (op ∷ past) true s in cc
+      at false = shown (makes_row op)
+
+  -- and with the test
+  executes : (r : Registers) → StandsFor e r (op ∷ past) → rows_from e start ops end ≡ rows_after e [] ops end → rows_from e r ops end ≡ rows_after e (op ∷ past) ops end
+      → continued (λ q. rows_from e q ops end) (fitting e r >>= λ q. Ok (row_of op q, next op q))
+      ≡ cond (nat_lt (address_after e (op ∷ past)) (limit e)) (row_from e op (op ∷ past) (rows_after e (past_after op past) ops end)) (Err AddressOverflow ∷ [])
+  executes r s anew on = ap (λ a. continued (λ q. rows_from e q ops end) (cond (nat_lt a (limit e)) (Ok r) (Err AddressOverflow) >>= λ q. Ok (row_of op q, next op q))) s.address ∙ by_test (nat_lt (address_after e (op ∷ past)) (limit e))
+    where
+      by_test : (b : Bool) → continued (λ q. rows_from e q ops end) (cond b (Ok r) (Err AddressOverflow) >>= λ q. Ok (row_of op q, next op q)) ≡ cond b (row_from e op (op ∷ past) (rows_after e (past_after op past) ops end)) (Err AddressOverflow ∷ [])
+      by_test true = emits r s anew on
+      by_test false = refl
+
+pub rows_are : {Z : Type 0} (e : LineEncoding) → 0 < e.maximum_operations_per_instruction → (ops : List Opcode) (end : Result Z Error) (r : Registers) (past : List Opcode) → StandsFor e r past → rows_from e r ops end ≡ rows_after e past ops end
+unfolding rows_from executed
+rows_are e some [] end r past s = refl
+rows_are e some (op ∷ ops) end r past s =
+    let t = step_stands e past r s some op in
+    executes e past op ops end (step e r op) t (rows_are e some ops end start [] (start_stands e some)) (rows_are e some ops end (step e r op) (op ∷ past) t)
+
+-- the rows of a program, from the registers at the start
+pub rows_of-start : {Z : Type 0} (e : LineEncoding) → 0 < e.maximum_operations_per_instruction → (ops : List Opcode) (end : Result Z Error) → rows_from e start ops end ≡ rows_after e [] ops end
+rows_of-start e some ops end = rows_are e some ops end start [] (start_stands e some)
+
+-- all that a program gives, as the registers see it
+pub lines_begin : (p : Program) (h : Header) (s : Section) (r : Registers) → 0 < p.header.line_encoding.maximum_operations_per_instruction → p.header ≡ h → p.program ≡ s → r ≡ start
+    → lines_of p ≡ record { header = h; left = rows_left h r s; to_define = files_left h s }
+lines_begin p h s r some eh es er =
+    let run = instructions_of p.header p.program in
+    let a = rows_of-start p.header.line_encoding some (opcodes_in run.items) run.end in
+    let b : rows_left p.header start p.program ≡ rows_left h r s = ap (λ x. rows_left x start p.program) eh ∙ ap (λ x. rows_left h start x) es ∙ ap (λ x. rows_left h x s) (sym er) in
+    let d : files_left p.header p.program ≡ files_left h s = ap (λ x. files_left x p.program) eh ∙ ap (λ x. files_left h x) es in
+    let f : lines_of p ≡ record { header = p.header; left = rows_left p.header start p.program; to_define = files_left p.header p.program } = ap (λ (x : List (Result LineRow Error)). record { header = p.header; left = x; to_define = files_left p.header p.program }) (sym a) in
+    f ∙ same p.header h _ _ _ _ eh b d
+  where
+    same : (x y : Header) (l m : List (Result LineRow Error)) (u v : List (FileEntry Section)) → x ≡ y → l ≡ m → u ≡ v → ◌≡◌ {A = Lines} (record { header = x; left = l; to_define = u }) (record { header = y; left = m; to_define = v })
+    same x y l m u v e f g = cc

@@ -1,0 +1,6 @@
+use Rattle.std.proofs.Common.{◌≡◌, map, take}
+use Rattle.gimli_read.specs.Form.{seen_value}
+use Rattle.gimli_line.proofs.copies.duplicate_values.Given as goal
+
+abbrev pub invariant-loop-value : goal.invariant-loop-value
+invariant-loop-value g l = map (seen_value g.R.Reader.section) l.copies.items ≡ take l.value-index (map (seen_value g.R.Reader.section) l.values)

@@ -1,0 +1,16 @@
+use Rattle.std.proofs.Common.{◌≡◌, ◌<◌, length}
+use Rattle.gimli_line.specs.Encoding.{limit}
+use Rattle.gimli_line.specs.Header.{seen_header}
+use Rattle.gimli_line.specs.Steps.{rows_left, DefinesOn}
+use Rattle.gimli_line.proofs.program.find_row.Given as goal
+
+abbrev pub invariant-loop-instruction : goal.invariant-loop-instruction
+invariant-loop-instruction g l = record {
+  index : l.registers.op_index < l.header.line_encoding.maximum_operations_per_instruction;
+  fits : l.registers.address < limit l.header.line_encoding;
+  left : rows_left (seen_header g.R.Reader.section l.header) l.registers (g.R.Reader.section l.program) ≡ rows_left (seen_header g.R.Reader.section l.fn.header) l.fn.registers (g.R.Reader.section l.fn.program);
+  files : DefinesOn (seen_header g.R.Reader.section l.fn.header) (g.R.Reader.section l.fn.program) (seen_header g.R.Reader.section l.header) (g.R.Reader.section l.program);
+}
+
+abbrev pub decreases-loop-instruction : goal.decreases-loop-instruction
+decreases-loop-instruction g l = length (g.R.Reader.section l.program).bytes

@@ -1,0 +1,29 @@
+use Rattle.std.proofs.Common.{◌≡◌, ◌++◌, ◌∷◌, [], List, Ok, map, ap, sym, ◌∙◌, append-nil}
+use Rattle.std.proofs.lemmas.Result.{err_from_is_err_and}
+use Rattle.std.proofs.lemmas.List.{map-append}
+use Rattle.gimli_read.specs.Run.{run_of, collected, with_front}
+use Rattle.gimli_read.proofs.Shorter.{shorter_by}
+use Rattle.gimli_read.proofs.RunLemmas.{collected-more, collected-end, collected-fault}
+use Rattle.gimli_read.specs.Form.{seen_value}
+use Rattle.gimli_line.specs.Tables.{directory_at}
+use Rattle.gimli_line.proofs.Shortening.{directory-takes}
+use Rattle.gimli_line.proofs.tables.read_directories.Goals as goal
+
+pub returns-in_err-directory : goal.returns-in_err-directory
+returns-in_err-directory g c = let p = err_from_is_err_and c.from_residual.result c.from_residual.ensures.1 in rw (p.1, p.2) (record {
+  gives = λ n. sym c.loop-directories.invariant ∙ ap (with_front (map (seen_value g.R.Reader.section) c.loop-directories.directories.items)) (collected-fault directory_at directory-takes _ _ (c.in_err-directory.ensures.gives n));
+})
+
+pub loop-directories-smaller : goal.loop-directories-smaller
+loop-directories-smaller g c = shorter_by directory_at directory-takes _ (seen_value g.R.Reader.section c.in-Some.directory) _ (rw c.in-Some.is at c.in_ok-directory.ensures.gives)
+
+pub loop-directories-preserved : goal.loop-directories-preserved
+loop-directories-preserved g c =
+    let same : map (seen_value g.R.Reader.section) c.push.new.self.items ≡ map (seen_value g.R.Reader.section) c.loop-directories.directories.items ++ seen_value g.R.Reader.section c.in-Some.directory ∷ [] = ap (map (seen_value g.R.Reader.section)) c.in_ok-push.ensures.items ∙ simp map-append in
+    rw same (sym (collected-more directory_at directory-takes _ (seen_value g.R.Reader.section c.in-Some.directory) _ (rw c.in-Some.is at c.in_ok-directory.ensures.gives) (map (seen_value g.R.Reader.section) c.loop-directories.directories.items)) ∙ c.loop-directories.invariant)
+
+pub returns : goal.returns
+returns g c = record {
+  gives = sym c.loop-directories.invariant ∙ ap (with_front (map (seen_value g.R.Reader.section) c.loop-directories.directories.items)) (collected-end directory_at directory-takes _ _ (rw c.in_default.is at c.in_ok-directory.ensures.gives))
+      ∙ ap (λ v. Ok (v, g.R.Reader.section c.read_directory.new.input)) (append-nil (map (seen_value g.R.Reader.section) c.loop-directories.directories.items));
+}

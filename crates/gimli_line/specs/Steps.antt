@@ -1,0 +1,120 @@
+-- Line programs as the private functions see them: registers, one opcode at a time. That the rows are
+-- those of Rows is proved.
+use Rattle.std.specs.Prelude.{◌≡◌, ◌≢◌, ◌++◌, ℕ, ◌+◌, ◌-◌, ◌*◌, ◌/◌, ◌%◌, pos, ◌+ℤ◌, Bool, true, false, ◌||◌, ◌&&◌, not, List, [], ◌∷◌, Option, Some, None, Result, Ok, Err, nat_lt, if◌then◌else◌}
+use Rattle.gimli_read.specs.declared.error.Error.{Error}
+use Rattle.gimli_read.specs.declared.error.Error.TheVariants.{AddressOverflow, OutOfMemory}
+use Rattle.gimli_read.specs.Section.{Section}
+use Rattle.gimli_read.specs.Reading.{◌>>=◌}
+use Rattle.gimli_line.specs.declared.encoding.LineEncoding.{LineEncoding}
+use Rattle.gimli_line.specs.declared.opcode.Opcode.{Opcode}
+use Rattle.gimli_line.specs.declared.opcode.Opcode.TheVariants.{Special, Copy, AdvancePc, AdvanceLine, SetFile, SetColumn, ConstAddPc, FixedAdvancePc, EndSequence, SetAddress, Other}
+use Rattle.gimli_line.specs.declared.opcode.LineInstruction.{LineInstruction}
+use Rattle.gimli_line.specs.declared.opcode.LineInstruction.TheVariants.{Changes, Defines}
+use Rattle.gimli_line.specs.declared.header.FileEntry.{FileEntry}
+use Rattle.gimli_line.specs.declared.registers.Registers.{Registers}
+use Rattle.gimli_line.specs.declared.row.LineRow.{LineRow}
+use Rattle.gimli_line.specs.Encoding.{limit}
+use Rattle.gimli_line.specs.Header.{Header}
+use Rattle.gimli_line.specs.Opcode.{opcodes_in, files_in, instructions_of}
+use Rattle.gimli_line.specs.Rows.{line_advance, moved, is_tombstone, is_end, makes_row, ended}
+
+-- the registers at the start of a sequence
+abbrev pub start : Registers
+start = record { address = 0; op_index = 0; file_index = 1; line = 1; column = 0; dropping = false }
+
+-- operations are passed over
+abbrev pub advanced : LineEncoding → ℕ → Registers → Registers
+advanced e n r =
+    if r.dropping then r
+    else record r {
+      address = r.address + e.minimum_instruction_length * ((r.op_index + n) / e.maximum_operations_per_instruction);
+      op_index = (r.op_index + n) % e.maximum_operations_per_instruction;
+    }
+
+-- the address is set
+abbrev pub placed : LineEncoding → ℕ → Registers → Registers
+placed e a r =
+    if is_tombstone e a || nat_lt a r.address then record r { dropping = true } else record r { address = a; op_index = 0; dropping = false }
+
+-- bytes are passed over
+abbrev pub pushed : ℕ → Registers → Registers
+pushed n r = if r.dropping then r else record r { address = r.address + n; op_index = 0 }
+
+-- the registers after an opcode
+abbrev pub step : LineEncoding → Registers → Opcode → Registers
+step e r (Special n) = advanced e (n / e.line_range) (record r { line = moved r.line (line_advance e n) })
+step e r Copy = r
+step e r (AdvancePc n) = advanced e n r
+step e r (AdvanceLine z) = record r { line = moved r.line z }
+step e r (SetFile n) = record r { file_index = n }
+step e r (SetColumn n) = record r { column = n }
+step e r ConstAddPc = advanced e ((255 - e.opcode_base) / e.line_range) r
+step e r (FixedAdvancePc n) = pushed n r
+step e r EndSequence = r
+step e r (SetAddress a) = placed e a r
+step e r Other = r
+
+-- registers whose address fits the address size
+abbrev pub fitting : LineEncoding → Registers → Result Registers Error
+fitting e r = if nat_lt r.address (limit e) then Ok r else Err AddressOverflow
+
+-- the row that stands there
+abbrev pub row : Registers → Bool → LineRow
+row r end = record {
+  address = r.address;
+  file_index = r.file_index;
+  line = r.line;
+  column = r.column;
+  end_sequence = end;
+  dropped = r.dropping;
+}
+
+-- what an opcode puts out, after its step
+abbrev pub row_of : Opcode → Registers → Option LineRow
+row_of op r = if is_end op then Some (row r true) else (if makes_row op && not r.dropping then Some (row r false) else None)
+
+-- the registers of the next opcode
+abbrev pub next : Opcode → Registers → Registers
+next op r = if is_end op then start else r
+
+-- what an opcode puts out, and the registers of the next one
+unfoldable pub executed : LineEncoding → Registers → Opcode → Result (Option LineRow × Registers) Error
+executed e r op = fitting e (step e r op) >>= λ s. Ok (row_of op s, next op s)
+
+-- a row, if there is one, before others
+abbrev pub with_row : Option LineRow → List (Result LineRow Error) → List (Result LineRow Error)
+with_row None rest = rest
+with_row (Some x) rest = Ok x ∷ rest
+
+-- what an opcode puts out, and then the others
+abbrev pub continued : (Registers → List (Result LineRow Error)) → Result (Option LineRow × Registers) Error → List (Result LineRow Error)
+continued others (Ok x) = with_row x.0 (others x.1)
+continued others (Err x) = Err x ∷ []
+
+-- the rows of opcodes from these registers on
+unfoldable pub rows_from : {Z : Type 0} → LineEncoding → Registers → List Opcode → Result Z Error → List (Result LineRow Error)
+rows_from e r [] end = ended end
+rows_from e r (op ∷ ops) end = continued (λ s. rows_from e s ops end) (executed e r op)
+
+-- the rows that are left, from these registers on
+abbrev pub rows_left : Header → Registers → Section → List (Result LineRow Error)
+rows_left h r s = rows_from h.line_encoding r (opcodes_in (instructions_of h s).items) (instructions_of h s).end
+
+-- the files that are still to be defined
+abbrev pub files_left : Header → Section → List (FileEntry Section)
+files_left h s = files_in (instructions_of h s).items
+
+-- what an instruction puts out, the registers of the next one, and the header with its files
+unfoldable pub taken : Header → Registers → LineInstruction Section → Result (Option LineRow × Registers × Header) Error
+taken h r (Changes op) = executed h.line_encoding r op >>= λ x. Ok (x.0, x.1, h)
+taken h r (Defines f) = Ok (None, r, record h { file_names = h.file_names ++ f ∷ [] })
+
+-- what a search for a row found of the rows that were left, and which are left behind it
+abbrev pub Finds : List (Result LineRow Error) → Result (Option LineRow) Error → List (Result LineRow Error) → Type 0
+Finds old (Ok None) new = (old ≡ []) × (new ≡ [])
+Finds old (Ok (Some x)) new = old ≡ Ok x ∷ new
+Finds old (Err e) new = e ≢ OutOfMemory → old ≡ Err e ∷ []
+
+-- the files so far and those to come stay the same, and so does the rest of the header
+abbrev pub DefinesOn : Header → Section → Header → Section → Type 0
+DefinesOn h s g t = (h.file_names ++ files_left h s ≡ g.file_names ++ files_left g t) × (g ≡ record h { file_names = g.file_names })

@@ -1,0 +1,17 @@
+//! Line programs: their headers, and the rows that they give.
+#![tactic(auto)]
+
+mod copies;
+mod encoding;
+mod header;
+mod opcode;
+mod program;
+mod read;
+mod registers;
+mod row;
+mod tables;
+
+pub use crate::header::{FileEntry, LineProgramHeader};
+pub use crate::program::{IncompleteLineProgram, LineRows};
+pub use crate::read::read_line_program;
+pub use crate::row::LineRow;

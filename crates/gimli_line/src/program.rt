@@ -1,0 +1,148 @@
+//! Line programs and their rows.
+
+ghost use Rattle.std.specs.Prelude.{◌≡◌, ◌<◌, ◌++◌, [], OnOk, OnErr, IfOk, Ok, None};
+ghost use Rattle.gimli_read.specs.Reading.{Gives};
+ghost use Rattle.gimli_line.specs.Encoding.{limit};
+ghost use Rattle.gimli_line.specs.Header.{seen_header, seen_program};
+ghost use Rattle.gimli_line.specs.Lines.{lines_of, YieldsIfRoom, KeepsFiles};
+ghost use Rattle.gimli_line.specs.Opcode.{seen_instruction};
+ghost use Rattle.gimli_line.specs.Steps.{taken, rows_left, files_left, DefinesOn, Finds};
+
+use crate::copies::duplicate_header;
+use crate::header::LineProgramHeader;
+use crate::opcode::{LineInstruction, read_instruction};
+use crate::registers::Registers;
+use crate::row::LineRow;
+use gimli_read::{Error, Reader};
+use std::marker::Model;
+
+/// A line program whose opcodes aren't run yet.
+#[derive(Drop)]
+pub struct IncompleteLineProgram<R> {
+    pub(crate) header: LineProgramHeader<R>,
+    pub(crate) program: R,
+}
+
+impl<R: Reader> IncompleteLineProgram<R> {
+    /// The rows of the program, from its first opcode on, over a copy of its header. Refused `OutOfMemory`
+    /// alone.
+    pub fn rows(&self) -> Result<LineRows<R>, Error>
+        ensures gives { Gives (λ rows. rows) result (Ok (lines_of (seen_program R.section self.now))) }
+    {
+        Ok(LineRows {
+            header: duplicate_header(&self.header)?,
+            program: self.program.duplicate()?,
+            registers: Registers::start(),
+        })
+    }
+}
+
+/// The rows of a line program that are still to come, and its header with the files that are defined so far.
+#[derive(Drop)]
+pub struct LineRows<R: Reader> {
+    header: LineProgramHeader<R>,
+    program: R,
+    registers: Registers,
+}
+
+impl<R: Reader> Model for LineRows<R> {
+    ghost use Rattle.std.specs.Prelude.{◌<◌};
+    ghost use Rattle.gimli_line.specs.Lines.{Lines};
+
+    ghost Value = { Lines };
+
+    ghost use Rattle.gimli_line.specs.Encoding.{limit};
+    ghost use Rattle.gimli_line.specs.Header.{seen_header};
+    ghost use Rattle.gimli_line.specs.Steps.{rows_left, files_left};
+
+    ghost view = { λ a. record {
+      header = seen_header R.section a.header;
+      left = rows_left (seen_header R.section a.header) a.registers (R.section a.program);
+      to_define = files_left (seen_header R.section a.header) (R.section a.program);
+    } };
+
+    ghost invariant = { λ a. (a.registers.op_index < a.header.line_encoding.maximum_operations_per_instruction) × (a.registers.address < limit a.header.line_encoding) };
+}
+
+impl<R: Reader> LineRows<R> {
+    /// The header, with the files that are defined so far. Takes no memory.
+    pub fn header(&self) -> &LineProgramHeader<R>
+        ensures gives { seen_header R.section result.now ≡ self.now.header }
+    {
+        &self.header
+    }
+
+    /// The next row; none at the end, and after a refusal.
+    ///
+    /// Refused where an opcode is: the refusals of its numbers, `UnexpectedEof` where its bytes aren't whole,
+    /// `AddressOverflow` at the first opcode after which the address passes its size, and `OutOfMemory`
+    /// where a file is defined. Source: DWARF 5, section 6.2.5.
+    pub fn next_row(&mut self) -> Result<Option<LineRow>, Error>
+        ensures gives { YieldsIfRoom self.old.left result self.new.left }
+        ensures files { OnOk result (KeepsFiles self.old self.new) }
+        ensures all { IfOk result (λ row. row ≡ None → self.new.to_define ≡ []) }
+    {
+        let found = find_row(&mut self.header, &mut self.registers, &mut self.program);
+        if found.is_err() {
+            pass_over(&mut self.program);
+            self.registers = Registers::start();
+        }
+        found
+    }
+}
+
+// Leaves nothing to read.
+fn pass_over<R: Reader>(input: &mut R)
+    ensures none { (R.section input.new).bytes ≡ [] }
+{
+    let len = input.len();
+    let _ = input.skip(len);
+}
+
+// Takes an instruction in, and gives the row that it puts out, if any.
+#[tactic(auto, unfolding(crate::specs::Steps::taken))]
+fn take_instruction<R: Reader>(
+    header: &mut LineProgramHeader<R>,
+    registers: &mut Registers,
+    instruction: LineInstruction<R>,
+) -> Result<Option<LineRow>, Error>
+    requires index { registers.old.op_index < header.old.line_encoding.maximum_operations_per_instruction }
+    requires fits { registers.old.address < limit header.old.line_encoding }
+    ensures gives { Gives (λ x. (x, registers.new, seen_header R.section header.new)) result
+        (taken (seen_header R.section header.old) registers.old (seen_instruction R.section instruction)) }
+    ensures index { OnOk result (registers.new.op_index < header.new.line_encoding.maximum_operations_per_instruction) }
+    ensures fits { OnOk result (registers.new.address < limit header.new.line_encoding) }
+{
+    match instruction {
+        LineInstruction::Changes(opcode) => registers.execute(header.line_encoding, opcode),
+        LineInstruction::Defines(file) => {
+            header.file_names.push(file)?;
+            Ok(None)
+        }
+    }
+}
+
+// Runs the program up to its next row.
+fn find_row<R: Reader>(
+    header: &mut LineProgramHeader<R>,
+    registers: &mut Registers,
+    program: &mut R,
+) -> Result<Option<LineRow>, Error>
+    requires index { registers.old.op_index < header.old.line_encoding.maximum_operations_per_instruction }
+    requires fits { registers.old.address < limit header.old.line_encoding }
+    ensures gives { Finds (rows_left (seen_header R.section header.old) registers.old (R.section program.old)) result
+        (rows_left (seen_header R.section header.new) registers.new (R.section program.new)) }
+    ensures all { IfOk result (λ row. row ≡ None
+        → files_left (seen_header R.section header.new) (R.section program.new) ≡ []) }
+    ensures files { OnOk result (DefinesOn (seen_header R.section header.old) (R.section program.old)
+        (seen_header R.section header.new) (R.section program.new)) }
+    ensures index { OnOk result (registers.new.op_index < header.new.line_encoding.maximum_operations_per_instruction) }
+    ensures fits { OnOk result (registers.new.address < limit header.new.line_encoding) }
+{
+    while let Some(instruction) = read_instruction(header, program)? {
+        if let Some(row) = take_instruction(header, registers, instruction)? {
+            return Ok(Some(row));
+        }
+    }
+    Ok(None)
+}

@@ -13,6 +13,8 @@ use Rattle.gimli_read.specs.Section.{Section}
 use Rattle.gimli_read.specs.Reading.{◌>>=◌}
 use Rattle.gimli_read.specs.Abbreviations.{Abbrev}
 use Rattle.gimli_read.specs.Abbrev.{table_at}
+use Rattle.gimli_line.specs.Header.{Program, seen_program}
+use Rattle.gimli_line.specs.Program.{line_program_at}
 use Rattle.gimli.specs.declared.dwarf.DwarfFileType.{DwarfFileType}
 use Rattle.gimli.specs.declared.dwarf.DwarfFileType.TheVariants.{Main, Dwo}
 use Rattle.gimli.specs.declared.unit.DwoId.{DwoId}
@@ -37,6 +39,7 @@ pub record UnitRecord : Type 0 where
   pub addr_base : ℕ
   pub rnglists_base : ℕ
   pub dwo_id : Option DwoId
+  pub line_program : Option Program
 
 -- a unit whose readers are seen as sections
 abbrev pub seen_unit : {R : Type 0} → (R → Section) → Unit R → UnitRecord
@@ -50,6 +53,7 @@ seen_unit see u = record {
   addr_base = u.addr_base;
   rnglists_base = u.rnglists_base;
   dwo_id = u.dwo_id;
+  line_program = option_map (seen_program see) u.line_program;
 }
 
 -- one number for each format
@@ -72,6 +76,14 @@ abbrev pub low_pc_of : Sections → Encoding → ℕ → Option AddressValue →
 low_pc_of d encoding base None = Ok 0
 low_pc_of d encoding base (Some value) = address_of d encoding base value
 
+-- the line program at the offset that stmt_list gives, if it gives one
+abbrev pub program_of : Sections → Encoding → Option ℕ → Result (Option Program) Error
+program_of d encoding None = Ok None
+program_of d encoding (Some offset) = do
+  rest ← from_offset offset d.debug_line
+  program ← line_program_at encoding.address_size rest
+  Ok (Some program)
+
 -- the string of a value, none where it can't be read
 abbrev pub readable : Sections → Format → ℕ → Option (AttributeValue Section) → Option Section
 readable d format base value = option_and_then (λ v. result_ok (string_of d format base v)) value
@@ -87,6 +99,7 @@ completed d header table root =
     let str_offsets_base = unwrap_or root.str_offsets_base (first_base 8 16 d.file_type header.encoding) in
     let addr_base = unwrap_or root.addr_base 0 in
     do
+      program ← program_of d header.encoding root.stmt_list
       low_pc ← low_pc_of d header.encoding addr_base root.low_pc
       Ok (record {
         header = header;
@@ -98,6 +111,7 @@ completed d header table root =
         addr_base = addr_base;
         rnglists_base = unwrap_or root.rnglists_base (first_base 12 20 d.file_type header.encoding);
         dwo_id = dwo_id_of header.dwo_id root.dwo_id;
+        line_program = program;
       })
 
 -- the unit of a header

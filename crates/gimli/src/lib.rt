@@ -17,4 +17,5 @@ pub use crate::sections::{
 };
 pub use crate::unit::{DwoId, UnitHeader, UnitHeaders, UnitType};
 pub use crate::unit_record::Unit;
+pub use gimli_line as line;
 pub use gimli_read as read;

@@ -3,15 +3,17 @@
 ghost use Rattle.std.specs.Prelude.{◌≡◌, Ok, option_map};
 ghost use Rattle.gimli_read.specs.Reading.{Tells, Gives};
 ghost use Rattle.gimli_read.specs.Form.{seen_value};
+ghost use Rattle.gimli_line.specs.Header.{seen_program};
 ghost use Rattle.gimli.specs.Header.{seen_header};
 ghost use Rattle.gimli.specs.Sections.{seen_dwarf};
 ghost use Rattle.gimli.specs.Record.{seen_root};
-ghost use Rattle.gimli.specs.Unit.{seen_unit, by_format, first_base, low_pc_of, readable, dwo_id_of, completed, unit_of};
+ghost use Rattle.gimli.specs.Unit.{seen_unit, by_format, first_base, low_pc_of, program_of, readable, dwo_id_of, completed, unit_of};
 
 use crate::dwarf::{Dwarf, DwarfFileType};
 use crate::record::{AddressValue, RootAttributes, read_root};
 use crate::text::{read_entry, read_from, read_string};
 use crate::unit::{DwoId, UnitHeader};
+use gimli_line::{IncompleteLineProgram, read_line_program};
 use gimli_read::{Abbreviations, AttributeValue, Encoding, Error, Format, Reader};
 use std::alloc::Global;
 
@@ -36,6 +38,8 @@ pub struct Unit<R> {
     pub rnglists_base: u64,
     /// The identifier that the unit shares with a split unit, where it has one.
     pub dwo_id: Option<DwoId>,
+    /// The line program, where it has one; its opcodes aren't run yet.
+    pub line_program: Option<IncompleteLineProgram<R>>,
 }
 
 // The length of a table's header in a version 5 unit of a split file, else 0.
@@ -79,6 +83,24 @@ fn read_low_pc<R: Reader>(
     }
 }
 
+// The line program at the offset that stmt_list gives, if it gives one.
+fn read_program<R: Reader>(
+    alloc: Global,
+    dwarf: &Dwarf<R>,
+    encoding: Encoding,
+    stmt_list: Option<u64>,
+) -> Result<Option<IncompleteLineProgram<R>>, Error>
+    ensures gives { Gives (option_map (seen_program R.section)) result
+        (program_of (seen_dwarf R.section dwarf.now) encoding stmt_list) }
+{
+    let Some(offset) = stmt_list else {
+        return Ok(None);
+    };
+    let rest = read_from(&dwarf.debug_line.section, offset)?;
+    let program = read_line_program(alloc, rest, encoding.address_size)?;
+    Ok(Some(program))
+}
+
 // The string of a value, none where it can't be read. Refused `OutOfMemory` alone.
 fn read_readable<R: Reader>(
     dwarf: &Dwarf<R>,
@@ -115,6 +137,7 @@ fn dwo_id_of(in_header: Option<DwoId>, given: Option<u64>) -> Option<DwoId>
 // The unit of a header, whose first entry says this.
 #[tactic(auto, unfolding(crate::specs::Unit::completed))]
 fn complete<R: Reader>(
+    alloc: Global,
     dwarf: &Dwarf<R>,
     header: UnitHeader<R>,
     abbreviations: Abbreviations,
@@ -132,6 +155,7 @@ fn complete<R: Reader>(
     let rnglists_base = root
         .rnglists_base
         .unwrap_or(first_base(12, 20, file_type, encoding));
+    let line_program = read_program(alloc, dwarf, encoding, root.stmt_list)?;
     let low_pc = read_low_pc(dwarf, encoding, addr_base, root.low_pc)?;
     let dwo_id = dwo_id_of(header.dwo_id, root.dwo_id);
     let name = read_readable(dwarf, encoding.format, str_offsets_base, root.name)?;
@@ -146,6 +170,7 @@ fn complete<R: Reader>(
         addr_base,
         rnglists_base,
         dwo_id,
+        line_program,
     })
 }
 
@@ -154,8 +179,8 @@ impl<R: Reader> Dwarf<R> {
     ///
     /// Refused by its abbreviations (`OffsetOutOfBounds`, `BadAbbreviation`), its first entry
     /// (`UnexpectedEof`, `MissingUnitDie`, `UnknownAbbreviation`, `UnknownForm` and what a value is
-    /// refused for), or the index of its low_pc (`OffsetOutOfBounds`), in this order, and
-    /// `OutOfMemory`.
+    /// refused for), its line program's header (`OffsetOutOfBounds` and what a header is refused
+    /// for), or the index of its low_pc (`OffsetOutOfBounds`), in this order, and `OutOfMemory`.
     #[tactic(auto, unfolding(crate::specs::Unit::unit_of))]
     pub fn unit(&self, alloc: Global, header: UnitHeader<R>) -> Result<Unit<R>, Error>
         ensures gives { Gives (seen_unit R.section) result
@@ -164,6 +189,6 @@ impl<R: Reader> Dwarf<R> {
         let rest = read_from(&self.debug_abbrev.section, header.debug_abbrev_offset)?;
         let abbreviations = Abbreviations::parse(alloc, rest)?;
         let root = read_root(&header, &abbreviations)?;
-        complete(self, header, abbreviations, root)
+        complete(alloc, self, header, abbreviations, root)
     }
 }

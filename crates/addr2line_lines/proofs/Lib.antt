@@ -1,0 +1,5 @@
+pub mod PickLemmas
+pub mod OrderLemmas
+pub mod OrderPick
+pub mod StretchLemmas
+pub mod RiseLemmas

@@ -3,3 +3,5 @@ pub mod OrderLemmas
 pub mod OrderPick
 pub mod StretchLemmas
 pub mod RiseLemmas
+pub mod SeekLemmas
+pub mod SpanLemmas

@@ -8,3 +8,5 @@ pub mod Spans
 pub mod Paths
 pub mod Files
 pub mod Location
+pub mod Shown
+pub mod Kept

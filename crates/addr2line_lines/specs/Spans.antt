@@ -5,6 +5,10 @@ use Rattle.addr2line_lines.specs.declared.row.Row.{Row}
 use Rattle.addr2line_lines.specs.Sequences.{Sequence, start_of, end_of}
 use Rattle.addr2line_lines.specs.Pick.{pick}
 
+-- the address of a row
+abbrev pub address_of : Row → ℕ
+address_of r = r.address
+
 -- a row and the end of its span
 pub record Span : Type 0 where
   pub row : Row

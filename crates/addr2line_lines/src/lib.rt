@@ -1,12 +1,15 @@
 //! Lines of a unit: sequences of rows, the texts of files, and the places of addresses.
 #![tactic(auto)]
 
+mod line;
 mod location;
 mod order;
 mod path;
 mod row;
+mod seek;
 mod sequence;
 
+pub use crate::line::Lines;
 pub use crate::location::Location;
 pub use crate::order::order_is_free;
 pub use crate::sequence::sequences_rise;

@@ -13,3 +13,6 @@ pub use crate::line::Lines;
 pub use crate::location::Location;
 pub use crate::order::order_is_free;
 pub use crate::sequence::sequences_rise;
+
+#[cfg(test)]
+mod tests;

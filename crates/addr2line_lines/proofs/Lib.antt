@@ -5,3 +5,4 @@ pub mod StretchLemmas
 pub mod RiseLemmas
 pub mod SeekLemmas
 pub mod SpanLemmas
+pub mod LonePick

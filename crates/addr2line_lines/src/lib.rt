@@ -11,7 +11,7 @@ mod sequence;
 
 pub use crate::line::Lines;
 pub use crate::location::Location;
-pub use crate::order::order_is_free;
+pub use crate::order::{lone_is_picked, order_is_free};
 pub use crate::sequence::sequences_rise;
 
 #[cfg(test)]

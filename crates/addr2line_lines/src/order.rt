@@ -1,6 +1,7 @@
 //! Sequences in order.
 
 ghost use Rattle.std.specs.Prelude.{◌≡◌, OnOk, OnErr};
+ghost use Rattle.addr2line_lines.specs.Pick.{LoneIsPicked};
 ghost use Rattle.addr2line_lines.specs.InOrder.{in_order, begins_sooner, OrderIsFree};
 ghost use Rattle.addr2line_lines.specs.Sequences.{start_of, end_of};
 
@@ -21,4 +22,9 @@ pub(crate) fn sort_sequences(sequences: &mut Vec<LineSequence>) -> Result<(), Al
 /// no code.
 pub fn order_is_free()
     ensures law { OrderIsFree start_of end_of }
+{}
+
+/// A sequence that holds an address is picked where all others lie beside it: a law, with no code.
+pub fn lone_is_picked()
+    ensures law { LoneIsPicked start_of end_of }
 {}

@@ -1,13 +1,12 @@
 //! Sequences, from the rows of a line program.
 
-ghost use Rattle.std.specs.Prelude.{◌≡◌, ◌++◌, ◌∷◌, false, true, List, Result, Ok, IfOk, OnOk};
+ghost use Rattle.std.specs.Prelude.{◌≡◌, false, IfOk, OnOk};
 ghost use Rattle.std.specs.List.{AllByRecursion};
-ghost use Rattle.gimli_line.specs.declared.row.LineRow.{LineRow as ProgramRow};
 ghost use Rattle.gimli_read.specs.Reading.{Gives};
 ghost use Rattle.addr2line_lines.specs.Rows.{read_all, result_map};
 ghost use Rattle.addr2line_lines.specs.Sequences.{sequence_of, sequences_of};
-ghost use Rattle.addr2line_lines.specs.Rises.{NeverFalls, IsRising, SequencesRise};
-ghost use Rattle.addr2line_lines.specs.Building.{IsPending};
+ghost use Rattle.addr2line_lines.specs.Rises.{IsRising, SequencesRise};
+ghost use Rattle.addr2line_lines.specs.Building.{IsPending, SameSequences, SameTogether, StillRises};
 
 use crate::row::{ReadRows, Row, kept_rows};
 use gimli_line::LineRow;
@@ -55,9 +54,9 @@ fn close(alloc: Global, rows: &[LineRow], last: LineRow) -> Result<Option<LineSe
 fn add_row(rows: &mut Vec<LineRow>, row: LineRow) -> Result<(), AllocError>
     ensures pending { IsPending rows.old.items → row.end_sequence ≡ false →
         OnOk result (IsPending rows.new.items) }
-    ensures same { IsPending rows.old.items → row.end_sequence ≡ false → OnOk result
-        ((left : List ProgramRow) → sequences_of (rows.new.items ++ left) ≡ sequences_of (rows.old.items ++ row ∷ left)) }
-    ensures rises { OnOk result ((left : List ProgramRow) → NeverFalls (rows.old.items ++ row ∷ left) → NeverFalls (rows.new.items ++ left)) }
+    ensures same { IsPending rows.old.items → row.end_sequence ≡ false →
+        OnOk result (SameSequences rows.old.items row rows.new.items) }
+    ensures rises { OnOk result (StillRises rows.old.items row rows.new.items) }
 {
     let Some(last) = rows.pop() else {
         rows.push(row)?;
@@ -80,12 +79,14 @@ struct Builder {
 }
 
 impl Builder {
+    // Adds a row, or closes the sequence that it ends.
     fn take_row(&mut self, alloc: Global, row: LineRow) -> Result<(), AllocError>
-        ensures pending { IsPending self.old.pending.items → OnOk result (IsPending self.new.pending.items) }
-        ensures rises { OnOk result ((left : List ProgramRow) → NeverFalls (self.old.pending.items ++ row ∷ left) → NeverFalls (self.new.pending.items ++ left)) }
-        ensures same { IsPending self.old.pending.items → OnOk result
-            ((left : List ProgramRow) → NeverFalls (self.old.pending.items ++ row ∷ left) →
-            self.new.sequences.items ++ sequences_of (self.new.pending.items ++ left) ≡ self.old.sequences.items ++ sequences_of (self.old.pending.items ++ row ∷ left)) }
+        ensures pending { IsPending self.old.pending.items →
+            OnOk result (IsPending self.new.pending.items) }
+        ensures rises { OnOk result (StillRises self.old.pending.items row self.new.pending.items) }
+        ensures same { IsPending self.old.pending.items → OnOk result (SameTogether
+            self.old.sequences.items self.old.pending.items row
+            self.new.sequences.items self.new.pending.items) }
     {
         if !row.end_sequence {
             return add_row(&mut self.pending, row);
@@ -106,7 +107,8 @@ pub(crate) fn read_sequences<R: ReadRows>(
     alloc: Global,
     rows: &mut R,
 ) -> Result<Vec<LineSequence>, Error>
-    ensures gives { Gives (λ v. v.items) result (result_map sequences_of (read_all (R.left rows.old))) }
+    ensures gives { Gives (λ v. v.items) result
+        (result_map sequences_of (read_all (R.left rows.old))) }
     ensures rise { IfOk result (λ v. AllByRecursion IsRising v.items) }
 {
     rows.rises();

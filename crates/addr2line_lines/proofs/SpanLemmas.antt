@@ -7,10 +7,10 @@ use Rattle.std.proofs.lemmas.Bool.{cases_lt}
 use Rattle.std.proofs.lemmas.Bool.Decides.{nat_tests}
 use Rattle.addr2line_lines.specs.declared.row.Row.{Row}
 use Rattle.addr2line_lines.specs.Sequences.{Sequence, start_of, end_of}
-use Rattle.addr2line_lines.specs.Rises.{Climbs, IsRising}
+use Rattle.addr2line_lines.specs.Rises.{Climbs, IsRising, StartsAt}
 use Rattle.addr2line_lines.specs.InOrder.{IsInOrder, begins_sooner}
 use Rattle.addr2line_lines.specs.Pick.{last, beginning_by, counting, if_past}
-use Rattle.addr2line_lines.specs.Spans.{Span, spanned, spans, holds, address_of, row_in, row_at}
+use Rattle.addr2line_lines.specs.Spans.{Span, spanned, spans, holds, address_of, row_in, row_at, EachAddressHasRow}
 use Rattle.addr2line_lines.specs.Kept.{IsKept}
 use Rattle.addr2line_lines.proofs.PickLemmas.{In-last, In-filter}
 use Rattle.addr2line_lines.proofs.OrderLemmas.{All-in}
@@ -100,3 +100,20 @@ row_at_last probe ss o h e =
 pub last_rises : (probe : ℕ) (ss : List Sequence) (s : Sequence) → IsKept ss → Some s ≡ last (beginning_by start_of probe ss) → IsRising s
 last_rises probe ss s h e =
     All-in IsRising ss s h.rising (In-filter (λ x. nat_le (start_of x) probe) ss s (In-last (beginning_by start_of probe ss) s (sym e))).0
+
+some_last : (r : Row) (rows : List Row) → (x : Row) × (last (r ∷ rows) ≡ Some x)
+some_last r [] = (r, refl)
+some_last r (s ∷ rows) = some_last s rows
+
+-- a row stands by a probe that the rows start by
+some_by : (probe start : ℕ) (rows : List Row) → StartsAt start rows → start ≤ probe → (x : Row) × (last (beginning_by address_of probe rows) ≡ Some x)
+some_by probe start [] at low = absurd at
+some_by probe start (r ∷ rows) at low =
+    let by = beginning_by address_of probe rows in
+    let x = some_last r by in
+    (x.0, ap (λ b. last (cond b (r ∷ by) by)) (reached r.address probe (omega (arith, at))) ∙ x.1)
+
+pub address_has_row : EachAddressHasRow
+address_has_row probe s h low l =
+    let x = some_by probe s.start s.rows h.starts low in
+    (x.0, span_last probe s.end s.rows h.rises l ∙ x.1)

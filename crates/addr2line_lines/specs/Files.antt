@@ -17,3 +17,8 @@ directory_text base (Some bytes) = pushed base (lossy_text bytes)
 -- a file's text, of the unit's directory, the file's directory and its path
 abbrev pub file_text : Option (List ℕ) → Option (List ℕ) → List ℕ → List ℕ
 file_text unit directory path = pushed (directory_text (base_text unit) directory) (lossy_text path)
+
+-- the text of the file that is the unit's own name, empty where it has none
+abbrev pub own_text : Option (List ℕ) → Option (List ℕ) → List ℕ
+own_text unit None = []
+own_text unit (Some name) = file_text unit None name

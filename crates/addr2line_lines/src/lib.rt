@@ -12,6 +12,7 @@ mod sequence;
 pub use crate::line::Lines;
 pub use crate::location::Location;
 pub use crate::order::{lone_is_picked, order_is_free};
+pub use crate::seek::each_address_has_a_row;
 pub use crate::sequence::sequences_rise;
 
 #[cfg(test)]

@@ -32,7 +32,10 @@ impl Model for Lines {
 
     ghost Value = { Kept };
 
-    ghost view = { λ l. record { files = map string_bytes l.files.items; sequences = l.sequences.items } };
+    ghost view = { λ l. record {
+      files = map string_bytes l.files.items;
+      sequences = l.sequences.items;
+    } };
 
     ghost invariant = { λ l. IsKept l.sequences.items };
 }
@@ -89,9 +92,10 @@ impl Lines {
 
     /// The place of an address, `None` where no sequence has it. Takes no memory.
     ///
-    /// `probe` is an address as the file has it. Of the sequences that start at or before it the one
-    /// with the greatest start counts, of these the one with the greatest end, of these the last in the
-    /// program; where it ends past the probe, its row whose span holds the probe gives the place.
+    /// `probe` is an address as the file has it. Of the sequences that start at or before it the
+    /// one with the greatest start counts, of these the one with the greatest end, of these the
+    /// last in the program; where it ends past the probe, its row whose span holds the probe gives
+    /// the place.
     ///
     /// Source: DWARF 5, section 6.2.2. Own: which of several sequences counts.
     pub fn find_location(&self, probe: u64) -> Option<Location<'_>>

@@ -12,14 +12,15 @@ use std::alloc::AllocError;
 ///
 /// Refused for want of memory alone, and then they stand as they stood.
 pub(crate) fn sort_sequences(sequences: &mut Vec<LineSequence>) -> Result<(), AllocError>
-    ensures gives { OnOk result (sequences.new.items ≡ in_order (begins_sooner start_of end_of) sequences.old.items) }
+    ensures gives { OnOk result (sequences.new.items ≡
+        in_order (begins_sooner start_of end_of) sequences.old.items) }
     ensures refused { OnErr result (sequences.new.items ≡ sequences.old.items) }
 {
     sequences.sort_by_key(|sequence| (sequence.start, sequence.end))
 }
 
-/// What is picked of sequences in order is what is picked of them in the program's order: a law, with
-/// no code.
+/// What is picked of sequences in order is what is picked of them in the program's order: a law,
+/// with no code.
 pub fn order_is_free()
     ensures law { OrderIsFree start_of end_of }
 {}

@@ -4,7 +4,7 @@ ghost use Rattle.std.specs.Prelude.{◌≡◌, IfOk, OnOk};
 ghost use Rattle.std.specs.Option.{option_copied};
 ghost use Rattle.std.specs.String.{string_bytes};
 ghost use Rattle.addr2line_lines.specs.Paths.{replaces, separator, lacks, joined, pushed};
-ghost use Rattle.addr2line_lines.specs.Files.{file_text, base_text, directory_text};
+ghost use Rattle.addr2line_lines.specs.Files.{file_text, base_text, directory_text, own_text};
 
 use bstr::ByteSlice;
 use std::alloc::{AllocError, Global};
@@ -70,7 +70,8 @@ pub(crate) fn push_path(path: &mut String, text: &str) -> Result<(), AllocError>
 
 // Pushes bytes, decoded lossily, onto a path.
 fn push_bytes(alloc: Global, path: &mut String, bytes: &[u8]) -> Result<(), AllocError>
-    ensures gives { OnOk result (string_bytes path.new ≡ directory_text (string_bytes path.old) (Some bytes.now)) }
+    ensures gives { OnOk result (string_bytes path.new ≡
+        directory_text (string_bytes path.old) (Some bytes.now)) }
 {
     let text = bytes.to_str_lossy(alloc)?;
     push_path(path, text.as_str())
@@ -104,4 +105,21 @@ pub(crate) fn make_file_text(
     }
     push_bytes(alloc, &mut text, path)?;
     Ok(text)
+}
+
+/// The text of the file that is the unit's own name, empty where it has none.
+///
+/// Refused for want of memory alone.
+pub(crate) fn make_own_text(
+    alloc: Global,
+    unit: Option<&[u8]>,
+    name: Option<&[u8]>,
+) -> Result<String, AllocError>
+    ensures gives { IfOk result (λ text. string_bytes text ≡
+        own_text (option_copied unit.entry) (option_copied name.entry)) }
+{
+    match name {
+        Some(name) => make_file_text(alloc, unit, None, name),
+        None => Ok(String::new(alloc)),
+    }
 }

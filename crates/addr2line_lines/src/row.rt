@@ -22,7 +22,8 @@ pub(crate) trait ReadRows {
 
     /// The next row, if there is one.
     fn next_row(&mut self) -> Result<Option<LineRow>, Error>
-        ensures gives { (result ≡ Err OutOfMemory → ⊥) → Yields (left self.old) result (left self.new) };
+        ensures gives { (result ≡ Err OutOfMemory → ⊥) →
+            Yields (left self.old) result (left self.new) };
 
     /// Within a sequence addresses don't fall: a law that each reader of rows shows.
     fn rises(&self)

@@ -6,7 +6,7 @@ ghost use Rattle.std.specs.List.Sorted.{IsNonDecreasingBy};
 ghost use Rattle.addr2line_lines.specs.Sequences.{start_of, end_of};
 ghost use Rattle.addr2line_lines.specs.Rises.{IsRising};
 ghost use Rattle.addr2line_lines.specs.Pick.{last, beginning_by, if_past};
-ghost use Rattle.addr2line_lines.specs.Spans.{address_of, row_in};
+ghost use Rattle.addr2line_lines.specs.Spans.{address_of, row_in, EachAddressHasRow};
 
 use crate::row::Row;
 use crate::sequence::LineSequence;
@@ -29,7 +29,8 @@ fn last_row(rows: &[Row], probe: u64) -> Option<&Row>
     rows[..by].last()
 }
 
-/// The row of a sequence whose span holds the probe, where the sequence ends past it. Takes no memory.
+/// The row of a sequence whose span holds the probe, where the sequence ends past it. Takes no
+/// memory.
 pub(crate) fn row_of_sequence(sequence: &LineSequence, probe: u64) -> Option<Row>
     requires rising { IsRising sequence.now }
     ensures found { result ≡ option_and_then (row_in probe) (if_past end_of probe sequence.now) }
@@ -39,3 +40,8 @@ pub(crate) fn row_of_sequence(sequence: &LineSequence, probe: u64) -> Option<Row
     }
     last_row(&sequence.rows, probe).copied()
 }
+
+/// Each address of a sequence that rises has a row: a law, with no code.
+pub fn each_address_has_a_row()
+    ensures law { EachAddressHasRow }
+{}

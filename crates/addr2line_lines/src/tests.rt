@@ -4,7 +4,7 @@ ghost use Rattle.std.specs.Prelude.{◌≡◌, true};
 ghost use Rattle.addr2line_lines.specs.Rises.{NeverFalls};
 
 use crate::line::Lines;
-use crate::path::{make_file_text, push_path};
+use crate::path::{make_file_text, make_own_text, push_path};
 use crate::row::ReadRows;
 use gimli_line::LineRow;
 use gimli_read::Error;
@@ -274,5 +274,9 @@ fn a_file_stands_below_its_directory_and_the_units(rt: HostRuntime) -> Result<()
     assert_eq!(rt; text.as_str(), "/w/src/a.c");
     let text = make_file_text(alloc, None, None, b"a\xff.c")?;
     assert_eq!(rt; text.as_str(), "a\u{fffd}.c");
+    let text = make_own_text(alloc, Some(b"/w"), Some(b"a.c"))?;
+    assert_eq!(rt; text.as_str(), "/w/a.c");
+    let text = make_own_text(alloc, Some(b"/w"), None)?;
+    assert_eq!(rt; text.as_str(), "");
     Ok(())
 }

@@ -1,10 +1,10 @@
 -- A range beside all others is picked where it holds the probe (on specs/Pick.antt).
-use Rattle.std.proofs.Common.{ℕ, ◌≡◌, ◌<◌, ◌≤◌, ◌⊎◌, ◌&&◌, ◌==◌, Bool, true, cond, nat_lt, List, [], ◌∷◌, length, slice_index_or, Some, None, zero, suc, arith, inl, inr, ◌∙◌, ap, sym, subst, refl}
-use Rattle.std.specs.List.{filter, All, AllByRecursion, Contains}
+use Rattle.std.proofs.Common.{ℕ, ◌≡◌, ◌<◌, ◌≤◌, ◌⊎◌, ◌&&◌, ◌==◌, true, cond, nat_lt, List, [], ◌∷◌, length, slice_index_or, Some, None, zero, suc, arith, inl, inr, ◌∙◌, ap, subst, refl}
+use Rattle.std.specs.List.{filter, AllByRecursion}
 use Rattle.std.specs.Option.{option_and_then}
 use Rattle.std.proofs.lemmas.Bool.Decides.{nat_tests}
 use Rattle.std.proofs.lemmas.List.Elements.{recursion_from_All}
-use Rattle.addr2line_lines.specs.Pick.{last, counting, if_past, IsBeside, LoneIsPicked}
+use Rattle.addr2line_lines.specs.Pick.{last, if_past, IsBeside, LoneIsPicked}
 use Rattle.addr2line_lines.proofs.PickLemmas.{In, In-passes, All-passing, IsBefore, same_ends, counting_is}
 
 module _ {X : Type 0} where

@@ -1,13 +1,12 @@
 -- Searches in lists that do not fall (on specs/Pick.antt).
-use Rattle.std.proofs.Common.{ℕ, ◌≡◌, ◌+◌, ◌-◌, ◌<◌, ◌≤◌, Bool, true, false, cond, nat_cmp, List, [], ◌∷◌, length, take, Option, Some, None, arith, ◌∙◌, ap, sym, refl, zero, suc}
-use Rattle.std.specs.List.{filter, All, AllWithin, AllByRecursion, slice_get}
+use Rattle.std.proofs.Common.{ℕ, ◌≡◌, ◌-◌, ◌≤◌, Bool, true, false, cond, nat_cmp, List, [], ◌∷◌, length, take, arith, ◌∙◌, ap, sym, refl, zero, suc}
+use Rattle.std.specs.List.{filter, AllWithin, AllByRecursion, slice_get}
 use Rattle.std.specs.List.Sorted.{IsNonDecreasingBy, IsPartitionPoint}
 use Rattle.std.specs.Ordering.{is_lt, ordering_then}
 use Rattle.std.proofs.lemmas.Bool.Decides.{nat_tests}
 use Rattle.std.proofs.lemmas.List.Elements.{All-from_recursion}
 use Rattle.addr2line_lines.specs.InOrder.{begins_sooner, IsInOrder}
 use Rattle.addr2line_lines.specs.Pick.{last}
-use lib.ListN.{get_or}
 
 -- the last element stands before the length
 pub last_is : {X : Type 0} (xs : List X) → last xs ≡ slice_get xs (length xs - 1)

@@ -1,5 +1,5 @@
 -- The row whose span holds a probe (on specs/Spans.antt).
-use Rattle.std.proofs.Common.{ℕ, ◌≡◌, ◌<◌, ◌≤◌, ◌⊎◌, inl, inr, Bool, true, false, cond, ◌&&◌, List, [], ◌∷◌, Option, Some, None, nat_le, nat_lt, arith, ◌∙◌, ap, sym, refl}
+use Rattle.std.proofs.Common.{ℕ, ◌≡◌, ◌<◌, ◌≤◌, inl, inr, Bool, true, false, cond, ◌&&◌, List, [], ◌∷◌, Option, Some, None, nat_le, nat_lt, arith, ◌∙◌, ap, sym, refl}
 use Rattle.std.specs.List.{find, AllByRecursion}
 use Rattle.std.specs.Option.{option_map, option_and_then}
 use Rattle.std.specs.List.Sorted.{IsNonDecreasingBy}
@@ -8,9 +8,8 @@ use Rattle.std.proofs.lemmas.Bool.Decides.{nat_tests}
 use Rattle.addr2line_lines.specs.declared.row.Row.{Row}
 use Rattle.addr2line_lines.specs.Sequences.{Sequence, start_of, end_of}
 use Rattle.addr2line_lines.specs.Rises.{Climbs, IsRising, StartsAt}
-use Rattle.addr2line_lines.specs.InOrder.{IsInOrder, begins_sooner}
-use Rattle.addr2line_lines.specs.Pick.{last, beginning_by, counting, if_past}
-use Rattle.addr2line_lines.specs.Spans.{Span, spanned, spans, holds, address_of, row_in, row_at, EachAddressHasRow}
+use Rattle.addr2line_lines.specs.Pick.{last, beginning_by, if_past}
+use Rattle.addr2line_lines.specs.Spans.{spanned, spans, holds, address_of, row_in, row_at, EachAddressHasRow}
 use Rattle.addr2line_lines.specs.Kept.{IsKept}
 use Rattle.addr2line_lines.proofs.PickLemmas.{In-last, In-filter}
 use Rattle.addr2line_lines.proofs.OrderLemmas.{All-in}

@@ -1,6 +1,6 @@
 -- The place in a source file of an address.
 -- Own: line 0 gives neither line nor column; otherwise column 0 is a column. An index past the files gives no file.
-use Rattle.std.specs.Prelude.{ℕ, List, Option, Some, None, Result, map, slice_get, option_map, ◌==◌, if◌then◌else◌}
+use Rattle.std.specs.Prelude.{ℕ, List, Option, Some, None, Result, slice_get, option_map, ◌==◌, if◌then◌else◌}
 use Rattle.gimli_read.specs.declared.error.Error.{Error}
 use Rattle.gimli_line.specs.declared.row.LineRow.{LineRow}
 use Rattle.addr2line_lines.specs.declared.row.Row.{Row}

@@ -1,4 +1,4 @@
-use Rattle.std.proofs.Common.{rules, ◌≡◌, Bool, nat_le, ◌∙◌}
+use Rattle.std.proofs.Common.{rules, Bool, nat_le, ◌∙◌}
 use Rattle.std.proofs.lemmas.List.Sorted.{IsPartitionPoint-from_clause, IsPartitionedBy-leb}
 use Rattle.addr2line_lines.specs.Sequences.{Sequence, start_of}
 use Rattle.addr2line_lines.proofs.SeekLemmas.{last_passing}

@@ -1,9 +1,7 @@
-use Rattle.std.proofs.Common.{◌≡◌, List, Option, Some, ◌∙◌, ap, sym, subst}
-use Rattle.std.specs.Option.{option_copied, option_and_then}
+use Rattle.std.proofs.Common.{◌≡◌, List, ◌∙◌, ap, sym, subst}
 use Rattle.addr2line_lines.specs.Sequences.{Sequence, start_of, end_of}
 use Rattle.addr2line_lines.specs.Location.{Kept}
-use Rattle.addr2line_lines.specs.Pick.{last, beginning_by, if_past}
-use Rattle.addr2line_lines.specs.Spans.{row_in, row_at}
+use Rattle.addr2line_lines.specs.Spans.{row_at}
 use Rattle.addr2line_lines.specs.Kept.{IsKept}
 use Rattle.addr2line_lines.proofs.SpanLemmas.{row_at_last, last_rises}
 use Rattle.addr2line_lines.proofs.SeekLemmas.{begins_rise}

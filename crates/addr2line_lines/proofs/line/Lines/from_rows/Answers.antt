@@ -1,6 +1,6 @@
-use Rattle.std.proofs.Common.{◌≡◌, List, ◌∙◌, ap, sym, subst}
+use Rattle.std.proofs.Common.{List, sym, subst}
 use Rattle.addr2line_lines.specs.Sequences.{Sequence, start_of, end_of}
-use Rattle.addr2line_lines.specs.InOrder.{in_order, begins_sooner}
+use Rattle.addr2line_lines.specs.InOrder.{begins_sooner}
 use Rattle.addr2line_lines.specs.Rises.{IsRising}
 use Rattle.addr2line_lines.specs.Kept.{IsKept}
 use Rattle.addr2line_lines.proofs.OrderLemmas.{in_order_ordered, in_order_all, begins_order}

@@ -1,0 +1,118 @@
+-- The row whose span holds a probe (on specs/Spans.antt).
+use Rattle.std.proofs.Common.{ℕ, ◌≡◌, ◌<◌, ◌≤◌, inl, inr, Bool, true, false, cond, ◌&&◌, List, [], ◌∷◌, Option, Some, None, nat_le, nat_lt, arith, ◌∙◌, ap, sym, refl}
+use Rattle.std.specs.List.{find, AllByRecursion}
+use Rattle.std.specs.Option.{option_map, option_and_then}
+use Rattle.std.specs.List.Sorted.{IsNonDecreasingBy}
+use Rattle.std.proofs.lemmas.Bool.{cases_lt}
+use Rattle.std.proofs.lemmas.Bool.Decides.{nat_tests}
+use Rattle.addr2line_lines.specs.declared.row.Row.{Row}
+use Rattle.addr2line_lines.specs.Sequences.{Sequence, start_of, end_of}
+use Rattle.addr2line_lines.specs.Rises.{Climbs, IsRising, StartsAt}
+use Rattle.addr2line_lines.specs.Pick.{last, beginning_by, if_past}
+use Rattle.addr2line_lines.specs.Spans.{spanned, spans, holds, address_of, row_in, row_at, EachAddressHasRow}
+use Rattle.addr2line_lines.specs.Kept.{IsKept}
+use Rattle.addr2line_lines.proofs.PickLemmas.{In-last, In-filter}
+use Rattle.addr2line_lines.proofs.OrderLemmas.{All-in}
+use Rattle.addr2line_lines.proofs.OrderPick.{counting_ordered}
+use Rattle.addr2line_lines.proofs.SeekLemmas.{Up, non_decreasing}
+
+below : (x y : ℕ) → x < y → nat_lt x y ≡ true
+below x y l = grind (arith, nat_tests)
+
+above : (x y : ℕ) → y < x → nat_le x y ≡ false
+above x y l = grind (arith, nat_tests)
+
+reached : (x y : ℕ) → x ≤ y → nat_le x y ≡ true
+reached x y l = grind (arith, nat_tests)
+
+ended : (a b p : ℕ) → b ≤ p → (nat_le a p && nat_lt p b) ≡ false
+ended a b p l = grind (arith, nat_tests)
+
+-- rows past the probe
+none_by : (probe m : ℕ) (rows : List Row) → probe < m → AllByRecursion (λ (s : Row). m < s.address) rows → beginning_by address_of probe rows ≡ []
+none_by probe m [] l all = refl
+none_by probe m (r ∷ rows) l all =
+    ap (λ b. cond b (r ∷ beginning_by address_of probe rows) (beginning_by address_of probe rows)) (above r.address probe (let h = all.0 in omega arith)) ∙ none_by probe m rows l all.1
+
+-- the row whose span holds a probe before the end is the last one by the probe
+pub span_last : (probe end : ℕ) (rows : List Row) → Climbs end rows → probe < end → option_map spanned (find (holds probe) (spans end rows)) ≡ last (beginning_by address_of probe rows)
+span_last probe end [] up l = refl
+span_last probe end (r ∷ []) up l =
+    ap (λ b. option_map spanned (cond (nat_le r.address probe && b) (Some (record { row = r; end = end })) None)) (below probe end l) ∙ by_cases (nat_le r.address probe)
+  where
+    by_cases : (b : Bool) → option_map spanned (cond (b && true) (Some (record { row = r; end = end })) None) ≡ last (cond b (r ∷ []) [])
+    by_cases true = refl
+    by_cases false = refl
+span_last probe end (r ∷ s ∷ rows) up l =
+    elim (cases_lt probe s.address) [
+      | inl lt ↦ before lt (span_last probe end (s ∷ rows) up.1.1 l)
+      | inr ge ↦ after ge (span_last probe end (s ∷ rows) up.1.1 l)
+    ]
+  where
+    -- the next row is past the probe, and so are all later ones
+    before : probe < s.address → option_map spanned (find (holds probe) (spans end (s ∷ rows))) ≡ last (beginning_by address_of probe (s ∷ rows))
+        → option_map spanned (find (holds probe) (spans end (r ∷ s ∷ rows))) ≡ last (beginning_by address_of probe (r ∷ s ∷ rows))
+    before lt ih =
+        let none : beginning_by address_of probe (s ∷ rows) ≡ [] =
+        ap (λ b. cond b (s ∷ beginning_by address_of probe rows) (beginning_by address_of probe rows)) (above s.address probe lt) ∙ none_by probe s.address rows lt up.1.1.1.0 in
+        ap (λ b. option_map spanned (cond (nat_le r.address probe && b) (Some (record { row = r; end = s.address })) (find (holds probe) (spans end (s ∷ rows))))) (below probe s.address lt)
+        ∙ by_cases (nat_le r.address probe) none (ih ∙ ap last none)
+      where
+        by_cases : (b : Bool) → beginning_by address_of probe (s ∷ rows) ≡ [] → option_map spanned (find (holds probe) (spans end (s ∷ rows))) ≡ None
+            → option_map spanned (cond (b && true) (Some (record { row = r; end = s.address })) (find (holds probe) (spans end (s ∷ rows)))) ≡ last (cond b (r ∷ beginning_by address_of probe (s ∷ rows)) (beginning_by address_of probe (s ∷ rows)))
+        by_cases true none found = sym (ap (λ rs. last (r ∷ rs)) none)
+        by_cases false none found = found ∙ sym (ap last none)
+
+    -- the next row is by the probe, and so is this one
+    after : s.address ≤ probe → option_map spanned (find (holds probe) (spans end (s ∷ rows))) ≡ last (beginning_by address_of probe (s ∷ rows))
+        → option_map spanned (find (holds probe) (spans end (r ∷ s ∷ rows))) ≡ last (beginning_by address_of probe (r ∷ s ∷ rows))
+    after ge ih =
+        let here : beginning_by address_of probe (s ∷ rows) ≡ s ∷ beginning_by address_of probe rows =
+        ap (λ b. cond b (s ∷ beginning_by address_of probe rows) (beginning_by address_of probe rows)) (reached s.address probe ge) in
+        let low : r.address ≤ probe = (let h = up.1.0.0 in omega arith) in
+        ap (λ b. option_map spanned (cond b (Some (record { row = r; end = s.address })) (find (holds probe) (spans end (s ∷ rows))))) (ended r.address s.address probe ge)
+        ∙ ih ∙ ap last here ∙ sym (ap (λ rs. last (r ∷ rs)) here)
+        ∙ sym (ap (λ b. last (cond b (r ∷ beginning_by address_of probe (s ∷ rows)) (beginning_by address_of probe (s ∷ rows)))) (reached r.address probe low))
+
+-- rows that climb do not fall
+up_of : (end : ℕ) (rows : List Row) → Climbs end rows → Up address_of rows
+up_of end [] up = tt
+up_of end (r ∷ rows) up = (weaker r.address rows up.1.0, up_of end rows up.1.1)
+  where
+    weaker : (m : ℕ) (rs : List Row) → AllByRecursion (λ (s : Row). m < s.address) rs → AllByRecursion (λ (s : Row). m ≤ s.address) rs
+    weaker m [] all = tt
+    weaker m (x ∷ rs) all = ((let h = all.0 in omega arith), weaker m rs all.1)
+
+pub rows_rise : (s : Sequence) → IsRising s → IsNonDecreasingBy address_of s.rows
+rows_rise s h = non_decreasing address_of s.rows (up_of s.end s.rows h.rises)
+
+-- the row of a sequence that ends past the probe
+pub row_within : (probe : ℕ) (s : Sequence) → IsRising s → probe < s.end → option_and_then (row_in probe) (if_past end_of probe s) ≡ last (beginning_by address_of probe s.rows)
+row_within probe s h l = ap (λ b. option_and_then (row_in probe) (cond b (Some s) None)) (below probe s.end l) ∙ span_last probe s.end s.rows h.rises l
+
+-- in kept sequences the last that starts by the probe counts
+pub row_at_last : (probe : ℕ) (ss : List Sequence) (o : Option Sequence) → IsKept ss → o ≡ last (beginning_by start_of probe ss) → row_at probe ss ≡ option_and_then (row_in probe) (option_and_then (if_past end_of probe) o)
+row_at_last probe ss o h e =
+    ap (λ x. option_and_then (row_in probe) (option_and_then (if_past end_of probe) x)) (counting_ordered start_of end_of probe ss h.ordered ∙ sym e)
+
+-- and it rises
+pub last_rises : (probe : ℕ) (ss : List Sequence) (s : Sequence) → IsKept ss → Some s ≡ last (beginning_by start_of probe ss) → IsRising s
+last_rises probe ss s h e =
+    All-in IsRising ss s h.rising (In-filter (λ x. nat_le (start_of x) probe) ss s (In-last (beginning_by start_of probe ss) s (sym e))).0
+
+some_last : (r : Row) (rows : List Row) → (x : Row) × (last (r ∷ rows) ≡ Some x)
+some_last r [] = (r, refl)
+some_last r (s ∷ rows) = some_last s rows
+
+-- a row stands by a probe that the rows start by
+some_by : (probe start : ℕ) (rows : List Row) → StartsAt start rows → start ≤ probe → (x : Row) × (last (beginning_by address_of probe rows) ≡ Some x)
+some_by probe start [] at low = absurd at
+some_by probe start (r ∷ rows) at low =
+    let by = beginning_by address_of probe rows in
+    let x = some_last r by in
+    (x.0, ap (λ b. last (cond b (r ∷ by) by)) (reached r.address probe (omega (arith, at))) ∙ x.1)
+
+pub address_has_row : EachAddressHasRow
+address_has_row probe s h low l =
+    let x = some_by probe s.start s.rows h.starts low in
+    (x.0, span_last probe s.end s.rows h.rises l ∙ x.1)

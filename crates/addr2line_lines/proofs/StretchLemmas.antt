@@ -1,0 +1,169 @@
+-- What rows taken one at a time leave of the sequences (on specs/Sequences.antt and specs/Building.antt).
+use Rattle.std.proofs.Common.{ℕ, ◌≡◌, ◌<◌, ◌≤◌, ◌||◌, ◌==◌, Bool, true, false, cond, List, [], ◌∷◌, ◌++◌, arith, ◌∙◌, ap, sym, refl, append_assoc, Some, None}
+use Rattle.std.proofs.lemmas.Bool.Decides.{nat_tests}
+use Rattle.std.specs.List.{AllByRecursion, list_any, filter_map, cons_option}
+use Rattle.gimli_line.specs.declared.row.LineRow.{LineRow}
+use Rattle.addr2line_lines.specs.Sequences.{Stretch, Sequence, put_first, stretches, latest, sequence_of, sequence_in, sequences_of}
+use Rattle.addr2line_lines.specs.Rises.{NeverFalls}
+use Rattle.addr2line_lines.specs.Building.{Apart, Open, IsPending}
+
+pub append_none : {X : Type 0} (xs : List X) → xs ++ [] ≡ xs
+append_none [] = refl
+append_none (x ∷ xs) = ap (λ ys. x ∷ ys) (append_none xs)
+
+-- rows before those of the first stretch
+abbrev put_all : List LineRow → List Stretch → List Stretch
+put_all p [] = []
+put_all p (s ∷ rest) = record { rows = p ++ s.rows; last = s.last } ∷ rest
+
+put_all-cons : (r : LineRow) (p : List LineRow) (ss : List Stretch) → put_first r (put_all p ss) ≡ put_all (r ∷ p) ss
+put_all-cons r p [] = refl
+put_all-cons r p (s ∷ rest) = refl
+
+put_all-none : (ss : List Stretch) → ss ≡ put_all [] ss
+put_all-none [] = refl
+put_all-none (s ∷ rest) = refl
+
+stretches-open : (p left : List LineRow) → Open p → stretches (p ++ left) ≡ put_all p (stretches left)
+stretches-open [] left o = put_all-none (stretches left)
+stretches-open (r ∷ p) left o =
+    ap (λ b. cond b (record { rows = []; last = r } ∷ stretches (p ++ left)) (put_first r (stretches (p ++ left)))) o.0
+    ∙ ap (put_first r) (stretches-open p left o.1) ∙ put_all-cons r p (stretches left)
+
+-- whether a row has the address
+abbrev at : ℕ → LineRow → Bool
+at m s = s.address == m
+
+same_tests : (m : ℕ) (a r : LineRow) (q : List LineRow) → a.address ≡ r.address → list_any (at m) (a ∷ r ∷ q) ≡ list_any (at m) (r ∷ q)
+same_tests m a r q e = ap (λ k. (k == m) || ((r.address == m) || list_any (at m) q)) e ∙ twice (r.address == m) (list_any (at m) q)
+  where
+    twice : (x y : Bool) → (x || (x || y)) ≡ (x || y)
+    twice true y = refl
+    twice false y = refl
+
+any_without : (m : ℕ) (p q : List LineRow) (a r : LineRow) → a.address ≡ r.address → list_any (at m) (p ++ a ∷ r ∷ q) ≡ list_any (at m) (p ++ r ∷ q)
+any_without m [] q a r e = same_tests m a r q e
+any_without m (x ∷ p) q a r e = ap (λ b. (x.address == m) || b) (any_without m p q a r e)
+
+itself : (m n : ℕ) → m ≡ n → (n == m) ≡ true
+itself m n e = grind (arith, nat_tests)
+
+latest_without : (p q : List LineRow) (a r : LineRow) → a.address ≡ r.address → latest (p ++ a ∷ r ∷ q) ≡ latest (p ++ r ∷ q)
+latest_without [] q a r e = ap (λ b. cond b (latest (r ∷ q)) (a ∷ latest (r ∷ q))) (ap (λ b. b || list_any (at a.address) q) (itself a.address r.address e))
+latest_without (x ∷ p) q a r e =
+    ap (λ b. cond b (latest (p ++ a ∷ r ∷ q)) (x ∷ latest (p ++ a ∷ r ∷ q))) (any_without x.address p q a r e)
+    ∙ ap (λ rows. cond (list_any (at x.address) (p ++ r ∷ q)) rows (x ∷ rows)) (latest_without p q a r e)
+
+Open-append : (p q : List LineRow) → Open p → Open q → Open (p ++ q)
+Open-append [] q o k = k
+Open-append (r ∷ p) q o k = (o.0, Open-append p q o.1 k)
+
+Open-front : (p q : List LineRow) → Open (p ++ q) → Open p
+Open-front [] q o = tt
+Open-front (r ∷ p) q o = (o.0, Open-front p q o.1)
+
+-- a row that a later one replaces counts for nothing
+pub replaced : (p left : List LineRow) (a r : LineRow) → Open (p ++ a ∷ []) → r.end_sequence ≡ false → a.address ≡ r.address → sequences_of ((p ++ a ∷ []) ++ r ∷ left) ≡ sequences_of (p ++ r ∷ left)
+replaced p left a r o e same =
+    ap sequences_of (append_assoc p (a ∷ []) (r ∷ left)) ∙ ap sequences_of (sym (append_assoc p (a ∷ r ∷ []) left))
+    ∙ ap (filter_map sequence_in) (stretches-open (p ++ a ∷ r ∷ []) left (Open-append p (a ∷ r ∷ []) (Open-front p (a ∷ []) o) (last_open p o, (e, tt))))
+    ∙ by_cases (stretches left)
+    ∙ ap (filter_map sequence_in) (sym (stretches-open (p ++ r ∷ []) left (Open-append p (r ∷ []) (Open-front p (a ∷ []) o) (e, tt))))
+    ∙ ap sequences_of (append_assoc p (r ∷ []) left)
+  where
+    last_open : (xs : List LineRow) → Open (xs ++ a ∷ []) → a.end_sequence ≡ false
+    last_open [] h = h.0
+    last_open (x ∷ xs) h = last_open xs h.1
+
+    by_cases : (ss : List Stretch) → filter_map sequence_in (put_all (p ++ a ∷ r ∷ []) ss) ≡ filter_map sequence_in (put_all (p ++ r ∷ []) ss)
+    by_cases [] = refl
+    by_cases (s ∷ rest) =
+        let e : latest ((p ++ a ∷ r ∷ []) ++ s.rows) ≡ latest ((p ++ r ∷ []) ++ s.rows) =
+        ap latest (append_assoc p (a ∷ r ∷ []) s.rows) ∙ latest_without p s.rows a r same ∙ ap latest (sym (append_assoc p (r ∷ []) s.rows)) in
+        ap (λ rows. cons_option (sequence_of rows s.last) (filter_map sequence_in rest)) e
+
+pub falls_replaced : (q left : List LineRow) (a r : LineRow) → a.address ≡ r.address → NeverFalls ((q ++ a ∷ []) ++ r ∷ left) → NeverFalls ((q ++ r ∷ []) ++ left)
+falls_replaced [] left a r e h = h.1
+falls_replaced (x ∷ []) left a r e h = ((λ o. let k = h.0 o in omega arith), h.1.1)
+falls_replaced (x ∷ y ∷ q) left a r e h = (h.0, falls_replaced (y ∷ q) left a r e h.1)
+
+apart_more : (q : List LineRow) (a r : LineRow) → (a.address ≡ r.address → ⊥) → Apart (q ++ a ∷ []) → Apart ((q ++ a ∷ []) ++ r ∷ [])
+apart_more [] a r n h = (n, tt)
+apart_more (x ∷ []) a r n h = (h.0, (n, tt))
+apart_more (x ∷ y ∷ q) a r n h = (h.0, apart_more (y ∷ q) a r n h.1)
+
+apart_replaced : (q : List LineRow) (a r : LineRow) → a.address ≡ r.address → Apart (q ++ a ∷ []) → Apart (q ++ r ∷ [])
+apart_replaced [] a r e h = tt
+apart_replaced (x ∷ []) a r e h = ((λ k. h.0 (k ∙ sym e)), tt)
+apart_replaced (x ∷ y ∷ q) a r e h = (h.0, apart_replaced (y ∷ q) a r e h.1)
+
+pub pending_more : (q : List LineRow) (a r : LineRow) → (a.address ≡ r.address → ⊥) → r.end_sequence ≡ false → IsPending (q ++ a ∷ []) → IsPending ((q ++ a ∷ []) ++ r ∷ [])
+pending_more q a r n o h = record { open_ended = Open-append (q ++ a ∷ []) (r ∷ []) h.open_ended (o, tt); apart = apart_more q a r n h.apart }
+
+pub pending_replaced : (q : List LineRow) (a r : LineRow) → a.address ≡ r.address → r.end_sequence ≡ false → IsPending (q ++ a ∷ []) → IsPending (q ++ r ∷ [])
+pending_replaced q a r e o h = record { open_ended = Open-append q (r ∷ []) (Open-front q (a ∷ []) h.open_ended) (o, tt); apart = apart_replaced q a r e h.apart }
+
+abbrev Above : ℕ → List LineRow → Type 0
+Above m rows = AllByRecursion (λ (s : LineRow). m < s.address) rows
+
+weaker : (m n : ℕ) (p : List LineRow) → m < n → Above n p → Above m p
+weaker m n [] l h = tt
+weaker m n (r ∷ p) l h = (let k = h.0 in omega arith, weaker m n p l h.1)
+
+above : (r : LineRow) (p : List LineRow) → Open (r ∷ p) → Apart (r ∷ p) → NeverFalls (r ∷ p) → Above r.address p
+above r [] o a n = tt
+above r (s ∷ p) o a n = let l : r.address < s.address = less (n.0 o.0) a.0 in (l, weaker r.address s.address p l (above s p o.1 a.1 n.1))
+  where
+    less : {x y : ℕ} → x ≤ y → (x ≡ y → ⊥) → x < y
+    less {x} {y} k d = grind arith
+
+none_at : (m : ℕ) (p : List LineRow) → Above m p → list_any (at m) p ≡ false
+none_at m [] h = refl
+none_at m (s ∷ p) h = ap (λ b. b || list_any (at m) p) (other h.0) ∙ none_at m p h.1
+  where
+    other : {x y : ℕ} → x < y → (y == x) ≡ false
+    other {x} {y} l = grind (arith, nat_tests)
+
+latest_same : (p : List LineRow) → Open p → Apart p → NeverFalls p → latest p ≡ p
+latest_same [] o a n = refl
+latest_same (r ∷ p) o a n =
+    ap (λ b. cond b (latest p) (r ∷ latest p)) (none_at r.address p (above r p o a n)) ∙ ap (λ rows. r ∷ rows) (latest_same p o.1 (apart_tail r p a) (falls_tail r p n))
+  where
+    apart_tail : (r : LineRow) (p : List LineRow) → Apart (r ∷ p) → Apart p
+    apart_tail r [] h = tt
+    apart_tail r (s ∷ p) h = h.1
+
+    falls_tail : (r : LineRow) (p : List LineRow) → NeverFalls (r ∷ p) → NeverFalls p
+    falls_tail r [] h = tt
+    falls_tail r (s ∷ p) h = h.1
+
+falls_front : (p left : List LineRow) → NeverFalls (p ++ left) → NeverFalls p
+falls_front [] left h = tt
+falls_front (r ∷ []) left h = tt
+falls_front (r ∷ s ∷ p) left h = (h.0, falls_front (s ∷ p) left h.1)
+
+pub falls_back : (p left : List LineRow) (e : LineRow) → NeverFalls (p ++ e ∷ left) → NeverFalls left
+falls_back [] [] e h = tt
+falls_back [] (x ∷ left) e h = h.1
+falls_back (r ∷ []) left e h = falls_back [] left e h.1
+falls_back (r ∷ s ∷ p) left e h = falls_back (s ∷ p) left e h.1
+
+-- an end row closes the rows before it
+ended : (p left : List LineRow) (e : LineRow) → IsPending p → e.end_sequence ≡ true → NeverFalls (p ++ e ∷ left) → sequences_of (p ++ e ∷ left) ≡ cons_option (sequence_of p e) (sequences_of left)
+ended p left e pending is n =
+    ap (filter_map sequence_in) (stretches-open p (e ∷ left) pending.open_ended)
+    ∙ ap (λ b. filter_map sequence_in (put_all p (cond b (record { rows = []; last = e } ∷ stretches left) (put_first e (stretches left))))) is
+    ∙ ap (λ rows. cons_option (sequence_of rows e) (sequences_of left)) (ap latest (append_none p) ∙ latest_same p pending.open_ended pending.apart (falls_front p (e ∷ left) n))
+
+pub closed_some : (before after : List Sequence) (rows left : List LineRow) (e : LineRow) (s : Sequence) → sequence_of rows e ≡ Some s → after ≡ before ++ s ∷ []
+    → IsPending rows → e.end_sequence ≡ true → NeverFalls (rows ++ e ∷ left) → after ++ sequences_of left ≡ before ++ sequences_of (rows ++ e ∷ left)
+closed_some before after rows left e s is new pending end n =
+    ap (λ ss. ss ++ sequences_of left) new ∙ append_assoc before (s ∷ []) (sequences_of left) ∙ ap (λ o. before ++ cons_option o (sequences_of left)) (sym is) ∙ ap (λ ss. before ++ ss) (sym (ended rows left e pending end n))
+
+pub closed_none : (before : List Sequence) (rows left : List LineRow) (e : LineRow) → sequence_of rows e ≡ None
+    → IsPending rows → e.end_sequence ≡ true → NeverFalls (rows ++ e ∷ left) → before ++ sequences_of left ≡ before ++ sequences_of (rows ++ e ∷ left)
+closed_none before rows left e is pending end n = ap (λ o. before ++ cons_option o (sequences_of left)) (sym is) ∙ ap (λ ss. before ++ ss) (sym (ended rows left e pending end n))
+
+-- rows that no end row follows are dropped
+pub none_open : (p : List LineRow) → IsPending p → sequences_of (p ++ []) ≡ []
+none_open p pending = ap (filter_map sequence_in) (stretches-open p [] pending.open_ended)

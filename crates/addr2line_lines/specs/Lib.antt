@@ -1,0 +1,12 @@
+pub mod Rows
+pub mod Sequences
+pub mod Rises
+pub mod Building
+pub mod Pick
+pub mod InOrder
+pub mod Spans
+pub mod Paths
+pub mod Files
+pub mod Location
+pub mod Shown
+pub mod Kept

@@ -1,0 +1,60 @@
+-- The sequences of a line program's rows (DWARF 5, sections 6.2.1 and 6.2.5.3: an end row ends a sequence).
+-- Own: of the rows of a sequence with equal address the last counts.
+-- Own: a sequence without rows, or whose start is not below its end, is none, and so is one whose end row is
+-- dropped; rows that no end row follows belong to none.
+-- Own: lines and columns keep their low 32 bits.
+use Rattle.std.specs.Prelude.{ℕ, ◌%◌, ◌^◌, ◌==◌, ◌&&◌, not, List, [], ◌∷◌, Option, Some, None, map, filter_map, nat_lt, if◌then◌else◌}
+use Rattle.std.specs.List.{list_any}
+use Rattle.gimli_line.specs.declared.row.LineRow.{LineRow}
+use Rattle.addr2line_lines.specs.declared.row.Row.{Row}
+
+-- a sequence: its addresses, the end not among them, and its rows by address
+pub record Sequence : Type 0 where
+  pub start : ℕ
+  pub end : ℕ
+  pub rows : List Row
+
+-- the rows up to an end row, and that row
+pub record Stretch : Type 0 where
+  pub rows : List LineRow
+  pub last : LineRow
+
+-- a row before those of the first stretch; nothing where no end row follows
+abbrev pub put_first : LineRow → List Stretch → List Stretch
+put_first r [] = []
+put_first r (s ∷ rest) = record { rows = r ∷ s.rows; last = s.last } ∷ rest
+
+-- the rows between end rows
+abbrev pub stretches : List LineRow → List Stretch
+stretches [] = []
+stretches (r ∷ rows) = if r.end_sequence then record { rows = []; last = r } ∷ stretches rows else put_first r (stretches rows)
+
+-- of rows with equal address the last
+abbrev pub latest : List LineRow → List LineRow
+latest [] = []
+latest (r ∷ rows) = if list_any (λ (s : LineRow). s.address == r.address) rows then latest rows else r ∷ latest rows
+
+-- what is kept of a row
+abbrev pub row_of : LineRow → Row
+row_of r = record { address = r.address; file_index = r.file_index; line = r.line % 2 ^ 32; column = r.column % 2 ^ 32 }
+
+-- the sequence of rows with an end row, if they are one
+abbrev pub sequence_of : List LineRow → LineRow → Option Sequence
+sequence_of [] last = None
+sequence_of (r ∷ rows) last = if not last.dropped && nat_lt r.address last.address then Some (record { start = r.address; end = last.address; rows = map row_of (r ∷ rows) }) else None
+
+-- the sequence of a stretch
+abbrev pub sequence_in : Stretch → Option Sequence
+sequence_in s = sequence_of (latest s.rows) s.last
+
+-- the sequences of a program's rows, in the program's order
+abbrev pub sequences_of : List LineRow → List Sequence
+sequences_of rows = filter_map sequence_in (stretches rows)
+
+-- the address at which a sequence starts
+abbrev pub start_of : Sequence → ℕ
+start_of s = s.start
+
+-- the address at which a sequence ends
+abbrev pub end_of : Sequence → ℕ
+end_of s = s.end

@@ -61,11 +61,8 @@ impl<R: Reader> FileEntry<R> {
         ensures gives { Gives (option_map (seen_value R.section)) result
             (Ok (directory_of (seen_header R.section header.now) (seen_file R.section self.now))) }
     {
-        match entry(
-            header.encoding.version,
-            self.directory_index,
-            &header.include_directories,
-        ) {
+        let index = self.directory_index;
+        match entry(header.encoding.version, index, &header.include_directories) {
             None => Ok(None),
             Some(directory) => Ok(Some(duplicate_value(directory)?)),
         }

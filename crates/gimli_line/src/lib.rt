@@ -15,6 +15,6 @@ mod tables;
 mod tests;
 
 pub use crate::header::{FileEntry, LineProgramHeader};
-pub use crate::program::{IncompleteLineProgram, LineRows};
+pub use crate::program::{IncompleteLineProgram, LineRows, rows_laws};
 pub use crate::read::read_line_program;
 pub use crate::row::LineRow;

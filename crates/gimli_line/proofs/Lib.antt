@@ -6,3 +6,4 @@ pub mod Stepping
 pub mod ClosedForm
 pub mod RowsLeft
 pub mod TableLemmas
+pub mod Rising

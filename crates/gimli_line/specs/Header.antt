@@ -1,5 +1,5 @@
 -- What a line program's header and its tables say (DWARF 5, section 6.2.4), and what a program has.
-use Rattle.std.specs.Prelude.{ℕ, List, map}
+use Rattle.std.specs.Prelude.{ℕ, ◌-◌, ◌==◌, List, slice_get, map, Option, None, nat_lt, if◌then◌else◌}
 use Rattle.gimli_read.specs.declared.endian.Encoding.{Encoding}
 use Rattle.gimli_read.specs.declared.value.AttributeValue.{AttributeValue}
 use Rattle.gimli_read.specs.Section.{Section}
@@ -39,3 +39,15 @@ seen_header see h = record {
 -- a program whose readers are seen as sections
 abbrev pub seen_program : {R : Type 0} → (R → Section) → IncompleteLineProgram R → Program
 seen_program see p = record { header = seen_header see p.header; program = see p.program }
+
+-- an entry of a table, counted from 1 below version 5 and from 0 in it
+abbrev pub entry_of : {A : Type 0} → ℕ → ℕ → List A → Option A
+entry_of version n entries = if nat_lt version 5 then (if n == 0 then None else slice_get entries (n - 1)) else slice_get entries n
+
+-- a file by its index
+abbrev pub file_of : Header → ℕ → Option (FileEntry Section)
+file_of h n = entry_of h.encoding.version n h.file_names
+
+-- the directory that a file names
+abbrev pub directory_of : Header → FileEntry Section → Option (AttributeValue Section)
+directory_of h f = entry_of h.encoding.version f.directory_index h.include_directories

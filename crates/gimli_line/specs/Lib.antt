@@ -5,4 +5,5 @@ pub mod Tables
 pub mod Program
 pub mod Rows
 pub mod Lines
+pub mod Rises
 pub mod Steps

@@ -3,6 +3,7 @@
 
 mod copies;
 mod encoding;
+mod files;
 mod header;
 mod opcode;
 mod program;
@@ -10,8 +11,10 @@ mod read;
 mod registers;
 mod row;
 mod tables;
+#[cfg(test)]
+mod tests;
 
 pub use crate::header::{FileEntry, LineProgramHeader};
-pub use crate::program::{IncompleteLineProgram, LineRows};
+pub use crate::program::{IncompleteLineProgram, LineRows, rows_laws};
 pub use crate::read::read_line_program;
 pub use crate::row::LineRow;

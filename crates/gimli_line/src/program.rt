@@ -6,6 +6,7 @@ ghost use Rattle.gimli_line.specs.Encoding.{limit};
 ghost use Rattle.gimli_line.specs.Header.{seen_header, seen_program};
 ghost use Rattle.gimli_line.specs.Lines.{lines_of, YieldsIfRoom, KeepsFiles};
 ghost use Rattle.gimli_line.specs.Opcode.{seen_instruction};
+ghost use Rattle.gimli_line.specs.Rises.{rows_before, NeverFalls, RowsRise};
 ghost use Rattle.gimli_line.specs.Steps.{taken, rows_left, files_left, DefinesOn, Finds};
 
 use crate::copies::duplicate_header;
@@ -72,6 +73,13 @@ impl<R: Reader> LineRows<R> {
         &self.header
     }
 
+    /// Within a sequence the addresses of the rows to come do not fall: a law, with no code.
+    pub fn rises(&self)
+        ensures rise { NeverFalls (rows_before self.now.left) }
+    {
+        let _ = &self.header;
+    }
+
     /// The next row; none at the end, and after a refusal.
     ///
     /// Refused where an opcode is: the refusals of its numbers, `UnexpectedEof` where its bytes aren't whole,
@@ -90,6 +98,12 @@ impl<R: Reader> LineRows<R> {
         found
     }
 }
+
+/// Within a sequence the addresses of a program's rows do not fall, whatever its opcodes: a law, with no
+/// code.
+pub fn rows_laws()
+    ensures rise { RowsRise }
+{}
 
 // Leaves nothing to read.
 fn pass_over<R: Reader>(input: &mut R)

@@ -1,0 +1,25 @@
+-- What rows mean to one who walks code: within a sequence addresses do not fall (DWARF 5, section 6.2.1).
+use Rattle.std.specs.Prelude.{◌≡◌, ◌<◌, ◌≤◌, List, [], ◌∷◌, false, Result, Ok, Err}
+use Rattle.gimli_read.specs.declared.error.Error.{Error}
+use Rattle.gimli_read.specs.Section.{Section}
+use Rattle.gimli_read.specs.Run.{Run}
+use Rattle.gimli_line.specs.declared.encoding.LineEncoding.{LineEncoding}
+use Rattle.gimli_line.specs.declared.opcode.LineInstruction.{LineInstruction}
+use Rattle.gimli_line.specs.declared.row.LineRow.{LineRow}
+use Rattle.gimli_line.specs.Rows.{rows_of}
+
+-- the rows before the fault
+abbrev pub rows_before : List (Result LineRow Error) → List LineRow
+rows_before [] = []
+rows_before (Ok x ∷ rest) = x ∷ rows_before rest
+rows_before (Err e ∷ rest) = []
+
+-- up to the row that ends a sequence each row's address is at most the next one's
+abbrev pub NeverFalls : List LineRow → Type 0
+NeverFalls [] = Unit {0}
+NeverFalls (r ∷ []) = Unit {0}
+NeverFalls (r ∷ s ∷ rows) = (r.end_sequence ≡ false → r.address ≤ s.address) × NeverFalls (s ∷ rows)
+
+-- the rows of any instructions never fall
+abbrev pub RowsRise : Type 0
+RowsRise = (e : LineEncoding) (run : Run (LineInstruction Section) Section) → 0 < e.maximum_operations_per_instruction → NeverFalls (rows_before (rows_of e run))

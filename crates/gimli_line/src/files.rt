@@ -1,0 +1,70 @@
+//! Files and directories by their index.
+
+ghost use Rattle.std.specs.Prelude.{◌≡◌, Ok};
+ghost use Rattle.std.specs.Option.{option_map};
+ghost use Rattle.gimli_read.specs.Reading.{Gives};
+ghost use Rattle.gimli_read.specs.Form.{seen_value};
+ghost use Rattle.gimli_line.specs.Header.{seen_file, seen_header, entry_of, file_of, directory_of};
+
+use crate::copies::duplicate_value;
+use crate::header::{FileEntry, LineProgramHeader};
+use gimli_read::{AttributeValue, Error, Reader};
+
+// An entry of a table, counted from 1 below version 5 and from 0 in it.
+fn entry<T>(version: u16, index: u64, entries: &[T]) -> Option<&T>
+    ensures gives { option_map (λ x. x.now) result ≡ entry_of version index entries.now }
+{
+    if version >= 5 {
+        return entries.get(index as usize);
+    }
+    if index == 0 {
+        return None;
+    }
+    entries.get(index as usize - 1)
+}
+
+impl<R: Reader> LineProgramHeader<R> {
+    /// The file of an index, as rows have it. Takes no memory.
+    ///
+    /// Files count from 1 in versions 2 to 4, and from 0 in version 5; none where there is no such file.
+    pub fn file(&self, index: u64) -> Option<&FileEntry<R>>
+        ensures gives { option_map (λ f. seen_file R.section f.now) result
+            ≡ file_of (seen_header R.section self.now) index }
+    {
+        entry(self.encoding.version, index, &self.file_names)
+    }
+}
+
+impl<R: Reader> FileEntry<R> {
+    /// The path, a string of any form. Refused `OutOfMemory` alone.
+    pub fn path_name(&self) -> Result<AttributeValue<R>, Error>
+        ensures gives { Gives (seen_value R.section) result (Ok (seen_file R.section self.now).path_name) }
+    {
+        duplicate_value(&self.path_name)
+    }
+
+    /// The directory, by its index. Takes no memory.
+    pub fn directory_index(&self) -> u64
+        ensures gives { result ≡ (seen_file R.section self.now).directory_index }
+    {
+        self.directory_index
+    }
+
+    /// The directory in the header of the same program. Refused `OutOfMemory` alone.
+    ///
+    /// Directories count from 1 in versions 2 to 4, where index 0 is the unit's own, and from 0 in version
+    /// 5; none where there is no such directory.
+    pub fn directory(
+        &self,
+        header: &LineProgramHeader<R>,
+    ) -> Result<Option<AttributeValue<R>>, Error>
+        ensures gives { Gives (option_map (seen_value R.section)) result
+            (Ok (directory_of (seen_header R.section header.now) (seen_file R.section self.now))) }
+    {
+        let index = self.directory_index;
+        match entry(header.encoding.version, index, &header.include_directories) {
+            None => Ok(None),
+            Some(directory) => Ok(Some(duplicate_value(directory)?)),
+        }
+    }
+}

@@ -1,0 +1,2 @@
+pub mod LegacyName
+pub mod LegacyText

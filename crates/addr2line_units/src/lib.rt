@@ -1,0 +1,5 @@
+//! Names, locations and frames of units.
+#![tactic(auto)]
+
+pub mod frame;
+mod legacy;

@@ -179,7 +179,7 @@ byte_shown old new rest b d e h =
     ap (λ s. s ++ plain_from 0 rest) h ∙ append_assoc old (b ∷ []) (plain_from 0 rest)
     ∙ sym (ap (λ q. old ++ (if q then 58 ∷ 58 ∷ plain_from 1 rest else b ∷ plain_from 0 rest)) e)
     ∙ sym (ap (λ q. old ++ (if q then escape_text (escape_in rest) rest (λ n. plain_from n rest)
-        else if b == 46 && is_dot_first rest then 58 ∷ 58 ∷ plain_from 1 rest else b ∷ plain_from 0 rest)) d)
+    else if b == 46 && is_dot_first rest then 58 ∷ 58 ∷ plain_from 1 rest else b ∷ plain_from 0 rest)) d)
 
 pub plain_end : (old bytes all : List ℕ) → length bytes ≡ 0 → old ++ plain_from 0 bytes ≡ all → old ≡ all
 plain_end old [] all e h = sym (append-nil old) ∙ h
@@ -220,7 +220,7 @@ kept_here : (element rest : List ℕ) → (is_hash element && is_none (element_a
     → without_hash (element ∷ (elements_at rest).0) ≡ element ∷ without_hash (elements_at rest).0
 kept_here element rest h =
     elim (element_at rest) as (λ o. element_at rest ≡ o → (is_hash element && is_none o) ≡ false
-        → without_hash (element ∷ (elements_at rest).0) ≡ element ∷ without_hash (elements_at rest).0) [
+    → without_hash (element ∷ (elements_at rest).0) ≡ element ∷ without_hash (elements_at rest).0) [
       | None ↦ λ _ q. kept_alone element (elements_at rest).0 (and_not (is_hash element) q)
       | Some e ↦ λ same _. kept_before element e.0 (elements_at rest).0 (elements_at e.1).0 (ap (λ p. p.0) (elements_some rest e.0 e.1 same))
     ] refl h

@@ -131,3 +131,8 @@ legacy_text name = option_and_then spelled_text (without_prefix (without_llvm na
 -- the text of a name in the language of that number: that of a legacy name where it is Rust (0x1c), else none
 unfoldable pub demangled : ℕ → List ℕ → Option (List ℕ)
 demangled language name = if language == 0x1c then legacy_text name else None
+
+-- the text of a name whose language may be unknown: then it is tried as one of Rust
+abbrev pub demangled_auto : Option ℕ → List ℕ → Option (List ℕ)
+demangled_auto None name = demangled 0x1c name
+demangled_auto (Some language) name = demangled language name

@@ -3,7 +3,7 @@
 ghost use Rattle.std.specs.Prelude.{◌≡◌, IfOk, IsOk, IsOkUnless, option_map, unwrap_or, string_bytes};
 ghost use Rattle.std.specs.Cow.{cow_str_bytes};
 ghost use Rattle.gimli_read.specs.declared.error.Error.TheVariants.{OutOfMemory};
-ghost use Rattle.addr2line_units.specs.LegacyText.{demangled};
+ghost use Rattle.addr2line_units.specs.LegacyText.{demangled, demangled_auto};
 
 use crate::legacy::LegacyName;
 use gimli_read::{DwLang, Error};
@@ -46,7 +46,11 @@ pub fn demangle_auto<'a>(
     alloc: Global,
     name: CowStr<'a>,
     language: Option<DwLang>,
-) -> Result<CowStr<'a>, Error> {
+) -> Result<CowStr<'a>, Error>
+    ensures gives { IfOk result (λ text. cow_str_bytes text ≡ unwrap_or (demangled_auto (option_map (λ l. l.0) language) (cow_str_bytes name.entry)) (cow_str_bytes name.entry)) }
+    ensures refused { IsOkUnless result OutOfMemory }
+    ensures memory { demangled_auto (option_map (λ l. l.0) language) (cow_str_bytes name.entry) ≡ None → result ≡ Ok name.entry }
+{
     match demangle(alloc, name.as_str(), language.unwrap_or(RUST))? {
         Some(text) => Ok(CowStr::Owned(text)),
         None => Ok(name),

@@ -77,7 +77,7 @@ suffix_is_text [] h = refl
 suffix_is_text (b ∷ bs) h = suffix_bytes (b ∷ bs) (and_right _ _ h)
 
 -- a first element, and what follows it
-front_parts : (n : ℕ) (bytes front rest : List ℕ) → ascii_front n bytes ≡ Some (front, rest)
+pub front_parts : (n : ℕ) (bytes front rest : List ℕ) → ascii_front n bytes ≡ Some (front, rest)
     → (bytes ≡ front ++ rest) × (length front ≡ n) × (list_all is_ascii front ≡ true)
 front_parts n bytes front rest h =
     let chosen : ((nat_le n (length bytes) && list_all is_ascii (take n bytes)) ≡ true) × (Some (take n bytes, drop n bytes) ≡ Some (front, rest)) = some_if _ _ _ h in
@@ -141,7 +141,7 @@ text_drop zero bytes h = h
 text_drop (suc n) [] h = refl
 text_drop (suc n) (b ∷ bs) h = text_drop n bs (and_right _ _ h)
 
-plain_skip : (n : ℕ) (bytes : List ℕ) → plain_from n bytes ≡ plain_from 0 (drop n bytes)
+pub plain_skip : (n : ℕ) (bytes : List ℕ) → plain_from n bytes ≡ plain_from 0 (drop n bytes)
 plain_skip zero bytes = refl
 plain_skip (suc n) [] = refl
 plain_skip (suc n) (b ∷ bs) = plain_skip n bs

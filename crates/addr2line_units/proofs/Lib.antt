@@ -1,1 +1,5 @@
 pub mod LegacySteps
+pub mod LegacyMarks
+pub mod LegacyElements
+pub mod LegacyPlain
+pub mod LegacyProofs

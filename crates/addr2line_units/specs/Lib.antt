@@ -1,2 +1,3 @@
 pub mod LegacyName
 pub mod LegacyText
+pub mod LegacyLaws

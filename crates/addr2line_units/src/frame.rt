@@ -3,6 +3,7 @@
 ghost use Rattle.std.specs.Prelude.{◌≡◌, IfOk, IsOk, IsOkUnless, option_map, unwrap_or, string_bytes};
 ghost use Rattle.std.specs.Cow.{cow_str_bytes};
 ghost use Rattle.gimli_read.specs.declared.error.Error.TheVariants.{OutOfMemory};
+ghost use Rattle.addr2line_units.specs.LegacyLaws.{FindsLegacyNames, FindsOnlyLegacyNames, HasOneText};
 ghost use Rattle.addr2line_units.specs.LegacyText.{demangled, demangled_auto};
 
 use crate::legacy::LegacyName;
@@ -56,6 +57,15 @@ pub fn demangle_auto<'a>(
         None => Ok(name),
     }
 }
+
+/// The names that `demangle` takes are the legacy names and no others, and each has one text.
+///
+/// It does nothing: its clauses are the laws. Takes no memory.
+pub fn legacy_name_laws()
+    ensures found { FindsLegacyNames }
+    ensures only { FindsOnlyLegacyNames }
+    ensures one { HasOneText }
+{}
 
 #[cfg(test)]
 mod tests {

@@ -3,3 +3,5 @@
 
 pub mod frame;
 mod legacy;
+#[cfg(test)]
+mod tests;

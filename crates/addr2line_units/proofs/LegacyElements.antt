@@ -1,6 +1,6 @@
 -- Elements behind their lengths: the relation and the function agree.
-use Rattle.std.proofs.Common.{◌≡◌, ◌∙◌, ◌≤◌, ◌<◌, ◌+◌, ◌-◌, ℕ, zero, suc, Bool, true, false, cond, ◌&&◌, Option, Some, None, List, [], ◌∷◌, ◌++◌, take, drop, length, length-append, length-take, take-append-drop, append_assoc, ap, sym, subst, refl, arith, ltb-true, lt-ltb, le-leb}
-use Rattle.std.specs.Prelude.{nat_lt, nat_le, if◌then◌else◌}
+use Rattle.std.proofs.Common.{◌≡◌, ◌∙◌, ◌<◌, ◌+◌, ℕ, zero, suc, true, false, cond, ◌&&◌, Some, None, List, [], ◌∷◌, ◌++◌, take, drop, length, length-append, take-append-drop, ap, sym, subst, refl, arith, ltb-true, lt-ltb, le-leb}
+use Rattle.std.specs.Prelude.{nat_lt, if◌then◌else◌}
 use Rattle.std.specs.Char.{is_ascii, is_ascii_digit}
 use Rattle.std.specs.List.{list_all, prefix_len}
 use Rattle.std.specs.Str.Parse.{digits_value}

@@ -1,18 +1,18 @@
 -- The text of an element: the relation and the function agree.
-use Rattle.std.proofs.Common.{◌≡◌, ◌≢◌, ◌∙◌, ◌≤◌, ◌<◌, ◌+◌, ◌⊎◌, inl, inr, ⊎_elim, ℕ, zero, suc, Bool, true, false, cond, not, ◌&&◌, ◌||◌, Option, Some, None, List, [], ◌∷◌, ◌++◌, take, drop, length, length-append, length-drop, take-append-drop, get_or, append_assoc, ap, sym, subst, refl, arith, ltb-true, lt-ltb}
+use Rattle.std.proofs.Common.{◌≡◌, ◌≢◌, ◌∙◌, ◌≤◌, ◌<◌, ◌+◌, ℕ, zero, suc, Bool, true, false, cond, not, ◌&&◌, ◌||◌, Option, Some, None, List, [], ◌∷◌, ◌++◌, take, drop, length, length-append, length-drop, take-append-drop, get_or, ap, sym, subst, refl, arith, ltb-true, lt-ltb}
 use Rattle.std.specs.Prelude.{nat_eq, nat_lt, nat_le, if◌then◌else◌, ◌==◌, codes, encode_utf8, option_and_then, option_map, map}
 use Rattle.std.specs.Char.{IsScalar, is_control}
 use Rattle.std.specs.List.{list_all, prefix_len, position, position_or_len, starts_with}
 use Rattle.std.specs.Str.{bytes_eq}
 use Rattle.std.specs.Str.Parse.{digits_value}
-use Rattle.std.proofs.Math.Seq.{take-append_seam, drop-append_seam, drop-append-add, drop-cons}
+use Rattle.std.proofs.Math.Seq.{take-append_seam, drop-append-add, drop-cons}
 use Rattle.std.proofs.lemmas.Bool.{eqb-true, eq-eqb}
 use Rattle.std.proofs.lemmas.Bool.Decides.{nat_tests, Decides-eqb}
 use Rattle.std.proofs.lemmas.List.Sums.{prefix_len_stops}
 use Rattle.std.proofs.lemmas.Slice.Eq.{bytes_eq-Decides, starts_is}
 use Rattle.addr2line_units.proofs.LegacySteps.{and_left, and_right, some_if, some_inj, plain_skip}
 use Rattle.addr2line_units.specs.LegacyName.{is_lower_hex, IsEscape, at_sign, star, ampersand, less, greater, opening, closing, comma, by_number, NoEscape, NoDotFirst, IsPlain, nothing, dots, escape, as_it_stands, byte, IsElementText, bare, other, AreTexts}
-use Rattle.addr2line_units.specs.LegacyText.{shown_char, numbered_char, escape_char, escape_in, is_dot_first, escape_text, plain_from, bare_of, element_text}
+use Rattle.addr2line_units.specs.LegacyText.{shown_char, numbered_char, escape_char, escape_in, is_dot_first, escape_text, plain_from, element_text}
 
 -- the character that a name stands for
 by_name : (body name : List ℕ) (d c : ℕ) (rest : Option ℕ) → IsEscape name d → (rest ≡ Some c → IsEscape body c)

@@ -1,17 +1,16 @@
 -- The steps by which the functions of *LegacyText* go through a name.
-use Rattle.std.proofs.Common.{◌≡◌, ◌∙◌, ◌≤◌, ◌<◌, ◌+◌, ◌-◌, ◌*◌, ℕ, zero, suc, Bool, true, false, cond, not, ◌&&◌, ◌||◌, Option, Some, None, List, [], ◌∷◌, ◌++◌, take, drop, length, length-take, length-drop, length-append, take-append-drop, append_assoc, append-nil, get_or, map, ap, sym, refl, arith, add-one, eqb, ltb, leb, leb-true, ltb-true}
+use Rattle.std.proofs.Common.{◌≡◌, ◌∙◌, ◌≤◌, ◌<◌, ◌+◌, ◌*◌, ℕ, zero, suc, Bool, true, false, ◌&&◌, Option, Some, None, List, [], ◌∷◌, ◌++◌, take, drop, length, length-take, length-drop, length-append, take-append-drop, append_assoc, append-nil, get_or, map, ap, sym, refl, arith, add-one, leb-true, ltb-true}
 use Rattle.std.specs.Prelude.{nat_eq, nat_lt, nat_le, is_none, encode_utf8, if◌then◌else◌, ◌==◌}
 use Rattle.std.specs.Char.{digit_value, is_ascii, is_ascii_digit}
 use Rattle.std.specs.List.{list_all, prefix_len, starts_with}
 use Rattle.std.proofs.lemmas.Bool.Decides.{nat_tests}
 use Rattle.std.proofs.lemmas.List.{drop_all}
 use Rattle.std.proofs.lemmas.List.Sums.{prefix_len-le-length}
-use Rattle.std.proofs.lemmas.List.Folds.{length-prefix_len}
 use Rattle.std.specs.Str.Parse.{digits_value}
 use Rattle.std.proofs.lemmas.Str.Parse.{digits_value-take-le}
 use Rattle.std.proofs.lemmas.Int.Digits.{digits_value_more}
 use Rattle.addr2line_units.specs.LegacyName.{llvm_mark, is_llvm_byte, is_suffix_byte, is_hash, joined, behind_colons}
-use Rattle.addr2line_units.specs.LegacyText.{without_llvm, element_at, ascii_front, elements_by, elements_within, elements_at, without_hash, element_text, elements_text, joint_text, escape_in, escape_text, is_dot_first, plain_from, is_suffix}
+use Rattle.addr2line_units.specs.LegacyText.{without_llvm, element_at, ascii_front, elements_by, elements_within, elements_at, without_hash, element_text, joint_text, escape_in, escape_text, is_dot_first, plain_from, is_suffix}
 
 -- both sides of a test
 pub and_left : (a b : Bool) → (a && b) ≡ true → a ≡ true

@@ -1,4 +1,5 @@
--- That the text of a legacy name, as a function of the name, is what the relation of the two says.
+-- Laws of legacy names: what is demangled are the names that `IsLegacyName` relates to a text, and each to one.
+-- Own: all of it.
 use Rattle.std.specs.Prelude.{◌≡◌, ℕ, List, Some}
 use Rattle.addr2line_units.specs.LegacyName.{IsLegacyName}
 use Rattle.addr2line_units.specs.LegacyText.{demangled}
@@ -9,7 +10,8 @@ FindsLegacyNames = (name text : List ℕ) → IsLegacyName name text → demangl
 
 -- nothing but a legacy name is demangled, and only in Rust
 abbrev pub FindsOnlyLegacyNames : Type 0
-FindsOnlyLegacyNames = (language : ℕ) (name text : List ℕ) → demangled language name ≡ Some text → (language ≡ 0x1c) × IsLegacyName name text
+FindsOnlyLegacyNames =
+    (language : ℕ) (name text : List ℕ) → demangled language name ≡ Some text → (language ≡ 0x1c) × IsLegacyName name text
 
 -- a legacy name has one text
 abbrev pub HasOneText : Type 0

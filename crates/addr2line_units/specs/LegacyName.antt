@@ -1,7 +1,7 @@
 -- Legacy names of Rust: which texts are such names, and the text that a name stands for.
--- Source: the mangling that rustc calls legacy, `_ZN`, elements behind their decimal lengths, `E`, suffix.
+-- Source: the mangling that rustc calls legacy: a prefix, elements behind their decimal lengths, `E`, a suffix.
 -- Own: one element at least; a suffix is empty, or begins with a dot and has only ASCII letters, digits and
--- punctuation; of the marks `.llvm.` only the first is looked at; no control character is shown.
+-- punctuation.
 use Rattle.std.specs.Prelude.{◌≡◌, ◌≢◌, ◌<◌, ◌≤◌, ◌==◌, ◌||◌, ◌&&◌, ◌⊎◌, ℕ, Bool, true, false, List, [], ◌∷◌, ◌++◌, length, codes, encode_utf8}
 use Rattle.std.specs.Int.{is_in_range}
 use Rattle.std.specs.Char.{IsScalar, is_control, is_ascii, is_ascii_digit, is_ascii_hexdigit, is_ascii_alphanumeric, is_ascii_punctuation}
@@ -37,7 +37,8 @@ pub record IsFirstMark (name front rest : List ℕ) : Type 0 where
 -- what is left of the name: all before the first mark, if only such bytes follow it, and else all
 pub data IsKept (name kept : List ℕ) : Type 0 where
   cut : (rest : List ℕ) → IsFirstMark name kept rest → list_all is_llvm_byte rest ≡ true → IsKept name kept
-  whole : name ≡ kept → ((front rest : List ℕ) → IsFirstMark name front rest → list_all is_llvm_byte rest ≡ false) → IsKept name kept
+  whole : name ≡ kept → ((front rest : List ℕ) → IsFirstMark name front rest → list_all is_llvm_byte rest ≡ false)
+      → IsKept name kept
 
 -- what a name begins with
 abbrev pub IsPrefix : List ℕ → Type 0
@@ -59,12 +60,14 @@ pub record IsElement (digits element rest : List ℕ) : Type 0 where
 -- the text is the elements, each behind its length, and then the rest
 abbrev pub AreElements : List (List ℕ) → List ℕ → List ℕ → Type 0
 AreElements [] text rest = text ≡ rest
-AreElements (element ∷ elements) text rest = (digits after : List ℕ) × IsElement digits element after × (text ≡ digits ++ (element ++ after)) × AreElements elements after rest
+AreElements (element ∷ elements) text rest =
+    (digits after : List ℕ) × IsElement digits element after × (text ≡ digits ++ (element ++ after)) × AreElements elements after rest
 
 -- the elements that are shown: all but a last one that is a hash
 pub data AreShown (elements shown : List (List ℕ)) : Type 0 where
   hashed : (hash : List ℕ) → elements ≡ shown ++ (hash ∷ []) → is_hash hash ≡ true → AreShown elements shown
-  all : elements ≡ shown → ((front : List (List ℕ)) (last : List ℕ) → elements ≡ front ++ (last ∷ []) → is_hash last ≡ false) → AreShown elements shown
+  all : elements ≡ shown → ((front : List (List ℕ)) (last : List ℕ) → elements ≡ front ++ (last ∷ []) → is_hash last ≡ false)
+      → AreShown elements shown
 
 -- what stands between two dollars, and the character that it means
 pub data IsEscape : List ℕ → ℕ → Type 0 where
@@ -76,7 +79,9 @@ pub data IsEscape : List ℕ → ℕ → Type 0 where
   opening : IsEscape (codes "LP") 40
   closing : IsEscape (codes "RP") 41
   comma : IsEscape (codes "C") 44
-  by_number : (digits : List ℕ) → 0 < length digits → list_all is_lower_hex digits ≡ true → IsScalar (digits_value 16 digits) → is_control (digits_value 16 digits) ≡ false → IsEscape (117 ∷ digits) (digits_value 16 digits)
+  by_number : (digits : List ℕ) → 0 < length digits → list_all is_lower_hex digits ≡ true
+      → IsScalar (digits_value 16 digits) → is_control (digits_value 16 digits) ≡ false
+      → IsEscape (117 ∷ digits) (digits_value 16 digits)
 
 -- no escape ends in what stands behind a dollar
 abbrev pub NoEscape : List ℕ → Type 0
@@ -91,9 +96,11 @@ NoDotFirst (b ∷ bs) = b ≢ 46
 pub data IsPlain : List ℕ → List ℕ → Type 0 where
   nothing : IsPlain [] []
   dots : (rest text : List ℕ) → IsPlain rest text → IsPlain (46 ∷ 46 ∷ rest) (58 ∷ 58 ∷ text)
-  escape : (escape rest text : List ℕ) (c : ℕ) → IsEscape escape c → IsPlain rest text → IsPlain (36 ∷ (escape ++ (36 ∷ rest))) (encode_utf8 c ++ text)
+  escape : (escape rest text : List ℕ) (c : ℕ) → IsEscape escape c → IsPlain rest text
+      → IsPlain (36 ∷ (escape ++ (36 ∷ rest))) (encode_utf8 c ++ text)
   as_it_stands : (rest : List ℕ) → NoEscape rest → IsPlain (36 ∷ rest) (36 ∷ rest)
-  byte : (b : ℕ) (rest text : List ℕ) → b ≢ 36 → (b ≡ 46 → NoDotFirst rest) → IsPlain rest text → IsPlain (b ∷ rest) (b ∷ text)
+  byte : (b : ℕ) (rest text : List ℕ) → b ≢ 36 → (b ≡ 46 → NoDotFirst rest) → IsPlain rest text
+      → IsPlain (b ∷ rest) (b ∷ text)
 
 -- an element and its text: a leading `_$` loses the underscore
 pub data IsElementText (element text : List ℕ) : Type 0 where

@@ -1,6 +1,6 @@
--- The text of a legacy name of Rust as a function of the name: what *IsLegacyName* relates, and nothing where it
--- relates nothing.
--- Own: the language has to be Rust.
+-- The text of a legacy name of Rust as a function of the name. `LegacyLaws` says that it is what `IsLegacyName`
+-- relates the name to, and none where it relates the name to nothing.
+-- Own: a name is demangled only in Rust, and one without a language as one of Rust.
 use Rattle.std.specs.Prelude.{ℕ, zero, suc, ◌+◌, ◌==◌, ◌&&◌, ◌||◌, Bool, true, false, List, [], ◌∷◌, ◌++◌, length, take, drop, map, not, nat_lt, nat_le, nat_eq, if◌then◌else◌, Option, Some, None, option_map, option_and_then, codes, encode_utf8}
 use Rattle.std.specs.Char.{is_ascii, is_ascii_digit, is_control}
 use Rattle.std.specs.List.{list_all, prefix_len, position, starts_with}
@@ -24,7 +24,8 @@ without_prefix name = if starts_with nat_eq name (codes "_ZN") then Some (drop 3
 
 -- the first bytes, if they are ASCII and there are so many, and those after them
 abbrev pub ascii_front : ℕ → List ℕ → Option (List ℕ × List ℕ)
-ascii_front n bytes = if nat_le n (length bytes) && list_all is_ascii (take n bytes) then Some (take n bytes, drop n bytes) else None
+ascii_front n bytes =
+    if nat_le n (length bytes) && list_all is_ascii (take n bytes) then Some (take n bytes, drop n bytes) else None
 
 -- the element behind its decimal length, and what follows it
 unfoldable pub element_at : List ℕ → Option (List ℕ × List ℕ)
@@ -32,6 +33,7 @@ element_at text =
     let n = prefix_len is_ascii_digit text in
     if nat_lt 0 n then ascii_front (digits_value 10 (take n text)) (drop n text) else None
 
+-- an element before those that stand after it, or none
 abbrev pub elements_by : Option (List ℕ × List ℕ) → List ℕ → (List ℕ → List (List ℕ) × List ℕ) → List (List ℕ) × List ℕ
 elements_by None text next = ([], text)
 elements_by (Some e) text next = (e.0 ∷ (next e.1).0, (next e.1).1)
@@ -58,7 +60,8 @@ shown_char n = if (nat_lt n 0xD800 || (nat_le 0xE000 n && nat_lt n 0x11_0000)) &
 -- the character that stands behind `u`
 abbrev pub numbered_char : List ℕ → Option ℕ
 numbered_char [] = None
-numbered_char (b ∷ digits) = if b == 117 && (nat_lt 0 (length digits) && list_all is_lower_hex digits) then shown_char (digits_value 16 digits) else None
+numbered_char (b ∷ digits) =
+    if b == 117 && (nat_lt 0 (length digits) && list_all is_lower_hex digits) then shown_char (digits_value 16 digits) else None
 
 -- the character that stands between two dollars
 unfoldable pub escape_char : List ℕ → Option ℕ
@@ -74,13 +77,15 @@ escape_char body = if bytes_eq body (codes "SP") then Some 64
 
 -- the escape behind a dollar: its character, and how many bytes it takes
 unfoldable pub escape_in : List ℕ → Option (ℕ × ℕ)
-escape_in rest = option_and_then (λ k. option_map (λ c. (c, k + 1)) (escape_char (take k rest))) (position (λ b. b == 36) rest)
+escape_in rest =
+    option_and_then (λ k. option_map (λ c. (c, k + 1)) (escape_char (take k rest))) (position (λ b. b == 36) rest)
 
 -- whether a dot stands first
 abbrev pub is_dot_first : List ℕ → Bool
 is_dot_first [] = false
 is_dot_first (b ∷ bs) = b == 46
 
+-- the character of an escape and what stands after it, or a dollar and the rest as they stand
 abbrev pub escape_text : Option (ℕ × ℕ) → List ℕ → (ℕ → List ℕ) → List ℕ
 escape_text None rest next = 36 ∷ rest
 escape_text (Some e) rest next = encode_utf8 e.0 ++ next e.1
@@ -122,7 +127,8 @@ suffix_at (b ∷ bs) = if b == 69 && is_suffix bs then Some bs else None
 
 -- the text of what stands behind the prefix
 unfoldable pub spelled_text : List ℕ → Option (List ℕ)
-spelled_text text = option_and_then (λ _. option_map (λ suffix. elements_text text ++ suffix) (suffix_at (elements_at text).1)) (element_at text)
+spelled_text text =
+    option_and_then (λ _. option_map (λ suffix. elements_text text ++ suffix) (suffix_at (elements_at text).1)) (element_at text)
 
 -- the text of a legacy name
 unfoldable pub legacy_text : List ℕ → Option (List ℕ)

@@ -9,7 +9,7 @@ use std::test::Fail;
 const RUST: DwLang = DwLang(0x1c);
 
 /// Names by the cases of the format, and their texts.
-const CASES: [(&str, Option<&str>); 31] = [
+const CASES: [(&str, Option<&str>); 34] = [
     ("_ZN4test1a2bcE", Some("test::a::bc")),
     ("ZN4test1a2bcE", Some("test::a::bc")),
     ("__ZN4test1a2bcE", Some("test::a::bc")),
@@ -41,7 +41,10 @@ const CASES: [(&str, Option<&str>); 31] = [
     ("_ZN4testE.llvm.9D1C9369", Some("test")),
     ("_ZN4testE.llvm.9D1C9369@@16", Some("test")),
     ("_ZN4testE.llvm.x.llvm.9", Some("test.llvm.x.llvm.9")),
+    ("_ZN4testE.llvm.", Some("test")),
     ("_ZN4testE.cold", Some("test.cold")),
+    ("_ZN4testE.", Some("test.")),
+    ("_ZN4testE.a b", None),
     ("_ZN4testEx", None),
     ("_ZN3foo3barEv", None),
     ("_ZNE", None),

@@ -3,7 +3,7 @@ use Rattle.std.specs.Char.{is_ascii}
 use Rattle.std.specs.List.{list_all}
 use Rattle.std.specs.Prelude.{string_bytes}
 use Rattle.addr2line_units.specs.LegacyText.{plain_from}
-use Rattle.addr2line_units.proofs.legacy.push_plain.Given as goal
+use Rattle.addr2line_units.proofs.legacy.plain.push_plain.Given as goal
 
 abbrev pub invariant-loop-first : goal.invariant-loop-first
 invariant-loop-first l = record {

@@ -6,3 +6,7 @@ pub mod RiseLemmas
 pub mod SeekLemmas
 pub mod SpanLemmas
 pub mod LonePick
+pub mod RowLemmas
+pub mod FileLemmas
+pub mod ProgramLemmas
+pub mod RangeLemmas

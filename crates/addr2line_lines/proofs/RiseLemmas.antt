@@ -6,7 +6,8 @@ use Rattle.gimli_line.specs.declared.row.LineRow.{LineRow}
 use Rattle.addr2line_lines.specs.declared.row.Row.{Row}
 use Rattle.addr2line_lines.specs.Rows.{result_map}
 use Rattle.addr2line_lines.specs.Sequences.{Stretch, Sequence, put_first, stretches, latest, row_of, sequence_of, sequence_in, sequences_of}
-use Rattle.addr2line_lines.specs.Rises.{NeverFalls, Climbs, IsRising, SequencesRise}
+use Rattle.gimli_line.specs.Rises.{NeverFalls}
+use Rattle.addr2line_lines.specs.Rises.{Climbs, IsRising, SequencesRise}
 
 abbrev From : ℕ → List LineRow → Type 0
 From m rows = AllByRecursion (λ (s : LineRow). m ≤ s.address) rows

@@ -4,7 +4,7 @@ use Rattle.std.proofs.lemmas.Bool.Decides.{nat_tests}
 use Rattle.std.specs.List.{AllByRecursion, list_any, filter_map, cons_option}
 use Rattle.gimli_line.specs.declared.row.LineRow.{LineRow}
 use Rattle.addr2line_lines.specs.Sequences.{Stretch, Sequence, put_first, stretches, latest, sequence_of, sequence_in, sequences_of}
-use Rattle.addr2line_lines.specs.Rises.{NeverFalls}
+use Rattle.gimli_line.specs.Rises.{NeverFalls}
 use Rattle.addr2line_lines.specs.Building.{Apart, Open, IsPending}
 
 pub append_none : {X : Type 0} (xs : List X) → xs ++ [] ≡ xs

@@ -3,7 +3,7 @@ use Rattle.std.specs.Prelude.{◌≡◌, List, [], ◌∷◌, ◌++◌, false}
 use Rattle.std.specs.List.{AllByRecursion}
 use Rattle.gimli_line.specs.declared.row.LineRow.{LineRow}
 use Rattle.addr2line_lines.specs.Sequences.{Sequence, sequences_of}
-use Rattle.addr2line_lines.specs.Rises.{NeverFalls}
+use Rattle.gimli_line.specs.Rises.{NeverFalls}
 
 -- no two neighbours have one address
 abbrev pub Apart : List LineRow → Type 0

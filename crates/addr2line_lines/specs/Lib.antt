@@ -10,3 +10,6 @@ pub mod Files
 pub mod Location
 pub mod Shown
 pub mod Kept
+pub mod FileTexts
+pub mod UnitLines
+pub mod RangeAttributes

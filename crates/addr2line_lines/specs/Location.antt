@@ -32,9 +32,13 @@ place_of files row = record { file = slice_get files row.file_index; line = if_l
 abbrev pub place_at : ℕ → Kept → Option Place
 place_at probe kept = option_map (place_of kept.files) (row_at probe kept.sequences)
 
+-- files, and sequences put in order
+abbrev pub kept_with : List (List ℕ) → List Sequence → Kept
+kept_with files sequences = record { files = files; sequences = in_order (begins_sooner start_of end_of) sequences }
+
 -- files, and the sequences of rows in order
 abbrev pub kept_of : List (List ℕ) → List LineRow → Kept
-kept_of files rows = record { files = files; sequences = in_order (begins_sooner start_of end_of) (sequences_of rows) }
+kept_of files rows = kept_with files (sequences_of rows)
 
 -- what is kept of a program's rows, or their first fault
 abbrev pub kept_in : List (List ℕ) → List (Result LineRow Error) → Result Kept Error

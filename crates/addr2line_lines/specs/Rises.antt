@@ -2,14 +2,9 @@
 use Rattle.std.specs.Prelude.{ℕ, ◌≡◌, ◌≤◌, ◌<◌, List, [], ◌∷◌, false}
 use Rattle.std.specs.List.{AllByRecursion}
 use Rattle.gimli_line.specs.declared.row.LineRow.{LineRow}
+use Rattle.gimli_line.specs.Rises.{NeverFalls}
 use Rattle.addr2line_lines.specs.declared.row.Row.{Row}
 use Rattle.addr2line_lines.specs.Sequences.{Sequence, sequences_of}
-
--- within a sequence, up to its end row, addresses do not fall
-abbrev pub NeverFalls : List LineRow → Type 0
-NeverFalls [] = Unit {0}
-NeverFalls (r ∷ []) = Unit {0}
-NeverFalls (r ∷ s ∷ rows) = (r.end_sequence ≡ false → r.address ≤ s.address) × NeverFalls (s ∷ rows)
 
 -- addresses rise from each row to all later ones, none is above the end
 abbrev pub Climbs : ℕ → List Row → Type 0

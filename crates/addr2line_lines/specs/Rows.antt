@@ -2,12 +2,6 @@
 use Rattle.std.specs.Prelude.{◌≡◌, List, [], ◌∷◌, Option, Some, None, Result, Ok, Err}
 use Rattle.std.specs.Result.{result_map_both}
 
--- what a step gives of the rows that are left, and what it leaves
-abbrev pub Yields : {X E : Type 0} → List (Result X E) → Result (Option X) E → List (Result X E) → Type 0
-Yields [] r left = (r ≡ Ok None) × (left ≡ [])
-Yields (Ok x ∷ rest) r left = (r ≡ Ok (Some x)) × (left ≡ rest)
-Yields (Err e ∷ rest) r left = (r ≡ Err e) × (left ≡ [])
-
 -- a function of the value, the fault as it is
 abbrev pub result_map : {T U E : Type 0} → (T → U) → Result T E → Result U E
 result_map f r = result_map_both f (λ e. e) r

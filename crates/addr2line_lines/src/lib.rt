@@ -1,6 +1,8 @@
 //! Lines of a unit: sequences of rows, the texts of files, and the places of addresses.
 #![tactic(auto)]
 
+mod files;
+mod function;
 mod line;
 mod location;
 mod order;
@@ -9,6 +11,7 @@ mod row;
 mod seek;
 mod sequence;
 
+pub use crate::function::{RangeAttributes, read_root_ranges};
 pub use crate::line::Lines;
 pub use crate::location::Location;
 pub use crate::order::{lone_is_picked, order_is_free};

@@ -1,19 +1,28 @@
 //! The kept lines of a unit.
 
-ghost use Rattle.std.specs.Prelude.{◌≡◌, map, slice_get, option_map};
+ghost use Rattle.std.specs.Prelude.{◌≡◌, Ok, map, slice_get, option_map};
 ghost use Rattle.std.specs.Option.{option_copied};
+ghost use Rattle.std.specs.List.{AllByRecursion};
 ghost use Rattle.std.specs.String.{string_bytes};
+ghost use Rattle.addr2line_lines.specs.Rises.{IsRising};
 ghost use Rattle.gimli_read.specs.Reading.{Gives};
-ghost use Rattle.addr2line_lines.specs.Location.{kept_in, place_of, place_at};
+ghost use Rattle.gimli_line.specs.Header.{seen_program};
+ghost use Rattle.gimli.specs.Sections.{seen_dwarf};
+ghost use Rattle.gimli.specs.Unit.{seen_unit};
+ghost use Rattle.addr2line_lines.specs.UnitLines.{program_lines, unit_lines};
+ghost use Rattle.addr2line_lines.specs.Location.{kept_with, kept_in, place_of, place_at};
 ghost use Rattle.addr2line_lines.specs.Shown.{shown};
 ghost use Rattle.addr2line_lines.specs.Spans.{row_at};
 
+use crate::files::read_file_texts;
 use crate::location::Location;
 use crate::order::sort_sequences;
 use crate::row::{ReadRows, Row};
 use crate::seek::{last_sequence, row_of_sequence};
 use crate::sequence::{LineSequence, read_sequences};
-use gimli_read::Error;
+use gimli::line::IncompleteLineProgram;
+use gimli::read::{Error, Reader};
+use gimli::{Dwarf, Unit};
 use std::alloc::Global;
 use std::marker::Model;
 
@@ -26,7 +35,9 @@ pub struct Lines {
 
 impl Model for Lines {
     ghost use Rattle.std.specs.Prelude.{map};
-    ghost use Rattle.std.specs.String.{string_bytes};
+    ghost use Rattle.std.specs.List.{AllByRecursion};
+ghost use Rattle.std.specs.String.{string_bytes};
+ghost use Rattle.addr2line_lines.specs.Rises.{IsRising};
     ghost use Rattle.addr2line_lines.specs.Location.{Kept};
     ghost use Rattle.addr2line_lines.specs.Kept.{IsKept};
 
@@ -40,7 +51,57 @@ impl Model for Lines {
     ghost invariant = { λ l. IsKept l.sequences.items };
 }
 
+// Files and sequences, which are put in order. Refused `OutOfMemory` alone.
+fn make_lines(files: Vec<String>, sequences: Vec<LineSequence>) -> Result<Lines, Error>
+    requires rising { AllByRecursion IsRising sequences.items }
+    ensures gives { Gives (λ lines. lines) result
+        (Ok (kept_with (map string_bytes files.items) sequences.items)) }
+{
+    let mut sequences = sequences;
+    sort_sequences(&mut sequences)?;
+    Ok(Lines { files, sequences })
+}
+
+// The lines of a unit's program.
+#[tactic(auto, unfolding(crate::specs::UnitLines::program_lines))]
+fn read_program<R: Reader>(
+    alloc: Global,
+    dwarf: &Dwarf<R>,
+    unit: &Unit<R>,
+    program: &IncompleteLineProgram<R>,
+) -> Result<Lines, Error>
+    ensures gives { Gives (λ lines. lines) result
+        (program_lines (seen_dwarf R.section dwarf.now) (seen_unit R.section unit.now)
+        (seen_program R.section program.now)) }
+{
+    let mut rows = program.rows()?;
+    let sequences = read_sequences(alloc, &mut rows)?;
+    let files = read_file_texts(alloc, dwarf, unit, program.header(), rows.header().file_names())?;
+    make_lines(files, sequences)
+}
+
 impl Lines {
+    /// The lines of a unit: its program is run, and the texts of its files are made.
+    ///
+    /// Refused by the program's fault, else by the first text of a file, by index, that can't be
+    /// read, and `OutOfMemory`. A unit without a line program has no lines.
+    pub fn parse<R: Reader>(
+        alloc: Global,
+        dwarf: &Dwarf<R>,
+        unit: &Unit<R>,
+    ) -> Result<Lines, Error>
+        ensures gives { Gives (λ lines. lines) result
+            (unit_lines (seen_dwarf R.section dwarf.now) (seen_unit R.section unit.now)) }
+    {
+        match &unit.line_program {
+            Some(program) => read_program(alloc, dwarf, unit, program),
+            None => Ok(Lines {
+                files: Vec::new(alloc),
+                sequences: Vec::new(alloc),
+            }),
+        }
+    }
+
     /// The lines of a unit with these texts of files, by index, and the rows that come.
     ///
     /// Refused with the rows' fault, and `OutOfMemory`.
@@ -52,9 +113,8 @@ impl Lines {
         ensures gives { Gives (λ lines. lines) result
             (kept_in (map string_bytes files.items) (R.left rows.old)) }
     {
-        let mut sequences = read_sequences(alloc, rows)?;
-        sort_sequences(&mut sequences)?;
-        Ok(Lines { files, sequences })
+        let sequences = read_sequences(alloc, rows)?;
+        make_lines(files, sequences)
     }
 
     /// The text of a file by its index, `None` past the last one. Takes no memory.

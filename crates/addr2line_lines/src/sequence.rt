@@ -1,6 +1,6 @@
 //! Sequences, from the rows of a line program.
 
-ghost use Rattle.std.specs.Prelude.{◌≡◌, false, IfOk, OnOk};
+ghost use Rattle.std.specs.Prelude.{◌≡◌, ◌++◌, false, IfOk, OnOk};
 ghost use Rattle.std.specs.List.{AllByRecursion};
 ghost use Rattle.gimli_read.specs.Reading.{Gives};
 ghost use Rattle.addr2line_lines.specs.Rows.{read_all, result_map};
@@ -110,6 +110,7 @@ pub(crate) fn read_sequences<R: ReadRows>(
     ensures gives { Gives (λ v. v.items) result
         (result_map sequences_of (read_all (R.left rows.old))) }
     ensures rise { IfOk result (λ v. AllByRecursion IsRising v.items) }
+    ensures files { OnOk result (R.files rows.new ≡ R.files rows.old ++ R.to_define rows.old) }
 {
     rows.rises();
     let mut builder = Builder {

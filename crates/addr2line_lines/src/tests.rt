@@ -1,7 +1,7 @@
 //! Worked cases.
 
 ghost use Rattle.std.specs.Prelude.{◌≡◌, true};
-ghost use Rattle.addr2line_lines.specs.Rises.{NeverFalls};
+ghost use Rattle.gimli_line.specs.Rises.{NeverFalls};
 
 use crate::line::Lines;
 use crate::path::{make_file_text, make_own_text, push_path};
@@ -36,7 +36,7 @@ impl<'a> Model for Listed<'a> {
     ghost use Rattle.std.specs.Prelude.{List, map, Result, Ok};
     ghost use Rattle.gimli_line.specs.declared.row.LineRow.{LineRow};
     ghost use Rattle.gimli_read.specs.declared.error.Error.{Error};
-    ghost use Rattle.addr2line_lines.specs.Rises.{NeverFalls};
+    ghost use Rattle.gimli_line.specs.Rises.{NeverFalls};
 
     ghost Value = { List (Result LineRow Error) };
 

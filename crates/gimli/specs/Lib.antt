@@ -6,3 +6,4 @@ pub mod Entry
 pub mod Cursor
 pub mod Record
 pub mod Unit
+pub mod Entries

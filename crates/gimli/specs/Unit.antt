@@ -121,3 +121,7 @@ unit_of d header = do
   table ← table_at rest
   root ← root_of header.encoding table header.entries
   completed d header table root
+
+-- the string that a value of an attribute of a unit stands for
+abbrev pub attr_string_of : Sections → UnitRecord → AttributeValue Section → Result Section Error
+attr_string_of d u value = string_of d u.header.encoding.format u.str_offsets_base value

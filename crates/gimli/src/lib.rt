@@ -8,6 +8,7 @@ mod sections;
 mod text;
 mod unit;
 mod unit_record;
+mod unit_ref;
 
 pub use crate::dwarf::{Dwarf, DwarfFileType};
 pub use crate::entries::EntriesRaw;
@@ -17,5 +18,6 @@ pub use crate::sections::{
 };
 pub use crate::unit::{DwoId, UnitHeader, UnitHeaders, UnitType};
 pub use crate::unit_record::Unit;
+pub use crate::unit_ref::UnitRef;
 pub use gimli_line as line;
 pub use gimli_read as read;

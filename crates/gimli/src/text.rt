@@ -4,9 +4,11 @@ ghost use Rattle.std.specs.Prelude.{◌≡◌};
 ghost use Rattle.gimli_read.specs.Reading.{Tells, Gives};
 ghost use Rattle.gimli_read.specs.Form.{seen_value};
 ghost use Rattle.gimli.specs.Sections.{seen_dwarf};
+ghost use Rattle.gimli.specs.Unit.{seen_unit, attr_string_of};
 ghost use Rattle.gimli.specs.Text.{from_offset, text_at, offset_size, entry_at, indexed_at, string_of};
 
 use crate::dwarf::Dwarf;
+use crate::unit_record::Unit;
 use gimli_read::{AttributeValue, EndianSlice, Error, Format, Reader};
 
 /// A section from an offset on, in bytes.
@@ -108,5 +110,20 @@ pub(crate) fn read_string<R: Reader>(
         AttributeValue::DebugStrRefSup(_) => Err(Error::NoSupplementary),
         AttributeValue::DebugStrOffsetsIndex(index) => read_indexed(dwarf, format, base, index),
         _ => Err(Error::ExpectedString),
+    }
+}
+
+impl<R: Reader> Dwarf<R> {
+    /// The string that a value of an attribute of the unit stands for, without the zero byte that ends
+    /// it.
+    ///
+    /// Refused `ExpectedString` for a value of no string form, `OffsetOutOfBounds`, `UnexpectedEof`
+    /// where no zero byte ends it, `NoSupplementary` for a string of a supplementary file, and
+    /// `OutOfMemory`.
+    pub fn attr_string(&self, unit: &Unit<R>, value: AttributeValue<R>) -> Result<R, Error>
+        ensures gives { Gives R.section result (attr_string_of (seen_dwarf R.section self.now)
+            (seen_unit R.section unit.now) (seen_value R.section value)) }
+    {
+        read_string(self, unit.header.encoding.format, unit.str_offsets_base, value)
     }
 }

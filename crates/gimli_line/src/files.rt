@@ -1,6 +1,6 @@
 //! Files and directories by their index.
 
-ghost use Rattle.std.specs.Prelude.{◌≡◌, Ok};
+ghost use Rattle.std.specs.Prelude.{◌≡◌, Ok, map};
 ghost use Rattle.std.specs.Option.{option_map};
 ghost use Rattle.gimli_read.specs.Reading.{Gives};
 ghost use Rattle.gimli_read.specs.Form.{seen_value};
@@ -32,6 +32,20 @@ impl<R: Reader> LineProgramHeader<R> {
             ≡ file_of (seen_header R.section self.now) index }
     {
         entry(self.encoding.version, index, &self.file_names)
+    }
+
+    /// The files, in their order. Takes no memory.
+    pub fn file_names(&self) -> &[FileEntry<R>]
+        ensures gives { map (seen_file R.section) result.now ≡ (seen_header R.section self.now).file_names }
+    {
+        self.file_names.as_slice()
+    }
+
+    /// The version of the program. Takes no memory.
+    pub fn version(&self) -> u16
+        ensures gives { result ≡ (seen_header R.section self.now).encoding.version }
+    {
+        self.encoding.version
     }
 }
 

@@ -25,6 +25,13 @@ pub struct IncompleteLineProgram<R> {
 }
 
 impl<R: Reader> IncompleteLineProgram<R> {
+    /// The header, with the files of its tables. Takes no memory.
+    pub fn header(&self) -> &LineProgramHeader<R>
+        ensures gives { seen_header R.section result.now ≡ (seen_program R.section self.now).header }
+    {
+        &self.header
+    }
+
     /// The rows of the program, from its first opcode on, over a copy of its header. Refused `OutOfMemory`
     /// alone.
     pub fn rows(&self) -> Result<LineRows<R>, Error>

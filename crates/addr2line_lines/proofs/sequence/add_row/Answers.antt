@@ -1,7 +1,7 @@
 use Rattle.std.proofs.Common.{◌≡◌, List, [], ◌∷◌, ◌++◌, ◌∙◌, ap, sym, subst, append_assoc}
 use Rattle.gimli_line.specs.declared.row.LineRow.{LineRow as ProgramRow}
 use Rattle.addr2line_lines.specs.Sequences.{sequences_of}
-use Rattle.addr2line_lines.specs.Rises.{NeverFalls}
+use Rattle.gimli_line.specs.Rises.{NeverFalls}
 use Rattle.addr2line_lines.specs.Building.{IsPending}
 use Rattle.addr2line_lines.proofs.StretchLemmas.{replaced, falls_replaced, pending_more, pending_replaced}
 use Rattle.addr2line_lines.proofs.sequence.add_row.Goals as goal

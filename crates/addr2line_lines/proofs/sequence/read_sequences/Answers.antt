@@ -1,10 +1,11 @@
-use Rattle.std.proofs.Common.{◌≡◌, List, [], ◌∷◌, ◌++◌, Result, Ok, Err, Option, None, ◌∙◌, ap, sym, subst, refl}
+use Rattle.std.proofs.Common.{◌≡◌, List, [], ◌∷◌, ◌++◌, Result, Ok, Err, Option, None, ◌∙◌, ap, sym, subst, refl, append-nil}
 use Rattle.gimli_line.specs.declared.row.LineRow.{LineRow as ProgramRow}
 use Rattle.gimli_read.specs.declared.error.Error.{Error as Fault}
 use Rattle.gimli_read.specs.declared.error.Error.TheVariants.{OutOfMemory}
 use Rattle.addr2line_lines.specs.Sequences.{Sequence, sequences_of}
 use Rattle.addr2line_lines.specs.Building.{IsPending}
-use Rattle.addr2line_lines.specs.Rows.{Yields, read_all, result_map}
+use Rattle.gimli_read.specs.Yields.{Yields}
+use Rattle.addr2line_lines.specs.Rows.{read_all, result_map}
 use Rattle.addr2line_lines.proofs.StretchLemmas.{append_none, none_open}
 use Rattle.addr2line_lines.proofs.RiseLemmas.{rising_of}
 use Rattle.addr2line_lines.proofs.sequence.read_sequences.Goals as goal
@@ -35,3 +36,9 @@ returns-clause-gives g c =
 
 pub returns-clause-rise : goal.returns-clause-rise
 returns-clause-rise g c = rising_of (read_all (g.R.ReadRows.left c.args.rows.now)) c.loop-builder.builder.sequences.items c.rises.ensures.law (returns-clause-gives g c)
+
+pub returns-clause-files : goal.returns-clause-files
+returns-clause-files g c =
+    let files = g.R.ReadRows.files c.next_row.new.self in
+    let none = c.in_ok-row.ensures.all c.in_default.is in
+    sym (c.loop-builder.invariant.files ∙ c.in_ok-row.ensures.files ∙ ap (λ fs. files ++ fs) none ∙ append-nil files)

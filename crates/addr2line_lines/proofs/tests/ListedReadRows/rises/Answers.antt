@@ -1,7 +1,7 @@
 use Rattle.std.proofs.Common.{◌≡◌, List, [], ◌∷◌, Result, Ok, IfOk, ◌∙◌, ap, sym, subst, refl, map}
 use Rattle.gimli_line.specs.declared.row.LineRow.{LineRow as ProgramRow}
 use Rattle.gimli_read.specs.declared.error.Error.{Error as Fault}
-use Rattle.addr2line_lines.specs.Rises.{NeverFalls}
+use Rattle.gimli_line.specs.Rises.{NeverFalls}
 use Rattle.addr2line_lines.specs.Rows.{read_all, result_map}
 use Rattle.addr2line_lines.proofs.tests.ListedReadRows.rises.Goals as goal
 

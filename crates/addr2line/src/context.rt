@@ -1,0 +1,126 @@
+//! Contexts: what lookups are made in.
+
+ghost use Rattle.std.specs.Prelude.{◌≡◌, ⊤, option_map};
+ghost use Rattle.std.specs.Borrow.{sem, follows_so};
+ghost use mathlib.Core.Option.{none};
+ghost use Rattle.gimli_read.specs.Reading.{Gives};
+ghost use Rattle.gimli.specs.declared.dwarf.DwarfFileType.TheVariants.{Main};
+ghost use Rattle.gimli.specs.Sections.{seen_dwarf};
+ghost use Rattle.addr2line_lines.specs.Shown.{shown};
+ghost use Rattle.addr2line_units.specs.Located.{location_of};
+ghost use Rattle.addr2line.specs.Context.{context_of};
+
+use addr2line_lines::Location;
+use addr2line_units::unit::ResUnits;
+use gimli::read::{Error, Reader};
+use gimli::{
+    DebugAbbrev, DebugAddr, DebugAranges, DebugInfo, DebugLine, DebugLineStr, DebugRanges,
+    DebugRngLists, DebugStr, DebugStrOffsets, Dwarf, DwarfFileType,
+};
+use std::alloc::Global;
+use std::marker::Model;
+use std::rc::Rc;
+
+/// What addresses are looked up in: the sections of a file, its units, and what was read of them.
+#[derive(Drop)]
+pub struct Context<R: Reader> {
+    alloc: Global,
+    dwarf: Rc<Dwarf<R>>,
+    units: ResUnits<R>,
+}
+
+impl<R: Reader> Model for Context<R> {
+    ghost use Rattle.gimli.specs.Sections.{Sections, seen_dwarf};
+    ghost use Rattle.addr2line.specs.Context.{IsContext};
+
+    ghost Value = { Sections };
+
+    ghost view = { λ c. seen_dwarf R.section c.dwarf.value };
+
+    ghost invariant = { λ c. IsContext R.section (seen_dwarf R.section c.dwarf.value) c.units.unit };
+}
+
+impl<R: Reader> Context<R> {
+    ghost use Rattle.addr2line.specs.contracts.context.Context.{the_row};
+
+    /// A context of the sections of a file.
+    ///
+    /// The headers of all units are read, and the records of units up to the first that can be read.
+    /// Refused by the first fault of a header or of the kept unit's range attributes, and
+    /// `OutOfMemory`; a unit whose record is faulty is passed over. No line program is run.
+    pub fn from_dwarf(alloc: Global, dwarf: Dwarf<R>) -> Result<Context<R>, Error>
+        ensures gives { Gives (λ c. c) result (context_of (seen_dwarf R.section dwarf)) }
+    {
+        let units = ResUnits::parse(alloc, &dwarf)?;
+        let dwarf = Rc::new(alloc, dwarf)?;
+        Ok(Context {
+            alloc,
+            dwarf,
+            units,
+        })
+    }
+
+    /// A context of the sections of a file, each by itself. `default_section` decides nothing.
+    ///
+    /// Refused as `from_dwarf` is.
+    pub fn from_sections(
+        alloc: Global,
+        debug_abbrev: DebugAbbrev<R>,
+        debug_addr: DebugAddr<R>,
+        debug_aranges: DebugAranges<R>,
+        debug_info: DebugInfo<R>,
+        debug_line: DebugLine<R>,
+        debug_line_str: DebugLineStr<R>,
+        debug_ranges: DebugRanges<R>,
+        debug_rnglists: DebugRngLists<R>,
+        debug_str: DebugStr<R>,
+        debug_str_offsets: DebugStrOffsets<R>,
+        default_section: R,
+    ) -> Result<Context<R>, Error>
+        ensures gives { Gives (λ c. c) result (context_of (record {
+          debug_abbrev = R.section debug_abbrev.section;
+          debug_addr = R.section debug_addr.section;
+          debug_aranges = R.section debug_aranges.section;
+          debug_info = R.section debug_info.section;
+          debug_line = R.section debug_line.section;
+          debug_line_str = R.section debug_line_str.section;
+          debug_ranges = R.section debug_ranges.section;
+          debug_rnglists = R.section debug_rnglists.section;
+          debug_str = R.section debug_str.section;
+          debug_str_offsets = R.section debug_str_offsets.section;
+          file_type = Main;
+        })) }
+    {
+        let _ = default_section;
+        Context::from_dwarf(
+            alloc,
+            Dwarf {
+                debug_abbrev,
+                debug_addr,
+                debug_aranges,
+                debug_info,
+                debug_line,
+                debug_line_str,
+                debug_ranges,
+                debug_rnglists,
+                debug_str,
+                debug_str_offsets,
+                file_type: DwarfFileType::Main,
+            },
+        )
+    }
+
+    /// The place of an address: its file, line and column, none where nothing covers it.
+    ///
+    /// `probe` is an address as the file has it. The lines of the unit that covers it are read at the
+    /// first such lookup and kept, their fault too. Refused by that fault, and `OutOfMemory`.
+    ///
+    /// Source: DWARF 5, section 6.2. Own: which of several sequences counts.
+    pub fn find_location(&mut self, probe: u64) -> Result<Option<Location<'_>>, Error>
+        ensures gives { Gives (option_map shown) result (location_of self.old probe) }
+        ensures* kept { sem 𝓛 (follows_so (the_row R.row R.Reader R.Clone) (the_row R.row R.Reader R.Clone) self.entry.ghost_name none (λ _ _. ⊤) (λ new. new ≡ self.old)) }
+    {
+        self.units.read_lines(self.alloc, &self.dwarf, probe)?;
+        Ok(self.units.find_location(probe))
+    }
+}

@@ -1,0 +1,12 @@
+//! From addresses to files and lines, by the DWARF sections of a file.
+#![tactic(auto)]
+
+mod context;
+
+pub use crate::context::Context;
+pub use addr2line_lines::Location;
+pub use addr2line_units::frame::{demangle, demangle_auto};
+pub use gimli;
+
+#[cfg(test)]
+mod tests;

@@ -1,0 +1,15 @@
+use Rattle.std.proofs.Common.{◌≡◌, drop}
+use Rattle.gimli.specs.Sections.{seen_dwarf}
+use Rattle.gimli.specs.Unit.{seen_unit}
+use Rattle.addr2line_lines.specs.RangeAttributes.{no_ranges, took_at}
+use Rattle.addr2line_lines.proofs.function.read_ranges.Given as goal
+
+abbrev pub invariant-loop-specification : goal.invariant-loop-specification
+invariant-loop-specification g l =
+    let see = g.R.Reader.section in
+    let d = seen_dwarf see l.unit.dwarf.now in
+    let u = seen_unit see l.unit.unit.now in
+    record {
+      gives : took_at d u (drop l.specification-index l.specifications) l.ranges (see l.entries.input) ≡ took_at d u l.specifications no_ranges (see l.fn.entries.input);
+      same : l.entries.encoding ≡ l.unit.unit.now.header.encoding;
+    }

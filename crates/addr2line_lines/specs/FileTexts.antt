@@ -1,0 +1,57 @@
+-- The texts of a unit's files by index (DWARF 5, section 6.2.4).
+-- Own: below version 5 index 0 is the unit's own name; where there is none the text is empty. A file's directory
+-- counts unless its index is 0 or has no entry. The fault of the texts is the first one by index.
+use Rattle.std.specs.Prelude.{ℕ, ◌==◌, nat_lt, List, [], ◌∷◌, ◌++◌, Option, Some, None, option_map, Result, Ok, Err, if◌then◌else◌}
+use Rattle.gimli_read.specs.declared.error.Error.{Error}
+use Rattle.gimli_read.specs.declared.value.AttributeValue.{AttributeValue}
+use Rattle.gimli_read.specs.Section.{Section}
+use Rattle.gimli_read.specs.Reading.{◌>>=◌}
+use Rattle.gimli_line.specs.declared.header.FileEntry.{FileEntry}
+use Rattle.gimli_line.specs.Header.{Header, directory_of}
+use Rattle.gimli.specs.Sections.{Sections}
+use Rattle.gimli.specs.Unit.{UnitRecord, attr_string_of}
+use Rattle.addr2line_lines.specs.Files.{file_text, own_text}
+
+-- the bytes of a section, where there is one
+abbrev pub bytes_of : Option Section → Option (List ℕ)
+bytes_of s = option_map (λ (t : Section). t.bytes) s
+
+-- the string of a value, where there is one
+abbrev pub optional_string : Sections → UnitRecord → Option (AttributeValue Section) → Result (Option Section) Error
+optional_string d u None = Ok None
+optional_string d u (Some value) = attr_string_of d u value >>= λ text. Ok (Some text)
+
+-- the directory that counts for a file
+abbrev pub counted_directory : Header → FileEntry Section → Option (AttributeValue Section)
+counted_directory h f = if f.directory_index == 0 then None else directory_of h f
+
+-- the text of a file
+unfoldable pub text_of_file : Sections → UnitRecord → Header → FileEntry Section → Result (List ℕ) Error
+text_of_file d u h f = do
+  directory ← optional_string d u (counted_directory h f)
+  path ← attr_string_of d u f.path_name
+  Ok (file_text (bytes_of u.comp_dir) (bytes_of directory) path.bytes)
+
+-- the texts of files, one after another
+unfoldable pub texts_of : Sections → UnitRecord → Header → List (FileEntry Section) → Result (List (List ℕ)) Error
+texts_of d u h [] = Ok []
+texts_of d u h (f ∷ files) = text_of_file d u h f >>= λ text. texts_of d u h files >>= λ more. Ok (text ∷ more)
+
+-- texts behind others
+abbrev pub behind : List (List ℕ) → Result (List (List ℕ)) Error → Result (List (List ℕ)) Error
+behind front texts = texts >>= λ more. Ok (front ++ more)
+
+-- an empty text where there is none
+abbrev pub at_least_one : List (List ℕ) → List (List ℕ)
+at_least_one [] = [] ∷ []
+at_least_one (text ∷ texts) = text ∷ texts
+
+-- the texts below version 5: first the unit's own name
+abbrev pub behind_name : Sections → UnitRecord → Header → List (FileEntry Section) → Result (List (List ℕ)) Error
+behind_name d u h files = behind (own_text (bytes_of u.comp_dir) (bytes_of u.name) ∷ []) (texts_of d u h files)
+
+-- the texts by index, from 0 on
+abbrev pub file_texts : Sections → UnitRecord → Header → List (FileEntry Section) → Result (List (List ℕ)) Error
+file_texts d u h files =
+    if nat_lt h.encoding.version 5 then behind_name d u h files
+    else (texts_of d u h files >>= λ texts. Ok (at_least_one texts))

@@ -1,0 +1,27 @@
+-- The lines of a unit: its files and its sequences, or their fault (DWARF 5, section 6.2).
+-- Own: the program's fault stands before that of the files' texts. A unit without a line program has no lines.
+use Rattle.std.specs.Prelude.{ℕ, ◌++◌, List, [], Option, Some, None, Result, Ok, Err}
+use Rattle.gimli_read.specs.declared.error.Error.{Error}
+use Rattle.gimli_read.specs.Reading.{◌>>=◌}
+use Rattle.gimli_line.specs.Header.{Program}
+use Rattle.gimli_line.specs.Lines.{lines_of}
+use Rattle.gimli.specs.Sections.{Sections}
+use Rattle.gimli.specs.Unit.{UnitRecord}
+use Rattle.addr2line_lines.specs.Rows.{read_all}
+use Rattle.addr2line_lines.specs.Location.{Kept, kept_of}
+use Rattle.addr2line_lines.specs.FileTexts.{file_texts}
+
+-- the lines of a program: its rows, and the texts of its files with those that it defines
+unfoldable pub program_lines : Sections → UnitRecord → Program → Result Kept Error
+program_lines d u p = do
+  rows ← read_all (lines_of p).left
+  files ← file_texts d u p.header (p.header.file_names ++ (lines_of p).to_define)
+  Ok (kept_of files rows)
+
+-- the lines of a unit
+abbrev pub lines_in : Sections → UnitRecord → Option Program → Result Kept Error
+lines_in d u None = Ok (record { files = []; sequences = [] })
+lines_in d u (Some p) = program_lines d u p
+
+abbrev pub unit_lines : Sections → UnitRecord → Result Kept Error
+unit_lines d u = lines_in d u u.line_program

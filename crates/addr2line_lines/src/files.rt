@@ -1,0 +1,166 @@
+//! The texts of a unit's files.
+
+ghost use Rattle.std.specs.Prelude.{◌≡◌, Ok, map, option_map, option_copied, string_bytes};
+ghost use Rattle.gimli_read.specs.Reading.{Gives};
+ghost use Rattle.gimli_read.specs.Form.{seen_value};
+ghost use Rattle.gimli_line.specs.Header.{seen_file, seen_header};
+ghost use Rattle.gimli.specs.Sections.{seen_dwarf};
+ghost use Rattle.gimli.specs.Unit.{seen_unit};
+ghost use Rattle.addr2line_lines.specs.FileTexts.{bytes_of, optional_string, counted_directory, text_of_file, texts_of, at_least_one, behind, behind_name, file_texts};
+
+use crate::path::{make_file_text, make_own_text};
+use gimli::line::{FileEntry, LineProgramHeader};
+use gimli::read::{AttributeValue, Error, Reader};
+use gimli::{Dwarf, Unit};
+use std::alloc::Global;
+
+// The directory that counts for a file.
+fn directory_of<R: Reader>(
+    header: &LineProgramHeader<R>,
+    file: &FileEntry<R>,
+) -> Result<Option<AttributeValue<R>>, Error>
+    ensures gives { Gives (option_map (seen_value R.section)) result
+        (Ok (counted_directory (seen_header R.section header.now) (seen_file R.section file.now))) }
+{
+    if file.directory_index() == 0 {
+        return Ok(None);
+    }
+    file.directory(header)
+}
+
+// The string of a value, where there is one.
+fn optional_string<R: Reader>(
+    dwarf: &Dwarf<R>,
+    unit: &Unit<R>,
+    value: Option<AttributeValue<R>>,
+) -> Result<Option<R>, Error>
+    ensures gives { Gives (option_map R.section) result
+        (optional_string (seen_dwarf R.section dwarf.now) (seen_unit R.section unit.now)
+        (option_map (seen_value R.section) value)) }
+{
+    match value {
+        None => Ok(None),
+        Some(value) => Ok(Some(dwarf.attr_string(unit, value)?)),
+    }
+}
+
+// The bytes of a reader, where there is one.
+fn bytes_of<R: Reader>(reader: &Option<R>) -> Option<&[u8]>
+    ensures gives { option_copied result ≡ bytes_of (option_map R.section reader.now) }
+{
+    match reader {
+        Some(reader) => Some(reader.to_slice()),
+        None => None,
+    }
+}
+
+// The text of a file.
+#[tactic(auto, unfolding(crate::specs::FileTexts::text_of_file))]
+fn file_text<R: Reader>(
+    alloc: Global,
+    dwarf: &Dwarf<R>,
+    unit: &Unit<R>,
+    header: &LineProgramHeader<R>,
+    file: &FileEntry<R>,
+) -> Result<String, Error>
+    ensures gives { Gives (λ text. string_bytes text) result
+        (text_of_file (seen_dwarf R.section dwarf.now) (seen_unit R.section unit.now)
+        (seen_header R.section header.now) (seen_file R.section file.now)) }
+{
+    let value = directory_of(header, file)?;
+    let directory = optional_string(dwarf, unit, value)?;
+    let path = dwarf.attr_string(unit, file.path_name()?)?;
+    let base = bytes_of(&unit.comp_dir);
+    let below = bytes_of(&directory);
+    Ok(make_file_text(alloc, base, below, path.to_slice())?)
+}
+
+// The texts of files behind those that are there, one after another.
+fn push_texts<R: Reader>(
+    alloc: Global,
+    dwarf: &Dwarf<R>,
+    unit: &Unit<R>,
+    header: &LineProgramHeader<R>,
+    files: &[FileEntry<R>],
+    texts: &mut Vec<String>,
+) -> Result<(), Error>
+    ensures gives { Gives (λ _. map string_bytes texts.new.items) result
+        (behind (map string_bytes texts.old.items)
+        (texts_of (seen_dwarf R.section dwarf.now) (seen_unit R.section unit.now)
+        (seen_header R.section header.now) (map (seen_file R.section) files.now))) }
+{
+    for file in files {
+        texts.push(file_text(alloc, dwarf, unit, header, file)?)?;
+    }
+    Ok(())
+}
+
+// The texts of a unit's files by index.
+fn read_texts<R: Reader>(
+    alloc: Global,
+    dwarf: &Dwarf<R>,
+    unit: &Unit<R>,
+    header: &LineProgramHeader<R>,
+    files: &[FileEntry<R>],
+) -> Result<Vec<String>, Error>
+    ensures gives { Gives (λ v. map string_bytes v.items) result
+        (texts_of (seen_dwarf R.section dwarf.now) (seen_unit R.section unit.now)
+        (seen_header R.section header.now) (map (seen_file R.section) files.now)) }
+{
+    let mut texts = Vec::new(alloc);
+    push_texts(alloc, dwarf, unit, header, files, &mut texts)?;
+    Ok(texts)
+}
+
+// The texts of a unit's files below version 5: first the unit's own name.
+fn read_texts_behind_name<R: Reader>(
+    alloc: Global,
+    dwarf: &Dwarf<R>,
+    unit: &Unit<R>,
+    header: &LineProgramHeader<R>,
+    files: &[FileEntry<R>],
+) -> Result<Vec<String>, Error>
+    ensures gives { Gives (λ v. map string_bytes v.items) result
+        (behind_name (seen_dwarf R.section dwarf.now) (seen_unit R.section unit.now)
+        (seen_header R.section header.now) (map (seen_file R.section) files.now)) }
+{
+    let mut texts = Vec::new(alloc);
+    let own = make_own_text(alloc, bytes_of(&unit.comp_dir), bytes_of(&unit.name))?;
+    texts.push(own)?;
+    push_texts(alloc, dwarf, unit, header, files, &mut texts)?;
+    Ok(texts)
+}
+
+// An empty text where there is none.
+fn fill(alloc: Global, texts: &mut Vec<String>) -> Result<(), Error>
+    ensures gives { Gives (λ _. map string_bytes texts.new.items) result
+        (Ok (at_least_one (map string_bytes texts.old.items))) }
+{
+    if texts.is_empty() {
+        texts.push(String::new(alloc))?;
+    }
+    Ok(())
+}
+
+/// The texts of a unit's files by index, from 0 on; `header` is its program's, `files` are those of
+/// the header with the ones that the program defines.
+///
+/// Refused by the first text that can't be read, by index, and `OutOfMemory`.
+pub(crate) fn read_file_texts<R: Reader>(
+    alloc: Global,
+    dwarf: &Dwarf<R>,
+    unit: &Unit<R>,
+    header: &LineProgramHeader<R>,
+    files: &[FileEntry<R>],
+) -> Result<Vec<String>, Error>
+    ensures gives { Gives (λ v. map string_bytes v.items) result
+        (file_texts (seen_dwarf R.section dwarf.now) (seen_unit R.section unit.now)
+        (seen_header R.section header.now) (map (seen_file R.section) files.now)) }
+{
+    if header.version() < 5 {
+        return read_texts_behind_name(alloc, dwarf, unit, header, files);
+    }
+    let mut texts = read_texts(alloc, dwarf, unit, header, files)?;
+    fill(alloc, &mut texts)?;
+    Ok(texts)
+}

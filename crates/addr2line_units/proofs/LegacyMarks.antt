@@ -1,0 +1,231 @@
+-- Marks of LLVM, prefixes, hashes and suffixes: the relation and the function agree.
+use Rattle.std.proofs.Common.{◌≡◌, ◌∙◌, ◌≤◌, inl, inr, ⊎_elim, ℕ, suc, Bool, true, false, ◌&&◌, Option, Some, None, List, [], ◌∷◌, ◌++◌, drop, length, ap, sym, subst, refl, arith}
+use Rattle.std.specs.Prelude.{nat_eq, if◌then◌else◌, codes, ◌==◌}
+use Rattle.std.specs.List.{list_all, starts_with}
+use Rattle.std.proofs.lemmas.Slice.Eq.{starts_is}
+use Rattle.std.proofs.lemmas.Bool.{eqb-true, eq-eqb}
+use Rattle.std.proofs.lemmas.Bool.Decides.{Decides-eqb}
+use Rattle.addr2line_units.proofs.LegacySteps.{and_left, and_right, some_if, some_inj}
+use Rattle.addr2line_units.specs.LegacyName.{llvm_mark, is_llvm_byte, is_suffix_byte, is_hash, IsFirstMark, IsKept, cut, whole, IsPrefix, AreShown, hashed, all, IsSuffix}
+use Rattle.addr2line_units.specs.LegacyText.{without_llvm, without_prefix, without_hash, is_suffix, suffix_at}
+
+-- a mark stands first
+mark_here : (bytes : List ℕ) → starts_with nat_eq bytes llvm_mark ≡ true → bytes ≡ llvm_mark ++ drop 6 bytes
+mark_here bytes h = (starts_is Decides-eqb bytes llvm_mark _ refl).0 h
+
+mark_there : (bytes rest : List ℕ) → bytes ≡ llvm_mark ++ rest → starts_with nat_eq bytes llvm_mark ≡ true
+mark_there bytes rest h = (starts_is Decides-eqb bytes llvm_mark _ refl).1 rest h
+
+-- what follows the mark
+mark_rest : (bytes rest : List ℕ) → bytes ≡ llvm_mark ++ rest → drop 6 bytes ≡ rest
+mark_rest bytes rest h = ap (λ s. drop 6 s) h
+
+two_tests : (q : Bool) → q ≡ true → q ≡ false → ⊥
+two_tests q a b = cc
+
+tail_is : (b c : ℕ) (bs cs : List ℕ) → b ∷ bs ≡ c ∷ cs → bs ≡ cs
+tail_is b c bs cs h = cc
+
+head_is : (b c : ℕ) (bs cs : List ℕ) → b ∷ bs ≡ c ∷ cs → b ≡ c
+head_is b c bs cs h = cc
+
+-- a first mark, one byte later
+first_later : (b : ℕ) (bs front rest : List ℕ) → starts_with nat_eq (b ∷ bs) llvm_mark ≡ false → IsFirstMark bs front rest
+    → (earlier later : List ℕ) → b ∷ bs ≡ earlier ++ (llvm_mark ++ later) → length (b ∷ front) ≤ length earlier
+first_later b bs front rest apart m [] later h = absurd (two_tests _ (mark_there (b ∷ bs) later h) apart)
+first_later b bs front rest apart m (e ∷ es) later h =
+    let less : length front ≤ length es = m.first es later (tail_is _ _ _ _ h) in
+    omega arith
+
+mark_later : (b : ℕ) (bs front rest : List ℕ) → starts_with nat_eq (b ∷ bs) llvm_mark ≡ false → IsFirstMark bs front rest → IsFirstMark (b ∷ bs) (b ∷ front) rest
+mark_later b bs front rest apart m = record {
+  whole = ap (λ s. b ∷ s) m.whole;
+  first = first_later b bs front rest apart m;
+}
+
+-- a first mark, one byte earlier
+mark_sooner : (b c : ℕ) (bs front rest : List ℕ) → IsFirstMark (b ∷ bs) (c ∷ front) rest → IsFirstMark bs front rest
+mark_sooner b c bs front rest m = record {
+  whole = tail_is _ _ _ _ m.whole;
+  first = λ earlier later h.
+      let less : length (c ∷ front) ≤ length (b ∷ earlier) = m.first (b ∷ earlier) later (ap (λ s. b ∷ s) h) in
+      omega arith;
+}
+
+-- a mark that stands first is the first
+mark_first : (bytes : List ℕ) → starts_with nat_eq bytes llvm_mark ≡ true → IsFirstMark bytes [] (drop 6 bytes)
+mark_first bytes h = record {
+  whole = mark_here bytes h;
+  first = λ earlier later _. omega arith;
+}
+
+no_mark_in_nothing : (front rest : List ℕ) → IsFirstMark [] front rest → ⊥
+no_mark_in_nothing [] rest m = let e : [] ≡ llvm_mark ++ rest = m.whole in cc
+no_mark_in_nothing (f ∷ fs) rest m = let e : [] ≡ f ∷ (fs ++ (llvm_mark ++ rest)) = m.whole in cc
+
+-- no first mark stands behind a byte where one stands first
+nothing_before : (bytes front rest : List ℕ) → starts_with nat_eq bytes llvm_mark ≡ true → IsFirstMark bytes front rest → front ≡ []
+nothing_before bytes [] rest here m = refl
+nothing_before bytes (f ∷ fs) rest here m =
+    let none : suc (length fs) ≤ 0 = m.first [] (drop 6 bytes) (mark_here bytes here) in
+    absurd (omega arith)
+
+none_later : (b : ℕ) (bs : List ℕ) → starts_with nat_eq (b ∷ bs) llvm_mark ≡ false
+    → ((front rest : List ℕ) → IsFirstMark bs front rest → list_all is_llvm_byte rest ≡ false)
+    → (front rest : List ℕ) → IsFirstMark (b ∷ bs) front rest → list_all is_llvm_byte rest ≡ false
+none_later b bs apart none [] rest m = absurd (two_tests _ (mark_there (b ∷ bs) rest m.whole) apart)
+none_later b bs apart none (f ∷ fs) rest m = none fs rest (mark_sooner b f bs fs rest m)
+
+kept_later : (b : ℕ) (bs kept : List ℕ) → starts_with nat_eq (b ∷ bs) llvm_mark ≡ false → IsKept bs kept → IsKept (b ∷ bs) (b ∷ kept)
+kept_later b bs kept apart (cut rest m own) = cut rest (mark_later b bs kept rest apart m) own
+kept_later b bs kept apart (whole same none) = whole (ap (λ s. b ∷ s) same) (none_later b bs apart none)
+
+rest_is : (bytes front rest : List ℕ) → starts_with nat_eq bytes llvm_mark ≡ true → IsFirstMark bytes front rest → drop 6 bytes ≡ rest
+rest_is bytes front rest here m =
+    mark_rest bytes rest (m.whole ∙ ap (λ s. s ++ (llvm_mark ++ rest)) (nothing_before bytes front rest here m))
+
+-- what the function leaves is what is left
+pub kept_is : (name : List ℕ) → IsKept name (without_llvm name)
+kept_is [] = whole refl (λ front rest m. absurd (no_mark_in_nothing front rest m))
+kept_is (b ∷ bs) =
+    elim (starts_with nat_eq (b ∷ bs) llvm_mark) as (λ q. starts_with nat_eq (b ∷ bs) llvm_mark ≡ q
+    → IsKept (b ∷ bs) (if q then (if list_all is_llvm_byte (drop 6 (b ∷ bs)) then [] else b ∷ bs) else b ∷ without_llvm bs)) [
+      | true ↦ λ here. elim (list_all is_llvm_byte (drop 6 (b ∷ bs))) as (λ r. list_all is_llvm_byte (drop 6 (b ∷ bs)) ≡ r
+          → IsKept (b ∷ bs) (if r then [] else b ∷ bs)) [
+            | true ↦ λ own. cut (drop 6 (b ∷ bs)) (mark_first (b ∷ bs) here) own
+            | false ↦ λ other. whole refl (λ front rest m. sym (ap (λ s. list_all is_llvm_byte s) (rest_is (b ∷ bs) front rest here m)) ∙ other)
+          ] refl
+      | false ↦ λ apart. kept_later b bs (without_llvm bs) apart (kept_is bs)
+    ] refl
+
+-- what is left, where the mark is cut
+cut_is : (front rest name : List ℕ) → IsFirstMark name front rest → list_all is_llvm_byte rest ≡ true → front ≡ without_llvm name
+cut_is front rest [] m own = absurd (no_mark_in_nothing front rest m)
+cut_is [] rest (b ∷ bs) m own =
+    let here : starts_with nat_eq (b ∷ bs) llvm_mark ≡ true = mark_there (b ∷ bs) rest m.whole in
+    sym (ap (λ q. if q then (if list_all is_llvm_byte (drop 6 (b ∷ bs)) then [] else b ∷ bs) else b ∷ without_llvm bs) here
+    ∙ ap (λ q. if q then [] else b ∷ bs) (ap (λ s. list_all is_llvm_byte s) (mark_rest (b ∷ bs) rest m.whole) ∙ own))
+cut_is (f ∷ fs) rest (b ∷ bs) m own =
+    elim (starts_with nat_eq (b ∷ bs) llvm_mark) as (λ q. starts_with nat_eq (b ∷ bs) llvm_mark ≡ q
+    → f ∷ fs ≡ (if q then (if list_all is_llvm_byte (drop 6 (b ∷ bs)) then [] else b ∷ bs) else b ∷ without_llvm bs)) [
+      | true ↦ λ here. let e : f ∷ fs ≡ [] = nothing_before (b ∷ bs) (f ∷ fs) rest here m in let bad : ⊥ = cc in absurd bad
+      | false ↦ λ apart.
+          ap (λ c. c ∷ fs) (sym (head_is _ _ _ _ m.whole)) ∙ ap (λ s. b ∷ s) (cut_is fs rest bs (mark_sooner b f bs fs rest m) own)
+    ] refl
+
+-- what is left, where no mark is cut
+whole_is : (name : List ℕ) → ((front rest : List ℕ) → IsFirstMark name front rest → list_all is_llvm_byte rest ≡ false) → name ≡ without_llvm name
+whole_is [] none = refl
+whole_is (b ∷ bs) none =
+    elim (starts_with nat_eq (b ∷ bs) llvm_mark) as (λ q. starts_with nat_eq (b ∷ bs) llvm_mark ≡ q
+    → b ∷ bs ≡ (if q then (if list_all is_llvm_byte (drop 6 (b ∷ bs)) then [] else b ∷ bs) else b ∷ without_llvm bs)) [
+      | true ↦ λ here. sym (ap (λ q. if q then [] else b ∷ bs) (none [] (drop 6 (b ∷ bs)) (mark_first (b ∷ bs) here)))
+      | false ↦ λ apart. ap (λ s. b ∷ s) (whole_is bs (λ front rest m. none (b ∷ front) rest (mark_later b bs front rest apart m)))
+    ] refl
+
+-- what is left is what the function leaves
+pub kept_only : (name kept : List ℕ) → IsKept name kept → kept ≡ without_llvm name
+kept_only name kept (cut rest m own) = cut_is kept rest name m own
+kept_only name kept (whole same none) = sym same ∙ whole_is name none
+
+starts_first : (name prefix : List ℕ) → starts_with nat_eq name prefix ≡ true → name ≡ prefix ++ drop (length prefix) name
+starts_first name prefix h = (starts_is Decides-eqb name prefix _ refl).0 h
+
+prefix_case : (name prefix rest : List ℕ) (other : Option (List ℕ)) → IsPrefix prefix
+    → (other ≡ Some rest → (p : List ℕ) × IsPrefix p × (name ≡ p ++ rest))
+    → (if starts_with nat_eq name prefix then Some (drop (length prefix) name) else other) ≡ Some rest
+    → (p : List ℕ) × IsPrefix p × (name ≡ p ++ rest)
+prefix_case name prefix rest other is next h =
+    elim (starts_with nat_eq name prefix) as (λ q. starts_with nat_eq name prefix ≡ q → (if q then Some (drop (length prefix) name) else other) ≡ Some rest
+    → (p : List ℕ) × IsPrefix p × (name ≡ p ++ rest)) [
+      | true ↦ λ here same. (prefix, is, starts_first name prefix here ∙ ap (λ s. prefix ++ s) (some_inj _ _ same))
+      | false ↦ λ _ same. next same
+    ] refl h
+
+no_some : (rest : List ℕ) (P : Type 0) → None ≡ Some rest → P
+no_some rest P h = let bad : ⊥ = cc in absurd bad
+
+-- what stands behind a prefix, as the function finds it
+pub prefix_found : (name rest : List ℕ) → without_prefix name ≡ Some rest → (p : List ℕ) × IsPrefix p × (name ≡ p ++ rest)
+unfolding without_prefix
+prefix_found name rest h =
+    prefix_case name (codes "_ZN") rest _ (inl refl)
+    (prefix_case name (codes "ZN") rest _ (inr (inl refl))
+    (prefix_case name (codes "__ZN") rest None (inr (inr refl)) (no_some rest _))) h
+
+-- the function finds what stands behind a prefix
+pub prefix_read : (prefix rest : List ℕ) → IsPrefix prefix → without_prefix (prefix ++ rest) ≡ Some rest
+unfolding without_prefix
+prefix_read prefix rest is =
+    ⊎_elim (λ e. ap (λ p. without_prefix (p ++ rest)) e)
+    (λ more. ⊎_elim (λ e. ap (λ p. without_prefix (p ++ rest)) e) (λ e. ap (λ p. without_prefix (p ++ rest)) e) more) is
+
+lists_tail : (e f : List ℕ) (es fs : List (List ℕ)) → e ∷ es ≡ f ∷ fs → es ≡ fs
+lists_tail e f es fs h = cc
+
+lists_head : (e f : List ℕ) (es fs : List (List ℕ)) → e ∷ es ≡ f ∷ fs → e ≡ f
+lists_head e f es fs h = cc
+
+nothing_last : (front : List (List ℕ)) (last : List ℕ) → [] ≡ front ++ (last ∷ []) → ⊥
+nothing_last [] last h = cc
+nothing_last (f ∷ fs) last h = cc
+
+last_is : (e : List ℕ) (front : List (List ℕ)) (last : List ℕ) → e ∷ [] ≡ front ++ (last ∷ []) → e ≡ last
+last_is e [] last h = lists_head e last [] [] h
+last_is e (f ∷ fs) last h = absurd (nothing_last fs last (lists_tail e f [] (fs ++ (last ∷ [])) h))
+
+last_later : (e f : List ℕ) (es : List (List ℕ)) → ((front : List (List ℕ)) (last : List ℕ) → f ∷ es ≡ front ++ (last ∷ []) → is_hash last ≡ false)
+    → (front : List (List ℕ)) (last : List ℕ) → e ∷ f ∷ es ≡ front ++ (last ∷ []) → is_hash last ≡ false
+last_later e f es none [] last h = let bad : f ∷ es ≡ [] = lists_tail e last (f ∷ es) [] h in let worse : ⊥ = cc in absurd worse
+last_later e f es none (x ∷ xs) last h = none xs last (lists_tail e x (f ∷ es) (xs ++ (last ∷ [])) h)
+
+shown_later : (e f : List ℕ) (es shown : List (List ℕ)) → AreShown (f ∷ es) shown → AreShown (e ∷ f ∷ es) (e ∷ shown)
+shown_later e f es shown (hashed hash same is) = hashed hash (ap (λ s. e ∷ s) same) is
+shown_later e f es shown (all same none) = all (ap (λ s. e ∷ s) same) (last_later e f es none)
+
+-- what the function leaves are the elements that are shown
+pub shown_are : (elements : List (List ℕ)) → AreShown elements (without_hash elements)
+shown_are [] = all refl (λ front last h. absurd (nothing_last front last h))
+shown_are (e ∷ []) =
+    elim (is_hash e) as (λ q. is_hash e ≡ q → AreShown (e ∷ []) (if q then [] else e ∷ [])) [
+      | true ↦ λ found. hashed e refl found
+      | false ↦ λ other. all refl (λ front last h. sym (ap is_hash (last_is e front last h)) ∙ other)
+    ] refl
+shown_are (e ∷ f ∷ es) = shown_later e f es (without_hash (f ∷ es)) (shown_are (f ∷ es))
+
+hashed_is : (shown : List (List ℕ)) (hash : List ℕ) → is_hash hash ≡ true → shown ≡ without_hash (shown ++ (hash ∷ []))
+hashed_is [] hash h = sym (ap (λ q. if q then [] else hash ∷ []) h)
+hashed_is (s ∷ []) hash h = ap (λ t. s ∷ t) (hashed_is [] hash h)
+hashed_is (s ∷ t ∷ ts) hash h = ap (λ u. s ∷ u) (hashed_is (t ∷ ts) hash h)
+
+all_is : (elements : List (List ℕ)) → ((front : List (List ℕ)) (last : List ℕ) → elements ≡ front ++ (last ∷ []) → is_hash last ≡ false) → elements ≡ without_hash elements
+all_is [] none = refl
+all_is (e ∷ []) none = sym (ap (λ q. if q then [] else e ∷ []) (none [] e refl))
+all_is (e ∷ f ∷ es) none = ap (λ s. e ∷ s) (all_is (f ∷ es) (λ front last h. none (e ∷ front) last (ap (λ s. e ∷ s) h)))
+
+-- the elements that are shown are what the function leaves
+pub shown_only : (elements shown : List (List ℕ)) → AreShown elements shown → shown ≡ without_hash elements
+shown_only elements shown (hashed hash same is) = hashed_is shown hash is ∙ sym (ap without_hash same)
+shown_only elements shown (all same none) = sym same ∙ all_is elements none
+
+suffix_is : (bytes : List ℕ) → is_suffix bytes ≡ true → IsSuffix bytes
+suffix_is [] h = tt
+suffix_is (b ∷ bs) h = (eqb-true b 46 (and_left _ _ h), and_right _ _ h)
+
+suffix_test : (bytes : List ℕ) → IsSuffix bytes → is_suffix bytes ≡ true
+suffix_test [] h = refl
+suffix_test (b ∷ bs) h = ap (λ q. q && list_all is_suffix_byte (b ∷ bs)) (eq-eqb b 46 h.0) ∙ h.1
+
+-- the suffix that the function finds
+pub suffix_found : (bytes suffix : List ℕ) → suffix_at bytes ≡ Some suffix → (bytes ≡ 69 ∷ suffix) × IsSuffix suffix
+unfolding suffix_at
+suffix_found [] suffix h = let bad : ⊥ = cc in absurd bad
+suffix_found (b ∷ bs) suffix h =
+    let chosen : ((b == 69 && is_suffix bs) ≡ true) × (Some bs ≡ Some suffix) = some_if _ _ _ h in
+    let same : bs ≡ suffix = some_inj _ _ chosen.1 in
+    (ap (λ c. c ∷ bs) (eqb-true b 69 (and_left _ _ chosen.0)) ∙ ap (λ s. 69 ∷ s) same, subst IsSuffix same (suffix_is bs (and_right _ _ chosen.0)))
+
+-- the function finds the suffix
+pub suffix_read : (suffix : List ℕ) → IsSuffix suffix → suffix_at (69 ∷ suffix) ≡ Some suffix
+unfolding suffix_at
+suffix_read suffix h = ap (λ q. if q then Some suffix else None) (suffix_test suffix h)

@@ -1,0 +1,6 @@
+pub mod LegacySteps
+pub mod LegacyMarks
+pub mod LegacyElements
+pub mod LegacyPlain
+pub mod LegacyProofs
+pub mod UnitLemmas

@@ -1,0 +1,6 @@
+use Rattle.std.proofs.Common.{◌≡◌, ◌++◌, take}
+use Rattle.std.specs.Prelude.{string_bytes}
+use Rattle.addr2line_units.proofs.legacy.plain.push_ascii.Given as goal
+
+abbrev pub invariant-loop-b : goal.invariant-loop-b
+invariant-loop-b l = string_bytes l.out ≡ string_bytes l.fn.out ++ take l.b-index l.bytes

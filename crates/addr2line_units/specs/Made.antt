@@ -1,0 +1,90 @@
+-- What a context is made of: the units that it keeps, and the ranges of addresses that lead to them
+-- (DWARF 5, sections 2.17, 3.1 and 6.1.2).
+-- Own: a type unit is passed over, and so is a unit whose record is faulty; a partial unit of version 5 is kept with
+-- no range. The first fault of a header, or of a unit's range attributes, refuses the context.
+-- limit: no range list, no .debug_aranges and no line sequences are read for ranges yet
+use Rattle.std.specs.Prelude.{ℕ, ◌+◌, ◌==◌, nat_lt, nat_le, Bool, true, false, ◌&&◌, List, [], ◌∷◌, ◌++◌, length, map, filter, Option, Some, None, Result, Ok, Err, if◌then◌else◌}
+use Rattle.std.specs.Ordering.{is_lt, nat_cmp, ordering_then}
+use Rattle.gimli_read.specs.declared.error.Error.{Error}
+use Rattle.gimli_read.specs.declared.range.Range.{Range}
+use Rattle.gimli_read.specs.Section.{Section}
+use Rattle.gimli_read.specs.Reading.{◌>>=◌}
+use Rattle.gimli.specs.declared.unit.UnitType.{UnitType}
+use Rattle.gimli.specs.declared.unit.UnitType.TheVariants.{Compile, TypeUnit, Partial, Skeleton, SplitCompile, SplitType}
+use Rattle.gimli.specs.declared.unit.UnitHeader.{UnitHeader}
+use Rattle.gimli.specs.Sections.{Sections}
+use Rattle.gimli.specs.Unit.{UnitRecord, unit_of}
+use Rattle.gimli.specs.UnitsLeft.{all_headers}
+use Rattle.addr2line_lines.specs.InOrder.{in_order}
+use Rattle.addr2line_lines.specs.RangeAttributes.{root_ranges, ranges_of}
+
+-- a range that leads to a unit, by its place among those kept
+pub record UnitRange : Type 0 where
+  pub unit : ℕ
+  pub range : Range
+
+-- the units that are kept, and the ranges that lead to them
+pub record Made : Type 0 where
+  pub units : List UnitRecord
+  pub ranges : List UnitRange
+
+-- before the first unit
+abbrev pub nothing_made : Made
+nothing_made = record { units = []; ranges = [] }
+
+-- whether a unit describes types alone
+abbrev pub is_type_unit : UnitType → Bool
+is_type_unit TypeUnit = true
+is_type_unit SplitType = true
+is_type_unit _ = false
+
+-- whether a unit is one that others import
+abbrev pub is_partial : UnitType → Bool
+is_partial Partial = true
+is_partial _ = false
+
+-- the ranges of a unit
+abbrev pub unit_ranges : Sections → UnitRecord → Result (List Range) Error
+unit_ranges d u = if is_partial u.header.unit_type then Ok [] else (root_ranges d u >>= λ r. Ok (ranges_of r))
+
+-- whether a unit is kept already
+abbrev pub keeps_any : Made → Bool
+keeps_any m = nat_lt 0 (length m.units)
+
+-- a unit with its ranges behind those that are kept
+-- limit: only the first one is kept yet
+abbrev pub with_kept : Made → UnitRecord → List Range → Made
+with_kept m u ranges =
+    if keeps_any m then m
+    else record { units = m.units ++ u ∷ []; ranges = m.ranges ++ map (λ r. record { unit = length m.units; range = r }) ranges }
+
+-- a unit that was read, or that is passed over
+abbrev pub with_read : Sections → Made → Result UnitRecord Error → Result Made Error
+with_read d m (Err e) = Ok m
+with_read d m (Ok u) = unit_ranges d u >>= λ ranges. Ok (with_kept m u ranges)
+
+-- one more unit
+unfoldable pub with_unit : Sections → Made → UnitHeader Section → Result Made Error
+with_unit d m h = if is_type_unit h.unit_type then Ok m else with_read d m (unit_of d h)
+
+-- the units of headers, each whole before the next header, up to the first fault
+unfoldable pub made_of : Sections → Made → List (Result (UnitHeader Section) Error) → Result Made Error
+made_of d m [] = Ok m
+made_of d m (Ok h ∷ rest) = with_unit d m h >>= λ more. made_of d more rest
+made_of d m (Err e ∷ rest) = Err e
+
+-- what a context is made of, or why it is refused
+abbrev pub made : Sections → Result Made Error
+made d = made_of d nothing_made (all_headers d.debug_info)
+
+-- by end, then by unit, then by begin
+abbrev pub ends_sooner : UnitRange → UnitRange → Bool
+ends_sooner a b = is_lt (ordering_then (nat_cmp a.range.end b.range.end) (ordering_then (nat_cmp a.unit b.unit) (nat_cmp a.range.begin b.range.begin)))
+
+-- the range holds the probe
+abbrev pub covers : ℕ → UnitRange → Bool
+covers probe r = nat_le r.range.begin probe && nat_lt probe r.range.end
+
+-- the ranges that hold the probe, in order
+abbrev pub cover : ℕ → List UnitRange → List UnitRange
+cover probe ranges = in_order ends_sooner (filter (covers probe) ranges)

@@ -1,0 +1,8 @@
+//! Names, locations and frames of units.
+#![tactic(auto)]
+
+pub mod frame;
+mod legacy;
+pub mod unit;
+#[cfg(test)]
+mod tests;

@@ -1,0 +1,106 @@
+//! A unit with the sections that it is read from.
+
+ghost use Rattle.std.specs.Prelude.{◌≡◌, option_map};
+ghost use Rattle.gimli_read.specs.Reading.{Tells, Gives};
+ghost use Rattle.gimli_read.specs.Form.{seen_value};
+ghost use Rattle.gimli.specs.Sections.{seen_dwarf};
+ghost use Rattle.gimli.specs.Text.{entry_at};
+ghost use Rattle.gimli.specs.Unit.{seen_unit, attr_string_of};
+ghost use Rattle.gimli.specs.Entries.{entries_from, entries_of, seen_entries};
+
+use crate::dwarf::Dwarf;
+use crate::entries::EntriesRaw;
+use crate::text::read_entry;
+use crate::unit_record::Unit;
+use gimli_read::{AttributeValue, Error, Reader, UnitOffset};
+use std::alloc::AllocError;
+
+/// A unit with the sections of its file.
+pub struct UnitRef<'a, R> {
+    /// The sections.
+    pub dwarf: &'a Dwarf<R>,
+    /// The unit.
+    pub unit: &'a Unit<R>,
+}
+
+impl<R> Copy for UnitRef<'_, R> {}
+
+impl<R> Clone for UnitRef<'_, R> {
+    fn clone(&self) -> Result<Self, AllocError> {
+        Ok(*self)
+    }
+}
+
+// The bytes of the entries from an offset on, or from the first entry.
+fn read_entries_from<R: Reader>(unit: &Unit<R>, offset: Option<UnitOffset>) -> Result<R, Error>
+    ensures gives { Gives R.section result
+        (entries_from (seen_unit R.section unit.now) (option_map (λ o. o.0) offset)) }
+{
+    let header = &unit.header;
+    let len = header.entries.len();
+    let Some(UnitOffset(offset)) = offset else {
+        return header.entries.duplicate();
+    };
+    if offset < header.header_length {
+        return Err(Error::OffsetOutOfBounds);
+    }
+    let place = offset - header.header_length;
+    if place >= len {
+        return Err(Error::OffsetOutOfBounds);
+    }
+    let mut entries = header.entries.duplicate()?;
+    entries.skip(place)?;
+    Ok(entries)
+}
+
+impl<'a, R: Reader> UnitRef<'a, R> {
+    /// The unit with its sections. Takes no memory.
+    pub fn new(dwarf: &'a Dwarf<R>, unit: &'a Unit<R>) -> UnitRef<'a, R>
+        ensures dwarf { result.dwarf.now ≡ dwarf.now }
+        ensures unit { result.unit.now ≡ unit.now }
+    {
+        UnitRef { dwarf, unit }
+    }
+
+    /// The entries from an offset on, or from the first one, at depth 0.
+    ///
+    /// The offset is in bytes from the start of the unit's length. Refused `OffsetOutOfBounds` where
+    /// it isn't between the header's end and the unit's, and `OutOfMemory`.
+    pub fn entries_raw(&self, offset: Option<UnitOffset>) -> Result<EntriesRaw<'a, R>, Error>
+        ensures gives { Gives (seen_entries R.section) result
+            (entries_of (seen_unit R.section self.now.unit.now) (option_map (λ o. o.0) offset)) }
+    {
+        let unit = self.unit;
+        let input = read_entries_from(unit, offset)?;
+        let end = unit.header.header_length.saturating_add(unit.header.entries.len());
+        Ok(EntriesRaw {
+            input,
+            encoding: unit.header.encoding,
+            abbreviations: &unit.abbreviations,
+            end,
+            depth: 0,
+        })
+    }
+
+    /// The string that a value stands for, without the zero byte that ends it. Refused as
+    /// `Dwarf::attr_string` is.
+    pub fn attr_string(&self, value: AttributeValue<R>) -> Result<R, Error>
+        ensures gives { Gives R.section result (attr_string_of (seen_dwarf R.section self.now.dwarf.now)
+            (seen_unit R.section self.now.unit.now) (seen_value R.section value)) }
+    {
+        self.dwarf.attr_string(self.unit, value)
+    }
+
+    /// The address of an index in `.debug_addr`, as the file has it. Takes no memory.
+    ///
+    /// Refused `OffsetOutOfBounds` where its entry isn't wholly in the section, and
+    /// `UnsupportedAddressSize`.
+    pub fn address(&self, index: u64) -> Result<u64, Error>
+        ensures gives { Tells (λ a. a) result (entry_at self.now.unit.now.header.encoding.address_size
+            self.now.unit.now.addr_base index (R.section self.now.dwarf.now.debug_addr.section)) }
+    {
+        let unit = self.unit;
+        let size = unit.header.encoding.address_size;
+        read_entry(&self.dwarf.debug_addr.section, size, unit.addr_base, index)
+    }
+}

@@ -108,7 +108,7 @@ module _ {X : Type 0} (begin end : X → ℕ) where
       ]
 
   -- what counts among ranges as they are listed is what counts among them in order
-  counting_in_order : (probe : ℕ) (xs : List X) → counting begin end probe (in_order sooner xs) ≡ counting begin end probe xs
+  pub counting_in_order : (probe : ℕ) (xs : List X) → counting begin end probe (in_order sooner xs) ≡ counting begin end probe xs
   counting_in_order probe xs =
       let o = begins_order begin end in
       let ys : List X = in_order sooner xs in

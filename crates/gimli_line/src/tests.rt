@@ -196,27 +196,27 @@ fn a_faulty_field_is_refused_by_its_own_fault(rt: HostRuntime) {
     }
 }
 
-// The text of a string that stands in the table.
-fn text<R: Reader>(value: AttributeValue<R>) -> Option<R> {
+// The value is a text that stands in the table, and this one.
+fn is_text<R: Reader>(rt: &impl Abort, value: AttributeValue<R>, wanted: &[u8]) {
     match value {
-        AttributeValue::String(text) => Some(text),
-        _ => None,
+        AttributeValue::String(text) => assert_eq!(rt; text.to_slice(), wanted),
+        _ => assert!(rt; false, "no text"),
     }
 }
 
 #[test]
 fn files_have_a_path_and_a_directory(rt: HostRuntime) -> Result<(), Fail> {
-    let borrowed = EndianSlice::new(&PLAIN5, RunTimeEndian::Little);
-    let rows = read_line_program(rt.alloc(), borrowed, 8)?.rows()?;
+    let shared = shared(rt.alloc(), &PLAIN5)?;
+    let rows = read_line_program(rt.alloc(), shared, 8)?.rows()?;
     let header = rows.header();
     assert!(rt; header.file(1).is_none());
     let file = header.file(0).ok_or("no file 0")?;
     assert_eq!(rt; file.directory_index(), 0);
-    let path = text(file.path_name()?).ok_or("no text")?;
-    assert_eq!(rt; path.to_slice(), b"a.c".as_slice());
-    let directory = file.directory(header)?.ok_or("no directory")?;
-    let directory = text(directory).ok_or("no text")?;
-    assert_eq!(rt; directory.to_slice(), b"/w".as_slice());
+    is_text(&rt, file.path_name()?, b"a.c");
+    match file.directory(header)? {
+        Some(directory) => is_text(&rt, directory, b"/w"),
+        None => assert!(rt; false, "no directory"),
+    }
     Ok(())
 }
 
@@ -229,8 +229,7 @@ fn files_count_from_1_below_version_5(rt: HostRuntime) -> Result<(), Fail> {
     assert!(rt; header.file(2).is_none());
     let file = header.file(1).ok_or("no file 1")?;
     assert_eq!(rt; file.directory_index(), 0);
-    let path = text(file.path_name()?).ok_or("no text")?;
-    assert_eq!(rt; path.to_slice(), b"a.c".as_slice());
+    is_text(&rt, file.path_name()?, b"a.c");
     assert!(rt; file.directory(header)?.is_none());
     Ok(())
 }

@@ -5,6 +5,7 @@ mod copies;
 mod encoding;
 mod files;
 mod header;
+mod machine;
 mod opcode;
 mod program;
 mod read;

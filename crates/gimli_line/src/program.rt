@@ -11,6 +11,7 @@ ghost use Rattle.gimli_line.specs.Steps.{taken, rows_left, files_left, DefinesOn
 
 use crate::copies::duplicate_header;
 use crate::header::LineProgramHeader;
+use crate::machine::Machine;
 use crate::opcode::{LineInstruction, read_instruction};
 use crate::registers::Registers;
 use crate::row::LineRow;
@@ -38,6 +39,7 @@ impl<R: Reader> IncompleteLineProgram<R> {
         ensures gives { Gives (λ rows. rows) result (Ok (lines_of (seen_program R.section self.now))) }
     {
         Ok(LineRows {
+            machine: Machine::new(self.header.line_encoding),
             header: duplicate_header(&self.header)?,
             program: self.program.duplicate()?,
             registers: Registers::start(),
@@ -48,13 +50,14 @@ impl<R: Reader> IncompleteLineProgram<R> {
 /// The rows of a line program that are still to come, and its header with the files that are defined so far.
 #[derive(Drop)]
 pub struct LineRows<R: Reader> {
+    machine: Machine,
     header: LineProgramHeader<R>,
     program: R,
     registers: Registers,
 }
 
 impl<R: Reader> Model for LineRows<R> {
-    ghost use Rattle.std.specs.Prelude.{◌<◌};
+    ghost use Rattle.std.specs.Prelude.{◌≡◌, ◌<◌};
     ghost use Rattle.gimli_line.specs.Lines.{Lines};
 
     ghost Value = { Lines };
@@ -69,7 +72,9 @@ impl<R: Reader> Model for LineRows<R> {
       to_define = files_left (seen_header R.section a.header) (R.section a.program);
     } };
 
-    ghost invariant = { λ a. (a.registers.op_index < a.header.line_encoding.maximum_operations_per_instruction) × (a.registers.address < limit a.header.line_encoding) };
+    ghost invariant = { λ a. (a.machine.encoding ≡ a.header.line_encoding)
+        × (a.registers.op_index < a.machine.encoding.maximum_operations_per_instruction)
+        × (a.registers.address < limit a.machine.encoding) };
 }
 
 impl<R: Reader> LineRows<R> {
@@ -97,7 +102,12 @@ impl<R: Reader> LineRows<R> {
         ensures files { OnOk result (KeepsFiles self.old self.new) }
         ensures all { IfOk result (λ row. row ≡ None → self.new.to_define ≡ []) }
     {
-        let found = find_row(&mut self.header, &mut self.registers, &mut self.program);
+        let found = find_row(
+            &self.machine,
+            &mut self.header,
+            &mut self.registers,
+            &mut self.program,
+        );
         if found.is_err() {
             pass_over(&mut self.program);
             self.registers = Registers::start();
@@ -123,19 +133,22 @@ fn pass_over<R: Reader>(input: &mut R)
 // Takes an instruction in, and gives the row that it puts out, if any.
 #[tactic(auto, unfolding(crate::specs::Steps::taken))]
 fn take_instruction<R: Reader>(
+    machine: &Machine,
     header: &mut LineProgramHeader<R>,
     registers: &mut Registers,
     instruction: LineInstruction<R>,
 ) -> Result<Option<LineRow>, Error>
-    requires index { registers.old.op_index < header.old.line_encoding.maximum_operations_per_instruction }
-    requires fits { registers.old.address < limit header.old.line_encoding }
+    requires same { machine.now.encoding ≡ header.old.line_encoding }
+    requires index { registers.old.op_index < machine.now.encoding.maximum_operations_per_instruction }
+    requires fits { registers.old.address < limit machine.now.encoding }
     ensures gives { Gives (λ x. (x, registers.new, seen_header R.section header.new)) result
         (taken (seen_header R.section header.old) registers.old (seen_instruction R.section instruction)) }
-    ensures index { OnOk result (registers.new.op_index < header.new.line_encoding.maximum_operations_per_instruction) }
-    ensures fits { OnOk result (registers.new.address < limit header.new.line_encoding) }
+    ensures same { machine.now.encoding ≡ header.new.line_encoding }
+    ensures index { OnOk result (registers.new.op_index < machine.now.encoding.maximum_operations_per_instruction) }
+    ensures fits { OnOk result (registers.new.address < limit machine.now.encoding) }
 {
     match instruction {
-        LineInstruction::Changes(opcode) => registers.execute(header.line_encoding, opcode),
+        LineInstruction::Changes(opcode) => registers.execute(machine, opcode),
         LineInstruction::Defines(file) => {
             header.file_names.push(file)?;
             Ok(None)
@@ -145,23 +158,26 @@ fn take_instruction<R: Reader>(
 
 // Runs the program up to its next row.
 fn find_row<R: Reader>(
+    machine: &Machine,
     header: &mut LineProgramHeader<R>,
     registers: &mut Registers,
     program: &mut R,
 ) -> Result<Option<LineRow>, Error>
-    requires index { registers.old.op_index < header.old.line_encoding.maximum_operations_per_instruction }
-    requires fits { registers.old.address < limit header.old.line_encoding }
+    requires same { machine.now.encoding ≡ header.old.line_encoding }
+    requires index { registers.old.op_index < machine.now.encoding.maximum_operations_per_instruction }
+    requires fits { registers.old.address < limit machine.now.encoding }
     ensures gives { Finds (rows_left (seen_header R.section header.old) registers.old (R.section program.old)) result
         (rows_left (seen_header R.section header.new) registers.new (R.section program.new)) }
     ensures all { IfOk result (λ row. row ≡ None
         → files_left (seen_header R.section header.new) (R.section program.new) ≡ []) }
     ensures files { OnOk result (DefinesOn (seen_header R.section header.old) (R.section program.old)
         (seen_header R.section header.new) (R.section program.new)) }
-    ensures index { OnOk result (registers.new.op_index < header.new.line_encoding.maximum_operations_per_instruction) }
-    ensures fits { OnOk result (registers.new.address < limit header.new.line_encoding) }
+    ensures same { machine.now.encoding ≡ header.new.line_encoding }
+    ensures index { OnOk result (registers.new.op_index < machine.now.encoding.maximum_operations_per_instruction) }
+    ensures fits { OnOk result (registers.new.address < limit machine.now.encoding) }
 {
     while let Some(instruction) = read_instruction(header, program)? {
-        if let Some(row) = take_instruction(header, registers, instruction)? {
+        if let Some(row) = take_instruction(machine, header, registers, instruction)? {
             return Ok(Some(row));
         }
     }

@@ -1,5 +1,7 @@
 //! Worked programs.
 
+mod opcodes;
+
 use super::*;
 use bytes::Bytes;
 use gimli_read::{AttributeValue, EndianBytes, EndianSlice, Error, Reader, RunTimeEndian};
@@ -22,7 +24,7 @@ const PLAIN5: [u8; 68] = [
 ];
 
 // A row of file 1.
-fn row(address: u64, line: u64) -> LineRow {
+fn row_at(address: u64, line: u64) -> LineRow {
     LineRow {
         address,
         file_index: 1,
@@ -33,10 +35,10 @@ fn row(address: u64, line: u64) -> LineRow {
     }
 }
 
-fn end(address: u64, line: u64) -> LineRow {
+fn end_at(address: u64, line: u64) -> LineRow {
     LineRow {
         end_sequence: true,
-        ..row(address, line)
+        ..row_at(address, line)
     }
 }
 
@@ -68,7 +70,7 @@ fn shared(alloc: Global, bytes: &[u8]) -> Result<EndianBytes, AllocError> {
 
 #[test]
 fn plain_gives_two_rows(rt: HostRuntime) -> Result<(), Fail> {
-    let rows = [row(0x10, 1), row(0x20, 3), end(0x30, 3)];
+    let rows = [row_at(0x10, 1), row_at(0x20, 3), end_at(0x30, 3)];
     let borrowed = EndianSlice::new(&PLAIN, RunTimeEndian::Little);
     gives(&rt, rt.alloc(), borrowed, 8, &rows, None)?;
     gives(&rt, rt.alloc(), shared(rt.alloc(), &PLAIN)?, 8, &rows, None)?;
@@ -77,7 +79,7 @@ fn plain_gives_two_rows(rt: HostRuntime) -> Result<(), Fail> {
 
 #[test]
 fn plain_in_version_5_gives_the_same_rows_of_file_0(rt: HostRuntime) -> Result<(), Fail> {
-    let mut rows = [row(0x10, 1), row(0x20, 3), end(0x30, 3)];
+    let mut rows = [row_at(0x10, 1), row_at(0x20, 3), end_at(0x30, 3)];
     for row in &mut rows {
         row.file_index = 0;
     }
@@ -102,7 +104,7 @@ fn a_tombstone_drops_its_sequence(rt: HostRuntime) -> Result<(), Fail> {
     }
     let dropped = LineRow {
         dropped: true,
-        ..end(0, 3)
+        ..end_at(0, 3)
     };
     let borrowed = EndianSlice::new(&bytes, RunTimeEndian::Little);
     gives(&rt, rt.alloc(), borrowed, 8, &[dropped], None)?;
@@ -116,7 +118,12 @@ fn rows_of_one_address_are_all_given(rt: HostRuntime) -> Result<(), Fail> {
         0, 0, 1, 0, 0x61, 0x2e, 0x63, 0, 0, 0, 0, 0, 0, 9, 2, 0x10, 0, 0, 0, 0, 0, 0, 0, 1, 0x13,
         0xf3, 2, 0x10, 0, 1, 1,
     ];
-    let rows = [row(0x10, 1), row(0x10, 2), row(0x20, 3), end(0x30, 3)];
+    let rows = [
+        row_at(0x10, 1),
+        row_at(0x10, 2),
+        row_at(0x20, 3),
+        end_at(0x30, 3),
+    ];
     let borrowed = EndianSlice::new(&bytes, RunTimeEndian::Little);
     gives(&rt, rt.alloc(), borrowed, 8, &rows, None)?;
     Ok(())
@@ -189,27 +196,27 @@ fn a_faulty_field_is_refused_by_its_own_fault(rt: HostRuntime) {
     }
 }
 
-// The text of a string that stands in the table.
-fn text<R: Reader>(value: AttributeValue<R>) -> Option<R> {
+// The value is a text that stands in the table, and this one.
+fn is_text<R: Reader>(rt: &impl Abort, value: AttributeValue<R>, wanted: &[u8]) {
     match value {
-        AttributeValue::String(text) => Some(text),
-        _ => None,
+        AttributeValue::String(text) => assert_eq!(rt; text.to_slice(), wanted),
+        _ => assert!(rt; false, "no text"),
     }
 }
 
 #[test]
 fn files_have_a_path_and_a_directory(rt: HostRuntime) -> Result<(), Fail> {
-    let borrowed = EndianSlice::new(&PLAIN5, RunTimeEndian::Little);
-    let rows = read_line_program(rt.alloc(), borrowed, 8)?.rows()?;
+    let shared = shared(rt.alloc(), &PLAIN5)?;
+    let rows = read_line_program(rt.alloc(), shared, 8)?.rows()?;
     let header = rows.header();
     assert!(rt; header.file(1).is_none());
     let file = header.file(0).ok_or("no file 0")?;
     assert_eq!(rt; file.directory_index(), 0);
-    let path = text(file.path_name()?).ok_or("no text")?;
-    assert_eq!(rt; path.to_slice(), b"a.c".as_slice());
-    let directory = file.directory(header)?.ok_or("no directory")?;
-    let directory = text(directory).ok_or("no text")?;
-    assert_eq!(rt; directory.to_slice(), b"/w".as_slice());
+    is_text(&rt, file.path_name()?, b"a.c");
+    match file.directory(header)? {
+        Some(directory) => is_text(&rt, directory, b"/w"),
+        None => assert!(rt; false, "no directory"),
+    }
     Ok(())
 }
 
@@ -222,8 +229,7 @@ fn files_count_from_1_below_version_5(rt: HostRuntime) -> Result<(), Fail> {
     assert!(rt; header.file(2).is_none());
     let file = header.file(1).ok_or("no file 1")?;
     assert_eq!(rt; file.directory_index(), 0);
-    let path = text(file.path_name()?).ok_or("no text")?;
-    assert_eq!(rt; path.to_slice(), b"a.c".as_slice());
+    is_text(&rt, file.path_name()?, b"a.c");
     assert!(rt; file.directory(header)?.is_none());
     Ok(())
 }

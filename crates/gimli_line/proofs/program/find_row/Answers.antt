@@ -39,6 +39,7 @@ loop-instruction-preserved g c =
     let i = rw c.in-Some.is at c.in_ok-instruction.ensures.gives in
     let t = rw c.in_default-2.is at c.in_ok-row.ensures.gives in
     record {
+      same = c.in_ok-row.ensures.same;
       index = c.in_ok-row.ensures.index;
       fits = c.in_ok-row.ensures.fits;
       left = sym (left_more (seen_header g.R.Reader.section c.loop-instruction.header) c.loop-instruction.registers _ _ (seen_instruction g.R.Reader.section c.in-Some.instruction) None _ _ i t) ∙ c.loop-instruction.invariant.left;

@@ -6,8 +6,9 @@ use Rattle.gimli_line.proofs.program.find_row.Given as goal
 
 abbrev pub invariant-loop-instruction : goal.invariant-loop-instruction
 invariant-loop-instruction g l = record {
-  index : l.registers.op_index < l.header.line_encoding.maximum_operations_per_instruction;
-  fits : l.registers.address < limit l.header.line_encoding;
+  same : l.machine.encoding ≡ l.header.line_encoding;
+  index : l.registers.op_index < l.machine.encoding.maximum_operations_per_instruction;
+  fits : l.registers.address < limit l.machine.encoding;
   left : rows_left (seen_header g.R.Reader.section l.header) l.registers (g.R.Reader.section l.program) ≡ rows_left (seen_header g.R.Reader.section l.fn.header) l.fn.registers (g.R.Reader.section l.fn.program);
   files : DefinesOn (seen_header g.R.Reader.section l.fn.header) (g.R.Reader.section l.fn.program) (seen_header g.R.Reader.section l.header) (g.R.Reader.section l.program);
 }

@@ -1,0 +1,11 @@
+//! ELF files: their sections, the addresses of these, and their symbols.
+#![tactic(auto)]
+
+mod error;
+mod file;
+mod header;
+mod layout;
+mod section;
+
+pub use crate::error::LoaderError;
+pub use crate::file::ElfFile;

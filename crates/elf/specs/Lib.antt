@@ -5,3 +5,5 @@ pub mod Header
 pub mod Held
 pub mod View
 pub mod Sections
+pub mod Symbols
+pub mod Table

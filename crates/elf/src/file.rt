@@ -1,14 +1,17 @@
 //! A whole file.
 
-ghost use Rattle.std.specs.Prelude.{◌≡◌, ◌≤◌, ◌+◌, length, take, drop, nat_lt, Ok};
+ghost use Rattle.std.specs.Prelude.{option_map, ◌≡◌, ◌≤◌, ◌+◌, length, take, drop, nat_lt, Ok};
 ghost use Rattle.elf.specs.Reading.{Gives, Tells};
 ghost use Rattle.elf.specs.View.{View, view_of, name_table_of};
+ghost use Rattle.elf.specs.Symbols.{chosen, strings_of, symbols_of, symbol_at};
+ghost use Rattle.elf.specs.Table.{HasSymbols};
 ghost use Rattle.elf.specs.Sections.{names_of, place_of, named, range_at, nothing, wanted_of, missing, section_at};
 
 use crate::error::LoaderError;
 use crate::header::{self, Ident};
 use crate::layout::Class;
 use crate::section::{self, SectionHeader};
+use crate::symbol::{self, Entry, Symbol};
 use bytes::Bytes;
 use gimli_read::{EndianBytes, Range, Reader, RunTimeEndian};
 use std::alloc::Global;
@@ -25,6 +28,8 @@ pub struct ElfFile {
     is_object: bool,
     sections: Vec<SectionHeader>,
     name_table: u64,
+    string_table: u64,
+    symbols: Vec<Entry>,
 }
 
 impl Model for ElfFile {
@@ -38,6 +43,9 @@ impl Model for ElfFile {
       sections = f.sections.items;
       name_table = f.name_table;
     } };
+
+    ghost invariant = { λ f.
+        HasSymbols f.bytes.bytes f.bytes.endian f.class f.sections.items f.string_table f.symbols.items };
 }
 
 // The number of the section that has the names.
@@ -83,12 +91,21 @@ impl ElfFile {
         let (_, rest) = file.split_at(header.start);
         let sections = section::headers(alloc, rest, header.count, ident)?;
         let name_table = name_table_in(header.name_index, &sections);
+        let string_table = symbol::strings_in(&sections);
+        let symbols = symbol::sorted(
+            alloc,
+            symbol::table_bytes(file, &sections),
+            section::string_table(file, &sections, string_table),
+            ident,
+        )?;
         Ok(ElfFile {
             bytes: bytes.with_endian(ident.endian),
             class: ident.class,
             is_object: header.is_object,
             sections,
             name_table,
+            string_table,
+            symbols,
         })
     }
 
@@ -118,6 +135,39 @@ impl ElfFile {
     {
         let (_, section) = self.find(name)?;
         section.addresses()
+    }
+
+    /// The symbol that a probe means: the one with the greatest address not above it, if its size is 0
+    /// or the probe is below its end. Takes no memory.
+    ///
+    /// Of several at one address objects and functions stand before untyped ones, then the global and
+    /// weak ones before others, then the later one in the file. Only symbols of a section count that
+    /// have a nonempty UTF-8 name and are untyped, an object or a function. They are those of the
+    /// first SYMTAB, else of the first DYNSYM.
+    #[tactic(auto, unfolding(crate::specs::Symbols::symbol_at))]
+    pub fn symbol(&self, probe: u64) -> Option<Symbol<'_>>
+        ensures gives { option_map (λ s. (s.name.now, s.address)) result ≡ symbol_at probe self.now }
+    {
+        let entry = self.chosen(probe)?;
+        if !entry.reaches(probe) {
+            return None;
+        }
+        let name = entry.name(self.strings())?;
+        Some(Symbol::new(name, entry.address))
+    }
+
+    // The symbol at the probe or nearest below it.
+    fn chosen(&self, probe: u64) -> Option<Entry>
+        ensures gives { result ≡ chosen probe (symbols_of self.now) }
+    {
+        symbol::nearest(&self.symbols, probe)
+    }
+
+    // The table of the symbols' names.
+    fn strings(&self) -> &[u8]
+        ensures gives { result.now ≡ strings_of self.now }
+    {
+        section::string_table(self.bytes.to_slice(), &self.sections, self.string_table)
     }
 
     // The table of the sections' names.

@@ -120,3 +120,28 @@ pub(crate) fn number(bytes: &[u8], at: usize, size: usize, endian: RunTimeEndian
         RunTimeEndian::Big => BigEndian::read_uint(rest, size),
     }
 }
+
+/// The number in the four bytes in front.
+#[tactic(auto, unfolding(crate::specs::Layout::number_at))]
+pub(crate) fn word(bytes: &[u8], endian: RunTimeEndian) -> u32
+    requires within { 4 ≤ length bytes.now }
+    ensures gives { result ≡ number_at endian 0 4 bytes.now }
+{
+    match endian {
+        RunTimeEndian::Little => LittleEndian::read_u32(bytes),
+        RunTimeEndian::Big => BigEndian::read_u32(bytes),
+    }
+}
+
+/// The number in the two bytes from a place.
+#[tactic(auto, unfolding(crate::specs::Layout::number_at))]
+pub(crate) fn half(bytes: &[u8], at: usize, endian: RunTimeEndian) -> u16
+    requires within { at + 2 ≤ length bytes.now }
+    ensures gives { result ≡ number_at endian at 2 bytes.now }
+{
+    let (_, rest) = bytes.split_at(at);
+    match endian {
+        RunTimeEndian::Little => LittleEndian::read_u16(rest),
+        RunTimeEndian::Big => BigEndian::read_u16(rest),
+    }
+}

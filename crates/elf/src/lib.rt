@@ -6,6 +6,8 @@ mod file;
 mod header;
 mod layout;
 mod section;
+mod symbol;
 
 pub use crate::error::LoaderError;
 pub use crate::file::ElfFile;
+pub use crate::symbol::Symbol;

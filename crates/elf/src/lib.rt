@@ -7,6 +7,8 @@ mod header;
 mod layout;
 mod section;
 mod symbol;
+#[cfg(test)]
+mod tests;
 
 pub use crate::error::LoaderError;
 pub use crate::file::ElfFile;

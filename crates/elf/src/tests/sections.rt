@@ -91,8 +91,8 @@ fn the_first_of_a_name_counts(rt: HostRuntime) -> Result<(), Fail> {
     ];
     let file = written(rt.alloc(), LINKED, &parts)?;
     let file = open(rt.alloc(), file.as_slice())?;
-    assert_eq!(rt; held(&file.section(".debug_str")), Ok([1].as_slice()));
-    assert_eq!(rt; held(&file.section(".zdebug_str")), Ok([3].as_slice()));
+    assert_eq!(rt; file.section(".debug_str")?.to_slice(), [1].as_slice());
+    assert_eq!(rt; file.section(".zdebug_str")?.to_slice(), [3].as_slice());
     Ok(())
 }
 

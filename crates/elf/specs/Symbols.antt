@@ -99,6 +99,6 @@ chosen probe symbols = last (topmost preference (topmost (λ e. e.address) (filt
 abbrev pub reaches : ℕ → Entry → Bool
 reaches probe e = e.size == 0 || nat_lt probe (e.address + e.size)
 
--- the name and the address of a probe's symbol
+-- the name, which each symbol has, and the address of a probe's symbol
 unfoldable pub symbol_at : ℕ → View → Option (List ℕ × ℕ)
 symbol_at probe v = option_and_then (λ e. if reaches probe e then option_map (λ name. (name, e.address)) (name_of (strings_of v) e) else None) (chosen probe (symbols_of v))

@@ -10,8 +10,7 @@ use Rattle.elf.specs.Layout.{layout_of}
 use Rattle.elf.specs.Header.{ident_in, header_in, sections_in}
 use Rattle.elf.specs.Reading.{Reading, ◌>>=◌}
 
--- a file: its bytes, how they are read, whether it is not linked yet, its sections in order, and which of
--- them has their names
+-- a file: its bytes, how they are read, its sections in order, and which of them has the names
 pub record View : Type 0 where
   pub bytes : List ℕ
   pub class : Class

@@ -64,7 +64,8 @@ fn name_table_in(index: u64, sections: &[SectionHeader]) -> u64
 // Shared bytes of a file.
 fn share(file: &EndianBytes, start: u64, len: u64) -> Result<EndianBytes, LoaderError>
     requires within { start + len ≤ length file.now.bytes }
-    ensures gives { Gives (λ r. r) result (Ok (record { bytes = take len (drop start file.now.bytes); endian = file.now.endian })) }
+    ensures gives { Gives (λ r. r) result
+        (Ok (record { bytes = take len (drop start file.now.bytes); endian = file.now.endian })) }
 {
     let mut rest = file.duplicate()?;
     rest.skip(start)?;

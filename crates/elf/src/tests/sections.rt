@@ -44,7 +44,7 @@ fn byte_five_alone_gives_the_order(rt: HostRuntime) -> Result<(), Fail> {
 }
 
 #[test]
-fn a_range_is_whole_and_within_64_bits(rt: HostRuntime) -> Result<(), Fail> {
+fn section_range(rt: HostRuntime) -> Result<(), Fail> {
     let bytes = [0; 0x20];
     let text = Part {
         address: 0x10,

@@ -9,7 +9,7 @@ use elf::{ElfFile, LoaderError};
 use gimli_read::{EndianBytes, Reader, RunTimeEndian};
 use std::env;
 use std::fs;
-use std::io;
+use std::io::BufRead;
 use std::io::BufReader;
 use std::test::Fail;
 

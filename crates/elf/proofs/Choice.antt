@@ -1,5 +1,5 @@
 -- Which symbol a probe means, in a sorted table and in the file's own order (on specs/Symbols.antt and specs/Table.antt).
-use Rattle.std.proofs.Common.{ℕ, zero, suc, ◌+◌, ◌≡◌, ◌<◌, ◌≤◌, ◌⊎◌, Bool, true, false, cond, not, ◌&&◌, List, [], ◌∷◌, Option, Some, None, length, filter, get_or, max, nat_cmp, nat_le, ◌==◌, arith, inl, inr, ◌∙◌, subst, ap, sym, refl}
+use Rattle.std.proofs.Common.{ℕ, zero, suc, ◌≡◌, ◌<◌, ◌≤◌, ◌⊎◌, Bool, true, false, cond, not, ◌&&◌, List, [], ◌∷◌, Some, None, length, filter, get_or, nat_cmp, nat_le, ◌==◌, arith, inl, inr, ◌∙◌, subst, ap, sym, refl}
 use Rattle.std.specs.Cmp.{IsStrictWeakOrder}
 use Rattle.std.specs.Ordering.{is_lt, ordering_then}
 use Rattle.std.specs.List.{All, AllWithin, slice_get}

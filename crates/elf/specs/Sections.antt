@@ -11,7 +11,7 @@ use Rattle.gimli_read.specs.declared.range.Range.{Range}
 use Rattle.elf.specs.declared.error.LoaderError.TheVariants.{BadElf, CompressedSection, RelocationsNeeded}
 use Rattle.elf.specs.declared.section.SectionHeader.{SectionHeader}
 use Rattle.elf.specs.Held.{table_at, text_at}
-use Rattle.elf.specs.Reading.{Reading, ◌>>=◌}
+use Rattle.elf.specs.Reading.{Reading}
 use Rattle.elf.specs.View.{View}
 
 -- the table of the sections' names

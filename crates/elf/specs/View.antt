@@ -1,6 +1,6 @@
 -- What an ELF file's bytes say as a whole (System V ABI, Object Files).
 -- Own: byte 5 of the file alone gives the byte order, of its sections too.
-use Rattle.std.specs.Prelude.{ℕ, ◌==◌, Bool, List, Ok, if◌then◌else◌, drop, nat_lt}
+use Rattle.std.specs.Prelude.{ℕ, ◌==◌, Bool, List, Ok, if◌then◌else◌, drop}
 use Rattle.std.specs.List.{slice_get}
 use Rattle.std.specs.Option.{option_map_or}
 use Rattle.gimli_read.specs.declared.endian.RunTimeEndian.{RunTimeEndian}

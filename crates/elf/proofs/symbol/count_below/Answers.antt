@@ -1,4 +1,4 @@
-use Rattle.std.proofs.Common.{rules, ℕ, nat_le}
+use Rattle.std.proofs.Common.{rules, nat_le}
 use Rattle.std.proofs.lemmas.List.Sorted.{IsPartitionPoint-from_clause, IsPartitionedBy-leb}
 use Rattle.elf.specs.declared.symbol.Entry.{Entry}
 use Rattle.elf.proofs.symbol.count_below.Goals as goal

@@ -1,7 +1,6 @@
-use Rattle.std.proofs.Common.{rules, ◌≡◌, ◌∙◌, ◌<◌, ◌-◌, ℕ, suc, length, inl, inr, subst, arith}
-use Rattle.std.specs.List.{AllWithin, slice_get}
+use Rattle.std.proofs.Common.{◌≡◌, ◌∙◌, ◌<◌, ◌-◌, ℕ, suc, length, inl, inr, subst, arith}
+use Rattle.std.specs.List.{AllWithin}
 use Rattle.std.proofs.lemmas.Option.{slice_get_cases}
-use Rattle.elf.specs.declared.symbol.Entry.{Entry}
 use Rattle.elf.specs.Table.{IsBelow, IsAbove}
 use Rattle.elf.proofs.Choice.{chosen_none, chosen_is, rises}
 use Rattle.elf.proofs.symbol.nearest.Goals as goal

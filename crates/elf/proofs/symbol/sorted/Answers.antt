@@ -1,4 +1,4 @@
-use Rattle.std.proofs.Common.{rules, ℕ, sym, subst, List}
+use Rattle.std.proofs.Common.{rules, ℕ, subst, List}
 use Rattle.std.proofs.lemmas.List.Sorted.{answers_always}
 use Rattle.elf.specs.declared.symbol.Entry.{Entry}
 use Rattle.elf.specs.Symbols.{preference}

@@ -1,4 +1,4 @@
-use Rattle.std.proofs.Common.{◌≡◌, ◌∙◌, List, ap, subst, sym}
+use Rattle.std.proofs.Common.{◌∙◌, List, ap, subst, sym}
 use Rattle.elf.specs.declared.symbol.Entry.{Entry}
 use Rattle.elf.specs.Layout.{layout_of}
 use Rattle.elf.specs.Held.{table_at}

@@ -29,6 +29,16 @@ impl EndianBytes {
     {
         EndianBytes { bytes, endian }
     }
+
+    /// The same bytes in another order. Takes no memory.
+    pub fn with_endian(self, endian: RunTimeEndian) -> EndianBytes
+        ensures gives { result ≡ record { bytes = self.bytes; endian = endian } }
+    {
+        EndianBytes {
+            bytes: self.bytes,
+            endian,
+        }
+    }
 }
 
 impl Reader for EndianBytes {

@@ -1,0 +1,38 @@
+-- Things of one size that stand one after another (on specs/Header.antt and specs/Symbols.antt).
+use Rattle.std.proofs.Common.{◌≡◌, ◌∙◌, ◌≤◌, ◌+◌, ◌*◌, ℕ, suc, Bool, List, [], ◌∷◌, ◌++◌, drop, filter, sym, arith, append-nil, append_assoc}
+use Rattle.std.proofs.lemmas.List.Elements.{filter-append}
+use Rattle.gimli_read.specs.declared.endian.RunTimeEndian.{RunTimeEndian}
+use Rattle.elf.specs.declared.layout.Layout.{Layout}
+use Rattle.elf.specs.declared.section.SectionHeader.{SectionHeader}
+use Rattle.elf.specs.declared.symbol.Entry.{Entry}
+use Rattle.elf.specs.Header.{section_in, sections_in}
+use Rattle.elf.specs.Symbols.{entry_in, entries_in}
+
+-- room for the things that are left, once one is read
+pub room_next : (n k size a b : ℕ) → n ≡ suc k → n * size ≤ a → b + size ≡ a → k * size ≤ b
+room_next n k size a b is room more =
+    let all : suc k * size ≤ a = rw is at room in omega (arith, all, more)
+
+-- one more section header
+pub sections_next : (o : RunTimeEndian) (l : Layout) (n k : ℕ) (rest after : List ℕ) (read more all : List SectionHeader) (s : SectionHeader) → n ≡ suc k
+    → read ++ sections_in o l n rest ≡ all → after ≡ drop l.section_size rest → more ≡ read ++ s ∷ [] → s ≡ section_in o l rest → more ++ sections_in o l k after ≡ all
+sections_next o l n k rest after read more all s is done cut pushed head =
+    let step : read ++ (section_in o l rest ∷ sections_in o l k (drop l.section_size rest)) ≡ all = rw is at done in
+    rw (pushed, cut, head) (append_assoc read (section_in o l rest ∷ []) (sections_in o l k (drop l.section_size rest)) ∙ step)
+
+-- all section headers
+pub sections_end : (o : RunTimeEndian) (l : Layout) (n : ℕ) (rest : List ℕ) (read all : List SectionHeader) → n ≡ 0 → read ++ sections_in o l n rest ≡ all → read ≡ all
+sections_end o l n rest read all is done = sym (append-nil read) ∙ (rw is at done)
+
+-- one more entry
+pub entries_next : (o : RunTimeEndian) (l : Layout) (p : Entry → Bool) (n k : ℕ) (rest after : List ℕ) (read more all : List Entry) (e : Entry) → n ≡ suc k
+    → read ++ filter p (entries_in o l n rest) ≡ all → after ≡ drop l.symbol_size rest → more ≡ read ++ filter p (e ∷ []) → e ≡ entry_in o l rest → more ++ filter p (entries_in o l k after) ≡ all
+entries_next o l p n k rest after read more all e is done cut pushed head =
+    let left = entries_in o l k (drop l.symbol_size rest) in
+    let step : read ++ filter p ((entry_in o l rest ∷ []) ++ left) ≡ all = rw is at done in
+    let apart : read ++ (filter p (entry_in o l rest ∷ []) ++ filter p left) ≡ all = rw (filter-append p (entry_in o l rest ∷ []) left) at step in
+    rw (pushed, cut, head) (append_assoc read (filter p (entry_in o l rest ∷ [])) (filter p left) ∙ apart)
+
+-- all entries
+pub entries_end : (o : RunTimeEndian) (l : Layout) (p : Entry → Bool) (n : ℕ) (rest : List ℕ) (read all : List Entry) → n ≡ 0 → read ++ filter p (entries_in o l n rest) ≡ all → read ≡ all
+entries_end o l p n rest read all is done = sym (append-nil read) ∙ (rw is at done)

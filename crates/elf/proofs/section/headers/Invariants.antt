@@ -1,0 +1,11 @@
+use Rattle.std.proofs.Common.{◌≡◌, ◌≤◌, ◌*◌, ◌-◌, ◌++◌, length}
+use Rattle.elf.specs.Layout.{layout_of}
+use Rattle.elf.specs.Header.{sections_in}
+use Rattle.elf.proofs.section.headers.Given as goal
+
+abbrev pub invariant-loop : goal.invariant-loop
+invariant-loop l = record {
+  size_is : l.size ≡ (layout_of l.ident.class).section_size;
+  room : (l.count - l.counter) * l.size ≤ length l.rest;
+  read : l.all.items ++ sections_in l.ident.endian (layout_of l.ident.class) (l.count - l.counter) l.rest ≡ sections_in l.ident.endian (layout_of l.ident.class) l.count l.bytes;
+}

@@ -1,0 +1,9 @@
+pub mod Reading
+pub mod Text
+pub mod Layout
+pub mod Header
+pub mod Held
+pub mod View
+pub mod Sections
+pub mod Symbols
+pub mod Table

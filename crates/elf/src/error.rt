@@ -1,0 +1,75 @@
+//! Why a file was refused.
+
+ghost use Rattle.std.specs.Prelude.{◌≡◌};
+ghost use Rattle.elf.specs.declared.error.LoaderError.TheVariants.{OutOfMemory};
+ghost use Rattle.elf.specs.Text.{text_of, told};
+
+use gimli_read::Error;
+use std::alloc::{AllocError, AllocFailed};
+
+/// Why a file, its debug information or a lookup in it was refused.
+#[derive(Clone, Copy, Debug, PartialEq, Eq, thiserror::Error)]
+#[error("{}", self.text())]
+pub enum LoaderError {
+    /// The file can't be read.
+    Io,
+    /// The file doesn't begin as an ELF file does.
+    NotElf,
+    /// A header that isn't whole or has an unknown value, or bytes that stand outside the file.
+    BadElf,
+    /// A section whose bytes are compressed.
+    CompressedSection,
+    /// A section of a file that is not linked yet, which relocations would change.
+    RelocationsNeeded,
+    /// A path, or the directory before it, that isn't UTF-8.
+    PathNotUtf8,
+    /// A refused reading of DWARF bytes.
+    Dwarf(Error),
+    /// Memory was wanted, and a growth was refused. It may stand in place of any other refusal.
+    OutOfMemory,
+}
+
+impl LoaderError {
+    /// What the refusal says, in lower case. Takes no memory.
+    pub fn text(&self) -> &'static str
+        ensures gives { result.now ≡ text_of self.now }
+    {
+        match self {
+            LoaderError::Io => "the file cannot be read",
+            LoaderError::NotElf => "not an ELF file",
+            LoaderError::BadElf => "malformed ELF file",
+            LoaderError::CompressedSection => "compressed section",
+            LoaderError::RelocationsNeeded => "section needs relocations",
+            LoaderError::PathNotUtf8 => "path is not UTF-8",
+            LoaderError::Dwarf(error) => error.text(),
+            LoaderError::OutOfMemory => "out of memory",
+        }
+    }
+}
+
+impl From<AllocError> for LoaderError {
+    ghost from_gives = { λ _ e. e ≡ OutOfMemory };
+
+    fn from(_error: AllocError) -> LoaderError {
+        LoaderError::OutOfMemory
+    }
+}
+
+impl<T: Drop> From<AllocFailed<T>> for LoaderError {
+    ghost from_gives = { λ _ e. e ≡ OutOfMemory };
+
+    fn from(_error: AllocFailed<T>) -> LoaderError {
+        LoaderError::OutOfMemory
+    }
+}
+
+impl From<Error> for LoaderError {
+    ghost from_gives = { λ error e. e ≡ told error };
+
+    fn from(error: Error) -> LoaderError {
+        match error {
+            Error::OutOfMemory => LoaderError::OutOfMemory,
+            error => LoaderError::Dwarf(error),
+        }
+    }
+}

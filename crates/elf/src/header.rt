@@ -1,0 +1,141 @@
+//! The file's own header (System V ABI, Object Files: ELF Header).
+
+ghost use Rattle.std.specs.Prelude.{◌≡◌, ◌≤◌, ◌+◌, ◌*◌, length, take, IfOk};
+ghost use Rattle.std.specs.Str.{bytes_eq};
+ghost use Rattle.elf.specs.Reading.{Tells};
+ghost use Rattle.elf.specs.Layout.{layout_of};
+ghost use Rattle.elf.specs.Header.{class_of, endian_of, ident_in, count_in, header_in};
+
+use crate::error::LoaderError;
+use crate::layout::{self, Class};
+use gimli_read::RunTimeEndian;
+
+const MAGIC: [u8; 4] = [0x7f, 0x45, 0x4c, 0x46];
+
+// The e_type of a file that is not linked yet.
+const ET_REL: u64 = 1;
+
+/// How the bytes of a file are read.
+#[derive(Clone, Copy)]
+pub(crate) struct Ident {
+    pub(crate) class: Class,
+    pub(crate) endian: RunTimeEndian,
+}
+
+/// What a file's header says of it and of its section headers.
+#[derive(Clone, Copy)]
+pub(crate) struct FileHeader {
+    pub(crate) is_object: bool,
+    pub(crate) start: usize,
+    pub(crate) count: usize,
+    pub(crate) name_index: u64,
+}
+
+/// Whether the bytes begin with these.
+pub(crate) fn begins_with(bytes: &[u8], front: &[u8]) -> bool
+    ensures gives { result ≡ bytes_eq (take (length front.now) bytes.now) front.now }
+{
+    if bytes.len() < front.len() {
+        return false;
+    }
+    &bytes[..front.len()] == front
+}
+
+// The class that a byte names.
+fn class_from(byte: u8) -> Result<Class, LoaderError>
+    ensures gives { result ≡ class_of byte }
+{
+    match byte {
+        1 => Ok(Class::Elf32),
+        2 => Ok(Class::Elf64),
+        _ => Err(LoaderError::BadElf),
+    }
+}
+
+// The byte order that a byte names.
+fn endian_from(byte: u8) -> Result<RunTimeEndian, LoaderError>
+    ensures gives { result ≡ endian_of byte }
+{
+    match byte {
+        1 => Ok(RunTimeEndian::Little),
+        2 => Ok(RunTimeEndian::Big),
+        _ => Err(LoaderError::BadElf),
+    }
+}
+
+/// What the first six bytes say.
+#[tactic(auto, unfolding(crate::specs::Header::ident_in))]
+pub(crate) fn read_ident(bytes: &[u8]) -> Result<Ident, LoaderError>
+    ensures gives { result ≡ ident_in bytes.now }
+{
+    if !begins_with(bytes, &MAGIC) {
+        return Err(LoaderError::NotElf);
+    }
+    if bytes.len() < 6 {
+        return Err(LoaderError::BadElf);
+    }
+    let class = class_from(bytes[4])?;
+    let endian = endian_from(bytes[5])?;
+    Ok(Ident { class, endian })
+}
+
+// How many section headers stand from place `at` on.
+#[tactic(auto, unfolding(crate::specs::Layout::number_at))]
+fn count_of(bytes: &[u8], at: u64, ident: Ident) -> Result<u64, LoaderError>
+    requires whole { (layout_of ident.class).header_size ≤ length bytes.now }
+    ensures gives { result ≡ count_in ident.endian (layout_of ident.class) at bytes.now }
+{
+    let layout = ident.class.layout();
+    let count = layout::number(bytes, layout.e_shnum, 2, ident.endian);
+    if count != 0 {
+        return Ok(count);
+    }
+    let len = bytes.len() as u64;
+    if at > len || len - at < layout.section_size as u64 {
+        return Err(LoaderError::BadElf);
+    }
+    let (_, rest) = bytes.split_at(at as usize);
+    Ok(layout::number(rest, layout.sh_size, layout.word, ident.endian))
+}
+
+/// What the file's header says.
+#[tactic(auto, unfolding(crate::specs::Header::header_in))]
+pub(crate) fn read_header(bytes: &[u8], ident: Ident) -> Result<FileHeader, LoaderError>
+    ensures gives { result ≡ header_in ident.endian (layout_of ident.class) bytes.now }
+    ensures within { IfOk result (λ h.
+        h.start + h.count * (layout_of ident.class).section_size ≤ length bytes.now) }
+{
+    let layout = ident.class.layout();
+    if bytes.len() < layout.header_size {
+        return Err(LoaderError::BadElf);
+    }
+    let is_object = layout::number(bytes, 16, 2, ident.endian) == ET_REL;
+    let start = layout::number(bytes, layout.e_shoff, layout.word, ident.endian);
+    if start == 0 {
+        return Ok(FileHeader {
+            is_object,
+            start: 0,
+            count: 0,
+            name_index: 0,
+        });
+    }
+    if layout::number(bytes, layout.e_shentsize, 2, ident.endian) != layout.section_size as u64 {
+        return Err(LoaderError::BadElf);
+    }
+    let count = count_of(bytes, start, ident)?;
+    let Some(size) = count.checked_mul(layout.section_size as u64) else {
+        return Err(LoaderError::BadElf);
+    };
+    let Some(end) = start.checked_add(size) else {
+        return Err(LoaderError::BadElf);
+    };
+    if end > bytes.len() as u64 {
+        return Err(LoaderError::BadElf);
+    }
+    Ok(FileHeader {
+        is_object,
+        start: start as usize,
+        count: count as usize,
+        name_index: layout::number(bytes, layout.e_shstrndx, 2, ident.endian),
+    })
+}

@@ -1,0 +1,15 @@
+//! ELF files: their sections, the addresses of these, and their symbols.
+#![tactic(auto)]
+
+mod error;
+mod file;
+mod header;
+mod layout;
+mod section;
+mod symbol;
+#[cfg(test)]
+mod tests;
+
+pub use crate::error::LoaderError;
+pub use crate::file::ElfFile;
+pub use crate::symbol::Symbol;

@@ -1,0 +1,241 @@
+//! Symbols (System V ABI, Object Files: Symbol Table).
+
+ghost use Rattle.std.specs.Prelude.{◌≡◌, ◌≤◌, ◌==◌, ℕ, List, [], ◌∷◌, ◌++◌, length, filter, is_some, option_map, OnOk, IfOk};
+ghost use Rattle.std.specs.List.{find, slice_get};
+ghost use Rattle.elf.specs.Layout.{layout_of};
+ghost use Rattle.elf.specs.Symbols.{symbol_table, symbol_bytes, strings_number, entry_in, utf8_from, name_from, name_of, is_taken, taken_in, preference, reaches, chosen};
+ghost use Rattle.std.specs.List.Sorted.{IsNonDecreasingBy, IsPartitionPoint};
+ghost use Rattle.elf.specs.declared.symbol.Entry.{Entry as SymbolEntry};
+ghost use Rattle.elf.specs.Table.{IsTable, IsBelow, IsAbove};
+
+use crate::header::Ident;
+use crate::layout;
+use crate::section::{self, SectionHeader};
+use std::alloc::{AllocError, Global};
+use std::str;
+
+const SHT_SYMTAB: u64 = 2;
+
+const SHT_DYNSYM: u64 = 11;
+
+/// The name of an address.
+#[derive(Clone, Copy, Debug, PartialEq, Eq)]
+pub struct Symbol<'a> {
+    name: &'a str,
+    address: u64,
+}
+
+impl<'a> Symbol<'a> {
+    // A symbol of that name.
+    pub(crate) fn new(name: &'a str, address: u64) -> Symbol<'a>
+        ensures gives { (result.name.now ≡ name.now) × (result.address ≡ address) }
+    {
+        Symbol { name, address }
+    }
+
+    /// The symbol's name, as the file has it. Takes no memory.
+    pub fn name(&self) -> &'a str
+        ensures gives { result.now ≡ self.now.name.now }
+    {
+        self.name
+    }
+
+    /// The symbol's address, as the file has it. Takes no memory.
+    pub fn address(&self) -> u64
+        ensures gives { result ≡ self.now.address }
+    {
+        self.address
+    }
+}
+
+/// An entry of a symbol table of either class.
+#[derive(Clone, Copy)]
+pub(crate) struct Entry {
+    pub(crate) name: u32,
+    pub(crate) info: u8,
+    pub(crate) section: u16,
+    pub(crate) address: u64,
+    pub(crate) size: u64,
+}
+
+// The entry at the front.
+fn entry_at(bytes: &[u8], ident: Ident) -> Entry
+    requires whole { (layout_of ident.class).symbol_size ≤ length bytes.now }
+    ensures gives { result ≡ entry_in ident.endian (layout_of ident.class) bytes.now }
+{
+    let layout = ident.class.layout();
+    Entry {
+        name: layout::word(bytes, ident.endian),
+        info: bytes[layout.st_info],
+        section: layout::half(bytes, layout.st_shndx, ident.endian),
+        address: layout::number(bytes, layout.st_value, layout.word, ident.endian),
+        size: layout::number(bytes, layout.st_size, layout.word, ident.endian),
+    }
+}
+
+// The bytes as a text, if they are UTF-8.
+fn utf8_in(bytes: &[u8]) -> Option<&str>
+    ensures gives { option_map (λ text. text.now) result ≡ utf8_from bytes.now }
+{
+    match str::from_utf8(bytes) {
+        Ok(text) => Some(text),
+        Err(_) => None,
+    }
+}
+
+// A text as a symbol's name.
+fn name_in(text: &[u8]) -> Option<&str>
+    ensures gives { option_map (λ name. name.now) result ≡ name_from text.now }
+{
+    if text.is_empty() {
+        return None;
+    }
+    utf8_in(text)
+}
+
+impl Entry {
+    /// The entry's name.
+    pub(crate) fn name<'a>(&self, strings: &'a [u8]) -> Option<&'a str>
+        ensures gives { option_map (λ name. name.now) result ≡ name_of strings.now self.now }
+    {
+        name_in(section::text_in(strings, u64::from(self.name))?)
+    }
+
+    // Whether the entry counts.
+    fn is_taken(&self, strings: &[u8]) -> bool
+        ensures gives { result ≡ is_taken strings.now self.now }
+    {
+        self.section != 0 && (self.info % 16 < 3 && self.name(strings).is_some())
+    }
+
+    // Where the symbol stands among those at its address.
+    fn preference(&self) -> u8
+        ensures gives { result ≡ preference self.now }
+    {
+        let by_type = if self.info % 16 == 0 { 0 } else { 2 };
+        let bind = self.info / 16;
+        let by_bind = if bind == 1 || bind == 2 { 1 } else { 0 };
+        by_type + by_bind
+    }
+
+    /// Whether a symbol at or below the probe reaches it.
+    pub(crate) fn reaches(&self, probe: u64) -> bool
+        ensures gives { result ≡ reaches probe self.now }
+    {
+        self.size == 0 || probe.saturating_sub(self.address) < self.size
+    }
+}
+
+// The first section of a kind.
+fn first_of(sections: &[SectionHeader], kind: u64) -> Option<SectionHeader>
+    ensures found { result ≡ find (λ s. s.kind == kind) sections.now }
+{
+    sections
+        .iter()
+        .copied()
+        .find(|section| section.kind == kind)
+}
+
+// The section that is the symbol table.
+fn table_in(sections: &[SectionHeader]) -> Option<SectionHeader>
+    ensures gives { result ≡ symbol_table sections.now }
+{
+    match first_of(sections, SHT_SYMTAB) {
+        Some(section) => Some(section),
+        None => first_of(sections, SHT_DYNSYM),
+    }
+}
+
+/// The bytes of the symbol table.
+pub(crate) fn table_bytes<'a>(file: &'a [u8], sections: &[SectionHeader]) -> &'a [u8]
+    ensures gives { result.now ≡ symbol_bytes file.now sections.now }
+{
+    match table_in(sections) {
+        Some(section) => section.bytes_in(file).unwrap_or(&file[..0]),
+        None => &file[..0],
+    }
+}
+
+/// The number of the section that has the symbols' names.
+pub(crate) fn strings_in(sections: &[SectionHeader]) -> u64
+    ensures gives { result ≡ strings_number sections.now }
+{
+    match table_in(sections) {
+        Some(section) => section.link,
+        None => 0,
+    }
+}
+
+// One more entry, if it counts.
+fn push_taken(all: &mut Vec<Entry>, entry: Entry, strings: &[u8]) -> Result<(), AllocError>
+    ensures gives { OnOk result (all.new.items ≡ all.old.items ++ filter (is_taken strings.now) (entry ∷ [])) }
+{
+    if entry.is_taken(strings) {
+        all.push(entry)?;
+    }
+    Ok(())
+}
+
+// The entries of a table that count, in its order.
+fn taken(
+    alloc: Global,
+    bytes: &[u8],
+    strings: &[u8],
+    ident: Ident,
+) -> Result<Vec<Entry>, AllocError>
+    ensures gives { IfOk result (λ v.
+        v.items ≡ taken_in ident.endian (layout_of ident.class) strings.now bytes.now) }
+{
+    let size = ident.class.layout().symbol_size;
+    let count = bytes.len() / size;
+    let mut all = Vec::new(alloc);
+    let mut rest = bytes;
+    for _ in 0..count {
+        push_taken(&mut all, entry_at(rest, ident), strings)?;
+        let (_, after) = rest.split_at(size);
+        rest = after;
+    }
+    Ok(all)
+}
+
+/// The entries of a table that count, by address, then by preference, then as in the file.
+pub(crate) fn sorted(
+    alloc: Global,
+    bytes: &[u8],
+    strings: &[u8],
+    ident: Ident,
+) -> Result<Vec<Entry>, AllocError>
+    ensures sorted { IfOk result (λ v.
+        IsTable (taken_in ident.endian (layout_of ident.class) strings.now bytes.now) v.items) }
+{
+    let mut all = taken(alloc, bytes, strings, ident)?;
+    all.sort_by_key(|entry| (entry.address, entry.preference()))?;
+    Ok(all)
+}
+
+// How many symbols of a sorted table stand at or below the probe.
+fn count_below(table: &[Entry], probe: u64) -> usize
+    ensures bound { result ≤ length table.now }
+    ensures split { IsNonDecreasingBy (λ (e : SymbolEntry). e.address) table.now
+        → IsPartitionPoint (IsBelow probe) (IsAbove probe) table.now result }
+{
+    table.partition_point(|entry| entry.address <= probe)
+}
+
+// The symbol at a place of a table.
+fn nth(table: &[Entry], place: usize) -> Option<Entry>
+    ensures gives { result ≡ slice_get table.now place }
+{
+    Some(*table.get(place)?)
+}
+
+/// The symbol at the probe or nearest below it, in a sorted table.
+pub(crate) fn nearest(table: &[Entry], probe: u64) -> Option<Entry>
+    ensures found { (symbols : List SymbolEntry) → IsTable symbols table.now → result ≡ chosen probe symbols }
+{
+    let count = count_below(table, probe);
+    if count == 0 {
+        return None;
+    }
+    nth(table, count - 1)
+}

@@ -16,7 +16,7 @@ llvm_mark = codes ".llvm."
 abbrev pub is_llvm_byte : ℕ → Bool
 is_llvm_byte b = is_in_range 65 70 b || (is_in_range 48 57 b || b == 64)
 
--- a letter, a digit or punctuation
+-- a letter, a digit or punctuation of ASCII
 abbrev pub is_suffix_byte : ℕ → Bool
 is_suffix_byte b = is_ascii_alphanumeric b || is_ascii_punctuation b
 
@@ -83,7 +83,7 @@ pub data IsEscape : List ℕ → ℕ → Type 0 where
       → IsScalar (digits_value 16 digits) → is_control (digits_value 16 digits) ≡ false
       → IsEscape (117 ∷ digits) (digits_value 16 digits)
 
--- no escape ends in what stands behind a dollar
+-- what stands behind a dollar begins with no escape
 abbrev pub NoEscape : List ℕ → Type 0
 NoEscape bytes = (escape rest : List ℕ) (c : ℕ) → IsEscape escape c → bytes ≢ escape ++ (36 ∷ rest)
 

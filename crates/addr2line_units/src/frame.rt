@@ -11,9 +11,6 @@ use gimli_read::{DwLang, Error};
 use std::alloc::Global;
 use std::borrow::CowStr;
 
-/// `DW_LANG_Rust` (DWARF 5, section 7.12).
-const RUST: DwLang = DwLang(0x1c);
-
 /// The text of a legacy name of Rust, and `None` for any other name and in any other language.
 ///
 /// A legacy name is `_ZN`, `ZN` or `__ZN`, one or more elements, each behind its decimal length,
@@ -30,7 +27,7 @@ pub fn demangle(alloc: Global, name: &str, language: DwLang) -> Result<Option<St
     ensures none { demangled language.0 name.now ≡ None → result ≡ Ok None }
     ensures memory { language.0 ≢ 0x1c → result ≡ Ok None }
 {
-    if language != RUST {
+    if language != DwLang::DW_LANG_Rust {
         return Ok(None);
     }
     let Some(parts) = LegacyName::read(name.as_bytes()) else {
@@ -60,7 +57,11 @@ pub fn demangle_auto<'a>(
         → result ≡ Ok name.entry }
     ensures memory { IfSome language (λ l. l.0 ≢ 0x1c → result ≡ Ok name.entry) }
 {
-    match demangle(alloc, name.as_str(), language.unwrap_or(RUST))? {
+    match demangle(
+        alloc,
+        name.as_str(),
+        language.unwrap_or(DwLang::DW_LANG_Rust),
+    )? {
         Some(text) => Ok(CowStr::Owned(text)),
         None => Ok(name),
     }

@@ -6,7 +6,7 @@ use std::borrow::CowStr;
 use std::process::Abort;
 use std::test::Fail;
 
-const RUST: DwLang = DwLang(0x1c);
+const RUST: DwLang = DwLang::DW_LANG_Rust;
 
 /// Names by the cases of the format, and their texts.
 const CASES: [(&str, Option<&str>); 34] = [

@@ -10,6 +10,8 @@ mod error;
 mod leb128;
 mod range;
 mod reader;
+#[cfg(test)]
+mod tests;
 mod value;
 
 pub use crate::abbrev::{Abbreviation, Abbreviations, AttributeSpecification};

@@ -118,7 +118,7 @@ impl<R: Reader> Context<R> {
     /// Source: DWARF 5, section 6.2. Own: which of several sequences counts.
     pub fn find_location(&mut self, probe: u64) -> Result<Option<Location<'_>>, Error>
         ensures gives { Gives (option_map shown) result (location_of self.old probe) }
-        ensures* kept { sem 𝓛 (follows_so (the_row R.row R.Reader R.Clone) (the_row R.row R.Reader R.Clone) self.entry.ghost_name none (λ _ _. ⊤) (λ new. new ≡ self.old)) }
+        ensures* kept { sem 𝓛 (follows_so (the_row R.row (record { section = R.section }) (record { is_clone = R.is_clone; is_infallible = R.is_infallible })) (the_row R.row (record { section = R.section }) (record { is_clone = R.is_clone; is_infallible = R.is_infallible })) self.entry.ghost_name none (λ _ _. ⊤) (λ new. new ≡ self.old)) }
     {
         self.units.read_lines(self.alloc, &self.dwarf, probe)?;
         Ok(self.units.find_location(probe))

@@ -1,0 +1,96 @@
+-- Texts that go to a writer one after another.
+use Rattle.std.proofs.Common.{◌≡◌, ◌∙◌, ℕ, Bool, true, false, List, [], ◌∷◌, ◌++◌, Option, Some, None, refl, sym, ap, append-nil, append_assoc}
+use Rattle.std.specs.Io.KnownBytes.{Appends, Keeps}
+use Rattle.addr2line_bin.specs.Put.{Part, Goes, Sends, Begins}
+
+pub appends_nothing : (old new : Option (List ℕ)) → Keeps old new → Appends old new []
+appends_nothing None new k = tt
+appends_nothing (Some xs) None k = k
+appends_nothing (Some xs) (Some ys) k = k ∙ sym (append-nil xs)
+
+pub keeps_after : (old mid new : Option (List ℕ)) (a : List ℕ) → Appends old mid a → Keeps mid new → Appends old new a
+keeps_after None mid new a p k = tt
+keeps_after (Some xs) None new a p k = absurd p
+keeps_after (Some xs) (Some ys) None a p k = k
+keeps_after (Some xs) (Some ys) (Some zs) a p k = k ∙ p
+
+pub appends_both : (old mid new : Option (List ℕ)) (a b : List ℕ) → Appends old mid a → Appends mid new b → Appends old new (a ++ b)
+appends_both None mid new a b p q = tt
+appends_both (Some xs) None new a b p q = absurd p
+appends_both (Some xs) (Some ys) None a b p q = q
+appends_both (Some xs) (Some ys) (Some zs) a b p q = q ∙ ap (λ s. s ++ b) p ∙ append_assoc xs a b
+
+-- what was whole, and then a beginning
+pub part_later : (old mid new : Option (List ℕ)) (a b : List ℕ) → Appends old mid a → Part mid new b → Part old new (a ++ b)
+part_later old mid new a b p q = record {
+  written = a ++ q.written;
+  rest = q.rest;
+  joins = ap (λ s. a ++ s) q.joins ∙ sym (append_assoc a q.written q.rest);
+  appends = appends_both old mid new a q.written p q.appends;
+}
+
+-- a beginning of a text is one of a longer text
+pub part_longer : (old new : Option (List ℕ)) (a b : List ℕ) → Part old new a → Part old new (a ++ b)
+part_longer old new a b p = record {
+  written = p.written;
+  rest = p.rest ++ b;
+  joins = ap (λ s. s ++ b) p.joins ∙ append_assoc p.written p.rest b;
+  appends = p.appends;
+}
+
+pub whole : (old new : Option (List ℕ)) (a : List ℕ) → Appends old new a → Part old new a
+whole old new a p = record { written = a; rest = []; joins = sym (append-nil a); appends = p }
+
+pub part_kept : (old mid new : Option (List ℕ)) (a : List ℕ) → Part old mid a → Keeps mid new → Part old new a
+part_kept old mid new a p k = record { written = p.written; rest = p.rest; joins = p.joins; appends = keeps_after old mid new p.written p.appends k }
+
+-- a text, and then one more
+pub goes_on : (old mid new : Option (List ℕ)) (f g : Bool) (a b : List ℕ) → Goes old mid f a → Sends mid new f g b → Goes old new g (a ++ b)
+goes_on old mid new true true a b p q = part_longer old new a b (part_kept old mid new a p q.0)
+goes_on old mid new true false a b p q = absurd (cc)
+goes_on old mid new false true a b p q = part_later old mid new a b p q
+goes_on old mid new false false a b p q = appends_both old mid new a b p q
+
+pub part_flushed : (old mid new : Option (List ℕ)) (a : List ℕ) → Appends old mid a → Keeps mid new → Part old new a
+part_flushed old mid new a p k = whole old new a (keeps_after old mid new a p k)
+
+pub sends_nothing : (old : Option (List ℕ)) (f : Bool) → Keeps old old → Sends old old f f []
+sends_nothing old true k = (k, refl)
+sends_nothing old false k = appends_nothing old old k
+
+pub keeps_itself : (old : Option (List ℕ)) → Keeps old old
+keeps_itself None = tt
+keeps_itself (Some xs) = refl
+
+keeps_both : (old mid new : Option (List ℕ)) → Keeps old mid → Keeps mid new → Keeps old new
+keeps_both None mid new p q = tt
+keeps_both (Some xs) None new p q = absurd p
+keeps_both (Some xs) (Some ys) None p q = q
+keeps_both (Some xs) (Some ys) (Some zs) p q = q ∙ p
+
+-- what was sent, and one more text
+pub sends_on : (old mid new : Option (List ℕ)) (f g h : Bool) (a b : List ℕ) → Sends old mid f g a → Sends mid new g h b → Sends old new f h (a ++ b)
+sends_on old mid new true true h a b p q = (keeps_both old mid new p.0 q.0, q.1)
+sends_on old mid new true false h a b p q = absurd (cc)
+sends_on old mid new false g h a b p q = goes_on old mid new g h a b p q
+
+pub begins_with_nothing : (old : Option (List ℕ)) (f : Bool) (text : List ℕ) → Begins old old f f text
+begins_with_nothing old f text = record { sent = []; rest = text; joins = refl; sends = sends_nothing old f (keeps_itself old) }
+
+pub begins_whole : (old new : Option (List ℕ)) (f g : Bool) (text : List ℕ) → Sends old new f g text → Begins old new f g text
+begins_whole old new f g text t = record { sent = text; rest = []; joins = sym (append-nil text); sends = t }
+
+pub part_nothing : (old : Option (List ℕ)) (text : List ℕ) → Part old old text
+part_nothing old text = record { written = []; rest = text; joins = refl; appends = appends_nothing old old (keeps_itself old) }
+
+-- what was sent whole, and a beginning of the next text
+pub begins_later : (old mid new : Option (List ℕ)) (f g h : Bool) (a b : List ℕ) → Sends old mid f g a → Begins mid new g h b → Begins old new f h (a ++ b)
+begins_later old mid new f g h a b p q = record {
+  sent = a ++ q.sent;
+  rest = q.rest;
+  joins = ap (λ s. a ++ s) q.joins ∙ sym (append_assoc a q.sent q.rest);
+  sends = sends_on old mid new f g h a q.sent p q.sends;
+}
+
+pub begins_longer : (old new : Option (List ℕ)) (f g : Bool) (a b : List ℕ) → Begins old new f g a → Begins old new f g (a ++ b)
+begins_longer old new f g a b p = record { sent = p.sent; rest = p.rest ++ b; joins = ap (λ s. s ++ b) p.joins ∙ append_assoc p.sent p.rest b; sends = p.sends }

@@ -1,0 +1,4 @@
+pub mod Put
+pub mod Address
+pub mod Text
+pub mod Run

@@ -1,0 +1,43 @@
+-- A whole run of the program.
+-- Own: a failed write of the output ends the run, without a text for a broken pipe; so does want of memory.
+use Rattle.std.specs.Prelude.{◌≡◌, ◌⊎◌, ℕ, Bool, true, false, List, [], ◌++◌, Option, codes}
+use Rattle.std.specs.Io.KnownBytes.{Appends}
+use Rattle.addr2line_bin.specs.Put.{Part, Goes}
+use Rattle.addr2line_bin.specs.declared.engine.Exit.{Exit}
+use Rattle.addr2line_bin.specs.declared.engine.Exit.TheVariants as exit
+use Rattle.addr2line_bin.specs.declared.stream.Stop.{Stop}
+use Rattle.addr2line_bin.specs.declared.stream.Stop.TheVariants as stop
+
+-- the last line of a run that stopped early
+abbrev pub last_text : List ℕ → Stop → List ℕ
+last_text name stop.OutOfMemory = name ++ codes ": out of memory\n"
+last_text name (stop.Output true) = []
+last_text name (stop.Output false) = name ++ codes ": error writing output\n"
+
+-- how it ends
+abbrev pub exit_at : Stop → Exit
+exit_at stop.OutOfMemory = exit.Failed
+exit_at (stop.Output true) = exit.Done
+exit_at (stop.Output false) = exit.Failed
+
+-- all of both texts went out, but that a failed error stream got a beginning
+pub record IsWhole (out_old out_new err_old err_new : Option (List ℕ)) (out_text err_text : List ℕ) (e : Exit) : Type 0 where
+  pub out : Appends out_old out_new out_text
+  pub has_failed : Bool
+  pub err : Goes err_old err_new has_failed err_text
+  pub exit : e ≡ exit.Done
+
+-- the run stopped early: a beginning of the output, a beginning of the faults, and a last line
+pub record IsCut (name : List ℕ) (out_old out_new err_old err_new : Option (List ℕ)) (out_text err_text : List ℕ) (e : Exit) : Type 0 where
+  pub out : Part out_old out_new out_text
+  pub sent : List ℕ
+  pub rest : List ℕ
+  pub joins : err_text ≡ sent ++ rest
+  pub why : Stop
+  pub exit : e ≡ exit_at why
+  pub has_failed : Bool
+  pub err : Goes err_old err_new has_failed (sent ++ last_text name why)
+
+-- the run wrote all of both texts, or stopped early
+abbrev pub IsRun : List ℕ → Option (List ℕ) → Option (List ℕ) → Option (List ℕ) → Option (List ℕ) → List ℕ → List ℕ → Exit → Type 0
+IsRun name oo on eo en out_text err_text e = IsWhole oo on eo en out_text err_text e ⊎ IsCut name oo on eo en out_text err_text e

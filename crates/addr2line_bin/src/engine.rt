@@ -1,0 +1,215 @@
+//! The text that the program prints for addresses.
+
+ghost use Rattle.std.specs.Prelude.{◌≡◌, ◌++◌, OnOk, OnErr, IfOk, ℕ, Result, Option, option_map, string_bytes};
+ghost use Rattle.std.specs.Borrow.{sem};
+ghost use Rattle.std.specs.Io.BufRead.{Rests};
+ghost use Rattle.std.specs.Io.KnownBytes.{Appends};
+ghost use Rattle.gimli_read.specs.Reading.{Gives};
+ghost use Rattle.addr2line_lines.specs.Shown.{shown};
+ghost use Rattle.addr2line_bin.specs.Put.{Part, Sends, Begins};
+ghost use Rattle.addr2line_bin.specs.Text.{place_text, place_in, hex, fault_line, fault_text, out_of, told_of, outs, errs, probes_in};
+ghost use Rattle.addr2line_bin.specs.Run.{last_text, exit_at, IsRun};
+
+use crate::address::address_of;
+use crate::stream::{Stop, send, tell, tell_both};
+use crate::text::push_location;
+use addr2line_lines::Location;
+use gimli_read::Error;
+use std::alloc::{AllocError, Global};
+use std::io::Write;
+
+/// What answers for an address.
+pub trait Locate {
+    ghost use Rattle.std.specs.Prelude.{ℕ, Option, Result};
+    ghost use Rattle.gimli_read.specs.declared.error.Error.{Error};
+    ghost use Rattle.addr2line_lines.specs.Location.{Place};
+
+    /// Where each address lies.
+    ghost found: { Self → ℕ → Result (Option Place) Error };
+
+    /// The place of an address. It is the same at every call.
+    fn find_location(&mut self, probe: u64) -> Result<Option<Location<'_>>, Error>
+        ensures gives { Gives (option_map shown) result (found self.old probe) }
+        ensures* kept { sem 𝓛 (Rests Self.row self.entry (λ new. new ≡ self.old)) };
+}
+
+/// How the program ends.
+#[derive(Clone, Copy, Debug, PartialEq, Eq)]
+pub enum Exit {
+    /// With status 0.
+    Done,
+    /// With status 1.
+    Failed,
+}
+
+// What goes to the two streams for a word.
+#[derive(Drop)]
+struct Texts {
+    out: String,
+    err: String,
+}
+
+// Adds an address in lower case hexadecimal digits.
+fn push_hex(out: &mut String, address: u64) -> Result<(), AllocError>
+    ensures out { OnOk result (string_bytes out.new ≡ string_bytes out.old ++ hex address) }
+{
+    write!(out, "{address:x}")
+}
+
+// Adds the line that says why an address can't be looked up.
+fn push_fault(name: &str, probe: u64, error: Error, err: &mut String) -> Result<(), AllocError>
+    ensures err { OnOk result (string_bytes err.new
+        ≡ string_bytes err.old ++ fault_line name.now probe error) }
+{
+    err.push_str(name)?;
+    err.push_str(": failed to find location for 0x")?;
+    push_hex(err, probe)?;
+    err.push_str(": ")?;
+    err.push_str(error.text())?;
+    err.push_str("\n")?;
+    Ok(())
+}
+
+// Adds what is found at an address.
+fn push_answer<L: Locate>(
+    name: &str,
+    context: &mut L,
+    probe: u64,
+    out: &mut String,
+    err: &mut String,
+) -> Result<(), AllocError>
+    ensures out { OnOk result (string_bytes out.new
+        ≡ string_bytes out.old ++ place_text (place_in (L.found context.old probe))) }
+    ensures err { OnOk result (string_bytes err.new
+        ≡ string_bytes err.old ++ fault_text name.now probe (L.found context.old probe)) }
+    ensures kept { context.new ≡ context.old }
+{
+    match context.find_location(probe) {
+        Ok(location) => push_location(out, location),
+        Err(Error::OutOfMemory) => Err(AllocError),
+        Err(error) => {
+            push_fault(name, probe, error, err)?;
+            push_location(out, None)
+        }
+    }
+}
+
+// What a word's address prints, if it is one.
+fn texts_of<L: Locate>(
+    alloc: Global,
+    name: &str,
+    context: &mut L,
+    probe: Option<u64>,
+) -> Result<Texts, AllocError>
+    ensures out { IfOk result (λ t. string_bytes t.out ≡ out_of (L.found context.old) probe) }
+    ensures err { IfOk result (λ t. string_bytes t.err ≡ told_of (L.found context.old) name.now probe) }
+    ensures kept { context.new ≡ context.old }
+{
+    let mut out = String::new(alloc);
+    let mut err = String::new(alloc);
+    match probe {
+        None => push_location(&mut out, None)?,
+        Some(probe) => push_answer(name, context, probe, &mut out, &mut err)?,
+    }
+    Ok(Texts { out, err })
+}
+
+// Prints what a word asks for.
+#[tactic(auto, using(crate::proofs::Parts::begins_whole, crate::proofs::Parts::begins_with_nothing, crate::proofs::Parts::part_nothing))]
+fn step<L: Locate, W: Write, E: Write>(
+    alloc: Global,
+    name: &str,
+    context: &mut L,
+    probe: Option<u64>,
+    out: &mut W,
+    err: &mut E,
+    has_failed: &mut bool,
+) -> Result<(), Stop>
+    ensures kept { context.new ≡ context.old }
+    ensures out { OnOk result (Appends (W.contents out.old) (W.contents out.new)
+        (out_of (L.found context.old) probe)) }
+    ensures part { OnErr result (Part (W.contents out.old) (W.contents out.new)
+        (out_of (L.found context.old) probe)) }
+    ensures err { OnOk result (Sends (E.contents err.old) (E.contents err.new)
+        has_failed.old has_failed.new (told_of (L.found context.old) name.now probe)) }
+    ensures begun { OnErr result (Begins (E.contents err.old) (E.contents err.new)
+        has_failed.old has_failed.new (told_of (L.found context.old) name.now probe)) }
+{
+    let texts = texts_of(alloc, name, context, probe)?;
+    tell(err, has_failed, texts.err.as_str());
+    send(out, texts.out.as_str())
+}
+
+// Prints what the words ask for.
+#[tactic(auto, using(crate::proofs::Runs::out_start, crate::proofs::Runs::out_more, crate::proofs::Runs::out_end, crate::proofs::Runs::out_stop, crate::proofs::Runs::err_start, crate::proofs::Runs::err_more, crate::proofs::Runs::err_end, crate::proofs::Runs::err_stop))]
+fn print_words<L: Locate, W: Write, E: Write>(
+    alloc: Global,
+    name: &str,
+    context: &mut L,
+    words: &[String],
+    out: &mut W,
+    err: &mut E,
+    has_failed: &mut bool,
+) -> Result<(), Stop>
+    ensures out { OnOk result (Appends (W.contents out.old) (W.contents out.new)
+        (outs (L.found context.old) (probes_in words.now))) }
+    ensures part { OnErr result (Part (W.contents out.old) (W.contents out.new)
+        (outs (L.found context.old) (probes_in words.now))) }
+    ensures err { OnOk result (Sends (E.contents err.old) (E.contents err.new)
+        has_failed.old has_failed.new (errs (L.found context.old) name.now (probes_in words.now))) }
+    ensures begun { OnErr result (Begins (E.contents err.old) (E.contents err.new)
+        has_failed.old has_failed.new (errs (L.found context.old) name.now (probes_in words.now))) }
+{
+    for word in words {
+        let probe = address_of(word.as_str());
+        step(alloc, name, context, probe, out, err, has_failed)?;
+    }
+    Ok(())
+}
+
+// Sends the last line of a run that stopped early.
+#[tactic(auto, using(crate::proofs::Parts::sends_nothing, crate::proofs::Parts::keeps_itself))]
+fn tell_last<E: Write>(name: &str, stop: Stop, err: &mut E, has_failed: &mut bool) -> Exit
+    ensures told { Sends (E.contents err.old) (E.contents err.new) has_failed.old has_failed.new
+        (last_text name.now stop) }
+    ensures exit { result ≡ exit_at stop }
+{
+    match stop {
+        Stop::OutOfMemory => {
+            tell_both(err, has_failed, name, ": out of memory\n");
+            Exit::Failed
+        }
+        Stop::Output { is_broken_pipe } => {
+            if is_broken_pipe {
+                return Exit::Done;
+            }
+            tell_both(err, has_failed, name, ": error writing output\n");
+            Exit::Failed
+        }
+    }
+}
+
+/// Prints where the addresses of the words lie, each on a line of its own, and tells each fault on
+/// standard error.
+///
+/// What goes to `out` is the joined texts of the words' locations, or a beginning of it after a
+/// failed write or want of memory; then the last line that is told says so, but for a broken pipe.
+pub fn print<L: Locate, W: Write, E: Write>(
+    alloc: Global,
+    name: &str,
+    context: &mut L,
+    words: &[String],
+    out: &mut W,
+    err: &mut E,
+) -> Exit
+    ensures gives { IsRun name.now (W.contents out.old) (W.contents out.new)
+        (E.contents err.old) (E.contents err.new)
+        (outs (L.found context.old) (probes_in words.now))
+        (errs (L.found context.old) name.now (probes_in words.now)) result }
+{
+    let mut has_failed = false;
+    match print_words(alloc, name, context, words, out, err, &mut has_failed) {
+        Ok(()) => Exit::Done,
+        Err(stop) => tell_last(name, stop, err, &mut has_failed),
+    }
+}

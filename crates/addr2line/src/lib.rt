@@ -8,3 +8,5 @@ pub use addr2line_lines::Location;
 pub use addr2line_units::frame::{demangle, demangle_auto};
 pub use gimli;
 
+#[cfg(test)]
+mod tests;

@@ -13,8 +13,9 @@ ghost use Rattle.addr2line_bin.specs.Run.{last_text, exit_at, IsRun};
 use crate::address::address_of;
 use crate::stream::{Stop, send, tell, tell_both};
 use crate::text::push_location;
-use addr2line_lines::Location;
-use gimli_read::Error;
+use addr2line::gimli::read::{Error, Reader};
+use addr2line::{Context, Location};
+use elf::LoaderError;
 use std::alloc::{AllocError, Global};
 use std::io::Write;
 
@@ -40,6 +41,8 @@ pub enum Exit {
     Done,
     /// With status 1.
     Failed,
+    /// With status 2.
+    Misused,
 }
 
 // What goes to the two streams for a word.
@@ -211,5 +214,31 @@ pub fn print<L: Locate, W: Write, E: Write>(
     match print_words(alloc, name, context, words, out, err, &mut has_failed) {
         Ok(()) => Exit::Done,
         Err(stop) => tell_last(name, stop, err, &mut has_failed),
+    }
+}
+
+/// Tells why the debug information of a file can't be loaded.
+pub fn tell_load_fault<E: Write>(name: &str, fault: LoaderError, err: &mut E) -> Exit {
+    let mut has_failed = false;
+    tell_both(err, &mut has_failed, name, ": failed to load debug info: ");
+    tell_both(err, &mut has_failed, fault.text(), "\n");
+    Exit::Failed
+}
+
+/// Tells how the program is used.
+pub fn tell_usage<E: Write>(name: &str, err: &mut E) -> Exit {
+    let mut has_failed = false;
+    tell_both(err, &mut has_failed, name, ": usage: ");
+    tell_both(err, &mut has_failed, name, " -e FILE ADDR..\n");
+    Exit::Misused
+}
+
+impl<R: Reader> Locate for Context<R> {
+    ghost use Rattle.addr2line_units.specs.Located.{location_of};
+
+    ghost found = { λ c. location_of c };
+
+    fn find_location(&mut self, probe: u64) -> Result<Option<Location<'_>>, Error> {
+        Context::find_location(self, probe)
     }
 }

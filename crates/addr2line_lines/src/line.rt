@@ -36,8 +36,8 @@ pub struct Lines {
 impl Model for Lines {
     ghost use Rattle.std.specs.Prelude.{map};
     ghost use Rattle.std.specs.List.{AllByRecursion};
-ghost use Rattle.std.specs.String.{string_bytes};
-ghost use Rattle.addr2line_lines.specs.Rises.{IsRising};
+    ghost use Rattle.std.specs.String.{string_bytes};
+    ghost use Rattle.addr2line_lines.specs.Rises.{IsRising};
     ghost use Rattle.addr2line_lines.specs.Location.{Kept};
     ghost use Rattle.addr2line_lines.specs.Kept.{IsKept};
 
@@ -76,7 +76,13 @@ fn read_program<R: Reader>(
 {
     let mut rows = program.rows()?;
     let sequences = read_sequences(alloc, &mut rows)?;
-    let files = read_file_texts(alloc, dwarf, unit, program.header(), rows.header().file_names())?;
+    let files = read_file_texts(
+        alloc,
+        dwarf,
+        unit,
+        program.header(),
+        rows.header().file_names(),
+    )?;
     make_lines(files, sequences)
 }
 
@@ -85,11 +91,7 @@ impl Lines {
     ///
     /// Refused by the program's fault, else by the first text of a file, by index, that can't be
     /// read, and `OutOfMemory`. A unit without a line program has no lines.
-    pub fn parse<R: Reader>(
-        alloc: Global,
-        dwarf: &Dwarf<R>,
-        unit: &Unit<R>,
-    ) -> Result<Lines, Error>
+    pub fn parse<R: Reader>(alloc: Global, dwarf: &Dwarf<R>, unit: &Unit<R>) -> Result<Lines, Error>
         ensures gives { Gives (λ lines. lines) result
             (unit_lines (seen_dwarf R.section dwarf.now) (seen_unit R.section unit.now)) }
     {

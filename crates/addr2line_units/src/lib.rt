@@ -3,6 +3,6 @@
 
 pub mod frame;
 mod legacy;
-pub mod unit;
 #[cfg(test)]
 mod tests;
+pub mod unit;

@@ -204,12 +204,7 @@ impl<R: Reader> ResUnits<R> {
     /// them, or their fault.
     ///
     /// Refused by that fault, and `OutOfMemory`, which isn't kept.
-    pub fn read_lines(
-        &mut self,
-        alloc: Global,
-        dwarf: &Dwarf<R>,
-        probe: u64,
-    ) -> Result<(), Error>
+    pub fn read_lines(&mut self, alloc: Global, dwarf: &Dwarf<R>, probe: u64) -> Result<(), Error>
         requires read { AreRead R.section (seen_dwarf R.section dwarf.now) self.old.unit }
         ensures gives { Gives (λ _. found_kept probe self.new.unit) result
             (found_in (seen_dwarf R.section dwarf.now) (made_with R.section self.old.unit) probe) }

@@ -124,6 +124,11 @@ impl<R: Reader> Dwarf<R> {
         ensures gives { Gives R.section result (attr_string_of (seen_dwarf R.section self.now)
             (seen_unit R.section unit.now) (seen_value R.section value)) }
     {
-        read_string(self, unit.header.encoding.format, unit.str_offsets_base, value)
+        read_string(
+            self,
+            unit.header.encoding.format,
+            unit.str_offsets_base,
+            value,
+        )
     }
 }

@@ -72,7 +72,10 @@ impl<'a, R: Reader> UnitRef<'a, R> {
     {
         let unit = self.unit;
         let input = read_entries_from(unit, offset)?;
-        let end = unit.header.header_length.saturating_add(unit.header.entries.len());
+        let end = unit
+            .header
+            .header_length
+            .saturating_add(unit.header.entries.len());
         Ok(EntriesRaw {
             input,
             encoding: unit.header.encoding,

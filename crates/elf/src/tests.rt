@@ -9,7 +9,7 @@ use crate::error::LoaderError;
 use crate::file::ElfFile;
 use bytes::Bytes;
 use gimli_read::{EndianBytes, Error, Reader, RunTimeEndian};
-use std::alloc::{AllocGlobal, Global};
+use std::alloc::Global;
 use std::process::Abort;
 use std::test::Fail;
 
@@ -29,37 +29,6 @@ fn held(answer: &Result<EndianBytes, LoaderError>) -> Result<&[u8], LoaderError>
     match answer {
         Ok(bytes) => Ok(bytes.to_slice()),
         Err(error) => Err(*error),
-    }
-}
-
-// A file of two sections and a symbol is written, read and asked.
-fn small_file_is_read(rt: &(impl Abort + AllocGlobal)) -> Result<(), LoaderError> {
-    let shape = elf_writer::SHAPES[0];
-    let tables = elf_writer::symbol_tables(
-        rt.alloc(),
-        shape,
-        &[elf_writer::symbol(b"a", 2, 8, 0)],
-    )?;
-    let symbols = elf_writer::Part {
-        kind: 2,
-        link: 2,
-        ..elf_writer::plain(".symtab", &tables.symbols)
-    };
-    let parts = [symbols, elf_writer::plain(".strtab", &tables.strings)];
-    let bytes = elf_writer::written(rt.alloc(), shape, &parts)?;
-    let file = open(rt.alloc(), bytes.as_slice())?;
-    assert_eq!(rt; file.symbol(8).map(|symbol| symbol.address()), Some(8));
-    let held = file.section(".strtab")?;
-    assert_eq!(rt; held.to_slice(), tables.strings.as_slice());
-    Ok(())
-}
-
-// With each allocation refused in turn nothing else than this is told.
-#[test]
-fn a_refused_growth_is_want_of_memory(rt: HostRuntime) {
-    match small_file_is_read(&rt) {
-        Ok(()) => {}
-        Err(error) => assert_eq!(rt; error, LoaderError::OutOfMemory),
     }
 }
 

@@ -1,6 +1,5 @@
 //! Cases over written files.
 
-mod damage;
 mod elf_writer;
 mod sections;
 mod symbols;

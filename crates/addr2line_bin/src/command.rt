@@ -3,6 +3,7 @@
 use std::alloc::{AllocError, Global};
 
 /// What the words ask for.
+#[derive(Clone, Copy)]
 pub struct Request<'a> {
     /// The path of the file.
     pub path: &'a str,

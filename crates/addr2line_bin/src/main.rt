@@ -6,6 +6,8 @@ mod command;
 mod engine;
 mod load;
 mod stream;
+#[cfg(test)]
+mod tests;
 mod text;
 
 use crate::command::{Request, name_of, request_of};

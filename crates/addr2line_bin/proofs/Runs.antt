@@ -1,8 +1,8 @@
 -- A run writes one text after another.
-use Rattle.std.proofs.Common.{◌≡◌, ◌∙◌, ℕ, Bool, true, false, List, [], ◌∷◌, ◌++◌, Option, Some, None, refl, sym, ap, append-nil, append_assoc}
-use Rattle.std.specs.Io.KnownBytes.{Appends, Keeps}
+use Rattle.std.proofs.Common.{◌∙◌, ℕ, Bool, List, [], ◌++◌, Option, refl, sym, ap, append-nil, append_assoc}
+use Rattle.std.specs.Io.KnownBytes.{Appends}
 use Rattle.addr2line_bin.specs.Put.{Part, Sends, Begins, Out, Err}
-use Rattle.addr2line_bin.proofs.Parts.{appends_both, appends_nothing, keeps_itself, part_later, sends_on, sends_nothing, begins_later}
+use Rattle.addr2line_bin.proofs.Parts.{appends_both, appends_nothing, keeps_itself, sends_on, sends_nothing}
 
 pub out_start : (old : Option (List ℕ)) (all : List ℕ) → Out old old all all
 out_start old all = record { written = []; joins = refl; appends = appends_nothing old old (keeps_itself old) }

@@ -1,4 +1,7 @@
 pub mod Put
 pub mod Address
 pub mod Text
+pub mod Command
+pub mod Load
+pub mod Told
 pub mod Run

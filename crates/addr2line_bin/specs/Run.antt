@@ -1,8 +1,16 @@
 -- A whole run of the program.
 -- Own: a failed write of the output ends the run, without a text for a broken pipe; so does want of memory.
-use Rattle.std.specs.Prelude.{◌≡◌, ◌⊎◌, ℕ, Bool, true, false, List, [], ◌++◌, Option, codes}
+use Rattle.std.specs.Prelude.{◌≡◌, ◌⊎◌, ℕ, Bool, true, false, List, [], ◌++◌, Option, Ok, Err, codes}
+use Rattle.std.specs.declared.string.String.{String}
+use Rattle.std.specs.declared.alloc.Global.{Global}
 use Rattle.std.specs.Io.KnownBytes.{Appends}
+use Rattle.gimli.specs.Sections.{Sections}
+use Rattle.elf.specs.Reading.{Reading, Gives}
+use Rattle.addr2line_units.specs.Located.{location_of}
 use Rattle.addr2line_bin.specs.Put.{Part, Goes}
+use Rattle.addr2line_bin.specs.Text.{outs, errs, probes_in}
+use Rattle.addr2line_bin.specs.Load.{loaded_of}
+use Rattle.addr2line_bin.specs.Told.{load_fault_text}
 use Rattle.addr2line_bin.specs.declared.engine.Exit.{Exit}
 use Rattle.addr2line_bin.specs.declared.engine.Exit.TheVariants as exit
 use Rattle.addr2line_bin.specs.declared.stream.Stop.{Stop}
@@ -41,3 +49,14 @@ pub record IsCut (name : List ℕ) (out_old out_new err_old err_new : Option (Li
 -- the run wrote all of both texts, or stopped early
 abbrev pub IsRun : List ℕ → Option (List ℕ) → Option (List ℕ) → Option (List ℕ) → Option (List ℕ) → List ℕ → List ℕ → Exit → Type 0
 IsRun name oo on eo en out_text err_text e = IsWhole oo on eo en out_text err_text e ⊎ IsCut name oo on eo en out_text err_text e
+
+-- what goes to both streams for the words of addresses, where this is what the file gives
+abbrev pub IsAnswered : List ℕ → Option (List ℕ) → Option (List ℕ) → Option (List ℕ) → Option (List ℕ) → List (String Global) → Reading Sections → Exit → Type 0
+IsAnswered name oo on eo en words (Ok d) e = IsRun name oo on eo en (outs (location_of d) (probes_in words)) (errs (location_of d) name (probes_in words)) e
+IsAnswered name oo on eo en words (Err fault) e = (on ≡ oo) × ((has_failed : Bool) × Goes eo en has_failed (load_fault_text name fault)) × (e ≡ exit.Failed)
+
+-- the same for the bytes of a file, or the fault of their reading; want of memory may stand in place of what they give
+pub record IsAnswer (name : List ℕ) (oo on eo en : Option (List ℕ)) (words : List (String Global)) (bytes : Reading (List ℕ)) (e : Exit) : Type 0 where
+  pub given : Reading Sections
+  pub gives : Gives (λ d. d) given (loaded_of bytes)
+  pub answered : IsAnswered name oo on eo en words given e

@@ -1,6 +1,6 @@
 -- The text of the program: what goes to its two streams for the addresses that are asked for.
 -- Own: a fault is told on standard error, and the address is printed as one that has no location.
-use Rattle.std.specs.Prelude.{◌≡◌, ℕ, List, [], ◌∷◌, ◌++◌, Option, Some, None, Result, Ok, Err, codes, map, unwrap_or, string_bytes, false}
+use Rattle.std.specs.Prelude.{ℕ, List, [], ◌∷◌, ◌++◌, Option, Some, None, Result, Ok, Err, codes, map, unwrap_or, string_bytes, false}
 use Rattle.std.specs.declared.string.String.{String}
 use Rattle.std.specs.declared.alloc.Global.{Global}
 use Rattle.std.specs.Fmt.{decimal, radix_digits}

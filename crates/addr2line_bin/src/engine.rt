@@ -8,6 +8,8 @@ ghost use Rattle.gimli_read.specs.Reading.{Gives};
 ghost use Rattle.addr2line_lines.specs.Shown.{shown};
 ghost use Rattle.addr2line_bin.specs.Put.{Part, Sends, Begins};
 ghost use Rattle.addr2line_bin.specs.Text.{place_text, place_in, hex, fault_line, fault_text, out_of, told_of, outs, errs, probes_in};
+ghost use Rattle.addr2line_bin.specs.declared.engine.Exit.TheVariants as exit;
+ghost use Rattle.addr2line_bin.specs.Told.{load_fault_text, usage_text};
 ghost use Rattle.addr2line_bin.specs.Run.{last_text, exit_at, IsRun};
 
 use crate::address::address_of;
@@ -170,9 +172,9 @@ fn print_words<L: Locate, W: Write, E: Write>(
     Ok(())
 }
 
-// Sends the last line of a run that stopped early.
+/// Tells why a run stopped early.
 #[tactic(auto, using(crate::proofs::Parts::sends_nothing, crate::proofs::Parts::keeps_itself))]
-fn tell_last<E: Write>(name: &str, stop: Stop, err: &mut E, has_failed: &mut bool) -> Exit
+pub fn tell_last<E: Write>(name: &str, stop: Stop, err: &mut E, has_failed: &mut bool) -> Exit
     ensures told { Sends (E.contents err.old) (E.contents err.new) has_failed.old has_failed.new
         (last_text name.now stop) }
     ensures exit { result ≡ exit_at stop }
@@ -218,18 +220,30 @@ pub fn print<L: Locate, W: Write, E: Write>(
 }
 
 /// Tells why the debug information of a file can't be loaded.
-pub fn tell_load_fault<E: Write>(name: &str, fault: LoaderError, err: &mut E) -> Exit {
-    let mut has_failed = false;
-    tell_both(err, &mut has_failed, name, ": failed to load debug info: ");
-    tell_both(err, &mut has_failed, fault.text(), "\n");
+pub fn tell_load_fault<E: Write>(
+    name: &str,
+    fault: LoaderError,
+    err: &mut E,
+    has_failed: &mut bool,
+) -> Exit
+    ensures told { Sends (E.contents err.old) (E.contents err.new) has_failed.old has_failed.new
+        (load_fault_text name.now fault) }
+    ensures exit { result ≡ exit.Failed }
+{
+    tell_both(err, has_failed, name, ": failed to load debug info: ");
+    tell_both(err, has_failed, fault.text(), "\n");
     Exit::Failed
 }
 
 /// Tells how the program is used.
-pub fn tell_usage<E: Write>(name: &str, err: &mut E) -> Exit {
-    let mut has_failed = false;
-    tell_both(err, &mut has_failed, name, ": usage: ");
-    tell_both(err, &mut has_failed, name, " -e FILE ADDR..\n");
+#[tactic(auto, using(crate::proofs::Parts::sends_on))]
+pub fn tell_usage<E: Write>(name: &str, err: &mut E, has_failed: &mut bool) -> Exit
+    ensures told { Sends (E.contents err.old) (E.contents err.new) has_failed.old has_failed.new
+        (usage_text name.now) }
+    ensures exit { result ≡ exit.Misused }
+{
+    tell_both(err, has_failed, name, ": usage: ");
+    tell_both(err, has_failed, name, " -e FILE ADDR..\n");
     Exit::Misused
 }
 

@@ -1,6 +1,9 @@
 //! The program `addr2line`: the file and line of addresses.
 #![tactic(auto)]
 
+ghost use Rattle.addr2line_lines.specs.Rows.{result_map};
+ghost use Rattle.addr2line_bin.specs.Run.{IsAnswer};
+
 mod address;
 mod command;
 mod engine;
@@ -11,8 +14,9 @@ mod tests;
 mod text;
 
 use crate::command::{Request, name_of, request_of};
-use crate::engine::{Exit, print, tell_load_fault, tell_usage};
+use crate::engine::{Exit, print, tell_last, tell_load_fault, tell_usage};
 use crate::load::load;
+use crate::stream::Stop;
 use elf::LoaderError;
 use std::alloc::Global;
 use std::io::{ErrorKind, Write};
@@ -43,15 +47,24 @@ fn run<W: Write, E: Write>(
     bytes: Result<Vec<u8>, LoaderError>,
     out: &mut W,
     err: &mut E,
-) -> Exit {
+) -> Exit
+    ensures gives { IsAnswer name.now (W.contents out.old) (W.contents out.new)
+        (E.contents err.old) (E.contents err.new) addresses.now
+        (result_map (λ v. v.items) bytes) result }
+{
     let loaded = match bytes {
         Ok(bytes) => load(alloc, bytes),
         Err(fault) => Err(fault),
     };
     match loaded {
         Ok(mut context) => print(alloc, name, &mut context, addresses, out, err),
-        Err(fault) => tell_load_fault(name, fault, err),
+        Err(fault) => tell_load_fault(name, fault, err, &mut false),
     }
+}
+
+// Tells that memory is wanting before there is a file.
+fn tell_no_memory<E: Write>(name: &str, err: &mut E) -> Exit {
+    tell_last(name, Stop::OutOfMemory, err, &mut false)
 }
 
 fn status_of(exit: Exit) -> ExitCode {
@@ -68,19 +81,15 @@ fn main(rt: HostRuntime) -> ExitCode {
     let mut err = rt.stderr();
     let words = match words_of(&rt) {
         Ok(words) => words,
-        Err(ErrorKind::OutOfMemory) => {
-            return status_of(tell_load_fault("addr2line", LoaderError::OutOfMemory, &mut err));
-        }
-        Err(_) => return status_of(tell_usage("addr2line", &mut err)),
+        Err(ErrorKind::OutOfMemory) => return status_of(tell_no_memory("addr2line", &mut err)),
+        Err(_) => return status_of(tell_usage("addr2line", &mut err, &mut false)),
     };
     let name = match name_of(alloc, words.as_slice()) {
         Ok(name) => name,
-        Err(_) => {
-            return status_of(tell_load_fault("addr2line", LoaderError::OutOfMemory, &mut err));
-        }
+        Err(_) => return status_of(tell_no_memory("addr2line", &mut err)),
     };
     let Some(Request { path, addresses }) = request_of(words.as_slice()) else {
-        return status_of(tell_usage(name.as_str(), &mut err));
+        return status_of(tell_usage(name.as_str(), &mut err, &mut false));
     };
     let bytes = match fs::read(&rt, path) {
         Ok(bytes) => Ok(bytes),

@@ -133,7 +133,7 @@ fn other_words_ask_for_nothing(rt: HostRuntime) -> Result<(), Fail> {
 #[test]
 fn a_usage_fault_is_told(rt: HostRuntime) -> Result<(), Fail> {
     let mut err = writer(rt.alloc(), 9);
-    let exit = tell_usage("a2l", &mut err);
+    let exit = tell_usage("a2l", &mut err, &mut false);
     assert_eq!(rt; exit, Exit::Misused);
     assert_eq!(rt;
         err.taken.as_slice(),

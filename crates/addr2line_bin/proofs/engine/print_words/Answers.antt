@@ -1,7 +1,5 @@
-use Rattle.std.proofs.Common.{◌≡◌, ◌∙◌, ◌∷◌, ap, drop, length, ◌+◌, sym}
+use Rattle.std.proofs.Common.{◌∙◌, ap}
 use Rattle.std.proofs.lemmas.Result.{err_from_is_err_and}
-use Rattle.addr2line_bin.specs.Put.{Out, Err}
-use Rattle.addr2line_bin.specs.Text.{outs, errs, probes_in}
 use Rattle.addr2line_bin.specs.Address.{address_in}
 use Rattle.addr2line_bin.proofs.Words.{probes_next}
 use Rattle.addr2line_bin.proofs.Runs.{out_more, out_stop, err_more, err_stop}

@@ -1,17 +1,16 @@
 -- A unit's header takes a byte at least (on specs/Header.antt).
-use Rattle.std.proofs.Common.{◌≡◌, ℕ, ◌+◌, ◌<◌, ◌==◌, Bool, true, false, cond, List, [], ◌∷◌, length, Option, Some, None, IfOk, IfSome, Result, Ok, Err, refl, ap, sym, ◌∙◌, arith, ltb, drop, length-drop}
+use Rattle.std.proofs.Common.{◌≡◌, ℕ, ◌<◌, ◌==◌, Bool, true, false, cond, List, [], ◌∷◌, length, Option, Some, None, IfOk, IfSome, Result, Ok, Err, ap, sym, ◌∙◌, arith, ltb, drop, length-drop}
 use Rattle.gimli_read.specs.declared.error.Error.{Error}
 use Rattle.gimli_read.specs.declared.error.Error.TheVariants.{UnexpectedEof}
 use Rattle.gimli_read.specs.Section.{Section, after}
 use Rattle.gimli_read.specs.Reading.{Reading, ◌>>=◌}
-use Rattle.gimli_read.specs.Number.{split_at, skipped_at, initial_length_at}
-use Rattle.gimli_read.specs.Run.{listed, run_of}
+use Rattle.gimli_read.specs.Number.{skipped_at}
 use Rattle.gimli_read.specs.Yields.{next_given}
-use Rattle.gimli_read.proofs.Shorter.{Shorter, shorter_bind, shorter_then, shorter_ok, shorter_weaker, initial_length-shorter, split-shorter, TakesBytes}
+use Rattle.gimli_read.proofs.Shorter.{Shorter, shorter_bind, shorter_then, shorter_ok, initial_length-shorter, split-shorter, TakesBytes}
 use Rattle.gimli_read.proofs.Steps.{end_is_none, same_rest, guard_ok}
 use Rattle.gimli_read.proofs.Listed.{listed_ends, listed_more, listed_fault}
 use Rattle.gimli.specs.declared.unit.UnitHeader.{UnitHeader}
-use Rattle.gimli.specs.Header.{fields_at, header_at, next_header_at}
+use Rattle.gimli.specs.Header.{header_at, next_header_at}
 use Rattle.gimli.specs.UnitsLeft.{headers_left}
 
 header_shorter : (whole : ℕ) (s : Section) → Shorter (length s.bytes) (header_at whole s)

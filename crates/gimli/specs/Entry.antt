@@ -1,6 +1,6 @@
 -- Entries (DWARF 5, sections 2.3 and 7.5.2): a code, and the values of the attributes that its abbreviation lists.
 -- Own: depths are numbers of 64 bits, and stop at the ends of these, which no section reaches.
-use Rattle.std.specs.Prelude.{ℕ, ◌==◌, ℤ, pos, negsuc, ◌+ℤ◌, Bool, List, [], ◌∷◌, Option, Some, None, Result, Ok, Err, if◌then◌else◌}
+use Rattle.std.specs.Prelude.{◌==◌, ℤ, pos, negsuc, ◌+ℤ◌, Bool, List, [], ◌∷◌, Option, Some, None, Result, Ok, Err, if◌then◌else◌}
 use Rattle.std.specs.Int.{w64, saturate_signed}
 use Rattle.gimli_read.specs.declared.error.Error.{Error}
 use Rattle.gimli_read.specs.declared.error.Error.TheVariants.{UnknownAbbreviation, MissingUnitDie}

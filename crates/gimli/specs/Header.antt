@@ -1,13 +1,13 @@
 -- The headers of units (DWARF 5, section 7.5.1; DWARF 4, section 7.5.1.1).
 -- Own: versions 2 to 5; another is UnknownVersion. A unit type other than those of section 7.5.1 is UnknownUnitType.
-use Rattle.std.specs.Prelude.{ℕ, ◌+◌, ◌-◌, ◌==◌, ◌||◌, not, nat_lt, Bool, List, length, Option, Some, None, Result, Ok, Err, if◌then◌else◌}
+use Rattle.std.specs.Prelude.{ℕ, ◌-◌, ◌==◌, ◌||◌, not, length, Option, Some, None, Result, Ok, Err, if◌then◌else◌}
 use Rattle.gimli_read.specs.declared.error.Error.{Error}
 use Rattle.gimli_read.specs.declared.error.Error.TheVariants.{UnknownVersion, UnknownUnitType, UnsupportedAddressSize}
 use Rattle.gimli_read.specs.declared.endian.Format.{Format}
 use Rattle.gimli_read.specs.Section.{Section}
 use Rattle.gimli_read.specs.Reading.{Reading, ◌>>=◌, refused_if}
 use Rattle.gimli_read.specs.Number.{fixed_at, offset_at, skipped_at, split_at, initial_length_at, is_address_size}
-use Rattle.gimli_read.specs.Run.{Run, run_of, collected}
+use Rattle.gimli_read.specs.Run.{Run, run_of}
 use Rattle.gimli.specs.declared.unit.UnitType.{UnitType}
 use Rattle.gimli.specs.declared.unit.UnitType.TheVariants.{Compile, TypeUnit, Partial, Skeleton, SplitCompile, SplitType}
 use Rattle.gimli.specs.declared.unit.DwoId.{DwoId}

@@ -2,7 +2,7 @@
 -- Own: of each attribute the last counts. One whose forms are not of its class counts as not there: low_pc is an
 -- address or an index, stmt_list and the bases are section offsets, and so are data4 and data8 of the offset's
 -- width under stmt_list in versions 2 and 3. A name or a directory that can't be read counts as none.
-use Rattle.std.specs.Prelude.{◌≡◌, ℕ, ◌==◌, ◌||◌, ◌&&◌, nat_le, Bool, true, false, List, [], ◌∷◌, fold, option_map, Option, Some, None, is_some, Result, Ok, Err, unwrap_or, if◌then◌else◌}
+use Rattle.std.specs.Prelude.{ℕ, ◌==◌, ◌||◌, nat_le, Bool, List, fold, option_map, Option, Some, None, Result, Ok, if◌then◌else◌}
 use Rattle.gimli_read.specs.declared.error.Error.{Error}
 use Rattle.gimli_read.specs.declared.endian.Encoding.{Encoding}
 use Rattle.gimli_read.specs.declared.endian.Format.{Format}
@@ -14,17 +14,9 @@ use Rattle.gimli_read.specs.Section.{Section}
 use Rattle.gimli_read.specs.Reading.{◌>>=◌}
 use Rattle.gimli_read.specs.Form.{constant_of, seen_value}
 use Rattle.gimli_read.specs.Abbreviations.{Abbrev}
-use Rattle.gimli_read.specs.Abbrev.{table_at}
-use Rattle.gimli.specs.declared.dwarf.DwarfFileType.{DwarfFileType}
-use Rattle.gimli.specs.declared.dwarf.DwarfFileType.TheVariants.{Main, Dwo}
-use Rattle.gimli.specs.declared.unit.DwoId.{DwoId}
-use Rattle.gimli.specs.declared.unit.UnitHeader.{UnitHeader}
 use Rattle.gimli.specs.declared.record.AddressValue.{AddressValue}
 use Rattle.gimli.specs.declared.record.AddressValue.TheVariants.{Address, Index}
 use Rattle.gimli.specs.declared.record.RootAttributes.{RootAttributes}
-use Rattle.gimli.specs.Header.{seen_header}
-use Rattle.gimli.specs.Sections.{Sections}
-use Rattle.gimli.specs.Text.{from_offset, entry_at, string_of}
 use Rattle.gimli.specs.Entry.{root_attributes}
 
 -- a value of the class address

@@ -1,7 +1,7 @@
 -- Strings, offsets of strings and addresses by index (DWARF 5, sections 7.26 and 7.27).
 -- Own: an offset past the section's end is OffsetOutOfBounds, and so is an entry of a table that isn't wholly in it.
 -- Own: a value of no string form is ExpectedString.
-use Rattle.std.specs.Prelude.{ℕ, ◌+◌, ◌*◌, nat_lt, length, drop, Result, Ok, Err, if◌then◌else◌}
+use Rattle.std.specs.Prelude.{ℕ, ◌+◌, ◌*◌, nat_lt, length, Result, Ok, Err, if◌then◌else◌}
 use Rattle.gimli_read.specs.declared.error.Error.{Error}
 use Rattle.gimli_read.specs.declared.error.Error.TheVariants.{OffsetOutOfBounds, ExpectedString, NoSupplementary}
 use Rattle.gimli_read.specs.declared.endian.Format.{Format}

@@ -2,7 +2,7 @@
 -- Own: bases begin at 0; in a version 5 unit of a split file at the end of the table's header.
 -- Own: the record is faulty by its abbreviations, its first entry, its line program's header, or the index of
 -- its low_pc, in this order. A name or a directory that can't be read counts as none.
-use Rattle.std.specs.Prelude.{◌≡◌, ℕ, ◌==◌, Bool, List, option_map, option_and_then, Option, Some, None, Result, Ok, Err, unwrap_or, if◌then◌else◌}
+use Rattle.std.specs.Prelude.{ℕ, ◌==◌, List, option_map, option_and_then, Option, Some, None, Result, Ok, unwrap_or, if◌then◌else◌}
 use Rattle.std.specs.Result.{result_ok}
 use Rattle.gimli_read.specs.declared.error.Error.{Error}
 use Rattle.gimli_read.specs.declared.endian.Encoding.{Encoding}

@@ -5,6 +5,8 @@ mod dwarf;
 mod entries;
 mod record;
 mod sections;
+#[cfg(test)]
+mod tests;
 mod text;
 mod unit;
 mod unit_record;

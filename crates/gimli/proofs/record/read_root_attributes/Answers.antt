@@ -1,7 +1,5 @@
 use Rattle.std.proofs.Common.{◌≡◌, sym, ap, ◌∙◌}
 use Rattle.std.proofs.lemmas.Result.{err_from_is_err_and}
-use Rattle.gimli.specs.Entry.{attributes_at}
-use Rattle.gimli.specs.Record.{gathered}
 use Rattle.gimli.proofs.RecordLemmas.{with_attribute-seen, gathered-more, gathered-fault, gathered-end}
 use Rattle.gimli.proofs.record.read_root_attributes.Goals as goal
 

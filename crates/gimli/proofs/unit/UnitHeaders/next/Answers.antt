@@ -1,4 +1,3 @@
-use Rattle.std.proofs.Common.{arith}
 use Rattle.gimli.proofs.HeaderLemmas.{next_gives, next_refuses, none_left, skipped_all}
 use Rattle.gimli.proofs.unit.UnitHeaders.next.Goals as goal
 

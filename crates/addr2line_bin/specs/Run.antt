@@ -28,6 +28,12 @@ exit_at stop.OutOfMemory = exit.Failed
 exit_at (stop.Output true) = exit.Done
 exit_at (stop.Output false) = exit.Failed
 
+-- the status that the program ends with
+abbrev pub status_at : Exit → ℕ
+status_at exit.Done = 0
+status_at exit.Failed = 1
+status_at exit.Misused = 2
+
 -- all of both texts went out, but that a failed error stream got a beginning
 pub record IsWhole (out_old out_new err_old err_new : Option (List ℕ)) (out_text err_text : List ℕ) (e : Exit) : Type 0 where
   pub out : Appends out_old out_new out_text

@@ -1,8 +1,10 @@
 //! The program `addr2line`: the file and line of addresses.
 #![tactic(auto)]
 
+ghost use Rattle.std.specs.Process.{exit_status};
+ghost use Rattle.std.specs.Prelude.{◌≡◌};
 ghost use Rattle.addr2line_lines.specs.Rows.{result_map};
-ghost use Rattle.addr2line_bin.specs.Run.{IsAnswer};
+ghost use Rattle.addr2line_bin.specs.Run.{IsAnswer, status_at};
 
 mod address;
 mod command;
@@ -67,9 +69,12 @@ fn tell_no_memory<E: Write>(name: &str, err: &mut E) -> Exit {
     tell_last(name, Stop::OutOfMemory, err, &mut false)
 }
 
-fn status_of(exit: Exit) -> ExitCode {
+// The status of an end.
+fn status_of(exit: Exit) -> ExitCode
+    ensures gives { exit_status result ≡ status_at exit }
+{
     match exit {
-        Exit::Done => ExitCode::SUCCESS,
+        Exit::Done => ExitCode::from(0),
         Exit::Failed => ExitCode::from(1),
         Exit::Misused => ExitCode::from(2),
     }

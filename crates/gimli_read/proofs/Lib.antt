@@ -6,3 +6,4 @@ pub mod RunLemmas
 pub mod FormLemmas
 pub mod AbbrevLemmas
 pub mod Listed
+pub mod PlaceLemmas

@@ -1,6 +1,7 @@
 pub mod Steps
 pub mod Leb128Lemmas
 pub mod Leb128Texts
+pub mod ShortLeb128
 pub mod Shorter
 pub mod RunLemmas
 pub mod FormLemmas

@@ -1,8 +1,10 @@
 pub mod Steps
 pub mod Leb128Lemmas
 pub mod Leb128Texts
+pub mod ShortLeb128
 pub mod Shorter
 pub mod RunLemmas
 pub mod FormLemmas
 pub mod AbbrevLemmas
 pub mod Listed
+pub mod PlaceLemmas

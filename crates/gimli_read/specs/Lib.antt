@@ -7,4 +7,5 @@ pub mod Run
 pub mod Yields
 pub mod Form
 pub mod Abbreviations
+pub mod AbbreviationPlaces
 pub mod Abbrev

@@ -1,14 +1,19 @@
 //! Abbreviation tables.
 
-ghost use Rattle.std.specs.Prelude.{◌≡◌, [], ◌∷◌, ◌++◌, None, OnOk, is_some, option_copied};
+ghost use Rattle.std.specs.Prelude.{◌≡◌, ◌≢◌, ◌<◌, ◌+◌, ◌^◌, [], ◌∷◌, ◌++◌, None, Some, OnOk, is_some, option_copied};
+ghost use Rattle.std.specs.List.{slice_get};
+ghost use Rattle.std.specs.Ordering.{nat_cmp};
+ghost use Rattle.std.specs.BTreeMap.{get};
 ghost use Rattle.gimli_read.specs.Reading.{Tells, Gives};
 ghost use Rattle.gimli_read.specs.Abbreviations.{with_code};
+ghost use Rattle.gimli_read.specs.AbbreviationPlaces.{if_coded, IsSameApart};
 ghost use Rattle.gimli_read.specs.Abbrev.{specification_at, specifications_at, declaration_at, abbreviation_at, table_at};
 
 use crate::constants::{DwAt, DwForm, DwTag};
 use crate::error::Error;
 use crate::reader::Reader;
 use std::alloc::{AllocError, Global};
+use std::collections::BTreeMap;
 use std::marker::Model;
 
 /// An attribute that the entries of an abbreviation have (DWARF 5, section 7.5.3).
@@ -89,17 +94,21 @@ impl Abbreviation {
 #[derive(Drop)]
 pub struct Abbreviations {
     entries: Vec<Abbreviation>,
+    // By code, where an abbreviation stands whose code isn't its place, counted from 1. Codes are mostly
+    // 1, 2, 3, ..: then nothing stands here.
+    displaced: BTreeMap<u64, usize>,
 }
 
 impl Model for Abbreviations {
     ghost use Rattle.std.specs.Prelude.{List};
     ghost use Rattle.gimli_read.specs.Abbreviations.{Abbrev, HasDistinctCodes};
+    ghost use Rattle.gimli_read.specs.AbbreviationPlaces.{IsPlaced};
 
     ghost Value = { List Abbrev };
 
     ghost view = { λ t. t.entries.items };
 
-    ghost invariant = { λ t. HasDistinctCodes t.entries.items };
+    ghost invariant = { λ t. HasDistinctCodes t.entries.items × IsPlaced t.entries.items t.displaced };
 }
 
 // The next attribute, or none at the end of the list.
@@ -169,17 +178,51 @@ fn read_declaration<R: Reader>(
     })
 }
 
+// The abbreviation at an index, where it has this code.
+fn coded_at(table: &[Abbreviation], code: u64, index: usize) -> Option<&Abbreviation>
+    ensures found { option_copied result ≡ if_coded code (slice_get table.now index) }
+{
+    match table.get(index) {
+        Some(abbreviation) => {
+            if abbreviation.code == code {
+                Some(abbreviation)
+            } else {
+                None
+            }
+        }
+        None => None,
+    }
+}
+
+// Notes the index of an abbreviation, where its code isn't its place, counted from 1.
+#[tactic(auto, using(crate::proofs::PlaceLemmas::apart_cmp))]
+fn note_place(
+    displaced: &mut BTreeMap<u64, usize>,
+    code: u64,
+    index: usize,
+) -> Result<(), AllocError>
+    requires in_range { index < 2 ^ 63 }
+    ensures noted { OnOk result (code ≢ index + 1 → get nat_cmp displaced.new code ≡ Some index) }
+    ensures others { IsSameApart code displaced.old displaced.new }
+{
+    if code != index as u64 + 1 {
+        displaced.insert(code, index)?;
+    }
+    Ok(())
+}
+
 impl Abbreviations {
     /// The abbreviation of a code. Takes no memory.
     pub fn get(&self, code: u64) -> Option<&Abbreviation>
         ensures found { option_copied result ≡ with_code code self.now }
     {
-        for abbreviation in &self.entries {
-            if abbreviation.code == code {
-                return Some(abbreviation);
-            }
+        if let Some(abbreviation) = coded_at(&self.entries, code, code.saturating_sub(1) as usize) {
+            return Some(abbreviation);
         }
-        None
+        match self.displaced.get(&code) {
+            Some(index) => coded_at(&self.entries, code, *index),
+            None => None,
+        }
     }
 
     // Whether the table has a code.
@@ -194,6 +237,9 @@ impl Abbreviations {
         requires new { with_code abbreviation.code self.old ≡ None }
         ensures gives { OnOk result (self.new ≡ self.old ++ abbreviation ∷ []) }
     {
+        // Before the entry: where that finds no memory, the pair leads to no abbreviation of its code.
+        let index = self.entries.as_slice().len();
+        note_place(&mut self.displaced, abbreviation.code, index)?;
         self.entries.push(abbreviation)?;
         Ok(())
     }
@@ -232,6 +278,7 @@ impl Abbreviations {
         let mut input = input;
         let mut table = Abbreviations {
             entries: Vec::new(alloc),
+            displaced: BTreeMap::new(alloc),
         };
         while let Some(abbreviation) = table.read_next(alloc, &mut input)? {
             table.push(abbreviation)?;

@@ -1,6 +1,8 @@
 //! A reader that shares its bytes.
 
-ghost use Rattle.std.specs.Prelude.{◌≡◌};
+ghost use Rattle.std.specs.Prelude.{◌≡◌, length, IsOk, OnErr};
+ghost use Rattle.gimli_read.specs.Number.{split_at};
+ghost use Rattle.gimli_read.specs.Reading.{Gives};
 ghost use Rattle.gimli_read.specs.Section.{Section};
 
 use crate::endian::RunTimeEndian;
@@ -56,7 +58,13 @@ impl Reader for EndianBytes {
         self.bytes.as_slice()
     }
 
-    fn split(&mut self, len: u64) -> Result<EndianBytes, Error> {
+    // The clauses `whole` and `none` say that it takes no memory for all of the bytes or none.
+    fn split(&mut self, len: u64) -> Result<EndianBytes, Error>
+        ensures gives { Gives (λ r. (r, self.new)) result (split_at len self.old) }
+        ensures refused { OnErr result (self.new ≡ self.old) }
+        ensures whole { len ≡ length self.old.bytes → IsOk result }
+        ensures none { len ≡ 0 → IsOk result }
+    {
         if self.len() < len {
             return Err(Error::UnexpectedEof);
         }

@@ -1,6 +1,6 @@
 //! A reader that borrows its bytes.
 
-ghost use Rattle.std.specs.Prelude.{◌≡◌, OnErr};
+ghost use Rattle.std.specs.Prelude.{◌≡◌, Ok, OnErr};
 ghost use Rattle.gimli_read.specs.Number.{split_at};
 ghost use Rattle.gimli_read.specs.Reading.{Gives, Tells};
 ghost use Rattle.gimli_read.specs.Section.{Section};
@@ -72,7 +72,11 @@ impl<'a> Reader for EndianSlice<'a> {
         Ok(())
     }
 
-    fn duplicate(&self) -> Result<EndianSlice<'a>, Error> {
+    // The clause `exact` says that it takes no memory.
+    fn duplicate(&self) -> Result<EndianSlice<'a>, Error>
+        ensures gives { Gives (λ r. r) result (Ok self.now) }
+        ensures exact { Tells (λ r. r) result (Ok self.now) }
+    {
         Ok(EndianSlice {
             bytes: self.bytes,
             endian: self.endian,

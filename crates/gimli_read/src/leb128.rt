@@ -1,9 +1,9 @@
 //! LEB128 numbers (DWARF 5, section 7.6).
 
-ghost use Rattle.std.specs.Prelude.{◌≡◌, ◌≤◌, ◌<◌, ◌^◌, length, drop, nat_lt, IfOk};
+ghost use Rattle.std.specs.Prelude.{◌≡◌, ◌≤◌, ◌<◌, ◌^◌, [], ◌∷◌, length, drop, nat_lt, IfOk};
 ghost use Rattle.std.specs.List.{position};
 ghost use Rattle.gimli_read.specs.Reading.{Tells};
-ghost use Rattle.gimli_read.specs.Leb128.{uleb128_value, leb128_text, uleb128_in, sleb128_in, ReadsUleb128, ReadsUleb128Alone, ReadsSleb128, ReadsSleb128Alone};
+ghost use Rattle.gimli_read.specs.Leb128.{uleb128_value, sleb128_value, leb128_text, uleb128_in, sleb128_in, ReadsUleb128, ReadsUleb128Alone, ReadsSleb128, ReadsSleb128Alone};
 
 use crate::error::Error;
 
@@ -50,9 +50,10 @@ fn sum_of(text: &[u8]) -> u128
     sum
 }
 
-/// The unsigned number at the front, and the number of its bytes.
+// The unsigned number at the front, and the number of its bytes, of any length.
+#[inline(never)]
 #[tactic(auto, unfolding(crate::specs::Leb128::uleb128_in))]
-pub(crate) fn unsigned(bytes: &[u8]) -> Result<(u64, usize), Error>
+fn any_unsigned(bytes: &[u8]) -> Result<(u64, usize), Error>
     ensures gives { Tells (λ x. (x.0, drop x.1 bytes.now)) result (uleb128_in bytes.now) }
     ensures bound { IfOk result (λ x. x.1 ≤ length bytes.now) }
 {
@@ -64,6 +65,20 @@ pub(crate) fn unsigned(bytes: &[u8]) -> Result<(u64, usize), Error>
     Ok((sum as u64, text.len()))
 }
 
+/// The unsigned number at the front, and the number of its bytes.
+#[inline(always)]
+#[tactic(auto, using(crate::proofs::ShortLeb128::unsigned_byte))]
+pub(crate) fn unsigned(bytes: &[u8]) -> Result<(u64, usize), Error>
+    ensures gives { Tells (λ x. (x.0, drop x.1 bytes.now)) result (uleb128_in bytes.now) }
+    ensures bound { IfOk result (λ x. x.1 ≤ length bytes.now) }
+{
+    // Most numbers are of one byte.
+    match bytes.first() {
+        Some(byte) if *byte < 128 => Ok((u64::from(*byte), 1)),
+        _ => any_unsigned(bytes),
+    }
+}
+
 // What the next byte after a text of this length would count.
 #[tactic(auto, using(crate::proofs::Leb128Lemmas::scale_of))]
 fn scale_behind(len: usize) -> u128
@@ -73,9 +88,10 @@ fn scale_behind(len: usize) -> u128
     1 << (7 * len)
 }
 
-/// The signed number at the front, and the number of its bytes.
+// The signed number at the front, and the number of its bytes, of any length.
+#[inline(never)]
 #[tactic(auto, using(crate::proofs::Leb128Lemmas::negative_is), unfolding(crate::specs::Leb128::sleb128_in))]
-pub(crate) fn signed(bytes: &[u8]) -> Result<(i64, usize), Error>
+fn any_signed(bytes: &[u8]) -> Result<(i64, usize), Error>
     ensures gives { Tells (λ x. (x.0, drop x.1 bytes.now)) result (sleb128_in bytes.now) }
     ensures bound { IfOk result (λ x. x.1 ≤ length bytes.now) }
 {
@@ -94,6 +110,30 @@ pub(crate) fn signed(bytes: &[u8]) -> Result<(i64, usize), Error>
         return Err(Error::BadLeb128);
     }
     Ok((!(below as i64), len))
+}
+
+// The signed number of a text of one byte.
+#[tactic(auto, using(crate::proofs::ShortLeb128::sign_value))]
+fn signed_of(byte: u8) -> i64
+    requires ended { byte < 128 }
+    ensures gives { result ≡ sleb128_value (byte ∷ []) }
+{
+    // With no branch: the sign is any number's.
+    byte as i64 - (byte / 64 * 128) as i64
+}
+
+/// The signed number at the front, and the number of its bytes.
+#[inline(always)]
+#[tactic(auto, using(crate::proofs::ShortLeb128::signed_byte))]
+pub(crate) fn signed(bytes: &[u8]) -> Result<(i64, usize), Error>
+    ensures gives { Tells (λ x. (x.0, drop x.1 bytes.now)) result (sleb128_in bytes.now) }
+    ensures bound { IfOk result (λ x. x.1 ≤ length bytes.now) }
+{
+    // Most numbers are of one byte.
+    match bytes.first() {
+        Some(byte) if *byte < 128 => Ok((signed_of(*byte), 1)),
+        _ => any_signed(bytes),
+    }
 }
 
 /// A number is read from its text, whatever follows, and from nothing else: a law, with no code.

@@ -1,6 +1,7 @@
 //! Worked numbers, texts, tables and values, over both readers.
 
 mod forms;
+mod memory;
 mod numbers;
 mod tables;
 

@@ -4,5 +4,7 @@ pub mod Leb128Texts
 pub mod Shorter
 pub mod RunLemmas
 pub mod FormLemmas
+pub mod ValueLemmas
+pub mod SkipLemmas
 pub mod AbbrevLemmas
 pub mod Listed

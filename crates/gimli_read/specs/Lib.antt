@@ -6,5 +6,7 @@ pub mod Text
 pub mod Run
 pub mod Yields
 pub mod Form
+pub mod Value
+pub mod Extent
 pub mod Abbreviations
 pub mod Abbrev

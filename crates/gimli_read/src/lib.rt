@@ -10,6 +10,7 @@ mod error;
 mod leb128;
 mod range;
 mod reader;
+mod skip;
 #[cfg(test)]
 mod tests;
 mod value;
@@ -23,6 +24,7 @@ pub use crate::error::Error;
 pub use crate::leb128::leb128_laws;
 pub use crate::range::Range;
 pub use crate::reader::{Reader, read_initial_length};
+pub use crate::skip::skip_attribute;
 pub use crate::value::{
     Attribute, AttributeValue, DebugInfoOffset, UnitOffset, read_attribute, read_value,
 };

@@ -2,7 +2,9 @@
 
 mod forms;
 mod numbers;
+mod skips;
 mod tables;
+mod worked;
 
 use super::*;
 use bytes::Bytes;

@@ -6,5 +6,6 @@ pub mod RunLemmas
 pub mod FormLemmas
 pub mod ValueLemmas
 pub mod SkipLemmas
+pub mod ValueTexts
 pub mod AbbrevLemmas
 pub mod Listed

@@ -7,14 +7,12 @@ use Rattle.gimli_read.specs.declared.endian.RunTimeEndian.TheVariants.{Little, B
 use Rattle.gimli_read.specs.declared.endian.Format.{Format}
 use Rattle.gimli_read.specs.declared.endian.Format.TheVariants.{Dwarf32, Dwarf64}
 use Rattle.gimli_read.specs.declared.endian.Encoding.{Encoding}
-use Rattle.gimli_read.specs.declared.abbrev.AttributeSpecification.{AttributeSpecification}
-use Rattle.gimli_read.specs.declared.value.Attribute.{Attribute}
 use Rattle.gimli_read.specs.declared.value.AttributeValue.{AttributeValue}
 use Rattle.gimli_read.specs.declared.value.AttributeValue.TheVariants as values
 use Rattle.gimli_read.specs.Section.{Section}
 use Rattle.gimli_read.specs.Number.{fixed_at, is_address_size}
 use Rattle.gimli_read.specs.Leb128.{IsUleb128, IsSleb128}
-use Rattle.gimli_read.specs.Form.{unit_ref, info_ref, info_ref_sup, value_at, attribute_at}
+use Rattle.gimli_read.specs.Form.{unit_ref, info_ref, info_ref_sup, value_at}
 
 -- the base 256 value of bytes, the lowest first
 abbrev pub low_first : List ℕ → ℕ

@@ -7,5 +7,6 @@ pub mod FormLemmas
 pub mod ValueLemmas
 pub mod SkipLemmas
 pub mod ValueTexts
+pub mod AlikeLemmas
 pub mod AbbrevLemmas
 pub mod Listed

@@ -7,6 +7,7 @@ pub mod Run
 pub mod Yields
 pub mod Form
 pub mod Value
+pub mod Alike
 pub mod Extent
 pub mod Abbreviations
 pub mod Abbrev

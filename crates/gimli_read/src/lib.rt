@@ -22,7 +22,7 @@ pub use crate::endian::{Encoding, Format, RunTimeEndian};
 pub use crate::endian_bytes::EndianBytes;
 pub use crate::endian_slice::EndianSlice;
 pub use crate::error::Error;
-pub use crate::laws::value_laws;
+pub use crate::laws::{alike_laws, value_laws};
 pub use crate::leb128::leb128_laws;
 pub use crate::range::Range;
 pub use crate::reader::{Reader, read_initial_length};

@@ -1,6 +1,9 @@
 //! Worked numbers, texts, tables and values, over both readers.
 
+mod both_readers;
+mod damage;
 mod forms;
+mod growths;
 mod numbers;
 mod skips;
 mod tables;

@@ -5,6 +5,10 @@ pub mod ShortLeb128
 pub mod Shorter
 pub mod RunLemmas
 pub mod FormLemmas
+pub mod ValueLemmas
+pub mod SkipLemmas
+pub mod ValueTexts
+pub mod AlikeLemmas
 pub mod AbbrevLemmas
 pub mod Listed
 pub mod PlaceLemmas

@@ -41,6 +41,10 @@ seen_value see (values.DebugStrOffsetsIndex x) = values.DebugStrOffsetsIndex x
 seen_value see (values.DebugLineStrRef x) = values.DebugLineStrRef x
 seen_value see (values.String x) = values.String (see x)
 
+-- what a reading leaves, where nobody looks at its value
+abbrev pub rest_of : {A : Type 0} → Reading A → Result Section Error
+rest_of read = read >>= λ x. Ok x.1
+
 -- a value made of what a reading gives
 abbrev pub as_value : {A : Type 0} → (A → AttributeValue Section) → Reading A → Reading (AttributeValue Section)
 as_value make read = read >>= λ x. Ok (make x.0, x.1)

@@ -6,6 +6,9 @@ pub mod Text
 pub mod Run
 pub mod Yields
 pub mod Form
+pub mod Value
+pub mod Alike
+pub mod Extent
 pub mod Abbreviations
 pub mod AbbreviationPlaces
 pub mod Abbrev

@@ -7,9 +7,11 @@ mod endian;
 mod endian_bytes;
 mod endian_slice;
 mod error;
+mod laws;
 mod leb128;
 mod range;
 mod reader;
+mod skip;
 #[cfg(test)]
 mod tests;
 mod value;
@@ -20,9 +22,11 @@ pub use crate::endian::{Encoding, Format, RunTimeEndian};
 pub use crate::endian_bytes::EndianBytes;
 pub use crate::endian_slice::EndianSlice;
 pub use crate::error::Error;
+pub use crate::laws::{alike_laws, value_laws};
 pub use crate::leb128::leb128_laws;
 pub use crate::range::Range;
 pub use crate::reader::{Reader, read_initial_length};
+pub use crate::skip::skip_attribute;
 pub use crate::value::{
     Attribute, AttributeValue, DebugInfoOffset, UnitOffset, read_attribute, read_value,
 };

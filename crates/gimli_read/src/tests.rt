@@ -1,9 +1,14 @@
 //! Worked numbers, texts, tables and values, over both readers.
 
+mod both_readers;
+mod damage;
 mod forms;
+mod growths;
 mod memory;
 mod numbers;
+mod skips;
 mod tables;
+mod worked;
 
 use super::*;
 use bytes::Bytes;

@@ -263,7 +263,7 @@ fn read_direct<R: Reader>(
 }
 
 // The form behind indirections.
-fn read_form<R: Reader>(input: &mut R) -> Result<DwForm, Error>
+pub(crate) fn read_form<R: Reader>(input: &mut R) -> Result<DwForm, Error>
     ensures gives { Tells (λ f. (f.0, R.section input.new)) result (form_at (R.section input.old)) }
 {
     let mut form = input.read_uleb128()?;

@@ -1,0 +1,345 @@
+-- What is read is the text of a value, and each such text is read (on specs/Value.antt).
+use Rattle.std.proofs.Common.{◌≡◌, ◌≢◌, ℕ, zero, suc, ◌+◌, ◌<◌, ◌≤◌, ◌==◌, true, false, cond, ltb, List, [], ◌∷◌, ◌++◌, length, take, drop, get_or, Option, Some, None, Ok, Err, refl, sym, ap, subst, ◌∙◌, inl, inr, arith, eq-eqb}
+use Rattle.std.specs.List.{position}
+use Rattle.std.proofs.lemmas.Bool.{le-ltb, ltb-false, lt-ltb, eqb-true, eqb-false, ne_eqb}
+use Rattle.std.proofs.lemmas.List.{length-take, length-append, get_or-take, take_more, take-append-drop, append_assoc, get_or_append_left}
+use Rattle.std.proofs.lemmas.List.Sums.{position_or_len_is}
+use Rattle.std.proofs.lemmas.List.Quantifiers.{position-Some}
+use Rattle.std.proofs.Math.Seq.{get_or-append_seam, drop-append_seam, drop-append-add, take-append_seam}
+use Rattle.byteorder.specs.Endian.{big_from, little_from}
+use Rattle.gimli_read.specs.declared.error.Error.TheVariants.{UnexpectedEof, UnsupportedAddressSize}
+use Rattle.gimli_read.specs.declared.endian.RunTimeEndian.{RunTimeEndian}
+use Rattle.gimli_read.specs.declared.endian.RunTimeEndian.TheVariants.{Little, Big}
+use Rattle.gimli_read.specs.declared.endian.Format.{Format}
+use Rattle.gimli_read.specs.declared.endian.Format.TheVariants.{Dwarf32, Dwarf64}
+use Rattle.gimli_read.specs.declared.endian.Encoding.{Encoding}
+use Rattle.gimli_read.specs.declared.value.AttributeValue.{AttributeValue}
+use Rattle.gimli_read.specs.Section.{Section, first, after}
+use Rattle.gimli_read.specs.Reading.{Reading, ◌>>=◌}
+use Rattle.gimli_read.specs.Number.{number_of, fixed_at, address_at, offset_at, split_at, ended_at, null_terminated_at, is_address_size}
+use Rattle.gimli_read.specs.Leb128.{IsUleb128, IsSleb128, uleb128_in, sleb128_in, uleb128_at, sleb128_at}
+use Rattle.gimli_read.specs.Form.{as_value, block_at, ref_addr_at, direct_at, form_within, form_at, value_at}
+use Rattle.gimli_read.specs.Value.{low_first, high_first, number_in, IsFixed, Spelling, Fixed, Address, Offset, AddressOrOffset, Unsigned, Signed, Block1, Block2, Block4, Block, Text, Empty, spelling_of, offset_size, IsAddress, IsOffset, IsAddressOrOffset, IsMadeOf, IsBlock, IsEnded, section_of, IsListedValue, IsValueBehind, ReadsFixed, ReadsFixedAlone, ReadsValue, ReadsValueAlone}
+use Rattle.gimli_read.proofs.Steps.{guard_ok, bind_ok, chosen, same_rest, same_value}
+use Rattle.gimli_read.proofs.Leb128Texts.{uleb128_reads, uleb128_alone, sleb128_reads, sleb128_alone}
+use Rattle.gimli_read.proofs.FormLemmas.{form_last, form_more}
+use Rattle.gimli_read.proofs.ValueLemmas.{spelled_at, direct_spelled}
+
+-- a section is a text and what is left
+abbrev Cut : Section → List ℕ → Section → Type 0
+Cut s text rest = s ≡ section_of rest.endian (text ++ rest.bytes)
+
+-- each text is read as what it spells, whatever follows
+abbrev Reads : {A : Type 0} → RunTimeEndian → (List ℕ → A → Type 0) → (Section → Reading A) → Type 0
+Reads {A = A} order spells read = (text rest : List ℕ) (x : A) → spells text x → read (section_of order (text ++ rest)) ≡ Ok (x, section_of order rest)
+
+-- and nothing else is read
+abbrev Alone : {A : Type 0} → RunTimeEndian → (List ℕ → A → Type 0) → (Section → Reading A) → Type 0
+Alone {A = A} order spells read = (bytes : List ℕ) (x : A) (rest : Section) → read (section_of order bytes) ≡ Ok (x, rest) → (text : List ℕ) × spells text x × Cut (section_of order bytes) text rest
+
+low_read : (front text rest : List ℕ) → little_from (length front) (length text) (front ++ (text ++ rest)) ≡ low_first text
+low_read front [] rest = refl
+low_read front (b ∷ text) rest =
+    let long : length (front ++ b ∷ []) ≡ suc (length front) = omega (arith, length-append front (b ∷ [])) in
+    let joined : (front ++ b ∷ []) ++ (text ++ rest) ≡ front ++ (b ∷ (text ++ rest)) = append_assoc front (b ∷ []) (text ++ rest) in
+    let h : little_from (suc (length front)) (length text) (front ++ (b ∷ (text ++ rest))) ≡ low_first text = rw (long, joined) at (low_read (front ++ b ∷ []) text rest) in
+    rw (get_or-append_seam front b (text ++ rest) 0, h) refl
+
+high_read : (front text rest : List ℕ) → big_from (length front) (length text) (front ++ (text ++ rest)) ≡ high_first text
+high_read front [] rest = refl
+high_read front (b ∷ text) rest =
+    let long : length (front ++ b ∷ []) ≡ suc (length front) = omega (arith, length-append front (b ∷ [])) in
+    let joined : (front ++ b ∷ []) ++ (text ++ rest) ≡ front ++ (b ∷ (text ++ rest)) = append_assoc front (b ∷ []) (text ++ rest) in
+    let h : big_from (suc (length front)) (length text) (front ++ (b ∷ (text ++ rest))) ≡ high_first text = rw (long, joined) at (high_read (front ++ b ∷ []) text rest) in
+    rw (get_or-append_seam front b (text ++ rest) 0, h) refl
+
+number_read : (order : RunTimeEndian) (text rest : List ℕ) → number_of order (length text) (text ++ rest) ≡ number_in order text
+number_read Little text rest = low_read [] text rest
+number_read Big text rest = high_read [] text rest
+
+not_short : (text rest : List ℕ) → ltb (length (text ++ rest)) (length text) ≡ false
+not_short text rest = le-ltb _ _ (omega (arith, length-append text rest))
+
+fixed_whole : (order : RunTimeEndian) (text rest : List ℕ) → fixed_at (length text) (section_of order (text ++ rest)) ≡ Ok (number_in order text, section_of order rest)
+fixed_whole order text rest = rw (not_short text rest, number_read order text rest, drop-append_seam text rest) refl
+
+pub fixed_reads : ReadsFixed
+fixed_reads order n x text rest u = ap (λ k. fixed_at k (section_of order (text ++ rest))) (sym u.long) ∙ fixed_whole order text rest ∙ ap (λ y. Ok (y, section_of order rest)) (sym u.value)
+
+cut_at : (n : ℕ) (s rest : Section) → after n s ≡ rest → Cut s (take n s.bytes) rest
+cut_at n s rest e = sym (ap (λ t. section_of t.endian (take n s.bytes ++ t.bytes)) (sym e) ∙ ap (section_of s.endian) (take-append-drop n s.bytes))
+
+take_long : (n : ℕ) (bytes : List ℕ) → ltb (length bytes) n ≡ false → length (take n bytes) ≡ n
+take_long n bytes h = omega (arith, length-take n bytes, ltb-false _ _ h)
+
+pub fixed_alone : ReadsFixedAlone
+fixed_alone n x s rest e =
+    let p = guard_ok (ltb (length s.bytes) n) UnexpectedEof (number_of s.endian n s.bytes, after n s) (x, rest) e in
+    let long = take_long n s.bytes p.0 in
+    let v : number_of s.endian n s.bytes ≡ x = ap (λ (q : ℕ × Section). q.0) p.1 in
+    let r : after n s ≡ rest = ap (λ (q : ℕ × Section). q.1) p.1 in
+    let is : number_of s.endian n s.bytes ≡ number_in s.endian (take n s.bytes) = sym (ap (λ b. number_of s.endian n b) (take-append-drop n s.bytes)) ∙ ap (λ k. number_of s.endian k (take n s.bytes ++ drop n s.bytes)) (sym long) ∙ number_read s.endian (take n s.bytes) (drop n s.bytes) in
+    (take n s.bytes, record { long = long; value = sym v ∙ is }, cut_at n s rest r)
+
+joined_cut : (s t rest : Section) (front text : List ℕ) → Cut s front t → Cut t text rest → Cut s (front ++ text) rest
+joined_cut s t rest front text e f = e ∙ ap (λ u. section_of u.endian (front ++ u.bytes)) f ∙ ap (section_of rest.endian) (sym (append_assoc front text rest.bytes))
+
+one_order : (s rest : Section) (text : List ℕ) → Cut s text rest → rest.endian ≡ s.endian
+one_order s rest text e = sym (ap (λ u. u.endian) e)
+
+-- readings of a section, one at a time
+fixed_of : (order : RunTimeEndian) (n : ℕ) → Reads order (IsFixed order n) (fixed_at n)
+fixed_of order n text rest x u = fixed_reads order n x text rest u
+
+fixed_from : (order : RunTimeEndian) (n : ℕ) → Alone order (IsFixed order n) (fixed_at n)
+fixed_from order n bytes x rest e = fixed_alone n x (section_of order bytes) rest e
+
+uleb_of : (order : RunTimeEndian) → Reads order IsUleb128 uleb128_at
+uleb_of order text rest x u = ap (λ r. r >>= λ y. Ok (y.0, section_of order y.1)) (uleb128_reads text rest x u)
+
+uleb_from : (order : RunTimeEndian) → Alone order IsUleb128 uleb128_at
+uleb_from order bytes x rest e =
+    let b = bind_ok (uleb128_in bytes) (λ y. Ok (y.0, section_of order y.1)) (x, rest) e in
+    let v : b.0.0 ≡ x = same_value (b.0.0, section_of order b.0.1) (x, rest) b.2 in
+    let r : section_of order b.0.1 ≡ rest = same_rest (b.0.0, section_of order b.0.1) (x, rest) b.2 in
+    let t = uleb128_alone bytes b.0.1 b.0.0 b.1 in
+    (t.0, subst (λ n. IsUleb128 t.0 n) v t.1, ap (section_of order) t.2 ∙ ap (λ u. section_of u.endian (t.0 ++ u.bytes)) r)
+
+sleb_of : (order : RunTimeEndian) → Reads order IsSleb128 sleb128_at
+sleb_of order text rest x u = ap (λ r. r >>= λ y. Ok (y.0, section_of order y.1)) (sleb128_reads text rest x u)
+
+sleb_from : (order : RunTimeEndian) → Alone order IsSleb128 sleb128_at
+sleb_from order bytes x rest e =
+    let b = bind_ok (sleb128_in bytes) (λ y. Ok (y.0, section_of order y.1)) (x, rest) e in
+    let v : b.0.0 ≡ x = same_value (b.0.0, section_of order b.0.1) (x, rest) b.2 in
+    let r : section_of order b.0.1 ≡ rest = same_rest (b.0.0, section_of order b.0.1) (x, rest) b.2 in
+    let t = sleb128_alone bytes b.0.1 b.0.0 b.1 in
+    (t.0, subst (λ n. IsSleb128 t.0 n) v t.1, ap (section_of order) t.2 ∙ ap (λ u. section_of u.endian (t.0 ++ u.bytes)) r)
+
+address_of : (e : Encoding) (order : RunTimeEndian) → Reads order (IsAddress e order) (address_at e.address_size)
+address_of e order text rest x u = ap (λ b. cond b (fixed_at e.address_size (section_of order (text ++ rest))) (Err UnsupportedAddressSize)) u.0 ∙ fixed_of order e.address_size text rest x u.1
+
+address_from : (e : Encoding) (order : RunTimeEndian) → Alone order (IsAddress e order) (address_at e.address_size)
+address_from e order bytes x rest h =
+    elim (chosen (is_address_size e.address_size) (fixed_at e.address_size (section_of order bytes)) (Err UnsupportedAddressSize) (Ok (x, rest)) h) [
+      | inl t ↦ let f = fixed_from order e.address_size bytes x rest t.1 in (f.0, (t.0, f.1), f.2)
+      | inr t ↦ absurd (cc (t.1))
+    ]
+
+offset_of : (format : Format) (order : RunTimeEndian) → Reads order (IsFixed order (offset_size format)) (offset_at format)
+offset_of Dwarf32 order = fixed_of order 4
+offset_of Dwarf64 order = fixed_of order 8
+
+offset_from : (format : Format) (order : RunTimeEndian) → Alone order (IsFixed order (offset_size format)) (offset_at format)
+offset_from Dwarf32 order = fixed_from order 4
+offset_from Dwarf64 order = fixed_from order 8
+
+ref_addr_of : (e : Encoding) (order : RunTimeEndian) → Reads order (IsAddressOrOffset e order) (ref_addr_at e)
+ref_addr_of e order text rest x (inl u) = ap (λ b. cond b (address_at e.address_size (section_of order (text ++ rest))) (offset_at e.format (section_of order (text ++ rest)))) (eq-eqb _ _ u.0) ∙ address_of e order text rest x u.1
+ref_addr_of e order text rest x (inr u) = ap (λ b. cond b (address_at e.address_size (section_of order (text ++ rest))) (offset_at e.format (section_of order (text ++ rest)))) (ne_eqb _ _ u.0) ∙ offset_of e.format order text rest x u.1
+
+ref_addr_from : (e : Encoding) (order : RunTimeEndian) → Alone order (IsAddressOrOffset e order) (ref_addr_at e)
+ref_addr_from e order bytes x rest h =
+    elim (chosen (e.version == 2) (address_at e.address_size (section_of order bytes)) (offset_at e.format (section_of order bytes)) (Ok (x, rest)) h) [
+      | inl t ↦ let f = address_from e order bytes x rest t.1 in (f.0, inl (eqb-true _ _ t.0, f.1), f.2)
+      | inr t ↦ let f = offset_from e.format order bytes x rest t.1 in (f.0, inr (eqb-false _ _ t.0, f.1), f.2)
+    ]
+
+-- a length and as many bytes
+split_whole : (order : RunTimeEndian) (text rest : List ℕ) → split_at (length text) (section_of order (text ++ rest)) ≡ Ok (section_of order text, section_of order rest)
+split_whole order text rest = rw (not_short text rest, take-append_seam text rest, drop-append_seam text rest) refl
+
+block_of : (order : RunTimeEndian) (spells : List ℕ → ℕ → Type 0) (read : Section → Reading ℕ) → Reads order spells read → Reads order (IsBlock order spells) (λ s. block_at (read s))
+block_of order spells read reads text rest x u =
+    let whole : read (section_of order (text ++ rest)) ≡ Ok (length x.bytes, section_of order (x.bytes ++ rest)) = ap (λ b. read (section_of order b)) (ap (λ b. b ++ rest) u.joined ∙ append_assoc u.front x.bytes rest) ∙ reads u.front (x.bytes ++ rest) (length x.bytes) u.counted in
+    ap block_at whole ∙ split_whole order x.bytes rest ∙ ap (λ o. Ok (section_of o x.bytes, section_of order rest)) (sym u.in_order)
+
+block_from : (order : RunTimeEndian) (spells : List ℕ → ℕ → Type 0) (read : Section → Reading ℕ) → Alone order spells read → Alone order (IsBlock order spells) (λ s. block_at (read s))
+block_from order spells read alone bytes x rest e =
+    let b = bind_ok (read (section_of order bytes)) (λ n. split_at n.0 n.1) (x, rest) e in
+    let n = b.0.0 in
+    let t = b.0.1 in
+    let f = alone bytes n t b.1 in
+    let p = guard_ok (ltb (length t.bytes) n) UnexpectedEof (first n t, after n t) (x, rest) b.2 in
+    let part : first n t ≡ x = ap (λ (q : Section × Section). q.0) p.1 in
+    let left : after n t ≡ rest = ap (λ (q : Section × Section). q.1) p.1 in
+    let long : n ≡ length (take n t.bytes) = sym (take_long n t.bytes p.0) in
+    let same : take n t.bytes ≡ x.bytes = ap (λ u. u.bytes) part in (
+      f.0 ++ take n t.bytes,
+      record {
+        front = f.0;
+        joined = ap (λ b. f.0 ++ b) same;
+        counted = subst (λ k. spells f.0 k) (long ∙ ap length same) f.1;
+        in_order = sym (ap (λ u. u.endian) part) ∙ one_order (section_of order bytes) t f.0 f.2;
+      },
+      joined_cut (section_of order bytes) t rest f.0 (take n t.bytes) f.2 (cut_at n t rest left),
+    )
+
+-- bytes up to a zero
+zero_at : (xs : List ℕ) (i : ℕ) → i < length xs → ((k : ℕ) → k < i → (get_or xs k 0 == 0) ≡ false) → (get_or xs i 0 == 0) ≡ true → position (λ b. b == 0) xs ≡ Some i
+zero_at xs i h before at =
+    let e = position_or_len_is (λ b. b == 0) xs i 0 (omega arith) before (λ _. at) in
+    rw (e, lt-ltb i (length xs) h) refl
+
+ended_of : (order : RunTimeEndian) → Reads order (IsEnded order) null_terminated_at
+ended_of order text rest x u =
+    let chars = x.bytes in
+    let whole : text ++ rest ≡ chars ++ 0 ∷ rest = ap (λ b. b ++ rest) u.joined ∙ append_assoc chars (0 ∷ []) rest in
+    let place : position (λ b. b == 0) (chars ++ 0 ∷ rest) ≡ Some (length chars) = zero_at (chars ++ 0 ∷ rest) (length chars) (omega (arith, length-append chars (0 ∷ rest))) (λ k h. rw (get_or_append_left chars (0 ∷ rest) 0 k h) (ne_eqb _ _ (u.no_zero k h))) (rw (get_or-append_seam chars 0 rest 0) refl) in
+    let behind : drop (length chars + 1) (chars ++ 0 ∷ rest) ≡ rest = drop-append-add chars (0 ∷ rest) 1 in
+    ap (λ b. null_terminated_at (section_of order b)) whole ∙ ap (ended_at (section_of order (chars ++ 0 ∷ rest))) place ∙ rw (take-append_seam chars (0 ∷ rest), behind) (ap (λ o. Ok (section_of o chars, section_of order rest)) (sym u.in_order))
+
+ended_is : (order : RunTimeEndian) (bytes : List ℕ) (x rest : Section) (o : Option ℕ) → position (λ b. b == 0) bytes ≡ o → ended_at (section_of order bytes) o ≡ Ok (x, rest) → (text : List ℕ) × IsEnded order text x × Cut (section_of order bytes) text rest
+ended_is order bytes x rest None h e = absurd cc
+ended_is order bytes x rest (Some n) h e =
+    let s = section_of order bytes in
+    let p = position-Some (λ b. b == 0) bytes n 0 h in
+    let part : first n s ≡ x = same_value (first n s, after (n + 1) s) (x, rest) e in
+    let left : after (n + 1) s ≡ rest = same_rest (first n s, after (n + 1) s) (x, rest) e in
+    let same : take n bytes ≡ x.bytes = ap (λ u. u.bytes) part in
+    let zero_is : get_or bytes n 0 ≡ 0 = eqb-true _ _ p.1 in
+    let short : length (take n bytes) ≤ n = omega (arith, length-take n bytes) in (
+      take (n + 1) bytes,
+      record {
+        joined = take_more bytes n 0 p.0 ∙ ap (λ b. take n bytes ++ b ∷ []) zero_is ∙ ap (λ b. b ++ 0 ∷ []) same;
+        no_zero = subst (λ b. (k : ℕ) → k < length b → get_or b k 0 ≢ 0) same (λ k l. let in_front : k < n = omega (arith, l, short) in rw (get_or-take n bytes k 0 in_front) (eqb-false _ _ (p.2 k in_front)));
+        in_order = sym (ap (λ u. u.endian) part);
+      },
+      cut_at (n + 1) s rest left,
+    )
+
+ended_from : (order : RunTimeEndian) → Alone order (IsEnded order) null_terminated_at
+ended_from order bytes x rest e = ended_is order bytes x rest (position (λ b. b == 0) bytes) refl e
+
+-- a value that is made of what is read
+made_of : {A : Type 0} (order : RunTimeEndian) (spells : List ℕ → A → Type 0) (read : Section → Reading A) (make : A → AttributeValue Section) → Reads order spells read → Reads order (IsMadeOf spells make) (λ s. as_value make (read s))
+made_of order spells read make reads text rest v u = ap (as_value make) (reads text rest u.0 u.1) ∙ ap (λ w. Ok (w, section_of order rest)) (sym u.2)
+
+made_from : {A : Type 0} (order : RunTimeEndian) (spells : List ℕ → A → Type 0) (read : Section → Reading A) (make : A → AttributeValue Section) → Alone order spells read → Alone order (IsMadeOf spells make) (λ s. as_value make (read s))
+made_from order spells read make alone bytes v rest e =
+    let b = bind_ok (read (section_of order bytes)) (λ x. Ok (make x.0, x.1)) (v, rest) e in
+    let f = alone bytes b.0.0 b.0.1 b.1 in
+    let made : make b.0.0 ≡ v = same_value (make b.0.0, b.0.1) (v, rest) b.2 in
+    let left : b.0.1 ≡ rest = same_rest (make b.0.0, b.0.1) (v, rest) b.2 in
+    (f.0, (b.0.0, f.1, sym made), f.2 ∙ ap (λ u. section_of u.endian (f.0 ++ u.bytes)) left)
+
+listed_of : (e : Encoding) (order : RunTimeEndian) (o : Option Spelling) → Reads order (IsListedValue e order o) (λ s. spelled_at e s o)
+listed_of e order None = λ text rest v u. absurd u
+listed_of e order (Some (Fixed n make)) = made_of order (IsFixed order n) (fixed_at n) make (fixed_of order n)
+listed_of e order (Some (Address make)) = made_of order (IsAddress e order) (address_at e.address_size) make (address_of e order)
+listed_of e order (Some (Offset make)) = made_of order (IsOffset e order) (offset_at e.format) make (offset_of e.format order)
+listed_of e order (Some (AddressOrOffset make)) = made_of order (IsAddressOrOffset e order) (ref_addr_at e) make (ref_addr_of e order)
+listed_of e order (Some (Unsigned make)) = made_of order IsUleb128 uleb128_at make (uleb_of order)
+listed_of e order (Some (Signed make)) = made_of order IsSleb128 sleb128_at make (sleb_of order)
+listed_of e order (Some (Block1 make)) = made_of order (IsBlock order (IsFixed order 1)) (λ s. block_at (fixed_at 1 s)) make (block_of order (IsFixed order 1) (fixed_at 1) (fixed_of order 1))
+listed_of e order (Some (Block2 make)) = made_of order (IsBlock order (IsFixed order 2)) (λ s. block_at (fixed_at 2 s)) make (block_of order (IsFixed order 2) (fixed_at 2) (fixed_of order 2))
+listed_of e order (Some (Block4 make)) = made_of order (IsBlock order (IsFixed order 4)) (λ s. block_at (fixed_at 4 s)) make (block_of order (IsFixed order 4) (fixed_at 4) (fixed_of order 4))
+listed_of e order (Some (Block make)) = made_of order (IsBlock order IsUleb128) (λ s. block_at (uleb128_at s)) make (block_of order IsUleb128 uleb128_at (uleb_of order))
+listed_of e order (Some (Text make)) = made_of order (IsEnded order) null_terminated_at make (ended_of order)
+listed_of e order (Some (Empty made)) = λ text rest v u. ap (λ t. Ok (made, section_of order (t ++ rest))) u.0 ∙ ap (λ w. Ok (w, section_of order rest)) (sym u.1)
+
+listed_from : (e : Encoding) (order : RunTimeEndian) (o : Option Spelling) → Alone order (IsListedValue e order o) (λ s. spelled_at e s o)
+listed_from e order None = λ bytes v rest h. absurd (cc (h))
+listed_from e order (Some (Fixed n make)) = made_from order (IsFixed order n) (fixed_at n) make (fixed_from order n)
+listed_from e order (Some (Address make)) = made_from order (IsAddress e order) (address_at e.address_size) make (address_from e order)
+listed_from e order (Some (Offset make)) = made_from order (IsOffset e order) (offset_at e.format) make (offset_from e.format order)
+listed_from e order (Some (AddressOrOffset make)) = made_from order (IsAddressOrOffset e order) (ref_addr_at e) make (ref_addr_from e order)
+listed_from e order (Some (Unsigned make)) = made_from order IsUleb128 uleb128_at make (uleb_from order)
+listed_from e order (Some (Signed make)) = made_from order IsSleb128 sleb128_at make (sleb_from order)
+listed_from e order (Some (Block1 make)) = made_from order (IsBlock order (IsFixed order 1)) (λ s. block_at (fixed_at 1 s)) make (block_from order (IsFixed order 1) (fixed_at 1) (fixed_from order 1))
+listed_from e order (Some (Block2 make)) = made_from order (IsBlock order (IsFixed order 2)) (λ s. block_at (fixed_at 2 s)) make (block_from order (IsFixed order 2) (fixed_at 2) (fixed_from order 2))
+listed_from e order (Some (Block4 make)) = made_from order (IsBlock order (IsFixed order 4)) (λ s. block_at (fixed_at 4 s)) make (block_from order (IsFixed order 4) (fixed_at 4) (fixed_from order 4))
+listed_from e order (Some (Block make)) = made_from order (IsBlock order IsUleb128) (λ s. block_at (uleb128_at s)) make (block_from order IsUleb128 uleb128_at (uleb_from order))
+listed_from e order (Some (Text make)) = made_from order (IsEnded order) null_terminated_at make (ended_from order)
+listed_from e order (Some (Empty made)) = λ bytes v rest h. ([], (refl, sym (same_value (made, section_of order bytes) (v, rest) h)), same_rest (made, section_of order bytes) (v, rest) h)
+
+direct_of : (e : Encoding) (order : RunTimeEndian) (form : ℕ) → Reads order (IsListedValue e order (spelling_of form)) (direct_at e form)
+direct_of e order form text rest v u = direct_spelled e form (section_of order (text ++ rest)) ∙ listed_of e order (spelling_of form) text rest v u
+
+direct_from : (e : Encoding) (order : RunTimeEndian) (form : ℕ) → Alone order (IsListedValue e order (spelling_of form)) (direct_at e form)
+direct_from e order form bytes v rest h = listed_from e order (spelling_of form) bytes v rest (sym (direct_spelled e form (section_of order bytes)) ∙ h)
+
+-- indirect itself is not listed
+not_listed : (e : Encoding) (order : RunTimeEndian) (form : ℕ) (text : List ℕ) (v : AttributeValue Section) → IsListedValue e order (spelling_of form) text v → form ≢ 0x16
+unfolding spelling_of
+not_listed e order form text v u is = subst (λ f. IsListedValue e order (spelling_of f) text v) is u
+
+-- the value of the form that is read first
+abbrev behind_form : Encoding → Section → Reading (AttributeValue Section)
+behind_form e s = form_at s >>= λ real. direct_at e real.0 real.1
+
+behind_of : (n : ℕ) (e : Encoding) (order : RunTimeEndian) (real : ℕ) (front behind rest : List ℕ) (v : AttributeValue Section) → IsUleb128 front real → IsValueBehind n e order real behind v → behind_form e (section_of order (front ++ (behind ++ rest))) ≡ Ok (v, section_of order rest)
+behind_of zero e order real front behind rest v l u =
+    let read = uleb_of order front (behind ++ rest) real l in
+    ap (λ r. r >>= λ f. direct_at e f.0 f.1) (form_last _ real _ read (ne_eqb _ _ (not_listed e order real behind v u))) ∙ direct_of e order real behind rest v u
+behind_of (suc n) e order real front behind rest v l (is, (next, next_front, next_behind, joined, k, u)) =
+    let read = uleb_of order front (behind ++ rest) real l in
+    let whole : behind ++ rest ≡ next_front ++ (next_behind ++ rest) = ap (λ b. b ++ rest) joined ∙ append_assoc next_front next_behind rest in
+    ap (λ r. r >>= λ f. direct_at e f.0 f.1) (form_more _ real _ read (eq-eqb _ _ is)) ∙ ap (λ b. behind_form e (section_of order b)) whole ∙ behind_of n e order next next_front next_behind rest v k u
+
+value_of : (n : ℕ) (e : Encoding) (order : RunTimeEndian) (form : ℕ) (text rest : List ℕ) (v : AttributeValue Section) → IsValueBehind n e order form text v → value_at e form (section_of order (text ++ rest)) ≡ Ok (v, section_of order rest)
+unfolding value_at
+value_of zero e order form text rest v u = ap (λ b. cond b (behind_form e (section_of order (text ++ rest))) (direct_at e form (section_of order (text ++ rest)))) (ne_eqb _ _ (not_listed e order form text v u)) ∙ direct_of e order form text rest v u
+value_of (suc n) e order form text rest v (is, (real, front, behind, joined, l, u)) =
+    let whole : text ++ rest ≡ front ++ (behind ++ rest) = ap (λ b. b ++ rest) joined ∙ append_assoc front behind rest in
+    ap (λ b. cond b (behind_form e (section_of order (text ++ rest))) (direct_at e form (section_of order (text ++ rest)))) (eq-eqb _ _ is) ∙ ap (λ b. behind_form e (section_of order b)) whole ∙ behind_of n e order real front behind rest v l u
+
+pub value_reads : ReadsValue
+value_reads e order form text rest v u = value_of u.0 e order form text rest v u.1
+
+-- a form's text, and then the text of a value behind n more indirections
+record IsBehind (e : Encoding) (s rest : Section) (v : AttributeValue Section) : Type 0 where
+  hops : ℕ
+  real : ℕ
+  front : List ℕ
+  behind : List ℕ
+  form : IsUleb128 front real
+  value : IsValueBehind hops e s.endian real behind v
+  cut : Cut s (front ++ behind) rest
+
+behind_from : (n : ℕ) (e : Encoding) (s : Section) (real : ℕ) (t rest : Section) (v : AttributeValue Section) → form_within n s ≡ Ok (real, t) → direct_at e real t ≡ Ok (v, rest) → IsBehind e s rest v
+unfolding form_within
+behind_from zero e s real t rest v h k = absurd cc
+behind_from (suc n) e s real t rest v h k =
+    let b = bind_ok (uleb128_at s) (λ f. cond (f.0 == 0x16) (form_within n f.1) (Ok f)) (real, t) h in
+    let f = b.0.0 in
+    let u = b.0.1 in
+    let l = uleb_from s.endian s.bytes f u b.1 in
+    let order = one_order s u l.0 l.2 in
+    elim (chosen (f == 0x16) (form_within n u) (Ok (f, u)) (Ok (real, t)) b.2) [
+      | inl c ↦
+          let i = behind_from n e u real t rest v c.1 k in
+          record {
+            hops = suc i.hops;
+            real = f;
+            front = l.0;
+            behind = i.front ++ i.behind;
+            form = l.1;
+            value = (eqb-true _ _ c.0, (i.real, i.front, i.behind, refl, i.form, subst (λ o. IsValueBehind i.hops e o i.real i.behind v) order i.value));
+            cut = joined_cut s u rest l.0 (i.front ++ i.behind) l.2 i.cut;
+          }
+      | inr c ↦
+          let same : f ≡ real = same_value (f, u) (real, t) c.1 in
+          let left : u ≡ t = same_rest (f, u) (real, t) c.1 in
+          let d = direct_from e u.endian f u.bytes v rest (ap (λ g. direct_at e g u) same ∙ ap (direct_at e real) left ∙ k) in
+          record {
+            hops = zero;
+            real = f;
+            front = l.0;
+            behind = d.0;
+            form = l.1;
+            value = subst (λ o. IsListedValue e o (spelling_of f) d.0 v) order d.1;
+            cut = joined_cut s u rest l.0 d.0 l.2 d.2;
+          }
+    ]
+
+pub value_alone : ReadsValueAlone
+unfolding value_at
+value_alone e form s rest v h =
+    elim (chosen (form == 0x16) (behind_form e s) (direct_at e form s) (Ok (v, rest)) h) [
+      | inl c ↦
+          let b = bind_ok (form_at s) (λ real. direct_at e real.0 real.1) (v, rest) c.1 in
+          let i = behind_from (length s.bytes + 1) e s b.0.0 b.0.1 rest v b.1 b.2 in
+          (i.front ++ i.behind, (suc i.hops, (eqb-true _ _ c.0, (i.real, i.front, i.behind, refl, i.form, i.value))), i.cut)
+      | inr c ↦ let d = direct_from e s.endian form s.bytes v rest c.1 in (d.0, (zero, d.1), d.2)
+    ]

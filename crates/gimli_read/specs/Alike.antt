@@ -1,0 +1,29 @@
+-- Answers of two readers to one reading (DWARF 5, section 7.5: what a section says is in its bytes and their order).
+-- Own: memory may be wanting at one reader and not at the other.
+use Rattle.std.specs.Prelude.{◌≡◌, ◌≢◌, Result, Ok, Err}
+use Rattle.gimli_read.specs.declared.error.Error.{Error}
+use Rattle.gimli_read.specs.declared.error.Error.TheVariants.{OutOfMemory}
+use Rattle.gimli_read.specs.Section.{Section}
+use Rattle.gimli_read.specs.Reading.{Tells, Gives}
+
+-- an answer whose value is seen by view
+abbrev pub seen_answer : {X Z : Type 0} → (X → Z) → Result X Error → Result Z Error
+seen_answer view (Ok x) = Ok (view x)
+seen_answer view (Err e) = Err e
+
+-- the answer is a value, or a refusal that is no want of memory
+abbrev pub HadMemory : {X : Type 0} → Result X Error → Type 0
+HadMemory (Ok x) = Unit {0}
+HadMemory (Err e) = e ≢ OutOfMemory
+
+-- what two readers of equal sections tell is the same: value, rest and fault
+abbrev pub TellAlike : Type 0 → Type 0 → Type 0 → Type 0
+TellAlike X Y Z =
+    (read : Section → Result Z Error) (s t : Section) (view : X → Z) (see : Y → Z) (x : Result X Error) (y : Result Y Error)
+    → s ≡ t → Tells view x (read s) → Tells see y (read t) → seen_answer view x ≡ seen_answer see y
+
+-- what two readers of equal sections give is the same, where neither wanted memory
+abbrev pub GiveAlike : Type 0 → Type 0 → Type 0 → Type 0
+GiveAlike X Y Z =
+    (read : Section → Result Z Error) (s t : Section) (view : X → Z) (see : Y → Z) (x : Result X Error) (y : Result Y Error)
+    → s ≡ t → Gives view x (read s) → Gives see y (read t) → HadMemory x → HadMemory y → seen_answer view x ≡ seen_answer see y

@@ -1,0 +1,24 @@
+//! Laws of the readings, with no code.
+
+ghost use Rattle.gimli_read.specs.Alike.{TellAlike, GiveAlike};
+ghost use Rattle.gimli_read.specs.Value.{ReadsFixed, ReadsFixedAlone, ReadsValue, ReadsValueAlone};
+
+/// A fixed number and an attribute's value are read from their texts, whatever follows, and from
+/// nothing else: a law, with no code.
+pub fn value_laws()
+    ensures fixed { ReadsFixed }
+    ensures fixed_alone { ReadsFixedAlone }
+    ensures value { ReadsValue }
+    ensures value_alone { ReadsValueAlone }
+{}
+
+/// Readers of equal sections answer alike: a law, with no code.
+///
+/// Each call of a reader tells or gives a reading of its section. Of two such answers to one reading
+/// of equal sections the values, what is left and the faults are equal; where a call may take memory,
+/// unless one of them was refused it. `X` and `Y` are what the two calls answer, and `Z` is what both
+/// are seen as.
+pub fn alike_laws<X, Y, Z>()
+    ensures told { TellAlike X Y Z }
+    ensures given { GiveAlike X Y Z }
+{}

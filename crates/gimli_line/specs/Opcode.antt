@@ -1,8 +1,7 @@
 -- The opcodes of a line program (DWARF 5, sections 6.2.5 and 7.22).
 -- Own: a standard opcode that isn't known has as many LEB128 numbers as the header says.
 -- Own: what an extended opcode's length leaves behind its operand is passed over.
-use Rattle.std.specs.Prelude.{ℕ, zero, suc, ◌-◌, ◌==◌, ◌&&◌, List, [], ◌∷◌, length, slice_index, Option, Some, None, Result, Ok, Err, nat_lt, nat_le, if◌then◌else◌, Bool}
-use Rattle.gimli_read.specs.declared.error.Error.{Error}
+use Rattle.std.specs.Prelude.{ℕ, zero, suc, ◌-◌, ◌==◌, ◌&&◌, List, [], ◌∷◌, length, slice_index, Option, Some, None, Ok, nat_lt, nat_le, if◌then◌else◌, Bool}
 use Rattle.gimli_read.specs.declared.value.AttributeValue.TheVariants.{String}
 use Rattle.gimli_read.specs.Section.{Section}
 use Rattle.gimli_read.specs.Reading.{Reading, ◌>>=◌}

@@ -7,14 +7,15 @@ ghost use Rattle.gimli_line.specs.Header.{seen_header, seen_program};
 ghost use Rattle.gimli_line.specs.Lines.{lines_of, YieldsIfRoom, KeepsFiles};
 ghost use Rattle.gimli_line.specs.Opcode.{seen_instruction};
 ghost use Rattle.gimli_line.specs.Rises.{rows_before, NeverFalls, RowsRise};
-ghost use Rattle.gimli_line.specs.Steps.{taken, rows_left, files_left, DefinesOn, Finds};
+ghost use Rattle.gimli_line.specs.Steps.{taken, ran, rows_left, files_left, DefinesOn, Finds};
 
 use crate::copies::duplicate_header;
 use crate::header::LineProgramHeader;
 use crate::machine::Machine;
-use crate::opcode::{LineInstruction, read_instruction};
+use crate::opcode::{LineInstruction, Opcode, read_extended};
 use crate::registers::Registers;
 use crate::row::LineRow;
+use crate::standard::run_standard;
 use gimli_read::{Error, Reader};
 use std::marker::Model;
 
@@ -156,6 +157,37 @@ fn take_instruction<R: Reader>(
     }
 }
 
+// Runs the instruction behind an opcode's code, and gives the row that it puts out, if any. Special opcodes
+// stand in most rows: theirs is the short way.
+#[inline(always)]
+#[tactic(auto, unfolding(crate::specs::Steps::ran, crate::specs::Steps::taken))]
+fn run_behind_code<R: Reader>(
+    machine: &Machine,
+    header: &mut LineProgramHeader<R>,
+    registers: &mut Registers,
+    code: u8,
+    program: &mut R,
+) -> Result<Option<LineRow>, Error>
+    requires same { machine.now.encoding ≡ header.old.line_encoding }
+    requires index { registers.old.op_index < machine.now.encoding.maximum_operations_per_instruction }
+    requires fits { registers.old.address < limit machine.now.encoding }
+    ensures gives { Gives (λ x. (x, registers.new, seen_header R.section header.new, R.section program.new)) result
+        (ran (seen_header R.section header.old) registers.old code (R.section program.old)) }
+    ensures same { machine.now.encoding ≡ header.new.line_encoding }
+    ensures index { OnOk result (registers.new.op_index < machine.now.encoding.maximum_operations_per_instruction) }
+    ensures fits { OnOk result (registers.new.address < limit machine.now.encoding) }
+{
+    if code == 0 {
+        let instruction = read_extended(header, program)?;
+        return take_instruction(machine, header, registers, instruction);
+    }
+    if code >= header.line_encoding.opcode_base {
+        let opcode = Opcode::Special(code - header.line_encoding.opcode_base);
+        return registers.execute(machine, opcode);
+    }
+    run_standard(machine, header, registers, code, program)
+}
+
 // Runs the program up to its next row.
 fn find_row<R: Reader>(
     machine: &Machine,
@@ -176,8 +208,9 @@ fn find_row<R: Reader>(
     ensures index { OnOk result (registers.new.op_index < machine.now.encoding.maximum_operations_per_instruction) }
     ensures fits { OnOk result (registers.new.address < limit machine.now.encoding) }
 {
-    while let Some(instruction) = read_instruction(header, program)? {
-        if let Some(row) = take_instruction(machine, header, registers, instruction)? {
+    while !program.is_empty() {
+        let code = program.read_u8()?;
+        if let Some(row) = run_behind_code(machine, header, registers, code, program)? {
             return Ok(Some(row));
         }
     }

@@ -4,8 +4,8 @@ use Rattle.gimli_line.specs.Header.{seen_header}
 use Rattle.gimli_line.specs.Steps.{rows_left, DefinesOn}
 use Rattle.gimli_line.proofs.program.find_row.Given as goal
 
-abbrev pub invariant-loop-instruction : goal.invariant-loop-instruction
-invariant-loop-instruction g l = record {
+abbrev pub invariant-loop-program : goal.invariant-loop-program
+invariant-loop-program g l = record {
   same : l.machine.encoding ≡ l.header.line_encoding;
   index : l.registers.op_index < l.machine.encoding.maximum_operations_per_instruction;
   fits : l.registers.address < limit l.machine.encoding;
@@ -13,5 +13,5 @@ invariant-loop-instruction g l = record {
   files : DefinesOn (seen_header g.R.Reader.section l.fn.header) (g.R.Reader.section l.fn.program) (seen_header g.R.Reader.section l.header) (g.R.Reader.section l.program);
 }
 
-abbrev pub decreases-loop-instruction : goal.decreases-loop-instruction
-decreases-loop-instruction g l = length (g.R.Reader.section l.program).bytes
+abbrev pub decreases-loop-program : goal.decreases-loop-program
+decreases-loop-program g l = length (g.R.Reader.section l.program).bytes

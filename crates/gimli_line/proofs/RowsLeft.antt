@@ -17,7 +17,7 @@ use Rattle.gimli_line.specs.declared.opcode.LineInstruction.TheVariants.{Changes
 use Rattle.gimli_line.specs.declared.registers.Registers.{Registers}
 use Rattle.gimli_line.specs.declared.row.LineRow.{LineRow}
 use Rattle.gimli_line.specs.Header.{Header}
-use Rattle.gimli_line.specs.Opcode.{instruction_at, behind_code, extended_at, extended_in, standard_at, instructions_of, opcodes_in, files_in}
+use Rattle.gimli_line.specs.Opcode.{instruction_at, behind_code, extended_at, extended_in, standard_at, instructions_of, opcodes_in, files_in, gives_file}
 use Rattle.gimli_line.specs.Steps.{executed, rows_from, continued, with_row, rows_left, files_left, taken, ran, ran_standard, DefinesOn, Finds}
 use Rattle.gimli_line.specs.Lines.{YieldsIfRoom}
 use Rattle.gimli_line.proofs.Shortening.{instruction-takes}
@@ -188,6 +188,32 @@ files_more h r s t (Defines x) row q g f k =
     ∙ sym (append_assoc h.file_names (x ∷ []) (files_left h t))
     ∙ sym (ap (λ (v : Run (LineInstruction Section) Section). fs ++ files_in v.items) (same_run h fs t))
     ∙ ap (λ (z : State). z.2.file_names ++ files_left z.2 t) same
+
+-- where no file was still to be defined, none is one instruction on
+pub files_none : (h : Header) (r : Registers) (s t : Section) (i : LineInstruction Section) (row : Option LineRow) (q : Registers) (g : Header) → instruction_at h s ≡ Ok (Some i, t) → taken h r i ≡ Ok (row, q, g)
+    → files_left h s ≡ [] → files_left g t ≡ []
+unfolding taken
+files_none h r s t (Changes op) row q g f k n = by_cases (executed h.line_encoding r op) k
+  where
+    by_cases : (x : Result (Option LineRow × Registers) Error) → (x >>= λ y. done {A = State} (y.0, y.1, h)) ≡ Ok (row, q, g) → files_left g t ≡ []
+    by_cases (Ok y) e =
+        let same : ◌≡◌ {A = State} (y.0, y.1, h) (row, q, g) = cc in
+        ap (λ (z : State). files_left z.2 t) (sym same) ∙ sym (ap (λ (v : Run (LineInstruction Section) Section). files_in v.items) (run_at h s (Ok (Some (Changes op), t)) f)) ∙ n
+    by_cases (Err d) e = absurd (cc (e))
+files_none h r s t (Defines x) row q g f k n =
+    let some : x ∷ files_left h t ≡ [] = sym (ap (λ (v : Run (LineInstruction Section) Section). files_in v.items) (run_at h s (Ok (Some (Defines x), t)) f)) ∙ n in
+    absurd (cc (some))
+
+-- and this one defines none
+pub no_file : (h : Header) (s u : Section) (code : ℕ) → (length s.bytes == 0) ≡ false → fixed_at 1 s ≡ Ok (code, u) → files_left h s ≡ [] → gives_file (behind_code h code u) ≡ false
+no_file h s u code n f none = by_cases (behind_code h code u) (at_code h s u code n f)
+  where
+    by_cases : (x : Reading (LineInstruction Section)) → instruction_at h s ≡ (x >>= λ i. done {A = Option (LineInstruction Section) × Section} (Some i.0, i.1)) → gives_file x ≡ false
+    by_cases (Ok (Changes op, t)) at = refl
+    by_cases (Ok (Defines x, t)) at =
+        let some : x ∷ files_left h t ≡ [] = sym (ap (λ (v : Run (LineInstruction Section) Section). files_in v.items) (run_at h s (Ok (Some (Defines x), t)) at)) ∙ none in
+        absurd (cc (some))
+    by_cases (Err e) at = refl
 
 -- nothing else of the header changes
 pub header_kept : (h : Header) (r : Registers) (i : LineInstruction Section) (row : Option LineRow) (q : Registers) (g : Header) → taken h r i ≡ Ok (row, q, g) → g ≡ record h { file_names = g.file_names }

@@ -1,12 +1,14 @@
 //! The opcodes of line programs.
 
-ghost use Rattle.std.specs.Prelude.{◌≡◌, ◌==◌, ◌&&◌, nat_lt};
+ghost use Rattle.std.specs.Prelude.{◌≡◌, ◌==◌, ◌&&◌, false, nat_lt, IfErr, Err};
+ghost use Rattle.std.specs.List.{position};
 ghost use Rattle.gimli_read.specs.Reading.{Tells, Gives};
+ghost use Rattle.gimli_read.specs.Number.{null_terminated_at};
 ghost use Rattle.gimli_line.specs.Header.{seen_file, seen_header};
-ghost use Rattle.gimli_line.specs.Opcode.{seen_instruction, entry_behind, file_entry_at, operand_at, defines, extended_in, extended_at};
+ghost use Rattle.gimli_line.specs.Opcode.{seen_instruction, entry_behind, file_entry_at, operand_at, defines, extended_in, extended_at, gives_file, fault_of};
 
 use crate::header::{FileEntry, LineProgramHeader};
-use gimli_read::{AttributeValue, EndianSlice, Error, Reader};
+use gimli_read::{AttributeValue, EndianSlice, Error, Reader, RunTimeEndian};
 
 /// An opcode with its operands (DWARF 5, section 6.2.5).
 #[derive(Clone, Copy, Debug, PartialEq, Eq)]
@@ -69,6 +71,41 @@ fn read_file_entry<R: Reader>(input: &mut R) -> Result<FileEntry<R>, Error>
     read_entry_behind(path, input)
 }
 
+// Where the first zero byte stands.
+fn zero_of(bytes: &[u8]) -> Option<usize>
+    ensures found { result ≡ position (λ b. b == 0) bytes.now }
+{
+    bytes.iter().position(|byte| *byte == 0)
+}
+
+// A text that a zero byte ends, and what stands behind that byte.
+fn split_text(
+    bytes: &[u8],
+    endian: RunTimeEndian,
+) -> Result<(EndianSlice<'_>, EndianSlice<'_>), Error>
+    ensures gives { Tells (λ x. x) result
+        (null_terminated_at (record { bytes = bytes.now; endian = endian })) }
+{
+    match zero_of(bytes) {
+        None => Err(Error::UnexpectedEof),
+        Some(len) => Ok((
+            EndianSlice::new(&bytes[..len], endian),
+            EndianSlice::new(&bytes[len + 1..], endian),
+        )),
+    }
+}
+
+// The fault of a file of versions 2 to 4, if it has one. Takes no memory.
+#[tactic(auto, unfolding(crate::specs::Opcode::file_entry_at))]
+fn check_file_entry(bytes: &[u8], endian: RunTimeEndian) -> Result<(), Error>
+    ensures gives { Tells (λ x. x) result
+        (fault_of (file_entry_at (record { bytes = bytes.now; endian = endian }))) }
+{
+    let (path, mut rest) = split_text(bytes, endian)?;
+    let _file = read_entry_behind(path, &mut rest)?;
+    Ok(())
+}
+
 // Whether an extended opcode is define_file.
 fn defines_file<R>(header: &LineProgramHeader<R>, code: u8) -> bool
     ensures gives { result ≡ (code == 3 && nat_lt header.now.encoding.version 5) }
@@ -93,8 +130,8 @@ fn read_operand<R, S: Reader>(
     }
 }
 
-/// A length, and an extended opcode in as many bytes. Those that define no file are read from a slice, which
-/// takes no memory.
+/// A length, and an extended opcode in as many bytes. Memory is taken for a file alone, whose bytes are there:
+/// all else is read from a slice.
 #[tactic(auto, unfolding(crate::specs::Opcode::extended_in, crate::specs::Opcode::extended_at))]
 pub(crate) fn read_extended<R: Reader>(
     header: &LineProgramHeader<R>,
@@ -102,6 +139,9 @@ pub(crate) fn read_extended<R: Reader>(
 ) -> Result<LineInstruction<R>, Error>
     ensures gives { Gives (λ x. (seen_instruction R.section x, R.section input.new)) result
         (extended_at (seen_header R.section header.now) (R.section input.old)) }
+    ensures memory { IfErr result (λ e.
+        gives_file (extended_at (seen_header R.section header.now) (R.section input.old)) ≡ false
+        → extended_at (seen_header R.section header.now) (R.section input.old) ≡ Err e) }
 {
     let size = input.read_uleb128()?;
     let bytes = input.to_slice();
@@ -111,6 +151,7 @@ pub(crate) fn read_extended<R: Reader>(
     let mut text = EndianSlice::new(&bytes[..size as usize], input.endian());
     let code = text.read_u8()?;
     if defines_file(header, code) {
+        check_file_entry(text.to_slice(), text.endian())?;
         let mut text = input.split(size)?;
         text.read_u8()?;
         return Ok(LineInstruction::Defines(read_file_entry(&mut text)?));

@@ -4,7 +4,7 @@ use Rattle.gimli_read.proofs.Shorter.{shorter_by}
 use Rattle.gimli_line.specs.Header.{seen_header}
 use Rattle.gimli_line.specs.Opcode.{instruction_at}
 use Rattle.gimli_line.proofs.Shortening.{instruction-takes}
-use Rattle.gimli_line.proofs.RowsLeft.{left_end, left_more, left_ran_fault, ran_whole, at_empty, files_end, defines_more}
+use Rattle.gimli_line.proofs.RowsLeft.{left_end, left_more, left_ran_fault, ran_whole, at_empty, files_end, files_none, no_file, defines_more}
 use Rattle.gimli_line.proofs.program.find_row.Goals as goal
 
 pub returns-in_err-row-clause-gives : goal.returns-in_err-row-clause-gives
@@ -12,6 +12,13 @@ returns-in_err-row-clause-gives g c = let p = err_from_is_err_and c.from_residua
     let none = sym c.is_empty.ensures.gives ∙ c.loop-program-test.true in
     rw (p.1, p.2)
     (λ n. sym c.loop-program.invariant.left ∙ left_ran_fault (seen_header g.R.Reader.section c.loop-program.header) c.loop-program.registers _ _ _ _ none c.in_ok-code.ensures.gives (c.in_err-row.ensures.gives n))
+
+pub returns-in_err-row-clause-memory : goal.returns-in_err-row-clause-memory
+returns-in_err-row-clause-memory g c = let p = err_from_is_err_and c.from_residual-in_err-row.result c.from_residual-in_err-row.ensures.1 in
+    let none = sym c.is_empty.ensures.gives ∙ c.loop-program-test.true in
+    let h = seen_header g.R.Reader.section c.loop-program.header in
+    rw (p.1, p.2)
+    (λ n. sym c.loop-program.invariant.left ∙ left_ran_fault h c.loop-program.registers _ _ _ _ none c.in_ok-code.ensures.gives (c.in_err-row.ensures.memory (no_file h _ _ _ none c.in_ok-code.ensures.gives (c.loop-program.invariant.none n))))
 
 pub returns-in-Some-clause-gives : goal.returns-in-Some-clause-gives
 returns-in-Some-clause-gives g c =
@@ -45,6 +52,7 @@ loop-program-preserved g c =
       index = c.in_ok-row.ensures.index;
       fits = c.in_ok-row.ensures.fits;
       left = sym (left_more (seen_header g.R.Reader.section c.loop-program.header) c.loop-program.registers _ _ w.instruction None _ _ w.read w.took) ∙ c.loop-program.invariant.left;
+      none = λ n. files_none (seen_header g.R.Reader.section c.loop-program.header) c.loop-program.registers _ _ w.instruction _ _ _ w.read w.took (c.loop-program.invariant.none n);
       files = defines_more (seen_header g.R.Reader.section c.args.header.now) (g.R.Reader.section c.args.program.now) (seen_header g.R.Reader.section c.loop-program.header) c.loop-program.registers _ _ w.instruction _ _ _ c.loop-program.invariant.files w.read w.took;
     }
 

@@ -1,7 +1,7 @@
 -- Addresses and their size (on specs/Encoding.antt).
-use Rattle.std.proofs.Common.{◌≡◌, ℕ, ◌+◌, ◌*◌, ◌/◌, ◌%◌, ◌^◌, ◌<◌, ◌≤◌, true, false, cond, ltb, Ok, Err, lit<, arith, ap, ◌∙◌, refl, sym}
+use Rattle.std.proofs.Common.{◌≡◌, ℕ, ◌+◌, ◌*◌, ◌/◌, ◌%◌, ◌^◌, ◌≤◌, true, false, cond, Err, lit<, arith, ap, ◌∙◌, refl, sym}
 use Rattle.std.proofs.Math.Nat.{pow-le-pow_right, mul_comm}
-use Rattle.std.proofs.lemmas.Bool.{le-ltb, lt-ltb}
+use Rattle.std.proofs.lemmas.Bool.{le-ltb}
 use Rattle.std.proofs.lemmas.Bool.Decides.{nat_tests}
 use Rattle.gimli_read.specs.declared.error.Error.TheVariants.{AddressOverflow}
 use Rattle.gimli_read.specs.Number.{is_address_size}

@@ -1,5 +1,5 @@
 -- The rows that are left, one instruction on (on specs/Steps.antt).
-use Rattle.std.proofs.Common.{◌≡◌, ℕ, ◌==◌, Bool, true, false, cond, length, List, [], ◌∷◌, ◌++◌, Option, Some, None, Result, Ok, Err, refl, sym, ap, ◌∙◌, append_assoc}
+use Rattle.std.proofs.Common.{◌≡◌, ℕ, ◌-◌, ◌==◌, nat_le, Bool, true, false, cond, length, List, [], ◌∷◌, ◌++◌, Option, Some, None, Result, Ok, Err, refl, sym, ap, ◌∙◌, append_assoc}
 use Rattle.std.specs.Result.{is_err}
 use Rattle.gimli_read.specs.declared.error.Error.{Error}
 use Rattle.gimli_read.specs.Section.{Section}
@@ -11,15 +11,19 @@ use Rattle.gimli_read.proofs.Steps.{same_rest}
 use Rattle.gimli_read.proofs.RunLemmas.{run_of-step}
 use Rattle.gimli_line.specs.declared.header.FileEntry.{FileEntry}
 use Rattle.gimli_line.specs.declared.opcode.Opcode.{Opcode}
+use Rattle.gimli_line.specs.declared.opcode.Opcode.TheVariants.{Special}
 use Rattle.gimli_line.specs.declared.opcode.LineInstruction.{LineInstruction}
 use Rattle.gimli_line.specs.declared.opcode.LineInstruction.TheVariants.{Changes, Defines}
 use Rattle.gimli_line.specs.declared.registers.Registers.{Registers}
 use Rattle.gimli_line.specs.declared.row.LineRow.{LineRow}
 use Rattle.gimli_line.specs.Header.{Header}
-use Rattle.gimli_line.specs.Opcode.{instruction_at, behind_code, extended_at, extended_in, standard_at, instructions_of, opcodes_in, files_in}
-use Rattle.gimli_line.specs.Steps.{executed, rows_from, continued, with_row, rows_left, files_left, taken, DefinesOn, Finds}
+use Rattle.gimli_line.specs.Opcode.{instruction_at, behind_code, extended_at, extended_in, standard_at, instructions_of, opcodes_in, files_in, gives_file}
+use Rattle.gimli_line.specs.Steps.{executed, rows_from, continued, with_row, rows_left, files_left, taken, ran, ran_standard, DefinesOn, Finds}
 use Rattle.gimli_line.specs.Lines.{YieldsIfRoom}
 use Rattle.gimli_line.proofs.Shortening.{instruction-takes}
+
+abbrev State : Type 0
+State = Option LineRow × Registers × Header
 
 -- the run at one more place
 run_at : (h : Header) (s : Section) (q : Reading (Option (LineInstruction Section))) → instruction_at h s ≡ q → instructions_of h s ≡ runs.continued (instructions_of h) (runs.next_of q)
@@ -55,9 +59,6 @@ left_defines : (h : Header) (r : Registers) (s t : Section) (x : FileEntry Secti
 unfolding rows_in
 left_defines h r s t x f = ap (rows_in h r) (run_at h s (Ok (Some (Defines x), t)) f)
 
-abbrev State : Type 0
-State = Option LineRow × Registers × Header
-
 -- what an instruction puts out stands first
 pub left_more : (h : Header) (r : Registers) (s t : Section) (i : LineInstruction Section) (row : Option LineRow) (q : Registers) (g : Header) → instruction_at h s ≡ Ok (Some i, t) → taken h r i ≡ Ok (row, q, g)
     → rows_left h r s ≡ with_row row (rows_left g q t)
@@ -83,6 +84,92 @@ left_taken_fault h r s t (Changes op) e f k = left_changes h r s t op f ∙ by_c
     by_cases (Err d) k = cc
 left_taken_fault h r s t (Defines x) e f k = cc
 
+-- an instruction's code, and what stands behind it
+at_code : (h : Header) (s u : Section) (code : ℕ) → (length s.bytes == 0) ≡ false → fixed_at 1 s ≡ Ok (code, u)
+    → instruction_at h s ≡ (behind_code h code u >>= λ i. done {A = Option (LineInstruction Section) × Section} (Some i.0, i.1))
+unfolding instruction_at
+at_code h s u code n f =
+    ap (λ b. cond b (Ok (None, s)) (fixed_at 1 s >>= λ c. behind_code h c.0 c.1 >>= λ i. done {A = Option (LineInstruction Section) × Section} (Some i.0, i.1))) n
+    ∙ ap (λ (q : Reading ℕ). q >>= λ c. behind_code h c.0 c.1 >>= λ i. done {A = Option (LineInstruction Section) × Section} (Some i.0, i.1)) f
+
+abbrev Ended : Type 0
+Ended = Option LineRow × Registers × Header × Section
+
+-- an instruction runs as it is read and then taken in
+ran_is : (h : Header) (r : Registers) (code : ℕ) (s : Section) → ran h r code s ≡ (behind_code h code s >>= λ i. taken h r i.0 >>= λ y. done {A = Ended} (y.0, y.1, y.2, i.1))
+unfolding ran ran_standard behind_code taken
+ran_is h r code s = by_code (code == 0) (nat_le h.line_encoding.opcode_base code)
+  where
+    special : (x : Result (Option LineRow × Registers) Error)
+        → (x >>= λ y. done {A = Ended} (y.0, y.1, h, s)) ≡ ((x >>= λ y. done {A = State} (y.0, y.1, h)) >>= λ y. done {A = Ended} (y.0, y.1, y.2, s))
+    special (Ok y) = refl
+    special (Err e) = refl
+
+    stepped : (t : Section) (x : Result (Option LineRow × Registers) Error)
+        → ((x >>= λ y. done {A = Option LineRow × Registers × Section} (y.0, y.1, t)) >>= λ y. done {A = Ended} (y.0, y.1, h, y.2)) ≡ ((x >>= λ y. done {A = State} (y.0, y.1, h)) >>= λ y. done {A = Ended} (y.0, y.1, y.2, t))
+    stepped t (Ok y) = refl
+    stepped t (Err e) = refl
+
+    standard : (x : Reading Opcode)
+        → ((x >>= λ op. executed h.line_encoding r op.0 >>= λ y. done {A = Option LineRow × Registers × Section} (y.0, y.1, op.1)) >>= λ y. done {A = Ended} (y.0, y.1, h, y.2))
+        ≡ ((x >>= λ op. done {A = LineInstruction Section × Section} (Changes op.0, op.1)) >>= λ i. taken h r i.0 >>= λ y. done {A = Ended} (y.0, y.1, y.2, i.1))
+    standard (Ok op) = stepped op.1 (executed h.line_encoding r op.0)
+    standard (Err e) = refl
+
+    by_code : (zero special_code : Bool)
+        → cond zero (extended_at h s >>= λ i. taken h r i.0 >>= λ y. done {A = Ended} (y.0, y.1, y.2, i.1))
+        (cond special_code (executed h.line_encoding r (Special (code - h.line_encoding.opcode_base)) >>= λ y. done {A = Ended} (y.0, y.1, h, s)) (ran_standard h r code s >>= λ y. done {A = Ended} (y.0, y.1, h, y.2)))
+        ≡ (cond zero (extended_at h s) (cond special_code (Ok (Changes (Special (code - h.line_encoding.opcode_base)), s)) (standard_at h code s >>= λ op. Ok (Changes op.0, op.1))) >>= λ i. taken h r i.0 >>= λ y. done {A = Ended} (y.0, y.1, y.2, i.1))
+    by_code true b = refl
+    by_code false true = special (executed h.line_encoding r (Special (code - h.line_encoding.opcode_base)))
+    by_code false false = standard (standard_at h code s)
+
+-- an instruction that ran
+pub record Ran (h : Header) (r : Registers) (s t : Section) (row : Option LineRow) (q : Registers) (g : Header) : Type 0 where
+  pub instruction : LineInstruction Section
+  pub read : instruction_at h s ≡ Ok (Some instruction, t)
+  pub took : taken h r instruction ≡ Ok (row, q, g)
+
+pub ran_whole : (h : Header) (r : Registers) (s u t : Section) (code : ℕ) (row : Option LineRow) (q : Registers) (g : Header)
+    → (length s.bytes == 0) ≡ false → fixed_at 1 s ≡ Ok (code, u) → ran h r code u ≡ Ok (row, q, g, t) → Ran h r s t row q g
+ran_whole h r s u t code row q g n f k = by_cases (behind_code h code u) (at_code h s u code n f) (sym (ran_is h r code u) ∙ k)
+  where
+    taking : (i : LineInstruction Section) (v : Section) (x : Result State Error) → taken h r i ≡ x → instruction_at h s ≡ Ok (Some i, v)
+        → (x >>= λ y. done {A = Ended} (y.0, y.1, y.2, v)) ≡ Ok (row, q, g, t) → Ran h r s t row q g
+    taking i v (Ok y) w at e =
+        let same : ◌≡◌ {A = Ended} (y.0, y.1, y.2, v) (row, q, g, t) = cc in
+        record {
+          instruction = i;
+          read = at ∙ ap (λ (z : Ended). Ok (Some i, z.3)) same;
+          took = w ∙ ap (λ (z : Ended). Ok (z.0, z.1, z.2)) same;
+        }
+    taking i v (Err d) w at e = absurd (cc (e))
+
+    by_cases : (x : Reading (LineInstruction Section)) → instruction_at h s ≡ (x >>= λ i. done {A = Option (LineInstruction Section) × Section} (Some i.0, i.1))
+        → (x >>= λ i. taken h r i.0 >>= λ y. done {A = Ended} (y.0, y.1, y.2, i.1)) ≡ Ok (row, q, g, t) → Ran h r s t row q g
+    by_cases (Ok i) at e = taking i.0 i.1 (taken h r i.0) refl at e
+    by_cases (Err d) at e = absurd (cc (e))
+
+-- and one that met a fault
+pub left_ran_fault : (h : Header) (r : Registers) (s u : Section) (code : ℕ) (e : Error)
+    → (length s.bytes == 0) ≡ false → fixed_at 1 s ≡ Ok (code, u) → ran h r code u ≡ Err e → rows_left h r s ≡ Err e ∷ []
+left_ran_fault h r s u code e n f k = by_cases (behind_code h code u) (at_code h s u code n f) (sym (ran_is h r code u) ∙ k)
+  where
+    taking : (i : LineInstruction Section) (v : Section) (x : Result State Error) → taken h r i ≡ x → instruction_at h s ≡ Ok (Some i, v)
+        → (x >>= λ y. done {A = Ended} (y.0, y.1, y.2, v)) ≡ Err e → rows_left h r s ≡ Err e ∷ []
+    taking i v (Ok y) w at c = absurd (cc (c))
+    taking i v (Err d) w at c = left_taken_fault h r s v i e at (w ∙ cc (c))
+
+    by_cases : (x : Reading (LineInstruction Section)) → instruction_at h s ≡ (x >>= λ i. done {A = Option (LineInstruction Section) × Section} (Some i.0, i.1))
+        → (x >>= λ i. taken h r i.0 >>= λ y. done {A = Ended} (y.0, y.1, y.2, i.1)) ≡ Err e → rows_left h r s ≡ Err e ∷ []
+    by_cases (Ok i) at c = taking i.0 i.1 (taken h r i.0) refl at c
+    by_cases (Err d) at c = left_fault h r s e (at ∙ cc (c))
+
+-- at the end
+pub at_empty : (h : Header) (s : Section) → (length s.bytes == 0) ≡ true → instruction_at h s ≡ Ok (None, s)
+unfolding instruction_at
+at_empty h s n = ap (λ b. cond b (Ok (None, s)) (fixed_at 1 s >>= λ c. behind_code h c.0 c.1 >>= λ i. done {A = Option (LineInstruction Section) × Section} (Some i.0, i.1))) n
+
 -- the files so far and those to come stay the same
 pub files_more : (h : Header) (r : Registers) (s t : Section) (i : LineInstruction Section) (row : Option LineRow) (q : Registers) (g : Header) → instruction_at h s ≡ Ok (Some i, t) → taken h r i ≡ Ok (row, q, g)
     → h.file_names ++ files_left h s ≡ g.file_names ++ files_left g t
@@ -101,6 +188,32 @@ files_more h r s t (Defines x) row q g f k =
     ∙ sym (append_assoc h.file_names (x ∷ []) (files_left h t))
     ∙ sym (ap (λ (v : Run (LineInstruction Section) Section). fs ++ files_in v.items) (same_run h fs t))
     ∙ ap (λ (z : State). z.2.file_names ++ files_left z.2 t) same
+
+-- where no file was still to be defined, none is one instruction on
+pub files_none : (h : Header) (r : Registers) (s t : Section) (i : LineInstruction Section) (row : Option LineRow) (q : Registers) (g : Header) → instruction_at h s ≡ Ok (Some i, t) → taken h r i ≡ Ok (row, q, g)
+    → files_left h s ≡ [] → files_left g t ≡ []
+unfolding taken
+files_none h r s t (Changes op) row q g f k n = by_cases (executed h.line_encoding r op) k
+  where
+    by_cases : (x : Result (Option LineRow × Registers) Error) → (x >>= λ y. done {A = State} (y.0, y.1, h)) ≡ Ok (row, q, g) → files_left g t ≡ []
+    by_cases (Ok y) e =
+        let same : ◌≡◌ {A = State} (y.0, y.1, h) (row, q, g) = cc in
+        ap (λ (z : State). files_left z.2 t) (sym same) ∙ sym (ap (λ (v : Run (LineInstruction Section) Section). files_in v.items) (run_at h s (Ok (Some (Changes op), t)) f)) ∙ n
+    by_cases (Err d) e = absurd (cc (e))
+files_none h r s t (Defines x) row q g f k n =
+    let some : x ∷ files_left h t ≡ [] = sym (ap (λ (v : Run (LineInstruction Section) Section). files_in v.items) (run_at h s (Ok (Some (Defines x), t)) f)) ∙ n in
+    absurd (cc (some))
+
+-- and this one defines none
+pub no_file : (h : Header) (s u : Section) (code : ℕ) → (length s.bytes == 0) ≡ false → fixed_at 1 s ≡ Ok (code, u) → files_left h s ≡ [] → gives_file (behind_code h code u) ≡ false
+no_file h s u code n f none = by_cases (behind_code h code u) (at_code h s u code n f)
+  where
+    by_cases : (x : Reading (LineInstruction Section)) → instruction_at h s ≡ (x >>= λ i. done {A = Option (LineInstruction Section) × Section} (Some i.0, i.1)) → gives_file x ≡ false
+    by_cases (Ok (Changes op, t)) at = refl
+    by_cases (Ok (Defines x, t)) at =
+        let some : x ∷ files_left h t ≡ [] = sym (ap (λ (v : Run (LineInstruction Section) Section). files_in v.items) (run_at h s (Ok (Some (Defines x), t)) at)) ∙ none in
+        absurd (cc (some))
+    by_cases (Err e) at = refl
 
 -- nothing else of the header changes
 pub header_kept : (h : Header) (r : Registers) (i : LineInstruction Section) (row : Option LineRow) (q : Registers) (g : Header) → taken h r i ≡ Ok (row, q, g) → g ≡ record h { file_names = g.file_names }

@@ -1,5 +1,5 @@
 -- Each instruction takes bytes (on specs/Opcode.antt).
-use Rattle.std.proofs.Common.{◌≡◌, ℕ, zero, suc, ◌+◌, ◌-◌, ◌<◌, Bool, true, false, cond, length, slice_index, Option, Some, None, Result, Ok, Err, IfOk, IfSome, nat_le, ◌==◌, refl, length-drop, arith}
+use Rattle.std.proofs.Common.{◌≡◌, ℕ, zero, suc, ◌+◌, ◌-◌, ◌<◌, Bool, true, false, cond, length, slice_index, Option, Some, None, Ok, Err, IfOk, IfSome, nat_le, ◌==◌, refl, length-drop, arith}
 use Rattle.std.specs.List.{position}
 use Rattle.std.proofs.lemmas.List.Quantifiers.{position-Some}
 use Rattle.gimli_read.specs.Section.{Section}

@@ -1,9 +1,9 @@
 -- The opcodes of a line program (DWARF 5, sections 6.2.5 and 7.22).
 -- Own: a standard opcode that isn't known has as many LEB128 numbers as the header says.
 -- Own: what an extended opcode's length leaves behind its operand is passed over.
-use Rattle.std.specs.Prelude.{ℕ, zero, suc, ◌-◌, ◌==◌, ◌&&◌, List, [], ◌∷◌, length, slice_index, Option, Some, None, Result, Ok, Err, nat_lt, nat_le, if◌then◌else◌, Bool}
-use Rattle.gimli_read.specs.declared.error.Error.{Error}
+use Rattle.std.specs.Prelude.{ℕ, zero, suc, ◌-◌, ◌==◌, ◌&&◌, List, [], ◌∷◌, length, slice_index, Option, Some, None, Result, Ok, Err, nat_lt, nat_le, if◌then◌else◌, Bool, true, false}
 use Rattle.gimli_read.specs.declared.value.AttributeValue.TheVariants.{String}
+use Rattle.gimli_read.specs.declared.error.Error.{Error}
 use Rattle.gimli_read.specs.Section.{Section}
 use Rattle.gimli_read.specs.Reading.{Reading, ◌>>=◌}
 use Rattle.gimli_read.specs.Number.{fixed_at, address_at, split_at, null_terminated_at}
@@ -87,6 +87,20 @@ extended_at h s = do
   text ← split_at size.0 size.1
   instruction ← extended_in h text.0
   Ok (instruction.0, text.1)
+
+-- the fault of a reading, if it has one
+abbrev pub fault_of : {A : Type 0} → Reading A → Result (Unit {0}) Error
+fault_of read = read >>= λ x. Ok tt
+
+-- an instruction that defines a file
+abbrev pub is_file : {R : Type 0} → LineInstruction R → Bool
+is_file (Changes op) = false
+is_file (Defines f) = true
+
+-- a reading of one
+abbrev pub gives_file : Reading (LineInstruction Section) → Bool
+gives_file (Ok x) = is_file x.0
+gives_file (Err e) = false
 
 -- what stands behind an opcode's code
 unfoldable pub behind_code : Header → ℕ → Section → Reading (LineInstruction Section)

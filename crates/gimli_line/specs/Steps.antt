@@ -1,6 +1,6 @@
 -- Line programs as the private functions see them: registers, one opcode at a time. That the rows are
 -- those of Rows is proved.
-use Rattle.std.specs.Prelude.{◌≡◌, ◌≢◌, ◌++◌, ℕ, ◌+◌, ◌-◌, ◌*◌, ◌/◌, ◌%◌, pos, ◌+ℤ◌, Bool, true, false, ◌||◌, ◌&&◌, not, List, [], ◌∷◌, Option, Some, None, Result, Ok, Err, nat_lt, if◌then◌else◌}
+use Rattle.std.specs.Prelude.{◌≡◌, ◌≢◌, ◌++◌, ℕ, ◌+◌, ◌-◌, ◌*◌, ◌/◌, ◌%◌, Bool, true, false, ◌||◌, ◌&&◌, not, List, [], ◌∷◌, Option, Some, None, Result, Ok, Err, nat_lt, nat_le, ◌==◌, if◌then◌else◌}
 use Rattle.gimli_read.specs.declared.error.Error.{Error}
 use Rattle.gimli_read.specs.declared.error.Error.TheVariants.{AddressOverflow, OutOfMemory}
 use Rattle.gimli_read.specs.Section.{Section}
@@ -15,7 +15,7 @@ use Rattle.gimli_line.specs.declared.registers.Registers.{Registers}
 use Rattle.gimli_line.specs.declared.row.LineRow.{LineRow}
 use Rattle.gimli_line.specs.Encoding.{limit}
 use Rattle.gimli_line.specs.Header.{Header}
-use Rattle.gimli_line.specs.Opcode.{opcodes_in, files_in, instructions_of}
+use Rattle.gimli_line.specs.Opcode.{opcodes_in, files_in, instructions_of, standard_at, extended_at}
 use Rattle.gimli_line.specs.Rows.{line_advance, moved, is_tombstone, is_end, makes_row, ended}
 
 -- the registers at the start of a sequence
@@ -108,6 +108,20 @@ files_left h s = files_in (instructions_of h s).items
 unfoldable pub taken : Header → Registers → LineInstruction Section → Result (Option LineRow × Registers × Header) Error
 taken h r (Changes op) = executed h.line_encoding r op >>= λ x. Ok (x.0, x.1, h)
 taken h r (Defines f) = Ok (None, r, record h { file_names = h.file_names ++ f ∷ [] })
+
+-- what a standard opcode puts out, the registers of the next one, and the bytes behind its operands
+unfoldable pub ran_standard : Header → Registers → ℕ → Section → Result (Option LineRow × Registers × Section) Error
+ran_standard h r code s = do
+  op ← standard_at h code s
+  next ← executed h.line_encoding r op.0
+  Ok (next.0, next.1, op.1)
+
+-- what the instruction behind an opcode's code puts out, and the registers, the header and the bytes of the next one
+unfoldable pub ran : Header → Registers → ℕ → Section → Result (Option LineRow × Registers × Header × Section) Error
+ran h r code s =
+    if code == 0 then (extended_at h s >>= λ i. taken h r i.0 >>= λ x. Ok (x.0, x.1, x.2, i.1))
+    else if nat_le h.line_encoding.opcode_base code then (executed h.line_encoding r (Special (code - h.line_encoding.opcode_base)) >>= λ x. Ok (x.0, x.1, h, s))
+    else (ran_standard h r code s >>= λ x. Ok (x.0, x.1, h, x.2))
 
 -- what a search for a row found of the rows that were left, and which are left behind it
 abbrev pub Finds : List (Result LineRow Error) → Result (Option LineRow) Error → List (Result LineRow Error) → Type 0

@@ -2,7 +2,7 @@
 -- Own: where a table of version 5 has entries, its format has exactly one path, of a form of strings; else it
 -- is BadLineHeader, right behind the count of the entries.
 -- Own: a directory index of no constant form is 0; of several the last counts.
-use Rattle.std.specs.Prelude.{ℕ, zero, suc, ◌==◌, ◌||◌, ◌&&◌, not, Bool, List, [], ◌∷◌, length, map, count_by, Option, Some, None, Result, Ok, Err, nat_lt, if◌then◌else◌, ℤ, pos, negsuc}
+use Rattle.std.specs.Prelude.{ℕ, zero, suc, ◌==◌, ◌||◌, ◌&&◌, not, Bool, List, [], ◌∷◌, length, map, count_by, Option, Some, None, Result, Ok, Err, nat_lt, if◌then◌else◌, pos}
 use Rattle.std.specs.Option.{option_map}
 use Rattle.gimli_read.specs.declared.error.Error.{Error}
 use Rattle.gimli_read.specs.declared.error.Error.TheVariants.{BadLineHeader}

@@ -10,7 +10,9 @@ use gimli_read::{AttributeValue, Error, Reader};
 use std::alloc::Global;
 
 /// The same value. Refused `OutOfMemory` alone.
-pub fn duplicate_value<R: Reader>(value: &AttributeValue<R>) -> Result<AttributeValue<R>, Error>
+pub(crate) fn duplicate_value<R: Reader>(
+    value: &AttributeValue<R>,
+) -> Result<AttributeValue<R>, Error>
     ensures gives { Gives (seen_value R.section) result (Ok (seen_value R.section value.now)) }
 {
     match value {
@@ -77,7 +79,7 @@ fn duplicate_files<R: Reader>(
 }
 
 /// The same header. Refused `OutOfMemory` alone.
-pub fn duplicate_header<R: Reader>(
+pub(crate) fn duplicate_header<R: Reader>(
     header: &LineProgramHeader<R>,
 ) -> Result<LineProgramHeader<R>, Error>
     ensures gives { Gives (seen_header R.section) result (Ok (seen_header R.section header.now)) }

@@ -11,6 +11,7 @@ mod program;
 mod read;
 mod registers;
 mod row;
+mod standard;
 mod tables;
 #[cfg(test)]
 mod tests;

@@ -38,7 +38,7 @@ fn greatest(encoding: LineEncoding) -> u64
 
 impl Machine {
     /// The numbers of a header, prepared.
-    pub fn new(encoding: LineEncoding) -> Machine
+    pub(crate) fn new(encoding: LineEncoding) -> Machine
         requires size { is_address_size encoding.address_size ≡ true }
         requires operations { 0 < encoding.maximum_operations_per_instruction }
         requires range { 0 < encoding.line_range }
@@ -52,7 +52,7 @@ impl Machine {
     }
 
     /// A number divided by the line range, without a division.
-    pub fn quotient(&self, n: u8) -> u8
+    pub(crate) fn quotient(&self, n: u8) -> u8
         ensures gives { result ≡ n / self.now.encoding.line_range }
     {
         let product = u32::from(n) * self.reciprocal;
@@ -60,7 +60,7 @@ impl Machine {
     }
 
     /// What a division by the line range leaves.
-    pub fn remainder(&self, n: u8) -> u8
+    pub(crate) fn remainder(&self, n: u8) -> u8
         ensures gives { result ≡ n % self.now.encoding.line_range }
     {
         n - self.quotient(n) * self.encoding.line_range

@@ -1,13 +1,14 @@
 //! The opcodes of line programs.
 
-ghost use Rattle.std.specs.Prelude.{◌≡◌, ◌<◌, ◌-◌, ◌==◌, ◌&&◌, nat_lt, slice_index};
-ghost use Rattle.std.specs.Option.{option_map};
+ghost use Rattle.std.specs.Prelude.{◌≡◌, ◌==◌, ◌&&◌, false, nat_lt, IfErr, Err};
+ghost use Rattle.std.specs.List.{position};
 ghost use Rattle.gimli_read.specs.Reading.{Tells, Gives};
+ghost use Rattle.gimli_read.specs.Number.{null_terminated_at};
 ghost use Rattle.gimli_line.specs.Header.{seen_file, seen_header};
-ghost use Rattle.gimli_line.specs.Opcode.{seen_instruction, entry_behind, file_entry_at, numbers_skipped, standard_at, operand_at, defines, extended_in, extended_at, behind_code, instruction_at};
+ghost use Rattle.gimli_line.specs.Opcode.{seen_instruction, entry_behind, file_entry_at, operand_at, defines, extended_in, extended_at, gives_file, fault_of};
 
 use crate::header::{FileEntry, LineProgramHeader};
-use gimli_read::{AttributeValue, EndianSlice, Error, Reader};
+use gimli_read::{AttributeValue, EndianSlice, Error, Reader, RunTimeEndian};
 
 /// An opcode with its operands (DWARF 5, section 6.2.5).
 #[derive(Clone, Copy, Debug, PartialEq, Eq)]
@@ -70,63 +71,39 @@ fn read_file_entry<R: Reader>(input: &mut R) -> Result<FileEntry<R>, Error>
     read_entry_behind(path, input)
 }
 
-// Passes over numbers.
-fn skip_numbers<R: Reader>(input: &mut R, count: u8) -> Result<(), Error>
-    ensures gives { Tells (λ x. (x, R.section input.new)) result (numbers_skipped count (R.section input.old)) }
+// Where the first zero byte stands.
+fn zero_of(bytes: &[u8]) -> Option<usize>
+    ensures found { result ≡ position (λ b. b == 0) bytes.now }
 {
-    for _ in 0..count {
-        input.read_uleb128()?;
+    bytes.iter().position(|byte| *byte == 0)
+}
+
+// A text that a zero byte ends, and what stands behind that byte.
+fn split_text(
+    bytes: &[u8],
+    endian: RunTimeEndian,
+) -> Result<(EndianSlice<'_>, EndianSlice<'_>), Error>
+    ensures gives { Tells (λ x. x) result
+        (null_terminated_at (record { bytes = bytes.now; endian = endian })) }
+{
+    match zero_of(bytes) {
+        None => Err(Error::UnexpectedEof),
+        Some(len) => Ok((
+            EndianSlice::new(&bytes[..len], endian),
+            EndianSlice::new(&bytes[len + 1..], endian),
+        )),
     }
+}
+
+// The fault of a file of versions 2 to 4, if it has one. Takes no memory.
+#[tactic(auto, unfolding(crate::specs::Opcode::file_entry_at))]
+fn check_file_entry(bytes: &[u8], endian: RunTimeEndian) -> Result<(), Error>
+    ensures gives { Tells (λ x. x) result
+        (fault_of (file_entry_at (record { bytes = bytes.now; endian = endian }))) }
+{
+    let (path, mut rest) = split_text(bytes, endian)?;
+    let _file = read_entry_behind(path, &mut rest)?;
     Ok(())
-}
-
-// How many numbers a standard opcode has that isn't known.
-fn count_of<R: Reader>(header: &LineProgramHeader<R>, code: u8) -> u8
-    requires some { 0 < code }
-    ensures gives { result ≡ slice_index (R.section header.now.standard_opcode_lengths).bytes (code - 1) }
-{
-    match header
-        .standard_opcode_lengths
-        .to_slice()
-        .get(usize::from(code) - 1)
-    {
-        Some(count) => *count,
-        None => 0,
-    }
-}
-
-// The operands of a standard opcode.
-#[tactic(auto, unfolding(crate::specs::Opcode::standard_at))]
-fn read_standard<R: Reader>(
-    header: &LineProgramHeader<R>,
-    code: u8,
-    input: &mut R,
-) -> Result<Opcode, Error>
-    requires some { 0 < code }
-    ensures gives { Tells (λ op. (op, R.section input.new)) result
-        (standard_at (seen_header R.section header.now) code (R.section input.old)) }
-{
-    match code {
-        1 => Ok(Opcode::Copy),
-        2 => Ok(Opcode::AdvancePc(input.read_uleb128()?)),
-        3 => Ok(Opcode::AdvanceLine(input.read_sleb128()?)),
-        4 => Ok(Opcode::SetFile(input.read_uleb128()?)),
-        5 => Ok(Opcode::SetColumn(input.read_uleb128()?)),
-        6 => Ok(Opcode::Other),
-        7 => Ok(Opcode::Other),
-        8 => Ok(Opcode::ConstAddPc),
-        9 => Ok(Opcode::FixedAdvancePc(input.read_u16()?)),
-        10 => Ok(Opcode::Other),
-        11 => Ok(Opcode::Other),
-        12 => {
-            input.read_uleb128()?;
-            Ok(Opcode::Other)
-        }
-        _ => {
-            skip_numbers(input, count_of(header, code))?;
-            Ok(Opcode::Other)
-        }
-    }
 }
 
 // Whether an extended opcode is define_file.
@@ -153,15 +130,18 @@ fn read_operand<R, S: Reader>(
     }
 }
 
-// A length, and an extended opcode in as many bytes. Those that define no file are read from a slice, which
-// takes no memory.
+/// A length, and an extended opcode in as many bytes. Memory is taken for a file alone, whose bytes are there:
+/// all else is read from a slice.
 #[tactic(auto, unfolding(crate::specs::Opcode::extended_in, crate::specs::Opcode::extended_at))]
-fn read_extended<R: Reader>(
+pub(crate) fn read_extended<R: Reader>(
     header: &LineProgramHeader<R>,
     input: &mut R,
 ) -> Result<LineInstruction<R>, Error>
     ensures gives { Gives (λ x. (seen_instruction R.section x, R.section input.new)) result
         (extended_at (seen_header R.section header.now) (R.section input.old)) }
+    ensures memory { IfErr result (λ e.
+        gives_file (extended_at (seen_header R.section header.now) (R.section input.old)) ≡ false
+        → extended_at (seen_header R.section header.now) (R.section input.old) ≡ Err e) }
 {
     let size = input.read_uleb128()?;
     let bytes = input.to_slice();
@@ -171,6 +151,7 @@ fn read_extended<R: Reader>(
     let mut text = EndianSlice::new(&bytes[..size as usize], input.endian());
     let code = text.read_u8()?;
     if defines_file(header, code) {
+        check_file_entry(text.to_slice(), text.endian())?;
         let mut text = input.split(size)?;
         text.read_u8()?;
         return Ok(LineInstruction::Defines(read_file_entry(&mut text)?));
@@ -178,41 +159,4 @@ fn read_extended<R: Reader>(
     let opcode = read_operand(header, code, &mut text)?;
     input.skip(size)?;
     Ok(LineInstruction::Changes(opcode))
-}
-
-// What stands behind an opcode's code.
-#[tactic(auto, unfolding(crate::specs::Opcode::behind_code))]
-fn read_behind_code<R: Reader>(
-    header: &LineProgramHeader<R>,
-    code: u8,
-    input: &mut R,
-) -> Result<LineInstruction<R>, Error>
-    ensures gives { Gives (λ x. (seen_instruction R.section x, R.section input.new)) result
-        (behind_code (seen_header R.section header.now) code (R.section input.old)) }
-{
-    if code == 0 {
-        return read_extended(header, input);
-    }
-    if code >= header.line_encoding.opcode_base {
-        return Ok(LineInstruction::Changes(Opcode::Special(
-            code - header.line_encoding.opcode_base,
-        )));
-    }
-    Ok(LineInstruction::Changes(read_standard(header, code, input)?))
-}
-
-/// Reads the next instruction, none at the end.
-#[tactic(auto, unfolding(crate::specs::Opcode::instruction_at))]
-pub fn read_instruction<R: Reader>(
-    header: &LineProgramHeader<R>,
-    input: &mut R,
-) -> Result<Option<LineInstruction<R>>, Error>
-    ensures gives { Gives (λ x. (option_map (seen_instruction R.section) x, R.section input.new)) result
-        (instruction_at (seen_header R.section header.now) (R.section input.old)) }
-{
-    if input.is_empty() {
-        return Ok(None);
-    }
-    let code = input.read_u8()?;
-    Ok(Some(read_behind_code(header, code, input)?))
 }

@@ -1,20 +1,21 @@
 //! Line programs and their rows.
 
-ghost use Rattle.std.specs.Prelude.{◌≡◌, ◌<◌, ◌++◌, [], OnOk, OnErr, IfOk, Ok, None};
+ghost use Rattle.std.specs.Prelude.{◌≡◌, ◌<◌, ◌++◌, [], ◌∷◌, false, OnOk, OnErr, IfOk, IfErr, Ok, Err, None};
 ghost use Rattle.gimli_read.specs.Reading.{Gives};
 ghost use Rattle.gimli_line.specs.Encoding.{limit};
 ghost use Rattle.gimli_line.specs.Header.{seen_header, seen_program};
 ghost use Rattle.gimli_line.specs.Lines.{lines_of, YieldsIfRoom, KeepsFiles};
-ghost use Rattle.gimli_line.specs.Opcode.{seen_instruction};
+ghost use Rattle.gimli_line.specs.Opcode.{seen_instruction, is_file, gives_file, behind_code};
 ghost use Rattle.gimli_line.specs.Rises.{rows_before, NeverFalls, RowsRise};
-ghost use Rattle.gimli_line.specs.Steps.{taken, rows_left, files_left, DefinesOn, Finds};
+ghost use Rattle.gimli_line.specs.Steps.{taken, ran, rows_left, files_left, DefinesOn, Finds};
 
 use crate::copies::duplicate_header;
 use crate::header::LineProgramHeader;
 use crate::machine::Machine;
-use crate::opcode::{LineInstruction, read_instruction};
+use crate::opcode::{LineInstruction, Opcode, read_extended};
 use crate::registers::Registers;
 use crate::row::LineRow;
+use crate::standard::run_standard;
 use gimli_read::{Error, Reader};
 use std::marker::Model;
 
@@ -96,10 +97,11 @@ impl<R: Reader> LineRows<R> {
     ///
     /// Refused where an opcode is: the refusals of its numbers, `UnexpectedEof` where its bytes aren't whole,
     /// `AddressOverflow` at the first opcode after which the address passes its size, and `OutOfMemory`
-    /// where a file is defined. Source: DWARF 5, section 6.2.5.
+    /// where a file is still to be defined: no other opcode takes memory. Source: DWARF 5, section 6.2.5.
     pub fn next_row(&mut self) -> Result<Option<LineRow>, Error>
         ensures gives { YieldsIfRoom self.old.left result self.new.left }
         ensures files { OnOk result (KeepsFiles self.old self.new) }
+        ensures memory { IfErr result (λ e. self.old.to_define ≡ [] → self.old.left ≡ Err e ∷ []) }
         ensures all { IfOk result (λ row. row ≡ None → self.new.to_define ≡ []) }
     {
         let found = find_row(
@@ -143,6 +145,8 @@ fn take_instruction<R: Reader>(
     requires fits { registers.old.address < limit machine.now.encoding }
     ensures gives { Gives (λ x. (x, registers.new, seen_header R.section header.new)) result
         (taken (seen_header R.section header.old) registers.old (seen_instruction R.section instruction)) }
+    ensures memory { IfErr result (λ e. is_file instruction ≡ false
+        → taken (seen_header R.section header.old) registers.old (seen_instruction R.section instruction) ≡ Err e) }
     ensures same { machine.now.encoding ≡ header.new.line_encoding }
     ensures index { OnOk result (registers.new.op_index < machine.now.encoding.maximum_operations_per_instruction) }
     ensures fits { OnOk result (registers.new.address < limit machine.now.encoding) }
@@ -154,6 +158,40 @@ fn take_instruction<R: Reader>(
             Ok(None)
         }
     }
+}
+
+// Runs the instruction behind an opcode's code, and gives the row that it puts out, if any. Special opcodes
+// stand in most rows: theirs is the short way.
+#[inline(always)]
+#[tactic(auto, unfolding(crate::specs::Steps::ran, crate::specs::Steps::taken, crate::specs::Opcode::behind_code))]
+fn run_behind_code<R: Reader>(
+    machine: &Machine,
+    header: &mut LineProgramHeader<R>,
+    registers: &mut Registers,
+    code: u8,
+    program: &mut R,
+) -> Result<Option<LineRow>, Error>
+    requires same { machine.now.encoding ≡ header.old.line_encoding }
+    requires index { registers.old.op_index < machine.now.encoding.maximum_operations_per_instruction }
+    requires fits { registers.old.address < limit machine.now.encoding }
+    ensures gives { Gives (λ x. (x, registers.new, seen_header R.section header.new, R.section program.new)) result
+        (ran (seen_header R.section header.old) registers.old code (R.section program.old)) }
+    ensures memory { IfErr result (λ e.
+        gives_file (behind_code (seen_header R.section header.old) code (R.section program.old)) ≡ false
+        → ran (seen_header R.section header.old) registers.old code (R.section program.old) ≡ Err e) }
+    ensures same { machine.now.encoding ≡ header.new.line_encoding }
+    ensures index { OnOk result (registers.new.op_index < machine.now.encoding.maximum_operations_per_instruction) }
+    ensures fits { OnOk result (registers.new.address < limit machine.now.encoding) }
+{
+    if code == 0 {
+        let instruction = read_extended(header, program)?;
+        return take_instruction(machine, header, registers, instruction);
+    }
+    if code >= header.line_encoding.opcode_base {
+        let opcode = Opcode::Special(code - header.line_encoding.opcode_base);
+        return registers.execute(machine, opcode);
+    }
+    run_standard(machine, header, registers, code, program)
 }
 
 // Runs the program up to its next row.
@@ -168,6 +206,9 @@ fn find_row<R: Reader>(
     requires fits { registers.old.address < limit machine.now.encoding }
     ensures gives { Finds (rows_left (seen_header R.section header.old) registers.old (R.section program.old)) result
         (rows_left (seen_header R.section header.new) registers.new (R.section program.new)) }
+    ensures memory { IfErr result (λ e.
+        files_left (seen_header R.section header.old) (R.section program.old) ≡ []
+        → rows_left (seen_header R.section header.old) registers.old (R.section program.old) ≡ Err e ∷ []) }
     ensures all { IfOk result (λ row. row ≡ None
         → files_left (seen_header R.section header.new) (R.section program.new) ≡ []) }
     ensures files { OnOk result (DefinesOn (seen_header R.section header.old) (R.section program.old)
@@ -176,8 +217,9 @@ fn find_row<R: Reader>(
     ensures index { OnOk result (registers.new.op_index < machine.now.encoding.maximum_operations_per_instruction) }
     ensures fits { OnOk result (registers.new.address < limit machine.now.encoding) }
 {
-    while let Some(instruction) = read_instruction(header, program)? {
-        if let Some(row) = take_instruction(machine, header, registers, instruction)? {
+    while !program.is_empty() {
+        let code = program.read_u8()?;
+        if let Some(row) = run_behind_code(machine, header, registers, code, program)? {
             return Ok(Some(row));
         }
     }

@@ -83,7 +83,7 @@ fn shows(opcode: Opcode) -> bool
 
 impl Registers {
     /// The registers at the start of a sequence.
-    pub fn start() -> Registers
+    pub(crate) fn start() -> Registers
         ensures gives { result ≡ start }
     {
         Registers {
@@ -113,6 +113,7 @@ impl Registers {
     }
 
     // Passes over operations.
+    #[inline(always)]
     fn advance(&mut self, machine: &Machine, operations: u64) -> Result<(), Error>
         requires index { self.old.op_index < machine.now.encoding.maximum_operations_per_instruction }
         requires fits { self.old.address < limit machine.now.encoding }
@@ -155,6 +156,7 @@ impl Registers {
     }
 
     // Takes an opcode in.
+    #[inline(always)]
     fn apply(&mut self, machine: &Machine, opcode: Opcode) -> Result<(), Error>
         requires index { self.old.op_index < machine.now.encoding.maximum_operations_per_instruction }
         requires fits { self.old.address < limit machine.now.encoding }
@@ -195,8 +197,13 @@ impl Registers {
     }
 
     /// Takes an opcode in, and gives the row that it puts out, if any.
+    #[inline(always)]
     #[tactic(auto, unfolding(crate::specs::Steps::executed))]
-    pub fn execute(&mut self, machine: &Machine, opcode: Opcode) -> Result<Option<LineRow>, Error>
+    pub(crate) fn execute(
+        &mut self,
+        machine: &Machine,
+        opcode: Opcode,
+    ) -> Result<Option<LineRow>, Error>
         requires index { self.old.op_index < machine.now.encoding.maximum_operations_per_instruction }
         requires fits { self.old.address < limit machine.now.encoding }
         ensures gives { Tells (λ x. (x, self.new)) result (executed machine.now.encoding self.old opcode) }

@@ -322,7 +322,7 @@ fn read_new_tables<R: Reader>(
 
 /// Reads the tables of a header.
 #[tactic(auto, unfolding(crate::specs::Tables::tables_at))]
-pub fn read_tables<R: Reader>(
+pub(crate) fn read_tables<R: Reader>(
     alloc: Global,
     encoding: Encoding,
     input: &mut R,

@@ -1,5 +1,6 @@
 //! Worked programs.
 
+mod memory;
 mod opcodes;
 
 use super::*;
@@ -96,6 +97,26 @@ fn plain_in_version_5_gives_the_same_rows_of_file_0(rt: HostRuntime) -> Result<(
     Ok(())
 }
 
+// The same in big endian order.
+const BIG5: [u8; 68] = [
+    0, 0, 0, 0x40, 0, 5, 8, 0, 0, 0, 0, 0x24, 1, 1, 1, 0xfb, 0x0e, 0x0d, 0, 1, 1, 1, 1, 0, 0, 0, 1,
+    0, 0, 1, 1, 1, 8, 1, 0x2f, 0x77, 0, 2, 1, 8, 2, 0x0b, 1, 0x61, 0x2e, 0x63, 0, 0, 0, 9, 2, 0, 0,
+    0, 0, 0, 0, 0, 0x10, 4, 0, 1, 0xf4, 2, 0x10, 0, 1, 1,
+];
+
+#[test]
+fn plain_in_big_endian_order_gives_the_same_rows(rt: HostRuntime) -> Result<(), Fail> {
+    let mut rows = [row_at(0x10, 1), row_at(0x20, 3), end_at(0x30, 3)];
+    for row in &mut rows {
+        row.file_index = 0;
+    }
+    let borrowed = EndianSlice::new(&BIG5, RunTimeEndian::Big);
+    gives(&rt, rt.alloc(), borrowed, 4, &rows, None)?;
+    let big = shared(rt.alloc(), &BIG5)?.with_endian(RunTimeEndian::Big);
+    gives(&rt, rt.alloc(), big, 4, &rows, None)?;
+    Ok(())
+}
+
 #[test]
 fn a_tombstone_drops_its_sequence(rt: HostRuntime) -> Result<(), Fail> {
     let mut bytes = PLAIN;
@@ -108,6 +129,14 @@ fn a_tombstone_drops_its_sequence(rt: HostRuntime) -> Result<(), Fail> {
     };
     let borrowed = EndianSlice::new(&bytes, RunTimeEndian::Little);
     gives(&rt, rt.alloc(), borrowed, 8, &[dropped], None)?;
+    gives(
+        &rt,
+        rt.alloc(),
+        shared(rt.alloc(), &bytes)?,
+        8,
+        &[dropped],
+        None,
+    )?;
     Ok(())
 }
 
@@ -133,6 +162,11 @@ fn rows_of_one_address_are_all_given(rt: HostRuntime) -> Result<(), Fail> {
 fn a_cut_program_is_refused(rt: HostRuntime) {
     for len in 0..55 {
         let borrowed = EndianSlice::new(&PLAIN[..len], RunTimeEndian::Little);
+        let program = read_line_program(rt.alloc(), borrowed, 8);
+        assert!(rt; matches!(program, Err(Error::UnexpectedEof)), "at {len}");
+    }
+    for len in 0..68 {
+        let borrowed = EndianSlice::new(&PLAIN5[..len], RunTimeEndian::Little);
         let program = read_line_program(rt.alloc(), borrowed, 8);
         assert!(rt; matches!(program, Err(Error::UnexpectedEof)), "at {len}");
     }
@@ -207,8 +241,12 @@ fn is_text<R: Reader>(rt: &impl Abort, value: AttributeValue<R>, wanted: &[u8]) 
 #[test]
 fn files_have_a_path_and_a_directory(rt: HostRuntime) -> Result<(), Fail> {
     let shared = shared(rt.alloc(), &PLAIN5)?;
-    let rows = read_line_program(rt.alloc(), shared, 8)?.rows()?;
+    let program = read_line_program(rt.alloc(), shared, 8)?;
+    assert_eq!(rt; program.header().version(), 5);
+    let rows = program.rows()?;
     let header = rows.header();
+    let count = header.file_names().len();
+    assert_eq!(rt; count, 1);
     assert!(rt; header.file(1).is_none());
     let file = header.file(0).ok_or("no file 0")?;
     assert_eq!(rt; file.directory_index(), 0);

@@ -1,6 +1,6 @@
 //! Every opcode, with the rows that the standard gives for it.
 
-use super::{end_at, gives, row_at};
+use super::{end_at, gives, row_at, shared};
 use crate::{LineRow, read_line_program};
 use gimli_read::{EndianSlice, Error, RunTimeEndian};
 use std::alloc::{AllocError, Global};
@@ -87,6 +87,14 @@ fn each_opcode_changes_its_registers(rt: HostRuntime) -> Result<(), Fail> {
         let bytes = program(rt.alloc(), RunTimeEndian::Little, USUAL, opcodes)?;
         let borrowed = EndianSlice::new(&bytes, RunTimeEndian::Little);
         gives(&rt, rt.alloc(), borrowed, 8, &[row], None)?;
+        gives(
+            &rt,
+            rt.alloc(),
+            shared(rt.alloc(), &bytes)?,
+            8,
+            &[row],
+            None,
+        )?;
     }
     Ok(())
 }

@@ -1,17 +1,18 @@
-use Rattle.std.proofs.Common.{◌≡◌, ◌<◌, length}
+use Rattle.std.proofs.Common.{◌≡◌, ◌<◌, [], length}
 use Rattle.gimli_line.specs.Encoding.{limit}
 use Rattle.gimli_line.specs.Header.{seen_header}
-use Rattle.gimli_line.specs.Steps.{rows_left, DefinesOn}
+use Rattle.gimli_line.specs.Steps.{rows_left, files_left, DefinesOn}
 use Rattle.gimli_line.proofs.program.find_row.Given as goal
 
-abbrev pub invariant-loop-instruction : goal.invariant-loop-instruction
-invariant-loop-instruction g l = record {
+abbrev pub invariant-loop-program : goal.invariant-loop-program
+invariant-loop-program g l = record {
   same : l.machine.encoding ≡ l.header.line_encoding;
   index : l.registers.op_index < l.machine.encoding.maximum_operations_per_instruction;
   fits : l.registers.address < limit l.machine.encoding;
   left : rows_left (seen_header g.R.Reader.section l.header) l.registers (g.R.Reader.section l.program) ≡ rows_left (seen_header g.R.Reader.section l.fn.header) l.fn.registers (g.R.Reader.section l.fn.program);
+  none : files_left (seen_header g.R.Reader.section l.fn.header) (g.R.Reader.section l.fn.program) ≡ [] → files_left (seen_header g.R.Reader.section l.header) (g.R.Reader.section l.program) ≡ [];
   files : DefinesOn (seen_header g.R.Reader.section l.fn.header) (g.R.Reader.section l.fn.program) (seen_header g.R.Reader.section l.header) (g.R.Reader.section l.program);
 }
 
-abbrev pub decreases-loop-instruction : goal.decreases-loop-instruction
-decreases-loop-instruction g l = length (g.R.Reader.section l.program).bytes
+abbrev pub decreases-loop-program : goal.decreases-loop-program
+decreases-loop-program g l = length (g.R.Reader.section l.program).bytes

@@ -1,7 +1,7 @@
-use Rattle.std.proofs.Common.{◌≡◌, ◌++◌, ◌∷◌, [], List, Ok, map, ap, sym, ◌∙◌, append-nil}
+use Rattle.std.proofs.Common.{◌≡◌, ◌++◌, ◌∷◌, [], Ok, map, ap, sym, ◌∙◌, append-nil}
 use Rattle.std.proofs.lemmas.Result.{err_from_is_err_and}
 use Rattle.std.proofs.lemmas.List.{map-append}
-use Rattle.gimli_read.specs.Run.{run_of, collected, with_front}
+use Rattle.gimli_read.specs.Run.{with_front}
 use Rattle.gimli_read.proofs.Shorter.{shorter_by}
 use Rattle.gimli_read.proofs.RunLemmas.{collected-more, collected-end, collected-fault}
 use Rattle.gimli_line.specs.Header.{seen_file}

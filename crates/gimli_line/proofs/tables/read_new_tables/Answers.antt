@@ -1,5 +1,4 @@
 use Rattle.std.proofs.Common.{◌≡◌, map}
-use Rattle.gimli_line.specs.declared.header.FileEntry.{FileEntry}
 use Rattle.gimli_line.proofs.TableLemmas.{new_tables_is}
 use Rattle.gimli_line.proofs.tables.read_new_tables.Goals as goal
 

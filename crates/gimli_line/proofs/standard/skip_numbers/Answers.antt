@@ -1,8 +1,7 @@
-use Rattle.std.proofs.Common.{◌≡◌, ◌-◌, ◌<◌, ◌∙◌, ap, sym, refl, arith}
+use Rattle.std.proofs.Common.{◌∙◌, sym, arith}
 use Rattle.std.proofs.lemmas.Result.{err_from_is_err_and}
-use Rattle.gimli_line.specs.Opcode.{numbers_skipped}
 use Rattle.gimli_line.proofs.Numbers.{skipped_fault, skipped_more, skipped_none}
-use Rattle.gimli_line.proofs.opcode.skip_numbers.Goals as goal
+use Rattle.gimli_line.proofs.standard.skip_numbers.Goals as goal
 
 pub returns-in_err-read_uleb128 : goal.returns-in_err-read_uleb128
 returns-in_err-read_uleb128 g c = let p = err_from_is_err_and c.from_residual.result c.from_residual.ensures.1 in

@@ -1,0 +1,43 @@
+//! The program `line_speed`: a checksum of all rows of a `.debug_line` section.
+#![tactic(auto)]
+
+mod checksum;
+
+use crate::checksum::checksum_of;
+use bytes::Bytes;
+use gimli_read::{EndianBytes, EndianSlice, Error, RunTimeEndian};
+use std::alloc::Global;
+use std::process::ExitCode;
+use std::{env, fs};
+
+// The checksum of a section, read over the reader that the mode names; none for another mode.
+fn sum_of(alloc: Global, mode: &str, bytes: Vec<u8>) -> Option<Result<u64, Error>> {
+    if mode == "borrowed" {
+        let section = EndianSlice::new(&bytes, RunTimeEndian::Little);
+        return Some(checksum_of(alloc, section));
+    }
+    if mode == "shared" {
+        return match Bytes::from_vec(bytes) {
+            Ok(bytes) => Some(checksum_of(alloc, EndianBytes::new(bytes, RunTimeEndian::Little))),
+            Err(_) => Some(Err(Error::OutOfMemory)),
+        };
+    }
+    None
+}
+
+fn main(rt: HostRuntime) -> anyhow::Result<ExitCode> {
+    let alloc: Global = rt.alloc();
+    let words: Vec<String> = env::args(&rt)?.collect(alloc)?;
+    if words.len() != 3 {
+        return Ok(ExitCode::from(2));
+    }
+    let bytes = fs::read(&rt, words[2].as_str())?;
+    match sum_of(alloc, words[1].as_str(), bytes) {
+        None => Ok(ExitCode::from(2)),
+        Some(sum) => {
+            let sum = sum?;
+            println!(rt; "{sum:016x}")?;
+            Ok(ExitCode::SUCCESS)
+        }
+    }
+}

@@ -109,6 +109,9 @@ sh_addr; f4: ff ff ff ff ff ff ff ff; 01 02 03
 sh_offset, the last bytes of the file; fc: 61 01; 00 00 00
 sh_link to sh_entsize; 10c: ff ff ff ff ff ff ff ff ff ff ff ff ff ff ff ff ff ff ff ff ff ff ff ff; 01 02 03
 sh_name, two of that name; a4: 07; 09 09 09 09
+e_type 1, and a RELA section for another; 10: 01; a8: 04; d0: 01; 01 02 03
+e_type 1, and an empty RELA section for it; 10: 01; a8: 04; d0: 02; c4: 00; 01 02 03
+e_type 3, and a RELA section for it; 10: 03; a8: 04; d0: 02; 01 02 03
 the names end with the zero; 144: 13; 01 02 03
 ";
 
@@ -138,6 +141,10 @@ section 0 is cut; 3c: 00; 28: 25 01; BadElf
 section 0 is far away; 3c: 00; 28: ff ff ff ff ff ff ff ff; BadElf
 sh_flags, compressed; ec: 00 08; CompressedSection
 sh_flags and sh_offset, compressed and outside; ec: 00 08; fc: ff ff ff ff ff ff ff ff; BadElf
+e_type 1, and a RELA section for it; 10: 01; a8: 04; d0: 02; RelocationsNeeded
+e_type 1, and a REL section for it; 10: 01; a8: 09; d0: 02; RelocationsNeeded
+compressed, with a RELA section for it; 10: 01; a8: 04; d0: 02; ec: 00 08; CompressedSection
+outside, with a RELA section for it; 10: 01; a8: 04; d0: 02; fc: 62 01; BadElf
 sh_offset, one past the last; fc: 62 01; BadElf
 sh_size, all ones; 104: ff ff ff ff ff ff ff ff; BadElf
 ";

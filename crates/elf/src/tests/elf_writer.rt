@@ -158,11 +158,9 @@ pub(super) fn written(
     let mut headers = Vec::new(alloc);
     let mut names = Vec::new(alloc);
     names.push(0)?;
-    let none = Part {
-        kind: 0,
-        ..plain("", &[])
-    };
-    put_section(&mut headers, shape, 0, 0, 0, &none)?;
+    // Section 0 is all zeros.
+    let header_size: usize = if shape.is_64 { 64 } else { 40 };
+    headers.extend_from_slice(&[0; 64][..header_size])?;
     for part in parts {
         let offset = start.saturating_add(body.len());
         put_section(

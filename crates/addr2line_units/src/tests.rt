@@ -202,7 +202,14 @@ fn an_unknown_language_is_tried_as_rust(rt: HostRuntime) -> Result<(), Fail> {
     Ok(())
 }
 
-/// Each growth is refused in turn by `rt try --test --fail-alloc N`.
+#[test]
+fn growths_that_are_granted_give_a_text(rt: HostRuntime) -> Result<(), Fail> {
+    let [.., (name, want)] = PROGRAM;
+    compare(&rt, name, demangle(rt.alloc(), name, RUST)?, Some(want));
+    Ok(())
+}
+
+/// Each growth is refused in turn by `tools/refuse_growths`.
 #[test]
 fn a_refused_growth_is_out_of_memory(rt: HostRuntime) {
     let [.., (name, want)] = PROGRAM;

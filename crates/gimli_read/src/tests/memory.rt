@@ -1,4 +1,4 @@
-//! Calls that take no memory, and callers that stand on it: no test runs them, since they are proved.
+//! Callers that are proved since a call takes no memory, and the growths of a table.
 
 ghost use Rattle.std.specs.Prelude.{◌≡◌, ◌≤◌, length};
 ghost use Rattle.gimli_read.specs.Section.{first};
@@ -33,5 +33,18 @@ fn all_of(input: &mut EndianBytes) -> EndianBytes
     match input.split(input.len()) {
         Ok(all) => all,
         Err(_) => unreachable!(),
+    }
+}
+
+// The codes 9 and 300 stand at no place of theirs, so their table takes memory for them too.
+#[test]
+fn a_refused_growth_of_a_table_is_told(rt: HostRuntime) {
+    let bytes = [9, 0x11, 1, 0, 0, 0xac, 2, 0x1d, 0, 0, 0, 0];
+    match Abbreviations::parse(rt.alloc(), EndianSlice::new(&bytes, RunTimeEndian::Little)) {
+        Ok(table) => {
+            let code = table.get(300).map(|it| it.code());
+            assert_eq!(rt; code, Some(300));
+        }
+        Err(error) => assert_eq!(rt; error, Error::OutOfMemory),
     }
 }

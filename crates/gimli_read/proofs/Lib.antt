@@ -7,7 +7,9 @@ pub mod RunLemmas
 pub mod FormLemmas
 pub mod ValueLemmas
 pub mod SkipLemmas
+pub mod FixedTexts
 pub mod ValueTexts
+pub mod AttributeTexts
 pub mod AlikeLemmas
 pub mod AbbrevLemmas
 pub mod Listed

@@ -1,9 +1,8 @@
 -- What is left behind a value that nobody looks at (on specs/Extent.antt).
-use Rattle.std.proofs.Common.{◌≡◌, ℕ, ◌+◌, ◌==◌, ◌<◌, Bool, true, false, cond, ltb, length, Option, Some, None, Result, Ok, Err, refl, sym, ap, ◌∙◌, arith}
+use Rattle.std.proofs.Common.{◌≡◌, ℕ, ◌+◌, ◌==◌, Bool, true, false, cond, ltb, length, Option, Some, None, Ok, Err, refl, sym, ap, ◌∙◌, arith}
 use Rattle.std.specs.List.{position}
 use Rattle.std.proofs.lemmas.Bool.{le-ltb}
 use Rattle.std.proofs.lemmas.List.Quantifiers.{position-Some}
-use Rattle.gimli_read.specs.declared.error.Error.{Error}
 use Rattle.gimli_read.specs.declared.error.Error.TheVariants.{UnexpectedEof, UnsupportedAddressSize}
 use Rattle.gimli_read.specs.declared.endian.Format.{Format}
 use Rattle.gimli_read.specs.declared.endian.Format.TheVariants.{Dwarf32, Dwarf64}
@@ -12,10 +11,10 @@ use Rattle.gimli_read.specs.declared.value.AttributeValue.{AttributeValue}
 use Rattle.gimli_read.specs.declared.skip.Extent.TheVariants as extents
 use Rattle.gimli_read.specs.Section.{Section, first, after}
 use Rattle.gimli_read.specs.Reading.{Reading, ◌>>=◌}
-use Rattle.gimli_read.specs.Number.{number_of, fixed_at, address_at, offset_at, skipped_at, split_at, ended_at, null_terminated_at, is_address_size}
+use Rattle.gimli_read.specs.Number.{number_of, fixed_at, address_at, offset_at, split_at, ended_at, null_terminated_at, is_address_size}
 use Rattle.gimli_read.specs.Leb128.{uleb128_at, sleb128_at}
 use Rattle.gimli_read.specs.Form.{rest_of, as_value, block_at, ref_addr_at, direct_at, info_ref}
-use Rattle.gimli_read.specs.Value.{Spelling, Fixed, Address, Offset, AddressOrOffset, Unsigned, Signed, Block1, Block2, Block4, Block, Text, Empty, offset_size, spelling_of}
+use Rattle.gimli_read.specs.Spelling.{Spelling, Fixed, Address, Offset, AddressOrOffset, Unsigned, Signed, Block1, Block2, Block4, Block, Text, Empty, offset_size, spelling_of}
 use Rattle.gimli_read.specs.Extent.{address_extent, extent_of, extent_at, behind, behind_block, behind_at}
 use Rattle.gimli_read.proofs.ValueLemmas.{spelled_at, direct_spelled}
 

@@ -1,4 +1,4 @@
--- The reading of a value by the table of forms (on specs/Form.antt and specs/Value.antt).
+-- The reading of a value by the table of forms (on specs/Form.antt and specs/Spelling.antt).
 use Rattle.std.proofs.Common.{◌≡◌, ℕ, ◌==◌, Bool, true, false, cond, List, [], ◌∷◌, Option, Some, None, Ok, Err, refl, sym, ap, ◌∙◌}
 use Rattle.gimli_read.specs.declared.error.Error.TheVariants.{UnknownForm}
 use Rattle.gimli_read.specs.declared.endian.Encoding.{Encoding}
@@ -8,7 +8,7 @@ use Rattle.gimli_read.specs.Reading.{Reading}
 use Rattle.gimli_read.specs.Number.{fixed_at, address_at, offset_at, null_terminated_at}
 use Rattle.gimli_read.specs.Leb128.{uleb128_at, sleb128_at}
 use Rattle.gimli_read.specs.Form.{as_value, block_at, ref_addr_at, direct_at, reference_at}
-use Rattle.gimli_read.specs.Value.{Spelling, Fixed, Address, Offset, AddressOrOffset, Unsigned, Signed, Block1, Block2, Block4, Block, Text, Empty, forms, form_in, spelling_of}
+use Rattle.gimli_read.specs.Spelling.{Spelling, Fixed, Address, Offset, AddressOrOffset, Unsigned, Signed, Block1, Block2, Block4, Block, Text, Empty, forms, form_in, spelling_of}
 
 -- the value of what is spelled so
 abbrev pub spelled_at : Encoding → Section → Option Spelling → Reading (AttributeValue Section)

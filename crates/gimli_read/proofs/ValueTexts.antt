@@ -1,33 +1,29 @@
 -- What is read is the text of a value, and each such text is read (on specs/Value.antt).
 use Rattle.std.proofs.Common.{◌≡◌, ◌≢◌, ℕ, zero, suc, ◌+◌, ◌<◌, ◌≤◌, ◌==◌, true, false, cond, ltb, List, [], ◌∷◌, ◌++◌, length, take, drop, get_or, Option, Some, None, Ok, Err, refl, sym, ap, subst, ◌∙◌, inl, inr, arith, eq-eqb}
 use Rattle.std.specs.List.{position}
-use Rattle.std.proofs.lemmas.Bool.{le-ltb, ltb-false, lt-ltb, eqb-true, eqb-false, ne_eqb}
-use Rattle.std.proofs.lemmas.List.{length-take, length-append, get_or-take, take_more, take-append-drop, append_assoc, get_or_append_left}
+use Rattle.std.proofs.lemmas.Bool.{lt-ltb, eqb-true, eqb-false, ne_eqb}
+use Rattle.std.proofs.lemmas.List.{length-take, length-append, get_or-take, take_more, append_assoc, get_or_append_left}
 use Rattle.std.proofs.lemmas.List.Sums.{position_or_len_is}
 use Rattle.std.proofs.lemmas.List.Quantifiers.{position-Some}
 use Rattle.std.proofs.Math.Seq.{get_or-append_seam, drop-append_seam, drop-append-add, take-append_seam}
-use Rattle.byteorder.specs.Endian.{big_from, little_from}
 use Rattle.gimli_read.specs.declared.error.Error.TheVariants.{UnexpectedEof, UnsupportedAddressSize}
 use Rattle.gimli_read.specs.declared.endian.RunTimeEndian.{RunTimeEndian}
-use Rattle.gimli_read.specs.declared.endian.RunTimeEndian.TheVariants.{Little, Big}
 use Rattle.gimli_read.specs.declared.endian.Format.{Format}
 use Rattle.gimli_read.specs.declared.endian.Format.TheVariants.{Dwarf32, Dwarf64}
 use Rattle.gimli_read.specs.declared.endian.Encoding.{Encoding}
 use Rattle.gimli_read.specs.declared.value.AttributeValue.{AttributeValue}
 use Rattle.gimli_read.specs.Section.{Section, first, after}
 use Rattle.gimli_read.specs.Reading.{Reading, ◌>>=◌}
-use Rattle.gimli_read.specs.Number.{number_of, fixed_at, address_at, offset_at, split_at, ended_at, null_terminated_at, is_address_size}
+use Rattle.gimli_read.specs.Number.{fixed_at, address_at, offset_at, split_at, ended_at, null_terminated_at, is_address_size}
 use Rattle.gimli_read.specs.Leb128.{IsUleb128, IsSleb128, uleb128_in, sleb128_in, uleb128_at, sleb128_at}
 use Rattle.gimli_read.specs.Form.{as_value, block_at, ref_addr_at, direct_at, form_within, form_at, value_at}
-use Rattle.gimli_read.specs.Value.{low_first, high_first, number_in, IsFixed, Spelling, Fixed, Address, Offset, AddressOrOffset, Unsigned, Signed, Block1, Block2, Block4, Block, Text, Empty, spelling_of, offset_size, IsAddress, IsOffset, IsAddressOrOffset, IsMadeOf, IsBlock, IsEnded, section_of, IsListedValue, IsValueBehind, ReadsFixed, ReadsFixedAlone, ReadsValue, ReadsValueAlone}
+use Rattle.gimli_read.specs.Spelling.{Spelling, Fixed, Address, Offset, AddressOrOffset, Unsigned, Signed, Block1, Block2, Block4, Block, Text, Empty, spelling_of, offset_size}
+use Rattle.gimli_read.specs.Value.{IsFixed, IsAddress, IsOffset, IsAddressOrOffset, IsMadeOf, IsBlock, IsEnded, section_of, IsListedValue, IsValueBehind, ReadsValue, ReadsValueAlone}
 use Rattle.gimli_read.proofs.Steps.{guard_ok, bind_ok, chosen, same_rest, same_value}
 use Rattle.gimli_read.proofs.Leb128Texts.{uleb128_reads, uleb128_alone, sleb128_reads, sleb128_alone}
 use Rattle.gimli_read.proofs.FormLemmas.{form_last, form_more}
 use Rattle.gimli_read.proofs.ValueLemmas.{spelled_at, direct_spelled}
-
--- a section is a text and what is left
-abbrev Cut : Section → List ℕ → Section → Type 0
-Cut s text rest = s ≡ section_of rest.endian (text ++ rest.bytes)
+use Rattle.gimli_read.proofs.FixedTexts.{Cut, not_short, cut_at, take_long, fixed_reads, fixed_alone}
 
 -- each text is read as what it spells, whatever follows
 abbrev Reads : {A : Type 0} → RunTimeEndian → (List ℕ → A → Type 0) → (Section → Reading A) → Type 0
@@ -36,50 +32,6 @@ Reads {A = A} order spells read = (text rest : List ℕ) (x : A) → spells text
 -- and nothing else is read
 abbrev Alone : {A : Type 0} → RunTimeEndian → (List ℕ → A → Type 0) → (Section → Reading A) → Type 0
 Alone {A = A} order spells read = (bytes : List ℕ) (x : A) (rest : Section) → read (section_of order bytes) ≡ Ok (x, rest) → (text : List ℕ) × spells text x × Cut (section_of order bytes) text rest
-
-low_read : (front text rest : List ℕ) → little_from (length front) (length text) (front ++ (text ++ rest)) ≡ low_first text
-low_read front [] rest = refl
-low_read front (b ∷ text) rest =
-    let long : length (front ++ b ∷ []) ≡ suc (length front) = omega (arith, length-append front (b ∷ [])) in
-    let joined : (front ++ b ∷ []) ++ (text ++ rest) ≡ front ++ (b ∷ (text ++ rest)) = append_assoc front (b ∷ []) (text ++ rest) in
-    let h : little_from (suc (length front)) (length text) (front ++ (b ∷ (text ++ rest))) ≡ low_first text = rw (long, joined) at (low_read (front ++ b ∷ []) text rest) in
-    rw (get_or-append_seam front b (text ++ rest) 0, h) refl
-
-high_read : (front text rest : List ℕ) → big_from (length front) (length text) (front ++ (text ++ rest)) ≡ high_first text
-high_read front [] rest = refl
-high_read front (b ∷ text) rest =
-    let long : length (front ++ b ∷ []) ≡ suc (length front) = omega (arith, length-append front (b ∷ [])) in
-    let joined : (front ++ b ∷ []) ++ (text ++ rest) ≡ front ++ (b ∷ (text ++ rest)) = append_assoc front (b ∷ []) (text ++ rest) in
-    let h : big_from (suc (length front)) (length text) (front ++ (b ∷ (text ++ rest))) ≡ high_first text = rw (long, joined) at (high_read (front ++ b ∷ []) text rest) in
-    rw (get_or-append_seam front b (text ++ rest) 0, h) refl
-
-number_read : (order : RunTimeEndian) (text rest : List ℕ) → number_of order (length text) (text ++ rest) ≡ number_in order text
-number_read Little text rest = low_read [] text rest
-number_read Big text rest = high_read [] text rest
-
-not_short : (text rest : List ℕ) → ltb (length (text ++ rest)) (length text) ≡ false
-not_short text rest = le-ltb _ _ (omega (arith, length-append text rest))
-
-fixed_whole : (order : RunTimeEndian) (text rest : List ℕ) → fixed_at (length text) (section_of order (text ++ rest)) ≡ Ok (number_in order text, section_of order rest)
-fixed_whole order text rest = rw (not_short text rest, number_read order text rest, drop-append_seam text rest) refl
-
-pub fixed_reads : ReadsFixed
-fixed_reads order n x text rest u = ap (λ k. fixed_at k (section_of order (text ++ rest))) (sym u.long) ∙ fixed_whole order text rest ∙ ap (λ y. Ok (y, section_of order rest)) (sym u.value)
-
-cut_at : (n : ℕ) (s rest : Section) → after n s ≡ rest → Cut s (take n s.bytes) rest
-cut_at n s rest e = sym (ap (λ t. section_of t.endian (take n s.bytes ++ t.bytes)) (sym e) ∙ ap (section_of s.endian) (take-append-drop n s.bytes))
-
-take_long : (n : ℕ) (bytes : List ℕ) → ltb (length bytes) n ≡ false → length (take n bytes) ≡ n
-take_long n bytes h = omega (arith, length-take n bytes, ltb-false _ _ h)
-
-pub fixed_alone : ReadsFixedAlone
-fixed_alone n x s rest e =
-    let p = guard_ok (ltb (length s.bytes) n) UnexpectedEof (number_of s.endian n s.bytes, after n s) (x, rest) e in
-    let long = take_long n s.bytes p.0 in
-    let v : number_of s.endian n s.bytes ≡ x = ap (λ (q : ℕ × Section). q.0) p.1 in
-    let r : after n s ≡ rest = ap (λ (q : ℕ × Section). q.1) p.1 in
-    let is : number_of s.endian n s.bytes ≡ number_in s.endian (take n s.bytes) = sym (ap (λ b. number_of s.endian n b) (take-append-drop n s.bytes)) ∙ ap (λ k. number_of s.endian k (take n s.bytes ++ drop n s.bytes)) (sym long) ∙ number_read s.endian (take n s.bytes) (drop n s.bytes) in
-    (take n s.bytes, record { long = long; value = sym v ∙ is }, cut_at n s rest r)
 
 joined_cut : (s t rest : Section) (front text : List ℕ) → Cut s front t → Cut t text rest → Cut s (front ++ text) rest
 joined_cut s t rest front text e f = e ∙ ap (λ u. section_of u.endian (front ++ u.bytes)) f ∙ ap (section_of rest.endian) (sym (append_assoc front text rest.bytes))

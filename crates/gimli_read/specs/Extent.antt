@@ -11,7 +11,7 @@ use Rattle.gimli_read.specs.Reading.{Reading, ◌>>=◌}
 use Rattle.gimli_read.specs.Number.{is_address_size, skipped_at, fixed_at, null_terminated_at}
 use Rattle.gimli_read.specs.Leb128.{uleb128_at, sleb128_at}
 use Rattle.gimli_read.specs.Form.{rest_of}
-use Rattle.gimli_read.specs.Value.{Spelling, Fixed, Address, Offset, AddressOrOffset, Unsigned, Signed, Block1, Block2, Block4, Block, Text, Empty, offset_size, spelling_of}
+use Rattle.gimli_read.specs.Spelling.{Spelling, Fixed, Address, Offset, AddressOrOffset, Unsigned, Signed, Block1, Block2, Block4, Block, Text, Empty, offset_size, spelling_of}
 
 -- an address has a size of its own, if that is one
 abbrev pub address_extent : Encoding → Result Extent Error

@@ -1,18 +1,19 @@
--- The values of attributes as a relation of texts (DWARF 5, sections 7.5.5 and 7.5.6): how the text of a form's value
--- is spelled, and which value it is.
--- Own: the GNU forms; a form that isn't listed has no value, nor has indirect to implicit_const.
-use Rattle.std.specs.Prelude.{◌≡◌, ◌≢◌, ◌⊎◌, ℕ, zero, suc, ◌+◌, ◌*◌, ◌^◌, ◌<◌, ◌==◌, not, true, List, [], ◌∷◌, ◌++◌, length, slice_index, Option, Some, None, Ok, if◌then◌else◌, ℤ}
+-- The values of attributes as a relation of texts (DWARF 5, sections 7.5.5 and 7.5.6): the text of a form's value, and
+-- which value it is.
+-- Own: a form that isn't listed has no value, nor has indirect to implicit_const.
+use Rattle.std.specs.Prelude.{◌≡◌, ◌≢◌, ◌⊎◌, ℕ, zero, suc, ◌+◌, ◌*◌, ◌^◌, ◌<◌, true, List, [], ◌∷◌, ◌++◌, length, slice_index, Option, Some, None, Ok, ℤ}
 use Rattle.gimli_read.specs.declared.endian.RunTimeEndian.{RunTimeEndian}
 use Rattle.gimli_read.specs.declared.endian.RunTimeEndian.TheVariants.{Little, Big}
-use Rattle.gimli_read.specs.declared.endian.Format.{Format}
-use Rattle.gimli_read.specs.declared.endian.Format.TheVariants.{Dwarf32, Dwarf64}
 use Rattle.gimli_read.specs.declared.endian.Encoding.{Encoding}
+use Rattle.gimli_read.specs.declared.abbrev.AttributeSpecification.{AttributeSpecification}
+use Rattle.gimli_read.specs.declared.value.Attribute.{Attribute}
 use Rattle.gimli_read.specs.declared.value.AttributeValue.{AttributeValue}
 use Rattle.gimli_read.specs.declared.value.AttributeValue.TheVariants as values
 use Rattle.gimli_read.specs.Section.{Section}
 use Rattle.gimli_read.specs.Number.{fixed_at, is_address_size}
 use Rattle.gimli_read.specs.Leb128.{IsUleb128, IsSleb128}
-use Rattle.gimli_read.specs.Form.{unit_ref, info_ref, info_ref_sup, value_at}
+use Rattle.gimli_read.specs.Form.{value_at, attribute_at}
+use Rattle.gimli_read.specs.Spelling.{Spelling, Fixed, Address, Offset, AddressOrOffset, Unsigned, Signed, Block1, Block2, Block4, Block, Text, Empty, offset_size, spelling_of}
 
 -- the base 256 value of bytes, the lowest first
 abbrev pub low_first : List ℕ → ℕ
@@ -33,89 +34,6 @@ number_in Big bytes = high_first bytes
 pub record IsFixed (order : RunTimeEndian) (n : ℕ) (text : List ℕ) (x : ℕ) : Type 0 where
   pub long : length text ≡ n
   pub value : x ≡ number_in order text
-
--- how the text of a value is spelled, and how the value is made of what is spelled
-pub data Spelling : Type 0 where
-  Fixed : ℕ → (ℕ → AttributeValue Section) → Spelling
-  Address : (ℕ → AttributeValue Section) → Spelling
-  Offset : (ℕ → AttributeValue Section) → Spelling
-  AddressOrOffset : (ℕ → AttributeValue Section) → Spelling
-  Unsigned : (ℕ → AttributeValue Section) → Spelling
-  Signed : (ℤ → AttributeValue Section) → Spelling
-  Block1 : (Section → AttributeValue Section) → Spelling
-  Block2 : (Section → AttributeValue Section) → Spelling
-  Block4 : (Section → AttributeValue Section) → Spelling
-  Block : (Section → AttributeValue Section) → Spelling
-  Text : (Section → AttributeValue Section) → Spelling
-  Empty : AttributeValue Section → Spelling
-
--- the value of a flag
-abbrev pub flag_of : ℕ → AttributeValue Section
-flag_of n = values.Flag (not (n == 0))
-
--- the forms, and how their values are spelled
-abbrev pub forms : List (ℕ × Spelling)
-forms =
-    (0x01, Address values.Addr)
-    ∷ (0x1b, Unsigned values.DebugAddrIndex)
-    ∷ (0x1f01, Unsigned values.DebugAddrIndex)
-    ∷ (0x29, Fixed 1 values.DebugAddrIndex)
-    ∷ (0x2a, Fixed 2 values.DebugAddrIndex)
-    ∷ (0x2b, Fixed 3 values.DebugAddrIndex)
-    ∷ (0x2c, Fixed 4 values.DebugAddrIndex)
-    ∷ (0x0a, Block1 values.Block)
-    ∷ (0x03, Block2 values.Block)
-    ∷ (0x04, Block4 values.Block)
-    ∷ (0x09, Block values.Block)
-    ∷ (0x18, Block values.Exprloc)
-    ∷ (0x0b, Fixed 1 values.Data1)
-    ∷ (0x05, Fixed 2 values.Data2)
-    ∷ (0x06, Fixed 4 values.Data4)
-    ∷ (0x07, Fixed 8 values.Data8)
-    ∷ (0x1e, Fixed 16 values.Data16)
-    ∷ (0x0d, Signed values.Sdata)
-    ∷ (0x0f, Unsigned values.Udata)
-    ∷ (0x0c, Fixed 1 flag_of)
-    ∷ (0x19, Empty (values.Flag true))
-    ∷ (0x08, Text values.String)
-    ∷ (0x0e, Offset values.DebugStrRef)
-    ∷ (0x1f, Offset values.DebugLineStrRef)
-    ∷ (0x1d, Offset values.DebugStrRefSup)
-    ∷ (0x1f21, Offset values.DebugStrRefSup)
-    ∷ (0x1a, Unsigned values.DebugStrOffsetsIndex)
-    ∷ (0x1f02, Unsigned values.DebugStrOffsetsIndex)
-    ∷ (0x25, Fixed 1 values.DebugStrOffsetsIndex)
-    ∷ (0x26, Fixed 2 values.DebugStrOffsetsIndex)
-    ∷ (0x27, Fixed 3 values.DebugStrOffsetsIndex)
-    ∷ (0x28, Fixed 4 values.DebugStrOffsetsIndex)
-    ∷ (0x11, Fixed 1 unit_ref)
-    ∷ (0x12, Fixed 2 unit_ref)
-    ∷ (0x13, Fixed 4 unit_ref)
-    ∷ (0x14, Fixed 8 unit_ref)
-    ∷ (0x15, Unsigned unit_ref)
-    ∷ (0x10, AddressOrOffset info_ref)
-    ∷ (0x1c, Fixed 4 info_ref_sup)
-    ∷ (0x24, Fixed 8 info_ref_sup)
-    ∷ (0x1f20, Offset info_ref_sup)
-    ∷ (0x20, Fixed 8 values.DebugTypesRef)
-    ∷ (0x17, Offset values.SecOffset)
-    ∷ (0x22, Unsigned values.DebugLocListsIndex)
-    ∷ (0x23, Unsigned values.DebugRngListsIndex)
-    ∷ []
-
--- what stands beside a form in a table of forms
-abbrev pub form_in : List (ℕ × Spelling) → ℕ → Option Spelling
-form_in [] form = None
-form_in (f ∷ table) form = if form == f.0 then Some f.1 else form_in table form
-
--- how the values of a form are spelled, if it is listed
-unfoldable pub spelling_of : ℕ → Option Spelling
-spelling_of form = form_in forms form
-
--- the number of bytes of an offset
-abbrev pub offset_size : Format → ℕ
-offset_size Dwarf32 = 4
-offset_size Dwarf64 = 8
 
 -- an address, which has 1, 2, 4 or 8 bytes
 abbrev pub IsAddress : Encoding → RunTimeEndian → List ℕ → ℕ → Type 0
@@ -180,6 +98,17 @@ IsValueBehind (suc n) encoding order form text value =
 abbrev pub IsValue : Encoding → RunTimeEndian → ℕ → List ℕ → AttributeValue Section → Type 0
 IsValue encoding order form text value = (n : ℕ) × IsValueBehind n encoding order form text value
 
+-- the text is the value of an attribute: none for implicit_const (form 0x21), whose value stands in the abbreviation
+abbrev pub IsAttributeValue : Encoding → RunTimeEndian → AttributeSpecification → List ℕ → AttributeValue Section → Type 0
+IsAttributeValue encoding order specification text value =
+    ((specification.form.0 ≡ 0x21) × (text ≡ []) × ((z : ℤ) × (specification.constant ≡ Some z) × (value ≡ values.Sdata z)))
+    ⊎ ((specification.form.0 ≢ 0x21) × IsValue encoding order specification.form.0 text value)
+
+-- the text is one attribute of a specification, and this is the attribute
+pub record IsAttribute (encoding : Encoding) (order : RunTimeEndian) (specification : AttributeSpecification) (text : List ℕ) (attribute : Attribute Section) : Type 0 where
+  pub named : attribute.name ≡ specification.name
+  pub valued : IsAttributeValue encoding order specification text attribute.value
+
 -- each text of a fixed number is read as that number, whatever follows
 abbrev pub ReadsFixed : Type 0
 ReadsFixed = (order : RunTimeEndian) (n x : ℕ) (text rest : List ℕ) → IsFixed order n text x → fixed_at n (section_of order (text ++ rest)) ≡ Ok (x, section_of order rest)
@@ -195,3 +124,11 @@ ReadsValue = (encoding : Encoding) (order : RunTimeEndian) (form : ℕ) (text re
 -- and nothing else is read
 abbrev pub ReadsValueAlone : Type 0
 ReadsValueAlone = (encoding : Encoding) (form : ℕ) (s rest : Section) (value : AttributeValue Section) → value_at encoding form s ≡ Ok (value, rest) → (text : List ℕ) × IsValue encoding s.endian form text value × (s ≡ section_of rest.endian (text ++ rest.bytes))
+
+-- each text of an attribute is read as that attribute, whatever follows
+abbrev pub ReadsAttribute : Type 0
+ReadsAttribute = (encoding : Encoding) (order : RunTimeEndian) (specification : AttributeSpecification) (text rest : List ℕ) (attribute : Attribute Section) → IsAttribute encoding order specification text attribute → attribute_at encoding specification (section_of order (text ++ rest)) ≡ Ok (attribute, section_of order rest)
+
+-- and nothing else is read
+abbrev pub ReadsAttributeAlone : Type 0
+ReadsAttributeAlone = (encoding : Encoding) (specification : AttributeSpecification) (s rest : Section) (attribute : Attribute Section) → attribute_at encoding specification s ≡ Ok (attribute, rest) → (text : List ℕ) × IsAttribute encoding s.endian specification text attribute × (s ≡ section_of rest.endian (text ++ rest.bytes))

@@ -1,15 +1,17 @@
 //! Laws of the readings, with no code.
 
 ghost use Rattle.gimli_read.specs.Alike.{TellAlike, GiveAlike};
-ghost use Rattle.gimli_read.specs.Value.{ReadsFixed, ReadsFixedAlone, ReadsValue, ReadsValueAlone};
+ghost use Rattle.gimli_read.specs.Value.{ReadsFixed, ReadsFixedAlone, ReadsValue, ReadsValueAlone, ReadsAttribute, ReadsAttributeAlone};
 
-/// A fixed number and an attribute's value are read from their texts, whatever follows, and from
-/// nothing else: a law, with no code.
+/// A fixed number, the value of a form and an attribute are read from their texts, whatever follows,
+/// and from nothing else: a law, with no code.
 pub fn value_laws()
     ensures fixed { ReadsFixed }
     ensures fixed_alone { ReadsFixedAlone }
     ensures value { ReadsValue }
     ensures value_alone { ReadsValueAlone }
+    ensures attribute { ReadsAttribute }
+    ensures attribute_alone { ReadsAttributeAlone }
 {}
 
 /// Readers of equal sections answer alike: a law, with no code.

@@ -6,7 +6,7 @@ ghost use Rattle.gimli_read.specs.Reading.{Tells};
 ghost use Rattle.gimli_read.specs.Number.{skipped_at, null_terminated_at};
 ghost use Rattle.gimli_read.specs.Form.{rest_of, direct_at, value_at, attribute_at};
 ghost use Rattle.gimli_read.specs.declared.skip.Extent.TheVariants.{Fixed};
-ghost use Rattle.gimli_read.specs.Value.{offset_size};
+ghost use Rattle.gimli_read.specs.Spelling.{offset_size};
 ghost use Rattle.gimli_read.specs.Extent.{address_extent, extent_at, behind_at};
 
 use crate::abbrev::AttributeSpecification;
@@ -58,7 +58,7 @@ fn extent_of_offset(encoding: Encoding) -> Extent
 }
 
 // The extent of the values of a form other than indirect and implicit_const.
-#[tactic(auto, unfolding(crate::specs::Value::spelling_of))]
+#[tactic(auto, unfolding(crate::specs::Spelling::spelling_of))]
 fn extent_of_form(encoding: Encoding, form: DwForm) -> Result<Extent, Error>
     ensures gives { Tells (λ x. x) result (extent_at encoding form.0) }
 {

@@ -1,10 +1,12 @@
 //! The checksum of rows.
 
 ghost use Rattle.std.specs.Prelude.{◌≡◌};
+ghost use Rattle.std.specs.Option.{option_map};
 ghost use Rattle.gimli_read.specs.Reading.{Gives};
-ghost use Rattle.line_speed.specs.Checksum.{with_row, with_rows};
+ghost use Rattle.gimli_line.specs.Header.{seen_program};
+ghost use Rattle.line_speed.specs.Checksum.{with_row, with_rows, program_at, with_program, checksum};
 
-use gimli_line::{LineRow, LineRows, read_line_program};
+use gimli_line::{IncompleteLineProgram, LineRow, LineRows, read_line_program};
 use gimli_read::{Error, Reader, read_initial_length};
 use std::alloc::Global;
 
@@ -34,22 +36,43 @@ fn with_rows<R: Reader>(sum: u64, rows: &mut LineRows<R>) -> Result<u64, Error>
     Ok(sum)
 }
 
+// The next program, whose rows aren't read yet; none at the end.
+#[tactic(auto, unfolding(crate::specs::Checksum::program_at))]
+fn next_program<R: Reader>(
+    alloc: Global,
+    rest: &mut R,
+) -> Result<Option<IncompleteLineProgram<R>>, Error>
+    ensures gives { Gives (λ p. (option_map (seen_program R.section) p, R.section rest.new)) result
+        (program_at (R.section rest.old)) }
+{
+    if rest.is_empty() {
+        return Ok(None);
+    }
+    let unit = rest.duplicate()?;
+    let (length, _) = read_initial_length(rest)?;
+    rest.skip(length)?;
+    Ok(Some(read_line_program(alloc, unit, 8)?))
+}
+
+// A sum with the rows of a program.
+#[tactic(auto, unfolding(crate::specs::Checksum::with_program))]
+fn with_program<R: Reader>(sum: u64, program: &IncompleteLineProgram<R>) -> Result<u64, Error>
+    ensures gives { Gives (λ n. n) result (with_program sum (seen_program R.section program.now)) }
+{
+    let mut rows = program.rows()?;
+    with_rows(sum, &mut rows)
+}
+
 /// The checksum of all rows of a section's line programs, which stand one after another, of address size 8.
 ///
 /// Refused as `read_line_program`, `rows` and `next_row` are.
-pub fn checksum_of<R: Reader>(alloc: Global, section: R) -> Result<u64, Error> {
+pub fn checksum_of<R: Reader>(alloc: Global, section: R) -> Result<u64, Error>
+    ensures gives { Gives (λ n. n) result (checksum (R.section section)) }
+{
     let mut rest = section;
     let mut sum = 0;
-    // Each program takes a byte at least.
-    for _ in 0..rest.len() {
-        if rest.is_empty() {
-            break;
-        }
-        let unit = rest.duplicate()?;
-        let (length, _) = read_initial_length(&mut rest)?;
-        rest.skip(length)?;
-        let mut rows = read_line_program(alloc, unit, 8)?.rows()?;
-        sum = with_rows(sum, &mut rows)?;
+    while let Some(program) = next_program(alloc, &mut rest)? {
+        sum = with_program(sum, &program)?;
     }
     Ok(sum)
 }

@@ -18,25 +18,21 @@ fn rows_of<R: Reader>(
     program: &IncompleteLineProgram<R>,
 ) -> Result<LineRows<R>, Error> {
     let rows = program.rows();
-    match rows {
-        Ok(rows) => Ok(rows),
-        Err(error) => {
-            assert_eq!(rt; error, Error::OutOfMemory);
-            program.rows()
-        }
+    if rows.is_err() {
+        let again = program.rows();
+        assert!(rt; again.is_ok());
     }
+    rows
 }
 
 // The path of a file, which is as it was where it was refused.
 fn path_of<R: Reader>(rt: &impl Abort, file: &FileEntry<R>) -> Result<AttributeValue<R>, Error> {
     let path = file.path_name();
-    match path {
-        Ok(path) => Ok(path),
-        Err(error) => {
-            assert_eq!(rt; error, Error::OutOfMemory);
-            file.path_name()
-        }
+    if path.is_err() {
+        let again = file.path_name();
+        assert!(rt; again.is_ok());
     }
+    path
 }
 
 // The rows of the program that defines a file. The first takes no memory, the second the file's.

@@ -76,6 +76,18 @@ const PASSED: &str = "01 4 5 0102030405060708090a 6 6
 00 4 5 0102030405060708090a form form
 2d 4 5 0102030405060708090a form form";
 
+// The form, the bytes where a value stands with the lowest byte first and with the highest first, and how many are left
+// behind it.
+const ORDERED: &str = "0a 02080910 02080910 1
+03 0200080910 0002080910 1
+04 02000000080910 00000002080910 1
+09 82000809 82000809 0
+18 02080910 02080910 1
+19 0910 0910 2
+0d 800810 800810 1
+08 610010 610010 1
+16 030200080910 030002080910 1";
+
 // How many bytes are left behind an attribute that is passed over.
 fn passed<R: Reader>(
     input: R,
@@ -102,6 +114,7 @@ fn both_leave(
     rt: &impl Abort,
     alloc: Global,
     bytes: &[u8],
+    endian: RunTimeEndian,
     encoding: Encoding,
     form: u64,
     want: Result<u64, Error>,
@@ -111,8 +124,8 @@ fn both_leave(
         form: DwForm(form),
         constant: None,
     };
-    let borrowed = EndianSlice::new(bytes, RunTimeEndian::Little);
-    let shares = shared(alloc, bytes, RunTimeEndian::Little)?;
+    let borrowed = EndianSlice::new(bytes, endian);
+    let shares = shared(alloc, bytes, endian)?;
     let copy = shares.duplicate()?;
     let left = passed(borrowed.duplicate()?, encoding, specification);
     assert!(rt; left == want, "form {form} passed over");
@@ -139,12 +152,38 @@ fn what_is_passed_over_is_what_is_read(rt: HostRuntime) -> Result<(), Fail> {
                     version: u16::try_from(number(version)).unwrap_or(0),
                 };
                 let want = answer(left);
-                both_leave(&rt, rt.alloc(), &bytes, encoding, number(form), want)?;
+                let order = RunTimeEndian::Little;
+                both_leave(&rt, rt.alloc(), &bytes, order, encoding, number(form), want)?;
                 cases = cases.wrapping_add(1);
             }
         }
     }
     assert_eq!(rt; cases, 132);
+    Ok(())
+}
+
+#[test]
+fn blocks_are_passed_over_in_both_orders(rt: HostRuntime) -> Result<(), Fail> {
+    let mut cases = 0u64;
+    for line in ORDERED.split('\n') {
+        let words: Vec<&str> = line.split_whitespace().collect(rt.alloc())?;
+        if let [form, little, big, left] = words.as_slice() {
+            let want = answer(left);
+            for (order, text) in [(RunTimeEndian::Little, little), (RunTimeEndian::Big, big)] {
+                let bytes = bytes(rt.alloc(), text)?;
+                for format in [Format::Dwarf32, Format::Dwarf64] {
+                    let encoding = Encoding {
+                        address_size: 4,
+                        format,
+                        version: 5,
+                    };
+                    both_leave(&rt, rt.alloc(), &bytes, order, encoding, number(form), want)?;
+                    cases = cases.wrapping_add(1);
+                }
+            }
+        }
+    }
+    assert_eq!(rt; cases, 36);
     Ok(())
 }
 

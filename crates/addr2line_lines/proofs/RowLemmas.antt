@@ -1,12 +1,11 @@
 -- The rows of a line program as rows that come one at a time.
-use Rattle.std.proofs.Common.{◌≡◌, ◌≢◌, List, [], ◌∷◌, Option, Some, None, Result, Ok, Err, IfOk, refl, ap, sym, subst}
+use Rattle.std.proofs.Common.{◌≡◌, List, [], ◌∷◌, Option, Some, None, Result, Ok, Err, IfOk, refl, ap, sym, subst}
 use Rattle.gimli_read.specs.declared.error.Error.{Error}
 use Rattle.gimli_read.specs.declared.error.Error.TheVariants.{OutOfMemory}
 use Rattle.gimli_read.specs.Yields.{Yields}
 use Rattle.gimli_line.specs.declared.row.LineRow.{LineRow}
 use Rattle.gimli_line.specs.Lines.{YieldsIfRoom}
 use Rattle.gimli_line.specs.Rises.{rows_before, NeverFalls}
-use Rattle.std.specs.Result.{result_map_both}
 use Rattle.addr2line_lines.specs.Rows.{read_all, result_map}
 
 -- rows that are given where there is room are given but for want of memory

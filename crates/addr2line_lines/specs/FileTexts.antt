@@ -1,7 +1,7 @@
 -- The texts of a unit's files by index (DWARF 5, section 6.2.4).
 -- Own: below version 5 index 0 is the unit's own name; where there is none the text is empty. A file's directory
 -- counts unless its index is 0 or has no entry. The fault of the texts is the first one by index.
-use Rattle.std.specs.Prelude.{ℕ, ◌==◌, nat_lt, List, [], ◌∷◌, ◌++◌, Option, Some, None, option_map, Result, Ok, Err, if◌then◌else◌}
+use Rattle.std.specs.Prelude.{ℕ, ◌==◌, nat_lt, List, [], ◌∷◌, ◌++◌, Option, Some, None, option_map, Result, Ok, if◌then◌else◌}
 use Rattle.gimli_read.specs.declared.error.Error.{Error}
 use Rattle.gimli_read.specs.declared.value.AttributeValue.{AttributeValue}
 use Rattle.gimli_read.specs.Section.{Section}

@@ -2,7 +2,7 @@
 -- Own: of low_pc, of high_pc as an address and of high_pc as a size the last that counts is taken; a high_pc address
 -- counts before a size, whose sum wraps at 64 bits. Empty and reversed ranges are dropped.
 -- limit: no range list is read yet
-use Rattle.std.specs.Prelude.{ℕ, ◌+◌, ◌%◌, ◌^◌, ◌==◌, nat_lt, List, [], ◌∷◌, Option, Some, None, Result, Ok, Err, pos, if◌then◌else◌}
+use Rattle.std.specs.Prelude.{ℕ, ◌+◌, ◌%◌, ◌^◌, ◌==◌, nat_lt, List, [], ◌∷◌, Option, Some, None, Result, Ok, pos, if◌then◌else◌}
 use Rattle.gimli_read.specs.declared.error.Error.{Error}
 use Rattle.gimli_read.specs.declared.range.Range.{Range}
 use Rattle.gimli_read.specs.declared.abbrev.AttributeSpecification.{AttributeSpecification}

@@ -1,5 +1,5 @@
 -- Rows that come one at a time, as the private functions see them.
-use Rattle.std.specs.Prelude.{◌≡◌, List, [], ◌∷◌, Option, Some, None, Result, Ok, Err}
+use Rattle.std.specs.Prelude.{List, [], ◌∷◌, Result, Ok, Err}
 use Rattle.std.specs.Result.{result_map_both}
 
 -- a function of the value, the fault as it is

@@ -1,6 +1,6 @@
 -- The lines of a unit: its files and its sequences, or their fault (DWARF 5, section 6.2).
 -- Own: the program's fault stands before that of the files' texts. A unit without a line program has no lines.
-use Rattle.std.specs.Prelude.{ℕ, ◌++◌, List, [], Option, Some, None, Result, Ok, Err}
+use Rattle.std.specs.Prelude.{◌++◌, [], Option, Some, None, Result, Ok}
 use Rattle.gimli_read.specs.declared.error.Error.{Error}
 use Rattle.gimli_read.specs.Reading.{◌>>=◌}
 use Rattle.gimli_line.specs.Header.{Program}

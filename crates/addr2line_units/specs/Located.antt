@@ -1,7 +1,7 @@
 -- Where an address lies (DWARF 5, section 6.2): the place that the first of the units that cover it gives.
 -- Own: the first unit whose lines have a fault gives that fault, and the first that has a place gives it, whichever
 -- comes first.
-use Rattle.std.specs.Prelude.{ℕ, List, [], ◌∷◌, slice_get, Option, Some, None, Result, Ok, Err}
+use Rattle.std.specs.Prelude.{ℕ, List, [], ◌∷◌, slice_get, Option, Some, None, Result, Ok}
 use Rattle.gimli_read.specs.declared.error.Error.{Error}
 use Rattle.gimli_read.specs.Reading.{◌>>=◌}
 use Rattle.gimli.specs.Sections.{Sections}

@@ -3,14 +3,14 @@
 -- Own: a type unit is passed over, and so is a unit whose record is faulty; a partial unit of version 5 is kept with
 -- no range. The first fault of a header, or of a unit's range attributes, refuses the context.
 -- limit: no range list, no .debug_aranges and no line sequences are read for ranges yet
-use Rattle.std.specs.Prelude.{ℕ, ◌+◌, ◌==◌, nat_lt, nat_le, Bool, true, false, ◌&&◌, List, [], ◌∷◌, ◌++◌, length, map, filter, Option, Some, None, Result, Ok, Err, if◌then◌else◌}
+use Rattle.std.specs.Prelude.{ℕ, nat_lt, nat_le, Bool, true, false, ◌&&◌, List, [], ◌∷◌, ◌++◌, length, map, filter, Result, Ok, Err, if◌then◌else◌}
 use Rattle.std.specs.Ordering.{is_lt, nat_cmp, ordering_then}
 use Rattle.gimli_read.specs.declared.error.Error.{Error}
 use Rattle.gimli_read.specs.declared.range.Range.{Range}
 use Rattle.gimli_read.specs.Section.{Section}
 use Rattle.gimli_read.specs.Reading.{◌>>=◌}
 use Rattle.gimli.specs.declared.unit.UnitType.{UnitType}
-use Rattle.gimli.specs.declared.unit.UnitType.TheVariants.{Compile, TypeUnit, Partial, Skeleton, SplitCompile, SplitType}
+use Rattle.gimli.specs.declared.unit.UnitType.TheVariants.{TypeUnit, Partial, SplitType}
 use Rattle.gimli.specs.declared.unit.UnitHeader.{UnitHeader}
 use Rattle.gimli.specs.Sections.{Sections}
 use Rattle.gimli.specs.Unit.{UnitRecord, unit_of}

@@ -1,5 +1,5 @@
 -- Numbers of one byte (on specs/Leb128.antt).
-use Rattle.std.proofs.Common.{◌≡◌, ℕ, zero, suc, ◌+◌, ◌*◌, ◌%◌, ◌<◌, ◌≤◌, ◌^◌, List, [], ◌∷◌, ◌++◌, length, drop, Option, Some, None, Ok, true, refl, sym, ap, ◌∙◌, ◌⊎◌, inl, inr, arith, ℤ, pos, negsuc, ◌-◌, ◌-ℤ◌, w64, to_z, of_z, ◌/◌, rules}
+use Rattle.std.proofs.Common.{◌≡◌, ℕ, ◌*◌, ◌<◌, ◌≤◌, ◌^◌, List, [], ◌∷◌, drop, Some, Ok, true, refl, sym, ap, ◌∙◌, ◌⊎◌, inl, inr, arith, pos, negsuc, ◌-◌, ◌-ℤ◌, w64, to_z, of_z, ◌/◌, rules}
 use Rattle.std.proofs.Math.Facts.{to_z_pos}
 use Rattle.std.proofs.lemmas.Int.{to_z-of_z}
 use Rattle.std.proofs.lemmas.Bool.{lt-ltb, le-ltb, cases_lt}

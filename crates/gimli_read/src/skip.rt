@@ -1,7 +1,6 @@
 //! Passing over the values of attributes.
 
 ghost use Rattle.std.specs.Prelude.{◌≡◌, ◌==◌};
-ghost use Rattle.std.specs.List.{position};
 ghost use Rattle.gimli_read.specs.Reading.{Tells};
 ghost use Rattle.gimli_read.specs.Number.{skipped_at, null_terminated_at};
 ghost use Rattle.gimli_read.specs.Form.{rest_of, direct_at, value_at, attribute_at};
@@ -13,7 +12,7 @@ use crate::abbrev::AttributeSpecification;
 use crate::constants::DwForm;
 use crate::endian::{Encoding, Format};
 use crate::error::Error;
-use crate::reader::Reader;
+use crate::reader::{Reader, zero_of};
 use crate::value::read_form;
 
 // How far a value reaches.
@@ -114,13 +113,6 @@ fn extent_of_form(encoding: Encoding, form: DwForm) -> Result<Extent, Error>
         DwForm::DW_FORM_string => Ok(Extent::Text),
         _ => Err(Error::UnknownForm),
     }
-}
-
-// Where the first zero byte stands.
-fn zero_of(bytes: &[u8]) -> Option<usize>
-    ensures found { result ≡ position (λ b. b == 0) bytes.now }
-{
-    bytes.iter().position(|byte| *byte == 0)
 }
 
 // Passes over a text and its zero byte.

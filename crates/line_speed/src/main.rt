@@ -8,7 +8,7 @@ use bytes::Bytes;
 use gimli_read::{EndianBytes, EndianSlice, Error, RunTimeEndian};
 use std::alloc::Global;
 use std::process::ExitCode;
-use std::{env, fs};
+use std::{env, fs, io};
 
 // The checksum of a section, read over the reader that the mode names; none for another mode.
 fn sum_of(alloc: Global, mode: &str, bytes: Vec<u8>) -> Option<Result<u64, Error>> {
@@ -25,19 +25,26 @@ fn sum_of(alloc: Global, mode: &str, bytes: Vec<u8>) -> Option<Result<u64, Error
     None
 }
 
-fn main(rt: HostRuntime) -> anyhow::Result<ExitCode> {
+// The checksum of the file that the words name, in the mode that they name; none for other words.
+fn told(
+    rt: &(impl std::rt::Env + std::fs::Files + AllocGlobal),
+) -> io::Result<Option<Result<u64, Error>>> {
     let alloc: Global = rt.alloc();
-    let words: Vec<String> = env::args(&rt)?.collect(alloc)?;
+    let words: Vec<String> = env::args(rt)?.collect(alloc)?;
     if words.len() != 3 {
-        return Ok(ExitCode::from(2));
+        return Ok(None);
     }
-    let bytes = fs::read(&rt, words[2].as_str())?;
-    match sum_of(alloc, words[1].as_str(), bytes) {
-        None => Ok(ExitCode::from(2)),
-        Some(sum) => {
-            let sum = sum?;
-            println!(rt; "{sum:016x}")?;
-            Ok(ExitCode::SUCCESS)
-        }
+    let bytes = fs::read(rt, words[2].as_str())?;
+    Ok(sum_of(alloc, words[1].as_str(), bytes))
+}
+
+fn main(rt: HostRuntime) -> ExitCode {
+    match told(&rt) {
+        Ok(Some(Ok(sum))) => match println!(rt; "{sum:016x}") {
+            Ok(()) => ExitCode::SUCCESS,
+            Err(_) => ExitCode::from(1),
+        },
+        Ok(None) => ExitCode::from(2),
+        _ => ExitCode::from(1),
     }
 }

@@ -1,10 +1,6 @@
-use Rattle.std.proofs.Common.{◌≡◌, sym, ap, ◌∙◌, map}
-use Rattle.std.specs.String.{string_bytes}
+use Rattle.std.proofs.Common.{sym, ◌∙◌}
 use Rattle.std.proofs.lemmas.List.{map_push}
 use Rattle.std.proofs.lemmas.Result.{err_from_is_err_and}
-use Rattle.gimli_line.specs.Header.{seen_header}
-use Rattle.gimli.specs.Sections.{seen_dwarf}
-use Rattle.gimli.specs.Unit.{seen_unit}
 use Rattle.addr2line_lines.proofs.FileLemmas.{texts_more, texts_fault, texts_end}
 use Rattle.addr2line_lines.proofs.files.push_texts.Goals as goal
 

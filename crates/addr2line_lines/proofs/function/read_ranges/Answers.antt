@@ -1,4 +1,4 @@
-use Rattle.std.proofs.Common.{◌≡◌, sym, ap, ◌∙◌}
+use Rattle.std.proofs.Common.{sym, ap, ◌∙◌}
 use Rattle.std.proofs.lemmas.Result.{err_from_is_err_and}
 use Rattle.addr2line_lines.proofs.RangeLemmas.{took_fault, took_refused, took_more, took_end}
 use Rattle.addr2line_lines.proofs.function.read_ranges.Goals as goal

@@ -1,10 +1,6 @@
-use Rattle.std.proofs.Common.{◌≡◌, ◌++◌, List, Ok, map, sym, ◌∙◌, ap}
+use Rattle.std.proofs.Common.{◌∙◌, ap}
 use Rattle.std.proofs.lemmas.Result.{err_from_is_err_and}
-use Rattle.gimli_read.specs.Section.{Section}
-use Rattle.gimli_line.specs.declared.header.FileEntry.{FileEntry}
-use Rattle.gimli_line.specs.Header.{Header, seen_file, seen_header}
-use Rattle.gimli_line.specs.Lines.{Lines}
-use Rattle.addr2line_lines.specs.FileTexts.{file_texts}
+use Rattle.gimli_line.specs.Header.{Header}
 use Rattle.addr2line_lines.proofs.ProgramLemmas.{program_rows_fault, program_files_fault, program_made}
 use Rattle.addr2line_lines.proofs.line.read_program.Goals as goal
 

@@ -1,6 +1,6 @@
-use Rattle.std.proofs.Common.{◌≡◌, sym, ◌∙◌}
+use Rattle.std.proofs.Common.{sym, ◌∙◌}
 use Rattle.std.proofs.lemmas.Result.{err_from_is_err_and}
-use Rattle.addr2line_units.proofs.UnitLemmas.{made-next, made-end, made-fault, step-fault, step-made}
+use Rattle.addr2line_units.proofs.UnitLemmas.{made-end, made-fault, step-fault, step-made}
 use Rattle.addr2line_units.proofs.unit.ResUnits.parse.Goals as goal
 
 pub returns-in_err-header-clause-gives : goal.returns-in_err-header-clause-gives

@@ -1,4 +1,4 @@
-use Rattle.std.proofs.Common.{◌≡◌, sym, ◌∙◌}
+use Rattle.std.proofs.Common.{sym, ◌∙◌}
 use Rattle.addr2line_units.proofs.UnitLemmas.{found_again}
 use Rattle.addr2line_units.proofs.unit.ResUnits.read_lines.Goals as goal
 

@@ -1,4 +1,4 @@
-use Rattle.std.proofs.Common.{◌≡◌, length, sym, ap, ◌∙◌}
+use Rattle.std.proofs.Common.{length, ap}
 use Rattle.gimli_read.specs.Abbreviations.{Abbrev}
 use Rattle.gimli_read.proofs.AbbrevLemmas.{distinct-push}
 use Rattle.gimli_read.proofs.PlaceLemmas.{placed_apart, placed-push}

@@ -13,7 +13,7 @@ const SHT_STRTAB: u32 = 3;
 
 /// A file while its sections are added.
 #[derive(Drop)]
-pub struct Writer {
+pub(crate) struct Writer {
     body: Vec<u8>,
     names: Vec<u8>,
     headers: Vec<u8>,
@@ -22,7 +22,7 @@ pub struct Writer {
 
 impl Writer {
     /// A file without sections, but for the null section. Refused `AllocError`.
-    pub fn new(alloc: Global) -> Result<Writer, AllocError> {
+    pub(crate) fn new(alloc: Global) -> Result<Writer, AllocError> {
         let mut names = Vec::new(alloc);
         let mut headers = Vec::new(alloc);
         names.push(0)?;
@@ -60,14 +60,14 @@ impl Writer {
     }
 
     /// Adds a section of plain bytes. Refused `AllocError`.
-    pub fn add(&mut self, name: &str, bytes: &[u8]) -> Result<(), AllocError> {
+    pub(crate) fn add(&mut self, name: &str, bytes: &[u8]) -> Result<(), AllocError> {
         let at = self.name(name)?;
         self.header(at, SHT_PROGBITS, bytes.len())?;
         self.body.extend_from_slice(bytes)
     }
 
     /// The file, with the table of names as its last section. Refused `AllocError`.
-    pub fn file(mut self, alloc: Global) -> Result<Vec<u8>, AllocError> {
+    pub(crate) fn file(mut self, alloc: Global) -> Result<Vec<u8>, AllocError> {
         let at = self.name(".shstrtab")?;
         let len = self.names.len();
         self.header(at, SHT_STRTAB, len)?;

@@ -3,7 +3,7 @@
 ghost use Rattle.std.specs.Prelude.{◌≡◌, ⊤, option_map};
 ghost use Rattle.std.specs.Borrow.{sem, follows_so};
 ghost use mathlib.Core.Option.{none};
-ghost use Rattle.gimli_read.specs.Reading.{Gives};
+ghost use Rattle.gimli_read.specs.Reading.{ExactlyUnlessOom};
 ghost use Rattle.gimli.specs.declared.dwarf.DwarfFileType.TheVariants.{Main};
 ghost use Rattle.gimli.specs.Sections.{seen_dwarf};
 ghost use Rattle.addr2line_lines.specs.Shown.{shown};
@@ -49,7 +49,7 @@ impl<R: Reader> Context<R> {
     /// Refused by the first fault of a header or of the kept unit's range attributes, and
     /// `OutOfMemory`; a unit whose record is faulty is passed over. No line program is run.
     pub fn from_dwarf(alloc: Global, dwarf: Dwarf<R>) -> Result<Context<R>, Error>
-        ensures gives { Gives (λ c. c) result (context_of (seen_dwarf R.section dwarf)) }
+        ensures gives { ExactlyUnlessOom (λ c. c) result (context_of (seen_dwarf R.section dwarf)) }
     {
         let units = ResUnits::parse(alloc, &dwarf)?;
         let dwarf = Rc::new(alloc, dwarf)?;
@@ -77,7 +77,7 @@ impl<R: Reader> Context<R> {
         debug_str_offsets: DebugStrOffsets<R>,
         default_section: R,
     ) -> Result<Context<R>, Error>
-        ensures gives { Gives (λ c. c) result (context_of (record {
+        ensures gives { ExactlyUnlessOom (λ c. c) result (context_of (record {
           debug_abbrev = R.section debug_abbrev.section;
           debug_addr = R.section debug_addr.section;
           debug_aranges = R.section debug_aranges.section;
@@ -117,7 +117,7 @@ impl<R: Reader> Context<R> {
     ///
     /// Source: DWARF 5, section 6.2. Own: which of several sequences counts.
     pub fn find_location(&mut self, probe: u64) -> Result<Option<Location<'_>>, Error>
-        ensures gives { Gives (option_map shown) result (location_of self.old probe) }
+        ensures gives { ExactlyUnlessOom (option_map shown) result (location_of self.old probe) }
         ensures* kept { sem 𝓛 (follows_so (the_row R.row (record { section = R.section }) (record { is_clone = R.is_clone; is_infallible = R.is_infallible })) (the_row R.row (record { section = R.section }) (record { is_clone = R.is_clone; is_infallible = R.is_infallible })) self.entry.ghost_name none (λ _ _. ⊤) (λ new. new ≡ self.old)) }
     {
         self.units.read_lines(self.alloc, &self.dwarf, probe)?;

@@ -5,7 +5,7 @@ use Rattle.std.specs.declared.string.String.{String}
 use Rattle.std.specs.declared.alloc.Global.{Global}
 use Rattle.std.specs.Io.KnownBytes.{Appends}
 use Rattle.gimli.specs.Sections.{Sections}
-use Rattle.elf.specs.Reading.{Reading, Gives}
+use Rattle.elf.specs.Reading.{Reading, ExactlyUnlessOom}
 use Rattle.addr2line_units.specs.Located.{location_of}
 use Rattle.addr2line_bin.specs.Put.{Part, Goes}
 use Rattle.addr2line_bin.specs.Text.{outs, errs, probes_in}
@@ -64,5 +64,5 @@ IsAnswered name oo on eo en words (Err fault) e = (on ≡ oo) × ((has_failed : 
 -- the same for the bytes of a file, or the fault of their reading; want of memory may stand in place of what they give
 pub record IsAnswer (name : List ℕ) (oo on eo en : Option (List ℕ)) (words : List (String Global)) (bytes : Reading (List ℕ)) (e : Exit) : Type 0 where
   pub given : Reading Sections
-  pub gives : Gives (λ d. d) given (loaded_of bytes)
+  pub gives : ExactlyUnlessOom (λ d. d) given (loaded_of bytes)
   pub answered : IsAnswered name oo on eo en words given e

@@ -4,7 +4,7 @@ ghost use Rattle.std.specs.Prelude.{◌≡◌, ◌++◌, OnOk, OnErr, IfOk, ℕ,
 ghost use Rattle.std.specs.Borrow.{sem};
 ghost use Rattle.std.specs.Io.BufRead.{Rests};
 ghost use Rattle.std.specs.Io.KnownBytes.{Appends};
-ghost use Rattle.gimli_read.specs.Reading.{Gives};
+ghost use Rattle.gimli_read.specs.Reading.{ExactlyUnlessOom};
 ghost use Rattle.addr2line_lines.specs.Shown.{shown};
 ghost use Rattle.addr2line_bin.specs.Put.{Part, Sends, Begins};
 ghost use Rattle.addr2line_bin.specs.Text.{place_text, place_in, hex, fault_line, fault_text, out_of, told_of, outs, errs, probes_in};
@@ -32,7 +32,7 @@ pub trait Locate {
 
     /// The place of an address. It is the same at every call.
     fn find_location(&mut self, probe: u64) -> Result<Option<Location<'_>>, Error>
-        ensures gives { Gives (option_map shown) result (found self.old probe) }
+        ensures gives { ExactlyUnlessOom (option_map shown) result (found self.old probe) }
         ensures* kept { sem 𝓛 (Rests Self.row self.entry (λ new. new ≡ self.old)) };
 }
 

@@ -4,12 +4,12 @@ use Rattle.gimli_read.specs.declared.error.Error.{Error}
 use Rattle.gimli_read.specs.declared.error.Error.TheVariants.{OutOfMemory}
 use Rattle.gimli_read.specs.Yields.{Yields}
 use Rattle.gimli_line.specs.declared.row.LineRow.{LineRow}
-use Rattle.gimli_line.specs.Lines.{YieldsIfRoom}
+use Rattle.gimli_line.specs.Lines.{YieldsUnlessOom}
 use Rattle.gimli_line.specs.Rises.{rows_before, NeverFalls}
 use Rattle.addr2line_lines.specs.Rows.{read_all, result_map}
 
 -- rows that are given where there is room are given but for want of memory
-pub yields_given : {X : Type 0} (old new : List (Result X Error)) (r : Result (Option X) Error) → YieldsIfRoom old r new → (r ≡ Err OutOfMemory → ⊥) → Yields old r new
+pub yields_given : {X : Type 0} (old new : List (Result X Error)) (r : Result (Option X) Error) → YieldsUnlessOom old r new → (r ≡ Err OutOfMemory → ⊥) → Yields old r new
 yields_given {X} old new (Ok None) y h = none old y.0
   where
     none : (xs : List (Result X Error)) → xs ≡ [] → Yields xs (Ok None) new

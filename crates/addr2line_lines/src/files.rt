@@ -1,7 +1,7 @@
 //! The texts of a unit's files.
 
 ghost use Rattle.std.specs.Prelude.{◌≡◌, Ok, map, option_map, option_copied, string_bytes};
-ghost use Rattle.gimli_read.specs.Reading.{Gives};
+ghost use Rattle.gimli_read.specs.Reading.{ExactlyUnlessOom};
 ghost use Rattle.gimli_read.specs.Form.{seen_value};
 ghost use Rattle.gimli_line.specs.Header.{seen_file, seen_header};
 ghost use Rattle.gimli.specs.Sections.{seen_dwarf};
@@ -19,7 +19,7 @@ fn directory_of<R: Reader>(
     header: &LineProgramHeader<R>,
     file: &FileEntry<R>,
 ) -> Result<Option<AttributeValue<R>>, Error>
-    ensures gives { Gives (option_map (seen_value R.section)) result
+    ensures gives { ExactlyUnlessOom (option_map (seen_value R.section)) result
         (Ok (counted_directory (seen_header R.section header.now) (seen_file R.section file.now))) }
 {
     if file.directory_index() == 0 {
@@ -34,7 +34,7 @@ fn optional_string<R: Reader>(
     unit: &Unit<R>,
     value: Option<AttributeValue<R>>,
 ) -> Result<Option<R>, Error>
-    ensures gives { Gives (option_map R.section) result
+    ensures gives { ExactlyUnlessOom (option_map R.section) result
         (optional_string (seen_dwarf R.section dwarf.now) (seen_unit R.section unit.now)
         (option_map (seen_value R.section) value)) }
 {
@@ -63,7 +63,7 @@ fn file_text<R: Reader>(
     header: &LineProgramHeader<R>,
     file: &FileEntry<R>,
 ) -> Result<String, Error>
-    ensures gives { Gives (λ text. string_bytes text) result
+    ensures gives { ExactlyUnlessOom (λ text. string_bytes text) result
         (text_of_file (seen_dwarf R.section dwarf.now) (seen_unit R.section unit.now)
         (seen_header R.section header.now) (seen_file R.section file.now)) }
 {
@@ -84,7 +84,7 @@ fn push_texts<R: Reader>(
     files: &[FileEntry<R>],
     texts: &mut Vec<String>,
 ) -> Result<(), Error>
-    ensures gives { Gives (λ _. map string_bytes texts.new.items) result
+    ensures gives { ExactlyUnlessOom (λ _. map string_bytes texts.new.items) result
         (behind (map string_bytes texts.old.items)
         (texts_of (seen_dwarf R.section dwarf.now) (seen_unit R.section unit.now)
         (seen_header R.section header.now) (map (seen_file R.section) files.now))) }
@@ -103,7 +103,7 @@ fn read_texts<R: Reader>(
     header: &LineProgramHeader<R>,
     files: &[FileEntry<R>],
 ) -> Result<Vec<String>, Error>
-    ensures gives { Gives (λ v. map string_bytes v.items) result
+    ensures gives { ExactlyUnlessOom (λ v. map string_bytes v.items) result
         (texts_of (seen_dwarf R.section dwarf.now) (seen_unit R.section unit.now)
         (seen_header R.section header.now) (map (seen_file R.section) files.now)) }
 {
@@ -120,7 +120,7 @@ fn read_texts_behind_name<R: Reader>(
     header: &LineProgramHeader<R>,
     files: &[FileEntry<R>],
 ) -> Result<Vec<String>, Error>
-    ensures gives { Gives (λ v. map string_bytes v.items) result
+    ensures gives { ExactlyUnlessOom (λ v. map string_bytes v.items) result
         (behind_name (seen_dwarf R.section dwarf.now) (seen_unit R.section unit.now)
         (seen_header R.section header.now) (map (seen_file R.section) files.now)) }
 {
@@ -133,7 +133,7 @@ fn read_texts_behind_name<R: Reader>(
 
 // An empty text where there is none.
 fn fill(alloc: Global, texts: &mut Vec<String>) -> Result<(), Error>
-    ensures gives { Gives (λ _. map string_bytes texts.new.items) result
+    ensures gives { ExactlyUnlessOom (λ _. map string_bytes texts.new.items) result
         (Ok (at_least_one (map string_bytes texts.old.items))) }
 {
     if texts.is_empty() {
@@ -153,7 +153,7 @@ pub(crate) fn read_file_texts<R: Reader>(
     header: &LineProgramHeader<R>,
     files: &[FileEntry<R>],
 ) -> Result<Vec<String>, Error>
-    ensures gives { Gives (λ v. map string_bytes v.items) result
+    ensures gives { ExactlyUnlessOom (λ v. map string_bytes v.items) result
         (file_texts (seen_dwarf R.section dwarf.now) (seen_unit R.section unit.now)
         (seen_header R.section header.now) (map (seen_file R.section) files.now)) }
 {

@@ -2,7 +2,7 @@
 
 ghost use Rattle.std.specs.Prelude.{◌≡◌, [], ◌∷◌, option_map};
 ghost use Rattle.std.specs.Option.{option_to_list};
-ghost use Rattle.gimli_read.specs.Reading.{Gives, Tells};
+ghost use Rattle.gimli_read.specs.Reading.{ExactlyUnlessOom, Exactly};
 ghost use Rattle.gimli_read.specs.Form.{seen_value, seen_attribute};
 ghost use Rattle.gimli.specs.Sections.{seen_dwarf};
 ghost use Rattle.gimli.specs.Unit.{seen_unit};
@@ -38,7 +38,7 @@ fn attr_address<R: Reader>(
     unit: UnitRef<'_, R>,
     value: &AttributeValue<R>,
 ) -> Result<Option<u64>, Error>
-    ensures gives { Tells (λ a. a) result (attr_address (seen_dwarf R.section unit.entry.dwarf.now)
+    ensures gives { Exactly (λ a. a) result (attr_address (seen_dwarf R.section unit.entry.dwarf.now)
         (seen_unit R.section unit.entry.unit.now) (seen_value R.section value.now)) }
 {
     match value {
@@ -78,7 +78,7 @@ impl RangeAttributes {
         unit: UnitRef<'_, R>,
         attribute: &Attribute<R>,
     ) -> Result<RangeAttributes, Error>
-        ensures gives { Tells (λ r. r) result (took (seen_dwarf R.section unit.entry.dwarf.now)
+        ensures gives { Exactly (λ r. r) result (took (seen_dwarf R.section unit.entry.dwarf.now)
             (seen_unit R.section unit.entry.unit.now) self (seen_attribute R.section attribute.now)) }
     {
         match attribute.name {
@@ -123,7 +123,7 @@ fn read_ranges<R: Reader>(
     specifications: &[AttributeSpecification],
 ) -> Result<RangeAttributes, Error>
     requires same { entries.old.encoding ≡ unit.unit.now.header.encoding }
-    ensures gives { Gives (λ r. r) result (took_at (seen_dwarf R.section unit.entry.dwarf.now)
+    ensures gives { ExactlyUnlessOom (λ r. r) result (took_at (seen_dwarf R.section unit.entry.dwarf.now)
         (seen_unit R.section unit.entry.unit.now) specifications.now no_ranges
         (R.section entries.old.input)) }
 {
@@ -141,7 +141,7 @@ fn read_ranges<R: Reader>(
 /// attribute stands, `MissingUnitDie` at a closing entry, and `OutOfMemory`.
 #[tactic(auto, unfolding(crate::specs::RangeAttributes::root_ranges))]
 pub fn read_root_ranges<R: Reader>(unit: UnitRef<'_, R>) -> Result<RangeAttributes, Error>
-    ensures gives { Gives (λ r. r) result (root_ranges (seen_dwarf R.section unit.entry.dwarf.now)
+    ensures gives { ExactlyUnlessOom (λ r. r) result (root_ranges (seen_dwarf R.section unit.entry.dwarf.now)
         (seen_unit R.section unit.entry.unit.now)) }
 {
     let mut entries = unit.entries_raw(None)?;

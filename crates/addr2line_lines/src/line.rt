@@ -5,7 +5,7 @@ ghost use Rattle.std.specs.Option.{option_copied};
 ghost use Rattle.std.specs.List.{AllByRecursion};
 ghost use Rattle.std.specs.String.{string_bytes};
 ghost use Rattle.addr2line_lines.specs.Rises.{IsRising};
-ghost use Rattle.gimli_read.specs.Reading.{Gives};
+ghost use Rattle.gimli_read.specs.Reading.{ExactlyUnlessOom};
 ghost use Rattle.gimli_line.specs.Header.{seen_program};
 ghost use Rattle.gimli.specs.Sections.{seen_dwarf};
 ghost use Rattle.gimli.specs.Unit.{seen_unit};
@@ -54,7 +54,7 @@ impl Model for Lines {
 // Files and sequences, which are put in order. Refused `OutOfMemory` alone.
 fn make_lines(files: Vec<String>, sequences: Vec<LineSequence>) -> Result<Lines, Error>
     requires rising { AllByRecursion IsRising sequences.items }
-    ensures gives { Gives (λ lines. lines) result
+    ensures gives { ExactlyUnlessOom (λ lines. lines) result
         (Ok (kept_with (map string_bytes files.items) sequences.items)) }
 {
     let mut sequences = sequences;
@@ -70,7 +70,7 @@ fn read_program<R: Reader>(
     unit: &Unit<R>,
     program: &IncompleteLineProgram<R>,
 ) -> Result<Lines, Error>
-    ensures gives { Gives (λ lines. lines) result
+    ensures gives { ExactlyUnlessOom (λ lines. lines) result
         (program_lines (seen_dwarf R.section dwarf.now) (seen_unit R.section unit.now)
         (seen_program R.section program.now)) }
 {
@@ -92,7 +92,7 @@ impl Lines {
     /// Refused by the program's fault, else by the first text of a file, by index, that can't be
     /// read, and `OutOfMemory`. A unit without a line program has no lines.
     pub fn parse<R: Reader>(alloc: Global, dwarf: &Dwarf<R>, unit: &Unit<R>) -> Result<Lines, Error>
-        ensures gives { Gives (λ lines. lines) result
+        ensures gives { ExactlyUnlessOom (λ lines. lines) result
             (unit_lines (seen_dwarf R.section dwarf.now) (seen_unit R.section unit.now)) }
     {
         match &unit.line_program {
@@ -112,7 +112,7 @@ impl Lines {
         files: Vec<String>,
         rows: &mut R,
     ) -> Result<Lines, Error>
-        ensures gives { Gives (λ lines. lines) result
+        ensures gives { ExactlyUnlessOom (λ lines. lines) result
             (kept_in (map string_bytes files.items) (R.left rows.old)) }
     {
         let sequences = read_sequences(alloc, rows)?;

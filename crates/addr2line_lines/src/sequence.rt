@@ -2,7 +2,7 @@
 
 ghost use Rattle.std.specs.Prelude.{◌≡◌, ◌++◌, false, IfOk, OnOk};
 ghost use Rattle.std.specs.List.{AllByRecursion};
-ghost use Rattle.gimli_read.specs.Reading.{Gives};
+ghost use Rattle.gimli_read.specs.Reading.{ExactlyUnlessOom};
 ghost use Rattle.addr2line_lines.specs.Rows.{read_all, result_map};
 ghost use Rattle.addr2line_lines.specs.Sequences.{sequence_of, sequences_of};
 ghost use Rattle.addr2line_lines.specs.Rises.{IsRising, SequencesRise};
@@ -107,7 +107,7 @@ pub(crate) fn read_sequences<R: ReadRows>(
     alloc: Global,
     rows: &mut R,
 ) -> Result<Vec<LineSequence>, Error>
-    ensures gives { Gives (λ v. v.items) result
+    ensures gives { ExactlyUnlessOom (λ v. v.items) result
         (result_map sequences_of (read_all (R.left rows.old))) }
     ensures rise { IfOk result (λ v. AllByRecursion IsRising v.items) }
     ensures files { OnOk result (R.files rows.new ≡ R.files rows.old ++ R.to_define rows.old) }

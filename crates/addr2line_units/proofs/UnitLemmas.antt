@@ -4,7 +4,7 @@ use Rattle.std.specs.Option.{option_to_list}
 use Rattle.gimli_read.specs.declared.range.Range.{Range}
 use Rattle.gimli_read.specs.declared.error.Error.{Error}
 use Rattle.gimli_read.specs.Section.{Section}
-use Rattle.gimli_read.specs.Reading.{◌>>=◌, Gives}
+use Rattle.gimli_read.specs.Reading.{◌>>=◌, ExactlyUnlessOom}
 use Rattle.gimli_read.specs.Yields.{next_given}
 use Rattle.gimli.specs.declared.unit.UnitHeader.{UnitHeader}
 use Rattle.gimli.specs.Sections.{Sections}
@@ -84,7 +84,7 @@ found_covered d u probe (Some r) h = ap (λ b. along d (u ∷ []) probe (in_orde
     at_unit (Ok l) = at_place (place_at probe l)
 
 -- what is given of a reading that goes on
-pub gives_on : {X Y Z : Type 0} (view : X → Y) (h : Y → Z) (result : Result X Error) (given : Result Y Error) → Gives view result given → Gives (λ x. h (view x)) result (given >>= λ y. Ok (h y))
+pub gives_on : {X Y Z : Type 0} (view : X → Y) (h : Y → Z) (result : Result X Error) (given : Result Y Error) → ExactlyUnlessOom view result given → ExactlyUnlessOom (λ x. h (view x)) result (given >>= λ y. Ok (h y))
 gives_on view h (Ok x) given k = ap (λ y. y >>= λ z. Ok (h z)) k
 gives_on view h (Err e) given k = λ ne. ap (λ y. y >>= λ z. Ok (h z)) (k ne)
 
@@ -96,7 +96,7 @@ pub step-made : (d : Sections) (m more : Made) (left rest : List (Result (UnitHe
 step-made d m more left rest h n k = sym (made-next d m left rest h n ∙ ap (λ r. r >>= λ y. made_of d y rest) k)
 
 -- what is found of a unit whose lines are kept by now
-pub found_again : {R : Type 0} (see : R → Section) (d : Sections) (probe : ℕ) (old new : ResUnit R) (result : Result (Unit {0}) Error) → holds probe old.range ≡ true → new.range ≡ old.range → Gives (λ _. kept_lines new.lines) result (to_settle d (seen_unit see old.dw_unit)) → Gives (λ _. found_kept probe (Some new)) result (found_in d (made_with see (Some old)) probe)
+pub found_again : {R : Type 0} (see : R → Section) (d : Sections) (probe : ℕ) (old new : ResUnit R) (result : Result (Unit {0}) Error) → holds probe old.range ≡ true → new.range ≡ old.range → ExactlyUnlessOom (λ _. kept_lines new.lines) result (to_settle d (seen_unit see old.dw_unit)) → ExactlyUnlessOom (λ _. found_kept probe (Some new)) result (found_in d (made_with see (Some old)) probe)
 found_again see d probe old new result h same k =
     let kept : found_kept probe (Some new) ≡ option_and_then (λ (l : Lines). place_at probe l) (kept_lines new.lines) = ap (λ b. if b then option_and_then (λ (l : Lines). place_at probe l) (kept_lines new.lines) else None) (ap (holds probe) same ∙ h) in
     rw (kept, found_covered d (seen_unit see old.dw_unit) probe old.range h) (gives_on (λ _. kept_lines new.lines) (λ l. option_and_then (λ (x : Lines). place_at probe x) l) result _ k)

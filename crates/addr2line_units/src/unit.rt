@@ -2,7 +2,7 @@
 
 ghost use Rattle.std.specs.Prelude.{◌≡◌, IfOk, IfErr, option_map, option_copied};
 ghost use Rattle.std.specs.Option.{option_to_list};
-ghost use Rattle.gimli_read.specs.Reading.{Gives, Tells};
+ghost use Rattle.gimli_read.specs.Reading.{ExactlyUnlessOom, Exactly};
 ghost use Rattle.gimli.specs.Header.{seen_header};
 ghost use Rattle.gimli.specs.Sections.{seen_dwarf};
 ghost use Rattle.gimli.specs.Unit.{seen_unit};
@@ -62,7 +62,7 @@ fn is_partial(unit_type: UnitType) -> bool
 
 // The range of a unit, if it has one.
 fn read_unit_range<R: Reader>(dwarf: &Dwarf<R>, unit: &Unit<R>) -> Result<Option<Range>, Error>
-    ensures gives { Gives option_to_list result
+    ensures gives { ExactlyUnlessOom option_to_list result
         (unit_ranges (seen_dwarf R.section dwarf.now) (seen_unit R.section unit.now)) }
 {
     if is_partial(unit.header.type_()) {
@@ -81,7 +81,7 @@ fn take_unit<R: Reader>(
     kept: Option<ResUnit<R>>,
 ) -> Result<Option<ResUnit<R>>, Error>
     requires read { AreRead R.section (seen_dwarf R.section dwarf.now) kept }
-    ensures gives { Gives (made_with R.section) result (with_unit (seen_dwarf R.section dwarf.now)
+    ensures gives { ExactlyUnlessOom (made_with R.section) result (with_unit (seen_dwarf R.section dwarf.now)
         (made_with R.section kept) (seen_header R.section header)) }
     ensures read { IfOk result (AreRead R.section (seen_dwarf R.section dwarf.now)) }
 {
@@ -111,7 +111,7 @@ impl<R: Reader> ResUnits<R> {
     /// the next header, and `OutOfMemory`. A type unit and a unit whose record is faulty are passed
     /// over.
     pub fn parse(alloc: Global, dwarf: &Dwarf<R>) -> Result<ResUnits<R>, Error>
-        ensures gives { Gives (λ u. made_with R.section u.unit) result
+        ensures gives { ExactlyUnlessOom (λ u. made_with R.section u.unit) result
             (made (seen_dwarf R.section dwarf.now)) }
         ensures read { IfOk result (λ u. AreRead R.section (seen_dwarf R.section dwarf.now) u.unit) }
     {
@@ -145,7 +145,7 @@ fn parse_lines<R: Reader>(
 
 // The fault that is kept, if there is one.
 fn check_lines(lines: &LazyLines) -> Result<(), Error>
-    ensures gives { Tells (λ _. kept_lines lines.now) result (settled lines.now) }
+    ensures gives { Exactly (λ _. kept_lines lines.now) result (settled lines.now) }
 {
     match lines {
         LazyLines::Faulty(error) => Err(*error),
@@ -185,7 +185,7 @@ impl<R: Reader> ResUnit<R> {
     fn read_lines(&mut self, alloc: Global, dwarf: &Dwarf<R>) -> Result<(), Error>
         requires read { IsRead (seen_dwarf R.section dwarf.now) (seen_unit R.section self.old.dw_unit)
             self.old.lines }
-        ensures gives { Gives (λ _. kept_lines self.new.lines) result
+        ensures gives { ExactlyUnlessOom (λ _. kept_lines self.new.lines) result
             (to_settle (seen_dwarf R.section dwarf.now) (seen_unit R.section self.old.dw_unit)) }
         ensures unit { self.new.dw_unit ≡ self.old.dw_unit }
         ensures range { self.new.range ≡ self.old.range }
@@ -206,7 +206,7 @@ impl<R: Reader> ResUnits<R> {
     /// Refused by that fault, and `OutOfMemory`, which isn't kept.
     pub fn read_lines(&mut self, alloc: Global, dwarf: &Dwarf<R>, probe: u64) -> Result<(), Error>
         requires read { AreRead R.section (seen_dwarf R.section dwarf.now) self.old.unit }
-        ensures gives { Gives (λ _. found_kept probe self.new.unit) result
+        ensures gives { ExactlyUnlessOom (λ _. found_kept probe self.new.unit) result
             (found_in (seen_dwarf R.section dwarf.now) (made_with R.section self.old.unit) probe) }
         ensures kept { made_with R.section self.new.unit ≡ made_with R.section self.old.unit }
         ensures read { AreRead R.section (seen_dwarf R.section dwarf.now) self.new.unit }

@@ -16,15 +16,15 @@ abbrev pub ◌>>=◌ : {A B : Type 0} → Reading A → (A → Reading B) → Re
 (Err e) >>= f = Err e
 
 -- the answer, seen by view, is what is given; so it takes no memory
-abbrev pub Tells : {X Y : Type 0} → (X → Y) → Reading X → Reading Y → Type 0
-Tells view (Ok x) given = given ≡ Ok (view x)
-Tells view (Err e) given = given ≡ Err e
+abbrev pub Exactly : {X Y : Type 0} → (X → Y) → Reading X → Reading Y → Type 0
+Exactly view (Ok x) given = given ≡ Ok (view x)
+Exactly view (Err e) given = given ≡ Err e
 
 -- the refusal is the fault that is given, but for want of memory, which may stand in place of anything
-abbrev pub Refuses : {Y : Type 0} → LoaderError → Reading Y → Type 0
-Refuses e given = e ≢ OutOfMemory → given ≡ Err e
+abbrev pub IsFaultUnlessOom : {Y : Type 0} → LoaderError → Reading Y → Type 0
+IsFaultUnlessOom e given = e ≢ OutOfMemory → given ≡ Err e
 
 -- the answer, seen by view, is what is given, unless memory was wanting
-abbrev pub Gives : {X Y : Type 0} → (X → Y) → Reading X → Reading Y → Type 0
-Gives view (Ok x) given = given ≡ Ok (view x)
-Gives view (Err e) given = Refuses e given
+abbrev pub ExactlyUnlessOom : {X Y : Type 0} → (X → Y) → Reading X → Reading Y → Type 0
+ExactlyUnlessOom view (Ok x) given = given ≡ Ok (view x)
+ExactlyUnlessOom view (Err e) given = IsFaultUnlessOom e given

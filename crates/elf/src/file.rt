@@ -1,7 +1,7 @@
 //! A whole file.
 
 ghost use Rattle.std.specs.Prelude.{option_map, ◌≡◌, ◌≤◌, ◌+◌, length, take, drop, nat_lt, Ok};
-ghost use Rattle.elf.specs.Reading.{Gives, Tells};
+ghost use Rattle.elf.specs.Reading.{ExactlyUnlessOom, Exactly};
 ghost use Rattle.elf.specs.View.{View, view_of, name_table_of};
 ghost use Rattle.elf.specs.Symbols.{chosen, strings_of, symbols_of, symbol_at};
 ghost use Rattle.elf.specs.Table.{HasSymbols};
@@ -64,7 +64,7 @@ fn name_table_in(index: u64, sections: &[SectionHeader]) -> u64
 // Shared bytes of a file.
 fn share(file: &EndianBytes, start: u64, len: u64) -> Result<EndianBytes, LoaderError>
     requires within { start + len ≤ length file.now.bytes }
-    ensures gives { Gives (λ r. r) result
+    ensures gives { ExactlyUnlessOom (λ r. r) result
         (Ok (record { bytes = take len (drop start file.now.bytes); endian = file.now.endian })) }
 {
     let mut rest = file.duplicate()?;
@@ -84,7 +84,7 @@ impl ElfFile {
     /// Source: System V ABI, Object Files.
     #[tactic(auto, unfolding(crate::specs::View::view_of))]
     pub fn parse(alloc: Global, bytes: EndianBytes) -> Result<ElfFile, LoaderError>
-        ensures gives { Gives (λ f. f) result (view_of bytes.bytes) }
+        ensures gives { ExactlyUnlessOom (λ f. f) result (view_of bytes.bytes) }
     {
         let file = bytes.to_slice();
         let ident = header::read_ident(file)?;
@@ -121,7 +121,7 @@ impl ElfFile {
     /// | `OutOfMemory` | a growth was refused |
     #[tactic(auto, unfolding(crate::specs::Sections::section_at))]
     pub fn section(&self, name: &str) -> Result<EndianBytes, LoaderError>
-        ensures gives { Gives (λ r. r) result (section_at name.now self.now) }
+        ensures gives { ExactlyUnlessOom (λ r. r) result (section_at name.now self.now) }
     {
         match self.find(name.as_bytes()) {
             Some((number, section)) => self.wanted(number, &section),
@@ -207,7 +207,7 @@ impl ElfFile {
     // What a section holds.
     #[tactic(auto, unfolding(crate::specs::Sections::wanted_of))]
     fn wanted(&self, number: usize, section: &SectionHeader) -> Result<EndianBytes, LoaderError>
-        ensures gives { Gives (λ r. r) result (wanted_of self.now number section.now) }
+        ensures gives { ExactlyUnlessOom (λ r. r) result (wanted_of self.now number section.now) }
     {
         if section.is_nobits() {
             return Ok(self.nothing());
@@ -226,7 +226,7 @@ impl ElfFile {
 
     // What a name that no section has gives.
     fn missing(&self, name: &[u8]) -> Result<EndianBytes, LoaderError>
-        ensures gives { Tells (λ r. r) result (missing name.now self.now) }
+        ensures gives { Exactly (λ r. r) result (missing name.now self.now) }
     {
         if section::has_zdebug(&self.sections, self.names(), name) {
             return Err(LoaderError::CompressedSection);

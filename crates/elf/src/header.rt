@@ -2,7 +2,7 @@
 
 ghost use Rattle.std.specs.Prelude.{◌≡◌, ◌≤◌, ◌+◌, ◌*◌, length, take, IfOk};
 ghost use Rattle.std.specs.Str.{bytes_eq};
-ghost use Rattle.elf.specs.Reading.{Tells};
+ghost use Rattle.elf.specs.Reading.{Exactly};
 ghost use Rattle.elf.specs.Layout.{layout_of};
 ghost use Rattle.elf.specs.Header.{class_of, endian_of, ident_in, count_in, header_in};
 

@@ -1,7 +1,7 @@
 //! The sections of a file together, and what is read from several of them.
 
 ghost use Rattle.std.specs.Prelude.{◌≡◌, Ok};
-ghost use Rattle.gimli_read.specs.Reading.{Gives};
+ghost use Rattle.gimli_read.specs.Reading.{ExactlyUnlessOom};
 ghost use Rattle.gimli.specs.UnitsLeft.{all_headers};
 
 use crate::sections::{
@@ -50,7 +50,7 @@ pub struct Dwarf<R> {
 impl<R: Reader> Dwarf<R> {
     /// The headers of the units of `.debug_info`. Refused `OutOfMemory` alone.
     pub fn units(&self) -> Result<UnitHeaders<R>, Error>
-        ensures gives { Gives (λ u. u) result
+        ensures gives { ExactlyUnlessOom (λ u. u) result
             (Ok (all_headers (R.section self.now.debug_info.section))) }
     {
         Ok(UnitHeaders::new(self.debug_info.section.duplicate()?))

@@ -1,7 +1,7 @@
 //! The entries of a unit.
 
 ghost use Rattle.std.specs.Prelude.{◌≡◌, ◌-◌, ◌==◌, length, option_map, option_copied};
-ghost use Rattle.gimli_read.specs.Reading.{Tells, Gives};
+ghost use Rattle.gimli_read.specs.Reading.{Exactly, ExactlyUnlessOom};
 ghost use Rattle.gimli_read.specs.Form.{seen_attribute, attribute_at};
 ghost use Rattle.gimli.specs.Entry.{head_at};
 ghost use Rattle.gimli.specs.Cursor.{place_of, unit_of};
@@ -54,7 +54,7 @@ impl<'a, R: Reader> EntriesRaw<'a, R> {
     /// unit's table hasn't it. After a refusal the reading may stand anywhere. Takes no memory.
     #[tactic(auto, unfolding(crate::specs::Entry::head_at))]
     pub fn read_abbreviation(&mut self) -> Result<Option<&'a Abbreviation>, Error>
-        ensures gives { Tells (λ a. (option_map (λ r. r.now) a, place_of R.section self.new)) result
+        ensures gives { Exactly (λ a. (option_map (λ r. r.now) a, place_of R.section self.new)) result
             (head_at (unit_of self.old).abbreviations (place_of R.section self.old)) }
         ensures kept { unit_of self.new ≡ unit_of self.old }
     {
@@ -82,7 +82,7 @@ impl<'a, R: Reader> EntriesRaw<'a, R> {
         &mut self,
         specification: AttributeSpecification,
     ) -> Result<Attribute<R>, Error>
-        ensures gives { Gives (λ a. (seen_attribute R.section a, R.section self.new.input)) result
+        ensures gives { ExactlyUnlessOom (λ a. (seen_attribute R.section a, R.section self.new.input)) result
             (attribute_at self.old.encoding specification (R.section self.old.input)) }
         ensures kept { unit_of self.new ≡ unit_of self.old }
         ensures depth { self.new.depth ≡ self.old.depth }

@@ -1,7 +1,7 @@
 //! The record of a unit: what its first entry's attributes give.
 
 ghost use Rattle.std.specs.Prelude.{◌≡◌};
-ghost use Rattle.gimli_read.specs.Reading.{Gives};
+ghost use Rattle.gimli_read.specs.Reading.{ExactlyUnlessOom};
 ghost use Rattle.gimli.specs.Entry.{attributes_at};
 ghost use Rattle.gimli.specs.Record.{address_value, section_offset, line_offset, newer, with_attribute, no_attributes, seen_root, gathered, root_of};
 
@@ -138,7 +138,7 @@ fn read_root_attributes<R: Reader>(
     entries: &mut EntriesRaw<'_, R>,
     specifications: &[AttributeSpecification],
 ) -> Result<RootAttributes<R>, Error>
-    ensures gives { Gives (seen_root R.section) result (gathered entries.old.encoding no_attributes
+    ensures gives { ExactlyUnlessOom (seen_root R.section) result (gathered entries.old.encoding no_attributes
         (attributes_at entries.old.encoding specifications.now (R.section entries.old.input))) }
 {
     let mut root = RootAttributes::new();
@@ -158,7 +158,7 @@ pub(crate) fn read_root<R: Reader>(
     header: &UnitHeader<R>,
     abbreviations: &Abbreviations,
 ) -> Result<RootAttributes<R>, Error>
-    ensures gives { Gives (seen_root R.section) result
+    ensures gives { ExactlyUnlessOom (seen_root R.section) result
         (root_of header.now.encoding abbreviations.now (R.section header.now.entries)) }
 {
     let mut entries = EntriesRaw {

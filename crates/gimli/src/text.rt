@@ -1,7 +1,7 @@
 //! Strings and addresses by offset and by index (DWARF 5, sections 7.26 and 7.27).
 
 ghost use Rattle.std.specs.Prelude.{◌≡◌};
-ghost use Rattle.gimli_read.specs.Reading.{Tells, Gives};
+ghost use Rattle.gimli_read.specs.Reading.{Exactly, ExactlyUnlessOom};
 ghost use Rattle.gimli_read.specs.Form.{seen_value};
 ghost use Rattle.gimli.specs.Sections.{seen_dwarf};
 ghost use Rattle.gimli.specs.Unit.{seen_unit, attr_string_of};
@@ -15,7 +15,7 @@ use gimli_read::{AttributeValue, EndianSlice, Error, Format, Reader};
 ///
 /// Refused `OffsetOutOfBounds` where the section ends before, and `OutOfMemory`.
 pub(crate) fn read_from<R: Reader>(section: &R, offset: u64) -> Result<R, Error>
-    ensures gives { Gives R.section result (from_offset offset (R.section section.now)) }
+    ensures gives { ExactlyUnlessOom R.section result (from_offset offset (R.section section.now)) }
 {
     if section.len() < offset {
         return Err(Error::OffsetOutOfBounds);
@@ -28,7 +28,7 @@ pub(crate) fn read_from<R: Reader>(section: &R, offset: u64) -> Result<R, Error>
 // The text at an offset.
 #[tactic(auto, unfolding(crate::specs::Text::text_at))]
 fn read_text<R: Reader>(section: &R, offset: u64) -> Result<R, Error>
-    ensures gives { Gives R.section result (text_at offset (R.section section.now)) }
+    ensures gives { ExactlyUnlessOom R.section result (text_at offset (R.section section.now)) }
 {
     let mut rest = read_from(section, offset)?;
     let text = rest.read_null_terminated()?;
@@ -56,7 +56,7 @@ pub(crate) fn read_entry<R: Reader>(
     base: u64,
     index: u64,
 ) -> Result<u64, Error>
-    ensures gives { Tells (λ n. n) result (entry_at size base index (R.section section.now)) }
+    ensures gives { Exactly (λ n. n) result (entry_at size base index (R.section section.now)) }
 {
     let bytes = section.to_slice();
     let len = bytes.len() as u64;
@@ -80,7 +80,7 @@ fn read_indexed<R: Reader>(
     base: u64,
     index: u64,
 ) -> Result<R, Error>
-    ensures gives { Gives R.section result
+    ensures gives { ExactlyUnlessOom R.section result
         (indexed_at (seen_dwarf R.section dwarf.now) format base index) }
 {
     let size = size_of_offset(format);
@@ -100,7 +100,7 @@ pub(crate) fn read_string<R: Reader>(
     base: u64,
     value: AttributeValue<R>,
 ) -> Result<R, Error>
-    ensures gives { Gives R.section result
+    ensures gives { ExactlyUnlessOom R.section result
         (string_of (seen_dwarf R.section dwarf.now) format base (seen_value R.section value)) }
 {
     match value {
@@ -121,7 +121,7 @@ impl<R: Reader> Dwarf<R> {
     /// where no zero byte ends it, `NoSupplementary` for a string of a supplementary file, and
     /// `OutOfMemory`.
     pub fn attr_string(&self, unit: &Unit<R>, value: AttributeValue<R>) -> Result<R, Error>
-        ensures gives { Gives R.section result (attr_string_of (seen_dwarf R.section self.now)
+        ensures gives { ExactlyUnlessOom R.section result (attr_string_of (seen_dwarf R.section self.now)
             (seen_unit R.section unit.now) (seen_value R.section value)) }
     {
         read_string(

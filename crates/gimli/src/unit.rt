@@ -2,7 +2,7 @@
 
 ghost use Rattle.std.specs.Prelude.{◌≡◌, [], OnErr, option_map};
 ghost use Rattle.gimli_read.specs.Yields.{next_given};
-ghost use Rattle.gimli_read.specs.Reading.{Tells, Gives};
+ghost use Rattle.gimli_read.specs.Reading.{Exactly, ExactlyUnlessOom};
 ghost use Rattle.gimli.specs.Header.{seen_header, address_size_at, unit_type_at, extra_at, fields_4_at, fields_5_at, fields_at, header_at, next_header_at};
 ghost use Rattle.gimli.specs.UnitsLeft.{all_headers};
 
@@ -89,7 +89,7 @@ impl<R: Drop> UnitHeader<R> {
 // An address size that is known.
 #[tactic(auto, unfolding(crate::specs::Header::address_size_at))]
 fn read_address_size<R: Reader>(input: &mut R) -> Result<u8, Error>
-    ensures gives { Tells (λ x. (x, R.section input.new)) result (address_size_at (R.section input.old)) }
+    ensures gives { Exactly (λ x. (x, R.section input.new)) result (address_size_at (R.section input.old)) }
 {
     let size = input.read_u8()?;
     match size {
@@ -101,7 +101,7 @@ fn read_address_size<R: Reader>(input: &mut R) -> Result<u8, Error>
 // A unit type.
 #[tactic(auto, unfolding(crate::specs::Header::unit_type_at))]
 fn read_unit_type<R: Reader>(input: &mut R) -> Result<UnitType, Error>
-    ensures gives { Tells (λ x. (x, R.section input.new)) result (unit_type_at (R.section input.old)) }
+    ensures gives { Exactly (λ x. (x, R.section input.new)) result (unit_type_at (R.section input.old)) }
 {
     match input.read_u8()? {
         1 => Ok(UnitType::Compile),
@@ -120,7 +120,7 @@ fn read_extra<R: Reader>(
     format: Format,
     unit_type: UnitType,
 ) -> Result<Option<DwoId>, Error>
-    ensures gives { Tells (λ x. (x, R.section input.new)) result
+    ensures gives { Exactly (λ x. (x, R.section input.new)) result
         (extra_at format unit_type (R.section input.old)) }
 {
     match unit_type {
@@ -142,7 +142,7 @@ fn read_fields_5<R: Reader>(
     format: Format,
     input: R,
 ) -> Result<UnitHeader<R>, Error>
-    ensures gives { Gives (seen_header R.section) result (fields_5_at place size format (R.section input)) }
+    ensures gives { ExactlyUnlessOom (seen_header R.section) result (fields_5_at place size format (R.section input)) }
 {
     let mut input = input;
     let unit_type = read_unit_type(&mut input)?;
@@ -173,7 +173,7 @@ fn read_fields_4<R: Reader>(
     version: u16,
     input: R,
 ) -> Result<UnitHeader<R>, Error>
-    ensures gives { Gives (seen_header R.section) result
+    ensures gives { ExactlyUnlessOom (seen_header R.section) result
         (fields_4_at place size format version (R.section input)) }
 {
     let mut input = input;
@@ -202,7 +202,7 @@ fn read_fields<R: Reader>(
     format: Format,
     input: R,
 ) -> Result<UnitHeader<R>, Error>
-    ensures gives { Gives (seen_header R.section) result (fields_at place size format (R.section input)) }
+    ensures gives { ExactlyUnlessOom (seen_header R.section) result (fields_at place size format (R.section input)) }
 {
     let mut input = input;
     let version = input.read_u16()?;
@@ -216,7 +216,7 @@ fn read_fields<R: Reader>(
 // The header of the unit that stands at the front of a section of `whole` bytes.
 #[tactic(auto, unfolding(crate::specs::Header::header_at))]
 fn read_header<R: Reader>(whole: u64, input: &mut R) -> Result<UnitHeader<R>, Error>
-    ensures gives { Gives (λ h. (seen_header R.section h, R.section input.new)) result
+    ensures gives { ExactlyUnlessOom (λ h. (seen_header R.section h, R.section input.new)) result
         (header_at whole (R.section input.old)) }
 {
     let len = input.len();
@@ -231,7 +231,7 @@ fn read_header<R: Reader>(whole: u64, input: &mut R) -> Result<UnitHeader<R>, Er
 // The next unit's header, or none at the section's end.
 #[tactic(auto, unfolding(crate::specs::Header::next_header_at))]
 fn read_next_header<R: Reader>(whole: u64, input: &mut R) -> Result<Option<UnitHeader<R>>, Error>
-    ensures gives { Gives (λ h. (option_map (seen_header R.section) h, R.section input.new)) result
+    ensures gives { ExactlyUnlessOom (λ h. (option_map (seen_header R.section) h, R.section input.new)) result
         (next_header_at whole (R.section input.old)) }
 {
     if input.is_empty() {
@@ -277,7 +277,7 @@ impl<R: Reader> UnitHeaders<R> {
     /// `UnsupportedAddressSize` by the header's fields in their order, and `OutOfMemory`. After a
     /// refusal there is no further unit.
     pub fn next(&mut self) -> Result<Option<UnitHeader<R>>, Error>
-        ensures gives { Gives (λ h. (option_map (seen_header R.section) h, self.new)) result
+        ensures gives { ExactlyUnlessOom (λ h. (option_map (seen_header R.section) h, self.new)) result
             (next_given self.old) }
         ensures refused { OnErr result (self.new ≡ []) }
     {

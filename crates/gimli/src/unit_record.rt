@@ -1,7 +1,7 @@
 //! Units: headers with what their first entry says.
 
 ghost use Rattle.std.specs.Prelude.{◌≡◌, Ok, option_map};
-ghost use Rattle.gimli_read.specs.Reading.{Tells, Gives};
+ghost use Rattle.gimli_read.specs.Reading.{Exactly, ExactlyUnlessOom};
 ghost use Rattle.gimli_read.specs.Form.{seen_value};
 ghost use Rattle.gimli_line.specs.Header.{seen_program};
 ghost use Rattle.gimli.specs.Header.{seen_header};
@@ -67,7 +67,7 @@ fn read_low_pc<R: Reader>(
     base: u64,
     value: Option<AddressValue>,
 ) -> Result<u64, Error>
-    ensures gives { Tells (λ a. a) result (low_pc_of (seen_dwarf R.section dwarf.now) encoding base value) }
+    ensures gives { Exactly (λ a. a) result (low_pc_of (seen_dwarf R.section dwarf.now) encoding base value) }
 {
     match value {
         None => Ok(0),
@@ -90,7 +90,7 @@ fn read_program<R: Reader>(
     encoding: Encoding,
     stmt_list: Option<u64>,
 ) -> Result<Option<IncompleteLineProgram<R>>, Error>
-    ensures gives { Gives (option_map (seen_program R.section)) result
+    ensures gives { ExactlyUnlessOom (option_map (seen_program R.section)) result
         (program_of (seen_dwarf R.section dwarf.now) encoding stmt_list) }
 {
     let Some(offset) = stmt_list else {
@@ -108,7 +108,7 @@ fn read_readable<R: Reader>(
     base: u64,
     value: Option<AttributeValue<R>>,
 ) -> Result<Option<R>, Error>
-    ensures gives { Gives (option_map R.section) result
+    ensures gives { ExactlyUnlessOom (option_map R.section) result
         (Ok (readable (seen_dwarf R.section dwarf.now) format base (option_map (seen_value R.section) value))) }
 {
     let Some(value) = value else {
@@ -143,7 +143,7 @@ fn complete<R: Reader>(
     abbreviations: Abbreviations,
     root: RootAttributes<R>,
 ) -> Result<Unit<R>, Error>
-    ensures gives { Gives (seen_unit R.section) result (completed (seen_dwarf R.section dwarf.now)
+    ensures gives { ExactlyUnlessOom (seen_unit R.section) result (completed (seen_dwarf R.section dwarf.now)
         (seen_header R.section header) abbreviations (seen_root R.section root)) }
 {
     let encoding = header.encoding;
@@ -183,7 +183,7 @@ impl<R: Reader> Dwarf<R> {
     /// for), or the index of its low_pc (`OffsetOutOfBounds`), in this order, and `OutOfMemory`.
     #[tactic(auto, unfolding(crate::specs::Unit::unit_of))]
     pub fn unit(&self, alloc: Global, header: UnitHeader<R>) -> Result<Unit<R>, Error>
-        ensures gives { Gives (seen_unit R.section) result
+        ensures gives { ExactlyUnlessOom (seen_unit R.section) result
             (unit_of (seen_dwarf R.section self.now) (seen_header R.section header)) }
     {
         let rest = read_from(&self.debug_abbrev.section, header.debug_abbrev_offset)?;

@@ -1,7 +1,7 @@
 //! A unit with the sections that it is read from.
 
 ghost use Rattle.std.specs.Prelude.{◌≡◌, option_map};
-ghost use Rattle.gimli_read.specs.Reading.{Tells, Gives};
+ghost use Rattle.gimli_read.specs.Reading.{Exactly, ExactlyUnlessOom};
 ghost use Rattle.gimli_read.specs.Form.{seen_value};
 ghost use Rattle.gimli.specs.Sections.{seen_dwarf};
 ghost use Rattle.gimli.specs.Text.{entry_at};
@@ -33,7 +33,7 @@ impl<R> Clone for UnitRef<'_, R> {
 
 // The bytes of the entries from an offset on, or from the first entry.
 fn read_entries_from<R: Reader>(unit: &Unit<R>, offset: Option<UnitOffset>) -> Result<R, Error>
-    ensures gives { Gives R.section result
+    ensures gives { ExactlyUnlessOom R.section result
         (entries_from (seen_unit R.section unit.now) (option_map (λ o. o.0) offset)) }
 {
     let header = &unit.header;
@@ -67,7 +67,7 @@ impl<'a, R: Reader> UnitRef<'a, R> {
     /// The offset is in bytes from the start of the unit's length. Refused `OffsetOutOfBounds` where
     /// it isn't between the header's end and the unit's, and `OutOfMemory`.
     pub fn entries_raw(&self, offset: Option<UnitOffset>) -> Result<EntriesRaw<'a, R>, Error>
-        ensures gives { Gives (seen_entries R.section) result
+        ensures gives { ExactlyUnlessOom (seen_entries R.section) result
             (entries_of (seen_unit R.section self.now.unit.now) (option_map (λ o. o.0) offset)) }
     {
         let unit = self.unit;
@@ -88,7 +88,7 @@ impl<'a, R: Reader> UnitRef<'a, R> {
     /// The string that a value stands for, without the zero byte that ends it. Refused as
     /// `Dwarf::attr_string` is.
     pub fn attr_string(&self, value: AttributeValue<R>) -> Result<R, Error>
-        ensures gives { Gives R.section result (attr_string_of (seen_dwarf R.section self.now.dwarf.now)
+        ensures gives { ExactlyUnlessOom R.section result (attr_string_of (seen_dwarf R.section self.now.dwarf.now)
             (seen_unit R.section self.now.unit.now) (seen_value R.section value)) }
     {
         self.dwarf.attr_string(self.unit, value)
@@ -99,7 +99,7 @@ impl<'a, R: Reader> UnitRef<'a, R> {
     /// Refused `OffsetOutOfBounds` where its entry isn't wholly in the section, and
     /// `UnsupportedAddressSize`.
     pub fn address(&self, index: u64) -> Result<u64, Error>
-        ensures gives { Tells (λ a. a) result (entry_at self.now.unit.now.header.encoding.address_size
+        ensures gives { Exactly (λ a. a) result (entry_at self.now.unit.now.header.encoding.address_size
             self.now.unit.now.addr_base index (R.section self.now.dwarf.now.debug_addr.section)) }
     {
         let unit = self.unit;

@@ -26,10 +26,10 @@ lines_of p = record {
 
 -- what a call gave of the rows that were left, and which are left: after a refusal none. Want of memory may
 -- stand in place of any answer
-abbrev pub YieldsIfRoom : {X : Type 0} → List (Result X Error) → Result (Option X) Error → List (Result X Error) → Type 0
-YieldsIfRoom old (Ok None) new = (old ≡ []) × (new ≡ [])
-YieldsIfRoom old (Ok (Some x)) new = old ≡ Ok x ∷ new
-YieldsIfRoom old (Err e) new = (new ≡ []) × (e ≢ OutOfMemory → old ≡ Err e ∷ [])
+abbrev pub YieldsUnlessOom : {X : Type 0} → List (Result X Error) → Result (Option X) Error → List (Result X Error) → Type 0
+YieldsUnlessOom old (Ok None) new = (old ≡ []) × (new ≡ [])
+YieldsUnlessOom old (Ok (Some x)) new = old ≡ Ok x ∷ new
+YieldsUnlessOom old (Err e) new = (new ≡ []) × (e ≢ OutOfMemory → old ≡ Err e ∷ [])
 
 -- the files so far and those to come are the same, and so is the rest of the header
 abbrev pub KeepsFiles : Lines → Lines → Type 0

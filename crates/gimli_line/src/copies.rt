@@ -1,7 +1,7 @@
 //! Values, files and headers twice: their readers are duplicated.
 
 ghost use Rattle.std.specs.Prelude.{◌≡◌, map, Ok};
-ghost use Rattle.gimli_read.specs.Reading.{Gives};
+ghost use Rattle.gimli_read.specs.Reading.{ExactlyUnlessOom};
 ghost use Rattle.gimli_read.specs.Form.{seen_value};
 ghost use Rattle.gimli_line.specs.Header.{seen_file, seen_header};
 
@@ -13,7 +13,7 @@ use std::alloc::Global;
 pub(crate) fn duplicate_value<R: Reader>(
     value: &AttributeValue<R>,
 ) -> Result<AttributeValue<R>, Error>
-    ensures gives { Gives (seen_value R.section) result (Ok (seen_value R.section value.now)) }
+    ensures gives { ExactlyUnlessOom (seen_value R.section) result (Ok (seen_value R.section value.now)) }
 {
     match value {
         AttributeValue::Addr(x) => Ok(AttributeValue::Addr(*x)),
@@ -44,7 +44,7 @@ pub(crate) fn duplicate_value<R: Reader>(
 }
 
 fn duplicate_file<R: Reader>(file: &FileEntry<R>) -> Result<FileEntry<R>, Error>
-    ensures gives { Gives (seen_file R.section) result (Ok (seen_file R.section file.now)) }
+    ensures gives { ExactlyUnlessOom (seen_file R.section) result (Ok (seen_file R.section file.now)) }
 {
     Ok(FileEntry {
         path_name: duplicate_value(&file.path_name)?,
@@ -56,7 +56,7 @@ fn duplicate_values<R: Reader>(
     alloc: Global,
     values: &[AttributeValue<R>],
 ) -> Result<Vec<AttributeValue<R>>, Error>
-    ensures gives { Gives (λ v. map (seen_value R.section) v.items) result (Ok (map (seen_value R.section) values.now)) }
+    ensures gives { ExactlyUnlessOom (λ v. map (seen_value R.section) v.items) result (Ok (map (seen_value R.section) values.now)) }
 {
     let mut copies = Vec::new(alloc);
     for value in values {
@@ -69,7 +69,7 @@ fn duplicate_files<R: Reader>(
     alloc: Global,
     files: &[FileEntry<R>],
 ) -> Result<Vec<FileEntry<R>>, Error>
-    ensures gives { Gives (λ v. map (seen_file R.section) v.items) result (Ok (map (seen_file R.section) files.now)) }
+    ensures gives { ExactlyUnlessOom (λ v. map (seen_file R.section) v.items) result (Ok (map (seen_file R.section) files.now)) }
 {
     let mut copies = Vec::new(alloc);
     for file in files {
@@ -82,7 +82,7 @@ fn duplicate_files<R: Reader>(
 pub(crate) fn duplicate_header<R: Reader>(
     header: &LineProgramHeader<R>,
 ) -> Result<LineProgramHeader<R>, Error>
-    ensures gives { Gives (seen_header R.section) result (Ok (seen_header R.section header.now)) }
+    ensures gives { ExactlyUnlessOom (seen_header R.section) result (Ok (seen_header R.section header.now)) }
 {
     Ok(LineProgramHeader {
         encoding: header.encoding,

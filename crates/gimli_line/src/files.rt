@@ -2,7 +2,7 @@
 
 ghost use Rattle.std.specs.Prelude.{◌≡◌, Ok, map};
 ghost use Rattle.std.specs.Option.{option_map};
-ghost use Rattle.gimli_read.specs.Reading.{Gives};
+ghost use Rattle.gimli_read.specs.Reading.{ExactlyUnlessOom};
 ghost use Rattle.gimli_read.specs.Form.{seen_value};
 ghost use Rattle.gimli_line.specs.Header.{seen_file, seen_header, entry_of, file_of, directory_of};
 
@@ -52,7 +52,7 @@ impl<R: Reader> LineProgramHeader<R> {
 impl<R: Reader> FileEntry<R> {
     /// The path, a string of any form. Refused `OutOfMemory` alone.
     pub fn path_name(&self) -> Result<AttributeValue<R>, Error>
-        ensures gives { Gives (seen_value R.section) result (Ok (seen_file R.section self.now).path_name) }
+        ensures gives { ExactlyUnlessOom (seen_value R.section) result (Ok (seen_file R.section self.now).path_name) }
     {
         duplicate_value(&self.path_name)
     }
@@ -72,7 +72,7 @@ impl<R: Reader> FileEntry<R> {
         &self,
         header: &LineProgramHeader<R>,
     ) -> Result<Option<AttributeValue<R>>, Error>
-        ensures gives { Gives (option_map (seen_value R.section)) result
+        ensures gives { ExactlyUnlessOom (option_map (seen_value R.section)) result
             (Ok (directory_of (seen_header R.section header.now) (seen_file R.section self.now))) }
     {
         let index = self.directory_index;

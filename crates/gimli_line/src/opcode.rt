@@ -2,7 +2,7 @@
 
 ghost use Rattle.std.specs.Prelude.{◌≡◌, ◌==◌, ◌&&◌, false, nat_lt, IfErr, Err};
 ghost use Rattle.std.specs.List.{position};
-ghost use Rattle.gimli_read.specs.Reading.{Tells, Gives};
+ghost use Rattle.gimli_read.specs.Reading.{Exactly, ExactlyUnlessOom};
 ghost use Rattle.gimli_read.specs.Number.{null_terminated_at};
 ghost use Rattle.gimli_line.specs.Header.{seen_file, seen_header};
 ghost use Rattle.gimli_line.specs.Opcode.{seen_instruction, entry_behind, file_entry_at, operand_at, defines, extended_in, extended_at, gives_file, fault_of};
@@ -49,7 +49,7 @@ pub enum LineInstruction<R> {
 // What stands behind a file's path.
 #[tactic(auto, unfolding(crate::specs::Opcode::entry_behind))]
 pub(crate) fn read_entry_behind<R: Reader>(path: R, input: &mut R) -> Result<FileEntry<R>, Error>
-    ensures gives { Tells (λ f. (seen_file R.section f, R.section input.new)) result
+    ensures gives { Exactly (λ f. (seen_file R.section f, R.section input.new)) result
         (entry_behind (R.section path) (R.section input.old)) }
 {
     let directory_index = input.read_uleb128()?;
@@ -64,7 +64,7 @@ pub(crate) fn read_entry_behind<R: Reader>(path: R, input: &mut R) -> Result<Fil
 // A file of versions 2 to 4.
 #[tactic(auto, unfolding(crate::specs::Opcode::file_entry_at))]
 fn read_file_entry<R: Reader>(input: &mut R) -> Result<FileEntry<R>, Error>
-    ensures gives { Gives (λ f. (seen_file R.section f, R.section input.new)) result
+    ensures gives { ExactlyUnlessOom (λ f. (seen_file R.section f, R.section input.new)) result
         (file_entry_at (R.section input.old)) }
 {
     let path = input.read_null_terminated()?;
@@ -83,7 +83,7 @@ fn split_text(
     bytes: &[u8],
     endian: RunTimeEndian,
 ) -> Result<(EndianSlice<'_>, EndianSlice<'_>), Error>
-    ensures gives { Tells (λ x. x) result
+    ensures gives { Exactly (λ x. x) result
         (null_terminated_at (record { bytes = bytes.now; endian = endian })) }
 {
     match zero_of(bytes) {
@@ -98,7 +98,7 @@ fn split_text(
 // The fault of a file of versions 2 to 4, if it has one. Takes no memory.
 #[tactic(auto, unfolding(crate::specs::Opcode::file_entry_at))]
 fn check_file_entry(bytes: &[u8], endian: RunTimeEndian) -> Result<(), Error>
-    ensures gives { Tells (λ x. x) result
+    ensures gives { Exactly (λ x. x) result
         (fault_of (file_entry_at (record { bytes = bytes.now; endian = endian }))) }
 {
     let (path, mut rest) = split_text(bytes, endian)?;
@@ -120,7 +120,7 @@ fn read_operand<R, S: Reader>(
     code: u8,
     input: &mut S,
 ) -> Result<Opcode, Error>
-    ensures gives { Tells (λ op. (op, S.section input.new)) result
+    ensures gives { Exactly (λ op. (op, S.section input.new)) result
         (operand_at header.now.line_encoding code (S.section input.old)) }
 {
     match code {
@@ -137,7 +137,7 @@ pub(crate) fn read_extended<R: Reader>(
     header: &LineProgramHeader<R>,
     input: &mut R,
 ) -> Result<LineInstruction<R>, Error>
-    ensures gives { Gives (λ x. (seen_instruction R.section x, R.section input.new)) result
+    ensures gives { ExactlyUnlessOom (λ x. (seen_instruction R.section x, R.section input.new)) result
         (extended_at (seen_header R.section header.now) (R.section input.old)) }
     ensures memory { IfErr result (λ e.
         gives_file (extended_at (seen_header R.section header.now) (R.section input.old)) ≡ false

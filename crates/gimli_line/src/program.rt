@@ -1,10 +1,10 @@
 //! Line programs and their rows.
 
 ghost use Rattle.std.specs.Prelude.{◌≡◌, ◌<◌, ◌++◌, [], ◌∷◌, false, OnOk, OnErr, IfOk, IfErr, Ok, Err, None};
-ghost use Rattle.gimli_read.specs.Reading.{Gives};
+ghost use Rattle.gimli_read.specs.Reading.{ExactlyUnlessOom};
 ghost use Rattle.gimli_line.specs.Encoding.{limit};
 ghost use Rattle.gimli_line.specs.Header.{seen_header, seen_program};
-ghost use Rattle.gimli_line.specs.Lines.{lines_of, YieldsIfRoom, KeepsFiles};
+ghost use Rattle.gimli_line.specs.Lines.{lines_of, YieldsUnlessOom, KeepsFiles};
 ghost use Rattle.gimli_line.specs.Opcode.{seen_instruction, is_file, gives_file, behind_code};
 ghost use Rattle.gimli_line.specs.Rises.{rows_before, NeverFalls, RowsRise};
 ghost use Rattle.gimli_line.specs.Steps.{taken, ran, rows_left, files_left, DefinesOn, Finds};
@@ -37,7 +37,7 @@ impl<R: Reader> IncompleteLineProgram<R> {
     /// The rows of the program, from its first opcode on, over a copy of its header. Refused `OutOfMemory`
     /// alone.
     pub fn rows(&self) -> Result<LineRows<R>, Error>
-        ensures gives { Gives (λ rows. rows) result (Ok (lines_of (seen_program R.section self.now))) }
+        ensures gives { ExactlyUnlessOom (λ rows. rows) result (Ok (lines_of (seen_program R.section self.now))) }
     {
         Ok(LineRows {
             machine: Machine::new(self.header.line_encoding),
@@ -99,7 +99,7 @@ impl<R: Reader> LineRows<R> {
     /// `AddressOverflow` at the first opcode after which the address passes its size, and `OutOfMemory`
     /// where a file is still to be defined: no other opcode takes memory. Source: DWARF 5, section 6.2.5.
     pub fn next_row(&mut self) -> Result<Option<LineRow>, Error>
-        ensures gives { YieldsIfRoom self.old.left result self.new.left }
+        ensures gives { YieldsUnlessOom self.old.left result self.new.left }
         ensures files { OnOk result (KeepsFiles self.old self.new) }
         ensures memory { IfErr result (λ e. self.old.to_define ≡ [] → self.old.left ≡ Err e ∷ []) }
         ensures all { IfOk result (λ row. row ≡ None → self.new.to_define ≡ []) }
@@ -143,7 +143,7 @@ fn take_instruction<R: Reader>(
     requires same { machine.now.encoding ≡ header.old.line_encoding }
     requires index { registers.old.op_index < machine.now.encoding.maximum_operations_per_instruction }
     requires fits { registers.old.address < limit machine.now.encoding }
-    ensures gives { Gives (λ x. (x, registers.new, seen_header R.section header.new)) result
+    ensures gives { ExactlyUnlessOom (λ x. (x, registers.new, seen_header R.section header.new)) result
         (taken (seen_header R.section header.old) registers.old (seen_instruction R.section instruction)) }
     ensures memory { IfErr result (λ e. is_file instruction ≡ false
         → taken (seen_header R.section header.old) registers.old (seen_instruction R.section instruction) ≡ Err e) }
@@ -174,7 +174,7 @@ fn run_behind_code<R: Reader>(
     requires same { machine.now.encoding ≡ header.old.line_encoding }
     requires index { registers.old.op_index < machine.now.encoding.maximum_operations_per_instruction }
     requires fits { registers.old.address < limit machine.now.encoding }
-    ensures gives { Gives (λ x. (x, registers.new, seen_header R.section header.new, R.section program.new)) result
+    ensures gives { ExactlyUnlessOom (λ x. (x, registers.new, seen_header R.section header.new, R.section program.new)) result
         (ran (seen_header R.section header.old) registers.old code (R.section program.old)) }
     ensures memory { IfErr result (λ e.
         gives_file (behind_code (seen_header R.section header.old) code (R.section program.old)) ≡ false

@@ -1,7 +1,7 @@
 //! Reading the header of a line program.
 
 ghost use Rattle.std.specs.Prelude.{◌≡◌, ◌<◌, true, IfOk};
-ghost use Rattle.gimli_read.specs.Reading.{Tells, Gives};
+ghost use Rattle.gimli_read.specs.Reading.{Exactly, ExactlyUnlessOom};
 ghost use Rattle.gimli_read.specs.Number.{is_address_size};
 ghost use Rattle.gimli_line.specs.Header.{seen_header, seen_program};
 ghost use Rattle.gimli_line.specs.Program.{address_size_at, nonzero_at, operations_at, numbers_at, header_at, unit_at, line_program_at};
@@ -22,7 +22,7 @@ fn known_size(size: u8) -> bool
 // The address size of a program.
 #[tactic(auto, unfolding(crate::specs::Program::address_size_at))]
 fn read_address_size<R: Reader>(version: u16, unit_size: u8, input: &mut R) -> Result<u8, Error>
-    ensures gives { Tells (λ x. (x, R.section input.new)) result
+    ensures gives { Exactly (λ x. (x, R.section input.new)) result
         (address_size_at version unit_size (R.section input.old)) }
     ensures known { IfOk result (λ size. is_address_size size ≡ true) }
 {
@@ -45,7 +45,7 @@ fn read_address_size<R: Reader>(version: u16, unit_size: u8, input: &mut R) -> R
 // A byte that may not be zero.
 #[tactic(auto, unfolding(crate::specs::Program::nonzero_at))]
 fn read_nonzero<R: Reader>(input: &mut R) -> Result<u8, Error>
-    ensures gives { Tells (λ x. (x, R.section input.new)) result (nonzero_at (R.section input.old)) }
+    ensures gives { Exactly (λ x. (x, R.section input.new)) result (nonzero_at (R.section input.old)) }
     ensures some { IfOk result (λ x. 0 < x) }
 {
     let byte = input.read_u8()?;
@@ -58,7 +58,7 @@ fn read_nonzero<R: Reader>(input: &mut R) -> Result<u8, Error>
 // How many operations an instruction may have.
 #[tactic(auto, unfolding(crate::specs::Program::operations_at))]
 fn read_operations<R: Reader>(version: u16, input: &mut R) -> Result<u8, Error>
-    ensures gives { Tells (λ x. (x, R.section input.new)) result (operations_at version (R.section input.old)) }
+    ensures gives { Exactly (λ x. (x, R.section input.new)) result (operations_at version (R.section input.old)) }
     ensures some { IfOk result (λ x. 0 < x) }
 {
     if version < 4 {
@@ -70,7 +70,7 @@ fn read_operations<R: Reader>(version: u16, input: &mut R) -> Result<u8, Error>
 // The numbers that a program is run by.
 #[tactic(auto, unfolding(crate::specs::Program::numbers_at))]
 fn read_numbers<R: Reader>(encoding: Encoding, input: &mut R) -> Result<LineEncoding, Error>
-    ensures gives { Tells (λ x. (x, R.section input.new)) result (numbers_at encoding (R.section input.old)) }
+    ensures gives { Exactly (λ x. (x, R.section input.new)) result (numbers_at encoding (R.section input.old)) }
     ensures size { IfOk result (λ x. x.address_size ≡ encoding.address_size) }
     ensures operations { IfOk result (λ x. 0 < x.maximum_operations_per_instruction) }
     ensures range { IfOk result (λ x. 0 < x.line_range) }
@@ -100,7 +100,7 @@ fn read_header<R: Reader>(
     input: &mut R,
 ) -> Result<LineProgramHeader<R>, Error>
     requires size { is_address_size encoding.address_size ≡ true }
-    ensures gives { Gives (λ h. (seen_header R.section h, R.section input.new)) result
+    ensures gives { ExactlyUnlessOom (λ h. (seen_header R.section h, R.section input.new)) result
         (header_at encoding (R.section input.old)) }
 {
     let line_encoding = read_numbers(encoding, input)?;
@@ -124,7 +124,7 @@ fn read_unit<R: Reader>(
     format: Format,
     mut input: R,
 ) -> Result<IncompleteLineProgram<R>, Error>
-    ensures gives { Gives (seen_program R.section) result (unit_at unit_size format (R.section input)) }
+    ensures gives { ExactlyUnlessOom (seen_program R.section) result (unit_at unit_size format (R.section input)) }
 {
     let version = input.read_u16()?;
     if version < 2 || version > 5 {
@@ -158,7 +158,7 @@ pub fn read_line_program<R: Reader>(
     mut input: R,
     address_size: u8,
 ) -> Result<IncompleteLineProgram<R>, Error>
-    ensures gives { Gives (seen_program R.section) result (line_program_at address_size (R.section input)) }
+    ensures gives { ExactlyUnlessOom (seen_program R.section) result (line_program_at address_size (R.section input)) }
 {
     let (length, format) = read_initial_length(&mut input)?;
     let unit = input.split(length)?;

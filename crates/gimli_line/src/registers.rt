@@ -1,7 +1,7 @@
 //! The registers of a line program.
 
 ghost use Rattle.std.specs.Prelude.{◌≡◌, ◌+◌, ◌/◌, ◌%◌, ◌^◌, ◌*◌, ◌<◌, ◌≤◌, true, ◌||◌, ◌&&◌, not, nat_lt, pos, ◌+ℤ◌, IfOk, OnOk};
-ghost use Rattle.gimli_read.specs.Reading.{Tells};
+ghost use Rattle.gimli_read.specs.Reading.{Exactly};
 ghost use Rattle.gimli_line.specs.Encoding.{limit};
 ghost use Rattle.gimli_line.specs.Rows.{moved, line_advance, is_tombstone, is_end, makes_row};
 ghost use Rattle.gimli_line.specs.Steps.{start, advanced, placed, pushed, step, fitting, row, row_of, next, executed};
@@ -98,7 +98,7 @@ impl Registers {
 
     // Adds bytes to the address.
     fn add(&mut self, machine: &Machine, bytes: u64, op_index: u8) -> Result<(), Error>
-        ensures gives { Tells (λ _. self.new) result
+        ensures gives { Exactly (λ _. self.new) result
             (fitting machine.now.encoding (record self.old { address = self.old.address + bytes; op_index = op_index })) }
     {
         let Some(address) = self.address.checked_add(bytes) else {
@@ -117,7 +117,7 @@ impl Registers {
     fn advance(&mut self, machine: &Machine, operations: u64) -> Result<(), Error>
         requires index { self.old.op_index < machine.now.encoding.maximum_operations_per_instruction }
         requires fits { self.old.address < limit machine.now.encoding }
-        ensures gives { Tells (λ _. self.new) result (fitting machine.now.encoding (advanced machine.now.encoding operations self.old)) }
+        ensures gives { Exactly (λ _. self.new) result (fitting machine.now.encoding (advanced machine.now.encoding operations self.old)) }
     {
         if self.dropping {
             return Ok(());
@@ -132,7 +132,7 @@ impl Registers {
     // Passes over bytes.
     fn push(&mut self, machine: &Machine, bytes: u16) -> Result<(), Error>
         requires fits { self.old.address < limit machine.now.encoding }
-        ensures gives { Tells (λ _. self.new) result (fitting machine.now.encoding (pushed bytes self.old)) }
+        ensures gives { Exactly (λ _. self.new) result (fitting machine.now.encoding (pushed bytes self.old)) }
     {
         if self.dropping {
             return Ok(());
@@ -160,7 +160,7 @@ impl Registers {
     fn apply(&mut self, machine: &Machine, opcode: Opcode) -> Result<(), Error>
         requires index { self.old.op_index < machine.now.encoding.maximum_operations_per_instruction }
         requires fits { self.old.address < limit machine.now.encoding }
-        ensures gives { Tells (λ _. self.new) result (fitting machine.now.encoding (step machine.now.encoding self.old opcode)) }
+        ensures gives { Exactly (λ _. self.new) result (fitting machine.now.encoding (step machine.now.encoding self.old opcode)) }
     {
         match opcode {
             Opcode::Special(n) => {
@@ -206,7 +206,7 @@ impl Registers {
     ) -> Result<Option<LineRow>, Error>
         requires index { self.old.op_index < machine.now.encoding.maximum_operations_per_instruction }
         requires fits { self.old.address < limit machine.now.encoding }
-        ensures gives { Tells (λ x. (x, self.new)) result (executed machine.now.encoding self.old opcode) }
+        ensures gives { Exactly (λ x. (x, self.new)) result (executed machine.now.encoding self.old opcode) }
         ensures index { OnOk result (self.new.op_index < machine.now.encoding.maximum_operations_per_instruction) }
         ensures fits { OnOk result (self.new.address < limit machine.now.encoding) }
     {

@@ -1,7 +1,7 @@
 //! The standard opcodes of line programs.
 
 ghost use Rattle.std.specs.Prelude.{◌≡◌, ◌<◌, ◌-◌, OnOk, slice_index};
-ghost use Rattle.gimli_read.specs.Reading.{Tells};
+ghost use Rattle.gimli_read.specs.Reading.{Exactly};
 ghost use Rattle.gimli_line.specs.Encoding.{limit};
 ghost use Rattle.gimli_line.specs.Header.{seen_header};
 ghost use Rattle.gimli_line.specs.Opcode.{numbers_skipped};
@@ -16,7 +16,7 @@ use gimli_read::{Error, Reader};
 
 // Passes over numbers.
 fn skip_numbers<R: Reader>(input: &mut R, count: u8) -> Result<(), Error>
-    ensures gives { Tells (λ x. (x, R.section input.new)) result (numbers_skipped count (R.section input.old)) }
+    ensures gives { Exactly (λ x. (x, R.section input.new)) result (numbers_skipped count (R.section input.old)) }
 {
     for _ in 0..count {
         input.read_uleb128()?;
@@ -55,7 +55,7 @@ pub(crate) fn run_standard<R: Reader>(
     requires same { machine.now.encoding ≡ header.now.line_encoding }
     requires index { registers.old.op_index < machine.now.encoding.maximum_operations_per_instruction }
     requires fits { registers.old.address < limit machine.now.encoding }
-    ensures gives { Tells (λ x. (x, registers.new, R.section input.new)) result
+    ensures gives { Exactly (λ x. (x, registers.new, R.section input.new)) result
         (ran_standard (seen_header R.section header.now) registers.old code (R.section input.old)) }
     ensures index { OnOk result (registers.new.op_index < machine.now.encoding.maximum_operations_per_instruction) }
     ensures fits { OnOk result (registers.new.address < limit machine.now.encoding) }

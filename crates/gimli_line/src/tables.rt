@@ -2,7 +2,7 @@
 
 ghost use Rattle.std.specs.Prelude.{◌≡◌, ◌==◌, ◌&&◌, not, count_by, map, Ok};
 ghost use Rattle.std.specs.Option.{option_map};
-ghost use Rattle.gimli_read.specs.Reading.{Tells, Gives};
+ghost use Rattle.gimli_read.specs.Reading.{Exactly, ExactlyUnlessOom};
 ghost use Rattle.gimli_read.specs.Form.{seen_value};
 ghost use Rattle.gimli_read.specs.Run.{run_of, collected};
 ghost use Rattle.gimli_line.specs.Header.{seen_file};
@@ -43,7 +43,7 @@ pub struct HeaderTables<R> {
 // A directory of versions 2 to 4.
 #[tactic(auto, unfolding(crate::specs::Tables::directory_at))]
 fn read_directory<R: Reader>(input: &mut R) -> Result<Option<AttributeValue<R>>, Error>
-    ensures gives { Gives (λ d. (option_map (seen_value R.section) d, R.section input.new)) result
+    ensures gives { ExactlyUnlessOom (λ d. (option_map (seen_value R.section) d, R.section input.new)) result
         (directory_at (R.section input.old)) }
 {
     let path = input.read_null_terminated()?;
@@ -56,7 +56,7 @@ fn read_directory<R: Reader>(input: &mut R) -> Result<Option<AttributeValue<R>>,
 // A file of the table of versions 2 to 4.
 #[tactic(auto, unfolding(crate::specs::Tables::file_at))]
 fn read_file<R: Reader>(input: &mut R) -> Result<Option<FileEntry<R>>, Error>
-    ensures gives { Gives (λ f. (option_map (seen_file R.section) f, R.section input.new)) result
+    ensures gives { ExactlyUnlessOom (λ f. (option_map (seen_file R.section) f, R.section input.new)) result
         (file_at (R.section input.old)) }
 {
     let path = input.read_null_terminated()?;
@@ -71,7 +71,7 @@ fn read_directories<R: Reader>(
     alloc: Global,
     input: &mut R,
 ) -> Result<Vec<AttributeValue<R>>, Error>
-    ensures gives { Gives (λ v. (map (seen_value R.section) v.items, R.section input.new)) result
+    ensures gives { ExactlyUnlessOom (λ v. (map (seen_value R.section) v.items, R.section input.new)) result
         (collected (run_of directory_at (R.section input.old))) }
 {
     let mut directories = Vec::new(alloc);
@@ -83,7 +83,7 @@ fn read_directories<R: Reader>(
 
 // The files of versions 2 to 4.
 fn read_files<R: Reader>(alloc: Global, input: &mut R) -> Result<Vec<FileEntry<R>>, Error>
-    ensures gives { Gives (λ v. (map (seen_file R.section) v.items, R.section input.new)) result
+    ensures gives { ExactlyUnlessOom (λ v. (map (seen_file R.section) v.items, R.section input.new)) result
         (collected (run_of file_at (R.section input.old))) }
 {
     let mut files = Vec::new(alloc);
@@ -96,7 +96,7 @@ fn read_files<R: Reader>(alloc: Global, input: &mut R) -> Result<Vec<FileEntry<R
 // What a value of the entries is, and its form.
 #[tactic(auto, unfolding(crate::specs::Tables::format_at))]
 fn read_format<R: Reader>(input: &mut R) -> Result<EntryFormat, Error>
-    ensures gives { Tells (λ f. (f, R.section input.new)) result (format_at (R.section input.old)) }
+    ensures gives { Exactly (λ f. (f, R.section input.new)) result (format_at (R.section input.old)) }
 {
     let content_type = input.read_uleb128()?;
     let form = DwForm(input.read_uleb128()?);
@@ -109,7 +109,7 @@ fn read_times_format<R: Reader>(
     count: u8,
     input: &mut R,
 ) -> Result<Vec<EntryFormat>, Error>
-    ensures gives { Gives (λ v. (v.items, R.section input.new)) result
+    ensures gives { ExactlyUnlessOom (λ v. (v.items, R.section input.new)) result
         (times format_at count (R.section input.old)) }
 {
     let mut formats = Vec::new(alloc);
@@ -122,7 +122,7 @@ fn read_times_format<R: Reader>(
 // A count, and as many formats.
 #[tactic(auto, unfolding(crate::specs::Tables::formats_at))]
 fn read_formats<R: Reader>(alloc: Global, input: &mut R) -> Result<Vec<EntryFormat>, Error>
-    ensures gives { Gives (λ v. (v.items, R.section input.new)) result (formats_at (R.section input.old)) }
+    ensures gives { ExactlyUnlessOom (λ v. (v.items, R.section input.new)) result (formats_at (R.section input.old)) }
 {
     let count = input.read_u8()?;
     read_times_format(alloc, count, input)
@@ -201,7 +201,7 @@ fn read_values<R: Reader>(
     formats: &[EntryFormat],
     input: &mut R,
 ) -> Result<Entry<R>, Error>
-    ensures gives { Gives (λ x. (seen_entry R.section x, R.section input.new)) result
+    ensures gives { ExactlyUnlessOom (λ x. (seen_entry R.section x, R.section input.new)) result
         (values_at encoding formats.now no_entry (R.section input.old)) }
 {
     let mut entry = Entry {
@@ -222,7 +222,7 @@ fn read_entry<R: Reader>(
     formats: &[EntryFormat],
     input: &mut R,
 ) -> Result<FileEntry<R>, Error>
-    ensures gives { Gives (λ f. (seen_file R.section f, R.section input.new)) result
+    ensures gives { ExactlyUnlessOom (λ f. (seen_file R.section f, R.section input.new)) result
         (entry_at encoding formats.now (R.section input.old)) }
 {
     let Entry {
@@ -246,7 +246,7 @@ fn read_entries<R: Reader>(
     count: u64,
     input: &mut R,
 ) -> Result<Vec<FileEntry<R>>, Error>
-    ensures gives { Gives (λ v. (map (seen_file R.section) v.items, R.section input.new)) result
+    ensures gives { ExactlyUnlessOom (λ v. (map (seen_file R.section) v.items, R.section input.new)) result
         (times (entry_at encoding formats.now) count (R.section input.old)) }
 {
     let mut files = Vec::new(alloc);
@@ -263,7 +263,7 @@ fn read_table<R: Reader>(
     encoding: Encoding,
     input: &mut R,
 ) -> Result<Vec<FileEntry<R>>, Error>
-    ensures gives { Gives (λ v. (map (seen_file R.section) v.items, R.section input.new)) result
+    ensures gives { ExactlyUnlessOom (λ v. (map (seen_file R.section) v.items, R.section input.new)) result
         (table_at encoding (R.section input.old)) }
 {
     let formats = read_formats(alloc, input)?;
@@ -279,7 +279,7 @@ fn paths_of<R: Reader>(
     alloc: Global,
     entries: Vec<FileEntry<R>>,
 ) -> Result<Vec<AttributeValue<R>>, Error>
-    ensures gives { Gives (λ v. v.items) result (Ok (map (λ f. f.path_name) entries.items)) }
+    ensures gives { ExactlyUnlessOom (λ v. v.items) result (Ok (map (λ f. f.path_name) entries.items)) }
 {
     let mut paths = Vec::new(alloc);
     for entry in entries {
@@ -291,7 +291,7 @@ fn paths_of<R: Reader>(
 // The tables of versions 2 to 4.
 #[tactic(auto, unfolding(crate::specs::Tables::old_tables_at))]
 fn read_old_tables<R: Reader>(alloc: Global, input: &mut R) -> Result<HeaderTables<R>, Error>
-    ensures gives { Gives (λ t. (seen_tables R.section t, R.section input.new)) result
+    ensures gives { ExactlyUnlessOom (λ t. (seen_tables R.section t, R.section input.new)) result
         (old_tables_at (R.section input.old)) }
 {
     let include_directories = read_directories(alloc, input)?;
@@ -309,7 +309,7 @@ fn read_new_tables<R: Reader>(
     encoding: Encoding,
     input: &mut R,
 ) -> Result<HeaderTables<R>, Error>
-    ensures gives { Gives (λ t. (seen_tables R.section t, R.section input.new)) result
+    ensures gives { ExactlyUnlessOom (λ t. (seen_tables R.section t, R.section input.new)) result
         (new_tables_at encoding (R.section input.old)) }
 {
     let directories = read_table(alloc, encoding, input)?;
@@ -327,7 +327,7 @@ pub(crate) fn read_tables<R: Reader>(
     encoding: Encoding,
     input: &mut R,
 ) -> Result<HeaderTables<R>, Error>
-    ensures gives { Gives (λ t. (seen_tables R.section t, R.section input.new)) result
+    ensures gives { ExactlyUnlessOom (λ t. (seen_tables R.section t, R.section input.new)) result
         (tables_at encoding (R.section input.old)) }
 {
     if encoding.version < 5 {

@@ -5,7 +5,7 @@ use Rattle.std.proofs.lemmas.Grind.{common_steps}
 use Rattle.gimli_read.specs.declared.error.Error.{Error}
 use Rattle.gimli_read.specs.declared.error.Error.TheVariants.{UnexpectedEof}
 use Rattle.gimli_read.specs.Section.{Section, first, after}
-use Rattle.gimli_read.specs.Reading.{◌>>=◌, done, Refuses}
+use Rattle.gimli_read.specs.Reading.{◌>>=◌, done, IsFaultUnlessOom}
 use Rattle.gimli_read.specs.Number.{split_at, skipped_at, ended_at, null_terminated_at}
 
 -- a test that did not refuse
@@ -32,11 +32,11 @@ pub same_value : {A B : Type 0} (x y : A × B) → done x ≡ done y → x.0 ≡
 same_value {A = A} {B = B} x y e = let k : x ≡ y = cc in ap (λ (p : A × B). p.0) k
 
 -- a fault that is given may be told
-pub refuses_fault : {Y : Type 0} (e : Error) (given : Result Y Error) → given ≡ Err e → Refuses e given
+pub refuses_fault : {Y : Type 0} (e : Error) (given : Result Y Error) → given ≡ Err e → IsFaultUnlessOom e given
 refuses_fault e given h = λ _. h
 
 -- a part's refusal is the whole's, where the part's fault is
-pub refuses_whole : {X Y : Type 0} (e : Error) (part : Result X Error) (whole : Result Y Error) → (part ≡ Err e → whole ≡ Err e) → Refuses e part → Refuses e whole
+pub refuses_whole : {X Y : Type 0} (e : Error) (part : Result X Error) (whole : Result Y Error) → (part ≡ Err e → whole ≡ Err e) → IsFaultUnlessOom e part → IsFaultUnlessOom e whole
 refuses_whole e part whole f h = λ n. f (h n)
 
 -- a part, and then bytes that nobody looks at

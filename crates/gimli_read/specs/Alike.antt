@@ -4,7 +4,7 @@ use Rattle.std.specs.Prelude.{◌≡◌, ◌≢◌, Result, Ok, Err}
 use Rattle.gimli_read.specs.declared.error.Error.{Error}
 use Rattle.gimli_read.specs.declared.error.Error.TheVariants.{OutOfMemory}
 use Rattle.gimli_read.specs.Section.{Section}
-use Rattle.gimli_read.specs.Reading.{Tells, Gives}
+use Rattle.gimli_read.specs.Reading.{Exactly, ExactlyUnlessOom}
 
 -- an answer whose value is seen by view
 abbrev pub seen_answer : {X Z : Type 0} → (X → Z) → Result X Error → Result Z Error
@@ -17,13 +17,13 @@ HadMemory (Ok x) = Unit {0}
 HadMemory (Err e) = e ≢ OutOfMemory
 
 -- what two readers of equal sections tell is the same: value, rest and fault
-abbrev pub TellAlike : Type 0 → Type 0 → Type 0 → Type 0
-TellAlike X Y Z =
+abbrev pub AnswerAlike : Type 0 → Type 0 → Type 0 → Type 0
+AnswerAlike X Y Z =
     (read : Section → Result Z Error) (s t : Section) (view : X → Z) (see : Y → Z) (x : Result X Error) (y : Result Y Error)
-    → s ≡ t → Tells view x (read s) → Tells see y (read t) → seen_answer view x ≡ seen_answer see y
+    → s ≡ t → Exactly view x (read s) → Exactly see y (read t) → seen_answer view x ≡ seen_answer see y
 
 -- what two readers of equal sections give is the same, where neither wanted memory
-abbrev pub GiveAlike : Type 0 → Type 0 → Type 0 → Type 0
-GiveAlike X Y Z =
+abbrev pub AnswerAlikeUnlessOom : Type 0 → Type 0 → Type 0 → Type 0
+AnswerAlikeUnlessOom X Y Z =
     (read : Section → Result Z Error) (s t : Section) (view : X → Z) (see : Y → Z) (x : Result X Error) (y : Result Y Error)
-    → s ≡ t → Gives view x (read s) → Gives see y (read t) → HadMemory x → HadMemory y → seen_answer view x ≡ seen_answer see y
+    → s ≡ t → ExactlyUnlessOom view x (read s) → ExactlyUnlessOom see y (read t) → HadMemory x → HadMemory y → seen_answer view x ≡ seen_answer see y

@@ -6,6 +6,7 @@ pub mod Text
 pub mod Run
 pub mod Yields
 pub mod Form
+pub mod HeldBytes
 pub mod Spelling
 pub mod Value
 pub mod Alike

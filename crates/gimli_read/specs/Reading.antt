@@ -1,7 +1,8 @@
 -- What a reading gives, and what an answer has to do with it.
 -- A reading takes bytes from the front of a section: it gives a value and what is left, or the first
 -- fault from the left. Own: no reading gives OutOfMemory, which only a refused growth tells.
-use Rattle.std.specs.Prelude.{◌≡◌, ◌≢◌, Bool, Result, Ok, Err, if◌then◌else◌}
+-- The words for steps and answers serve every kind of fault.
+use Rattle.std.specs.Prelude.{◌≡◌, ◌≢◌, Bool, true, Result, Ok, Err, if◌then◌else◌}
 use Rattle.gimli_read.specs.declared.error.Error.{Error}
 use Rattle.gimli_read.specs.declared.error.Error.TheVariants.{OutOfMemory}
 use Rattle.gimli_read.specs.Section.{Section}
@@ -12,7 +13,7 @@ Reading A = Result (A × Section) Error
 
 infixl 10 ◌>>=◌
 -- one step, and the next one where there was no fault
-abbrev pub ◌>>=◌ : {A B : Type 0} → Result A Error → (A → Result B Error) → Result B Error
+abbrev pub ◌>>=◌ : {A B E : Type 0} → Result A E → (A → Result B E) → Result B E
 (Ok x) >>= f = f x
 (Err e) >>= f = Err e
 
@@ -21,19 +22,49 @@ abbrev pub done : {A : Type 0} → A → Result A Error
 done x = Ok x
 
 -- a test, at the place where its fault stands
-abbrev pub refused_if : Bool → Error → Result (Unit {0}) Error
+abbrev pub refused_if : {E : Type 0} → Bool → E → Result (Unit {0}) E
 refused_if bad e = if bad then Err e else Ok tt
 
 -- the answer, seen by view, is what is given; so it takes no memory
-abbrev pub Tells : {X Y : Type 0} → (X → Y) → Result X Error → Result Y Error → Type 0
-Tells view (Ok x) given = given ≡ Ok (view x)
-Tells view (Err e) given = given ≡ Err e
+abbrev pub Exactly : {X Y E : Type 0} → (X → Y) → Result X E → Result Y E → Type 0
+Exactly view (Ok x) given = given ≡ Ok (view x)
+Exactly view (Err e) given = given ≡ Err e
 
--- the refusal is the fault that is given, but for want of memory, which may stand in place of anything
-abbrev pub Refuses : {Y : Type 0} → Error → Result Y Error → Type 0
-Refuses e given = e ≢ OutOfMemory → given ≡ Err e
+-- the refusal is the fault that is given, or this one, which may stand in place of any answer
+abbrev pub IsFaultUnless : {Y E : Type 0} → E → E → Result Y E → Type 0
+IsFaultUnless oom e given = e ≢ oom → given ≡ Err e
 
--- the answer, seen by view, is what is given, unless memory was wanting
-abbrev pub Gives : {X Y : Type 0} → (X → Y) → Result X Error → Result Y Error → Type 0
-Gives view (Ok x) given = given ≡ Ok (view x)
-Gives view (Err e) given = Refuses e given
+-- the answer, seen by view, is what is given, or this fault
+abbrev pub ExactlyUnless : {X Y E : Type 0} → E → (X → Y) → Result X E → Result Y E → Type 0
+ExactlyUnless oom view (Ok x) given = given ≡ Ok (view x)
+ExactlyUnless oom view (Err e) given = IsFaultUnless oom e given
+
+-- the refusal is the fault that is given, or OutOfMemory
+abbrev pub IsFaultUnlessOom : {Y : Type 0} → Error → Result Y Error → Type 0
+IsFaultUnlessOom e given = IsFaultUnless OutOfMemory e given
+
+-- the answer, seen by view, is what is given, or OutOfMemory
+abbrev pub ExactlyUnlessOom : {X Y : Type 0} → (X → Y) → Result X Error → Result Y Error → Type 0
+ExactlyUnlessOom view result given = ExactlyUnless OutOfMemory view result given
+
+-- the answer is what is given, or OutOfMemory
+abbrev pub IsUnlessOom : {X : Type 0} → Result X Error → Result X Error → Type 0
+IsUnlessOom result given = ExactlyUnlessOom (λ x. x) result given
+
+-- the same, where OutOfMemory is an answer only if memory may be taken
+abbrev pub ExactlyUnlessOomIf : {X Y : Type 0} → Bool → (X → Y) → Result X Error → Result Y Error → Type 0
+ExactlyUnlessOomIf may view (Ok x) given = given ≡ Ok (view x)
+ExactlyUnlessOomIf may view (Err e) given = (may ≡ true → e ≢ OutOfMemory) → given ≡ Err e
+
+-- the same, where memory may be taken only for what is given
+abbrev pub ExactlyUnlessOomFor : {X Y : Type 0} → Bool → (Result Y Error → Bool) → (X → Y) → Result X Error → Result Y Error → Type 0
+ExactlyUnlessOomFor may takes view (Ok x) given = given ≡ Ok (view x)
+ExactlyUnlessOomFor may takes view (Err e) given = (may ≡ true → takes given ≡ true → e ≢ OutOfMemory) → given ≡ Err e
+
+-- a call that moves a reader gave what is read from it, and left what the reading leaves
+abbrev pub Reads : {R X : Type 0} → (R → Section) → R → R → Result X Error → (Section → Reading X) → Type 0
+Reads see old new result reading = Exactly (λ x. (x, see new)) result (reading (see old))
+
+-- the same, or OutOfMemory
+abbrev pub ReadsUnlessOom : {R X : Type 0} → (R → Section) → R → R → Result X Error → (Section → Reading X) → Type 0
+ReadsUnlessOom see old new result reading = ExactlyUnlessOom (λ x. (x, see new)) result (reading (see old))

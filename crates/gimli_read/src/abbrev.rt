@@ -4,7 +4,7 @@ ghost use Rattle.std.specs.Prelude.{◌≡◌, ◌≢◌, ◌<◌, ◌+◌, ◌^
 ghost use Rattle.std.specs.List.{slice_get};
 ghost use Rattle.std.specs.Ordering.{nat_cmp};
 ghost use Rattle.std.specs.BTreeMap.{get};
-ghost use Rattle.gimli_read.specs.Reading.{Tells, Gives};
+ghost use Rattle.gimli_read.specs.Reading.{Exactly, ExactlyUnlessOom};
 ghost use Rattle.gimli_read.specs.Abbreviations.{with_code};
 ghost use Rattle.gimli_read.specs.AbbreviationPlaces.{if_coded, IsSameApart};
 ghost use Rattle.gimli_read.specs.Abbrev.{specification_at, specifications_at, declaration_at, abbreviation_at, table_at};
@@ -114,7 +114,7 @@ impl Model for Abbreviations {
 // The next attribute, or none at the end of the list.
 #[tactic(auto, unfolding(crate::specs::Abbrev::specification_at))]
 fn read_specification<R: Reader>(input: &mut R) -> Result<Option<AttributeSpecification>, Error>
-    ensures gives { Tells (λ x. (x, R.section input.new)) result (specification_at (R.section input.old)) }
+    ensures gives { Exactly (λ x. (x, R.section input.new)) result (specification_at (R.section input.old)) }
 {
     let name = input.read_uleb128()?;
     let form = input.read_uleb128()?;
@@ -141,7 +141,7 @@ fn read_specifications<R: Reader>(
     alloc: Global,
     input: &mut R,
 ) -> Result<Vec<AttributeSpecification>, Error>
-    ensures gives { Gives (λ v. (v.items, R.section input.new)) result
+    ensures gives { ExactlyUnlessOom (λ v. (v.items, R.section input.new)) result
         (specifications_at (R.section input.old)) }
 {
     let mut attributes = Vec::new(alloc);
@@ -158,7 +158,7 @@ fn read_declaration<R: Reader>(
     input: &mut R,
     code: u64,
 ) -> Result<Abbreviation, Error>
-    ensures gives { Gives (λ a. (a, R.section input.new)) result
+    ensures gives { ExactlyUnlessOom (λ a. (a, R.section input.new)) result
         (declaration_at code (R.section input.old)) }
 {
     let tag = input.read_uleb128()?;
@@ -251,7 +251,7 @@ impl Abbreviations {
         alloc: Global,
         input: &mut R,
     ) -> Result<Option<Abbreviation>, Error>
-        ensures gives { Gives (λ a. (a, R.section input.new)) result
+        ensures gives { ExactlyUnlessOom (λ a. (a, R.section input.new)) result
             (abbreviation_at self.now (R.section input.old)) }
     {
         if input.is_empty() {
@@ -273,7 +273,7 @@ impl Abbreviations {
     /// Refused `BadAbbreviation` for a repeated code, tag 0, a children byte other than 0 and 1 and
     /// exactly one zero in a pair; `UnexpectedEof` and `BadLeb128` for its numbers; `OutOfMemory`.
     pub fn parse<R: Reader>(alloc: Global, input: R) -> Result<Abbreviations, Error>
-        ensures gives { Gives (λ t. t) result (table_at (R.section input)) }
+        ensures gives { ExactlyUnlessOom (λ t. t) result (table_at (R.section input)) }
     {
         let mut input = input;
         let mut table = Abbreviations {

@@ -1,8 +1,8 @@
 //! A reader that shares its bytes.
 
-ghost use Rattle.std.specs.Prelude.{◌≡◌, length, IsOk, OnErr};
+ghost use Rattle.std.specs.Prelude.{◌≡◌, length, true, is_ok, IsOk, OnErr};
 ghost use Rattle.gimli_read.specs.Number.{split_at};
-ghost use Rattle.gimli_read.specs.Reading.{Gives};
+ghost use Rattle.gimli_read.specs.Reading.{ExactlyUnlessOomFor};
 ghost use Rattle.gimli_read.specs.Section.{Section};
 
 use crate::endian::RunTimeEndian;
@@ -44,7 +44,11 @@ impl EndianBytes {
 }
 
 impl Reader for EndianBytes {
+    ghost use Rattle.std.specs.Prelude.{true};
+
     ghost section = { λ r. r };
+
+    ghost shares = { true };
 
     fn len(&self) -> u64 {
         self.bytes.len() as u64
@@ -60,7 +64,7 @@ impl Reader for EndianBytes {
 
     // The clauses `whole` and `none` say that it takes no memory for all of the bytes or none.
     fn split(&mut self, len: u64) -> Result<EndianBytes, Error>
-        ensures gives { Gives (λ r. (r, self.new)) result (split_at len self.old) }
+        ensures gives { ExactlyUnlessOomFor true is_ok (λ r. (r, self.new)) result (split_at len self.old) }
         ensures refused { OnErr result (self.new ≡ self.old) }
         ensures whole { len ≡ length self.old.bytes → IsOk result }
         ensures none { len ≡ 0 → IsOk result }

@@ -1,8 +1,6 @@
 //! A reader that borrows its bytes.
 
-ghost use Rattle.std.specs.Prelude.{◌≡◌, Ok, OnErr};
-ghost use Rattle.gimli_read.specs.Number.{split_at};
-ghost use Rattle.gimli_read.specs.Reading.{Gives, Tells};
+ghost use Rattle.std.specs.Prelude.{◌≡◌};
 ghost use Rattle.gimli_read.specs.Section.{Section};
 
 use crate::endian::RunTimeEndian;
@@ -33,7 +31,11 @@ impl<'a> EndianSlice<'a> {
 }
 
 impl<'a> Reader for EndianSlice<'a> {
+    ghost use Rattle.std.specs.Prelude.{false};
+
     ghost section = { λ r. r };
+
+    ghost shares = { false };
 
     fn len(&self) -> u64 {
         self.bytes.len() as u64
@@ -47,12 +49,7 @@ impl<'a> Reader for EndianSlice<'a> {
         self.bytes
     }
 
-    // The clause `exact` says that it takes no memory.
-    fn split(&mut self, len: u64) -> Result<EndianSlice<'a>, Error>
-        ensures gives { Gives (λ r. (r, self.new)) result (split_at len self.old) }
-        ensures exact { Tells (λ r. (r, self.new)) result (split_at len self.old) }
-        ensures refused { OnErr result (self.new ≡ self.old) }
-    {
+    fn split(&mut self, len: u64) -> Result<EndianSlice<'a>, Error> {
         if self.len() < len {
             return Err(Error::UnexpectedEof);
         }
@@ -72,11 +69,7 @@ impl<'a> Reader for EndianSlice<'a> {
         Ok(())
     }
 
-    // The clause `exact` says that it takes no memory.
-    fn duplicate(&self) -> Result<EndianSlice<'a>, Error>
-        ensures gives { Gives (λ r. r) result (Ok self.now) }
-        ensures exact { Tells (λ r. r) result (Ok self.now) }
-    {
+    fn duplicate(&self) -> Result<EndianSlice<'a>, Error> {
         Ok(EndianSlice {
             bytes: self.bytes,
             endian: self.endian,

@@ -1,6 +1,6 @@
 //! Laws of the readings, with no code.
 
-ghost use Rattle.gimli_read.specs.Alike.{TellAlike, GiveAlike};
+ghost use Rattle.gimli_read.specs.Alike.{AnswerAlike, AnswerAlikeUnlessOom};
 ghost use Rattle.gimli_read.specs.Value.{ReadsFixed, ReadsFixedAlone, ReadsValue, ReadsValueAlone, ReadsAttribute, ReadsAttributeAlone};
 
 /// A fixed number, the value of a form and an attribute are read from their texts, whatever follows,
@@ -21,6 +21,6 @@ pub fn value_laws()
 /// unless one of them was refused it. `X` and `Y` are what the two calls answer, and `Z` is what both
 /// are seen as.
 pub fn alike_laws<X, Y, Z>()
-    ensures told { TellAlike X Y Z }
-    ensures given { GiveAlike X Y Z }
+    ensures told { AnswerAlike X Y Z }
+    ensures given { AnswerAlikeUnlessOom X Y Z }
 {}

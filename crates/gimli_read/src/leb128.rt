@@ -2,7 +2,7 @@
 
 ghost use Rattle.std.specs.Prelude.{◌≡◌, ◌≤◌, ◌<◌, ◌^◌, [], ◌∷◌, length, drop, nat_lt, IfOk};
 ghost use Rattle.std.specs.List.{position};
-ghost use Rattle.gimli_read.specs.Reading.{Tells};
+ghost use Rattle.gimli_read.specs.Reading.{Exactly};
 ghost use Rattle.gimli_read.specs.Leb128.{uleb128_value, sleb128_value, leb128_text, uleb128_in, sleb128_in, ReadsUleb128, ReadsUleb128Alone, ReadsSleb128, ReadsSleb128Alone};
 
 use crate::error::Error;
@@ -19,7 +19,7 @@ fn last_of(bytes: &[u8]) -> Option<usize>
 
 // The text at the front.
 fn text_of(bytes: &[u8]) -> Result<&[u8], Error>
-    ensures gives { Tells (λ text. (text.now, drop (length text.now) bytes.now)) result
+    ensures gives { Exactly (λ text. (text.now, drop (length text.now) bytes.now)) result
         (leb128_text bytes.now) }
 {
     if bytes.len() < MAX_LEN {
@@ -54,7 +54,7 @@ fn sum_of(text: &[u8]) -> u128
 #[inline(never)]
 #[tactic(auto, unfolding(crate::specs::Leb128::uleb128_in))]
 fn any_unsigned(bytes: &[u8]) -> Result<(u64, usize), Error>
-    ensures gives { Tells (λ x. (x.0, drop x.1 bytes.now)) result (uleb128_in bytes.now) }
+    ensures gives { Exactly (λ x. (x.0, drop x.1 bytes.now)) result (uleb128_in bytes.now) }
     ensures bound { IfOk result (λ x. x.1 ≤ length bytes.now) }
 {
     let text = text_of(bytes)?;
@@ -69,7 +69,7 @@ fn any_unsigned(bytes: &[u8]) -> Result<(u64, usize), Error>
 #[inline(always)]
 #[tactic(auto, using(crate::proofs::ShortLeb128::unsigned_byte))]
 pub(crate) fn unsigned(bytes: &[u8]) -> Result<(u64, usize), Error>
-    ensures gives { Tells (λ x. (x.0, drop x.1 bytes.now)) result (uleb128_in bytes.now) }
+    ensures gives { Exactly (λ x. (x.0, drop x.1 bytes.now)) result (uleb128_in bytes.now) }
     ensures bound { IfOk result (λ x. x.1 ≤ length bytes.now) }
 {
     // Most numbers are of one byte.
@@ -92,7 +92,7 @@ fn scale_behind(len: usize) -> u128
 #[inline(never)]
 #[tactic(auto, using(crate::proofs::Leb128Lemmas::negative_is), unfolding(crate::specs::Leb128::sleb128_in))]
 fn any_signed(bytes: &[u8]) -> Result<(i64, usize), Error>
-    ensures gives { Tells (λ x. (x.0, drop x.1 bytes.now)) result (sleb128_in bytes.now) }
+    ensures gives { Exactly (λ x. (x.0, drop x.1 bytes.now)) result (sleb128_in bytes.now) }
     ensures bound { IfOk result (λ x. x.1 ≤ length bytes.now) }
 {
     let text = text_of(bytes)?;
@@ -126,7 +126,7 @@ fn signed_of(byte: u8) -> i64
 #[inline(always)]
 #[tactic(auto, using(crate::proofs::ShortLeb128::signed_byte))]
 pub(crate) fn signed(bytes: &[u8]) -> Result<(i64, usize), Error>
-    ensures gives { Tells (λ x. (x.0, drop x.1 bytes.now)) result (sleb128_in bytes.now) }
+    ensures gives { Exactly (λ x. (x.0, drop x.1 bytes.now)) result (sleb128_in bytes.now) }
     ensures bound { IfOk result (λ x. x.1 ≤ length bytes.now) }
 {
     // Most numbers are of one byte.

@@ -1,12 +1,12 @@
 //! Reading from the front of a section.
 
-ghost use Rattle.std.specs.Prelude.{◌≡◌, ◌==◌, length, IfOk, IfErr, OnErr, IsOk, Ok};
+ghost use Rattle.std.specs.Prelude.{◌≡◌, ◌==◌, length, is_ok, IfOk, IfErr, OnErr, IsOk, Ok};
 ghost use Rattle.std.specs.List.{position};
 ghost use Rattle.std.specs.Str.{IsUtf8};
 ghost use Rattle.std.specs.Cow.{cow_str_bytes};
 ghost use Rattle.gimli_read.specs.declared.error.Error.TheVariants.{OutOfMemory};
 ghost use Rattle.gimli_read.specs.Text.{lossy_text};
-ghost use Rattle.gimli_read.specs.Reading.{Tells, Gives};
+ghost use Rattle.gimli_read.specs.Reading.{Exactly, ExactlyUnlessOomFor};
 ghost use Rattle.gimli_read.specs.Number.{fixed_at, address_at, offset_at, skipped_at, split_at, signed_byte_at, null_terminated_at, initial_length_at};
 ghost use Rattle.gimli_read.specs.Leb128.{uleb128_at, sleb128_at};
 
@@ -20,10 +20,15 @@ use std::borrow::CowStr;
 
 /// A list of bytes and a byte order. A reading takes bytes from the front; a refused one takes none.
 pub trait Reader: Clone {
+    ghost use Rattle.std.specs.Prelude.{Bool};
     ghost use Rattle.gimli_read.specs.Section.{Section};
 
     /// The bytes that are left, and their order.
     ghost section: { Self → Section };
+
+    /// Whether readers of the same bytes share them and count their users, so that a part or a second
+    /// reader may take memory.
+    ghost shares: { Bool };
 
     /// The number of bytes that are left. Takes no memory.
     fn len(&self) -> u64
@@ -39,9 +44,9 @@ pub trait Reader: Clone {
 
     /// Takes the next `len` bytes as a reader of their own.
     ///
-    /// Refused `UnexpectedEof` where fewer are left, and `OutOfMemory`.
+    /// Refused `UnexpectedEof` where fewer are left, else `OutOfMemory` where the bytes are shared.
     fn split(&mut self, len: u64) -> Result<Self, Error>
-        ensures gives { Gives (λ r. (section r, section self.new)) result
+        ensures gives { ExactlyUnlessOomFor shares is_ok (λ r. (section r, section self.new)) result
             (split_at len (section self.old)) }
         ensures refused { OnErr result (section self.new ≡ section self.old) };
 
@@ -49,13 +54,13 @@ pub trait Reader: Clone {
     ///
     /// Refused `UnexpectedEof` where fewer are left.
     fn skip(&mut self, len: u64) -> Result<(), Error>
-        ensures gives { Tells (λ x. (x, section self.new)) result
+        ensures gives { Exactly (λ x. (x, section self.new)) result
             (skipped_at len (section self.old)) }
         ensures refused { OnErr result (section self.new ≡ section self.old) };
 
-    /// A reader of the same bytes in the same order. Refused `OutOfMemory` alone.
+    /// A reader of the same bytes in the same order. Refused `OutOfMemory` alone, where they are shared.
     fn duplicate(&self) -> Result<Self, Error>
-        ensures gives { Gives section result (Ok (section self.now)) };
+        ensures gives { ExactlyUnlessOomFor shares is_ok section result (Ok (section self.now)) };
 
     /// Whether no byte is left. Takes no memory.
     final fn is_empty(&self) -> bool
@@ -68,7 +73,7 @@ pub trait Reader: Clone {
     ///
     /// Refused `UnexpectedEof` where no byte is left.
     final fn read_u8(&mut self) -> Result<u8, Error>
-        ensures gives { Tells (λ x. (x, section self.new)) result (fixed_at 1 (section self.old)) }
+        ensures gives { Exactly (λ x. (x, section self.new)) result (fixed_at 1 (section self.old)) }
         ensures refused { OnErr result (section self.new ≡ section self.old) }
     {
         let bytes = self.to_slice();
@@ -85,7 +90,7 @@ pub trait Reader: Clone {
     ///
     /// Refused `UnexpectedEof` where no byte is left.
     final fn read_i8(&mut self) -> Result<i8, Error>
-        ensures gives { Tells (λ x. (x, section self.new)) result (signed_byte_at (section self.old)) }
+        ensures gives { Exactly (λ x. (x, section self.new)) result (signed_byte_at (section self.old)) }
         ensures refused { OnErr result (section self.new ≡ section self.old) }
     {
         Ok(self.read_u8()?.cast_signed())
@@ -95,7 +100,7 @@ pub trait Reader: Clone {
     ///
     /// Refused `UnexpectedEof` where fewer are left.
     final fn read_u16(&mut self) -> Result<u16, Error>
-        ensures gives { Tells (λ x. (x, section self.new)) result (fixed_at 2 (section self.old)) }
+        ensures gives { Exactly (λ x. (x, section self.new)) result (fixed_at 2 (section self.old)) }
         ensures refused { OnErr result (section self.new ≡ section self.old) }
     {
         let bytes = self.to_slice();
@@ -114,7 +119,7 @@ pub trait Reader: Clone {
     ///
     /// Refused `UnexpectedEof` where fewer are left.
     final fn read_u32(&mut self) -> Result<u32, Error>
-        ensures gives { Tells (λ x. (x, section self.new)) result (fixed_at 4 (section self.old)) }
+        ensures gives { Exactly (λ x. (x, section self.new)) result (fixed_at 4 (section self.old)) }
         ensures refused { OnErr result (section self.new ≡ section self.old) }
     {
         let bytes = self.to_slice();
@@ -133,7 +138,7 @@ pub trait Reader: Clone {
     ///
     /// Refused `UnexpectedEof` where fewer are left.
     final fn read_u64(&mut self) -> Result<u64, Error>
-        ensures gives { Tells (λ x. (x, section self.new)) result (fixed_at 8 (section self.old)) }
+        ensures gives { Exactly (λ x. (x, section self.new)) result (fixed_at 8 (section self.old)) }
         ensures refused { OnErr result (section self.new ≡ section self.old) }
     {
         let bytes = self.to_slice();
@@ -153,7 +158,7 @@ pub trait Reader: Clone {
     /// Refused `UnexpectedEof` where its text isn't whole, and `BadLeb128` for more than ten bytes
     /// or a value past 64 bits.
     final fn read_uleb128(&mut self) -> Result<u64, Error>
-        ensures gives { Tells (λ x. (x, section self.new)) result (uleb128_at (section self.old)) }
+        ensures gives { Exactly (λ x. (x, section self.new)) result (uleb128_at (section self.old)) }
         ensures refused { OnErr result (section self.new ≡ section self.old) }
     {
         let (number, len) = leb128::unsigned(self.to_slice())?;
@@ -166,7 +171,7 @@ pub trait Reader: Clone {
     /// Refused `UnexpectedEof` where its text isn't whole, and `BadLeb128` for more than ten bytes
     /// or a value past signed 64 bits.
     final fn read_sleb128(&mut self) -> Result<i64, Error>
-        ensures gives { Tells (λ x. (x, section self.new)) result (sleb128_at (section self.old)) }
+        ensures gives { Exactly (λ x. (x, section self.new)) result (sleb128_at (section self.old)) }
         ensures refused { OnErr result (section self.new ≡ section self.old) }
     {
         let (number, len) = leb128::signed(self.to_slice())?;
@@ -179,7 +184,7 @@ pub trait Reader: Clone {
     /// Refused `UnsupportedAddressSize` for a size other than 1, 2, 4 and 8, and `UnexpectedEof`
     /// where fewer bytes are left.
     final fn read_address(&mut self, size: u8) -> Result<u64, Error>
-        ensures gives { Tells (λ x. (x, section self.new)) result (address_at size (section self.old)) }
+        ensures gives { Exactly (λ x. (x, section self.new)) result (address_at size (section self.old)) }
         ensures refused { OnErr result (section self.new ≡ section self.old) }
     {
         match size {
@@ -196,7 +201,7 @@ pub trait Reader: Clone {
     ///
     /// Refused `UnexpectedEof` where fewer bytes are left.
     final fn read_offset(&mut self, format: Format) -> Result<u64, Error>
-        ensures gives { Tells (λ x. (x, section self.new)) result (offset_at format (section self.old)) }
+        ensures gives { Exactly (λ x. (x, section self.new)) result (offset_at format (section self.old)) }
         ensures refused { OnErr result (section self.new ≡ section self.old) }
     {
         match format {
@@ -207,10 +212,10 @@ pub trait Reader: Clone {
 
     /// Reads a text that a zero byte ends, without that byte, which is passed over.
     ///
-    /// Refused `UnexpectedEof` where no zero byte is left, and `OutOfMemory`.
+    /// Refused `UnexpectedEof` where no zero byte is left, else `OutOfMemory` where the bytes are shared.
     #[tactic(auto, using(crate::proofs::Steps::null_terminated_when))]
     final fn read_null_terminated(&mut self) -> Result<Self, Error>
-        ensures gives { Gives (λ r. (section r, section self.new)) result
+        ensures gives { ExactlyUnlessOomFor shares is_ok (λ r. (section r, section self.new)) result
             (null_terminated_at (section self.old)) }
         ensures refused { OnErr result (section self.new ≡ section self.old) }
     {
@@ -242,7 +247,7 @@ pub trait Reader: Clone {
 /// are left. After a refusal the reader may stand anywhere.
 #[tactic(auto, unfolding(crate::specs::Number::initial_length_at, crate::specs::Number::long_length_at))]
 pub fn read_initial_length<R: Reader>(input: &mut R) -> Result<(u64, Format), Error>
-    ensures gives { Tells (λ x. (x, R.section input.new)) result
+    ensures gives { Exactly (λ x. (x, R.section input.new)) result
         (initial_length_at (R.section input.old)) }
 {
     let length = input.read_u32()?;

@@ -1,7 +1,7 @@
 //! Passing over the values of attributes.
 
 ghost use Rattle.std.specs.Prelude.{◌≡◌, ◌==◌};
-ghost use Rattle.gimli_read.specs.Reading.{Tells};
+ghost use Rattle.gimli_read.specs.Reading.{Exactly};
 ghost use Rattle.gimli_read.specs.Number.{skipped_at, null_terminated_at};
 ghost use Rattle.gimli_read.specs.Form.{rest_of, direct_at, value_at, attribute_at};
 ghost use Rattle.gimli_read.specs.declared.skip.Extent.TheVariants.{Fixed};
@@ -38,7 +38,7 @@ enum Extent {
 
 // The extent of an address.
 fn extent_of_address(encoding: Encoding) -> Result<Extent, Error>
-    ensures gives { Tells (λ x. x) result (address_extent encoding) }
+    ensures gives { Exactly (λ x. x) result (address_extent encoding) }
 {
     match encoding.address_size {
         1 | 2 | 4 | 8 => Ok(Extent::Fixed(u64::from(encoding.address_size))),
@@ -59,7 +59,7 @@ fn extent_of_offset(encoding: Encoding) -> Extent
 // The extent of the values of a form other than indirect and implicit_const.
 #[tactic(auto, unfolding(crate::specs::Spelling::spelling_of))]
 fn extent_of_form(encoding: Encoding, form: DwForm) -> Result<Extent, Error>
-    ensures gives { Tells (λ x. x) result (extent_at encoding form.0) }
+    ensures gives { Exactly (λ x. x) result (extent_at encoding form.0) }
 {
     match form {
         DwForm::DW_FORM_flag_present => Ok(Extent::Fixed(0)),
@@ -118,7 +118,7 @@ fn extent_of_form(encoding: Encoding, form: DwForm) -> Result<Extent, Error>
 // Passes over a text and its zero byte.
 #[tactic(auto, using(crate::proofs::SkipLemmas::rest_text))]
 fn pass_text<R: Reader>(input: &mut R) -> Result<(), Error>
-    ensures gives { Tells (λ _. R.section input.new) result
+    ensures gives { Exactly (λ _. R.section input.new) result
         (rest_of (null_terminated_at (R.section input.old))) }
 {
     match zero_of(input.to_slice()) {
@@ -130,7 +130,7 @@ fn pass_text<R: Reader>(input: &mut R) -> Result<(), Error>
 // Passes over an extent.
 #[tactic(auto, unfolding(crate::specs::Extent::behind_at))]
 fn pass<R: Reader>(input: &mut R, extent: Extent) -> Result<(), Error>
-    ensures gives { Tells (λ _. R.section input.new) result
+    ensures gives { Exactly (λ _. R.section input.new) result
         (behind_at extent (R.section input.old)) }
 {
     match extent {
@@ -166,7 +166,7 @@ fn pass<R: Reader>(input: &mut R, extent: Extent) -> Result<(), Error>
 // Passes over a value of any form but indirect and implicit_const.
 #[tactic(auto, using(crate::proofs::SkipLemmas::rest_direct))]
 fn skip_direct<R: Reader>(input: &mut R, encoding: Encoding, form: DwForm) -> Result<(), Error>
-    ensures gives { Tells (λ _. R.section input.new) result
+    ensures gives { Exactly (λ _. R.section input.new) result
         (rest_of (direct_at encoding form.0 (R.section input.old))) }
 {
     let extent = extent_of_form(encoding, form)?;
@@ -176,7 +176,7 @@ fn skip_direct<R: Reader>(input: &mut R, encoding: Encoding, form: DwForm) -> Re
 // Passes over a value of any form but implicit_const.
 #[tactic(auto, unfolding(crate::specs::Form::value_at))]
 fn skip_value<R: Reader>(input: &mut R, encoding: Encoding, form: DwForm) -> Result<(), Error>
-    ensures gives { Tells (λ _. R.section input.new) result
+    ensures gives { Exactly (λ _. R.section input.new) result
         (rest_of (value_at encoding form.0 (R.section input.old))) }
 {
     if form == DwForm::DW_FORM_indirect {
@@ -196,7 +196,7 @@ pub fn skip_attribute<R: Reader>(
     encoding: Encoding,
     specification: AttributeSpecification,
 ) -> Result<(), Error>
-    ensures gives { Tells (λ _. R.section input.new) result
+    ensures gives { Exactly (λ _. R.section input.new) result
         (rest_of (attribute_at encoding specification (R.section input.old))) }
 {
     if specification.form == DwForm::DW_FORM_implicit_const {

@@ -1,7 +1,8 @@
 //! The values of attributes, by form.
 
 ghost use Rattle.std.specs.Prelude.{◌≡◌, OnErr};
-ghost use Rattle.gimli_read.specs.Reading.{Tells, Gives};
+ghost use Rattle.gimli_read.specs.Reading.{Exactly, ExactlyUnlessOomFor};
+ghost use Rattle.gimli_read.specs.HeldBytes.{gives_bytes, gives_attribute_bytes};
 ghost use Rattle.gimli_read.specs.Number.{fixed_at};
 ghost use Rattle.gimli_read.specs.Form.{seen_value, direct_at, reference_at, form_at, value_at, ref_addr_at, seen_attribute, attribute_at, constant_of};
 
@@ -92,7 +93,7 @@ impl<R> AttributeValue<R> {
 
 // A number of three bytes.
 fn read_u24<R: Reader>(input: &mut R) -> Result<u32, Error>
-    ensures gives { Tells (λ x. (x, R.section input.new)) result (fixed_at 3 (R.section input.old)) }
+    ensures gives { Exactly (λ x. (x, R.section input.new)) result (fixed_at 3 (R.section input.old)) }
     ensures refused { OnErr result (R.section input.new ≡ R.section input.old) }
 {
     let bytes = input.to_slice();
@@ -109,7 +110,7 @@ fn read_u24<R: Reader>(input: &mut R) -> Result<u32, Error>
 
 // A number of sixteen bytes.
 fn read_u128<R: Reader>(input: &mut R) -> Result<u128, Error>
-    ensures gives { Tells (λ x. (x, R.section input.new)) result (fixed_at 16 (R.section input.old)) }
+    ensures gives { Exactly (λ x. (x, R.section input.new)) result (fixed_at 16 (R.section input.old)) }
     ensures refused { OnErr result (R.section input.new ≡ R.section input.old) }
 {
     let bytes = input.to_slice();
@@ -126,7 +127,7 @@ fn read_u128<R: Reader>(input: &mut R) -> Result<u128, Error>
 
 // A reference by section offset.
 fn read_ref_addr<R: Reader>(input: &mut R, encoding: Encoding) -> Result<u64, Error>
-    ensures gives { Tells (λ x. (x, R.section input.new)) result (ref_addr_at encoding (R.section input.old)) }
+    ensures gives { Exactly (λ x. (x, R.section input.new)) result (ref_addr_at encoding (R.section input.old)) }
     ensures refused { OnErr result (R.section input.new ≡ R.section input.old) }
 {
     if encoding.version == 2 {
@@ -143,7 +144,7 @@ fn read_reference<R: Reader>(
     encoding: Encoding,
     form: DwForm,
 ) -> Result<AttributeValue<R>, Error>
-    ensures gives { Gives (λ v. (seen_value R.section v, R.section input.new)) result
+    ensures gives { ExactlyUnlessOomFor R.shares gives_bytes (λ v. (seen_value R.section v, R.section input.new)) result
         (reference_at encoding form.0 (R.section input.old)) }
 {
     match form {
@@ -216,7 +217,7 @@ fn read_direct<R: Reader>(
     encoding: Encoding,
     form: DwForm,
 ) -> Result<AttributeValue<R>, Error>
-    ensures gives { Gives (λ v. (seen_value R.section v, R.section input.new)) result
+    ensures gives { ExactlyUnlessOomFor R.shares gives_bytes (λ v. (seen_value R.section v, R.section input.new)) result
         (direct_at encoding form.0 (R.section input.old)) }
 {
     match form {
@@ -264,7 +265,7 @@ fn read_direct<R: Reader>(
 
 // The form behind indirections.
 pub(crate) fn read_form<R: Reader>(input: &mut R) -> Result<DwForm, Error>
-    ensures gives { Tells (λ f. (f.0, R.section input.new)) result (form_at (R.section input.old)) }
+    ensures gives { Exactly (λ f. (f.0, R.section input.new)) result (form_at (R.section input.old)) }
 {
     let mut form = input.read_uleb128()?;
     while form == 0x16 {
@@ -276,15 +277,15 @@ pub(crate) fn read_form<R: Reader>(input: &mut R) -> Result<DwForm, Error>
 /// Reads the value of an attribute of any form but implicit_const (DWARF 5, section 7.5.5).
 ///
 /// Refused `UnknownForm` for another form, also behind indirections, the refusals of a number of the
-/// form, `UnexpectedEof` where bytes are missing, and `OutOfMemory`. After a refusal the reader may
-/// stand anywhere.
+/// form, `UnexpectedEof` where bytes are missing, and `OutOfMemory` for a block, an expression or a string
+/// at a reader that shares its bytes. After a refusal the reader may stand anywhere.
 #[tactic(auto, unfolding(crate::specs::Form::value_at))]
 pub fn read_value<R: Reader>(
     input: &mut R,
     encoding: Encoding,
     form: DwForm,
 ) -> Result<AttributeValue<R>, Error>
-    ensures gives { Gives (λ v. (seen_value R.section v, R.section input.new)) result
+    ensures gives { ExactlyUnlessOomFor R.shares gives_bytes (λ v. (seen_value R.section v, R.section input.new)) result
         (value_at encoding form.0 (R.section input.old)) }
 {
     if form.0 == 0x16 {
@@ -329,7 +330,7 @@ impl<R: Drop> Attribute<R> {
 /// Reads the value of an attribute by its specification (DWARF 5, section 7.5.5).
 ///
 /// Refused `UnknownForm` for a form that isn't known, the refusals of a number of the form,
-/// `UnexpectedEof` where bytes are missing, and `OutOfMemory`. After a refusal the reader may stand
+/// `UnexpectedEof` where bytes are missing, and `OutOfMemory` as `read_value` is. After a refusal the reader may stand
 /// anywhere.
 #[tactic(auto, unfolding(crate::specs::Form::attribute_at))]
 pub fn read_attribute<R: Reader>(
@@ -337,7 +338,7 @@ pub fn read_attribute<R: Reader>(
     encoding: Encoding,
     specification: AttributeSpecification,
 ) -> Result<Attribute<R>, Error>
-    ensures gives { Gives (λ a. (seen_attribute R.section a, R.section input.new)) result
+    ensures gives { ExactlyUnlessOomFor R.shares gives_attribute_bytes (λ a. (seen_attribute R.section a, R.section input.new)) result
         (attribute_at encoding specification (R.section input.old)) }
 {
     let name = specification.name;

@@ -2,7 +2,7 @@
 
 ghost use Rattle.std.specs.Prelude.{◌≡◌};
 ghost use Rattle.std.specs.Option.{option_map};
-ghost use Rattle.gimli_read.specs.Reading.{Gives};
+ghost use Rattle.gimli_read.specs.Reading.{ExactlyUnlessOom};
 ghost use Rattle.gimli_line.specs.Header.{seen_program};
 ghost use Rattle.line_speed.specs.Checksum.{with_row, with_rows, program_at, with_program, checksum};
 
@@ -27,7 +27,7 @@ fn with_row(sum: u64, row: LineRow) -> u64
 // A sum with the rows that are left of a program.
 #[tactic(auto, unfolding(crate::specs::Checksum::with_rows))]
 fn with_rows<R: Reader>(sum: u64, rows: &mut LineRows<R>) -> Result<u64, Error>
-    ensures gives { Gives (λ n. n) result (with_rows sum rows.old.left) }
+    ensures gives { ExactlyUnlessOom (λ n. n) result (with_rows sum rows.old.left) }
 {
     let mut sum = sum;
     while let Some(row) = rows.next_row()? {
@@ -42,7 +42,7 @@ fn next_program<R: Reader>(
     alloc: Global,
     rest: &mut R,
 ) -> Result<Option<IncompleteLineProgram<R>>, Error>
-    ensures gives { Gives (λ p. (option_map (seen_program R.section) p, R.section rest.new)) result
+    ensures gives { ExactlyUnlessOom (λ p. (option_map (seen_program R.section) p, R.section rest.new)) result
         (program_at (R.section rest.old)) }
 {
     if rest.is_empty() {
@@ -57,7 +57,7 @@ fn next_program<R: Reader>(
 // A sum with the rows of a program.
 #[tactic(auto, unfolding(crate::specs::Checksum::with_program))]
 fn with_program<R: Reader>(sum: u64, program: &IncompleteLineProgram<R>) -> Result<u64, Error>
-    ensures gives { Gives (λ n. n) result (with_program sum (seen_program R.section program.now)) }
+    ensures gives { ExactlyUnlessOom (λ n. n) result (with_program sum (seen_program R.section program.now)) }
 {
     let mut rows = program.rows()?;
     with_rows(sum, &mut rows)
@@ -67,7 +67,7 @@ fn with_program<R: Reader>(sum: u64, program: &IncompleteLineProgram<R>) -> Resu
 ///
 /// Refused as `read_line_program`, `rows` and `next_row` are.
 pub fn checksum_of<R: Reader>(alloc: Global, section: R) -> Result<u64, Error>
-    ensures gives { Gives (λ n. n) result (checksum (R.section section)) }
+    ensures gives { ExactlyUnlessOom (λ n. n) result (checksum (R.section section)) }
 {
     let mut rest = section;
     let mut sum = 0;

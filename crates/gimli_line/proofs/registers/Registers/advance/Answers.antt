@@ -1,6 +1,6 @@
 use Rattle.std.proofs.Common.{Result, subst, arith}
 use Rattle.gimli_read.specs.declared.error.Error.{Error}
-use Rattle.gimli_read.specs.Reading.{Tells}
+use Rattle.gimli_read.specs.Reading.{Exactly}
 use Rattle.gimli_line.specs.declared.registers.Registers.{Registers}
 use Rattle.gimli_line.proofs.Limits.{advanced_too_far, advanced_is}
 use Rattle.gimli_line.proofs.registers.Registers.advance.Goals as goal
@@ -12,7 +12,7 @@ returns-in-None c = record {
 
 pub returns-in-Some : goal.returns-in-Some
 returns-in-Some c =
-    let P : Result Registers Error → Type 0 = λ given. Tells (λ _. c.add.new.self) c.add.result given in
+    let P : Result Registers Error → Type 0 = λ given. Exactly (λ _. c.add.new.self) c.add.result given in
     record {
       gives = subst P (advanced_is c.args.machine.now.encoding c.args.operations c.instructions-full.result.0 c.from.result c.in-Some.bytes c.instructions-full.result.1 c.args.self.now c.if-self.false c.instructions-full.ensures.full c.from.ensures c.in-Some.ensures.1 c.instructions-full.ensures.left) c.add.ensures.gives;
     }

@@ -1,0 +1,26 @@
+-- Whether a value holds bytes of its section, which a reader that shares them counts (DWARF 5, section 7.5.5: a
+-- block, an expression and a string are bytes; every other value is a number).
+use Rattle.std.specs.Prelude.{Bool, true, false, Result, Ok, Err}
+use Rattle.gimli_read.specs.declared.error.Error.{Error}
+use Rattle.gimli_read.specs.declared.value.Attribute.{Attribute}
+use Rattle.gimli_read.specs.declared.value.AttributeValue.{AttributeValue}
+use Rattle.gimli_read.specs.declared.value.AttributeValue.TheVariants as values
+use Rattle.gimli_read.specs.Section.{Section}
+use Rattle.gimli_read.specs.Reading.{Reading}
+
+-- whether the value holds bytes
+abbrev pub holds_bytes : {R : Type 0} → AttributeValue R → Bool
+holds_bytes (values.Block x) = true
+holds_bytes (values.Exprloc x) = true
+holds_bytes (values.String x) = true
+holds_bytes _ = false
+
+-- whether a reading gives a value that holds bytes
+abbrev pub gives_bytes : Reading (AttributeValue Section) → Bool
+gives_bytes (Ok x) = holds_bytes x.0
+gives_bytes (Err e) = false
+
+-- whether a reading gives an attribute whose value holds bytes
+abbrev pub gives_attribute_bytes : Reading (Attribute Section) → Bool
+gives_attribute_bytes (Ok x) = holds_bytes x.0.value
+gives_attribute_bytes (Err e) = false

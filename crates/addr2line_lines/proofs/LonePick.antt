@@ -4,7 +4,8 @@ use Rattle.std.specs.List.{filter, AllByRecursion}
 use Rattle.std.specs.Option.{option_and_then}
 use Rattle.std.proofs.lemmas.Bool.Decides.{nat_tests}
 use Rattle.std.proofs.lemmas.List.Elements.{recursion_from_All}
-use Rattle.addr2line_lines.specs.Pick.{last, if_past, IsBeside, LoneIsPicked}
+use Rattle.gimli_read.specs.Topmost.{last}
+use Rattle.addr2line_lines.specs.Pick.{if_past, IsBeside, LoneIsPicked}
 use Rattle.addr2line_lines.proofs.PickLemmas.{In, In-passes, All-passing, IsBefore, same_ends, counting_is}
 
 module _ {X : Type 0} where

@@ -3,7 +3,8 @@ use Rattle.std.proofs.Common.{ℕ, ◌≡◌, ◌<◌, ◌≤◌, ◌⊎◌, Boo
 use Rattle.std.specs.List.{filter, All}
 use Rattle.std.proofs.lemmas.List.Elements.{All-head, All-tail, All-cons, All-nil, filter_agree}
 use Rattle.std.proofs.lemmas.Bool.Decides.{nat_tests}
-use Rattle.addr2line_lines.specs.Pick.{greatest, topmost, last, beginning_by, counting}
+use Rattle.gimli_read.specs.Topmost.{greatest, topmost, last}
+use Rattle.addr2line_lines.specs.Pick.{beginning_by, counting}
 
 module _ {X : Type 0} where
   -- x is among the elements

@@ -6,7 +6,7 @@ use Rattle.std.specs.Ordering.{is_lt, ordering_then}
 use Rattle.std.proofs.lemmas.Bool.Decides.{nat_tests}
 use Rattle.std.proofs.lemmas.List.Elements.{All-from_recursion}
 use Rattle.addr2line_lines.specs.InOrder.{begins_sooner, IsInOrder}
-use Rattle.addr2line_lines.specs.Pick.{last}
+use Rattle.gimli_read.specs.Topmost.{last}
 
 -- the last element stands before the length
 pub last_is : {X : Type 0} (xs : List X) → last xs ≡ slice_get xs (length xs - 1)

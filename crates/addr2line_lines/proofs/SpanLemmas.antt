@@ -8,7 +8,8 @@ use Rattle.std.proofs.lemmas.Bool.Decides.{nat_tests}
 use Rattle.addr2line_lines.specs.declared.row.Row.{Row}
 use Rattle.addr2line_lines.specs.Sequences.{Sequence, start_of, end_of}
 use Rattle.addr2line_lines.specs.Rises.{Climbs, IsRising, StartsAt}
-use Rattle.addr2line_lines.specs.Pick.{last, beginning_by, if_past}
+use Rattle.gimli_read.specs.Topmost.{last}
+use Rattle.addr2line_lines.specs.Pick.{beginning_by, if_past}
 use Rattle.addr2line_lines.specs.Spans.{spanned, spans, holds, address_of, row_in, row_at, EachAddressHasRow}
 use Rattle.addr2line_lines.specs.Kept.{IsKept}
 use Rattle.addr2line_lines.proofs.PickLemmas.{In-last, In-filter}

@@ -3,21 +3,7 @@
 -- greatest end, of these the last listed; it is picked where it holds the probe, else none is.
 use Rattle.std.specs.Prelude.{ℕ, ◌≡◌, ◌<◌, ◌≤◌, ◌⊎◌, List, [], ◌∷◌, Option, Some, None, filter, max, nat_le, nat_lt, ◌==◌, if◌then◌else◌, option_and_then}
 use Rattle.std.specs.List.{All, Contains}
-
--- the greatest number of an element, 0 where there is none
-abbrev pub greatest : {X : Type 0} → (X → ℕ) → List X → ℕ
-greatest f [] = 0
-greatest f (x ∷ xs) = max (f x) (greatest f xs)
-
--- the elements with the greatest number
-abbrev pub topmost : {X : Type 0} → (X → ℕ) → List X → List X
-topmost f xs = filter (λ x. f x == greatest f xs) xs
-
--- the last one listed
-abbrev pub last : {X : Type 0} → List X → Option X
-last [] = None
-last (x ∷ []) = Some x
-last (x ∷ y ∷ ys) = last (y ∷ ys)
+use Rattle.gimli_read.specs.Topmost.{topmost, last}
 
 -- those that begin at or before the probe
 abbrev pub beginning_by : {X : Type 0} → (X → ℕ) → ℕ → List X → List X

@@ -5,7 +5,8 @@ ghost use Rattle.std.specs.Option.{option_copied};
 ghost use Rattle.std.specs.List.Sorted.{IsNonDecreasingBy};
 ghost use Rattle.addr2line_lines.specs.Sequences.{start_of, end_of};
 ghost use Rattle.addr2line_lines.specs.Rises.{IsRising};
-ghost use Rattle.addr2line_lines.specs.Pick.{last, beginning_by, if_past};
+ghost use Rattle.gimli_read.specs.Topmost.{last};
+ghost use Rattle.addr2line_lines.specs.Pick.{beginning_by, if_past};
 ghost use Rattle.addr2line_lines.specs.Spans.{address_of, row_in, EachAddressHasRow};
 
 use crate::row::Row;

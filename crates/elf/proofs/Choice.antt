@@ -16,7 +16,8 @@ use Rattle.elf.specs.declared.layout.Class.{Class}
 use Rattle.elf.specs.declared.section.SectionHeader.{SectionHeader}
 use Rattle.elf.specs.Layout.{layout_of}
 use Rattle.elf.specs.Held.{table_at}
-use Rattle.elf.specs.Symbols.{greatest, topmost, last, preference, chosen, strings_number, symbol_bytes, taken_in}
+use Rattle.gimli_read.specs.Topmost.{greatest, topmost, last}
+use Rattle.elf.specs.Symbols.{preference, chosen, strings_number, symbol_bytes, taken_in}
 use Rattle.elf.specs.Table.{sooner, IsTable, HasSymbols, IsBelow, IsAbove}
 
 module _ {X : Type 0} where

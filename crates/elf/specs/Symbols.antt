@@ -10,6 +10,7 @@ use Rattle.std.specs.List.{find}
 use Rattle.std.specs.Str.{is_utf8}
 use Rattle.std.specs.Option.{option_map_or, option_or}
 use Rattle.gimli_read.specs.declared.endian.RunTimeEndian.{RunTimeEndian}
+use Rattle.gimli_read.specs.Topmost.{topmost, last}
 use Rattle.elf.specs.declared.layout.Layout.{Layout}
 use Rattle.elf.specs.declared.section.SectionHeader.{SectionHeader}
 use Rattle.elf.specs.declared.symbol.Entry.{Entry}
@@ -71,21 +72,6 @@ taken_in endian l strings bytes = filter (is_taken strings) (entries_in endian l
 -- the symbols of a file, in the order of its table
 abbrev pub symbols_of : View → List Entry
 symbols_of v = taken_in v.endian (layout_of v.class) (strings_of v) (symbol_bytes v.bytes v.sections)
-
--- the greatest f of an element, 0 where there is none
-abbrev pub greatest : {X : Type 0} → (X → ℕ) → List X → ℕ
-greatest f [] = 0
-greatest f (x ∷ xs) = max (f x) (greatest f xs)
-
--- the elements with the greatest f
-abbrev pub topmost : {X : Type 0} → (X → ℕ) → List X → List X
-topmost f xs = filter (λ x. f x == greatest f xs) xs
-
--- the last element
-abbrev pub last : {X : Type 0} → List X → Option X
-last [] = None
-last (x ∷ []) = Some x
-last (x ∷ y ∷ ys) = last (y ∷ ys)
 
 -- where a symbol stands among those at its address: by its type, then by its bind
 abbrev pub preference : Entry → ℕ

@@ -1,5 +1,6 @@
 pub mod Section
 pub mod Reading
+pub mod Topmost
 pub mod Number
 pub mod Leb128
 pub mod Text

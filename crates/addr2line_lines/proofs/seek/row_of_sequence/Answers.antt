@@ -2,7 +2,8 @@ use Rattle.std.proofs.Common.{◌≡◌, ◌<◌, List, ◌∙◌, ap, sym, subs
 use Rattle.std.specs.List.Sorted.{IsNonDecreasingBy}
 use Rattle.addr2line_lines.specs.declared.row.Row.{Row}
 use Rattle.addr2line_lines.specs.Sequences.{Sequence}
-use Rattle.addr2line_lines.specs.Pick.{last, beginning_by}
+use Rattle.gimli_read.specs.Topmost.{last}
+use Rattle.addr2line_lines.specs.Pick.{beginning_by}
 use Rattle.addr2line_lines.specs.Spans.{address_of}
 use Rattle.addr2line_lines.proofs.SpanLemmas.{rows_rise, row_within}
 use Rattle.addr2line_lines.proofs.seek.row_of_sequence.Goals as goal

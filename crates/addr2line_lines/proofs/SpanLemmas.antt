@@ -1,5 +1,6 @@
 -- The row whose span holds a probe (on specs/Spans.antt).
-use Rattle.std.proofs.Common.{ℕ, ◌≡◌, ◌<◌, ◌≤◌, inl, inr, Bool, true, false, cond, ◌&&◌, List, [], ◌∷◌, Option, Some, None, nat_le, nat_lt, arith, ◌∙◌, ap, sym, refl}
+use Rattle.std.proofs.Math.Nat.{min-eq_left, min-eq_right}
+use Rattle.std.proofs.Common.{ℕ, min, map, filter, ◌≡◌, ◌<◌, ◌≤◌, inl, inr, Bool, true, false, cond, ◌&&◌, List, [], ◌∷◌, Option, Some, None, nat_le, nat_lt, arith, ◌∙◌, ap, sym, refl}
 use Rattle.std.specs.List.{find, AllByRecursion}
 use Rattle.std.specs.Option.{option_map, option_and_then}
 use Rattle.std.specs.List.Sorted.{IsNonDecreasingBy}
@@ -10,18 +11,31 @@ use Rattle.addr2line_lines.specs.Sequences.{Sequence, start_of, end_of}
 use Rattle.addr2line_lines.specs.Rises.{Climbs, IsRising, StartsAt}
 use Rattle.gimli_read.specs.Topmost.{last}
 use Rattle.addr2line_lines.specs.Pick.{beginning_by, if_past}
-use Rattle.addr2line_lines.specs.Spans.{spanned, spans, holds, address_of, row_in, row_at, EachAddressHasRow}
+use Rattle.addr2line_lines.specs.Spans.{Span, spanned, least_of, span_end, spans, holds, address_of, row_in, row_at, EachAddressHasRow}
 use Rattle.addr2line_lines.specs.Kept.{IsKept}
 use Rattle.addr2line_lines.proofs.PickLemmas.{In-last, In-filter}
 use Rattle.addr2line_lines.proofs.OrderLemmas.{All-in}
 use Rattle.addr2line_lines.proofs.OrderPick.{counting_ordered}
 use Rattle.addr2line_lines.proofs.SeekLemmas.{Up, non_decreasing}
 
+-- a row with the end of its span
+abbrev spanning : ℕ → List Row → Row → Span
+spanning end rows r = record { row = r; end = span_end end rows r }
+
+-- each row's span up to the next listed row, the last one's up to the end: the same where rows climb
+abbrev next_spans : ℕ → List Row → List Span
+next_spans end [] = []
+next_spans end (r ∷ []) = record { row = r; end = end } ∷ []
+next_spans end (r ∷ s ∷ rows) = record { row = r; end = s.address } ∷ next_spans end (s ∷ rows)
+
 below : (x y : ℕ) → x < y → nat_lt x y ≡ true
 below x y l = grind (arith, nat_tests)
 
 above : (x y : ℕ) → y < x → nat_le x y ≡ false
 above x y l = grind (arith, nat_tests)
+
+not_below : (x y : ℕ) → y ≤ x → nat_lt x y ≡ false
+not_below x y l = grind (arith, nat_tests)
 
 reached : (x y : ℕ) → x ≤ y → nat_le x y ≡ true
 reached x y l = grind (arith, nat_tests)
@@ -35,45 +49,96 @@ none_by probe m [] l all = refl
 none_by probe m (r ∷ rows) l all =
     ap (λ b. cond b (r ∷ beginning_by address_of probe rows) (beginning_by address_of probe rows)) (above r.address probe (let h = all.0 in omega arith)) ∙ none_by probe m rows l all.1
 
+-- a row at or below another one doesn't end its span
+low_row : (end : ℕ) (x r : Row) (rows : List Row) → x.address ≤ r.address → span_end end (x ∷ rows) r ≡ span_end end rows r
+low_row end x r rows l =
+    let more = filter (λ a. nat_lt r.address a) (map address_of rows) in
+    ap (λ b. least_of end (cond b (x.address ∷ more) more)) (not_below r.address x.address l)
+
+low_rows : (end : ℕ) (x : Row) (rows ss : List Row) → AllByRecursion (λ (s : Row). x.address < s.address) ss → map (spanning end (x ∷ rows)) ss ≡ map (spanning end rows) ss
+low_rows end x rows [] all = refl
+low_rows end x rows (s ∷ ss) all =
+    let first : spanning end (x ∷ rows) s ≡ spanning end rows s = ap (λ e. record { row = s; end = e }) (low_row end x s rows (let h = all.0 in omega arith)) in
+    cons_is _ _ _ _ first (low_rows end x rows ss all.1)
+  where
+    cons_is : (a b : Span) (xs ys : List Span) → a ≡ b → xs ≡ ys → a ∷ xs ≡ b ∷ ys
+    cons_is a b xs ys g h = cc
+
+-- rows above an address all end its span
+all_greater : (m : ℕ) (rows : List Row) → AllByRecursion (λ (s : Row). m < s.address) rows → filter (λ a. nat_lt m a) (map address_of rows) ≡ map address_of rows
+all_greater m [] all = refl
+all_greater m (r ∷ rows) all =
+    let more = filter (λ a. nat_lt m a) (map address_of rows) in
+    ap (λ b. cond b (r.address ∷ more) more) (below m r.address all.0) ∙ ap (λ xs. r.address ∷ xs) (all_greater m rows all.1)
+
+least_above : (m end : ℕ) (rows : List Row) → m ≤ end → AllByRecursion (λ (s : Row). m < s.address) rows → m ≤ least_of end (map address_of rows)
+least_above m end [] l all = l
+least_above m end (r ∷ rows) l all = min_above m r.address _ (let h = all.0 in omega arith) (least_above m end rows l all.1)
+  where
+    min_above : (m a b : ℕ) → m ≤ a → m ≤ b → m ≤ min a b
+    min_above m a b g h = elim (cases_lt a b) [
+      | inl lt ↦ let e : min a b ≡ a = min-eq_left (omega arith) in omega arith
+      | inr ge ↦ let e : min a b ≡ b = min-eq_right ge in omega arith
+    ]
+
+first_end : (end : ℕ) (r : Row) (rows : List Row) → Climbs end (r ∷ rows) → span_end end (r ∷ rows) r ≡ least_of end (map address_of rows)
+first_end end r rows up = low_row end r r rows (omega arith) ∙ ap (least_of end) (all_greater r.address rows up.1.0)
+
+-- the spans of rows that climb
+spans_next : (end : ℕ) (rows : List Row) → Climbs end rows → spans end rows ≡ next_spans end rows
+spans_next end [] up = refl
+spans_next end (r ∷ []) up = ap (λ e. record { row = r; end = e } ∷ []) (first_end end r [] up)
+spans_next end (r ∷ s ∷ rows) up =
+    let next : least_of end (map address_of (s ∷ rows)) ≡ s.address = min-eq_left (least_above s.address end rows up.1.1.0 up.1.1.1.0) in
+    let first : span_end end (r ∷ s ∷ rows) r ≡ s.address = first_end end r (s ∷ rows) up ∙ next in
+    let others : map (spanning end (r ∷ s ∷ rows)) (s ∷ rows) ≡ next_spans end (s ∷ rows) = low_rows end r (s ∷ rows) (s ∷ rows) up.1.0 ∙ spans_next end (s ∷ rows) up.1.1 in
+    cons_is _ _ _ _ first others
+  where
+    cons_is : (a b : ℕ) (xs ys : List Span) → a ≡ b → xs ≡ ys → record { row = r; end = a } ∷ xs ≡ record { row = r; end = b } ∷ ys
+    cons_is a b xs ys g h = cc
+
 -- the row whose span holds a probe before the end is the last one by the probe
-pub span_last : (probe end : ℕ) (rows : List Row) → Climbs end rows → probe < end → option_map spanned (find (holds probe) (spans end rows)) ≡ last (beginning_by address_of probe rows)
-span_last probe end [] up l = refl
-span_last probe end (r ∷ []) up l =
+next_last : (probe end : ℕ) (rows : List Row) → Climbs end rows → probe < end → option_map spanned (find (holds probe) (next_spans end rows)) ≡ last (beginning_by address_of probe rows)
+next_last probe end [] up l = refl
+next_last probe end (r ∷ []) up l =
     ap (λ b. option_map spanned (cond (nat_le r.address probe && b) (Some (record { row = r; end = end })) None)) (below probe end l) ∙ by_cases (nat_le r.address probe)
   where
     by_cases : (b : Bool) → option_map spanned (cond (b && true) (Some (record { row = r; end = end })) None) ≡ last (cond b (r ∷ []) [])
     by_cases true = refl
     by_cases false = refl
-span_last probe end (r ∷ s ∷ rows) up l =
+next_last probe end (r ∷ s ∷ rows) up l =
     elim (cases_lt probe s.address) [
-      | inl lt ↦ before lt (span_last probe end (s ∷ rows) up.1.1 l)
-      | inr ge ↦ after ge (span_last probe end (s ∷ rows) up.1.1 l)
+      | inl lt ↦ before lt (next_last probe end (s ∷ rows) up.1.1 l)
+      | inr ge ↦ after ge (next_last probe end (s ∷ rows) up.1.1 l)
     ]
   where
     -- the next row is past the probe, and so are all later ones
-    before : probe < s.address → option_map spanned (find (holds probe) (spans end (s ∷ rows))) ≡ last (beginning_by address_of probe (s ∷ rows))
-        → option_map spanned (find (holds probe) (spans end (r ∷ s ∷ rows))) ≡ last (beginning_by address_of probe (r ∷ s ∷ rows))
+    before : probe < s.address → option_map spanned (find (holds probe) (next_spans end (s ∷ rows))) ≡ last (beginning_by address_of probe (s ∷ rows))
+        → option_map spanned (find (holds probe) (next_spans end (r ∷ s ∷ rows))) ≡ last (beginning_by address_of probe (r ∷ s ∷ rows))
     before lt ih =
         let none : beginning_by address_of probe (s ∷ rows) ≡ [] =
         ap (λ b. cond b (s ∷ beginning_by address_of probe rows) (beginning_by address_of probe rows)) (above s.address probe lt) ∙ none_by probe s.address rows lt up.1.1.1.0 in
-        ap (λ b. option_map spanned (cond (nat_le r.address probe && b) (Some (record { row = r; end = s.address })) (find (holds probe) (spans end (s ∷ rows))))) (below probe s.address lt)
+        ap (λ b. option_map spanned (cond (nat_le r.address probe && b) (Some (record { row = r; end = s.address })) (find (holds probe) (next_spans end (s ∷ rows))))) (below probe s.address lt)
         ∙ by_cases (nat_le r.address probe) none (ih ∙ ap last none)
       where
-        by_cases : (b : Bool) → beginning_by address_of probe (s ∷ rows) ≡ [] → option_map spanned (find (holds probe) (spans end (s ∷ rows))) ≡ None
-            → option_map spanned (cond (b && true) (Some (record { row = r; end = s.address })) (find (holds probe) (spans end (s ∷ rows)))) ≡ last (cond b (r ∷ beginning_by address_of probe (s ∷ rows)) (beginning_by address_of probe (s ∷ rows)))
+        by_cases : (b : Bool) → beginning_by address_of probe (s ∷ rows) ≡ [] → option_map spanned (find (holds probe) (next_spans end (s ∷ rows))) ≡ None
+            → option_map spanned (cond (b && true) (Some (record { row = r; end = s.address })) (find (holds probe) (next_spans end (s ∷ rows)))) ≡ last (cond b (r ∷ beginning_by address_of probe (s ∷ rows)) (beginning_by address_of probe (s ∷ rows)))
         by_cases true none found = sym (ap (λ rs. last (r ∷ rs)) none)
         by_cases false none found = found ∙ sym (ap last none)
 
     -- the next row is by the probe, and so is this one
-    after : s.address ≤ probe → option_map spanned (find (holds probe) (spans end (s ∷ rows))) ≡ last (beginning_by address_of probe (s ∷ rows))
-        → option_map spanned (find (holds probe) (spans end (r ∷ s ∷ rows))) ≡ last (beginning_by address_of probe (r ∷ s ∷ rows))
+    after : s.address ≤ probe → option_map spanned (find (holds probe) (next_spans end (s ∷ rows))) ≡ last (beginning_by address_of probe (s ∷ rows))
+        → option_map spanned (find (holds probe) (next_spans end (r ∷ s ∷ rows))) ≡ last (beginning_by address_of probe (r ∷ s ∷ rows))
     after ge ih =
         let here : beginning_by address_of probe (s ∷ rows) ≡ s ∷ beginning_by address_of probe rows =
         ap (λ b. cond b (s ∷ beginning_by address_of probe rows) (beginning_by address_of probe rows)) (reached s.address probe ge) in
         let low : r.address ≤ probe = (let h = up.1.0.0 in omega arith) in
-        ap (λ b. option_map spanned (cond b (Some (record { row = r; end = s.address })) (find (holds probe) (spans end (s ∷ rows))))) (ended r.address s.address probe ge)
+        ap (λ b. option_map spanned (cond b (Some (record { row = r; end = s.address })) (find (holds probe) (next_spans end (s ∷ rows))))) (ended r.address s.address probe ge)
         ∙ ih ∙ ap last here ∙ sym (ap (λ rs. last (r ∷ rs)) here)
         ∙ sym (ap (λ b. last (cond b (r ∷ beginning_by address_of probe (s ∷ rows)) (beginning_by address_of probe (s ∷ rows)))) (reached r.address probe low))
+
+pub span_last : (probe end : ℕ) (rows : List Row) → Climbs end rows → probe < end → option_map spanned (find (holds probe) (spans end rows)) ≡ last (beginning_by address_of probe rows)
+span_last probe end rows up l = ap (λ ss. option_map spanned (find (holds probe) ss)) (spans_next end rows up) ∙ next_last probe end rows up l
 
 -- rows that climb do not fall
 up_of : (end : ℕ) (rows : List Row) → Climbs end rows → Up address_of rows

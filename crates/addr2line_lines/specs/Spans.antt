@@ -1,6 +1,8 @@
--- Which row stands for an address (DWARF 5, section 6.2.2: a row stands for the addresses up to the next row's).
+-- Which row an address belongs to (DWARF 5, section 6.2.2: a row describes the code from its address up to the next
+-- row's).
+-- Own: a row's span runs up to the next greater address of a row of its sequence, or to the sequence's end.
 -- Own: of overlapping sequences the picked one counts.
-use Rattle.std.specs.Prelude.{ℕ, ◌≡◌, ◌<◌, ◌≤◌, Bool, ◌&&◌, List, [], ◌∷◌, Option, Some, find, option_and_then, option_map, nat_le, nat_lt}
+use Rattle.std.specs.Prelude.{ℕ, ◌≡◌, ◌<◌, ◌≤◌, Bool, ◌&&◌, List, [], ◌∷◌, Option, Some, filter, find, map, min, option_and_then, option_map, nat_le, nat_lt}
 use Rattle.addr2line_lines.specs.declared.row.Row.{Row}
 use Rattle.addr2line_lines.specs.Sequences.{Sequence, start_of, end_of}
 use Rattle.addr2line_lines.specs.Pick.{pick}
@@ -19,11 +21,18 @@ pub record Span : Type 0 where
 abbrev pub spanned : Span → Row
 spanned s = s.row
 
--- each row's span runs to the next row's address, the last one's to the end
+-- the least of these numbers and of n
+abbrev pub least_of : ℕ → List ℕ → ℕ
+least_of n [] = n
+least_of n (m ∷ ms) = min m (least_of n ms)
+
+-- where the span of a row ends: at the next greater address of the rows, or at the end of their sequence
+abbrev pub span_end : ℕ → List Row → Row → ℕ
+span_end end rows r = least_of end (filter (λ a. nat_lt r.address a) (map address_of rows))
+
+-- the rows with the ends of their spans
 abbrev pub spans : ℕ → List Row → List Span
-spans end [] = []
-spans end (r ∷ []) = record { row = r; end = end } ∷ []
-spans end (r ∷ s ∷ rows) = record { row = r; end = s.address } ∷ spans end (s ∷ rows)
+spans end rows = map (λ r. record { row = r; end = span_end end rows r }) rows
 
 -- the probe is one of the span's addresses
 abbrev pub holds : ℕ → Span → Bool

@@ -6,7 +6,7 @@ use Rattle.gimli_line.proofs.tables.read_values.Goals as goal
 
 pub returns-in_err-value : goal.returns-in_err-value
 returns-in_err-value g c = let p = err_from_is_err_and c.from_residual.result c.from_residual.ensures.1 in rw (p.1, p.2) (record {
-  gives = λ n. sym c.loop-format.invariant ∙ values_fault c.args.encoding c.args.formats.now c.loop-format.format-index _ (seen_entry g.R.Reader.section c.loop-format.entry) _ _ (omega arith) (c.in_err-value.ensures.gives n);
+  gives = λ n. sym c.loop-format.invariant ∙ values_fault c.args.encoding c.args.formats.now c.loop-format.format-index _ (seen_entry g.R.Reader.section c.loop-format.entry) _ _ (omega arith) (c.in_err-value.ensures.gives (λ _ _. n));
 })
 
 pub loop-format-preserved : goal.loop-format-preserved

@@ -1,7 +1,7 @@
 pub mod PickLemmas
 pub mod OrderLemmas
 pub mod OrderPick
-pub mod StretchLemmas
+pub mod RowGroupLemmas
 pub mod RiseLemmas
 pub mod SeekLemmas
 pub mod SpanLemmas

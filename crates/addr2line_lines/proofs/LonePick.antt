@@ -5,7 +5,7 @@ use Rattle.std.specs.Option.{option_and_then}
 use Rattle.std.proofs.lemmas.Bool.Decides.{nat_tests}
 use Rattle.std.proofs.lemmas.List.Elements.{recursion_from_All}
 use Rattle.gimli_read.specs.Topmost.{last}
-use Rattle.addr2line_lines.specs.Pick.{if_past, IsBeside, LoneIsPicked}
+use Rattle.addr2line_lines.specs.Pick.{if_past, IsDisjoint, LoneIsPicked}
 use Rattle.addr2line_lines.proofs.PickLemmas.{In, In-passes, All-passing, IsBefore, same_ends, counting_is}
 
 module _ {X : Type 0} where
@@ -25,7 +25,7 @@ module _ {X : Type 0} where
 module _ {X : Type 0} (begin end : X → ℕ) where
   -- a range is z, or lies beside it
   abbrev ItOrBeside : X → X → Type 0
-  ItOrBeside z x = (x ≡ z) ⊎ IsBeside begin end z x
+  ItOrBeside z x = (x ≡ z) ⊎ IsDisjoint begin end z x
 
   not_other : (z x : X) → begin z < end z → same_ends begin end z x ≡ true → ItOrBeside z x → x ≡ z
   not_other z x some t h =

@@ -9,7 +9,7 @@ use Rattle.std.proofs.lemmas.Bool.Decides.{nat_tests}
 use Rattle.std.proofs.lemmas.List.Elements.{All-from_recursion, filter_agree}
 use Rattle.addr2line_lines.specs.InOrder.{in_order, begins_sooner, IsInOrder, OrderIsFree}
 use Rattle.gimli_read.specs.Topmost.{last}
-use Rattle.addr2line_lines.specs.Pick.{beginning_by, counting, if_past}
+use Rattle.addr2line_lines.specs.Pick.{at_or_below, candidate, if_past}
 use Rattle.addr2line_lines.proofs.PickLemmas.{In-filter, In-last, IsBefore, same_ends, last-cond, beginning_none, counting_is, counting_none}
 use Rattle.addr2line_lines.proofs.OrderLemmas.{in_order_all_back, in_order_ordered, in_order_ties, begins_order, All-in}
 
@@ -39,7 +39,7 @@ module _ {X : Type 0} (begin end : X → ℕ) where
     before : AllByRecursion (λ y. (probe < begin y) ⊎ IsBefore begin end it y) ys
     low : begin it ≤ probe
     is : last (filter (same_ends begin end it) ys) ≡ Some it
-    at : last (beginning_by begin probe ys) ≡ Some it
+    at : last (at_or_below begin probe ys) ≡ Some it
 
   none_same : (probe : ℕ) (z : X) (ys : List X) → begin z ≤ probe → PastAll probe ys → filter (same_ends begin end z) ys ≡ []
   none_same probe z [] low all = refl
@@ -53,7 +53,7 @@ module _ {X : Type 0} (begin end : X → ℕ) where
   past_or_before probe z [] all = tt
   past_or_before probe z (y ∷ ys) all = (inl all.0, past_or_before probe z ys all.1)
 
-  none_by : (probe : ℕ) (ys : List X) → PastAll probe ys → beginning_by begin probe ys ≡ []
+  none_by : (probe : ℕ) (ys : List X) → PastAll probe ys → at_or_below begin probe ys ≡ []
   none_by probe ys past = beginning_none begin end probe ys (All-from_recursion (λ (y : X). probe < begin y) ys past)
 
   -- the first range counts where all later ones are past the probe
@@ -63,7 +63,7 @@ module _ {X : Type 0} (begin end : X → ℕ) where
     before = (inr (inr (refl, omega arith)), past_or_before probe y ys past);
     low = le;
     is = ap (λ b. last (cond b (y ∷ filter (same_ends begin end y) ys) (filter (same_ends begin end y) ys))) (itself (begin y) (end y)) ∙ ap (λ zs. last (y ∷ zs)) (none_same probe y ys le past);
-    at = ap (λ b. last (cond b (y ∷ beginning_by begin probe ys) (beginning_by begin probe ys))) (reached (begin y) probe le) ∙ ap (λ zs. last (y ∷ zs)) (none_by probe ys past);
+    at = ap (λ b. last (cond b (y ∷ at_or_below begin probe ys) (at_or_below begin probe ys))) (reached (begin y) probe le) ∙ ap (λ zs. last (y ∷ zs)) (none_by probe ys past);
   }
     where
       itself : (a b : ℕ) → (a == a && b == b) ≡ true
@@ -82,7 +82,7 @@ module _ {X : Type 0} (begin end : X → ℕ) where
         before = (inr (before_of c.it y ge), c.before);
         low = c.low;
         is = last-cond (same_ends begin end c.it y) y c.it (filter (same_ends begin end c.it) ys) c.is;
-        at = last-cond (nat_le (begin y) probe) y c.it (beginning_by begin probe ys) c.at;
+        at = last-cond (nat_le (begin y) probe) y c.it (at_or_below begin probe ys) c.at;
       }
 
   -- something counts, or all ranges are past the probe
@@ -94,22 +94,22 @@ module _ {X : Type 0} (begin end : X → ℕ) where
         | inl past ↦ elim (cases_lt probe (begin y)) [ inl lt ↦ inl (lt, past) | inr le ↦ inr (first_counts probe y ys past le) ]
       ]
 
-  none_counts : (probe : ℕ) (ys : List X) → PastAll probe ys → counting begin end probe ys ≡ None
+  none_counts : (probe : ℕ) (ys : List X) → PastAll probe ys → candidate begin end probe ys ≡ None
   none_counts probe ys past = counting_none begin end probe ys (All-from_recursion (λ (y : X). probe < begin y) ys past)
 
-  it_counts : (probe : ℕ) (ys : List X) (c : Counts probe ys) → counting begin end probe ys ≡ Some c.it
+  it_counts : (probe : ℕ) (ys : List X) (c : Counts probe ys) → candidate begin end probe ys ≡ Some c.it
   it_counts probe ys c = counting_is begin end probe ys c.it (All-from_recursion (λ y. (probe < begin y) ⊎ IsBefore begin end c.it y) ys c.before) c.low c.is
 
   -- of ranges in order the last that begins by the probe counts
-  pub counting_ordered : (probe : ℕ) (ys : List X) → IsInOrder sooner ys → counting begin end probe ys ≡ last (beginning_by begin probe ys)
-  counting_ordered probe ys up =
+  pub candidate_ordered : (probe : ℕ) (ys : List X) → IsInOrder sooner ys → candidate begin end probe ys ≡ last (at_or_below begin probe ys)
+  candidate_ordered probe ys up =
       elim (split probe ys up) [
         | inl past ↦ none_counts probe ys past ∙ ap last (sym (none_by probe ys past))
         | inr c ↦ it_counts probe ys c ∙ sym c.at
       ]
 
   -- what counts among ranges as they are listed is what counts among them in order
-  pub counting_in_order : (probe : ℕ) (xs : List X) → counting begin end probe (in_order sooner xs) ≡ counting begin end probe xs
+  pub counting_in_order : (probe : ℕ) (xs : List X) → candidate begin end probe (in_order sooner xs) ≡ candidate begin end probe xs
   counting_in_order probe xs =
       let o = begins_order begin end in
       let ys : List X = in_order sooner xs in

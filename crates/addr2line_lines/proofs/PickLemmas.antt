@@ -4,7 +4,7 @@ use Rattle.std.specs.List.{filter, All}
 use Rattle.std.proofs.lemmas.List.Elements.{All-head, All-tail, All-cons, All-nil, filter_agree}
 use Rattle.std.proofs.lemmas.Bool.Decides.{nat_tests}
 use Rattle.gimli_read.specs.Topmost.{greatest, topmost, last}
-use Rattle.addr2line_lines.specs.Pick.{beginning_by, counting}
+use Rattle.addr2line_lines.specs.Pick.{at_or_below, candidate}
 
 module _ {X : Type 0} where
   -- x is among the elements
@@ -89,7 +89,7 @@ module _ {X : Type 0} (begin end : X → ℕ) where
   end_le z x e h = elim h [ inl lt ↦ absurd (omega arith) | inr i ↦ i.1 ]
 
   -- z counts where each range is past the probe or before z, and z is the last with its ends
-  pub counting_is : (probe : ℕ) (xs : List X) (z : X) → All (λ x. (probe < begin x) ⊎ IsBefore z x) xs → begin z ≤ probe → last (filter (same_ends z) xs) ≡ Some z → counting begin end probe xs ≡ Some z
+  pub counting_is : (probe : ℕ) (xs : List X) (z : X) → All (λ x. (probe < begin x) ⊎ IsBefore z x) xs → begin z ≤ probe → last (filter (same_ends z) xs) ≡ Some z → candidate begin end probe xs ≡ Some z
   counting_is probe xs z all low is =
       let below : X → Bool = λ x. nat_le (begin x) probe in
       let bs = filter below xs in
@@ -112,13 +112,13 @@ module _ {X : Type 0} (begin end : X → ℕ) where
       agrees a b p t h = grind (arith, nat_tests)
 
   -- nothing begins by a probe that all ranges are past
-  pub beginning_none : (probe : ℕ) (xs : List X) → All (λ x. probe < begin x) xs → beginning_by begin probe xs ≡ []
+  pub beginning_none : (probe : ℕ) (xs : List X) → All (λ x. probe < begin x) xs → at_or_below begin probe xs ≡ []
   beginning_none probe [] all = refl
   beginning_none probe (x ∷ xs) all =
       let h = All-head (λ (y : X). probe < begin y) x xs all in
       let e : nat_le (begin x) probe ≡ false = grind (arith, nat_tests) in
-      ap (λ b. cond b (x ∷ beginning_by begin probe xs) (beginning_by begin probe xs)) e ∙ beginning_none probe xs (All-tail (λ (y : X). probe < begin y) x xs all)
+      ap (λ b. cond b (x ∷ at_or_below begin probe xs) (at_or_below begin probe xs)) e ∙ beginning_none probe xs (All-tail (λ (y : X). probe < begin y) x xs all)
 
   -- nothing counts where all ranges are past the probe
-  pub counting_none : (probe : ℕ) (xs : List X) → All (λ x. probe < begin x) xs → counting begin end probe xs ≡ None
+  pub counting_none : (probe : ℕ) (xs : List X) → All (λ x. probe < begin x) xs → candidate begin end probe xs ≡ None
   counting_none probe xs all = ap (λ (ys : List X). last (topmost end (topmost begin ys))) (beginning_none probe xs all)

@@ -10,26 +10,26 @@ use Rattle.gimli_read.specs.Form.{attribute_at}
 use Rattle.gimli.specs.Sections.{Sections}
 use Rattle.gimli.specs.Unit.{UnitRecord}
 use Rattle.addr2line_lines.specs.declared.function.RangeAttributes.{RangeAttributes}
-use Rattle.addr2line_lines.specs.RangeAttributes.{took, took_at}
+use Rattle.addr2line_lines.specs.RangeAttributes.{with_range_attribute, range_attributes_at}
 
 module _ (d : Sections) (u : UnitRecord) (xs : List AttributeSpecification) (i : ℕ) (x : AttributeSpecification) (r : RangeAttributes) (s : Section) where
   -- the next attribute, and those behind it
   abbrev next : Result (Attribute Section × Section) Error → Result RangeAttributes Error
-  next read = read >>= λ a. took d u r a.0 >>= λ t. took_at d u (drop (i + 1) xs) t a.1
+  next read = read >>= λ a. with_range_attribute d u r a.0 >>= λ t. range_attributes_at d u (drop (i + 1) xs) t a.1
 
-  pub took_fault : (e : Error) → i < length xs → attribute_at u.header.encoding (get_or xs i x) s ≡ Err e → took_at d u (drop i xs) r s ≡ Err e
-  unfolding took_at
-  took_fault e lt k = at_drop_more (λ ys. took_at d u ys r s) xs i x lt ∙ ap next k
+  pub took_fault : (e : Error) → i < length xs → attribute_at u.header.encoding (get_or xs i x) s ≡ Err e → range_attributes_at d u (drop i xs) r s ≡ Err e
+  unfolding range_attributes_at
+  took_fault e lt k = at_drop_more (λ ys. range_attributes_at d u ys r s) xs i x lt ∙ ap next k
 
   module _ (a : Attribute Section) (t : Section) (lt : i < length xs) (k : attribute_at u.header.encoding (get_or xs i x) s ≡ Ok (a, t)) where
-    pub took_refused : (e : Error) → took d u r a ≡ Err e → took_at d u (drop i xs) r s ≡ Err e
-    unfolding took_at
-    took_refused e h = at_drop_more (λ ys. took_at d u ys r s) xs i x lt ∙ ap next k ∙ ap (λ q. q >>= λ v. took_at d u (drop (i + 1) xs) v t) h
+    pub took_refused : (e : Error) → with_range_attribute d u r a ≡ Err e → range_attributes_at d u (drop i xs) r s ≡ Err e
+    unfolding range_attributes_at
+    took_refused e h = at_drop_more (λ ys. range_attributes_at d u ys r s) xs i x lt ∙ ap next k ∙ ap (λ q. q >>= λ v. range_attributes_at d u (drop (i + 1) xs) v t) h
 
-    pub took_more : (r' : RangeAttributes) → took d u r a ≡ Ok r' → took_at d u (drop i xs) r s ≡ took_at d u (drop (i + 1) xs) r' t
-    unfolding took_at
-    took_more r' h = at_drop_more (λ ys. took_at d u ys r s) xs i x lt ∙ ap next k ∙ ap (λ q. q >>= λ v. took_at d u (drop (i + 1) xs) v t) h
+    pub took_more : (r' : RangeAttributes) → with_range_attribute d u r a ≡ Ok r' → range_attributes_at d u (drop i xs) r s ≡ range_attributes_at d u (drop (i + 1) xs) r' t
+    unfolding range_attributes_at
+    took_more r' h = at_drop_more (λ ys. range_attributes_at d u ys r s) xs i x lt ∙ ap next k ∙ ap (λ q. q >>= λ v. range_attributes_at d u (drop (i + 1) xs) v t) h
 
-pub took_end : (d : Sections) (u : UnitRecord) (xs : List AttributeSpecification) (i : ℕ) (r : RangeAttributes) (s : Section) → length xs ≤ i → took_at d u (drop i xs) r s ≡ Ok r
-unfolding took_at
-took_end d u xs i r s h = at_drop_all (λ ys. took_at d u ys r s) xs i h
+pub took_end : (d : Sections) (u : UnitRecord) (xs : List AttributeSpecification) (i : ℕ) (r : RangeAttributes) (s : Section) → length xs ≤ i → range_attributes_at d u (drop i xs) r s ≡ Ok r
+unfolding range_attributes_at
+took_end d u xs i r s h = at_drop_all (λ ys. range_attributes_at d u ys r s) xs i h

@@ -1,6 +1,6 @@
 -- The row whose span holds a probe (on specs/Spans.antt).
 use Rattle.std.proofs.Math.Nat.{min-eq_left, min-eq_right}
-use Rattle.std.proofs.Common.{ℕ, min, map, filter, ◌≡◌, ◌<◌, ◌≤◌, inl, inr, Bool, true, false, cond, ◌&&◌, List, [], ◌∷◌, Option, Some, None, nat_le, nat_lt, arith, ◌∙◌, ap, sym, refl}
+use Rattle.std.proofs.Common.{ℕ, min, map, filter, ◌≡◌, ◌<◌, ◌≤◌, inl, inr, Bool, true, false, cond, ◌&&◌, List, [], ◌∷◌, Option, Some, None, nat_le, nat_lt, arith, ◌∙◌, ap, sym, subst, refl}
 use Rattle.std.specs.List.{find, AllByRecursion}
 use Rattle.std.specs.Option.{option_map, option_and_then}
 use Rattle.std.specs.List.Sorted.{IsNonDecreasingBy}
@@ -10,12 +10,13 @@ use Rattle.addr2line_lines.specs.declared.row.Row.{Row}
 use Rattle.addr2line_lines.specs.Sequences.{Sequence, start_of, end_of}
 use Rattle.addr2line_lines.specs.Rises.{Climbs, IsRising, StartsAt}
 use Rattle.gimli_read.specs.Topmost.{last}
-use Rattle.addr2line_lines.specs.Pick.{beginning_by, if_past}
-use Rattle.addr2line_lines.specs.Spans.{Span, spanned, least_of, span_end, spans, holds, address_of, row_in, row_at, EachAddressHasRow}
-use Rattle.addr2line_lines.specs.Kept.{IsKept}
+use Rattle.addr2line_lines.specs.InOrder.{in_order, begins_sooner, IsInOrder}
+use Rattle.addr2line_lines.specs.Pick.{pick, at_or_below, if_past}
+use Rattle.addr2line_lines.specs.Spans.{Span, spanned, least_of, span_end, spans, span_holds, row_address, row_in, row_at, EachAddressHasRow}
+use Rattle.addr2line_lines.specs.Ordered.{IsOrdered}
 use Rattle.addr2line_lines.proofs.PickLemmas.{In-last, In-filter}
-use Rattle.addr2line_lines.proofs.OrderLemmas.{All-in}
-use Rattle.addr2line_lines.proofs.OrderPick.{counting_ordered}
+use Rattle.addr2line_lines.proofs.OrderLemmas.{All-in, in_order_ordered, in_order_all, begins_order}
+use Rattle.addr2line_lines.proofs.OrderPick.{candidate_ordered, pick_in_order}
 use Rattle.addr2line_lines.proofs.SeekLemmas.{Up, non_decreasing}
 
 -- a row with the end of its span
@@ -44,15 +45,15 @@ ended : (a b p : ℕ) → b ≤ p → (nat_le a p && nat_lt p b) ≡ false
 ended a b p l = grind (arith, nat_tests)
 
 -- rows past the probe
-none_by : (probe m : ℕ) (rows : List Row) → probe < m → AllByRecursion (λ (s : Row). m < s.address) rows → beginning_by address_of probe rows ≡ []
+none_by : (probe m : ℕ) (rows : List Row) → probe < m → AllByRecursion (λ (s : Row). m < s.address) rows → at_or_below row_address probe rows ≡ []
 none_by probe m [] l all = refl
 none_by probe m (r ∷ rows) l all =
-    ap (λ b. cond b (r ∷ beginning_by address_of probe rows) (beginning_by address_of probe rows)) (above r.address probe (let h = all.0 in omega arith)) ∙ none_by probe m rows l all.1
+    ap (λ b. cond b (r ∷ at_or_below row_address probe rows) (at_or_below row_address probe rows)) (above r.address probe (let h = all.0 in omega arith)) ∙ none_by probe m rows l all.1
 
 -- a row at or below another one doesn't end its span
 low_row : (end : ℕ) (x r : Row) (rows : List Row) → x.address ≤ r.address → span_end end (x ∷ rows) r ≡ span_end end rows r
 low_row end x r rows l =
-    let more = filter (λ a. nat_lt r.address a) (map address_of rows) in
+    let more = filter (λ a. nat_lt r.address a) (map row_address rows) in
     ap (λ b. least_of end (cond b (x.address ∷ more) more)) (not_below r.address x.address l)
 
 low_rows : (end : ℕ) (x : Row) (rows ss : List Row) → AllByRecursion (λ (s : Row). x.address < s.address) ss → map (spanning end (x ∷ rows)) ss ≡ map (spanning end rows) ss
@@ -65,13 +66,13 @@ low_rows end x rows (s ∷ ss) all =
     cons_is a b xs ys g h = cc
 
 -- rows above an address all end its span
-all_greater : (m : ℕ) (rows : List Row) → AllByRecursion (λ (s : Row). m < s.address) rows → filter (λ a. nat_lt m a) (map address_of rows) ≡ map address_of rows
+all_greater : (m : ℕ) (rows : List Row) → AllByRecursion (λ (s : Row). m < s.address) rows → filter (λ a. nat_lt m a) (map row_address rows) ≡ map row_address rows
 all_greater m [] all = refl
 all_greater m (r ∷ rows) all =
-    let more = filter (λ a. nat_lt m a) (map address_of rows) in
+    let more = filter (λ a. nat_lt m a) (map row_address rows) in
     ap (λ b. cond b (r.address ∷ more) more) (below m r.address all.0) ∙ ap (λ xs. r.address ∷ xs) (all_greater m rows all.1)
 
-least_above : (m end : ℕ) (rows : List Row) → m ≤ end → AllByRecursion (λ (s : Row). m < s.address) rows → m ≤ least_of end (map address_of rows)
+least_above : (m end : ℕ) (rows : List Row) → m ≤ end → AllByRecursion (λ (s : Row). m < s.address) rows → m ≤ least_of end (map row_address rows)
 least_above m end [] l all = l
 least_above m end (r ∷ rows) l all = min_above m r.address _ (let h = all.0 in omega arith) (least_above m end rows l all.1)
   where
@@ -81,7 +82,7 @@ least_above m end (r ∷ rows) l all = min_above m r.address _ (let h = all.0 in
       | inr ge ↦ let e : min a b ≡ b = min-eq_right ge in omega arith
     ]
 
-first_end : (end : ℕ) (r : Row) (rows : List Row) → Climbs end (r ∷ rows) → span_end end (r ∷ rows) r ≡ least_of end (map address_of rows)
+first_end : (end : ℕ) (r : Row) (rows : List Row) → Climbs end (r ∷ rows) → span_end end (r ∷ rows) r ≡ least_of end (map row_address rows)
 first_end end r rows up = low_row end r r rows (omega arith) ∙ ap (least_of end) (all_greater r.address rows up.1.0)
 
 -- the spans of rows that climb
@@ -89,7 +90,7 @@ spans_next : (end : ℕ) (rows : List Row) → Climbs end rows → spans end row
 spans_next end [] up = refl
 spans_next end (r ∷ []) up = ap (λ e. record { row = r; end = e } ∷ []) (first_end end r [] up)
 spans_next end (r ∷ s ∷ rows) up =
-    let next : least_of end (map address_of (s ∷ rows)) ≡ s.address = min-eq_left (least_above s.address end rows up.1.1.0 up.1.1.1.0) in
+    let next : least_of end (map row_address (s ∷ rows)) ≡ s.address = min-eq_left (least_above s.address end rows up.1.1.0 up.1.1.1.0) in
     let first : span_end end (r ∷ s ∷ rows) r ≡ s.address = first_end end r (s ∷ rows) up ∙ next in
     let others : map (spanning end (r ∷ s ∷ rows)) (s ∷ rows) ≡ next_spans end (s ∷ rows) = low_rows end r (s ∷ rows) (s ∷ rows) up.1.0 ∙ spans_next end (s ∷ rows) up.1.1 in
     cons_is _ _ _ _ first others
@@ -98,7 +99,7 @@ spans_next end (r ∷ s ∷ rows) up =
     cons_is a b xs ys g h = cc
 
 -- the row whose span holds a probe before the end is the last one by the probe
-next_last : (probe end : ℕ) (rows : List Row) → Climbs end rows → probe < end → option_map spanned (find (holds probe) (next_spans end rows)) ≡ last (beginning_by address_of probe rows)
+next_last : (probe end : ℕ) (rows : List Row) → Climbs end rows → probe < end → option_map spanned (find (span_holds probe) (next_spans end rows)) ≡ last (at_or_below row_address probe rows)
 next_last probe end [] up l = refl
 next_last probe end (r ∷ []) up l =
     ap (λ b. option_map spanned (cond (nat_le r.address probe && b) (Some (record { row = r; end = end })) None)) (below probe end l) ∙ by_cases (nat_le r.address probe)
@@ -113,35 +114,35 @@ next_last probe end (r ∷ s ∷ rows) up l =
     ]
   where
     -- the next row is past the probe, and so are all later ones
-    before : probe < s.address → option_map spanned (find (holds probe) (next_spans end (s ∷ rows))) ≡ last (beginning_by address_of probe (s ∷ rows))
-        → option_map spanned (find (holds probe) (next_spans end (r ∷ s ∷ rows))) ≡ last (beginning_by address_of probe (r ∷ s ∷ rows))
+    before : probe < s.address → option_map spanned (find (span_holds probe) (next_spans end (s ∷ rows))) ≡ last (at_or_below row_address probe (s ∷ rows))
+        → option_map spanned (find (span_holds probe) (next_spans end (r ∷ s ∷ rows))) ≡ last (at_or_below row_address probe (r ∷ s ∷ rows))
     before lt ih =
-        let none : beginning_by address_of probe (s ∷ rows) ≡ [] =
-        ap (λ b. cond b (s ∷ beginning_by address_of probe rows) (beginning_by address_of probe rows)) (above s.address probe lt) ∙ none_by probe s.address rows lt up.1.1.1.0 in
-        ap (λ b. option_map spanned (cond (nat_le r.address probe && b) (Some (record { row = r; end = s.address })) (find (holds probe) (next_spans end (s ∷ rows))))) (below probe s.address lt)
+        let none : at_or_below row_address probe (s ∷ rows) ≡ [] =
+        ap (λ b. cond b (s ∷ at_or_below row_address probe rows) (at_or_below row_address probe rows)) (above s.address probe lt) ∙ none_by probe s.address rows lt up.1.1.1.0 in
+        ap (λ b. option_map spanned (cond (nat_le r.address probe && b) (Some (record { row = r; end = s.address })) (find (span_holds probe) (next_spans end (s ∷ rows))))) (below probe s.address lt)
         ∙ by_cases (nat_le r.address probe) none (ih ∙ ap last none)
       where
-        by_cases : (b : Bool) → beginning_by address_of probe (s ∷ rows) ≡ [] → option_map spanned (find (holds probe) (next_spans end (s ∷ rows))) ≡ None
-            → option_map spanned (cond (b && true) (Some (record { row = r; end = s.address })) (find (holds probe) (next_spans end (s ∷ rows)))) ≡ last (cond b (r ∷ beginning_by address_of probe (s ∷ rows)) (beginning_by address_of probe (s ∷ rows)))
+        by_cases : (b : Bool) → at_or_below row_address probe (s ∷ rows) ≡ [] → option_map spanned (find (span_holds probe) (next_spans end (s ∷ rows))) ≡ None
+            → option_map spanned (cond (b && true) (Some (record { row = r; end = s.address })) (find (span_holds probe) (next_spans end (s ∷ rows)))) ≡ last (cond b (r ∷ at_or_below row_address probe (s ∷ rows)) (at_or_below row_address probe (s ∷ rows)))
         by_cases true none found = sym (ap (λ rs. last (r ∷ rs)) none)
         by_cases false none found = found ∙ sym (ap last none)
 
     -- the next row is by the probe, and so is this one
-    after : s.address ≤ probe → option_map spanned (find (holds probe) (next_spans end (s ∷ rows))) ≡ last (beginning_by address_of probe (s ∷ rows))
-        → option_map spanned (find (holds probe) (next_spans end (r ∷ s ∷ rows))) ≡ last (beginning_by address_of probe (r ∷ s ∷ rows))
+    after : s.address ≤ probe → option_map spanned (find (span_holds probe) (next_spans end (s ∷ rows))) ≡ last (at_or_below row_address probe (s ∷ rows))
+        → option_map spanned (find (span_holds probe) (next_spans end (r ∷ s ∷ rows))) ≡ last (at_or_below row_address probe (r ∷ s ∷ rows))
     after ge ih =
-        let here : beginning_by address_of probe (s ∷ rows) ≡ s ∷ beginning_by address_of probe rows =
-        ap (λ b. cond b (s ∷ beginning_by address_of probe rows) (beginning_by address_of probe rows)) (reached s.address probe ge) in
+        let here : at_or_below row_address probe (s ∷ rows) ≡ s ∷ at_or_below row_address probe rows =
+        ap (λ b. cond b (s ∷ at_or_below row_address probe rows) (at_or_below row_address probe rows)) (reached s.address probe ge) in
         let low : r.address ≤ probe = (let h = up.1.0.0 in omega arith) in
-        ap (λ b. option_map spanned (cond b (Some (record { row = r; end = s.address })) (find (holds probe) (next_spans end (s ∷ rows))))) (ended r.address s.address probe ge)
+        ap (λ b. option_map spanned (cond b (Some (record { row = r; end = s.address })) (find (span_holds probe) (next_spans end (s ∷ rows))))) (ended r.address s.address probe ge)
         ∙ ih ∙ ap last here ∙ sym (ap (λ rs. last (r ∷ rs)) here)
-        ∙ sym (ap (λ b. last (cond b (r ∷ beginning_by address_of probe (s ∷ rows)) (beginning_by address_of probe (s ∷ rows)))) (reached r.address probe low))
+        ∙ sym (ap (λ b. last (cond b (r ∷ at_or_below row_address probe (s ∷ rows)) (at_or_below row_address probe (s ∷ rows)))) (reached r.address probe low))
 
-pub span_last : (probe end : ℕ) (rows : List Row) → Climbs end rows → probe < end → option_map spanned (find (holds probe) (spans end rows)) ≡ last (beginning_by address_of probe rows)
-span_last probe end rows up l = ap (λ ss. option_map spanned (find (holds probe) ss)) (spans_next end rows up) ∙ next_last probe end rows up l
+pub span_last : (probe end : ℕ) (rows : List Row) → Climbs end rows → probe < end → option_map spanned (find (span_holds probe) (spans end rows)) ≡ last (at_or_below row_address probe rows)
+span_last probe end rows up l = ap (λ ss. option_map spanned (find (span_holds probe) ss)) (spans_next end rows up) ∙ next_last probe end rows up l
 
 -- rows that climb do not fall
-up_of : (end : ℕ) (rows : List Row) → Climbs end rows → Up address_of rows
+up_of : (end : ℕ) (rows : List Row) → Climbs end rows → Up row_address rows
 up_of end [] up = tt
 up_of end (r ∷ rows) up = (weaker r.address rows up.1.0, up_of end rows up.1.1)
   where
@@ -149,32 +150,51 @@ up_of end (r ∷ rows) up = (weaker r.address rows up.1.0, up_of end rows up.1.1
     weaker m [] all = tt
     weaker m (x ∷ rs) all = ((let h = all.0 in omega arith), weaker m rs all.1)
 
-pub rows_rise : (s : Sequence) → IsRising s → IsNonDecreasingBy address_of s.rows
-rows_rise s h = non_decreasing address_of s.rows (up_of s.end s.rows h.rises)
+pub rows_rise : (s : Sequence) → IsRising s → IsNonDecreasingBy row_address s.rows
+rows_rise s h = non_decreasing row_address s.rows (up_of s.end s.rows h.rises)
 
 -- the row of a sequence that ends past the probe
-pub row_within : (probe : ℕ) (s : Sequence) → IsRising s → probe < s.end → option_and_then (row_in probe) (if_past end_of probe s) ≡ last (beginning_by address_of probe s.rows)
+pub row_within : (probe : ℕ) (s : Sequence) → IsRising s → probe < s.end → option_and_then (row_in probe) (if_past end_of probe s) ≡ last (at_or_below row_address probe s.rows)
 row_within probe s h l = ap (λ b. option_and_then (row_in probe) (cond b (Some s) None)) (below probe s.end l) ∙ span_last probe s.end s.rows h.rises l
 
--- in kept sequences the last that starts by the probe counts
-pub row_at_last : (probe : ℕ) (ss : List Sequence) (o : Option Sequence) → IsKept ss → o ≡ last (beginning_by start_of probe ss) → row_at probe ss ≡ option_and_then (row_in probe) (option_and_then (if_past end_of probe) o)
+-- sequences in order, each of which rises
+pub record Sorted (ss : List Sequence) : Type 0 where
+  pub ordered : IsInOrder (begins_sooner start_of end_of) ss
+  pub rising : AllByRecursion IsRising ss
+
+-- so are those that the listed ones are put into
+pub sorted_from : (listed ss : List Sequence) → IsOrdered listed ss → Sorted ss
+sorted_from listed ss h =
+    let sooner = begins_sooner start_of end_of in
+    let made : Sorted (in_order sooner listed) = record { ordered = in_order_ordered sooner (begins_order start_of end_of) listed; rising = in_order_all sooner IsRising listed h.rising } in
+    let P : List Sequence → Type 0 = λ xs. Sorted xs in
+    subst P (sym h.sorted_is) made
+
+-- of sequences in order the last that starts at or below the probe is the candidate
+row_at_last : (probe : ℕ) (ss : List Sequence) (o : Option Sequence) → Sorted ss → o ≡ last (at_or_below start_of probe ss) → row_at probe ss ≡ option_and_then (row_in probe) (option_and_then (if_past end_of probe) o)
 row_at_last probe ss o h e =
-    ap (λ x. option_and_then (row_in probe) (option_and_then (if_past end_of probe) x)) (counting_ordered start_of end_of probe ss h.ordered ∙ sym e)
+    ap (λ x. option_and_then (row_in probe) (option_and_then (if_past end_of probe) x)) (candidate_ordered start_of end_of probe ss h.ordered ∙ sym e)
+
+-- and it decides for the listed ones
+pub row_at_listed : (probe : ℕ) (listed ss : List Sequence) (o : Option Sequence) → IsOrdered listed ss → o ≡ last (at_or_below start_of probe ss) → row_at probe listed ≡ option_and_then (row_in probe) (option_and_then (if_past end_of probe) o)
+row_at_listed probe listed ss o h e =
+    let free : pick start_of end_of probe ss ≡ pick start_of end_of probe listed = ap (pick start_of end_of probe) h.sorted_is ∙ pick_in_order start_of end_of probe listed in
+    ap (option_and_then (row_in probe)) (sym free) ∙ row_at_last probe ss o (sorted_from listed ss h) e
 
 -- and it rises
-pub last_rises : (probe : ℕ) (ss : List Sequence) (s : Sequence) → IsKept ss → Some s ≡ last (beginning_by start_of probe ss) → IsRising s
+pub last_rises : (probe : ℕ) (ss : List Sequence) (s : Sequence) → Sorted ss → Some s ≡ last (at_or_below start_of probe ss) → IsRising s
 last_rises probe ss s h e =
-    All-in IsRising ss s h.rising (In-filter (λ x. nat_le (start_of x) probe) ss s (In-last (beginning_by start_of probe ss) s (sym e))).0
+    All-in IsRising ss s h.rising (In-filter (λ x. nat_le (start_of x) probe) ss s (In-last (at_or_below start_of probe ss) s (sym e))).0
 
 some_last : (r : Row) (rows : List Row) → (x : Row) × (last (r ∷ rows) ≡ Some x)
 some_last r [] = (r, refl)
 some_last r (s ∷ rows) = some_last s rows
 
 -- a row stands by a probe that the rows start by
-some_by : (probe start : ℕ) (rows : List Row) → StartsAt start rows → start ≤ probe → (x : Row) × (last (beginning_by address_of probe rows) ≡ Some x)
+some_by : (probe start : ℕ) (rows : List Row) → StartsAt start rows → start ≤ probe → (x : Row) × (last (at_or_below row_address probe rows) ≡ Some x)
 some_by probe start [] at low = absurd at
 some_by probe start (r ∷ rows) at low =
-    let by = beginning_by address_of probe rows in
+    let by = at_or_below row_address probe rows in
     let x = some_last r by in
     (x.0, ap (λ b. last (cond b (r ∷ by) by)) (reached r.address probe (omega (arith, at))) ∙ x.1)
 

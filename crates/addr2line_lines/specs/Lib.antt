@@ -8,8 +8,8 @@ pub mod Spans
 pub mod Paths
 pub mod Files
 pub mod Location
-pub mod Shown
-pub mod Kept
+pub mod SeenLocation
+pub mod Ordered
 pub mod FileTexts
 pub mod UnitLines
 pub mod RangeAttributes

@@ -26,27 +26,27 @@ attr_address d u (values.DebugAddrIndex i) = entry_at u.header.encoding.address_
 attr_address d u _ = Ok None
 
 -- before the first attribute
-abbrev pub no_ranges : RangeAttributes
-no_ranges = record { low_pc = None; high_pc = None; size = None }
+abbrev pub no_range_attributes : RangeAttributes
+no_range_attributes = record { low_pc = None; high_pc = None; size = None }
 
 -- one more attribute
-unfoldable pub took : Sections → UnitRecord → RangeAttributes → Attribute Section → Result RangeAttributes Error
-took d u r a =
+unfoldable pub with_range_attribute : Sections → UnitRecord → RangeAttributes → Attribute Section → Result RangeAttributes Error
+with_range_attribute d u r a =
     if a.name.0 == 0x11 then (attr_address d u a.value >>= λ low. Ok (record { low_pc = newer low r.low_pc; high_pc = r.high_pc; size = r.size }))
     else if a.name.0 == 0x12 then (attr_address d u a.value >>= λ high. Ok (record { low_pc = r.low_pc; high_pc = newer high r.high_pc; size = newer (constant_of a.value) r.size }))
     else Ok r
 
 -- the attributes of specifications, each read and taken in before the next
-unfoldable pub took_at : Sections → UnitRecord → List AttributeSpecification → RangeAttributes → Section → Result RangeAttributes Error
-took_at d u [] r s = Ok r
-took_at d u (x ∷ xs) r s = attribute_at u.header.encoding x s >>= λ a. took d u r a.0 >>= λ t. took_at d u xs t a.1
+unfoldable pub range_attributes_at : Sections → UnitRecord → List AttributeSpecification → RangeAttributes → Section → Result RangeAttributes Error
+range_attributes_at d u [] r s = Ok r
+range_attributes_at d u (x ∷ xs) r s = attribute_at u.header.encoding x s >>= λ a. with_range_attribute d u r a.0 >>= λ t. range_attributes_at d u xs t a.1
 
 -- the range attributes of a unit's first entry
-unfoldable pub root_ranges : Sections → UnitRecord → Result RangeAttributes Error
-root_ranges d u = do
+unfoldable pub root_range_attributes : Sections → UnitRecord → Result RangeAttributes Error
+root_range_attributes d u = do
   head ← head_at u.abbreviations (record { left = u.header.entries; depth = pos 0 })
   specifications ← root_specifications head.0
-  took_at d u specifications no_ranges head.1.left
+  range_attributes_at d u specifications no_range_attributes head.1.left
 
 -- a range, unless it is empty or reversed
 abbrev pub range_between : ℕ → ℕ → List Range

@@ -15,19 +15,19 @@ pub record Sequence : Type 0 where
   pub rows : List Row
 
 -- the rows up to an end row, and that row
-pub record Stretch : Type 0 where
+pub record RowGroup : Type 0 where
   pub rows : List LineRow
   pub last : LineRow
 
 -- a row before those of the first stretch; nothing where no end row follows
-abbrev pub put_first : LineRow → List Stretch → List Stretch
+abbrev pub put_first : LineRow → List RowGroup → List RowGroup
 put_first r [] = []
 put_first r (s ∷ rest) = record { rows = r ∷ s.rows; last = s.last } ∷ rest
 
 -- the rows between end rows
-abbrev pub stretches : List LineRow → List Stretch
-stretches [] = []
-stretches (r ∷ rows) = if r.end_sequence then record { rows = []; last = r } ∷ stretches rows else put_first r (stretches rows)
+abbrev pub row_groups : List LineRow → List RowGroup
+row_groups [] = []
+row_groups (r ∷ rows) = if r.end_sequence then record { rows = []; last = r } ∷ row_groups rows else put_first r (row_groups rows)
 
 -- of rows with equal address the last
 abbrev pub latest : List LineRow → List LineRow
@@ -35,21 +35,21 @@ latest [] = []
 latest (r ∷ rows) = if list_any (λ (s : LineRow). s.address == r.address) rows then latest rows else r ∷ latest rows
 
 -- what is kept of a row
-abbrev pub row_of : LineRow → Row
-row_of r = record { address = r.address; file_index = r.file_index; line = r.line % 2 ^ 32; column = r.column % 2 ^ 32 }
+abbrev pub stored_row : LineRow → Row
+stored_row r = record { address = r.address; file_index = r.file_index; line = r.line % 2 ^ 32; column = r.column % 2 ^ 32 }
 
 -- the sequence of rows with an end row, if they are one
 abbrev pub sequence_of : List LineRow → LineRow → Option Sequence
 sequence_of [] last = None
-sequence_of (r ∷ rows) last = if not last.dropped && nat_lt r.address last.address then Some (record { start = r.address; end = last.address; rows = map row_of (r ∷ rows) }) else None
+sequence_of (r ∷ rows) last = if not last.dropped && nat_lt r.address last.address then Some (record { start = r.address; end = last.address; rows = map stored_row (r ∷ rows) }) else None
 
 -- the sequence of a stretch
-abbrev pub sequence_in : Stretch → Option Sequence
+abbrev pub sequence_in : RowGroup → Option Sequence
 sequence_in s = sequence_of (latest s.rows) s.last
 
 -- the sequences of a program's rows, in the program's order
 abbrev pub sequences_of : List LineRow → List Sequence
-sequences_of rows = filter_map sequence_in (stretches rows)
+sequences_of rows = filter_map sequence_in (row_groups rows)
 
 -- the address at which a sequence starts
 abbrev pub start_of : Sequence → ℕ

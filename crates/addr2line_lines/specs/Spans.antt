@@ -9,8 +9,8 @@ use Rattle.addr2line_lines.specs.Pick.{pick}
 use Rattle.addr2line_lines.specs.Rises.{IsRising}
 
 -- the address of a row
-abbrev pub address_of : Row → ℕ
-address_of r = r.address
+abbrev pub row_address : Row → ℕ
+row_address r = r.address
 
 -- a row and the end of its span
 pub record Span : Type 0 where
@@ -28,19 +28,19 @@ least_of n (m ∷ ms) = min m (least_of n ms)
 
 -- where the span of a row ends: at the next greater address of the rows, or at the end of their sequence
 abbrev pub span_end : ℕ → List Row → Row → ℕ
-span_end end rows r = least_of end (filter (λ a. nat_lt r.address a) (map address_of rows))
+span_end end rows r = least_of end (filter (λ a. nat_lt r.address a) (map row_address rows))
 
 -- the rows with the ends of their spans
 abbrev pub spans : ℕ → List Row → List Span
 spans end rows = map (λ r. record { row = r; end = span_end end rows r }) rows
 
 -- the probe is one of the span's addresses
-abbrev pub holds : ℕ → Span → Bool
-holds probe span = nat_le span.row.address probe && nat_lt probe span.end
+abbrev pub span_holds : ℕ → Span → Bool
+span_holds probe span = nat_le span.row.address probe && nat_lt probe span.end
 
 -- the row of a sequence whose span holds the probe
 abbrev pub row_in : ℕ → Sequence → Option Row
-row_in probe s = option_map spanned (find (holds probe) (spans s.end s.rows))
+row_in probe s = option_map spanned (find (span_holds probe) (spans s.end s.rows))
 
 -- the row of the picked sequence whose span holds the probe
 abbrev pub row_at : ℕ → List Sequence → Option Row

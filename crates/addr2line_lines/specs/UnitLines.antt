@@ -8,20 +8,20 @@ use Rattle.gimli_line.specs.Lines.{lines_of}
 use Rattle.gimli.specs.Sections.{Sections}
 use Rattle.gimli.specs.Unit.{UnitRecord}
 use Rattle.addr2line_lines.specs.Rows.{read_all}
-use Rattle.addr2line_lines.specs.Location.{Kept, kept_of}
+use Rattle.addr2line_lines.specs.Location.{LineTable, line_table_of}
 use Rattle.addr2line_lines.specs.FileTexts.{file_texts}
 
 -- the lines of a program: its rows, and the texts of its files with those that it defines
-unfoldable pub program_lines : Sections → UnitRecord → Program → Result Kept Error
+unfoldable pub program_lines : Sections → UnitRecord → Program → Result LineTable Error
 program_lines d u p = do
   rows ← read_all (lines_of p).left
   files ← file_texts d u p.header (p.header.file_names ++ (lines_of p).to_define)
-  Ok (kept_of files rows)
+  Ok (line_table_of files rows)
 
 -- the lines of a unit
-abbrev pub lines_in : Sections → UnitRecord → Option Program → Result Kept Error
+abbrev pub lines_in : Sections → UnitRecord → Option Program → Result LineTable Error
 lines_in d u None = Ok (record { files = []; sequences = [] })
 lines_in d u (Some p) = program_lines d u p
 
-abbrev pub unit_lines : Sections → UnitRecord → Result Kept Error
+abbrev pub unit_lines : Sections → UnitRecord → Result LineTable Error
 unit_lines d u = lines_in d u u.line_program

@@ -6,7 +6,7 @@ ghost use Rattle.gimli_read.specs.Form.{seen_value};
 ghost use Rattle.gimli_line.specs.Header.{seen_file, seen_header};
 ghost use Rattle.gimli.specs.Sections.{seen_dwarf};
 ghost use Rattle.gimli.specs.Unit.{seen_unit};
-ghost use Rattle.addr2line_lines.specs.FileTexts.{bytes_of, optional_string, counted_directory, text_of_file, texts_of, at_least_one, behind, behind_name, file_texts};
+ghost use Rattle.addr2line_lines.specs.FileTexts.{bytes_of, optional_string, file_directory, text_of_file, texts_of, at_least_one, texts_after, own_name_first, file_texts};
 
 use crate::path::{make_file_text, make_own_text};
 use gimli::line::{FileEntry, LineProgramHeader};
@@ -20,7 +20,7 @@ fn directory_of<R: Reader>(
     file: &FileEntry<R>,
 ) -> Result<Option<AttributeValue<R>>, Error>
     ensures gives { ExactlyUnlessOom (option_map (seen_value R.section)) result
-        (Ok (counted_directory (seen_header R.section header.now) (seen_file R.section file.now))) }
+        (Ok (file_directory (seen_header R.section header.now) (seen_file R.section file.now))) }
 {
     if file.directory_index() == 0 {
         return Ok(None);
@@ -85,7 +85,7 @@ fn push_texts<R: Reader>(
     texts: &mut Vec<String>,
 ) -> Result<(), Error>
     ensures gives { ExactlyUnlessOom (λ _. map string_bytes texts.new.items) result
-        (behind (map string_bytes texts.old.items)
+        (texts_after (map string_bytes texts.old.items)
         (texts_of (seen_dwarf R.section dwarf.now) (seen_unit R.section unit.now)
         (seen_header R.section header.now) (map (seen_file R.section) files.now))) }
 {
@@ -113,7 +113,7 @@ fn read_texts<R: Reader>(
 }
 
 // The texts of a unit's files below version 5: first the unit's own name.
-fn read_texts_behind_name<R: Reader>(
+fn read_own_name_first<R: Reader>(
     alloc: Global,
     dwarf: &Dwarf<R>,
     unit: &Unit<R>,
@@ -121,7 +121,7 @@ fn read_texts_behind_name<R: Reader>(
     files: &[FileEntry<R>],
 ) -> Result<Vec<String>, Error>
     ensures gives { ExactlyUnlessOom (λ v. map string_bytes v.items) result
-        (behind_name (seen_dwarf R.section dwarf.now) (seen_unit R.section unit.now)
+        (own_name_first (seen_dwarf R.section dwarf.now) (seen_unit R.section unit.now)
         (seen_header R.section header.now) (map (seen_file R.section) files.now)) }
 {
     let mut texts = Vec::new(alloc);
@@ -158,7 +158,7 @@ pub(crate) fn read_file_texts<R: Reader>(
         (seen_header R.section header.now) (map (seen_file R.section) files.now)) }
 {
     if header.version() < 5 {
-        return read_texts_behind_name(alloc, dwarf, unit, header, files);
+        return read_own_name_first(alloc, dwarf, unit, header, files);
     }
     let mut texts = read_texts(alloc, dwarf, unit, header, files)?;
     fill(alloc, &mut texts)?;

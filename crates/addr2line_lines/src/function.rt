@@ -7,7 +7,7 @@ ghost use Rattle.gimli_read.specs.Form.{seen_value, seen_attribute};
 ghost use Rattle.gimli.specs.Sections.{seen_dwarf};
 ghost use Rattle.gimli.specs.Unit.{seen_unit};
 ghost use Rattle.gimli.specs.Record.{newer};
-ghost use Rattle.addr2line_lines.specs.RangeAttributes.{attr_address, no_ranges, took, took_at, root_ranges, range_between, range_to, ranges_of};
+ghost use Rattle.addr2line_lines.specs.RangeAttributes.{attr_address, no_range_attributes, with_range_attribute, range_attributes_at, root_range_attributes, range_between, range_to, ranges_of};
 
 use gimli::read::{Attribute, AttributeSpecification, AttributeValue, DwAt, Error, Range, Reader};
 use gimli::{EntriesRaw, UnitRef};
@@ -62,7 +62,7 @@ fn range_between(begin: u64, end: u64) -> Option<Range>
 impl RangeAttributes {
     /// Before the first attribute. Takes no memory.
     pub fn new() -> RangeAttributes
-        ensures gives { result ≡ no_ranges }
+        ensures gives { result ≡ no_range_attributes }
     {
         RangeAttributes {
             low_pc: None,
@@ -72,13 +72,13 @@ impl RangeAttributes {
     }
 
     // Takes one more attribute in.
-    #[tactic(auto, unfolding(crate::specs::RangeAttributes::took))]
+    #[tactic(auto, unfolding(crate::specs::RangeAttributes::with_range_attribute))]
     fn take<R: Reader>(
         self,
         unit: UnitRef<'_, R>,
         attribute: &Attribute<R>,
     ) -> Result<RangeAttributes, Error>
-        ensures gives { Exactly (λ r. r) result (took (seen_dwarf R.section unit.entry.dwarf.now)
+        ensures gives { Exactly (λ r. r) result (with_range_attribute (seen_dwarf R.section unit.entry.dwarf.now)
             (seen_unit R.section unit.entry.unit.now) self (seen_attribute R.section attribute.now)) }
     {
         match attribute.name {
@@ -123,8 +123,8 @@ fn read_ranges<R: Reader>(
     specifications: &[AttributeSpecification],
 ) -> Result<RangeAttributes, Error>
     requires same { entries.old.encoding ≡ unit.unit.now.header.encoding }
-    ensures gives { ExactlyUnlessOom (λ r. r) result (took_at (seen_dwarf R.section unit.entry.dwarf.now)
-        (seen_unit R.section unit.entry.unit.now) specifications.now no_ranges
+    ensures gives { ExactlyUnlessOom (λ r. r) result (range_attributes_at (seen_dwarf R.section unit.entry.dwarf.now)
+        (seen_unit R.section unit.entry.unit.now) specifications.now no_range_attributes
         (R.section entries.old.input)) }
 {
     let mut ranges = RangeAttributes::new();
@@ -139,9 +139,9 @@ fn read_ranges<R: Reader>(
 ///
 /// Refused by the entry's code and its values in their order, by the index of an address where its
 /// attribute stands, `MissingUnitDie` at a closing entry, and `OutOfMemory`.
-#[tactic(auto, unfolding(crate::specs::RangeAttributes::root_ranges))]
+#[tactic(auto, unfolding(crate::specs::RangeAttributes::root_range_attributes))]
 pub fn read_root_ranges<R: Reader>(unit: UnitRef<'_, R>) -> Result<RangeAttributes, Error>
-    ensures gives { ExactlyUnlessOom (λ r. r) result (root_ranges (seen_dwarf R.section unit.entry.dwarf.now)
+    ensures gives { ExactlyUnlessOom (λ r. r) result (root_range_attributes (seen_dwarf R.section unit.entry.dwarf.now)
         (seen_unit R.section unit.entry.unit.now)) }
 {
     let mut entries = unit.entries_raw(None)?;

@@ -1,23 +1,23 @@
-//! The kept lines of a unit.
+//! The lines of a unit.
 
 ghost use Rattle.std.specs.Prelude.{◌≡◌, Ok, map, slice_get, option_map};
 ghost use Rattle.std.specs.Option.{option_copied};
 ghost use Rattle.std.specs.List.{AllByRecursion};
 ghost use Rattle.std.specs.String.{string_bytes};
 ghost use Rattle.addr2line_lines.specs.Rises.{IsRising};
-ghost use Rattle.gimli_read.specs.Reading.{ExactlyUnlessOom};
+ghost use Rattle.gimli_read.specs.Reading.{IsUnlessOom};
 ghost use Rattle.gimli_line.specs.Header.{seen_program};
 ghost use Rattle.gimli.specs.Sections.{seen_dwarf};
 ghost use Rattle.gimli.specs.Unit.{seen_unit};
 ghost use Rattle.addr2line_lines.specs.UnitLines.{program_lines, unit_lines};
-ghost use Rattle.addr2line_lines.specs.Location.{kept_with, kept_in, place_of, place_at};
-ghost use Rattle.addr2line_lines.specs.Shown.{shown};
+ghost use Rattle.addr2line_lines.specs.Location.{location_of_row, location_at};
+ghost use Rattle.addr2line_lines.specs.SeenLocation.{seen_location};
 ghost use Rattle.addr2line_lines.specs.Spans.{row_at};
 
 use crate::files::read_file_texts;
 use crate::location::Location;
 use crate::order::sort_sequences;
-use crate::row::{ReadRows, Row};
+use crate::row::Row;
 use crate::seek::{last_sequence, row_of_sequence};
 use crate::sequence::{LineSequence, read_sequences};
 use gimli::line::IncompleteLineProgram;
@@ -25,41 +25,50 @@ use gimli::read::{Error, Reader};
 use gimli::{Dwarf, Unit};
 use std::alloc::Global;
 use std::marker::Model;
+use std::snapshot::Snapshot;
 
-/// The files and sequences of a unit.
+/// The lines of a unit: the texts of its files, and its sequences.
 #[derive(Drop)]
 pub struct Lines {
     files: Vec<String>,
+    // By start, then end, then place in the program.
     sequences: Vec<LineSequence>,
+    // The same in the program's order, for contracts alone: it has no bytes.
+    listed: Snapshot<Vec<LineSequence>>,
 }
 
 impl Model for Lines {
     ghost use Rattle.std.specs.Prelude.{map};
-    ghost use Rattle.std.specs.List.{AllByRecursion};
     ghost use Rattle.std.specs.String.{string_bytes};
-    ghost use Rattle.addr2line_lines.specs.Rises.{IsRising};
-    ghost use Rattle.addr2line_lines.specs.Location.{Kept};
-    ghost use Rattle.addr2line_lines.specs.Kept.{IsKept};
+    ghost use Rattle.addr2line_lines.specs.Location.{LineTable};
+    ghost use Rattle.addr2line_lines.specs.Ordered.{IsOrdered};
 
-    ghost Value = { Kept };
+    ghost Value = { LineTable };
 
     ghost view = { λ l. record {
       files = map string_bytes l.files.items;
-      sequences = l.sequences.items;
+      sequences = l.listed.value.items;
     } };
 
-    ghost invariant = { λ l. IsKept l.sequences.items };
+    ghost invariant = { λ l. IsOrdered l.listed.value.items l.sequences.items };
 }
 
-// Files and sequences, which are put in order. Refused `OutOfMemory` alone.
+// The lines of files and sequences, which are put in order. Refused `OutOfMemory` alone.
 fn make_lines(files: Vec<String>, sequences: Vec<LineSequence>) -> Result<Lines, Error>
     requires rising { AllByRecursion IsRising sequences.items }
-    ensures gives { ExactlyUnlessOom (λ lines. lines) result
-        (Ok (kept_with (map string_bytes files.items) sequences.items)) }
+    ensures gives { IsUnlessOom result (Ok (record {
+      files = map string_bytes files.items;
+      sequences = sequences.items;
+    })) }
 {
+    let listed = Snapshot::of(&sequences);
     let mut sequences = sequences;
     sort_sequences(&mut sequences)?;
-    Ok(Lines { files, sequences })
+    Ok(Lines {
+        files,
+        sequences,
+        listed,
+    })
 }
 
 // The lines of a unit's program.
@@ -70,7 +79,7 @@ fn read_program<R: Reader>(
     unit: &Unit<R>,
     program: &IncompleteLineProgram<R>,
 ) -> Result<Lines, Error>
-    ensures gives { ExactlyUnlessOom (λ lines. lines) result
+    ensures gives { IsUnlessOom result
         (program_lines (seen_dwarf R.section dwarf.now) (seen_unit R.section unit.now)
         (seen_program R.section program.now)) }
 {
@@ -92,31 +101,13 @@ impl Lines {
     /// Refused by the program's fault, else by the first text of a file, by index, that can't be
     /// read, and `OutOfMemory`. A unit without a line program has no lines.
     pub fn parse<R: Reader>(alloc: Global, dwarf: &Dwarf<R>, unit: &Unit<R>) -> Result<Lines, Error>
-        ensures gives { ExactlyUnlessOom (λ lines. lines) result
+        ensures gives { IsUnlessOom result
             (unit_lines (seen_dwarf R.section dwarf.now) (seen_unit R.section unit.now)) }
     {
         match &unit.line_program {
             Some(program) => read_program(alloc, dwarf, unit, program),
-            None => Ok(Lines {
-                files: Vec::new(alloc),
-                sequences: Vec::new(alloc),
-            }),
+            None => make_lines(Vec::new(alloc), Vec::new(alloc)),
         }
-    }
-
-    /// The lines of a unit with these texts of files, by index, and the rows that come.
-    ///
-    /// Refused with the rows' fault, and `OutOfMemory`.
-    pub(crate) fn from_rows<R: ReadRows>(
-        alloc: Global,
-        files: Vec<String>,
-        rows: &mut R,
-    ) -> Result<Lines, Error>
-        ensures gives { ExactlyUnlessOom (λ lines. lines) result
-            (kept_in (map string_bytes files.items) (R.left rows.old)) }
-    {
-        let sequences = read_sequences(alloc, rows)?;
-        make_lines(files, sequences)
     }
 
     /// The text of a file by its index, `None` past the last one. Takes no memory.
@@ -133,9 +124,9 @@ impl Lines {
         row_of_sequence(last_sequence(&self.sequences, probe)?, probe)
     }
 
-    // What a row shows.
+    // The location that a row gives.
     fn row_location(&self, row: Row) -> Location<'_>
-        ensures gives { shown result ≡ place_of self.now.files row }
+        ensures gives { seen_location result ≡ location_of_row self.now.files row }
     {
         let file = self.file(row.file_index);
         if row.line == 0 {
@@ -152,16 +143,16 @@ impl Lines {
         }
     }
 
-    /// The place of an address, `None` where no sequence has it. Takes no memory.
+    /// The location of an address, `None` where no sequence has it. Takes no memory.
     ///
     /// `probe` is an address as the file has it. Of the sequences that start at or before it the
     /// one with the greatest start counts, of these the one with the greatest end, of these the
     /// last in the program; where it ends past the probe, its row whose span holds the probe gives
-    /// the place.
+    /// the location.
     ///
     /// Source: DWARF 5, section 6.2.2. Own: which of several sequences counts.
     pub fn find_location(&self, probe: u64) -> Option<Location<'_>>
-        ensures found { option_map shown result ≡ place_at probe self.now }
+        ensures found { option_map seen_location result ≡ location_at probe self.now }
     {
         Some(self.row_location(self.find_row(probe)?))
     }

@@ -1,6 +1,6 @@
-//! A place in a source file.
+//! A location in a source file.
 
-/// A place in a source file.
+/// A location in a source file.
 #[derive(Clone, Copy, Debug, PartialEq, Eq)]
 pub struct Location<'a> {
     /// The text of the file, as the unit's files have it.

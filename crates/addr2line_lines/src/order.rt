@@ -18,14 +18,3 @@ pub(crate) fn sort_sequences(sequences: &mut Vec<LineSequence>) -> Result<(), Al
 {
     sequences.sort_by_key(|sequence| (sequence.start, sequence.end))
 }
-
-/// What is picked of sequences in order is what is picked of them in the program's order: a law,
-/// with no code.
-pub fn order_is_free()
-    ensures law { OrderIsFree start_of end_of }
-{}
-
-/// A sequence that holds an address is picked where all others lie beside it: a law, with no code.
-pub fn lone_is_picked()
-    ensures law { LoneIsPicked start_of end_of }
-{}

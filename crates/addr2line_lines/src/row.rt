@@ -1,64 +1,12 @@
-//! Rows, as they come and as they are kept.
+//! Rows, as they are stored.
 
-ghost use Rattle.std.specs.Prelude.{◌≡◌, ◌%◌, ◌^◌, ◌++◌, [], map, IfOk, OnOk, Err, None};
-ghost use Rattle.gimli_read.specs.declared.error.Error.{Error as Fault};
-ghost use Rattle.gimli_read.specs.declared.error.Error.TheVariants.{OutOfMemory};
-ghost use Rattle.gimli_line.specs.declared.row.LineRow.{LineRow as ProgramRow};
-ghost use Rattle.gimli_read.specs.Yields.{Yields};
-ghost use Rattle.addr2line_lines.specs.Rows.{read_all};
-ghost use Rattle.gimli_line.specs.Rises.{NeverFalls};
-ghost use Rattle.addr2line_lines.specs.Sequences.{row_of};
+ghost use Rattle.std.specs.Prelude.{◌≡◌, ◌%◌, ◌^◌, map, IfOk};
+ghost use Rattle.addr2line_lines.specs.Sequences.{stored_row};
 
-use gimli_line::{LineRow, LineRows};
-use gimli_read::{Error, Reader};
+use gimli_line::LineRow;
 use std::alloc::{AllocError, Global};
 
-/// Rows that come one at a time.
-pub(crate) trait ReadRows {
-    ghost use Rattle.gimli_read.specs.declared.error.Error.{Error as Fault};
-    ghost use Rattle.gimli_line.specs.declared.row.LineRow.{LineRow as ProgramRow};
-    ghost use Rattle.gimli_line.specs.declared.header.FileEntry.{FileEntry};
-    ghost use Rattle.gimli_read.specs.Section.{Section};
-    ghost use Rattle.std.specs.Prelude.{List, [], Result};
-
-    /// The rows that are still to come, and at most one fault, the last.
-    ghost left: { Self → List (Result ProgramRow Fault) };
-
-    /// The files that are there by now, and those that are still to be defined on the way.
-    ghost files: { Self → List (FileEntry Section) } = { λ _. [] };
-
-    ghost to_define: { Self → List (FileEntry Section) } = { λ _. [] };
-
-    /// The next row, if there is one.
-    fn next_row(&mut self) -> Result<Option<LineRow>, Error>
-        ensures gives { (result ≡ Err OutOfMemory → ⊥) →
-            Yields (left self.old) result (left self.new) }
-        ensures files { OnOk result (files self.old ++ to_define self.old
-            ≡ files self.new ++ to_define self.new) }
-        ensures all { IfOk result (λ row. row ≡ None → to_define self.new ≡ []) };
-
-    /// Within a sequence addresses don't fall: a law that each reader of rows shows.
-    fn rises(&self)
-        ensures law { IfOk (read_all (left self.now)) NeverFalls };
-}
-
-impl<R: Reader> ReadRows for LineRows<R> {
-    ghost left = { λ a. a.left };
-
-    ghost files = { λ a. a.header.file_names };
-
-    ghost to_define = { λ a. a.to_define };
-
-    fn next_row(&mut self) -> Result<Option<LineRow>, Error> {
-        LineRows::next_row(self)
-    }
-
-    fn rises(&self) {
-        LineRows::rises(self);
-    }
-}
-
-/// A row of a sequence, as it is kept.
+/// A row of a sequence, as it is stored.
 #[derive(Clone, Copy, Debug, PartialEq, Eq)]
 pub struct Row {
     /// The address, as the file has it.
@@ -71,16 +19,16 @@ pub struct Row {
     pub column: u32,
 }
 
-// What a row keeps of a line or a column.
+// The low 32 bits of a line or a column.
 fn low_bits(number: u64) -> u32
     ensures gives { result ≡ number % 2 ^ 32 }
 {
     (number % (1 << 32)) as u32
 }
 
-// What is kept of a row.
-fn kept_row(row: &LineRow) -> Row
-    ensures gives { result ≡ row_of row.now }
+// A row as it is stored.
+fn stored_row(row: &LineRow) -> Row
+    ensures gives { result ≡ stored_row row.now }
 {
     Row {
         address: row.address,
@@ -90,9 +38,9 @@ fn kept_row(row: &LineRow) -> Row
     }
 }
 
-/// What is kept of rows.
-pub(crate) fn kept_rows(alloc: Global, rows: &[LineRow]) -> Result<Vec<Row>, AllocError>
-    ensures gives { IfOk result (λ kept. kept.items ≡ map row_of rows.now) }
+/// Rows as they are stored.
+pub(crate) fn stored_rows(alloc: Global, rows: &[LineRow]) -> Result<Vec<Row>, AllocError>
+    ensures gives { IfOk result (λ kept. kept.items ≡ map stored_row rows.now) }
 {
-    rows.iter().map(|row| kept_row(row)).collect(alloc)
+    rows.iter().map(|row| stored_row(row)).collect(alloc)
 }

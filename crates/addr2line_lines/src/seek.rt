@@ -6,8 +6,8 @@ ghost use Rattle.std.specs.List.Sorted.{IsNonDecreasingBy};
 ghost use Rattle.addr2line_lines.specs.Sequences.{start_of, end_of};
 ghost use Rattle.addr2line_lines.specs.Rises.{IsRising};
 ghost use Rattle.gimli_read.specs.Topmost.{last};
-ghost use Rattle.addr2line_lines.specs.Pick.{beginning_by, if_past};
-ghost use Rattle.addr2line_lines.specs.Spans.{address_of, row_in, EachAddressHasRow};
+ghost use Rattle.addr2line_lines.specs.Pick.{at_or_below, if_past};
+ghost use Rattle.addr2line_lines.specs.Spans.{row_address, row_in, EachAddressHasRow};
 
 use crate::row::Row;
 use crate::sequence::LineSequence;
@@ -15,7 +15,7 @@ use crate::sequence::LineSequence;
 /// The last of the sequences that start by the probe. Takes no memory.
 pub(crate) fn last_sequence(sequences: &[LineSequence], probe: u64) -> Option<&LineSequence>
     requires ordered { IsNonDecreasingBy start_of sequences.now }
-    ensures found { option_copied result ≡ last (beginning_by start_of probe sequences.now) }
+    ensures found { option_copied result ≡ last (at_or_below start_of probe sequences.now) }
 {
     let by = sequences.partition_point(|sequence| sequence.start <= probe);
     sequences[..by].last()
@@ -23,8 +23,8 @@ pub(crate) fn last_sequence(sequences: &[LineSequence], probe: u64) -> Option<&L
 
 // The last of the rows that stand by the probe.
 fn last_row(rows: &[Row], probe: u64) -> Option<&Row>
-    requires ordered { IsNonDecreasingBy address_of rows.now }
-    ensures found { option_copied result ≡ last (beginning_by address_of probe rows.now) }
+    requires ordered { IsNonDecreasingBy row_address rows.now }
+    ensures found { option_copied result ≡ last (at_or_below row_address probe rows.now) }
 {
     let by = rows.partition_point(|row| row.address <= probe);
     rows[..by].last()
@@ -41,8 +41,3 @@ pub(crate) fn row_of_sequence(sequence: &LineSequence, probe: u64) -> Option<Row
     }
     last_row(&sequence.rows, probe).copied()
 }
-
-/// Each address of a sequence that rises has a row: a law, with no code.
-pub fn each_address_has_a_row()
-    ensures law { EachAddressHasRow }
-{}

@@ -5,12 +5,13 @@ ghost use Rattle.std.specs.List.{AllByRecursion};
 ghost use Rattle.gimli_read.specs.Reading.{ExactlyUnlessOom};
 ghost use Rattle.addr2line_lines.specs.Rows.{read_all, result_map};
 ghost use Rattle.addr2line_lines.specs.Sequences.{sequence_of, sequences_of};
+ghost use Rattle.gimli_line.specs.Rises.{NeverFalls};
 ghost use Rattle.addr2line_lines.specs.Rises.{IsRising, SequencesRise};
 ghost use Rattle.addr2line_lines.specs.Building.{IsPending, SameSequences, SameTogether, StillRises};
 
-use crate::row::{ReadRows, Row, kept_rows};
-use gimli_line::LineRow;
-use gimli_read::Error;
+use crate::row::{Row, stored_rows};
+use gimli_line::{LineRow, LineRows};
+use gimli_read::{Error, Reader};
 use std::alloc::{AllocError, Global};
 use std::marker::Model;
 
@@ -46,7 +47,7 @@ fn close(alloc: Global, rows: &[LineRow], last: LineRow) -> Result<Option<LineSe
     Ok(Some(LineSequence {
         start: first.address,
         end: last.address,
-        rows: kept_rows(alloc, rows)?,
+        rows: stored_rows(alloc, rows)?,
     }))
 }
 
@@ -100,19 +101,27 @@ impl Builder {
     }
 }
 
-/// The sequences of the rows that come, in their order.
-///
-/// Refused with the rows' fault, and `OutOfMemory`.
-pub(crate) fn read_sequences<R: ReadRows>(
-    alloc: Global,
-    rows: &mut R,
-) -> Result<Vec<LineSequence>, Error>
-    ensures gives { ExactlyUnlessOom (λ v. v.items) result
-        (result_map sequences_of (read_all (R.left rows.old))) }
-    ensures rise { IfOk result (λ v. AllByRecursion IsRising v.items) }
-    ensures files { OnOk result (R.files rows.new ≡ R.files rows.old ++ R.to_define rows.old) }
+// Within a sequence the addresses of the rows to come don't fall.
+fn never_falls<R: Reader>(rows: &LineRows<R>)
+    ensures law { IfOk (read_all rows.now.left) NeverFalls }
 {
     rows.rises();
+}
+
+/// The sequences of a program's rows, in the program's order.
+///
+/// Refused with the program's fault; may fail with `OutOfMemory` instead.
+pub(crate) fn read_sequences<R: Reader>(
+    alloc: Global,
+    rows: &mut LineRows<R>,
+) -> Result<Vec<LineSequence>, Error>
+    ensures gives { ExactlyUnlessOom (λ v. v.items) result
+        (result_map sequences_of (read_all rows.old.left)) }
+    ensures rise { IfOk result (λ v. AllByRecursion IsRising v.items) }
+    ensures files { OnOk result
+        (rows.new.header.file_names ≡ rows.old.header.file_names ++ rows.old.to_define) }
+{
+    never_falls(rows);
     let mut builder = Builder {
         pending: Vec::new(alloc),
         sequences: Vec::new(alloc),
@@ -122,8 +131,3 @@ pub(crate) fn read_sequences<R: ReadRows>(
     }
     Ok(builder.sequences)
 }
-
-/// The sequences of rows whose addresses don't fall within a sequence rise: a law, with no code.
-pub fn sequences_rise()
-    ensures law { SequencesRise }
-{}

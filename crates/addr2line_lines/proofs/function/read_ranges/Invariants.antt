@@ -1,7 +1,7 @@
 use Rattle.std.proofs.Common.{◌≡◌, drop}
 use Rattle.gimli.specs.Sections.{seen_dwarf}
 use Rattle.gimli.specs.Unit.{seen_unit}
-use Rattle.addr2line_lines.specs.RangeAttributes.{no_ranges, took_at}
+use Rattle.addr2line_lines.specs.RangeAttributes.{no_range_attributes, range_attributes_at}
 use Rattle.addr2line_lines.proofs.function.read_ranges.Given as goal
 
 abbrev pub invariant-loop-specification : goal.invariant-loop-specification
@@ -10,6 +10,6 @@ invariant-loop-specification g l =
     let d = seen_dwarf see l.unit.dwarf.now in
     let u = seen_unit see l.unit.unit.now in
     record {
-      gives : took_at d u (drop l.specification-index l.specifications) l.ranges (see l.entries.input) ≡ took_at d u l.specifications no_ranges (see l.fn.entries.input);
+      gives : range_attributes_at d u (drop l.specification-index l.specifications) l.ranges (see l.entries.input) ≡ range_attributes_at d u l.specifications no_range_attributes (see l.fn.entries.input);
       same : l.entries.encoding ≡ l.unit.unit.now.header.encoding;
     }

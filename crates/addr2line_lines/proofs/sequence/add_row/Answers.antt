@@ -3,7 +3,7 @@ use Rattle.gimli_line.specs.declared.row.LineRow.{LineRow as ProgramRow}
 use Rattle.addr2line_lines.specs.Sequences.{sequences_of}
 use Rattle.gimli_line.specs.Rises.{NeverFalls}
 use Rattle.addr2line_lines.specs.Building.{IsPending}
-use Rattle.addr2line_lines.proofs.StretchLemmas.{replaced, falls_replaced, pending_more, pending_replaced}
+use Rattle.addr2line_lines.proofs.RowGroupLemmas.{replaced, falls_replaced, pending_more, pending_replaced}
 use Rattle.addr2line_lines.proofs.sequence.add_row.Goals as goal
 
 pending : (xs ys : List ProgramRow) → ys ≡ xs → IsPending xs → IsPending ys

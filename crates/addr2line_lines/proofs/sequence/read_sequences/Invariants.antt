@@ -7,15 +7,15 @@ use Rattle.addr2line_lines.proofs.sequence.read_sequences.Given as goal
 
 abbrev pub invariant-loop-builder : goal.invariant-loop-builder
 invariant-loop-builder g l =
-    let left = g.R.ReadRows.left l.rows in
+    let left = l.rows.left in
     let pending = l.builder.pending.items in
     let before = l.builder.sequences.items in
     record {
       pending_rows : IsPending pending;
       rises : IfOk (read_all left) (λ xs. NeverFalls (pending ++ xs));
-      same : result_map (λ xs. before ++ sequences_of (pending ++ xs)) (read_all left) ≡ result_map sequences_of (read_all (g.R.ReadRows.left l.fn.rows));
-      files : g.R.ReadRows.files l.fn.rows ++ g.R.ReadRows.to_define l.fn.rows ≡ g.R.ReadRows.files l.rows ++ g.R.ReadRows.to_define l.rows;
+      same : result_map (λ xs. before ++ sequences_of (pending ++ xs)) (read_all left) ≡ result_map sequences_of (read_all l.fn.rows.left);
+      files : l.fn.rows.header.file_names ++ l.fn.rows.to_define ≡ l.rows.header.file_names ++ l.rows.to_define;
     }
 
 abbrev pub decreases-loop-builder : goal.decreases-loop-builder
-decreases-loop-builder g l = length (g.R.ReadRows.left l.rows)
+decreases-loop-builder g l = length l.rows.left

@@ -2,7 +2,7 @@ use Rattle.std.proofs.Common.{◌≡◌, Bool, true, false, not, refl, List, [],
 use Rattle.gimli_line.specs.declared.row.LineRow.{LineRow as ProgramRow}
 use Rattle.addr2line_lines.specs.Sequences.{sequence_of, sequences_of}
 use Rattle.gimli_line.specs.Rises.{NeverFalls}
-use Rattle.addr2line_lines.proofs.StretchLemmas.{closed_some, closed_none, falls_back}
+use Rattle.addr2line_lines.proofs.RowGroupLemmas.{closed_some, closed_none, falls_back}
 use Rattle.addr2line_lines.proofs.sequence.Builder.take_row.Goals as goal
 
 ends : (b : Bool) → not b ≡ false → b ≡ true

@@ -3,7 +3,7 @@ use Rattle.std.proofs.Common.{ℕ, ◌≡◌, ◌<◌, ◌≤◌, ◌||◌, ◌=
 use Rattle.std.proofs.lemmas.Bool.Decides.{nat_tests}
 use Rattle.std.specs.List.{AllByRecursion, list_any, filter_map, cons_option}
 use Rattle.gimli_line.specs.declared.row.LineRow.{LineRow}
-use Rattle.addr2line_lines.specs.Sequences.{Stretch, Sequence, put_first, stretches, latest, sequence_of, sequence_in, sequences_of}
+use Rattle.addr2line_lines.specs.Sequences.{RowGroup, Sequence, put_first, row_groups, latest, sequence_of, sequence_in, sequences_of}
 use Rattle.gimli_line.specs.Rises.{NeverFalls}
 use Rattle.addr2line_lines.specs.Building.{Apart, Open, IsPending}
 
@@ -12,23 +12,23 @@ append_none [] = refl
 append_none (x ∷ xs) = ap (λ ys. x ∷ ys) (append_none xs)
 
 -- rows before those of the first stretch
-abbrev put_all : List LineRow → List Stretch → List Stretch
+abbrev put_all : List LineRow → List RowGroup → List RowGroup
 put_all p [] = []
 put_all p (s ∷ rest) = record { rows = p ++ s.rows; last = s.last } ∷ rest
 
-put_all-cons : (r : LineRow) (p : List LineRow) (ss : List Stretch) → put_first r (put_all p ss) ≡ put_all (r ∷ p) ss
+put_all-cons : (r : LineRow) (p : List LineRow) (ss : List RowGroup) → put_first r (put_all p ss) ≡ put_all (r ∷ p) ss
 put_all-cons r p [] = refl
 put_all-cons r p (s ∷ rest) = refl
 
-put_all-none : (ss : List Stretch) → ss ≡ put_all [] ss
+put_all-none : (ss : List RowGroup) → ss ≡ put_all [] ss
 put_all-none [] = refl
 put_all-none (s ∷ rest) = refl
 
-stretches-open : (p left : List LineRow) → Open p → stretches (p ++ left) ≡ put_all p (stretches left)
-stretches-open [] left o = put_all-none (stretches left)
-stretches-open (r ∷ p) left o =
-    ap (λ b. cond b (record { rows = []; last = r } ∷ stretches (p ++ left)) (put_first r (stretches (p ++ left)))) o.0
-    ∙ ap (put_first r) (stretches-open p left o.1) ∙ put_all-cons r p (stretches left)
+row_groups-open : (p left : List LineRow) → Open p → row_groups (p ++ left) ≡ put_all p (row_groups left)
+row_groups-open [] left o = put_all-none (row_groups left)
+row_groups-open (r ∷ p) left o =
+    ap (λ b. cond b (record { rows = []; last = r } ∷ row_groups (p ++ left)) (put_first r (row_groups (p ++ left)))) o.0
+    ∙ ap (put_first r) (row_groups-open p left o.1) ∙ put_all-cons r p (row_groups left)
 
 -- whether a row has the address
 abbrev at : ℕ → LineRow → Bool
@@ -66,16 +66,16 @@ Open-front (r ∷ p) q o = (o.0, Open-front p q o.1)
 pub replaced : (p left : List LineRow) (a r : LineRow) → Open (p ++ a ∷ []) → r.end_sequence ≡ false → a.address ≡ r.address → sequences_of ((p ++ a ∷ []) ++ r ∷ left) ≡ sequences_of (p ++ r ∷ left)
 replaced p left a r o e same =
     ap sequences_of (append_assoc p (a ∷ []) (r ∷ left)) ∙ ap sequences_of (sym (append_assoc p (a ∷ r ∷ []) left))
-    ∙ ap (filter_map sequence_in) (stretches-open (p ++ a ∷ r ∷ []) left (Open-append p (a ∷ r ∷ []) (Open-front p (a ∷ []) o) (last_open p o, (e, tt))))
-    ∙ by_cases (stretches left)
-    ∙ ap (filter_map sequence_in) (sym (stretches-open (p ++ r ∷ []) left (Open-append p (r ∷ []) (Open-front p (a ∷ []) o) (e, tt))))
+    ∙ ap (filter_map sequence_in) (row_groups-open (p ++ a ∷ r ∷ []) left (Open-append p (a ∷ r ∷ []) (Open-front p (a ∷ []) o) (last_open p o, (e, tt))))
+    ∙ by_cases (row_groups left)
+    ∙ ap (filter_map sequence_in) (sym (row_groups-open (p ++ r ∷ []) left (Open-append p (r ∷ []) (Open-front p (a ∷ []) o) (e, tt))))
     ∙ ap sequences_of (append_assoc p (r ∷ []) left)
   where
     last_open : (xs : List LineRow) → Open (xs ++ a ∷ []) → a.end_sequence ≡ false
     last_open [] h = h.0
     last_open (x ∷ xs) h = last_open xs h.1
 
-    by_cases : (ss : List Stretch) → filter_map sequence_in (put_all (p ++ a ∷ r ∷ []) ss) ≡ filter_map sequence_in (put_all (p ++ r ∷ []) ss)
+    by_cases : (ss : List RowGroup) → filter_map sequence_in (put_all (p ++ a ∷ r ∷ []) ss) ≡ filter_map sequence_in (put_all (p ++ r ∷ []) ss)
     by_cases [] = refl
     by_cases (s ∷ rest) =
         let e : latest ((p ++ a ∷ r ∷ []) ++ s.rows) ≡ latest ((p ++ r ∷ []) ++ s.rows) =
@@ -151,8 +151,8 @@ falls_back (r ∷ s ∷ p) left e h = falls_back (s ∷ p) left e h.1
 -- an end row closes the rows before it
 ended : (p left : List LineRow) (e : LineRow) → IsPending p → e.end_sequence ≡ true → NeverFalls (p ++ e ∷ left) → sequences_of (p ++ e ∷ left) ≡ cons_option (sequence_of p e) (sequences_of left)
 ended p left e pending is n =
-    ap (filter_map sequence_in) (stretches-open p (e ∷ left) pending.open_ended)
-    ∙ ap (λ b. filter_map sequence_in (put_all p (cond b (record { rows = []; last = e } ∷ stretches left) (put_first e (stretches left))))) is
+    ap (filter_map sequence_in) (row_groups-open p (e ∷ left) pending.open_ended)
+    ∙ ap (λ b. filter_map sequence_in (put_all p (cond b (record { rows = []; last = e } ∷ row_groups left) (put_first e (row_groups left))))) is
     ∙ ap (λ rows. cons_option (sequence_of rows e) (sequences_of left)) (ap latest (append_none p) ∙ latest_same p pending.open_ended pending.apart (falls_front p (e ∷ left) n))
 
 pub closed_some : (before after : List Sequence) (rows left : List LineRow) (e : LineRow) (s : Sequence) → sequence_of rows e ≡ Some s → after ≡ before ++ s ∷ []
@@ -166,4 +166,4 @@ closed_none before rows left e is pending end n = ap (λ o. before ++ cons_optio
 
 -- rows that no end row follows are dropped
 pub none_open : (p : List LineRow) → IsPending p → sequences_of (p ++ []) ≡ []
-none_open p pending = ap (filter_map sequence_in) (stretches-open p [] pending.open_ended)
+none_open p pending = ap (filter_map sequence_in) (row_groups-open p [] pending.open_ended)

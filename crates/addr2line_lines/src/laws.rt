@@ -1,0 +1,27 @@
+//! Laws of sequences and of the choice among them, with no code.
+
+ghost use Rattle.addr2line_lines.specs.Sequences.{start_of, end_of};
+ghost use Rattle.addr2line_lines.specs.Rises.{SequencesRise};
+ghost use Rattle.addr2line_lines.specs.InOrder.{OrderIsFree};
+ghost use Rattle.addr2line_lines.specs.Pick.{LoneIsPicked};
+ghost use Rattle.addr2line_lines.specs.Spans.{EachAddressHasRow};
+
+/// Where addresses don't fall within a sequence, the sequences of the rows rise.
+pub fn sequences_rise()
+    ensures law { SequencesRise }
+{}
+
+/// Each address of a sequence that rises has a row.
+pub fn each_address_has_a_row()
+    ensures law { EachAddressHasRow }
+{}
+
+/// What is picked of sequences in order is what is picked of them in the program's order.
+pub fn order_is_free()
+    ensures law { OrderIsFree start_of end_of }
+{}
+
+/// A sequence that holds an address is picked where all others are disjoint from it.
+pub fn lone_is_picked()
+    ensures law { LoneIsPicked start_of end_of }
+{}

@@ -6,7 +6,7 @@ ghost use mathlib.Core.Option.{none};
 ghost use Rattle.gimli_read.specs.Reading.{ExactlyUnlessOom};
 ghost use Rattle.gimli.specs.declared.dwarf.DwarfFileType.TheVariants.{Main};
 ghost use Rattle.gimli.specs.Sections.{seen_dwarf};
-ghost use Rattle.addr2line_lines.specs.Shown.{shown};
+ghost use Rattle.addr2line_lines.specs.SeenLocation.{seen_location};
 ghost use Rattle.addr2line_units.specs.Located.{location_of};
 ghost use Rattle.addr2line.specs.Context.{context_of};
 
@@ -117,7 +117,7 @@ impl<R: Reader> Context<R> {
     ///
     /// Source: DWARF 5, section 6.2. Own: which of several sequences counts.
     pub fn find_location(&mut self, probe: u64) -> Result<Option<Location<'_>>, Error>
-        ensures gives { ExactlyUnlessOom (option_map shown) result (location_of self.old probe) }
+        ensures gives { ExactlyUnlessOom (option_map seen_location) result (location_of self.old probe) }
         ensures* kept { sem 𝓛 (follows_so (the_row R.row (record { section = R.section }) (record { is_clone = R.is_clone; is_infallible = R.is_infallible })) (the_row R.row (record { section = R.section }) (record { is_clone = R.is_clone; is_infallible = R.is_infallible })) self.entry.ghost_name none (λ _ _. ⊤) (λ new. new ≡ self.old)) }
     {
         self.units.read_lines(self.alloc, &self.dwarf, probe)?;

@@ -5,7 +5,7 @@ ghost use Rattle.std.specs.Borrow.{sem};
 ghost use Rattle.std.specs.Io.BufRead.{Rests};
 ghost use Rattle.std.specs.Io.KnownBytes.{Appends};
 ghost use Rattle.gimli_read.specs.Reading.{ExactlyUnlessOom};
-ghost use Rattle.addr2line_lines.specs.Shown.{shown};
+ghost use Rattle.addr2line_lines.specs.SeenLocation.{shown};
 ghost use Rattle.addr2line_bin.specs.Put.{Part, Sends, Begins};
 ghost use Rattle.addr2line_bin.specs.Text.{place_text, place_in, hex, fault_line, fault_text, out_of, told_of, outs, errs, probes_in};
 ghost use Rattle.addr2line_bin.specs.declared.engine.Exit.TheVariants as exit;

@@ -1,4 +1,4 @@
--- What is kept of units (on specs/Made.antt and specs/Kept.antt).
+-- The units of a context and their cached lines (on specs/UnitIndex.antt and specs/CachedLines.antt).
 use Rattle.std.proofs.Common.{◌≡◌, ℕ, true, false, List, [], ◌∷◌, map, Option, Some, None, option_and_then, Result, Ok, Err, refl, sym, ap, ◌∙◌, if◌then◌else◌}
 use Rattle.std.specs.Option.{option_to_list}
 use Rattle.gimli_read.specs.declared.range.Range.{Range}
@@ -11,24 +11,24 @@ use Rattle.gimli.specs.Sections.{Sections}
 use Rattle.gimli.specs.Unit.{UnitRecord, seen_unit}
 use Rattle.addr2line_lines.specs.InOrder.{in_order}
 use Rattle.addr2line_lines.specs.UnitLines.{unit_lines}
-use Rattle.addr2line_lines.specs.Location.{Kept as Lines, Place, place_at}
+use Rattle.addr2line_lines.specs.Location.{LineTable as Lines, Location, location_at}
 use Rattle.addr2line_units.specs.declared.unit.LazyLines.{LazyLines}
 use Rattle.addr2line_units.specs.declared.unit.ResUnit.{ResUnit}
 use Rattle.addr2line_units.specs.declared.unit.LazyLines.TheVariants.{Unread, Read, Faulty}
-use Rattle.addr2line_units.specs.Made.{Made, with_unit, made_of, ends_sooner}
-use Rattle.addr2line_units.specs.Located.{along, or_along, found_in}
-use Rattle.addr2line_units.specs.Kept.{IsRead, settled, to_settle, kept_lines, is_unread, holds, made_with, found_kept}
+use Rattle.addr2line_units.specs.UnitIndex.{UnitIndex, with_unit, index_units, ends_sooner}
+use Rattle.addr2line_units.specs.Located.{along, or_along, location_along}
+use Rattle.addr2line_units.specs.CachedLines.{AreLinesOf, cached_answer, lines_answer, cached_lines, is_uncached, range_holds, seen_index, cached_location_at}
 
 -- lines that were read before are those of the unit
-pub settled_before : (d : Sections) (u : UnitRecord) (l : LazyLines) → IsRead d u l → is_unread l ≡ false → settled l ≡ to_settle d u
-settled_before d u Unread h e = cc
-settled_before d u (Read lines) h e = ap (λ r. r >>= λ x. Ok (Some x)) (sym h)
-settled_before d u (Faulty x) h e = ap (λ r. r >>= λ x. Ok (Some x)) (sym h)
+pub cached_before : (d : Sections) (u : UnitRecord) (l : LazyLines) → AreLinesOf d u l → is_uncached l ≡ false → cached_answer l ≡ lines_answer d u
+cached_before d u Unread h e = cc
+cached_before d u (Read lines) h e = ap (λ r. r >>= λ x. Ok (Some x)) (sym h)
+cached_before d u (Faulty x) h e = ap (λ r. r >>= λ x. Ok (Some x)) (sym h)
 
 -- what is left to make after a header was given
-pub made-next : (d : Sections) (m : Made) (left rest : List (Result (UnitHeader Section) Error)) (h : UnitHeader Section) → next_given left ≡ Ok (Some h, rest) → made_of d m left ≡ (with_unit d m h >>= λ more. made_of d more rest)
-unfolding made_of
-made-next d m [] rest h e = absurd (none_some e)
+pub unit_index-next : (d : Sections) (m : UnitIndex) (left rest : List (Result (UnitHeader Section) Error)) (h : UnitHeader Section) → next_given left ≡ Ok (Some h, rest) → index_units d m left ≡ (with_unit d m h >>= λ more. index_units d more rest)
+unfolding index_units
+unit_index-next d m [] rest h e = absurd (none_some e)
   where
     first : Result (Option (UnitHeader Section) × List (Result (UnitHeader Section) Error)) Error → Option (UnitHeader Section)
     first (Ok x) = x.0
@@ -36,11 +36,11 @@ made-next d m [] rest h e = absurd (none_some e)
 
     none_some : next_given [] ≡ Ok (Some h, rest) → ⊥
     none_some k = let same : None ≡ Some h = ap first k in cc
-made-next d m (Ok x ∷ xs) rest h e =
+unit_index-next d m (Ok x ∷ xs) rest h e =
     let same : Some x ≡ Some h = ap first e in
     let x-is : x ≡ h = cc in
     let left-is : xs ≡ rest = ap second e in
-    ap (λ y. with_unit d m y >>= λ more. made_of d more xs) x-is ∙ ap (λ ys. with_unit d m h >>= λ more. made_of d more ys) left-is
+    ap (λ y. with_unit d m y >>= λ more. index_units d more xs) x-is ∙ ap (λ ys. with_unit d m h >>= λ more. index_units d more ys) left-is
   where
     first : Result (Option (UnitHeader Section) × List (Result (UnitHeader Section) Error)) Error → Option (UnitHeader Section)
     first (Ok y) = y.0
@@ -49,12 +49,12 @@ made-next d m (Ok x ∷ xs) rest h e =
     second : Result (Option (UnitHeader Section) × List (Result (UnitHeader Section) Error)) Error → List (Result (UnitHeader Section) Error)
     second (Ok y) = y.1
     second (Err y) = xs
-made-next d m (Err x ∷ xs) rest h e = cc
+unit_index-next d m (Err x ∷ xs) rest h e = cc
 
-pub made-end : (d : Sections) (m : Made) (left rest : List (Result (UnitHeader Section) Error)) → next_given left ≡ Ok (None, rest) → made_of d m left ≡ Ok m
-unfolding made_of
-made-end d m [] rest e = refl
-made-end d m (Ok x ∷ xs) rest e = absurd (some_none e)
+pub unit_index-end : (d : Sections) (m : UnitIndex) (left rest : List (Result (UnitHeader Section) Error)) → next_given left ≡ Ok (None, rest) → index_units d m left ≡ Ok m
+unfolding index_units
+unit_index-end d m [] rest e = refl
+unit_index-end d m (Ok x ∷ xs) rest e = absurd (some_none e)
   where
     first : Result (Option (UnitHeader Section) × List (Result (UnitHeader Section) Error)) Error → Option (UnitHeader Section)
     first (Ok y) = y.0
@@ -62,26 +62,26 @@ made-end d m (Ok x ∷ xs) rest e = absurd (some_none e)
 
     some_none : next_given (Ok x ∷ xs) ≡ Ok (None, rest) → ⊥
     some_none k = let same : Some x ≡ None = ap first k in cc
-made-end d m (Err x ∷ xs) rest e = cc
+unit_index-end d m (Err x ∷ xs) rest e = cc
 
-pub made-fault : (d : Sections) (m : Made) (left : List (Result (UnitHeader Section) Error)) (f : Error) → next_given left ≡ Err f → made_of d m left ≡ Err f
-unfolding made_of
-made-fault d m [] f e = cc
-made-fault d m (Ok x ∷ xs) f e = cc
-made-fault d m (Err x ∷ xs) f e = let same : x ≡ f = cc in ap Err same
+pub unit_index-fault : (d : Sections) (m : UnitIndex) (left : List (Result (UnitHeader Section) Error)) (f : Error) → next_given left ≡ Err f → index_units d m left ≡ Err f
+unfolding index_units
+unit_index-fault d m [] f e = cc
+unit_index-fault d m (Ok x ∷ xs) f e = cc
+unit_index-fault d m (Err x ∷ xs) f e = let same : x ≡ f = cc in ap Err same
 
-at_place : (p : Option Place) → ◌≡◌ {A = Result (Option Place) Error} (or_along (Ok None) p) (Ok p)
+at_place : (p : Option Location) → ◌≡◌ {A = Result (Option Location) Error} (or_along (Ok None) p) (Ok p)
 at_place None = refl
 at_place (Some p) = refl
 
 -- the one range that covers the probe leads to its unit
-pub found_covered : (d : Sections) (u : UnitRecord) (probe : ℕ) (range : Option Range) → holds probe range ≡ true → found_in d (record { units = u ∷ []; ranges = map (λ (r : Range). record { unit = 0; range = r }) (option_to_list range) }) probe ≡ (to_settle d u >>= λ lines. Ok (option_and_then (λ (l : Lines). place_at probe l) lines))
+pub found_covered : (d : Sections) (u : UnitRecord) (probe : ℕ) (range : Option Range) → range_holds probe range ≡ true → location_along d (record { units = u ∷ []; ranges = map (λ (r : Range). record { unit = 0; range = r }) (option_to_list range) }) probe ≡ (lines_answer d u >>= λ lines. Ok (option_and_then (λ (l : Lines). location_at probe l) lines))
 found_covered d u probe None h = cc
 found_covered d u probe (Some r) h = ap (λ b. along d (u ∷ []) probe (in_order ends_sooner (if b then record { unit = 0; range = r } ∷ [] else []))) h ∙ at_unit (unit_lines d u)
   where
-    at_unit : (lines : Result Lines Error) → ((lines >>= λ l. Ok (place_at probe l)) >>= λ place. or_along (Ok None) place) ≡ ((lines >>= λ l. Ok (Some l)) >>= λ l. Ok (option_and_then (λ (x : Lines). place_at probe x) l))
+    at_unit : (lines : Result Lines Error) → ((lines >>= λ l. Ok (location_at probe l)) >>= λ place. or_along (Ok None) place) ≡ ((lines >>= λ l. Ok (Some l)) >>= λ l. Ok (option_and_then (λ (x : Lines). location_at probe x) l))
     at_unit (Err e) = refl
-    at_unit (Ok l) = at_place (place_at probe l)
+    at_unit (Ok l) = at_place (location_at probe l)
 
 -- what is given of a reading that goes on
 pub gives_on : {X Y Z : Type 0} (view : X → Y) (h : Y → Z) (result : Result X Error) (given : Result Y Error) → ExactlyUnlessOom view result given → ExactlyUnlessOom (λ x. h (view x)) result (given >>= λ y. Ok (h y))
@@ -89,14 +89,14 @@ gives_on view h (Ok x) given k = ap (λ y. y >>= λ z. Ok (h z)) k
 gives_on view h (Err e) given k = λ ne. ap (λ y. y >>= λ z. Ok (h z)) (k ne)
 
 -- one unit's fault is that of all
-pub step-fault : (d : Sections) (m : Made) (left rest : List (Result (UnitHeader Section) Error)) (h : UnitHeader Section) (e : Error) → next_given left ≡ Ok (Some h, rest) → with_unit d m h ≡ Err e → made_of d m left ≡ Err e
-step-fault d m left rest h e n k = made-next d m left rest h n ∙ ap (λ r. r >>= λ more. made_of d more rest) k
+pub step-fault : (d : Sections) (m : UnitIndex) (left rest : List (Result (UnitHeader Section) Error)) (h : UnitHeader Section) (e : Error) → next_given left ≡ Ok (Some h, rest) → with_unit d m h ≡ Err e → index_units d m left ≡ Err e
+step-fault d m left rest h e n k = unit_index-next d m left rest h n ∙ ap (λ r. r >>= λ more. index_units d more rest) k
 
-pub step-made : (d : Sections) (m more : Made) (left rest : List (Result (UnitHeader Section) Error)) (h : UnitHeader Section) → next_given left ≡ Ok (Some h, rest) → with_unit d m h ≡ Ok more → made_of d more rest ≡ made_of d m left
-step-made d m more left rest h n k = sym (made-next d m left rest h n ∙ ap (λ r. r >>= λ y. made_of d y rest) k)
+pub step-unit_index : (d : Sections) (m more : UnitIndex) (left rest : List (Result (UnitHeader Section) Error)) (h : UnitHeader Section) → next_given left ≡ Ok (Some h, rest) → with_unit d m h ≡ Ok more → index_units d more rest ≡ index_units d m left
+step-unit_index d m more left rest h n k = sym (unit_index-next d m left rest h n ∙ ap (λ r. r >>= λ y. index_units d y rest) k)
 
 -- what is found of a unit whose lines are kept by now
-pub found_again : {R : Type 0} (see : R → Section) (d : Sections) (probe : ℕ) (old new : ResUnit R) (result : Result (Unit {0}) Error) → holds probe old.range ≡ true → new.range ≡ old.range → ExactlyUnlessOom (λ _. kept_lines new.lines) result (to_settle d (seen_unit see old.dw_unit)) → ExactlyUnlessOom (λ _. found_kept probe (Some new)) result (found_in d (made_with see (Some old)) probe)
+pub found_again : {R : Type 0} (see : R → Section) (d : Sections) (probe : ℕ) (old new : ResUnit R) (result : Result (Unit {0}) Error) → range_holds probe old.range ≡ true → new.range ≡ old.range → ExactlyUnlessOom (λ _. cached_lines new.lines) result (lines_answer d (seen_unit see old.dw_unit)) → ExactlyUnlessOom (λ _. cached_location_at probe (Some new)) result (location_along d (seen_index see (Some old)) probe)
 found_again see d probe old new result h same k =
-    let kept : found_kept probe (Some new) ≡ option_and_then (λ (l : Lines). place_at probe l) (kept_lines new.lines) = ap (λ b. if b then option_and_then (λ (l : Lines). place_at probe l) (kept_lines new.lines) else None) (ap (holds probe) same ∙ h) in
-    rw (kept, found_covered d (seen_unit see old.dw_unit) probe old.range h) (gives_on (λ _. kept_lines new.lines) (λ l. option_and_then (λ (x : Lines). place_at probe x) l) result _ k)
+    let kept : cached_location_at probe (Some new) ≡ option_and_then (λ (l : Lines). location_at probe l) (cached_lines new.lines) = ap (λ b. if b then option_and_then (λ (l : Lines). location_at probe l) (cached_lines new.lines) else None) (ap (range_holds probe) same ∙ h) in
+    rw (kept, found_covered d (seen_unit see old.dw_unit) probe old.range h) (gives_on (λ _. cached_lines new.lines) (λ l. option_and_then (λ (x : Lines). location_at probe x) l) result _ k)

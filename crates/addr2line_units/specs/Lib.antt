@@ -1,6 +1,6 @@
 pub mod LegacyName
 pub mod LegacyText
 pub mod LegacyLaws
-pub mod Made
+pub mod UnitIndex
 pub mod Located
-pub mod Kept
+pub mod CachedLines

@@ -1,16 +1,16 @@
-//! The units that a context keeps.
+//! The units of a context.
 
-ghost use Rattle.std.specs.Prelude.{◌≡◌, IfOk, IfErr, option_map, option_copied};
+ghost use Rattle.std.specs.Prelude.{◌≡◌, ◌≢◌, false, true, Ok, Err, OnOk, OnErr, IfOk, IfErr, option_map, option_copied};
 ghost use Rattle.std.specs.Option.{option_to_list};
 ghost use Rattle.gimli_read.specs.Reading.{ExactlyUnlessOom, Exactly};
 ghost use Rattle.gimli.specs.Header.{seen_header};
 ghost use Rattle.gimli.specs.Sections.{seen_dwarf};
 ghost use Rattle.gimli.specs.Unit.{seen_unit};
-ghost use Rattle.addr2line_units.specs.Made.{is_type_unit, is_partial, unit_ranges, with_unit, made_of, made};
+ghost use Rattle.addr2line_units.specs.UnitIndex.{is_type_unit, is_partial, unit_ranges, with_unit, index_units, unit_index};
 ghost use Rattle.gimli_read.specs.declared.error.Error.TheVariants.{OutOfMemory};
-ghost use Rattle.addr2line_lines.specs.Shown.{shown};
-ghost use Rattle.addr2line_units.specs.Located.{found_in};
-ghost use Rattle.addr2line_units.specs.Kept.{IsRead, AreRead, made_with, settled, to_settle, kept_lines, is_unread, holds, found_kept};
+ghost use Rattle.addr2line_lines.specs.SeenLocation.{seen_location};
+ghost use Rattle.addr2line_units.specs.Located.{location_along};
+ghost use Rattle.addr2line_units.specs.CachedLines.{AreLinesOf, HasLinesOf, StaysCached, CachesAnswer, seen_index, cached_answer, lines_answer, lines_in_cache, cached_lines, is_uncached, range_holds, unit_holds, cached_location_at};
 
 use addr2line_lines::{Lines, Location, read_root_ranges};
 use gimli::read::{Error, Range, Reader};
@@ -28,7 +28,7 @@ pub enum LazyLines {
     Faulty(Error),
 }
 
-/// A unit that a context keeps.
+/// A unit of a context.
 #[derive(Drop)]
 pub struct ResUnit<R> {
     /// The unit.
@@ -39,7 +39,7 @@ pub struct ResUnit<R> {
     pub lines: LazyLines,
 }
 
-/// The units that a context keeps: of those whose record can be read the first.
+/// The units of a context: of those whose record can be read the first.
 #[derive(Drop)]
 pub struct ResUnits<R> {
     /// The unit, where there is one.
@@ -72,18 +72,18 @@ fn read_unit_range<R: Reader>(dwarf: &Dwarf<R>, unit: &Unit<R>) -> Result<Option
     Ok(ranges.range())
 }
 
-// Keeps the unit of a header, unless one is kept already.
-#[tactic(auto, unfolding(crate::specs::Made::with_unit))]
+// Adds the unit of a header, unless there is one already.
+#[tactic(auto, unfolding(crate::specs::UnitIndex::with_unit))]
 fn take_unit<R: Reader>(
     alloc: Global,
     dwarf: &Dwarf<R>,
     header: UnitHeader<R>,
     kept: Option<ResUnit<R>>,
 ) -> Result<Option<ResUnit<R>>, Error>
-    requires read { AreRead R.section (seen_dwarf R.section dwarf.now) kept }
-    ensures gives { ExactlyUnlessOom (made_with R.section) result (with_unit (seen_dwarf R.section dwarf.now)
-        (made_with R.section kept) (seen_header R.section header)) }
-    ensures read { IfOk result (AreRead R.section (seen_dwarf R.section dwarf.now)) }
+    requires read { HasLinesOf R.section (seen_dwarf R.section dwarf.now) kept }
+    ensures gives { ExactlyUnlessOom (seen_index R.section) result (with_unit (seen_dwarf R.section dwarf.now)
+        (seen_index R.section kept) (seen_header R.section header)) }
+    ensures read { IfOk result (HasLinesOf R.section (seen_dwarf R.section dwarf.now)) }
 {
     if is_type_unit(header.type_()) {
         return Ok(kept);
@@ -105,15 +105,15 @@ fn take_unit<R: Reader>(
 }
 
 impl<R: Reader> ResUnits<R> {
-    /// The units of `.debug_info` that are kept.
+    /// The units of `.debug_info` that a context has.
     ///
     /// Refused by the first fault of a header or of a unit's range attributes, each unit whole before
     /// the next header, and `OutOfMemory`. A type unit and a unit whose record is faulty are passed
     /// over.
     pub fn parse(alloc: Global, dwarf: &Dwarf<R>) -> Result<ResUnits<R>, Error>
-        ensures gives { ExactlyUnlessOom (λ u. made_with R.section u.unit) result
-            (made (seen_dwarf R.section dwarf.now)) }
-        ensures read { IfOk result (λ u. AreRead R.section (seen_dwarf R.section dwarf.now) u.unit) }
+        ensures gives { ExactlyUnlessOom (λ u. seen_index R.section u.unit) result
+            (unit_index (seen_dwarf R.section dwarf.now)) }
+        ensures read { IfOk result (λ u. HasLinesOf R.section (seen_dwarf R.section dwarf.now) u.unit) }
     {
         let mut headers = dwarf.units()?;
         let mut unit = None;
@@ -124,16 +124,18 @@ impl<R: Reader> ResUnits<R> {
     }
 }
 
-// The lines of a unit, or their fault, as they are kept. Refused `OutOfMemory` alone.
+// The lines of a unit, or their fault, as they are cached. Refused `OutOfMemory` alone.
 fn parse_lines<R: Reader>(
     alloc: Global,
     dwarf: &Dwarf<R>,
     unit: &Unit<R>,
 ) -> Result<LazyLines, Error>
-    ensures gives { IfOk result (λ l. settled l
-        ≡ to_settle (seen_dwarf R.section dwarf.now) (seen_unit R.section unit.now)) }
+    ensures gives { IfOk result (λ l. cached_answer l
+        ≡ lines_answer (seen_dwarf R.section dwarf.now) (seen_unit R.section unit.now)) }
     ensures read { IfOk result
-        (IsRead (seen_dwarf R.section dwarf.now) (seen_unit R.section unit.now)) }
+        (AreLinesOf (seen_dwarf R.section dwarf.now) (seen_unit R.section unit.now)) }
+    ensures cached { IfOk result (λ l. is_uncached l ≡ false) }
+    ensures fault { IfOk result (λ l. cached_answer l ≢ Err OutOfMemory) }
     ensures refused { IfErr result (λ e. e ≡ OutOfMemory) }
 {
     match Lines::parse(alloc, dwarf, unit) {
@@ -143,9 +145,9 @@ fn parse_lines<R: Reader>(
     }
 }
 
-// The fault that is kept, if there is one.
+// The cached fault, if there is one.
 fn check_lines(lines: &LazyLines) -> Result<(), Error>
-    ensures gives { Exactly (λ _. kept_lines lines.now) result (settled lines.now) }
+    ensures gives { Exactly (λ _. cached_lines lines.now) result (cached_answer lines.now) }
 {
     match lines {
         LazyLines::Faulty(error) => Err(*error),
@@ -153,9 +155,9 @@ fn check_lines(lines: &LazyLines) -> Result<(), Error>
     }
 }
 
-// The lines that are kept, if they are.
+// The cached lines, if there are any.
 fn lines_of(lines: &LazyLines) -> Option<&Lines>
-    ensures gives { option_copied result ≡ kept_lines lines.now }
+    ensures gives { option_copied result ≡ cached_lines lines.now }
 {
     match lines {
         LazyLines::Read(lines) => Some(lines),
@@ -163,15 +165,15 @@ fn lines_of(lines: &LazyLines) -> Option<&Lines>
     }
 }
 
-fn is_unread(lines: &LazyLines) -> bool
-    ensures gives { result ≡ is_unread lines.now }
+fn is_uncached(lines: &LazyLines) -> bool
+    ensures gives { result ≡ is_uncached lines.now }
 {
     matches!(lines, LazyLines::Unread)
 }
 
 // Whether a range holds an address, where there is one.
-fn holds(range: Option<Range>, probe: u64) -> bool
-    ensures gives { result ≡ holds probe range }
+fn range_holds(range: Option<Range>, probe: u64) -> bool
+    ensures gives { result ≡ range_holds probe range }
 {
     match range {
         Some(range) => range.begin <= probe && probe < range.end,
@@ -180,40 +182,73 @@ fn holds(range: Option<Range>, probe: u64) -> bool
 }
 
 impl<R: Reader> ResUnit<R> {
-    // Reads the lines, unless they were read before, and keeps them, or their fault.
-    #[tactic(auto, using(crate::proofs::UnitLemmas::settled_before))]
-    fn read_lines(&mut self, alloc: Global, dwarf: &Dwarf<R>) -> Result<(), Error>
-        requires read { IsRead (seen_dwarf R.section dwarf.now) (seen_unit R.section self.old.dw_unit)
+    // Caches the lines, or their fault, unless they are cached. Refused `OutOfMemory` alone.
+    #[tactic(auto, using(crate::proofs::UnitLemmas::cached_before))]
+    fn cache_lines(&mut self, alloc: Global, dwarf: &Dwarf<R>) -> Result<(), Error>
+        requires read { AreLinesOf (seen_dwarf R.section dwarf.now) (seen_unit R.section self.old.dw_unit)
             self.old.lines }
-        ensures gives { ExactlyUnlessOom (λ _. kept_lines self.new.lines) result
-            (to_settle (seen_dwarf R.section dwarf.now) (seen_unit R.section self.old.dw_unit)) }
+        ensures gives { OnOk result (cached_answer self.new.lines
+            ≡ lines_answer (seen_dwarf R.section dwarf.now) (seen_unit R.section self.old.dw_unit)) }
+        ensures exact { is_uncached self.old.lines ≡ false → result ≡ Ok tt }
+        ensures cached { OnOk result (is_uncached self.new.lines ≡ false) }
+        ensures fault { is_uncached self.old.lines ≡ true → OnOk result
+            (cached_answer self.new.lines ≢ Err OutOfMemory) }
+        ensures stays { StaysCached self.old.lines self.new.lines }
+        ensures refused { IfErr result (λ e. e ≡ OutOfMemory) }
+        ensures memory { OnErr result (self.new.lines ≡ self.old.lines) }
         ensures unit { self.new.dw_unit ≡ self.old.dw_unit }
         ensures range { self.new.range ≡ self.old.range }
-        ensures read { IsRead (seen_dwarf R.section dwarf.now) (seen_unit R.section self.new.dw_unit)
+        ensures read { AreLinesOf (seen_dwarf R.section dwarf.now) (seen_unit R.section self.new.dw_unit)
             self.new.lines }
     {
-        if is_unread(&self.lines) {
+        if is_uncached(&self.lines) {
             self.lines = parse_lines(alloc, dwarf, &self.dw_unit)?;
         }
+        Ok(())
+    }
+
+    // Reads the lines, unless they are cached, and caches them, or their fault.
+    fn read_lines(&mut self, alloc: Global, dwarf: &Dwarf<R>) -> Result<(), Error>
+        requires read { AreLinesOf (seen_dwarf R.section dwarf.now) (seen_unit R.section self.old.dw_unit)
+            self.old.lines }
+        ensures gives { ExactlyUnlessOom (λ _. cached_lines self.new.lines) result
+            (lines_answer (seen_dwarf R.section dwarf.now) (seen_unit R.section self.old.dw_unit)) }
+        ensures exact { is_uncached self.old.lines ≡ false → Exactly (λ _. cached_lines self.new.lines) result
+            (lines_answer (seen_dwarf R.section dwarf.now) (seen_unit R.section self.old.dw_unit)) }
+        ensures stays { StaysCached self.old.lines self.new.lines }
+        ensures caches { CachesAnswer self.old.lines result self.new.lines }
+        ensures unit { self.new.dw_unit ≡ self.old.dw_unit }
+        ensures range { self.new.range ≡ self.old.range }
+        ensures read { AreLinesOf (seen_dwarf R.section dwarf.now) (seen_unit R.section self.new.dw_unit)
+            self.new.lines }
+    {
+        self.cache_lines(alloc, dwarf)?;
         check_lines(&self.lines)
     }
 }
 
 impl<R: Reader> ResUnits<R> {
-    /// Reads the lines of the unit that covers an address, unless they were read before, and keeps
-    /// them, or their fault.
+    /// Reads the lines of the unit that covers an address, unless they are cached, and caches them, or
+    /// their fault. Takes no memory where they are cached, nor where no unit covers the address.
     ///
-    /// Refused by that fault, and `OutOfMemory`, which isn't kept.
+    /// Refused by that fault; may fail with `OutOfMemory` instead, which is never cached.
     pub fn read_lines(&mut self, alloc: Global, dwarf: &Dwarf<R>, probe: u64) -> Result<(), Error>
-        requires read { AreRead R.section (seen_dwarf R.section dwarf.now) self.old.unit }
-        ensures gives { ExactlyUnlessOom (λ _. found_kept probe self.new.unit) result
-            (found_in (seen_dwarf R.section dwarf.now) (made_with R.section self.old.unit) probe) }
-        ensures kept { made_with R.section self.new.unit ≡ made_with R.section self.old.unit }
-        ensures read { AreRead R.section (seen_dwarf R.section dwarf.now) self.new.unit }
+        requires read { HasLinesOf R.section (seen_dwarf R.section dwarf.now) self.old.unit }
+        ensures gives { ExactlyUnlessOom (λ _. cached_location_at probe self.new.unit) result
+            (location_along (seen_dwarf R.section dwarf.now) (seen_index R.section self.old.unit) probe) }
+        ensures exact { is_uncached (lines_in_cache self.old.unit) ≡ false → Exactly
+            (λ _. cached_location_at probe self.new.unit) result (location_along
+            (seen_dwarf R.section dwarf.now) (seen_index R.section self.old.unit) probe) }
+        ensures stays { StaysCached (lines_in_cache self.old.unit) (lines_in_cache self.new.unit) }
+        ensures caches { unit_holds probe self.old.unit ≡ true → CachesAnswer
+            (lines_in_cache self.old.unit) result (lines_in_cache self.new.unit) }
+        ensures uncovered { unit_holds probe self.old.unit ≡ false → (result ≡ Ok tt) × (self.new ≡ self.old) }
+        ensures units { seen_index R.section self.new.unit ≡ seen_index R.section self.old.unit }
+        ensures read { HasLinesOf R.section (seen_dwarf R.section dwarf.now) self.new.unit }
     {
         match &mut self.unit {
             Some(unit) => {
-                if holds(unit.range, probe) {
+                if range_holds(unit.range, probe) {
                     unit.read_lines(alloc, dwarf)
                 } else {
                     Ok(())
@@ -223,12 +258,12 @@ impl<R: Reader> ResUnits<R> {
         }
     }
 
-    /// The place of an address in the lines that are kept. Takes no memory.
+    /// The location of an address in the cached lines. Takes no memory.
     pub fn find_location(&self, probe: u64) -> Option<Location<'_>>
-        ensures found { option_map shown result ≡ found_kept probe self.now.unit }
+        ensures found { option_map seen_location result ≡ cached_location_at probe self.now.unit }
     {
         let unit = self.unit.as_ref()?;
-        if !holds(unit.range, probe) {
+        if !range_holds(unit.range, probe) {
             return None;
         }
         lines_of(&unit.lines)?.find_location(probe)

@@ -22,11 +22,11 @@ fn starts_with_dot(bytes: &[u8]) -> bool
 fn char_of(number: u32) -> Option<char>
     ensures { result ≡ shown_char number }
 {
-    let shown = char::from_u32(number)?;
-    if shown.is_control() {
+    let seen_location = char::from_u32(number)?;
+    if seen_location.is_control() {
         None
     } else {
-        Some(shown)
+        Some(seen_location)
     }
 }
 
@@ -83,8 +83,8 @@ fn escape_behind(rest: &[u8]) -> Option<(char, usize)>
 {
     let len = dollar_in(rest)?;
     let (body, _) = rest.split_at(len);
-    let shown = escaped(body)?;
-    Some((shown, len + 1))
+    let seen_location = escaped(body)?;
+    Some((seen_location, len + 1))
 }
 
 /// Adds ASCII bytes.
@@ -108,8 +108,8 @@ fn push_escape<'a>(out: &mut String, rest: &'a [u8]) -> Result<&'a [u8], AllocEr
         × (list_all is_ascii left.now ≡ true)) }
 {
     match escape_behind(rest) {
-        Some((shown, len)) => {
-            out.push(shown)?;
+        Some((seen_location, len)) => {
+            out.push(seen_location)?;
             let (_, left) = rest.split_at(len);
             Ok(left)
         }

@@ -1,12 +1,12 @@
 use Rattle.std.proofs.Common.{sym, ◌∙◌}
 use Rattle.std.proofs.lemmas.Result.{err_from_is_err_and}
-use Rattle.addr2line_units.proofs.UnitLemmas.{made-end, made-fault, step-fault, step-made}
+use Rattle.addr2line_units.proofs.UnitLemmas.{unit_index-end, unit_index-fault, step-fault, step-unit_index}
 use Rattle.addr2line_units.proofs.unit.ResUnits.parse.Goals as goal
 
 pub returns-in_err-header-clause-gives : goal.returns-in_err-header-clause-gives
 returns-in_err-header-clause-gives g c =
     let p = err_from_is_err_and c.from_residual-in_err-header.result c.from_residual-in_err-header.ensures.1 in
-    rw (p.1, p.2) (λ ne. sym c.loop-unit.invariant.gives ∙ made-fault _ _ _ _ (c.in_err-header.ensures.gives ne))
+    rw (p.1, p.2) (λ ne. sym c.loop-unit.invariant.gives ∙ unit_index-fault _ _ _ _ (c.in_err-header.ensures.gives ne))
 
 pub returns-in_err-unit-clause-gives : goal.returns-in_err-unit-clause-gives
 returns-in_err-unit-clause-gives g c =
@@ -15,9 +15,9 @@ returns-in_err-unit-clause-gives g c =
 
 pub loop-unit-preserved : goal.loop-unit-preserved
 loop-unit-preserved g c = record {
-  gives = step-made _ _ _ _ _ _ (rw c.in-Some.is at c.in_ok-header.ensures.gives) c.in_ok-unit.ensures.gives ∙ c.loop-unit.invariant.gives;
+  gives = step-unit_index _ _ _ _ _ _ (rw c.in-Some.is at c.in_ok-header.ensures.gives) c.in_ok-unit.ensures.gives ∙ c.loop-unit.invariant.gives;
   read = c.in_ok-unit.ensures.read;
 }
 
 pub returns-clause-gives : goal.returns-clause-gives
-returns-clause-gives g c = sym c.loop-unit.invariant.gives ∙ made-end _ _ _ _ (rw c.in_default.is at c.in_ok-header.ensures.gives)
+returns-clause-gives g c = sym c.loop-unit.invariant.gives ∙ unit_index-end _ _ _ _ (rw c.in_default.is at c.in_ok-header.ensures.gives)

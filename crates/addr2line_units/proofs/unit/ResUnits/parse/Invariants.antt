@@ -1,7 +1,7 @@
 use Rattle.std.proofs.Common.{◌≡◌, length}
 use Rattle.gimli.specs.Sections.{seen_dwarf}
-use Rattle.addr2line_units.specs.Made.{made_of, made}
-use Rattle.addr2line_units.specs.Kept.{made_with, AreRead}
+use Rattle.addr2line_units.specs.UnitIndex.{index_units, unit_index}
+use Rattle.addr2line_units.specs.CachedLines.{seen_index, HasLinesOf}
 use Rattle.addr2line_units.proofs.unit.ResUnits.parse.Given as goal
 
 abbrev pub invariant-loop-unit : goal.invariant-loop-unit
@@ -9,8 +9,8 @@ invariant-loop-unit g l =
     let see = g.R.Reader.section in
     let d = seen_dwarf see l.dwarf in
     record {
-      gives : made_of d (made_with see l.unit) l.headers ≡ made d;
-      read : AreRead see d l.unit;
+      gives : index_units d (seen_index see l.unit) l.headers ≡ unit_index d;
+      read : HasLinesOf see d l.unit;
     }
 
 abbrev pub decreases-loop-unit : goal.decreases-loop-unit

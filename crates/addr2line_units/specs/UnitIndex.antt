@@ -16,7 +16,7 @@ use Rattle.gimli.specs.Sections.{Sections}
 use Rattle.gimli.specs.Unit.{UnitRecord, unit_of}
 use Rattle.gimli.specs.UnitsLeft.{all_headers}
 use Rattle.addr2line_lines.specs.InOrder.{in_order}
-use Rattle.addr2line_lines.specs.RangeAttributes.{root_ranges, ranges_of}
+use Rattle.addr2line_lines.specs.RangeAttributes.{root_range_attributes, ranges_of}
 
 -- a range that leads to a unit, by its place among those kept
 pub record UnitRange : Type 0 where
@@ -24,13 +24,13 @@ pub record UnitRange : Type 0 where
   pub range : Range
 
 -- the units that are kept, and the ranges that lead to them
-pub record Made : Type 0 where
+pub record UnitIndex : Type 0 where
   pub units : List UnitRecord
   pub ranges : List UnitRange
 
 -- before the first unit
-abbrev pub nothing_made : Made
-nothing_made = record { units = []; ranges = [] }
+abbrev pub no_units : UnitIndex
+no_units = record { units = []; ranges = [] }
 
 -- whether a unit describes types alone
 abbrev pub is_type_unit : UnitType → Bool
@@ -45,37 +45,37 @@ is_partial _ = false
 
 -- the ranges of a unit
 abbrev pub unit_ranges : Sections → UnitRecord → Result (List Range) Error
-unit_ranges d u = if is_partial u.header.unit_type then Ok [] else (root_ranges d u >>= λ r. Ok (ranges_of r))
+unit_ranges d u = if is_partial u.header.unit_type then Ok [] else (root_range_attributes d u >>= λ r. Ok (ranges_of r))
 
 -- whether a unit is kept already
-abbrev pub keeps_any : Made → Bool
-keeps_any m = nat_lt 0 (length m.units)
+abbrev pub has_unit : UnitIndex → Bool
+has_unit m = nat_lt 0 (length m.units)
 
 -- a unit with its ranges behind those that are kept
 -- limit: only the first one is kept yet
-abbrev pub with_kept : Made → UnitRecord → List Range → Made
-with_kept m u ranges =
-    if keeps_any m then m
+abbrev pub with_indexed : UnitIndex → UnitRecord → List Range → UnitIndex
+with_indexed m u ranges =
+    if has_unit m then m
     else record { units = m.units ++ u ∷ []; ranges = m.ranges ++ map (λ r. record { unit = length m.units; range = r }) ranges }
 
 -- a unit that was read, or that is passed over
-abbrev pub with_read : Sections → Made → Result UnitRecord Error → Result Made Error
-with_read d m (Err e) = Ok m
-with_read d m (Ok u) = unit_ranges d u >>= λ ranges. Ok (with_kept m u ranges)
+abbrev pub with_record : Sections → UnitIndex → Result UnitRecord Error → Result UnitIndex Error
+with_record d m (Err e) = Ok m
+with_record d m (Ok u) = unit_ranges d u >>= λ ranges. Ok (with_indexed m u ranges)
 
 -- one more unit
-unfoldable pub with_unit : Sections → Made → UnitHeader Section → Result Made Error
-with_unit d m h = if is_type_unit h.unit_type then Ok m else with_read d m (unit_of d h)
+unfoldable pub with_unit : Sections → UnitIndex → UnitHeader Section → Result UnitIndex Error
+with_unit d m h = if is_type_unit h.unit_type then Ok m else with_record d m (unit_of d h)
 
 -- the units of headers, each whole before the next header, up to the first fault
-unfoldable pub made_of : Sections → Made → List (Result (UnitHeader Section) Error) → Result Made Error
-made_of d m [] = Ok m
-made_of d m (Ok h ∷ rest) = with_unit d m h >>= λ more. made_of d more rest
-made_of d m (Err e ∷ rest) = Err e
+unfoldable pub index_units : Sections → UnitIndex → List (Result (UnitHeader Section) Error) → Result UnitIndex Error
+index_units d m [] = Ok m
+index_units d m (Ok h ∷ rest) = with_unit d m h >>= λ more. index_units d more rest
+index_units d m (Err e ∷ rest) = Err e
 
 -- what a context is made of, or why it is refused
-abbrev pub made : Sections → Result Made Error
-made d = made_of d nothing_made (all_headers d.debug_info)
+abbrev pub unit_index : Sections → Result UnitIndex Error
+unit_index d = index_units d no_units (all_headers d.debug_info)
 
 -- by end, then by unit, then by begin
 abbrev pub ends_sooner : UnitRange → UnitRange → Bool

@@ -1,14 +1,13 @@
 //! Contexts: what lookups are made in.
 
-ghost use Rattle.std.specs.Prelude.{◌≡◌, ⊤, option_map};
-ghost use Rattle.std.specs.Borrow.{sem, follows_so};
-ghost use mathlib.Core.Option.{none};
-ghost use Rattle.gimli_read.specs.Reading.{ExactlyUnlessOom};
+ghost use Rattle.std.specs.Prelude.{◌≡◌, option_map};
+ghost use Rattle.std.specs.Borrow.{sem};
+ghost use Rattle.gimli_read.specs.Reading.{Exactly, ExactlyUnlessOom};
 ghost use Rattle.gimli.specs.declared.dwarf.DwarfFileType.TheVariants.{Main};
 ghost use Rattle.gimli.specs.Sections.{seen_dwarf};
 ghost use Rattle.addr2line_lines.specs.SeenLocation.{seen_location};
 ghost use Rattle.addr2line_units.specs.Located.{location_of};
-ghost use Rattle.addr2line.specs.Context.{context_of};
+ghost use Rattle.addr2line.specs.Context.{context_of, IsReady, AfterLookup};
 
 use addr2line_lines::Location;
 use addr2line_units::unit::ResUnits;
@@ -21,7 +20,7 @@ use std::alloc::Global;
 use std::marker::Model;
 use std::rc::Rc;
 
-/// What addresses are looked up in: the sections of a file, its units, and what was read of them.
+/// What addresses are looked up in: the sections of a file, its units, and their lines as far as they are parsed.
 #[derive(Drop)]
 pub struct Context<R: Reader> {
     alloc: Global,
@@ -30,18 +29,21 @@ pub struct Context<R: Reader> {
 }
 
 impl<R: Reader> Model for Context<R> {
-    ghost use Rattle.gimli.specs.Sections.{Sections, seen_dwarf};
-    ghost use Rattle.addr2line.specs.Context.{IsContext};
+    ghost use Rattle.gimli.specs.Sections.{seen_dwarf};
+    ghost use Rattle.addr2line.specs.Context.{ContextState, IsContext, parsed_in};
 
-    ghost Value = { Sections };
+    ghost Value = { ContextState };
 
-    ghost view = { λ c. seen_dwarf R.section c.dwarf.value };
+    ghost view = { λ c. record {
+      sections = seen_dwarf R.section c.dwarf.value;
+      parsed = parsed_in c.units.unit;
+    } };
 
     ghost invariant = { λ c. IsContext R.section (seen_dwarf R.section c.dwarf.value) c.units.unit };
 }
 
 impl<R: Reader> Context<R> {
-    ghost use Rattle.addr2line.specs.contracts.context.Context.{the_row};
+    ghost use Rattle.addr2line.specs.Borrowed.{EndsAs};
 
     /// A context of the sections of a file.
     ///
@@ -49,7 +51,8 @@ impl<R: Reader> Context<R> {
     /// Refused by the first fault of a header or of the kept unit's range attributes, and
     /// `OutOfMemory`; a unit whose record is faulty is passed over. No line program is run.
     pub fn from_dwarf(alloc: Global, dwarf: Dwarf<R>) -> Result<Context<R>, Error>
-        ensures gives { ExactlyUnlessOom (λ c. c) result (context_of (seen_dwarf R.section dwarf)) }
+        ensures gives { ExactlyUnlessOom (λ c. c.sections) result
+            (context_of (seen_dwarf R.section dwarf)) }
     {
         let units = ResUnits::parse(alloc, &dwarf)?;
         let dwarf = Rc::new(alloc, dwarf)?;
@@ -77,7 +80,7 @@ impl<R: Reader> Context<R> {
         debug_str_offsets: DebugStrOffsets<R>,
         default_section: R,
     ) -> Result<Context<R>, Error>
-        ensures gives { ExactlyUnlessOom (λ c. c) result (context_of (record {
+        ensures gives { ExactlyUnlessOom (λ c. c.sections) result (context_of (record {
           debug_abbrev = R.section debug_abbrev.section;
           debug_addr = R.section debug_addr.section;
           debug_aranges = R.section debug_aranges.section;
@@ -110,15 +113,20 @@ impl<R: Reader> Context<R> {
         )
     }
 
-    /// The place of an address: its file, line and column, none where nothing covers it.
+    /// The location of an address: its file, line and column, none where no unit covers it.
     ///
-    /// `probe` is an address as the file has it. The lines of the unit that covers it are read at the
-    /// first such lookup and kept, their fault too. Refused by that fault, and `OutOfMemory`.
+    /// `probe` is an address as the file has it. The lines of the unit that covers it are parsed at the
+    /// first such lookup, and stay parsed, their fault too. Refused by that fault; may fail with
+    /// `OutOfMemory` instead, which is never cached. Takes no memory where the lines that it asks for are
+    /// parsed, nor where no unit covers `probe`.
     ///
     /// Source: DWARF 5, section 6.2. Own: which of several sequences counts.
     pub fn find_location(&mut self, probe: u64) -> Result<Option<Location<'_>>, Error>
-        ensures gives { ExactlyUnlessOom (option_map seen_location) result (location_of self.old probe) }
-        ensures* kept { sem 𝓛 (follows_so (the_row R.row (record { section = R.section }) (record { is_clone = R.is_clone; is_infallible = R.is_infallible })) (the_row R.row (record { section = R.section }) (record { is_clone = R.is_clone; is_infallible = R.is_infallible })) self.entry.ghost_name none (λ _ _. ⊤) (λ new. new ≡ self.old)) }
+        ensures gives { ExactlyUnlessOom (option_map seen_location) result
+            (location_of self.old.sections probe) }
+        ensures exact { IsReady self.old probe → Exactly (option_map seen_location) result
+            (location_of self.old.sections probe) }
+        ensures* kept { sem 𝓛 (EndsAs R.row R.Reader self.entry (AfterLookup probe result self.old)) }
     {
         self.units.read_lines(self.alloc, &self.dwarf, probe)?;
         Ok(self.units.find_location(probe))

@@ -6,7 +6,7 @@ use Rattle.std.specs.declared.alloc.Global.{Global}
 use Rattle.std.specs.Fmt.{decimal, radix_digits}
 use Rattle.gimli_read.specs.declared.error.Error.{Error}
 use Rattle.gimli_read.specs.Text.{text_of}
-use Rattle.addr2line_lines.specs.Location.{Place}
+use Rattle.addr2line_lines.specs.Location.{Location}
 use Rattle.addr2line_bin.specs.Address.{address_in}
 
 -- the line, or `?`
@@ -15,14 +15,14 @@ line_text None = codes "?"
 line_text (Some n) = decimal n
 
 -- a location on a line of its own
-abbrev pub place_text : Option Place → List ℕ
-place_text None = codes "??:0\n"
-place_text (Some p) = unwrap_or p.file (codes "??") ++ codes ":" ++ line_text p.line ++ codes "\n"
+abbrev pub location_text : Option Location → List ℕ
+location_text None = codes "??:0\n"
+location_text (Some p) = unwrap_or p.file (codes "??") ++ codes ":" ++ line_text p.line ++ codes "\n"
 
 -- what is found, where there is no fault
-abbrev pub place_in : Result (Option Place) Error → Option Place
-place_in (Ok x) = x
-place_in (Err e) = None
+abbrev pub location_or_none : Result (Option Location) Error → Option Location
+location_or_none (Ok x) = x
+location_or_none (Err e) = None
 
 -- lower case hexadecimal digits
 abbrev pub hex : ℕ → List ℕ
@@ -33,16 +33,16 @@ abbrev pub fault_line : List ℕ → ℕ → Error → List ℕ
 fault_line name probe e = name ++ codes ": failed to find location for 0x" ++ hex probe ++ codes ": " ++ text_of e ++ codes "\n"
 
 -- what a lookup tells
-abbrev pub fault_text : List ℕ → ℕ → Result (Option Place) Error → List ℕ
+abbrev pub fault_text : List ℕ → ℕ → Result (Option Location) Error → List ℕ
 fault_text name probe (Ok x) = []
 fault_text name probe (Err e) = fault_line name probe e
 
 -- where each address lies
-module _ (found : ℕ → Result (Option Place) Error) where
+module _ (found : ℕ → Result (Option Location) Error) where
   -- what goes out for a word's address, if it is one
   abbrev pub out_of : Option ℕ → List ℕ
-  out_of None = place_text None
-  out_of (Some probe) = place_text (place_in (found probe))
+  out_of None = location_text None
+  out_of (Some probe) = location_text (location_or_none (found probe))
 
   -- what is told for it
   abbrev pub told_of : List ℕ → Option ℕ → List ℕ

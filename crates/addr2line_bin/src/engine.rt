@@ -5,9 +5,9 @@ ghost use Rattle.std.specs.Borrow.{sem};
 ghost use Rattle.std.specs.Io.BufRead.{Rests};
 ghost use Rattle.std.specs.Io.KnownBytes.{Appends};
 ghost use Rattle.gimli_read.specs.Reading.{ExactlyUnlessOom};
-ghost use Rattle.addr2line_lines.specs.SeenLocation.{shown};
+ghost use Rattle.addr2line_lines.specs.SeenLocation.{seen_location};
 ghost use Rattle.addr2line_bin.specs.Put.{Part, Sends, Begins};
-ghost use Rattle.addr2line_bin.specs.Text.{place_text, place_in, hex, fault_line, fault_text, out_of, told_of, outs, errs, probes_in};
+ghost use Rattle.addr2line_bin.specs.Text.{location_text, location_or_none, hex, fault_line, fault_text, out_of, told_of, outs, errs, probes_in};
 ghost use Rattle.addr2line_bin.specs.declared.engine.Exit.TheVariants as exit;
 ghost use Rattle.addr2line_bin.specs.Told.{load_fault_text, usage_text};
 ghost use Rattle.addr2line_bin.specs.Run.{last_text, exit_at, IsRun};
@@ -25,15 +25,15 @@ use std::io::Write;
 pub trait Locate {
     ghost use Rattle.std.specs.Prelude.{ℕ, Option, Result};
     ghost use Rattle.gimli_read.specs.declared.error.Error.{Error};
-    ghost use Rattle.addr2line_lines.specs.Location.{Place};
+    ghost use Rattle.addr2line_lines.specs.Location.{Location};
 
     /// Where each address lies.
-    ghost found: { Self → ℕ → Result (Option Place) Error };
+    ghost found: { Self → ℕ → Result (Option Location) Error };
 
     /// The place of an address. It is the same at every call.
     fn find_location(&mut self, probe: u64) -> Result<Option<Location<'_>>, Error>
-        ensures gives { ExactlyUnlessOom (option_map shown) result (found self.old probe) }
-        ensures* kept { sem 𝓛 (Rests Self.row self.entry (λ new. new ≡ self.old)) };
+        ensures gives { ExactlyUnlessOom (option_map seen_location) result (found self.old probe) }
+        ensures* kept { sem 𝓛 (Rests Self.row self.entry (λ new. found new ≡ found self.old)) };
 }
 
 /// How the program ends.
@@ -84,10 +84,10 @@ fn push_answer<L: Locate>(
     err: &mut String,
 ) -> Result<(), AllocError>
     ensures out { OnOk result (string_bytes out.new
-        ≡ string_bytes out.old ++ place_text (place_in (L.found context.old probe))) }
+        ≡ string_bytes out.old ++ location_text (location_or_none (L.found context.old probe))) }
     ensures err { OnOk result (string_bytes err.new
         ≡ string_bytes err.old ++ fault_text name.now probe (L.found context.old probe)) }
-    ensures kept { context.new ≡ context.old }
+    ensures kept { L.found context.new ≡ L.found context.old }
 {
     match context.find_location(probe) {
         Ok(location) => push_location(out, location),
@@ -108,7 +108,7 @@ fn texts_of<L: Locate>(
 ) -> Result<Texts, AllocError>
     ensures out { IfOk result (λ t. string_bytes t.out ≡ out_of (L.found context.old) probe) }
     ensures err { IfOk result (λ t. string_bytes t.err ≡ told_of (L.found context.old) name.now probe) }
-    ensures kept { context.new ≡ context.old }
+    ensures kept { L.found context.new ≡ L.found context.old }
 {
     let mut out = String::new(alloc);
     let mut err = String::new(alloc);
@@ -130,7 +130,7 @@ fn step<L: Locate, W: Write, E: Write>(
     err: &mut E,
     has_failed: &mut bool,
 ) -> Result<(), Stop>
-    ensures kept { context.new ≡ context.old }
+    ensures kept { L.found context.new ≡ L.found context.old }
     ensures out { OnOk result (Appends (W.contents out.old) (W.contents out.new)
         (out_of (L.found context.old) probe)) }
     ensures part { OnErr result (Part (W.contents out.old) (W.contents out.new)
@@ -250,7 +250,7 @@ pub fn tell_usage<E: Write>(name: &str, err: &mut E, has_failed: &mut bool) -> E
 impl<R: Reader> Locate for Context<R> {
     ghost use Rattle.addr2line_units.specs.Located.{location_of};
 
-    ghost found = { λ c. location_of c };
+    ghost found = { λ c. location_of c.sections };
 
     fn find_location(&mut self, probe: u64) -> Result<Option<Location<'_>>, Error> {
         Context::find_location(self, probe)

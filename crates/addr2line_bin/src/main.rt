@@ -17,7 +17,7 @@ mod text;
 
 use crate::command::{Request, name_of, request_of};
 use crate::engine::{Exit, print, tell_last, tell_load_fault, tell_usage};
-use crate::load::load;
+use crate::load::load_from;
 use crate::stream::Stop;
 use elf::LoaderError;
 use std::alloc::Global;
@@ -54,11 +54,7 @@ fn run<W: Write, E: Write>(
         (E.contents err.old) (E.contents err.new) addresses.now
         (result_map (λ v. v.items) bytes) result }
 {
-    let loaded = match bytes {
-        Ok(bytes) => load(alloc, bytes),
-        Err(fault) => Err(fault),
-    };
-    match loaded {
+    match load_from(alloc, bytes) {
         Ok(mut context) => print(alloc, name, &mut context, addresses, out, err),
         Err(fault) => tell_load_fault(name, fault, err, &mut false),
     }

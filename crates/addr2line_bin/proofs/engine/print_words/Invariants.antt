@@ -7,7 +7,7 @@ abbrev pub invariant-loop-word : goal.invariant-loop-word
 invariant-loop-word g l =
     let found = g.L.Locate.found l.fn.context in
     record {
-      kept : l.context ≡ l.fn.context;
+      kept : g.L.Locate.found l.context ≡ found;
       out : Out (g.W.Write.contents l.fn.out) (g.W.Write.contents l.out) (outs found (probes_in l.words)) (outs found (probes_in (drop l.word-index l.words)));
       err : Err (g.E.Write.contents l.fn.err) (g.E.Write.contents l.err) l.fn.has_failed l.has_failed (errs found l.name (probes_in l.words)) (errs found l.name (probes_in (drop l.word-index l.words)));
     }

@@ -9,8 +9,7 @@ use Rattle.gimli_read.specs.Yields.{next_given}
 use Rattle.gimli_read.proofs.Shorter.{Shorter, shorter_bind, shorter_then, shorter_ok, initial_length-shorter, split-shorter, TakesBytes}
 use Rattle.gimli_read.proofs.Steps.{end_is_none, same_rest, guard_ok}
 use Rattle.gimli_read.proofs.Listed.{listed_ends, listed_more, listed_fault}
-use Rattle.gimli.specs.declared.unit.UnitHeader.{UnitHeader}
-use Rattle.gimli.specs.Header.{header_at, next_header_at}
+use Rattle.gimli.specs.Header.{UnitHeaderFields, header_at, next_header_at}
 use Rattle.gimli.specs.UnitsLeft.{headers_left}
 
 header_shorter : (whole : ℕ) (s : Section) → Shorter (length s.bytes) (header_at whole s)
@@ -23,18 +22,18 @@ pub header_takes : (whole : ℕ) → TakesBytes (next_header_at whole)
 unfolding next_header_at
 header_takes whole s = at (length s.bytes == 0)
   where
-    out : (r : Reading (UnitHeader Section)) → Shorter (length s.bytes) r → IfOk {T = Option (UnitHeader Section) × Section} (r >>= λ x. Ok (Some x.0, x.1)) (λ p. IfSome p.0 (λ _. length p.1.bytes < length s.bytes))
+    out : (r : Reading UnitHeaderFields) → Shorter (length s.bytes) r → IfOk {T = Option UnitHeaderFields × Section} (r >>= λ x. Ok (Some x.0, x.1)) (λ p. IfSome p.0 (λ _. length p.1.bytes < length s.bytes))
     out (Ok x) k = k.by
     out (Err e) k = tt
 
-    at : (b : Bool) → IfOk {T = Option (UnitHeader Section) × Section} (cond b (Ok (None, s)) (header_at whole s >>= λ x. Ok (Some x.0, x.1))) (λ p. IfSome p.0 (λ _. length p.1.bytes < length s.bytes))
+    at : (b : Bool) → IfOk {T = Option UnitHeaderFields × Section} (cond b (Ok (None, s)) (header_at whole s >>= λ x. Ok (Some x.0, x.1))) (λ p. IfSome p.0 (λ _. length p.1.bytes < length s.bytes))
     at true = tt
     at false = out _ (header_shorter whole s)
 
 pub left_ends : (whole : ℕ) (s t : Section) → next_header_at whole s ≡ Ok (None, t) → headers_left whole s ≡ []
 left_ends whole s t e = listed_ends (next_header_at whole) (header_takes whole) s t e
 
-pub left_more : (whole : ℕ) (s t : Section) (x : UnitHeader Section) → next_header_at whole s ≡ Ok (Some x, t) → headers_left whole s ≡ Ok x ∷ headers_left whole t
+pub left_more : (whole : ℕ) (s t : Section) (x : UnitHeaderFields) → next_header_at whole s ≡ Ok (Some x, t) → headers_left whole s ≡ Ok x ∷ headers_left whole t
 left_more whole s t x e = listed_more (next_header_at whole) (header_takes whole) s t x e
 
 pub left_fault : (whole : ℕ) (s : Section) (d : Error) → next_header_at whole s ≡ Err d → headers_left whole s ≡ Err d ∷ []
@@ -45,20 +44,20 @@ end_stays : (whole : ℕ) (s t : Section) → next_header_at whole s ≡ Ok (Non
 unfolding next_header_at
 end_stays whole s t e = at (length s.bytes == 0) e
   where
-    found : (r : Reading (UnitHeader Section)) → ◌≡◌ {A = Reading (Option (UnitHeader Section))} (r >>= λ x. Ok (Some x.0, x.1)) (Ok (None, t)) → s ≡ t
+    found : (r : Reading UnitHeaderFields) → ◌≡◌ {A = Reading (Option UnitHeaderFields)} (r >>= λ x. Ok (Some x.0, x.1)) (Ok (None, t)) → s ≡ t
     found (Ok x) k = absurd (end_is_none x.0 t x.1 (sym k))
     found (Err d) k = cc
 
-    at : (b : Bool) → ◌≡◌ {A = Reading (Option (UnitHeader Section))} (cond b (Ok (None, s)) (header_at whole s >>= λ x. Ok (Some x.0, x.1))) (Ok (None, t)) → s ≡ t
-    at true k = same_rest {A = Option (UnitHeader Section)} {B = Section} (None, s) (None, t) k
+    at : (b : Bool) → ◌≡◌ {A = Reading (Option UnitHeaderFields)} (cond b (Ok (None, s)) (header_at whole s >>= λ x. Ok (Some x.0, x.1))) (Ok (None, t)) → s ≡ t
+    at true k = same_rest {A = Option UnitHeaderFields} {B = Section} (None, s) (None, t) k
     at false k = found (header_at whole s) k
 
 -- what one reading takes from the headers that are left
-pub next_gives : (whole : ℕ) (s t : Section) (o : Option (UnitHeader Section)) → next_header_at whole s ≡ Ok (o, t) → next_given (headers_left whole s) ≡ Ok (o, headers_left whole t)
+pub next_gives : (whole : ℕ) (s t : Section) (o : Option UnitHeaderFields) → next_header_at whole s ≡ Ok (o, t) → next_given (headers_left whole s) ≡ Ok (o, headers_left whole t)
 next_gives whole s t None e =
     let here = left_ends whole s t e in
     let there : headers_left whole t ≡ [] = ap (headers_left whole) (sym (end_stays whole s t e)) ∙ here in
-    ap next_given here ∙ ap (λ (xs : List (Result (UnitHeader Section) Error)). Ok (None, xs)) (sym there)
+    ap next_given here ∙ ap (λ (xs : List (Result UnitHeaderFields Error)). Ok (None, xs)) (sym there)
 next_gives whole s t (Some x) e = ap next_given (left_more whole s t x e)
 
 pub next_refuses : (whole : ℕ) (s : Section) (d : Error) → next_header_at whole s ≡ Err d → next_given (headers_left whole s) ≡ Err d

@@ -5,13 +5,11 @@ use Rattle.std.specs.Int.{w64, saturate_signed}
 use Rattle.gimli_read.specs.declared.error.Error.{Error}
 use Rattle.gimli_read.specs.declared.error.Error.TheVariants.{UnknownAbbreviation, MissingUnitDie}
 use Rattle.gimli_read.specs.declared.endian.Encoding.{Encoding}
-use Rattle.gimli_read.specs.declared.abbrev.AttributeSpecification.{AttributeSpecification}
-use Rattle.gimli_read.specs.declared.value.Attribute.{Attribute}
 use Rattle.gimli_read.specs.Section.{Section}
 use Rattle.gimli_read.specs.Reading.{Reading, ◌>>=◌}
 use Rattle.gimli_read.specs.Leb128.{uleb128_at}
-use Rattle.gimli_read.specs.Abbreviations.{Abbrev, with_code}
-use Rattle.gimli_read.specs.Form.{attribute_at}
+use Rattle.gimli_read.specs.Abbreviations.{Abbrev, Specification, with_code}
+use Rattle.gimli_read.specs.Form.{NamedValue, attribute_at}
 
 -- the bytes that are left of a unit's entries, and how many open entries stand around them
 pub record Place : Type 0 where
@@ -39,17 +37,17 @@ head_at table p = do
       else opened (with_code code.0 table) (record { left = code.1; depth = p.depth })
 
 -- the attributes of the specifications, one after another
-unfoldable pub attributes_at : Encoding → List AttributeSpecification → Section → Reading (List (Attribute Section))
+unfoldable pub attributes_at : Encoding → List Specification → Section → Reading (List NamedValue)
 attributes_at encoding [] s = Ok ([], s)
 attributes_at encoding (x ∷ xs) s = attribute_at encoding x s >>= λ a. attributes_at encoding xs a.1 >>= λ more. Ok (a.0 ∷ more.0, more.1)
 
 -- the attributes of the unit's entry, which a closing entry has none of
-abbrev pub root_specifications : Option Abbrev → Result (List AttributeSpecification) Error
+abbrev pub root_specifications : Option Abbrev → Result (List Specification) Error
 root_specifications None = Err MissingUnitDie
 root_specifications (Some a) = Ok a.attributes
 
 -- the attributes of the first entry of a unit
-unfoldable pub root_attributes : Encoding → List Abbrev → Section → Result (List (Attribute Section)) Error
+unfoldable pub root_attributes : Encoding → List Abbrev → Section → Result (List NamedValue) Error
 root_attributes encoding table s = do
   head ← head_at table (record { left = s; depth = pos 0 })
   specifications ← root_specifications head.0

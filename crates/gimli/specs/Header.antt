@@ -11,11 +11,18 @@ use Rattle.gimli_read.specs.Run.{Run, run_of}
 use Rattle.gimli.specs.declared.unit.UnitType.{UnitType}
 use Rattle.gimli.specs.declared.unit.UnitType.TheVariants.{Compile, TypeUnit, Partial, Skeleton, SplitCompile, SplitType}
 use Rattle.gimli.specs.declared.unit.DwoId.{DwoId}
-use Rattle.gimli.specs.declared.unit.UnitHeader.{UnitHeader}
+use Rattle.gimli_read.specs.declared.value.DebugInfoOffset.{DebugInfoOffset}
+use Rattle.gimli_read.specs.declared.endian.Encoding.{Encoding}
 
--- a header whose reader is seen as a section
-abbrev pub seen_header : {R : Type 0} → (R → Section) → UnitHeader R → UnitHeader Section
-seen_header see h = record { encoding = h.encoding; unit_type = h.unit_type; offset = h.offset; debug_abbrev_offset = h.debug_abbrev_offset; dwo_id = h.dwo_id; header_length = h.header_length; entries = see h.entries }
+-- the fields of a unit's header, its offset in the section, its length, and the bytes of the unit's entries
+pub record UnitHeaderFields : Type 0 where
+  pub encoding : Encoding
+  pub unit_type : UnitType
+  pub offset : DebugInfoOffset
+  pub debug_abbrev_offset : ℕ
+  pub dwo_id : Option DwoId
+  pub header_length : ℕ
+  pub entries : Section
 
 -- an address size that is known
 unfoldable pub address_size_at : Section → Reading ℕ
@@ -63,7 +70,7 @@ extra_at format SplitCompile s = dwo_id_at s
 extra_at format SplitType s = signature_at format s
 
 -- the fields behind the version, of version 5; place is where the unit begins, and size how many bytes it has in all
-unfoldable pub fields_5_at : ℕ → ℕ → Format → Section → Result (UnitHeader Section) Error
+unfoldable pub fields_5_at : ℕ → ℕ → Format → Section → Result UnitHeaderFields Error
 fields_5_at place size format s = do
   kind ← unit_type_at s
   address_size ← address_size_at kind.1
@@ -80,7 +87,7 @@ fields_5_at place size format s = do
   })
 
 -- the same of versions 2 to 4
-unfoldable pub fields_4_at : ℕ → ℕ → Format → ℕ → Section → Result (UnitHeader Section) Error
+unfoldable pub fields_4_at : ℕ → ℕ → Format → ℕ → Section → Result UnitHeaderFields Error
 fields_4_at place size format version s = do
   abbrev_offset ← offset_at format s
   address_size ← address_size_at abbrev_offset.1
@@ -95,7 +102,7 @@ fields_4_at place size format version s = do
   })
 
 -- the fields behind the length
-unfoldable pub fields_at : ℕ → ℕ → Format → Section → Result (UnitHeader Section) Error
+unfoldable pub fields_at : ℕ → ℕ → Format → Section → Result UnitHeaderFields Error
 fields_at place size format s = do
   version ← fixed_at 2 s
   if version.0 == 2 || version.0 == 3 || version.0 == 4 then fields_4_at place size format version.0 version.1
@@ -103,7 +110,7 @@ fields_at place size format s = do
       else Err UnknownVersion
 
 -- the header of the unit that stands at the front; whole is the length of the section
-unfoldable pub header_at : ℕ → Section → Reading (UnitHeader Section)
+unfoldable pub header_at : ℕ → Section → Reading UnitHeaderFields
 header_at whole s = do
   unit_length ← initial_length_at s
   unit ← split_at unit_length.0.0 unit_length.1
@@ -111,9 +118,9 @@ header_at whole s = do
   Ok (header, unit.1)
 
 -- the next unit's header, or none at the section's end
-unfoldable pub next_header_at : ℕ → Section → Reading (Option (UnitHeader Section))
+unfoldable pub next_header_at : ℕ → Section → Reading (Option UnitHeaderFields)
 next_header_at whole s = if length s.bytes == 0 then Ok (None, s) else (header_at whole s >>= λ header. Ok (Some header.0, header.1))
 
 -- the headers of a section: it is its units, one after another, up to its end or the first fault
-abbrev pub headers_of : Section → Run (UnitHeader Section) Section
+abbrev pub headers_of : Section → Run UnitHeaderFields Section
 headers_of s = run_of (next_header_at (length s.bytes)) s

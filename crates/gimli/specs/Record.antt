@@ -1,32 +1,43 @@
--- The record of a unit: what its first entry's attributes give (DWARF 5, sections 3.1.1 and 7.5.5).
+-- The record of a unit: what its root entry's attributes give (DWARF 5, sections 3.1.1 and 7.5.5).
 -- Own: of each attribute the last counts. One whose forms are not of its class counts as not there: low_pc is an
 -- address or an index, stmt_list and the bases are section offsets, and so are data4 and data8 of the offset's
 -- width under stmt_list in versions 2 and 3. A name or a directory that can't be read counts as none.
-use Rattle.std.specs.Prelude.{ℕ, ◌==◌, ◌||◌, nat_le, Bool, List, fold, option_map, Option, Some, None, Result, Ok, if◌then◌else◌}
+use Rattle.std.specs.Prelude.{ℕ, ◌==◌, ◌||◌, nat_le, Bool, List, fold, Option, Some, None, Result, Ok, if◌then◌else◌}
+use Rattle.std.specs.Option.{option_or}
 use Rattle.gimli_read.specs.declared.error.Error.{Error}
+use Rattle.gimli_read.specs.declared.constants.TheConstants.DwAt.{DW_AT_name, DW_AT_comp_dir, DW_AT_low_pc, DW_AT_stmt_list, DW_AT_str_offsets_base, DW_AT_addr_base, DW_AT_GNU_addr_base, DW_AT_rnglists_base, DW_AT_GNU_ranges_base, DW_AT_GNU_dwo_id}
 use Rattle.gimli_read.specs.declared.endian.Encoding.{Encoding}
 use Rattle.gimli_read.specs.declared.endian.Format.{Format}
 use Rattle.gimli_read.specs.declared.endian.Format.TheVariants.{Dwarf32, Dwarf64}
-use Rattle.gimli_read.specs.declared.value.Attribute.{Attribute}
 use Rattle.gimli_read.specs.declared.value.AttributeValue.{AttributeValue}
 use Rattle.gimli_read.specs.declared.value.AttributeValue.TheVariants as values
 use Rattle.gimli_read.specs.Section.{Section}
-use Rattle.gimli_read.specs.Reading.{◌>>=◌}
-use Rattle.gimli_read.specs.Form.{constant_of, seen_value}
+use Rattle.gimli_read.specs.Reading.{Reading, ◌>>=◌}
+use Rattle.gimli_read.specs.Form.{NamedValue, constant_of}
 use Rattle.gimli_read.specs.Abbreviations.{Abbrev}
 use Rattle.gimli.specs.declared.record.AddressValue.{AddressValue}
 use Rattle.gimli.specs.declared.record.AddressValue.TheVariants.{Address, Index}
-use Rattle.gimli.specs.declared.record.RootAttributes.{RootAttributes}
 use Rattle.gimli.specs.Entry.{root_attributes}
 
+-- the values of a root entry's attributes that a unit's record is made of
+pub record RootValues : Type 0 where
+  pub name : Option (AttributeValue Section)
+  pub comp_dir : Option (AttributeValue Section)
+  pub low_pc : Option AddressValue
+  pub stmt_list : Option ℕ
+  pub str_offsets_base : Option ℕ
+  pub addr_base : Option ℕ
+  pub rnglists_base : Option ℕ
+  pub dwo_id : Option ℕ
+
 -- a value of the class address
-abbrev pub address_value : {R : Type 0} → AttributeValue R → Option AddressValue
+abbrev pub address_value : AttributeValue Section → Option AddressValue
 address_value (values.Addr a) = Some (Address a)
 address_value (values.DebugAddrIndex i) = Some (Index i)
 address_value _ = None
 
 -- a value of the class section offset
-abbrev pub section_offset : {R : Type 0} → AttributeValue R → Option ℕ
+abbrev pub section_offset : AttributeValue Section → Option ℕ
 section_offset (values.SecOffset n) = Some n
 section_offset _ = None
 
@@ -41,44 +52,35 @@ of_width Dwarf64 Dwarf64 n = Some n
 of_width _ _ n = None
 
 -- a value of the class section offset under stmt_list
-abbrev pub line_offset : {R : Type 0} → Encoding → AttributeValue R → Option ℕ
+abbrev pub line_offset : Encoding → AttributeValue Section → Option ℕ
 line_offset encoding (values.SecOffset n) = Some n
 line_offset encoding (values.Data4 n) = if is_before_4 encoding then of_width Dwarf32 encoding.format n else None
 line_offset encoding (values.Data8 n) = if is_before_4 encoding then of_width Dwarf64 encoding.format n else None
 line_offset encoding _ = None
 
--- the newer one, where there is one
-abbrev pub newer : {A : Type 0} → Option A → Option A → Option A
-newer None old = old
-newer (Some x) old = Some x
-
--- one more attribute of the first entry
-abbrev pub with_attribute : {R : Type 0} → Encoding → RootAttributes R → Attribute R → RootAttributes R
-with_attribute encoding root a =
-    if a.name.0 == 0x03 then record root { name = Some a.value }
-    else if a.name.0 == 0x1b then record root { comp_dir = Some a.value }
-    else if a.name.0 == 0x11 then record root { low_pc = newer (address_value a.value) root.low_pc }
-    else if a.name.0 == 0x10 then record root { stmt_list = newer (line_offset encoding a.value) root.stmt_list }
-    else if a.name.0 == 0x72 then record root { str_offsets_base = newer (section_offset a.value) root.str_offsets_base }
-    else if a.name.0 == 0x73 || a.name.0 == 0x2133 then record root { addr_base = newer (section_offset a.value) root.addr_base }
-    else if a.name.0 == 0x74 || a.name.0 == 0x2132 then record root { rnglists_base = newer (section_offset a.value) root.rnglists_base }
-    else if a.name.0 == 0x2131 then record root { dwo_id = newer (constant_of a.value) root.dwo_id }
+-- the values with one more attribute
+abbrev pub with_root_attribute : Encoding → RootValues → NamedValue → RootValues
+with_root_attribute encoding root a =
+    if a.name.0 == DW_AT_name.0 then record root { name = Some a.value }
+    else if a.name.0 == DW_AT_comp_dir.0 then record root { comp_dir = Some a.value }
+    else if a.name.0 == DW_AT_low_pc.0 then record root { low_pc = option_or (address_value a.value) root.low_pc }
+    else if a.name.0 == DW_AT_stmt_list.0 then record root { stmt_list = option_or (line_offset encoding a.value) root.stmt_list }
+    else if a.name.0 == DW_AT_str_offsets_base.0 then record root { str_offsets_base = option_or (section_offset a.value) root.str_offsets_base }
+    else if a.name.0 == DW_AT_addr_base.0 || a.name.0 == DW_AT_GNU_addr_base.0 then record root { addr_base = option_or (section_offset a.value) root.addr_base }
+    else if a.name.0 == DW_AT_rnglists_base.0 || a.name.0 == DW_AT_GNU_ranges_base.0 then record root { rnglists_base = option_or (section_offset a.value) root.rnglists_base }
+    else if a.name.0 == DW_AT_GNU_dwo_id.0 then record root { dwo_id = option_or (constant_of a.value) root.dwo_id }
     else root
 
 -- before the first attribute
-abbrev pub no_attributes : {R : Type 0} → RootAttributes R
-no_attributes = record { name = None; comp_dir = None; low_pc = None; stmt_list = None; str_offsets_base = None; addr_base = None; rnglists_base = None; dwo_id = None }
+abbrev pub no_root_values : RootValues
+no_root_values = record { name = None; comp_dir = None; low_pc = None; stmt_list = None; str_offsets_base = None; addr_base = None; rnglists_base = None; dwo_id = None }
 
--- root attributes whose readers are seen as sections
-abbrev pub seen_root : {R : Type 0} → (R → Section) → RootAttributes R → RootAttributes Section
-seen_root see r = record { name = option_map (seen_value see) r.name; comp_dir = option_map (seen_value see) r.comp_dir; low_pc = r.low_pc; stmt_list = r.stmt_list; str_offsets_base = r.str_offsets_base; addr_base = r.addr_base; rnglists_base = r.rnglists_base; dwo_id = r.dwo_id }
+-- the values after the attributes that a reading gives
+abbrev pub root_values_after : Encoding → RootValues → Reading (List NamedValue) → Result RootValues Error
+root_values_after encoding root read = read >>= λ x. Ok (fold (with_root_attribute encoding) root x.0)
 
--- what the attributes of the first entry say, one after another
-abbrev pub gathered : Encoding → RootAttributes Section → Result (List (Attribute Section) × Section) Error → Result (RootAttributes Section) Error
-gathered encoding root read = read >>= λ x. Ok (fold (with_attribute encoding) root x.0)
-
--- what the attributes of a unit's first entry say
-unfoldable pub root_of : Encoding → List Abbrev → Section → Result (RootAttributes Section) Error
-root_of encoding table s = do
+-- the values of the attributes of a unit's root entry
+unfoldable pub root_values_of : Encoding → List Abbrev → Section → Result RootValues Error
+root_values_of encoding table s = do
   attributes ← root_attributes encoding table s
-  Ok (fold (with_attribute encoding) no_attributes attributes)
+  Ok (fold (with_root_attribute encoding) no_root_values attributes)

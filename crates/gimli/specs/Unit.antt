@@ -13,24 +13,21 @@ use Rattle.gimli_read.specs.Section.{Section}
 use Rattle.gimli_read.specs.Reading.{◌>>=◌}
 use Rattle.gimli_read.specs.Abbreviations.{Abbrev}
 use Rattle.gimli_read.specs.Abbrev.{table_at}
-use Rattle.gimli_line.specs.Header.{Program, seen_program}
+use Rattle.gimli_line.specs.Header.{Program}
 use Rattle.gimli_line.specs.Program.{line_program_at}
 use Rattle.gimli.specs.declared.dwarf.DwarfFileType.{DwarfFileType}
 use Rattle.gimli.specs.declared.dwarf.DwarfFileType.TheVariants.{Main, Dwo}
 use Rattle.gimli.specs.declared.unit.DwoId.{DwoId}
-use Rattle.gimli.specs.declared.unit.UnitHeader.{UnitHeader}
 use Rattle.gimli.specs.declared.record.AddressValue.{AddressValue}
 use Rattle.gimli.specs.declared.record.AddressValue.TheVariants.{Address, Index}
-use Rattle.gimli.specs.declared.record.RootAttributes.{RootAttributes}
-use Rattle.gimli.specs.declared.unit_record.Unit.{Unit}
-use Rattle.gimli.specs.Header.{seen_header}
+use Rattle.gimli.specs.Header.{UnitHeaderFields}
 use Rattle.gimli.specs.Sections.{Sections}
 use Rattle.gimli.specs.Text.{from_offset, entry_at, string_of}
-use Rattle.gimli.specs.Record.{root_of}
+use Rattle.gimli.specs.Record.{RootValues, root_values_of}
 
 -- a unit without where it lies in memory
 pub record UnitRecord : Type 0 where
-  pub header : UnitHeader Section
+  pub header : UnitHeaderFields
   pub abbreviations : List Abbrev
   pub name : Option Section
   pub comp_dir : Option Section
@@ -40,21 +37,6 @@ pub record UnitRecord : Type 0 where
   pub rnglists_base : ℕ
   pub dwo_id : Option DwoId
   pub line_program : Option Program
-
--- a unit whose readers are seen as sections
-abbrev pub seen_unit : {R : Type 0} → (R → Section) → Unit R → UnitRecord
-seen_unit see u = record {
-  header = seen_header see u.header;
-  abbreviations = u.abbreviations;
-  name = option_map see u.name;
-  comp_dir = option_map see u.comp_dir;
-  low_pc = u.low_pc;
-  str_offsets_base = u.str_offsets_base;
-  addr_base = u.addr_base;
-  rnglists_base = u.rnglists_base;
-  dwo_id = u.dwo_id;
-  line_program = option_map (seen_program see) u.line_program;
-}
 
 -- one number for each format
 abbrev pub by_format : ℕ → ℕ → Format → ℕ
@@ -94,7 +76,7 @@ dwo_id_of (Some id) given = Some id
 dwo_id_of None given = option_map (λ (n : ℕ). record { 0 = n }) given
 
 -- the unit of a header, whose first entry says this
-unfoldable pub completed : Sections → UnitHeader Section → List Abbrev → RootAttributes Section → Result UnitRecord Error
+unfoldable pub completed : Sections → UnitHeaderFields → List Abbrev → RootValues → Result UnitRecord Error
 completed d header table root =
     let str_offsets_base = unwrap_or root.str_offsets_base (first_base 8 16 d.file_type header.encoding) in
     let addr_base = unwrap_or root.addr_base 0 in
@@ -115,11 +97,11 @@ completed d header table root =
       })
 
 -- the unit of a header
-unfoldable pub unit_of : Sections → UnitHeader Section → Result UnitRecord Error
+unfoldable pub unit_of : Sections → UnitHeaderFields → Result UnitRecord Error
 unit_of d header = do
   rest ← from_offset header.debug_abbrev_offset d.debug_abbrev
   table ← table_at rest
-  root ← root_of header.encoding table header.entries
+  root ← root_values_of header.encoding table header.entries
   completed d header table root
 
 -- the string that a value of an attribute of a unit stands for

@@ -10,6 +10,7 @@ use crate::sections::{
 };
 use crate::unit::UnitHeaders;
 use gimli_read::{Error, Reader};
+use std::marker::Model;
 
 /// What kind of file sections come from.
 #[derive(Clone, Copy, Debug, PartialEq, Eq)]
@@ -22,7 +23,7 @@ pub enum DwarfFileType {
 
 /// The sections of a file.
 #[derive(Drop)]
-pub struct Dwarf<R> {
+pub struct Dwarf<R: Reader> {
     /// `.debug_abbrev`.
     pub debug_abbrev: DebugAbbrev<R>,
     /// `.debug_addr`.
@@ -47,11 +48,19 @@ pub struct Dwarf<R> {
     pub file_type: DwarfFileType,
 }
 
+impl<R: Reader> Model for Dwarf<R> {
+    ghost use Rattle.gimli.specs.Sections.{Sections};
+
+    ghost Value = { Sections };
+
+    ghost view = { λ d. record { debug_abbrev = R.section d.debug_abbrev.section; debug_addr = R.section d.debug_addr.section; debug_aranges = R.section d.debug_aranges.section; debug_info = R.section d.debug_info.section; debug_line = R.section d.debug_line.section; debug_line_str = R.section d.debug_line_str.section; debug_ranges = R.section d.debug_ranges.section; debug_rnglists = R.section d.debug_rnglists.section; debug_str = R.section d.debug_str.section; debug_str_offsets = R.section d.debug_str_offsets.section; file_type = d.file_type } };
+}
+
 impl<R: Reader> Dwarf<R> {
     /// The headers of the units of `.debug_info`. Refused `OutOfMemory` alone.
     pub fn units(&self) -> Result<UnitHeaders<R>, Error>
         ensures gives { ExactlyUnlessOom (λ u. u) result
-            (Ok (all_headers (R.section self.now.debug_info.section))) }
+            (Ok (all_headers self.now.debug_info)) }
     {
         Ok(UnitHeaders::new(self.debug_info.section.duplicate()?))
     }

@@ -2,7 +2,7 @@
 
 ghost use Rattle.std.specs.Prelude.{◌≡◌, ◌-◌, ◌==◌, length, option_map, option_copied};
 ghost use Rattle.gimli_read.specs.Reading.{Exactly, ExactlyUnlessOom};
-ghost use Rattle.gimli_read.specs.Form.{seen_attribute, attribute_at};
+ghost use Rattle.gimli_read.specs.Form.{attribute_at};
 ghost use Rattle.gimli.specs.Entry.{head_at};
 ghost use Rattle.gimli.specs.Cursor.{place_of, unit_of};
 
@@ -13,7 +13,7 @@ use gimli_read::{
 
 /// The entries of a unit from some place on, one by one.
 #[derive(Drop)]
-pub struct EntriesRaw<'a, R> {
+pub struct EntriesRaw<'a, R: Reader> {
     /// What is left of the unit.
     pub input: R,
     /// The sizes of the unit's values.
@@ -82,7 +82,7 @@ impl<'a, R: Reader> EntriesRaw<'a, R> {
         &mut self,
         specification: AttributeSpecification,
     ) -> Result<Attribute<R>, Error>
-        ensures gives { ExactlyUnlessOom (λ a. (seen_attribute R.section a, R.section self.new.input)) result
+        ensures gives { ExactlyUnlessOom (λ a. (a, R.section self.new.input)) result
             (attribute_at self.old.encoding specification (R.section self.old.input)) }
         ensures kept { unit_of self.new ≡ unit_of self.old }
         ensures depth { self.new.depth ≡ self.old.depth }

@@ -1,9 +1,10 @@
-//! The record of a unit: what its first entry's attributes give.
+//! The record of a unit: what its root entry's attributes give.
 
 ghost use Rattle.std.specs.Prelude.{◌≡◌};
-ghost use Rattle.gimli_read.specs.Reading.{ExactlyUnlessOom};
+ghost use Rattle.gimli_read.specs.Reading.{IsUnlessOom};
+ghost use Rattle.gimli_read.specs.Form.{seen_value};
 ghost use Rattle.gimli.specs.Entry.{attributes_at};
-ghost use Rattle.gimli.specs.Record.{address_value, section_offset, line_offset, newer, with_attribute, no_attributes, seen_root, gathered, root_of};
+ghost use Rattle.gimli.specs.Record.{address_value, section_offset, line_offset, with_root_attribute, no_root_values, root_values_after, root_values_of};
 
 use crate::entries::EntriesRaw;
 use crate::unit::UnitHeader;
@@ -11,6 +12,7 @@ use gimli_read::{
     Abbreviations, Attribute, AttributeSpecification, AttributeValue, DwAt, Encoding, Error,
     Format, Reader,
 };
+use std::marker::Model;
 
 /// A value of the class address (DWARF 5, section 7.5.5).
 #[derive(Clone, Copy, Debug, PartialEq, Eq)]
@@ -21,9 +23,9 @@ pub enum AddressValue {
     Index(u64),
 }
 
-/// What the attributes of a unit's first entry say, the last of each counting.
+/// The values of a root entry's attributes that a unit's record is made of, of each the last.
 #[derive(Drop)]
-pub(crate) struct RootAttributes<R> {
+pub(crate) struct RootAttributes<R: Reader> {
     pub(crate) name: Option<AttributeValue<R>>,
     pub(crate) comp_dir: Option<AttributeValue<R>>,
     pub(crate) low_pc: Option<AddressValue>,
@@ -34,9 +36,19 @@ pub(crate) struct RootAttributes<R> {
     pub(crate) dwo_id: Option<u64>,
 }
 
+impl<R: Reader> Model for RootAttributes<R> {
+    ghost use Rattle.std.specs.Prelude.{option_map};
+    ghost use Rattle.gimli_read.specs.Form.{seen_value};
+    ghost use Rattle.gimli.specs.Record.{RootValues};
+
+    ghost Value = { RootValues };
+
+    ghost view = { λ r. record { name = option_map (seen_value R.section) r.name; comp_dir = option_map (seen_value R.section) r.comp_dir; low_pc = r.low_pc; stmt_list = r.stmt_list; str_offsets_base = r.str_offsets_base; addr_base = r.addr_base; rnglists_base = r.rnglists_base; dwo_id = r.dwo_id } };
+}
+
 // A value of the class address.
-fn address_value<R>(value: &AttributeValue<R>) -> Option<AddressValue>
-    ensures gives { result ≡ address_value value.now }
+fn address_value<R: Reader>(value: &AttributeValue<R>) -> Option<AddressValue>
+    ensures gives { result ≡ address_value (seen_value R.section value.now) }
 {
     match value {
         AttributeValue::Addr(address) => Some(AddressValue::Address(*address)),
@@ -46,8 +58,8 @@ fn address_value<R>(value: &AttributeValue<R>) -> Option<AddressValue>
 }
 
 // A value of the class section offset.
-fn section_offset<R>(value: &AttributeValue<R>) -> Option<u64>
-    ensures gives { result ≡ section_offset value.now }
+fn section_offset<R: Reader>(value: &AttributeValue<R>) -> Option<u64>
+    ensures gives { result ≡ section_offset (seen_value R.section value.now) }
 {
     match value {
         AttributeValue::SecOffset(offset) => Some(*offset),
@@ -56,8 +68,8 @@ fn section_offset<R>(value: &AttributeValue<R>) -> Option<u64>
 }
 
 // A value of the class section offset under stmt_list.
-fn line_offset<R>(encoding: Encoding, value: &AttributeValue<R>) -> Option<u64>
-    ensures gives { result ≡ line_offset encoding value.now }
+fn line_offset<R: Reader>(encoding: Encoding, value: &AttributeValue<R>) -> Option<u64>
+    ensures gives { result ≡ line_offset encoding (seen_value R.section value.now) }
 {
     match value {
         AttributeValue::SecOffset(offset) => Some(*offset),
@@ -79,20 +91,10 @@ fn line_offset<R>(encoding: Encoding, value: &AttributeValue<R>) -> Option<u64>
     }
 }
 
-// The newer one, where there is one.
-fn newer<T: Copy>(new: Option<T>, old: Option<T>) -> Option<T>
-    ensures gives { result ≡ newer new old }
-{
-    match new {
-        Some(value) => Some(value),
-        None => old,
-    }
-}
-
-impl<R: Drop> RootAttributes<R> {
+impl<R: Reader> RootAttributes<R> {
     // Before the first attribute.
     pub(crate) fn new() -> RootAttributes<R>
-        ensures gives { result ≡ no_attributes }
+        ensures gives { result ≡ no_root_values }
     {
         RootAttributes {
             name: None,
@@ -108,37 +110,39 @@ impl<R: Drop> RootAttributes<R> {
 
     // Takes one more attribute in.
     pub(crate) fn take(&mut self, encoding: Encoding, attribute: Attribute<R>)
-        ensures gives { self.new ≡ with_attribute encoding self.old attribute }
+        ensures gives { self.new ≡ with_root_attribute encoding self.old attribute }
     {
-        let Attribute { name, value } = attribute;
+        let constant = attribute.udata_value();
+        let name = attribute.name();
+        let value = attribute.value();
         match name {
             DwAt::DW_AT_name => self.name = Some(value),
             DwAt::DW_AT_comp_dir => self.comp_dir = Some(value),
-            DwAt::DW_AT_low_pc => self.low_pc = newer(address_value(&value), self.low_pc),
+            DwAt::DW_AT_low_pc => self.low_pc = address_value(&value).or(self.low_pc),
             DwAt::DW_AT_stmt_list => {
-                self.stmt_list = newer(line_offset(encoding, &value), self.stmt_list);
+                self.stmt_list = line_offset(encoding, &value).or(self.stmt_list);
             }
             DwAt::DW_AT_str_offsets_base => {
-                self.str_offsets_base = newer(section_offset(&value), self.str_offsets_base);
+                self.str_offsets_base = section_offset(&value).or(self.str_offsets_base);
             }
             DwAt::DW_AT_addr_base | DwAt::DW_AT_GNU_addr_base => {
-                self.addr_base = newer(section_offset(&value), self.addr_base);
+                self.addr_base = section_offset(&value).or(self.addr_base);
             }
             DwAt::DW_AT_rnglists_base | DwAt::DW_AT_GNU_ranges_base => {
-                self.rnglists_base = newer(section_offset(&value), self.rnglists_base);
+                self.rnglists_base = section_offset(&value).or(self.rnglists_base);
             }
-            DwAt::DW_AT_GNU_dwo_id => self.dwo_id = newer(value.udata_value(), self.dwo_id),
+            DwAt::DW_AT_GNU_dwo_id => self.dwo_id = constant.or(self.dwo_id),
             _ => {}
         }
     }
 }
 
-// What the attributes of an entry say, one after another.
+// The values of the attributes of an entry.
 fn read_root_attributes<R: Reader>(
     entries: &mut EntriesRaw<'_, R>,
     specifications: &[AttributeSpecification],
 ) -> Result<RootAttributes<R>, Error>
-    ensures gives { ExactlyUnlessOom (seen_root R.section) result (gathered entries.old.encoding no_attributes
+    ensures gives { IsUnlessOom result (root_values_after entries.old.encoding no_root_values
         (attributes_at entries.old.encoding specifications.now (R.section entries.old.input))) }
 {
     let mut root = RootAttributes::new();
@@ -149,17 +153,17 @@ fn read_root_attributes<R: Reader>(
     Ok(root)
 }
 
-/// What the attributes of a unit's first entry say.
+/// The values of the attributes of a unit's root entry.
 ///
 /// Refused `UnexpectedEof` where no entry is, `MissingUnitDie` at a closing entry,
 /// `UnknownAbbreviation`, what an attribute's value is refused for, and `OutOfMemory`.
-#[tactic(auto, unfolding(crate::specs::Record::root_of, crate::specs::Entry::root_attributes))]
+#[tactic(auto, unfolding(crate::specs::Record::root_values_of, crate::specs::Entry::root_attributes))]
 pub(crate) fn read_root<R: Reader>(
     header: &UnitHeader<R>,
     abbreviations: &Abbreviations,
 ) -> Result<RootAttributes<R>, Error>
-    ensures gives { ExactlyUnlessOom (seen_root R.section) result
-        (root_of header.now.encoding abbreviations.now (R.section header.now.entries)) }
+    ensures gives { IsUnlessOom result
+        (root_values_of header.now.encoding abbreviations.now header.now.entries) }
 {
     let mut entries = EntriesRaw {
         input: header.entries.duplicate()?,

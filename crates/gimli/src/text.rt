@@ -3,8 +3,7 @@
 ghost use Rattle.std.specs.Prelude.{◌≡◌};
 ghost use Rattle.gimli_read.specs.Reading.{Exactly, ExactlyUnlessOom};
 ghost use Rattle.gimli_read.specs.Form.{seen_value};
-ghost use Rattle.gimli.specs.Sections.{seen_dwarf};
-ghost use Rattle.gimli.specs.Unit.{seen_unit, attr_string_of};
+ghost use Rattle.gimli.specs.Unit.{attr_string_of};
 ghost use Rattle.gimli.specs.Text.{from_offset, text_at, offset_size, entry_at, indexed_at, string_of};
 
 use crate::dwarf::Dwarf;
@@ -81,7 +80,7 @@ fn read_indexed<R: Reader>(
     index: u64,
 ) -> Result<R, Error>
     ensures gives { ExactlyUnlessOom R.section result
-        (indexed_at (seen_dwarf R.section dwarf.now) format base index) }
+        (indexed_at dwarf.now format base index) }
 {
     let size = size_of_offset(format);
     let offset = read_entry(&dwarf.debug_str_offsets.section, size, base, index)?;
@@ -101,7 +100,7 @@ pub(crate) fn read_string<R: Reader>(
     value: AttributeValue<R>,
 ) -> Result<R, Error>
     ensures gives { ExactlyUnlessOom R.section result
-        (string_of (seen_dwarf R.section dwarf.now) format base (seen_value R.section value)) }
+        (string_of dwarf.now format base (seen_value R.section value)) }
 {
     match value {
         AttributeValue::String(text) => Ok(text),
@@ -121,8 +120,8 @@ impl<R: Reader> Dwarf<R> {
     /// where no zero byte ends it, `NoSupplementary` for a string of a supplementary file, and
     /// `OutOfMemory`.
     pub fn attr_string(&self, unit: &Unit<R>, value: AttributeValue<R>) -> Result<R, Error>
-        ensures gives { ExactlyUnlessOom R.section result (attr_string_of (seen_dwarf R.section self.now)
-            (seen_unit R.section unit.now) (seen_value R.section value)) }
+        ensures gives { ExactlyUnlessOom R.section result (attr_string_of self.now
+            unit.now (seen_value R.section value)) }
     {
         read_string(
             self,

@@ -2,8 +2,8 @@
 
 ghost use Rattle.std.specs.Prelude.{◌≡◌, [], OnErr, option_map};
 ghost use Rattle.gimli_read.specs.Yields.{next_given};
-ghost use Rattle.gimli_read.specs.Reading.{Exactly, ExactlyUnlessOom};
-ghost use Rattle.gimli.specs.Header.{seen_header, address_size_at, unit_type_at, extra_at, fields_4_at, fields_5_at, fields_at, header_at, next_header_at};
+ghost use Rattle.gimli_read.specs.Reading.{Exactly, ExactlyUnlessOom, IsUnlessOom};
+ghost use Rattle.gimli.specs.Header.{address_size_at, unit_type_at, extra_at, fields_4_at, fields_5_at, fields_at, header_at, next_header_at};
 ghost use Rattle.gimli.specs.UnitsLeft.{all_headers};
 
 use gimli_read::{DebugInfoOffset, Encoding, Error, Format, Reader, read_initial_length};
@@ -32,24 +32,32 @@ pub struct DwoId(pub u64);
 
 /// The header of a unit of `.debug_info` (DWARF 5, section 7.5.1).
 #[derive(Drop)]
-pub struct UnitHeader<R> {
+pub struct UnitHeader<R: Reader> {
     /// The sizes of the unit's values.
-    pub encoding: Encoding,
+    pub(crate) encoding: Encoding,
     /// The kind of unit.
-    pub unit_type: UnitType,
+    pub(crate) unit_type: UnitType,
     /// Where the unit begins.
-    pub offset: DebugInfoOffset,
+    pub(crate) offset: DebugInfoOffset,
     /// Where in `.debug_abbrev` its abbreviations begin, in bytes.
-    pub debug_abbrev_offset: u64,
+    pub(crate) debug_abbrev_offset: u64,
     /// Its identifier as a split unit, where the header has one.
-    pub dwo_id: Option<DwoId>,
+    pub(crate) dwo_id: Option<DwoId>,
     /// The number of bytes before the first entry.
-    pub header_length: u64,
+    pub(crate) header_length: u64,
     /// Its entries.
-    pub entries: R,
+    pub(crate) entries: R,
 }
 
-impl<R: Drop> UnitHeader<R> {
+impl<R: Reader> Model for UnitHeader<R> {
+    ghost use Rattle.gimli.specs.Header.{UnitHeaderFields};
+
+    ghost Value = { UnitHeaderFields };
+
+    ghost view = { λ h. record { encoding = h.encoding; unit_type = h.unit_type; offset = h.offset; debug_abbrev_offset = h.debug_abbrev_offset; dwo_id = h.dwo_id; header_length = h.header_length; entries = R.section h.entries } };
+}
+
+impl<R: Reader> UnitHeader<R> {
     /// The version of DWARF. Takes no memory.
     pub fn version(&self) -> u16
         ensures gives { result ≡ self.now.encoding.version }
@@ -142,7 +150,7 @@ fn read_fields_5<R: Reader>(
     format: Format,
     input: R,
 ) -> Result<UnitHeader<R>, Error>
-    ensures gives { ExactlyUnlessOom (seen_header R.section) result (fields_5_at place size format (R.section input)) }
+    ensures gives { IsUnlessOom result (fields_5_at place size format (R.section input)) }
 {
     let mut input = input;
     let unit_type = read_unit_type(&mut input)?;
@@ -173,7 +181,7 @@ fn read_fields_4<R: Reader>(
     version: u16,
     input: R,
 ) -> Result<UnitHeader<R>, Error>
-    ensures gives { ExactlyUnlessOom (seen_header R.section) result
+    ensures gives { IsUnlessOom result
         (fields_4_at place size format version (R.section input)) }
 {
     let mut input = input;
@@ -202,7 +210,7 @@ fn read_fields<R: Reader>(
     format: Format,
     input: R,
 ) -> Result<UnitHeader<R>, Error>
-    ensures gives { ExactlyUnlessOom (seen_header R.section) result (fields_at place size format (R.section input)) }
+    ensures gives { IsUnlessOom result (fields_at place size format (R.section input)) }
 {
     let mut input = input;
     let version = input.read_u16()?;
@@ -216,7 +224,7 @@ fn read_fields<R: Reader>(
 // The header of the unit that stands at the front of a section of `whole` bytes.
 #[tactic(auto, unfolding(crate::specs::Header::header_at))]
 fn read_header<R: Reader>(whole: u64, input: &mut R) -> Result<UnitHeader<R>, Error>
-    ensures gives { ExactlyUnlessOom (λ h. (seen_header R.section h, R.section input.new)) result
+    ensures gives { ExactlyUnlessOom (λ h. (h, R.section input.new)) result
         (header_at whole (R.section input.old)) }
 {
     let len = input.len();
@@ -231,7 +239,7 @@ fn read_header<R: Reader>(whole: u64, input: &mut R) -> Result<UnitHeader<R>, Er
 // The next unit's header, or none at the section's end.
 #[tactic(auto, unfolding(crate::specs::Header::next_header_at))]
 fn read_next_header<R: Reader>(whole: u64, input: &mut R) -> Result<Option<UnitHeader<R>>, Error>
-    ensures gives { ExactlyUnlessOom (λ h. (option_map (seen_header R.section) h, R.section input.new)) result
+    ensures gives { ExactlyUnlessOom (λ h. (h, R.section input.new)) result
         (next_header_at whole (R.section input.old)) }
 {
     if input.is_empty() {
@@ -251,11 +259,10 @@ pub struct UnitHeaders<R: Reader> {
 impl<R: Reader> Model for UnitHeaders<R> {
     ghost use Rattle.std.specs.Prelude.{List, Result};
     ghost use Rattle.gimli_read.specs.declared.error.Error.{Error};
-    ghost use Rattle.gimli_read.specs.Section.{Section};
-    ghost use Rattle.gimli.specs.declared.unit.UnitHeader.{UnitHeader};
+    ghost use Rattle.gimli.specs.Header.{UnitHeaderFields};
     ghost use Rattle.gimli.specs.UnitsLeft.{headers_left};
 
-    ghost Value = { List (Result (UnitHeader Section) Error) };
+    ghost Value = { List (Result UnitHeaderFields Error) };
 
     ghost view = { λ a. headers_left a.whole (R.section a.input) };
 }
@@ -277,7 +284,7 @@ impl<R: Reader> UnitHeaders<R> {
     /// `UnsupportedAddressSize` by the header's fields in their order, and `OutOfMemory`. After a
     /// refusal there is no further unit.
     pub fn next(&mut self) -> Result<Option<UnitHeader<R>>, Error>
-        ensures gives { ExactlyUnlessOom (λ h. (option_map (seen_header R.section) h, self.new)) result
+        ensures gives { ExactlyUnlessOom (λ h. (h, self.new)) result
             (next_given self.old) }
         ensures refused { OnErr result (self.new ≡ []) }
     {

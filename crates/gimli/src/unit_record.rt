@@ -1,13 +1,10 @@
 //! Units: headers with what their first entry says.
 
 ghost use Rattle.std.specs.Prelude.{◌≡◌, Ok, option_map};
-ghost use Rattle.gimli_read.specs.Reading.{Exactly, ExactlyUnlessOom};
+ghost use Rattle.gimli_read.specs.Reading.{Exactly, ExactlyUnlessOom, IsUnlessOom};
 ghost use Rattle.gimli_read.specs.Form.{seen_value};
 ghost use Rattle.gimli_line.specs.Header.{seen_program};
-ghost use Rattle.gimli.specs.Header.{seen_header};
-ghost use Rattle.gimli.specs.Sections.{seen_dwarf};
-ghost use Rattle.gimli.specs.Record.{seen_root};
-ghost use Rattle.gimli.specs.Unit.{seen_unit, by_format, first_base, low_pc_of, program_of, readable, dwo_id_of, completed, unit_of};
+ghost use Rattle.gimli.specs.Unit.{by_format, first_base, low_pc_of, program_of, readable, dwo_id_of, completed, unit_of};
 
 use crate::dwarf::{Dwarf, DwarfFileType};
 use crate::record::{AddressValue, RootAttributes, read_root};
@@ -16,14 +13,15 @@ use crate::unit::{DwoId, UnitHeader};
 use gimli_line::{IncompleteLineProgram, read_line_program};
 use gimli_read::{Abbreviations, AttributeValue, Encoding, Error, Format, Reader};
 use std::alloc::Global;
+use std::marker::Model;
 
 /// A unit: its header, its abbreviations, and what its first entry says.
 #[derive(Drop)]
-pub struct Unit<R> {
+pub struct Unit<R: Reader> {
     /// The header.
     pub header: UnitHeader<R>,
     /// The abbreviations of the unit's entries.
-    pub abbreviations: Abbreviations,
+    pub(crate) abbreviations: Abbreviations,
     /// The name of the primary source file, where it can be read.
     pub name: Option<R>,
     /// The directory of the compilation, where it can be read.
@@ -40,6 +38,16 @@ pub struct Unit<R> {
     pub dwo_id: Option<DwoId>,
     /// The line program, where it has one; its opcodes aren't run yet.
     pub line_program: Option<IncompleteLineProgram<R>>,
+}
+
+impl<R: Reader> Model for Unit<R> {
+    ghost use Rattle.std.specs.Prelude.{option_map};
+    ghost use Rattle.gimli_line.specs.Header.{seen_program};
+    ghost use Rattle.gimli.specs.Unit.{UnitRecord};
+
+    ghost Value = { UnitRecord };
+
+    ghost view = { λ u. record { header = u.header; abbreviations = u.abbreviations; name = option_map R.section u.name; comp_dir = option_map R.section u.comp_dir; low_pc = u.low_pc; str_offsets_base = u.str_offsets_base; addr_base = u.addr_base; rnglists_base = u.rnglists_base; dwo_id = u.dwo_id; line_program = option_map (seen_program R.section) u.line_program } };
 }
 
 // The length of a table's header in a version 5 unit of a split file, else 0.
@@ -67,7 +75,7 @@ fn read_low_pc<R: Reader>(
     base: u64,
     value: Option<AddressValue>,
 ) -> Result<u64, Error>
-    ensures gives { Exactly (λ a. a) result (low_pc_of (seen_dwarf R.section dwarf.now) encoding base value) }
+    ensures gives { Exactly (λ a. a) result (low_pc_of dwarf.now encoding base value) }
 {
     match value {
         None => Ok(0),
@@ -91,7 +99,7 @@ fn read_program<R: Reader>(
     stmt_list: Option<u64>,
 ) -> Result<Option<IncompleteLineProgram<R>>, Error>
     ensures gives { ExactlyUnlessOom (option_map (seen_program R.section)) result
-        (program_of (seen_dwarf R.section dwarf.now) encoding stmt_list) }
+        (program_of dwarf.now encoding stmt_list) }
 {
     let Some(offset) = stmt_list else {
         return Ok(None);
@@ -109,7 +117,7 @@ fn read_readable<R: Reader>(
     value: Option<AttributeValue<R>>,
 ) -> Result<Option<R>, Error>
     ensures gives { ExactlyUnlessOom (option_map R.section) result
-        (Ok (readable (seen_dwarf R.section dwarf.now) format base (option_map (seen_value R.section) value))) }
+        (Ok (readable dwarf.now format base (option_map (seen_value R.section) value))) }
 {
     let Some(value) = value else {
         return Ok(None);
@@ -143,8 +151,8 @@ fn complete<R: Reader>(
     abbreviations: Abbreviations,
     root: RootAttributes<R>,
 ) -> Result<Unit<R>, Error>
-    ensures gives { ExactlyUnlessOom (seen_unit R.section) result (completed (seen_dwarf R.section dwarf.now)
-        (seen_header R.section header) abbreviations (seen_root R.section root)) }
+    ensures gives { IsUnlessOom result (completed dwarf.now
+        header abbreviations root) }
 {
     let encoding = header.encoding;
     let file_type = dwarf.file_type;
@@ -183,8 +191,8 @@ impl<R: Reader> Dwarf<R> {
     /// for), or the index of its low_pc (`OffsetOutOfBounds`), in this order, and `OutOfMemory`.
     #[tactic(auto, unfolding(crate::specs::Unit::unit_of))]
     pub fn unit(&self, alloc: Global, header: UnitHeader<R>) -> Result<Unit<R>, Error>
-        ensures gives { ExactlyUnlessOom (seen_unit R.section) result
-            (unit_of (seen_dwarf R.section self.now) (seen_header R.section header)) }
+        ensures gives { IsUnlessOom result
+            (unit_of self.now header) }
     {
         let rest = read_from(&self.debug_abbrev.section, header.debug_abbrev_offset)?;
         let abbreviations = Abbreviations::parse(alloc, rest)?;

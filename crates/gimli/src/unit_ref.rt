@@ -3,9 +3,8 @@
 ghost use Rattle.std.specs.Prelude.{◌≡◌, option_map};
 ghost use Rattle.gimli_read.specs.Reading.{Exactly, ExactlyUnlessOom};
 ghost use Rattle.gimli_read.specs.Form.{seen_value};
-ghost use Rattle.gimli.specs.Sections.{seen_dwarf};
 ghost use Rattle.gimli.specs.Text.{entry_at};
-ghost use Rattle.gimli.specs.Unit.{seen_unit, attr_string_of};
+ghost use Rattle.gimli.specs.Unit.{attr_string_of};
 ghost use Rattle.gimli.specs.Entries.{entries_from, entries_of, seen_entries};
 
 use crate::dwarf::Dwarf;
@@ -16,16 +15,16 @@ use gimli_read::{AttributeValue, Error, Reader, UnitOffset};
 use std::alloc::AllocError;
 
 /// A unit with the sections of its file.
-pub struct UnitRef<'a, R> {
+pub struct UnitRef<'a, R: Reader> {
     /// The sections.
     pub dwarf: &'a Dwarf<R>,
     /// The unit.
     pub unit: &'a Unit<R>,
 }
 
-impl<R> Copy for UnitRef<'_, R> {}
+impl<R: Reader> Copy for UnitRef<'_, R> {}
 
-impl<R> Clone for UnitRef<'_, R> {
+impl<R: Reader> Clone for UnitRef<'_, R> {
     fn clone(&self) -> Result<Self, AllocError> {
         Ok(*self)
     }
@@ -34,7 +33,7 @@ impl<R> Clone for UnitRef<'_, R> {
 // The bytes of the entries from an offset on, or from the first entry.
 fn read_entries_from<R: Reader>(unit: &Unit<R>, offset: Option<UnitOffset>) -> Result<R, Error>
     ensures gives { ExactlyUnlessOom R.section result
-        (entries_from (seen_unit R.section unit.now) (option_map (λ o. o.0) offset)) }
+        (entries_from unit.now (option_map (λ o. o.0) offset)) }
 {
     let header = &unit.header;
     let len = header.entries.len();
@@ -68,7 +67,7 @@ impl<'a, R: Reader> UnitRef<'a, R> {
     /// it isn't between the header's end and the unit's, and `OutOfMemory`.
     pub fn entries_raw(&self, offset: Option<UnitOffset>) -> Result<EntriesRaw<'a, R>, Error>
         ensures gives { ExactlyUnlessOom (seen_entries R.section) result
-            (entries_of (seen_unit R.section self.now.unit.now) (option_map (λ o. o.0) offset)) }
+            (entries_of self.now.unit.now (option_map (λ o. o.0) offset)) }
     {
         let unit = self.unit;
         let input = read_entries_from(unit, offset)?;
@@ -88,8 +87,8 @@ impl<'a, R: Reader> UnitRef<'a, R> {
     /// The string that a value stands for, without the zero byte that ends it. Refused as
     /// `Dwarf::attr_string` is.
     pub fn attr_string(&self, value: AttributeValue<R>) -> Result<R, Error>
-        ensures gives { ExactlyUnlessOom R.section result (attr_string_of (seen_dwarf R.section self.now.dwarf.now)
-            (seen_unit R.section self.now.unit.now) (seen_value R.section value)) }
+        ensures gives { ExactlyUnlessOom R.section result (attr_string_of self.now.dwarf.now
+            self.now.unit.now (seen_value R.section value)) }
     {
         self.dwarf.attr_string(self.unit, value)
     }
@@ -100,10 +99,11 @@ impl<'a, R: Reader> UnitRef<'a, R> {
     /// `UnsupportedAddressSize`.
     pub fn address(&self, index: u64) -> Result<u64, Error>
         ensures gives { Exactly (λ a. a) result (entry_at self.now.unit.now.header.encoding.address_size
-            self.now.unit.now.addr_base index (R.section self.now.dwarf.now.debug_addr.section)) }
+            self.now.unit.now.addr_base index self.now.dwarf.now.debug_addr) }
     {
         let unit = self.unit;
+        let dwarf = self.dwarf;
         let size = unit.header.encoding.address_size;
-        read_entry(&self.dwarf.debug_addr.section, size, unit.addr_base, index)
+        read_entry(&dwarf.debug_addr.section, size, unit.addr_base, index)
     }
 }

@@ -11,8 +11,7 @@ use Rattle.gimli_line.specs.declared.row.LineRow.{LineRow}
 use Rattle.gimli_line.specs.Encoding.{limit}
 use Rattle.gimli_line.specs.Rows.{course, address_after, row_after, row_from, past_after, rows_after, is_end, makes_row}
 use Rattle.gimli_line.specs.Steps.{start, step, fitting, row, row_of, next, executed, with_row, continued, rows_from, rows_left, files_left}
-use Rattle.gimli_line.specs.declared.header.FileEntry.{FileEntry}
-use Rattle.gimli_line.specs.Header.{Header, Program}
+use Rattle.gimli_line.specs.Header.{File, Header, Program}
 use Rattle.gimli_line.specs.Lines.{Lines, lines_of}
 use Rattle.gimli_line.specs.Opcode.{opcodes_in, instructions_of}
 use Rattle.gimli_line.proofs.Stepping.{StandsFor, start_stands, step_stands}
@@ -60,6 +59,9 @@ rows_are e some (op ∷ ops) end r past s =
 pub rows_of-start : {Z : Type 0} (e : LineEncoding) → 0 < e.maximum_operations_per_instruction → (ops : List Opcode) (end : Result Z Error) → rows_from e start ops end ≡ rows_after e [] ops end
 rows_of-start e some ops end = rows_are e some ops end start [] (start_stands e some)
 
+pub ok_is : {X E : Type 0} {x y : X} → ◌≡◌ {A = Result X E} (Ok x) (Ok y) → x ≡ y
+ok_is e = cc
+
 -- all that a program gives, as the registers see it
 pub lines_begin : (p : Program) (h : Header) (s : Section) (r : Registers) → 0 < p.header.line_encoding.maximum_operations_per_instruction → p.header ≡ h → p.program ≡ s → r ≡ start
     → lines_of p ≡ record { header = h; left = rows_left h r s; to_define = files_left h s }
@@ -71,5 +73,5 @@ lines_begin p h s r some eh es er =
     let f : lines_of p ≡ record { header = p.header; left = rows_left p.header start p.program; to_define = files_left p.header p.program } = ap (λ (x : List (Result LineRow Error)). record { header = p.header; left = x; to_define = files_left p.header p.program }) (sym a) in
     f ∙ same p.header h _ _ _ _ eh b d
   where
-    same : (x y : Header) (l m : List (Result LineRow Error)) (u v : List (FileEntry Section)) → x ≡ y → l ≡ m → u ≡ v → ◌≡◌ {A = Lines} (record { header = x; left = l; to_define = u }) (record { header = y; left = m; to_define = v })
+    same : (x y : Header) (l m : List (Result LineRow Error)) (u v : List File) → x ≡ y → l ≡ m → u ≡ v → ◌≡◌ {A = Lines} (record { header = x; left = l; to_define = u }) (record { header = y; left = m; to_define = v })
     same x y l m u v e f g = cc

@@ -7,7 +7,7 @@ use Rattle.gimli_read.specs.Reading.{Reading, ◌>>=◌}
 use Rattle.gimli_read.specs.Number.{fixed_at, ended_at, null_terminated_at}
 use Rattle.gimli_read.proofs.Shorter.{Shorter, shorter_bind, shorter_then, shorter_if, shorter_ok, shorter_err, shorter_weaker, takes_by, fixed-shorter, split-shorter, uleb128-shorter, sleb128-shorter, TakesBytes}
 use Rattle.gimli_line.specs.declared.opcode.LineInstruction.{LineInstruction}
-use Rattle.gimli_line.specs.Header.{Header}
+use Rattle.gimli_line.specs.Header.{File, Header}
 use Rattle.gimli_line.specs.Opcode.{entry_behind, numbers_skipped, standard_at, extended_in, extended_at, behind_code, instruction_at}
 use Rattle.gimli_line.specs.Tables.{directory_at, file_at}
 
@@ -51,12 +51,12 @@ instruction-takes h s = at (length s.bytes == 0)
     inner : Shorter (length s.bytes) (fixed_at 1 s >>= λ code. behind_code h code.0 code.1 >>= λ i. Ok (Some i.0, i.1))
     inner = shorter_bind (fixed-shorter 1 s (omega arith)) (λ code k. shorter_bind (behind-shorter h code.0 code.1) (λ i m. shorter_ok (omega arith)))
 
-    out : (r : Reading (Option (LineInstruction Section))) → Shorter (length s.bytes) r → IfOk r (λ p. IfSome p.0 (λ _. length p.1.bytes < length s.bytes))
+    out : (r : Reading (Option (LineInstruction File))) → Shorter (length s.bytes) r → IfOk r (λ p. IfSome p.0 (λ _. length p.1.bytes < length s.bytes))
     out (Ok (Some x, t)) k = k.by
     out (Ok (None, t)) k = tt
     out (Err e) k = tt
 
-    at : (c : Bool) → IfOk {T = Option (LineInstruction Section) × Section} (cond c (Ok (None, s)) (fixed_at 1 s >>= λ code. behind_code h code.0 code.1 >>= λ i. Ok (Some i.0, i.1))) (λ p. IfSome p.0 (λ _. length p.1.bytes < length s.bytes))
+    at : (c : Bool) → IfOk {T = Option (LineInstruction File) × Section} (cond c (Ok (None, s)) (fixed_at 1 s >>= λ code. behind_code h code.0 code.1 >>= λ i. Ok (Some i.0, i.1))) (λ p. IfSome p.0 (λ _. length p.1.bytes < length s.bytes))
     at true = tt
     at false = out _ inner
 

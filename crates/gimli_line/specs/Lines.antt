@@ -2,10 +2,8 @@
 use Rattle.std.specs.Prelude.{◌≡◌, ◌≢◌, ◌++◌, List, [], ◌∷◌, Option, Some, None, Result, Ok, Err}
 use Rattle.gimli_read.specs.declared.error.Error.{Error}
 use Rattle.gimli_read.specs.declared.error.Error.TheVariants.{OutOfMemory}
-use Rattle.gimli_read.specs.Section.{Section}
-use Rattle.gimli_line.specs.declared.header.FileEntry.{FileEntry}
 use Rattle.gimli_line.specs.declared.row.LineRow.{LineRow}
-use Rattle.gimli_line.specs.Header.{Header, Program}
+use Rattle.gimli_line.specs.Header.{File, Header, Program}
 use Rattle.gimli_line.specs.Opcode.{instructions_of, files_in}
 use Rattle.gimli_line.specs.Rows.{rows_of}
 
@@ -14,7 +12,7 @@ use Rattle.gimli_line.specs.Rows.{rows_of}
 pub record Lines : Type 0 where
   pub header : Header
   pub left : List (Result LineRow Error)
-  pub to_define : List (FileEntry Section)
+  pub to_define : List File
 
 -- all that a program gives
 abbrev pub lines_of : Program → Lines

@@ -9,21 +9,14 @@ use Rattle.gimli_read.specs.Reading.{Reading, ◌>>=◌}
 use Rattle.gimli_read.specs.Number.{fixed_at, address_at, split_at, null_terminated_at}
 use Rattle.gimli_read.specs.Leb128.{uleb128_at, sleb128_at}
 use Rattle.gimli_read.specs.Run.{Run, run_of}
-use Rattle.gimli_line.specs.declared.encoding.LineEncoding.{LineEncoding}
-use Rattle.gimli_line.specs.declared.header.FileEntry.{FileEntry}
 use Rattle.gimli_line.specs.declared.opcode.Opcode.{Opcode}
 use Rattle.gimli_line.specs.declared.opcode.Opcode.TheVariants.{Special, Copy, AdvancePc, AdvanceLine, SetFile, SetColumn, ConstAddPc, FixedAdvancePc, EndSequence, SetAddress, Other}
 use Rattle.gimli_line.specs.declared.opcode.LineInstruction.{LineInstruction}
 use Rattle.gimli_line.specs.declared.opcode.LineInstruction.TheVariants.{Changes, Defines}
-use Rattle.gimli_line.specs.Header.{Header, seen_file}
-
--- an instruction whose readers are seen as sections
-abbrev pub seen_instruction : {R : Type 0} → (R → Section) → LineInstruction R → LineInstruction Section
-seen_instruction see (Changes op) = Changes op
-seen_instruction see (Defines f) = Defines (seen_file see f)
+use Rattle.gimli_line.specs.Header.{File, Header}
 
 -- what stands behind a file's path: its directory, and a time and a length that nobody looks at
-unfoldable pub entry_behind : Section → Section → Reading (FileEntry Section)
+unfoldable pub entry_behind : Section → Section → Reading File
 entry_behind path s = do
   directory ← uleb128_at s
   time ← uleb128_at directory.1
@@ -31,7 +24,7 @@ entry_behind path s = do
   Ok (record { path_name = String path; directory_index = directory.0 }, size.1)
 
 -- a file of versions 2 to 4
-unfoldable pub file_entry_at : Section → Reading (FileEntry Section)
+unfoldable pub file_entry_at : Section → Reading File
 file_entry_at s = do
   path ← null_terminated_at s
   entry_behind path.0 path.1
@@ -63,10 +56,10 @@ standard_at h code s =
     else as_opcode (λ x. Other) (numbers_skipped (slice_index h.standard_opcode_lengths.bytes (code - 1)) s)
 
 -- the operand of an extended opcode other than define_file
-unfoldable pub operand_at : LineEncoding → ℕ → Section → Reading Opcode
-operand_at e code s =
+unfoldable pub operand_at : ℕ → ℕ → Section → Reading Opcode
+operand_at address_size code s =
     if code == 1 then Ok (EndSequence, s)
-    else if code == 2 then as_opcode SetAddress (address_at e.address_size s)
+    else if code == 2 then as_opcode SetAddress (address_at address_size s)
     else Ok (Other, s)
 
 -- whether an extended opcode is define_file, which version 5 no longer has
@@ -74,14 +67,14 @@ abbrev pub defines : Header → ℕ → Bool
 defines h code = code == 3 && nat_lt h.encoding.version 5
 
 -- the bytes of an extended opcode, its code first
-unfoldable pub extended_in : Header → Section → Reading (LineInstruction Section)
+unfoldable pub extended_in : Header → Section → Reading (LineInstruction File)
 extended_in h s = do
   code ← fixed_at 1 s
   if defines h code.0 then (file_entry_at code.1 >>= λ f. Ok (Defines f.0, f.1))
-      else (operand_at h.line_encoding code.0 code.1 >>= λ op. Ok (Changes op.0, op.1))
+      else (operand_at h.line_encoding.address_size code.0 code.1 >>= λ op. Ok (Changes op.0, op.1))
 
 -- a length, and an extended opcode in as many bytes
-unfoldable pub extended_at : Header → Section → Reading (LineInstruction Section)
+unfoldable pub extended_at : Header → Section → Reading (LineInstruction File)
 extended_at h s = do
   size ← uleb128_at s
   text ← split_at size.0 size.1
@@ -93,41 +86,41 @@ abbrev pub fault_of : {A : Type 0} → Reading A → Result (Unit {0}) Error
 fault_of read = read >>= λ x. Ok tt
 
 -- an instruction that defines a file
-abbrev pub is_file : {R : Type 0} → LineInstruction R → Bool
+abbrev pub is_file : {F : Type 0} → LineInstruction F → Bool
 is_file (Changes op) = false
 is_file (Defines f) = true
 
 -- a reading of one
-abbrev pub gives_file : Reading (LineInstruction Section) → Bool
+abbrev pub gives_file : Reading (LineInstruction File) → Bool
 gives_file (Ok x) = is_file x.0
 gives_file (Err e) = false
 
 -- what stands behind an opcode's code
-unfoldable pub behind_code : Header → ℕ → Section → Reading (LineInstruction Section)
+unfoldable pub behind_code : Header → ℕ → Section → Reading (LineInstruction File)
 behind_code h code s =
     if code == 0 then extended_at h s
     else if nat_le h.line_encoding.opcode_base code then Ok (Changes (Special (code - h.line_encoding.opcode_base)), s)
     else (standard_at h code s >>= λ op. Ok (Changes op.0, op.1))
 
 -- an instruction, none at the end
-unfoldable pub instruction_at : Header → Section → Reading (Option (LineInstruction Section))
+unfoldable pub instruction_at : Header → Section → Reading (Option (LineInstruction File))
 instruction_at h s = if length s.bytes == 0 then Ok (None, s) else do
   code ← fixed_at 1 s
   instruction ← behind_code h code.0 code.1
   Ok (Some instruction.0, instruction.1)
 
 -- the instructions of a program that can be read, and then its end or the fault
-abbrev pub instructions_of : Header → Section → Run (LineInstruction Section) Section
+abbrev pub instructions_of : Header → Section → Run (LineInstruction File) Section
 instructions_of h s = run_of (instruction_at h) s
 
 -- those that the rows depend on
-abbrev pub opcodes_in : {R : Type 0} → List (LineInstruction R) → List Opcode
+abbrev pub opcodes_in : {F : Type 0} → List (LineInstruction F) → List Opcode
 opcodes_in [] = []
 opcodes_in (Changes op ∷ more) = op ∷ opcodes_in more
 opcodes_in (Defines f ∷ more) = opcodes_in more
 
 -- the files that are defined on the way
-abbrev pub files_in : {R : Type 0} → List (LineInstruction R) → List (FileEntry R)
+abbrev pub files_in : {F : Type 0} → List (LineInstruction F) → List F
 files_in [] = []
 files_in (Changes op ∷ more) = files_in more
 files_in (Defines f ∷ more) = f ∷ files_in more

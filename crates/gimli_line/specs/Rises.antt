@@ -7,6 +7,7 @@ use Rattle.gimli_line.specs.declared.encoding.LineEncoding.{LineEncoding}
 use Rattle.gimli_line.specs.declared.opcode.LineInstruction.{LineInstruction}
 use Rattle.gimli_line.specs.declared.row.LineRow.{LineRow}
 use Rattle.gimli_line.specs.Rows.{rows_of}
+use Rattle.gimli_line.specs.Header.{File}
 
 -- the rows before the fault
 abbrev pub rows_before : List (Result LineRow Error) → List LineRow
@@ -22,4 +23,4 @@ NeverFalls (r ∷ s ∷ rows) = (r.end_sequence ≡ false → r.address ≤ s.ad
 
 -- the rows of any instructions never fall
 abbrev pub RowsRise : Type 0
-RowsRise = (e : LineEncoding) (run : Run (LineInstruction Section) Section) → 0 < e.maximum_operations_per_instruction → NeverFalls (rows_before (rows_of e run))
+RowsRise = (e : LineEncoding) (run : Run (LineInstruction File) Section) → 0 < e.maximum_operations_per_instruction → NeverFalls (rows_before (rows_of e run))

@@ -125,5 +125,5 @@ rows_after e past (op ∷ ops) end =
     if nat_lt (address_after e (op ∷ past)) (limit e) then row_from e op (op ∷ past) (rows_after e (past_after op past) ops end) else Err AddressOverflow ∷ []
 
 -- the rows of a program's instructions, and at most one fault, the last
-abbrev pub rows_of : {R Z : Type 0} → LineEncoding → Run (LineInstruction R) Z → List (Result LineRow Error)
+abbrev pub rows_of : {F Z : Type 0} → LineEncoding → Run (LineInstruction F) Z → List (Result LineRow Error)
 rows_of e run = rows_after e [] (opcodes_in run.items) run.end

@@ -10,11 +10,10 @@ use Rattle.gimli_line.specs.declared.opcode.Opcode.{Opcode}
 use Rattle.gimli_line.specs.declared.opcode.Opcode.TheVariants.{Special, Copy, AdvancePc, AdvanceLine, SetFile, SetColumn, ConstAddPc, FixedAdvancePc, EndSequence, SetAddress, Other}
 use Rattle.gimli_line.specs.declared.opcode.LineInstruction.{LineInstruction}
 use Rattle.gimli_line.specs.declared.opcode.LineInstruction.TheVariants.{Changes, Defines}
-use Rattle.gimli_line.specs.declared.header.FileEntry.{FileEntry}
 use Rattle.gimli_line.specs.declared.registers.Registers.{Registers}
 use Rattle.gimli_line.specs.declared.row.LineRow.{LineRow}
 use Rattle.gimli_line.specs.Encoding.{limit}
-use Rattle.gimli_line.specs.Header.{Header}
+use Rattle.gimli_line.specs.Header.{File, Header}
 use Rattle.gimli_line.specs.Opcode.{opcodes_in, files_in, instructions_of, standard_at, extended_at}
 use Rattle.gimli_line.specs.Rows.{line_advance, moved, is_tombstone, is_end, makes_row, ended}
 
@@ -101,11 +100,11 @@ abbrev pub rows_left : Header → Registers → Section → List (Result LineRow
 rows_left h r s = rows_from h.line_encoding r (opcodes_in (instructions_of h s).items) (instructions_of h s).end
 
 -- the files that are still to be defined
-abbrev pub files_left : Header → Section → List (FileEntry Section)
+abbrev pub files_left : Header → Section → List File
 files_left h s = files_in (instructions_of h s).items
 
 -- what an instruction puts out, the registers of the next one, and the header with its files
-unfoldable pub taken : Header → Registers → LineInstruction Section → Result (Option LineRow × Registers × Header) Error
+unfoldable pub taken : Header → Registers → LineInstruction File → Result (Option LineRow × Registers × Header) Error
 taken h r (Changes op) = executed h.line_encoding r op >>= λ x. Ok (x.0, x.1, h)
 taken h r (Defines f) = Ok (None, r, record h { file_names = h.file_names ++ f ∷ [] })
 

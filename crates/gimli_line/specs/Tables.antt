@@ -3,7 +3,6 @@
 -- is BadLineHeader, right behind the count of the entries.
 -- Own: a directory index of no constant form is 0; of several the last counts.
 use Rattle.std.specs.Prelude.{ℕ, zero, suc, ◌==◌, ◌||◌, ◌&&◌, not, Bool, List, [], ◌∷◌, length, map, count_by, Option, Some, None, Result, Ok, Err, nat_lt, if◌then◌else◌, pos}
-use Rattle.std.specs.Option.{option_map}
 use Rattle.gimli_read.specs.declared.error.Error.{Error}
 use Rattle.gimli_read.specs.declared.error.Error.TheVariants.{BadLineHeader}
 use Rattle.gimli_read.specs.declared.endian.Encoding.{Encoding}
@@ -14,13 +13,10 @@ use Rattle.gimli_read.specs.Reading.{Reading, ◌>>=◌, refused_if}
 use Rattle.gimli_read.specs.Number.{fixed_at, null_terminated_at}
 use Rattle.gimli_read.specs.Leb128.{uleb128_at}
 use Rattle.gimli_read.specs.Run.{run_of, collected}
-use Rattle.gimli_read.specs.Form.{seen_value, value_at}
-use Rattle.gimli_line.specs.declared.header.FileEntry.{FileEntry}
+use Rattle.gimli_read.specs.Form.{value_at}
 use Rattle.gimli_line.specs.declared.tables.EntryFormat.{EntryFormat}
-use Rattle.gimli_line.specs.declared.tables.Entry.{Entry}
-use Rattle.gimli_line.specs.declared.tables.HeaderTables.{HeaderTables}
-use Rattle.gimli_line.specs.Header.{seen_file}
 use Rattle.gimli_line.specs.Opcode.{entry_behind}
+use Rattle.gimli_line.specs.Header.{File}
 
 -- a directory of versions 2 to 4, none at an empty text
 unfoldable pub directory_at : Section → Reading (Option (AttributeValue Section))
@@ -29,16 +25,12 @@ directory_at s = do
   if length path.0.bytes == 0 then Ok (None, path.1) else Ok (Some (String path.0), path.1)
 
 -- a file of the table of versions 2 to 4, none at an empty text
-unfoldable pub file_at : Section → Reading (Option (FileEntry Section))
+unfoldable pub file_at : Section → Reading (Option File)
 file_at s = do
   path ← null_terminated_at s
   if length path.0.bytes == 0 then Ok (None, path.1) else do
     file ← entry_behind path.0 path.1
     Ok (Some file.0, file.1)
-
--- an entry whose readers are seen as sections
-abbrev pub seen_entry : {R : Type 0} → (R → Section) → Entry R → Entry Section
-seen_entry see entry = record { path_name = option_map (seen_value see) entry.path_name; directory_index = entry.directory_index }
 
 -- n things, one after another
 unfoldable pub times : {A : Type 0} → (Section → Reading A) → ℕ → Section → Reading (List A)
@@ -87,34 +79,39 @@ constant (Udata n) = n
 constant (Sdata (pos n)) = n
 constant _ = 0
 
+-- what is read of an entry
+pub record EntryValues : Type 0 where
+  pub path_name : Option (AttributeValue Section)
+  pub directory_index : ℕ
+
 -- an entry with one more value
-abbrev pub with_value : ℕ → AttributeValue Section → Entry Section → Entry Section
+abbrev pub with_value : ℕ → AttributeValue Section → EntryValues → EntryValues
 with_value type value entry =
     if type == 1 then record entry { path_name = Some value } else (if type == 2 then record entry { directory_index = constant value } else entry)
 
 -- an entry of which nothing is read
-abbrev pub no_entry : Entry Section
+abbrev pub no_entry : EntryValues
 no_entry = record { path_name = None; directory_index = 0 }
 
 -- the values of an entry, of which those that aren't known are dropped
-unfoldable pub values_at : Encoding → List EntryFormat → Entry Section → Section → Reading (Entry Section)
+unfoldable pub values_at : Encoding → List EntryFormat → EntryValues → Section → Reading (EntryValues)
 values_at e [] entry s = Ok (entry, s)
 values_at e (f ∷ formats) entry s = value_at e f.form.0 s >>= λ x. values_at e formats (with_value f.content_type x.0 entry) x.1
 
 -- a file with this path, which each format has
-abbrev pub filed : Option (AttributeValue Section) → ℕ → Result (FileEntry Section) Error
+abbrev pub filed : Option (AttributeValue Section) → ℕ → Result File Error
 filed None index = Err BadLineHeader
 filed (Some path) index = Ok (record { path_name = path; directory_index = index })
 
 -- an entry of a table
-unfoldable pub entry_at : Encoding → List EntryFormat → Section → Reading (FileEntry Section)
+unfoldable pub entry_at : Encoding → List EntryFormat → Section → Reading File
 entry_at e formats s = do
   entry ← values_at e formats no_entry s
   file ← filed entry.0.path_name entry.0.directory_index
   Ok (file, entry.1)
 
 -- formats, a count, and as many entries
-unfoldable pub table_at : Encoding → Section → Reading (List (FileEntry Section))
+unfoldable pub table_at : Encoding → Section → Reading (List File)
 table_at e s = do
   formats ← formats_at s
   count ← uleb128_at formats.1
@@ -124,11 +121,7 @@ table_at e s = do
 -- directories and files
 pub record Tables : Type 0 where
   pub include_directories : List (AttributeValue Section)
-  pub file_names : List (FileEntry Section)
-
--- tables whose readers are seen as sections
-abbrev pub seen_tables : {R : Type 0} → (R → Section) → HeaderTables R → Tables
-seen_tables see t = record { include_directories = map (seen_value see) t.include_directories.items; file_names = map (seen_file see) t.file_names.items }
+  pub file_names : List File
 
 -- the tables of versions 2 to 4
 unfoldable pub old_tables_at : Section → Reading Tables
@@ -142,7 +135,7 @@ unfoldable pub new_tables_at : Encoding → Section → Reading Tables
 new_tables_at e s = do
   directories ← table_at e s
   files ← table_at e directories.1
-  Ok (record { include_directories = map (λ (f : FileEntry Section). f.path_name) directories.0; file_names = files.0 }, files.1)
+  Ok (record { include_directories = map (λ (f : File). f.path_name) directories.0; file_names = files.0 }, files.1)
 
 -- the tables of a version
 unfoldable pub tables_at : Encoding → Section → Reading Tables

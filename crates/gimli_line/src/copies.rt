@@ -1,9 +1,9 @@
 //! Values, files and headers twice: their readers are duplicated.
 
-ghost use Rattle.std.specs.Prelude.{◌≡◌, map, Ok};
-ghost use Rattle.gimli_read.specs.Reading.{ExactlyUnlessOom};
+ghost use Rattle.std.specs.Prelude.{◌&&◌, ◌≡◌, map, Ok};
+ghost use Rattle.gimli_read.specs.Reading.{ExactlyUnlessOom, ExactlyUnlessOomIf, IsUnlessOom};
 ghost use Rattle.gimli_read.specs.Form.{seen_value};
-ghost use Rattle.gimli_line.specs.Header.{seen_file, seen_header};
+ghost use Rattle.gimli_read.specs.HeldBytes.{holds_bytes};
 
 use crate::header::{FileEntry, LineProgramHeader};
 use gimli_read::{AttributeValue, Error, Reader};
@@ -13,7 +13,8 @@ use std::alloc::Global;
 pub(crate) fn duplicate_value<R: Reader>(
     value: &AttributeValue<R>,
 ) -> Result<AttributeValue<R>, Error>
-    ensures gives { ExactlyUnlessOom (seen_value R.section) result (Ok (seen_value R.section value.now)) }
+    ensures gives { ExactlyUnlessOomIf (R.shares && holds_bytes value.now) (seen_value R.section) result
+        (Ok (seen_value R.section value.now)) }
 {
     match value {
         AttributeValue::Addr(x) => Ok(AttributeValue::Addr(*x)),
@@ -44,7 +45,7 @@ pub(crate) fn duplicate_value<R: Reader>(
 }
 
 fn duplicate_file<R: Reader>(file: &FileEntry<R>) -> Result<FileEntry<R>, Error>
-    ensures gives { ExactlyUnlessOom (seen_file R.section) result (Ok (seen_file R.section file.now)) }
+    ensures gives { ExactlyUnlessOomIf R.shares (λ f. f) result (Ok file.now) }
 {
     Ok(FileEntry {
         path_name: duplicate_value(&file.path_name)?,
@@ -69,7 +70,7 @@ fn duplicate_files<R: Reader>(
     alloc: Global,
     files: &[FileEntry<R>],
 ) -> Result<Vec<FileEntry<R>>, Error>
-    ensures gives { ExactlyUnlessOom (λ v. map (seen_file R.section) v.items) result (Ok (map (seen_file R.section) files.now)) }
+    ensures gives { ExactlyUnlessOom (λ v. v.items) result (Ok (files.now)) }
 {
     let mut copies = Vec::new(alloc);
     for file in files {
@@ -82,7 +83,7 @@ fn duplicate_files<R: Reader>(
 pub(crate) fn duplicate_header<R: Reader>(
     header: &LineProgramHeader<R>,
 ) -> Result<LineProgramHeader<R>, Error>
-    ensures gives { ExactlyUnlessOom (seen_header R.section) result (Ok (seen_header R.section header.now)) }
+    ensures gives { IsUnlessOom result (Ok header.now) }
 {
     Ok(LineProgramHeader {
         encoding: header.encoding,

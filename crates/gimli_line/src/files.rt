@@ -1,10 +1,11 @@
 //! Files and directories by their index.
 
-ghost use Rattle.std.specs.Prelude.{◌≡◌, Ok, map};
+ghost use Rattle.std.specs.Prelude.{◌&&◌, ◌≡◌, Ok, map};
 ghost use Rattle.std.specs.Option.{option_map};
-ghost use Rattle.gimli_read.specs.Reading.{ExactlyUnlessOom};
+ghost use Rattle.gimli_read.specs.Reading.{ExactlyUnlessOomIf};
+ghost use Rattle.gimli_read.specs.HeldBytes.{holds_bytes};
 ghost use Rattle.gimli_read.specs.Form.{seen_value};
-ghost use Rattle.gimli_line.specs.Header.{seen_file, seen_header, entry_of, file_of, directory_of};
+ghost use Rattle.gimli_line.specs.Header.{entry_of, file_of, directory_of, is_in_bytes};
 
 use crate::copies::duplicate_value;
 use crate::header::{FileEntry, LineProgramHeader};
@@ -28,22 +29,22 @@ impl<R: Reader> LineProgramHeader<R> {
     ///
     /// Files count from 1 in versions 2 to 4, and from 0 in version 5; none where there is no such file.
     pub fn file(&self, index: u64) -> Option<&FileEntry<R>>
-        ensures gives { option_map (λ f. seen_file R.section f.now) result
-            ≡ file_of (seen_header R.section self.now) index }
+        ensures gives { option_map (λ f. f.now) result
+            ≡ file_of self.now index }
     {
         entry(self.encoding.version, index, &self.file_names)
     }
 
     /// The files, in their order. Takes no memory.
     pub fn file_names(&self) -> &[FileEntry<R>]
-        ensures gives { map (seen_file R.section) result.now ≡ (seen_header R.section self.now).file_names }
+        ensures gives { result.now ≡ self.now.file_names }
     {
         self.file_names.as_slice()
     }
 
     /// The version of the program. Takes no memory.
     pub fn version(&self) -> u16
-        ensures gives { result ≡ (seen_header R.section self.now).encoding.version }
+        ensures gives { result ≡ self.now.encoding.version }
     {
         self.encoding.version
     }
@@ -52,14 +53,15 @@ impl<R: Reader> LineProgramHeader<R> {
 impl<R: Reader> FileEntry<R> {
     /// The path, a string of any form. Refused `OutOfMemory` alone.
     pub fn path_name(&self) -> Result<AttributeValue<R>, Error>
-        ensures gives { ExactlyUnlessOom (seen_value R.section) result (Ok (seen_file R.section self.now).path_name) }
+        ensures gives { ExactlyUnlessOomIf (R.shares && holds_bytes self.now.path_name)
+            (seen_value R.section) result (Ok self.now.path_name) }
     {
         duplicate_value(&self.path_name)
     }
 
     /// The directory, by its index. Takes no memory.
     pub fn directory_index(&self) -> u64
-        ensures gives { result ≡ (seen_file R.section self.now).directory_index }
+        ensures gives { result ≡ self.now.directory_index }
     {
         self.directory_index
     }
@@ -72,8 +74,8 @@ impl<R: Reader> FileEntry<R> {
         &self,
         header: &LineProgramHeader<R>,
     ) -> Result<Option<AttributeValue<R>>, Error>
-        ensures gives { ExactlyUnlessOom (option_map (seen_value R.section)) result
-            (Ok (directory_of (seen_header R.section header.now) (seen_file R.section self.now))) }
+        ensures gives { ExactlyUnlessOomIf (R.shares && is_in_bytes (directory_of header.now self.now))
+            (option_map (seen_value R.section)) result (Ok (directory_of header.now self.now)) }
     {
         let index = self.directory_index;
         match entry(header.encoding.version, index, &header.include_directories) {

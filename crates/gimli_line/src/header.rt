@@ -1,29 +1,55 @@
 //! The header of a line program.
 
-ghost use Rattle.std.specs.Prelude.{◌≡◌, ◌<◌, true};
-ghost use Rattle.gimli_read.specs.Number.{is_address_size};
-
 use crate::encoding::LineEncoding;
-use gimli_read::{AttributeValue, Encoding};
+use gimli_read::{AttributeValue, Encoding, Reader};
 use std::alloc::Global;
+use std::marker::Model;
 
 /// A file of a line program.
 #[derive(Drop)]
-pub struct FileEntry<R> {
+pub struct FileEntry<R: Reader> {
     pub(crate) path_name: AttributeValue<R>,
     pub(crate) directory_index: u64,
 }
 
+impl<R: Reader> Model for FileEntry<R> {
+    ghost use Rattle.gimli_read.specs.Form.{seen_value};
+    ghost use Rattle.gimli_line.specs.Header.{File};
+
+    ghost Value = { File };
+
+    ghost view = { λ f. record {
+      path_name = seen_value R.section f.path_name;
+      directory_index = f.directory_index;
+    } };
+}
+
 /// The header of a line program, with its directories and files.
 #[derive(Drop)]
-pub struct LineProgramHeader<R> {
+pub struct LineProgramHeader<R: Reader> {
     pub(crate) encoding: Encoding,
     pub(crate) line_encoding: LineEncoding,
     pub(crate) standard_opcode_lengths: R,
     pub(crate) include_directories: Vec<AttributeValue<R>>,
     pub(crate) file_names: Vec<FileEntry<R>>,
     pub(crate) alloc: Global,
-    ghost size: { is_address_size line_encoding.address_size ≡ true },
-    ghost operations: { 0 < line_encoding.maximum_operations_per_instruction },
-    ghost range: { 0 < line_encoding.line_range },
+}
+
+impl<R: Reader> Model for LineProgramHeader<R> {
+    ghost use Rattle.std.specs.Prelude.{map};
+    ghost use Rattle.gimli_read.specs.Form.{seen_value};
+    ghost use Rattle.gimli_line.specs.Encoding.{IsSound};
+    ghost use Rattle.gimli_line.specs.Header.{Header};
+
+    ghost Value = { Header };
+
+    ghost view = { λ h. record {
+      encoding = h.encoding;
+      line_encoding = h.line_encoding;
+      standard_opcode_lengths = R.section h.standard_opcode_lengths;
+      include_directories = map (seen_value R.section) h.include_directories.items;
+      file_names = h.file_names.items;
+    } };
+
+    ghost invariant = { λ h. IsSound h.line_encoding };
 }

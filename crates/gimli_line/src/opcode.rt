@@ -2,10 +2,9 @@
 
 ghost use Rattle.std.specs.Prelude.{◌≡◌, ◌==◌, ◌&&◌, false, nat_lt, IfErr, Err};
 ghost use Rattle.std.specs.List.{position};
-ghost use Rattle.gimli_read.specs.Reading.{Exactly, ExactlyUnlessOom};
+ghost use Rattle.gimli_read.specs.Reading.{Exactly, ExactlyUnlessOomIf, ExactlyUnlessOomFor, Reads};
 ghost use Rattle.gimli_read.specs.Number.{null_terminated_at};
-ghost use Rattle.gimli_line.specs.Header.{seen_file, seen_header};
-ghost use Rattle.gimli_line.specs.Opcode.{seen_instruction, entry_behind, file_entry_at, operand_at, defines, extended_in, extended_at, gives_file, fault_of};
+ghost use Rattle.gimli_line.specs.Opcode.{entry_behind, file_entry_at, operand_at, defines, extended_in, extended_at, gives_file, fault_of};
 
 use crate::header::{FileEntry, LineProgramHeader};
 use gimli_read::{AttributeValue, EndianSlice, Error, Reader, RunTimeEndian};
@@ -39,17 +38,17 @@ pub enum Opcode {
 
 /// One instruction of a line program.
 #[derive(Drop)]
-pub enum LineInstruction<R> {
+pub enum LineInstruction<F> {
     /// An opcode that the rows may depend on.
     Changes(Opcode),
     /// A file more.
-    Defines(FileEntry<R>),
+    Defines(F),
 }
 
 // What stands behind a file's path.
 #[tactic(auto, unfolding(crate::specs::Opcode::entry_behind))]
 pub(crate) fn read_entry_behind<R: Reader>(path: R, input: &mut R) -> Result<FileEntry<R>, Error>
-    ensures gives { Exactly (λ f. (seen_file R.section f, R.section input.new)) result
+    ensures gives { Exactly (λ f. (f, R.section input.new)) result
         (entry_behind (R.section path) (R.section input.old)) }
 {
     let directory_index = input.read_uleb128()?;
@@ -64,7 +63,7 @@ pub(crate) fn read_entry_behind<R: Reader>(path: R, input: &mut R) -> Result<Fil
 // A file of versions 2 to 4.
 #[tactic(auto, unfolding(crate::specs::Opcode::file_entry_at))]
 fn read_file_entry<R: Reader>(input: &mut R) -> Result<FileEntry<R>, Error>
-    ensures gives { ExactlyUnlessOom (λ f. (seen_file R.section f, R.section input.new)) result
+    ensures gives { ExactlyUnlessOomIf R.shares (λ f. (f, R.section input.new)) result
         (file_entry_at (R.section input.old)) }
 {
     let path = input.read_null_terminated()?;
@@ -107,7 +106,7 @@ fn check_file_entry(bytes: &[u8], endian: RunTimeEndian) -> Result<(), Error>
 }
 
 // Whether an extended opcode is define_file.
-fn defines_file<R>(header: &LineProgramHeader<R>, code: u8) -> bool
+fn defines_file<R: Reader>(header: &LineProgramHeader<R>, code: u8) -> bool
     ensures gives { result ≡ (code == 3 && nat_lt header.now.encoding.version 5) }
 {
     code == 3 && header.encoding.version < 5
@@ -115,17 +114,12 @@ fn defines_file<R>(header: &LineProgramHeader<R>, code: u8) -> bool
 
 // The operand of an extended opcode other than define_file.
 #[tactic(auto, unfolding(crate::specs::Opcode::operand_at))]
-fn read_operand<R, S: Reader>(
-    header: &LineProgramHeader<R>,
-    code: u8,
-    input: &mut S,
-) -> Result<Opcode, Error>
-    ensures gives { Exactly (λ op. (op, S.section input.new)) result
-        (operand_at header.now.line_encoding code (S.section input.old)) }
+fn read_operand<R: Reader>(address_size: u8, code: u8, input: &mut R) -> Result<Opcode, Error>
+    ensures gives { Reads R.section input.old input.new result (operand_at address_size code) }
 {
     match code {
         1 => Ok(Opcode::EndSequence),
-        2 => Ok(Opcode::SetAddress(input.read_address(header.line_encoding.address_size)?)),
+        2 => Ok(Opcode::SetAddress(input.read_address(address_size)?)),
         _ => Ok(Opcode::Other),
     }
 }
@@ -136,12 +130,9 @@ fn read_operand<R, S: Reader>(
 pub(crate) fn read_extended<R: Reader>(
     header: &LineProgramHeader<R>,
     input: &mut R,
-) -> Result<LineInstruction<R>, Error>
-    ensures gives { ExactlyUnlessOom (λ x. (seen_instruction R.section x, R.section input.new)) result
-        (extended_at (seen_header R.section header.now) (R.section input.old)) }
-    ensures memory { IfErr result (λ e.
-        gives_file (extended_at (seen_header R.section header.now) (R.section input.old)) ≡ false
-        → extended_at (seen_header R.section header.now) (R.section input.old) ≡ Err e) }
+) -> Result<LineInstruction<FileEntry<R>>, Error>
+    ensures gives { ExactlyUnlessOomFor R.shares gives_file (λ x. (x, R.section input.new)) result
+        (extended_at header.now (R.section input.old)) }
 {
     let size = input.read_uleb128()?;
     let bytes = input.to_slice();
@@ -156,7 +147,7 @@ pub(crate) fn read_extended<R: Reader>(
         text.read_u8()?;
         return Ok(LineInstruction::Defines(read_file_entry(&mut text)?));
     }
-    let opcode = read_operand(header, code, &mut text)?;
+    let opcode = read_operand(header.line_encoding.address_size, code, &mut text)?;
     input.skip(size)?;
     Ok(LineInstruction::Changes(opcode))
 }

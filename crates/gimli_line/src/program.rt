@@ -3,14 +3,13 @@
 ghost use Rattle.std.specs.Prelude.{◌≡◌, ◌<◌, ◌++◌, [], ◌∷◌, false, OnOk, OnErr, IfOk, IfErr, Ok, Err, None};
 ghost use Rattle.gimli_read.specs.Reading.{ExactlyUnlessOom};
 ghost use Rattle.gimli_line.specs.Encoding.{limit};
-ghost use Rattle.gimli_line.specs.Header.{seen_header, seen_program};
 ghost use Rattle.gimli_line.specs.Lines.{lines_of, YieldsUnlessOom, KeepsFiles};
-ghost use Rattle.gimli_line.specs.Opcode.{seen_instruction, is_file, gives_file, behind_code};
+ghost use Rattle.gimli_line.specs.Opcode.{is_file, gives_file, behind_code};
 ghost use Rattle.gimli_line.specs.Rises.{rows_before, NeverFalls, RowsRise};
 ghost use Rattle.gimli_line.specs.Steps.{taken, ran, rows_left, files_left, DefinesOn, Finds};
 
 use crate::copies::duplicate_header;
-use crate::header::LineProgramHeader;
+use crate::header::{FileEntry, LineProgramHeader};
 use crate::machine::Machine;
 use crate::opcode::{LineInstruction, Opcode, read_extended};
 use crate::registers::Registers;
@@ -21,15 +20,23 @@ use std::marker::Model;
 
 /// A line program whose opcodes aren't run yet.
 #[derive(Drop)]
-pub struct IncompleteLineProgram<R> {
+pub struct IncompleteLineProgram<R: Reader> {
     pub(crate) header: LineProgramHeader<R>,
     pub(crate) program: R,
+}
+
+impl<R: Reader> Model for IncompleteLineProgram<R> {
+    ghost use Rattle.gimli_line.specs.Header.{Program};
+
+    ghost Value = { Program };
+
+    ghost view = { λ p. record { header = p.header; program = R.section p.program } };
 }
 
 impl<R: Reader> IncompleteLineProgram<R> {
     /// The header, with the files of its tables. Takes no memory.
     pub fn header(&self) -> &LineProgramHeader<R>
-        ensures gives { seen_header R.section result.now ≡ (seen_program R.section self.now).header }
+        ensures gives { result.now ≡ self.now.header }
     {
         &self.header
     }
@@ -37,11 +44,12 @@ impl<R: Reader> IncompleteLineProgram<R> {
     /// The rows of the program, from its first opcode on, over a copy of its header. Refused `OutOfMemory`
     /// alone.
     pub fn rows(&self) -> Result<LineRows<R>, Error>
-        ensures gives { ExactlyUnlessOom (λ rows. rows) result (Ok (lines_of (seen_program R.section self.now))) }
+        ensures gives { ExactlyUnlessOom (λ rows. rows) result (Ok (lines_of self.now)) }
     {
+        let header = &self.header;
         Ok(LineRows {
-            machine: Machine::new(self.header.line_encoding),
-            header: duplicate_header(&self.header)?,
+            machine: Machine::new(header.line_encoding),
+            header: duplicate_header(header)?,
             program: self.program.duplicate()?,
             registers: Registers::start(),
         })
@@ -64,13 +72,12 @@ impl<R: Reader> Model for LineRows<R> {
     ghost Value = { Lines };
 
     ghost use Rattle.gimli_line.specs.Encoding.{limit};
-    ghost use Rattle.gimli_line.specs.Header.{seen_header};
     ghost use Rattle.gimli_line.specs.Steps.{rows_left, files_left};
 
     ghost view = { λ a. record {
-      header = seen_header R.section a.header;
-      left = rows_left (seen_header R.section a.header) a.registers (R.section a.program);
-      to_define = files_left (seen_header R.section a.header) (R.section a.program);
+      header = a.header;
+      left = rows_left a.header a.registers (R.section a.program);
+      to_define = files_left a.header (R.section a.program);
     } };
 
     ghost invariant = { λ a. (a.machine.encoding ≡ a.header.line_encoding)
@@ -81,7 +88,7 @@ impl<R: Reader> Model for LineRows<R> {
 impl<R: Reader> LineRows<R> {
     /// The header, with the files that are defined so far. Takes no memory.
     pub fn header(&self) -> &LineProgramHeader<R>
-        ensures gives { seen_header R.section result.now ≡ self.now.header }
+        ensures gives { result.now ≡ self.now.header }
     {
         &self.header
     }
@@ -138,15 +145,15 @@ fn take_instruction<R: Reader>(
     machine: &Machine,
     header: &mut LineProgramHeader<R>,
     registers: &mut Registers,
-    instruction: LineInstruction<R>,
+    instruction: LineInstruction<FileEntry<R>>,
 ) -> Result<Option<LineRow>, Error>
     requires same { machine.now.encoding ≡ header.old.line_encoding }
     requires index { registers.old.op_index < machine.now.encoding.maximum_operations_per_instruction }
     requires fits { registers.old.address < limit machine.now.encoding }
-    ensures gives { ExactlyUnlessOom (λ x. (x, registers.new, seen_header R.section header.new)) result
-        (taken (seen_header R.section header.old) registers.old (seen_instruction R.section instruction)) }
+    ensures gives { ExactlyUnlessOom (λ x. (x, registers.new, header.new)) result
+        (taken header.old registers.old instruction) }
     ensures memory { IfErr result (λ e. is_file instruction ≡ false
-        → taken (seen_header R.section header.old) registers.old (seen_instruction R.section instruction) ≡ Err e) }
+        → taken header.old registers.old instruction ≡ Err e) }
     ensures same { machine.now.encoding ≡ header.new.line_encoding }
     ensures index { OnOk result (registers.new.op_index < machine.now.encoding.maximum_operations_per_instruction) }
     ensures fits { OnOk result (registers.new.address < limit machine.now.encoding) }
@@ -174,11 +181,11 @@ fn run_behind_code<R: Reader>(
     requires same { machine.now.encoding ≡ header.old.line_encoding }
     requires index { registers.old.op_index < machine.now.encoding.maximum_operations_per_instruction }
     requires fits { registers.old.address < limit machine.now.encoding }
-    ensures gives { ExactlyUnlessOom (λ x. (x, registers.new, seen_header R.section header.new, R.section program.new)) result
-        (ran (seen_header R.section header.old) registers.old code (R.section program.old)) }
+    ensures gives { ExactlyUnlessOom (λ x. (x, registers.new, header.new, R.section program.new)) result
+        (ran header.old registers.old code (R.section program.old)) }
     ensures memory { IfErr result (λ e.
-        gives_file (behind_code (seen_header R.section header.old) code (R.section program.old)) ≡ false
-        → ran (seen_header R.section header.old) registers.old code (R.section program.old) ≡ Err e) }
+        gives_file (behind_code header.old code (R.section program.old)) ≡ false
+        → ran header.old registers.old code (R.section program.old) ≡ Err e) }
     ensures same { machine.now.encoding ≡ header.new.line_encoding }
     ensures index { OnOk result (registers.new.op_index < machine.now.encoding.maximum_operations_per_instruction) }
     ensures fits { OnOk result (registers.new.address < limit machine.now.encoding) }
@@ -204,15 +211,15 @@ fn find_row<R: Reader>(
     requires same { machine.now.encoding ≡ header.old.line_encoding }
     requires index { registers.old.op_index < machine.now.encoding.maximum_operations_per_instruction }
     requires fits { registers.old.address < limit machine.now.encoding }
-    ensures gives { Finds (rows_left (seen_header R.section header.old) registers.old (R.section program.old)) result
-        (rows_left (seen_header R.section header.new) registers.new (R.section program.new)) }
+    ensures gives { Finds (rows_left header.old registers.old (R.section program.old)) result
+        (rows_left header.new registers.new (R.section program.new)) }
     ensures memory { IfErr result (λ e.
-        files_left (seen_header R.section header.old) (R.section program.old) ≡ []
-        → rows_left (seen_header R.section header.old) registers.old (R.section program.old) ≡ Err e ∷ []) }
+        files_left header.old (R.section program.old) ≡ []
+        → rows_left header.old registers.old (R.section program.old) ≡ Err e ∷ []) }
     ensures all { IfOk result (λ row. row ≡ None
-        → files_left (seen_header R.section header.new) (R.section program.new) ≡ []) }
-    ensures files { OnOk result (DefinesOn (seen_header R.section header.old) (R.section program.old)
-        (seen_header R.section header.new) (R.section program.new)) }
+        → files_left header.new (R.section program.new) ≡ []) }
+    ensures files { OnOk result (DefinesOn header.old (R.section program.old)
+        header.new (R.section program.new)) }
     ensures same { machine.now.encoding ≡ header.new.line_encoding }
     ensures index { OnOk result (registers.new.op_index < machine.now.encoding.maximum_operations_per_instruction) }
     ensures fits { OnOk result (registers.new.address < limit machine.now.encoding) }

@@ -1,9 +1,8 @@
 //! Reading the header of a line program.
 
 ghost use Rattle.std.specs.Prelude.{◌≡◌, ◌<◌, true, IfOk};
-ghost use Rattle.gimli_read.specs.Reading.{Exactly, ExactlyUnlessOom};
+ghost use Rattle.gimli_read.specs.Reading.{Exactly, ExactlyUnlessOom, IsUnlessOom};
 ghost use Rattle.gimli_read.specs.Number.{is_address_size};
-ghost use Rattle.gimli_line.specs.Header.{seen_header, seen_program};
 ghost use Rattle.gimli_line.specs.Program.{address_size_at, nonzero_at, operations_at, numbers_at, header_at, unit_at, line_program_at};
 
 use crate::encoding::LineEncoding;
@@ -100,7 +99,7 @@ fn read_header<R: Reader>(
     input: &mut R,
 ) -> Result<LineProgramHeader<R>, Error>
     requires size { is_address_size encoding.address_size ≡ true }
-    ensures gives { ExactlyUnlessOom (λ h. (seen_header R.section h, R.section input.new)) result
+    ensures gives { ExactlyUnlessOom (λ h. (h, R.section input.new)) result
         (header_at encoding (R.section input.old)) }
 {
     let line_encoding = read_numbers(encoding, input)?;
@@ -124,7 +123,7 @@ fn read_unit<R: Reader>(
     format: Format,
     mut input: R,
 ) -> Result<IncompleteLineProgram<R>, Error>
-    ensures gives { ExactlyUnlessOom (seen_program R.section) result (unit_at unit_size format (R.section input)) }
+    ensures gives { IsUnlessOom result (unit_at unit_size format (R.section input)) }
 {
     let version = input.read_u16()?;
     if version < 2 || version > 5 {
@@ -158,7 +157,7 @@ pub fn read_line_program<R: Reader>(
     mut input: R,
     address_size: u8,
 ) -> Result<IncompleteLineProgram<R>, Error>
-    ensures gives { ExactlyUnlessOom (seen_program R.section) result (line_program_at address_size (R.section input)) }
+    ensures gives { IsUnlessOom result (line_program_at address_size (R.section input)) }
 {
     let (length, format) = read_initial_length(&mut input)?;
     let unit = input.split(length)?;

@@ -3,7 +3,6 @@
 ghost use Rattle.std.specs.Prelude.{◌≡◌, ◌<◌, ◌-◌, OnOk, slice_index};
 ghost use Rattle.gimli_read.specs.Reading.{Exactly};
 ghost use Rattle.gimli_line.specs.Encoding.{limit};
-ghost use Rattle.gimli_line.specs.Header.{seen_header};
 ghost use Rattle.gimli_line.specs.Opcode.{numbers_skipped};
 ghost use Rattle.gimli_line.specs.Steps.{ran_standard};
 
@@ -27,7 +26,7 @@ fn skip_numbers<R: Reader>(input: &mut R, count: u8) -> Result<(), Error>
 // How many numbers a standard opcode has that isn't known.
 fn count_of<R: Reader>(header: &LineProgramHeader<R>, code: u8) -> u8
     requires some { 0 < code }
-    ensures gives { result ≡ slice_index (R.section header.now.standard_opcode_lengths).bytes (code - 1) }
+    ensures gives { result ≡ slice_index header.now.standard_opcode_lengths.bytes (code - 1) }
 {
     match header
         .standard_opcode_lengths
@@ -56,7 +55,7 @@ pub(crate) fn run_standard<R: Reader>(
     requires index { registers.old.op_index < machine.now.encoding.maximum_operations_per_instruction }
     requires fits { registers.old.address < limit machine.now.encoding }
     ensures gives { Exactly (λ x. (x, registers.new, R.section input.new)) result
-        (ran_standard (seen_header R.section header.now) registers.old code (R.section input.old)) }
+        (ran_standard header.now registers.old code (R.section input.old)) }
     ensures index { OnOk result (registers.new.op_index < machine.now.encoding.maximum_operations_per_instruction) }
     ensures fits { OnOk result (registers.new.address < limit machine.now.encoding) }
 {

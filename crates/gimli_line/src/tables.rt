@@ -1,17 +1,17 @@
 //! The tables of a header: directories and files.
 
-ghost use Rattle.std.specs.Prelude.{◌≡◌, ◌==◌, ◌&&◌, not, count_by, map, Ok};
+ghost use Rattle.std.specs.Prelude.{is_ok, ◌≡◌, ◌==◌, ◌&&◌, not, count_by, map, Ok};
 ghost use Rattle.std.specs.Option.{option_map};
-ghost use Rattle.gimli_read.specs.Reading.{Exactly, ExactlyUnlessOom};
+ghost use Rattle.gimli_read.specs.Reading.{Exactly, ExactlyUnlessOom, ExactlyUnlessOomIf, ExactlyUnlessOomFor};
 ghost use Rattle.gimli_read.specs.Form.{seen_value};
 ghost use Rattle.gimli_read.specs.Run.{run_of, collected};
-ghost use Rattle.gimli_line.specs.Header.{seen_file};
-ghost use Rattle.gimli_line.specs.Tables.{directory_at, file_at, times, format_at, formats_at, is_string_form, is_path, is_bad_path, is_sound_format, constant, seen_entry, seen_tables, no_entry, with_value, values_at, entry_at, table_at, old_tables_at, new_tables_at, tables_at};
+ghost use Rattle.gimli_line.specs.Tables.{directory_at, file_at, times, format_at, formats_at, is_string_form, is_path, is_bad_path, is_sound_format, constant, no_entry, with_value, values_at, entry_at, table_at, old_tables_at, new_tables_at, tables_at};
 
 use crate::header::FileEntry;
 use crate::opcode::read_entry_behind;
 use gimli_read::{AttributeValue, DwForm, Encoding, Error, Reader, read_value};
 use std::alloc::Global;
+use std::marker::Model;
 
 /// What a value of a table's entries is, and its form.
 #[derive(Clone, Copy, Debug, PartialEq, Eq)]
@@ -24,26 +24,53 @@ pub struct EntryFormat {
 
 /// What is read of an entry.
 #[derive(Drop)]
-pub struct Entry<R> {
+pub struct EntryValues<R: Reader> {
     /// The path, once it is read.
     pub path_name: Option<AttributeValue<R>>,
     /// The directory, by its index.
     pub directory_index: u64,
 }
 
+impl<R: Reader> Model for EntryValues<R> {
+    ghost use Rattle.std.specs.Option.{option_map};
+    ghost use Rattle.gimli_read.specs.Form.{seen_value};
+    ghost use Rattle.gimli_line.specs.Tables.{EntryValues};
+
+    ghost Value = { EntryValues };
+
+    ghost view = { λ e. record {
+      path_name = option_map (seen_value R.section) e.path_name;
+      directory_index = e.directory_index;
+    } };
+}
+
 /// Directories and files.
 #[derive(Drop)]
-pub struct HeaderTables<R> {
+pub struct HeaderTables<R: Reader> {
     /// The directories.
     pub include_directories: Vec<AttributeValue<R>>,
     /// The files.
     pub file_names: Vec<FileEntry<R>>,
 }
 
+impl<R: Reader> Model for HeaderTables<R> {
+    ghost use Rattle.std.specs.Prelude.{is_ok, map};
+    ghost use Rattle.gimli_read.specs.Form.{seen_value};
+    ghost use Rattle.gimli_line.specs.Tables.{Tables};
+
+    ghost Value = { Tables };
+
+    ghost view = { λ t. record {
+      include_directories = map (seen_value R.section) t.include_directories.items;
+      file_names = t.file_names.items;
+    } };
+}
+
 // A directory of versions 2 to 4.
 #[tactic(auto, unfolding(crate::specs::Tables::directory_at))]
 fn read_directory<R: Reader>(input: &mut R) -> Result<Option<AttributeValue<R>>, Error>
-    ensures gives { ExactlyUnlessOom (λ d. (option_map (seen_value R.section) d, R.section input.new)) result
+    ensures gives { ExactlyUnlessOomFor R.shares is_ok
+        (λ d. (option_map (seen_value R.section) d, R.section input.new)) result
         (directory_at (R.section input.old)) }
 {
     let path = input.read_null_terminated()?;
@@ -56,7 +83,7 @@ fn read_directory<R: Reader>(input: &mut R) -> Result<Option<AttributeValue<R>>,
 // A file of the table of versions 2 to 4.
 #[tactic(auto, unfolding(crate::specs::Tables::file_at))]
 fn read_file<R: Reader>(input: &mut R) -> Result<Option<FileEntry<R>>, Error>
-    ensures gives { ExactlyUnlessOom (λ f. (option_map (seen_file R.section) f, R.section input.new)) result
+    ensures gives { ExactlyUnlessOomIf R.shares (λ f. (f, R.section input.new)) result
         (file_at (R.section input.old)) }
 {
     let path = input.read_null_terminated()?;
@@ -83,7 +110,7 @@ fn read_directories<R: Reader>(
 
 // The files of versions 2 to 4.
 fn read_files<R: Reader>(alloc: Global, input: &mut R) -> Result<Vec<FileEntry<R>>, Error>
-    ensures gives { ExactlyUnlessOom (λ v. (map (seen_file R.section) v.items, R.section input.new)) result
+    ensures gives { ExactlyUnlessOom (λ v. (v.items, R.section input.new)) result
         (collected (run_of file_at (R.section input.old))) }
 {
     let mut files = Vec::new(alloc);
@@ -184,9 +211,9 @@ fn constant_of<R: Reader>(value: &AttributeValue<R>) -> u64
 }
 
 // Takes a value into an entry.
-fn take_value<R: Reader>(entry: &mut Entry<R>, content_type: u64, value: AttributeValue<R>)
-    ensures gives { seen_entry R.section entry.new
-        ≡ with_value content_type (seen_value R.section value) (seen_entry R.section entry.old) }
+fn take_value<R: Reader>(entry: &mut EntryValues<R>, content_type: u64, value: AttributeValue<R>)
+    ensures gives { entry.new
+        ≡ with_value content_type (seen_value R.section value) entry.old }
 {
     match content_type {
         1 => entry.path_name = Some(value),
@@ -200,11 +227,11 @@ fn read_values<R: Reader>(
     encoding: Encoding,
     formats: &[EntryFormat],
     input: &mut R,
-) -> Result<Entry<R>, Error>
-    ensures gives { ExactlyUnlessOom (λ x. (seen_entry R.section x, R.section input.new)) result
+) -> Result<EntryValues<R>, Error>
+    ensures gives { ExactlyUnlessOomIf R.shares (λ x. (x, R.section input.new)) result
         (values_at encoding formats.now no_entry (R.section input.old)) }
 {
-    let mut entry = Entry {
+    let mut entry = EntryValues {
         path_name: None,
         directory_index: 0,
     };
@@ -222,10 +249,10 @@ fn read_entry<R: Reader>(
     formats: &[EntryFormat],
     input: &mut R,
 ) -> Result<FileEntry<R>, Error>
-    ensures gives { ExactlyUnlessOom (λ f. (seen_file R.section f, R.section input.new)) result
+    ensures gives { ExactlyUnlessOomIf R.shares (λ f. (f, R.section input.new)) result
         (entry_at encoding formats.now (R.section input.old)) }
 {
-    let Entry {
+    let EntryValues {
         path_name,
         directory_index,
     } = read_values(encoding, formats, input)?;
@@ -246,7 +273,7 @@ fn read_entries<R: Reader>(
     count: u64,
     input: &mut R,
 ) -> Result<Vec<FileEntry<R>>, Error>
-    ensures gives { ExactlyUnlessOom (λ v. (map (seen_file R.section) v.items, R.section input.new)) result
+    ensures gives { ExactlyUnlessOom (λ v. (v.items, R.section input.new)) result
         (times (entry_at encoding formats.now) count (R.section input.old)) }
 {
     let mut files = Vec::new(alloc);
@@ -263,7 +290,7 @@ fn read_table<R: Reader>(
     encoding: Encoding,
     input: &mut R,
 ) -> Result<Vec<FileEntry<R>>, Error>
-    ensures gives { ExactlyUnlessOom (λ v. (map (seen_file R.section) v.items, R.section input.new)) result
+    ensures gives { ExactlyUnlessOom (λ v. (v.items, R.section input.new)) result
         (table_at encoding (R.section input.old)) }
 {
     let formats = read_formats(alloc, input)?;
@@ -279,7 +306,7 @@ fn paths_of<R: Reader>(
     alloc: Global,
     entries: Vec<FileEntry<R>>,
 ) -> Result<Vec<AttributeValue<R>>, Error>
-    ensures gives { ExactlyUnlessOom (λ v. v.items) result (Ok (map (λ f. f.path_name) entries.items)) }
+    ensures gives { ExactlyUnlessOom (λ v. map (seen_value R.section) v.items) result (Ok (map (λ f. f.path_name) entries.items)) }
 {
     let mut paths = Vec::new(alloc);
     for entry in entries {
@@ -291,7 +318,7 @@ fn paths_of<R: Reader>(
 // The tables of versions 2 to 4.
 #[tactic(auto, unfolding(crate::specs::Tables::old_tables_at))]
 fn read_old_tables<R: Reader>(alloc: Global, input: &mut R) -> Result<HeaderTables<R>, Error>
-    ensures gives { ExactlyUnlessOom (λ t. (seen_tables R.section t, R.section input.new)) result
+    ensures gives { ExactlyUnlessOom (λ t. (t, R.section input.new)) result
         (old_tables_at (R.section input.old)) }
 {
     let include_directories = read_directories(alloc, input)?;
@@ -309,7 +336,7 @@ fn read_new_tables<R: Reader>(
     encoding: Encoding,
     input: &mut R,
 ) -> Result<HeaderTables<R>, Error>
-    ensures gives { ExactlyUnlessOom (λ t. (seen_tables R.section t, R.section input.new)) result
+    ensures gives { ExactlyUnlessOom (λ t. (t, R.section input.new)) result
         (new_tables_at encoding (R.section input.old)) }
 {
     let directories = read_table(alloc, encoding, input)?;
@@ -327,7 +354,7 @@ pub(crate) fn read_tables<R: Reader>(
     encoding: Encoding,
     input: &mut R,
 ) -> Result<HeaderTables<R>, Error>
-    ensures gives { ExactlyUnlessOom (λ t. (seen_tables R.section t, R.section input.new)) result
+    ensures gives { ExactlyUnlessOom (λ t. (t, R.section input.new)) result
         (tables_at encoding (R.section input.old)) }
 {
     if encoding.version < 5 {

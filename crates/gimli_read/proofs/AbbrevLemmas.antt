@@ -3,12 +3,11 @@ use Rattle.std.proofs.Common.{◌≡◌, ℕ, zero, suc, ◌+◌, ◌<◌, List,
 use Rattle.std.proofs.lemmas.Bool.Decides.{nat_tests}
 use Rattle.gimli_read.specs.declared.error.Error.{Error}
 use Rattle.gimli_read.specs.declared.error.Error.TheVariants.{BadAbbreviation}
-use Rattle.gimli_read.specs.declared.abbrev.AttributeSpecification.{AttributeSpecification}
 use Rattle.gimli_read.specs.Section.{Section}
 use Rattle.gimli_read.specs.Reading.{Reading, ◌>>=◌, refused_if}
 use Rattle.gimli_read.specs.Number.{fixed_at}
 use Rattle.gimli_read.specs.Leb128.{uleb128_at}
-use Rattle.gimli_read.specs.Abbreviations.{Abbrev, with_code, HasDistinctCodes}
+use Rattle.gimli_read.specs.Abbreviations.{Specification, Abbrev, with_code, HasDistinctCodes}
 use Rattle.gimli_read.specs.Abbrev.{constant_at, specification_at, specifications_at, declaration_at, abbreviation_at, extended, table_within}
 use Rattle.gimli_read.proofs.Shorter.{Shorter, shorter_bind, shorter_then, shorter_if, shorter_err, shorter_ok, fixed-shorter, uleb128-shorter, sleb128-shorter, TakesBytes, takes_by, shorter_by}
 use Rattle.gimli_read.proofs.Steps.{same_value, end_is_none}
@@ -92,7 +91,7 @@ abbreviation_less table s t a h = shorter_by (abbreviation_at table) (abbreviati
 -- ---- distinct codes
 
 -- the last steps of a declaration, and of an abbreviation
-abbrev finished : ℕ → ℕ → ℕ → List AttributeSpecification × Section → Reading Abbrev
+abbrev finished : ℕ → ℕ → ℕ → List Specification × Section → Reading Abbrev
 finished code tag flag x = Ok (record { code = code; tag = record { 0 = tag }; has_children = flag == 1; attributes = x.0 }, x.1)
 
 abbrev found_some : Abbrev × Section → Reading (Option Abbrev)
@@ -106,7 +105,7 @@ declaration_code code s a t h = at_tag (uleb128_at s) h
     told : (x : Abbrev) (u : Section) → x.code ≡ code → ◌≡◌ {A = Reading Abbrev} (Ok (x, u)) (Ok (a, t)) → a.code ≡ code
     told x u k e = let same : x ≡ a = same_value {A = Abbrev} {B = Section} (x, u) (a, t) e in ap (λ (y : Abbrev). y.code) (sym same) ∙ k
 
-    at_attributes : (tag flag : ℕ) (r : Reading (List AttributeSpecification)) → (r >>= finished code tag flag) ≡ Ok (a, t) → a.code ≡ code
+    at_attributes : (tag flag : ℕ) (r : Reading (List Specification)) → (r >>= finished code tag flag) ≡ Ok (a, t) → a.code ≡ code
     at_attributes tag flag (Err e) h = cc
     at_attributes tag flag (Ok x) h = told (record { code = code; tag = record { 0 = tag }; has_children = flag == 1; attributes = x.0 }) x.1 refl h
 

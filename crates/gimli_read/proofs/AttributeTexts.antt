@@ -4,31 +4,30 @@ use Rattle.std.proofs.lemmas.Bool.{eqb-true, eqb-false, ne_eqb}
 use Rattle.gimli_read.specs.declared.endian.RunTimeEndian.{RunTimeEndian}
 use Rattle.gimli_read.specs.declared.endian.Encoding.{Encoding}
 use Rattle.gimli_read.specs.declared.constants.DwAt.{DwAt}
-use Rattle.gimli_read.specs.declared.abbrev.AttributeSpecification.{AttributeSpecification}
-use Rattle.gimli_read.specs.declared.value.Attribute.{Attribute}
 use Rattle.gimli_read.specs.declared.value.AttributeValue.{AttributeValue}
 use Rattle.gimli_read.specs.declared.value.AttributeValue.TheVariants as values
+use Rattle.gimli_read.specs.Abbreviations.{Specification}
 use Rattle.gimli_read.specs.Section.{Section}
 use Rattle.gimli_read.specs.Reading.{Reading, ◌>>=◌}
-use Rattle.gimli_read.specs.Form.{value_at, implicit_of, attribute_at}
+use Rattle.gimli_read.specs.Form.{NamedValue, value_at, implicit_of, attribute_at}
 use Rattle.gimli_read.specs.Value.{section_of, IsValue, IsAttributeValue, ReadsAttribute, ReadsAttributeAlone}
 use Rattle.gimli_read.proofs.Steps.{bind_ok, chosen, same_rest, same_value}
 use Rattle.gimli_read.proofs.ValueTexts.{value_reads, value_alone}
 
-abbrev of_parts : DwAt → AttributeValue Section → Attribute Section
+abbrev of_parts : DwAt → AttributeValue Section → NamedValue
 of_parts name value = record { name = name; value = value }
 
 -- a value that the abbreviation has, and one that is read
-abbrev implicit_read : AttributeSpecification → Section → Reading (Attribute Section)
+abbrev implicit_read : Specification → Section → Reading (NamedValue)
 implicit_read x s = implicit_of x.constant >>= λ value. Ok (of_parts x.name value, s)
 
-abbrev value_read : Encoding → AttributeSpecification → Section → Reading (Attribute Section)
+abbrev value_read : Encoding → Specification → Section → Reading (NamedValue)
 value_read e x s = value_at e x.form.0 s >>= λ value. Ok (of_parts x.name value.0, value.1)
 
-by_name : (x : AttributeSpecification) (a : Attribute Section) (rest : Section) → a.name ≡ x.name → ◌≡◌ {A = Reading (Attribute Section)} (Ok (of_parts x.name a.value, rest)) (Ok (a, rest))
+by_name : (x : Specification) (a : NamedValue) (rest : Section) → a.name ≡ x.name → ◌≡◌ {A = Reading (NamedValue)} (Ok (of_parts x.name a.value, rest)) (Ok (a, rest))
 by_name x a rest h = ap (λ n. Ok (of_parts n a.value, rest)) (sym h)
 
-valued_reads : (e : Encoding) (order : RunTimeEndian) (x : AttributeSpecification) (text rest : List ℕ) (a : Attribute Section) → a.name ≡ x.name → IsAttributeValue e order x text a.value → attribute_at e x (section_of order (text ++ rest)) ≡ Ok (a, section_of order rest)
+valued_reads : (e : Encoding) (order : RunTimeEndian) (x : Specification) (text rest : List ℕ) (a : NamedValue) → a.name ≡ x.name → IsAttributeValue e order x text a.value → attribute_at e x (section_of order (text ++ rest)) ≡ Ok (a, section_of order rest)
 unfolding attribute_at
 valued_reads e order x text rest a named (inl u) =
     let s = section_of order (text ++ rest) in

@@ -5,20 +5,20 @@
 use Rattle.std.specs.Prelude.{ℕ, zero, suc, ◌+◌, ◌==◌, ◌||◌, ◌&&◌, nat_lt, List, [], ◌∷◌, ◌++◌, length, Option, Some, None, is_some, Result, Ok, Err, if◌then◌else◌, ℤ}
 use Rattle.gimli_read.specs.declared.error.Error.{Error}
 use Rattle.gimli_read.specs.declared.error.Error.TheVariants.{BadAbbreviation, UnexpectedEof}
-use Rattle.gimli_read.specs.declared.abbrev.AttributeSpecification.{AttributeSpecification}
+use Rattle.gimli_read.specs.declared.constants.TheConstants.DwForm.{DW_FORM_implicit_const}
 use Rattle.gimli_read.specs.Section.{Section}
 use Rattle.gimli_read.specs.Reading.{Reading, ◌>>=◌, refused_if}
 use Rattle.gimli_read.specs.Number.{fixed_at}
 use Rattle.gimli_read.specs.Leb128.{uleb128_at, sleb128_at}
 use Rattle.gimli_read.specs.Run.{collected, run_of}
-use Rattle.gimli_read.specs.Abbreviations.{Abbrev, with_code}
+use Rattle.gimli_read.specs.Abbreviations.{Specification, Abbrev, with_code}
 
 -- the value that an abbreviation itself has, of the form implicit_const
 abbrev pub constant_at : ℕ → Section → Reading (Option ℤ)
-constant_at form s = if form == 0x21 then (sleb128_at s >>= λ value. Ok (Some value.0, value.1)) else Ok (None, s)
+constant_at form s = if form == DW_FORM_implicit_const.0 then (sleb128_at s >>= λ value. Ok (Some value.0, value.1)) else Ok (None, s)
 
 -- a name and a form, or none where both are 0
-unfoldable pub specification_at : Section → Reading (Option AttributeSpecification)
+unfoldable pub specification_at : Section → Reading (Option Specification)
 specification_at s = do
   name ← uleb128_at s
   form ← uleb128_at name.1
@@ -27,7 +27,7 @@ specification_at s = do
       else (constant_at form.0 form.1 >>= λ constant. Ok (Some (record { name = record { 0 = name.0 }; form = record { 0 = form.0 }; constant = constant.0 }), constant.1))
 
 -- the pairs up to the two zeros
-abbrev pub specifications_at : Section → Reading (List AttributeSpecification)
+abbrev pub specifications_at : Section → Reading (List Specification)
 specifications_at s = collected (run_of specification_at s)
 
 -- what stands behind a code

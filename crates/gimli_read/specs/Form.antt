@@ -5,10 +5,10 @@ use Rattle.std.specs.Prelude.{ℕ, zero, suc, ◌+◌, ◌==◌, not, true, leng
 use Rattle.gimli_read.specs.declared.error.Error.{Error}
 use Rattle.gimli_read.specs.declared.error.Error.TheVariants.{UnknownForm, UnexpectedEof}
 use Rattle.gimli_read.specs.declared.endian.Encoding.{Encoding}
-use Rattle.gimli_read.specs.declared.abbrev.AttributeSpecification.{AttributeSpecification}
-use Rattle.gimli_read.specs.declared.value.Attribute.{Attribute}
+use Rattle.gimli_read.specs.declared.constants.DwAt.{DwAt}
 use Rattle.gimli_read.specs.declared.value.AttributeValue.{AttributeValue}
 use Rattle.gimli_read.specs.declared.value.AttributeValue.TheVariants as values
+use Rattle.gimli_read.specs.Abbreviations.{Specification}
 use Rattle.gimli_read.specs.Section.{Section}
 use Rattle.gimli_read.specs.Reading.{Reading, ◌>>=◌}
 use Rattle.gimli_read.specs.Number.{fixed_at, offset_at, address_at, split_at, null_terminated_at}
@@ -139,9 +139,10 @@ value_at encoding form s =
     if form == 0x16 then (form_at s >>= λ real. direct_at encoding real.0 real.1)
     else direct_at encoding form s
 
--- an attribute whose readers are seen as sections
-abbrev pub seen_attribute : {R : Type 0} → (R → Section) → Attribute R → Attribute Section
-seen_attribute see a = record { name = a.name; value = seen_value see a.value }
+-- an attribute of an entry: its name, and its value by its form alone
+pub record NamedValue : Type 0 where
+  pub name : DwAt
+  pub value : AttributeValue Section
 
 -- the value that an abbreviation has for all its entries
 abbrev pub implicit_of : Option ℤ → Result (AttributeValue Section) Error
@@ -149,7 +150,7 @@ implicit_of None = Err UnknownForm
 implicit_of (Some z) = Ok (values.Sdata z)
 
 -- the attribute of a specification
-unfoldable pub attribute_at : Encoding → AttributeSpecification → Section → Reading (Attribute Section)
+unfoldable pub attribute_at : Encoding → Specification → Section → Reading (NamedValue)
 attribute_at encoding specification s =
     if specification.form.0 == 0x21 then (implicit_of specification.constant >>= λ value. Ok (record { name = specification.name; value = value }, s))
     else (value_at encoding specification.form.0 s >>= λ value. Ok (record { name = specification.name; value = value.0 }, value.1))

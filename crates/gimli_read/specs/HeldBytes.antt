@@ -1,11 +1,10 @@
 -- Whether a value holds bytes of its section, which a reader that shares them counts (DWARF 5, section 7.5.5: a
 -- block, an expression and a string are bytes; every other value is a number).
-use Rattle.std.specs.Prelude.{Bool, true, false, Result, Ok, Err}
-use Rattle.gimli_read.specs.declared.error.Error.{Error}
-use Rattle.gimli_read.specs.declared.value.Attribute.{Attribute}
+use Rattle.std.specs.Prelude.{Bool, true, false, Ok, Err}
 use Rattle.gimli_read.specs.declared.value.AttributeValue.{AttributeValue}
 use Rattle.gimli_read.specs.declared.value.AttributeValue.TheVariants as values
 use Rattle.gimli_read.specs.Section.{Section}
+use Rattle.gimli_read.specs.Form.{NamedValue}
 use Rattle.gimli_read.specs.Reading.{Reading}
 
 -- whether the value holds bytes
@@ -21,6 +20,6 @@ gives_bytes (Ok x) = holds_bytes x.0
 gives_bytes (Err e) = false
 
 -- whether a reading gives an attribute whose value holds bytes
-abbrev pub gives_attribute_bytes : Reading (Attribute Section) → Bool
+abbrev pub gives_attribute_bytes : Reading (NamedValue) → Bool
 gives_attribute_bytes (Ok x) = holds_bytes x.0.value
 gives_attribute_bytes (Err e) = false

@@ -5,14 +5,13 @@ use Rattle.std.specs.Prelude.{◌≡◌, ◌≢◌, ◌⊎◌, ℕ, zero, suc, �
 use Rattle.gimli_read.specs.declared.endian.RunTimeEndian.{RunTimeEndian}
 use Rattle.gimli_read.specs.declared.endian.RunTimeEndian.TheVariants.{Little, Big}
 use Rattle.gimli_read.specs.declared.endian.Encoding.{Encoding}
-use Rattle.gimli_read.specs.declared.abbrev.AttributeSpecification.{AttributeSpecification}
-use Rattle.gimli_read.specs.declared.value.Attribute.{Attribute}
 use Rattle.gimli_read.specs.declared.value.AttributeValue.{AttributeValue}
 use Rattle.gimli_read.specs.declared.value.AttributeValue.TheVariants as values
+use Rattle.gimli_read.specs.Abbreviations.{Specification}
 use Rattle.gimli_read.specs.Section.{Section}
 use Rattle.gimli_read.specs.Number.{fixed_at, is_address_size}
 use Rattle.gimli_read.specs.Leb128.{IsUleb128, IsSleb128}
-use Rattle.gimli_read.specs.Form.{value_at, attribute_at}
+use Rattle.gimli_read.specs.Form.{NamedValue, value_at, attribute_at}
 use Rattle.gimli_read.specs.Spelling.{Spelling, Fixed, Address, Offset, AddressOrOffset, Unsigned, Signed, Block1, Block2, Block4, Block, Text, Empty, offset_size, spelling_of}
 
 -- the base 256 value of bytes, the lowest first
@@ -99,13 +98,13 @@ abbrev pub IsValue : Encoding → RunTimeEndian → ℕ → List ℕ → Attribu
 IsValue encoding order form text value = (n : ℕ) × IsValueBehind n encoding order form text value
 
 -- the text is the value of an attribute: none for implicit_const (form 0x21), whose value stands in the abbreviation
-abbrev pub IsAttributeValue : Encoding → RunTimeEndian → AttributeSpecification → List ℕ → AttributeValue Section → Type 0
+abbrev pub IsAttributeValue : Encoding → RunTimeEndian → Specification → List ℕ → AttributeValue Section → Type 0
 IsAttributeValue encoding order specification text value =
     ((specification.form.0 ≡ 0x21) × (text ≡ []) × ((z : ℤ) × (specification.constant ≡ Some z) × (value ≡ values.Sdata z)))
     ⊎ ((specification.form.0 ≢ 0x21) × IsValue encoding order specification.form.0 text value)
 
 -- the text is one attribute of a specification, and this is the attribute
-pub record IsAttribute (encoding : Encoding) (order : RunTimeEndian) (specification : AttributeSpecification) (text : List ℕ) (attribute : Attribute Section) : Type 0 where
+pub record IsAttribute (encoding : Encoding) (order : RunTimeEndian) (specification : Specification) (text : List ℕ) (attribute : NamedValue) : Type 0 where
   pub named : attribute.name ≡ specification.name
   pub valued : IsAttributeValue encoding order specification text attribute.value
 
@@ -127,8 +126,8 @@ ReadsValueAlone = (encoding : Encoding) (form : ℕ) (s rest : Section) (value :
 
 -- each text of an attribute is read as that attribute, whatever follows
 abbrev pub ReadsAttribute : Type 0
-ReadsAttribute = (encoding : Encoding) (order : RunTimeEndian) (specification : AttributeSpecification) (text rest : List ℕ) (attribute : Attribute Section) → IsAttribute encoding order specification text attribute → attribute_at encoding specification (section_of order (text ++ rest)) ≡ Ok (attribute, section_of order rest)
+ReadsAttribute = (encoding : Encoding) (order : RunTimeEndian) (specification : Specification) (text rest : List ℕ) (attribute : NamedValue) → IsAttribute encoding order specification text attribute → attribute_at encoding specification (section_of order (text ++ rest)) ≡ Ok (attribute, section_of order rest)
 
 -- and nothing else is read
 abbrev pub ReadsAttributeAlone : Type 0
-ReadsAttributeAlone = (encoding : Encoding) (specification : AttributeSpecification) (s rest : Section) (attribute : Attribute Section) → attribute_at encoding specification s ≡ Ok (attribute, rest) → (text : List ℕ) × IsAttribute encoding s.endian specification text attribute × (s ≡ section_of rest.endian (text ++ rest.bytes))
+ReadsAttributeAlone = (encoding : Encoding) (specification : Specification) (s rest : Section) (attribute : NamedValue) → attribute_at encoding specification s ≡ Ok (attribute, rest) → (text : List ℕ) × IsAttribute encoding s.endian specification text attribute × (s ≡ section_of rest.endian (text ++ rest.bytes))

@@ -19,12 +19,20 @@ use std::marker::Model;
 /// An attribute that the entries of an abbreviation have (DWARF 5, section 7.5.3).
 #[derive(Clone, Copy, Debug, PartialEq, Eq)]
 pub struct AttributeSpecification {
-    /// What the attribute says.
-    pub name: DwAt,
-    /// How its value is spelled.
-    pub form: DwForm,
-    /// Its value, where the form is implicit_const.
-    pub constant: Option<i64>,
+    name: DwAt,
+    form: DwForm,
+    // The value, where the form is implicit_const.
+    constant: Option<i64>,
+}
+
+impl Model for AttributeSpecification {
+    ghost use Rattle.gimli_read.specs.Abbreviations.{Specification};
+
+    ghost Value = { Specification };
+
+    ghost view = { λ a. record { name = a.name; form = a.form; constant = a.constant } };
+
+    ghost inverse = { λ x. record { name = x.name; form = x.form; constant = x.constant } };
 }
 
 impl AttributeSpecification {
@@ -40,6 +48,13 @@ impl AttributeSpecification {
         ensures gives { result ≡ self.now.form }
     {
         self.form
+    }
+
+    // The value, where the form is implicit_const.
+    pub(crate) fn constant(&self) -> Option<i64>
+        ensures gives { result ≡ self.now.constant }
+    {
+        self.constant
     }
 }
 

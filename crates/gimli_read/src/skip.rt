@@ -199,11 +199,11 @@ pub fn skip_attribute<R: Reader>(
     ensures gives { Exactly (λ _. R.section input.new) result
         (rest_of (attribute_at encoding specification (R.section input.old))) }
 {
-    if specification.form == DwForm::DW_FORM_implicit_const {
-        return match specification.constant {
+    if specification.form() == DwForm::DW_FORM_implicit_const {
+        return match specification.constant() {
             Some(_) => Ok(()),
             None => Err(Error::UnknownForm),
         };
     }
-    skip_value(input, encoding, specification.form)
+    skip_value(input, encoding, specification.form())
 }

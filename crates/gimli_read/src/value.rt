@@ -4,7 +4,7 @@ ghost use Rattle.std.specs.Prelude.{◌≡◌, OnErr};
 ghost use Rattle.gimli_read.specs.Reading.{Exactly, ExactlyUnlessOomFor};
 ghost use Rattle.gimli_read.specs.HeldBytes.{gives_bytes, gives_attribute_bytes};
 ghost use Rattle.gimli_read.specs.Number.{fixed_at};
-ghost use Rattle.gimli_read.specs.Form.{seen_value, direct_at, reference_at, form_at, value_at, ref_addr_at, seen_attribute, attribute_at, constant_of};
+ghost use Rattle.gimli_read.specs.Form.{seen_value, direct_at, reference_at, form_at, value_at, ref_addr_at, attribute_at, constant_of};
 
 use crate::abbrev::AttributeSpecification;
 use crate::constants::{DwAt, DwForm};
@@ -12,6 +12,7 @@ use crate::endian::{Encoding, RunTimeEndian};
 use crate::error::Error;
 use crate::reader::Reader;
 use byteorder::{BigEndian, ByteOrder, LittleEndian};
+use std::marker::Model;
 
 /// An offset in bytes from the start of a unit's length field.
 #[derive(Clone, Copy, Debug, PartialEq, Eq)]
@@ -297,14 +298,20 @@ pub fn read_value<R: Reader>(
 
 /// An attribute of an entry: its name, and its value as its form alone gives it.
 #[derive(Drop)]
-pub struct Attribute<R> {
-    /// What the attribute says.
-    pub name: DwAt,
-    /// What it says of the entry.
-    pub value: AttributeValue<R>,
+pub struct Attribute<R: Reader> {
+    name: DwAt,
+    value: AttributeValue<R>,
 }
 
-impl<R: Drop> Attribute<R> {
+impl<R: Reader> Model for Attribute<R> {
+    ghost use Rattle.gimli_read.specs.Form.{NamedValue, seen_value};
+
+    ghost Value = { NamedValue };
+
+    ghost view = { λ a. record { name = a.name; value = seen_value R.section a.value } };
+}
+
+impl<R: Reader> Attribute<R> {
     /// What the attribute says. Takes no memory.
     pub fn name(&self) -> DwAt
         ensures gives { result ≡ self.now.name }
@@ -314,7 +321,7 @@ impl<R: Drop> Attribute<R> {
 
     /// The value, by its form alone. Takes no memory.
     pub fn value(self) -> AttributeValue<R>
-        ensures gives { result ≡ self.value }
+        ensures gives { seen_value R.section result ≡ self.value }
     {
         self.value
     }
@@ -338,12 +345,12 @@ pub fn read_attribute<R: Reader>(
     encoding: Encoding,
     specification: AttributeSpecification,
 ) -> Result<Attribute<R>, Error>
-    ensures gives { ExactlyUnlessOomFor R.shares gives_attribute_bytes (λ a. (seen_attribute R.section a, R.section input.new)) result
+    ensures gives { ExactlyUnlessOomFor R.shares gives_attribute_bytes (λ a. (a, R.section input.new)) result
         (attribute_at encoding specification (R.section input.old)) }
 {
-    let name = specification.name;
-    if specification.form == DwForm::DW_FORM_implicit_const {
-        return match specification.constant {
+    let name = specification.name();
+    if specification.form() == DwForm::DW_FORM_implicit_const {
+        return match specification.constant() {
             Some(constant) => Ok(Attribute {
                 name,
                 value: AttributeValue::Sdata(constant),
@@ -351,6 +358,6 @@ pub fn read_attribute<R: Reader>(
             None => Err(Error::UnknownForm),
         };
     }
-    let value = read_value(input, encoding, specification.form)?;
+    let value = read_value(input, encoding, specification.form())?;
     Ok(Attribute { name, value })
 }

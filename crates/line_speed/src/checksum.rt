@@ -1,9 +1,7 @@
 //! The checksum of rows.
 
 ghost use Rattle.std.specs.Prelude.{◌≡◌};
-ghost use Rattle.std.specs.Option.{option_map};
 ghost use Rattle.gimli_read.specs.Reading.{ExactlyUnlessOom};
-ghost use Rattle.gimli_line.specs.Header.{seen_program};
 ghost use Rattle.line_speed.specs.Checksum.{with_row, with_rows, program_at, with_program, checksum};
 
 use gimli_line::{IncompleteLineProgram, LineRow, LineRows, read_line_program};
@@ -42,7 +40,7 @@ fn next_program<R: Reader>(
     alloc: Global,
     rest: &mut R,
 ) -> Result<Option<IncompleteLineProgram<R>>, Error>
-    ensures gives { ExactlyUnlessOom (λ p. (option_map (seen_program R.section) p, R.section rest.new)) result
+    ensures gives { ExactlyUnlessOom (λ p. (p, R.section rest.new)) result
         (program_at (R.section rest.old)) }
 {
     if rest.is_empty() {
@@ -57,7 +55,7 @@ fn next_program<R: Reader>(
 // A sum with the rows of a program.
 #[tactic(auto, unfolding(crate::specs::Checksum::with_program))]
 fn with_program<R: Reader>(sum: u64, program: &IncompleteLineProgram<R>) -> Result<u64, Error>
-    ensures gives { ExactlyUnlessOom (λ n. n) result (with_program sum (seen_program R.section program.now)) }
+    ensures gives { ExactlyUnlessOom (λ n. n) result (with_program sum program.now) }
 {
     let mut rows = program.rows()?;
     with_rows(sum, &mut rows)

@@ -1,6 +1,6 @@
 use Rattle.std.proofs.Common.{◌≡◌, drop}
 use Rattle.gimli.specs.Entry.{attributes_at}
-use Rattle.gimli.specs.Record.{no_attributes, seen_root, gathered}
+use Rattle.gimli.specs.Record.{no_root_values, root_values_after}
 use Rattle.gimli.proofs.record.read_root_attributes.Given as goal
 
 abbrev pub invariant-loop-specification : goal.invariant-loop-specification
@@ -8,6 +8,6 @@ invariant-loop-specification g l =
     let see = g.R.Reader.section in
     let encoding = l.fn.entries.encoding in
     record {
-      gives : gathered encoding (seen_root see l.root) (attributes_at encoding (drop l.specification-index l.specifications) (see l.entries.input)) ≡ gathered encoding no_attributes (attributes_at encoding l.specifications (see l.fn.entries.input));
+      gives : root_values_after encoding l.root (attributes_at encoding (drop l.specification-index l.specifications) (see l.entries.input)) ≡ root_values_after encoding no_root_values (attributes_at encoding l.specifications (see l.fn.entries.input));
       same : l.entries.encoding ≡ encoding;
     }

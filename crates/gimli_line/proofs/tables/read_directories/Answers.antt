@@ -11,7 +11,7 @@ use Rattle.gimli_line.proofs.tables.read_directories.Goals as goal
 
 pub returns-in_err-directory : goal.returns-in_err-directory
 returns-in_err-directory g c = let p = err_from_is_err_and c.from_residual.result c.from_residual.ensures.1 in rw (p.1, p.2) (record {
-  gives = λ n. sym c.loop-directories.invariant ∙ ap (with_front (map (seen_value g.R.Reader.section) c.loop-directories.directories.items)) (collected-fault directory_at directory-takes _ _ (c.in_err-directory.ensures.gives n));
+  gives = λ n. sym c.loop-directories.invariant ∙ ap (with_front (map (seen_value g.R.Reader.section) c.loop-directories.directories.items)) (collected-fault directory_at directory-takes _ _ (c.in_err-directory.ensures.gives (λ _ _. n)));
 })
 
 pub loop-directories-smaller : goal.loop-directories-smaller

@@ -6,7 +6,6 @@ use Rattle.gimli_read.specs.Reading.{◌>>=◌}
 use Rattle.gimli_read.specs.Run.{run_of, fold_of}
 use Rattle.gimli_read.proofs.Shorter.{shorter_by}
 use Rattle.gimli_read.proofs.RunLemmas.{fold-more, fold-end, fold-fault}
-use Rattle.gimli_line.specs.Header.{seen_program}
 use Rattle.line_speed.specs.Checksum.{program_at, with_program}
 use Rattle.line_speed.proofs.Programs.{program-takes}
 use Rattle.line_speed.proofs.checksum.checksum_of.Goals as goal
@@ -29,17 +28,17 @@ unfolding sum_of then
 returns-in_err-sum g c = let p = err_from_is_err_and c.from_residual-in_err-sum.result c.from_residual-in_err-sum.ensures.1 in
     let part = rw c.in-Some.is at c.in_ok-program.ensures.gives in
     rw (p.1, p.2) (record {
-      gives = λ n. ap sum_of (sym c.loop-rest.invariant ∙ fold-more program_at program-takes with_program _ (seen_program g.R.Reader.section c.in-Some.program) (g.R.Reader.section c.next_program.new.rest) part _ ∙ ap (then (g.R.Reader.section c.next_program.new.rest)) (c.in_err-sum.ensures.gives n));
+      gives = λ n. ap sum_of (sym c.loop-rest.invariant ∙ fold-more program_at program-takes with_program _ c.in-Some.program (g.R.Reader.section c.next_program.new.rest) part _ ∙ ap (then (g.R.Reader.section c.next_program.new.rest)) (c.in_err-sum.ensures.gives n));
     })
 
 pub loop-rest-smaller : goal.loop-rest-smaller
-loop-rest-smaller g c = shorter_by program_at program-takes _ (seen_program g.R.Reader.section c.in-Some.program) _ (rw c.in-Some.is at c.in_ok-program.ensures.gives)
+loop-rest-smaller g c = shorter_by program_at program-takes _ c.in-Some.program _ (rw c.in-Some.is at c.in_ok-program.ensures.gives)
 
 pub loop-rest-preserved : goal.loop-rest-preserved
 unfolding then
 loop-rest-preserved g c =
     let part = rw c.in-Some.is at c.in_ok-program.ensures.gives in
-    sym (fold-more program_at program-takes with_program _ (seen_program g.R.Reader.section c.in-Some.program) (g.R.Reader.section c.next_program.new.rest) part _ ∙ ap (then (g.R.Reader.section c.next_program.new.rest)) c.in_ok-sum.ensures.gives) ∙ c.loop-rest.invariant
+    sym (fold-more program_at program-takes with_program _ c.in-Some.program (g.R.Reader.section c.next_program.new.rest) part _ ∙ ap (then (g.R.Reader.section c.next_program.new.rest)) c.in_ok-sum.ensures.gives) ∙ c.loop-rest.invariant
 
 pub returns : goal.returns
 unfolding sum_of

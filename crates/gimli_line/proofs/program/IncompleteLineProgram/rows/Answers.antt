@@ -1,11 +1,14 @@
-use Rattle.std.proofs.Common.{◌≡◌, Ok, ap}
-use Rattle.gimli_line.specs.Header.{seen_header, seen_program}
-use Rattle.gimli_line.proofs.ClosedForm.{lines_begin}
+use Rattle.std.proofs.Common.{◌<◌, Ok, ap, ◌∙◌, sym, subst}
+use Rattle.gimli_line.specs.Header.{Header}
+use Rattle.gimli_line.specs.Lines.{lines_of}
+use Rattle.gimli_line.proofs.ClosedForm.{lines_begin, ok_is}
 use Rattle.gimli_line.proofs.program.IncompleteLineProgram.rows.Goals as goal
 
 pub returns : goal.returns
 returns g c =
-    let s = g.R.Reader.section in
-    let h : seen_header s c.args.self.now.header ≡ seen_header s c.in_ok-duplicate_header.field-0 = cc (c.in_ok-duplicate_header.ensures.gives) in
-    let p : s c.args.self.now.program ≡ s c.in_ok-duplicate.field-0 = cc (c.in_ok-duplicate.ensures.gives) in
-    record { gives = ap Ok (lines_begin (seen_program s c.args.self.now) _ _ c.start.result c.args.self.now.header.operations h p c.start.ensures.gives) }
+    let P : Header → Type 0 = λ h. 0 < h.line_encoding.maximum_operations_per_instruction in
+    record {
+      gives = ap (λ p. Ok (lines_of p)) (sym c.self.view_is)
+          ∙ ap Ok (lines_begin _ _ _ c.start.result (subst P c.header.view_is c.header.invariant.operations)
+          (ok_is c.in_ok-duplicate_header.ensures.gives) (ok_is c.in_ok-duplicate.ensures.gives) c.start.ensures.gives);
+    }

@@ -1,5 +1,4 @@
 use Rattle.std.proofs.Common.{subst}
-use Rattle.gimli_line.specs.Header.{seen_header}
 use Rattle.gimli_line.specs.Lines.{Lines}
 use Rattle.gimli_line.specs.Opcode.{opcodes_in, instructions_of}
 use Rattle.gimli_line.specs.Rises.{rows_before, NeverFalls}
@@ -9,7 +8,7 @@ use Rattle.gimli_line.proofs.program.LineRows.rises.Goals as goal
 pub returns : goal.returns
 returns g c =
     let a = c.self.inside in
-    let h = seen_header g.R.Reader.section a.header in
+    let h = a.header in
     let run = instructions_of h (g.R.Reader.section a.program) in
     let P : Lines → Type 0 = λ v. NeverFalls (rows_before v.left) in
     record { rise = subst P c.self.view_is (never_falls h.line_encoding (opcodes_in run.items) run.end a.registers) }

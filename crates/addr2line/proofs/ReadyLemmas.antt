@@ -14,7 +14,7 @@ use Rattle.addr2line_units.specs.declared.unit.LazyLines.{LazyLines}
 use Rattle.addr2line_units.specs.declared.unit.ResUnit.{ResUnit}
 use Rattle.addr2line_units.specs.UnitIndex.{UnitIndex, UnitRange, unit_index, ends_sooner, covers, cover}
 use Rattle.addr2line_units.specs.Located.{location_in, location_along, location_of}
-use Rattle.addr2line_units.specs.CachedLines.{seen_index, StaysCached, CachesAnswer, lines_in_cache, is_uncached, range_holds, unit_holds}
+use Rattle.addr2line_units.specs.CachedLines.{unit_index_of, StaysCached, CachesAnswer, lines_in_cache, is_uncached, range_holds, unit_holds}
 use Rattle.addr2line.specs.Context.{ContextState, has_parsed, decides, ready_along, IsReady, IsAnswer, AfterLookup, parsed_in}
 
 -- the range that leads to the one unit
@@ -66,7 +66,7 @@ cached_after : {X : Type 0} (old new : LazyLines) (r : Result X Error) → IsAns
 cached_after old new (Ok x) a h = h
 cached_after old new (Err e) a h = h.0 a
 
-module _ {R : Type 0} (see : R → Section) (d : Sections) (probe : ℕ) where
+module _ {R : Type 0} (d : Sections) (probe : ℕ) where
   -- the context of a unit
   abbrev state : Option (ResUnit R) → ContextState
   state unit = record { sections = d; parsed = parsed_in unit }
@@ -78,22 +78,22 @@ module _ {R : Type 0} (see : R → Section) (d : Sections) (probe : ℕ) where
       ok_is a b k = cc
 
   -- a lookup of the unit is ready where nothing covers the probe, or its lines are cached
-  ready_unit : (c : ContextState) (unit : Option (ResUnit R)) → (unit_holds probe unit ≡ true → has_parsed c 0 ≡ true) → ready_along c (seen_index see unit).units probe (cover probe (seen_index see unit).ranges) ≡ true
+  ready_unit : (c : ContextState) (unit : Option (ResUnit R)) → (unit_holds probe unit ≡ true → has_parsed c 0 ≡ true) → ready_along c (unit_index_of unit).units probe (cover probe (unit_index_of unit).ranges) ≡ true
   ready_unit c None h = refl
   ready_unit c (Some k) h = by_cases (range_holds probe k.range) refl
     where
-      by_cases : (b : Bool) → range_holds probe k.range ≡ b → ready_along c (seen_index see (Some k)).units probe (cover probe (seen_index see (Some k)).ranges) ≡ true
-      by_cases true e = ready_parsed c (seen_index see (Some k)).units probe k.range (h e)
-      by_cases false e = ready_uncovered c (seen_index see (Some k)).units probe k.range e
+      by_cases : (b : Bool) → range_holds probe k.range ≡ b → ready_along c (unit_index_of (Some k)).units probe (cover probe (unit_index_of (Some k)).ranges) ≡ true
+      by_cases true e = ready_parsed c (unit_index_of (Some k)).units probe k.range (h e)
+      by_cases false e = ready_uncovered c (unit_index_of (Some k)).units probe k.range e
 
-  cached_unit : (c : ContextState) (unit : Option (ResUnit R)) → unit_holds probe unit ≡ true → ready_along c (seen_index see unit).units probe (cover probe (seen_index see unit).ranges) ≡ true → has_parsed c 0 ≡ true
+  cached_unit : (c : ContextState) (unit : Option (ResUnit R)) → unit_holds probe unit ≡ true → ready_along c (unit_index_of unit).units probe (cover probe (unit_index_of unit).ranges) ≡ true → has_parsed c 0 ≡ true
   cached_unit c None h e = cc
-  cached_unit c (Some k) h e = parsed_from c (seen_index see (Some k)).units probe k.range h e
+  cached_unit c (Some k) h e = parsed_from c (unit_index_of (Some k)).units probe k.range h e
 
-  module _ (old new : Option (ResUnit R)) (index : unit_index d ≡ Ok (seen_index see old)) where
+  module _ (old new : Option (ResUnit R)) (index : unit_index d ≡ Ok (unit_index_of old)) where
     -- where the lookup is ready and a unit covers the probe, its lines are cached
     pub cached_if_ready : IsReady (state old) probe → unit_holds probe old ≡ true → is_uncached (lines_in_cache old) ≡ false
-    cached_if_ready ready h = cached_if_parsed (is_uncached (lines_in_cache old)) (cached_unit (state old) old h (ready (seen_index see old) index))
+    cached_if_ready ready h = cached_if_parsed (is_uncached (lines_in_cache old)) (cached_unit (state old) old h (ready (unit_index_of old) index))
 
     pub after_lookup : {X : Type 0} (r : Result (Unit {0}) Error) (result : Result X Error) → (IsAnswer result → IsAnswer r) → StaysCached (lines_in_cache old) (lines_in_cache new)
         → (unit_holds probe old ≡ true → CachesAnswer (lines_in_cache old) r (lines_in_cache new)) → AfterLookup probe result (state old) (state new)
@@ -103,11 +103,11 @@ module _ {R : Type 0} (see : R → Section) (d : Sections) (probe : ℕ) where
       ready = λ a m e. (
         let P : UnitIndex → Type 0 = λ x. ready_along (state new) x.units probe (cover probe x.ranges) ≡ true in
         let cached : unit_holds probe old ≡ true → has_parsed (state new) 0 ≡ true = λ h. ap (λ b. list_any (λ m. m == 0) (parsed_by b)) (cached_after (lines_in_cache old) (lines_in_cache new) r (answer a) (caches h)) in
-        subst P (same_index (seen_index see old) m index e) (ready_unit (state new) old cached)
+        subst P (same_index (unit_index_of old) m index e) (ready_unit (state new) old cached)
       );
     }
 
-    pub location_is : location_of d probe ≡ location_along d (seen_index see old) probe
+    pub location_is : location_of d probe ≡ location_along d (unit_index_of old) probe
     location_is = ap (λ r. r >>= λ m. location_along d m probe) index
 
     -- where the lookup is ready, a refusal is the fault that the lines have

@@ -13,7 +13,7 @@ use Rattle.addr2line_lines.specs.Location.{Location}
 use Rattle.addr2line_units.specs.declared.unit.ResUnit.{ResUnit}
 use Rattle.addr2line_units.specs.UnitIndex.{UnitIndex, UnitRange, unit_index, cover}
 use Rattle.addr2line_units.specs.Located.{location_in}
-use Rattle.addr2line_units.specs.CachedLines.{seen_index, HasLinesOf, lines_in_cache, is_uncached}
+use Rattle.addr2line_units.specs.CachedLines.{unit_index_of, HasLinesOf, lines_in_cache, is_uncached}
 
 -- the sections, and the units, by their places in the index, whose lines are parsed
 pub record ContextState : Type 0 where
@@ -59,6 +59,6 @@ abbrev pub parsed_in : {R : Type 0} → Option (ResUnit R) → List ℕ
 parsed_in unit = if is_uncached (lines_in_cache unit) then [] else 0 ∷ []
 
 -- the unit of the context is the one that the sections give, and so are its cached lines
-pub record IsContext {R : Type 0} (see : R → Section) (d : Sections) (unit : Option (ResUnit R)) : Type 0 where
-  pub index_is : unit_index d ≡ Ok (seen_index see unit)
-  pub lines : HasLinesOf see d unit
+pub record IsContext {R : Type 0} (d : Sections) (unit : Option (ResUnit R)) : Type 0 where
+  pub index_is : unit_index d ≡ Ok (unit_index_of unit)
+  pub lines : HasLinesOf d unit

@@ -4,7 +4,6 @@ ghost use Rattle.std.specs.Prelude.{◌≡◌, option_map};
 ghost use Rattle.std.specs.Borrow.{sem};
 ghost use Rattle.gimli_read.specs.Reading.{Exactly, ExactlyUnlessOom};
 ghost use Rattle.gimli.specs.declared.dwarf.DwarfFileType.TheVariants.{Main};
-ghost use Rattle.gimli.specs.Sections.{seen_dwarf};
 ghost use Rattle.addr2line_lines.specs.SeenLocation.{seen_location};
 ghost use Rattle.addr2line_units.specs.Located.{location_of};
 ghost use Rattle.addr2line.specs.Context.{context_of, IsReady, AfterLookup};
@@ -29,17 +28,16 @@ pub struct Context<R: Reader> {
 }
 
 impl<R: Reader> Model for Context<R> {
-    ghost use Rattle.gimli.specs.Sections.{seen_dwarf};
-    ghost use Rattle.addr2line.specs.Context.{ContextState, IsContext, parsed_in};
+        ghost use Rattle.addr2line.specs.Context.{ContextState, IsContext, parsed_in};
 
     ghost Value = { ContextState };
 
     ghost view = { λ c. record {
-      sections = seen_dwarf R.section c.dwarf.value;
+      sections = c.dwarf.value;
       parsed = parsed_in c.units.unit;
     } };
 
-    ghost invariant = { λ c. IsContext R.section (seen_dwarf R.section c.dwarf.value) c.units.unit };
+    ghost invariant = { λ c. IsContext c.dwarf.value c.units.unit };
 }
 
 impl<R: Reader> Context<R> {
@@ -47,12 +45,14 @@ impl<R: Reader> Context<R> {
 
     /// A context of the sections of a file.
     ///
-    /// The headers of all units are read, and the records of units up to the first that can be read.
-    /// Refused by the first fault of a header or of the kept unit's range attributes, and
-    /// `OutOfMemory`; a unit whose record is faulty is passed over. No line program is run.
+    /// The headers, records and range attributes of all units are read; the first unit whose record can
+    /// be read answers lookups.
+    /// Refused by the first fault of a header or of the range attributes of a unit whose record can be
+    /// read, each unit whole before the next header; may fail with `OutOfMemory` instead. A unit whose
+    /// record is faulty is passed over. No line program is run.
     pub fn from_dwarf(alloc: Global, dwarf: Dwarf<R>) -> Result<Context<R>, Error>
         ensures gives { ExactlyUnlessOom (λ c. c.sections) result
-            (context_of (seen_dwarf R.section dwarf)) }
+            (context_of dwarf) }
     {
         let units = ResUnits::parse(alloc, &dwarf)?;
         let dwarf = Rc::new(alloc, dwarf)?;

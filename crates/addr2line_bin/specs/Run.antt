@@ -1,5 +1,5 @@
 -- A whole run of the program.
--- Own: a failed write of the output ends the run, without a text for a broken pipe; so does want of memory.
+-- Own: a failed write of the output ends the run, without a text for a broken pipe; so does a refused growth.
 use Rattle.std.specs.Prelude.{◌≡◌, ◌⊎◌, ℕ, Bool, true, false, List, [], ◌++◌, Option, Ok, Err, codes}
 use Rattle.std.specs.declared.string.String.{String}
 use Rattle.std.specs.declared.alloc.Global.{Global}
@@ -61,7 +61,7 @@ abbrev pub IsAnswered : List ℕ → Option (List ℕ) → Option (List ℕ) →
 IsAnswered name oo on eo en words (Ok d) e = IsRun name oo on eo en (outs (location_of d) (probes_in words)) (errs (location_of d) name (probes_in words)) e
 IsAnswered name oo on eo en words (Err fault) e = (on ≡ oo) × ((has_failed : Bool) × Goes eo en has_failed (load_fault_text name fault)) × (e ≡ exit.Failed)
 
--- the same for the bytes of a file, or the fault of their reading; want of memory may stand in place of what they give
+-- the same for the bytes of a file, or the fault of their reading; it may be OutOfMemory instead
 pub record IsAnswer (name : List ℕ) (oo on eo en : Option (List ℕ)) (words : List (String Global)) (bytes : Reading (List ℕ)) (e : Exit) : Type 0 where
   pub given : Reading Sections
   pub gives : ExactlyUnlessOom (λ d. d) given (loaded_of bytes)

@@ -1,5 +1,5 @@
 -- The text of the program: what goes to its two streams for the addresses that are asked for.
--- Own: a fault is told on standard error, and the address is printed as one that has no location.
+-- Own: a fault is written to standard error, and the address is printed as one that has no location.
 use Rattle.std.specs.Prelude.{ℕ, List, [], ◌∷◌, ◌++◌, Option, Some, None, Result, Ok, Err, codes, map, unwrap_or, string_bytes, false}
 use Rattle.std.specs.declared.string.String.{String}
 use Rattle.std.specs.declared.alloc.Global.{Global}
@@ -28,11 +28,11 @@ location_or_none (Err e) = None
 abbrev pub hex : ℕ → List ℕ
 hex n = radix_digits 16 false n
 
--- the line that tells a lookup's fault
+-- the line of a lookup's fault
 abbrev pub fault_line : List ℕ → ℕ → Error → List ℕ
 fault_line name probe e = name ++ codes ": failed to find location for 0x" ++ hex probe ++ codes ": " ++ text_of e ++ codes "\n"
 
--- what a lookup tells
+-- what a lookup writes to standard error
 abbrev pub fault_text : List ℕ → ℕ → Result (Option Location) Error → List ℕ
 fault_text name probe (Ok x) = []
 fault_text name probe (Err e) = fault_line name probe e
@@ -44,7 +44,7 @@ module _ (found : ℕ → Result (Option Location) Error) where
   out_of None = location_text None
   out_of (Some probe) = location_text (location_or_none (found probe))
 
-  -- what is told for it
+  -- what goes to standard error for it
   abbrev pub told_of : List ℕ → Option ℕ → List ℕ
   told_of name None = []
   told_of name (Some probe) = fault_text name probe (found probe)
@@ -54,7 +54,7 @@ module _ (found : ℕ → Result (Option Location) Error) where
   outs [] = []
   outs (p ∷ ps) = out_of p ++ outs ps
 
-  -- what is told for all of them
+  -- what goes to standard error for all of them
   abbrev pub errs : List ℕ → List (Option ℕ) → List ℕ
   errs name [] = []
   errs name (p ∷ ps) = told_of name p ++ errs name ps

@@ -30,7 +30,7 @@ pub trait Locate {
     /// Where each address lies.
     ghost found: { Self → ℕ → Result (Option Location) Error };
 
-    /// The place of an address. It is the same at every call.
+    /// The location of an address. It is the same at every call.
     fn find_location(&mut self, probe: u64) -> Result<Option<Location<'_>>, Error>
         ensures gives { ExactlyUnlessOom (option_map seen_location) result (found self.old probe) }
         ensures* kept { sem 𝓛 (Rests Self.row self.entry (λ new. found new ≡ found self.old)) };
@@ -172,7 +172,7 @@ fn print_words<L: Locate, W: Write, E: Write>(
     Ok(())
 }
 
-/// Tells why a run stopped early.
+/// Writes why a run stopped early.
 #[tactic(auto, using(crate::proofs::Parts::sends_nothing, crate::proofs::Parts::keeps_itself))]
 pub fn tell_last<E: Write>(name: &str, stop: Stop, err: &mut E, has_failed: &mut bool) -> Exit
     ensures told { Sends (E.contents err.old) (E.contents err.new) has_failed.old has_failed.new
@@ -194,11 +194,11 @@ pub fn tell_last<E: Write>(name: &str, stop: Stop, err: &mut E, has_failed: &mut
     }
 }
 
-/// Prints where the addresses of the words lie, each on a line of its own, and tells each fault on
+/// Prints where the addresses of the words lie, each on a line of its own, and writes each fault to
 /// standard error.
 ///
 /// What goes to `out` is the joined texts of the words' locations, or a beginning of it after a
-/// failed write or want of memory; then the last line that is told says so, but for a broken pipe.
+/// failed write or a refused growth; then the last line on standard error says so, but for a broken pipe.
 pub fn print<L: Locate, W: Write, E: Write>(
     alloc: Global,
     name: &str,
@@ -219,7 +219,7 @@ pub fn print<L: Locate, W: Write, E: Write>(
     }
 }
 
-/// Tells why the debug information of a file can't be loaded.
+/// Writes why the debug information of a file can't be loaded.
 pub fn tell_load_fault<E: Write>(
     name: &str,
     fault: LoaderError,
@@ -235,7 +235,7 @@ pub fn tell_load_fault<E: Write>(
     Exit::Failed
 }
 
-/// Tells how the program is used.
+/// Writes how the program is used.
 #[tactic(auto, using(crate::proofs::Parts::sends_on))]
 pub fn tell_usage<E: Write>(name: &str, err: &mut E, has_failed: &mut bool) -> Exit
     ensures told { Sends (E.contents err.old) (E.contents err.new) has_failed.old has_failed.new

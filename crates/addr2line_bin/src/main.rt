@@ -60,7 +60,7 @@ fn run<W: Write, E: Write>(
     }
 }
 
-// Tells that memory is wanting before there is a file.
+// Writes that memory was refused before there is a file.
 fn tell_no_memory<E: Write>(name: &str, err: &mut E) -> Exit {
     tell_last(name, Stop::OutOfMemory, err, &mut false)
 }

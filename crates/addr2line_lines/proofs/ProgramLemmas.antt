@@ -3,7 +3,7 @@ use Rattle.std.proofs.Common.{◌≡◌, ℕ, ◌++◌, List, Result, Ok, Err, s
 use Rattle.gimli_read.specs.declared.error.Error.{Error}
 use Rattle.gimli_read.specs.Section.{Section}
 use Rattle.gimli_read.specs.Reading.{◌>>=◌}
-use Rattle.gimli_line.specs.declared.header.FileEntry.{FileEntry}
+use Rattle.gimli_line.specs.Header.{File}
 use Rattle.gimli_line.specs.declared.row.LineRow.{LineRow}
 use Rattle.gimli_line.specs.Header.{Header, Program}
 use Rattle.gimli_line.specs.Lines.{Lines, lines_of}
@@ -46,7 +46,7 @@ module _ (d : Sections) (u : UnitRecord) (p : Program) (rows : Lines) (given : �
   unfolding program_lines
   program_rows_fault e h = rows_fault (read_all (lines_of p).left) _ e (ap (result_map sequences_of) (sym same_left) ∙ h)
 
-  module _ (ss : List Sequence) (h : result_map sequences_of (read_all rows.left) ≡ Ok ss) (header : Header) (its : header ≡ p.header) (files : List (FileEntry Section)) (is : files ≡ rows.header.file_names ++ rows.to_define) where
+  module _ (ss : List Sequence) (h : result_map sequences_of (read_all rows.left) ≡ Ok ss) (header : Header) (its : header ≡ p.header) (files : List (File)) (is : files ≡ rows.header.file_names ++ rows.to_define) where
     same_files : file_texts d u header files ≡ file_texts d u p.header (p.header.file_names ++ (lines_of p).to_define)
     same_files = ap (λ x. file_texts d u x files) its ∙ ap (file_texts d u p.header) (is ∙ ap (λ (l : Lines). l.header.file_names ++ l.to_define) (sym (value_of (lines_of p) rows given)))
 

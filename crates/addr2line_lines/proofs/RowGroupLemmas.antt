@@ -62,7 +62,7 @@ Open-front : (p q : List LineRow) → Open (p ++ q) → Open p
 Open-front [] q o = tt
 Open-front (r ∷ p) q o = (o.0, Open-front p q o.1)
 
--- a row that a later one replaces counts for nothing
+-- a row that a later one replaces changes no sequence
 pub replaced : (p left : List LineRow) (a r : LineRow) → Open (p ++ a ∷ []) → r.end_sequence ≡ false → a.address ≡ r.address → sequences_of ((p ++ a ∷ []) ++ r ∷ left) ≡ sequences_of (p ++ r ∷ left)
 replaced p left a r o e same =
     ap sequences_of (append_assoc p (a ∷ []) (r ∷ left)) ∙ ap sequences_of (sym (append_assoc p (a ∷ r ∷ []) left))

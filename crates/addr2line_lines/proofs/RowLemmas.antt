@@ -8,7 +8,7 @@ use Rattle.gimli_line.specs.Lines.{YieldsUnlessOom}
 use Rattle.gimli_line.specs.Rises.{rows_before, NeverFalls}
 use Rattle.addr2line_lines.specs.Rows.{read_all, result_map}
 
--- rows that are given where there is room are given but for want of memory
+-- rows that are given unless memory is refused
 pub yields_given : {X : Type 0} (old new : List (Result X Error)) (r : Result (Option X) Error) → YieldsUnlessOom old r new → (r ≡ Err OutOfMemory → ⊥) → Yields old r new
 yields_given {X} old new (Ok None) y h = none old y.0
   where

@@ -190,7 +190,7 @@ some_last : (r : Row) (rows : List Row) → (x : Row) × (last (r ∷ rows) ≡ 
 some_last r [] = (r, refl)
 some_last r (s ∷ rows) = some_last s rows
 
--- a row stands by a probe that the rows start by
+-- rows that start at or below a probe have a row at or below it
 some_by : (probe start : ℕ) (rows : List Row) → StartsAt start rows → start ≤ probe → (x : Row) × (last (at_or_below row_address probe rows) ≡ Some x)
 some_by probe start [] at low = absurd at
 some_by probe start (r ∷ rows) at low =

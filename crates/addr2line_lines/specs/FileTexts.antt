@@ -6,7 +6,7 @@ use Rattle.gimli_read.specs.declared.error.Error.{Error}
 use Rattle.gimli_read.specs.declared.value.AttributeValue.{AttributeValue}
 use Rattle.gimli_read.specs.Section.{Section}
 use Rattle.gimli_read.specs.Reading.{◌>>=◌}
-use Rattle.gimli_line.specs.declared.header.FileEntry.{FileEntry}
+use Rattle.gimli_line.specs.Header.{File}
 use Rattle.gimli_line.specs.Header.{Header, directory_of}
 use Rattle.gimli.specs.Sections.{Sections}
 use Rattle.gimli.specs.Unit.{UnitRecord, attr_string_of}
@@ -22,22 +22,22 @@ optional_string d u None = Ok None
 optional_string d u (Some value) = attr_string_of d u value >>= λ text. Ok (Some text)
 
 -- the directory that counts for a file
-abbrev pub file_directory : Header → FileEntry Section → Option (AttributeValue Section)
+abbrev pub file_directory : Header → File → Option (AttributeValue Section)
 file_directory h f = if f.directory_index == 0 then None else directory_of h f
 
 -- the text of a file
-unfoldable pub text_of_file : Sections → UnitRecord → Header → FileEntry Section → Result (List ℕ) Error
+unfoldable pub text_of_file : Sections → UnitRecord → Header → File → Result (List ℕ) Error
 text_of_file d u h f = do
   directory ← optional_string d u (file_directory h f)
   path ← attr_string_of d u f.path_name
   Ok (file_text (bytes_of u.comp_dir) (bytes_of directory) path.bytes)
 
 -- the texts of files, one after another
-unfoldable pub texts_of : Sections → UnitRecord → Header → List (FileEntry Section) → Result (List (List ℕ)) Error
+unfoldable pub texts_of : Sections → UnitRecord → Header → List (File) → Result (List (List ℕ)) Error
 texts_of d u h [] = Ok []
 texts_of d u h (f ∷ files) = text_of_file d u h f >>= λ text. texts_of d u h files >>= λ more. Ok (text ∷ more)
 
--- texts behind others
+-- texts after others
 abbrev pub texts_after : List (List ℕ) → Result (List (List ℕ)) Error → Result (List (List ℕ)) Error
 texts_after front texts = texts >>= λ more. Ok (front ++ more)
 
@@ -47,11 +47,11 @@ at_least_one [] = [] ∷ []
 at_least_one (text ∷ texts) = text ∷ texts
 
 -- the texts below version 5: first the unit's own name
-abbrev pub own_name_first : Sections → UnitRecord → Header → List (FileEntry Section) → Result (List (List ℕ)) Error
+abbrev pub own_name_first : Sections → UnitRecord → Header → List (File) → Result (List (List ℕ)) Error
 own_name_first d u h files = texts_after (own_text (bytes_of u.comp_dir) (bytes_of u.name) ∷ []) (texts_of d u h files)
 
 -- the texts by index, from 0 on
-abbrev pub file_texts : Sections → UnitRecord → Header → List (FileEntry Section) → Result (List (List ℕ)) Error
+abbrev pub file_texts : Sections → UnitRecord → Header → List (File) → Result (List (List ℕ)) Error
 file_texts d u h files =
     if nat_lt h.encoding.version 5 then own_name_first d u h files
     else (texts_of d u h files >>= λ texts. Ok (at_least_one texts))

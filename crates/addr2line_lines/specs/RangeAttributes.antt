@@ -5,8 +5,8 @@
 use Rattle.std.specs.Prelude.{ℕ, ◌+◌, ◌%◌, ◌^◌, ◌==◌, nat_lt, List, [], ◌∷◌, Option, Some, None, Result, Ok, pos, if◌then◌else◌}
 use Rattle.gimli_read.specs.declared.error.Error.{Error}
 use Rattle.gimli_read.specs.declared.range.Range.{Range}
-use Rattle.gimli_read.specs.declared.abbrev.AttributeSpecification.{AttributeSpecification}
-use Rattle.gimli_read.specs.declared.value.Attribute.{Attribute}
+use Rattle.gimli_read.specs.Abbreviations.{Specification}
+use Rattle.gimli_read.specs.Form.{NamedValue}
 use Rattle.gimli_read.specs.declared.value.AttributeValue.{AttributeValue}
 use Rattle.gimli_read.specs.declared.value.AttributeValue.TheVariants as values
 use Rattle.gimli_read.specs.Section.{Section}
@@ -30,14 +30,14 @@ abbrev pub no_range_attributes : RangeAttributes
 no_range_attributes = record { low_pc = None; high_pc = None; size = None }
 
 -- one more attribute
-unfoldable pub with_range_attribute : Sections → UnitRecord → RangeAttributes → Attribute Section → Result RangeAttributes Error
+unfoldable pub with_range_attribute : Sections → UnitRecord → RangeAttributes → NamedValue → Result RangeAttributes Error
 with_range_attribute d u r a =
     if a.name.0 == 0x11 then (attr_address d u a.value >>= λ low. Ok (record { low_pc = newer low r.low_pc; high_pc = r.high_pc; size = r.size }))
     else if a.name.0 == 0x12 then (attr_address d u a.value >>= λ high. Ok (record { low_pc = r.low_pc; high_pc = newer high r.high_pc; size = newer (constant_of a.value) r.size }))
     else Ok r
 
 -- the attributes of specifications, each read and taken in before the next
-unfoldable pub range_attributes_at : Sections → UnitRecord → List AttributeSpecification → RangeAttributes → Section → Result RangeAttributes Error
+unfoldable pub range_attributes_at : Sections → UnitRecord → List Specification → RangeAttributes → Section → Result RangeAttributes Error
 range_attributes_at d u [] r s = Ok r
 range_attributes_at d u (x ∷ xs) r s = attribute_at u.header.encoding x s >>= λ a. with_range_attribute d u r a.0 >>= λ t. range_attributes_at d u xs t a.1
 

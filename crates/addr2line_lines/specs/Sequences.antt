@@ -2,7 +2,7 @@
 -- Own: of the rows of a sequence with equal address the last counts.
 -- Own: a sequence without rows, or whose start is not below its end, is none, and so is one whose end row is
 -- dropped; rows that no end row follows belong to none.
--- Own: lines and columns keep their low 32 bits.
+-- Own: of lines and columns the low 32 bits count.
 use Rattle.std.specs.Prelude.{ℕ, ◌%◌, ◌^◌, ◌==◌, ◌&&◌, not, List, [], ◌∷◌, Option, Some, None, map, filter_map, nat_lt, if◌then◌else◌}
 use Rattle.std.specs.List.{list_any}
 use Rattle.gimli_line.specs.declared.row.LineRow.{LineRow}
@@ -34,7 +34,7 @@ abbrev pub latest : List LineRow → List LineRow
 latest [] = []
 latest (r ∷ rows) = if list_any (λ (s : LineRow). s.address == r.address) rows then latest rows else r ∷ latest rows
 
--- what is kept of a row
+-- a row as it is stored
 abbrev pub stored_row : LineRow → Row
 stored_row r = record { address = r.address; file_index = r.file_index; line = r.line % 2 ^ 32; column = r.column % 2 ^ 32 }
 

@@ -3,9 +3,6 @@
 ghost use Rattle.std.specs.Prelude.{◌≡◌, Ok, map, option_map, option_copied, string_bytes};
 ghost use Rattle.gimli_read.specs.Reading.{ExactlyUnlessOom};
 ghost use Rattle.gimli_read.specs.Form.{seen_value};
-ghost use Rattle.gimli_line.specs.Header.{seen_file, seen_header};
-ghost use Rattle.gimli.specs.Sections.{seen_dwarf};
-ghost use Rattle.gimli.specs.Unit.{seen_unit};
 ghost use Rattle.addr2line_lines.specs.FileTexts.{bytes_of, optional_string, file_directory, text_of_file, texts_of, at_least_one, texts_after, own_name_first, file_texts};
 
 use crate::path::{make_file_text, make_own_text};
@@ -20,7 +17,7 @@ fn directory_of<R: Reader>(
     file: &FileEntry<R>,
 ) -> Result<Option<AttributeValue<R>>, Error>
     ensures gives { ExactlyUnlessOom (option_map (seen_value R.section)) result
-        (Ok (file_directory (seen_header R.section header.now) (seen_file R.section file.now))) }
+        (Ok (file_directory header.now file.now)) }
 {
     if file.directory_index() == 0 {
         return Ok(None);
@@ -35,7 +32,7 @@ fn optional_string<R: Reader>(
     value: Option<AttributeValue<R>>,
 ) -> Result<Option<R>, Error>
     ensures gives { ExactlyUnlessOom (option_map R.section) result
-        (optional_string (seen_dwarf R.section dwarf.now) (seen_unit R.section unit.now)
+        (optional_string dwarf.now unit.now
         (option_map (seen_value R.section) value)) }
 {
     match value {
@@ -64,8 +61,8 @@ fn file_text<R: Reader>(
     file: &FileEntry<R>,
 ) -> Result<String, Error>
     ensures gives { ExactlyUnlessOom (λ text. string_bytes text) result
-        (text_of_file (seen_dwarf R.section dwarf.now) (seen_unit R.section unit.now)
-        (seen_header R.section header.now) (seen_file R.section file.now)) }
+        (text_of_file dwarf.now unit.now
+        header.now file.now) }
 {
     let value = directory_of(header, file)?;
     let directory = optional_string(dwarf, unit, value)?;
@@ -75,7 +72,7 @@ fn file_text<R: Reader>(
     Ok(make_file_text(alloc, base, below, path.to_slice())?)
 }
 
-// The texts of files behind those that are there, one after another.
+// Adds the texts of files, one after another.
 fn push_texts<R: Reader>(
     alloc: Global,
     dwarf: &Dwarf<R>,
@@ -86,8 +83,8 @@ fn push_texts<R: Reader>(
 ) -> Result<(), Error>
     ensures gives { ExactlyUnlessOom (λ _. map string_bytes texts.new.items) result
         (texts_after (map string_bytes texts.old.items)
-        (texts_of (seen_dwarf R.section dwarf.now) (seen_unit R.section unit.now)
-        (seen_header R.section header.now) (map (seen_file R.section) files.now))) }
+        (texts_of dwarf.now unit.now
+        header.now files.now)) }
 {
     for file in files {
         texts.push(file_text(alloc, dwarf, unit, header, file)?)?;
@@ -104,8 +101,8 @@ fn read_texts<R: Reader>(
     files: &[FileEntry<R>],
 ) -> Result<Vec<String>, Error>
     ensures gives { ExactlyUnlessOom (λ v. map string_bytes v.items) result
-        (texts_of (seen_dwarf R.section dwarf.now) (seen_unit R.section unit.now)
-        (seen_header R.section header.now) (map (seen_file R.section) files.now)) }
+        (texts_of dwarf.now unit.now
+        header.now files.now) }
 {
     let mut texts = Vec::new(alloc);
     push_texts(alloc, dwarf, unit, header, files, &mut texts)?;
@@ -121,8 +118,8 @@ fn read_own_name_first<R: Reader>(
     files: &[FileEntry<R>],
 ) -> Result<Vec<String>, Error>
     ensures gives { ExactlyUnlessOom (λ v. map string_bytes v.items) result
-        (own_name_first (seen_dwarf R.section dwarf.now) (seen_unit R.section unit.now)
-        (seen_header R.section header.now) (map (seen_file R.section) files.now)) }
+        (own_name_first dwarf.now unit.now
+        header.now files.now) }
 {
     let mut texts = Vec::new(alloc);
     let own = make_own_text(alloc, bytes_of(&unit.comp_dir), bytes_of(&unit.name))?;
@@ -154,8 +151,8 @@ pub(crate) fn read_file_texts<R: Reader>(
     files: &[FileEntry<R>],
 ) -> Result<Vec<String>, Error>
     ensures gives { ExactlyUnlessOom (λ v. map string_bytes v.items) result
-        (file_texts (seen_dwarf R.section dwarf.now) (seen_unit R.section unit.now)
-        (seen_header R.section header.now) (map (seen_file R.section) files.now)) }
+        (file_texts dwarf.now unit.now
+        header.now files.now) }
 {
     if header.version() < 5 {
         return read_own_name_first(alloc, dwarf, unit, header, files);

@@ -3,9 +3,7 @@
 ghost use Rattle.std.specs.Prelude.{◌≡◌, [], ◌∷◌, option_map};
 ghost use Rattle.std.specs.Option.{option_to_list};
 ghost use Rattle.gimli_read.specs.Reading.{ExactlyUnlessOom, Exactly};
-ghost use Rattle.gimli_read.specs.Form.{seen_value, seen_attribute};
-ghost use Rattle.gimli.specs.Sections.{seen_dwarf};
-ghost use Rattle.gimli.specs.Unit.{seen_unit};
+ghost use Rattle.gimli_read.specs.Form.{seen_value};
 ghost use Rattle.gimli.specs.Record.{newer};
 ghost use Rattle.addr2line_lines.specs.RangeAttributes.{attr_address, no_range_attributes, with_range_attribute, range_attributes_at, root_range_attributes, range_between, range_to, ranges_of};
 
@@ -17,7 +15,7 @@ use gimli::{EntriesRaw, UnitRef};
 pub struct RangeAttributes {
     /// The first address.
     pub low_pc: Option<u64>,
-    /// The address behind the last one.
+    /// The end address, which is no longer of the entry.
     pub high_pc: Option<u64>,
     /// The number of addresses.
     pub size: Option<u64>,
@@ -38,8 +36,8 @@ fn attr_address<R: Reader>(
     unit: UnitRef<'_, R>,
     value: &AttributeValue<R>,
 ) -> Result<Option<u64>, Error>
-    ensures gives { Exactly (λ a. a) result (attr_address (seen_dwarf R.section unit.entry.dwarf.now)
-        (seen_unit R.section unit.entry.unit.now) (seen_value R.section value.now)) }
+    ensures gives { Exactly (λ a. a) result (attr_address unit.entry.dwarf.now
+        unit.entry.unit.now (seen_value R.section value.now)) }
 {
     match value {
         AttributeValue::Addr(address) => Ok(Some(*address)),
@@ -78,8 +76,8 @@ impl RangeAttributes {
         unit: UnitRef<'_, R>,
         attribute: &Attribute<R>,
     ) -> Result<RangeAttributes, Error>
-        ensures gives { Exactly (λ r. r) result (with_range_attribute (seen_dwarf R.section unit.entry.dwarf.now)
-            (seen_unit R.section unit.entry.unit.now) self (seen_attribute R.section attribute.now)) }
+        ensures gives { Exactly (λ r. r) result (with_range_attribute unit.entry.dwarf.now
+            unit.entry.unit.now self attribute.now) }
     {
         match attribute.name {
             DwAt::DW_AT_low_pc => {
@@ -123,8 +121,8 @@ fn read_ranges<R: Reader>(
     specifications: &[AttributeSpecification],
 ) -> Result<RangeAttributes, Error>
     requires same { entries.old.encoding ≡ unit.unit.now.header.encoding }
-    ensures gives { ExactlyUnlessOom (λ r. r) result (range_attributes_at (seen_dwarf R.section unit.entry.dwarf.now)
-        (seen_unit R.section unit.entry.unit.now) specifications.now no_range_attributes
+    ensures gives { ExactlyUnlessOom (λ r. r) result (range_attributes_at unit.entry.dwarf.now
+        unit.entry.unit.now specifications.now no_range_attributes
         (R.section entries.old.input)) }
 {
     let mut ranges = RangeAttributes::new();
@@ -141,8 +139,8 @@ fn read_ranges<R: Reader>(
 /// attribute stands, `MissingUnitDie` at a closing entry, and `OutOfMemory`.
 #[tactic(auto, unfolding(crate::specs::RangeAttributes::root_range_attributes))]
 pub fn read_root_ranges<R: Reader>(unit: UnitRef<'_, R>) -> Result<RangeAttributes, Error>
-    ensures gives { ExactlyUnlessOom (λ r. r) result (root_range_attributes (seen_dwarf R.section unit.entry.dwarf.now)
-        (seen_unit R.section unit.entry.unit.now)) }
+    ensures gives { ExactlyUnlessOom (λ r. r) result (root_range_attributes unit.entry.dwarf.now
+        unit.entry.unit.now) }
 {
     let mut entries = unit.entries_raw(None)?;
     match entries.read_abbreviation()? {

@@ -6,9 +6,6 @@ ghost use Rattle.std.specs.List.{AllByRecursion};
 ghost use Rattle.std.specs.String.{string_bytes};
 ghost use Rattle.addr2line_lines.specs.Rises.{IsRising};
 ghost use Rattle.gimli_read.specs.Reading.{IsUnlessOom};
-ghost use Rattle.gimli_line.specs.Header.{seen_program};
-ghost use Rattle.gimli.specs.Sections.{seen_dwarf};
-ghost use Rattle.gimli.specs.Unit.{seen_unit};
 ghost use Rattle.addr2line_lines.specs.UnitLines.{program_lines, unit_lines};
 ghost use Rattle.addr2line_lines.specs.Location.{location_of_row, location_at};
 ghost use Rattle.addr2line_lines.specs.SeenLocation.{seen_location};
@@ -80,8 +77,8 @@ fn read_program<R: Reader>(
     program: &IncompleteLineProgram<R>,
 ) -> Result<Lines, Error>
     ensures gives { IsUnlessOom result
-        (program_lines (seen_dwarf R.section dwarf.now) (seen_unit R.section unit.now)
-        (seen_program R.section program.now)) }
+        (program_lines dwarf.now unit.now
+        program.now) }
 {
     let mut rows = program.rows()?;
     let sequences = read_sequences(alloc, &mut rows)?;
@@ -102,7 +99,7 @@ impl Lines {
     /// read, and `OutOfMemory`. A unit without a line program has no lines.
     pub fn parse<R: Reader>(alloc: Global, dwarf: &Dwarf<R>, unit: &Unit<R>) -> Result<Lines, Error>
         ensures gives { IsUnlessOom result
-            (unit_lines (seen_dwarf R.section dwarf.now) (seen_unit R.section unit.now)) }
+            (unit_lines dwarf.now unit.now) }
     {
         match &unit.line_program {
             Some(program) => read_program(alloc, dwarf, unit, program),

@@ -10,7 +10,7 @@ use std::alloc::AllocError;
 
 /// Puts sequences in order of start, then end, then place in the program.
 ///
-/// Refused for want of memory alone, and then they stand as they stood.
+/// Fails only where a growth is refused, and then their order is as before.
 pub(crate) fn sort_sequences(sequences: &mut Vec<LineSequence>) -> Result<(), AllocError>
     ensures gives { OnOk result (sequences.new.items ≡
         in_order (begins_sooner start_of end_of) sequences.old.items) }

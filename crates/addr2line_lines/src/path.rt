@@ -54,9 +54,9 @@ fn join(path: &mut String, text: &str) -> Result<(), AllocError>
     path.push_str(text)
 }
 
-/// Pushes a text onto a path: an absolute text replaces it, any other is added behind a separator.
+/// Pushes a text onto a path: an absolute text replaces it, any other is added after a separator.
 ///
-/// Refused for want of memory alone, and then the path may be any text.
+/// Fails only where a growth is refused, and then the path may be any text.
 pub(crate) fn push_path(path: &mut String, text: &str) -> Result<(), AllocError>
     ensures gives { OnOk result (string_bytes path.new ≡ pushed (string_bytes path.old) text.now) }
 {
@@ -89,7 +89,7 @@ fn base_of(alloc: Global, unit: Option<&[u8]>) -> Result<String, AllocError>
 
 /// The text of a file, of the unit's directory, the file's directory and its path, each as bytes.
 ///
-/// `directory` is `None` where the file has the unit's own. Refused for want of memory alone.
+/// `directory` is `None` where the file has the unit's own. Fails only where a growth is refused.
 pub(crate) fn make_file_text(
     alloc: Global,
     unit: Option<&[u8]>,
@@ -109,7 +109,7 @@ pub(crate) fn make_file_text(
 
 /// The text of the file that is the unit's own name, empty where it has none.
 ///
-/// Refused for want of memory alone.
+/// Fails only where a growth is refused.
 pub(crate) fn make_own_text(
     alloc: Global,
     unit: Option<&[u8]>,

@@ -12,7 +12,7 @@ ghost use Rattle.addr2line_lines.specs.Spans.{row_address, row_in, EachAddressHa
 use crate::row::Row;
 use crate::sequence::LineSequence;
 
-/// The last of the sequences that start by the probe. Takes no memory.
+/// The last of the sequences that start at or below the probe. Takes no memory.
 pub(crate) fn last_sequence(sequences: &[LineSequence], probe: u64) -> Option<&LineSequence>
     requires ordered { IsNonDecreasingBy start_of sequences.now }
     ensures found { option_copied result ≡ last (at_or_below start_of probe sequences.now) }
@@ -21,7 +21,7 @@ pub(crate) fn last_sequence(sequences: &[LineSequence], probe: u64) -> Option<&L
     sequences[..by].last()
 }
 
-// The last of the rows that stand by the probe.
+// The last of the rows at or below the probe.
 fn last_row(rows: &[Row], probe: u64) -> Option<&Row>
     requires ordered { IsNonDecreasingBy row_address rows.now }
     ensures found { option_copied result ≡ last (at_or_below row_address probe rows.now) }

@@ -20,7 +20,7 @@ use std::marker::Model;
 pub struct LineSequence {
     /// The address of the first row.
     pub start: u64,
-    /// The address behind the last one that the sequence stands for.
+    /// The end address, which is no longer of the sequence.
     pub end: u64,
     /// The rows.
     pub rows: Vec<Row>,

@@ -188,7 +188,7 @@ fn line_0_gives_neither_line_nor_column(rt: HostRuntime) -> Result<(), Fail> {
         column: 5,
         ..row(0x10, 0)
     };
-    // Of a line and a column the low 32 bits are kept.
+    // Of a line and a column the low 32 bits count.
     let far = LineRow {
         column: 0x2_0000_0005,
         ..row(0x20, 0x1_0000_0007)

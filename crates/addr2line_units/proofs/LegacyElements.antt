@@ -1,4 +1,4 @@
--- Elements behind their lengths: the relation and the function agree.
+-- Elements after their lengths: the relation and the function agree.
 use Rattle.std.proofs.Common.{◌≡◌, ◌∙◌, ◌<◌, ◌+◌, ℕ, zero, suc, true, false, cond, ◌&&◌, Some, None, List, [], ◌∷◌, ◌++◌, take, drop, length, length-append, take-append-drop, ap, sym, subst, refl, arith, ltb-true, lt-ltb, le-leb}
 use Rattle.std.specs.Prelude.{nat_lt, if◌then◌else◌}
 use Rattle.std.specs.Char.{is_ascii, is_ascii_digit}

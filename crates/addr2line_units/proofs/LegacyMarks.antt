@@ -63,7 +63,7 @@ no_mark_in_nothing : (front rest : List ℕ) → IsFirstMark [] front rest → �
 no_mark_in_nothing [] rest m = let e : [] ≡ llvm_mark ++ rest = m.whole in cc
 no_mark_in_nothing (f ∷ fs) rest m = let e : [] ≡ f ∷ (fs ++ (llvm_mark ++ rest)) = m.whole in cc
 
--- no first mark stands behind a byte where one stands first
+-- no first mark follows a byte where one stands first
 nothing_before : (bytes front rest : List ℕ) → starts_with nat_eq bytes llvm_mark ≡ true → IsFirstMark bytes front rest → front ≡ []
 nothing_before bytes [] rest here m = refl
 nothing_before bytes (f ∷ fs) rest here m =
@@ -145,7 +145,7 @@ prefix_case name prefix rest other is next h =
 no_some : (rest : List ℕ) (P : Type 0) → None ≡ Some rest → P
 no_some rest P h = let bad : ⊥ = cc in absurd bad
 
--- what stands behind a prefix, as the function finds it
+-- what follows a prefix, as the function finds it
 pub prefix_found : (name rest : List ℕ) → without_prefix name ≡ Some rest → (p : List ℕ) × IsPrefix p × (name ≡ p ++ rest)
 unfolding without_prefix
 prefix_found name rest h =
@@ -153,7 +153,7 @@ prefix_found name rest h =
     (prefix_case name (codes "ZN") rest _ (inr (inl refl))
     (prefix_case name (codes "__ZN") rest None (inr (inr refl)) (no_some rest _))) h
 
--- the function finds what stands behind a prefix
+-- the function finds what follows a prefix
 pub prefix_read : (prefix rest : List ℕ) → IsPrefix prefix → without_prefix (prefix ++ rest) ≡ Some rest
 unfolding without_prefix
 prefix_read prefix rest is =

@@ -112,7 +112,7 @@ elements_fuel (suc n) (suc m) text a b =
           ap (λ p. (e.0 ∷ p.0, p.1)) (elements_fuel n m e.1 (omega arith) (omega arith))
     ] refl
 
--- the elements behind a first one
+-- the elements after a first one
 pub elements_some : (text element rest : List ℕ) → element_at text ≡ Some (element, rest)
     → elements_at text ≡ (element ∷ (elements_at rest).0, (elements_at rest).1)
 unfolding elements_at
@@ -145,7 +145,7 @@ plain_skip zero bytes = refl
 plain_skip (suc n) [] = refl
 plain_skip (suc n) (b ∷ bs) = plain_skip n bs
 
--- an escape behind a dollar
+-- an escape after a dollar
 pub escape_shown : (old new rest : List ℕ) (c n : ℕ) → escape_in rest ≡ Some (c, n) → new ≡ old ++ encode_utf8 c
     → new ++ plain_from 0 (drop n rest) ≡ old ++ plain_from 0 (36 ∷ rest)
 escape_shown old new rest c n e h =
@@ -154,7 +154,7 @@ escape_shown old new rest c n e h =
     ∙ ap (λ s. old ++ (encode_utf8 c ++ s)) (sym (plain_skip n rest))
     ∙ sym (ap (λ o. old ++ escape_text o rest (λ k. plain_from k rest)) e)
 
--- no escape behind a dollar
+-- no escape after a dollar
 pub escape_none : (old mid new rest : List ℕ) → escape_in rest ≡ None → mid ≡ old ++ (36 ∷ []) → new ≡ mid ++ rest
     → new ++ plain_from 0 (drop (length rest) rest) ≡ old ++ plain_from 0 (36 ∷ rest)
 escape_none old mid new rest e a b =
@@ -186,7 +186,7 @@ plain_end old (b ∷ bs) all e h = absurd (omega arith)
 
 pub ruleset plain_steps = (escape_shown, escape_none, dots_shown, byte_shown, text_drop, plain_end)
 
--- the texts that are left to add, behind colons unless none was added before
+-- the texts that are left to add, after colons unless none was added before
 abbrev pub texts_from : Bool → List (List ℕ) → List ℕ
 texts_from true texts = joined texts
 texts_from false texts = behind_colons texts
@@ -202,7 +202,7 @@ texts_nil : (first : Bool) → texts_from first [] ≡ []
 texts_nil true = refl
 texts_nil false = refl
 
--- an element is kept where it is no hash, or where another stands after it
+-- an element stays where it is no hash, or where another stands after it
 kept_alone : (element : List ℕ) (elements : List (List ℕ)) → is_hash element ≡ false → without_hash (element ∷ elements) ≡ element ∷ without_hash elements
 kept_alone element [] h = ap (λ q. if q then [] else element ∷ []) h
 kept_alone element (e ∷ es) h = refl

@@ -6,9 +6,9 @@ use Rattle.gimli_read.specs.declared.error.Error.{Error}
 use Rattle.gimli_read.specs.Section.{Section}
 use Rattle.gimli_read.specs.Reading.{◌>>=◌, ExactlyUnlessOom}
 use Rattle.gimli_read.specs.Yields.{next_given}
-use Rattle.gimli.specs.declared.unit.UnitHeader.{UnitHeader}
+use Rattle.gimli.specs.Header.{UnitHeaderFields}
 use Rattle.gimli.specs.Sections.{Sections}
-use Rattle.gimli.specs.Unit.{UnitRecord, seen_unit}
+use Rattle.gimli.specs.Unit.{UnitRecord}
 use Rattle.addr2line_lines.specs.InOrder.{in_order}
 use Rattle.addr2line_lines.specs.UnitLines.{unit_lines}
 use Rattle.addr2line_lines.specs.Location.{LineTable as Lines, Location, location_at}
@@ -17,7 +17,7 @@ use Rattle.addr2line_units.specs.declared.unit.ResUnit.{ResUnit}
 use Rattle.addr2line_units.specs.declared.unit.LazyLines.TheVariants.{Unread, Read, Faulty}
 use Rattle.addr2line_units.specs.UnitIndex.{UnitIndex, with_unit, index_units, ends_sooner}
 use Rattle.addr2line_units.specs.Located.{along, or_along, location_along}
-use Rattle.addr2line_units.specs.CachedLines.{AreLinesOf, cached_answer, lines_answer, cached_lines, is_uncached, range_holds, seen_index, cached_location_at}
+use Rattle.addr2line_units.specs.CachedLines.{AreLinesOf, cached_answer, lines_answer, cached_lines, is_uncached, range_holds, unit_index_of, cached_location_at}
 
 -- lines that were read before are those of the unit
 pub cached_before : (d : Sections) (u : UnitRecord) (l : LazyLines) → AreLinesOf d u l → is_uncached l ≡ false → cached_answer l ≡ lines_answer d u
@@ -26,11 +26,11 @@ cached_before d u (Read lines) h e = ap (λ r. r >>= λ x. Ok (Some x)) (sym h)
 cached_before d u (Faulty x) h e = ap (λ r. r >>= λ x. Ok (Some x)) (sym h)
 
 -- what is left to make after a header was given
-pub unit_index-next : (d : Sections) (m : UnitIndex) (left rest : List (Result (UnitHeader Section) Error)) (h : UnitHeader Section) → next_given left ≡ Ok (Some h, rest) → index_units d m left ≡ (with_unit d m h >>= λ more. index_units d more rest)
+pub unit_index-next : (d : Sections) (m : UnitIndex) (left rest : List (Result (UnitHeaderFields) Error)) (h : UnitHeaderFields) → next_given left ≡ Ok (Some h, rest) → index_units d m left ≡ (with_unit d m h >>= λ more. index_units d more rest)
 unfolding index_units
 unit_index-next d m [] rest h e = absurd (none_some e)
   where
-    first : Result (Option (UnitHeader Section) × List (Result (UnitHeader Section) Error)) Error → Option (UnitHeader Section)
+    first : Result (Option (UnitHeaderFields) × List (Result (UnitHeaderFields) Error)) Error → Option (UnitHeaderFields)
     first (Ok x) = x.0
     first (Err x) = None
 
@@ -42,21 +42,21 @@ unit_index-next d m (Ok x ∷ xs) rest h e =
     let left-is : xs ≡ rest = ap second e in
     ap (λ y. with_unit d m y >>= λ more. index_units d more xs) x-is ∙ ap (λ ys. with_unit d m h >>= λ more. index_units d more ys) left-is
   where
-    first : Result (Option (UnitHeader Section) × List (Result (UnitHeader Section) Error)) Error → Option (UnitHeader Section)
+    first : Result (Option (UnitHeaderFields) × List (Result (UnitHeaderFields) Error)) Error → Option (UnitHeaderFields)
     first (Ok y) = y.0
     first (Err y) = None
 
-    second : Result (Option (UnitHeader Section) × List (Result (UnitHeader Section) Error)) Error → List (Result (UnitHeader Section) Error)
+    second : Result (Option (UnitHeaderFields) × List (Result (UnitHeaderFields) Error)) Error → List (Result (UnitHeaderFields) Error)
     second (Ok y) = y.1
     second (Err y) = xs
 unit_index-next d m (Err x ∷ xs) rest h e = cc
 
-pub unit_index-end : (d : Sections) (m : UnitIndex) (left rest : List (Result (UnitHeader Section) Error)) → next_given left ≡ Ok (None, rest) → index_units d m left ≡ Ok m
+pub unit_index-end : (d : Sections) (m : UnitIndex) (left rest : List (Result (UnitHeaderFields) Error)) → next_given left ≡ Ok (None, rest) → index_units d m left ≡ Ok m
 unfolding index_units
 unit_index-end d m [] rest e = refl
 unit_index-end d m (Ok x ∷ xs) rest e = absurd (some_none e)
   where
-    first : Result (Option (UnitHeader Section) × List (Result (UnitHeader Section) Error)) Error → Option (UnitHeader Section)
+    first : Result (Option (UnitHeaderFields) × List (Result (UnitHeaderFields) Error)) Error → Option (UnitHeaderFields)
     first (Ok y) = y.0
     first (Err y) = None
 
@@ -64,7 +64,7 @@ unit_index-end d m (Ok x ∷ xs) rest e = absurd (some_none e)
     some_none k = let same : Some x ≡ None = ap first k in cc
 unit_index-end d m (Err x ∷ xs) rest e = cc
 
-pub unit_index-fault : (d : Sections) (m : UnitIndex) (left : List (Result (UnitHeader Section) Error)) (f : Error) → next_given left ≡ Err f → index_units d m left ≡ Err f
+pub unit_index-fault : (d : Sections) (m : UnitIndex) (left : List (Result (UnitHeaderFields) Error)) (f : Error) → next_given left ≡ Err f → index_units d m left ≡ Err f
 unfolding index_units
 unit_index-fault d m [] f e = cc
 unit_index-fault d m (Ok x ∷ xs) f e = cc
@@ -89,14 +89,14 @@ gives_on view h (Ok x) given k = ap (λ y. y >>= λ z. Ok (h z)) k
 gives_on view h (Err e) given k = λ ne. ap (λ y. y >>= λ z. Ok (h z)) (k ne)
 
 -- one unit's fault is that of all
-pub step-fault : (d : Sections) (m : UnitIndex) (left rest : List (Result (UnitHeader Section) Error)) (h : UnitHeader Section) (e : Error) → next_given left ≡ Ok (Some h, rest) → with_unit d m h ≡ Err e → index_units d m left ≡ Err e
+pub step-fault : (d : Sections) (m : UnitIndex) (left rest : List (Result (UnitHeaderFields) Error)) (h : UnitHeaderFields) (e : Error) → next_given left ≡ Ok (Some h, rest) → with_unit d m h ≡ Err e → index_units d m left ≡ Err e
 step-fault d m left rest h e n k = unit_index-next d m left rest h n ∙ ap (λ r. r >>= λ more. index_units d more rest) k
 
-pub step-unit_index : (d : Sections) (m more : UnitIndex) (left rest : List (Result (UnitHeader Section) Error)) (h : UnitHeader Section) → next_given left ≡ Ok (Some h, rest) → with_unit d m h ≡ Ok more → index_units d more rest ≡ index_units d m left
+pub step-unit_index : (d : Sections) (m more : UnitIndex) (left rest : List (Result (UnitHeaderFields) Error)) (h : UnitHeaderFields) → next_given left ≡ Ok (Some h, rest) → with_unit d m h ≡ Ok more → index_units d more rest ≡ index_units d m left
 step-unit_index d m more left rest h n k = sym (unit_index-next d m left rest h n ∙ ap (λ r. r >>= λ y. index_units d y rest) k)
 
--- what is found of a unit whose lines are kept by now
-pub found_again : {R : Type 0} (see : R → Section) (d : Sections) (probe : ℕ) (old new : ResUnit R) (result : Result (Unit {0}) Error) → range_holds probe old.range ≡ true → new.range ≡ old.range → ExactlyUnlessOom (λ _. cached_lines new.lines) result (lines_answer d (seen_unit see old.dw_unit)) → ExactlyUnlessOom (λ _. cached_location_at probe (Some new)) result (location_along d (seen_index see (Some old)) probe)
-found_again see d probe old new result h same k =
+-- what is found of a unit whose lines are cached by now
+pub found_again : {R : Type 0} (d : Sections) (probe : ℕ) (old new : ResUnit R) (result : Result (Unit {0}) Error) → range_holds probe old.range ≡ true → new.range ≡ old.range → ExactlyUnlessOom (λ _. cached_lines new.lines) result (lines_answer d old.dw_unit) → ExactlyUnlessOom (λ _. cached_location_at probe (Some new)) result (location_along d (unit_index_of (Some old)) probe)
+found_again d probe old new result h same k =
     let kept : cached_location_at probe (Some new) ≡ option_and_then (λ (l : Lines). location_at probe l) (cached_lines new.lines) = ap (λ b. if b then option_and_then (λ (l : Lines). location_at probe l) (cached_lines new.lines) else None) (ap (range_holds probe) same ∙ h) in
-    rw (kept, found_covered d (seen_unit see old.dw_unit) probe old.range h) (gives_on (λ _. cached_lines new.lines) (λ l. option_and_then (λ (x : Lines). location_at probe x) l) result _ k)
+    rw (kept, found_covered d old.dw_unit probe old.range h) (gives_on (λ _. cached_lines new.lines) (λ l. option_and_then (λ (x : Lines). location_at probe x) l) result _ k)

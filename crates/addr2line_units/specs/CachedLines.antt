@@ -8,7 +8,7 @@ use Rattle.gimli_read.specs.declared.error.Error.TheVariants.{OutOfMemory}
 use Rattle.gimli_read.specs.Section.{Section}
 use Rattle.gimli_read.specs.Reading.{◌>>=◌}
 use Rattle.gimli.specs.Sections.{Sections}
-use Rattle.gimli.specs.Unit.{UnitRecord, seen_unit}
+use Rattle.gimli.specs.Unit.{UnitRecord}
 use Rattle.addr2line_lines.specs.Location.{LineTable as Lines, Location, location_at}
 use Rattle.addr2line_lines.specs.UnitLines.{unit_lines}
 use Rattle.addr2line_units.specs.declared.unit.LazyLines.{LazyLines}
@@ -52,14 +52,14 @@ abbrev pub lines_answer : Sections → UnitRecord → Result (Option Lines) Erro
 lines_answer d u = unit_lines d u >>= λ lines. Ok (Some lines)
 
 -- the index of the unit that a context has, with the range that leads to it
-abbrev pub seen_index : {R : Type 0} → (R → Section) → Option (ResUnit R) → UnitIndex
-seen_index see None = record { units = []; ranges = [] }
-seen_index see (Some k) = record { units = seen_unit see k.dw_unit ∷ []; ranges = map (λ (r : Range). record { unit = 0; range = r }) (option_to_list k.range) }
+abbrev pub unit_index_of : {R : Type 0} → Option (ResUnit R) → UnitIndex
+unit_index_of None = record { units = []; ranges = [] }
+unit_index_of (Some k) = record { units = k.dw_unit ∷ []; ranges = map (λ (r : Range). record { unit = 0; range = r }) (option_to_list k.range) }
 
 -- its cached lines
-abbrev pub HasLinesOf : {R : Type 0} → (R → Section) → Sections → Option (ResUnit R) → Type 0
-HasLinesOf see d None = Unit {0}
-HasLinesOf see d (Some k) = AreLinesOf d (seen_unit see k.dw_unit) k.lines
+abbrev pub HasLinesOf : {R : Type 0} → Sections → Option (ResUnit R) → Type 0
+HasLinesOf d None = Unit {0}
+HasLinesOf d (Some k) = AreLinesOf d k.dw_unit k.lines
 
 -- what is cached of it, nothing where there is no unit
 abbrev pub lines_in_cache : {R : Type 0} → Option (ResUnit R) → LazyLines

@@ -1,5 +1,5 @@
 -- Legacy names of Rust: which texts are such names, and the text that a name stands for.
--- Source: the mangling that rustc calls legacy: a prefix, elements behind their decimal lengths, `E`, a suffix.
+-- Source: the mangling that rustc calls legacy: a prefix, elements after their decimal lengths, `E`, a suffix.
 -- Own: one element at least; a suffix is empty, or begins with a dot and has only ASCII letters, digits and
 -- punctuation.
 use Rattle.std.specs.Prelude.{◌≡◌, ◌≢◌, ◌<◌, ◌≤◌, ◌==◌, ◌||◌, ◌&&◌, ◌⊎◌, ℕ, Bool, true, false, List, [], ◌∷◌, ◌++◌, length, codes, encode_utf8}
@@ -57,7 +57,7 @@ pub record IsElement (digits element rest : List ℕ) : Type 0 where
   pub counted : digits_value 10 digits ≡ length element
   pub is_text : list_all is_ascii element ≡ true
 
--- the text is the elements, each behind its length, and then the rest
+-- the text is the elements, each after its length, and then the rest
 abbrev pub AreElements : List (List ℕ) → List ℕ → List ℕ → Type 0
 AreElements [] text rest = text ≡ rest
 AreElements (element ∷ elements) text rest =
@@ -83,7 +83,7 @@ pub data IsEscape : List ℕ → ℕ → Type 0 where
       → IsScalar (digits_value 16 digits) → is_control (digits_value 16 digits) ≡ false
       → IsEscape (117 ∷ digits) (digits_value 16 digits)
 
--- what stands behind a dollar begins with no escape
+-- what follows a dollar begins with no escape
 abbrev pub NoEscape : List ℕ → Type 0
 NoEscape bytes = (escape rest : List ℕ) (c : ℕ) → IsEscape escape c → bytes ≢ escape ++ (36 ∷ rest)
 

@@ -15,7 +15,7 @@ without_llvm (b ∷ bs) = if starts_with nat_eq (b ∷ bs) llvm_mark
     then (if list_all is_llvm_byte (drop 6 (b ∷ bs)) then [] else b ∷ bs)
     else b ∷ without_llvm bs
 
--- the name behind its prefix
+-- the name after its prefix
 unfoldable pub without_prefix : List ℕ → Option (List ℕ)
 without_prefix name = if starts_with nat_eq name (codes "_ZN") then Some (drop 3 name)
     else if starts_with nat_eq name (codes "ZN") then Some (drop 2 name)
@@ -27,7 +27,7 @@ abbrev pub ascii_front : ℕ → List ℕ → Option (List ℕ × List ℕ)
 ascii_front n bytes =
     if nat_le n (length bytes) && list_all is_ascii (take n bytes) then Some (take n bytes, drop n bytes) else None
 
--- the element behind its decimal length, and what follows it
+-- the element after its decimal length, and what follows it
 unfoldable pub element_at : List ℕ → Option (List ℕ × List ℕ)
 element_at text =
     let n = prefix_len is_ascii_digit text in
@@ -57,7 +57,7 @@ without_hash (e ∷ f ∷ es) = e ∷ without_hash (f ∷ es)
 abbrev pub shown_char : ℕ → Option ℕ
 shown_char n = if (nat_lt n 0xD800 || (nat_le 0xE000 n && nat_lt n 0x11_0000)) && not (is_control n) then Some n else None
 
--- the character that stands behind `u`
+-- the character that the digits after `u` name
 abbrev pub numbered_char : List ℕ → Option ℕ
 numbered_char [] = None
 numbered_char (b ∷ digits) =
@@ -75,7 +75,7 @@ escape_char body = if bytes_eq body (codes "SP") then Some 64
     else if bytes_eq body (codes "C") then Some 44
     else numbered_char body
 
--- the escape behind a dollar: its character, and how many bytes it takes
+-- the escape after a dollar: its character, and how many bytes it takes
 unfoldable pub escape_in : List ℕ → Option (ℕ × ℕ)
 escape_in rest =
     option_and_then (λ k. option_map (λ c. (c, k + 1)) (escape_char (take k rest))) (position (λ b. b == 36) rest)
@@ -106,7 +106,7 @@ bare_of element = if starts_with nat_eq element (codes "_$") then drop 1 element
 unfoldable pub element_text : List ℕ → List ℕ
 element_text element = plain_from 0 (bare_of element)
 
--- a text, behind two colons unless it is the first
+-- a text, after two colons unless it is the first
 abbrev pub joint_text : Bool → List ℕ → List ℕ
 joint_text true text = text
 joint_text false text = 58 ∷ 58 ∷ text
@@ -120,12 +120,12 @@ abbrev pub is_suffix : List ℕ → Bool
 is_suffix [] = true
 is_suffix (b ∷ bs) = b == 46 && list_all is_suffix_byte (b ∷ bs)
 
--- the suffix behind the `E`
+-- the suffix after the `E`
 unfoldable pub suffix_at : List ℕ → Option (List ℕ)
 suffix_at [] = None
 suffix_at (b ∷ bs) = if b == 69 && is_suffix bs then Some bs else None
 
--- the text of what stands behind the prefix
+-- the text of what follows the prefix
 unfoldable pub spelled_text : List ℕ → Option (List ℕ)
 spelled_text text =
     option_and_then (λ _. option_map (λ suffix. elements_text text ++ suffix) (suffix_at (elements_at text).1)) (element_at text)

@@ -1,6 +1,6 @@
--- What a context is made of: the units that it keeps, and the ranges of addresses that lead to them
+-- The index of a context: its units, and the ranges of addresses that lead to them
 -- (DWARF 5, sections 2.17, 3.1 and 6.1.2).
--- Own: a type unit is passed over, and so is a unit whose record is faulty; a partial unit of version 5 is kept with
+-- Own: a type unit is passed over, and so is a unit whose record is faulty; a partial unit of version 5 has
 -- no range. The first fault of a header, or of a unit's range attributes, refuses the context.
 -- limit: no range list, no .debug_aranges and no line sequences are read for ranges yet
 use Rattle.std.specs.Prelude.{ℕ, nat_lt, nat_le, Bool, true, false, ◌&&◌, List, [], ◌∷◌, ◌++◌, length, map, filter, Result, Ok, Err, if◌then◌else◌}
@@ -11,19 +11,19 @@ use Rattle.gimli_read.specs.Section.{Section}
 use Rattle.gimli_read.specs.Reading.{◌>>=◌}
 use Rattle.gimli.specs.declared.unit.UnitType.{UnitType}
 use Rattle.gimli.specs.declared.unit.UnitType.TheVariants.{TypeUnit, Partial, SplitType}
-use Rattle.gimli.specs.declared.unit.UnitHeader.{UnitHeader}
+use Rattle.gimli.specs.Header.{UnitHeaderFields}
 use Rattle.gimli.specs.Sections.{Sections}
 use Rattle.gimli.specs.Unit.{UnitRecord, unit_of}
 use Rattle.gimli.specs.UnitsLeft.{all_headers}
 use Rattle.addr2line_lines.specs.InOrder.{in_order}
 use Rattle.addr2line_lines.specs.RangeAttributes.{root_range_attributes, ranges_of}
 
--- a range that leads to a unit, by its place among those kept
+-- a range that leads to a unit, by its place in the index
 pub record UnitRange : Type 0 where
   pub unit : ℕ
   pub range : Range
 
--- the units that are kept, and the ranges that lead to them
+-- the units, and the ranges that lead to them
 pub record UnitIndex : Type 0 where
   pub units : List UnitRecord
   pub ranges : List UnitRange
@@ -47,12 +47,12 @@ is_partial _ = false
 abbrev pub unit_ranges : Sections → UnitRecord → Result (List Range) Error
 unit_ranges d u = if is_partial u.header.unit_type then Ok [] else (root_range_attributes d u >>= λ r. Ok (ranges_of r))
 
--- whether a unit is kept already
+-- whether there is a unit already
 abbrev pub has_unit : UnitIndex → Bool
 has_unit m = nat_lt 0 (length m.units)
 
--- a unit with its ranges behind those that are kept
--- limit: only the first one is kept yet
+-- a unit with its ranges after those that are there
+-- limit: only the first unit is in the index yet
 abbrev pub with_indexed : UnitIndex → UnitRecord → List Range → UnitIndex
 with_indexed m u ranges =
     if has_unit m then m
@@ -64,11 +64,11 @@ with_record d m (Err e) = Ok m
 with_record d m (Ok u) = unit_ranges d u >>= λ ranges. Ok (with_indexed m u ranges)
 
 -- one more unit
-unfoldable pub with_unit : Sections → UnitIndex → UnitHeader Section → Result UnitIndex Error
+unfoldable pub with_unit : Sections → UnitIndex → UnitHeaderFields → Result UnitIndex Error
 with_unit d m h = if is_type_unit h.unit_type then Ok m else with_record d m (unit_of d h)
 
 -- the units of headers, each whole before the next header, up to the first fault
-unfoldable pub index_units : Sections → UnitIndex → List (Result (UnitHeader Section) Error) → Result UnitIndex Error
+unfoldable pub index_units : Sections → UnitIndex → List (Result (UnitHeaderFields) Error) → Result UnitIndex Error
 index_units d m [] = Ok m
 index_units d m (Ok h ∷ rest) = with_unit d m h >>= λ more. index_units d more rest
 index_units d m (Err e ∷ rest) = Err e

@@ -13,7 +13,7 @@ use std::borrow::CowStr;
 
 /// The text of a legacy name of Rust, and `None` for any other name and in any other language.
 ///
-/// A legacy name is `_ZN`, `ZN` or `__ZN`, one or more elements, each behind its decimal length,
+/// A legacy name is `_ZN`, `ZN` or `__ZN`, one or more elements, each after its decimal length,
 /// `E`, and a suffix, which is empty or begins with a dot. Its text is the elements with `::`
 /// between them and their escapes read, without a last one that is a hash, and then the suffix.
 /// Refused `OutOfMemory` alone. Takes no memory where the answer is `None`.

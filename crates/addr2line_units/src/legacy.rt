@@ -16,9 +16,9 @@ use std::alloc::AllocError;
 /// The parts of a legacy name that its text is made of.
 #[derive(Clone, Copy)]
 pub(crate) struct LegacyName<'a> {
-    /// The elements behind their lengths; what stands after them isn't read.
+    /// The elements after their lengths; what follows them isn't read.
     elements: &'a [u8],
-    /// What stands behind the `E`, all of it ASCII.
+    /// What follows the `E`, all of it ASCII.
     suffix: &'a [u8],
 }
 
@@ -83,7 +83,7 @@ fn strip_llvm(name: &[u8]) -> &[u8]
     name
 }
 
-/// What stands behind the prefix.
+/// What follows the prefix.
 #[tactic(auto, unfolding(crate::specs::LegacyText::without_prefix))]
 fn strip_start(name: &[u8]) -> Option<&[u8]>
     ensures { MatchOption result (without_prefix name.now ≡ None)
@@ -116,7 +116,7 @@ fn split_ascii(bytes: &[u8], len: u64) -> Option<(&[u8], &[u8])>
     }
 }
 
-/// The element behind its decimal length, and what follows it.
+/// The element after its decimal length, and what follows it.
 #[tactic(auto, unfolding(crate::specs::LegacyText::element_at))]
 fn element_in(text: &[u8]) -> Option<(&[u8], &[u8])>
     ensures gives { MatchOption result (element_at text.now ≡ None)
@@ -153,7 +153,7 @@ fn may_follow(text: &[u8]) -> bool
     }
 }
 
-/// The suffix behind the `E`.
+/// The suffix after the `E`.
 #[tactic(auto, using(crate::proofs::LegacySteps::suffix_is_text), unfolding(crate::specs::LegacyText::suffix_at))]
 fn suffix_in(rest: &[u8]) -> Option<&[u8]>
     ensures gives { MatchOption result (suffix_at rest.now ≡ None)

@@ -3,14 +3,11 @@
 ghost use Rattle.std.specs.Prelude.{◌≡◌, ◌≢◌, false, true, Ok, Err, OnOk, OnErr, IfOk, IfErr, option_map, option_copied};
 ghost use Rattle.std.specs.Option.{option_to_list};
 ghost use Rattle.gimli_read.specs.Reading.{ExactlyUnlessOom, Exactly};
-ghost use Rattle.gimli.specs.Header.{seen_header};
-ghost use Rattle.gimli.specs.Sections.{seen_dwarf};
-ghost use Rattle.gimli.specs.Unit.{seen_unit};
 ghost use Rattle.addr2line_units.specs.UnitIndex.{is_type_unit, is_partial, unit_ranges, with_unit, index_units, unit_index};
 ghost use Rattle.gimli_read.specs.declared.error.Error.TheVariants.{OutOfMemory};
 ghost use Rattle.addr2line_lines.specs.SeenLocation.{seen_location};
 ghost use Rattle.addr2line_units.specs.Located.{location_along};
-ghost use Rattle.addr2line_units.specs.CachedLines.{AreLinesOf, HasLinesOf, StaysCached, CachesAnswer, seen_index, cached_answer, lines_answer, lines_in_cache, cached_lines, is_uncached, range_holds, unit_holds, cached_location_at};
+ghost use Rattle.addr2line_units.specs.CachedLines.{AreLinesOf, HasLinesOf, StaysCached, CachesAnswer, unit_index_of, cached_answer, lines_answer, lines_in_cache, cached_lines, is_uncached, range_holds, unit_holds, cached_location_at};
 
 use addr2line_lines::{Lines, Location, read_root_ranges};
 use gimli::read::{Error, Range, Reader};
@@ -30,7 +27,7 @@ pub enum LazyLines {
 
 /// A unit of a context.
 #[derive(Drop)]
-pub struct ResUnit<R> {
+pub struct ResUnit<R: Reader> {
     /// The unit.
     pub dw_unit: Unit<R>,
     /// The addresses that lead to it.
@@ -41,7 +38,7 @@ pub struct ResUnit<R> {
 
 /// The units of a context: of those whose record can be read the first.
 #[derive(Drop)]
-pub struct ResUnits<R> {
+pub struct ResUnits<R: Reader> {
     /// The unit, where there is one.
     pub unit: Option<ResUnit<R>>,
 }
@@ -63,7 +60,7 @@ fn is_partial(unit_type: UnitType) -> bool
 // The range of a unit, if it has one.
 fn read_unit_range<R: Reader>(dwarf: &Dwarf<R>, unit: &Unit<R>) -> Result<Option<Range>, Error>
     ensures gives { ExactlyUnlessOom option_to_list result
-        (unit_ranges (seen_dwarf R.section dwarf.now) (seen_unit R.section unit.now)) }
+        (unit_ranges dwarf.now unit.now) }
 {
     if is_partial(unit.header.type_()) {
         return Ok(None);
@@ -80,10 +77,10 @@ fn take_unit<R: Reader>(
     header: UnitHeader<R>,
     kept: Option<ResUnit<R>>,
 ) -> Result<Option<ResUnit<R>>, Error>
-    requires read { HasLinesOf R.section (seen_dwarf R.section dwarf.now) kept }
-    ensures gives { ExactlyUnlessOom (seen_index R.section) result (with_unit (seen_dwarf R.section dwarf.now)
-        (seen_index R.section kept) (seen_header R.section header)) }
-    ensures read { IfOk result (HasLinesOf R.section (seen_dwarf R.section dwarf.now)) }
+    requires read { HasLinesOf dwarf.now kept }
+    ensures gives { ExactlyUnlessOom (unit_index_of R.section) result (with_unit dwarf.now
+        (unit_index_of kept) header) }
+    ensures read { IfOk result (HasLinesOf dwarf.now) }
 {
     if is_type_unit(header.type_()) {
         return Ok(kept);
@@ -111,9 +108,9 @@ impl<R: Reader> ResUnits<R> {
     /// the next header, and `OutOfMemory`. A type unit and a unit whose record is faulty are passed
     /// over.
     pub fn parse(alloc: Global, dwarf: &Dwarf<R>) -> Result<ResUnits<R>, Error>
-        ensures gives { ExactlyUnlessOom (λ u. seen_index R.section u.unit) result
-            (unit_index (seen_dwarf R.section dwarf.now)) }
-        ensures read { IfOk result (λ u. HasLinesOf R.section (seen_dwarf R.section dwarf.now) u.unit) }
+        ensures gives { ExactlyUnlessOom (λ u. unit_index_of u.unit) result
+            (unit_index dwarf.now) }
+        ensures read { IfOk result (λ u. HasLinesOf dwarf.now u.unit) }
     {
         let mut headers = dwarf.units()?;
         let mut unit = None;
@@ -131,9 +128,9 @@ fn parse_lines<R: Reader>(
     unit: &Unit<R>,
 ) -> Result<LazyLines, Error>
     ensures gives { IfOk result (λ l. cached_answer l
-        ≡ lines_answer (seen_dwarf R.section dwarf.now) (seen_unit R.section unit.now)) }
+        ≡ lines_answer dwarf.now unit.now) }
     ensures read { IfOk result
-        (AreLinesOf (seen_dwarf R.section dwarf.now) (seen_unit R.section unit.now)) }
+        (AreLinesOf dwarf.now unit.now) }
     ensures cached { IfOk result (λ l. is_uncached l ≡ false) }
     ensures fault { IfOk result (λ l. cached_answer l ≢ Err OutOfMemory) }
     ensures refused { IfErr result (λ e. e ≡ OutOfMemory) }
@@ -185,10 +182,10 @@ impl<R: Reader> ResUnit<R> {
     // Caches the lines, or their fault, unless they are cached. Refused `OutOfMemory` alone.
     #[tactic(auto, using(crate::proofs::UnitLemmas::cached_before))]
     fn cache_lines(&mut self, alloc: Global, dwarf: &Dwarf<R>) -> Result<(), Error>
-        requires read { AreLinesOf (seen_dwarf R.section dwarf.now) (seen_unit R.section self.old.dw_unit)
+        requires read { AreLinesOf dwarf.now self.old.dw_unit
             self.old.lines }
         ensures gives { OnOk result (cached_answer self.new.lines
-            ≡ lines_answer (seen_dwarf R.section dwarf.now) (seen_unit R.section self.old.dw_unit)) }
+            ≡ lines_answer dwarf.now self.old.dw_unit) }
         ensures exact { is_uncached self.old.lines ≡ false → result ≡ Ok tt }
         ensures cached { OnOk result (is_uncached self.new.lines ≡ false) }
         ensures fault { is_uncached self.old.lines ≡ true → OnOk result
@@ -198,7 +195,7 @@ impl<R: Reader> ResUnit<R> {
         ensures memory { OnErr result (self.new.lines ≡ self.old.lines) }
         ensures unit { self.new.dw_unit ≡ self.old.dw_unit }
         ensures range { self.new.range ≡ self.old.range }
-        ensures read { AreLinesOf (seen_dwarf R.section dwarf.now) (seen_unit R.section self.new.dw_unit)
+        ensures read { AreLinesOf dwarf.now self.new.dw_unit
             self.new.lines }
     {
         if is_uncached(&self.lines) {
@@ -209,17 +206,17 @@ impl<R: Reader> ResUnit<R> {
 
     // Reads the lines, unless they are cached, and caches them, or their fault.
     fn read_lines(&mut self, alloc: Global, dwarf: &Dwarf<R>) -> Result<(), Error>
-        requires read { AreLinesOf (seen_dwarf R.section dwarf.now) (seen_unit R.section self.old.dw_unit)
+        requires read { AreLinesOf dwarf.now self.old.dw_unit
             self.old.lines }
         ensures gives { ExactlyUnlessOom (λ _. cached_lines self.new.lines) result
-            (lines_answer (seen_dwarf R.section dwarf.now) (seen_unit R.section self.old.dw_unit)) }
+            (lines_answer dwarf.now self.old.dw_unit) }
         ensures exact { is_uncached self.old.lines ≡ false → Exactly (λ _. cached_lines self.new.lines) result
-            (lines_answer (seen_dwarf R.section dwarf.now) (seen_unit R.section self.old.dw_unit)) }
+            (lines_answer dwarf.now self.old.dw_unit) }
         ensures stays { StaysCached self.old.lines self.new.lines }
         ensures caches { CachesAnswer self.old.lines result self.new.lines }
         ensures unit { self.new.dw_unit ≡ self.old.dw_unit }
         ensures range { self.new.range ≡ self.old.range }
-        ensures read { AreLinesOf (seen_dwarf R.section dwarf.now) (seen_unit R.section self.new.dw_unit)
+        ensures read { AreLinesOf dwarf.now self.new.dw_unit
             self.new.lines }
     {
         self.cache_lines(alloc, dwarf)?;
@@ -233,18 +230,18 @@ impl<R: Reader> ResUnits<R> {
     ///
     /// Refused by that fault; may fail with `OutOfMemory` instead, which is never cached.
     pub fn read_lines(&mut self, alloc: Global, dwarf: &Dwarf<R>, probe: u64) -> Result<(), Error>
-        requires read { HasLinesOf R.section (seen_dwarf R.section dwarf.now) self.old.unit }
+        requires read { HasLinesOf dwarf.now self.old.unit }
         ensures gives { ExactlyUnlessOom (λ _. cached_location_at probe self.new.unit) result
-            (location_along (seen_dwarf R.section dwarf.now) (seen_index R.section self.old.unit) probe) }
+            (location_along dwarf.now (unit_index_of self.old.unit) probe) }
         ensures exact { is_uncached (lines_in_cache self.old.unit) ≡ false → Exactly
             (λ _. cached_location_at probe self.new.unit) result (location_along
-            (seen_dwarf R.section dwarf.now) (seen_index R.section self.old.unit) probe) }
+            dwarf.now (unit_index_of self.old.unit) probe) }
         ensures stays { StaysCached (lines_in_cache self.old.unit) (lines_in_cache self.new.unit) }
         ensures caches { unit_holds probe self.old.unit ≡ true → CachesAnswer
             (lines_in_cache self.old.unit) result (lines_in_cache self.new.unit) }
         ensures uncovered { unit_holds probe self.old.unit ≡ false → (result ≡ Ok tt) × (self.new ≡ self.old) }
-        ensures units { seen_index R.section self.new.unit ≡ seen_index R.section self.old.unit }
-        ensures read { HasLinesOf R.section (seen_dwarf R.section dwarf.now) self.new.unit }
+        ensures units { unit_index_of self.new.unit ≡ unit_index_of self.old.unit }
+        ensures read { HasLinesOf dwarf.now self.new.unit }
     {
         match &mut self.unit {
             Some(unit) => {

@@ -30,7 +30,7 @@ fn char_of(number: u32) -> Option<char>
     }
 }
 
-/// The character that stands behind `u`.
+/// The character that the digits after `u` name.
 fn numbered(body: &[u8]) -> Option<char>
     ensures { result ≡ numbered_char body.now }
 {
@@ -75,7 +75,7 @@ fn dollar_in(bytes: &[u8]) -> Option<usize>
     bytes.iter().position(|b| *b == b'$')
 }
 
-/// The escape behind a dollar: its character, and how many bytes it takes.
+/// The escape after a dollar: its character, and how many bytes it takes.
 #[tactic(auto, unfolding(crate::specs::LegacyText::escape_in))]
 fn escape_behind(rest: &[u8]) -> Option<(char, usize)>
     ensures gives { result ≡ escape_in rest.now }
@@ -98,7 +98,7 @@ pub(super) fn push_ascii(out: &mut String, bytes: &[u8]) -> Result<(), AllocErro
     Ok(())
 }
 
-/// Adds the text of a dollar and what stands behind it, up to the answer, which is left.
+/// Adds the text of a dollar and what follows it, up to the answer, which is left.
 #[tactic(auto, using(crate::proofs::LegacySteps::plain_steps))]
 fn push_escape<'a>(out: &mut String, rest: &'a [u8]) -> Result<&'a [u8], AllocError>
     requires { list_all is_ascii rest.now ≡ true }
@@ -168,7 +168,7 @@ fn bare(element: &[u8]) -> &[u8]
     }
 }
 
-/// Adds the text of an element, behind two colons unless it is the first.
+/// Adds the text of an element, after two colons unless it is the first.
 #[tactic(auto, unfolding(crate::specs::LegacyText::element_text))]
 pub(super) fn push_element(
     out: &mut String,

@@ -1,0 +1,6 @@
+//! Worked cases, by what they show.
+
+mod context;
+mod lines;
+mod names;
+mod sections;

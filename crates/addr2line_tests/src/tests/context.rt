@@ -1,0 +1,122 @@
+//! Contexts: which sections make one, and what its lookups answer at each call.
+
+use super::sections::{ABBREV, INFO, INFO_WIDE, LINE, code_of, codes_of, context_of, dwarf_of};
+use addr2line::Context;
+use addr2line::gimli::read::{EndianSlice, Error};
+use addr2line_lines::{Lines, RangeAttributes, read_root_ranges};
+use gimli::UnitRef;
+use std::alloc::Global;
+use std::test::Fail;
+
+// The same unit, version 5.
+const INFO_V5: [u8; 32] = [
+    0x1c, 0x00, 0x00, 0x00, 0x05, 0x00, 0x01, 0x08, 0x00, 0x00, 0x00, 0x00, 0x01, 0x00, 0x00, 0x00,
+    0x00, 0x2f, 0x77, 0x00, 0x10, 0x00, 0x00, 0x00, 0x00, 0x00, 0x00, 0x00, 0x20, 0x00, 0x00, 0x00,
+];
+
+// Its line program, version 5.
+const LINE_V5: [u8; 68] = [
+    0x40, 0x00, 0x00, 0x00, 0x05, 0x00, 0x08, 0x00, 0x24, 0x00, 0x00, 0x00, 0x01, 0x01, 0x01, 0xfb,
+    0x0e, 0x0d, 0x00, 0x01, 0x01, 0x01, 0x01, 0x00, 0x00, 0x00, 0x01, 0x00, 0x00, 0x01, 0x01, 0x01,
+    0x08, 0x01, 0x2f, 0x77, 0x00, 0x02, 0x01, 0x08, 0x02, 0x0b, 0x01, 0x61, 0x2e, 0x63, 0x00, 0x00,
+    0x00, 0x09, 0x02, 0x10, 0x00, 0x00, 0x00, 0x00, 0x00, 0x00, 0x00, 0x04, 0x00, 0x01, 0xf4, 0x02,
+    0x10, 0x00, 0x01, 0x01,
+];
+
+const PROBES: [u64; 8] = [0xf, 0x10, 0x1f, 0x20, 0x2f, 0x30, 0x10, u64::MAX];
+
+// Lines 1 and 3 of "/w/a.c" at column 0.
+const FOUND: [u32; 8] = [
+    0, 1_001_000, 1_001_000, 1_003_000, 1_003_000, 0, 1_001_000, 0,
+];
+
+const NOTHING: [u32; 8] = [0; 8];
+
+// A fault of the unit's lines is given at each address of the unit, and again.
+const FAULT: [u32; 8] = [
+    0, 9_000_000, 9_000_000, 9_000_000, 9_000_000, 0, 9_000_000, 0,
+];
+
+#[test]
+fn lookups_over_three_sections(rt: HostRuntime) -> Result<(), Fail> {
+    let mut cut = LINE;
+    cut[53] = 0x7f;
+    let cases: [(&[u8], &[u8], &[u8], [u32; 8]); 5] = [
+        (&ABBREV, &INFO, &LINE, FOUND),
+        (&ABBREV, &INFO_V5, &LINE_V5, FOUND),
+        // No unit, and a unit whose record is faulty.
+        (&[], &[], &[], NOTHING),
+        (&ABBREV, &INFO, &[], NOTHING),
+        (&ABBREV, &INFO, &cut, FAULT),
+    ];
+    for (abbrev, info, line, want) in cases {
+        let context = context_of(rt.alloc(), abbrev, info, line)?;
+        assert_eq!(rt; codes_of(context, PROBES), want);
+    }
+    Ok(())
+}
+
+#[test]
+fn sections_in_one_value_answer_alike(rt: HostRuntime) -> Result<(), Fail> {
+    let context = Context::from_dwarf(rt.alloc(), dwarf_of(&ABBREV, &INFO, &LINE))?;
+    assert_eq!(rt; codes_of(context, PROBES), FOUND);
+    Ok(())
+}
+
+// How many bytes, from 1 on, the section can be cut to without UnexpectedEof.
+fn whole_cuts(alloc: Global) -> usize {
+    let mut whole = 0;
+    for len in 1..INFO.len() {
+        match context_of(alloc, &ABBREV, &INFO[..len], &LINE) {
+            Err(Error::UnexpectedEof) => {}
+            _ => whole += 1,
+        }
+    }
+    whole
+}
+
+#[test]
+fn a_unit_that_is_cut_refuses_the_context(rt: HostRuntime) {
+    assert_eq!(rt; whole_cuts(rt.alloc()), 0);
+}
+
+// The texts of the files 0 to 2, "none" where there is none, and the line at 0x20.
+fn files_and_line(lines: &Lines) -> ([&str; 3], Option<u32>) {
+    let files = [0, 1, 2].map(|index| lines.file(index).unwrap_or("none"));
+    (files, lines.find_location(0x20).and_then(|location| location.line))
+}
+
+#[test]
+fn the_lines_of_a_unit(rt: HostRuntime) -> Result<(), Fail> {
+    let dwarf = dwarf_of(&ABBREV, &INFO, &LINE);
+    let mut units = dwarf.units()?;
+    let header = units.next()?.ok_or("no unit")?;
+    let unit = dwarf.unit(rt.alloc(), header)?;
+    let lines = Lines::parse(rt.alloc(), &dwarf, &unit)?;
+    assert_eq!(rt; files_and_line(&lines), (["", "/w/a.c", "none"], Some(3)));
+    let range = read_root_ranges(UnitRef::new(&dwarf, &unit))?.range();
+    assert_eq!(rt; range.map(|range| [range.begin, range.end]), Some([0x10, 0x30]));
+    assert_eq!(rt; RangeAttributes::new().range().is_none(), true);
+    Ok(())
+}
+
+// A context's answers at two addresses, where it had memory: each growth of the calls is refused in turn by
+// `tools/refuse_growths`.
+fn retried(context: &mut Context<EndianSlice<'_>>) -> [u32; 2] {
+    let mut codes = [0; 2];
+    for (code, probe) in codes.iter_mut().zip([0x10, 0x20]) {
+        *code = match context.find_location(probe) {
+            Err(Error::OutOfMemory) => code_of(context, probe),
+            _ => code_of(context, probe),
+        };
+    }
+    codes
+}
+
+#[test]
+fn a_refused_growth_is_never_cached(rt: HostRuntime) {
+    match context_of(rt.alloc(), &ABBREV, &INFO_WIDE, &LINE) {
+        Ok(mut context) => assert_eq!(rt; retried(&mut context), [1_001_000, 1_003_000]),
+        Err(error) => assert_eq!(rt; error, Error::OutOfMemory),
+    }
+}

@@ -179,9 +179,9 @@ last_later : (e f : List ℕ) (es : List (List ℕ)) → ((front : List (List �
 last_later e f es none [] last h = let bad : f ∷ es ≡ [] = lists_tail e last (f ∷ es) [] h in let worse : ⊥ = cc in absurd worse
 last_later e f es none (x ∷ xs) last h = none xs last (lists_tail e x (f ∷ es) (xs ++ (last ∷ [])) h)
 
-shown_later : (e f : List ℕ) (es seen_location : List (List ℕ)) → AreShown (f ∷ es) seen_location → AreShown (e ∷ f ∷ es) (e ∷ seen_location)
-shown_later e f es seen_location (hashed hash same is) = hashed hash (ap (λ s. e ∷ s) same) is
-shown_later e f es seen_location (all same none) = all (ap (λ s. e ∷ s) same) (last_later e f es none)
+shown_later : (e f : List ℕ) (es shown : List (List ℕ)) → AreShown (f ∷ es) shown → AreShown (e ∷ f ∷ es) (e ∷ shown)
+shown_later e f es shown (hashed hash same is) = hashed hash (ap (λ s. e ∷ s) same) is
+shown_later e f es shown (all same none) = all (ap (λ s. e ∷ s) same) (last_later e f es none)
 
 -- what the function leaves are the elements that are shown
 pub shown_are : (elements : List (List ℕ)) → AreShown elements (without_hash elements)
@@ -193,7 +193,7 @@ shown_are (e ∷ []) =
     ] refl
 shown_are (e ∷ f ∷ es) = shown_later e f es (without_hash (f ∷ es)) (shown_are (f ∷ es))
 
-hashed_is : (seen_location : List (List ℕ)) (hash : List ℕ) → is_hash hash ≡ true → seen_location ≡ without_hash (seen_location ++ (hash ∷ []))
+hashed_is : (shown : List (List ℕ)) (hash : List ℕ) → is_hash hash ≡ true → shown ≡ without_hash (shown ++ (hash ∷ []))
 hashed_is [] hash h = sym (ap (λ q. if q then [] else hash ∷ []) h)
 hashed_is (s ∷ []) hash h = ap (λ t. s ∷ t) (hashed_is [] hash h)
 hashed_is (s ∷ t ∷ ts) hash h = ap (λ u. s ∷ u) (hashed_is (t ∷ ts) hash h)
@@ -204,9 +204,9 @@ all_is (e ∷ []) none = sym (ap (λ q. if q then [] else e ∷ []) (none [] e r
 all_is (e ∷ f ∷ es) none = ap (λ s. e ∷ s) (all_is (f ∷ es) (λ front last h. none (e ∷ front) last (ap (λ s. e ∷ s) h)))
 
 -- the elements that are shown are what the function leaves
-pub shown_only : (elements seen_location : List (List ℕ)) → AreShown elements seen_location → seen_location ≡ without_hash elements
-shown_only elements seen_location (hashed hash same is) = hashed_is seen_location hash is ∙ sym (ap without_hash same)
-shown_only elements seen_location (all same none) = sym same ∙ all_is elements none
+pub shown_only : (elements shown : List (List ℕ)) → AreShown elements shown → shown ≡ without_hash elements
+shown_only elements shown (hashed hash same is) = hashed_is shown hash is ∙ sym (ap without_hash same)
+shown_only elements shown (all same none) = sym same ∙ all_is elements none
 
 suffix_is : (bytes : List ℕ) → is_suffix bytes ≡ true → IsSuffix bytes
 suffix_is [] h = tt

@@ -57,9 +57,9 @@ number_is (b ∷ digits) c h =
     let chosen : ((b == 117 && (nat_lt 0 (length digits) && list_all is_lower_hex digits)) ≡ true) × (shown_char (digits_value 16 digits) ≡ Some c) = some_if _ _ _ h in
     let u : b ≡ 117 = eqb-true b 117 (and_left _ _ chosen.0) in
     let rest : (nat_lt 0 (length digits) && list_all is_lower_hex digits) ≡ true = and_right _ _ chosen.0 in
-    let seen_location : (digits_value 16 digits ≡ c) × IsScalar (digits_value 16 digits) × (is_control (digits_value 16 digits) ≡ false) = shown_is _ c chosen.1 in
+    let shown : (digits_value 16 digits ≡ c) × IsScalar (digits_value 16 digits) × (is_control (digits_value 16 digits) ≡ false) = shown_is _ c chosen.1 in
     let P : ℕ → Type 0 = λ x. IsEscape (x ∷ digits) c in
-    subst P (sym u) (subst (IsEscape (117 ∷ digits)) seen_location.0 (by_number digits (ltb-true _ _ (and_left _ _ rest)) (and_right _ _ rest) seen_location.1 seen_location.2))
+    subst P (sym u) (subst (IsEscape (117 ∷ digits)) shown.0 (by_number digits (ltb-true _ _ (and_left _ _ rest)) (and_right _ _ rest) shown.1 shown.2))
 
 -- what the function takes for an escape is one
 escape_is : (body : List ℕ) (c : ℕ) → escape_char body ≡ Some c → IsEscape body c

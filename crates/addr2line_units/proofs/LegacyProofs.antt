@@ -25,7 +25,7 @@ text_is name text h =
       prefix = start.0;
       spelled = behind.0;
       elements = (elements_at behind.0).0;
-      seen_location = without_hash (elements_at behind.0).0;
+      shown = without_hash (elements_at behind.0).0;
       texts = map element_text (without_hash (elements_at behind.0).0);
       suffix = end.0;
       is_kept = kept_is name;
@@ -51,13 +51,13 @@ text_found name text n =
     let kept : without_llvm name ≡ n.prefix ++ n.spelled = sym (kept_only name n.kept n.is_kept) ∙ n.whole in
     let read : elements_at n.spelled ≡ (n.elements, 69 ∷ n.suffix) = elements_read n.elements n.spelled n.suffix n.are_elements in
     let first : (e : List ℕ × List ℕ) × (element_at n.spelled ≡ Some e) = first_of_elements n.elements n.spelled (69 ∷ n.suffix) n.some n.are_elements in
-    let seen_location : map element_text (without_hash n.elements) ≡ n.texts = ap (λ es. map element_text es) (sym (shown_only n.elements n.seen_location n.are_shown)) ∙ sym (texts_only n.seen_location n.texts n.are_texts) in
+    let shown : map element_text (without_hash n.elements) ≡ n.texts = ap (λ es. map element_text es) (sym (shown_only n.elements n.shown n.are_shown)) ∙ sym (texts_only n.shown n.texts n.are_texts) in
     ap (λ s. option_and_then spelled_text (without_prefix s)) kept
     ∙ ap (λ o. option_and_then spelled_text o) (prefix_read n.prefix n.spelled n.is_prefix)
     ∙ ap (λ o. option_and_then (λ _. option_map (λ suffix. elements_text n.spelled ++ suffix) (suffix_at (elements_at n.spelled).1)) o) first.1
     ∙ ap (λ p. option_map (λ suffix. joined (map element_text (without_hash p.0)) ++ suffix) (suffix_at p.1)) read
     ∙ ap (λ o. option_map (λ suffix. joined (map element_text (without_hash n.elements)) ++ suffix) o) (suffix_read n.suffix n.is_suffix)
-    ∙ ap (λ ts. Some (joined ts ++ n.suffix)) seen_location
+    ∙ ap (λ ts. Some (joined ts ++ n.suffix)) shown
     ∙ ap (λ s. Some s) (sym n.is_text)
 
 pub finds_names : FindsLegacyNames

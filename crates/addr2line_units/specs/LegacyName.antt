@@ -64,10 +64,10 @@ AreElements (element ∷ elements) text rest =
     (digits after : List ℕ) × IsElement digits element after × (text ≡ digits ++ (element ++ after)) × AreElements elements after rest
 
 -- the elements that are shown: all but a last one that is a hash
-pub data AreShown (elements seen_location : List (List ℕ)) : Type 0 where
-  hashed : (hash : List ℕ) → elements ≡ seen_location ++ (hash ∷ []) → is_hash hash ≡ true → AreShown elements seen_location
-  all : elements ≡ seen_location → ((front : List (List ℕ)) (last : List ℕ) → elements ≡ front ++ (last ∷ []) → is_hash last ≡ false)
-      → AreShown elements seen_location
+pub data AreShown (elements shown : List (List ℕ)) : Type 0 where
+  hashed : (hash : List ℕ) → elements ≡ shown ++ (hash ∷ []) → is_hash hash ≡ true → AreShown elements shown
+  all : elements ≡ shown → ((front : List (List ℕ)) (last : List ℕ) → elements ≡ front ++ (last ∷ []) → is_hash last ≡ false)
+      → AreShown elements shown
 
 -- what stands between two dollars, and the character that it means
 pub data IsEscape : List ℕ → ℕ → Type 0 where
@@ -135,7 +135,7 @@ pub record IsLegacyName (name text : List ℕ) : Type 0 where
   pub prefix : List ℕ
   pub spelled : List ℕ
   pub elements : List (List ℕ)
-  pub seen_location : List (List ℕ)
+  pub shown : List (List ℕ)
   pub texts : List (List ℕ)
   pub suffix : List ℕ
   pub is_kept : IsKept name kept
@@ -143,7 +143,7 @@ pub record IsLegacyName (name text : List ℕ) : Type 0 where
   pub whole : kept ≡ prefix ++ spelled
   pub are_elements : AreElements elements spelled (69 ∷ suffix)
   pub some : 0 < length elements
-  pub are_shown : AreShown elements seen_location
-  pub are_texts : AreTexts seen_location texts
+  pub are_shown : AreShown elements shown
+  pub are_texts : AreTexts shown texts
   pub is_suffix : IsSuffix suffix
   pub is_text : text ≡ joined texts ++ suffix

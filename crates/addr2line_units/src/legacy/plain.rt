@@ -22,11 +22,11 @@ fn starts_with_dot(bytes: &[u8]) -> bool
 fn char_of(number: u32) -> Option<char>
     ensures { result ≡ shown_char number }
 {
-    let seen_location = char::from_u32(number)?;
-    if seen_location.is_control() {
+    let shown = char::from_u32(number)?;
+    if shown.is_control() {
         None
     } else {
-        Some(seen_location)
+        Some(shown)
     }
 }
 
@@ -77,14 +77,14 @@ fn dollar_in(bytes: &[u8]) -> Option<usize>
 
 /// The escape after a dollar: its character, and how many bytes it takes.
 #[tactic(auto, unfolding(crate::specs::LegacyText::escape_in))]
-fn escape_behind(rest: &[u8]) -> Option<(char, usize)>
+fn escape_after(rest: &[u8]) -> Option<(char, usize)>
     ensures gives { result ≡ escape_in rest.now }
     ensures within { IfSome result (λ e. e.1 ≤ length rest.now) }
 {
     let len = dollar_in(rest)?;
     let (body, _) = rest.split_at(len);
-    let seen_location = escaped(body)?;
-    Some((seen_location, len + 1))
+    let shown = escaped(body)?;
+    Some((shown, len + 1))
 }
 
 /// Adds ASCII bytes.
@@ -107,9 +107,9 @@ fn push_escape<'a>(out: &mut String, rest: &'a [u8]) -> Result<&'a [u8], AllocEr
     ensures left { IfOk result (λ left. (length left.now ≤ length rest.now)
         × (list_all is_ascii left.now ≡ true)) }
 {
-    match escape_behind(rest) {
-        Some((seen_location, len)) => {
-            out.push(seen_location)?;
+    match escape_after(rest) {
+        Some((shown, len)) => {
+            out.push(shown)?;
             let (_, left) = rest.split_at(len);
             Ok(left)
         }

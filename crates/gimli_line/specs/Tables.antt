@@ -15,7 +15,7 @@ use Rattle.gimli_read.specs.Leb128.{uleb128_at}
 use Rattle.gimli_read.specs.Run.{run_of, collected}
 use Rattle.gimli_read.specs.Form.{value_at}
 use Rattle.gimli_line.specs.declared.tables.EntryFormat.{EntryFormat}
-use Rattle.gimli_line.specs.Opcode.{entry_behind}
+use Rattle.gimli_line.specs.Opcode.{file_with_path_at}
 use Rattle.gimli_line.specs.Header.{File}
 
 -- a directory of versions 2 to 4, none at an empty text
@@ -29,7 +29,7 @@ unfoldable pub file_at : Section → Reading (Option File)
 file_at s = do
   path ← null_terminated_at s
   if length path.0.bytes == 0 then Ok (None, path.1) else do
-    file ← entry_behind path.0 path.1
+    file ← file_with_path_at path.0 path.1
     Ok (Some file.0, file.1)
 
 -- n things, one after another

@@ -1,12 +1,15 @@
 //! Line programs: their headers, and the rows that they give.
 #![tactic(auto)]
 
+#[allow(non_upper_case_globals)]
+mod constants;
 mod copies;
 mod encoding;
 mod files;
 mod header;
-mod machine;
+mod laws;
 mod opcode;
+mod parameters;
 mod program;
 mod read;
 mod registers;
@@ -17,6 +20,7 @@ mod tables;
 mod tests;
 
 pub use crate::header::{FileEntry, LineProgramHeader};
-pub use crate::program::{IncompleteLineProgram, LineRows, rows_laws};
+pub use crate::laws::rows_laws;
+pub use crate::program::{IncompleteLineProgram, LineRows};
 pub use crate::read::read_line_program;
 pub use crate::row::LineRow;

@@ -8,7 +8,7 @@ ghost use Rattle.gimli_read.specs.Run.{run_of, collected};
 ghost use Rattle.gimli_line.specs.Tables.{directory_at, file_at, times, format_at, formats_at, is_string_form, is_path, is_bad_path, is_sound_format, constant, no_entry, with_value, values_at, entry_at, table_at, old_tables_at, new_tables_at, tables_at};
 
 use crate::header::FileEntry;
-use crate::opcode::read_entry_behind;
+use crate::opcode::read_file_with_path;
 use gimli_read::{AttributeValue, DwForm, Encoding, Error, Reader, read_value};
 use std::alloc::Global;
 use std::marker::Model;
@@ -90,7 +90,7 @@ fn read_file<R: Reader>(input: &mut R) -> Result<Option<FileEntry<R>>, Error>
     if path.is_empty() {
         return Ok(None);
     }
-    Ok(Some(read_entry_behind(path, input)?))
+    Ok(Some(read_file_with_path(path, input)?))
 }
 
 // The directories of versions 2 to 4.

@@ -8,12 +8,12 @@ use crate::encoding::LineEncoding;
 
 /// What opcodes are run by, prepared so that no special opcode divides.
 #[derive(Clone, Copy, Debug)]
-pub struct Machine {
+pub struct LineParameters {
     /// The numbers of the header.
     pub encoding: LineEncoding,
     /// The greatest address of the address size.
     pub greatest: u64,
-    /// What a number below 256 is multiplied by, and then divided by 2^16, to divide it by the line range.
+    /// A number below 256 times this, divided by 2^16, is the number divided by the line range.
     pub reciprocal: u32,
     ghost size: { is_address_size encoding.address_size ≡ true },
     ghost operations: { 0 < encoding.maximum_operations_per_instruction },
@@ -36,15 +36,15 @@ fn greatest(encoding: LineEncoding) -> u64
     }
 }
 
-impl Machine {
+impl LineParameters {
     /// The numbers of a header, prepared.
-    pub(crate) fn new(encoding: LineEncoding) -> Machine
+    pub(crate) fn new(encoding: LineEncoding) -> LineParameters
         requires size { is_address_size encoding.address_size ≡ true }
         requires operations { 0 < encoding.maximum_operations_per_instruction }
         requires range { 0 < encoding.line_range }
         ensures gives { result.encoding ≡ encoding }
     {
-        Machine {
+        LineParameters {
             encoding,
             greatest: greatest(encoding),
             reciprocal: 65536 / u32::from(encoding.line_range) + 1,

@@ -1,6 +1,6 @@
 use Rattle.std.proofs.Common.{◌*◌, ◌/◌, ◌∙◌, ap, arith}
 use Rattle.gimli_line.proofs.Division.{by_reciprocal}
-use Rattle.gimli_line.proofs.machine.Machine.quotient.Goals as goal
+use Rattle.gimli_line.proofs.parameters.LineParameters.quotient.Goals as goal
 
 pub returns : goal.returns
 returns c =

@@ -1,6 +1,7 @@
 -- What is read of an abbreviation takes bytes (on specs/Abbrev.antt).
 use Rattle.std.proofs.Common.{◌≡◌, ℕ, zero, suc, ◌+◌, ◌<◌, List, [], ◌∷◌, ◌++◌, length, Option, Some, None, is_some, Result, Ok, Err, Bool, true, false, cond, IfOk, IfSome, nat_lt, ◌==◌, ◌&&◌, ◌||◌, refl, ap, sym, ◌∙◌, arith, add-one}
 use Rattle.std.proofs.lemmas.Bool.Decides.{nat_tests}
+use Rattle.gimli_read.specs.declared.constants.TheConstants.DwForm.{DW_FORM_implicit_const}
 use Rattle.gimli_read.specs.declared.error.Error.{Error}
 use Rattle.gimli_read.specs.declared.error.Error.TheVariants.{BadAbbreviation}
 use Rattle.gimli_read.specs.Section.{Section}
@@ -14,7 +15,7 @@ use Rattle.gimli_read.proofs.Steps.{same_value, end_is_none}
 use Rattle.gimli_read.proofs.RunLemmas.{collected-shorter}
 
 constant_shorter : (n : ℕ) (form : ℕ) (s : Section) → length s.bytes < n → Shorter n (constant_at form s)
-constant_shorter n form s h = shorter_if (form == 0x21) (shorter_bind (sleb128-shorter s) (λ c k. shorter_ok (omega arith))) (shorter_ok h)
+constant_shorter n form s h = shorter_if (form == DW_FORM_implicit_const.0) (shorter_bind (sleb128-shorter s) (λ c k. shorter_ok (omega arith))) (shorter_ok h)
 
 specification_shorter : (s : Section) → Shorter (length s.bytes) (specification_at s)
 unfolding specification_at
@@ -33,12 +34,12 @@ declaration_shorter code s =
     shorter_bind (fixed-shorter 1 t.1 (omega arith)) (λ c hc. shorter_then (refused_if (nat_lt 1 c.0) BadAbbreviation) (λ _.
     shorter_bind (collected-shorter specification_at specification_shorter (length c.1.bytes + 1) c.1) (λ x h. shorter_ok (omega arith))))))
 
--- a code, and what stands behind it
-abbrev behind_code : List Abbrev → ℕ × Section → Reading (Option Abbrev)
-behind_code table code = cond (code.0 == 0) (Ok (None, code.1)) (refused_if (is_some (with_code code.0 table)) BadAbbreviation >>= λ _. declaration_at code.0 code.1 >>= λ a. Ok (Some a.0, a.1))
+-- a code, and what follows it
+abbrev after_code : List Abbrev → ℕ × Section → Reading (Option Abbrev)
+after_code table code = cond (code.0 == 0) (Ok (None, code.1)) (refused_if (is_some (with_code code.0 table)) BadAbbreviation >>= λ _. declaration_at code.0 code.1 >>= λ a. Ok (Some a.0, a.1))
 
-behind_code_shorter : (table : List Abbrev) (s : Section) → Shorter (length s.bytes) (uleb128_at s >>= behind_code table)
-behind_code_shorter table s =
+after_code_shorter : (table : List Abbrev) (s : Section) → Shorter (length s.bytes) (uleb128_at s >>= after_code table)
+after_code_shorter table s =
     shorter_bind (uleb128-shorter s) (λ code hc. shorter_if (code.0 == 0) (shorter_ok hc)
     (shorter_then (refused_if (is_some (with_code code.0 table)) BadAbbreviation) (λ _. shorter_bind (declaration_shorter code.0 code.1) (λ a ha. shorter_ok (omega arith)))))
 
@@ -51,9 +52,9 @@ abbreviation_takes table s = at (length s.bytes == 0)
     out (Ok (None, t)) k = tt
     out (Err e) k = tt
 
-    at : (b : Bool) → IfOk {T = Option Abbrev × Section} (cond b (Ok (None, s)) (uleb128_at s >>= behind_code table)) (λ p. IfSome p.0 (λ _. length p.1.bytes < length s.bytes))
+    at : (b : Bool) → IfOk {T = Option Abbrev × Section} (cond b (Ok (None, s)) (uleb128_at s >>= after_code table)) (λ p. IfSome p.0 (λ _. length p.1.bytes < length s.bytes))
     at true = tt
-    at false = out _ (behind_code_shorter table s)
+    at false = out _ (after_code_shorter table s)
 
 -- two ways on that agree on what is shorter
 agrees : (table : List Abbrev) (s : Section) (j k : List Abbrev → Section → Result (List Abbrev) Error) → ((u : List Abbrev) (t : Section) → length t.bytes < length s.bytes → j u t ≡ k u t)
@@ -97,7 +98,7 @@ finished code tag flag x = Ok (record { code = code; tag = record { 0 = tag }; h
 abbrev found_some : Abbrev × Section → Reading (Option Abbrev)
 found_some x = Ok (Some x.0, x.1)
 
--- what stands behind a code has that code
+-- what follows a code has that code
 declaration_code : (code : ℕ) (s : Section) (a : Abbrev) (t : Section) → declaration_at code s ≡ Ok (a, t) → a.code ≡ code
 unfolding declaration_at
 declaration_code code s a t h = at_tag (uleb128_at s) h
@@ -147,7 +148,7 @@ abbreviation_new table s t a h = at_end (length s.bytes == 0) h
     at_new code u true e h = cc
     at_new code u false e h = at_declaration code (declaration_at code u) (λ x v k. declaration_code code u x v k) (none (with_code code table) e) h
 
-    at_code : (r : Reading ℕ) → (r >>= behind_code table) ≡ Ok (Some a, t) → with_code a.code table ≡ None
+    at_code : (r : Reading ℕ) → (r >>= after_code table) ≡ Ok (Some a, t) → with_code a.code table ≡ None
     at_code (Err e) h = cc
     at_code (Ok code) h = at_zero (code.0 == 0) h
       where
@@ -155,7 +156,7 @@ abbreviation_new table s t a h = at_end (length s.bytes == 0) h
         at_zero true h = absurd (end_is_none a code.1 t h)
         at_zero false h = at_new code.0 code.1 (is_some (with_code code.0 table)) refl h
 
-    at_end : (b : Bool) → cond b (Ok (None, s)) (uleb128_at s >>= behind_code table) ≡ Ok (Some a, t) → with_code a.code table ≡ None
+    at_end : (b : Bool) → cond b (Ok (None, s)) (uleb128_at s >>= after_code table) ≡ Ok (Some a, t) → with_code a.code table ≡ None
     at_end true h = absurd (end_is_none a s t h)
     at_end false h = at_code (uleb128_at s) h
 

@@ -30,7 +30,7 @@ specification_at s = do
 abbrev pub specifications_at : Section → Reading (List Specification)
 specifications_at s = collected (run_of specification_at s)
 
--- what stands behind a code
+-- what follows a code
 unfoldable pub declaration_at : ℕ → Section → Reading Abbrev
 declaration_at code s = do
   tag ← uleb128_at s
@@ -40,7 +40,7 @@ declaration_at code s = do
   attributes ← specifications_at children.1
   Ok (record { code = code; tag = record { 0 = tag.0 }; has_children = children.0 == 1; attributes = attributes.0 }, attributes.1)
 
--- a code that the table hasn't, and what stands behind it; none at code 0 and at the end
+-- a code that the table hasn't, and what follows it; none at code 0 and at the end
 unfoldable pub abbreviation_at : List Abbrev → Section → Reading (Option Abbrev)
 abbreviation_at table s = if length s.bytes == 0 then Ok (None, s) else do
   code ← uleb128_at s

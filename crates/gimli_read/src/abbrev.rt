@@ -4,7 +4,7 @@ ghost use Rattle.std.specs.Prelude.{◌≡◌, ◌≢◌, ◌<◌, ◌+◌, ◌^
 ghost use Rattle.std.specs.List.{slice_get};
 ghost use Rattle.std.specs.Ordering.{nat_cmp};
 ghost use Rattle.std.specs.BTreeMap.{get};
-ghost use Rattle.gimli_read.specs.Reading.{Exactly, ExactlyUnlessOom};
+ghost use Rattle.gimli_read.specs.Reading.{ExactlyUnlessOom, Reads, ReadsUnlessOom};
 ghost use Rattle.gimli_read.specs.Abbreviations.{with_code};
 ghost use Rattle.gimli_read.specs.AbbreviationPlaces.{if_coded, IsSameApart};
 ghost use Rattle.gimli_read.specs.Abbrev.{specification_at, specifications_at, declaration_at, abbreviation_at, table_at};
@@ -43,7 +43,7 @@ impl AttributeSpecification {
         self.name
     }
 
-    /// How the attribute's value is spelled. Takes no memory.
+    /// How the attribute's value is encoded. Takes no memory.
     pub fn form(&self) -> DwForm
         ensures gives { result ≡ self.now.form }
     {
@@ -129,7 +129,7 @@ impl Model for Abbreviations {
 // The next attribute, or none at the end of the list.
 #[tactic(auto, unfolding(crate::specs::Abbrev::specification_at))]
 fn read_specification<R: Reader>(input: &mut R) -> Result<Option<AttributeSpecification>, Error>
-    ensures gives { Exactly (λ x. (x, R.section input.new)) result (specification_at (R.section input.old)) }
+    ensures gives { Reads R.section input.old input.new result specification_at }
 {
     let name = input.read_uleb128()?;
     let form = input.read_uleb128()?;
@@ -139,7 +139,7 @@ fn read_specification<R: Reader>(input: &mut R) -> Result<Option<AttributeSpecif
     if name == 0 || form == 0 {
         return Err(Error::BadAbbreviation);
     }
-    let constant = if form == 0x21 {
+    let constant = if form == DwForm::DW_FORM_implicit_const.0 {
         Some(input.read_sleb128()?)
     } else {
         None
@@ -166,15 +166,15 @@ fn read_specifications<R: Reader>(
     Ok(attributes)
 }
 
-// What stands behind a code.
+// What follows a code.
 #[tactic(auto, unfolding(crate::specs::Abbrev::declaration_at))]
 fn read_declaration<R: Reader>(
     alloc: Global,
     input: &mut R,
     code: u64,
 ) -> Result<Abbreviation, Error>
-    ensures gives { ExactlyUnlessOom (λ a. (a, R.section input.new)) result
-        (declaration_at code (R.section input.old)) }
+    ensures gives { ReadsUnlessOom R.section input.old input.new result
+        (declaration_at code) }
 {
     let tag = input.read_uleb128()?;
     if tag == 0 {
@@ -266,8 +266,8 @@ impl Abbreviations {
         alloc: Global,
         input: &mut R,
     ) -> Result<Option<Abbreviation>, Error>
-        ensures gives { ExactlyUnlessOom (λ a. (a, R.section input.new)) result
-            (abbreviation_at self.now (R.section input.old)) }
+        ensures gives { ReadsUnlessOom R.section input.old input.new result
+            (abbreviation_at self.now) }
     {
         if input.is_empty() {
             return Ok(None);

@@ -12,8 +12,6 @@ mod leb128;
 mod range;
 mod reader;
 mod skip;
-#[cfg(test)]
-mod tests;
 mod value;
 
 pub use crate::abbrev::{Abbreviation, Abbreviations, AttributeSpecification};

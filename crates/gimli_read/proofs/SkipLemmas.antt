@@ -1,9 +1,9 @@
 -- What a reading leaves is what passing over as many bytes leaves (on specs/Form.antt).
-use Rattle.std.proofs.Common.{◌≡◌, ℕ, ◌+◌, ◌-◌, List, ◌++◌, length, drop, Ok, refl, sym, ap, ◌∙◌, arith}
+use Rattle.std.proofs.Common.{◌≡◌, ℕ, ◌-◌, List, ◌++◌, length, Ok, refl, ap, ◌∙◌, arith}
 use Rattle.std.proofs.lemmas.List.{length-append}
 use Rattle.std.proofs.Math.Seq.{drop-append_seam}
 use Rattle.gimli_read.specs.declared.endian.Encoding.{Encoding}
-use Rattle.gimli_read.specs.Section.{Section, after}
+use Rattle.gimli_read.specs.Section.{Section}
 use Rattle.gimli_read.specs.Abbreviations.{Specification}
 use Rattle.gimli_read.specs.Number.{skipped_at}
 use Rattle.gimli_read.specs.Form.{NamedValue, attribute_at}

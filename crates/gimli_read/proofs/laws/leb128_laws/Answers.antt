@@ -1,5 +1,5 @@
 use Rattle.gimli_read.proofs.Leb128Texts.{uleb128_reads, uleb128_alone, sleb128_reads, sleb128_alone}
-use Rattle.gimli_read.proofs.leb128.leb128_laws.Goals as goal
+use Rattle.gimli_read.proofs.laws.leb128_laws.Goals as goal
 
 pub returns-clause-unsigned : goal.returns-clause-unsigned
 returns-clause-unsigned c = uleb128_reads

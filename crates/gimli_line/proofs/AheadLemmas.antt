@@ -13,7 +13,8 @@ use Rattle.gimli_line.specs.declared.row.LineRow.{LineRow}
 use Rattle.gimli_line.specs.Header.{File, Header}
 use Rattle.gimli_line.specs.Lines.{with_files, HasDefined, IsOver}
 use Rattle.gimli_line.specs.Opcode.{instruction_at, coded_instruction_at, gives_file}
-use Rattle.gimli_line.specs.Steps.{executed, ahead_after, ahead_from, ahead_left, rows_left, files_left, taken, step_instruction}
+use Rattle.gimli_line.specs.Steps.{executed, taken, step_instruction}
+use Rattle.gimli_line.specs.Left.{ahead_after, ahead_from, ahead_left, rows_left, files_left}
 use Rattle.gimli_line.proofs.RowsLeft.{State, Ended, run_at, same_run, at_code, at_end, left_end, files_end, step_instruction_is}
 
 ahead_in : Header → Registers → Run (LineInstruction File) Section → List File

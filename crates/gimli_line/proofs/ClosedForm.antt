@@ -12,7 +12,8 @@ use Rattle.gimli_line.specs.declared.registers.Registers.{Registers}
 use Rattle.gimli_line.specs.declared.row.LineRow.{LineRow}
 use Rattle.gimli_line.specs.Encoding.{limit}
 use Rattle.gimli_line.specs.Rows.{address_state, address_after, row_after, row_from, past_after, rows_after, is_end, makes_row, ends_search, files_ahead}
-use Rattle.gimli_line.specs.Steps.{start, step, fitting, row, row_of, next, executed, with_row, continued, rows_from, rows_left, files_left, ahead_after, ahead_from, ahead_left}
+use Rattle.gimli_line.specs.Steps.{start, step, fitting, row, row_of, next, executed}
+use Rattle.gimli_line.specs.Left.{with_row, continued, rows_from, rows_left, files_left, ahead_after, ahead_from, ahead_left}
 use Rattle.gimli_line.specs.Header.{File, Header, Program}
 use Rattle.gimli_line.specs.Lines.{Lines, lines_of}
 use Rattle.gimli_line.specs.Opcode.{opcodes_in, instructions_of}

@@ -16,7 +16,8 @@ use Rattle.gimli_line.specs.declared.registers.Registers.{Registers}
 use Rattle.gimli_line.specs.declared.row.LineRow.{LineRow}
 use Rattle.gimli_line.specs.Header.{File, Header}
 use Rattle.gimli_line.specs.Opcode.{instruction_at, coded_instruction_at, extended_at, extended_in, standard_at, instructions_of, opcodes_in, files_in}
-use Rattle.gimli_line.specs.Steps.{executed, rows_from, continued, with_row, rows_left, files_left, taken, step_instruction, step_standard, DefinesOn, Finds}
+use Rattle.gimli_line.specs.Steps.{executed, taken, step_instruction, step_standard}
+use Rattle.gimli_line.specs.Left.{rows_from, continued, with_row, rows_left, files_left, DefinesOn, Finds}
 use Rattle.gimli_line.specs.Lines.{YieldsUnlessOom}
 use Rattle.gimli_line.proofs.Shortening.{instruction-takes}
 

@@ -1,8 +1,8 @@
 -- Line programs as the private functions see them: registers, one opcode at a time. That the rows are
 -- those of Rows is proved.
-use Rattle.std.specs.Prelude.{◌≡◌, ◌≢◌, ◌++◌, ℕ, ◌+◌, ◌-◌, ◌*◌, ◌/◌, ◌%◌, ◌<◌, Bool, true, false, ◌||◌, ◌&&◌, not, List, [], ◌∷◌, Option, Some, None, Result, Ok, Err, nat_lt, nat_le, ◌==◌, if◌then◌else◌}
+use Rattle.std.specs.Prelude.{◌++◌, ℕ, ◌+◌, ◌-◌, ◌*◌, ◌/◌, ◌%◌, ◌<◌, Bool, true, false, ◌||◌, ◌&&◌, not, [], ◌∷◌, Option, Some, None, Result, Ok, Err, nat_lt, nat_le, ◌==◌, if◌then◌else◌}
 use Rattle.gimli_read.specs.declared.error.Error.{Error}
-use Rattle.gimli_read.specs.declared.error.Error.TheVariants.{AddressOverflow, OutOfMemory}
+use Rattle.gimli_read.specs.declared.error.Error.TheVariants.{AddressOverflow}
 use Rattle.gimli_read.specs.Section.{Section}
 use Rattle.gimli_read.specs.Reading.{◌>>=◌}
 use Rattle.gimli_line.specs.declared.encoding.LineEncoding.{LineEncoding}
@@ -14,8 +14,8 @@ use Rattle.gimli_line.specs.declared.registers.Registers.{Registers}
 use Rattle.gimli_line.specs.declared.row.LineRow.{LineRow}
 use Rattle.gimli_line.specs.Encoding.{limit}
 use Rattle.gimli_line.specs.Header.{File, Header}
-use Rattle.gimli_line.specs.Opcode.{opcodes_in, files_in, instructions_of, standard_at, extended_at}
-use Rattle.gimli_line.specs.Rows.{line_advance, moved, is_tombstone, is_end, makes_row, ended}
+use Rattle.gimli_line.specs.Opcode.{standard_at, extended_at}
+use Rattle.gimli_line.specs.Rows.{line_advance, moved, is_tombstone, is_end, makes_row}
 
 -- the registers at the start of a sequence
 abbrev pub start : Registers
@@ -85,45 +85,6 @@ next op r = if is_end op then start else r
 unfoldable pub executed : LineEncoding → Registers → Opcode → Result (Option LineRow × Registers) Error
 executed e r op = fitting e (step e r op) >>= λ s. Ok (row_of op s, next op s)
 
--- a row, if there is one, before others
-abbrev pub with_row : Option LineRow → List (Result LineRow Error) → List (Result LineRow Error)
-with_row None rest = rest
-with_row (Some x) rest = Ok x ∷ rest
-
--- the row of an opcode, and then the others
-abbrev pub continued : (Registers → List (Result LineRow Error)) → Result (Option LineRow × Registers) Error → List (Result LineRow Error)
-continued others (Ok x) = with_row x.0 (others x.1)
-continued others (Err x) = Err x ∷ []
-
--- the rows of opcodes from these registers on
-unfoldable pub rows_from : {Z : Type 0} → LineEncoding → Registers → List Opcode → Result Z Error → List (Result LineRow Error)
-rows_from e r [] end = ended end
-rows_from e r (op ∷ ops) end = continued (λ s. rows_from e s ops end) (executed e r op)
-
--- the rows that are left, from these registers on
-abbrev pub rows_left : Header → Registers → Section → List (Result LineRow Error)
-rows_left h r s = rows_from h.line_encoding r (opcodes_in (instructions_of h s).items) (instructions_of h s).end
-
--- the files that are still to be defined
-abbrev pub files_left : Header → Section → List File
-files_left h s = files_in (instructions_of h s).items
-
--- the files that others define, where no row and no fault comes first
-abbrev pub ahead_after : {F : Type 0} → (Registers → List F) → Result (Option LineRow × Registers) Error → List F
-ahead_after others (Ok (None, s)) = others s
-ahead_after others (Ok (Some x, s)) = []
-ahead_after others (Err x) = []
-
--- the files that instructions define before the next row or fault, from these registers on
-unfoldable pub ahead_from : {F : Type 0} → LineEncoding → Registers → List (LineInstruction F) → List F
-ahead_from e r [] = []
-ahead_from e r (Changes op ∷ more) = ahead_after (λ s. ahead_from e s more) (executed e r op)
-ahead_from e r (Defines f ∷ more) = f ∷ ahead_from e r more
-
--- the files that are defined before the next row or fault
-abbrev pub ahead_left : Header → Registers → Section → List File
-ahead_left h r s = ahead_from h.line_encoding r (instructions_of h s).items
-
 -- the row that an instruction appends, the registers of the next one, and the header with its files
 unfoldable pub taken : Header → Registers → LineInstruction File → Result (Option LineRow × Registers × Header) Error
 taken h r (Changes op) = executed h.line_encoding r op >>= λ x. Ok (x.0, x.1, h)
@@ -142,13 +103,3 @@ step_instruction h r code s =
     if code == 0 then (extended_at h s >>= λ i. taken h r i.0 >>= λ x. Ok (x.0, x.1, x.2, i.1))
     else if nat_le h.line_encoding.opcode_base code then (executed h.line_encoding r (Special (code - h.line_encoding.opcode_base)) >>= λ x. Ok (x.0, x.1, h, s))
     else (step_standard h r code s >>= λ x. Ok (x.0, x.1, h, x.2))
-
--- what a search for a row found of the rows that were left, and which are left after it
-abbrev pub Finds : List (Result LineRow Error) → Result (Option LineRow) Error → List (Result LineRow Error) → Type 0
-Finds old (Ok None) new = (old ≡ []) × (new ≡ [])
-Finds old (Ok (Some x)) new = old ≡ Ok x ∷ new
-Finds old (Err e) new = e ≢ OutOfMemory → old ≡ Err e ∷ []
-
--- the files so far and those to come stay the same, and so does the rest of the header
-abbrev pub DefinesOn : Header → Section → Header → Section → Type 0
-DefinesOn h s g t = (h.file_names ++ files_left h s ≡ g.file_names ++ files_left g t) × (g ≡ record h { file_names = g.file_names })

@@ -5,6 +5,7 @@
 mod constants;
 mod copies;
 mod encoding;
+mod entry_tables;
 mod files;
 mod header;
 mod laws;
@@ -16,8 +17,6 @@ mod registers;
 mod row;
 mod standard;
 mod tables;
-#[cfg(test)]
-mod tests;
 
 pub use crate::header::{FileEntry, LineProgramHeader};
 pub use crate::laws::rows_laws;

@@ -4,7 +4,8 @@ ghost use Rattle.std.specs.Prelude.{◌≡◌, [], ◌∷◌, true, false, OnOk,
 ghost use Rattle.gimli_read.specs.Reading.{ExactlyUnlessOomIf, IsUnlessOom};
 ghost use Rattle.gimli_line.specs.Lines.{lines_of, YieldsUnlessOom, KeepsFiles, DefinesAhead, IsOver};
 ghost use Rattle.gimli_line.specs.Opcode.{is_file, gives_file, coded_instruction_at};
-ghost use Rattle.gimli_line.specs.Steps.{IsRunning, taken, step_instruction, rows_left, files_left, ahead_left, DefinesOn, Finds};
+ghost use Rattle.gimli_line.specs.Steps.{IsRunning, taken, step_instruction};
+ghost use Rattle.gimli_line.specs.Left.{rows_left, files_left, ahead_left, DefinesOn, Finds};
 
 use crate::copies::duplicate_header;
 use crate::header::{FileEntry, LineProgramHeader};
@@ -65,7 +66,8 @@ impl<R: Reader> Model for LineRows<R> {
 
     ghost Value = { Lines };
 
-    ghost use Rattle.gimli_line.specs.Steps.{IsRunning, rows_left, files_left, ahead_left};
+    ghost use Rattle.gimli_line.specs.Steps.{IsRunning};
+    ghost use Rattle.gimli_line.specs.Left.{rows_left, files_left, ahead_left};
 
     ghost view = { λ a. record {
       header = a.header;

@@ -1,8 +1,8 @@
 use Rattle.std.proofs.Common.{◌+◌, drop, ap, sym, ◌∙◌, arith}
 use Rattle.std.proofs.lemmas.Result.{err_from_is_err_and}
-use Rattle.gimli_line.specs.Tables.{values_at}
+use Rattle.gimli_line.specs.EntryTables.{values_at}
 use Rattle.gimli_line.proofs.TableLemmas.{values_more, values_fault, values_end}
-use Rattle.gimli_line.proofs.tables.read_values.Goals as goal
+use Rattle.gimli_line.proofs.entry_tables.read_values.Goals as goal
 
 pub returns-in_err-value : goal.returns-in_err-value
 returns-in_err-value g c = let p = err_from_is_err_and c.from_residual.result c.from_residual.ensures.1 in rw (p.1, p.2) (record {

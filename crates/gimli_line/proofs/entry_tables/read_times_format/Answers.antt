@@ -1,8 +1,8 @@
 use Rattle.std.proofs.Common.{sym, ◌∙◌, arith}
 use Rattle.std.proofs.lemmas.Result.{err_from_is_err_and}
-use Rattle.gimli_line.specs.Tables.{format_at}
+use Rattle.gimli_line.specs.EntryTables.{format_at}
 use Rattle.gimli_line.proofs.Numbers.{times_more, times_fault, times_none}
-use Rattle.gimli_line.proofs.tables.read_times_format.Goals as goal
+use Rattle.gimli_line.proofs.entry_tables.read_times_format.Goals as goal
 
 pub returns-in_err-read_format : goal.returns-in_err-read_format
 returns-in_err-read_format g c = let p = err_from_is_err_and c.from_residual.result c.from_residual.ensures.1 in rw (p.1, p.2) (record {

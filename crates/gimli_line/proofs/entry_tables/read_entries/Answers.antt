@@ -1,8 +1,8 @@
 use Rattle.std.proofs.Common.{sym, ◌∙◌, arith}
 use Rattle.std.proofs.lemmas.Result.{err_from_is_err_and}
-use Rattle.gimli_line.specs.Tables.{entry_at}
+use Rattle.gimli_line.specs.EntryTables.{entry_at}
 use Rattle.gimli_line.proofs.Numbers.{times_more, times_fault, times_none}
-use Rattle.gimli_line.proofs.tables.read_entries.Goals as goal
+use Rattle.gimli_line.proofs.entry_tables.read_entries.Goals as goal
 
 pub returns-in_err-read_entry : goal.returns-in_err-read_entry
 returns-in_err-read_entry g c = let p = err_from_is_err_and c.from_residual.result c.from_residual.ensures.1 in rw (p.1, p.2) (record {

@@ -7,6 +7,7 @@ ghost use Rattle.gimli_line.specs.Program.{address_size_at, nonzero_at, operatio
 
 use crate::encoding::LineEncoding;
 use crate::header::LineProgramHeader;
+use crate::parameters::LineParameters;
 use crate::program::IncompleteLineProgram;
 use crate::tables::read_tables;
 use gimli_read::{Encoding, Error, Format, Reader, read_initial_length};
@@ -107,7 +108,7 @@ fn read_header<R: Reader>(
     let tables = read_tables(alloc, encoding, input)?;
     Ok(LineProgramHeader {
         encoding,
-        line_encoding,
+        parameters: LineParameters::new(line_encoding),
         standard_opcode_lengths,
         include_directories: tables.include_directories,
         file_names: tables.file_names,

@@ -1,16 +1,19 @@
 -- The rows of the registers are the rows of the closed form (on specs/Rows.antt and specs/Steps.antt).
-use Rattle.std.proofs.Common.{◌≡◌, ◌<◌, Bool, true, false, cond, not, ◌&&◌, nat_lt, List, [], ◌∷◌, Some, None, Result, Ok, Err, refl, sym, ap, ◌∙◌}
+use Rattle.std.proofs.Common.{◌≡◌, ◌<◌, Bool, true, false, cond, not, ◌&&◌, ◌||◌, nat_lt, List, [], ◌∷◌, Some, None, Result, Ok, Err, refl, sym, ap, ◌∙◌}
 use Rattle.gimli_read.specs.declared.error.Error.{Error}
 use Rattle.gimli_read.specs.declared.error.Error.TheVariants.{AddressOverflow}
 use Rattle.gimli_read.specs.Section.{Section}
 use Rattle.gimli_read.specs.Reading.{◌>>=◌}
 use Rattle.gimli_line.specs.declared.encoding.LineEncoding.{LineEncoding}
 use Rattle.gimli_line.specs.declared.opcode.Opcode.{Opcode}
+use Rattle.gimli_line.specs.declared.opcode.LineInstruction.{LineInstruction}
+use Rattle.gimli_line.specs.declared.opcode.LineInstruction.TheVariants.{Changes, Defines}
 use Rattle.gimli_line.specs.declared.registers.Registers.{Registers}
 use Rattle.gimli_line.specs.declared.row.LineRow.{LineRow}
 use Rattle.gimli_line.specs.Encoding.{limit}
-use Rattle.gimli_line.specs.Rows.{course, address_after, row_after, row_from, past_after, rows_after, is_end, makes_row}
-use Rattle.gimli_line.specs.Steps.{start, step, fitting, row, row_of, next, executed, with_row, continued, rows_from, rows_left, files_left}
+use Rattle.gimli_line.specs.Rows.{address_state, address_after, row_after, row_from, past_after, rows_after, is_end, makes_row, ends_search, files_ahead}
+use Rattle.gimli_line.specs.Steps.{start, step, fitting, row, row_of, next, executed}
+use Rattle.gimli_line.specs.Left.{with_row, continued, rows_from, rows_left, files_left, ahead_after, ahead_from, ahead_left}
 use Rattle.gimli_line.specs.Header.{File, Header, Program}
 use Rattle.gimli_line.specs.Lines.{Lines, lines_of}
 use Rattle.gimli_line.specs.Opcode.{opcodes_in, instructions_of}
@@ -26,15 +29,15 @@ module _ {Z : Type 0} (e : LineEncoding) (past : List Opcode) (op : Opcode) (ops
   emits r s anew on = at (is_end op)
     where
       shown : (m : Bool) → with_row (cond (m && not r.dropping) (Some (row r false)) None) (rows_from e r ops end)
-          ≡ cond (m && not (course e (op ∷ past)).dropping) (Ok (row_after e (op ∷ past) false) ∷ rows_after e (op ∷ past) ops end) (rows_after e (op ∷ past) ops end)
-      shown m = ap (λ d. with_row (cond (m && not d) (Some (row r false)) None) (rows_from e r ops end)) s.dropping ∙ by_test (m && not (course e (op ∷ past)).dropping)
+          ≡ cond (m && not (address_state e (op ∷ past)).dropping) (Ok (row_after e (op ∷ past) false) ∷ rows_after e (op ∷ past) ops end) (rows_after e (op ∷ past) ops end)
+      shown m = ap (λ d. with_row (cond (m && not d) (Some (row r false)) None) (rows_from e r ops end)) s.dropping ∙ by_test (m && not (address_state e (op ∷ past)).dropping)
         where
           by_test : (b : Bool) → with_row (cond b (Some (row r false)) None) (rows_from e r ops end) ≡ cond b (Ok (row_after e (op ∷ past) false) ∷ rows_after e (op ∷ past) ops end) (rows_after e (op ∷ past) ops end)
           by_test true = let f = row_is e r (op ∷ past) false s in cc
           by_test false = on
 
       at : (b : Bool) → with_row (cond b (Some (row r true)) (cond (makes_row op && not r.dropping) (Some (row r false)) None)) (rows_from e (cond b start r) ops end)
-          ≡ (let rest = rows_after e (cond b [] (op ∷ past)) ops end in cond b (Ok (row_after e (op ∷ past) true) ∷ rest) (cond (makes_row op && not (course e (op ∷ past)).dropping) (Ok (row_after e (op ∷ past) false) ∷ rest) rest))
+          ≡ (let rest = rows_after e (cond b [] (op ∷ past)) ops end in cond b (Ok (row_after e (op ∷ past) true) ∷ rest) (cond (makes_row op && not (address_state e (op ∷ past)).dropping) (Ok (row_after e (op ∷ past) false) ∷ rest) rest))
       at true = let f = row_is e r (op ∷ past) true s in cc
       at false = shown (makes_row op)
 
@@ -59,19 +62,56 @@ rows_are e some (op ∷ ops) end r past s =
 pub rows_of-start : {Z : Type 0} (e : LineEncoding) → 0 < e.maximum_operations_per_instruction → (ops : List Opcode) (end : Result Z Error) → rows_from e start ops end ≡ rows_after e [] ops end
 rows_of-start e some ops end = rows_are e some ops end start [] (start_stands e some)
 
+module _ {F : Type 0} (e : LineEncoding) (past : List Opcode) (op : Opcode) (more : List (LineInstruction F)) where
+  -- the files ahead after an opcode, which end where it has a row or a fault
+  looks_on : (r : Registers) → StandsFor e r (op ∷ past) → ahead_from e r more ≡ files_ahead e (op ∷ past) more
+      → ahead_after (λ q. ahead_from e q more) (fitting e r >>= λ q. Ok (row_of op q, next op q))
+      ≡ cond (ends_search e op (op ∷ past)) [] (files_ahead e (op ∷ past) more)
+  looks_on r s on =
+      ap (λ a. ahead_after (λ q. ahead_from e q more) (cond (nat_lt a (limit e)) (Ok r) (Err AddressOverflow) >>= λ q. Ok (row_of op q, next op q))) s.address
+      ∙ by_limit (nat_lt (address_after e (op ∷ past)) (limit e))
+    where
+      shown : (m d : Bool) → ahead_after (λ q. ahead_from e q more) (Ok (cond (m && not d) (Some (row r false)) None, r))
+          ≡ cond (m && not d) [] (files_ahead e (op ∷ past) more)
+      shown true true = on
+      shown true false = refl
+      shown false d = on
+
+      by_end : (b : Bool) → ahead_after (λ q. ahead_from e q more) (Ok (cond b (Some (row r true)) (cond (makes_row op && not r.dropping) (Some (row r false)) None), cond b start r))
+          ≡ cond (b || makes_row op && not (address_state e (op ∷ past)).dropping) [] (files_ahead e (op ∷ past) more)
+      by_end true = refl
+      by_end false = shown (makes_row op) r.dropping ∙ ap (λ d. cond (makes_row op && not d) [] (files_ahead e (op ∷ past) more)) s.dropping
+
+      by_limit : (b : Bool) → ahead_after (λ q. ahead_from e q more) (cond b (Ok r) (Err AddressOverflow) >>= λ q. Ok (row_of op q, next op q))
+          ≡ cond (not b || is_end op || makes_row op && not (address_state e (op ∷ past)).dropping) [] (files_ahead e (op ∷ past) more)
+      by_limit true = by_end (is_end op)
+      by_limit false = refl
+
+pub ahead_is : {F : Type 0} (e : LineEncoding) → 0 < e.maximum_operations_per_instruction → (instructions : List (LineInstruction F)) (r : Registers) (past : List Opcode) → StandsFor e r past
+    → ahead_from e r instructions ≡ files_ahead e past instructions
+unfolding ahead_from executed
+ahead_is e some [] r past s = refl
+ahead_is e some (Changes op ∷ more) r past s =
+    let t = step_stands e past r s some op in
+    looks_on e past op more (step e r op) t (ahead_is e some more (step e r op) (op ∷ past) t)
+ahead_is e some (Defines f ∷ more) r past s = ap (λ fs. f ∷ fs) (ahead_is e some more r past s)
+
 pub ok_is : {X E : Type 0} {x y : X} → ◌≡◌ {A = Result X E} (Ok x) (Ok y) → x ≡ y
 ok_is e = cc
 
 -- all that a program gives, as the registers see it
 pub lines_begin : (p : Program) (h : Header) (s : Section) (r : Registers) → 0 < p.header.line_encoding.maximum_operations_per_instruction → p.header ≡ h → p.program ≡ s → r ≡ start
-    → lines_of p ≡ record { header = h; left = rows_left h r s; to_define = files_left h s }
+    → lines_of p ≡ record { header = h; left = rows_left h r s; ahead = ahead_left h r s; to_define = files_left h s }
 lines_begin p h s r some eh es er =
     let run = instructions_of p.header p.program in
-    let a = rows_of-start p.header.line_encoding some (opcodes_in run.items) run.end in
-    let b : rows_left p.header start p.program ≡ rows_left h r s = ap (λ x. rows_left x start p.program) eh ∙ ap (λ x. rows_left h start x) es ∙ ap (λ x. rows_left h x s) (sym er) in
-    let d : files_left p.header p.program ≡ files_left h s = ap (λ x. files_left x p.program) eh ∙ ap (λ x. files_left h x) es in
-    let f : lines_of p ≡ record { header = p.header; left = rows_left p.header start p.program; to_define = files_left p.header p.program } = ap (λ (x : List (Result LineRow Error)). record { header = p.header; left = x; to_define = files_left p.header p.program }) (sym a) in
-    f ∙ same p.header h _ _ _ _ eh b d
+    let e = p.header.line_encoding in
+    let a = rows_of-start e some (opcodes_in run.items) run.end in
+    let c = ahead_is e some run.items start [] (start_stands e some) in
+    same p.header h _ _ _ _ _ _ eh
+    (sym a ∙ ap (λ x. rows_left x start p.program) eh ∙ ap (λ x. rows_left h start x) es ∙ ap (λ x. rows_left h x s) (sym er))
+    (sym c ∙ ap (λ x. ahead_left x start p.program) eh ∙ ap (λ x. ahead_left h start x) es ∙ ap (λ x. ahead_left h x s) (sym er))
+    (ap (λ x. files_left x p.program) eh ∙ ap (λ x. files_left h x) es)
   where
-    same : (x y : Header) (l m : List (Result LineRow Error)) (u v : List File) → x ≡ y → l ≡ m → u ≡ v → ◌≡◌ {A = Lines} (record { header = x; left = l; to_define = u }) (record { header = y; left = m; to_define = v })
-    same x y l m u v e f g = cc
+    same : (x y : Header) (l m : List (Result LineRow Error)) (a b u v : List File) → x ≡ y → l ≡ m → a ≡ b → u ≡ v
+        → ◌≡◌ {A = Lines} (record { header = x; left = l; ahead = a; to_define = u }) (record { header = y; left = m; ahead = b; to_define = v })
+    same x y l m a b u v e f g h = cc

@@ -6,4 +6,5 @@ pub mod Stepping
 pub mod ClosedForm
 pub mod RowsLeft
 pub mod TableLemmas
+pub mod AheadLemmas
 pub mod Rising

@@ -6,7 +6,7 @@ use Rattle.gimli_read.specs.Reading.{Reading, ◌>>=◌, done}
 use Rattle.gimli_read.specs.Run.{with_front}
 use Rattle.gimli_read.specs.Leb128.{uleb128_at}
 use Rattle.gimli_line.specs.Opcode.{numbers_skipped}
-use Rattle.gimli_line.specs.Tables.{times}
+use Rattle.gimli_line.specs.EntryTables.{times}
 
 -- one of them stands first
 skipped_step : (n : ℕ) (s : Section) → numbers_skipped (suc n) s ≡ (uleb128_at s >>= λ x. numbers_skipped n x.1)

@@ -12,7 +12,8 @@ use Rattle.gimli_line.specs.declared.row.LineRow.{LineRow}
 use Rattle.gimli_line.specs.Encoding.{limit}
 use Rattle.gimli_line.specs.Opcode.{opcodes_in}
 use Rattle.gimli_line.specs.Rows.{line_advance, moved, is_tombstone, is_end, makes_row, ended}
-use Rattle.gimli_line.specs.Steps.{start, advanced, placed, pushed, step, fitting, row, row_of, next, executed, with_row, continued, rows_from}
+use Rattle.gimli_line.specs.Steps.{start, advanced, placed, pushed, step, fitting, row, row_of, next, executed}
+use Rattle.gimli_line.specs.Left.{with_row, continued, rows_from}
 use Rattle.gimli_line.specs.Rises.{rows_before, NeverFalls, RowsRise}
 use Rattle.gimli_line.proofs.ClosedForm.{rows_of-start}
 

@@ -7,7 +7,6 @@ use Rattle.gimli_read.specs.Reading.{Reading, ◌>>=◌, done}
 use Rattle.gimli_read.specs.Number.{fixed_at}
 use Rattle.gimli_read.specs.Run as runs
 use Rattle.gimli_read.specs.Run.{Run}
-use Rattle.gimli_read.proofs.Steps.{same_rest}
 use Rattle.gimli_read.proofs.RunLemmas.{run_of-step}
 use Rattle.gimli_line.specs.declared.opcode.Opcode.{Opcode}
 use Rattle.gimli_line.specs.declared.opcode.Opcode.TheVariants.{Special}
@@ -16,24 +15,25 @@ use Rattle.gimli_line.specs.declared.opcode.LineInstruction.TheVariants.{Changes
 use Rattle.gimli_line.specs.declared.registers.Registers.{Registers}
 use Rattle.gimli_line.specs.declared.row.LineRow.{LineRow}
 use Rattle.gimli_line.specs.Header.{File, Header}
-use Rattle.gimli_line.specs.Opcode.{instruction_at, behind_code, extended_at, extended_in, standard_at, instructions_of, opcodes_in, files_in, gives_file}
-use Rattle.gimli_line.specs.Steps.{executed, rows_from, continued, with_row, rows_left, files_left, taken, ran, ran_standard, DefinesOn, Finds}
+use Rattle.gimli_line.specs.Opcode.{instruction_at, coded_instruction_at, extended_at, extended_in, standard_at, instructions_of, opcodes_in, files_in}
+use Rattle.gimli_line.specs.Steps.{executed, taken, step_instruction, step_standard}
+use Rattle.gimli_line.specs.Left.{rows_from, continued, with_row, rows_left, files_left, DefinesOn, Finds}
 use Rattle.gimli_line.specs.Lines.{YieldsUnlessOom}
 use Rattle.gimli_line.proofs.Shortening.{instruction-takes}
 
-abbrev State : Type 0
+abbrev pub State : Type 0
 State = Option LineRow × Registers × Header
 
 -- the run at one more place
-run_at : (h : Header) (s : Section) (q : Reading (Option (LineInstruction File))) → instruction_at h s ≡ q → instructions_of h s ≡ runs.continued (instructions_of h) (runs.next_of q)
+pub run_at : (h : Header) (s : Section) (q : Reading (Option (LineInstruction File))) → instruction_at h s ≡ q → instructions_of h s ≡ runs.continued (instructions_of h) (runs.next_of q)
 run_at h s q f = run_of-step (instruction_at h) (instruction-takes h) s ∙ ap (λ x. runs.continued (instructions_of h) (runs.next_of x)) f
 
 -- the files of a header change no reading of it
 same_instruction : (h : Header) (fs : List File) → instruction_at (record h { file_names = fs }) ≡ instruction_at h
-unfolding instruction_at behind_code extended_at extended_in standard_at
+unfolding instruction_at coded_instruction_at extended_at extended_in standard_at
 same_instruction h fs = refl
 
-same_run : (h : Header) (fs : List File) (s : Section) → instructions_of (record h { file_names = fs }) s ≡ instructions_of h s
+pub same_run : (h : Header) (fs : List File) (s : Section) → instructions_of (record h { file_names = fs }) s ≡ instructions_of h s
 same_run h fs s = ap (λ part. runs.run_of part s) (same_instruction h fs)
 
 rows_in : Header → Registers → Run (LineInstruction File) Section → List (Result LineRow Error)
@@ -58,7 +58,7 @@ left_defines : (h : Header) (r : Registers) (s t : Section) (x : File) → instr
 unfolding rows_in
 left_defines h r s t x f = ap (rows_in h r) (run_at h s (Ok (Some (Defines x), t)) f)
 
--- what an instruction puts out stands first
+-- the row of an instruction is the first
 pub left_more : (h : Header) (r : Registers) (s t : Section) (i : LineInstruction File) (row : Option LineRow) (q : Registers) (g : Header) → instruction_at h s ≡ Ok (Some i, t) → taken h r i ≡ Ok (row, q, g)
     → rows_left h r s ≡ with_row row (rows_left g q t)
 unfolding taken rows_in
@@ -83,21 +83,21 @@ left_taken_fault h r s t (Changes op) e f k = left_changes h r s t op f ∙ by_c
     by_cases (Err d) k = cc
 left_taken_fault h r s t (Defines x) e f k = cc
 
--- an instruction's code, and what stands behind it
-at_code : (h : Header) (s u : Section) (code : ℕ) → (length s.bytes == 0) ≡ false → fixed_at 1 s ≡ Ok (code, u)
-    → instruction_at h s ≡ (behind_code h code u >>= λ i. done {A = Option (LineInstruction File) × Section} (Some i.0, i.1))
+-- an instruction's code, and what follows it
+pub at_code : (h : Header) (s u : Section) (code : ℕ) → (length s.bytes == 0) ≡ false → fixed_at 1 s ≡ Ok (code, u)
+    → instruction_at h s ≡ (coded_instruction_at h code u >>= λ i. done {A = Option (LineInstruction File) × Section} (Some i.0, i.1))
 unfolding instruction_at
 at_code h s u code n f =
-    ap (λ b. cond b (Ok (None, s)) (fixed_at 1 s >>= λ c. behind_code h c.0 c.1 >>= λ i. done {A = Option (LineInstruction File) × Section} (Some i.0, i.1))) n
-    ∙ ap (λ (q : Reading ℕ). q >>= λ c. behind_code h c.0 c.1 >>= λ i. done {A = Option (LineInstruction File) × Section} (Some i.0, i.1)) f
+    ap (λ b. cond b (Ok (None, s)) (fixed_at 1 s >>= λ c. coded_instruction_at h c.0 c.1 >>= λ i. done {A = Option (LineInstruction File) × Section} (Some i.0, i.1))) n
+    ∙ ap (λ (q : Reading ℕ). q >>= λ c. coded_instruction_at h c.0 c.1 >>= λ i. done {A = Option (LineInstruction File) × Section} (Some i.0, i.1)) f
 
-abbrev Ended : Type 0
+abbrev pub Ended : Type 0
 Ended = Option LineRow × Registers × Header × Section
 
--- an instruction runs as it is read and then taken in
-ran_is : (h : Header) (r : Registers) (code : ℕ) (s : Section) → ran h r code s ≡ (behind_code h code s >>= λ i. taken h r i.0 >>= λ y. done {A = Ended} (y.0, y.1, y.2, i.1))
-unfolding ran ran_standard behind_code taken
-ran_is h r code s = by_code (code == 0) (nat_le h.line_encoding.opcode_base code)
+-- an instruction is read and then taken in
+pub step_instruction_is : (h : Header) (r : Registers) (code : ℕ) (s : Section) → step_instruction h r code s ≡ (coded_instruction_at h code s >>= λ i. taken h r i.0 >>= λ y. done {A = Ended} (y.0, y.1, y.2, i.1))
+unfolding step_instruction step_standard coded_instruction_at taken
+step_instruction_is h r code s = by_code (code == 0) (nat_le h.line_encoding.opcode_base code)
   where
     special : (x : Result (Option LineRow × Registers) Error)
         → (x >>= λ y. done {A = Ended} (y.0, y.1, h, s)) ≡ ((x >>= λ y. done {A = State} (y.0, y.1, h)) >>= λ y. done {A = Ended} (y.0, y.1, y.2, s))
@@ -117,24 +117,24 @@ ran_is h r code s = by_code (code == 0) (nat_le h.line_encoding.opcode_base code
 
     by_code : (zero special_code : Bool)
         → cond zero (extended_at h s >>= λ i. taken h r i.0 >>= λ y. done {A = Ended} (y.0, y.1, y.2, i.1))
-        (cond special_code (executed h.line_encoding r (Special (code - h.line_encoding.opcode_base)) >>= λ y. done {A = Ended} (y.0, y.1, h, s)) (ran_standard h r code s >>= λ y. done {A = Ended} (y.0, y.1, h, y.2)))
+        (cond special_code (executed h.line_encoding r (Special (code - h.line_encoding.opcode_base)) >>= λ y. done {A = Ended} (y.0, y.1, h, s)) (step_standard h r code s >>= λ y. done {A = Ended} (y.0, y.1, h, y.2)))
         ≡ (cond zero (extended_at h s) (cond special_code (Ok (Changes (Special (code - h.line_encoding.opcode_base)), s)) (standard_at h code s >>= λ op. Ok (Changes op.0, op.1))) >>= λ i. taken h r i.0 >>= λ y. done {A = Ended} (y.0, y.1, y.2, i.1))
     by_code true b = refl
     by_code false true = special (executed h.line_encoding r (Special (code - h.line_encoding.opcode_base)))
     by_code false false = standard (standard_at h code s)
 
--- an instruction that ran
-pub record Ran (h : Header) (r : Registers) (s t : Section) (row : Option LineRow) (q : Registers) (g : Header) : Type 0 where
+-- an instruction that step_instruction
+pub record Stepped (h : Header) (r : Registers) (s t : Section) (row : Option LineRow) (q : Registers) (g : Header) : Type 0 where
   pub instruction : LineInstruction File
   pub read : instruction_at h s ≡ Ok (Some instruction, t)
   pub took : taken h r instruction ≡ Ok (row, q, g)
 
-pub ran_whole : (h : Header) (r : Registers) (s u t : Section) (code : ℕ) (row : Option LineRow) (q : Registers) (g : Header)
-    → (length s.bytes == 0) ≡ false → fixed_at 1 s ≡ Ok (code, u) → ran h r code u ≡ Ok (row, q, g, t) → Ran h r s t row q g
-ran_whole h r s u t code row q g n f k = by_cases (behind_code h code u) (at_code h s u code n f) (sym (ran_is h r code u) ∙ k)
+pub step_whole : (h : Header) (r : Registers) (s u t : Section) (code : ℕ) (row : Option LineRow) (q : Registers) (g : Header)
+    → (length s.bytes == 0) ≡ false → fixed_at 1 s ≡ Ok (code, u) → step_instruction h r code u ≡ Ok (row, q, g, t) → Stepped h r s t row q g
+step_whole h r s u t code row q g n f k = by_cases (coded_instruction_at h code u) (at_code h s u code n f) (sym (step_instruction_is h r code u) ∙ k)
   where
     taking : (i : LineInstruction File) (v : Section) (x : Result State Error) → taken h r i ≡ x → instruction_at h s ≡ Ok (Some i, v)
-        → (x >>= λ y. done {A = Ended} (y.0, y.1, y.2, v)) ≡ Ok (row, q, g, t) → Ran h r s t row q g
+        → (x >>= λ y. done {A = Ended} (y.0, y.1, y.2, v)) ≡ Ok (row, q, g, t) → Stepped h r s t row q g
     taking i v (Ok y) w at e =
         let same : ◌≡◌ {A = Ended} (y.0, y.1, y.2, v) (row, q, g, t) = cc in
         record {
@@ -145,14 +145,14 @@ ran_whole h r s u t code row q g n f k = by_cases (behind_code h code u) (at_cod
     taking i v (Err d) w at e = absurd (cc (e))
 
     by_cases : (x : Reading (LineInstruction File)) → instruction_at h s ≡ (x >>= λ i. done {A = Option (LineInstruction File) × Section} (Some i.0, i.1))
-        → (x >>= λ i. taken h r i.0 >>= λ y. done {A = Ended} (y.0, y.1, y.2, i.1)) ≡ Ok (row, q, g, t) → Ran h r s t row q g
+        → (x >>= λ i. taken h r i.0 >>= λ y. done {A = Ended} (y.0, y.1, y.2, i.1)) ≡ Ok (row, q, g, t) → Stepped h r s t row q g
     by_cases (Ok i) at e = taking i.0 i.1 (taken h r i.0) refl at e
     by_cases (Err d) at e = absurd (cc (e))
 
 -- and one that met a fault
-pub left_ran_fault : (h : Header) (r : Registers) (s u : Section) (code : ℕ) (e : Error)
-    → (length s.bytes == 0) ≡ false → fixed_at 1 s ≡ Ok (code, u) → ran h r code u ≡ Err e → rows_left h r s ≡ Err e ∷ []
-left_ran_fault h r s u code e n f k = by_cases (behind_code h code u) (at_code h s u code n f) (sym (ran_is h r code u) ∙ k)
+pub left_step_fault : (h : Header) (r : Registers) (s u : Section) (code : ℕ) (e : Error)
+    → (length s.bytes == 0) ≡ false → fixed_at 1 s ≡ Ok (code, u) → step_instruction h r code u ≡ Err e → rows_left h r s ≡ Err e ∷ []
+left_step_fault h r s u code e n f k = by_cases (coded_instruction_at h code u) (at_code h s u code n f) (sym (step_instruction_is h r code u) ∙ k)
   where
     taking : (i : LineInstruction File) (v : Section) (x : Result State Error) → taken h r i ≡ x → instruction_at h s ≡ Ok (Some i, v)
         → (x >>= λ y. done {A = Ended} (y.0, y.1, y.2, v)) ≡ Err e → rows_left h r s ≡ Err e ∷ []
@@ -167,7 +167,7 @@ left_ran_fault h r s u code e n f k = by_cases (behind_code h code u) (at_code h
 -- at the end
 pub at_empty : (h : Header) (s : Section) → (length s.bytes == 0) ≡ true → instruction_at h s ≡ Ok (None, s)
 unfolding instruction_at
-at_empty h s n = ap (λ b. cond b (Ok (None, s)) (fixed_at 1 s >>= λ c. behind_code h c.0 c.1 >>= λ i. done {A = Option (LineInstruction File) × Section} (Some i.0, i.1))) n
+at_empty h s n = ap (λ b. cond b (Ok (None, s)) (fixed_at 1 s >>= λ c. coded_instruction_at h c.0 c.1 >>= λ i. done {A = Option (LineInstruction File) × Section} (Some i.0, i.1))) n
 
 -- the files so far and those to come stay the same
 pub files_more : (h : Header) (r : Registers) (s t : Section) (i : LineInstruction File) (row : Option LineRow) (q : Registers) (g : Header) → instruction_at h s ≡ Ok (Some i, t) → taken h r i ≡ Ok (row, q, g)
@@ -188,32 +188,6 @@ files_more h r s t (Defines x) row q g f k =
     ∙ sym (ap (λ (v : Run (LineInstruction File) Section). fs ++ files_in v.items) (same_run h fs t))
     ∙ ap (λ (z : State). z.2.file_names ++ files_left z.2 t) same
 
--- where no file was still to be defined, none is one instruction on
-pub files_none : (h : Header) (r : Registers) (s t : Section) (i : LineInstruction File) (row : Option LineRow) (q : Registers) (g : Header) → instruction_at h s ≡ Ok (Some i, t) → taken h r i ≡ Ok (row, q, g)
-    → files_left h s ≡ [] → files_left g t ≡ []
-unfolding taken
-files_none h r s t (Changes op) row q g f k n = by_cases (executed h.line_encoding r op) k
-  where
-    by_cases : (x : Result (Option LineRow × Registers) Error) → (x >>= λ y. done {A = State} (y.0, y.1, h)) ≡ Ok (row, q, g) → files_left g t ≡ []
-    by_cases (Ok y) e =
-        let same : ◌≡◌ {A = State} (y.0, y.1, h) (row, q, g) = cc in
-        ap (λ (z : State). files_left z.2 t) (sym same) ∙ sym (ap (λ (v : Run (LineInstruction File) Section). files_in v.items) (run_at h s (Ok (Some (Changes op), t)) f)) ∙ n
-    by_cases (Err d) e = absurd (cc (e))
-files_none h r s t (Defines x) row q g f k n =
-    let some : x ∷ files_left h t ≡ [] = sym (ap (λ (v : Run (LineInstruction File) Section). files_in v.items) (run_at h s (Ok (Some (Defines x), t)) f)) ∙ n in
-    absurd (cc (some))
-
--- and this one defines none
-pub no_file : (h : Header) (s u : Section) (code : ℕ) → (length s.bytes == 0) ≡ false → fixed_at 1 s ≡ Ok (code, u) → files_left h s ≡ [] → gives_file (behind_code h code u) ≡ false
-no_file h s u code n f none = by_cases (behind_code h code u) (at_code h s u code n f)
-  where
-    by_cases : (x : Reading (LineInstruction File)) → instruction_at h s ≡ (x >>= λ i. done {A = Option (LineInstruction File) × Section} (Some i.0, i.1)) → gives_file x ≡ false
-    by_cases (Ok (Changes op, t)) at = refl
-    by_cases (Ok (Defines x, t)) at =
-        let some : x ∷ files_left h t ≡ [] = sym (ap (λ (v : Run (LineInstruction File) Section). files_in v.items) (run_at h s (Ok (Some (Defines x), t)) at)) ∙ none in
-        absurd (cc (some))
-    by_cases (Err e) at = refl
-
 -- nothing else of the header changes
 pub header_kept : (h : Header) (r : Registers) (i : LineInstruction File) (row : Option LineRow) (q : Registers) (g : Header) → taken h r i ≡ Ok (row, q, g) → g ≡ record h { file_names = g.file_names }
 unfolding taken
@@ -228,32 +202,6 @@ header_kept h r (Defines x) row q g k =
     let same : ◌≡◌ {A = State} (None, r, record h { file_names = h.file_names ++ x ∷ [] }) (row, q, g) = cc in
     ap (λ (z : State). z.2) (sym same) ∙ ap (λ (z : State). record h { file_names = z.2.file_names }) same
 
--- at the end nothing is taken
-pub end_stays : (h : Header) (s t : Section) → instruction_at h s ≡ Ok (None, t) → s ≡ t
-unfolding instruction_at
-end_stays h s t e = at (length s.bytes == 0) e
-  where
-    clash : (i : LineInstruction File) (u : Section) → done {A = Option (LineInstruction File) × Section} (Some i, u) ≡ Ok (None, t) → s ≡ t
-    clash i u f =
-        let k : ◌≡◌ {A = Option (LineInstruction File) × Section} (Some i, u) (None, t) = cc in
-        let n : Some i ≡ None = ap (λ (p : Option (LineInstruction File) × Section). p.0) k in
-        absurd (cc (n))
-
-    behind : (r : Reading (LineInstruction File)) → (r >>= λ i. done {A = Option (LineInstruction File) × Section} (Some i.0, i.1)) ≡ Ok (None, t) → s ≡ t
-    behind (Ok i) f = clash i.0 i.1 f
-    behind (Err d) f = cc
-
-    first : (r : Reading ℕ) → (r >>= λ code. behind_code h code.0 code.1 >>= λ i. done {A = Option (LineInstruction File) × Section} (Some i.0, i.1)) ≡ Ok (None, t) → s ≡ t
-    first (Ok code) f = behind (behind_code h code.0 code.1) f
-    first (Err d) f = cc
-
-    at : (c : Bool) → cond c (Ok (None, s)) (fixed_at 1 s >>= λ code. behind_code h code.0 code.1 >>= λ i. done {A = Option (LineInstruction File) × Section} (Some i.0, i.1)) ≡ Ok (None, t) → s ≡ t
-    at true f = same_rest {A = Option (LineInstruction File)} (None, s) (None, t) f
-    at false f = first (fixed_at 1 s) f
-
-pub end_again : (h : Header) (s t : Section) → instruction_at h s ≡ Ok (None, t) → instruction_at h t ≡ Ok (None, t)
-end_again h s t e = ap (instruction_at h) (sym (end_stays h s t e)) ∙ e
-
 -- one instruction on, the files so far and those to come are the same
 pub defines_more : (h0 : Header) (s0 : Section) (h : Header) (r : Registers) (s t : Section) (i : LineInstruction File) (row : Option LineRow) (q : Registers) (g : Header)
     → DefinesOn h0 s0 h s → instruction_at h s ≡ Ok (Some i, t) → taken h r i ≡ Ok (row, q, g) → DefinesOn h0 s0 g t
@@ -262,13 +210,10 @@ defines_more h0 s0 h r s t i row q g d f k = (
   header_kept h r i row q g k ∙ ap (λ (x : Header). record x { file_names = g.file_names }) d.1,
 )
 
-pub defines_end : (h0 : Header) (s0 : Section) (h : Header) (s t : Section) → DefinesOn h0 s0 h s → instruction_at h s ≡ Ok (None, t) → DefinesOn h0 s0 h t
-defines_end h0 s0 h s t d f = (d.0 ∙ ap (λ u. h.file_names ++ files_left h u) (end_stays h s t f), d.1)
-
 -- where no byte is left there is no row
-at_end : (h : Header) (s : Section) → s.bytes ≡ [] → instruction_at h s ≡ Ok (None, s)
+pub at_end : (h : Header) (s : Section) → s.bytes ≡ [] → instruction_at h s ≡ Ok (None, s)
 unfolding instruction_at
-at_end h s e = ap (λ (b : List ℕ). cond (length b == 0) (Ok (None, s)) (fixed_at 1 s >>= λ code. behind_code h code.0 code.1 >>= λ i. done {A = Option (LineInstruction File) × Section} (Some i.0, i.1))) e
+at_end h s e = ap (λ (b : List ℕ). cond (length b == 0) (Ok (None, s)) (fixed_at 1 s >>= λ code. coded_instruction_at h code.0 code.1 >>= λ i. done {A = Option (LineInstruction File) × Section} (Some i.0, i.1))) e
 
 pub left_none : (h : Header) (r : Registers) (s : Section) → s.bytes ≡ [] → rows_left h r s ≡ []
 left_none h r s e = left_end h r s s (at_end h s e)

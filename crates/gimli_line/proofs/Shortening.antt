@@ -8,7 +8,7 @@ use Rattle.gimli_read.specs.Number.{fixed_at, ended_at, null_terminated_at}
 use Rattle.gimli_read.proofs.Shorter.{Shorter, shorter_bind, shorter_then, shorter_if, shorter_ok, shorter_err, shorter_weaker, takes_by, fixed-shorter, split-shorter, uleb128-shorter, sleb128-shorter, TakesBytes}
 use Rattle.gimli_line.specs.declared.opcode.LineInstruction.{LineInstruction}
 use Rattle.gimli_line.specs.Header.{File, Header}
-use Rattle.gimli_line.specs.Opcode.{entry_behind, numbers_skipped, standard_at, extended_in, extended_at, behind_code, instruction_at}
+use Rattle.gimli_line.specs.Opcode.{file_with_path_at, numbers_skipped, standard_at, extended_in, extended_at, coded_instruction_at, instruction_at}
 use Rattle.gimli_line.specs.Tables.{directory_at, file_at}
 
 numbers-shorter : (n : ℕ) (s : Section) → Shorter (length s.bytes + 1) (numbers_skipped n s)
@@ -37,9 +37,9 @@ extended-shorter : (h : Header) (s : Section) → Shorter (length s.bytes + 1) (
 unfolding extended_at
 extended-shorter h s = shorter_bind (uleb128-shorter s) (λ n hn. shorter_bind (split-shorter n.0 n.1) (λ t ht. shorter_then (extended_in h t.0) (λ i. shorter_ok (omega arith))))
 
-behind-shorter : (h : Header) (code : ℕ) (s : Section) → Shorter (length s.bytes + 1) (behind_code h code s)
-unfolding behind_code
-behind-shorter h code s =
+coded-shorter : (h : Header) (code : ℕ) (s : Section) → Shorter (length s.bytes + 1) (coded_instruction_at h code s)
+unfolding coded_instruction_at
+coded-shorter h code s =
     shorter_if (code == 0) (extended-shorter h s)
     (shorter_if (nat_le h.line_encoding.opcode_base code) (shorter_ok (omega arith))
     (shorter_bind (standard-shorter h code s) (λ x k. shorter_ok k)))
@@ -48,15 +48,15 @@ pub instruction-takes : (h : Header) → TakesBytes (instruction_at h)
 unfolding instruction_at
 instruction-takes h s = at (length s.bytes == 0)
   where
-    inner : Shorter (length s.bytes) (fixed_at 1 s >>= λ code. behind_code h code.0 code.1 >>= λ i. Ok (Some i.0, i.1))
-    inner = shorter_bind (fixed-shorter 1 s (omega arith)) (λ code k. shorter_bind (behind-shorter h code.0 code.1) (λ i m. shorter_ok (omega arith)))
+    inner : Shorter (length s.bytes) (fixed_at 1 s >>= λ code. coded_instruction_at h code.0 code.1 >>= λ i. Ok (Some i.0, i.1))
+    inner = shorter_bind (fixed-shorter 1 s (omega arith)) (λ code k. shorter_bind (coded-shorter h code.0 code.1) (λ i m. shorter_ok (omega arith)))
 
     out : (r : Reading (Option (LineInstruction File))) → Shorter (length s.bytes) r → IfOk r (λ p. IfSome p.0 (λ _. length p.1.bytes < length s.bytes))
     out (Ok (Some x, t)) k = k.by
     out (Ok (None, t)) k = tt
     out (Err e) k = tt
 
-    at : (c : Bool) → IfOk {T = Option (LineInstruction File) × Section} (cond c (Ok (None, s)) (fixed_at 1 s >>= λ code. behind_code h code.0 code.1 >>= λ i. Ok (Some i.0, i.1))) (λ p. IfSome p.0 (λ _. length p.1.bytes < length s.bytes))
+    at : (c : Bool) → IfOk {T = Option (LineInstruction File) × Section} (cond c (Ok (None, s)) (fixed_at 1 s >>= λ code. coded_instruction_at h code.0 code.1 >>= λ i. Ok (Some i.0, i.1))) (λ p. IfSome p.0 (λ _. length p.1.bytes < length s.bytes))
     at true = tt
     at false = out _ inner
 
@@ -69,9 +69,9 @@ null_terminated-shorter s = by_cases (position (λ b. b == 0) s.bytes) refl
     by_cases None e = shorter_err
     by_cases (Some n) e = let p = position-Some (λ b. b == 0) s.bytes n 0 e in shorter_ok (simp length-drop (omega (arith, p.0)))
 
-entry_behind-shorter : (path s : Section) → Shorter (length s.bytes) (entry_behind path s)
-unfolding entry_behind
-entry_behind-shorter path s = shorter_bind (uleb128-shorter s) (λ x h. shorter_bind (uleb128-shorter x.1) (λ y k. shorter_bind (uleb128-shorter y.1) (λ z l. shorter_ok (omega arith))))
+file_with_path-shorter : (path s : Section) → Shorter (length s.bytes) (file_with_path_at path s)
+unfolding file_with_path_at
+file_with_path-shorter path s = shorter_bind (uleb128-shorter s) (λ x h. shorter_bind (uleb128-shorter x.1) (λ y k. shorter_bind (uleb128-shorter y.1) (λ z l. shorter_ok (omega arith))))
 
 directory-shorter : (s : Section) → Shorter (length s.bytes) (directory_at s)
 unfolding directory_at
@@ -82,7 +82,7 @@ directory-takes = takes_by directory_at directory-shorter
 
 file-shorter : (s : Section) → Shorter (length s.bytes) (file_at s)
 unfolding file_at
-file-shorter s = shorter_bind (null_terminated-shorter s) (λ p h. shorter_if (length p.0.bytes == 0) (shorter_ok h) (shorter_bind (entry_behind-shorter p.0 p.1) (λ f k. shorter_ok (omega arith))))
+file-shorter s = shorter_bind (null_terminated-shorter s) (λ p h. shorter_if (length p.0.bytes == 0) (shorter_ok h) (shorter_bind (file_with_path-shorter p.0 p.1) (λ f k. shorter_ok (omega arith))))
 
 pub file-takes : TakesBytes file_at
 file-takes = takes_by file_at file-shorter

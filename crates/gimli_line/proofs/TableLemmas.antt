@@ -7,8 +7,8 @@ use Rattle.gimli_read.specs.declared.value.AttributeValue.{AttributeValue}
 use Rattle.gimli_read.specs.Section.{Section}
 use Rattle.gimli_read.specs.Reading.{◌>>=◌}
 use Rattle.gimli_read.specs.Form.{value_at}
-use Rattle.gimli_line.specs.declared.tables.EntryFormat.{EntryFormat}
-use Rattle.gimli_line.specs.Tables.{EntryValues, with_value, values_at}
+use Rattle.gimli_line.specs.declared.entry_tables.EntryFormat.{EntryFormat}
+use Rattle.gimli_line.specs.EntryTables.{EntryValues, with_value, values_at}
 
 values_step : (e : Encoding) (f : EntryFormat) (fs : List EntryFormat) (entry : EntryValues) (s : Section) → values_at e (f ∷ fs) entry s ≡ (value_at e f.form.0 s >>= λ x. values_at e fs (with_value f.content_type x.0 entry) x.1)
 unfolding values_at

@@ -1,9 +1,11 @@
 pub mod Encoding
 pub mod Header
 pub mod Opcode
+pub mod EntryTables
 pub mod Tables
 pub mod Program
 pub mod Rows
 pub mod Lines
 pub mod Rises
 pub mod Steps
+pub mod Left

@@ -1,6 +1,6 @@
 -- The opcodes of a line program (DWARF 5, sections 6.2.5 and 7.22).
 -- Own: a standard opcode that isn't known has as many LEB128 numbers as the header says.
--- Own: what an extended opcode's length leaves behind its operand is passed over.
+-- Own: bytes of an extended opcode that follow its operand are skipped.
 use Rattle.std.specs.Prelude.{ℕ, zero, suc, ◌-◌, ◌==◌, ◌&&◌, List, [], ◌∷◌, length, slice_index, Option, Some, None, Result, Ok, Err, nat_lt, nat_le, if◌then◌else◌, Bool, true, false}
 use Rattle.gimli_read.specs.declared.value.AttributeValue.TheVariants.{String}
 use Rattle.gimli_read.specs.declared.error.Error.{Error}
@@ -13,11 +13,12 @@ use Rattle.gimli_line.specs.declared.opcode.Opcode.{Opcode}
 use Rattle.gimli_line.specs.declared.opcode.Opcode.TheVariants.{Special, Copy, AdvancePc, AdvanceLine, SetFile, SetColumn, ConstAddPc, FixedAdvancePc, EndSequence, SetAddress, Other}
 use Rattle.gimli_line.specs.declared.opcode.LineInstruction.{LineInstruction}
 use Rattle.gimli_line.specs.declared.opcode.LineInstruction.TheVariants.{Changes, Defines}
+use Rattle.gimli_line.specs.declared.constants.TheConstants.{DW_LNS_copy, DW_LNS_advance_pc, DW_LNS_advance_line, DW_LNS_set_file, DW_LNS_set_column, DW_LNS_negate_stmt, DW_LNS_set_basic_block, DW_LNS_const_add_pc, DW_LNS_fixed_advance_pc, DW_LNS_set_prologue_end, DW_LNS_set_epilogue_begin, DW_LNS_set_isa, DW_LNE_end_sequence, DW_LNE_set_address, DW_LNE_define_file, DW_LNE_set_discriminator}
 use Rattle.gimli_line.specs.Header.{File, Header}
 
--- what stands behind a file's path: its directory, and a time and a length that nobody looks at
-unfoldable pub entry_behind : Section → Section → Reading File
-entry_behind path s = do
+-- a file that has this path: what follows the path is its directory, a time and a length, both dropped
+unfoldable pub file_with_path_at : Section → Section → Reading File
+file_with_path_at path s = do
   directory ← uleb128_at s
   time ← uleb128_at directory.1
   size ← uleb128_at time.1
@@ -27,13 +28,13 @@ entry_behind path s = do
 unfoldable pub file_entry_at : Section → Reading File
 file_entry_at s = do
   path ← null_terminated_at s
-  entry_behind path.0 path.1
+  file_with_path_at path.0 path.1
 
 -- an opcode made of what a reading gives
 abbrev pub as_opcode : {A : Type 0} → (A → Opcode) → Reading A → Reading Opcode
 as_opcode make read = read >>= λ x. Ok (make x.0, x.1)
 
--- n numbers that nobody looks at
+-- n numbers, which are skipped
 unfoldable pub numbers_skipped : ℕ → Section → Reading (Unit {0})
 numbers_skipped zero s = Ok (tt, s)
 numbers_skipped (suc n) s = uleb128_at s >>= λ x. numbers_skipped n x.1
@@ -41,30 +42,31 @@ numbers_skipped (suc n) s = uleb128_at s >>= λ x. numbers_skipped n x.1
 -- the operands of a standard opcode
 unfoldable pub standard_at : Header → ℕ → Section → Reading Opcode
 standard_at h code s =
-    if code == 1 then Ok (Copy, s)
-    else if code == 2 then as_opcode AdvancePc (uleb128_at s)
-    else if code == 3 then as_opcode AdvanceLine (sleb128_at s)
-    else if code == 4 then as_opcode SetFile (uleb128_at s)
-    else if code == 5 then as_opcode SetColumn (uleb128_at s)
-    else if code == 6 then Ok (Other, s)
-    else if code == 7 then Ok (Other, s)
-    else if code == 8 then Ok (ConstAddPc, s)
-    else if code == 9 then as_opcode FixedAdvancePc (fixed_at 2 s)
-    else if code == 10 then Ok (Other, s)
-    else if code == 11 then Ok (Other, s)
-    else if code == 12 then as_opcode (λ n. Other) (uleb128_at s)
+    if code == DW_LNS_copy then Ok (Copy, s)
+    else if code == DW_LNS_advance_pc then as_opcode AdvancePc (uleb128_at s)
+    else if code == DW_LNS_advance_line then as_opcode AdvanceLine (sleb128_at s)
+    else if code == DW_LNS_set_file then as_opcode SetFile (uleb128_at s)
+    else if code == DW_LNS_set_column then as_opcode SetColumn (uleb128_at s)
+    else if code == DW_LNS_negate_stmt then Ok (Other, s)
+    else if code == DW_LNS_set_basic_block then Ok (Other, s)
+    else if code == DW_LNS_const_add_pc then Ok (ConstAddPc, s)
+    else if code == DW_LNS_fixed_advance_pc then as_opcode FixedAdvancePc (fixed_at 2 s)
+    else if code == DW_LNS_set_prologue_end then Ok (Other, s)
+    else if code == DW_LNS_set_epilogue_begin then Ok (Other, s)
+    else if code == DW_LNS_set_isa then as_opcode (λ n. Other) (uleb128_at s)
     else as_opcode (λ x. Other) (numbers_skipped (slice_index h.standard_opcode_lengths.bytes (code - 1)) s)
 
--- the operand of an extended opcode other than define_file
+-- the operand of an extended opcode that defines no file
 unfoldable pub operand_at : ℕ → ℕ → Section → Reading Opcode
 operand_at address_size code s =
-    if code == 1 then Ok (EndSequence, s)
-    else if code == 2 then as_opcode SetAddress (address_at address_size s)
+    if code == DW_LNE_end_sequence then Ok (EndSequence, s)
+    else if code == DW_LNE_set_address then as_opcode SetAddress (address_at address_size s)
+    else if code == DW_LNE_set_discriminator then as_opcode (λ n. Other) (uleb128_at s)
     else Ok (Other, s)
 
--- whether an extended opcode is define_file, which version 5 no longer has
+-- whether an extended opcode defines a file, which version 5 no longer does
 abbrev pub defines : Header → ℕ → Bool
-defines h code = code == 3 && nat_lt h.encoding.version 5
+defines h code = code == DW_LNE_define_file && nat_lt h.encoding.version 5
 
 -- the bytes of an extended opcode, its code first
 unfoldable pub extended_in : Header → Section → Reading (LineInstruction File)
@@ -82,7 +84,7 @@ extended_at h s = do
   Ok (instruction.0, text.1)
 
 -- the fault of a reading, if it has one
-abbrev pub fault_of : {A : Type 0} → Reading A → Result (Unit {0}) Error
+abbrev pub fault_of : {A : Type 0} → Result A Error → Result (Unit {0}) Error
 fault_of read = read >>= λ x. Ok tt
 
 -- an instruction that defines a file
@@ -95,9 +97,9 @@ abbrev pub gives_file : Reading (LineInstruction File) → Bool
 gives_file (Ok x) = is_file x.0
 gives_file (Err e) = false
 
--- what stands behind an opcode's code
-unfoldable pub behind_code : Header → ℕ → Section → Reading (LineInstruction File)
-behind_code h code s =
+-- the instruction that has this code
+unfoldable pub coded_instruction_at : Header → ℕ → Section → Reading (LineInstruction File)
+coded_instruction_at h code s =
     if code == 0 then extended_at h s
     else if nat_le h.line_encoding.opcode_base code then Ok (Changes (Special (code - h.line_encoding.opcode_base)), s)
     else (standard_at h code s >>= λ op. Ok (Changes op.0, op.1))
@@ -106,14 +108,14 @@ behind_code h code s =
 unfoldable pub instruction_at : Header → Section → Reading (Option (LineInstruction File))
 instruction_at h s = if length s.bytes == 0 then Ok (None, s) else do
   code ← fixed_at 1 s
-  instruction ← behind_code h code.0 code.1
+  instruction ← coded_instruction_at h code.0 code.1
   Ok (Some instruction.0, instruction.1)
 
 -- the instructions of a program that can be read, and then its end or the fault
 abbrev pub instructions_of : Header → Section → Run (LineInstruction File) Section
 instructions_of h s = run_of (instruction_at h) s
 
--- those that the rows depend on
+-- the opcodes among them, on which the rows depend
 abbrev pub opcodes_in : {F : Type 0} → List (LineInstruction F) → List Opcode
 opcodes_in [] = []
 opcodes_in (Changes op ∷ more) = op ∷ opcodes_in more

@@ -11,11 +11,12 @@ use Rattle.gimli_line.specs.declared.encoding.LineEncoding.{LineEncoding}
 use Rattle.gimli_line.specs.declared.opcode.Opcode.{Opcode}
 use Rattle.gimli_line.specs.declared.opcode.Opcode.TheVariants.{Special, Copy, AdvancePc, AdvanceLine, SetFile, SetColumn, ConstAddPc, FixedAdvancePc, EndSequence, SetAddress}
 use Rattle.gimli_line.specs.declared.opcode.LineInstruction.{LineInstruction}
+use Rattle.gimli_line.specs.declared.opcode.LineInstruction.TheVariants.{Changes, Defines}
 use Rattle.gimli_line.specs.declared.row.LineRow.{LineRow}
 use Rattle.gimli_line.specs.Encoding.{limit}
 use Rattle.gimli_line.specs.Opcode.{opcodes_in}
 
--- how many operations an opcode passes over
+-- by how many operations an opcode advances
 abbrev pub advance : LineEncoding → Opcode → ℕ
 advance e (Special n) = n / e.line_range
 advance e (AdvancePc n) = n
@@ -57,31 +58,31 @@ column_after (SetColumn n ∷ past) = n
 column_after (op ∷ past) = column_after past
 
 -- the last base, the opcodes that count since then, and whether opcodes are dropped
-pub record Course : Type 0 where
+pub record AddressState : Type 0 where
   pub base : ℕ
   pub counting : List Opcode
   pub dropping : Bool
 
 -- the base, and the minimum length for each full instruction of the operations since then
-abbrev pub address_of : LineEncoding → Course → ℕ
+abbrev pub address_of : LineEncoding → AddressState → ℕ
 address_of e c = c.base + e.minimum_instruction_length * (sum_by (advance e) c.counting / e.maximum_operations_per_instruction)
 
 -- from this address on
-abbrev pub based : ℕ → Course
+abbrev pub based : ℕ → AddressState
 based a = record { base = a; counting = []; dropping = false }
 
 -- an accepted address and a fixed advance are new bases; while dropping nothing counts
-abbrev pub course : LineEncoding → List Opcode → Course
-course e [] = based 0
-course e (SetAddress a ∷ past) = if is_tombstone e a || nat_lt a (address_of e (course e past)) then record (course e past) { dropping = true } else based a
-course e (FixedAdvancePc n ∷ past) = if (course e past).dropping then course e past else based (address_of e (course e past) + n)
-course e (op ∷ past) = if (course e past).dropping then course e past else record (course e past) { counting = op ∷ (course e past).counting }
+abbrev pub address_state : LineEncoding → List Opcode → AddressState
+address_state e [] = based 0
+address_state e (SetAddress a ∷ past) = if is_tombstone e a || nat_lt a (address_of e (address_state e past)) then record (address_state e past) { dropping = true } else based a
+address_state e (FixedAdvancePc n ∷ past) = if (address_state e past).dropping then address_state e past else based (address_of e (address_state e past) + n)
+address_state e (op ∷ past) = if (address_state e past).dropping then address_state e past else record (address_state e past) { counting = op ∷ (address_state e past).counting }
 
 -- the address
 abbrev pub address_after : LineEncoding → List Opcode → ℕ
-address_after e past = address_of e (course e past)
+address_after e past = address_of e (address_state e past)
 
--- the row that stands there
+-- the row that they show
 abbrev pub row_after : LineEncoding → List Opcode → Bool → LineRow
 row_after e past end = record {
   address = address_after e past;
@@ -89,7 +90,7 @@ row_after e past end = record {
   line = line_after e past;
   column = column_after past;
   end_sequence = end;
-  dropped = (course e past).dropping;
+  dropped = (address_state e past).dropping;
 }
 
 -- the opcode that ends a sequence
@@ -97,23 +98,23 @@ abbrev pub is_end : Opcode → Bool
 is_end EndSequence = true
 is_end _ = false
 
--- the opcodes that put out a row
+-- the opcodes that append a row
 abbrev pub makes_row : Opcode → Bool
 makes_row (Special n) = true
 makes_row Copy = true
 makes_row _ = false
 
--- what the newest opcode puts out, before the rows of the opcodes behind it
+-- the row of the newest opcode, if it appends one, before the rows of the opcodes that follow
 abbrev pub row_from : LineEncoding → Opcode → List Opcode → List (Result LineRow Error) → List (Result LineRow Error)
 row_from e op past rest =
     if is_end op then Ok (row_after e past true) ∷ rest
-    else (if makes_row op && not (course e past).dropping then Ok (row_after e past false) ∷ rest else rest)
+    else (if makes_row op && not (address_state e past).dropping then Ok (row_after e past false) ∷ rest else rest)
 
--- what stands before the next opcode: nothing after an end
+-- the opcodes of the sequence before the next one: none after an end
 abbrev pub past_after : Opcode → List Opcode → List Opcode
 past_after op past = if is_end op then [] else op ∷ past
 
--- the fault behind the opcodes that can be read
+-- the fault after the opcodes that can be read
 abbrev pub ended : {Z : Type 0} → Result Z Error → List (Result LineRow Error)
 ended (Ok z) = []
 ended (Err x) = Err x ∷ []
@@ -127,3 +128,14 @@ rows_after e past (op ∷ ops) end =
 -- the rows of a program's instructions, and at most one fault, the last
 abbrev pub rows_of : {F Z : Type 0} → LineEncoding → Run (LineInstruction F) Z → List (Result LineRow Error)
 rows_of e run = rows_after e [] (opcodes_in run.items) run.end
+
+-- whether the newest opcode has a row or a fault
+abbrev pub ends_search : LineEncoding → Opcode → List Opcode → Bool
+ends_search e op past =
+    not (nat_lt (address_after e past) (limit e)) || is_end op || makes_row op && not (address_state e past).dropping
+
+-- the files that instructions define before the next row or fault
+abbrev pub files_ahead : {F : Type 0} → LineEncoding → List Opcode → List (LineInstruction F) → List F
+files_ahead e past [] = []
+files_ahead e past (Changes op ∷ more) = if ends_search e op (op ∷ past) then [] else files_ahead e (op ∷ past) more
+files_ahead e past (Defines f ∷ more) = f ∷ files_ahead e past more

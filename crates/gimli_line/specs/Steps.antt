@@ -1,8 +1,8 @@
 -- Line programs as the private functions see them: registers, one opcode at a time. That the rows are
 -- those of Rows is proved.
-use Rattle.std.specs.Prelude.{◌≡◌, ◌≢◌, ◌++◌, ℕ, ◌+◌, ◌-◌, ◌*◌, ◌/◌, ◌%◌, Bool, true, false, ◌||◌, ◌&&◌, not, List, [], ◌∷◌, Option, Some, None, Result, Ok, Err, nat_lt, nat_le, ◌==◌, if◌then◌else◌}
+use Rattle.std.specs.Prelude.{◌++◌, ℕ, ◌+◌, ◌-◌, ◌*◌, ◌/◌, ◌%◌, ◌<◌, Bool, true, false, ◌||◌, ◌&&◌, not, [], ◌∷◌, Option, Some, None, Result, Ok, Err, nat_lt, nat_le, ◌==◌, if◌then◌else◌}
 use Rattle.gimli_read.specs.declared.error.Error.{Error}
-use Rattle.gimli_read.specs.declared.error.Error.TheVariants.{AddressOverflow, OutOfMemory}
+use Rattle.gimli_read.specs.declared.error.Error.TheVariants.{AddressOverflow}
 use Rattle.gimli_read.specs.Section.{Section}
 use Rattle.gimli_read.specs.Reading.{◌>>=◌}
 use Rattle.gimli_line.specs.declared.encoding.LineEncoding.{LineEncoding}
@@ -14,14 +14,19 @@ use Rattle.gimli_line.specs.declared.registers.Registers.{Registers}
 use Rattle.gimli_line.specs.declared.row.LineRow.{LineRow}
 use Rattle.gimli_line.specs.Encoding.{limit}
 use Rattle.gimli_line.specs.Header.{File, Header}
-use Rattle.gimli_line.specs.Opcode.{opcodes_in, files_in, instructions_of, standard_at, extended_at}
-use Rattle.gimli_line.specs.Rows.{line_advance, moved, is_tombstone, is_end, makes_row, ended}
+use Rattle.gimli_line.specs.Opcode.{standard_at, extended_at}
+use Rattle.gimli_line.specs.Rows.{line_advance, moved, is_tombstone, is_end, makes_row}
 
 -- the registers at the start of a sequence
 abbrev pub start : Registers
 start = record { address = 0; op_index = 0; file_index = 1; line = 1; column = 0; dropping = false }
 
--- operations are passed over
+-- the registers that an instruction finds: the operation lies inside its instruction, and the address fits
+pub record IsRunning (e : LineEncoding) (r : Registers) : Type 0 where
+  pub index : r.op_index < e.maximum_operations_per_instruction
+  pub fits : r.address < limit e
+
+-- advanced by operations
 abbrev pub advanced : LineEncoding → ℕ → Registers → Registers
 advanced e n r =
     if r.dropping then r
@@ -35,7 +40,7 @@ abbrev pub placed : LineEncoding → ℕ → Registers → Registers
 placed e a r =
     if is_tombstone e a || nat_lt a r.address then record r { dropping = true } else record r { address = a; op_index = 0; dropping = false }
 
--- bytes are passed over
+-- advanced by bytes
 abbrev pub pushed : ℕ → Registers → Registers
 pushed n r = if r.dropping then r else record r { address = r.address + n; op_index = 0 }
 
@@ -57,7 +62,7 @@ step e r Other = r
 abbrev pub fitting : LineEncoding → Registers → Result Registers Error
 fitting e r = if nat_lt r.address (limit e) then Ok r else Err AddressOverflow
 
--- the row that stands there
+-- the row that the registers show
 abbrev pub row : Registers → Bool → LineRow
 row r end = record {
   address = r.address;
@@ -68,7 +73,7 @@ row r end = record {
   dropped = r.dropping;
 }
 
--- what an opcode puts out, after its step
+-- the row that an opcode appends, after its step
 abbrev pub row_of : Opcode → Registers → Option LineRow
 row_of op r = if is_end op then Some (row r true) else (if makes_row op && not r.dropping then Some (row r false) else None)
 
@@ -76,58 +81,25 @@ row_of op r = if is_end op then Some (row r true) else (if makes_row op && not r
 abbrev pub next : Opcode → Registers → Registers
 next op r = if is_end op then start else r
 
--- what an opcode puts out, and the registers of the next one
+-- the row that an opcode appends, and the registers of the next one
 unfoldable pub executed : LineEncoding → Registers → Opcode → Result (Option LineRow × Registers) Error
 executed e r op = fitting e (step e r op) >>= λ s. Ok (row_of op s, next op s)
 
--- a row, if there is one, before others
-abbrev pub with_row : Option LineRow → List (Result LineRow Error) → List (Result LineRow Error)
-with_row None rest = rest
-with_row (Some x) rest = Ok x ∷ rest
-
--- what an opcode puts out, and then the others
-abbrev pub continued : (Registers → List (Result LineRow Error)) → Result (Option LineRow × Registers) Error → List (Result LineRow Error)
-continued others (Ok x) = with_row x.0 (others x.1)
-continued others (Err x) = Err x ∷ []
-
--- the rows of opcodes from these registers on
-unfoldable pub rows_from : {Z : Type 0} → LineEncoding → Registers → List Opcode → Result Z Error → List (Result LineRow Error)
-rows_from e r [] end = ended end
-rows_from e r (op ∷ ops) end = continued (λ s. rows_from e s ops end) (executed e r op)
-
--- the rows that are left, from these registers on
-abbrev pub rows_left : Header → Registers → Section → List (Result LineRow Error)
-rows_left h r s = rows_from h.line_encoding r (opcodes_in (instructions_of h s).items) (instructions_of h s).end
-
--- the files that are still to be defined
-abbrev pub files_left : Header → Section → List File
-files_left h s = files_in (instructions_of h s).items
-
--- what an instruction puts out, the registers of the next one, and the header with its files
+-- the row that an instruction appends, the registers of the next one, and the header with its files
 unfoldable pub taken : Header → Registers → LineInstruction File → Result (Option LineRow × Registers × Header) Error
 taken h r (Changes op) = executed h.line_encoding r op >>= λ x. Ok (x.0, x.1, h)
 taken h r (Defines f) = Ok (None, r, record h { file_names = h.file_names ++ f ∷ [] })
 
--- what a standard opcode puts out, the registers of the next one, and the bytes behind its operands
-unfoldable pub ran_standard : Header → Registers → ℕ → Section → Result (Option LineRow × Registers × Section) Error
-ran_standard h r code s = do
+-- the row that a standard opcode appends, the registers of the next one, and the bytes after its operands
+unfoldable pub step_standard : Header → Registers → ℕ → Section → Result (Option LineRow × Registers × Section) Error
+step_standard h r code s = do
   op ← standard_at h code s
   next ← executed h.line_encoding r op.0
   Ok (next.0, next.1, op.1)
 
--- what the instruction behind an opcode's code puts out, and the registers, the header and the bytes of the next one
-unfoldable pub ran : Header → Registers → ℕ → Section → Result (Option LineRow × Registers × Header × Section) Error
-ran h r code s =
+-- the row that the instruction with this code appends, and the registers, the header and the bytes of the next one
+unfoldable pub step_instruction : Header → Registers → ℕ → Section → Result (Option LineRow × Registers × Header × Section) Error
+step_instruction h r code s =
     if code == 0 then (extended_at h s >>= λ i. taken h r i.0 >>= λ x. Ok (x.0, x.1, x.2, i.1))
     else if nat_le h.line_encoding.opcode_base code then (executed h.line_encoding r (Special (code - h.line_encoding.opcode_base)) >>= λ x. Ok (x.0, x.1, h, s))
-    else (ran_standard h r code s >>= λ x. Ok (x.0, x.1, h, x.2))
-
--- what a search for a row found of the rows that were left, and which are left behind it
-abbrev pub Finds : List (Result LineRow Error) → Result (Option LineRow) Error → List (Result LineRow Error) → Type 0
-Finds old (Ok None) new = (old ≡ []) × (new ≡ [])
-Finds old (Ok (Some x)) new = old ≡ Ok x ∷ new
-Finds old (Err e) new = e ≢ OutOfMemory → old ≡ Err e ∷ []
-
--- the files so far and those to come stay the same, and so does the rest of the header
-abbrev pub DefinesOn : Header → Section → Header → Section → Type 0
-DefinesOn h s g t = (h.file_names ++ files_left h s ≡ g.file_names ++ files_left g t) × (g ≡ record h { file_names = g.file_names })
+    else (step_standard h r code s >>= λ x. Ok (x.0, x.1, h, x.2))

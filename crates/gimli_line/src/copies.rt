@@ -87,7 +87,7 @@ pub(crate) fn duplicate_header<R: Reader>(
 {
     Ok(LineProgramHeader {
         encoding: header.encoding,
-        line_encoding: header.line_encoding,
+        parameters: header.parameters,
         standard_opcode_lengths: header.standard_opcode_lengths.duplicate()?,
         include_directories: duplicate_values(header.alloc, &header.include_directories)?,
         file_names: duplicate_files(header.alloc, &header.file_names)?,

@@ -1,6 +1,6 @@
 //! The header of a line program.
 
-use crate::encoding::LineEncoding;
+use crate::parameters::LineParameters;
 use gimli_read::{AttributeValue, Encoding, Reader};
 use std::alloc::Global;
 use std::marker::Model;
@@ -28,7 +28,7 @@ impl<R: Reader> Model for FileEntry<R> {
 #[derive(Drop)]
 pub struct LineProgramHeader<R: Reader> {
     pub(crate) encoding: Encoding,
-    pub(crate) line_encoding: LineEncoding,
+    pub(crate) parameters: LineParameters,
     pub(crate) standard_opcode_lengths: R,
     pub(crate) include_directories: Vec<AttributeValue<R>>,
     pub(crate) file_names: Vec<FileEntry<R>>,
@@ -38,18 +38,15 @@ pub struct LineProgramHeader<R: Reader> {
 impl<R: Reader> Model for LineProgramHeader<R> {
     ghost use Rattle.std.specs.Prelude.{map};
     ghost use Rattle.gimli_read.specs.Form.{seen_value};
-    ghost use Rattle.gimli_line.specs.Encoding.{IsSound};
     ghost use Rattle.gimli_line.specs.Header.{Header};
 
     ghost Value = { Header };
 
     ghost view = { λ h. record {
       encoding = h.encoding;
-      line_encoding = h.line_encoding;
+      line_encoding = h.parameters.encoding;
       standard_opcode_lengths = R.section h.standard_opcode_lengths;
       include_directories = map (seen_value R.section) h.include_directories.items;
       file_names = h.file_names.items;
     } };
-
-    ghost invariant = { λ h. IsSound h.line_encoding };
 }

@@ -1,22 +1,25 @@
 //! Line programs: their headers, and the rows that they give.
 #![tactic(auto)]
 
+#[allow(non_upper_case_globals)]
+mod constants;
 mod copies;
 mod encoding;
+mod entry_tables;
 mod files;
 mod header;
-mod machine;
+mod laws;
 mod opcode;
+mod parameters;
 mod program;
 mod read;
 mod registers;
 mod row;
 mod standard;
 mod tables;
-#[cfg(test)]
-mod tests;
 
 pub use crate::header::{FileEntry, LineProgramHeader};
-pub use crate::program::{IncompleteLineProgram, LineRows, rows_laws};
+pub use crate::laws::rows_laws;
+pub use crate::program::{IncompleteLineProgram, LineRows};
 pub use crate::read::read_line_program;
 pub use crate::row::LineRow;

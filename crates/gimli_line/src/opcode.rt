@@ -4,8 +4,11 @@ ghost use Rattle.std.specs.Prelude.{◌≡◌, ◌==◌, ◌&&◌, false, nat_lt
 ghost use Rattle.std.specs.List.{position};
 ghost use Rattle.gimli_read.specs.Reading.{Exactly, ExactlyUnlessOomIf, ExactlyUnlessOomFor, Reads};
 ghost use Rattle.gimli_read.specs.Number.{null_terminated_at};
-ghost use Rattle.gimli_line.specs.Opcode.{entry_behind, file_entry_at, operand_at, defines, extended_in, extended_at, gives_file, fault_of};
+ghost use Rattle.gimli_line.specs.Opcode.{file_with_path_at, file_entry_at, operand_at, defines, extended_in, extended_at, gives_file, fault_of};
 
+use crate::constants::{
+    DW_LNE_define_file, DW_LNE_end_sequence, DW_LNE_set_address, DW_LNE_set_discriminator,
+};
 use crate::header::{FileEntry, LineProgramHeader};
 use gimli_read::{AttributeValue, EndianSlice, Error, Reader, RunTimeEndian};
 
@@ -14,9 +17,9 @@ use gimli_read::{AttributeValue, EndianSlice, Error, Reader, RunTimeEndian};
 pub enum Opcode {
     /// A special opcode, less the opcode base.
     Special(u8),
-    /// Puts out a row.
+    /// Appends a row.
     Copy,
-    /// Passes over operations.
+    /// Advances by operations.
     AdvancePc(u64),
     /// Moves the line.
     AdvanceLine(i64),
@@ -24,7 +27,7 @@ pub enum Opcode {
     SetFile(u64),
     /// Sets the column.
     SetColumn(u64),
-    /// Passes over the operations of the last special opcode.
+    /// Advances by the operations of special opcode 255.
     ConstAddPc,
     /// Adds bytes to the address.
     FixedAdvancePc(u16),
@@ -41,15 +44,15 @@ pub enum Opcode {
 pub enum LineInstruction<F> {
     /// An opcode that the rows may depend on.
     Changes(Opcode),
-    /// A file more.
+    /// `DW_LNE_define_file`, with its file.
     Defines(F),
 }
 
-// What stands behind a file's path.
-#[tactic(auto, unfolding(crate::specs::Opcode::entry_behind))]
-pub(crate) fn read_entry_behind<R: Reader>(path: R, input: &mut R) -> Result<FileEntry<R>, Error>
-    ensures gives { Exactly (λ f. (f, R.section input.new)) result
-        (entry_behind (R.section path) (R.section input.old)) }
+// The file that has this path; what follows the path is read.
+#[tactic(auto, unfolding(crate::specs::Opcode::file_with_path_at))]
+pub(crate) fn read_file_with_path<R: Reader>(path: R, input: &mut R) -> Result<FileEntry<R>, Error>
+    ensures gives { Reads R.section input.old input.new result
+        (file_with_path_at (R.section path)) }
 {
     let directory_index = input.read_uleb128()?;
     let _time = input.read_uleb128()?;
@@ -67,17 +70,17 @@ fn read_file_entry<R: Reader>(input: &mut R) -> Result<FileEntry<R>, Error>
         (file_entry_at (R.section input.old)) }
 {
     let path = input.read_null_terminated()?;
-    read_entry_behind(path, input)
+    read_file_with_path(path, input)
 }
 
-// Where the first zero byte stands.
+// The place of the first zero byte.
 fn zero_of(bytes: &[u8]) -> Option<usize>
     ensures found { result ≡ position (λ b. b == 0) bytes.now }
 {
     bytes.iter().position(|byte| *byte == 0)
 }
 
-// A text that a zero byte ends, and what stands behind that byte.
+// A text that a zero byte ends, and what follows that byte.
 fn split_text(
     bytes: &[u8],
     endian: RunTimeEndian,
@@ -101,31 +104,35 @@ fn check_file_entry(bytes: &[u8], endian: RunTimeEndian) -> Result<(), Error>
         (fault_of (file_entry_at (record { bytes = bytes.now; endian = endian }))) }
 {
     let (path, mut rest) = split_text(bytes, endian)?;
-    let _file = read_entry_behind(path, &mut rest)?;
+    let _file = read_file_with_path(path, &mut rest)?;
     Ok(())
 }
 
-// Whether an extended opcode is define_file.
+// Whether an extended opcode defines a file.
 fn defines_file<R: Reader>(header: &LineProgramHeader<R>, code: u8) -> bool
-    ensures gives { result ≡ (code == 3 && nat_lt header.now.encoding.version 5) }
+    ensures gives { result ≡ defines header.now code }
 {
-    code == 3 && header.encoding.version < 5
+    code == DW_LNE_define_file && header.encoding.version < 5
 }
 
-// The operand of an extended opcode other than define_file.
+// The operand of an extended opcode that defines no file.
 #[tactic(auto, unfolding(crate::specs::Opcode::operand_at))]
 fn read_operand<R: Reader>(address_size: u8, code: u8, input: &mut R) -> Result<Opcode, Error>
     ensures gives { Reads R.section input.old input.new result (operand_at address_size code) }
 {
     match code {
-        1 => Ok(Opcode::EndSequence),
-        2 => Ok(Opcode::SetAddress(input.read_address(address_size)?)),
+        DW_LNE_end_sequence => Ok(Opcode::EndSequence),
+        DW_LNE_set_address => Ok(Opcode::SetAddress(input.read_address(address_size)?)),
+        DW_LNE_set_discriminator => {
+            input.read_uleb128()?;
+            Ok(Opcode::Other)
+        }
         _ => Ok(Opcode::Other),
     }
 }
 
-/// A length, and an extended opcode in as many bytes. Memory is taken for a file alone, whose bytes are there:
-/// all else is read from a slice.
+/// Reads a length, and an extended opcode in as many bytes. All but a whole file is read from a slice, so that
+/// nothing else takes memory.
 #[tactic(auto, unfolding(crate::specs::Opcode::extended_in, crate::specs::Opcode::extended_at))]
 pub(crate) fn read_extended<R: Reader>(
     header: &LineProgramHeader<R>,
@@ -147,7 +154,7 @@ pub(crate) fn read_extended<R: Reader>(
         text.read_u8()?;
         return Ok(LineInstruction::Defines(read_file_entry(&mut text)?));
     }
-    let opcode = read_operand(header.line_encoding.address_size, code, &mut text)?;
+    let opcode = read_operand(header.parameters.encoding.address_size, code, &mut text)?;
     input.skip(size)?;
     Ok(LineInstruction::Changes(opcode))
 }

@@ -1,20 +1,18 @@
 //! Line programs and their rows.
 
-ghost use Rattle.std.specs.Prelude.{◌≡◌, ◌<◌, ◌++◌, [], ◌∷◌, false, OnOk, OnErr, IfOk, IfErr, Ok, Err, None};
-ghost use Rattle.gimli_read.specs.Reading.{ExactlyUnlessOom};
-ghost use Rattle.gimli_line.specs.Encoding.{limit};
-ghost use Rattle.gimli_line.specs.Lines.{lines_of, YieldsUnlessOom, KeepsFiles};
-ghost use Rattle.gimli_line.specs.Opcode.{is_file, gives_file, behind_code};
-ghost use Rattle.gimli_line.specs.Rises.{rows_before, NeverFalls, RowsRise};
-ghost use Rattle.gimli_line.specs.Steps.{taken, ran, rows_left, files_left, DefinesOn, Finds};
+ghost use Rattle.std.specs.Prelude.{◌≡◌, [], ◌∷◌, true, false, OnOk, OnErr, IfOk, IfErr, Ok, Err, None};
+ghost use Rattle.gimli_read.specs.Reading.{ExactlyUnlessOomIf, IsUnlessOom};
+ghost use Rattle.gimli_line.specs.Lines.{lines_of, YieldsUnlessOom, KeepsFiles, DefinesAhead, IsOver};
+ghost use Rattle.gimli_line.specs.Opcode.{is_file, gives_file, coded_instruction_at};
+ghost use Rattle.gimli_line.specs.Steps.{IsRunning, taken, step_instruction};
+ghost use Rattle.gimli_line.specs.Left.{rows_left, files_left, ahead_left, DefinesOn, Finds};
 
 use crate::copies::duplicate_header;
 use crate::header::{FileEntry, LineProgramHeader};
-use crate::machine::Machine;
 use crate::opcode::{LineInstruction, Opcode, read_extended};
 use crate::registers::Registers;
 use crate::row::LineRow;
-use crate::standard::run_standard;
+use crate::standard::step_standard;
 use gimli_read::{Error, Reader};
 use std::marker::Model;
 
@@ -44,11 +42,10 @@ impl<R: Reader> IncompleteLineProgram<R> {
     /// The rows of the program, from its first opcode on, over a copy of its header. Refused `OutOfMemory`
     /// alone.
     pub fn rows(&self) -> Result<LineRows<R>, Error>
-        ensures gives { ExactlyUnlessOom (λ rows. rows) result (Ok (lines_of self.now)) }
+        ensures gives { IsUnlessOom result (Ok (lines_of self.now)) }
     {
         let header = &self.header;
         Ok(LineRows {
-            machine: Machine::new(header.line_encoding),
             header: duplicate_header(header)?,
             program: self.program.duplicate()?,
             registers: Registers::start(),
@@ -59,30 +56,27 @@ impl<R: Reader> IncompleteLineProgram<R> {
 /// The rows of a line program that are still to come, and its header with the files that are defined so far.
 #[derive(Drop)]
 pub struct LineRows<R: Reader> {
-    machine: Machine,
-    header: LineProgramHeader<R>,
+    pub(crate) header: LineProgramHeader<R>,
     program: R,
     registers: Registers,
 }
 
 impl<R: Reader> Model for LineRows<R> {
-    ghost use Rattle.std.specs.Prelude.{◌≡◌, ◌<◌};
     ghost use Rattle.gimli_line.specs.Lines.{Lines};
 
     ghost Value = { Lines };
 
-    ghost use Rattle.gimli_line.specs.Encoding.{limit};
-    ghost use Rattle.gimli_line.specs.Steps.{rows_left, files_left};
+    ghost use Rattle.gimli_line.specs.Steps.{IsRunning};
+    ghost use Rattle.gimli_line.specs.Left.{rows_left, files_left, ahead_left};
 
     ghost view = { λ a. record {
       header = a.header;
       left = rows_left a.header a.registers (R.section a.program);
+      ahead = ahead_left a.header a.registers (R.section a.program);
       to_define = files_left a.header (R.section a.program);
     } };
 
-    ghost invariant = { λ a. (a.machine.encoding ≡ a.header.line_encoding)
-        × (a.registers.op_index < a.machine.encoding.maximum_operations_per_instruction)
-        × (a.registers.address < limit a.machine.encoding) };
+    ghost invariant = { λ a. IsRunning a.header.line_encoding a.registers };
 }
 
 impl<R: Reader> LineRows<R> {
@@ -93,73 +87,53 @@ impl<R: Reader> LineRows<R> {
         &self.header
     }
 
-    /// Within a sequence the addresses of the rows to come do not fall: a law, with no code.
-    pub fn rises(&self)
-        ensures rise { NeverFalls (rows_before self.now.left) }
-    {
-        let _ = &self.header;
-    }
-
     /// The next row; none at the end, and after a refusal.
     ///
-    /// Refused where an opcode is: the refusals of its numbers, `UnexpectedEof` where its bytes aren't whole,
-    /// `AddressOverflow` at the first opcode after which the address passes its size, and `OutOfMemory`
-    /// where a file is still to be defined: no other opcode takes memory. Source: DWARF 5, section 6.2.5.
+    /// The header has each file that is defined before the row, also where the answer is a refusal. Refused
+    /// where an opcode is: the refusals of its numbers, `UnexpectedEof` where its bytes aren't whole, and
+    /// `AddressOverflow` at the first opcode after which the address passes its size. May fail with
+    /// `OutOfMemory` instead where a file is defined before the next row: no other opcode takes memory.
+    /// Source: DWARF 5, section 6.2.5.
     pub fn next_row(&mut self) -> Result<Option<LineRow>, Error>
         ensures gives { YieldsUnlessOom self.old.left result self.new.left }
+        ensures memory { IfErr result (λ e. self.old.ahead ≡ [] → self.old.left ≡ Err e ∷ []) }
+        ensures header { DefinesAhead self.old.header self.old.ahead result self.new.header }
         ensures files { OnOk result (KeepsFiles self.old self.new) }
-        ensures memory { IfErr result (λ e. self.old.to_define ≡ [] → self.old.left ≡ Err e ∷ []) }
-        ensures all { IfOk result (λ row. row ≡ None → self.new.to_define ≡ []) }
+        ensures all { IfOk result (λ row. row ≡ None → IsOver self.new) }
+        ensures refused { OnErr result (IsOver self.new) }
     {
-        let found = find_row(
-            &self.machine,
-            &mut self.header,
-            &mut self.registers,
-            &mut self.program,
-        );
+        let found = find_row(&mut self.header, &mut self.registers, &mut self.program);
         if found.is_err() {
-            pass_over(&mut self.program);
+            skip_rest(&mut self.program);
             self.registers = Registers::start();
         }
         found
     }
 }
 
-/// Within a sequence the addresses of a program's rows do not fall, whatever its opcodes: a law, with no
-/// code.
-pub fn rows_laws()
-    ensures rise { RowsRise }
-{}
-
 // Leaves nothing to read.
-fn pass_over<R: Reader>(input: &mut R)
+fn skip_rest<R: Reader>(input: &mut R)
     ensures none { (R.section input.new).bytes ≡ [] }
 {
     let len = input.len();
     let _ = input.skip(len);
 }
 
-// Takes an instruction in, and gives the row that it puts out, if any.
+// Takes an instruction in, and gives the row that it appends, if any.
 #[tactic(auto, unfolding(crate::specs::Steps::taken))]
 fn take_instruction<R: Reader>(
-    machine: &Machine,
     header: &mut LineProgramHeader<R>,
     registers: &mut Registers,
     instruction: LineInstruction<FileEntry<R>>,
 ) -> Result<Option<LineRow>, Error>
-    requires same { machine.now.encoding ≡ header.old.line_encoding }
-    requires index { registers.old.op_index < machine.now.encoding.maximum_operations_per_instruction }
-    requires fits { registers.old.address < limit machine.now.encoding }
-    ensures gives { ExactlyUnlessOom (λ x. (x, registers.new, header.new)) result
+    requires running { IsRunning header.old.line_encoding registers.old }
+    ensures gives { ExactlyUnlessOomIf (is_file instruction) (λ x. (x, registers.new, header.new)) result
         (taken header.old registers.old instruction) }
-    ensures memory { IfErr result (λ e. is_file instruction ≡ false
-        → taken header.old registers.old instruction ≡ Err e) }
-    ensures same { machine.now.encoding ≡ header.new.line_encoding }
-    ensures index { OnOk result (registers.new.op_index < machine.now.encoding.maximum_operations_per_instruction) }
-    ensures fits { OnOk result (registers.new.address < limit machine.now.encoding) }
+    ensures running { OnOk result (IsRunning header.new.line_encoding registers.new) }
+    ensures kept { OnErr result (header.new ≡ header.old) }
 {
     match instruction {
-        LineInstruction::Changes(opcode) => registers.execute(machine, opcode),
+        LineInstruction::Changes(opcode) => registers.execute(&header.parameters, opcode),
         LineInstruction::Defines(file) => {
             header.file_names.push(file)?;
             Ok(None)
@@ -167,66 +141,55 @@ fn take_instruction<R: Reader>(
     }
 }
 
-// Runs the instruction behind an opcode's code, and gives the row that it puts out, if any. Special opcodes
-// stand in most rows: theirs is the short way.
+// Reads the instruction that has this code, takes it in, and gives the row that it appends, if any. Most rows
+// are those of special opcodes: theirs is the short way.
 #[inline(always)]
-#[tactic(auto, unfolding(crate::specs::Steps::ran, crate::specs::Steps::taken, crate::specs::Opcode::behind_code))]
-fn run_behind_code<R: Reader>(
-    machine: &Machine,
+#[tactic(auto, unfolding(crate::specs::Steps::step_instruction, crate::specs::Steps::taken, crate::specs::Opcode::coded_instruction_at))]
+fn step_instruction<R: Reader>(
     header: &mut LineProgramHeader<R>,
     registers: &mut Registers,
     code: u8,
     program: &mut R,
 ) -> Result<Option<LineRow>, Error>
-    requires same { machine.now.encoding ≡ header.old.line_encoding }
-    requires index { registers.old.op_index < machine.now.encoding.maximum_operations_per_instruction }
-    requires fits { registers.old.address < limit machine.now.encoding }
-    ensures gives { ExactlyUnlessOom (λ x. (x, registers.new, header.new, R.section program.new)) result
-        (ran header.old registers.old code (R.section program.old)) }
-    ensures memory { IfErr result (λ e.
-        gives_file (behind_code header.old code (R.section program.old)) ≡ false
-        → ran header.old registers.old code (R.section program.old) ≡ Err e) }
-    ensures same { machine.now.encoding ≡ header.new.line_encoding }
-    ensures index { OnOk result (registers.new.op_index < machine.now.encoding.maximum_operations_per_instruction) }
-    ensures fits { OnOk result (registers.new.address < limit machine.now.encoding) }
+    requires running { IsRunning header.old.line_encoding registers.old }
+    ensures gives { ExactlyUnlessOomIf (gives_file (coded_instruction_at header.old code (R.section program.old)))
+        (λ x. (x, registers.new, header.new, R.section program.new)) result
+        (step_instruction header.old registers.old code (R.section program.old)) }
+    ensures running { OnOk result (IsRunning header.new.line_encoding registers.new) }
+    ensures kept { OnErr result (header.new ≡ header.old) }
 {
     if code == 0 {
         let instruction = read_extended(header, program)?;
-        return take_instruction(machine, header, registers, instruction);
+        return take_instruction(header, registers, instruction);
     }
-    if code >= header.line_encoding.opcode_base {
-        let opcode = Opcode::Special(code - header.line_encoding.opcode_base);
-        return registers.execute(machine, opcode);
+    let opcode_base = header.parameters.encoding.opcode_base;
+    if code >= opcode_base {
+        return registers.execute(&header.parameters, Opcode::Special(code - opcode_base));
     }
-    run_standard(machine, header, registers, code, program)
+    step_standard(header, registers, code, program)
 }
 
 // Runs the program up to its next row.
 fn find_row<R: Reader>(
-    machine: &Machine,
     header: &mut LineProgramHeader<R>,
     registers: &mut Registers,
     program: &mut R,
 ) -> Result<Option<LineRow>, Error>
-    requires same { machine.now.encoding ≡ header.old.line_encoding }
-    requires index { registers.old.op_index < machine.now.encoding.maximum_operations_per_instruction }
-    requires fits { registers.old.address < limit machine.now.encoding }
+    requires running { IsRunning header.old.line_encoding registers.old }
     ensures gives { Finds (rows_left header.old registers.old (R.section program.old)) result
         (rows_left header.new registers.new (R.section program.new)) }
-    ensures memory { IfErr result (λ e.
-        files_left header.old (R.section program.old) ≡ []
+    ensures memory { IfErr result (λ e. ahead_left header.old registers.old (R.section program.old) ≡ []
         → rows_left header.old registers.old (R.section program.old) ≡ Err e ∷ []) }
-    ensures all { IfOk result (λ row. row ≡ None
-        → files_left header.new (R.section program.new) ≡ []) }
+    ensures header { DefinesAhead header.old (ahead_left header.old registers.old (R.section program.old))
+        result header.new }
     ensures files { OnOk result (DefinesOn header.old (R.section program.old)
         header.new (R.section program.new)) }
-    ensures same { machine.now.encoding ≡ header.new.line_encoding }
-    ensures index { OnOk result (registers.new.op_index < machine.now.encoding.maximum_operations_per_instruction) }
-    ensures fits { OnOk result (registers.new.address < limit machine.now.encoding) }
+    ensures all { IfOk result (λ row. row ≡ None → (R.section program.new).bytes ≡ []) }
+    ensures running { OnOk result (IsRunning header.new.line_encoding registers.new) }
 {
     while !program.is_empty() {
         let code = program.read_u8()?;
-        if let Some(row) = run_behind_code(machine, header, registers, code, program)? {
+        if let Some(row) = step_instruction(header, registers, code, program)? {
             return Ok(Some(row));
         }
     }

@@ -4,10 +4,10 @@ ghost use Rattle.std.specs.Prelude.{◌≡◌, ◌+◌, ◌/◌, ◌%◌, ◌^�
 ghost use Rattle.gimli_read.specs.Reading.{Exactly};
 ghost use Rattle.gimli_line.specs.Encoding.{limit};
 ghost use Rattle.gimli_line.specs.Rows.{moved, line_advance, is_tombstone, is_end, makes_row};
-ghost use Rattle.gimli_line.specs.Steps.{start, advanced, placed, pushed, step, fitting, row, row_of, next, executed};
+ghost use Rattle.gimli_line.specs.Steps.{IsRunning, start, advanced, placed, pushed, step, fitting, row, row_of, next, executed};
 
-use crate::machine::Machine;
 use crate::opcode::Opcode;
+use crate::parameters::LineParameters;
 use crate::row::LineRow;
 use gimli_read::Error;
 
@@ -24,7 +24,7 @@ pub struct Registers {
     pub line: u64,
     /// The column.
     pub column: u64,
-    /// Whether rows and address changes count for nothing.
+    /// Whether rows and address changes are discarded.
     pub dropping: bool,
 }
 
@@ -40,33 +40,33 @@ fn move_line(line: u64, by: i64) -> u64
 }
 
 // By how many lines a special opcode moves the line.
-fn special_advance(machine: &Machine, n: u8) -> i64
-    ensures gives { result ≡ line_advance machine.now.encoding n }
+fn special_advance(parameters: &LineParameters, n: u8) -> i64
+    ensures gives { result ≡ line_advance parameters.now.encoding n }
 {
-    i64::from(machine.encoding.line_base) + i64::from(machine.remainder(n))
+    i64::from(parameters.encoding.line_base) + i64::from(parameters.remainder(n))
 }
 
 // The full instructions in operations, and the operations that are left over.
-fn instructions(machine: &Machine, op_index: u8, operations: u64) -> (u64, u8)
-    requires index { op_index < machine.now.encoding.maximum_operations_per_instruction }
+fn instructions(parameters: &LineParameters, op_index: u8, operations: u64) -> (u64, u8)
+    requires index { op_index < parameters.now.encoding.maximum_operations_per_instruction }
     ensures full { result.0
-        ≡ (op_index + operations) / machine.now.encoding.maximum_operations_per_instruction }
+        ≡ (op_index + operations) / parameters.now.encoding.maximum_operations_per_instruction }
     ensures left { result.1
-        ≡ (op_index + operations) % machine.now.encoding.maximum_operations_per_instruction }
+        ≡ (op_index + operations) % parameters.now.encoding.maximum_operations_per_instruction }
 {
-    if machine.encoding.maximum_operations_per_instruction == 1 {
+    if parameters.encoding.maximum_operations_per_instruction == 1 {
         return (operations, 0);
     }
-    let most = u64::from(machine.encoding.maximum_operations_per_instruction);
+    let most = u64::from(parameters.encoding.maximum_operations_per_instruction);
     let rest = operations % most + u64::from(op_index);
     (operations / most + rest / most, (rest % most) as u8)
 }
 
-// Whether code at an address isn't there, or is behind the current one.
-fn starts_dropping(machine: &Machine, address: u64, current: u64) -> bool
-    ensures gives { result ≡ (is_tombstone machine.now.encoding address || nat_lt address current) }
+// Whether an address stands for code that isn't there, or is below the current one.
+fn starts_dropping(parameters: &LineParameters, address: u64, current: u64) -> bool
+    ensures gives { result ≡ (is_tombstone parameters.now.encoding address || nat_lt address current) }
 {
-    machine.greatest <= address.saturating_add(1) || address < current
+    parameters.greatest <= address.saturating_add(1) || address < current
 }
 
 fn ends(opcode: Opcode) -> bool
@@ -97,14 +97,14 @@ impl Registers {
     }
 
     // Adds bytes to the address.
-    fn add(&mut self, machine: &Machine, bytes: u64, op_index: u8) -> Result<(), Error>
-        ensures gives { Exactly (λ _. self.new) result
-            (fitting machine.now.encoding (record self.old { address = self.old.address + bytes; op_index = op_index })) }
+    fn add(&mut self, parameters: &LineParameters, bytes: u64, op_index: u8) -> Result<(), Error>
+        ensures gives { Exactly (λ _. self.new) result (fitting parameters.now.encoding
+            (record self.old { address = self.old.address + bytes; op_index = op_index })) }
     {
         let Some(address) = self.address.checked_add(bytes) else {
             return Err(Error::AddressOverflow);
         };
-        if address > machine.greatest {
+        if address > parameters.greatest {
             return Err(Error::AddressOverflow);
         }
         self.address = address;
@@ -112,41 +112,41 @@ impl Registers {
         Ok(())
     }
 
-    // Passes over operations.
+    // Advances by operations.
     #[inline(always)]
-    fn advance(&mut self, machine: &Machine, operations: u64) -> Result<(), Error>
-        requires index { self.old.op_index < machine.now.encoding.maximum_operations_per_instruction }
-        requires fits { self.old.address < limit machine.now.encoding }
-        ensures gives { Exactly (λ _. self.new) result (fitting machine.now.encoding (advanced machine.now.encoding operations self.old)) }
+    fn advance(&mut self, parameters: &LineParameters, operations: u64) -> Result<(), Error>
+        requires running { IsRunning parameters.now.encoding self.old }
+        ensures gives { Exactly (λ _. self.new) result
+            (fitting parameters.now.encoding (advanced parameters.now.encoding operations self.old)) }
     {
         if self.dropping {
             return Ok(());
         }
-        let (full, left) = instructions(machine, self.op_index, operations);
-        match full.checked_mul(u64::from(machine.encoding.minimum_instruction_length)) {
+        let (full, left) = instructions(parameters, self.op_index, operations);
+        match full.checked_mul(u64::from(parameters.encoding.minimum_instruction_length)) {
             None => Err(Error::AddressOverflow),
-            Some(bytes) => self.add(machine, bytes, left),
+            Some(bytes) => self.add(parameters, bytes, left),
         }
     }
 
-    // Passes over bytes.
-    fn push(&mut self, machine: &Machine, bytes: u16) -> Result<(), Error>
-        requires fits { self.old.address < limit machine.now.encoding }
-        ensures gives { Exactly (λ _. self.new) result (fitting machine.now.encoding (pushed bytes self.old)) }
+    // Advances by bytes.
+    fn push(&mut self, parameters: &LineParameters, bytes: u16) -> Result<(), Error>
+        requires running { IsRunning parameters.now.encoding self.old }
+        ensures gives { Exactly (λ _. self.new) result
+            (fitting parameters.now.encoding (pushed bytes self.old)) }
     {
         if self.dropping {
             return Ok(());
         }
-        self.add(machine, u64::from(bytes), 0)
+        self.add(parameters, u64::from(bytes), 0)
     }
 
     // Sets the address.
-    fn place(&mut self, machine: &Machine, address: u64)
-        requires fits { self.old.address < limit machine.now.encoding }
-        ensures gives { self.new ≡ placed machine.now.encoding address self.old }
-        ensures fits { self.new.address < limit machine.now.encoding }
+    fn place(&mut self, parameters: &LineParameters, address: u64)
+        requires running { IsRunning parameters.now.encoding self.old }
+        ensures gives { self.new ≡ placed parameters.now.encoding address self.old }
     {
-        if starts_dropping(machine, address, self.address) {
+        if starts_dropping(parameters, address, self.address) {
             self.dropping = true;
         } else {
             self.address = address;
@@ -155,28 +155,28 @@ impl Registers {
         }
     }
 
-    // Takes an opcode in.
+    // The registers after an opcode.
     #[inline(always)]
-    fn apply(&mut self, machine: &Machine, opcode: Opcode) -> Result<(), Error>
-        requires index { self.old.op_index < machine.now.encoding.maximum_operations_per_instruction }
-        requires fits { self.old.address < limit machine.now.encoding }
-        ensures gives { Exactly (λ _. self.new) result (fitting machine.now.encoding (step machine.now.encoding self.old opcode)) }
+    fn step(&mut self, parameters: &LineParameters, opcode: Opcode) -> Result<(), Error>
+        requires running { IsRunning parameters.now.encoding self.old }
+        ensures gives { Exactly (λ _. self.new) result
+            (fitting parameters.now.encoding (step parameters.now.encoding self.old opcode)) }
     {
         match opcode {
             Opcode::Special(n) => {
-                self.line = move_line(self.line, special_advance(machine, n));
-                return self.advance(machine, u64::from(machine.quotient(n)));
+                self.line = move_line(self.line, special_advance(parameters, n));
+                return self.advance(parameters, u64::from(parameters.quotient(n)));
             }
-            Opcode::AdvancePc(n) => return self.advance(machine, n),
+            Opcode::AdvancePc(n) => return self.advance(parameters, n),
             Opcode::ConstAddPc => {
-                let last = u64::from(machine.quotient(255 - machine.encoding.opcode_base));
-                return self.advance(machine, last);
+                let last = u64::from(parameters.quotient(255 - parameters.encoding.opcode_base));
+                return self.advance(parameters, last);
             }
-            Opcode::FixedAdvancePc(n) => return self.push(machine, n),
+            Opcode::FixedAdvancePc(n) => return self.push(parameters, n),
             Opcode::AdvanceLine(by) => self.line = move_line(self.line, by),
             Opcode::SetFile(n) => self.file_index = n,
             Opcode::SetColumn(n) => self.column = n,
-            Opcode::SetAddress(a) => self.place(machine, a),
+            Opcode::SetAddress(a) => self.place(parameters, a),
             Opcode::Copy | Opcode::EndSequence | Opcode::Other => {}
         }
         Ok(())
@@ -196,21 +196,20 @@ impl Registers {
         }
     }
 
-    /// Takes an opcode in, and gives the row that it puts out, if any.
+    /// Takes an opcode in, and gives the row that it appends, if any.
     #[inline(always)]
     #[tactic(auto, unfolding(crate::specs::Steps::executed))]
     pub(crate) fn execute(
         &mut self,
-        machine: &Machine,
+        parameters: &LineParameters,
         opcode: Opcode,
     ) -> Result<Option<LineRow>, Error>
-        requires index { self.old.op_index < machine.now.encoding.maximum_operations_per_instruction }
-        requires fits { self.old.address < limit machine.now.encoding }
-        ensures gives { Exactly (λ x. (x, self.new)) result (executed machine.now.encoding self.old opcode) }
-        ensures index { OnOk result (self.new.op_index < machine.now.encoding.maximum_operations_per_instruction) }
-        ensures fits { OnOk result (self.new.address < limit machine.now.encoding) }
+        requires running { IsRunning parameters.now.encoding self.old }
+        ensures gives { Exactly (λ x. (x, self.new)) result
+            (executed parameters.now.encoding self.old opcode) }
+        ensures running { OnOk result (IsRunning parameters.now.encoding self.new) }
     {
-        self.apply(machine, opcode)?;
+        self.step(parameters, opcode)?;
         if ends(opcode) {
             let row = self.row(true);
             *self = Registers::start();

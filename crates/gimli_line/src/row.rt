@@ -11,8 +11,8 @@ pub struct LineRow {
     pub line: u64,
     /// The column, counted from 1; 0 for the line's begin.
     pub column: u64,
-    /// Whether it only ends a sequence; its address is the one behind the sequence.
+    /// Whether it only ends a sequence; its address is the first one after the sequence.
     pub end_sequence: bool,
-    /// Whether it ends a sequence that counts for nothing.
+    /// Whether it is the end row of a discarded sequence.
     pub dropped: bool,
 }

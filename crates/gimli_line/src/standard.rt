@@ -1,21 +1,24 @@
 //! The standard opcodes of line programs.
 
 ghost use Rattle.std.specs.Prelude.{◌≡◌, ◌<◌, ◌-◌, OnOk, slice_index};
-ghost use Rattle.gimli_read.specs.Reading.{Exactly};
-ghost use Rattle.gimli_line.specs.Encoding.{limit};
+ghost use Rattle.gimli_read.specs.Reading.{Exactly, Reads};
 ghost use Rattle.gimli_line.specs.Opcode.{numbers_skipped};
-ghost use Rattle.gimli_line.specs.Steps.{ran_standard};
+ghost use Rattle.gimli_line.specs.Steps.{IsRunning, step_standard};
 
+use crate::constants::{
+    DW_LNS_advance_line, DW_LNS_advance_pc, DW_LNS_const_add_pc, DW_LNS_copy,
+    DW_LNS_fixed_advance_pc, DW_LNS_negate_stmt, DW_LNS_set_basic_block, DW_LNS_set_column,
+    DW_LNS_set_epilogue_begin, DW_LNS_set_file, DW_LNS_set_isa, DW_LNS_set_prologue_end,
+};
 use crate::header::LineProgramHeader;
-use crate::machine::Machine;
 use crate::opcode::Opcode;
 use crate::registers::Registers;
 use crate::row::LineRow;
 use gimli_read::{Error, Reader};
 
-// Passes over numbers.
+// Skips numbers.
 fn skip_numbers<R: Reader>(input: &mut R, count: u8) -> Result<(), Error>
-    ensures gives { Exactly (λ x. (x, R.section input.new)) result (numbers_skipped count (R.section input.old)) }
+    ensures gives { Reads R.section input.old input.new result (numbers_skipped count) }
 {
     for _ in 0..count {
         input.read_uleb128()?;
@@ -23,7 +26,7 @@ fn skip_numbers<R: Reader>(input: &mut R, count: u8) -> Result<(), Error>
     Ok(())
 }
 
-// How many numbers a standard opcode has that isn't known.
+// How many numbers an unknown standard opcode has.
 fn count_of<R: Reader>(header: &LineProgramHeader<R>, code: u8) -> u8
     requires some { 0 < code }
     ensures gives { result ≡ slice_index header.now.standard_opcode_lengths.bytes (code - 1) }
@@ -38,61 +41,58 @@ fn count_of<R: Reader>(header: &LineProgramHeader<R>, code: u8) -> u8
     }
 }
 
-/// Reads the operands of a standard opcode, takes it in, and gives the row that it puts out, if any.
+/// Reads the operands of a standard opcode, takes it in, and gives the row that it appends, if any.
 ///
-/// Each opcode is taken in where its operands are read, so that none is kept and looked at again.
+/// Each opcode is taken in where its operands are read, so that none is stored and looked at again.
 #[inline(always)]
-#[tactic(auto, unfolding(crate::specs::Opcode::standard_at, crate::specs::Steps::ran_standard))]
-pub(crate) fn run_standard<R: Reader>(
-    machine: &Machine,
+#[tactic(auto, unfolding(crate::specs::Opcode::standard_at, crate::specs::Steps::step_standard))]
+pub(crate) fn step_standard<R: Reader>(
     header: &LineProgramHeader<R>,
     registers: &mut Registers,
     code: u8,
     input: &mut R,
 ) -> Result<Option<LineRow>, Error>
     requires some { 0 < code }
-    requires same { machine.now.encoding ≡ header.now.line_encoding }
-    requires index { registers.old.op_index < machine.now.encoding.maximum_operations_per_instruction }
-    requires fits { registers.old.address < limit machine.now.encoding }
+    requires running { IsRunning header.now.line_encoding registers.old }
     ensures gives { Exactly (λ x. (x, registers.new, R.section input.new)) result
-        (ran_standard header.now registers.old code (R.section input.old)) }
-    ensures index { OnOk result (registers.new.op_index < machine.now.encoding.maximum_operations_per_instruction) }
-    ensures fits { OnOk result (registers.new.address < limit machine.now.encoding) }
+        (step_standard header.now registers.old code (R.section input.old)) }
+    ensures running { OnOk result (IsRunning header.now.line_encoding registers.new) }
 {
+    let parameters = &header.parameters;
     match code {
-        1 => registers.execute(machine, Opcode::Copy),
-        2 => {
+        DW_LNS_copy => registers.execute(parameters, Opcode::Copy),
+        DW_LNS_advance_pc => {
             let operations = input.read_uleb128()?;
-            registers.execute(machine, Opcode::AdvancePc(operations))
+            registers.execute(parameters, Opcode::AdvancePc(operations))
         }
-        3 => {
+        DW_LNS_advance_line => {
             let by = input.read_sleb128()?;
-            registers.execute(machine, Opcode::AdvanceLine(by))
+            registers.execute(parameters, Opcode::AdvanceLine(by))
         }
-        4 => {
+        DW_LNS_set_file => {
             let file = input.read_uleb128()?;
-            registers.execute(machine, Opcode::SetFile(file))
+            registers.execute(parameters, Opcode::SetFile(file))
         }
-        5 => {
+        DW_LNS_set_column => {
             let column = input.read_uleb128()?;
-            registers.execute(machine, Opcode::SetColumn(column))
+            registers.execute(parameters, Opcode::SetColumn(column))
         }
-        6 => registers.execute(machine, Opcode::Other),
-        7 => registers.execute(machine, Opcode::Other),
-        8 => registers.execute(machine, Opcode::ConstAddPc),
-        9 => {
+        DW_LNS_negate_stmt => registers.execute(parameters, Opcode::Other),
+        DW_LNS_set_basic_block => registers.execute(parameters, Opcode::Other),
+        DW_LNS_const_add_pc => registers.execute(parameters, Opcode::ConstAddPc),
+        DW_LNS_fixed_advance_pc => {
             let bytes = input.read_u16()?;
-            registers.execute(machine, Opcode::FixedAdvancePc(bytes))
+            registers.execute(parameters, Opcode::FixedAdvancePc(bytes))
         }
-        10 => registers.execute(machine, Opcode::Other),
-        11 => registers.execute(machine, Opcode::Other),
-        12 => {
+        DW_LNS_set_prologue_end => registers.execute(parameters, Opcode::Other),
+        DW_LNS_set_epilogue_begin => registers.execute(parameters, Opcode::Other),
+        DW_LNS_set_isa => {
             input.read_uleb128()?;
-            registers.execute(machine, Opcode::Other)
+            registers.execute(parameters, Opcode::Other)
         }
         _ => {
             skip_numbers(input, count_of(header, code))?;
-            registers.execute(machine, Opcode::Other)
+            registers.execute(parameters, Opcode::Other)
         }
     }
 }

@@ -1,20 +1,21 @@
 -- What is read of an abbreviation takes bytes (on specs/Abbrev.antt).
-use Rattle.std.proofs.Common.{◌≡◌, ℕ, zero, suc, ◌+◌, ◌<◌, List, [], ◌∷◌, ◌++◌, length, Option, Some, None, is_some, Result, Ok, Err, Bool, true, false, cond, IfOk, IfSome, nat_lt, ◌==◌, ◌&&◌, ◌||◌, refl, ap, sym, ◌∙◌, arith, add-one}
+use Rattle.std.proofs.Common.{◌≡◌, ◌≢◌, ◌⊎◌, inl, inr, is_ok, ℕ, zero, suc, ◌+◌, ◌<◌, List, [], ◌∷◌, ◌++◌, length, Option, Some, None, is_some, Result, Ok, Err, Bool, true, false, cond, IfOk, IfSome, nat_lt, ◌==◌, ◌&&◌, ◌||◌, refl, ap, sym, ◌∙◌, arith, add-one}
 use Rattle.std.proofs.lemmas.Bool.Decides.{nat_tests}
+use Rattle.gimli_read.specs.declared.constants.TheConstants.DwForm.{DW_FORM_implicit_const}
+use Rattle.gimli_read.specs.declared.constants.DwTag.{DwTag}
 use Rattle.gimli_read.specs.declared.error.Error.{Error}
-use Rattle.gimli_read.specs.declared.error.Error.TheVariants.{BadAbbreviation}
+use Rattle.gimli_read.specs.declared.error.Error.TheVariants.{OutOfMemory, BadAbbreviation}
 use Rattle.gimli_read.specs.Section.{Section}
 use Rattle.gimli_read.specs.Reading.{Reading, ◌>>=◌, refused_if}
-use Rattle.gimli_read.specs.Number.{fixed_at}
 use Rattle.gimli_read.specs.Leb128.{uleb128_at}
 use Rattle.gimli_read.specs.Abbreviations.{Specification, Abbrev, with_code, HasDistinctCodes}
-use Rattle.gimli_read.specs.Abbrev.{constant_at, specification_at, specifications_at, declaration_at, abbreviation_at, extended, table_within}
+use Rattle.gimli_read.specs.Abbrev.{constant_at, specification_at, specifications_at, head_at, declaration_at, abbreviation_at, extended, table_within, head_and_pair_at, front_at, takes_memory}
 use Rattle.gimli_read.proofs.Shorter.{Shorter, shorter_bind, shorter_then, shorter_if, shorter_err, shorter_ok, fixed-shorter, uleb128-shorter, sleb128-shorter, TakesBytes, takes_by, shorter_by}
-use Rattle.gimli_read.proofs.Steps.{same_value, end_is_none}
-use Rattle.gimli_read.proofs.RunLemmas.{collected-shorter}
+use Rattle.gimli_read.proofs.Steps.{bind_ok, same_value, end_is_none}
+use Rattle.gimli_read.proofs.RunLemmas.{collected-shorter, collected-fault}
 
 constant_shorter : (n : ℕ) (form : ℕ) (s : Section) → length s.bytes < n → Shorter n (constant_at form s)
-constant_shorter n form s h = shorter_if (form == 0x21) (shorter_bind (sleb128-shorter s) (λ c k. shorter_ok (omega arith))) (shorter_ok h)
+constant_shorter n form s h = shorter_if (form == DW_FORM_implicit_const.0) (shorter_bind (sleb128-shorter s) (λ c k. shorter_ok (omega arith))) (shorter_ok h)
 
 specification_shorter : (s : Section) → Shorter (length s.bytes) (specification_at s)
 unfolding specification_at
@@ -26,19 +27,24 @@ specification_shorter s =
 pub specification_takes : TakesBytes specification_at
 specification_takes = takes_by specification_at specification_shorter
 
+head_shorter : (s : Section) → Shorter (length s.bytes) (head_at s)
+unfolding head_at
+head_shorter s =
+    shorter_bind (uleb128-shorter s) (λ t ht. shorter_then (refused_if (t.0 == 0) BadAbbreviation) (λ _.
+    shorter_bind (fixed-shorter 1 t.1 (omega arith)) (λ c hc. shorter_then (refused_if (nat_lt 1 c.0) BadAbbreviation) (λ _. shorter_ok (omega arith)))))
+
 declaration_shorter : (code : ℕ) (s : Section) → Shorter (length s.bytes) (declaration_at code s)
 unfolding declaration_at
 declaration_shorter code s =
-    shorter_bind (uleb128-shorter s) (λ t ht. shorter_then (refused_if (t.0 == 0) BadAbbreviation) (λ _.
-    shorter_bind (fixed-shorter 1 t.1 (omega arith)) (λ c hc. shorter_then (refused_if (nat_lt 1 c.0) BadAbbreviation) (λ _.
-    shorter_bind (collected-shorter specification_at specification_shorter (length c.1.bytes + 1) c.1) (λ x h. shorter_ok (omega arith))))))
+    shorter_bind (head_shorter s) (λ x hx.
+    shorter_bind (collected-shorter specification_at specification_shorter (length x.1.bytes + 1) x.1) (λ y hy. shorter_ok (omega arith)))
 
--- a code, and what stands behind it
-abbrev behind_code : List Abbrev → ℕ × Section → Reading (Option Abbrev)
-behind_code table code = cond (code.0 == 0) (Ok (None, code.1)) (refused_if (is_some (with_code code.0 table)) BadAbbreviation >>= λ _. declaration_at code.0 code.1 >>= λ a. Ok (Some a.0, a.1))
+-- a code, and what follows it
+abbrev after_code : List Abbrev → ℕ × Section → Reading (Option Abbrev)
+after_code table code = cond (code.0 == 0) (Ok (None, code.1)) (refused_if (is_some (with_code code.0 table)) BadAbbreviation >>= λ _. declaration_at code.0 code.1 >>= λ a. Ok (Some a.0, a.1))
 
-behind_code_shorter : (table : List Abbrev) (s : Section) → Shorter (length s.bytes) (uleb128_at s >>= behind_code table)
-behind_code_shorter table s =
+after_code_shorter : (table : List Abbrev) (s : Section) → Shorter (length s.bytes) (uleb128_at s >>= after_code table)
+after_code_shorter table s =
     shorter_bind (uleb128-shorter s) (λ code hc. shorter_if (code.0 == 0) (shorter_ok hc)
     (shorter_then (refused_if (is_some (with_code code.0 table)) BadAbbreviation) (λ _. shorter_bind (declaration_shorter code.0 code.1) (λ a ha. shorter_ok (omega arith)))))
 
@@ -51,9 +57,9 @@ abbreviation_takes table s = at (length s.bytes == 0)
     out (Ok (None, t)) k = tt
     out (Err e) k = tt
 
-    at : (b : Bool) → IfOk {T = Option Abbrev × Section} (cond b (Ok (None, s)) (uleb128_at s >>= behind_code table)) (λ p. IfSome p.0 (λ _. length p.1.bytes < length s.bytes))
+    at : (b : Bool) → IfOk {T = Option Abbrev × Section} (cond b (Ok (None, s)) (uleb128_at s >>= after_code table)) (λ p. IfSome p.0 (λ _. length p.1.bytes < length s.bytes))
     at true = tt
-    at false = out _ (behind_code_shorter table s)
+    at false = out _ (after_code_shorter table s)
 
 -- two ways on that agree on what is shorter
 agrees : (table : List Abbrev) (s : Section) (j k : List Abbrev → Section → Result (List Abbrev) Error) → ((u : List Abbrev) (t : Section) → length t.bytes < length s.bytes → j u t ≡ k u t)
@@ -90,44 +96,26 @@ abbreviation_less table s t a h = shorter_by (abbreviation_at table) (abbreviati
 
 -- ---- distinct codes
 
--- the last steps of a declaration, and of an abbreviation
-abbrev finished : ℕ → ℕ → ℕ → List Specification × Section → Reading Abbrev
-finished code tag flag x = Ok (record { code = code; tag = record { 0 = tag }; has_children = flag == 1; attributes = x.0 }, x.1)
-
+-- the last step of an abbreviation
 abbrev found_some : Abbrev × Section → Reading (Option Abbrev)
 found_some x = Ok (Some x.0, x.1)
 
--- what stands behind a code has that code
+-- an abbreviation of a head and its attributes
+abbrev coded : ℕ → DwTag × Bool → List Specification → Abbrev
+coded code head xs = record { code = code; tag = head.0; has_children = head.1; attributes = xs }
+
+-- what follows a code has that code
 declaration_code : (code : ℕ) (s : Section) (a : Abbrev) (t : Section) → declaration_at code s ≡ Ok (a, t) → a.code ≡ code
 unfolding declaration_at
-declaration_code code s a t h = at_tag (uleb128_at s) h
-  where
-    told : (x : Abbrev) (u : Section) → x.code ≡ code → ◌≡◌ {A = Reading Abbrev} (Ok (x, u)) (Ok (a, t)) → a.code ≡ code
-    told x u k e = let same : x ≡ a = same_value {A = Abbrev} {B = Section} (x, u) (a, t) e in ap (λ (y : Abbrev). y.code) (sym same) ∙ k
-
-    at_attributes : (tag flag : ℕ) (r : Reading (List Specification)) → (r >>= finished code tag flag) ≡ Ok (a, t) → a.code ≡ code
-    at_attributes tag flag (Err e) h = cc
-    at_attributes tag flag (Ok x) h = told (record { code = code; tag = record { 0 = tag }; has_children = flag == 1; attributes = x.0 }) x.1 refl h
-
-    at_flag : (tag : ℕ) (c : ℕ × Section) (r : Result (Unit {0}) Error) → (r >>= λ _. specifications_at c.1 >>= finished code tag c.0) ≡ Ok (a, t) → a.code ≡ code
-    at_flag tag c (Err e) h = cc
-    at_flag tag c (Ok u) h = at_attributes tag c.0 (specifications_at c.1) h
-
-    at_children : (tag : ℕ) (r : Reading ℕ) → (r >>= λ c. refused_if (nat_lt 1 c.0) BadAbbreviation >>= λ _. specifications_at c.1 >>= finished code tag c.0) ≡ Ok (a, t) → a.code ≡ code
-    at_children tag (Err e) h = cc
-    at_children tag (Ok c) h = at_flag tag c (refused_if (nat_lt 1 c.0) BadAbbreviation) h
-
-    at_known : (tag : ℕ × Section) (r : Result (Unit {0}) Error) → (r >>= λ _. fixed_at 1 tag.1 >>= λ c. refused_if (nat_lt 1 c.0) BadAbbreviation >>= λ _. specifications_at c.1 >>= finished code tag.0 c.0) ≡ Ok (a, t) → a.code ≡ code
-    at_known tag (Err e) h = cc
-    at_known tag (Ok u) h = at_children tag.0 (fixed_at 1 tag.1) h
-
-    at_tag : (r : Reading ℕ) → (r >>= λ tag. refused_if (tag.0 == 0) BadAbbreviation >>= λ _. fixed_at 1 tag.1 >>= λ c. refused_if (nat_lt 1 c.0) BadAbbreviation >>= λ _. specifications_at c.1 >>= finished code tag.0 c.0) ≡ Ok (a, t) → a.code ≡ code
-    at_tag (Err e) h = cc
-    at_tag (Ok tag) h = at_known tag (refused_if (tag.0 == 0) BadAbbreviation) h
+declaration_code code s a t h =
+    let x = bind_ok (head_at s) (λ x. specifications_at x.1 >>= λ y. Ok (coded code x.0 y.0, y.1)) (a, t) h in
+    let y = bind_ok (specifications_at x.0.1) (λ y. Ok (coded code x.0.0 y.0, y.1)) (a, t) x.2 in
+    let same : coded code x.0.0 y.0.0 ≡ a = same_value {A = Abbrev} {B = Section} (coded code x.0.0 y.0.0, y.0.1) (a, t) y.2 in
+    ap (λ (z : Abbrev). z.code) (sym same)
 
 -- an abbreviation that is read has a code that the table hasn't
 pub abbreviation_new : (table : List Abbrev) (s t : Section) (a : Abbrev) → abbreviation_at table s ≡ Ok (Some a, t) → with_code a.code table ≡ None
-unfolding abbreviation_at declaration_at
+unfolding abbreviation_at
 abbreviation_new table s t a h = at_end (length s.bytes == 0) h
   where
     none : (o : Option Abbrev) → is_some o ≡ false → o ≡ None
@@ -147,7 +135,7 @@ abbreviation_new table s t a h = at_end (length s.bytes == 0) h
     at_new code u true e h = cc
     at_new code u false e h = at_declaration code (declaration_at code u) (λ x v k. declaration_code code u x v k) (none (with_code code table) e) h
 
-    at_code : (r : Reading ℕ) → (r >>= behind_code table) ≡ Ok (Some a, t) → with_code a.code table ≡ None
+    at_code : (r : Reading ℕ) → (r >>= after_code table) ≡ Ok (Some a, t) → with_code a.code table ≡ None
     at_code (Err e) h = cc
     at_code (Ok code) h = at_zero (code.0 == 0) h
       where
@@ -155,7 +143,7 @@ abbreviation_new table s t a h = at_end (length s.bytes == 0) h
         at_zero true h = absurd (end_is_none a code.1 t h)
         at_zero false h = at_new code.0 code.1 (is_some (with_code code.0 table)) refl h
 
-    at_end : (b : Bool) → cond b (Ok (None, s)) (uleb128_at s >>= behind_code table) ≡ Ok (Some a, t) → with_code a.code table ≡ None
+    at_end : (b : Bool) → cond b (Ok (None, s)) (uleb128_at s >>= after_code table) ≡ Ok (Some a, t) → with_code a.code table ≡ None
     at_end true h = absurd (end_is_none a s t h)
     at_end false h = at_code (uleb128_at s) h
 
@@ -179,3 +167,57 @@ distinct-push (x ∷ table) a d n = by_cases (λ k. distinct-push table a d.1 k)
     by_cases : (with_code a.code table ≡ None → HasDistinctCodes (table ++ a ∷ [])) → (b : Bool) → (x.code == a.code) ≡ b → cond b (Some x) (with_code a.code table) ≡ None → HasDistinctCodes ((x ∷ table) ++ a ∷ [])
     by_cases ih true e k = cc
     by_cases ih false e k = (missing_still x.code table a d.0 (swapped x.code a.code e), ih k)
+
+-- ---- memory
+
+-- no step was made yet, or the first one gave a value
+abbrev pub IsBegun : {X : Type 0} → (Section → Reading X) → Section → Section → Type 0
+IsBegun first start now = (now ≡ start) ⊎ (is_ok (first start) ≡ true)
+
+-- a step that gives a value is the first one, or comes after it
+pub begun_by : {X : Type 0} (first : Section → Reading X) (start now : Section) → IsBegun first start now → is_ok (first now) ≡ true → is_ok (first start) ≡ true
+begun_by first start now (inl e) h = ap (λ s. is_ok (first s)) (sym e) ∙ h
+begun_by first start now (inr k) h = k
+
+-- a refusal of a step, with what it says of memory, is one of the whole
+pub step_refused : {X : Type 0} (first : Section → Reading X) (start now : Section) (e : Error) → IsBegun first start now → (is_ok (first start) ≡ true → e ≢ OutOfMemory) → is_ok (first now) ≡ true → e ≢ OutOfMemory
+step_refused first start now e b n h = n (begun_by first start now b h)
+
+ok_bind : {A B : Type 0} (r : Result A Error) (f : A → Result B Error) (x : A) → r ≡ Ok x → is_ok (f x) ≡ true → is_ok (r >>= f) ≡ true
+ok_bind r f x e h = ap (λ q. is_ok (q >>= f)) e ∙ h
+
+-- items that were collected begin with one that was read
+specifications_begun : (s : Section) (x : List Specification × Section) → specifications_at s ≡ Ok x → is_ok (specification_at s) ≡ true
+specifications_begun s x h = at (specification_at s) refl
+  where
+    at : (r : Reading (Option Specification)) → specification_at s ≡ r → is_ok r ≡ true
+    at (Ok y) e = refl
+    at (Err d) e = absurd (let k : Err d ≡ Ok x = sym (collected-fault specification_at specification_takes s d e) ∙ h in cc)
+
+-- an abbreviation that is read has a front
+pub abbreviation_front : (table : List Abbrev) (s t : Section) (a : Abbrev) → abbreviation_at table s ≡ Ok (Some a, t) → takes_memory s ≡ true
+unfolding abbreviation_at declaration_at front_at
+abbreviation_front table s t a h = at_end (length s.bytes == 0) h
+  where
+    at_declaration : (code : ℕ) (u : Section) (r : Reading Abbrev) → declaration_at code u ≡ r → (r >>= found_some) ≡ Ok (Some a, t) → is_ok (head_and_pair_at u) ≡ true
+    at_declaration code u (Err e) is h = absurd cc
+    at_declaration code u (Ok x) is h =
+        let y = bind_ok (head_at u) (λ y. specifications_at y.1 >>= λ z. Ok (coded code y.0 z.0, z.1)) x is in
+        let z = bind_ok (specifications_at y.0.1) (λ z. Ok (coded code y.0.0 z.0, z.1)) x y.2 in
+        ok_bind (head_at u) (λ y. specification_at y.1) y.0 y.1 (specifications_begun y.0.1 z.0 z.1)
+
+    at_new : (code : ℕ) (u : Section) (b : Bool) → (refused_if b BadAbbreviation >>= λ _. declaration_at code u >>= found_some) ≡ Ok (Some a, t) → is_ok (head_and_pair_at u) ≡ true
+    at_new code u true h = absurd cc
+    at_new code u false h = at_declaration code u (declaration_at code u) refl h
+
+    at_zero : (code : ℕ × Section) (b : Bool) → cond b (Ok (None, code.1)) (refused_if (is_some (with_code code.0 table)) BadAbbreviation >>= λ _. declaration_at code.0 code.1 >>= found_some) ≡ Ok (Some a, t) → is_ok (refused_if b BadAbbreviation >>= λ _. head_and_pair_at code.1) ≡ true
+    at_zero code true h = absurd (end_is_none a code.1 t h)
+    at_zero code false h = at_new code.0 code.1 (is_some (with_code code.0 table)) h
+
+    at_code : (r : Reading ℕ) → (r >>= after_code table) ≡ Ok (Some a, t) → is_ok (r >>= λ code. refused_if (code.0 == 0) BadAbbreviation >>= λ _. head_and_pair_at code.1) ≡ true
+    at_code (Err e) h = absurd cc
+    at_code (Ok code) h = at_zero code (code.0 == 0) h
+
+    at_end : (b : Bool) → cond b (Ok (None, s)) (uleb128_at s >>= after_code table) ≡ Ok (Some a, t) → takes_memory s ≡ true
+    at_end true h = absurd (end_is_none a s t h)
+    at_end false h = at_code (uleb128_at s) h

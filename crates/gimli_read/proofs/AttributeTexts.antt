@@ -4,6 +4,7 @@ use Rattle.std.proofs.lemmas.Bool.{eqb-true, eqb-false, ne_eqb}
 use Rattle.gimli_read.specs.declared.endian.RunTimeEndian.{RunTimeEndian}
 use Rattle.gimli_read.specs.declared.endian.Encoding.{Encoding}
 use Rattle.gimli_read.specs.declared.constants.DwAt.{DwAt}
+use Rattle.gimli_read.specs.declared.constants.TheConstants.DwForm.{DW_FORM_implicit_const}
 use Rattle.gimli_read.specs.declared.value.AttributeValue.{AttributeValue}
 use Rattle.gimli_read.specs.declared.value.AttributeValue.TheVariants as values
 use Rattle.gimli_read.specs.Abbreviations.{Specification}
@@ -46,7 +47,7 @@ implicit_is (Some z) v h = (z, refl, cc)
 pub attribute_alone : ReadsAttributeAlone
 unfolding attribute_at
 attribute_alone e x s rest a h =
-    elim (chosen (x.form.0 == 0x21) (implicit_read x s) (value_read e x s) (Ok (a, rest)) h) [
+    elim (chosen (x.form.0 == DW_FORM_implicit_const.0) (implicit_read x s) (value_read e x s) (Ok (a, rest)) h) [
       | inl c ↦
           let b = bind_ok (implicit_of x.constant) (λ value. Ok (of_parts x.name value, s)) (a, rest) c.1 in
           let is : of_parts x.name b.0 ≡ a = same_value (of_parts x.name b.0, s) (a, rest) b.2 in

@@ -1,5 +1,6 @@
--- The form behind indirections, one at a time (on specs/Form.antt).
+-- The form that indirections lead to, one at a time (on specs/Form.antt).
 use Rattle.std.proofs.Common.{◌≡◌, ℕ, zero, suc, arith, ◌+◌, ◌<◌, length, true, false, cond, Ok, Err, ◌==◌, refl, ap, ◌∙◌, add-one}
+use Rattle.gimli_read.specs.declared.constants.TheConstants.DwForm.{DW_FORM_indirect}
 use Rattle.gimli_read.specs.declared.error.Error.{Error}
 use Rattle.gimli_read.specs.Section.{Section}
 use Rattle.gimli_read.specs.Reading.{Reading, ◌>>=◌}
@@ -7,13 +8,13 @@ use Rattle.gimli_read.specs.Leb128.{uleb128_at}
 use Rattle.gimli_read.specs.Form.{form_within, form_at}
 use Rattle.gimli_read.proofs.Shorter.{Shorter, shorter_at, uleb128-shorter}
 
--- one number read, and another one behind an indirection
+-- one number read, and the next one where it is an indirection
 abbrev choice : (Section → Reading ℕ) → ℕ × Section → Reading ℕ
-choice rest form = cond (form.0 == 0x16) (rest form.1) (Ok form)
+choice rest form = cond (form.0 == DW_FORM_indirect.0) (rest form.1) (Ok form)
 
 agrees : (s : Section) (j k : Section → Reading ℕ) → ((t : Section) → length t.bytes < length s.bytes → j t ≡ k t) → (r : Reading ℕ) → Shorter (length s.bytes) r → (r >>= choice j) ≡ (r >>= choice k)
 agrees s j k same (Err e) h = refl
-agrees s j k same (Ok form) h = ap (λ v. cond (form.0 == 0x16) v (Ok form)) (same form.1 h.by)
+agrees s j k same (Ok form) h = ap (λ v. cond (form.0 == DW_FORM_indirect.0) v (Ok form)) (same form.1 h.by)
 
 form_enough : (n m : ℕ) (s : Section) → length s.bytes < n → length s.bytes < m → form_within n s ≡ form_within m s
 unfolding form_within
@@ -28,10 +29,10 @@ form_next s = ap (λ n. form_within n s) (add-one (length s.bytes)) ∙ agrees s
 pub form_fault : (s : Section) (e : Error) → uleb128_at s ≡ Err e → form_at s ≡ Err e
 form_fault s e h = form_next s ∙ ap (λ r. r >>= choice form_at) h
 
-pub form_more : (s : Section) (n : ℕ) (t : Section) → uleb128_at s ≡ Ok (n, t) → (n == 0x16) ≡ true → form_at s ≡ form_at t
+pub form_more : (s : Section) (n : ℕ) (t : Section) → uleb128_at s ≡ Ok (n, t) → (n == DW_FORM_indirect.0) ≡ true → form_at s ≡ form_at t
 form_more s n t h k = form_next s ∙ ap (λ r. r >>= choice form_at) h ∙ ap (λ b. cond b (form_at t) (Ok (n, t))) k
 
-pub form_last : (s : Section) (n : ℕ) (t : Section) → uleb128_at s ≡ Ok (n, t) → (n == 0x16) ≡ false → form_at s ≡ Ok (n, t)
+pub form_last : (s : Section) (n : ℕ) (t : Section) → uleb128_at s ≡ Ok (n, t) → (n == DW_FORM_indirect.0) ≡ false → form_at s ≡ Ok (n, t)
 form_last s n t h k = form_next s ∙ ap (λ r. r >>= choice form_at) h ∙ ap (λ b. cond b (form_at t) (Ok (n, t))) k
 
 pub uleb128_less : (s : Section) (n : ℕ) (t : Section) → uleb128_at s ≡ Ok (n, t) → length t.bytes < length s.bytes

@@ -7,7 +7,7 @@ use Rattle.std.proofs.lemmas.List.Sums.{position_or_len_is}
 use Rattle.std.proofs.lemmas.List.Quantifiers.{position-Some}
 use Rattle.std.proofs.lemmas.Grind.{common_steps}
 use Rattle.gimli_read.specs.declared.error.Error.TheVariants.{BadLeb128}
-use Rattle.gimli_read.specs.Leb128.{uleb128_value, sleb128_value, fits_i64, cut_behind, leb128_text, uleb128_in, sleb128_in, IsLeb128Text, ReadsUleb128, ReadsUleb128Alone, ReadsSleb128, ReadsSleb128Alone}
+use Rattle.gimli_read.specs.Leb128.{uleb128_value, sleb128_value, fits_i64, cut_after, leb128_text, uleb128_in, sleb128_in, IsLeb128Text, ReadsUleb128, ReadsUleb128Alone, ReadsSleb128, ReadsSleb128Alone}
 use Rattle.gimli_read.proofs.Steps.{bind_ok, chosen, same_rest, same_value}
 
 position_at : (p : ℕ → Bool) (xs : List ℕ) (i : ℕ) → i < length xs → ((k : ℕ) → k < i → p (get_or xs k 0) ≡ false) → p (get_or xs i 0) ≡ true → position p xs ≡ Some i
@@ -23,7 +23,7 @@ leb128_text-whole text rest t =
     let i : ℕ = length text - 1 in
     let one : i + 1 ≡ length text = omega (arith, t.some) in
     let at = position_at (λ b. nat_lt b 128) (take 10 (text ++ rest)) i (omega (arith, t.some, t.at_most_ten, length-take 10 (text ++ rest), length-append text rest)) (λ k h. rw (front_of text rest k t.at_most_ten (omega (arith, t.some))) (le-ltb _ _ (t.continued k (omega (arith, t.some))))) (rw (front_of text rest i t.at_most_ten (omega (arith, t.some))) (lt-ltb _ _ t.ended)) in
-    ap (cut_behind (text ++ rest)) at ∙ rw (take_at text rest (i + 1) (sym one), drop_at text rest (i + 1) (sym one)) refl
+    ap (cut_after (text ++ rest)) at ∙ rw (take_at text rest (i + 1) (sym one), drop_at text rest (i + 1) (sym one)) refl
 
 pub uleb128_reads : ReadsUleb128
 unfolding uleb128_in
@@ -43,7 +43,7 @@ leb128_text_front bytes n e =
       ended = let i : length (take (n + 1) bytes) - 1 ≡ n = omega arith in rw (i, at n (omega arith)) (ltb-true _ _ p.1);
     }
 
-leb128_text_is : (bytes : List ℕ) (o : Option ℕ) (text rest : List ℕ) → position (λ b. nat_lt b 128) (take 10 bytes) ≡ o → cut_behind bytes o ≡ Ok (text, rest) → IsLeb128Text text × (bytes ≡ text ++ rest)
+leb128_text_is : (bytes : List ℕ) (o : Option ℕ) (text rest : List ℕ) → position (λ b. nat_lt b 128) (take 10 bytes) ≡ o → cut_after bytes o ≡ Ok (text, rest) → IsLeb128Text text × (bytes ≡ text ++ rest)
 leb128_text_is bytes None text rest is e = absurd cc
 leb128_text_is bytes (Some n) text rest is e =
     let r : drop (n + 1) bytes ≡ rest = same_rest (take (n + 1) bytes, drop (n + 1) bytes) (text, rest) e in

@@ -5,7 +5,6 @@ pub mod ShortLeb128
 pub mod Shorter
 pub mod RunLemmas
 pub mod FormLemmas
-pub mod ValueLemmas
 pub mod SkipLemmas
 pub mod FixedTexts
 pub mod ValueTexts

@@ -66,7 +66,7 @@ pub fold-fault : {X A : Type 0} (part : Section → Reading (Option X)) → Take
 unfolding fold_run
 fold-fault part takes f s d e a = ap (fold_of f a) (run_of-step part takes s ∙ ap (λ r. continued (run_of part) (next_of r)) e)
 
--- what stands behind the parts of a run is less than it began with
+-- what follows the parts of a run is less than it began with
 pub collected-shorter : {X : Type 0} (part : Section → Reading (Option X)) → ((s : Section) → Shorter (length s.bytes) (part s)) → (n : ℕ) (s : Section) → Shorter (length s.bytes) (collected (run_within (λ t. next_of (part t)) n s))
 unfolding run_within
 collected-shorter part sh zero s = record { by = tt }

@@ -4,6 +4,7 @@ use Rattle.std.specs.List.{position}
 use Rattle.std.proofs.lemmas.Result.{IfOk-at_ok}
 use Rattle.std.proofs.lemmas.Bool.Decides.{nat_tests}
 use Rattle.std.proofs.lemmas.List.Quantifiers.{position-Some}
+use Rattle.gimli_read.specs.declared.constants.TheConstants.{FIRST_RESERVED_LENGTH, LENGTH_ESCAPE}
 use Rattle.gimli_read.specs.declared.error.Error.{Error}
 use Rattle.gimli_read.specs.declared.error.Error.TheVariants.{UnexpectedEof, BadLeb128}
 use Rattle.gimli_read.specs.declared.endian.Format.{Format}
@@ -11,7 +12,7 @@ use Rattle.gimli_read.specs.declared.endian.Format.TheVariants.{Dwarf32, Dwarf64
 use Rattle.gimli_read.specs.Section.{Section, first, after}
 use Rattle.gimli_read.specs.Reading.{Reading, ◌>>=◌}
 use Rattle.gimli_read.specs.Number.{number_of, fixed_at, skipped_at, split_at, offset_at, long_length_at, initial_length_at}
-use Rattle.gimli_read.specs.Leb128.{uleb128_value, sleb128_value, fits_i64, cut_behind, leb128_text, uleb128_in, sleb128_in, uleb128_at, sleb128_at}
+use Rattle.gimli_read.specs.Leb128.{uleb128_value, sleb128_value, fits_i64, cut_after, leb128_text, uleb128_in, sleb128_in, uleb128_at, sleb128_at}
 
 -- each value of a reading leaves fewer than n bytes
 pub record Shorter {A : Type 0} (n : ℕ) (r : Reading A) : Type 0 where
@@ -74,8 +75,8 @@ pub initial_length-shorter : (s : Section) → Shorter (length s.bytes) (initial
 unfolding initial_length_at long_length_at
 initial_length-shorter s =
     shorter_bind (fixed-shorter 4 s (omega arith)) (λ x h.
-    shorter_if (nat_lt x.0 0xfffffff0) (shorter_ok h)
-    (shorter_if (nat_lt x.0 0xffffffff) shorter_err
+    shorter_if (nat_lt x.0 FIRST_RESERVED_LENGTH) (shorter_ok h)
+    (shorter_if (nat_lt x.0 LENGTH_ESCAPE) shorter_err
     (shorter_bind (fixed-shorter 8 x.1 (omega arith)) (λ y k. shorter_ok (omega arith)))))
 
 last_within : (bytes : List ℕ) (n : ℕ) → position (λ b. nat_lt b 128) (take 10 bytes) ≡ Some n → n < length bytes
@@ -87,7 +88,7 @@ last_within bytes n e =
 record Less {A : Type 0} (n : ℕ) (r : Result (A × List ℕ) Error) : Type 0 where
   by : IfOk r (λ x. length x.1 < n)
 
-cut_less : (bytes : List ℕ) (o : Option ℕ) → ((n : ℕ) → o ≡ Some n → n < length bytes) → Less (length bytes) (cut_behind bytes o)
+cut_less : (bytes : List ℕ) (o : Option ℕ) → ((n : ℕ) → o ≡ Some n → n < length bytes) → Less (length bytes) (cut_after bytes o)
 cut_less bytes None h = record { by = tt }
 cut_less bytes (Some n) h = let k = h n refl in record { by = simp length-drop (omega arith) }
 

@@ -16,16 +16,16 @@ use Rattle.gimli_read.specs.Section.{Section, first, after}
 use Rattle.gimli_read.specs.Reading.{Reading, ◌>>=◌}
 use Rattle.gimli_read.specs.Number.{fixed_at, address_at, offset_at, split_at, ended_at, null_terminated_at, is_address_size}
 use Rattle.gimli_read.specs.Leb128.{IsUleb128, IsSleb128, uleb128_in, sleb128_in, uleb128_at, sleb128_at}
-use Rattle.gimli_read.specs.Form.{as_value, block_at, ref_addr_at, direct_at, form_within, form_at, value_at}
-use Rattle.gimli_read.specs.Spelling.{Spelling, Fixed, Address, Offset, AddressOrOffset, Unsigned, Signed, Block1, Block2, Block4, Block, Text, Empty, spelling_of, offset_size}
-use Rattle.gimli_read.specs.Value.{IsFixed, IsAddress, IsOffset, IsAddressOrOffset, IsMadeOf, IsBlock, IsEnded, section_of, IsListedValue, IsValueBehind, ReadsValue, ReadsValueAlone}
+use Rattle.gimli_read.specs.Form.{direct_at, form_within, form_at, value_at}
+use Rattle.gimli_read.specs.declared.constants.TheConstants.DwForm.{DW_FORM_indirect}
+use Rattle.gimli_read.specs.FormEncoding.{FormEncoding, Fixed, Address, Offset, AddressOrOffset, Unsigned, Signed, Block1, Block2, Block4, Block, Text, Empty, form_encoding_of, as_value, block_at, address_or_offset_at, encoded_at}
+use Rattle.gimli_read.specs.Value.{IsFixed, IsAddress, IsOffset, IsAddressOrOffset, IsMadeOf, IsBlock, IsEnded, section_of, offset_size, IsListedValue, IsIndirectValue, ReadsValue, ReadsValueAlone}
 use Rattle.gimli_read.proofs.Steps.{guard_ok, bind_ok, chosen, same_rest, same_value}
 use Rattle.gimli_read.proofs.Leb128Texts.{uleb128_reads, uleb128_alone, sleb128_reads, sleb128_alone}
 use Rattle.gimli_read.proofs.FormLemmas.{form_last, form_more}
-use Rattle.gimli_read.proofs.ValueLemmas.{spelled_at, direct_spelled}
 use Rattle.gimli_read.proofs.FixedTexts.{Cut, not_short, cut_at, take_long, fixed_reads, fixed_alone}
 
--- each text is read as what it spells, whatever follows
+-- each text is read as what it stands for, whatever follows
 abbrev Reads : {A : Type 0} → RunTimeEndian → (List ℕ → A → Type 0) → (Section → Reading A) → Type 0
 Reads {A = A} order spells read = (text rest : List ℕ) (x : A) → spells text x → read (section_of order (text ++ rest)) ≡ Ok (x, section_of order rest)
 
@@ -86,12 +86,12 @@ offset_from : (format : Format) (order : RunTimeEndian) → Alone order (IsFixed
 offset_from Dwarf32 order = fixed_from order 4
 offset_from Dwarf64 order = fixed_from order 8
 
-ref_addr_of : (e : Encoding) (order : RunTimeEndian) → Reads order (IsAddressOrOffset e order) (ref_addr_at e)
-ref_addr_of e order text rest x (inl u) = ap (λ b. cond b (address_at e.address_size (section_of order (text ++ rest))) (offset_at e.format (section_of order (text ++ rest)))) (eq-eqb _ _ u.0) ∙ address_of e order text rest x u.1
-ref_addr_of e order text rest x (inr u) = ap (λ b. cond b (address_at e.address_size (section_of order (text ++ rest))) (offset_at e.format (section_of order (text ++ rest)))) (ne_eqb _ _ u.0) ∙ offset_of e.format order text rest x u.1
+address_or_offset_of : (e : Encoding) (order : RunTimeEndian) → Reads order (IsAddressOrOffset e order) (address_or_offset_at e)
+address_or_offset_of e order text rest x (inl u) = ap (λ b. cond b (address_at e.address_size (section_of order (text ++ rest))) (offset_at e.format (section_of order (text ++ rest)))) (eq-eqb _ _ u.0) ∙ address_of e order text rest x u.1
+address_or_offset_of e order text rest x (inr u) = ap (λ b. cond b (address_at e.address_size (section_of order (text ++ rest))) (offset_at e.format (section_of order (text ++ rest)))) (ne_eqb _ _ u.0) ∙ offset_of e.format order text rest x u.1
 
-ref_addr_from : (e : Encoding) (order : RunTimeEndian) → Alone order (IsAddressOrOffset e order) (ref_addr_at e)
-ref_addr_from e order bytes x rest h =
+address_or_offset_from : (e : Encoding) (order : RunTimeEndian) → Alone order (IsAddressOrOffset e order) (address_or_offset_at e)
+address_or_offset_from e order bytes x rest h =
     elim (chosen (e.version == 2) (address_at e.address_size (section_of order bytes)) (offset_at e.format (section_of order bytes)) (Ok (x, rest)) h) [
       | inl t ↦ let f = address_from e order bytes x rest t.1 in (f.0, inl (eqb-true _ _ t.0, f.1), f.2)
       | inr t ↦ let f = offset_from e.format order bytes x rest t.1 in (f.0, inr (eqb-false _ _ t.0, f.1), f.2)
@@ -138,8 +138,8 @@ ended_of order text rest x u =
     let chars = x.bytes in
     let whole : text ++ rest ≡ chars ++ 0 ∷ rest = ap (λ b. b ++ rest) u.joined ∙ append_assoc chars (0 ∷ []) rest in
     let place : position (λ b. b == 0) (chars ++ 0 ∷ rest) ≡ Some (length chars) = zero_at (chars ++ 0 ∷ rest) (length chars) (omega (arith, length-append chars (0 ∷ rest))) (λ k h. rw (get_or_append_left chars (0 ∷ rest) 0 k h) (ne_eqb _ _ (u.no_zero k h))) (rw (get_or-append_seam chars 0 rest 0) refl) in
-    let behind : drop (length chars + 1) (chars ++ 0 ∷ rest) ≡ rest = drop-append-add chars (0 ∷ rest) 1 in
-    ap (λ b. null_terminated_at (section_of order b)) whole ∙ ap (ended_at (section_of order (chars ++ 0 ∷ rest))) place ∙ rw (take-append_seam chars (0 ∷ rest), behind) (ap (λ o. Ok (section_of o chars, section_of order rest)) (sym u.in_order))
+    let left : drop (length chars + 1) (chars ++ 0 ∷ rest) ≡ rest = drop-append-add chars (0 ∷ rest) 1 in
+    ap (λ b. null_terminated_at (section_of order b)) whole ∙ ap (ended_at (section_of order (chars ++ 0 ∷ rest))) place ∙ rw (take-append_seam chars (0 ∷ rest), left) (ap (λ o. Ok (section_of o chars, section_of order rest)) (sym u.in_order))
 
 ended_is : (order : RunTimeEndian) (bytes : List ℕ) (x rest : Section) (o : Option ℕ) → position (λ b. b == 0) bytes ≡ o → ended_at (section_of order bytes) o ≡ Ok (x, rest) → (text : List ℕ) × IsEnded order text x × Cut (section_of order bytes) text rest
 ended_is order bytes x rest None h e = absurd cc
@@ -175,12 +175,12 @@ made_from order spells read make alone bytes v rest e =
     let left : b.0.1 ≡ rest = same_rest (make b.0.0, b.0.1) (v, rest) b.2 in
     (f.0, (b.0.0, f.1, sym made), f.2 ∙ ap (λ u. section_of u.endian (f.0 ++ u.bytes)) left)
 
-listed_of : (e : Encoding) (order : RunTimeEndian) (o : Option Spelling) → Reads order (IsListedValue e order o) (λ s. spelled_at e s o)
+listed_of : (e : Encoding) (order : RunTimeEndian) (o : Option FormEncoding) → Reads order (IsListedValue e order o) (λ s. encoded_at e o s)
 listed_of e order None = λ text rest v u. absurd u
 listed_of e order (Some (Fixed n make)) = made_of order (IsFixed order n) (fixed_at n) make (fixed_of order n)
 listed_of e order (Some (Address make)) = made_of order (IsAddress e order) (address_at e.address_size) make (address_of e order)
 listed_of e order (Some (Offset make)) = made_of order (IsOffset e order) (offset_at e.format) make (offset_of e.format order)
-listed_of e order (Some (AddressOrOffset make)) = made_of order (IsAddressOrOffset e order) (ref_addr_at e) make (ref_addr_of e order)
+listed_of e order (Some (AddressOrOffset make)) = made_of order (IsAddressOrOffset e order) (address_or_offset_at e) make (address_or_offset_of e order)
 listed_of e order (Some (Unsigned make)) = made_of order IsUleb128 uleb128_at make (uleb_of order)
 listed_of e order (Some (Signed make)) = made_of order IsSleb128 sleb128_at make (sleb_of order)
 listed_of e order (Some (Block1 make)) = made_of order (IsBlock order (IsFixed order 1)) (λ s. block_at (fixed_at 1 s)) make (block_of order (IsFixed order 1) (fixed_at 1) (fixed_of order 1))
@@ -190,12 +190,12 @@ listed_of e order (Some (Block make)) = made_of order (IsBlock order IsUleb128) 
 listed_of e order (Some (Text make)) = made_of order (IsEnded order) null_terminated_at make (ended_of order)
 listed_of e order (Some (Empty made)) = λ text rest v u. ap (λ t. Ok (made, section_of order (t ++ rest))) u.0 ∙ ap (λ w. Ok (w, section_of order rest)) (sym u.1)
 
-listed_from : (e : Encoding) (order : RunTimeEndian) (o : Option Spelling) → Alone order (IsListedValue e order o) (λ s. spelled_at e s o)
+listed_from : (e : Encoding) (order : RunTimeEndian) (o : Option FormEncoding) → Alone order (IsListedValue e order o) (λ s. encoded_at e o s)
 listed_from e order None = λ bytes v rest h. absurd (cc (h))
 listed_from e order (Some (Fixed n make)) = made_from order (IsFixed order n) (fixed_at n) make (fixed_from order n)
 listed_from e order (Some (Address make)) = made_from order (IsAddress e order) (address_at e.address_size) make (address_from e order)
 listed_from e order (Some (Offset make)) = made_from order (IsOffset e order) (offset_at e.format) make (offset_from e.format order)
-listed_from e order (Some (AddressOrOffset make)) = made_from order (IsAddressOrOffset e order) (ref_addr_at e) make (ref_addr_from e order)
+listed_from e order (Some (AddressOrOffset make)) = made_from order (IsAddressOrOffset e order) (address_or_offset_at e) make (address_or_offset_from e order)
 listed_from e order (Some (Unsigned make)) = made_from order IsUleb128 uleb128_at make (uleb_from order)
 listed_from e order (Some (Signed make)) = made_from order IsSleb128 sleb128_at make (sleb_from order)
 listed_from e order (Some (Block1 make)) = made_from order (IsBlock order (IsFixed order 1)) (λ s. block_at (fixed_at 1 s)) make (block_from order (IsFixed order 1) (fixed_at 1) (fixed_from order 1))
@@ -205,70 +205,70 @@ listed_from e order (Some (Block make)) = made_from order (IsBlock order IsUleb1
 listed_from e order (Some (Text make)) = made_from order (IsEnded order) null_terminated_at make (ended_from order)
 listed_from e order (Some (Empty made)) = λ bytes v rest h. ([], (refl, sym (same_value (made, section_of order bytes) (v, rest) h)), same_rest (made, section_of order bytes) (v, rest) h)
 
-direct_of : (e : Encoding) (order : RunTimeEndian) (form : ℕ) → Reads order (IsListedValue e order (spelling_of form)) (direct_at e form)
-direct_of e order form text rest v u = direct_spelled e form (section_of order (text ++ rest)) ∙ listed_of e order (spelling_of form) text rest v u
+direct_of : (e : Encoding) (order : RunTimeEndian) (form : ℕ) → Reads order (IsListedValue e order (form_encoding_of form)) (direct_at e form)
+direct_of e order form text rest v u = listed_of e order (form_encoding_of form) text rest v u
 
-direct_from : (e : Encoding) (order : RunTimeEndian) (form : ℕ) → Alone order (IsListedValue e order (spelling_of form)) (direct_at e form)
-direct_from e order form bytes v rest h = listed_from e order (spelling_of form) bytes v rest (sym (direct_spelled e form (section_of order bytes)) ∙ h)
+direct_from : (e : Encoding) (order : RunTimeEndian) (form : ℕ) → Alone order (IsListedValue e order (form_encoding_of form)) (direct_at e form)
+direct_from e order form bytes v rest h = listed_from e order (form_encoding_of form) bytes v rest h
 
 -- indirect itself is not listed
-not_listed : (e : Encoding) (order : RunTimeEndian) (form : ℕ) (text : List ℕ) (v : AttributeValue Section) → IsListedValue e order (spelling_of form) text v → form ≢ 0x16
-unfolding spelling_of
-not_listed e order form text v u is = subst (λ f. IsListedValue e order (spelling_of f) text v) is u
+not_listed : (e : Encoding) (order : RunTimeEndian) (form : ℕ) (text : List ℕ) (v : AttributeValue Section) → IsListedValue e order (form_encoding_of form) text v → form ≢ DW_FORM_indirect.0
+unfolding form_encoding_of
+not_listed e order form text v u is = subst (λ f. IsListedValue e order (form_encoding_of f) text v) is u
 
 -- the value of the form that is read first
-abbrev behind_form : Encoding → Section → Reading (AttributeValue Section)
-behind_form e s = form_at s >>= λ real. direct_at e real.0 real.1
+abbrev named_value : Encoding → Section → Reading (AttributeValue Section)
+named_value e s = form_at s >>= λ real. direct_at e real.0 real.1
 
-behind_of : (n : ℕ) (e : Encoding) (order : RunTimeEndian) (real : ℕ) (front behind rest : List ℕ) (v : AttributeValue Section) → IsUleb128 front real → IsValueBehind n e order real behind v → behind_form e (section_of order (front ++ (behind ++ rest))) ≡ Ok (v, section_of order rest)
-behind_of zero e order real front behind rest v l u =
-    let read = uleb_of order front (behind ++ rest) real l in
-    ap (λ r. r >>= λ f. direct_at e f.0 f.1) (form_last _ real _ read (ne_eqb _ _ (not_listed e order real behind v u))) ∙ direct_of e order real behind rest v u
-behind_of (suc n) e order real front behind rest v l (is, (next, next_front, next_behind, joined, k, u)) =
-    let read = uleb_of order front (behind ++ rest) real l in
-    let whole : behind ++ rest ≡ next_front ++ (next_behind ++ rest) = ap (λ b. b ++ rest) joined ∙ append_assoc next_front next_behind rest in
-    ap (λ r. r >>= λ f. direct_at e f.0 f.1) (form_more _ real _ read (eq-eqb _ _ is)) ∙ ap (λ b. behind_form e (section_of order b)) whole ∙ behind_of n e order next next_front next_behind rest v k u
+indirect_of : (n : ℕ) (e : Encoding) (order : RunTimeEndian) (real : ℕ) (front after rest : List ℕ) (v : AttributeValue Section) → IsUleb128 front real → IsIndirectValue n e order real after v → named_value e (section_of order (front ++ (after ++ rest))) ≡ Ok (v, section_of order rest)
+indirect_of zero e order real front after rest v l u =
+    let read = uleb_of order front (after ++ rest) real l in
+    ap (λ r. r >>= λ f. direct_at e f.0 f.1) (form_last _ real _ read (ne_eqb _ _ (not_listed e order real after v u))) ∙ direct_of e order real after rest v u
+indirect_of (suc n) e order real front after rest v l (is, (next, next_front, next_after, joined, k, u)) =
+    let read = uleb_of order front (after ++ rest) real l in
+    let whole : after ++ rest ≡ next_front ++ (next_after ++ rest) = ap (λ b. b ++ rest) joined ∙ append_assoc next_front next_after rest in
+    ap (λ r. r >>= λ f. direct_at e f.0 f.1) (form_more _ real _ read (eq-eqb _ _ is)) ∙ ap (λ b. named_value e (section_of order b)) whole ∙ indirect_of n e order next next_front next_after rest v k u
 
-value_of : (n : ℕ) (e : Encoding) (order : RunTimeEndian) (form : ℕ) (text rest : List ℕ) (v : AttributeValue Section) → IsValueBehind n e order form text v → value_at e form (section_of order (text ++ rest)) ≡ Ok (v, section_of order rest)
+value_of : (n : ℕ) (e : Encoding) (order : RunTimeEndian) (form : ℕ) (text rest : List ℕ) (v : AttributeValue Section) → IsIndirectValue n e order form text v → value_at e form (section_of order (text ++ rest)) ≡ Ok (v, section_of order rest)
 unfolding value_at
-value_of zero e order form text rest v u = ap (λ b. cond b (behind_form e (section_of order (text ++ rest))) (direct_at e form (section_of order (text ++ rest)))) (ne_eqb _ _ (not_listed e order form text v u)) ∙ direct_of e order form text rest v u
-value_of (suc n) e order form text rest v (is, (real, front, behind, joined, l, u)) =
-    let whole : text ++ rest ≡ front ++ (behind ++ rest) = ap (λ b. b ++ rest) joined ∙ append_assoc front behind rest in
-    ap (λ b. cond b (behind_form e (section_of order (text ++ rest))) (direct_at e form (section_of order (text ++ rest)))) (eq-eqb _ _ is) ∙ ap (λ b. behind_form e (section_of order b)) whole ∙ behind_of n e order real front behind rest v l u
+value_of zero e order form text rest v u = ap (λ b. cond b (named_value e (section_of order (text ++ rest))) (direct_at e form (section_of order (text ++ rest)))) (ne_eqb _ _ (not_listed e order form text v u)) ∙ direct_of e order form text rest v u
+value_of (suc n) e order form text rest v (is, (real, front, after, joined, l, u)) =
+    let whole : text ++ rest ≡ front ++ (after ++ rest) = ap (λ b. b ++ rest) joined ∙ append_assoc front after rest in
+    ap (λ b. cond b (named_value e (section_of order (text ++ rest))) (direct_at e form (section_of order (text ++ rest)))) (eq-eqb _ _ is) ∙ ap (λ b. named_value e (section_of order b)) whole ∙ indirect_of n e order real front after rest v l u
 
 pub value_reads : ReadsValue
 value_reads e order form text rest v u = value_of u.0 e order form text rest v u.1
 
--- a form's text, and then the text of a value behind n more indirections
-record IsBehind (e : Encoding) (s rest : Section) (v : AttributeValue Section) : Type 0 where
+-- a form's text, and then the text of a value after n more indirections
+record IsNamed (e : Encoding) (s rest : Section) (v : AttributeValue Section) : Type 0 where
   hops : ℕ
   real : ℕ
   front : List ℕ
-  behind : List ℕ
+  after : List ℕ
   form : IsUleb128 front real
-  value : IsValueBehind hops e s.endian real behind v
-  cut : Cut s (front ++ behind) rest
+  value : IsIndirectValue hops e s.endian real after v
+  cut : Cut s (front ++ after) rest
 
-behind_from : (n : ℕ) (e : Encoding) (s : Section) (real : ℕ) (t rest : Section) (v : AttributeValue Section) → form_within n s ≡ Ok (real, t) → direct_at e real t ≡ Ok (v, rest) → IsBehind e s rest v
+indirect_from : (n : ℕ) (e : Encoding) (s : Section) (real : ℕ) (t rest : Section) (v : AttributeValue Section) → form_within n s ≡ Ok (real, t) → direct_at e real t ≡ Ok (v, rest) → IsNamed e s rest v
 unfolding form_within
-behind_from zero e s real t rest v h k = absurd cc
-behind_from (suc n) e s real t rest v h k =
-    let b = bind_ok (uleb128_at s) (λ f. cond (f.0 == 0x16) (form_within n f.1) (Ok f)) (real, t) h in
+indirect_from zero e s real t rest v h k = absurd cc
+indirect_from (suc n) e s real t rest v h k =
+    let b = bind_ok (uleb128_at s) (λ f. cond (f.0 == DW_FORM_indirect.0) (form_within n f.1) (Ok f)) (real, t) h in
     let f = b.0.0 in
     let u = b.0.1 in
     let l = uleb_from s.endian s.bytes f u b.1 in
     let order = one_order s u l.0 l.2 in
-    elim (chosen (f == 0x16) (form_within n u) (Ok (f, u)) (Ok (real, t)) b.2) [
+    elim (chosen (f == DW_FORM_indirect.0) (form_within n u) (Ok (f, u)) (Ok (real, t)) b.2) [
       | inl c ↦
-          let i = behind_from n e u real t rest v c.1 k in
+          let i = indirect_from n e u real t rest v c.1 k in
           record {
             hops = suc i.hops;
             real = f;
             front = l.0;
-            behind = i.front ++ i.behind;
+            after = i.front ++ i.after;
             form = l.1;
-            value = (eqb-true _ _ c.0, (i.real, i.front, i.behind, refl, i.form, subst (λ o. IsValueBehind i.hops e o i.real i.behind v) order i.value));
-            cut = joined_cut s u rest l.0 (i.front ++ i.behind) l.2 i.cut;
+            value = (eqb-true _ _ c.0, (i.real, i.front, i.after, refl, i.form, subst (λ o. IsIndirectValue i.hops e o i.real i.after v) order i.value));
+            cut = joined_cut s u rest l.0 (i.front ++ i.after) l.2 i.cut;
           }
       | inr c ↦
           let same : f ≡ real = same_value (f, u) (real, t) c.1 in
@@ -278,9 +278,9 @@ behind_from (suc n) e s real t rest v h k =
             hops = zero;
             real = f;
             front = l.0;
-            behind = d.0;
+            after = d.0;
             form = l.1;
-            value = subst (λ o. IsListedValue e o (spelling_of f) d.0 v) order d.1;
+            value = subst (λ o. IsListedValue e o (form_encoding_of f) d.0 v) order d.1;
             cut = joined_cut s u rest l.0 d.0 l.2 d.2;
           }
     ]
@@ -288,10 +288,10 @@ behind_from (suc n) e s real t rest v h k =
 pub value_alone : ReadsValueAlone
 unfolding value_at
 value_alone e form s rest v h =
-    elim (chosen (form == 0x16) (behind_form e s) (direct_at e form s) (Ok (v, rest)) h) [
+    elim (chosen (form == DW_FORM_indirect.0) (named_value e s) (direct_at e form s) (Ok (v, rest)) h) [
       | inl c ↦
           let b = bind_ok (form_at s) (λ real. direct_at e real.0 real.1) (v, rest) c.1 in
-          let i = behind_from (length s.bytes + 1) e s b.0.0 b.0.1 rest v b.1 b.2 in
-          (i.front ++ i.behind, (suc i.hops, (eqb-true _ _ c.0, (i.real, i.front, i.behind, refl, i.form, i.value))), i.cut)
+          let i = indirect_from (length s.bytes + 1) e s b.0.0 b.0.1 rest v b.1 b.2 in
+          (i.front ++ i.after, (suc i.hops, (eqb-true _ _ c.0, (i.real, i.front, i.after, refl, i.form, i.value))), i.cut)
       | inr c ↦ let d = direct_from e s.endian form s.bytes v rest c.1 in (d.0, (zero, d.1), d.2)
     ]

@@ -2,7 +2,8 @@
 -- Own: the section's end where a code would stand ends the table too.
 -- Own: a repeated code, tag 0, a children byte other than 0 and 1, and exactly one zero in a pair are
 -- BadAbbreviation, each at its field.
-use Rattle.std.specs.Prelude.{ℕ, zero, suc, ◌+◌, ◌==◌, ◌||◌, ◌&&◌, nat_lt, List, [], ◌∷◌, ◌++◌, length, Option, Some, None, is_some, Result, Ok, Err, if◌then◌else◌, ℤ}
+use Rattle.std.specs.Prelude.{ℕ, zero, Bool, is_ok, suc, ◌+◌, ◌==◌, ◌||◌, ◌&&◌, nat_lt, List, [], ◌∷◌, ◌++◌, length, Option, Some, None, is_some, Result, Ok, Err, if◌then◌else◌, ℤ}
+use Rattle.gimli_read.specs.declared.constants.DwTag.{DwTag}
 use Rattle.gimli_read.specs.declared.error.Error.{Error}
 use Rattle.gimli_read.specs.declared.error.Error.TheVariants.{BadAbbreviation, UnexpectedEof}
 use Rattle.gimli_read.specs.declared.constants.TheConstants.DwForm.{DW_FORM_implicit_const}
@@ -30,17 +31,38 @@ specification_at s = do
 abbrev pub specifications_at : Section → Reading (List Specification)
 specifications_at s = collected (run_of specification_at s)
 
--- what stands behind a code
-unfoldable pub declaration_at : ℕ → Section → Reading Abbrev
-declaration_at code s = do
+-- a tag, and whether children follow
+unfoldable pub head_at : Section → Reading (DwTag × Bool)
+head_at s = do
   tag ← uleb128_at s
   known ← refused_if (tag.0 == 0) BadAbbreviation
   children ← fixed_at 1 tag.1
   flag ← refused_if (nat_lt 1 children.0) BadAbbreviation
-  attributes ← specifications_at children.1
-  Ok (record { code = code; tag = record { 0 = tag.0 }; has_children = children.0 == 1; attributes = attributes.0 }, attributes.1)
+  Ok ((record { 0 = tag.0 }, children.0 == 1), children.1)
 
--- a code that the table hasn't, and what stands behind it; none at code 0 and at the end
+-- what follows a code
+unfoldable pub declaration_at : ℕ → Section → Reading Abbrev
+declaration_at code s = do
+  head ← head_at s
+  attributes ← specifications_at head.1
+  Ok (record { code = code; tag = head.0.0; has_children = head.0.1; attributes = attributes.0 }, attributes.1)
+
+-- a head, and its first pair or the end of its pairs
+abbrev pub head_and_pair_at : Section → Reading (Option Specification)
+head_and_pair_at s = head_at s >>= λ head. specification_at head.1
+
+-- the front of a table: a code, a head, and its first pair or the end of its pairs
+unfoldable pub front_at : Section → Reading (Option Specification)
+front_at s = do
+  code ← uleb128_at s
+  coded ← refused_if (code.0 == 0) BadAbbreviation
+  head_and_pair_at code.1
+
+-- whether the front of a table is read: until then no memory is taken
+abbrev pub takes_memory : Section → Bool
+takes_memory s = is_ok (front_at s)
+
+-- a code that the table hasn't, and what follows it; none at code 0 and at the end
 unfoldable pub abbreviation_at : List Abbrev → Section → Reading (Option Abbrev)
 abbreviation_at table s = if length s.bytes == 0 then Ok (None, s) else do
   code ← uleb128_at s

@@ -1,5 +1,5 @@
 -- Answers of two readers to one reading (DWARF 5, section 7.5: what a section says is in its bytes and their order).
--- Own: memory may be wanting at one reader and not at the other.
+-- Own: memory may be refused at one reader and not at the other.
 use Rattle.std.specs.Prelude.{◌≡◌, ◌≢◌, Result, Ok, Err}
 use Rattle.gimli_read.specs.declared.error.Error.{Error}
 use Rattle.gimli_read.specs.declared.error.Error.TheVariants.{OutOfMemory}
@@ -11,18 +11,18 @@ abbrev pub seen_answer : {X Z : Type 0} → (X → Z) → Result X Error → Res
 seen_answer view (Ok x) = Ok (view x)
 seen_answer view (Err e) = Err e
 
--- the answer is a value, or a refusal that is no want of memory
+-- the answer is a value, or a refusal other than OutOfMemory
 abbrev pub HadMemory : {X : Type 0} → Result X Error → Type 0
 HadMemory (Ok x) = Unit {0}
 HadMemory (Err e) = e ≢ OutOfMemory
 
--- what two readers of equal sections tell is the same: value, rest and fault
+-- two answers that are exactly one reading of equal sections are the same: value, rest and fault
 abbrev pub AnswerAlike : Type 0 → Type 0 → Type 0 → Type 0
 AnswerAlike X Y Z =
     (read : Section → Result Z Error) (s t : Section) (view : X → Z) (see : Y → Z) (x : Result X Error) (y : Result Y Error)
     → s ≡ t → Exactly view x (read s) → Exactly see y (read t) → seen_answer view x ≡ seen_answer see y
 
--- what two readers of equal sections give is the same, where neither wanted memory
+-- the same where memory may be refused, but was not
 abbrev pub AnswerAlikeUnlessOom : Type 0 → Type 0 → Type 0 → Type 0
 AnswerAlikeUnlessOom X Y Z =
     (read : Section → Result Z Error) (s t : Section) (view : X → Z) (see : Y → Z) (x : Result X Error) (y : Result Y Error)

@@ -3,6 +3,7 @@
 -- Own: at most ten bytes, and a value of 64 bits; anything else is BadLeb128.
 use Rattle.std.specs.Prelude.{◌≡◌, ℕ, suc, ◌+◌, ◌-◌, ◌*◌, ◌%◌, ◌^◌, ◌<◌, ◌≤◌, List, [], ◌∷◌, ◌++◌, length, take, drop, slice_index, Bool, true, Option, Some, None, Result, Ok, Err, nat_lt, if◌then◌else◌, ℤ, pos, negsuc, ◌-ℤ◌}
 use Rattle.std.specs.List.{position}
+use Rattle.gimli_read.specs.declared.leb128.TheConstants.{MAX_LEB128_LEN}
 use Rattle.gimli_read.specs.declared.error.Error.{Error}
 use Rattle.gimli_read.specs.declared.error.Error.TheVariants.{UnexpectedEof, BadLeb128}
 use Rattle.gimli_read.specs.Section.{Section}
@@ -29,7 +30,7 @@ fits_i64 (negsuc n) = nat_lt n (2 ^ 63)
 -- the text is one number: at most ten bytes, the last one alone below 128
 pub record IsLeb128Text (text : List ℕ) : Type 0 where
   pub some : 0 < length text
-  pub at_most_ten : length text ≤ 10
+  pub at_most_ten : length text ≤ MAX_LEB128_LEN
   pub continued : (k : ℕ) → k + 1 < length text → 128 ≤ slice_index text k
   pub ended : slice_index text (length text - 1) < 128
 
@@ -41,14 +42,14 @@ IsUleb128 text n = IsLeb128Text text × (n ≡ uleb128_value text) × (n < 2 ^ 6
 abbrev pub IsSleb128 : List ℕ → ℤ → Type 0
 IsSleb128 text z = IsLeb128Text text × (z ≡ sleb128_value text) × (fits_i64 z ≡ true)
 
--- a text up to the place of its last byte, and what stands behind it
-abbrev pub cut_behind : List ℕ → Option ℕ → Result (List ℕ × List ℕ) Error
-cut_behind bytes None = Err (if nat_lt (length bytes) 10 then UnexpectedEof else BadLeb128)
-cut_behind bytes (Some n) = Ok (take (n + 1) bytes, drop (n + 1) bytes)
+-- a text up to the place of its last byte, and what follows it
+abbrev pub cut_after : List ℕ → Option ℕ → Result (List ℕ × List ℕ) Error
+cut_after bytes None = Err (if nat_lt (length bytes) MAX_LEB128_LEN then UnexpectedEof else BadLeb128)
+cut_after bytes (Some n) = Ok (take (n + 1) bytes, drop (n + 1) bytes)
 
 -- the text of a number at the front
 abbrev pub leb128_text : List ℕ → Result (List ℕ × List ℕ) Error
-leb128_text bytes = cut_behind bytes (position (λ b. nat_lt b 128) (take 10 bytes))
+leb128_text bytes = cut_after bytes (position (λ b. nat_lt b 128) (take MAX_LEB128_LEN bytes))
 
 -- the unsigned number at the front of bytes, and the bytes after it
 unfoldable pub uleb128_in : List ℕ → Result (ℕ × List ℕ) Error

@@ -6,12 +6,12 @@ pub mod Leb128
 pub mod Text
 pub mod Run
 pub mod Yields
+pub mod FormEncoding
 pub mod Form
 pub mod HeldBytes
-pub mod Spelling
+pub mod StringForm
 pub mod Value
 pub mod Alike
-pub mod Extent
 pub mod Abbreviations
 pub mod AbbreviationPlaces
 pub mod Abbrev

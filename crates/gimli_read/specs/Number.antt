@@ -5,6 +5,7 @@ use Rattle.std.specs.Prelude.{ℕ, ◌+◌, ◌==◌, ◌||◌, Bool, List, leng
 use Rattle.std.specs.Int.{w8, cast_signed}
 use Rattle.std.specs.List.{position}
 use Rattle.byteorder.specs.Endian.{big_number, little_number}
+use Rattle.gimli_read.specs.declared.constants.TheConstants.{FIRST_RESERVED_LENGTH, LENGTH_ESCAPE}
 use Rattle.gimli_read.specs.declared.error.Error.TheVariants.{UnexpectedEof, UnsupportedAddressSize, UnknownReservedLength}
 use Rattle.gimli_read.specs.declared.endian.RunTimeEndian.{RunTimeEndian}
 use Rattle.gimli_read.specs.declared.endian.RunTimeEndian.TheVariants.{Little, Big}
@@ -56,16 +57,16 @@ ended_at s (Some n) = Ok (first n s, after (n + 1) s)
 abbrev pub null_terminated_at : Section → Reading Section
 null_terminated_at s = ended_at s (position (λ b. b == 0) s.bytes)
 
--- the eight bytes of a length behind its escape
+-- the eight bytes of a length after its escape
 unfoldable pub long_length_at : Section → Reading (ℕ × Format)
 long_length_at s = do
   long ← fixed_at 8 s
   Ok ((long.0, Dwarf64), long.1)
 
--- the length of a unit and its format: 0xffffffff is an escape, and the fifteen values below it are reserved
+-- the length of a unit and its format: one of four bytes is an escape, and the fifteen below it are reserved
 unfoldable pub initial_length_at : Section → Reading (ℕ × Format)
 initial_length_at s = do
   short ← fixed_at 4 s
-  if nat_lt short.0 0xfffffff0 then Ok ((short.0, Dwarf32), short.1)
-      else if nat_lt short.0 0xffffffff then Err UnknownReservedLength
+  if nat_lt short.0 FIRST_RESERVED_LENGTH then Ok ((short.0, Dwarf32), short.1)
+      else if nat_lt short.0 LENGTH_ESCAPE then Err UnknownReservedLength
       else long_length_at short.1

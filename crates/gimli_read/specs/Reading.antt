@@ -1,8 +1,8 @@
 -- What a reading gives, and what an answer has to do with it.
 -- A reading takes bytes from the front of a section: it gives a value and what is left, or the first
--- fault from the left. Own: no reading gives OutOfMemory, which only a refused growth tells.
+-- fault from the left. Own: no reading gives OutOfMemory, which a refused growth alone answers.
 -- The words for steps and answers serve every kind of fault.
-use Rattle.std.specs.Prelude.{◌≡◌, ◌≢◌, Bool, true, Result, Ok, Err, if◌then◌else◌}
+use Rattle.std.specs.Prelude.{◌≡◌, ◌≢◌, Bool, true, is_ok, Result, Ok, Err, if◌then◌else◌}
 use Rattle.gimli_read.specs.declared.error.Error.{Error}
 use Rattle.gimli_read.specs.declared.error.Error.TheVariants.{OutOfMemory}
 use Rattle.gimli_read.specs.Section.{Section}
@@ -68,3 +68,15 @@ Reads see old new result reading = Exactly (λ x. (x, see new)) result (reading 
 -- the same, or OutOfMemory
 abbrev pub ReadsUnlessOom : {R X : Type 0} → (R → Section) → R → R → Result X Error → (Section → Reading X) → Type 0
 ReadsUnlessOom see old new result reading = ExactlyUnlessOom (λ x. (x, see new)) result (reading (see old))
+
+-- the same, where memory may be taken only for what is given
+abbrev pub ReadsUnlessOomFor : {R X : Type 0} → Bool → (Reading X → Bool) → (R → Section) → R → R → Result X Error
+    → (Section → Reading X) → Type 0
+ReadsUnlessOomFor may takes see old new result reading =
+    ExactlyUnlessOomFor may takes (λ x. (x, see new)) result (reading (see old))
+
+-- a call that takes a part of a reader as one of its own; OutOfMemory only for a part, where that may take memory
+abbrev pub ReadsPartUnlessOom : {R : Type 0} → Bool → (R → Section) → R → R → Result R Error
+    → (Section → Reading Section) → Type 0
+ReadsPartUnlessOom may see old new result reading =
+    ExactlyUnlessOomFor may is_ok (λ r. (see r, see new)) result (reading (see old))

@@ -11,7 +11,7 @@ pub record Run (X Z : Type 0) : Type 0 where
   pub items : List X
   pub end : Result Z Error
 
--- one step of a run: a part and where the next begins (or the fault behind this part), or the run's end
+-- one step of a run: a part and where the next begins (or the fault after this part), or the run's end
 pub data Next (X S Z : Type 0) : Type 0 where
   More : X → Result S Error → Next X S Z
   Stop : Result Z Error → Next X S Z
@@ -49,7 +49,7 @@ collected r = r.end >>= λ z. Ok (r.items, z)
 abbrev pub run_of : {X : Type 0} → (Section → Reading (Option X)) → Section → Run X Section
 run_of part s = run_within (λ t. next_of (part t)) (length s.bytes + 1) s
 
--- what was collected, behind what stands in front of it
+-- what was collected, after what stands in front of it
 abbrev pub with_front : {X Z : Type 0} → List X → Result (List X × Z) Error → Result (List X × Z) Error
 with_front front r = r >>= λ x. Ok (front ++ x.0, x.1)
 
@@ -57,7 +57,7 @@ with_front front r = r >>= λ x. Ok (front ++ x.0, x.1)
 abbrev pub fold_of : {X Z A : Type 0} → (A → X → Result A Error) → A → Run X Z → Result (A × Z) Error
 fold_of f a r = fold_run f a r.items r.end
 
--- the parts as a list of answers, with the fault behind them, if there is one
+-- the parts as a list of answers, with the fault after them, if there is one
 unfoldable pub listed_with : {X Z : Type 0} → List X → Result Z Error → List (Result X Error)
 listed_with [] (Ok z) = []
 listed_with [] (Err e) = Err e ∷ []

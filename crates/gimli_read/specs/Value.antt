@@ -1,9 +1,12 @@
 -- The values of attributes as a relation of texts (DWARF 5, sections 7.5.5 and 7.5.6): the text of a form's value, and
 -- which value it is.
--- Own: a form that isn't listed has no value, nor has indirect to implicit_const.
+-- Own: a form that is not listed has no value, nor has DW_FORM_indirect to DW_FORM_implicit_const.
 use Rattle.std.specs.Prelude.{◌≡◌, ◌≢◌, ◌⊎◌, ℕ, zero, suc, ◌+◌, ◌*◌, ◌^◌, ◌<◌, true, List, [], ◌∷◌, ◌++◌, length, slice_index, Option, Some, None, Ok, ℤ}
+use Rattle.gimli_read.specs.declared.constants.TheConstants.DwForm.{DW_FORM_indirect, DW_FORM_implicit_const}
 use Rattle.gimli_read.specs.declared.endian.RunTimeEndian.{RunTimeEndian}
 use Rattle.gimli_read.specs.declared.endian.RunTimeEndian.TheVariants.{Little, Big}
+use Rattle.gimli_read.specs.declared.endian.Format.{Format}
+use Rattle.gimli_read.specs.declared.endian.Format.TheVariants.{Dwarf32, Dwarf64}
 use Rattle.gimli_read.specs.declared.endian.Encoding.{Encoding}
 use Rattle.gimli_read.specs.declared.value.AttributeValue.{AttributeValue}
 use Rattle.gimli_read.specs.declared.value.AttributeValue.TheVariants as values
@@ -12,7 +15,7 @@ use Rattle.gimli_read.specs.Section.{Section}
 use Rattle.gimli_read.specs.Number.{fixed_at, is_address_size}
 use Rattle.gimli_read.specs.Leb128.{IsUleb128, IsSleb128}
 use Rattle.gimli_read.specs.Form.{NamedValue, value_at, attribute_at}
-use Rattle.gimli_read.specs.Spelling.{Spelling, Fixed, Address, Offset, AddressOrOffset, Unsigned, Signed, Block1, Block2, Block4, Block, Text, Empty, offset_size, spelling_of}
+use Rattle.gimli_read.specs.FormEncoding.{FormEncoding, Fixed, Address, Offset, AddressOrOffset, Unsigned, Signed, Block1, Block2, Block4, Block, Text, Empty, form_encoding_of}
 
 -- the base 256 value of bytes, the lowest first
 abbrev pub low_first : List ℕ → ℕ
@@ -37,6 +40,11 @@ pub record IsFixed (order : RunTimeEndian) (n : ℕ) (text : List ℕ) (x : ℕ)
 -- an address, which has 1, 2, 4 or 8 bytes
 abbrev pub IsAddress : Encoding → RunTimeEndian → List ℕ → ℕ → Type 0
 IsAddress encoding order text x = (is_address_size encoding.address_size ≡ true) × IsFixed order encoding.address_size text x
+
+-- the number of bytes of an offset
+abbrev pub offset_size : Format → ℕ
+offset_size Dwarf32 = 4
+offset_size Dwarf64 = 8
 
 -- an offset
 abbrev pub IsOffset : Encoding → RunTimeEndian → List ℕ → ℕ → Type 0
@@ -67,41 +75,41 @@ pub record IsEnded (order : RunTimeEndian) (text : List ℕ) (chars : Section) :
   pub no_zero : (k : ℕ) → k < length chars.bytes → slice_index chars.bytes k ≢ 0
   pub in_order : chars.endian ≡ order
 
--- the text is spelled so, and this is its value
-abbrev pub IsSpelled : Encoding → RunTimeEndian → Spelling → List ℕ → AttributeValue Section → Type 0
-IsSpelled encoding order (Fixed n make) text value = IsMadeOf (IsFixed order n) make text value
-IsSpelled encoding order (Address make) text value = IsMadeOf (IsAddress encoding order) make text value
-IsSpelled encoding order (Offset make) text value = IsMadeOf (IsOffset encoding order) make text value
-IsSpelled encoding order (AddressOrOffset make) text value = IsMadeOf (IsAddressOrOffset encoding order) make text value
-IsSpelled encoding order (Unsigned make) text value = IsMadeOf IsUleb128 make text value
-IsSpelled encoding order (Signed make) text value = IsMadeOf IsSleb128 make text value
-IsSpelled encoding order (Block1 make) text value = IsMadeOf (IsBlock order (IsFixed order 1)) make text value
-IsSpelled encoding order (Block2 make) text value = IsMadeOf (IsBlock order (IsFixed order 2)) make text value
-IsSpelled encoding order (Block4 make) text value = IsMadeOf (IsBlock order (IsFixed order 4)) make text value
-IsSpelled encoding order (Block make) text value = IsMadeOf (IsBlock order IsUleb128) make text value
-IsSpelled encoding order (Text make) text value = IsMadeOf (IsEnded order) make text value
-IsSpelled encoding order (Empty made) text value = (text ≡ []) × (value ≡ made)
+-- the text is encoded so, and this is its value
+abbrev pub IsEncoded : Encoding → RunTimeEndian → FormEncoding → List ℕ → AttributeValue Section → Type 0
+IsEncoded encoding order (Fixed n make) text value = IsMadeOf (IsFixed order n) make text value
+IsEncoded encoding order (Address make) text value = IsMadeOf (IsAddress encoding order) make text value
+IsEncoded encoding order (Offset make) text value = IsMadeOf (IsOffset encoding order) make text value
+IsEncoded encoding order (AddressOrOffset make) text value = IsMadeOf (IsAddressOrOffset encoding order) make text value
+IsEncoded encoding order (Unsigned make) text value = IsMadeOf IsUleb128 make text value
+IsEncoded encoding order (Signed make) text value = IsMadeOf IsSleb128 make text value
+IsEncoded encoding order (Block1 make) text value = IsMadeOf (IsBlock order (IsFixed order 1)) make text value
+IsEncoded encoding order (Block2 make) text value = IsMadeOf (IsBlock order (IsFixed order 2)) make text value
+IsEncoded encoding order (Block4 make) text value = IsMadeOf (IsBlock order (IsFixed order 4)) make text value
+IsEncoded encoding order (Block make) text value = IsMadeOf (IsBlock order IsUleb128) make text value
+IsEncoded encoding order (Text make) text value = IsMadeOf (IsEnded order) make text value
+IsEncoded encoding order (Empty made) text value = (text ≡ []) × (value ≡ made)
 
 -- the text is one value of a listed form, and this is the value
-abbrev pub IsListedValue : Encoding → RunTimeEndian → Option Spelling → List ℕ → AttributeValue Section → Type 0
+abbrev pub IsListedValue : Encoding → RunTimeEndian → Option FormEncoding → List ℕ → AttributeValue Section → Type 0
 IsListedValue encoding order None text value = ⊥
-IsListedValue encoding order (Some spelling) text value = IsSpelled encoding order spelling text value
+IsListedValue encoding order (Some form) text value = IsEncoded encoding order form text value
 
--- the text is one value behind n indirections: each is a form, and then a value of it
-abbrev pub IsValueBehind : ℕ → Encoding → RunTimeEndian → ℕ → List ℕ → AttributeValue Section → Type 0
-IsValueBehind zero encoding order form text value = IsListedValue encoding order (spelling_of form) text value
-IsValueBehind (suc n) encoding order form text value =
-    (form ≡ 0x16) × ((real : ℕ) × (front behind : List ℕ) × (text ≡ front ++ behind) × IsUleb128 front real × IsValueBehind n encoding order real behind value)
+-- the text is one value after n indirections, each of which names the form of what follows it
+abbrev pub IsIndirectValue : ℕ → Encoding → RunTimeEndian → ℕ → List ℕ → AttributeValue Section → Type 0
+IsIndirectValue zero encoding order form text value = IsListedValue encoding order (form_encoding_of form) text value
+IsIndirectValue (suc n) encoding order form text value =
+    (form ≡ DW_FORM_indirect.0) × ((named : ℕ) × (front rest : List ℕ) × (text ≡ front ++ rest) × IsUleb128 front named × IsIndirectValue n encoding order named rest value)
 
 -- the text is one value of a form, and this is the value
 abbrev pub IsValue : Encoding → RunTimeEndian → ℕ → List ℕ → AttributeValue Section → Type 0
-IsValue encoding order form text value = (n : ℕ) × IsValueBehind n encoding order form text value
+IsValue encoding order form text value = (n : ℕ) × IsIndirectValue n encoding order form text value
 
--- the text is the value of an attribute: none for implicit_const (form 0x21), whose value stands in the abbreviation
+-- the text is the value of an attribute: none for implicit_const (form DW_FORM_implicit_const.0), whose value stands in the abbreviation
 abbrev pub IsAttributeValue : Encoding → RunTimeEndian → Specification → List ℕ → AttributeValue Section → Type 0
 IsAttributeValue encoding order specification text value =
-    ((specification.form.0 ≡ 0x21) × (text ≡ []) × ((z : ℤ) × (specification.constant ≡ Some z) × (value ≡ values.Sdata z)))
-    ⊎ ((specification.form.0 ≢ 0x21) × IsValue encoding order specification.form.0 text value)
+    ((specification.form.0 ≡ DW_FORM_implicit_const.0) × (text ≡ []) × ((z : ℤ) × (specification.constant ≡ Some z) × (value ≡ values.Sdata z)))
+    ⊎ ((specification.form.0 ≢ DW_FORM_implicit_const.0) × IsValue encoding order specification.form.0 text value)
 
 -- the text is one attribute of a specification, and this is the attribute
 pub record IsAttribute (encoding : Encoding) (order : RunTimeEndian) (specification : Specification) (text : List ℕ) (attribute : NamedValue) : Type 0 where

@@ -1,13 +1,13 @@
 //! Abbreviation tables.
 
-ghost use Rattle.std.specs.Prelude.{◌≡◌, ◌≢◌, ◌<◌, ◌+◌, ◌^◌, [], ◌∷◌, ◌++◌, None, Some, OnOk, is_some, option_copied};
+ghost use Rattle.std.specs.Prelude.{◌≡◌, ◌≢◌, ◌<◌, ◌+◌, ◌^◌, [], ◌∷◌, ◌++◌, None, Some, OnOk, is_ok, is_some, option_copied};
 ghost use Rattle.std.specs.List.{slice_get};
 ghost use Rattle.std.specs.Ordering.{nat_cmp};
 ghost use Rattle.std.specs.BTreeMap.{get};
-ghost use Rattle.gimli_read.specs.Reading.{Exactly, ExactlyUnlessOom};
+ghost use Rattle.gimli_read.specs.Reading.{ExactlyUnlessOomIf, Reads};
 ghost use Rattle.gimli_read.specs.Abbreviations.{with_code};
 ghost use Rattle.gimli_read.specs.AbbreviationPlaces.{if_coded, IsSameApart};
-ghost use Rattle.gimli_read.specs.Abbrev.{specification_at, specifications_at, declaration_at, abbreviation_at, table_at};
+ghost use Rattle.gimli_read.specs.Abbrev.{specification_at, specifications_at, head_at, declaration_at, head_and_pair_at, abbreviation_at, takes_memory, table_at};
 
 use crate::constants::{DwAt, DwForm, DwTag};
 use crate::error::Error;
@@ -43,7 +43,7 @@ impl AttributeSpecification {
         self.name
     }
 
-    /// How the attribute's value is spelled. Takes no memory.
+    /// How the attribute's value is encoded. Takes no memory.
     pub fn form(&self) -> DwForm
         ensures gives { result ≡ self.now.form }
     {
@@ -129,7 +129,7 @@ impl Model for Abbreviations {
 // The next attribute, or none at the end of the list.
 #[tactic(auto, unfolding(crate::specs::Abbrev::specification_at))]
 fn read_specification<R: Reader>(input: &mut R) -> Result<Option<AttributeSpecification>, Error>
-    ensures gives { Exactly (λ x. (x, R.section input.new)) result (specification_at (R.section input.old)) }
+    ensures gives { Reads R.section input.old input.new result specification_at }
 {
     let name = input.read_uleb128()?;
     let form = input.read_uleb128()?;
@@ -139,7 +139,7 @@ fn read_specification<R: Reader>(input: &mut R) -> Result<Option<AttributeSpecif
     if name == 0 || form == 0 {
         return Err(Error::BadAbbreviation);
     }
-    let constant = if form == 0x21 {
+    let constant = if form == DwForm::DW_FORM_implicit_const.0 {
         Some(input.read_sleb128()?)
     } else {
         None
@@ -156,8 +156,8 @@ fn read_specifications<R: Reader>(
     alloc: Global,
     input: &mut R,
 ) -> Result<Vec<AttributeSpecification>, Error>
-    ensures gives { ExactlyUnlessOom (λ v. (v.items, R.section input.new)) result
-        (specifications_at (R.section input.old)) }
+    ensures gives { ExactlyUnlessOomIf (is_ok (specification_at (R.section input.old)))
+        (λ v. (v.items, R.section input.new)) result (specifications_at (R.section input.old)) }
 {
     let mut attributes = Vec::new(alloc);
     while let Some(attribute) = read_specification(input)? {
@@ -166,15 +166,10 @@ fn read_specifications<R: Reader>(
     Ok(attributes)
 }
 
-// What stands behind a code.
-#[tactic(auto, unfolding(crate::specs::Abbrev::declaration_at))]
-fn read_declaration<R: Reader>(
-    alloc: Global,
-    input: &mut R,
-    code: u64,
-) -> Result<Abbreviation, Error>
-    ensures gives { ExactlyUnlessOom (λ a. (a, R.section input.new)) result
-        (declaration_at code (R.section input.old)) }
+// A tag, and whether children follow.
+#[tactic(auto, unfolding(crate::specs::Abbrev::head_at))]
+fn read_head<R: Reader>(input: &mut R) -> Result<(DwTag, bool), Error>
+    ensures gives { Reads R.section input.old input.new result head_at }
 {
     let tag = input.read_uleb128()?;
     if tag == 0 {
@@ -184,11 +179,25 @@ fn read_declaration<R: Reader>(
     if children > 1 {
         return Err(Error::BadAbbreviation);
     }
+    Ok((DwTag(tag), children == 1))
+}
+
+// What follows a code.
+#[tactic(auto, unfolding(crate::specs::Abbrev::declaration_at))]
+fn read_declaration<R: Reader>(
+    alloc: Global,
+    input: &mut R,
+    code: u64,
+) -> Result<Abbreviation, Error>
+    ensures gives { ExactlyUnlessOomIf (is_ok (head_and_pair_at (R.section input.old)))
+        (λ a. (a, R.section input.new)) result (declaration_at code (R.section input.old)) }
+{
+    let (tag, has_children) = read_head(input)?;
     let attributes = read_specifications(alloc, input)?;
     Ok(Abbreviation {
         code,
-        tag: DwTag(tag),
-        has_children: children == 1,
+        tag,
+        has_children,
         attributes,
     })
 }
@@ -260,14 +269,14 @@ impl Abbreviations {
     }
 
     // The next abbreviation, or none at the table's end.
-    #[tactic(auto, unfolding(crate::specs::Abbrev::abbreviation_at))]
+    #[tactic(auto, unfolding(crate::specs::Abbrev::abbreviation_at, crate::specs::Abbrev::front_at))]
     fn read_next<R: Reader>(
         &self,
         alloc: Global,
         input: &mut R,
     ) -> Result<Option<Abbreviation>, Error>
-        ensures gives { ExactlyUnlessOom (λ a. (a, R.section input.new)) result
-            (abbreviation_at self.now (R.section input.old)) }
+        ensures gives { ExactlyUnlessOomIf (takes_memory (R.section input.old))
+            (λ a. (a, R.section input.new)) result (abbreviation_at self.now (R.section input.old)) }
     {
         if input.is_empty() {
             return Ok(None);
@@ -286,9 +295,11 @@ impl Abbreviations {
     /// 7.5.3).
     ///
     /// Refused `BadAbbreviation` for a repeated code, tag 0, a children byte other than 0 and 1 and
-    /// exactly one zero in a pair; `UnexpectedEof` and `BadLeb128` for its numbers; `OutOfMemory`.
+    /// exactly one zero in a pair; `UnexpectedEof` and `BadLeb128` for its numbers; `OutOfMemory` only
+    /// after the first pair of the first abbreviation.
     pub fn parse<R: Reader>(alloc: Global, input: R) -> Result<Abbreviations, Error>
-        ensures gives { ExactlyUnlessOom (λ t. t) result (table_at (R.section input)) }
+        ensures gives { ExactlyUnlessOomIf (takes_memory (R.section input)) (λ t. t) result
+            (table_at (R.section input)) }
     {
         let mut input = input;
         let mut table = Abbreviations {

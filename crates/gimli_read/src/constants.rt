@@ -1,5 +1,8 @@
 //! Constants of DWARF, in the standard's spelling (DWARF 5, sections 7.5.3 to 7.5.6 and 7.12).
 
+ghost use Rattle.std.specs.Prelude.{◌≡◌};
+ghost use Rattle.gimli_read.specs.StringForm.{is_string_form};
+
 /// The tag of an entry: the kind of thing that it describes (DWARF 5, section 7.5.3).
 #[derive(Clone, Copy, Debug, PartialEq, Eq)]
 pub struct DwTag(pub u64);
@@ -8,13 +11,19 @@ pub struct DwTag(pub u64);
 #[derive(Clone, Copy, Debug, PartialEq, Eq)]
 pub struct DwAt(pub u64);
 
-/// The form of an attribute: how its value is spelled (DWARF 5, section 7.5.6).
+/// The form of an attribute: how its value is encoded (DWARF 5, section 7.5.6).
 #[derive(Clone, Copy, Debug, PartialEq, Eq)]
 pub struct DwForm(pub u64);
 
 /// A source language (DWARF 5, section 7.12).
 #[derive(Clone, Copy, Debug, PartialEq, Eq)]
 pub struct DwLang(pub u16);
+
+/// From this one on, the lengths of four bytes that a unit may begin with are reserved (DWARF 5, section 7.4).
+pub(crate) const FIRST_RESERVED_LENGTH: u32 = 0xffff_fff0;
+
+/// The length of four bytes that one of eight bytes follows (DWARF 5, section 7.4).
+pub(crate) const LENGTH_ESCAPE: u32 = 0xffff_ffff;
 
 #[allow(non_upper_case_globals)]
 impl DwTag {
@@ -171,6 +180,29 @@ impl DwForm {
     pub const DW_FORM_GNU_ref_alt: DwForm = DwForm(0x1f20);
 
     pub const DW_FORM_GNU_strp_alt: DwForm = DwForm(0x1f21);
+}
+
+impl DwForm {
+    /// Whether values of the form are strings: their bytes, or where those are found. Takes no memory.
+    #[tactic(auto, unfolding(crate::specs::FormEncoding::form_encoding_of))]
+    pub fn is_string(self) -> bool
+        ensures gives { result ≡ is_string_form self.0 }
+    {
+        matches!(
+            self,
+            DwForm::DW_FORM_string
+                | DwForm::DW_FORM_strp
+                | DwForm::DW_FORM_line_strp
+                | DwForm::DW_FORM_strp_sup
+                | DwForm::DW_FORM_GNU_strp_alt
+                | DwForm::DW_FORM_strx
+                | DwForm::DW_FORM_GNU_str_index
+                | DwForm::DW_FORM_strx1
+                | DwForm::DW_FORM_strx2
+                | DwForm::DW_FORM_strx3
+                | DwForm::DW_FORM_strx4
+        )
+    }
 }
 
 #[allow(non_upper_case_globals)]

@@ -1,10 +1,24 @@
-//! Laws of the readings, with no code.
+//! Laws of readings and readers: functions with a contract and no code.
 
+ghost use Rattle.std.specs.Prelude.{◌≡◌, true, false};
+ghost use Rattle.gimli_read.specs.Leb128.{ReadsUleb128, ReadsUleb128Alone, ReadsSleb128, ReadsSleb128Alone};
 ghost use Rattle.gimli_read.specs.Alike.{AnswerAlike, AnswerAlikeUnlessOom};
 ghost use Rattle.gimli_read.specs.Value.{ReadsFixed, ReadsFixedAlone, ReadsValue, ReadsValueAlone, ReadsAttribute, ReadsAttributeAlone};
 
+use crate::endian_bytes::EndianBytes;
+use crate::endian_slice::EndianSlice;
+use crate::reader::Reader;
+
+/// A LEB128 number is read from its text, whatever follows, and from nothing else.
+pub fn leb128_laws()
+    ensures unsigned { ReadsUleb128 }
+    ensures unsigned_alone { ReadsUleb128Alone }
+    ensures signed { ReadsSleb128 }
+    ensures signed_alone { ReadsSleb128Alone }
+{}
+
 /// A fixed number, the value of a form and an attribute are read from their texts, whatever follows,
-/// and from nothing else: a law, with no code.
+/// and from nothing else.
 pub fn value_laws()
     ensures fixed { ReadsFixed }
     ensures fixed_alone { ReadsFixedAlone }
@@ -14,13 +28,19 @@ pub fn value_laws()
     ensures attribute_alone { ReadsAttributeAlone }
 {}
 
-/// Readers of equal sections answer alike: a law, with no code.
+/// Readers of equal sections answer alike.
 ///
-/// Each call of a reader tells or gives a reading of its section. Of two such answers to one reading
-/// of equal sections the values, what is left and the faults are equal; where a call may take memory,
-/// unless one of them was refused it. `X` and `Y` are what the two calls answer, and `Z` is what both
+/// Each call of a reader answers a reading of its section, exactly or unless memory is refused. Of two
+/// such answers to one reading of equal sections the values, what is left and the faults are equal,
+/// unless one of them is `OutOfMemory`. `X` and `Y` are what the two calls answer, and `Z` is what both
 /// are seen as.
 pub fn alike_laws<X, Y, Z>()
-    ensures told { AnswerAlike X Y Z }
-    ensures given { AnswerAlikeUnlessOom X Y Z }
+    ensures exact { AnswerAlike X Y Z }
+    ensures unless_oom { AnswerAlikeUnlessOom X Y Z }
+{}
+
+/// Parts of borrowed bytes and second readers of them take no memory; those of `Bytes` are counted.
+pub fn sharing_laws()
+    ensures slice { ⟦<EndianSlice<'static> as Reader>⟧.shares ≡ false }
+    ensures bytes { ⟦<EndianBytes as Reader>⟧.shares ≡ true }
 {}

@@ -3,12 +3,13 @@
 ghost use Rattle.std.specs.Prelude.{◌≡◌, ◌≤◌, ◌<◌, ◌^◌, [], ◌∷◌, length, drop, nat_lt, IfOk};
 ghost use Rattle.std.specs.List.{position};
 ghost use Rattle.gimli_read.specs.Reading.{Exactly};
-ghost use Rattle.gimli_read.specs.Leb128.{uleb128_value, sleb128_value, leb128_text, uleb128_in, sleb128_in, ReadsUleb128, ReadsUleb128Alone, ReadsSleb128, ReadsSleb128Alone};
+ghost use Rattle.gimli_read.specs.declared.leb128.TheConstants.{MAX_LEB128_LEN};
+ghost use Rattle.gimli_read.specs.Leb128.{uleb128_value, sleb128_value, leb128_text, uleb128_in, sleb128_in};
 
 use crate::error::Error;
 
 // A text has at most this many bytes.
-const MAX_LEN: usize = 10;
+const MAX_LEB128_LEN: usize = 10;
 
 // Where the first byte below 128 stands.
 fn last_of(bytes: &[u8]) -> Option<usize>
@@ -22,13 +23,13 @@ fn text_of(bytes: &[u8]) -> Result<&[u8], Error>
     ensures gives { Exactly (λ text. (text.now, drop (length text.now) bytes.now)) result
         (leb128_text bytes.now) }
 {
-    if bytes.len() < MAX_LEN {
+    if bytes.len() < MAX_LEB128_LEN {
         return match last_of(bytes) {
             Some(last) => Ok(&bytes[..last + 1]),
             None => Err(Error::UnexpectedEof),
         };
     }
-    match last_of(&bytes[..MAX_LEN]) {
+    match last_of(&bytes[..MAX_LEB128_LEN]) {
         Some(last) => Ok(&bytes[..last + 1]),
         None => Err(Error::BadLeb128),
     }
@@ -37,7 +38,7 @@ fn text_of(bytes: &[u8]) -> Result<&[u8], Error>
 // The sum of the bits of a text.
 #[tactic(auto, using(crate::proofs::Leb128Lemmas::leb128_steps))]
 fn sum_of(text: &[u8]) -> u128
-    requires short { length text.now ≤ 10 }
+    requires short { length text.now ≤ MAX_LEB128_LEN }
     ensures gives { result ≡ uleb128_value text.now }
     ensures bound { result < 128 ^ length text.now }
 {
@@ -81,8 +82,8 @@ pub(crate) fn unsigned(bytes: &[u8]) -> Result<(u64, usize), Error>
 
 // What the next byte after a text of this length would count.
 #[tactic(auto, using(crate::proofs::Leb128Lemmas::scale_of))]
-fn scale_behind(len: usize) -> u128
-    requires short { len ≤ 10 }
+fn scale_after(len: usize) -> u128
+    requires short { len ≤ MAX_LEB128_LEN }
     ensures gives { result ≡ 128 ^ len }
 {
     1 << (7 * len)
@@ -105,7 +106,7 @@ fn any_signed(bytes: &[u8]) -> Result<(i64, usize), Error>
         return Ok((sum as i64, len));
     }
     // How far the number is below -1.
-    let below = scale_behind(len) - 1 - sum;
+    let below = scale_after(len) - 1 - sum;
     if below > i64::MAX as u128 {
         return Err(Error::BadLeb128);
     }
@@ -135,11 +136,3 @@ pub(crate) fn signed(bytes: &[u8]) -> Result<(i64, usize), Error>
         _ => any_signed(bytes),
     }
 }
-
-/// A number is read from its text, whatever follows, and from nothing else: a law, with no code.
-pub fn leb128_laws()
-    ensures unsigned { ReadsUleb128 }
-    ensures unsigned_alone { ReadsUleb128Alone }
-    ensures signed { ReadsSleb128 }
-    ensures signed_alone { ReadsSleb128Alone }
-{}

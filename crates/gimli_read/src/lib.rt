@@ -12,8 +12,6 @@ mod leb128;
 mod range;
 mod reader;
 mod skip;
-#[cfg(test)]
-mod tests;
 mod value;
 
 pub use crate::abbrev::{Abbreviation, Abbreviations, AttributeSpecification};
@@ -22,8 +20,7 @@ pub use crate::endian::{Encoding, Format, RunTimeEndian};
 pub use crate::endian_bytes::EndianBytes;
 pub use crate::endian_slice::EndianSlice;
 pub use crate::error::Error;
-pub use crate::laws::{alike_laws, value_laws};
-pub use crate::leb128::leb128_laws;
+pub use crate::laws::{alike_laws, leb128_laws, sharing_laws, value_laws};
 pub use crate::range::Range;
 pub use crate::reader::{Reader, read_initial_length};
 pub use crate::skip::skip_attribute;

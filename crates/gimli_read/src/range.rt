@@ -5,6 +5,6 @@
 pub struct Range {
     /// The first address.
     pub begin: u64,
-    /// The address behind the last one.
+    /// The address after the last one.
     pub end: u64,
 }

@@ -6,10 +6,11 @@ ghost use Rattle.std.specs.Str.{IsUtf8};
 ghost use Rattle.std.specs.Cow.{cow_str_bytes};
 ghost use Rattle.gimli_read.specs.declared.error.Error.TheVariants.{OutOfMemory};
 ghost use Rattle.gimli_read.specs.Text.{lossy_text};
-ghost use Rattle.gimli_read.specs.Reading.{Exactly, ExactlyUnlessOomFor};
+ghost use Rattle.gimli_read.specs.Reading.{ExactlyUnlessOomFor, Reads, ReadsPartUnlessOom};
 ghost use Rattle.gimli_read.specs.Number.{fixed_at, address_at, offset_at, skipped_at, split_at, signed_byte_at, null_terminated_at, initial_length_at};
 ghost use Rattle.gimli_read.specs.Leb128.{uleb128_at, sleb128_at};
 
+use crate::constants::{FIRST_RESERVED_LENGTH, LENGTH_ESCAPE};
 use crate::endian::{Format, RunTimeEndian};
 use crate::error::Error;
 use crate::leb128;
@@ -46,16 +47,14 @@ pub trait Reader: Clone {
     ///
     /// Refused `UnexpectedEof` where fewer are left, else `OutOfMemory` where the bytes are shared.
     fn split(&mut self, len: u64) -> Result<Self, Error>
-        ensures gives { ExactlyUnlessOomFor shares is_ok (λ r. (section r, section self.new)) result
-            (split_at len (section self.old)) }
+        ensures gives { ReadsPartUnlessOom shares section self.old self.new result (split_at len) }
         ensures refused { OnErr result (section self.new ≡ section self.old) };
 
     /// Passes over the next `len` bytes. Takes no memory.
     ///
     /// Refused `UnexpectedEof` where fewer are left.
     fn skip(&mut self, len: u64) -> Result<(), Error>
-        ensures gives { Exactly (λ x. (x, section self.new)) result
-            (skipped_at len (section self.old)) }
+        ensures gives { Reads section self.old self.new result (skipped_at len) }
         ensures refused { OnErr result (section self.new ≡ section self.old) };
 
     /// A reader of the same bytes in the same order. Refused `OutOfMemory` alone, where they are shared.
@@ -73,7 +72,7 @@ pub trait Reader: Clone {
     ///
     /// Refused `UnexpectedEof` where no byte is left.
     final fn read_u8(&mut self) -> Result<u8, Error>
-        ensures gives { Exactly (λ x. (x, section self.new)) result (fixed_at 1 (section self.old)) }
+        ensures gives { Reads section self.old self.new result (fixed_at 1) }
         ensures refused { OnErr result (section self.new ≡ section self.old) }
     {
         let bytes = self.to_slice();
@@ -90,7 +89,7 @@ pub trait Reader: Clone {
     ///
     /// Refused `UnexpectedEof` where no byte is left.
     final fn read_i8(&mut self) -> Result<i8, Error>
-        ensures gives { Exactly (λ x. (x, section self.new)) result (signed_byte_at (section self.old)) }
+        ensures gives { Reads section self.old self.new result signed_byte_at }
         ensures refused { OnErr result (section self.new ≡ section self.old) }
     {
         Ok(self.read_u8()?.cast_signed())
@@ -100,7 +99,7 @@ pub trait Reader: Clone {
     ///
     /// Refused `UnexpectedEof` where fewer are left.
     final fn read_u16(&mut self) -> Result<u16, Error>
-        ensures gives { Exactly (λ x. (x, section self.new)) result (fixed_at 2 (section self.old)) }
+        ensures gives { Reads section self.old self.new result (fixed_at 2) }
         ensures refused { OnErr result (section self.new ≡ section self.old) }
     {
         let bytes = self.to_slice();
@@ -119,7 +118,7 @@ pub trait Reader: Clone {
     ///
     /// Refused `UnexpectedEof` where fewer are left.
     final fn read_u32(&mut self) -> Result<u32, Error>
-        ensures gives { Exactly (λ x. (x, section self.new)) result (fixed_at 4 (section self.old)) }
+        ensures gives { Reads section self.old self.new result (fixed_at 4) }
         ensures refused { OnErr result (section self.new ≡ section self.old) }
     {
         let bytes = self.to_slice();
@@ -138,7 +137,7 @@ pub trait Reader: Clone {
     ///
     /// Refused `UnexpectedEof` where fewer are left.
     final fn read_u64(&mut self) -> Result<u64, Error>
-        ensures gives { Exactly (λ x. (x, section self.new)) result (fixed_at 8 (section self.old)) }
+        ensures gives { Reads section self.old self.new result (fixed_at 8) }
         ensures refused { OnErr result (section self.new ≡ section self.old) }
     {
         let bytes = self.to_slice();
@@ -158,7 +157,7 @@ pub trait Reader: Clone {
     /// Refused `UnexpectedEof` where its text isn't whole, and `BadLeb128` for more than ten bytes
     /// or a value past 64 bits.
     final fn read_uleb128(&mut self) -> Result<u64, Error>
-        ensures gives { Exactly (λ x. (x, section self.new)) result (uleb128_at (section self.old)) }
+        ensures gives { Reads section self.old self.new result uleb128_at }
         ensures refused { OnErr result (section self.new ≡ section self.old) }
     {
         let (number, len) = leb128::unsigned(self.to_slice())?;
@@ -171,7 +170,7 @@ pub trait Reader: Clone {
     /// Refused `UnexpectedEof` where its text isn't whole, and `BadLeb128` for more than ten bytes
     /// or a value past signed 64 bits.
     final fn read_sleb128(&mut self) -> Result<i64, Error>
-        ensures gives { Exactly (λ x. (x, section self.new)) result (sleb128_at (section self.old)) }
+        ensures gives { Reads section self.old self.new result sleb128_at }
         ensures refused { OnErr result (section self.new ≡ section self.old) }
     {
         let (number, len) = leb128::signed(self.to_slice())?;
@@ -184,7 +183,7 @@ pub trait Reader: Clone {
     /// Refused `UnsupportedAddressSize` for a size other than 1, 2, 4 and 8, and `UnexpectedEof`
     /// where fewer bytes are left.
     final fn read_address(&mut self, size: u8) -> Result<u64, Error>
-        ensures gives { Exactly (λ x. (x, section self.new)) result (address_at size (section self.old)) }
+        ensures gives { Reads section self.old self.new result (address_at size) }
         ensures refused { OnErr result (section self.new ≡ section self.old) }
     {
         match size {
@@ -201,7 +200,7 @@ pub trait Reader: Clone {
     ///
     /// Refused `UnexpectedEof` where fewer bytes are left.
     final fn read_offset(&mut self, format: Format) -> Result<u64, Error>
-        ensures gives { Exactly (λ x. (x, section self.new)) result (offset_at format (section self.old)) }
+        ensures gives { Reads section self.old self.new result (offset_at format) }
         ensures refused { OnErr result (section self.new ≡ section self.old) }
     {
         match format {
@@ -215,8 +214,7 @@ pub trait Reader: Clone {
     /// Refused `UnexpectedEof` where no zero byte is left, else `OutOfMemory` where the bytes are shared.
     #[tactic(auto, using(crate::proofs::Steps::null_terminated_when))]
     final fn read_null_terminated(&mut self) -> Result<Self, Error>
-        ensures gives { ExactlyUnlessOomFor shares is_ok (λ r. (section r, section self.new)) result
-            (null_terminated_at (section self.old)) }
+        ensures gives { ReadsPartUnlessOom shares section self.old self.new result null_terminated_at }
         ensures refused { OnErr result (section self.new ≡ section self.old) }
     {
         let len = match zero_of(self.to_slice()) {
@@ -247,13 +245,12 @@ pub trait Reader: Clone {
 /// are left. After a refusal the reader may stand anywhere.
 #[tactic(auto, unfolding(crate::specs::Number::initial_length_at, crate::specs::Number::long_length_at))]
 pub fn read_initial_length<R: Reader>(input: &mut R) -> Result<(u64, Format), Error>
-    ensures gives { Exactly (λ x. (x, R.section input.new)) result
-        (initial_length_at (R.section input.old)) }
+    ensures gives { Reads R.section input.old input.new result initial_length_at }
 {
     let length = input.read_u32()?;
     match length {
-        0..0xffff_fff0 => Ok((u64::from(length), Format::Dwarf32)),
-        0xffff_ffff => Ok((input.read_u64()?, Format::Dwarf64)),
+        0..FIRST_RESERVED_LENGTH => Ok((u64::from(length), Format::Dwarf32)),
+        LENGTH_ESCAPE => Ok((input.read_u64()?, Format::Dwarf64)),
         _ => Err(Error::UnknownReservedLength),
     }
 }

@@ -1,10 +1,11 @@
 //! The values of attributes, by form.
 
 ghost use Rattle.std.specs.Prelude.{◌≡◌, OnErr};
-ghost use Rattle.gimli_read.specs.Reading.{Exactly, ExactlyUnlessOomFor};
-ghost use Rattle.gimli_read.specs.HeldBytes.{gives_bytes, gives_attribute_bytes};
+ghost use Rattle.gimli_read.specs.Reading.{Exactly, Reads, ReadsUnlessOomFor};
+ghost use Rattle.gimli_read.specs.HeldBytes.{gives_attribute_bytes, ReadsValueUnlessOom};
 ghost use Rattle.gimli_read.specs.Number.{fixed_at};
-ghost use Rattle.gimli_read.specs.Form.{seen_value, direct_at, reference_at, form_at, value_at, ref_addr_at, attribute_at, constant_of};
+ghost use Rattle.gimli_read.specs.FormEncoding.{address_or_offset_at, reference_forms, form_in, encoded_at};
+ghost use Rattle.gimli_read.specs.Form.{seen_value, direct_at, form_at, value_at, attribute_at, constant_of};
 
 use crate::abbrev::AttributeSpecification;
 use crate::constants::{DwAt, DwForm};
@@ -94,7 +95,7 @@ impl<R> AttributeValue<R> {
 
 // A number of three bytes.
 fn read_u24<R: Reader>(input: &mut R) -> Result<u32, Error>
-    ensures gives { Exactly (λ x. (x, R.section input.new)) result (fixed_at 3 (R.section input.old)) }
+    ensures gives { Reads R.section input.old input.new result (fixed_at 3) }
     ensures refused { OnErr result (R.section input.new ≡ R.section input.old) }
 {
     let bytes = input.to_slice();
@@ -111,7 +112,7 @@ fn read_u24<R: Reader>(input: &mut R) -> Result<u32, Error>
 
 // A number of sixteen bytes.
 fn read_u128<R: Reader>(input: &mut R) -> Result<u128, Error>
-    ensures gives { Exactly (λ x. (x, R.section input.new)) result (fixed_at 16 (R.section input.old)) }
+    ensures gives { Reads R.section input.old input.new result (fixed_at 16) }
     ensures refused { OnErr result (R.section input.new ≡ R.section input.old) }
 {
     let bytes = input.to_slice();
@@ -128,7 +129,7 @@ fn read_u128<R: Reader>(input: &mut R) -> Result<u128, Error>
 
 // A reference by section offset.
 fn read_ref_addr<R: Reader>(input: &mut R, encoding: Encoding) -> Result<u64, Error>
-    ensures gives { Exactly (λ x. (x, R.section input.new)) result (ref_addr_at encoding (R.section input.old)) }
+    ensures gives { Reads R.section input.old input.new result (address_or_offset_at encoding) }
     ensures refused { OnErr result (R.section input.new ≡ R.section input.old) }
 {
     if encoding.version == 2 {
@@ -139,14 +140,13 @@ fn read_ref_addr<R: Reader>(input: &mut R, encoding: Encoding) -> Result<u64, Er
 }
 
 // A string, or a reference of any kind.
-#[tactic(auto, unfolding(crate::specs::Form::reference_at))]
 fn read_reference<R: Reader>(
     input: &mut R,
     encoding: Encoding,
     form: DwForm,
 ) -> Result<AttributeValue<R>, Error>
-    ensures gives { ExactlyUnlessOomFor R.shares gives_bytes (λ v. (seen_value R.section v, R.section input.new)) result
-        (reference_at encoding form.0 (R.section input.old)) }
+    ensures gives { ReadsValueUnlessOom R.shares R.section input.old input.new result
+        (encoded_at encoding (form_in reference_forms form.0)) }
 {
     match form {
         DwForm::DW_FORM_string => Ok(AttributeValue::String(input.read_null_terminated()?)),
@@ -202,24 +202,19 @@ fn read_reference<R: Reader>(
             input.read_offset(encoding.format)?,
         ))),
         DwForm::DW_FORM_ref_sig8 => Ok(AttributeValue::DebugTypesRef(input.read_u64()?)),
-        DwForm::DW_FORM_sec_offset => {
-            Ok(AttributeValue::SecOffset(input.read_offset(encoding.format)?))
-        }
-        DwForm::DW_FORM_loclistx => Ok(AttributeValue::DebugLocListsIndex(input.read_uleb128()?)),
-        DwForm::DW_FORM_rnglistx => Ok(AttributeValue::DebugRngListsIndex(input.read_uleb128()?)),
         _ => Err(Error::UnknownForm),
     }
 }
 
 // A value of a form other than indirect and implicit_const.
-#[tactic(auto, unfolding(crate::specs::Form::direct_at))]
+#[tactic(auto, unfolding(crate::specs::FormEncoding::form_encoding_of))]
 fn read_direct<R: Reader>(
     input: &mut R,
     encoding: Encoding,
     form: DwForm,
 ) -> Result<AttributeValue<R>, Error>
-    ensures gives { ExactlyUnlessOomFor R.shares gives_bytes (λ v. (seen_value R.section v, R.section input.new)) result
-        (direct_at encoding form.0 (R.section input.old)) }
+    ensures gives { ReadsValueUnlessOom R.shares R.section input.old input.new result
+        (direct_at encoding form.0) }
 {
     match form {
         DwForm::DW_FORM_addr => Ok(AttributeValue::Addr(input.read_address(
@@ -260,16 +255,21 @@ fn read_direct<R: Reader>(
         DwForm::DW_FORM_udata => Ok(AttributeValue::Udata(input.read_uleb128()?)),
         DwForm::DW_FORM_flag => Ok(AttributeValue::Flag(input.read_u8()? != 0)),
         DwForm::DW_FORM_flag_present => Ok(AttributeValue::Flag(true)),
+        DwForm::DW_FORM_sec_offset => {
+            Ok(AttributeValue::SecOffset(input.read_offset(encoding.format)?))
+        }
+        DwForm::DW_FORM_loclistx => Ok(AttributeValue::DebugLocListsIndex(input.read_uleb128()?)),
+        DwForm::DW_FORM_rnglistx => Ok(AttributeValue::DebugRngListsIndex(input.read_uleb128()?)),
         _ => read_reference(input, encoding, form),
     }
 }
 
-// The form behind indirections.
+// The form that indirections lead to.
 pub(crate) fn read_form<R: Reader>(input: &mut R) -> Result<DwForm, Error>
     ensures gives { Exactly (λ f. (f.0, R.section input.new)) result (form_at (R.section input.old)) }
 {
     let mut form = input.read_uleb128()?;
-    while form == 0x16 {
+    while form == DwForm::DW_FORM_indirect.0 {
         form = input.read_uleb128()?;
     }
     Ok(DwForm(form))
@@ -277,7 +277,7 @@ pub(crate) fn read_form<R: Reader>(input: &mut R) -> Result<DwForm, Error>
 
 /// Reads the value of an attribute of any form but implicit_const (DWARF 5, section 7.5.5).
 ///
-/// Refused `UnknownForm` for another form, also behind indirections, the refusals of a number of the
+/// Refused `UnknownForm` for another form, also after indirections, the refusals of a number of the
 /// form, `UnexpectedEof` where bytes are missing, and `OutOfMemory` for a block, an expression or a string
 /// at a reader that shares its bytes. After a refusal the reader may stand anywhere.
 #[tactic(auto, unfolding(crate::specs::Form::value_at))]
@@ -286,10 +286,10 @@ pub fn read_value<R: Reader>(
     encoding: Encoding,
     form: DwForm,
 ) -> Result<AttributeValue<R>, Error>
-    ensures gives { ExactlyUnlessOomFor R.shares gives_bytes (λ v. (seen_value R.section v, R.section input.new)) result
-        (value_at encoding form.0 (R.section input.old)) }
+    ensures gives { ReadsValueUnlessOom R.shares R.section input.old input.new result
+        (value_at encoding form.0) }
 {
-    if form.0 == 0x16 {
+    if form == DwForm::DW_FORM_indirect {
         let form = read_form(input)?;
         return read_direct(input, encoding, form);
     }
@@ -345,8 +345,8 @@ pub fn read_attribute<R: Reader>(
     encoding: Encoding,
     specification: AttributeSpecification,
 ) -> Result<Attribute<R>, Error>
-    ensures gives { ExactlyUnlessOomFor R.shares gives_attribute_bytes (λ a. (a, R.section input.new)) result
-        (attribute_at encoding specification (R.section input.old)) }
+    ensures gives { ReadsUnlessOomFor R.shares gives_attribute_bytes R.section
+        input.old input.new result (attribute_at encoding specification) }
 {
     let name = specification.name();
     if specification.form() == DwForm::DW_FORM_implicit_const {

@@ -1,22 +1,31 @@
-use Rattle.std.proofs.Common.{ap, sym, Ok, ◌∙◌, append-nil}
+use Rattle.std.proofs.Common.{inr, is_ok, refl, ap, sym, Ok, ◌∙◌, append-nil}
 use Rattle.std.proofs.lemmas.Result.{err_from_is_err_and}
 use Rattle.gimli_read.specs.Abbrev.{specification_at}
 use Rattle.gimli_read.specs.Run.{with_front}
 use Rattle.gimli_read.proofs.RunLemmas.{collected-more, collected-end, collected-fault}
 use Rattle.gimli_read.proofs.Shorter.{shorter_by}
-use Rattle.gimli_read.proofs.AbbrevLemmas.{specification_takes}
+use Rattle.gimli_read.proofs.AbbrevLemmas.{specification_takes, begun_by}
 use Rattle.gimli_read.proofs.abbrev.read_specifications.Goals as goal
 
 pub returns-in_err-attribute : goal.returns-in_err-attribute
 returns-in_err-attribute g c =
     let p = err_from_is_err_and c.from_residual.result c.from_residual.ensures.1 in
-    record { gives = rw (p.1, p.2) (λ ne. sym c.loop-attributes.invariant ∙ ap (with_front c.loop-attributes.attributes.items) (collected-fault specification_at specification_takes _ _ c.in_err-attribute.ensures.gives)) }
+    record { gives = rw (p.1, p.2) (λ ne. sym c.loop-attributes.invariant.gives ∙ ap (with_front c.loop-attributes.attributes.items) (collected-fault specification_at specification_takes _ _ c.in_err-attribute.ensures.gives)) }
 
 pub loop-attributes-smaller : goal.loop-attributes-smaller
 loop-attributes-smaller g c = shorter_by specification_at specification_takes _ c.in-Some.attribute _ (rw c.in-Some.is at c.in_ok-attribute.ensures.gives)
 
 pub loop-attributes-preserved : goal.loop-attributes-preserved
-loop-attributes-preserved g c = rw c.in_ok-push.ensures.items (sym (collected-more specification_at specification_takes _ c.in-Some.attribute _ (rw c.in-Some.is at c.in_ok-attribute.ensures.gives) c.loop-attributes.attributes.items) ∙ c.loop-attributes.invariant)
+loop-attributes-preserved g c = record {
+  gives = rw c.in_ok-push.ensures.items (sym (collected-more specification_at specification_takes _ c.in-Some.attribute _ (rw c.in-Some.is at c.in_ok-attribute.ensures.gives) c.loop-attributes.attributes.items) ∙ c.loop-attributes.invariant.gives);
+  begun = inr (begun_by specification_at _ _ c.loop-attributes.invariant.begun (ap is_ok c.in_ok-attribute.ensures.gives));
+}
+
+pub returns-in_err-push : goal.returns-in_err-push
+returns-in_err-push g c =
+    let begun = begun_by specification_at _ _ c.loop-attributes.invariant.begun (ap is_ok c.in_ok-attribute.ensures.gives) in
+    let p = err_from_is_err_and c.from_residual-in_err-push.result c.from_residual-in_err-push.ensures.1 in
+    record { gives = rw (p.1, p.2) (λ n. absurd (n begun refl)) }
 
 pub returns : goal.returns
-returns g c = record { gives = sym c.loop-attributes.invariant ∙ ap (with_front c.loop-attributes.attributes.items) (collected-end specification_at specification_takes _ _ (rw c.in_default.is at c.in_ok-attribute.ensures.gives)) ∙ ap (λ v. Ok (v, g.R.Reader.section c.read_specification.new.input)) (append-nil c.loop-attributes.attributes.items) }
+returns g c = record { gives = sym c.loop-attributes.invariant.gives ∙ ap (with_front c.loop-attributes.attributes.items) (collected-end specification_at specification_takes _ _ (rw c.in_default.is at c.in_ok-attribute.ensures.gives)) ∙ ap (λ v. Ok (v, g.R.Reader.section c.read_specification.new.input)) (append-nil c.loop-attributes.attributes.items) }

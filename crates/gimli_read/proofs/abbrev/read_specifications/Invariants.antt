@@ -1,10 +1,16 @@
 use Rattle.std.proofs.Common.{◌≡◌, length}
 use Rattle.gimli_read.specs.Abbrev.{specification_at}
 use Rattle.gimli_read.specs.Run.{collected, run_of, with_front}
+use Rattle.gimli_read.proofs.AbbrevLemmas.{IsBegun}
 use Rattle.gimli_read.proofs.abbrev.read_specifications.Given as goal
 
 abbrev pub invariant-loop-attributes : goal.invariant-loop-attributes
-invariant-loop-attributes g l = with_front l.attributes.items (collected (run_of specification_at (g.R.Reader.section l.input))) ≡ collected (run_of specification_at (g.R.Reader.section l.fn.input))
+invariant-loop-attributes g l =
+    let see = g.R.Reader.section in
+    record {
+      gives : with_front l.attributes.items (collected (run_of specification_at (see l.input))) ≡ collected (run_of specification_at (see l.fn.input));
+      begun : IsBegun specification_at (see l.fn.input) (see l.input);
+    }
 
 abbrev pub decreases-loop-attributes : goal.decreases-loop-attributes
 decreases-loop-attributes g l = length (g.R.Reader.section l.input).bytes

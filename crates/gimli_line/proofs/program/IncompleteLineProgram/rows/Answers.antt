@@ -9,6 +9,6 @@ returns g c =
     let P : Header → Type 0 = λ h. 0 < h.line_encoding.maximum_operations_per_instruction in
     record {
       gives = ap (λ p. Ok (lines_of p)) (sym c.self.view_is)
-          ∙ ap Ok (lines_begin _ _ _ c.start.result (subst P c.header.view_is c.header.invariant.operations)
+          ∙ ap Ok (lines_begin _ _ _ c.start.result (subst P (c.drop.view_is ∙ sym (ok_is c.in_ok-duplicate_header.ensures.gives)) c.drop.inside.parameters.operations)
           (ok_is c.in_ok-duplicate_header.ensures.gives) (ok_is c.in_ok-duplicate.ensures.gives) c.start.ensures.gives);
     }

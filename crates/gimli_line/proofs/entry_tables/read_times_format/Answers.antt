@@ -1,0 +1,16 @@
+use Rattle.std.proofs.Common.{sym, ◌∙◌, arith}
+use Rattle.std.proofs.lemmas.Result.{err_from_is_err_and}
+use Rattle.gimli_line.specs.EntryTables.{format_at}
+use Rattle.gimli_line.proofs.Numbers.{times_more, times_fault, times_none}
+use Rattle.gimli_line.proofs.entry_tables.read_times_format.Goals as goal
+
+pub returns-in_err-read_format : goal.returns-in_err-read_format
+returns-in_err-read_format g c = let p = err_from_is_err_and c.from_residual.result c.from_residual.ensures.1 in rw (p.1, p.2) (record {
+  gives = λ _. sym c.loop.invariant ∙ times_fault format_at _ _ _ (omega arith) c.in_err-read_format.ensures.gives c.loop.formats.items;
+})
+
+pub loop-preserved : goal.loop-preserved
+loop-preserved g c = rw c.in_ok-push.ensures.items (sym (times_more format_at _ _ _ _ _ (omega arith) c.in_ok-read_format.ensures.gives c.loop.formats.items) ∙ c.loop.invariant)
+
+pub returns : goal.returns
+returns g c = record { gives = sym c.loop.invariant ∙ times_none format_at _ _ (omega arith) c.loop.formats.items }

@@ -1,5 +1,0 @@
-use Rattle.gimli_line.proofs.Rising.{rows_rise}
-use Rattle.gimli_line.proofs.program.rows_laws.Goals as goal
-
-pub returns : goal.returns
-returns c = record { rise = rows_rise }

@@ -1,6 +1,0 @@
-use Rattle.std.proofs.Common.{◌≡◌, map}
-use Rattle.gimli_read.specs.Form.{seen_value}
-use Rattle.gimli_line.proofs.tables.paths_of.Given as goal
-
-abbrev pub invariant-loop-entry : goal.invariant-loop-entry
-invariant-loop-entry g l = map (seen_value g.R.Reader.section) l.paths.items ≡ map (λ f. f.path_name) l.yielded

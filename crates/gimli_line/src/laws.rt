@@ -1,0 +1,21 @@
+//! Laws of line programs: functions with empty bodies, whose contracts say what holds of the definitions.
+
+ghost use Rattle.gimli_line.specs.Rises.{rows_before, NeverFalls, RowsRise};
+
+use crate::program::LineRows;
+use gimli_read::Reader;
+
+/// Within a sequence the addresses of a program's rows do not fall, whatever its opcodes: a law, with no
+/// code.
+pub fn rows_laws()
+    ensures rise { RowsRise }
+{}
+
+impl<R: Reader> LineRows<R> {
+    /// Within a sequence the addresses of the rows to come do not fall: a law, with no code.
+    pub fn rises(&self)
+        ensures rise { NeverFalls (rows_before self.now.left) }
+    {
+        let _ = &self.header;
+    }
+}

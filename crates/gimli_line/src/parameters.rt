@@ -1,0 +1,68 @@
+//! The numbers of a header, prepared once for all opcodes.
+
+ghost use Rattle.std.specs.Prelude.{◌≡◌, ◌+◌, ◌/◌, ◌%◌, ◌<◌, ◌||◌, true, nat_lt};
+ghost use Rattle.gimli_read.specs.Number.{is_address_size};
+ghost use Rattle.gimli_line.specs.Encoding.{limit};
+
+use crate::encoding::LineEncoding;
+
+/// What opcodes are run by, prepared so that no special opcode divides.
+#[derive(Clone, Copy, Debug)]
+pub struct LineParameters {
+    /// The numbers of the header.
+    pub encoding: LineEncoding,
+    /// The greatest address of the address size.
+    pub greatest: u64,
+    /// A number below 256 times this, divided by 2^16, is the number divided by the line range.
+    pub reciprocal: u32,
+    ghost size: { is_address_size encoding.address_size ≡ true },
+    ghost operations: { 0 < encoding.maximum_operations_per_instruction },
+    ghost range: { 0 < encoding.line_range },
+    ghost byte: { encoding.line_range < 256 },
+    ghost greatest_is: { greatest + 1 ≡ limit encoding },
+    ghost reciprocal_is: { reciprocal ≡ 65536 / encoding.line_range + 1 },
+}
+
+// The greatest address of a size.
+fn greatest(encoding: LineEncoding) -> u64
+    requires size { is_address_size encoding.address_size ≡ true }
+    ensures gives { result + 1 ≡ limit encoding }
+{
+    match encoding.address_size {
+        1 => 0xff,
+        2 => 0xffff,
+        4 => 0xffff_ffff,
+        _ => u64::MAX,
+    }
+}
+
+impl LineParameters {
+    /// The numbers of a header, prepared.
+    pub(crate) fn new(encoding: LineEncoding) -> LineParameters
+        requires size { is_address_size encoding.address_size ≡ true }
+        requires operations { 0 < encoding.maximum_operations_per_instruction }
+        requires range { 0 < encoding.line_range }
+        ensures gives { result.encoding ≡ encoding }
+    {
+        LineParameters {
+            encoding,
+            greatest: greatest(encoding),
+            reciprocal: 65536 / u32::from(encoding.line_range) + 1,
+        }
+    }
+
+    /// A number divided by the line range, without a division.
+    pub(crate) fn quotient(&self, n: u8) -> u8
+        ensures gives { result ≡ n / self.now.encoding.line_range }
+    {
+        let product = u32::from(n) * self.reciprocal;
+        (product / 65536) as u8
+    }
+
+    /// What a division by the line range leaves.
+    pub(crate) fn remainder(&self, n: u8) -> u8
+        ensures gives { result ≡ n % self.now.encoding.line_range }
+    {
+        n - self.quotient(n) * self.encoding.line_range
+    }
+}

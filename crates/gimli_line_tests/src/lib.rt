@@ -1,0 +1,5 @@
+//! Worked line programs, read through the calls of `gimli_line` alone.
+#![tactic(auto)]
+
+#[cfg(test)]
+mod tests;

@@ -1,0 +1,138 @@
+-- How the value of a form is encoded, and which value it is (DWARF 5, sections 7.5.5 and 7.5.6).
+-- Own: the GNU forms. DW_FORM_indirect is not listed, nor is DW_FORM_implicit_const, whose value stands in the
+-- abbreviation.
+-- Own: a form that is not listed is UnknownForm where a value of it is read.
+use Rattle.std.specs.Prelude.{ℕ, ◌==◌, not, true, List, [], ◌∷◌, ◌++◌, Option, Some, None, Ok, Err, if◌then◌else◌, ℤ}
+use Rattle.gimli_read.specs.declared.constants.DwForm.{DwForm}
+use Rattle.gimli_read.specs.declared.constants.TheConstants.DwForm.{DW_FORM_addr, DW_FORM_addrx, DW_FORM_GNU_addr_index, DW_FORM_addrx1, DW_FORM_addrx2, DW_FORM_addrx3, DW_FORM_addrx4, DW_FORM_block1, DW_FORM_block2, DW_FORM_block4, DW_FORM_block, DW_FORM_exprloc, DW_FORM_data1, DW_FORM_data2, DW_FORM_data4, DW_FORM_data8, DW_FORM_data16, DW_FORM_sdata, DW_FORM_udata, DW_FORM_flag, DW_FORM_flag_present, DW_FORM_sec_offset, DW_FORM_loclistx, DW_FORM_rnglistx, DW_FORM_string, DW_FORM_strp, DW_FORM_line_strp, DW_FORM_strp_sup, DW_FORM_GNU_strp_alt, DW_FORM_strx, DW_FORM_GNU_str_index, DW_FORM_strx1, DW_FORM_strx2, DW_FORM_strx3, DW_FORM_strx4, DW_FORM_ref1, DW_FORM_ref2, DW_FORM_ref4, DW_FORM_ref8, DW_FORM_ref_udata, DW_FORM_ref_addr, DW_FORM_ref_sup4, DW_FORM_ref_sup8, DW_FORM_GNU_ref_alt, DW_FORM_ref_sig8}
+use Rattle.gimli_read.specs.declared.endian.Encoding.{Encoding}
+use Rattle.gimli_read.specs.declared.error.Error.TheVariants.{UnknownForm}
+use Rattle.gimli_read.specs.declared.value.AttributeValue.{AttributeValue}
+use Rattle.gimli_read.specs.declared.value.AttributeValue.TheVariants as values
+use Rattle.gimli_read.specs.Section.{Section}
+use Rattle.gimli_read.specs.Reading.{Reading, ◌>>=◌}
+use Rattle.gimli_read.specs.Number.{fixed_at, offset_at, address_at, split_at, null_terminated_at}
+use Rattle.gimli_read.specs.Leb128.{uleb128_at, sleb128_at}
+
+-- how the value of a form is encoded, and how it is made of what is encoded so
+pub data FormEncoding : Type 0 where
+  Fixed : ℕ → (ℕ → AttributeValue Section) → FormEncoding
+  Address : (ℕ → AttributeValue Section) → FormEncoding
+  Offset : (ℕ → AttributeValue Section) → FormEncoding
+  AddressOrOffset : (ℕ → AttributeValue Section) → FormEncoding
+  Unsigned : (ℕ → AttributeValue Section) → FormEncoding
+  Signed : (ℤ → AttributeValue Section) → FormEncoding
+  Block1 : (Section → AttributeValue Section) → FormEncoding
+  Block2 : (Section → AttributeValue Section) → FormEncoding
+  Block4 : (Section → AttributeValue Section) → FormEncoding
+  Block : (Section → AttributeValue Section) → FormEncoding
+  Text : (Section → AttributeValue Section) → FormEncoding
+  Empty : AttributeValue Section → FormEncoding
+
+-- a flag
+abbrev pub flag_of : ℕ → AttributeValue Section
+flag_of n = values.Flag (not (n == 0))
+
+-- a reference by offset in the unit
+abbrev pub unit_ref : ℕ → AttributeValue Section
+unit_ref n = values.UnitRef (record { 0 = n })
+
+-- a reference by offset in the section
+abbrev pub info_ref : ℕ → AttributeValue Section
+info_ref n = values.DebugInfoRef (record { 0 = n })
+
+-- a reference by offset in the supplementary file's section
+abbrev pub info_ref_sup : ℕ → AttributeValue Section
+info_ref_sup n = values.DebugInfoRefSup (record { 0 = n })
+
+-- the forms of addresses, blocks, constants, flags, offsets and lists
+abbrev pub plain_forms : List (DwForm × FormEncoding)
+plain_forms =
+    (DW_FORM_addr, Address values.Addr)
+    ∷ (DW_FORM_addrx, Unsigned values.DebugAddrIndex)
+    ∷ (DW_FORM_GNU_addr_index, Unsigned values.DebugAddrIndex)
+    ∷ (DW_FORM_addrx1, Fixed 1 values.DebugAddrIndex)
+    ∷ (DW_FORM_addrx2, Fixed 2 values.DebugAddrIndex)
+    ∷ (DW_FORM_addrx3, Fixed 3 values.DebugAddrIndex)
+    ∷ (DW_FORM_addrx4, Fixed 4 values.DebugAddrIndex)
+    ∷ (DW_FORM_block1, Block1 values.Block)
+    ∷ (DW_FORM_block2, Block2 values.Block)
+    ∷ (DW_FORM_block4, Block4 values.Block)
+    ∷ (DW_FORM_block, Block values.Block)
+    ∷ (DW_FORM_exprloc, Block values.Exprloc)
+    ∷ (DW_FORM_data1, Fixed 1 values.Data1)
+    ∷ (DW_FORM_data2, Fixed 2 values.Data2)
+    ∷ (DW_FORM_data4, Fixed 4 values.Data4)
+    ∷ (DW_FORM_data8, Fixed 8 values.Data8)
+    ∷ (DW_FORM_data16, Fixed 16 values.Data16)
+    ∷ (DW_FORM_sdata, Signed values.Sdata)
+    ∷ (DW_FORM_udata, Unsigned values.Udata)
+    ∷ (DW_FORM_flag, Fixed 1 flag_of)
+    ∷ (DW_FORM_flag_present, Empty (values.Flag true))
+    ∷ (DW_FORM_sec_offset, Offset values.SecOffset)
+    ∷ (DW_FORM_loclistx, Unsigned values.DebugLocListsIndex)
+    ∷ (DW_FORM_rnglistx, Unsigned values.DebugRngListsIndex)
+    ∷ []
+
+-- the forms of strings and of references
+abbrev pub reference_forms : List (DwForm × FormEncoding)
+reference_forms =
+    (DW_FORM_string, Text values.String)
+    ∷ (DW_FORM_strp, Offset values.DebugStrRef)
+    ∷ (DW_FORM_line_strp, Offset values.DebugLineStrRef)
+    ∷ (DW_FORM_strp_sup, Offset values.DebugStrRefSup)
+    ∷ (DW_FORM_GNU_strp_alt, Offset values.DebugStrRefSup)
+    ∷ (DW_FORM_strx, Unsigned values.DebugStrOffsetsIndex)
+    ∷ (DW_FORM_GNU_str_index, Unsigned values.DebugStrOffsetsIndex)
+    ∷ (DW_FORM_strx1, Fixed 1 values.DebugStrOffsetsIndex)
+    ∷ (DW_FORM_strx2, Fixed 2 values.DebugStrOffsetsIndex)
+    ∷ (DW_FORM_strx3, Fixed 3 values.DebugStrOffsetsIndex)
+    ∷ (DW_FORM_strx4, Fixed 4 values.DebugStrOffsetsIndex)
+    ∷ (DW_FORM_ref1, Fixed 1 unit_ref)
+    ∷ (DW_FORM_ref2, Fixed 2 unit_ref)
+    ∷ (DW_FORM_ref4, Fixed 4 unit_ref)
+    ∷ (DW_FORM_ref8, Fixed 8 unit_ref)
+    ∷ (DW_FORM_ref_udata, Unsigned unit_ref)
+    ∷ (DW_FORM_ref_addr, AddressOrOffset info_ref)
+    ∷ (DW_FORM_ref_sup4, Fixed 4 info_ref_sup)
+    ∷ (DW_FORM_ref_sup8, Fixed 8 info_ref_sup)
+    ∷ (DW_FORM_GNU_ref_alt, Offset info_ref_sup)
+    ∷ (DW_FORM_ref_sig8, Fixed 8 values.DebugTypesRef)
+    ∷ []
+
+-- what a table of forms has for a form
+abbrev pub form_in : List (DwForm × FormEncoding) → ℕ → Option FormEncoding
+form_in [] form = None
+form_in (f ∷ table) form = if form == f.0.0 then Some f.1 else form_in table form
+
+-- how the value of a form is encoded, if the form is listed
+unfoldable pub form_encoding_of : ℕ → Option FormEncoding
+form_encoding_of form = form_in (plain_forms ++ reference_forms) form
+
+-- a value made of what a reading gives
+abbrev pub as_value : {A : Type 0} → (A → AttributeValue Section) → Reading A → Reading (AttributeValue Section)
+as_value make read = read >>= λ x. Ok (make x.0, x.1)
+
+-- a length, and as many bytes
+abbrev pub block_at : Reading ℕ → Reading Section
+block_at length = length >>= λ n. split_at n.0 n.1
+
+-- an address in version 2, else an offset
+abbrev pub address_or_offset_at : Encoding → Section → Reading ℕ
+address_or_offset_at encoding s = if encoding.version == 2 then address_at encoding.address_size s else offset_at encoding.format s
+
+-- the value that is encoded so
+abbrev pub encoded_at : Encoding → Option FormEncoding → Section → Reading (AttributeValue Section)
+encoded_at encoding None s = Err UnknownForm
+encoded_at encoding (Some (Fixed n make)) s = as_value make (fixed_at n s)
+encoded_at encoding (Some (Address make)) s = as_value make (address_at encoding.address_size s)
+encoded_at encoding (Some (Offset make)) s = as_value make (offset_at encoding.format s)
+encoded_at encoding (Some (AddressOrOffset make)) s = as_value make (address_or_offset_at encoding s)
+encoded_at encoding (Some (Unsigned make)) s = as_value make (uleb128_at s)
+encoded_at encoding (Some (Signed make)) s = as_value make (sleb128_at s)
+encoded_at encoding (Some (Block1 make)) s = as_value make (block_at (fixed_at 1 s))
+encoded_at encoding (Some (Block2 make)) s = as_value make (block_at (fixed_at 2 s))
+encoded_at encoding (Some (Block4 make)) s = as_value make (block_at (fixed_at 4 s))
+encoded_at encoding (Some (Block make)) s = as_value make (block_at (uleb128_at s))
+encoded_at encoding (Some (Text make)) s = as_value make (null_terminated_at s)
+encoded_at encoding (Some (Empty made)) s = Ok (made, s)

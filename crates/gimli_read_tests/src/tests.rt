@@ -1,0 +1,82 @@
+//! Worked numbers, texts, tables and values, over both readers.
+
+mod forms;
+mod growths;
+mod numbers;
+mod passing;
+mod tables;
+
+use bytes::Bytes;
+use gimli_read::{
+    Abbreviations, AttributeSpecification, EndianBytes, EndianSlice, Error, RunTimeEndian,
+};
+use std::alloc::{AllocError, Global};
+
+// An answer as a number: a fault stands past all numbers of 128 bits less a few.
+const OOM: u128 = u128::MAX;
+
+const EOF: u128 = u128::MAX - 1;
+
+const LEB: u128 = u128::MAX - 2;
+
+const LENGTH: u128 = u128::MAX - 3;
+
+const SIZE: u128 = u128::MAX - 4;
+
+const BAD: u128 = u128::MAX - 5;
+
+const FORM: u128 = u128::MAX - 6;
+
+const OTHER: u128 = u128::MAX - 7;
+
+fn fault(error: Error) -> u128 {
+    match error {
+        Error::OutOfMemory => OOM,
+        Error::UnexpectedEof => EOF,
+        Error::BadLeb128 => LEB,
+        Error::UnknownReservedLength => LENGTH,
+        Error::UnsupportedAddressSize => SIZE,
+        Error::BadAbbreviation => BAD,
+        Error::UnknownForm => FORM,
+        _ => OTHER,
+    }
+}
+
+// Bytes as a number in base 256, after a 1 that keeps their number; of more than 14 bytes, their number alone.
+fn spelled(bytes: &[u8]) -> u128 {
+    if bytes.len() > 14 {
+        return bytes.len() as u128;
+    }
+    let mut number = 1u128;
+    for byte in bytes {
+        number = number.wrapping_mul(256).wrapping_add(u128::from(*byte));
+    }
+    number
+}
+
+fn borrowed(bytes: &[u8], endian: RunTimeEndian) -> EndianSlice<'_> {
+    EndianSlice::new(bytes, endian)
+}
+
+// A reader that shares a copy of the bytes.
+fn shared(alloc: Global, bytes: &[u8], endian: RunTimeEndian) -> Result<EndianBytes, AllocError> {
+    Ok(EndianBytes::new(Bytes::copy_from_slice(alloc, bytes)?, endian))
+}
+
+// An attribute by the name call_line (0x59) of a form below 0x4000, as a table has it; 9 is its value in the table.
+fn specification(alloc: Global, form: u64, constant: u8) -> Result<AttributeSpecification, Error> {
+    let [low, high, ..] = form.wrapping_mul(2).to_le_bytes();
+    let low = (low / 2) | 0x80;
+    let with = [1, 0x11, 0, 0x59, low, high, constant, 0, 0, 0];
+    let without = [1, 0x11, 0, 0x59, low, high, 0, 0, 0];
+    let bytes = if form == 0x21 {
+        with.as_slice()
+    } else {
+        without.as_slice()
+    };
+    let table = Abbreviations::parse(alloc, borrowed(bytes, RunTimeEndian::Little))?;
+    match table.get(1).and_then(|it| it.attributes().first()) {
+        Some(found) => Ok(*found),
+        None => Err(Error::UnknownAbbreviation),
+    }
+}

@@ -1,0 +1,348 @@
+//! Values of each form, in both byte orders and both formats.
+
+use super::{EOF, FORM, borrowed, fault, shared, specification, spelled};
+use gimli_read::{
+    AttributeSpecification, AttributeValue, DwAt, DwForm, Encoding, Error, Format, Reader,
+    RunTimeEndian, read_attribute, read_value,
+};
+use std::test::Fail;
+
+// Read in each form; the first byte is a LEB128 number too.
+const BYTES: [u8; 18] = [1, 2, 3, 4, 5, 6, 7, 8, 9, 10, 11, 12, 13, 14, 15, 16, 0, 17];
+
+// Each variant by a number.
+const ADDR: u128 = 1;
+
+const BLOCK: u128 = 2;
+
+const DATA1: u128 = 3;
+
+const DATA2: u128 = 4;
+
+const DATA4: u128 = 5;
+
+const DATA8: u128 = 6;
+
+const DATA16: u128 = 7;
+
+const SDATA: u128 = 8;
+
+const UDATA: u128 = 9;
+
+const EXPRLOC: u128 = 10;
+
+const FLAG: u128 = 11;
+
+const SEC_OFFSET: u128 = 12;
+
+const ADDR_INDEX: u128 = 13;
+
+const UNIT_REF: u128 = 14;
+
+const INFO_REF: u128 = 15;
+
+const INFO_REF_SUP: u128 = 16;
+
+const TYPES_REF: u128 = 17;
+
+const LOC_LISTS_INDEX: u128 = 18;
+
+const RNG_LISTS_INDEX: u128 = 19;
+
+const STR_REF: u128 = 20;
+
+const STR_REF_SUP: u128 = 21;
+
+const STR_OFFSETS_INDEX: u128 = 22;
+
+const LINE_STR_REF: u128 = 23;
+
+const STRING: u128 = 24;
+
+// The variant, and its number or its bytes.
+fn shown<R: Reader>(value: &AttributeValue<R>) -> [u128; 2] {
+    match value {
+        AttributeValue::Addr(n) => [ADDR, u128::from(*n)],
+        AttributeValue::Block(r) => [BLOCK, spelled(r.to_slice())],
+        AttributeValue::Data1(n) => [DATA1, u128::from(*n)],
+        AttributeValue::Data2(n) => [DATA2, u128::from(*n)],
+        AttributeValue::Data4(n) => [DATA4, u128::from(*n)],
+        AttributeValue::Data8(n) => [DATA8, u128::from(*n)],
+        AttributeValue::Data16(n) => [DATA16, *n],
+        AttributeValue::Sdata(n) => [SDATA, u128::from(n.cast_unsigned())],
+        AttributeValue::Udata(n) => [UDATA, u128::from(*n)],
+        AttributeValue::Exprloc(r) => [EXPRLOC, spelled(r.to_slice())],
+        AttributeValue::Flag(f) => [FLAG, u128::from(*f)],
+        AttributeValue::SecOffset(n) => [SEC_OFFSET, u128::from(*n)],
+        AttributeValue::DebugAddrIndex(n) => [ADDR_INDEX, u128::from(*n)],
+        AttributeValue::UnitRef(n) => [UNIT_REF, u128::from(n.0)],
+        AttributeValue::DebugInfoRef(n) => [INFO_REF, u128::from(n.0)],
+        AttributeValue::DebugInfoRefSup(n) => [INFO_REF_SUP, u128::from(n.0)],
+        AttributeValue::DebugTypesRef(n) => [TYPES_REF, u128::from(*n)],
+        AttributeValue::DebugLocListsIndex(n) => [LOC_LISTS_INDEX, u128::from(*n)],
+        AttributeValue::DebugRngListsIndex(n) => [RNG_LISTS_INDEX, u128::from(*n)],
+        AttributeValue::DebugStrRef(n) => [STR_REF, u128::from(*n)],
+        AttributeValue::DebugStrRefSup(n) => [STR_REF_SUP, u128::from(*n)],
+        AttributeValue::DebugStrOffsetsIndex(n) => [STR_OFFSETS_INDEX, u128::from(*n)],
+        AttributeValue::DebugLineStrRef(n) => [LINE_STR_REF, u128::from(*n)],
+        AttributeValue::String(r) => [STRING, spelled(r.to_slice())],
+    }
+}
+
+// The variant of a form's value, its number or bytes, and how many bytes are left; a fault alone.
+fn value<R: Reader>(input: R, encoding: Encoding, form: u64) -> [u128; 3] {
+    let mut input = input;
+    match read_value(&mut input, encoding, DwForm(form)) {
+        Ok(value) => {
+            let [variant, number] = shown(&value);
+            [variant, number, u128::from(input.len())]
+        }
+        Err(error) => [fault(error), 0, 0],
+    }
+}
+
+// The number that the first bytes of BYTES are.
+fn number(endian: RunTimeEndian, width: u64) -> u128 {
+    match (endian, width) {
+        (_, 1) => 1,
+        (RunTimeEndian::Little, 2) => 0x201,
+        (RunTimeEndian::Little, 3) => 0x3_0201,
+        (RunTimeEndian::Little, 4) => 0x403_0201,
+        (RunTimeEndian::Little, 8) => 0x807_0605_0403_0201,
+        (RunTimeEndian::Big, 2) => 0x102,
+        (RunTimeEndian::Big, 3) => 0x1_0203,
+        (RunTimeEndian::Big, 4) => 0x102_0304,
+        (RunTimeEndian::Big, 8) => 0x102_0304_0506_0708,
+        (RunTimeEndian::Little, _) => 0x100f_0e0d_0c0b_0a09_0807_0605_0403_0201,
+        (RunTimeEndian::Big, _) => 0x102_0304_0506_0708_090a_0b0c_0d0e_0f10,
+    }
+}
+
+// Each form of a number: its code, its variant, and its width in 32-bit and in 64-bit DWARF, where
+// addresses are of 4 and of 8 bytes.
+const FORMS: [(u64, u128, u64, u64); 38] = [
+    (0x01, ADDR, 4, 8),
+    (0x1b, ADDR_INDEX, 1, 1),
+    (0x1f01, ADDR_INDEX, 1, 1),
+    (0x29, ADDR_INDEX, 1, 1),
+    (0x2a, ADDR_INDEX, 2, 2),
+    (0x2b, ADDR_INDEX, 3, 3),
+    (0x2c, ADDR_INDEX, 4, 4),
+    (0x0b, DATA1, 1, 1),
+    (0x05, DATA2, 2, 2),
+    (0x06, DATA4, 4, 4),
+    (0x07, DATA8, 8, 8),
+    (0x1e, DATA16, 16, 16),
+    (0x0d, SDATA, 1, 1),
+    (0x0f, UDATA, 1, 1),
+    (0x0c, FLAG, 1, 1),
+    (0x0e, STR_REF, 4, 8),
+    (0x1f, LINE_STR_REF, 4, 8),
+    (0x1d, STR_REF_SUP, 4, 8),
+    (0x1f21, STR_REF_SUP, 4, 8),
+    (0x1a, STR_OFFSETS_INDEX, 1, 1),
+    (0x1f02, STR_OFFSETS_INDEX, 1, 1),
+    (0x25, STR_OFFSETS_INDEX, 1, 1),
+    (0x26, STR_OFFSETS_INDEX, 2, 2),
+    (0x27, STR_OFFSETS_INDEX, 3, 3),
+    (0x28, STR_OFFSETS_INDEX, 4, 4),
+    (0x11, UNIT_REF, 1, 1),
+    (0x12, UNIT_REF, 2, 2),
+    (0x13, UNIT_REF, 4, 4),
+    (0x14, UNIT_REF, 8, 8),
+    (0x15, UNIT_REF, 1, 1),
+    (0x10, INFO_REF, 4, 8),
+    (0x1c, INFO_REF_SUP, 4, 4),
+    (0x24, INFO_REF_SUP, 8, 8),
+    (0x1f20, INFO_REF_SUP, 4, 8),
+    (0x20, TYPES_REF, 8, 8),
+    (0x17, SEC_OFFSET, 4, 8),
+    (0x22, LOC_LISTS_INDEX, 1, 1),
+    (0x23, RNG_LISTS_INDEX, 1, 1),
+];
+
+// Version 5, with addresses as wide as offsets.
+fn encoding(format: Format) -> Encoding {
+    let address_size = match format {
+        Format::Dwarf32 => 4,
+        Format::Dwarf64 => 8,
+    };
+    Encoding {
+        address_size,
+        format,
+        version: 5,
+    }
+}
+
+#[test]
+fn each_form_of_a_number_is_read(rt: HostRuntime) -> Result<(), Fail> {
+    for endian in [RunTimeEndian::Little, RunTimeEndian::Big] {
+        let shares = shared(rt.alloc(), &BYTES, endian)?;
+        for (form, variant, short, long) in FORMS {
+            for (format, width) in [(Format::Dwarf32, short), (Format::Dwarf64, long)] {
+                let left = 18u64.wrapping_sub(width);
+                let want = [variant, number(endian, width), u128::from(left)];
+                let found = [
+                    value(borrowed(&BYTES, endian), encoding(format), form),
+                    value(shares.duplicate()?, encoding(format), form),
+                ];
+                assert_eq!(rt; found, [want, want], "form {form}");
+            }
+        }
+    }
+    Ok(())
+}
+
+// A form, the bytes, and what is read in 64-bit DWARF, with the lowest byte first.
+type Case<'a> = (u64, &'a [u8], [u128; 3]);
+
+const SPECIAL: [Case<'static>; 28] = [
+    (0x08, &BYTES, [STRING, 16, 1]),
+    (0x0a, &[2, 8, 9, 10], [BLOCK, 0x1_0809, 1]),
+    (0x0a, &[4, 8, 9, 10], [EOF, 0, 0]),
+    (0x03, &[2, 0, 8, 9, 10], [BLOCK, 0x1_0809, 1]),
+    (0x04, &[2, 0, 0, 0, 8, 9, 10], [BLOCK, 0x1_0809, 1]),
+    (0x09, &[0x82, 0, 8, 9, 10], [BLOCK, 0x1_0809, 1]),
+    (0x18, &[2, 8, 9, 10], [EXPRLOC, 0x1_0809, 1]),
+    (0x18, &[2, 1, 2], [EXPRLOC, 0x1_0102, 0]),
+    (0x18, &[0xff], [EOF, 0, 0]),
+    (0x18, &[0x80], [EOF, 0, 0]),
+    (0x0c, &[0], [FLAG, 0, 0]),
+    (0x0c, &[2], [FLAG, 1, 0]),
+    (0x19, &[], [FLAG, 1, 0]),
+    (0x0d, &[0x7f], [SDATA, 0xffff_ffff_ffff_ffff, 0]),
+    (0x08, &[0x61, 0, 1], [STRING, 0x161, 1]),
+    (0x08, &[0x61], [EOF, 0, 0]),
+    (0x16, &[0x0b, 7], [DATA1, 7, 0]),
+    (0x16, &[0x16, 0x16, 0x0b, 7], [DATA1, 7, 0]),
+    (0x16, &[0x16, 0x16], [EOF, 0, 0]),
+    (0x16, &[0x21, 7], [FORM, 0, 0]),
+    (0x16, &[2, 7], [FORM, 0, 0]),
+    (0x21, &[7], [FORM, 0, 0]),
+    (0, &[7], [FORM, 0, 0]),
+    (2, &[7], [FORM, 0, 0]),
+    (0x2d, &[7], [FORM, 0, 0]),
+    (0x01, &[1, 2, 3, 4, 5, 6, 7], [EOF, 0, 0]),
+    (0x2b, &[1, 2, 3], [ADDR_INDEX, 0x3_0201, 0]),
+    (
+        0x10,
+        &[1, 2, 3, 4, 5, 6, 7, 8],
+        [INFO_REF, 0x807_0605_0403_0201, 0],
+    ),
+];
+
+#[test]
+fn blocks_texts_and_indirections_are_read(rt: HostRuntime) -> Result<(), Fail> {
+    for (form, bytes, want) in SPECIAL {
+        let order = RunTimeEndian::Little;
+        let found = [
+            value(borrowed(bytes, order), encoding(Format::Dwarf64), form),
+            value(
+                shared(rt.alloc(), bytes, order)?,
+                encoding(Format::Dwarf64),
+                form,
+            ),
+        ];
+        assert_eq!(rt; found, [want, want], "form {form}");
+    }
+    Ok(())
+}
+
+#[test]
+fn ref_addr_of_version_2_is_an_address(rt: HostRuntime) {
+    for (version, want) in [(2, [INFO_REF, 0x201, 16]), (3, [INFO_REF, 0x403_0201, 14])] {
+        let encoding = Encoding {
+            address_size: 2,
+            format: Format::Dwarf32,
+            version,
+        };
+        let found = value(borrowed(&BYTES, RunTimeEndian::Little), encoding, 0x10);
+        assert_eq!(rt; found, want);
+    }
+}
+
+// The name of an attribute, its constant (1000 for none), how many bytes are left, its variant, and its number.
+fn attribute<R: Reader>(input: R, specification: AttributeSpecification) -> [u128; 5] {
+    let mut input = input;
+    match read_attribute(&mut input, encoding(Format::Dwarf32), specification) {
+        Ok(attribute) => {
+            let DwAt(name) = attribute.name();
+            let constant = attribute.udata_value().unwrap_or(1000);
+            let [variant, number] = shown(&attribute.value());
+            let left = u128::from(input.len());
+            [
+                u128::from(name),
+                u128::from(constant),
+                left,
+                variant,
+                number,
+            ]
+        }
+        Err(error) => [fault(error), 0, 0, 0, 0],
+    }
+}
+
+#[test]
+fn attributes_have_their_constants(rt: HostRuntime) -> Result<(), Fail> {
+    // A form, its value in the table where it is implicit_const, and the bytes.
+    let cases: [(u64, u8, &[u8], [u128; 5]); 9] = [
+        (0x21, 9, &[], [0x59, 9, 0, SDATA, 9]),
+        (
+            0x21,
+            0x77,
+            &[7],
+            [0x59, 1000, 1, SDATA, 0xffff_ffff_ffff_fff7],
+        ),
+        (
+            0x21,
+            0x7e,
+            &[7],
+            [0x59, 1000, 1, SDATA, 0xffff_ffff_ffff_fffe],
+        ),
+        (0x0b, 0, &[7, 8], [0x59, 7, 1, DATA1, 7]),
+        (0x0d, 0, &[7, 8], [0x59, 7, 1, SDATA, 7]),
+        (
+            0x0d,
+            0,
+            &[0x7f, 8],
+            [0x59, 1000, 1, SDATA, 0xffff_ffff_ffff_ffff],
+        ),
+        (0x11, 0, &[7, 8], [0x59, 1000, 1, UNIT_REF, 7]),
+        (0x05, 0, &[7], [EOF, 0, 0, 0, 0]),
+        (0x01, 0, &BYTES, [0x59, 1000, 14, ADDR, 0x403_0201]),
+    ];
+    for (form, constant, bytes, want) in cases {
+        let order = RunTimeEndian::Little;
+        let specification = specification(rt.alloc(), form, constant)?;
+        let found = [
+            attribute(borrowed(bytes, order), specification),
+            attribute(shared(rt.alloc(), bytes, order)?, specification),
+        ];
+        assert_eq!(rt; found, [want, want], "form {form}");
+    }
+    Ok(())
+}
+
+#[test]
+fn strings_have_eleven_forms(rt: HostRuntime) {
+    let mut found = 0u64;
+    let mut sum = 0u64;
+    for form in 0..0x2000 {
+        if DwForm(form).is_string() {
+            found = found.wrapping_add(1);
+            sum = sum.wrapping_add(form);
+        }
+    }
+    let sum_of_forms = 0x08
+        + 0x0e
+        + 0x1f
+        + 0x1d
+        + 0x1f21
+        + 0x1a
+        + 0x1f02
+        + 0x25
+        + 0x26
+        + 0x27
+        + 0x28;
+    assert_eq!(rt; [found, sum], [11, sum_of_forms]);
+}

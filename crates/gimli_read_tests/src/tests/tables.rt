@@ -1,0 +1,253 @@
+//! Abbreviation tables, whole and damaged.
+
+use super::{BAD, EOF, LEB, borrowed, fault, shared};
+use gimli_read::{Abbreviations, DwAt, DwForm, Reader, RunTimeEndian};
+use std::alloc::Global;
+use std::test::Fail;
+
+// What the table says of a code: tag, 16 times, a digit for children, 16 times, and the number of attributes; 0 for
+// nothing.
+fn said(table: &Abbreviations, code: u64) -> u128 {
+    match table.get(code) {
+        None => 0,
+        Some(found) => {
+            let count = found.attributes().len() as u128;
+            let children = u128::from(found.has_children());
+            let shown = u128::from(found.tag().0)
+                .wrapping_mul(16)
+                .wrapping_add(children);
+            shown.wrapping_mul(16).wrapping_add(count)
+        }
+    }
+}
+
+// What a table that is read says of a code, or its fault.
+fn said_of<R: Reader>(alloc: Global, input: R, code: u64) -> u128 {
+    match Abbreviations::parse(alloc, input) {
+        Ok(table) => said(&table, code),
+        Err(error) => fault(error),
+    }
+}
+
+// The same over both readers.
+fn both_say(alloc: Global, bytes: &[u8], code: u64) -> Result<[u128; 2], Fail> {
+    let slice = borrowed(bytes, RunTimeEndian::Little);
+    let shares = shared(alloc, bytes, RunTimeEndian::Big)?;
+    Ok([said_of(alloc, slice, code), said_of(alloc, shares, code)])
+}
+
+const PLAIN: [u8; 14] = [1, 0x11, 0, 0x10, 0x17, 0x1b, 8, 0x11, 1, 0x12, 6, 0, 0, 0];
+
+// Four abbreviations.
+const INLINED: [u8; 49] = [
+    1, 0x11, 1, 0x10, 0x17, 0x1b, 8, 0x11, 1, 0x12, 6, 0, 0, 2, 0x2e, 1, 3, 8, 0x11, 1, 0x12, 6, 0,
+    0, 3, 0x1d, 0, 0x31, 0x13, 0x11, 1, 0x12, 6, 0x58, 0x0b, 0x59, 0x0b, 0x57, 0x0b, 0, 0, 4, 0x2e,
+    0, 3, 8, 0, 0, 0,
+];
+
+// Codes out of order, with a gap: 9, 1, 300, 2.
+const SPARSE: [u8; 21] = [
+    9, 0x11, 1, 0, 0, 1, 0x2e, 0, 0, 0, 0xac, 2, 0x1d, 0, 0, 0, 2, 0x3c, 0, 0, 0,
+];
+
+#[test]
+fn a_table_is_read_by_code(rt: HostRuntime) -> Result<(), Fail> {
+    let cases: [(&[u8], u64, u128); 19] = [
+        (&INLINED, 0, 0),
+        (&INLINED, 1, 0x1114),
+        (&INLINED, 2, 0x2e13),
+        (&INLINED, 3, 0x1d06),
+        (&INLINED, 4, 0x2e01),
+        (&INLINED, 5, 0),
+        (&SPARSE, 9, 0x1110),
+        (&SPARSE, 1, 0x2e00),
+        (&SPARSE, 300, 0x1d00),
+        (&SPARSE, 2, 0x3c00),
+        (&SPARSE, 0, 0),
+        (&SPARSE, 3, 0),
+        (&SPARSE, 4, 0),
+        (&SPARSE, 8, 0),
+        (&SPARSE, 10, 0),
+        (&SPARSE, 299, 0),
+        (&SPARSE, 301, 0),
+        (&SPARSE, u64::MAX, 0),
+        (&PLAIN, 1, 0x1104),
+    ];
+    for (bytes, code, want) in cases {
+        assert_eq!(rt;
+            both_say(rt.alloc(), bytes, code)?,
+            [want, want],
+            "code {code}"
+        );
+    }
+    Ok(())
+}
+
+// The code of an abbreviation, and the name and the form of one of its attributes; 0 for none.
+fn attribute_at(table: &Abbreviations, code: u64, index: usize) -> [u64; 3] {
+    match table.get(code) {
+        None => [0, 0, 0],
+        Some(found) => match found.attributes().get(index) {
+            None => [found.code(), 0, 0],
+            Some(attribute) => {
+                let DwAt(name) = attribute.name();
+                let DwForm(form) = attribute.form();
+                [found.code(), name, form]
+            }
+        },
+    }
+}
+
+#[test]
+fn attributes_stand_in_order(rt: HostRuntime) -> Result<(), Fail> {
+    let table = Abbreviations::parse(rt.alloc(), borrowed(&PLAIN, RunTimeEndian::Little))?;
+    let found = [
+        attribute_at(&table, 1, 0),
+        attribute_at(&table, 1, 1),
+        attribute_at(&table, 1, 2),
+        attribute_at(&table, 1, 3),
+        attribute_at(&table, 1, 4),
+    ];
+    let want = [
+        [1, 0x10, 0x17],
+        [1, 0x1b, 0x08],
+        [1, 0x11, 0x01],
+        [1, 0x12, 0x06],
+        [1, 0, 0],
+    ];
+    assert_eq!(rt; found, want);
+    Ok(())
+}
+
+#[test]
+fn faults_of_a_table_are_refused(rt: HostRuntime) -> Result<(), Fail> {
+    let cases: [(&[u8], u128); 12] = [
+        (&[], 0),
+        (&[0], 0),
+        (&[1, 0x11, 0, 0, 0, 1, 0x2e, 0, 0, 0, 0], BAD),
+        (&[1, 0x11, 0, 0, 0, 1], BAD),
+        (&[1, 0, 0, 0, 0, 0], BAD),
+        (&[1, 0], BAD),
+        (&[1, 0x11, 2, 0, 0, 0], BAD),
+        (&[1, 0x11, 0xff], BAD),
+        (&[1, 0x11, 0, 0, 8, 0, 0, 0], BAD),
+        (&[1, 0x11, 0, 3, 0, 0, 0, 0], BAD),
+        (&[1, 0x11, 0, 3, 0x21], EOF),
+        (
+            &[0x80, 0x80, 0x80, 0x80, 0x80, 0x80, 0x80, 0x80, 0x80, 2, 1],
+            LEB,
+        ),
+    ];
+    for (bytes, want) in cases {
+        assert_eq!(rt; both_say(rt.alloc(), bytes, 7)?, [want, want]);
+    }
+    Ok(())
+}
+
+// The table ends whole where a code would stand.
+#[test]
+fn a_cut_table_is_refused(rt: HostRuntime) -> Result<(), Fail> {
+    for len in 0..50 {
+        let want = match len {
+            0 | 13 | 24 | 41 | 48 | 49 => 0,
+            _ => EOF,
+        };
+        if let Some(bytes) = INLINED.get(..len) {
+            assert_eq!(rt; both_say(rt.alloc(), bytes, 7)?, [want, want], "at {len}");
+        }
+    }
+    Ok(())
+}
+
+// One abbreviation: code 1, compile_unit, with children; name by string; line by implicit_const -2.
+const TABLE: [u8; 11] = [1, 0x11, 1, 3, 8, 0x3b, 0x21, 0x7e, 0, 0, 0];
+
+// The place of a byte, what stands there instead, a code, and what the table says of it then.
+const DAMAGE: [(usize, u8, u64, u128); 43] = [
+    (0, 0x00, 0x1, 0x0),
+    (0, 0x02, 0x2, 0x1112),
+    (0, 0x02, 0x1, 0x0),
+    (0, 0x80, 0x880, BAD),
+    (0, 0xff, 0x8ff, BAD),
+    (1, 0x00, 0x1, BAD),
+    (1, 0x2e, 0x1, 0x2e12),
+    (1, 0x80, 0x1, BAD),
+    (1, 0xff, 0x1, BAD),
+    (2, 0x00, 0x1, 0x1102),
+    (2, 0x02, 0x1, BAD),
+    (2, 0x80, 0x1, BAD),
+    (2, 0xff, 0x1, BAD),
+    (3, 0x00, 0x1, BAD),
+    (3, 0x7f, 0x1, 0x1112),
+    (3, 0x80, 0x1, 0x1112),
+    (3, 0xff, 0x1, 0x1112),
+    (4, 0x00, 0x1, BAD),
+    (4, 0x21, 0x1, 0x1112),
+    (4, 0x80, 0x1, 0x1112),
+    (4, 0xff, 0x1, 0x1112),
+    (5, 0x00, 0x1, BAD),
+    (5, 0x7f, 0x1, 0x1112),
+    (5, 0x80, 0x1, 0x1112),
+    (5, 0xff, 0x1, 0x1112),
+    (6, 0x00, 0x1, BAD),
+    (6, 0x0b, 0x1, BAD),
+    (6, 0x80, 0x1, 0x1112),
+    (6, 0xff, 0x1, 0x1112),
+    (7, 0x00, 0x1, 0x1112),
+    (7, 0x7f, 0x1, 0x1112),
+    (7, 0x80, 0x1, 0x1112),
+    (7, 0xff, 0x1, 0x1112),
+    (8, 0x01, 0x1, BAD),
+    (8, 0x80, 0x1, 0x1112),
+    (8, 0xff, 0x1, BAD),
+    (9, 0x01, 0x1, BAD),
+    (9, 0x80, 0x1, 0x1112),
+    (9, 0xff, 0x1, BAD),
+    (10, 0x01, 0x1, BAD),
+    (10, 0x02, 0x1, EOF),
+    (10, 0x80, 0x1, EOF),
+    (10, 0xff, 0x1, EOF),
+];
+
+// How many of its bytes are left of the table, a code, and what the table says of it then.
+const CUTS: [(usize, u64, u128); 12] = [
+    (0, 0x1, 0x0),
+    (1, 0x1, EOF),
+    (2, 0x1, EOF),
+    (3, 0x1, EOF),
+    (4, 0x1, EOF),
+    (5, 0x1, EOF),
+    (6, 0x1, EOF),
+    (7, 0x1, EOF),
+    (8, 0x1, EOF),
+    (9, 0x1, EOF),
+    (10, 0x1, 0x1112),
+    (11, 0x1, 0x1112),
+];
+
+#[test]
+fn a_table_is_damaged_at_each_byte(rt: HostRuntime) -> Result<(), Fail> {
+    for (place, value, code, want) in DAMAGE {
+        let mut damaged = TABLE;
+        if let Some(byte) = damaged.get_mut(place) {
+            *byte = value;
+        }
+        let found = both_say(rt.alloc(), &damaged, code)?;
+        assert_eq!(rt; found, [want, want], "byte {place}");
+    }
+    Ok(())
+}
+
+#[test]
+fn a_table_is_cut_at_each_byte(rt: HostRuntime) -> Result<(), Fail> {
+    for (len, code, want) in CUTS {
+        if let Some(bytes) = TABLE.get(..len) {
+            assert_eq!(rt;
+                both_say(rt.alloc(), bytes, code)?,
+                [want, want],
+                "at {len}"
+            );
+        }
+    }
+    Ok(())
+}

@@ -84,8 +84,8 @@ abbreviation_at table s = if length s.bytes == 0 then Ok (None, s) else do
     Ok (Some a.0, a.1)
 
 -- the table, if nothing more is read, or what goes on with one more abbreviation
-abbrev pub extended : (List Abbrev → Section → Result (List Abbrev) Error) → List Abbrev → Option Abbrev
-    → Section → Result (List Abbrev) Error
+abbrev pub extended : (List Abbrev → Section → Result (List Abbrev) Error) → List Abbrev
+    → Option Abbrev → Section → Result (List Abbrev) Error
 extended more table None s = Ok table
 extended more table (Some a) s = more (table ++ a ∷ []) s
 

@@ -121,7 +121,8 @@ block_at length = length >>= λ n. split_at n.0 n.1
 -- an address in version 2, else an offset
 abbrev pub address_or_offset_at : Encoding → Section → Reading ℕ
 address_or_offset_at encoding s =
-    if encoding.version == 2 then address_at encoding.address_size s else offset_at encoding.format s
+    if encoding.version == 2 then address_at encoding.address_size s
+    else offset_at encoding.format s
 
 -- the value that is encoded so
 abbrev pub encoded_at : Encoding → Option FormEncoding → Section → Reading (AttributeValue Section)

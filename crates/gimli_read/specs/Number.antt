@@ -31,7 +31,8 @@ split_at n s = if nat_lt (length s.bytes) n then Err UnexpectedEof else Ok (firs
 -- a number of n bytes
 abbrev pub fixed_at : ℕ → Section → Reading ℕ
 fixed_at n s =
-    if nat_lt (length s.bytes) n then Err UnexpectedEof else Ok (number_of s.endian n s.bytes, after n s)
+    if nat_lt (length s.bytes) n then Err UnexpectedEof
+    else Ok (number_of s.endian n s.bytes, after n s)
 
 -- a signed number of one byte, in two's complement
 abbrev pub signed_byte_at : Section → Reading ℤ

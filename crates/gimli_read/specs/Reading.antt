@@ -1,6 +1,7 @@
 -- What a reading gives, and what an answer has to do with it.
 -- A reading takes bytes from the front of a section: it gives a value and what is left, or the
--- first fault from the left. Own: no reading gives OutOfMemory, which a refused growth alone answers.
+-- first fault from the left.
+-- Own: no reading gives OutOfMemory, which a refused growth alone answers.
 -- The words for steps and answers serve every kind of fault.
 use Rattle.std.specs.Prelude.{◌≡◌, ◌≢◌, Bool, true, is_ok, Result, Ok, Err, if◌then◌else◌}
 use Rattle.gimli_read.specs.declared.error.Error.{Error}

@@ -58,6 +58,8 @@ ReadsAttribute =
 -- and nothing else is read
 abbrev pub ReadsAttributeAlone : Type 0
 ReadsAttributeAlone =
-    (encoding : Encoding) (specification : Specification) (s rest : Section) (attribute : NamedValue)
+    (encoding : Encoding) (specification : Specification) (s rest : Section)
+    (attribute : NamedValue)
     → attribute_at encoding specification s ≡ Ok (attribute, rest)
-    → (text : List ℕ) × IsAttribute encoding s.endian specification text attribute × IsCut s text rest
+    → (text : List ℕ) × IsAttribute encoding s.endian specification text attribute
+    × IsCut s text rest

@@ -32,8 +32,8 @@ pub fn value_laws()
 ///
 /// Each call of a reader answers a reading of its section, exactly or unless memory is refused. Of
 /// two such answers to one reading of equal sections the values, what is left and the faults are
-/// equal, unless one of them is `OutOfMemory`. `X` and `Y` are what the two calls answer, and `Z` is
-/// what both are seen as.
+/// equal, unless one of them is `OutOfMemory`. `X` and `Y` are what the two calls answer, and `Z`
+/// is what both are seen as.
 pub fn alike_laws<X, Y, Z>()
     ensures exact { AnswerAlike X Y Z }
     ensures unless_oom { AnswerAlikeUnlessOom X Y Z }

@@ -1,2 +1,5 @@
+pub mod EntryLemmas
+pub mod FrontLemmas
 pub mod HeaderLemmas
 pub mod RecordLemmas
+pub mod StringLemmas

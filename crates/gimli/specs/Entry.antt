@@ -1,7 +1,5 @@
 -- Entries (DWARF 5, sections 2.3 and 7.5.2): a code, and the values of the attributes that its abbreviation lists.
--- Own: depths are numbers of 64 bits, and stop at the ends of these, which no section reaches.
-use Rattle.std.specs.Prelude.{◌==◌, ℤ, pos, negsuc, ◌+ℤ◌, Bool, List, [], ◌∷◌, Option, Some, None, Result, Ok, Err, if◌then◌else◌}
-use Rattle.std.specs.Int.{w64, saturate_signed}
+use Rattle.std.specs.Prelude.{◌==◌, ℕ, ◌+◌, ◌<◌, ◌≤◌, ◌^◌, ℤ, pos, negsuc, ◌+ℤ◌, unsigned_abs, Bool, List, [], ◌∷◌, length, Option, Some, None, Result, Ok, Err, if◌then◌else◌}
 use Rattle.gimli_read.specs.declared.error.Error.{Error}
 use Rattle.gimli_read.specs.declared.error.Error.TheVariants.{UnknownAbbreviation, MissingUnitDie}
 use Rattle.gimli_read.specs.declared.endian.Encoding.{Encoding}
@@ -11,45 +9,62 @@ use Rattle.gimli_read.specs.Leb128.{uleb128_at}
 use Rattle.gimli_read.specs.Abbreviations.{Abbrev, Specification, with_code}
 use Rattle.gimli_read.specs.Form.{NamedValue, attribute_at}
 
--- the bytes that are left of a unit's entries, and how many open entries stand around them
-pub record Place : Type 0 where
+-- the bytes that are left of a unit's entries, and how many entries are open around the next one
+pub record EntryCursor : Type 0 where
   pub left : Section
   pub depth : ℤ
 
--- the depth behind an entry: one more where it has children
-abbrev pub deeper : Bool → ℤ → ℤ
-deeper has_children depth = if has_children then saturate_signed w64 (depth +ℤ pos 1) else depth
+-- what the entries of a unit are read by: the sizes of values, the abbreviations, and the unit's length with its header
+pub record EntryUnit : Type 0 where
+  pub encoding : Encoding
+  pub abbreviations : List Abbrev
+  pub length : ℕ
 
--- the depth behind a closing entry
-abbrev pub shallower : ℤ → ℤ
-shallower depth = saturate_signed w64 (depth +ℤ negsuc 0)
+-- the unit whose entries are read, and where in it
+pub record EntriesLeft : Type 0 where
+  pub unit : EntryUnit
+  pub cursor : EntryCursor
+
+-- each level of depth took a byte of the unit, which has fewer than 2 ^ 63
+abbrev pub IsInUnit : ℕ → Section → ℤ → Type 0
+IsInUnit unit_length left depth = (unsigned_abs depth + length left.bytes ≤ unit_length) × (unit_length < 2 ^ 63)
+
+-- the depth after an entry: one more where it has children
+abbrev pub depth_after_entry : Bool → ℤ → ℤ
+depth_after_entry has_children depth = if has_children then depth +ℤ pos 1 else depth
+
+-- the depth after a closing entry: one less
+abbrev pub depth_after_closing : ℤ → ℤ
+depth_after_closing depth = depth +ℤ negsuc 0
 
 -- the abbreviation of an entry's code, where the table has it
-abbrev pub opened : Option Abbrev → Place → Result (Option Abbrev × Place) Error
-opened None p = Err UnknownAbbreviation
-opened (Some a) p = Ok (Some a, record { left = p.left; depth = deeper a.has_children p.depth })
+abbrev pub opening_entry : Option Abbrev → EntryCursor → Result (Option Abbrev × EntryCursor) Error
+opening_entry None cursor = Err UnknownAbbreviation
+opening_entry (Some a) cursor =
+    Ok (Some a, record { left = cursor.left; depth = depth_after_entry a.has_children cursor.depth })
 
 -- the abbreviation of the next entry, none of a closing entry
-unfoldable pub head_at : List Abbrev → Place → Result (Option Abbrev × Place) Error
-head_at table p = do
-  code ← uleb128_at p.left
-  if code.0 == 0 then Ok (None, record { left = code.1; depth = shallower p.depth })
-      else opened (with_code code.0 table) (record { left = code.1; depth = p.depth })
+unfoldable pub entry_abbreviation_at : List Abbrev → EntryCursor → Result (Option Abbrev × EntryCursor) Error
+entry_abbreviation_at table cursor = do
+  code ← uleb128_at cursor.left
+  if code.0 == 0 then Ok (None, record { left = code.1; depth = depth_after_closing cursor.depth })
+      else opening_entry (with_code code.0 table) (record { left = code.1; depth = cursor.depth })
 
 -- the attributes of the specifications, one after another
 unfoldable pub attributes_at : Encoding → List Specification → Section → Reading (List NamedValue)
 attributes_at encoding [] s = Ok ([], s)
-attributes_at encoding (x ∷ xs) s = attribute_at encoding x s >>= λ a. attributes_at encoding xs a.1 >>= λ more. Ok (a.0 ∷ more.0, more.1)
+attributes_at encoding (x ∷ xs) s =
+    attribute_at encoding x s >>= λ a. attributes_at encoding xs a.1 >>= λ more. Ok (a.0 ∷ more.0, more.1)
 
--- the attributes of the unit's entry, which a closing entry has none of
+-- the specifications of the root entry, which a closing entry isn't
 abbrev pub root_specifications : Option Abbrev → Result (List Specification) Error
 root_specifications None = Err MissingUnitDie
 root_specifications (Some a) = Ok a.attributes
 
--- the attributes of the first entry of a unit
+-- the attributes of the root entry, which is the first one of a unit
 unfoldable pub root_attributes : Encoding → List Abbrev → Section → Result (List NamedValue) Error
 root_attributes encoding table s = do
-  head ← head_at table (record { left = s; depth = pos 0 })
-  specifications ← root_specifications head.0
-  attributes ← attributes_at encoding specifications head.1.left
+  root ← entry_abbreviation_at table (record { left = s; depth = pos 0 })
+  specifications ← root_specifications root.0
+  attributes ← attributes_at encoding specifications root.1.left
   Ok attributes.0

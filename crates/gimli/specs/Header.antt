@@ -8,6 +8,7 @@ use Rattle.gimli_read.specs.Section.{Section}
 use Rattle.gimli_read.specs.Reading.{Reading, ◌>>=◌, refused_if}
 use Rattle.gimli_read.specs.Number.{fixed_at, offset_at, skipped_at, split_at, initial_length_at, is_address_size}
 use Rattle.gimli_read.specs.Run.{Run, run_of}
+use Rattle.gimli.specs.declared.constants.TheConstants.{DW_UT_compile, DW_UT_type, DW_UT_partial, DW_UT_skeleton, DW_UT_split_compile, DW_UT_split_type}
 use Rattle.gimli.specs.declared.unit.UnitType.{UnitType}
 use Rattle.gimli.specs.declared.unit.UnitType.TheVariants.{Compile, TypeUnit, Partial, Skeleton, SplitCompile, SplitType}
 use Rattle.gimli.specs.declared.unit.DwoId.{DwoId}
@@ -24,9 +25,9 @@ pub record UnitHeaderFields : Type 0 where
   pub header_length : ℕ
   pub entries : Section
 
--- an address size that is known
-unfoldable pub address_size_at : Section → Reading ℕ
-address_size_at s = do
+-- an address size
+unfoldable pub unit_address_size_at : Section → Reading ℕ
+unit_address_size_at s = do
   size ← fixed_at 1 s
   known ← refused_if (not (is_address_size size.0)) UnsupportedAddressSize
   Ok size
@@ -34,12 +35,12 @@ address_size_at s = do
 -- the unit type of a number
 abbrev pub unit_type_of : ℕ → Result UnitType Error
 unit_type_of n =
-    if n == 1 then Ok Compile
-    else if n == 2 then Ok TypeUnit
-    else if n == 3 then Ok Partial
-    else if n == 4 then Ok Skeleton
-    else if n == 5 then Ok SplitCompile
-    else if n == 6 then Ok SplitType
+    if n == DW_UT_compile then Ok Compile
+    else if n == DW_UT_type then Ok TypeUnit
+    else if n == DW_UT_partial then Ok Partial
+    else if n == DW_UT_skeleton then Ok Skeleton
+    else if n == DW_UT_split_compile then Ok SplitCompile
+    else if n == DW_UT_split_type then Ok SplitType
     else Err UnknownUnitType
 
 -- a unit type
@@ -53,73 +54,73 @@ unit_type_at s = do
 abbrev pub dwo_id_at : Section → Reading (Option DwoId)
 dwo_id_at s = fixed_at 8 s >>= λ id. Ok (Some (record { 0 = id.0 }), id.1)
 
--- a signature, and where its type stands
+-- a type's signature, and the type's offset in the unit
 abbrev pub signature_at : Format → Section → Reading (Option DwoId)
 signature_at format s = do
   signature ← skipped_at 8 s
-  place ← offset_at format signature.1
-  Ok (None, place.1)
+  type_offset ← offset_at format signature.1
+  Ok (None, type_offset.1)
 
--- what stands between the fields that every unit of version 5 has and its entries
-abbrev pub extra_at : Format → UnitType → Section → Reading (Option DwoId)
-extra_at format Compile s = Ok (None, s)
-extra_at format TypeUnit s = signature_at format s
-extra_at format Partial s = Ok (None, s)
-extra_at format Skeleton s = dwo_id_at s
-extra_at format SplitCompile s = dwo_id_at s
-extra_at format SplitType s = signature_at format s
+-- the fields that only some unit types have, after those that every unit of version 5 has
+abbrev pub type_fields_at : Format → UnitType → Section → Reading (Option DwoId)
+type_fields_at format Compile s = Ok (None, s)
+type_fields_at format TypeUnit s = signature_at format s
+type_fields_at format Partial s = Ok (None, s)
+type_fields_at format Skeleton s = dwo_id_at s
+type_fields_at format SplitCompile s = dwo_id_at s
+type_fields_at format SplitType s = signature_at format s
 
--- the fields behind the version, of version 5; place is where the unit begins, and size how many bytes it has in all
+-- the fields after the version, of version 5, in a unit of these many bytes at this offset of the section
 unfoldable pub fields_5_at : ℕ → ℕ → Format → Section → Result UnitHeaderFields Error
-fields_5_at place size format s = do
-  kind ← unit_type_at s
-  address_size ← address_size_at kind.1
+fields_5_at offset size format s = do
+  unit_type ← unit_type_at s
+  address_size ← unit_address_size_at unit_type.1
   abbrev_offset ← offset_at format address_size.1
-  extra ← extra_at format kind.0 abbrev_offset.1
+  type_fields ← type_fields_at format unit_type.0 abbrev_offset.1
   Ok (record {
     encoding = record { address_size = address_size.0; format = format; version = 5 };
-    unit_type = kind.0;
-    offset = record { 0 = place };
+    unit_type = unit_type.0;
+    offset = record { 0 = offset };
     debug_abbrev_offset = abbrev_offset.0;
-    dwo_id = extra.0;
-    header_length = size - length extra.1.bytes;
-    entries = extra.1;
+    dwo_id = type_fields.0;
+    header_length = size - length type_fields.1.bytes;
+    entries = type_fields.1;
   })
 
 -- the same of versions 2 to 4
 unfoldable pub fields_4_at : ℕ → ℕ → Format → ℕ → Section → Result UnitHeaderFields Error
-fields_4_at place size format version s = do
+fields_4_at offset size format version s = do
   abbrev_offset ← offset_at format s
-  address_size ← address_size_at abbrev_offset.1
+  address_size ← unit_address_size_at abbrev_offset.1
   Ok (record {
     encoding = record { address_size = address_size.0; format = format; version = version };
     unit_type = Compile;
-    offset = record { 0 = place };
+    offset = record { 0 = offset };
     debug_abbrev_offset = abbrev_offset.0;
     dwo_id = None;
     header_length = size - length address_size.1.bytes;
     entries = address_size.1;
   })
 
--- the fields behind the length
-unfoldable pub fields_at : ℕ → ℕ → Format → Section → Result UnitHeaderFields Error
-fields_at place size format s = do
+-- the fields after the length
+unfoldable pub header_fields_at : ℕ → ℕ → Format → Section → Result UnitHeaderFields Error
+header_fields_at offset size format s = do
   version ← fixed_at 2 s
-  if version.0 == 2 || version.0 == 3 || version.0 == 4 then fields_4_at place size format version.0 version.1
-      else if version.0 == 5 then fields_5_at place size format version.1
+  if version.0 == 2 || version.0 == 3 || version.0 == 4 then fields_4_at offset size format version.0 version.1
+      else if version.0 == 5 then fields_5_at offset size format version.1
       else Err UnknownVersion
 
--- the header of the unit that stands at the front; whole is the length of the section
-unfoldable pub header_at : ℕ → Section → Reading UnitHeaderFields
-header_at whole s = do
+-- the header of the unit at the front of what is left of a section of these many bytes
+unfoldable pub unit_header_at : ℕ → Section → Reading UnitHeaderFields
+unit_header_at section_length s = do
   unit_length ← initial_length_at s
   unit ← split_at unit_length.0.0 unit_length.1
-  header ← fields_at (whole - length s.bytes) (length s.bytes - length unit.1.bytes) unit_length.0.1 unit.0
+  header ← header_fields_at (section_length - length s.bytes) (length s.bytes - length unit.1.bytes) unit_length.0.1 unit.0
   Ok (header, unit.1)
 
 -- the next unit's header, or none at the section's end
 unfoldable pub next_header_at : ℕ → Section → Reading (Option UnitHeaderFields)
-next_header_at whole s = if length s.bytes == 0 then Ok (None, s) else (header_at whole s >>= λ header. Ok (Some header.0, header.1))
+next_header_at section_length s = if length s.bytes == 0 then Ok (None, s) else (unit_header_at section_length s >>= λ header. Ok (Some header.0, header.1))
 
 -- the headers of a section: it is its units, one after another, up to its end or the first fault
 abbrev pub headers_of : Section → Run UnitHeaderFields Section

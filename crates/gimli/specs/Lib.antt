@@ -3,7 +3,6 @@ pub mod UnitsLeft
 pub mod Sections
 pub mod Text
 pub mod Entry
-pub mod Cursor
 pub mod Record
 pub mod Unit
 pub mod Entries

@@ -2,7 +2,7 @@
 -- Own: bases begin at 0; in a version 5 unit of a split file at the end of the table's header.
 -- Own: the record is faulty by its abbreviations, its first entry, its line program's header, or the index of
 -- its low_pc, in this order. A name or a directory that can't be read counts as none.
-use Rattle.std.specs.Prelude.{ℕ, ◌==◌, List, option_map, option_and_then, Option, Some, None, Result, Ok, unwrap_or, if◌then◌else◌}
+use Rattle.std.specs.Prelude.{ℕ, ◌==◌, Bool, false, List, option_map, option_and_then, Option, Some, None, is_some, Result, Ok, Err, unwrap_or, if◌then◌else◌}
 use Rattle.std.specs.Result.{result_ok}
 use Rattle.gimli_read.specs.declared.error.Error.{Error}
 use Rattle.gimli_read.specs.declared.endian.Encoding.{Encoding}
@@ -22,7 +22,7 @@ use Rattle.gimli.specs.declared.record.AddressValue.{AddressValue}
 use Rattle.gimli.specs.declared.record.AddressValue.TheVariants.{Address, Index}
 use Rattle.gimli.specs.Header.{UnitHeaderFields}
 use Rattle.gimli.specs.Sections.{Sections}
-use Rattle.gimli.specs.Text.{from_offset, entry_at, string_of}
+use Rattle.gimli.specs.Text.{from_offset, indexed_number, string_of}
 use Rattle.gimli.specs.Record.{RootValues, root_values_of}
 
 -- a unit without where it lies in memory
@@ -49,26 +49,31 @@ first_base short long Main encoding = 0
 first_base short long Dwo encoding = if encoding.version == 5 then by_format short long encoding.format else 0
 
 -- the address that a value stands for, where its index counts from base
-abbrev pub address_of : Sections → Encoding → ℕ → AddressValue → Result ℕ Error
-address_of d encoding base (Address a) = Ok a
-address_of d encoding base (Index i) = entry_at encoding.address_size base i d.debug_addr
+abbrev pub address_from : Sections → Encoding → ℕ → AddressValue → Result ℕ Error
+address_from d encoding base (Address a) = Ok a
+address_from d encoding base (Index i) = indexed_number encoding.address_size base i d.debug_addr
 
 -- the address of low_pc, 0 where there is none
 abbrev pub low_pc_of : Sections → Encoding → ℕ → Option AddressValue → Result ℕ Error
 low_pc_of d encoding base None = Ok 0
-low_pc_of d encoding base (Some value) = address_of d encoding base value
+low_pc_of d encoding base (Some value) = address_from d encoding base value
 
 -- the line program at the offset that stmt_list gives, if it gives one
-abbrev pub program_of : Sections → Encoding → Option ℕ → Result (Option Program) Error
-program_of d encoding None = Ok None
-program_of d encoding (Some offset) = do
+abbrev pub line_program_of : Sections → Encoding → Option ℕ → Result (Option Program) Error
+line_program_of d encoding None = Ok None
+line_program_of d encoding (Some offset) = do
   rest ← from_offset offset d.debug_line
   program ← line_program_at encoding.address_size rest
   Ok (Some program)
 
 -- the string of a value, none where it can't be read
-abbrev pub readable : Sections → Format → ℕ → Option (AttributeValue Section) → Option Section
-readable d format base value = option_and_then (λ v. result_ok (string_of d format base v)) value
+abbrev pub readable_string : Sections → Format → ℕ → Option (AttributeValue Section) → Option Section
+readable_string d format base value = option_and_then (λ v. result_ok (string_of d format base v)) value
+
+-- whether a string is given
+abbrev pub gives_string : Result (Option Section) Error → Bool
+gives_string (Ok string) = is_some string
+gives_string (Err e) = false
 
 -- the identifier of the header, else that of the first entry
 abbrev pub dwo_id_of : Option DwoId → Option ℕ → Option DwoId
@@ -76,18 +81,18 @@ dwo_id_of (Some id) given = Some id
 dwo_id_of None given = option_map (λ (n : ℕ). record { 0 = n }) given
 
 -- the unit of a header, whose first entry says this
-unfoldable pub completed : Sections → UnitHeaderFields → List Abbrev → RootValues → Result UnitRecord Error
-completed d header table root =
+unfoldable pub completed_record : Sections → UnitHeaderFields → List Abbrev → RootValues → Result UnitRecord Error
+completed_record d header table root =
     let str_offsets_base = unwrap_or root.str_offsets_base (first_base 8 16 d.file_type header.encoding) in
     let addr_base = unwrap_or root.addr_base 0 in
     do
-      program ← program_of d header.encoding root.stmt_list
+      program ← line_program_of d header.encoding root.stmt_list
       low_pc ← low_pc_of d header.encoding addr_base root.low_pc
       Ok (record {
         header = header;
         abbreviations = table;
-        name = readable d header.encoding.format str_offsets_base root.name;
-        comp_dir = readable d header.encoding.format str_offsets_base root.comp_dir;
+        name = readable_string d header.encoding.format str_offsets_base root.name;
+        comp_dir = readable_string d header.encoding.format str_offsets_base root.comp_dir;
         low_pc = low_pc;
         str_offsets_base = str_offsets_base;
         addr_base = addr_base;
@@ -97,12 +102,12 @@ completed d header table root =
       })
 
 -- the unit of a header
-unfoldable pub unit_of : Sections → UnitHeaderFields → Result UnitRecord Error
-unit_of d header = do
+unfoldable pub unit_record_of : Sections → UnitHeaderFields → Result UnitRecord Error
+unit_record_of d header = do
   rest ← from_offset header.debug_abbrev_offset d.debug_abbrev
   table ← table_at rest
   root ← root_values_of header.encoding table header.entries
-  completed d header table root
+  completed_record d header table root
 
 -- the string that a value of an attribute of a unit stands for
 abbrev pub attr_string_of : Sections → UnitRecord → AttributeValue Section → Result Section Error

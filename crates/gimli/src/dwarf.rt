@@ -1,14 +1,14 @@
 //! The sections of a file together, and what is read from several of them.
 
-ghost use Rattle.std.specs.Prelude.{◌≡◌, Ok};
-ghost use Rattle.gimli_read.specs.Reading.{ExactlyUnlessOom};
+ghost use Rattle.std.specs.Prelude.{◌≡◌, Ok, is_ok};
+ghost use Rattle.gimli_read.specs.Reading.{ExactlyUnlessOomFor};
 ghost use Rattle.gimli.specs.UnitsLeft.{all_headers};
 
 use crate::sections::{
     DebugAbbrev, DebugAddr, DebugAranges, DebugInfo, DebugLine, DebugLineStr, DebugRanges,
     DebugRngLists, DebugStr, DebugStrOffsets,
 };
-use crate::unit::UnitHeaders;
+use crate::units::UnitHeaders;
 use gimli_read::{Error, Reader};
 use std::marker::Model;
 
@@ -53,13 +53,25 @@ impl<R: Reader> Model for Dwarf<R> {
 
     ghost Value = { Sections };
 
-    ghost view = { λ d. record { debug_abbrev = R.section d.debug_abbrev.section; debug_addr = R.section d.debug_addr.section; debug_aranges = R.section d.debug_aranges.section; debug_info = R.section d.debug_info.section; debug_line = R.section d.debug_line.section; debug_line_str = R.section d.debug_line_str.section; debug_ranges = R.section d.debug_ranges.section; debug_rnglists = R.section d.debug_rnglists.section; debug_str = R.section d.debug_str.section; debug_str_offsets = R.section d.debug_str_offsets.section; file_type = d.file_type } };
+    ghost view = { λ d. record {
+      debug_abbrev = R.section d.debug_abbrev.section;
+      debug_addr = R.section d.debug_addr.section;
+      debug_aranges = R.section d.debug_aranges.section;
+      debug_info = R.section d.debug_info.section;
+      debug_line = R.section d.debug_line.section;
+      debug_line_str = R.section d.debug_line_str.section;
+      debug_ranges = R.section d.debug_ranges.section;
+      debug_rnglists = R.section d.debug_rnglists.section;
+      debug_str = R.section d.debug_str.section;
+      debug_str_offsets = R.section d.debug_str_offsets.section;
+      file_type = d.file_type;
+    } };
 }
 
 impl<R: Reader> Dwarf<R> {
-    /// The headers of the units of `.debug_info`. Refused `OutOfMemory` alone.
+    /// The headers of the units of `.debug_info`. Refused `OutOfMemory` alone, where bytes are shared.
     pub fn units(&self) -> Result<UnitHeaders<R>, Error>
-        ensures gives { ExactlyUnlessOom (λ u. u) result
+        ensures gives { ExactlyUnlessOomFor R.shares is_ok (λ u. u) result
             (Ok (all_headers self.now.debug_info)) }
     {
         Ok(UnitHeaders::new(self.debug_info.section.duplicate()?))

@@ -1,49 +1,100 @@
 //! The entries of a unit.
 
-ghost use Rattle.std.specs.Prelude.{◌≡◌, ◌-◌, ◌==◌, length, option_map, option_copied};
-ghost use Rattle.gimli_read.specs.Reading.{Exactly, ExactlyUnlessOom};
+ghost use Rattle.std.specs.Prelude.{◌≡◌, ◌<◌, ◌≤◌, ◌+◌, ◌-◌, ◌^◌, ◌==◌, [], length, option_map, OnErr, unsigned_abs};
+ghost use Rattle.gimli_read.specs.Reading.{Exactly, ExactlyUnlessOomFor};
+ghost use Rattle.gimli_read.specs.HeldBytes.{gives_attribute_bytes};
 ghost use Rattle.gimli_read.specs.Form.{attribute_at};
-ghost use Rattle.gimli.specs.Entry.{head_at};
-ghost use Rattle.gimli.specs.Cursor.{place_of, unit_of};
+ghost use Rattle.gimli.specs.Entry.{depth_after_entry, depth_after_closing, entry_abbreviation_at};
+ghost use Rattle.gimli.specs.Entries.{entries_at};
 
+use crate::unit::UnitHeader;
 use gimli_read::{
     Abbreviation, Abbreviations, Attribute, AttributeSpecification, Encoding, Error, Reader,
     UnitOffset, read_attribute,
 };
+use std::marker::Model;
 
-/// The entries of a unit from some place on, one by one.
+/// The entries of a unit from some offset on, one by one.
 #[derive(Drop)]
 pub struct EntriesRaw<'a, R: Reader> {
-    /// What is left of the unit.
-    pub input: R,
-    /// The sizes of the unit's values.
-    pub encoding: Encoding,
-    /// The unit's abbreviations.
-    pub abbreviations: &'a Abbreviations,
-    /// The number of bytes of the unit with its header.
-    pub end: u64,
-    /// How many open entries stand around the next one, counted from where the reading began.
-    pub depth: isize,
+    // What is left of the unit.
+    input: R,
+    encoding: Encoding,
+    abbreviations: &'a Abbreviations,
+    // The number of bytes of the unit with its header.
+    unit_length: u64,
+    // How many entries are open around the next one, counted from where the reading began.
+    depth: isize,
+}
+
+impl<'a, R: Reader> Model for EntriesRaw<'a, R> {
+    ghost use Rattle.gimli.specs.Entry.{EntriesLeft, IsInUnit};
+
+    ghost Value = { EntriesLeft };
+
+    ghost view = { λ e. record {
+      unit = record { encoding = e.encoding; abbreviations = e.abbreviations.now; length = e.unit_length };
+      cursor = record { left = R.section e.input; depth = e.depth };
+    } };
+
+    ghost invariant = { λ e. IsInUnit e.unit_length (R.section e.input) e.depth };
+}
+
+// The depth after an entry: one more where it has children.
+#[tactic(auto, using(crate::proofs::EntryLemmas::deeper_fits))]
+fn depth_after_entry(has_children: bool, depth: isize) -> isize
+    requires in_range { unsigned_abs depth + 1 < 2 ^ 63 }
+    ensures gives { result ≡ depth_after_entry has_children depth }
+{
+    if has_children { depth + 1 } else { depth }
+}
+
+// The depth after a closing entry: one less.
+#[tactic(auto, using(crate::proofs::EntryLemmas::shallower_fits))]
+fn depth_after_closing(depth: isize) -> isize
+    requires in_range { unsigned_abs depth + 1 < 2 ^ 63 }
+    ensures gives { result ≡ depth_after_closing depth }
+{
+    depth - 1
 }
 
 impl<'a, R: Reader> EntriesRaw<'a, R> {
+    // The entries of the unit of this header, of which these bytes are left. Takes no memory.
+    pub(crate) fn new(
+        header: &UnitHeader<R>,
+        abbreviations: &'a Abbreviations,
+        input: R,
+    ) -> EntriesRaw<'a, R>
+        requires in_unit { length (R.section input).bytes ≤ length header.now.entries.bytes }
+        ensures gives { result ≡ entries_at header.now abbreviations.now (R.section input) }
+    {
+        EntriesRaw {
+            input,
+            encoding: header.encoding,
+            abbreviations,
+            unit_length: header.header_length + header.entries.len(),
+            depth: 0,
+        }
+    }
+
     /// Whether the unit's end is reached. Takes no memory.
     pub fn is_empty(&self) -> bool
-        ensures gives { result ≡ (length (R.section self.now.input).bytes == 0) }
+        ensures gives { result ≡ (length self.now.cursor.left.bytes == 0) }
     {
         self.input.is_empty()
     }
 
-    /// Where the next entry begins. Takes no memory.
+    /// Where the next entry begins, in bytes from the start of the unit's length. Takes no memory.
     pub fn next_offset(&self) -> UnitOffset
-        ensures gives { result.0 ≡ self.now.end - length (R.section self.now.input).bytes }
+        ensures gives { result.0 ≡ self.now.unit.length - length self.now.cursor.left.bytes }
     {
-        UnitOffset(self.end.saturating_sub(self.input.len()))
+        UnitOffset(self.unit_length - self.input.len())
     }
 
-    /// The depth of the next entry: 0 where the reading began. Takes no memory.
+    /// The depth of the next entry: 0 where the reading began, one more in an entry with children.
+    /// Takes no memory.
     pub fn next_depth(&self) -> isize
-        ensures gives { result ≡ self.now.depth }
+        ensures gives { result ≡ self.now.cursor.depth }
     {
         self.depth
     }
@@ -52,15 +103,16 @@ impl<'a, R: Reader> EntriesRaw<'a, R> {
     ///
     /// Refused `UnexpectedEof` and `BadLeb128` for the code, and `UnknownAbbreviation` where the
     /// unit's table hasn't it. After a refusal the reading may stand anywhere. Takes no memory.
-    #[tactic(auto, unfolding(crate::specs::Entry::head_at))]
+    /// Source: DWARF 5, section 7.5.2.
+    #[tactic(auto, unfolding(crate::specs::Entry::entry_abbreviation_at), using(crate::proofs::EntryLemmas::code_takes, crate::proofs::EntryLemmas::entry_in_unit, crate::proofs::EntryLemmas::closing_in_unit, crate::proofs::EntryLemmas::still_in_unit, crate::proofs::EntryLemmas::next_fits))]
     pub fn read_abbreviation(&mut self) -> Result<Option<&'a Abbreviation>, Error>
-        ensures gives { Exactly (λ a. (option_map (λ r. r.now) a, place_of R.section self.new)) result
-            (head_at (unit_of self.old).abbreviations (place_of R.section self.old)) }
-        ensures kept { unit_of self.new ≡ unit_of self.old }
+        ensures gives { Exactly (λ a. (option_map (λ r. r.now) a, self.new.cursor)) result
+            (entry_abbreviation_at self.old.unit.abbreviations self.old.cursor) }
+        ensures unit { self.new.unit ≡ self.old.unit }
     {
         let code = self.input.read_uleb128()?;
         if code == 0 {
-            self.depth = self.depth.saturating_add(-1);
+            self.depth = depth_after_closing(self.depth);
             return Ok(None);
         }
         let abbreviations = self.abbreviations;
@@ -68,25 +120,33 @@ impl<'a, R: Reader> EntriesRaw<'a, R> {
             Some(abbreviation) => abbreviation,
             None => return Err(Error::UnknownAbbreviation),
         };
-        if abbreviation.has_children() {
-            self.depth = self.depth.saturating_add(1);
-        }
+        self.depth = depth_after_entry(abbreviation.has_children(), self.depth);
         Ok(Some(abbreviation))
     }
 
     /// Reads the next attribute's value, by its specification.
     ///
-    /// Refused as `read_attribute` of the section reader is. After a refusal the reading may stand
-    /// anywhere.
+    /// Refused as `read_attribute` of the section reader is: `UnknownForm`, `UnexpectedEof`,
+    /// `BadLeb128`, `UnsupportedAddressSize`, and `OutOfMemory` for a value that holds bytes, at a
+    /// reader that shares them. After a refusal nothing is left to read.
+    #[tactic(auto, using(crate::proofs::EntryLemmas::attribute_leaves, crate::proofs::EntryLemmas::still_in_unit))]
     pub fn read_attribute(
         &mut self,
         specification: AttributeSpecification,
     ) -> Result<Attribute<R>, Error>
-        ensures gives { ExactlyUnlessOom (λ a. (a, R.section self.new.input)) result
-            (attribute_at self.old.encoding specification (R.section self.old.input)) }
-        ensures kept { unit_of self.new ≡ unit_of self.old }
-        ensures depth { self.new.depth ≡ self.old.depth }
+        ensures gives { ExactlyUnlessOomFor R.shares gives_attribute_bytes
+            (λ a. (a, self.new.cursor.left)) result
+            (attribute_at self.old.unit.encoding specification self.old.cursor.left) }
+        ensures refused { OnErr result (self.new.cursor.left.bytes ≡ []) }
+        ensures unit { self.new.unit ≡ self.old.unit }
+        ensures depth { self.new.cursor.depth ≡ self.old.cursor.depth }
     {
-        read_attribute(&mut self.input, self.encoding, specification)
+        match read_attribute(&mut self.input, self.encoding, specification) {
+            Ok(attribute) => Ok(attribute),
+            Err(error) => {
+                self.input.skip(self.input.len())?;
+                Err(error)
+            }
+        }
     }
 }

@@ -1,8 +1,10 @@
 //! Reading the sections of DWARF: units, their records and their strings.
 #![tactic(auto)]
 
+mod constants;
 mod dwarf;
 mod entries;
+mod header;
 mod record;
 mod sections;
 #[cfg(test)]
@@ -11,6 +13,7 @@ mod text;
 mod unit;
 mod unit_record;
 mod unit_ref;
+mod units;
 
 pub use crate::dwarf::{Dwarf, DwarfFileType};
 pub use crate::entries::EntriesRaw;
@@ -18,8 +21,9 @@ pub use crate::sections::{
     DebugAbbrev, DebugAddr, DebugAranges, DebugInfo, DebugLine, DebugLineStr, DebugRanges,
     DebugRngLists, DebugStr, DebugStrOffsets,
 };
-pub use crate::unit::{DwoId, UnitHeader, UnitHeaders, UnitType};
+pub use crate::unit::{DwoId, UnitHeader, UnitType};
 pub use crate::unit_record::Unit;
 pub use crate::unit_ref::UnitRef;
+pub use crate::units::UnitHeaders;
 pub use gimli_line as line;
 pub use gimli_read as read;

@@ -43,7 +43,16 @@ impl<R: Reader> Model for RootAttributes<R> {
 
     ghost Value = { RootValues };
 
-    ghost view = { λ r. record { name = option_map (seen_value R.section) r.name; comp_dir = option_map (seen_value R.section) r.comp_dir; low_pc = r.low_pc; stmt_list = r.stmt_list; str_offsets_base = r.str_offsets_base; addr_base = r.addr_base; rnglists_base = r.rnglists_base; dwo_id = r.dwo_id } };
+    ghost view = { λ r. record {
+      name = option_map (seen_value R.section) r.name;
+      comp_dir = option_map (seen_value R.section) r.comp_dir;
+      low_pc = r.low_pc;
+      stmt_list = r.stmt_list;
+      str_offsets_base = r.str_offsets_base;
+      addr_base = r.addr_base;
+      rnglists_base = r.rnglists_base;
+      dwo_id = r.dwo_id;
+    } };
 }
 
 // A value of the class address.
@@ -140,15 +149,17 @@ impl<R: Reader> RootAttributes<R> {
 // The values of the attributes of an entry.
 fn read_root_attributes<R: Reader>(
     entries: &mut EntriesRaw<'_, R>,
+    encoding: Encoding,
     specifications: &[AttributeSpecification],
 ) -> Result<RootAttributes<R>, Error>
-    ensures gives { IsUnlessOom result (root_values_after entries.old.encoding no_root_values
-        (attributes_at entries.old.encoding specifications.now (R.section entries.old.input))) }
+    requires encoding { entries.old.unit.encoding ≡ encoding }
+    ensures gives { IsUnlessOom result (root_values_after encoding no_root_values
+        (attributes_at encoding specifications.now entries.old.cursor.left)) }
 {
     let mut root = RootAttributes::new();
     for specification in specifications {
         let attribute = entries.read_attribute(*specification)?;
-        root.take(entries.encoding, attribute);
+        root.take(encoding, attribute);
     }
     Ok(root)
 }
@@ -165,15 +176,11 @@ pub(crate) fn read_root<R: Reader>(
     ensures gives { IsUnlessOom result
         (root_values_of header.now.encoding abbreviations.now header.now.entries) }
 {
-    let mut entries = EntriesRaw {
-        input: header.entries.duplicate()?,
-        encoding: header.encoding,
-        abbreviations,
-        end: 0,
-        depth: 0,
-    };
+    let mut entries = EntriesRaw::new(header, abbreviations, header.entries.duplicate()?);
     match entries.read_abbreviation()? {
-        Some(abbreviation) => read_root_attributes(&mut entries, abbreviation.attributes()),
+        Some(abbreviation) => {
+            read_root_attributes(&mut entries, header.encoding, abbreviation.attributes())
+        }
         None => Err(Error::MissingUnitDie),
     }
 }

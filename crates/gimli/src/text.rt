@@ -1,10 +1,11 @@
 //! Strings and addresses by offset and by index (DWARF 5, sections 7.26 and 7.27).
 
-ghost use Rattle.std.specs.Prelude.{◌≡◌};
-ghost use Rattle.gimli_read.specs.Reading.{Exactly, ExactlyUnlessOom};
+ghost use Rattle.std.specs.Prelude.{◌≡◌, is_ok};
+ghost use Rattle.gimli_read.specs.Reading.{Exactly, ExactlyUnlessOomFor};
 ghost use Rattle.gimli_read.specs.Form.{seen_value};
+ghost use Rattle.gimli_read.specs.Spelling.{offset_size};
 ghost use Rattle.gimli.specs.Unit.{attr_string_of};
-ghost use Rattle.gimli.specs.Text.{from_offset, text_at, offset_size, entry_at, indexed_at, string_of};
+ghost use Rattle.gimli.specs.Text.{from_offset, string_at, string_length_at, indexed_number, indexed_string, string_of};
 
 use crate::dwarf::Dwarf;
 use crate::unit_record::Unit;
@@ -12,9 +13,11 @@ use gimli_read::{AttributeValue, EndianSlice, Error, Format, Reader};
 
 /// A section from an offset on, in bytes.
 ///
-/// Refused `OffsetOutOfBounds` where the section ends before, and `OutOfMemory`.
+/// Refused `OffsetOutOfBounds` where the section ends before, else `OutOfMemory` where bytes are
+/// shared.
 pub(crate) fn read_from<R: Reader>(section: &R, offset: u64) -> Result<R, Error>
-    ensures gives { ExactlyUnlessOom R.section result (from_offset offset (R.section section.now)) }
+    ensures gives { ExactlyUnlessOomFor R.shares is_ok R.section result
+        (from_offset offset (R.section section.now)) }
 {
     if section.len() < offset {
         return Err(Error::OffsetOutOfBounds);
@@ -24,14 +27,30 @@ pub(crate) fn read_from<R: Reader>(section: &R, offset: u64) -> Result<R, Error>
     Ok(rest)
 }
 
-// The text at an offset.
-#[tactic(auto, unfolding(crate::specs::Text::text_at))]
-fn read_text<R: Reader>(section: &R, offset: u64) -> Result<R, Error>
-    ensures gives { ExactlyUnlessOom R.section result (text_at offset (R.section section.now)) }
+// The length of the string at an offset. Takes no memory.
+#[tactic(auto, unfolding(crate::specs::Text::string_at))]
+fn read_string_length<R: Reader>(section: &R, offset: u64) -> Result<u64, Error>
+    ensures gives { Exactly (λ n. n) result
+        (string_length_at offset (R.section section.now)) }
 {
+    let mut rest = EndianSlice::new(section.to_slice(), section.endian());
+    if rest.len() < offset {
+        return Err(Error::OffsetOutOfBounds);
+    }
+    rest.skip(offset)?;
+    Ok(rest.read_null_terminated()?.len())
+}
+
+// The string at an offset. Only a string that is there takes memory.
+#[tactic(auto, unfolding(crate::specs::Text::string_at))]
+fn read_string_at<R: Reader>(section: &R, offset: u64) -> Result<R, Error>
+    ensures gives { ExactlyUnlessOomFor R.shares is_ok R.section result
+        (string_at offset (R.section section.now)) }
+{
+    let len = read_string_length(section, offset)?;
     let mut rest = read_from(section, offset)?;
-    let text = rest.read_null_terminated()?;
-    Ok(text)
+    let string = rest.split(len)?;
+    Ok(string)
 }
 
 // How many bytes an offset has.
@@ -44,54 +63,57 @@ fn size_of_offset(format: Format) -> u8
     }
 }
 
-/// Entry `index` of a table of numbers of `size` bytes, which begins at `base`. Takes no memory.
+/// The number of an index in a table of numbers of `size` bytes, which begins at `base`. Takes no
+/// memory.
 ///
-/// Refused `OffsetOutOfBounds` where the entry isn't wholly in the section, and
+/// Refused `OffsetOutOfBounds` where the number isn't wholly in the section, and
 /// `UnsupportedAddressSize` for a size other than 1, 2, 4 and 8.
-#[tactic(auto, unfolding(crate::specs::Text::entry_at))]
-pub(crate) fn read_entry<R: Reader>(
+#[tactic(auto, unfolding(crate::specs::Text::indexed_number))]
+pub(crate) fn read_indexed_number<R: Reader>(
     section: &R,
     size: u8,
     base: u64,
     index: u64,
 ) -> Result<u64, Error>
-    ensures gives { Exactly (λ n. n) result (entry_at size base index (R.section section.now)) }
+    ensures gives { Exactly (λ n. n) result
+        (indexed_number size base index (R.section section.now)) }
 {
     let bytes = section.to_slice();
     let len = bytes.len() as u64;
     let width = u64::from(size);
-    let Some(offset) = index.checked_mul(width) else {
+    let Some(from_base) = index.checked_mul(width) else {
         return Err(Error::OffsetOutOfBounds);
     };
-    let Some(place) = base.checked_add(offset) else {
+    let Some(offset) = base.checked_add(from_base) else {
         return Err(Error::OffsetOutOfBounds);
     };
-    if place > len || len - place < width {
+    if offset > len || len - offset < width {
         return Err(Error::OffsetOutOfBounds);
     }
-    EndianSlice::new(&bytes[place as usize..], section.endian()).read_address(size)
+    EndianSlice::new(&bytes[offset as usize..], section.endian()).read_address(size)
 }
 
 // A string by its index.
-fn read_indexed<R: Reader>(
+fn read_indexed_string<R: Reader>(
     dwarf: &Dwarf<R>,
     format: Format,
     base: u64,
     index: u64,
 ) -> Result<R, Error>
-    ensures gives { ExactlyUnlessOom R.section result
-        (indexed_at dwarf.now format base index) }
+    ensures gives { ExactlyUnlessOomFor R.shares is_ok R.section result
+        (indexed_string dwarf.now format base index) }
 {
     let size = size_of_offset(format);
-    let offset = read_entry(&dwarf.debug_str_offsets.section, size, base, index)?;
-    read_text(&dwarf.debug_str.section, offset)
+    let offset = read_indexed_number(&dwarf.debug_str_offsets.section, size, base, index)?;
+    read_string_at(&dwarf.debug_str.section, offset)
 }
 
 /// The string that a value stands for, without the zero byte that ends it. `base` is where the
 /// unit's offsets of strings begin, in bytes.
 ///
 /// Refused `ExpectedString` for a value of no string form, `OffsetOutOfBounds`, `UnexpectedEof` where
-/// no zero byte ends it, `NoSupplementary` for a string of a supplementary file, and `OutOfMemory`.
+/// no zero byte ends it, and `NoSupplementary` for a string of a supplementary file; else
+/// `OutOfMemory` where bytes are shared.
 #[tactic(auto, unfolding(crate::specs::Text::string_of))]
 pub(crate) fn read_string<R: Reader>(
     dwarf: &Dwarf<R>,
@@ -99,15 +121,19 @@ pub(crate) fn read_string<R: Reader>(
     base: u64,
     value: AttributeValue<R>,
 ) -> Result<R, Error>
-    ensures gives { ExactlyUnlessOom R.section result
+    ensures gives { ExactlyUnlessOomFor R.shares is_ok R.section result
         (string_of dwarf.now format base (seen_value R.section value)) }
 {
     match value {
-        AttributeValue::String(text) => Ok(text),
-        AttributeValue::DebugStrRef(offset) => read_text(&dwarf.debug_str.section, offset),
-        AttributeValue::DebugLineStrRef(offset) => read_text(&dwarf.debug_line_str.section, offset),
+        AttributeValue::String(string) => Ok(string),
+        AttributeValue::DebugStrRef(offset) => read_string_at(&dwarf.debug_str.section, offset),
+        AttributeValue::DebugLineStrRef(offset) => {
+            read_string_at(&dwarf.debug_line_str.section, offset)
+        }
         AttributeValue::DebugStrRefSup(_) => Err(Error::NoSupplementary),
-        AttributeValue::DebugStrOffsetsIndex(index) => read_indexed(dwarf, format, base, index),
+        AttributeValue::DebugStrOffsetsIndex(index) => {
+            read_indexed_string(dwarf, format, base, index)
+        }
         _ => Err(Error::ExpectedString),
     }
 }
@@ -117,11 +143,11 @@ impl<R: Reader> Dwarf<R> {
     /// it.
     ///
     /// Refused `ExpectedString` for a value of no string form, `OffsetOutOfBounds`, `UnexpectedEof`
-    /// where no zero byte ends it, `NoSupplementary` for a string of a supplementary file, and
-    /// `OutOfMemory`.
+    /// where no zero byte ends it, and `NoSupplementary` for a string of a supplementary file; else
+    /// `OutOfMemory` where bytes are shared. Source: DWARF 5, sections 7.5.5 and 7.26.
     pub fn attr_string(&self, unit: &Unit<R>, value: AttributeValue<R>) -> Result<R, Error>
-        ensures gives { ExactlyUnlessOom R.section result (attr_string_of self.now
-            unit.now (seen_value R.section value)) }
+        ensures gives { ExactlyUnlessOomFor R.shares is_ok R.section result
+            (attr_string_of self.now unit.now (seen_value R.section value)) }
     {
         read_string(
             self,

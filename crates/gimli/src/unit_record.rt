@@ -1,14 +1,13 @@
 //! Units: headers with what their first entry says.
 
 ghost use Rattle.std.specs.Prelude.{◌≡◌, Ok, option_map};
-ghost use Rattle.gimli_read.specs.Reading.{Exactly, ExactlyUnlessOom, IsUnlessOom};
+ghost use Rattle.gimli_read.specs.Reading.{Exactly, ExactlyUnlessOomFor, IsUnlessOom};
 ghost use Rattle.gimli_read.specs.Form.{seen_value};
-ghost use Rattle.gimli_line.specs.Header.{seen_program};
-ghost use Rattle.gimli.specs.Unit.{by_format, first_base, low_pc_of, program_of, readable, dwo_id_of, completed, unit_of};
+ghost use Rattle.gimli.specs.Unit.{by_format, first_base, low_pc_of, line_program_of, readable_string, gives_string, dwo_id_of, completed_record, unit_record_of};
 
 use crate::dwarf::{Dwarf, DwarfFileType};
 use crate::record::{AddressValue, RootAttributes, read_root};
-use crate::text::{read_entry, read_from, read_string};
+use crate::text::{read_from, read_indexed_number, read_string};
 use crate::unit::{DwoId, UnitHeader};
 use gimli_line::{IncompleteLineProgram, read_line_program};
 use gimli_read::{Abbreviations, AttributeValue, Encoding, Error, Format, Reader};
@@ -42,12 +41,22 @@ pub struct Unit<R: Reader> {
 
 impl<R: Reader> Model for Unit<R> {
     ghost use Rattle.std.specs.Prelude.{option_map};
-    ghost use Rattle.gimli_line.specs.Header.{seen_program};
     ghost use Rattle.gimli.specs.Unit.{UnitRecord};
 
     ghost Value = { UnitRecord };
 
-    ghost view = { λ u. record { header = u.header; abbreviations = u.abbreviations; name = option_map R.section u.name; comp_dir = option_map R.section u.comp_dir; low_pc = u.low_pc; str_offsets_base = u.str_offsets_base; addr_base = u.addr_base; rnglists_base = u.rnglists_base; dwo_id = u.dwo_id; line_program = option_map (seen_program R.section) u.line_program } };
+    ghost view = { λ u. record {
+      header = u.header;
+      abbreviations = u.abbreviations;
+      name = option_map R.section u.name;
+      comp_dir = option_map R.section u.comp_dir;
+      low_pc = u.low_pc;
+      str_offsets_base = u.str_offsets_base;
+      addr_base = u.addr_base;
+      rnglists_base = u.rnglists_base;
+      dwo_id = u.dwo_id;
+      line_program = u.line_program;
+    } };
 }
 
 // The length of a table's header in a version 5 unit of a split file, else 0.
@@ -81,7 +90,7 @@ fn read_low_pc<R: Reader>(
         None => Ok(0),
         Some(AddressValue::Address(address)) => Ok(address),
         Some(AddressValue::Index(index)) => {
-            read_entry(
+            read_indexed_number(
                 &dwarf.debug_addr.section,
                 encoding.address_size,
                 base,
@@ -98,8 +107,8 @@ fn read_program<R: Reader>(
     encoding: Encoding,
     stmt_list: Option<u64>,
 ) -> Result<Option<IncompleteLineProgram<R>>, Error>
-    ensures gives { ExactlyUnlessOom (option_map (seen_program R.section)) result
-        (program_of dwarf.now encoding stmt_list) }
+    ensures gives { IsUnlessOom result
+        (line_program_of dwarf.now encoding stmt_list) }
 {
     let Some(offset) = stmt_list else {
         return Ok(None);
@@ -110,14 +119,14 @@ fn read_program<R: Reader>(
 }
 
 // The string of a value, none where it can't be read. Refused `OutOfMemory` alone.
-fn read_readable<R: Reader>(
+fn read_readable_string<R: Reader>(
     dwarf: &Dwarf<R>,
     format: Format,
     base: u64,
     value: Option<AttributeValue<R>>,
 ) -> Result<Option<R>, Error>
-    ensures gives { ExactlyUnlessOom (option_map R.section) result
-        (Ok (readable dwarf.now format base (option_map (seen_value R.section) value))) }
+    ensures gives { ExactlyUnlessOomFor R.shares gives_string (option_map R.section) result
+        (Ok (readable_string dwarf.now format base (option_map (seen_value R.section) value))) }
 {
     let Some(value) = value else {
         return Ok(None);
@@ -143,7 +152,7 @@ fn dwo_id_of(in_header: Option<DwoId>, given: Option<u64>) -> Option<DwoId>
 }
 
 // The unit of a header, whose first entry says this.
-#[tactic(auto, unfolding(crate::specs::Unit::completed))]
+#[tactic(auto, unfolding(crate::specs::Unit::completed_record))]
 fn complete<R: Reader>(
     alloc: Global,
     dwarf: &Dwarf<R>,
@@ -151,7 +160,7 @@ fn complete<R: Reader>(
     abbreviations: Abbreviations,
     root: RootAttributes<R>,
 ) -> Result<Unit<R>, Error>
-    ensures gives { IsUnlessOom result (completed dwarf.now
+    ensures gives { IsUnlessOom result (completed_record dwarf.now
         header abbreviations root) }
 {
     let encoding = header.encoding;
@@ -166,8 +175,8 @@ fn complete<R: Reader>(
     let line_program = read_program(alloc, dwarf, encoding, root.stmt_list)?;
     let low_pc = read_low_pc(dwarf, encoding, addr_base, root.low_pc)?;
     let dwo_id = dwo_id_of(header.dwo_id, root.dwo_id);
-    let name = read_readable(dwarf, encoding.format, str_offsets_base, root.name)?;
-    let comp_dir = read_readable(dwarf, encoding.format, str_offsets_base, root.comp_dir)?;
+    let name = read_readable_string(dwarf, encoding.format, str_offsets_base, root.name)?;
+    let comp_dir = read_readable_string(dwarf, encoding.format, str_offsets_base, root.comp_dir)?;
     Ok(Unit {
         header,
         abbreviations,
@@ -189,10 +198,10 @@ impl<R: Reader> Dwarf<R> {
     /// (`UnexpectedEof`, `MissingUnitDie`, `UnknownAbbreviation`, `UnknownForm` and what a value is
     /// refused for), its line program's header (`OffsetOutOfBounds` and what a header is refused
     /// for), or the index of its low_pc (`OffsetOutOfBounds`), in this order, and `OutOfMemory`.
-    #[tactic(auto, unfolding(crate::specs::Unit::unit_of))]
+    #[tactic(auto, unfolding(crate::specs::Unit::unit_record_of))]
     pub fn unit(&self, alloc: Global, header: UnitHeader<R>) -> Result<Unit<R>, Error>
         ensures gives { IsUnlessOom result
-            (unit_of self.now header) }
+            (unit_record_of self.now header) }
     {
         let rest = read_from(&self.debug_abbrev.section, header.debug_abbrev_offset)?;
         let abbreviations = Abbreviations::parse(alloc, rest)?;

@@ -1,15 +1,16 @@
 //! A unit with the sections that it is read from.
 
-ghost use Rattle.std.specs.Prelude.{◌≡◌, option_map};
-ghost use Rattle.gimli_read.specs.Reading.{Exactly, ExactlyUnlessOom};
+ghost use Rattle.std.specs.Prelude.{◌≡◌, is_ok, option_map};
+ghost use Rattle.gimli_read.specs.Reading.{Exactly, ExactlyUnlessOomFor};
 ghost use Rattle.gimli_read.specs.Form.{seen_value};
-ghost use Rattle.gimli.specs.Text.{entry_at};
+ghost use Rattle.gimli.specs.Text.{indexed_number};
 ghost use Rattle.gimli.specs.Unit.{attr_string_of};
-ghost use Rattle.gimli.specs.Entries.{entries_from, entries_of, seen_entries};
+ghost use Rattle.gimli.specs.Entries.{entry_bytes_from, entries_from};
 
 use crate::dwarf::Dwarf;
 use crate::entries::EntriesRaw;
-use crate::text::read_entry;
+use crate::text::read_indexed_number;
+use crate::unit::UnitHeader;
 use crate::unit_record::Unit;
 use gimli_read::{AttributeValue, Error, Reader, UnitOffset};
 use std::alloc::AllocError;
@@ -31,11 +32,13 @@ impl<R: Reader> Clone for UnitRef<'_, R> {
 }
 
 // The bytes of the entries from an offset on, or from the first entry.
-fn read_entries_from<R: Reader>(unit: &Unit<R>, offset: Option<UnitOffset>) -> Result<R, Error>
-    ensures gives { ExactlyUnlessOom R.section result
-        (entries_from unit.now (option_map (λ o. o.0) offset)) }
+fn read_entry_bytes<R: Reader>(
+    header: &UnitHeader<R>,
+    offset: Option<UnitOffset>,
+) -> Result<R, Error>
+    ensures gives { ExactlyUnlessOomFor R.shares is_ok R.section result
+        (entry_bytes_from header.now (option_map (λ o. o.0) offset)) }
 {
-    let header = &unit.header;
     let len = header.entries.len();
     let Some(UnitOffset(offset)) = offset else {
         return header.entries.duplicate();
@@ -43,12 +46,12 @@ fn read_entries_from<R: Reader>(unit: &Unit<R>, offset: Option<UnitOffset>) -> R
     if offset < header.header_length {
         return Err(Error::OffsetOutOfBounds);
     }
-    let place = offset - header.header_length;
-    if place >= len {
+    let start = offset - header.header_length;
+    if start >= len {
         return Err(Error::OffsetOutOfBounds);
     }
     let mut entries = header.entries.duplicate()?;
-    entries.skip(place)?;
+    entries.skip(start)?;
     Ok(entries)
 }
 
@@ -66,29 +69,19 @@ impl<'a, R: Reader> UnitRef<'a, R> {
     /// The offset is in bytes from the start of the unit's length. Refused `OffsetOutOfBounds` where
     /// it isn't between the header's end and the unit's, and `OutOfMemory`.
     pub fn entries_raw(&self, offset: Option<UnitOffset>) -> Result<EntriesRaw<'a, R>, Error>
-        ensures gives { ExactlyUnlessOom (seen_entries R.section) result
-            (entries_of self.now.unit.now (option_map (λ o. o.0) offset)) }
+        ensures gives { ExactlyUnlessOomFor R.shares is_ok (λ e. e) result
+            (entries_from self.now.unit.now (option_map (λ o. o.0) offset)) }
     {
         let unit = self.unit;
-        let input = read_entries_from(unit, offset)?;
-        let end = unit
-            .header
-            .header_length
-            .saturating_add(unit.header.entries.len());
-        Ok(EntriesRaw {
-            input,
-            encoding: unit.header.encoding,
-            abbreviations: &unit.abbreviations,
-            end,
-            depth: 0,
-        })
+        let input = read_entry_bytes(&unit.header, offset)?;
+        Ok(EntriesRaw::new(&unit.header, &unit.abbreviations, input))
     }
 
     /// The string that a value stands for, without the zero byte that ends it. Refused as
     /// `Dwarf::attr_string` is.
     pub fn attr_string(&self, value: AttributeValue<R>) -> Result<R, Error>
-        ensures gives { ExactlyUnlessOom R.section result (attr_string_of self.now.dwarf.now
-            self.now.unit.now (seen_value R.section value)) }
+        ensures gives { ExactlyUnlessOomFor R.shares is_ok R.section result
+            (attr_string_of self.now.dwarf.now self.now.unit.now (seen_value R.section value)) }
     {
         self.dwarf.attr_string(self.unit, value)
     }
@@ -98,12 +91,12 @@ impl<'a, R: Reader> UnitRef<'a, R> {
     /// Refused `OffsetOutOfBounds` where its entry isn't wholly in the section, and
     /// `UnsupportedAddressSize`.
     pub fn address(&self, index: u64) -> Result<u64, Error>
-        ensures gives { Exactly (λ a. a) result (entry_at self.now.unit.now.header.encoding.address_size
+        ensures gives { Exactly (λ a. a) result (indexed_number self.now.unit.now.header.encoding.address_size
             self.now.unit.now.addr_base index self.now.dwarf.now.debug_addr) }
     {
         let unit = self.unit;
         let dwarf = self.dwarf;
         let size = unit.header.encoding.address_size;
-        read_entry(&dwarf.debug_addr.section, size, unit.addr_base, index)
+        read_indexed_number(&dwarf.debug_addr.section, size, unit.addr_base, index)
     }
 }

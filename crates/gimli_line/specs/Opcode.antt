@@ -84,7 +84,7 @@ extended_at h s = do
   Ok (instruction.0, text.1)
 
 -- the fault of a reading, if it has one
-abbrev pub fault_of : {A : Type 0} → Reading A → Result (Unit {0}) Error
+abbrev pub fault_of : {A : Type 0} → Result A Error → Result (Unit {0}) Error
 fault_of read = read >>= λ x. Ok tt
 
 -- an instruction that defines a file

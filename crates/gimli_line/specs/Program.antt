@@ -1,5 +1,6 @@
 -- A line program: its header, and the bytes of its opcodes (DWARF 5, section 6.2.4).
 -- Own: versions 2 to 4 have the unit's address size. A zero that may not be is BadLineHeader.
+-- Own: OutOfMemory may come only in place of a program whose fields before the tables are sound.
 use Rattle.std.specs.Prelude.{ℕ, ◌-◌, ◌==◌, ◌||◌, not, Result, Ok, nat_lt, if◌then◌else◌}
 use Rattle.gimli_read.specs.declared.error.Error.{Error}
 use Rattle.gimli_read.specs.declared.error.Error.TheVariants.{UnknownVersion, UnsupportedAddressSize, UnsupportedSegmentSize, BadLineHeader}
@@ -9,7 +10,7 @@ use Rattle.gimli_read.specs.Section.{Section}
 use Rattle.gimli_read.specs.Reading.{Reading, ◌>>=◌, refused_if}
 use Rattle.gimli_read.specs.Number.{fixed_at, signed_byte_at, offset_at, split_at, initial_length_at, is_address_size}
 use Rattle.gimli_line.specs.declared.encoding.LineEncoding.{LineEncoding}
-use Rattle.gimli_line.specs.Header.{Header, Program}
+use Rattle.gimli_line.specs.Header.{Program}
 use Rattle.gimli_line.specs.Tables.{tables_at}
 
 -- the address size: of the unit below version 5, else of the header, with a segment selector size of 0
@@ -55,37 +56,51 @@ numbers_at e s = do
     opcode_base.1,
   )
 
--- what stands in the header's own bytes, from the numbers on
-unfoldable pub header_at : Encoding → Section → Reading Header
-header_at e s = do
-  numbers ← numbers_at e s
-  lengths ← split_at (numbers.0.opcode_base - 1) numbers.1
-  tables ← tables_at e lengths.1
-  Ok (
-    record {
-      encoding = e;
-      line_encoding = numbers.0;
-      standard_opcode_lengths = lengths.0;
-      include_directories = tables.0.include_directories;
-      file_names = tables.0.file_names;
-    },
-    tables.1,
-  )
+-- the fields of a header before its tables, and the bytes of the tables and of the program
+pub record HeaderFields : Type 0 where
+  pub encoding : Encoding
+  pub line_encoding : LineEncoding
+  pub standard_opcode_lengths : Section
+  pub tables : Section
+  pub program : Section
 
--- what stands in the unit's bytes, from the version on
-unfoldable pub unit_at : ℕ → Format → Section → Result Program Error
-unit_at unit_size format s = do
+-- the fields in the unit's bytes, from the version on
+unfoldable pub unit_fields_at : ℕ → Format → Section → Result HeaderFields Error
+unit_fields_at unit_size format s = do
   version ← fixed_at 2 s
   known ← refused_if (nat_lt version.0 2 || nat_lt 5 version.0) UnknownVersion
   size ← address_size_at version.0 unit_size version.1
   header_length ← offset_at format size.1
-  fields ← split_at header_length.0 header_length.1
-  header ← header_at (record { address_size = size.0; format = format; version = version.0 }) fields.0
-  Ok (record { header = header.0; program = fields.1 })
+  header ← split_at header_length.0 header_length.1
+  numbers ← numbers_at (record { address_size = size.0; format = format; version = version.0 }) header.0
+  lengths ← split_at (numbers.0.opcode_base - 1) numbers.1
+  Ok (record {
+    encoding = record { address_size = size.0; format = format; version = version.0 };
+    line_encoding = numbers.0;
+    standard_opcode_lengths = lengths.0;
+    tables = lengths.1;
+    program = header.1;
+  })
+
+-- the fields of the header that begins here
+unfoldable pub header_fields_at : ℕ → Section → Result HeaderFields Error
+header_fields_at unit_size s = do
+  length ← initial_length_at s
+  unit ← split_at length.0.0 length.1
+  unit_fields_at unit_size length.0.1 unit.0
 
 -- the line program that begins here, in a unit with this address size
 unfoldable pub line_program_at : ℕ → Section → Result Program Error
 line_program_at unit_size s = do
-  length ← initial_length_at s
-  unit ← split_at length.0.0 length.1
-  unit_at unit_size length.0.1 unit.0
+  fields ← header_fields_at unit_size s
+  tables ← tables_at fields.encoding fields.tables
+  Ok (record {
+    header = record {
+      encoding = fields.encoding;
+      line_encoding = fields.line_encoding;
+      standard_opcode_lengths = fields.standard_opcode_lengths;
+      include_directories = tables.0.include_directories;
+      file_names = tables.0.file_names;
+    };
+    program = fields.program;
+  })

@@ -1,17 +1,21 @@
 //! Reading the header of a line program.
 
-ghost use Rattle.std.specs.Prelude.{◌≡◌, ◌<◌, true, IfOk};
-ghost use Rattle.gimli_read.specs.Reading.{Exactly, ExactlyUnlessOom, IsUnlessOom};
+ghost use Rattle.std.specs.Prelude.{◌≡◌, ◌<◌, true, is_ok, IfOk};
+ghost use Rattle.gimli_read.specs.Reading.{Exactly, ExactlyUnlessOomIf, Reads};
 ghost use Rattle.gimli_read.specs.Number.{is_address_size};
-ghost use Rattle.gimli_line.specs.Program.{address_size_at, nonzero_at, operations_at, numbers_at, header_at, unit_at, line_program_at};
+ghost use Rattle.gimli_line.specs.Opcode.{fault_of};
+ghost use Rattle.gimli_line.specs.Program.{address_size_at, nonzero_at, operations_at, numbers_at, unit_fields_at, header_fields_at, line_program_at};
 
 use crate::encoding::LineEncoding;
 use crate::header::LineProgramHeader;
 use crate::parameters::LineParameters;
 use crate::program::IncompleteLineProgram;
 use crate::tables::read_tables;
-use gimli_read::{Encoding, Error, Format, Reader, read_initial_length};
+use gimli_read::{
+    EndianSlice, Encoding, Error, Format, Reader, RunTimeEndian, read_initial_length,
+};
 use std::alloc::Global;
+use std::marker::Model;
 
 fn known_size(size: u8) -> bool
     ensures gives { result ≡ is_address_size size }
@@ -22,8 +26,7 @@ fn known_size(size: u8) -> bool
 // The address size of a program.
 #[tactic(auto, unfolding(crate::specs::Program::address_size_at))]
 fn read_address_size<R: Reader>(version: u16, unit_size: u8, input: &mut R) -> Result<u8, Error>
-    ensures gives { Exactly (λ x. (x, R.section input.new)) result
-        (address_size_at version unit_size (R.section input.old)) }
+    ensures gives { Reads R.section input.old input.new result (address_size_at version unit_size) }
     ensures known { IfOk result (λ size. is_address_size size ≡ true) }
 {
     if version < 5 {
@@ -45,7 +48,7 @@ fn read_address_size<R: Reader>(version: u16, unit_size: u8, input: &mut R) -> R
 // A byte that may not be zero.
 #[tactic(auto, unfolding(crate::specs::Program::nonzero_at))]
 fn read_nonzero<R: Reader>(input: &mut R) -> Result<u8, Error>
-    ensures gives { Exactly (λ x. (x, R.section input.new)) result (nonzero_at (R.section input.old)) }
+    ensures gives { Reads R.section input.old input.new result nonzero_at }
     ensures some { IfOk result (λ x. 0 < x) }
 {
     let byte = input.read_u8()?;
@@ -58,7 +61,7 @@ fn read_nonzero<R: Reader>(input: &mut R) -> Result<u8, Error>
 // How many operations an instruction may have.
 #[tactic(auto, unfolding(crate::specs::Program::operations_at))]
 fn read_operations<R: Reader>(version: u16, input: &mut R) -> Result<u8, Error>
-    ensures gives { Exactly (λ x. (x, R.section input.new)) result (operations_at version (R.section input.old)) }
+    ensures gives { Reads R.section input.old input.new result (operations_at version) }
     ensures some { IfOk result (λ x. 0 < x) }
 {
     if version < 4 {
@@ -70,7 +73,7 @@ fn read_operations<R: Reader>(version: u16, input: &mut R) -> Result<u8, Error>
 // The numbers that a program is run by.
 #[tactic(auto, unfolding(crate::specs::Program::numbers_at))]
 fn read_numbers<R: Reader>(encoding: Encoding, input: &mut R) -> Result<LineEncoding, Error>
-    ensures gives { Exactly (λ x. (x, R.section input.new)) result (numbers_at encoding (R.section input.old)) }
+    ensures gives { Reads R.section input.old input.new result (numbers_at encoding) }
     ensures size { IfOk result (λ x. x.address_size ≡ encoding.address_size) }
     ensures operations { IfOk result (λ x. 0 < x.maximum_operations_per_instruction) }
     ensures range { IfOk result (λ x. 0 < x.line_range) }
@@ -92,39 +95,39 @@ fn read_numbers<R: Reader>(encoding: Encoding, input: &mut R) -> Result<LineEnco
     })
 }
 
-// What stands in the header's own bytes, from the numbers on.
-#[tactic(auto, unfolding(crate::specs::Program::header_at))]
-fn read_header<R: Reader>(
-    alloc: Global,
+/// The fields of a header before its tables, and readers of the tables and of the program.
+#[derive(Drop)]
+struct HeaderFields<R: Reader> {
     encoding: Encoding,
-    input: &mut R,
-) -> Result<LineProgramHeader<R>, Error>
-    requires size { is_address_size encoding.address_size ≡ true }
-    ensures gives { ExactlyUnlessOom (λ h. (h, R.section input.new)) result
-        (header_at encoding (R.section input.old)) }
-{
-    let line_encoding = read_numbers(encoding, input)?;
-    let standard_opcode_lengths = input.split(u64::from(line_encoding.opcode_base) - 1)?;
-    let tables = read_tables(alloc, encoding, input)?;
-    Ok(LineProgramHeader {
-        encoding,
-        parameters: LineParameters::new(line_encoding),
-        standard_opcode_lengths,
-        include_directories: tables.include_directories,
-        file_names: tables.file_names,
-        alloc,
-    })
+    parameters: LineParameters,
+    standard_opcode_lengths: R,
+    tables: R,
+    program: R,
 }
 
-// What stands in the unit's bytes, from the version on.
-#[tactic(auto, unfolding(crate::specs::Program::unit_at))]
-fn read_unit<R: Reader>(
-    alloc: Global,
+impl<R: Reader> Model for HeaderFields<R> {
+    ghost use Rattle.gimli_line.specs.Program.{HeaderFields};
+
+    ghost Value = { HeaderFields };
+
+    ghost view = { λ f. record {
+      encoding = f.encoding;
+      line_encoding = f.parameters.encoding;
+      standard_opcode_lengths = R.section f.standard_opcode_lengths;
+      tables = R.section f.tables;
+      program = R.section f.program;
+    } };
+}
+
+// The fields in the unit's bytes, from the version on.
+#[tactic(auto, unfolding(crate::specs::Program::unit_fields_at))]
+fn read_unit_fields<R: Reader>(
     unit_size: u8,
     format: Format,
     mut input: R,
-) -> Result<IncompleteLineProgram<R>, Error>
-    ensures gives { IsUnlessOom result (unit_at unit_size format (R.section input)) }
+) -> Result<HeaderFields<R>, Error>
+    ensures gives { ExactlyUnlessOomIf R.shares (λ f. f) result
+        (unit_fields_at unit_size format (R.section input)) }
 {
     let version = input.read_u16()?;
     if version < 2 || version > 5 {
@@ -132,17 +135,41 @@ fn read_unit<R: Reader>(
     }
     let address_size = read_address_size(version, unit_size, &mut input)?;
     let header_length = input.read_offset(format)?;
-    let mut fields = input.split(header_length)?;
+    let mut tables = input.split(header_length)?;
     let encoding = Encoding {
         address_size,
         format,
         version,
     };
-    let header = read_header(alloc, encoding, &mut fields)?;
-    Ok(IncompleteLineProgram {
-        header,
+    let numbers = read_numbers(encoding, &mut tables)?;
+    let standard_opcode_lengths = tables.split(u64::from(numbers.opcode_base) - 1)?;
+    Ok(HeaderFields {
+        encoding,
+        parameters: LineParameters::new(numbers),
+        standard_opcode_lengths,
+        tables,
         program: input,
     })
+}
+
+// The fields of the header that begins here.
+#[tactic(auto, unfolding(crate::specs::Program::header_fields_at))]
+fn read_header_fields<R: Reader>(unit_size: u8, mut input: R) -> Result<HeaderFields<R>, Error>
+    ensures gives { ExactlyUnlessOomIf R.shares (λ f. f) result
+        (header_fields_at unit_size (R.section input)) }
+{
+    let (length, format) = read_initial_length(&mut input)?;
+    let unit = input.split(length)?;
+    read_unit_fields(unit_size, format, unit)
+}
+
+// The fault of the fields of a header, if they have one. Takes no memory.
+fn check_header_fields(unit_size: u8, bytes: &[u8], endian: RunTimeEndian) -> Result<(), Error>
+    ensures gives { Exactly (λ x. x) result
+        (fault_of (header_fields_at unit_size (record { bytes = bytes.now; endian = endian }))) }
+{
+    let _fields = read_header_fields(unit_size, EndianSlice::new(bytes, endian))?;
+    Ok(())
 }
 
 /// Reads the header of the line program that begins here, with its tables; no opcode is run.
@@ -151,16 +178,36 @@ fn read_unit<R: Reader>(
 /// unit's; version 5 has its own. Refused where a field is, in their order: the refusals of its numbers,
 /// `UnknownReservedLength`, `UnknownVersion` (known are 2 to 5), `UnsupportedAddressSize`,
 /// `UnsupportedSegmentSize`, `BadLineHeader` for a zero that may not be and for a faulty format of a table,
-/// `UnknownForm`, and `OutOfMemory`. Source: DWARF 5, section 6.2.4.
+/// and `UnknownForm`. May fail with `OutOfMemory` instead where all fields before the tables are sound: a
+/// fault of theirs takes no memory. Source: DWARF 5, section 6.2.4.
 #[tactic(auto, unfolding(crate::specs::Program::line_program_at))]
 pub fn read_line_program<R: Reader>(
     alloc: Global,
-    mut input: R,
+    input: R,
     address_size: u8,
 ) -> Result<IncompleteLineProgram<R>, Error>
-    ensures gives { IsUnlessOom result (line_program_at address_size (R.section input)) }
+    ensures gives { ExactlyUnlessOomIf (is_ok (header_fields_at address_size (R.section input)))
+        (λ p. p) result (line_program_at address_size (R.section input)) }
 {
-    let (length, format) = read_initial_length(&mut input)?;
-    let unit = input.split(length)?;
-    read_unit(alloc, address_size, format, unit)
+    // A part of shared bytes takes memory, so the fields are looked at in borrowed bytes first.
+    check_header_fields(address_size, input.to_slice(), input.endian())?;
+    let HeaderFields {
+        encoding,
+        parameters,
+        standard_opcode_lengths,
+        mut tables,
+        program,
+    } = read_header_fields(address_size, input)?;
+    let tables = read_tables(alloc, encoding, &mut tables)?;
+    Ok(IncompleteLineProgram {
+        header: LineProgramHeader {
+            encoding,
+            parameters,
+            standard_opcode_lengths,
+            include_directories: tables.include_directories,
+            file_names: tables.file_names,
+            alloc,
+        },
+        program,
+    })
 }

@@ -2,14 +2,13 @@
 use Rattle.std.proofs.Common.{◌≡◌, ◌≢◌, ◌⊎◌, inl, inr, is_ok, ℕ, zero, suc, ◌+◌, ◌<◌, List, [], ◌∷◌, ◌++◌, length, Option, Some, None, is_some, Result, Ok, Err, Bool, true, false, cond, IfOk, IfSome, nat_lt, ◌==◌, ◌&&◌, ◌||◌, refl, ap, sym, ◌∙◌, arith, add-one}
 use Rattle.std.proofs.lemmas.Bool.Decides.{nat_tests}
 use Rattle.gimli_read.specs.declared.constants.TheConstants.DwForm.{DW_FORM_implicit_const}
-use Rattle.gimli_read.specs.declared.constants.DwTag.{DwTag}
 use Rattle.gimli_read.specs.declared.error.Error.{Error}
 use Rattle.gimli_read.specs.declared.error.Error.TheVariants.{OutOfMemory, BadAbbreviation}
 use Rattle.gimli_read.specs.Section.{Section}
 use Rattle.gimli_read.specs.Reading.{Reading, ◌>>=◌, refused_if}
 use Rattle.gimli_read.specs.Leb128.{uleb128_at}
 use Rattle.gimli_read.specs.Abbreviations.{Specification, Abbrev, with_code, HasDistinctCodes}
-use Rattle.gimli_read.specs.Abbrev.{constant_at, specification_at, specifications_at, head_at, declaration_at, abbreviation_at, extended, table_within, head_and_pair_at, front_at, takes_memory}
+use Rattle.gimli_read.specs.Abbrev.{constant_at, coded, specification_at, specifications_at, head_at, declaration_at, abbreviation_at, extended, table_within, head_and_pair_at, front_at, takes_memory}
 use Rattle.gimli_read.proofs.Shorter.{Shorter, shorter_bind, shorter_then, shorter_if, shorter_err, shorter_ok, fixed-shorter, uleb128-shorter, sleb128-shorter, TakesBytes, takes_by, shorter_by}
 use Rattle.gimli_read.proofs.Steps.{bind_ok, same_value, end_is_none}
 use Rattle.gimli_read.proofs.RunLemmas.{collected-shorter, collected-fault}
@@ -99,10 +98,6 @@ abbreviation_less table s t a h = shorter_by (abbreviation_at table) (abbreviati
 -- the last step of an abbreviation
 abbrev found_some : Abbrev × Section → Reading (Option Abbrev)
 found_some x = Ok (Some x.0, x.1)
-
--- an abbreviation of a head and its attributes
-abbrev coded : ℕ → DwTag × Bool → List Specification → Abbrev
-coded code head xs = record { code = code; tag = head.0; has_children = head.1; attributes = xs }
 
 -- what follows a code has that code
 declaration_code : (code : ℕ) (s : Section) (a : Abbrev) (t : Section) → declaration_at code s ≡ Ok (a, t) → a.code ≡ code

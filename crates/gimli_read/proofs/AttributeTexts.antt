@@ -11,7 +11,8 @@ use Rattle.gimli_read.specs.Abbreviations.{Specification}
 use Rattle.gimli_read.specs.Section.{Section}
 use Rattle.gimli_read.specs.Reading.{Reading, ◌>>=◌}
 use Rattle.gimli_read.specs.Form.{NamedValue, value_at, implicit_of, attribute_at}
-use Rattle.gimli_read.specs.Value.{section_of, IsValue, IsAttributeValue, ReadsAttribute, ReadsAttributeAlone}
+use Rattle.gimli_read.specs.Value.{section_of, IsValue, IsAttributeValue}
+use Rattle.gimli_read.specs.ValueLaws.{ReadsAttribute, ReadsAttributeAlone}
 use Rattle.gimli_read.proofs.Steps.{bind_ok, chosen, same_rest, same_value}
 use Rattle.gimli_read.proofs.ValueTexts.{value_reads, value_alone}
 

@@ -19,11 +19,12 @@ use Rattle.gimli_read.specs.Leb128.{IsUleb128, IsSleb128, uleb128_in, sleb128_in
 use Rattle.gimli_read.specs.Form.{direct_at, form_within, form_at, value_at}
 use Rattle.gimli_read.specs.declared.constants.TheConstants.DwForm.{DW_FORM_indirect}
 use Rattle.gimli_read.specs.FormEncoding.{FormEncoding, Fixed, Address, Offset, AddressOrOffset, Unsigned, Signed, Block1, Block2, Block4, Block, Text, Empty, form_encoding_of, as_value, block_at, address_or_offset_at, encoded_at}
-use Rattle.gimli_read.specs.Value.{IsFixed, IsAddress, IsOffset, IsAddressOrOffset, IsMadeOf, IsBlock, IsEnded, section_of, offset_size, IsListedValue, IsIndirectValue, ReadsValue, ReadsValueAlone}
+use Rattle.gimli_read.specs.Value.{IsFixed, IsAddress, IsOffset, IsAddressOrOffset, IsMadeOf, IsBlock, IsEnded, section_of, offset_size, IsListedValue, IsIndirectValue}
+use Rattle.gimli_read.specs.ValueLaws.{IsCut, ReadsValue, ReadsValueAlone}
 use Rattle.gimli_read.proofs.Steps.{guard_ok, bind_ok, chosen, same_rest, same_value}
 use Rattle.gimli_read.proofs.Leb128Texts.{uleb128_reads, uleb128_alone, sleb128_reads, sleb128_alone}
 use Rattle.gimli_read.proofs.FormLemmas.{form_last, form_more}
-use Rattle.gimli_read.proofs.FixedTexts.{Cut, not_short, cut_at, take_long, fixed_reads, fixed_alone}
+use Rattle.gimli_read.proofs.FixedTexts.{not_short, cut_at, take_long, fixed_reads, fixed_alone}
 
 -- each text is read as what it stands for, whatever follows
 abbrev Reads : {A : Type 0} → RunTimeEndian → (List ℕ → A → Type 0) → (Section → Reading A) → Type 0
@@ -31,12 +32,12 @@ Reads {A = A} order spells read = (text rest : List ℕ) (x : A) → spells text
 
 -- and nothing else is read
 abbrev Alone : {A : Type 0} → RunTimeEndian → (List ℕ → A → Type 0) → (Section → Reading A) → Type 0
-Alone {A = A} order spells read = (bytes : List ℕ) (x : A) (rest : Section) → read (section_of order bytes) ≡ Ok (x, rest) → (text : List ℕ) × spells text x × Cut (section_of order bytes) text rest
+Alone {A = A} order spells read = (bytes : List ℕ) (x : A) (rest : Section) → read (section_of order bytes) ≡ Ok (x, rest) → (text : List ℕ) × spells text x × IsCut (section_of order bytes) text rest
 
-joined_cut : (s t rest : Section) (front text : List ℕ) → Cut s front t → Cut t text rest → Cut s (front ++ text) rest
+joined_cut : (s t rest : Section) (front text : List ℕ) → IsCut s front t → IsCut t text rest → IsCut s (front ++ text) rest
 joined_cut s t rest front text e f = e ∙ ap (λ u. section_of u.endian (front ++ u.bytes)) f ∙ ap (section_of rest.endian) (sym (append_assoc front text rest.bytes))
 
-one_order : (s rest : Section) (text : List ℕ) → Cut s text rest → rest.endian ≡ s.endian
+one_order : (s rest : Section) (text : List ℕ) → IsCut s text rest → rest.endian ≡ s.endian
 one_order s rest text e = sym (ap (λ u. u.endian) e)
 
 -- readings of a section, one at a time
@@ -141,7 +142,7 @@ ended_of order text rest x u =
     let left : drop (length chars + 1) (chars ++ 0 ∷ rest) ≡ rest = drop-append-add chars (0 ∷ rest) 1 in
     ap (λ b. null_terminated_at (section_of order b)) whole ∙ ap (ended_at (section_of order (chars ++ 0 ∷ rest))) place ∙ rw (take-append_seam chars (0 ∷ rest), left) (ap (λ o. Ok (section_of o chars, section_of order rest)) (sym u.in_order))
 
-ended_is : (order : RunTimeEndian) (bytes : List ℕ) (x rest : Section) (o : Option ℕ) → position (λ b. b == 0) bytes ≡ o → ended_at (section_of order bytes) o ≡ Ok (x, rest) → (text : List ℕ) × IsEnded order text x × Cut (section_of order bytes) text rest
+ended_is : (order : RunTimeEndian) (bytes : List ℕ) (x rest : Section) (o : Option ℕ) → position (λ b. b == 0) bytes ≡ o → ended_at (section_of order bytes) o ≡ Ok (x, rest) → (text : List ℕ) × IsEnded order text x × IsCut (section_of order bytes) text rest
 ended_is order bytes x rest None h e = absurd cc
 ended_is order bytes x rest (Some n) h e =
     let s = section_of order bytes in
@@ -247,7 +248,7 @@ record IsNamed (e : Encoding) (s rest : Section) (v : AttributeValue Section) : 
   after : List ℕ
   form : IsUleb128 front real
   value : IsIndirectValue hops e s.endian real after v
-  cut : Cut s (front ++ after) rest
+  cut : IsCut s (front ++ after) rest
 
 indirect_from : (n : ℕ) (e : Encoding) (s : Section) (real : ℕ) (t rest : Section) (v : AttributeValue Section) → form_within n s ≡ Ok (real, t) → direct_at e real t ≡ Ok (v, rest) → IsNamed e s rest v
 unfolding form_within

@@ -1,7 +1,7 @@
 -- Abbreviation tables (DWARF 5, section 7.5.3): a finite map from codes to abbreviations.
 -- Own: the section's end where a code would stand ends the table too.
--- Own: a repeated code, tag 0, a children byte other than 0 and 1, and exactly one zero in a pair are
--- BadAbbreviation, each at its field.
+-- Own: a repeated code, tag 0, a children byte other than 0 and 1, and exactly one zero in a pair
+-- are BadAbbreviation, each at its field.
 use Rattle.std.specs.Prelude.{ℕ, zero, Bool, is_ok, suc, ◌+◌, ◌==◌, ◌||◌, ◌&&◌, nat_lt, List, [], ◌∷◌, ◌++◌, length, Option, Some, None, is_some, Result, Ok, Err, if◌then◌else◌, ℤ}
 use Rattle.gimli_read.specs.declared.constants.DwTag.{DwTag}
 use Rattle.gimli_read.specs.declared.error.Error.{Error}
@@ -16,7 +16,14 @@ use Rattle.gimli_read.specs.Abbreviations.{Specification, Abbrev, with_code}
 
 -- the value that an abbreviation itself has, of the form implicit_const
 abbrev pub constant_at : ℕ → Section → Reading (Option ℤ)
-constant_at form s = if form == DW_FORM_implicit_const.0 then (sleb128_at s >>= λ value. Ok (Some value.0, value.1)) else Ok (None, s)
+constant_at form s =
+    if form == DW_FORM_implicit_const.0 then (sleb128_at s >>= λ value. Ok (Some value.0, value.1))
+    else Ok (None, s)
+
+-- a name, a form and a constant
+abbrev pub specified : ℕ → ℕ → Option ℤ → Specification
+specified name form constant =
+    record { name = record { 0 = name }; form = record { 0 = form }; constant = constant }
 
 -- a name and a form, or none where both are 0
 unfoldable pub specification_at : Section → Reading (Option Specification)
@@ -25,7 +32,7 @@ specification_at s = do
   form ← uleb128_at name.1
   if name.0 == 0 && form.0 == 0 then Ok (None, form.1)
       else if name.0 == 0 || form.0 == 0 then Err BadAbbreviation
-      else (constant_at form.0 form.1 >>= λ constant. Ok (Some (record { name = record { 0 = name.0 }; form = record { 0 = form.0 }; constant = constant.0 }), constant.1))
+      else (constant_at form.0 form.1 >>= λ c. Ok (Some (specified name.0 form.0 c.0), c.1))
 
 -- the pairs up to the two zeros
 abbrev pub specifications_at : Section → Reading (List Specification)
@@ -40,12 +47,17 @@ head_at s = do
   flag ← refused_if (nat_lt 1 children.0) BadAbbreviation
   Ok ((record { 0 = tag.0 }, children.0 == 1), children.1)
 
+-- an abbreviation of a head and its attributes
+abbrev pub coded : ℕ → DwTag × Bool → List Specification → Abbrev
+coded code head attributes =
+    record { code = code; tag = head.0; has_children = head.1; attributes = attributes }
+
 -- what follows a code
 unfoldable pub declaration_at : ℕ → Section → Reading Abbrev
 declaration_at code s = do
   head ← head_at s
   attributes ← specifications_at head.1
-  Ok (record { code = code; tag = head.0.0; has_children = head.0.1; attributes = attributes.0 }, attributes.1)
+  Ok (coded code head.0 attributes.0, attributes.1)
 
 -- a head, and its first pair or the end of its pairs
 abbrev pub head_and_pair_at : Section → Reading (Option Specification)
@@ -72,14 +84,16 @@ abbreviation_at table s = if length s.bytes == 0 then Ok (None, s) else do
     Ok (Some a.0, a.1)
 
 -- the table, if nothing more is read, or what goes on with one more abbreviation
-abbrev pub extended : (List Abbrev → Section → Result (List Abbrev) Error) → List Abbrev → Option Abbrev → Section → Result (List Abbrev) Error
+abbrev pub extended : (List Abbrev → Section → Result (List Abbrev) Error) → List Abbrev
+    → Option Abbrev → Section → Result (List Abbrev) Error
 extended more table None s = Ok table
 extended more table (Some a) s = more (table ++ a ∷ []) s
 
 -- the table with at most n more abbreviations
 unfoldable pub table_within : ℕ → List Abbrev → Section → Result (List Abbrev) Error
 table_within zero table s = Err UnexpectedEof
-table_within (suc n) table s = abbreviation_at table s >>= λ a. extended (table_within n) table a.0 a.1
+table_within (suc n) table s =
+    abbreviation_at table s >>= λ a. extended (table_within n) table a.0 a.1
 
 -- the table at the front of a section, of which each abbreviation takes a byte at least
 abbrev pub table_at : Section → Result (List Abbrev) Error

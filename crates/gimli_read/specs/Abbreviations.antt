@@ -4,7 +4,7 @@ use Rattle.gimli_read.specs.declared.constants.DwAt.{DwAt}
 use Rattle.gimli_read.specs.declared.constants.DwForm.{DwForm}
 use Rattle.gimli_read.specs.declared.constants.DwTag.{DwTag}
 
--- an attribute that the entries of a code have: its name, its form, and its value where that stands here
+-- an attribute that the entries of a code have: name, form, and the value where that stands here
 pub record Specification : Type 0 where
   pub name : DwAt
   pub form : DwForm

@@ -1,4 +1,5 @@
--- Answers of two readers to one reading (DWARF 5, section 7.5: what a section says is in its bytes and their order).
+-- Answers of two readers to one reading (DWARF 5, section 7.5: what a section says is in its bytes
+-- and their order).
 -- Own: memory may be refused at one reader and not at the other.
 use Rattle.std.specs.Prelude.{◌≡◌, ◌≢◌, Result, Ok, Err}
 use Rattle.gimli_read.specs.declared.error.Error.{Error}
@@ -19,11 +20,15 @@ HadMemory (Err e) = e ≢ OutOfMemory
 -- two answers that are exactly one reading of equal sections are the same: value, rest and fault
 abbrev pub AnswerAlike : Type 0 → Type 0 → Type 0 → Type 0
 AnswerAlike X Y Z =
-    (read : Section → Result Z Error) (s t : Section) (view : X → Z) (see : Y → Z) (x : Result X Error) (y : Result Y Error)
-    → s ≡ t → Exactly view x (read s) → Exactly see y (read t) → seen_answer view x ≡ seen_answer see y
+    (read : Section → Result Z Error) (s t : Section) (view : X → Z) (see : Y → Z)
+    (x : Result X Error) (y : Result Y Error)
+    → s ≡ t → Exactly view x (read s) → Exactly see y (read t)
+    → seen_answer view x ≡ seen_answer see y
 
 -- the same where memory may be refused, but was not
 abbrev pub AnswerAlikeUnlessOom : Type 0 → Type 0 → Type 0 → Type 0
 AnswerAlikeUnlessOom X Y Z =
-    (read : Section → Result Z Error) (s t : Section) (view : X → Z) (see : Y → Z) (x : Result X Error) (y : Result Y Error)
-    → s ≡ t → ExactlyUnlessOom view x (read s) → ExactlyUnlessOom see y (read t) → HadMemory x → HadMemory y → seen_answer view x ≡ seen_answer see y
+    (read : Section → Result Z Error) (s t : Section) (view : X → Z) (see : Y → Z)
+    (x : Result X Error) (y : Result Y Error)
+    → s ≡ t → ExactlyUnlessOom view x (read s) → ExactlyUnlessOom see y (read t)
+    → HadMemory x → HadMemory y → seen_answer view x ≡ seen_answer see y

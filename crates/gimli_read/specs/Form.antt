@@ -1,6 +1,6 @@
 -- The value of an attribute by its form (DWARF 5, sections 7.5.5 and 7.5.6).
--- Own: a form that is not listed is UnknownForm where a value of it is read; so is DW_FORM_indirect to
--- DW_FORM_implicit_const, whose value stands in the abbreviation.
+-- Own: a form that is not listed is UnknownForm where a value of it is read; so is DW_FORM_indirect
+-- to DW_FORM_implicit_const, whose value stands in the abbreviation.
 use Rattle.std.specs.Prelude.{ℕ, zero, suc, ◌+◌, ◌==◌, length, Option, Some, None, Result, Ok, Err, if◌then◌else◌, ℤ, pos, negsuc}
 use Rattle.gimli_read.specs.declared.error.Error.{Error}
 use Rattle.gimli_read.specs.declared.error.Error.TheVariants.{UnknownForm, UnexpectedEof}
@@ -53,7 +53,8 @@ direct_at encoding form s = encoded_at encoding (form_encoding_of form) s
 -- the form that an indirection names, which may be one more: at most n of them
 unfoldable pub form_within : ℕ → Section → Reading ℕ
 form_within zero s = Err UnexpectedEof
-form_within (suc n) s = uleb128_at s >>= λ form. if form.0 == DW_FORM_indirect.0 then form_within n form.1 else Ok form
+form_within (suc n) s =
+    uleb128_at s >>= λ form. if form.0 == DW_FORM_indirect.0 then form_within n form.1 else Ok form
 
 -- the form that indirections lead to, each of which takes a byte at least
 abbrev pub form_at : Section → Reading ℕ
@@ -75,18 +76,24 @@ abbrev pub implicit_of : Option ℤ → Result (AttributeValue Section) Error
 implicit_of None = Err UnknownForm
 implicit_of (Some z) = Ok (values.Sdata z)
 
+-- a value of an attribute by its specification
+abbrev pub named : Specification → AttributeValue Section → NamedValue
+named specification value = record { name = specification.name; value = value }
+
 -- the attribute of a specification
 unfoldable pub attribute_at : Encoding → Specification → Section → Reading (NamedValue)
 attribute_at encoding specification s =
-    if specification.form.0 == DW_FORM_implicit_const.0 then (implicit_of specification.constant >>= λ value. Ok (record { name = specification.name; value = value }, s))
-    else (value_at encoding specification.form.0 s >>= λ value. Ok (record { name = specification.name; value = value.0 }, value.1))
+    if specification.form.0 == DW_FORM_implicit_const.0 then
+    (implicit_of specification.constant >>= λ value. Ok (named specification value, s))
+    else (value_at encoding specification.form.0 s >>= λ v. Ok (named specification v.0, v.1))
 
 -- a signed number that isn't negative
 abbrev pub unsigned_of : ℤ → Option ℕ
 unsigned_of (pos n) = Some n
 unsigned_of (negsuc n) = None
 
--- the value of a constant (Own: the class is data1, data2, data4, data8, udata, and sdata where not negative)
+-- the value of a constant
+-- (Own: the class is data1, data2, data4, data8, udata, and sdata where not negative)
 abbrev pub constant_of : {R : Type 0} → AttributeValue R → Option ℕ
 constant_of (values.Data1 n) = Some n
 constant_of (values.Data2 n) = Some n

@@ -1,6 +1,6 @@
 -- How the value of a form is encoded, and which value it is (DWARF 5, sections 7.5.5 and 7.5.6).
--- Own: the GNU forms. DW_FORM_indirect is not listed, nor is DW_FORM_implicit_const, whose value stands in the
--- abbreviation.
+-- Own: the GNU forms. DW_FORM_indirect is not listed, nor is DW_FORM_implicit_const, whose value
+-- stands in the abbreviation.
 -- Own: a form that is not listed is UnknownForm where a value of it is read.
 use Rattle.std.specs.Prelude.{ℕ, ◌==◌, not, true, List, [], ◌∷◌, ◌++◌, Option, Some, None, Ok, Err, if◌then◌else◌, ℤ}
 use Rattle.gimli_read.specs.declared.constants.DwForm.{DwForm}
@@ -110,7 +110,8 @@ unfoldable pub form_encoding_of : ℕ → Option FormEncoding
 form_encoding_of form = form_in (plain_forms ++ reference_forms) form
 
 -- a value made of what a reading gives
-abbrev pub as_value : {A : Type 0} → (A → AttributeValue Section) → Reading A → Reading (AttributeValue Section)
+abbrev pub as_value : {A : Type 0} → (A → AttributeValue Section) → Reading A
+    → Reading (AttributeValue Section)
 as_value make read = read >>= λ x. Ok (make x.0, x.1)
 
 -- a length, and as many bytes
@@ -119,7 +120,9 @@ block_at length = length >>= λ n. split_at n.0 n.1
 
 -- an address in version 2, else an offset
 abbrev pub address_or_offset_at : Encoding → Section → Reading ℕ
-address_or_offset_at encoding s = if encoding.version == 2 then address_at encoding.address_size s else offset_at encoding.format s
+address_or_offset_at encoding s =
+    if encoding.version == 2 then address_at encoding.address_size s
+    else offset_at encoding.format s
 
 -- the value that is encoded so
 abbrev pub encoded_at : Encoding → Option FormEncoding → Section → Reading (AttributeValue Section)
@@ -127,7 +130,8 @@ encoded_at encoding None s = Err UnknownForm
 encoded_at encoding (Some (Fixed n make)) s = as_value make (fixed_at n s)
 encoded_at encoding (Some (Address make)) s = as_value make (address_at encoding.address_size s)
 encoded_at encoding (Some (Offset make)) s = as_value make (offset_at encoding.format s)
-encoded_at encoding (Some (AddressOrOffset make)) s = as_value make (address_or_offset_at encoding s)
+encoded_at encoding (Some (AddressOrOffset make)) s =
+    as_value make (address_or_offset_at encoding s)
 encoded_at encoding (Some (Unsigned make)) s = as_value make (uleb128_at s)
 encoded_at encoding (Some (Signed make)) s = as_value make (sleb128_at s)
 encoded_at encoding (Some (Block1 make)) s = as_value make (block_at (fixed_at 1 s))

@@ -1,5 +1,5 @@
--- Whether a value holds bytes of its section, which a reader that shares them counts (DWARF 5, section 7.5.5: a
--- block, an expression and a string are bytes; every other value is a number).
+-- Whether a value holds bytes of its section, which a reader that shares them counts (DWARF 5,
+-- section 7.5.5: a block, an expression and a string are bytes; every other value is a number).
 use Rattle.std.specs.Prelude.{Bool, true, false, Result, Ok, Err}
 use Rattle.gimli_read.specs.declared.error.Error.{Error}
 use Rattle.gimli_read.specs.declared.value.AttributeValue.{AttributeValue}
@@ -25,8 +25,9 @@ abbrev pub gives_attribute_bytes : Reading (NamedValue) → Bool
 gives_attribute_bytes (Ok x) = holds_bytes x.0.value
 gives_attribute_bytes (Err e) = false
 
--- a call that reads a value from a reader; OutOfMemory only for one that holds bytes, where those are shared
-abbrev pub ReadsValueUnlessOom : {R : Type 0} → Bool → (R → Section) → R → R → Result (AttributeValue R) Error
-    → (Section → Reading (AttributeValue Section)) → Type 0
+-- a call that reads a value; OutOfMemory only for one that holds bytes, where those are shared
+abbrev pub ReadsValueUnlessOom : {R : Type 0} → Bool → (R → Section) → R → R
+    → Result (AttributeValue R) Error → (Section → Reading (AttributeValue Section)) → Type 0
 ReadsValueUnlessOom shares see old new result reading =
-    ExactlyUnlessOomFor shares gives_bytes (λ v. (seen_value see v, see new)) result (reading (see old))
+    ExactlyUnlessOomFor shares gives_bytes (λ v. (seen_value see v, see new)) result
+    (reading (see old))

@@ -1,5 +1,5 @@
--- LEB128 numbers (DWARF 5, section 7.6): seven bits of the number in each byte, the lowest first, and the
--- last byte alone is below 128.
+-- LEB128 numbers (DWARF 5, section 7.6): seven bits of the number in each byte, the lowest first,
+-- and the last byte alone is below 128.
 -- Own: at most ten bytes, and a value of 64 bits; anything else is BadLeb128.
 use Rattle.std.specs.Prelude.{◌≡◌, ℕ, suc, ◌+◌, ◌-◌, ◌*◌, ◌%◌, ◌^◌, ◌<◌, ◌≤◌, List, [], ◌∷◌, ◌++◌, length, take, drop, slice_index, Bool, true, Option, Some, None, Result, Ok, Err, nat_lt, if◌then◌else◌, ℤ, pos, negsuc, ◌-ℤ◌}
 use Rattle.std.specs.List.{position}
@@ -20,7 +20,9 @@ uleb128_value text = sum_from 0 text
 
 -- the signed number that a text stands for: bit 6 of its last byte is the sign
 abbrev pub sleb128_value : List ℕ → ℤ
-sleb128_value text = if nat_lt (slice_index text (length text - 1)) 64 then pos (uleb128_value text) else pos (uleb128_value text) -ℤ pos (128 ^ length text)
+sleb128_value text =
+    if nat_lt (slice_index text (length text - 1)) 64 then pos (uleb128_value text)
+    else pos (uleb128_value text) -ℤ pos (128 ^ length text)
 
 -- whether a number has signed 64 bits
 abbrev pub fits_i64 : ℤ → Bool
@@ -44,7 +46,8 @@ IsSleb128 text z = IsLeb128Text text × (z ≡ sleb128_value text) × (fits_i64 
 
 -- a text up to the place of its last byte, and what follows it
 abbrev pub cut_after : List ℕ → Option ℕ → Result (List ℕ × List ℕ) Error
-cut_after bytes None = Err (if nat_lt (length bytes) MAX_LEB128_LEN then UnexpectedEof else BadLeb128)
+cut_after bytes None =
+    Err (if nat_lt (length bytes) MAX_LEB128_LEN then UnexpectedEof else BadLeb128)
 cut_after bytes (Some n) = Ok (take (n + 1) bytes, drop (n + 1) bytes)
 
 -- the text of a number at the front
@@ -55,7 +58,8 @@ leb128_text bytes = cut_after bytes (position (λ b. nat_lt b 128) (take MAX_LEB
 unfoldable pub uleb128_in : List ℕ → Result (ℕ × List ℕ) Error
 uleb128_in bytes = do
   text ← leb128_text bytes
-  if nat_lt (uleb128_value text.0) (2 ^ 64) then Ok (uleb128_value text.0, text.1) else Err BadLeb128
+  if nat_lt (uleb128_value text.0) (2 ^ 64) then Ok (uleb128_value text.0, text.1)
+      else Err BadLeb128
 
 -- the signed number at the front of bytes, and the bytes after it
 unfoldable pub sleb128_in : List ℕ → Result (ℤ × List ℕ) Error
@@ -77,16 +81,22 @@ sleb128_at s = within sleb128_in s
 
 -- each text of a number is read as that number, whatever follows
 abbrev pub ReadsUleb128 : Type 0
-ReadsUleb128 = (text rest : List ℕ) (n : ℕ) → IsUleb128 text n → uleb128_in (text ++ rest) ≡ Ok (n, rest)
+ReadsUleb128 =
+    (text rest : List ℕ) (n : ℕ) → IsUleb128 text n → uleb128_in (text ++ rest) ≡ Ok (n, rest)
 
 -- and nothing else is read
 abbrev pub ReadsUleb128Alone : Type 0
-ReadsUleb128Alone = (bytes rest : List ℕ) (n : ℕ) → uleb128_in bytes ≡ Ok (n, rest) → (text : List ℕ) × IsUleb128 text n × (bytes ≡ text ++ rest)
+ReadsUleb128Alone =
+    (bytes rest : List ℕ) (n : ℕ) → uleb128_in bytes ≡ Ok (n, rest)
+    → (text : List ℕ) × IsUleb128 text n × (bytes ≡ text ++ rest)
 
 -- the same of signed numbers
 abbrev pub ReadsSleb128 : Type 0
-ReadsSleb128 = (text rest : List ℕ) (z : ℤ) → IsSleb128 text z → sleb128_in (text ++ rest) ≡ Ok (z, rest)
+ReadsSleb128 =
+    (text rest : List ℕ) (z : ℤ) → IsSleb128 text z → sleb128_in (text ++ rest) ≡ Ok (z, rest)
 
 -- and nothing else is read
 abbrev pub ReadsSleb128Alone : Type 0
-ReadsSleb128Alone = (bytes rest : List ℕ) (z : ℤ) → sleb128_in bytes ≡ Ok (z, rest) → (text : List ℕ) × IsSleb128 text z × (bytes ≡ text ++ rest)
+ReadsSleb128Alone =
+    (bytes rest : List ℕ) (z : ℤ) → sleb128_in bytes ≡ Ok (z, rest)
+    → (text : List ℕ) × IsSleb128 text z × (bytes ≡ text ++ rest)

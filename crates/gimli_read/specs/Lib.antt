@@ -11,6 +11,7 @@ pub mod Form
 pub mod HeldBytes
 pub mod StringForm
 pub mod Value
+pub mod ValueLaws
 pub mod Alike
 pub mod Abbreviations
 pub mod AbbreviationPlaces

@@ -1,4 +1,5 @@
--- Numbers of a fixed length, addresses, offsets, texts and parts (DWARF 5, sections 7.4, 7.31 and 7.32).
+-- Numbers of a fixed length, addresses, offsets, texts and parts (DWARF 5, sections 7.4, 7.31 and
+-- 7.32).
 -- Own: a reading past the end of the section is UnexpectedEof.
 -- Own: an address size other than 1, 2, 4 and 8 is UnsupportedAddressSize.
 use Rattle.std.specs.Prelude.{ℕ, ◌+◌, ◌==◌, ◌||◌, Bool, List, length, slice_index, Option, Some, None, Ok, Err, nat_lt, if◌then◌else◌, ℤ}
@@ -29,11 +30,15 @@ split_at n s = if nat_lt (length s.bytes) n then Err UnexpectedEof else Ok (firs
 
 -- a number of n bytes
 abbrev pub fixed_at : ℕ → Section → Reading ℕ
-fixed_at n s = if nat_lt (length s.bytes) n then Err UnexpectedEof else Ok (number_of s.endian n s.bytes, after n s)
+fixed_at n s =
+    if nat_lt (length s.bytes) n then Err UnexpectedEof
+    else Ok (number_of s.endian n s.bytes, after n s)
 
 -- a signed number of one byte, in two's complement
 abbrev pub signed_byte_at : Section → Reading ℤ
-signed_byte_at s = if nat_lt (length s.bytes) 1 then Err UnexpectedEof else Ok (cast_signed w8 (slice_index s.bytes 0), after 1 s)
+signed_byte_at s =
+    if nat_lt (length s.bytes) 1 then Err UnexpectedEof
+    else Ok (cast_signed w8 (slice_index s.bytes 0), after 1 s)
 
 -- the sizes that an address may have
 abbrev pub is_address_size : ℕ → Bool
@@ -63,7 +68,7 @@ long_length_at s = do
   long ← fixed_at 8 s
   Ok ((long.0, Dwarf64), long.1)
 
--- the length of a unit and its format: one of four bytes is an escape, and the fifteen below it are reserved
+-- the length of a unit and its format: one of four bytes is an escape, the fifteen below reserved
 unfoldable pub initial_length_at : Section → Reading (ℕ × Format)
 initial_length_at s = do
   short ← fixed_at 4 s

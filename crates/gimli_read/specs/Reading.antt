@@ -1,6 +1,7 @@
 -- What a reading gives, and what an answer has to do with it.
--- A reading takes bytes from the front of a section: it gives a value and what is left, or the first
--- fault from the left. Own: no reading gives OutOfMemory, which a refused growth alone answers.
+-- A reading takes bytes from the front of a section: it gives a value and what is left, or the
+-- first fault from the left.
+-- Own: no reading gives OutOfMemory, which a refused growth alone answers.
 -- The words for steps and answers serve every kind of fault.
 use Rattle.std.specs.Prelude.{◌≡◌, ◌≢◌, Bool, true, is_ok, Result, Ok, Err, if◌then◌else◌}
 use Rattle.gimli_read.specs.declared.error.Error.{Error}
@@ -52,30 +53,36 @@ abbrev pub IsUnlessOom : {X : Type 0} → Result X Error → Result X Error → 
 IsUnlessOom result given = ExactlyUnlessOom (λ x. x) result given
 
 -- the same, where OutOfMemory is an answer only if memory may be taken
-abbrev pub ExactlyUnlessOomIf : {X Y : Type 0} → Bool → (X → Y) → Result X Error → Result Y Error → Type 0
+abbrev pub ExactlyUnlessOomIf : {X Y : Type 0} → Bool → (X → Y) → Result X Error → Result Y Error
+    → Type 0
 ExactlyUnlessOomIf may view (Ok x) given = given ≡ Ok (view x)
 ExactlyUnlessOomIf may view (Err e) given = (may ≡ true → e ≢ OutOfMemory) → given ≡ Err e
 
 -- the same, where memory may be taken only for what is given
-abbrev pub ExactlyUnlessOomFor : {X Y : Type 0} → Bool → (Result Y Error → Bool) → (X → Y) → Result X Error → Result Y Error → Type 0
+abbrev pub ExactlyUnlessOomFor : {X Y : Type 0} → Bool → (Result Y Error → Bool) → (X → Y)
+    → Result X Error → Result Y Error → Type 0
 ExactlyUnlessOomFor may takes view (Ok x) given = given ≡ Ok (view x)
-ExactlyUnlessOomFor may takes view (Err e) given = (may ≡ true → takes given ≡ true → e ≢ OutOfMemory) → given ≡ Err e
+ExactlyUnlessOomFor may takes view (Err e) given =
+    (may ≡ true → takes given ≡ true → e ≢ OutOfMemory) → given ≡ Err e
 
 -- a call that moves a reader gave what is read from it, and left what the reading leaves
-abbrev pub Reads : {R X : Type 0} → (R → Section) → R → R → Result X Error → (Section → Reading X) → Type 0
+abbrev pub Reads : {R X : Type 0} → (R → Section) → R → R → Result X Error → (Section → Reading X)
+    → Type 0
 Reads see old new result reading = Exactly (λ x. (x, see new)) result (reading (see old))
 
 -- the same, or OutOfMemory
-abbrev pub ReadsUnlessOom : {R X : Type 0} → (R → Section) → R → R → Result X Error → (Section → Reading X) → Type 0
-ReadsUnlessOom see old new result reading = ExactlyUnlessOom (λ x. (x, see new)) result (reading (see old))
+abbrev pub ReadsUnlessOom : {R X : Type 0} → (R → Section) → R → R → Result X Error
+    → (Section → Reading X) → Type 0
+ReadsUnlessOom see old new result reading =
+    ExactlyUnlessOom (λ x. (x, see new)) result (reading (see old))
 
 -- the same, where memory may be taken only for what is given
-abbrev pub ReadsUnlessOomFor : {R X : Type 0} → Bool → (Reading X → Bool) → (R → Section) → R → R → Result X Error
-    → (Section → Reading X) → Type 0
+abbrev pub ReadsUnlessOomFor : {R X : Type 0} → Bool → (Reading X → Bool) → (R → Section) → R → R
+    → Result X Error → (Section → Reading X) → Type 0
 ReadsUnlessOomFor may takes see old new result reading =
     ExactlyUnlessOomFor may takes (λ x. (x, see new)) result (reading (see old))
 
--- a call that takes a part of a reader as one of its own; OutOfMemory only for a part, where that may take memory
+-- a call that takes a part of a reader as one of its own; OutOfMemory only for a part
 abbrev pub ReadsPartUnlessOom : {R : Type 0} → Bool → (R → Section) → R → R → Result R Error
     → (Section → Reading Section) → Type 0
 ReadsPartUnlessOom may see old new result reading =

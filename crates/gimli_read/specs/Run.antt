@@ -11,7 +11,7 @@ pub record Run (X Z : Type 0) : Type 0 where
   pub items : List X
   pub end : Result Z Error
 
--- one step of a run: a part and where the next begins (or the fault after this part), or the run's end
+-- one step of a run: a part and where the next begins, or the fault after it; or the run's end
 pub data Next (X S Z : Type 0) : Type 0 where
   More : X → Result S Error → Next X S Z
   Stop : Result Z Error → Next X S Z
@@ -37,7 +37,8 @@ run_within step zero s = record { items = []; end = Err UnexpectedEof }
 run_within step (suc n) s = continued (run_within step n) (step s)
 
 -- each part in turn, and then the end
-unfoldable pub fold_run : {X Z A : Type 0} → (A → X → Result A Error) → A → List X → Result Z Error → Result (A × Z) Error
+unfoldable pub fold_run : {X Z A : Type 0} → (A → X → Result A Error) → A → List X → Result Z Error
+    → Result (A × Z) Error
 fold_run f a [] end = end >>= λ z. Ok (a, z)
 fold_run f a (x ∷ xs) end = f a x >>= λ b. fold_run f b xs end
 
@@ -50,11 +51,13 @@ abbrev pub run_of : {X : Type 0} → (Section → Reading (Option X)) → Sectio
 run_of part s = run_within (λ t. next_of (part t)) (length s.bytes + 1) s
 
 -- what was collected, after what stands in front of it
-abbrev pub with_front : {X Z : Type 0} → List X → Result (List X × Z) Error → Result (List X × Z) Error
+abbrev pub with_front : {X Z : Type 0} → List X → Result (List X × Z) Error
+    → Result (List X × Z) Error
 with_front front r = r >>= λ x. Ok (front ++ x.0, x.1)
 
 -- each part of a run in turn, and then what stands after it
-abbrev pub fold_of : {X Z A : Type 0} → (A → X → Result A Error) → A → Run X Z → Result (A × Z) Error
+abbrev pub fold_of : {X Z A : Type 0} → (A → X → Result A Error) → A → Run X Z
+    → Result (A × Z) Error
 fold_of f a r = fold_run f a r.items r.end
 
 -- the parts as a list of answers, with the fault after them, if there is one

@@ -1,4 +1,5 @@
--- The forms of strings (DWARF 5, section 7.5.5): those whose values are strings by the table of forms.
+-- The forms of strings (DWARF 5, section 7.5.5): those whose values the table of forms makes
+-- strings.
 use Rattle.std.specs.Prelude.{ℕ, Bool, true, false, [], Option, Some, None, pos}
 use Rattle.gimli_read.specs.declared.endian.RunTimeEndian.TheVariants.{Little}
 use Rattle.gimli_read.specs.declared.value.AttributeValue.{AttributeValue}

@@ -72,7 +72,12 @@ impl Model for Abbreviation {
 
     ghost Value = { Abbrev };
 
-    ghost view = { λ a. record { code = a.code; tag = a.tag; has_children = a.has_children; attributes = a.attributes.items } };
+    ghost view = { λ a. record {
+      code = a.code;
+      tag = a.tag;
+      has_children = a.has_children;
+      attributes = a.attributes.items;
+    } };
 }
 
 impl Abbreviation {
@@ -109,8 +114,8 @@ impl Abbreviation {
 #[derive(Drop)]
 pub struct Abbreviations {
     entries: Vec<Abbreviation>,
-    // By code, where an abbreviation stands whose code isn't its place, counted from 1. Codes are mostly
-    // 1, 2, 3, ..: then nothing stands here.
+    // By code, where an abbreviation stands whose code isn't its place, counted from 1. Codes are
+    // mostly 1, 2, 3, ..: then nothing stands here.
     displaced: BTreeMap<u64, usize>,
 }
 
@@ -123,7 +128,8 @@ impl Model for Abbreviations {
 
     ghost view = { λ t. t.entries.items };
 
-    ghost invariant = { λ t. HasDistinctCodes t.entries.items × IsPlaced t.entries.items t.displaced };
+    ghost invariant = { λ t. HasDistinctCodes t.entries.items
+        × IsPlaced t.entries.items t.displaced };
 }
 
 // The next attribute, or none at the end of the list.
@@ -261,7 +267,7 @@ impl Abbreviations {
         requires new { with_code abbreviation.code self.old ≡ None }
         ensures gives { OnOk result (self.new ≡ self.old ++ abbreviation ∷ []) }
     {
-        // Before the entry: where that finds no memory, the pair leads to no abbreviation of its code.
+        // Before the entry: where that finds no memory, the pair leads to no abbreviation.
         let index = self.entries.as_slice().len();
         note_place(&mut self.displaced, abbreviation.code, index)?;
         self.entries.push(abbreviation)?;
@@ -276,7 +282,8 @@ impl Abbreviations {
         input: &mut R,
     ) -> Result<Option<Abbreviation>, Error>
         ensures gives { ExactlyUnlessOomIf (takes_memory (R.section input.old))
-            (λ a. (a, R.section input.new)) result (abbreviation_at self.now (R.section input.old)) }
+            (λ a. (a, R.section input.new)) result
+            (abbreviation_at self.now (R.section input.old)) }
     {
         if input.is_empty() {
             return Ok(None);
@@ -295,8 +302,8 @@ impl Abbreviations {
     /// 7.5.3).
     ///
     /// Refused `BadAbbreviation` for a repeated code, tag 0, a children byte other than 0 and 1 and
-    /// exactly one zero in a pair; `UnexpectedEof` and `BadLeb128` for its numbers; `OutOfMemory` only
-    /// after the first pair of the first abbreviation.
+    /// exactly one zero in a pair; `UnexpectedEof` and `BadLeb128` for its numbers; `OutOfMemory`
+    /// only after the first pair of the first abbreviation.
     pub fn parse<R: Reader>(alloc: Global, input: R) -> Result<Abbreviations, Error>
         ensures gives { ExactlyUnlessOomIf (takes_memory (R.section input)) (λ t. t) result
             (table_at (R.section input)) }

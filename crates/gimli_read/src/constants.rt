@@ -19,7 +19,8 @@ pub struct DwForm(pub u64);
 #[derive(Clone, Copy, Debug, PartialEq, Eq)]
 pub struct DwLang(pub u16);
 
-/// From this one on, the lengths of four bytes that a unit may begin with are reserved (DWARF 5, section 7.4).
+/// From this one on, the lengths of four bytes that a unit may begin with are reserved (DWARF 5,
+/// section 7.4).
 pub(crate) const FIRST_RESERVED_LENGTH: u32 = 0xffff_fff0;
 
 /// The length of four bytes that one of eight bytes follows (DWARF 5, section 7.4).
@@ -183,7 +184,8 @@ impl DwForm {
 }
 
 impl DwForm {
-    /// Whether values of the form are strings: their bytes, or where those are found. Takes no memory.
+    /// Whether values of the form are strings: their bytes, or where those are found. Takes no
+    /// memory.
     #[tactic(auto, unfolding(crate::specs::FormEncoding::form_encoding_of))]
     pub fn is_string(self) -> bool
         ensures gives { result ≡ is_string_form self.0 }

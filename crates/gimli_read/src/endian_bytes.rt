@@ -2,7 +2,7 @@
 
 ghost use Rattle.std.specs.Prelude.{◌≡◌, length, true, is_ok, IsOk, OnErr};
 ghost use Rattle.gimli_read.specs.Number.{split_at};
-ghost use Rattle.gimli_read.specs.Reading.{ExactlyUnlessOomFor};
+ghost use Rattle.gimli_read.specs.Reading.{ReadsPartUnlessOom};
 ghost use Rattle.gimli_read.specs.Section.{Section};
 
 use crate::endian::RunTimeEndian;
@@ -64,12 +64,12 @@ impl Reader for EndianBytes {
 
     // The clauses `whole` and `none` say that it takes no memory for all of the bytes or none.
     fn split(&mut self, len: u64) -> Result<EndianBytes, Error>
-        ensures gives { ExactlyUnlessOomFor true is_ok (λ r. (r, self.new)) result (split_at len self.old) }
+        ensures gives { ReadsPartUnlessOom true (λ r. r) self.old self.new result (split_at len) }
         ensures refused { OnErr result (self.new ≡ self.old) }
         ensures whole { len ≡ length self.old.bytes → IsOk result }
         ensures none { len ≡ 0 → IsOk result }
     {
-        if self.len() < len {
+        if len > self.len() {
             return Err(Error::UnexpectedEof);
         }
         let front = self.bytes.split_to(len as usize)?;

@@ -3,7 +3,7 @@
 ghost use Rattle.std.specs.Prelude.{◌≡◌, true, false};
 ghost use Rattle.gimli_read.specs.Leb128.{ReadsUleb128, ReadsUleb128Alone, ReadsSleb128, ReadsSleb128Alone};
 ghost use Rattle.gimli_read.specs.Alike.{AnswerAlike, AnswerAlikeUnlessOom};
-ghost use Rattle.gimli_read.specs.Value.{ReadsFixed, ReadsFixedAlone, ReadsValue, ReadsValueAlone, ReadsAttribute, ReadsAttributeAlone};
+ghost use Rattle.gimli_read.specs.ValueLaws.{ReadsFixed, ReadsFixedAlone, ReadsValue, ReadsValueAlone, ReadsAttribute, ReadsAttributeAlone};
 
 use crate::endian_bytes::EndianBytes;
 use crate::endian_slice::EndianSlice;
@@ -17,8 +17,8 @@ pub fn leb128_laws()
     ensures signed_alone { ReadsSleb128Alone }
 {}
 
-/// A fixed number, the value of a form and an attribute are read from their texts, whatever follows,
-/// and from nothing else.
+/// A fixed number, the value of a form and an attribute are read from their texts, whatever
+/// follows, and from nothing else.
 pub fn value_laws()
     ensures fixed { ReadsFixed }
     ensures fixed_alone { ReadsFixedAlone }
@@ -30,10 +30,10 @@ pub fn value_laws()
 
 /// Readers of equal sections answer alike.
 ///
-/// Each call of a reader answers a reading of its section, exactly or unless memory is refused. Of two
-/// such answers to one reading of equal sections the values, what is left and the faults are equal,
-/// unless one of them is `OutOfMemory`. `X` and `Y` are what the two calls answer, and `Z` is what both
-/// are seen as.
+/// Each call of a reader answers a reading of its section, exactly or unless memory is refused. Of
+/// two such answers to one reading of equal sections the values, what is left and the faults are
+/// equal, unless one of them is `OutOfMemory`. `X` and `Y` are what the two calls answer, and `Z`
+/// is what both are seen as.
 pub fn alike_laws<X, Y, Z>()
     ensures exact { AnswerAlike X Y Z }
     ensures unless_oom { AnswerAlikeUnlessOom X Y Z }

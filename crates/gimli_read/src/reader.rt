@@ -19,7 +19,8 @@ use byteorder::{BigEndian, ByteOrder, LittleEndian};
 use std::alloc::Global;
 use std::borrow::CowStr;
 
-/// A list of bytes and a byte order. A reading takes bytes from the front; a refused one takes none.
+/// A list of bytes and a byte order. A reading takes bytes from the front; a refused one takes
+/// none.
 pub trait Reader: Clone {
     ghost use Rattle.std.specs.Prelude.{Bool};
     ghost use Rattle.gimli_read.specs.Section.{Section};
@@ -27,8 +28,8 @@ pub trait Reader: Clone {
     /// The bytes that are left, and their order.
     ghost section: { Self → Section };
 
-    /// Whether readers of the same bytes share them and count their users, so that a part or a second
-    /// reader may take memory.
+    /// Whether readers of the same bytes share them and count their users, so that a part or a
+    /// second reader may take memory.
     ghost shares: { Bool };
 
     /// The number of bytes that are left. Takes no memory.
@@ -57,7 +58,8 @@ pub trait Reader: Clone {
         ensures gives { Reads section self.old self.new result (skipped_at len) }
         ensures refused { OnErr result (section self.new ≡ section self.old) };
 
-    /// A reader of the same bytes in the same order. Refused `OutOfMemory` alone, where they are shared.
+    /// A reader of the same bytes in the same order. Refused `OutOfMemory` alone, where they are
+    /// shared.
     fn duplicate(&self) -> Result<Self, Error>
         ensures gives { ExactlyUnlessOomFor shares is_ok section result (Ok (section self.now)) };
 
@@ -84,8 +86,8 @@ pub trait Reader: Clone {
         Ok(number)
     }
 
-    /// Reads a signed number of one byte, in two's complement (sbyte: DWARF 5, section 7.31). Takes no
-    /// memory.
+    /// Reads a signed number of one byte, in two's complement (sbyte: DWARF 5, section 7.31). Takes
+    /// no memory.
     ///
     /// Refused `UnexpectedEof` where no byte is left.
     final fn read_i8(&mut self) -> Result<i8, Error>
@@ -178,7 +180,8 @@ pub trait Reader: Clone {
         Ok(number)
     }
 
-    /// Reads an address of `size` bytes, as the file has it (DWARF 5, section 7.32). Takes no memory.
+    /// Reads an address of `size` bytes, as the file has it (DWARF 5, section 7.32). Takes no
+    /// memory.
     ///
     /// Refused `UnsupportedAddressSize` for a size other than 1, 2, 4 and 8, and `UnexpectedEof`
     /// where fewer bytes are left.
@@ -195,8 +198,8 @@ pub trait Reader: Clone {
         }
     }
 
-    /// Reads an offset or a length, in bytes, of the format's width (DWARF 5, section 7.4). Takes no
-    /// memory.
+    /// Reads an offset or a length, in bytes, of the format's width (DWARF 5, section 7.4). Takes
+    /// no memory.
     ///
     /// Refused `UnexpectedEof` where fewer bytes are left.
     final fn read_offset(&mut self, format: Format) -> Result<u64, Error>
@@ -211,10 +214,12 @@ pub trait Reader: Clone {
 
     /// Reads a text that a zero byte ends, without that byte, which is passed over.
     ///
-    /// Refused `UnexpectedEof` where no zero byte is left, else `OutOfMemory` where the bytes are shared.
+    /// Refused `UnexpectedEof` where no zero byte is left, else `OutOfMemory` where the bytes are
+    /// shared.
     #[tactic(auto, using(crate::proofs::Steps::null_terminated_when))]
     final fn read_null_terminated(&mut self) -> Result<Self, Error>
-        ensures gives { ReadsPartUnlessOom shares section self.old self.new result null_terminated_at }
+        ensures gives { ReadsPartUnlessOom shares section self.old self.new result
+            null_terminated_at }
         ensures refused { OnErr result (section self.new ≡ section self.old) }
     {
         let len = match zero_of(self.to_slice()) {
@@ -230,7 +235,8 @@ pub trait Reader: Clone {
     ///
     /// Refused `OutOfMemory` alone, and never where the bytes are UTF-8.
     final fn to_string_lossy(&self, alloc: Global) -> Result<CowStr<'_>, Error>
-        ensures gives { IfOk result (λ text. cow_str_bytes text ≡ lossy_text (section self.now).bytes) }
+        ensures gives { IfOk result (λ text.
+            cow_str_bytes text ≡ lossy_text (section self.now).bytes) }
         ensures borrowed { IsUtf8 (section self.now).bytes → IsOk result }
         ensures refused { IfErr result (λ e. e ≡ OutOfMemory) }
     {
@@ -238,11 +244,11 @@ pub trait Reader: Clone {
     }
 }
 
-/// Reads the length of a unit, in bytes after this field, and its format (DWARF 5, section 7.4). Takes
-/// no memory.
+/// Reads the length of a unit, in bytes after this field, and its format (DWARF 5, section 7.4).
+/// Takes no memory.
 ///
-/// Refused `UnknownReservedLength` for 0xfffffff0 to 0xfffffffe, and `UnexpectedEof` where fewer bytes
-/// are left. After a refusal the reader may stand anywhere.
+/// Refused `UnknownReservedLength` for 0xfffffff0 to 0xfffffffe, and `UnexpectedEof` where fewer
+/// bytes are left. After a refusal the reader may stand anywhere.
 #[tactic(auto, unfolding(crate::specs::Number::initial_length_at, crate::specs::Number::long_length_at))]
 pub fn read_initial_length<R: Reader>(input: &mut R) -> Result<(u64, Format), Error>
     ensures gives { Reads R.section input.old input.new result initial_length_at }

@@ -20,8 +20,8 @@ fn borrowed<R: Reader>(input: &R) -> EndianSlice<'_>
 
 /// Passes over an attribute, which is read and dropped (DWARF 5, section 7.5.5). Takes no memory.
 ///
-/// Refused as `read_attribute` is, but for `OutOfMemory`. After a refusal the reader stands where it
-/// stood.
+/// Refused as `read_attribute` is, but for `OutOfMemory`. After a refusal the reader stands where
+/// it stood.
 #[tactic(auto, using(crate::proofs::SkipLemmas::attribute_skipped))]
 pub fn skip_attribute<R: Reader>(
     input: &mut R,

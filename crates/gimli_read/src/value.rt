@@ -266,7 +266,8 @@ fn read_direct<R: Reader>(
 
 // The form that indirections lead to.
 pub(crate) fn read_form<R: Reader>(input: &mut R) -> Result<DwForm, Error>
-    ensures gives { Exactly (λ f. (f.0, R.section input.new)) result (form_at (R.section input.old)) }
+    ensures gives { Exactly (λ f. (f.0, R.section input.new)) result
+        (form_at (R.section input.old)) }
 {
     let mut form = input.read_uleb128()?;
     while form == DwForm::DW_FORM_indirect.0 {
@@ -278,8 +279,8 @@ pub(crate) fn read_form<R: Reader>(input: &mut R) -> Result<DwForm, Error>
 /// Reads the value of an attribute of any form but implicit_const (DWARF 5, section 7.5.5).
 ///
 /// Refused `UnknownForm` for another form, also after indirections, the refusals of a number of the
-/// form, `UnexpectedEof` where bytes are missing, and `OutOfMemory` for a block, an expression or a string
-/// at a reader that shares its bytes. After a refusal the reader may stand anywhere.
+/// form, `UnexpectedEof` where bytes are missing, and `OutOfMemory` for a block, an expression or a
+/// string at a reader that shares its bytes. After a refusal the reader may stand anywhere.
 #[tactic(auto, unfolding(crate::specs::Form::value_at))]
 pub fn read_value<R: Reader>(
     input: &mut R,
@@ -337,8 +338,8 @@ impl<R: Reader> Attribute<R> {
 /// Reads the value of an attribute by its specification (DWARF 5, section 7.5.5).
 ///
 /// Refused `UnknownForm` for a form that isn't known, the refusals of a number of the form,
-/// `UnexpectedEof` where bytes are missing, and `OutOfMemory` as `read_value` is. After a refusal the reader may stand
-/// anywhere.
+/// `UnexpectedEof` where bytes are missing, and `OutOfMemory` as `read_value` is. After a refusal
+/// the reader may stand anywhere.
 #[tactic(auto, unfolding(crate::specs::Form::attribute_at))]
 pub fn read_attribute<R: Reader>(
     input: &mut R,

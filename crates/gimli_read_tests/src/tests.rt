@@ -11,6 +11,7 @@ use gimli_read::{
     Abbreviations, AttributeSpecification, EndianBytes, EndianSlice, Error, RunTimeEndian,
 };
 use std::alloc::{AllocError, Global};
+use std::test::Fail;
 
 // An answer as a number: a fault stands past all numbers of 128 bits less a few.
 const OOM: u128 = u128::MAX;
@@ -56,6 +57,47 @@ fn spelled(bytes: &[u8]) -> u128 {
 
 fn borrowed(bytes: &[u8], endian: RunTimeEndian) -> EndianSlice<'_> {
     EndianSlice::new(bytes, endian)
+}
+
+fn digit(byte: u8) -> u8 {
+    match byte {
+        b'0'..=b'9' => byte.wrapping_sub(b'0'),
+        _ => byte.wrapping_sub(b'a').wrapping_add(10),
+    }
+}
+
+// The bytes that a word spells in hexadecimal; `-` is none.
+fn bytes(alloc: Global, word: &str) -> Result<Vec<u8>, Fail> {
+    let mut bytes = Vec::new(alloc);
+    let mut high = None;
+    for byte in word.as_bytes() {
+        match high {
+            None => high = Some(digit(*byte).wrapping_mul(16)),
+            Some(high_digit) => {
+                bytes.push(digit(*byte).wrapping_add(high_digit))?;
+                high = None;
+            }
+        }
+    }
+    Ok(bytes)
+}
+
+// The number that a word spells in hexadecimal.
+fn number(word: &str) -> u64 {
+    u64::from_str_radix(word, 16).unwrap_or(u64::MAX)
+}
+
+// What a word says: a fault by its name, or a number in hexadecimal.
+fn answer(word: &str) -> u128 {
+    match word {
+        "eof" => EOF,
+        "leb" => LEB,
+        "length" => LENGTH,
+        "size" => SIZE,
+        "bad" => BAD,
+        "form" => FORM,
+        _ => u128::from(number(word)),
+    }
 }
 
 // A reader that shares a copy of the bytes.

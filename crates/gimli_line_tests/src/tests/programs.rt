@@ -95,30 +95,28 @@ fn refusal(alloc: Global, bytes: &[u8]) -> u64 {
     }
 }
 
-// How many of the first lengths of some bytes are refused `UnexpectedEof`.
-fn cut_refusals(alloc: Global, bytes: &[u8]) -> usize {
-    let mut count = 0;
+// The first length of some bytes that isn't refused `UnexpectedEof`.
+fn least_length(alloc: Global, bytes: &[u8]) -> usize {
     for len in 0..bytes.len() {
-        if refusal(alloc, &bytes[..len]) == 2 {
-            count += 1;
+        if refusal(alloc, &bytes[..len]) != 2 {
+            return len;
         }
     }
-    count
+    bytes.len()
 }
 
-// The same of the lengths below one that a byte says.
-fn short_refusals(alloc: Global, bytes: &[u8; 68], place: usize) -> u64 {
-    let mut count = 0;
-    if place < 68 {
-        for len in 0..bytes[place] {
-            let mut changed = *bytes;
+// The same of the lengths that a byte may say.
+fn least_byte(alloc: Global, bytes: &[u8; 68], place: usize) -> u8 {
+    for len in 0..=255 {
+        let mut changed = *bytes;
+        if place < 68 {
             changed[place] = len;
-            if refusal(alloc, &changed) == 2 {
-                count += 1;
-            }
+        }
+        if refusal(alloc, &changed) != 2 {
+            return len;
         }
     }
-    count
+    0
 }
 
 // `PLAIN`, and bytes after it that belong to no program.
@@ -133,11 +131,11 @@ fn padded() -> [u8; 68] {
 #[test]
 fn a_cut_program_or_header_is_refused(rt: HostRuntime) {
     let alloc = rt.alloc();
-    let cut = [cut_refusals(alloc, &PLAIN), cut_refusals(alloc, &PLAIN5)];
+    let cut = [least_length(alloc, &PLAIN), least_length(alloc, &PLAIN5)];
     assert_eq!(rt; cut, [55, 68]);
     let short = [
-        short_refusals(alloc, &padded(), 6),
-        short_refusals(alloc, &PLAIN5, 8),
+        least_byte(alloc, &padded(), 6),
+        least_byte(alloc, &PLAIN5, 8),
     ];
     assert_eq!(rt; short, [0x1b, 0x24]);
 }

@@ -1,6 +1,6 @@
 //! Values of each form, in both byte orders and both formats.
 
-use super::{EOF, FORM, borrowed, fault, shared, specification, spelled};
+use super::{EOF, answer, borrowed, bytes, fault, number as word, shared, specification, spelled};
 use gimli_read::{
     AttributeSpecification, AttributeValue, DwAt, DwForm, Encoding, Error, Format, Reader,
     RunTimeEndian, read_attribute, read_value,
@@ -193,58 +193,57 @@ fn each_form_of_a_number_is_read(rt: HostRuntime) -> Result<(), Fail> {
     Ok(())
 }
 
-// A form, the bytes, and what is read in 64-bit DWARF, with the lowest byte first.
-type Case<'a> = (u64, &'a [u8], [u128; 3]);
-
-const SPECIAL: [Case<'static>; 28] = [
-    (0x08, &BYTES, [STRING, 16, 1]),
-    (0x0a, &[2, 8, 9, 10], [BLOCK, 0x1_0809, 1]),
-    (0x0a, &[4, 8, 9, 10], [EOF, 0, 0]),
-    (0x03, &[2, 0, 8, 9, 10], [BLOCK, 0x1_0809, 1]),
-    (0x04, &[2, 0, 0, 0, 8, 9, 10], [BLOCK, 0x1_0809, 1]),
-    (0x09, &[0x82, 0, 8, 9, 10], [BLOCK, 0x1_0809, 1]),
-    (0x18, &[2, 8, 9, 10], [EXPRLOC, 0x1_0809, 1]),
-    (0x18, &[2, 1, 2], [EXPRLOC, 0x1_0102, 0]),
-    (0x18, &[0xff], [EOF, 0, 0]),
-    (0x18, &[0x80], [EOF, 0, 0]),
-    (0x0c, &[0], [FLAG, 0, 0]),
-    (0x0c, &[2], [FLAG, 1, 0]),
-    (0x19, &[], [FLAG, 1, 0]),
-    (0x0d, &[0x7f], [SDATA, 0xffff_ffff_ffff_ffff, 0]),
-    (0x08, &[0x61, 0, 1], [STRING, 0x161, 1]),
-    (0x08, &[0x61], [EOF, 0, 0]),
-    (0x16, &[0x0b, 7], [DATA1, 7, 0]),
-    (0x16, &[0x16, 0x16, 0x0b, 7], [DATA1, 7, 0]),
-    (0x16, &[0x16, 0x16], [EOF, 0, 0]),
-    (0x16, &[0x21, 7], [FORM, 0, 0]),
-    (0x16, &[2, 7], [FORM, 0, 0]),
-    (0x21, &[7], [FORM, 0, 0]),
-    (0, &[7], [FORM, 0, 0]),
-    (2, &[7], [FORM, 0, 0]),
-    (0x2d, &[7], [FORM, 0, 0]),
-    (0x01, &[1, 2, 3, 4, 5, 6, 7], [EOF, 0, 0]),
-    (0x2b, &[1, 2, 3], [ADDR_INDEX, 0x3_0201, 0]),
-    (
-        0x10,
-        &[1, 2, 3, 4, 5, 6, 7, 8],
-        [INFO_REF, 0x807_0605_0403_0201, 0],
-    ),
-];
+// A form, the bytes, and what is read in 64-bit DWARF with the lowest byte first: the variant in hexadecimal or a
+// fault, the number or bytes, and how many bytes are left.
+const SPECIAL: &str = "08 0102030405060708090a0b0c0d0e0f100011 18 10 1
+0a 0208090a 2 10809 1
+0a 0408090a eof 0 0
+03 020008090a 2 10809 1
+04 0200000008090a 2 10809 1
+09 820008090a 2 10809 1
+18 0208090a a 10809 1
+18 020102 a 10102 0
+18 ff eof 0 0
+18 80 eof 0 0
+0c 00 b 0 0
+0c 02 b 1 0
+19 - b 1 0
+0d 7f 8 ffffffffffffffff 0
+08 610001 18 161 1
+08 61 eof 0 0
+16 0b07 3 7 0
+16 16160b07 3 7 0
+16 1616 eof 0 0
+16 2107 form 0 0
+16 0207 form 0 0
+21 07 form 0 0
+00 07 form 0 0
+02 07 form 0 0
+2d 07 form 0 0
+01 01020304050607 eof 0 0
+2b 010203 d 30201 0
+10 0102030405060708 f 807060504030201 0";
 
 #[test]
 fn blocks_texts_and_indirections_are_read(rt: HostRuntime) -> Result<(), Fail> {
-    for (form, bytes, want) in SPECIAL {
-        let order = RunTimeEndian::Little;
-        let found = [
-            value(borrowed(bytes, order), encoding(Format::Dwarf64), form),
-            value(
-                shared(rt.alloc(), bytes, order)?,
-                encoding(Format::Dwarf64),
-                form,
-            ),
-        ];
-        assert_eq!(rt; found, [want, want], "form {form}");
+    let mut cases = 0u64;
+    for line in SPECIAL.split('\n') {
+        let words: Vec<&str> = line.split_whitespace().collect(rt.alloc())?;
+        if let [form, text, variant, what, left] = words.as_slice() {
+            let bytes = bytes(rt.alloc(), text)?;
+            let form = word(form);
+            let want = [answer(variant), answer(what), answer(left)];
+            let order = RunTimeEndian::Little;
+            let long = encoding(Format::Dwarf64);
+            let found = [
+                value(borrowed(&bytes, order), long, form),
+                value(shared(rt.alloc(), &bytes, order)?, long, form),
+            ];
+            assert_eq!(rt; found, [want, want], "form {form}");
+            cases = cases.wrapping_add(1);
+        }
     }
+    assert_eq!(rt; cases, 28);
     Ok(())
 }
 

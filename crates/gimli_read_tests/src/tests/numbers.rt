@@ -1,6 +1,6 @@
 //! The calls of both readers.
 
-use super::{EOF, LEB, LENGTH, SIZE, borrowed, fault, shared, spelled};
+use super::{EOF, SIZE, answer, borrowed, bytes, fault, shared, spelled};
 use gimli_read::{Error, Format, Reader, RunTimeEndian, read_initial_length};
 use std::test::Fail;
 
@@ -25,11 +25,11 @@ fn order(endian: RunTimeEndian) -> u64 {
     }
 }
 
-// The length of a unit, and 2^64 more where it is of 64-bit DWARF.
+// The length of a unit, and 2^63 more where it is of 64-bit DWARF.
 fn unit_length<R: Reader>(input: &mut R) -> u128 {
     match read_initial_length(input) {
         Ok((length, Format::Dwarf32)) => u128::from(length),
-        Ok((length, Format::Dwarf64)) => u128::from(length).wrapping_add(1 << 64),
+        Ok((length, Format::Dwarf64)) => u128::from(length).wrapping_add(1 << 63),
         Err(error) => fault(error),
     }
 }
@@ -59,10 +59,10 @@ fn fixed<R: Reader>(input: &mut R, call: &str) -> Result<u64, Error> {
         "skip2" => skipped(input, 2),
         "skip8" => skipped(input, 8),
         "skip all" => skipped(input, u64::MAX),
-        "is empty" => Ok(u64::from(input.is_empty())),
+        "is_empty" => Ok(u64::from(input.is_empty())),
         "order" => Ok(order(input.endian())),
-        "order of a part" => Ok(order(input.split(2)?.endian())),
-        "order of a second" => Ok(order(input.duplicate()?.endian())),
+        "order_of_a_part" => Ok(order(input.split(2)?.endian())),
+        "order_of_a_second" => Ok(order(input.duplicate()?.endian())),
         _ => Ok(u64::MAX),
     }
 }
@@ -87,269 +87,122 @@ fn called<R: Reader>(input: R, call: &str) -> [u128; 2] {
 }
 
 // A call, the bytes, the answer with the lowest byte first and with the highest first, and how many bytes are left.
-type Case<'a> = (&'a str, &'a [u8], u128, u128, u128);
-
-const NINE: [u8; 9] = [0x81, 0x82, 0x83, 0x84, 0x85, 0x86, 0x87, 0x88, 0x09];
-
-const TEXTS: [u8; 9] = [0x61, 0x62, 0, 0, 0x63, 0xff, 0x64, 0, 0x65];
-
-const CALLS: [Case<'static>; 52] = [
-    ("u8", &[0x81, 0xff], 0x81, 0x81, 1),
-    ("u8", &[], EOF, EOF, 0),
-    ("u8", &NINE, 0x81, 0x81, 8),
-    (
-        "i8",
-        &[0x81, 0xff],
-        0xffff_ffff_ffff_ff81,
-        0xffff_ffff_ffff_ff81,
-        1,
-    ),
-    ("i8", &[0], 0, 0, 0),
-    ("i8", &[0x7f], 127, 127, 0),
-    (
-        "i8",
-        &[0x80],
-        0xffff_ffff_ffff_ff80,
-        0xffff_ffff_ffff_ff80,
-        0,
-    ),
-    (
-        "i8",
-        &[0xff],
-        0xffff_ffff_ffff_ffff,
-        0xffff_ffff_ffff_ffff,
-        0,
-    ),
-    ("i8", &[], EOF, EOF, 0),
-    ("u16", &[1, 2, 0xff], 0x201, 0x102, 1),
-    ("u16", &[1], EOF, EOF, 1),
-    ("u16", &NINE, 0x8281, 0x8182, 7),
-    ("u32", &[1, 2, 3, 4], 0x403_0201, 0x102_0304, 0),
-    ("u32", &[1, 2, 3], EOF, EOF, 3),
-    ("u32", &NINE, 0x8483_8281, 0x8182_8384, 5),
-    (
-        "u64",
-        &[1, 2, 3, 4, 5, 6, 7, 8],
-        0x807_0605_0403_0201,
-        0x102_0304_0506_0708,
-        0,
-    ),
-    ("u64", &[1, 2, 3, 4, 5, 6, 7], EOF, EOF, 7),
-    (
-        "u64",
-        &NINE,
-        0x8887_8685_8483_8281,
-        0x8182_8384_8586_8788,
-        1,
-    ),
-    ("address0", &NINE, SIZE, SIZE, 9),
-    ("address1", &NINE, 0x81, 0x81, 8),
-    ("address2", &[1, 2, 3], 0x201, 0x102, 1),
-    ("address2", &NINE, 0x8281, 0x8182, 7),
-    ("address3", &[1, 2, 3], SIZE, SIZE, 3),
-    ("address4", &[1, 2, 3, 4], 0x403_0201, 0x102_0304, 0),
-    ("address4", &NINE, 0x8483_8281, 0x8182_8384, 5),
-    (
-        "address8",
-        &NINE,
-        0x8887_8685_8483_8281,
-        0x8182_8384_8586_8788,
-        1,
-    ),
-    ("offset32", &[1, 2, 3, 4, 5], 0x403_0201, 0x102_0304, 1),
-    ("offset32", &NINE, 0x8483_8281, 0x8182_8384, 5),
-    (
-        "offset64",
-        &[1, 2, 3, 4, 5, 6, 7, 8],
-        0x807_0605_0403_0201,
-        0x102_0304_0506_0708,
-        0,
-    ),
-    ("offset64", &[1, 2, 3, 4], EOF, EOF, 4),
-    (
-        "offset64",
-        &NINE,
-        0x8887_8685_8483_8281,
-        0x8182_8384_8586_8788,
-        1,
-    ),
-    ("text", &[0x61, 0x62, 0, 0x63, 0], 0x1_6162, 0x1_6162, 2),
-    ("text", &[0, 0x63, 0], 1, 1, 2),
-    ("text", &[0x61, 0x62], EOF, EOF, 2),
-    ("text", &TEXTS, 0x1_6162, 0x1_6162, 6),
-    ("split2", &[1, 2, 3], 0x1_0102, 0x1_0102, 1),
-    ("split2", &[1], EOF, EOF, 1),
-    ("split2", &[1, 2, 3, 4, 5], 0x1_0102, 0x1_0102, 3),
-    ("rest", &[1, 2, 3, 4, 5], 0x103_0405, 0x103_0405, 3),
-    (
-        "second",
-        &[1, 2, 3, 4, 5],
-        0x101_0203_0405,
-        0x101_0203_0405,
-        5,
-    ),
-    ("order", &[1, 2, 3], 0, 1, 3),
-    ("order of a part", &[1, 2, 3], 0, 1, 1),
-    ("order of a second", &[1, 2, 3], 0, 1, 3),
-    ("skip2", &[1, 2, 3], 1, 1, 1),
-    ("skip2", &[1], EOF, EOF, 1),
-    ("is empty", &[], 1, 1, 0),
-    ("length", &[0x1b, 0, 0, 0], 0x1b, 0x1b00_0000, 0),
-    (
-        "length",
-        &[0xef, 0xff, 0xff, 0xff],
-        0xffff_ffef,
-        0xefff_ffff,
-        0,
-    ),
-    ("length", &[0xf0, 0xff, 0xff, 0xff], LENGTH, 0xf0ff_ffff, 0),
-    ("length", &[0xfe, 0xff, 0xff, 0xff], LENGTH, 0xfeff_ffff, 0),
-    (
-        "length",
-        &[0xff, 0xff, 0xff, 0xff, 0x23, 0, 0, 0, 0, 0, 0, 0],
-        (1 << 64) + 0x23,
-        (1 << 64) + 0x2300_0000_0000_0000,
-        0,
-    ),
-    (
-        "length",
-        &[0xff, 0xff, 0xff, 0xff, 0x23, 0, 0, 0, 0, 0, 0],
-        EOF,
-        EOF,
-        7,
-    ),
-];
-
-// The same in either order. The first seven of uleb and the first ten of sleb are the standard's own examples (DWARF 5,
-// section 7.6, figures 22 and 23).
-const LEB128: [(&str, &[u8], u128, u128); 41] = [
-    ("uleb", &[0x02], 2, 0),
-    ("uleb", &[0x7f], 127, 0),
-    ("uleb", &[0x80, 0x01], 128, 0),
-    ("uleb", &[0x81, 0x01], 129, 0),
-    ("uleb", &[0x82, 0x01], 130, 0),
-    ("uleb", &[0xb9, 0x64], 12857, 0),
-    ("uleb", &[0xe5, 0x8e, 0x26], 624485, 0),
-    ("uleb", &[0x7f, 0x00], 127, 1),
-    ("uleb", &[0xe5, 0x8e, 0x26, 0x80, 0x7f], 624485, 2),
-    ("uleb", &[0x80, 0x80, 0x00], 0, 0),
-    (
-        "uleb",
-        &[0xff, 0xff, 0xff, 0xff, 0xff, 0xff, 0xff, 0xff, 0x7f],
-        0x7fff_ffff_ffff_ffff,
-        0,
-    ),
-    (
-        "uleb",
-        &[0xff, 0xff, 0xff, 0xff, 0xff, 0xff, 0xff, 0xff, 0xff, 0x01],
-        0xffff_ffff_ffff_ffff,
-        0,
-    ),
-    (
-        "uleb",
-        &[0x80, 0x80, 0x80, 0x80, 0x80, 0x80, 0x80, 0x80, 0x80, 0x02],
-        LEB,
-        10,
-    ),
-    (
-        "uleb",
-        &[
-            0x80, 0x80, 0x80, 0x80, 0x80, 0x80, 0x80, 0x80, 0x80, 0x80, 0,
-        ],
-        LEB,
-        11,
-    ),
-    (
-        "uleb",
-        &[0x80, 0x80, 0x80, 0x80, 0x80, 0x80, 0x80, 0x80, 0x80],
-        EOF,
-        9,
-    ),
-    ("uleb", &[0xe5, 0x8e], EOF, 2),
-    ("uleb", &[0x80], EOF, 1),
-    ("uleb", &[], EOF, 0),
-    ("sleb", &[0x02], 2, 0),
-    ("sleb", &[0x7e], 0xffff_ffff_ffff_fffe, 0),
-    ("sleb", &[0xff, 0x00], 127, 0),
-    ("sleb", &[0x81, 0x7f], 0xffff_ffff_ffff_ff81, 0),
-    ("sleb", &[0x80, 0x01], 128, 0),
-    ("sleb", &[0x80, 0x7f], 0xffff_ffff_ffff_ff80, 0),
-    ("sleb", &[0x81, 0x01], 129, 0),
-    ("sleb", &[0xff, 0x7e], 0xffff_ffff_ffff_ff7f, 0),
-    ("sleb", &[0x7f, 0x00], 0xffff_ffff_ffff_ffff, 1),
-    ("sleb", &[0x3f, 0x80], 63, 1),
-    ("sleb", &[0x40, 0x80], 0xffff_ffff_ffff_ffc0, 1),
-    (
-        "sleb",
-        &[0xff, 0xff, 0xff, 0xff, 0xff, 0xff, 0xff, 0xff, 0xff, 0x00],
-        0x7fff_ffff_ffff_ffff,
-        0,
-    ),
-    (
-        "sleb",
-        &[0x80, 0x80, 0x80, 0x80, 0x80, 0x80, 0x80, 0x80, 0x80, 0x7f],
-        0x8000_0000_0000_0000,
-        0,
-    ),
-    (
-        "sleb",
-        &[0x80, 0x80, 0x80, 0x80, 0x80, 0x80, 0x80, 0x80, 0x80, 0x01],
-        LEB,
-        10,
-    ),
-    (
-        "sleb",
-        &[0xff, 0xff, 0xff, 0xff, 0xff, 0xff, 0xff, 0xff, 0xff, 0x01],
-        LEB,
-        10,
-    ),
-    (
-        "sleb",
-        &[0xff, 0xff, 0xff, 0xff, 0xff, 0xff, 0xff, 0xff, 0xff, 0x7e],
-        LEB,
-        10,
-    ),
-    (
-        "sleb",
-        &[
-            0x80, 0x80, 0x80, 0x80, 0x80, 0x80, 0x80, 0x80, 0x80, 0x80, 0,
-        ],
-        LEB,
-        11,
-    ),
-    ("sleb", &[0xff, 0xff], EOF, 2),
-    ("sleb", &[], EOF, 0),
-    ("text", &[0], 1, 0),
-    ("text", &[0x63, 0xff, 0x64, 0, 0x65], 0x163_ff64, 1),
-    ("text", &[0x65], EOF, 1),
-    ("rest", &[1], EOF, 1),
-];
+// The first seven of uleb and the first ten of sleb are the standard's own examples (DWARF 5, section 7.6, figures 22
+// and 23).
+const CALLS: &str = "uleb 02 2 2 0
+uleb 7f 7f 7f 0
+uleb 8001 80 80 0
+uleb 8101 81 81 0
+uleb 8201 82 82 0
+uleb b964 3239 3239 0
+uleb e58e26 98765 98765 0
+uleb 7f00 7f 7f 1
+uleb e58e26807f 98765 98765 2
+uleb 808000 0 0 0
+uleb ffffffffffffffff7f 7fffffffffffffff 7fffffffffffffff 0
+uleb ffffffffffffffffff01 ffffffffffffffff ffffffffffffffff 0
+uleb 80808080808080808002 leb leb a
+uleb 8080808080808080808000 leb leb b
+uleb 808080808080808080 eof eof 9
+uleb e58e eof eof 2
+uleb 80 eof eof 1
+uleb - eof eof 0
+sleb 02 2 2 0
+sleb 7e fffffffffffffffe fffffffffffffffe 0
+sleb ff00 7f 7f 0
+sleb 817f ffffffffffffff81 ffffffffffffff81 0
+sleb 8001 80 80 0
+sleb 807f ffffffffffffff80 ffffffffffffff80 0
+sleb 8101 81 81 0
+sleb ff7e ffffffffffffff7f ffffffffffffff7f 0
+sleb 7f00 ffffffffffffffff ffffffffffffffff 1
+sleb 3f80 3f 3f 1
+sleb 4080 ffffffffffffffc0 ffffffffffffffc0 1
+sleb ffffffffffffffffff00 7fffffffffffffff 7fffffffffffffff 0
+sleb 8080808080808080807f 8000000000000000 8000000000000000 0
+sleb 80808080808080808001 leb leb a
+sleb ffffffffffffffffff01 leb leb a
+sleb ffffffffffffffffff7e leb leb a
+sleb 8080808080808080808000 leb leb b
+sleb ffff eof eof 2
+sleb - eof eof 0
+text 00 1 1 0
+text 63ff640065 163ff64 163ff64 1
+text 65 eof eof 1
+rest 01 eof eof 1
+u8 81ff 81 81 1
+u8 - eof eof 0
+u8 818283848586878809 81 81 8
+i8 81ff ffffffffffffff81 ffffffffffffff81 1
+i8 00 0 0 0
+i8 7f 7f 7f 0
+i8 80 ffffffffffffff80 ffffffffffffff80 0
+i8 ff ffffffffffffffff ffffffffffffffff 0
+i8 - eof eof 0
+u16 0102ff 201 102 1
+u16 01 eof eof 1
+u16 818283848586878809 8281 8182 7
+u32 01020304 4030201 1020304 0
+u32 010203 eof eof 3
+u32 818283848586878809 84838281 81828384 5
+u64 0102030405060708 807060504030201 102030405060708 0
+u64 01020304050607 eof eof 7
+u64 818283848586878809 8887868584838281 8182838485868788 1
+address0 818283848586878809 size size 9
+address1 818283848586878809 81 81 8
+address2 010203 201 102 1
+address2 818283848586878809 8281 8182 7
+address3 010203 size size 3
+address4 01020304 4030201 1020304 0
+address4 818283848586878809 84838281 81828384 5
+address8 818283848586878809 8887868584838281 8182838485868788 1
+offset32 0102030405 4030201 1020304 1
+offset32 818283848586878809 84838281 81828384 5
+offset64 0102030405060708 807060504030201 102030405060708 0
+offset64 01020304 eof eof 4
+offset64 818283848586878809 8887868584838281 8182838485868788 1
+text 6162006300 16162 16162 2
+text 006300 1 1 2
+text 6162 eof eof 2
+text 6162000063ff640065 16162 16162 6
+split2 010203 10102 10102 1
+split2 01 eof eof 1
+split2 0102030405 10102 10102 3
+rest 0102030405 1030405 1030405 3
+second 0102030405 10102030405 10102030405 5
+order 010203 0 1 3
+order_of_a_part 010203 0 1 1
+order_of_a_second 010203 0 1 3
+skip2 010203 1 1 1
+skip2 01 eof eof 1
+is_empty - 1 1 0
+length 1b000000 1b 1b000000 0
+length efffffff ffffffef efffffff 0
+length f0ffffff length f0ffffff 0
+length feffffff length feffffff 0
+length ffffffff2300000000000000 8000000000000023 a300000000000000 0
+length ffffffff23000000000000 eof eof 7";
 
 #[test]
 fn both_readers_answer_alike_in_both_orders(rt: HostRuntime) -> Result<(), Fail> {
-    for (call, bytes, little, big, left) in CALLS {
-        for (endian, want) in [(RunTimeEndian::Little, little), (RunTimeEndian::Big, big)] {
-            let found = [
-                called(borrowed(bytes, endian), call),
-                called(shared(rt.alloc(), bytes, endian)?, call),
-            ];
-            assert_eq!(rt; found, [[want, left], [want, left]], "{call}");
+    let mut cases = 0u64;
+    for line in CALLS.split('\n') {
+        let words: Vec<&str> = line.split_whitespace().collect(rt.alloc())?;
+        if let [call, text, little, big, left] = words.as_slice() {
+            let bytes = bytes(rt.alloc(), text)?;
+            let left = answer(left);
+            for (endian, want) in [(RunTimeEndian::Little, little), (RunTimeEndian::Big, big)] {
+                let want = [answer(want), left];
+                let found = [
+                    called(borrowed(&bytes, endian), call),
+                    called(shared(rt.alloc(), &bytes, endian)?, call),
+                ];
+                assert_eq!(rt; found, [want, want], "{call}");
+            }
+            cases = cases.wrapping_add(1);
         }
     }
-    Ok(())
-}
-
-#[test]
-fn numbers_and_texts_of_any_length_are_read_in_both_orders(rt: HostRuntime) -> Result<(), Fail> {
-    for (call, bytes, want, left) in LEB128 {
-        for endian in [RunTimeEndian::Little, RunTimeEndian::Big] {
-            let found = [
-                called(borrowed(bytes, endian), call),
-                called(shared(rt.alloc(), bytes, endian)?, call),
-            ];
-            assert_eq!(rt; found, [[want, left], [want, left]], "{call}");
-        }
-    }
+    assert_eq!(rt; cases, 93);
     Ok(())
 }
 
@@ -410,36 +263,57 @@ fn texts_are_shown(rt: HostRuntime) -> Result<(), Fail> {
     Ok(())
 }
 
+const TEXTS: &str = "out of memory
+unexpected end of data
+bad LEB128 number
+unknown reserved length
+unknown DWARF version
+unknown unit type
+unsupported address size
+unsupported segment size
+bad abbreviation
+unknown abbreviation code
+unknown attribute form
+missing unit entry
+offset out of bounds
+expected a string
+no supplementary file
+no entry at the given offset
+unknown range list entry
+bad line program header
+address overflow
+unknown unit token";
+
 #[test]
 fn refusals_print_their_text(rt: HostRuntime) -> Result<(), Fail> {
-    let cases = [
-        (Error::OutOfMemory, "out of memory"),
-        (Error::UnexpectedEof, "unexpected end of data"),
-        (Error::BadLeb128, "bad LEB128 number"),
-        (Error::UnknownReservedLength, "unknown reserved length"),
-        (Error::UnknownVersion, "unknown DWARF version"),
-        (Error::UnknownUnitType, "unknown unit type"),
-        (Error::UnsupportedAddressSize, "unsupported address size"),
-        (Error::UnsupportedSegmentSize, "unsupported segment size"),
-        (Error::BadAbbreviation, "bad abbreviation"),
-        (Error::UnknownAbbreviation, "unknown abbreviation code"),
-        (Error::UnknownForm, "unknown attribute form"),
-        (Error::MissingUnitDie, "missing unit entry"),
-        (Error::OffsetOutOfBounds, "offset out of bounds"),
-        (Error::ExpectedString, "expected a string"),
-        (Error::NoSupplementary, "no supplementary file"),
-        (
-            Error::NoEntryAtGivenOffset(7),
-            "no entry at the given offset",
-        ),
-        (Error::UnknownRangeListEntry, "unknown range list entry"),
-        (Error::BadLineHeader, "bad line program header"),
-        (Error::AddressOverflow, "address overflow"),
-        (Error::UnknownToken, "unknown unit token"),
+    let errors = [
+        Error::OutOfMemory,
+        Error::UnexpectedEof,
+        Error::BadLeb128,
+        Error::UnknownReservedLength,
+        Error::UnknownVersion,
+        Error::UnknownUnitType,
+        Error::UnsupportedAddressSize,
+        Error::UnsupportedSegmentSize,
+        Error::BadAbbreviation,
+        Error::UnknownAbbreviation,
+        Error::UnknownForm,
+        Error::MissingUnitDie,
+        Error::OffsetOutOfBounds,
+        Error::ExpectedString,
+        Error::NoSupplementary,
+        Error::NoEntryAtGivenOffset(7),
+        Error::UnknownRangeListEntry,
+        Error::BadLineHeader,
+        Error::AddressOverflow,
+        Error::UnknownToken,
     ];
-    for (error, want) in cases {
+    let mut cases = 0u64;
+    for (error, want) in errors.into_iter().zip(TEXTS.split('\n')) {
         let text = format!(in rt.alloc(); "{}", error)?;
         assert_eq!(rt; text.as_str(), want);
+        cases = cases.wrapping_add(1);
     }
+    assert_eq!(rt; cases, 20);
     Ok(())
 }

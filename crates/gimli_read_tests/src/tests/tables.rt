@@ -1,6 +1,6 @@
 //! Abbreviation tables, whole and damaged.
 
-use super::{BAD, EOF, LEB, borrowed, fault, shared};
+use super::{BAD, EOF, LEB, answer, borrowed, fault, number, shared};
 use gimli_read::{Abbreviations, DwAt, DwForm, Reader, RunTimeEndian};
 use std::alloc::Global;
 use std::test::Fail;
@@ -163,91 +163,96 @@ fn a_cut_table_is_refused(rt: HostRuntime) -> Result<(), Fail> {
 const TABLE: [u8; 11] = [1, 0x11, 1, 3, 8, 0x3b, 0x21, 0x7e, 0, 0, 0];
 
 // The place of a byte, what stands there instead, a code, and what the table says of it then.
-const DAMAGE: [(usize, u8, u64, u128); 43] = [
-    (0, 0x00, 0x1, 0x0),
-    (0, 0x02, 0x2, 0x1112),
-    (0, 0x02, 0x1, 0x0),
-    (0, 0x80, 0x880, BAD),
-    (0, 0xff, 0x8ff, BAD),
-    (1, 0x00, 0x1, BAD),
-    (1, 0x2e, 0x1, 0x2e12),
-    (1, 0x80, 0x1, BAD),
-    (1, 0xff, 0x1, BAD),
-    (2, 0x00, 0x1, 0x1102),
-    (2, 0x02, 0x1, BAD),
-    (2, 0x80, 0x1, BAD),
-    (2, 0xff, 0x1, BAD),
-    (3, 0x00, 0x1, BAD),
-    (3, 0x7f, 0x1, 0x1112),
-    (3, 0x80, 0x1, 0x1112),
-    (3, 0xff, 0x1, 0x1112),
-    (4, 0x00, 0x1, BAD),
-    (4, 0x21, 0x1, 0x1112),
-    (4, 0x80, 0x1, 0x1112),
-    (4, 0xff, 0x1, 0x1112),
-    (5, 0x00, 0x1, BAD),
-    (5, 0x7f, 0x1, 0x1112),
-    (5, 0x80, 0x1, 0x1112),
-    (5, 0xff, 0x1, 0x1112),
-    (6, 0x00, 0x1, BAD),
-    (6, 0x0b, 0x1, BAD),
-    (6, 0x80, 0x1, 0x1112),
-    (6, 0xff, 0x1, 0x1112),
-    (7, 0x00, 0x1, 0x1112),
-    (7, 0x7f, 0x1, 0x1112),
-    (7, 0x80, 0x1, 0x1112),
-    (7, 0xff, 0x1, 0x1112),
-    (8, 0x01, 0x1, BAD),
-    (8, 0x80, 0x1, 0x1112),
-    (8, 0xff, 0x1, BAD),
-    (9, 0x01, 0x1, BAD),
-    (9, 0x80, 0x1, 0x1112),
-    (9, 0xff, 0x1, BAD),
-    (10, 0x01, 0x1, BAD),
-    (10, 0x02, 0x1, EOF),
-    (10, 0x80, 0x1, EOF),
-    (10, 0xff, 0x1, EOF),
-];
+const DAMAGE: &str = "0 00 1 0
+0 02 2 1112
+0 02 1 0
+0 80 880 bad
+0 ff 8ff bad
+1 00 1 bad
+1 2e 1 2e12
+1 80 1 bad
+1 ff 1 bad
+2 00 1 1102
+2 02 1 bad
+2 80 1 bad
+2 ff 1 bad
+3 00 1 bad
+3 7f 1 1112
+3 80 1 1112
+3 ff 1 1112
+4 00 1 bad
+4 21 1 1112
+4 80 1 1112
+4 ff 1 1112
+5 00 1 bad
+5 7f 1 1112
+5 80 1 1112
+5 ff 1 1112
+6 00 1 bad
+6 0b 1 bad
+6 80 1 1112
+6 ff 1 1112
+7 00 1 1112
+7 7f 1 1112
+7 80 1 1112
+7 ff 1 1112
+8 01 1 bad
+8 80 1 1112
+8 ff 1 bad
+9 01 1 bad
+9 80 1 1112
+9 ff 1 bad
+a 01 1 bad
+a 02 1 eof
+a 80 1 eof
+a ff 1 eof";
 
 // How many of its bytes are left of the table, a code, and what the table says of it then.
-const CUTS: [(usize, u64, u128); 12] = [
-    (0, 0x1, 0x0),
-    (1, 0x1, EOF),
-    (2, 0x1, EOF),
-    (3, 0x1, EOF),
-    (4, 0x1, EOF),
-    (5, 0x1, EOF),
-    (6, 0x1, EOF),
-    (7, 0x1, EOF),
-    (8, 0x1, EOF),
-    (9, 0x1, EOF),
-    (10, 0x1, 0x1112),
-    (11, 0x1, 0x1112),
-];
+const CUTS: &str = "0 1 0
+1 1 eof
+2 1 eof
+3 1 eof
+4 1 eof
+5 1 eof
+6 1 eof
+7 1 eof
+8 1 eof
+9 1 eof
+a 1 1112
+b 1 1112";
 
 #[test]
 fn a_table_is_damaged_at_each_byte(rt: HostRuntime) -> Result<(), Fail> {
-    for (place, value, code, want) in DAMAGE {
-        let mut damaged = TABLE;
-        if let Some(byte) = damaged.get_mut(place) {
-            *byte = value;
+    let mut cases = 0u64;
+    for line in DAMAGE.split('\n') {
+        let words: Vec<&str> = line.split_whitespace().collect(rt.alloc())?;
+        if let [place, value, code, want] = words.as_slice() {
+            let mut damaged = TABLE;
+            if let Some(byte) = damaged.get_mut(number(place) as usize) {
+                *byte = number(value).to_le_bytes()[0];
+            }
+            let found = both_say(rt.alloc(), &damaged, number(code))?;
+            assert_eq!(rt; found, [answer(want); 2], "byte {place}");
+            cases = cases.wrapping_add(1);
         }
-        let found = both_say(rt.alloc(), &damaged, code)?;
-        assert_eq!(rt; found, [want, want], "byte {place}");
     }
+    assert_eq!(rt; cases, 43);
     Ok(())
 }
 
 #[test]
 fn a_table_is_cut_at_each_byte(rt: HostRuntime) -> Result<(), Fail> {
-    for (len, code, want) in CUTS {
-        if let Some(bytes) = TABLE.get(..len) {
-            assert_eq!(rt;
-                both_say(rt.alloc(), bytes, code)?,
-                [want, want],
-                "at {len}"
-            );
+    let mut cases = 0u64;
+    for line in CUTS.split('\n') {
+        let words: Vec<&str> = line.split_whitespace().collect(rt.alloc())?;
+        if let [len, code, want] = words.as_slice() {
+            if let Some(bytes) = TABLE.get(..number(len) as usize) {
+                let found = both_say(rt.alloc(), bytes, number(code))?;
+                assert_eq!(rt; found, [answer(want); 2], "at {len}");
+                cases = cases.wrapping_add(1);
+            }
         }
     }
+    assert_eq!(rt; cases, 12);
     Ok(())
 }

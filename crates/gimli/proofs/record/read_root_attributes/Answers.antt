@@ -8,15 +8,15 @@ returns-in_err-attribute g c =
     let p = err_from_is_err_and c.from_residual.result c.from_residual.ensures.1 in
     let i = c.loop-specification.invariant in
     let fault = rw (i.same, c.specification-item.is) at c.in_err-attribute.ensures.gives in
-    record { gives = rw (p.1, p.2) (λ ne. sym i.gives ∙ root_values-fault _ _ _ _ _ _ _ c.loop-specification-test.true (fault ne)) }
+    record { gives = rw (p.1, p.2) (λ ne. sym i.gives ∙ root_values-fault _ _ _ _ _ _ _ c.loop-specification-test.true (fault (λ _ _. ne))) }
 
 pub loop-specification-preserved : goal.loop-specification-preserved
 loop-specification-preserved g c =
     let i = c.loop-specification.invariant in
     let given = rw (i.same, c.specification-item.is) at c.in_ok-attribute.ensures.gives in
-    let same : c.read_attribute.new.self.encoding ≡ c.args.entries.now.encoding = ap (λ u. u.encoding) c.in_ok-attribute.ensures.kept ∙ i.same in
+    let same : c.read_attribute.new.self.unit.encoding ≡ c.args.encoding = ap (λ u. u.encoding) c.in_ok-attribute.ensures.unit ∙ i.same in
     record {
-      gives = rw (c.take.ensures.gives, same) (sym (root_values-more _ _ _ _ _ _ _ _ c.loop-specification-test.true given) ∙ i.gives);
+      gives = rw (c.take.ensures.gives) (sym (root_values-more _ _ _ _ _ _ _ _ c.loop-specification-test.true given) ∙ i.gives);
       same = same;
     }
 

@@ -5,9 +5,8 @@ use Rattle.gimli.proofs.record.read_root_attributes.Given as goal
 
 abbrev pub invariant-loop-specification : goal.invariant-loop-specification
 invariant-loop-specification g l =
-    let see = g.R.Reader.section in
-    let encoding = l.fn.entries.encoding in
+    let encoding = l.fn.encoding in
     record {
-      gives : root_values_after encoding l.root (attributes_at encoding (drop l.specification-index l.specifications) (see l.entries.input)) ≡ root_values_after encoding no_root_values (attributes_at encoding l.specifications (see l.fn.entries.input));
-      same : l.entries.encoding ≡ encoding;
+      gives : root_values_after encoding l.root (attributes_at encoding (drop l.specification-index l.specifications) (l.entries.cursor.left)) ≡ root_values_after encoding no_root_values (attributes_at encoding l.specifications (l.fn.entries.cursor.left));
+      same : l.entries.unit.encoding ≡ encoding;
     }

@@ -1,0 +1,61 @@
+-- Each level of depth took a byte of the unit (on specs/Entry.antt).
+use Rattle.std.proofs.Common.{◌≡◌, ℕ, zero, suc, ◌+◌, ◌^◌, ◌<◌, ◌≤◌, ◌++◌, Bool, true, false, length, Ok, ap, arith, ℤ, pos, negsuc, ◌+ℤ◌, FitsSigned, w64, length-append}
+use Rattle.std.specs.Prelude.{unsigned_abs}
+use Rattle.std.proofs.lemmas.Grind.{common_steps}
+use Rattle.std.proofs.lemmas.Int.{fits_signed_from_abs}
+use Rattle.gimli_read.specs.declared.endian.Encoding.{Encoding}
+use Rattle.gimli_read.specs.Abbreviations.{Specification}
+use Rattle.gimli_read.specs.Section.{Section}
+use Rattle.gimli_read.specs.Leb128.{uleb128_at}
+use Rattle.gimli_read.specs.Form.{NamedValue, attribute_at}
+use Rattle.gimli_read.proofs.Shorter.{shorter_at, uleb128-shorter}
+use Rattle.gimli_read.proofs.AttributeTexts.{attribute_alone}
+use Rattle.gimli.specs.Entry.{IsInUnit, depth_after_entry, depth_after_closing}
+
+-- a code takes a byte at least
+pub code_takes : (s t : Section) (n : ℕ) → uleb128_at s ≡ Ok (n, t) → length t.bytes < length s.bytes
+code_takes s t n h = shorter_at (uleb128-shorter s) n t h
+
+-- an attribute leaves no more bytes than there were
+pub attribute_leaves : (e : Encoding) (x : Specification) (s t : Section) (a : NamedValue) → attribute_at e x s ≡ Ok (a, t) → length t.bytes ≤ length s.bytes
+attribute_leaves e x s t a h =
+    let p = attribute_alone e x s t a h in
+    let same : length s.bytes ≡ length (p.0 ++ t.bytes) = ap (λ (u : Section). length u.bytes) p.2 in
+    omega (arith, same, length-append p.0 t.bytes)
+
+up_is : (n : ℕ) → negsuc (suc n) +ℤ pos 1 ≡ negsuc n
+up_is n = grind (arith, common_steps)
+
+down_is : (n : ℕ) → pos (suc n) +ℤ negsuc 0 ≡ pos n
+down_is n = grind (arith, common_steps)
+
+deeper_by_1 : (z : ℤ) → unsigned_abs (z +ℤ pos 1) ≤ unsigned_abs z + 1
+deeper_by_1 (pos n) = omega arith
+deeper_by_1 (negsuc zero) = omega arith
+deeper_by_1 (negsuc (suc n)) = let h : suc n ≤ suc (suc n) + 1 = omega arith in rw (up_is n) h
+
+shallower_by_1 : (z : ℤ) → unsigned_abs (z +ℤ negsuc 0) ≤ unsigned_abs z + 1
+shallower_by_1 (pos zero) = omega arith
+shallower_by_1 (pos (suc n)) = let h : n ≤ suc n + 1 = omega arith in rw (down_is n) h
+shallower_by_1 (negsuc n) = omega arith
+
+pub deeper_fits : (z : ℤ) → unsigned_abs z + 1 < 2 ^ 63 → FitsSigned w64 (z +ℤ pos 1)
+deeper_fits z h = fits_signed_from_abs w64 (z +ℤ pos 1) (omega (arith, deeper_by_1 z, h))
+
+pub shallower_fits : (z : ℤ) → unsigned_abs z + 1 < 2 ^ 63 → FitsSigned w64 (z +ℤ negsuc 0)
+shallower_fits z h = fits_signed_from_abs w64 (z +ℤ negsuc 0) (omega (arith, shallower_by_1 z, h))
+
+-- the depth after an entry, after a closing entry, and after any other reading
+pub entry_in_unit : (n : ℕ) (s t : Section) (z : ℤ) (b : Bool) → IsInUnit n s z → length t.bytes < length s.bytes → IsInUnit n t (depth_after_entry b z)
+entry_in_unit n s t z true h k = (omega (arith, deeper_by_1 z, h.0), h.1)
+entry_in_unit n s t z false h k = (omega (arith, h.0), h.1)
+
+pub closing_in_unit : (n : ℕ) (s t : Section) (z : ℤ) → IsInUnit n s z → length t.bytes < length s.bytes → IsInUnit n t (depth_after_closing z)
+closing_in_unit n s t z h k = (omega (arith, shallower_by_1 z, h.0), h.1)
+
+pub still_in_unit : (n : ℕ) (s t : Section) (z : ℤ) → IsInUnit n s z → length t.bytes ≤ length s.bytes → IsInUnit n t z
+still_in_unit n s t z h k = (omega (arith, h.0), h.1)
+
+-- the next depth fits, since a byte is left for it
+pub next_fits : (n : ℕ) (s t : Section) (z : ℤ) → IsInUnit n s z → length t.bytes < length s.bytes → unsigned_abs z + 1 < 2 ^ 63
+next_fits n s t z h k = omega (arith, h.0, h.1, k)

@@ -1,0 +1,108 @@
+-- No reading of a string gives OutOfMemory (on specs/Text.antt).
+use Rattle.std.proofs.Common.{◌≡◌, ◌≢◌, ℕ, ◌+◌, ◌*◌, ◌==◌, Bool, true, false, cond, length, take, Option, Some, None, Result, Ok, Err, ltb, refl, ap, ◌∙◌, sym, arith, length-take}
+use Rattle.std.proofs.lemmas.List.{take_min}
+use Rattle.std.proofs.lemmas.Bool.Decides.{nat_tests}
+use Rattle.std.specs.Prelude.{is_ok, nat_lt}
+use Rattle.std.specs.Result.{result_ok}
+use Rattle.std.specs.List.{position}
+use Rattle.gimli_read.specs.declared.error.Error.{Error}
+use Rattle.gimli_read.specs.declared.error.Error.TheVariants.{OutOfMemory, UnexpectedEof, OffsetOutOfBounds}
+use Rattle.gimli_read.specs.declared.endian.Format.{Format}
+use Rattle.gimli_read.specs.declared.value.AttributeValue.{AttributeValue}
+use Rattle.gimli_read.specs.declared.value.AttributeValue.TheVariants as values
+use Rattle.gimli_read.specs.Section.{Section, first, after}
+use Rattle.gimli_read.specs.Reading.{Reading, ◌>>=◌, done}
+use Rattle.gimli_read.specs.Number.{ended_at, is_address_size, fixed_at, split_at, address_at, null_terminated_at}
+use Rattle.gimli_read.specs.Spelling.{offset_size}
+use Rattle.gimli.specs.Sections.{Sections}
+use Rattle.gimli.specs.Text.{from_offset, string_at, string_length_at, indexed_number, indexed_string, string_of}
+use Rattle.gimli.specs.Unit.{readable_string, gives_string}
+
+-- a reading that never gives OutOfMemory
+record NeverOom {A : Type 0} (r : Result A Error) : Type 0 where
+  by : r ≡ Err OutOfMemory → ⊥
+
+never_bind : {A B : Type 0} {r : Result A Error} {f : A → Result B Error} → NeverOom r → ((x : A) → NeverOom (f x)) → NeverOom (r >>= f)
+never_bind {r = Ok x} h k = k x
+never_bind {A} {r = Err e} h k = record { by = λ p. h.by (let q : ◌≡◌ {A = Result A Error} (Err e) (Err OutOfMemory) = cc in q) }
+
+never_if : {A : Type 0} (b : Bool) {r q : Result A Error} → NeverOom r → NeverOom q → NeverOom (cond b r q)
+never_if true h k = h
+never_if false h k = k
+
+never_ok : {A : Type 0} {x : A} → NeverOom (Ok x)
+never_ok = record { by = λ p. absurd cc }
+
+never_eof : {A : Type 0} → NeverOom {A = A} (Err UnexpectedEof)
+never_eof = record { by = λ p. absurd cc }
+
+never_outside : {A : Type 0} → NeverOom {A = A} (Err OffsetOutOfBounds)
+never_outside = record { by = λ p. absurd cc }
+
+fixed_never : (n : ℕ) (s : Section) → NeverOom (fixed_at n s)
+fixed_never n s = never_if (nat_lt (length s.bytes) n) never_eof never_ok
+
+address_never : (size : ℕ) (s : Section) → NeverOom (address_at size s)
+address_never size s = never_if (is_address_size size) (fixed_never size s) (record { by = λ p. absurd cc })
+
+ended_never : (s : Section) (o : Option ℕ) → NeverOom (ended_at s o)
+ended_never s None = never_eof
+ended_never s (Some n) = never_ok
+
+string_at_never : (offset : ℕ) (s : Section) → NeverOom (string_at offset s)
+unfolding string_at
+string_at_never offset s =
+    never_bind (never_if (nat_lt (length s.bytes) offset) never_outside never_ok) (λ rest.
+    never_bind (ended_never rest (position (λ b. b == 0) rest.bytes)) (λ string. never_ok))
+
+number_never : (size base index : ℕ) (s : Section) → NeverOom (indexed_number size base index s)
+unfolding indexed_number
+number_never size base index s =
+    never_if (nat_lt (length s.bytes) (base + index * size + size)) never_outside (never_bind (address_never size _) (λ n. never_ok))
+
+indexed_never : (d : Sections) (format : Format) (base index : ℕ) → NeverOom (indexed_string d format base index)
+indexed_never d format base index = never_bind (number_never (offset_size format) base index d.debug_str_offsets) (λ offset. string_at_never offset d.debug_str)
+
+string_never : (d : Sections) (format : Format) (base : ℕ) (v : AttributeValue Section) → NeverOom (string_of d format base v)
+unfolding string_of
+string_never d format base (values.String s) = never_ok
+string_never d format base (values.DebugStrRef offset) = string_at_never offset d.debug_str
+string_never d format base (values.DebugLineStrRef offset) = string_at_never offset d.debug_line_str
+string_never d format base (values.DebugStrRefSup offset) = record { by = λ p. absurd cc }
+string_never d format base (values.DebugStrOffsetsIndex index) = indexed_never d format base index
+string_never d format base _ = record { by = λ p. absurd cc }
+
+-- a string that is given only where it can be read is never refused OutOfMemory but by a refused growth
+pub string_refused : (d : Sections) (format : Format) (base : ℕ) (v : AttributeValue Section) (shares : Bool)
+    → ((shares ≡ true → is_ok (string_of d format base v) ≡ true → OutOfMemory ≢ OutOfMemory) → string_of d format base v ≡ Err OutOfMemory)
+    → (shares ≡ true → gives_string (Ok (readable_string d format base (Some v))) ≡ true → OutOfMemory ≢ OutOfMemory) → ⊥
+string_refused d format base v shares h m = at (string_of d format base v) (string_never d format base v) h m
+  where
+    at : (r : Result Section Error) → NeverOom r → ((shares ≡ true → is_ok r ≡ true → OutOfMemory ≢ OutOfMemory) → r ≡ Err OutOfMemory) → (shares ≡ true → gives_string (Ok (result_ok r)) ≡ true → OutOfMemory ≢ OutOfMemory) → ⊥
+    at (Ok x) n h m = n.by (h (λ s _. m s refl))
+    at (Err e) n h m = n.by (h (λ s ok. absurd cc))
+
+split_first : (rest : Section) (k n : ℕ) → length (take k rest.bytes) ≡ n → split_at n rest ≡ Ok (first n rest, after n rest)
+split_first rest k n h = at (ltb (length rest.bytes) n) refl
+  where
+    at : (b : Bool) → ltb (length rest.bytes) n ≡ b → ◌≡◌ {A = Reading Section} (cond b (Err UnexpectedEof) (Ok (first n rest, after n rest))) (Ok (first n rest, after n rest))
+    at true p = absurd (let l = length-take k rest.bytes in grind (arith, nat_tests))
+    at false p = refl
+
+-- a string whose length is known is split off
+pub string_split : (offset n : ℕ) (s rest : Section) → string_length_at offset s ≡ Ok n → from_offset offset s ≡ Ok rest → (string_at offset s ≡ Ok (first n rest)) × (split_at n rest ≡ Ok (first n rest, after n rest))
+unfolding string_at
+string_split offset n s rest h k = at (position (λ b. b == 0) rest.bytes) refl
+  where
+    here : (o : Option ℕ) → position (λ b. b == 0) rest.bytes ≡ o → string_at offset s ≡ (ended_at rest o >>= λ t. Ok t.0)
+    here o p = ap (λ (r : Result Section Error). r >>= λ x. null_terminated_at x >>= λ t. done t.0) k ∙ ap (λ x. ended_at rest x >>= λ t. done t.0) p
+
+    long : (o : Option ℕ) → position (λ b. b == 0) rest.bytes ≡ o → ◌≡◌ {A = Result ℕ Error} ((ended_at rest o >>= λ t. Ok t.0) >>= λ t. Ok (length t.bytes)) (Ok n)
+    long o p = ap (λ (r : Result Section Error). r >>= λ t. done (length t.bytes)) (sym (here o p)) ∙ h
+
+    at : (o : Option ℕ) → position (λ b. b == 0) rest.bytes ≡ o → (string_at offset s ≡ Ok (first n rest)) × (split_at n rest ≡ Ok (first n rest, after n rest))
+    at None p = absurd (let q = long None p in cc)
+    at (Some m) p =
+        let w = long (Some m) p in
+        let q : length (take m rest.bytes) ≡ n = cc in
+        (here (Some m) p ∙ ap (λ xs. Ok (record rest { bytes = xs })) (sym (take_min m rest.bytes) ∙ ap (λ i. take i rest.bytes) (sym (length-take m rest.bytes) ∙ q)), split_first rest m n q)

@@ -1,11 +1,11 @@
 //! The addresses of entries.
 
-ghost use Rattle.std.specs.Prelude.{◌≡◌, [], ◌∷◌, option_map};
+ghost use Rattle.std.specs.Prelude.{◌≡◌, [], ◌∷◌, Ok};
 ghost use Rattle.std.specs.Option.{option_to_list};
-ghost use Rattle.gimli_read.specs.Reading.{ExactlyUnlessOom, Exactly};
+ghost use Rattle.gimli_read.specs.Reading.{Exactly, IsUnlessOom};
 ghost use Rattle.gimli_read.specs.Form.{seen_value};
-ghost use Rattle.gimli.specs.Record.{newer};
-ghost use Rattle.addr2line_lines.specs.RangeAttributes.{attr_address, no_range_attributes, with_range_attribute, range_attributes_at, root_range_attributes, range_between, range_to, ranges_of};
+ghost use Rattle.gimli.specs.Entry.{attributes_at};
+ghost use Rattle.addr2line_lines.specs.RangeAttributes.{attr_address, no_range_attributes, with_range_attribute, or_with_range_attribute, range_attributes_after, root_range_attributes, range_between, range_to, ranges_of};
 
 use gimli::read::{Attribute, AttributeSpecification, AttributeValue, DwAt, Error, Range, Reader};
 use gimli::{EntriesRaw, UnitRef};
@@ -19,16 +19,6 @@ pub struct RangeAttributes {
     pub high_pc: Option<u64>,
     /// The number of addresses.
     pub size: Option<u64>,
-}
-
-// The newer one, where there is one.
-fn newer(new: Option<u64>, old: Option<u64>) -> Option<u64>
-    ensures gives { result ≡ newer new old }
-{
-    match new {
-        Some(value) => Some(value),
-        None => old,
-    }
 }
 
 // The address that a value stands for, none of a value of another class.
@@ -74,26 +64,29 @@ impl RangeAttributes {
     fn take<R: Reader>(
         self,
         unit: UnitRef<'_, R>,
-        attribute: &Attribute<R>,
+        attribute: Attribute<R>,
     ) -> Result<RangeAttributes, Error>
         ensures gives { Exactly (λ r. r) result (with_range_attribute unit.entry.dwarf.now
-            unit.entry.unit.now self attribute.now) }
+            unit.entry.unit.now self attribute) }
     {
-        match attribute.name {
+        let name = attribute.name();
+        let size = attribute.udata_value();
+        let value = attribute.value();
+        match name {
             DwAt::DW_AT_low_pc => {
-                let low = attr_address(unit, &attribute.value)?;
+                let low = attr_address(unit, &value)?;
                 Ok(RangeAttributes {
-                    low_pc: newer(low, self.low_pc),
+                    low_pc: low.or(self.low_pc),
                     high_pc: self.high_pc,
                     size: self.size,
                 })
             }
             DwAt::DW_AT_high_pc => {
-                let high = attr_address(unit, &attribute.value)?;
+                let high = attr_address(unit, &value)?;
                 Ok(RangeAttributes {
                     low_pc: self.low_pc,
-                    high_pc: newer(high, self.high_pc),
-                    size: newer(attribute.value.udata_value(), self.size),
+                    high_pc: high.or(self.high_pc),
+                    size: size.or(self.size),
                 })
             }
             _ => Ok(self),
@@ -114,33 +107,48 @@ impl RangeAttributes {
     }
 }
 
-// Takes the attributes of specifications in, each before the next is read.
+// Takes one more attribute in, where none before it has a fault.
+fn with_attribute<R: Reader>(
+    unit: UnitRef<'_, R>,
+    ranges: Result<RangeAttributes, Error>,
+    attribute: Attribute<R>,
+) -> Result<RangeAttributes, Error>
+    ensures gives { result ≡ or_with_range_attribute unit.entry.dwarf.now unit.entry.unit.now ranges attribute }
+{
+    match ranges {
+        Ok(ranges) => ranges.take(unit, attribute),
+        Err(error) => Err(error),
+    }
+}
+
+// The range attributes among those of specifications. A value that can't be read is a fault before that of an
+// address's index, so the first of these waits until all values are read.
 fn read_ranges<R: Reader>(
     unit: UnitRef<'_, R>,
     entries: &mut EntriesRaw<'_, R>,
     specifications: &[AttributeSpecification],
 ) -> Result<RangeAttributes, Error>
-    requires same { entries.old.encoding ≡ unit.unit.now.header.encoding }
-    ensures gives { ExactlyUnlessOom (λ r. r) result (range_attributes_at unit.entry.dwarf.now
-        unit.entry.unit.now specifications.now no_range_attributes
-        (R.section entries.old.input)) }
+    requires encoding { entries.old.unit.encoding ≡ unit.unit.now.header.encoding }
+    ensures gives { IsUnlessOom result (range_attributes_after unit.entry.dwarf.now unit.entry.unit.now
+        (Ok no_range_attributes) (attributes_at unit.entry.unit.now.header.encoding
+        specifications.now entries.old.cursor.left)) }
 {
-    let mut ranges = RangeAttributes::new();
+    let mut ranges = Ok(RangeAttributes::new());
     for specification in specifications {
         let attribute = entries.read_attribute(*specification)?;
-        ranges = ranges.take(unit, &attribute)?;
+        ranges = with_attribute(unit, ranges, attribute);
     }
-    Ok(ranges)
+    ranges
 }
 
-/// The range attributes of a unit's first entry.
+/// The range attributes of a unit's root entry.
 ///
-/// Refused by the entry's code and its values in their order, by the index of an address where its
-/// attribute stands, `MissingUnitDie` at a closing entry, and `OutOfMemory`.
-#[tactic(auto, unfolding(crate::specs::RangeAttributes::root_range_attributes))]
+/// Refused by the entry's code and its values in their order, `MissingUnitDie` at a closing entry, then by the
+/// first index of an address that isn't wholly in its section; may fail with `OutOfMemory` instead.
+#[tactic(auto, unfolding(gimli::specs::Entry::root_attributes))]
 pub fn read_root_ranges<R: Reader>(unit: UnitRef<'_, R>) -> Result<RangeAttributes, Error>
-    ensures gives { ExactlyUnlessOom (λ r. r) result (root_range_attributes unit.entry.dwarf.now
-        unit.entry.unit.now) }
+    ensures gives { IsUnlessOom result
+        (root_range_attributes unit.entry.dwarf.now unit.entry.unit.now) }
 {
     let mut entries = unit.entries_raw(None)?;
     match entries.read_abbreviation()? {

@@ -6,16 +6,13 @@ use Rattle.addr2line_lines.proofs.files.push_texts.Goals as goal
 
 pub returns-in_err-file_text : goal.returns-in_err-file_text
 returns-in_err-file_text g c =
-    let see = g.R.Reader.section in
     let p = err_from_is_err_and c.from_residual.result c.from_residual.ensures.1 in
-    record { gives = rw (p.1, p.2) (λ ne. sym c.loop-file.invariant ∙ texts_fault see _ _ _ _ _ _ _ _ c.loop-file-test.true c.file-item.is (c.in_err-file_text.ensures.gives ne)) }
+    record { gives = rw (p.1, p.2) (λ ne. sym c.loop-file.invariant ∙ texts_fault _ _ _ _ _ _ _ _ c.loop-file-test.true c.file-item.is (c.in_err-file_text.ensures.gives ne)) }
 
 pub loop-file-preserved : goal.loop-file-preserved
 loop-file-preserved g c =
-    let see = g.R.Reader.section in
-    rw (c.in_ok-push.ensures.items, map_push) (sym (texts_more see _ _ _ _ _ _ _ _ c.loop-file-test.true c.file-item.is c.in_ok-file_text.ensures.gives) ∙ c.loop-file.invariant)
+    rw (c.in_ok-push.ensures.items, map_push) (sym (texts_more _ _ _ _ _ _ _ _ c.loop-file-test.true c.file-item.is c.in_ok-file_text.ensures.gives) ∙ c.loop-file.invariant)
 
 pub returns : goal.returns
 returns g c =
-    let see = g.R.Reader.section in
-    record { gives = sym c.loop-file.invariant ∙ texts_end see _ _ _ _ _ _ c.loop-file-test.false }
+    record { gives = sym c.loop-file.invariant ∙ texts_end _ _ _ _ _ _ c.loop-file-test.false }

@@ -1,32 +1,25 @@
-use Rattle.std.proofs.Common.{sym, ap, ◌∙◌}
+use Rattle.std.proofs.Common.{◌≡◌, sym, ap, ◌∙◌}
 use Rattle.std.proofs.lemmas.Result.{err_from_is_err_and}
-use Rattle.addr2line_lines.proofs.RangeLemmas.{took_fault, took_refused, took_more, took_end}
+use Rattle.addr2line_lines.proofs.RangeLemmas.{range_attributes-more, range_attributes-fault, range_attributes-end, is_unless_oom}
 use Rattle.addr2line_lines.proofs.function.read_ranges.Goals as goal
 
 pub returns-in_err-attribute : goal.returns-in_err-attribute
 returns-in_err-attribute g c =
     let p = err_from_is_err_and c.from_residual.result c.from_residual.ensures.1 in
     let i = c.loop-specification.invariant in
-    let fault = rw i.same at c.in_err-attribute.ensures.gives in
-    record { gives = rw (p.1, p.2) (λ ne. sym i.gives ∙ took_fault _ _ _ _ _ _ _ _ c.loop-specification-test.true (fault ne)) }
-
-pub returns-in_err-ranges : goal.returns-in_err-ranges
-returns-in_err-ranges g c =
-    let p = err_from_is_err_and c.from_residual-in_err-ranges.result c.from_residual-in_err-ranges.ensures.1 in
-    let i = c.loop-specification.invariant in
-    let read = rw i.same at c.in_ok-attribute.ensures.gives in
-    record { gives = rw (p.1, p.2) (λ ne. sym i.gives ∙ took_refused _ _ _ _ _ _ _ _ _ c.loop-specification-test.true read _ c.in_err-ranges.ensures.gives) }
+    let fault = rw (i.same, c.specification-item.is) at c.in_err-attribute.ensures.gives in
+    record { gives = rw (p.1, p.2) (λ ne. sym i.gives ∙ range_attributes-fault _ _ _ _ _ _ _ _ _ c.loop-specification-test.true (fault (λ _ _. ne))) }
 
 pub loop-specification-preserved : goal.loop-specification-preserved
 loop-specification-preserved g c =
     let i = c.loop-specification.invariant in
-    let read = rw i.same at c.in_ok-attribute.ensures.gives in
+    let given = rw (i.same, c.specification-item.is) at c.in_ok-attribute.ensures.gives in
     record {
-      gives = sym (took_more _ _ _ _ _ _ _ _ _ c.loop-specification-test.true read _ c.in_ok-ranges.ensures.gives) ∙ i.gives;
-      same = ap (λ u. u.encoding) c.in_ok-attribute.ensures.kept ∙ i.same;
+      gives = rw (c.with_attribute-ranges.ensures.gives) (sym (range_attributes-more _ _ _ _ _ _ _ _ _ _ c.loop-specification-test.true given) ∙ i.gives);
+      same = ap (λ u. u.encoding) c.in_ok-attribute.ensures.unit ∙ i.same;
     }
 
 pub returns : goal.returns
 returns g c =
     let i = c.loop-specification.invariant in
-    record { gives = sym i.gives ∙ took_end _ _ _ _ _ _ c.loop-specification-test.false }
+    record { gives = is_unless_oom _ _ (sym i.gives ∙ range_attributes-end _ _ _ _ _ _ _ c.loop-specification-test.false) }

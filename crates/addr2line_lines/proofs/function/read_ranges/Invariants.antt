@@ -1,13 +1,14 @@
-use Rattle.std.proofs.Common.{◌≡◌, drop}
-use Rattle.addr2line_lines.specs.RangeAttributes.{no_range_attributes, range_attributes_at}
+use Rattle.std.proofs.Common.{◌≡◌, drop, Ok}
+use Rattle.gimli.specs.Entry.{attributes_at}
+use Rattle.addr2line_lines.specs.RangeAttributes.{no_range_attributes, range_attributes_after}
 use Rattle.addr2line_lines.proofs.function.read_ranges.Given as goal
 
 abbrev pub invariant-loop-specification : goal.invariant-loop-specification
 invariant-loop-specification g l =
-    let see = g.R.Reader.section in
     let d = l.unit.dwarf.now in
     let u = l.unit.unit.now in
+    let encoding = l.unit.unit.now.header.encoding in
     record {
-      gives : range_attributes_at d u (drop l.specification-index l.specifications) l.ranges (see l.entries.input) ≡ range_attributes_at d u l.specifications no_range_attributes (see l.fn.entries.input);
-      same : l.entries.encoding ≡ l.unit.unit.now.header.encoding;
+      gives : range_attributes_after d u l.ranges (attributes_at encoding (drop l.specification-index l.specifications) l.entries.cursor.left) ≡ range_attributes_after d u (Ok no_range_attributes) (attributes_at encoding l.specifications l.fn.entries.cursor.left);
+      same : l.entries.unit.encoding ≡ encoding;
     }

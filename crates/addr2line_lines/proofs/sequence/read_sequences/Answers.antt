@@ -25,5 +25,5 @@ returns-clause-rise g c = rising_of (read_all c.args.rows.now.left) c.loop-build
 pub returns-clause-files : goal.returns-clause-files
 returns-clause-files g c =
     let files = c.next_row.new.self.header.file_names in
-    let none = c.in_ok-row.ensures.all c.in_default.is in
+    let none = (c.in_ok-row.ensures.all c.in_default.is).to_define in
     sym (c.loop-builder.invariant.files ∙ c.in_ok-row.ensures.files.0 ∙ ap (λ fs. files ++ fs) none ∙ append-nil files)

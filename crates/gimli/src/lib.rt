@@ -7,8 +7,6 @@ mod entries;
 mod header;
 mod record;
 mod sections;
-#[cfg(test)]
-mod tests;
 mod text;
 mod unit;
 mod unit_record;
@@ -26,4 +24,10 @@ pub use crate::unit_record::Unit;
 pub use crate::unit_ref::UnitRef;
 pub use crate::units::UnitHeaders;
 pub use gimli_line as line;
+pub use gimli_line::{FileEntry, IncompleteLineProgram, LineProgramHeader, LineRow};
 pub use gimli_read as read;
+pub use gimli_read::{
+    Abbreviation, Abbreviations, Attribute, AttributeSpecification, AttributeValue,
+    DebugInfoOffset, DwAt, DwForm, DwLang, DwTag, Encoding, EndianBytes, EndianSlice, Error,
+    Format, Range, Reader, RunTimeEndian, UnitOffset,
+};

@@ -1,7 +1,7 @@
 //! The record of a unit: what its root entry's attributes give.
 
 ghost use Rattle.std.specs.Prelude.{◌≡◌};
-ghost use Rattle.gimli_read.specs.Reading.{IsUnlessOom};
+ghost use Rattle.gimli_read.specs.Reading.{ExactlyUnlessOomIf};
 ghost use Rattle.gimli_read.specs.Form.{seen_value};
 ghost use Rattle.gimli.specs.Entry.{attributes_at};
 ghost use Rattle.gimli.specs.Record.{address_value, section_offset, line_offset, with_root_attribute, no_root_values, root_values_after, root_values_of};
@@ -153,7 +153,7 @@ fn read_root_attributes<R: Reader>(
     specifications: &[AttributeSpecification],
 ) -> Result<RootAttributes<R>, Error>
     requires encoding { entries.old.unit.encoding ≡ encoding }
-    ensures gives { IsUnlessOom result (root_values_after encoding no_root_values
+    ensures gives { ExactlyUnlessOomIf R.shares (λ r. r) result (root_values_after encoding no_root_values
         (attributes_at encoding specifications.now entries.old.cursor.left)) }
 {
     let mut root = RootAttributes::new();
@@ -173,7 +173,7 @@ pub(crate) fn read_root<R: Reader>(
     header: &UnitHeader<R>,
     abbreviations: &Abbreviations,
 ) -> Result<RootAttributes<R>, Error>
-    ensures gives { IsUnlessOom result
+    ensures gives { ExactlyUnlessOomIf R.shares (λ r. r) result
         (root_values_of header.now.encoding abbreviations.now header.now.entries) }
 {
     let mut entries = EntriesRaw::new(header, abbreviations, header.entries.duplicate()?);

@@ -1,8 +1,9 @@
 //! Units: headers with what their first entry says.
 
-ghost use Rattle.std.specs.Prelude.{◌≡◌, Ok, option_map};
-ghost use Rattle.gimli_read.specs.Reading.{Exactly, ExactlyUnlessOomFor, IsUnlessOom};
+ghost use Rattle.std.specs.Prelude.{◌≡◌, Ok, is_ok, option_map};
+ghost use Rattle.gimli_read.specs.Reading.{Exactly, ExactlyUnlessOomFor, ExactlyUnlessOomIf, IsUnlessOom};
 ghost use Rattle.gimli_read.specs.Form.{seen_value};
+ghost use Rattle.gimli.specs.Text.{from_offset};
 ghost use Rattle.gimli.specs.Unit.{by_format, first_base, low_pc_of, line_program_of, readable_string, gives_string, dwo_id_of, completed_record, unit_record_of};
 
 use crate::dwarf::{Dwarf, DwarfFileType};
@@ -41,6 +42,7 @@ pub struct Unit<R: Reader> {
 
 impl<R: Reader> Model for Unit<R> {
     ghost use Rattle.std.specs.Prelude.{option_map};
+    ghost use Rattle.gimli.specs.Text.{from_offset};
     ghost use Rattle.gimli.specs.Unit.{UnitRecord};
 
     ghost Value = { UnitRecord };
@@ -200,7 +202,8 @@ impl<R: Reader> Dwarf<R> {
     /// for), or the index of its low_pc (`OffsetOutOfBounds`), in this order, and `OutOfMemory`.
     #[tactic(auto, unfolding(crate::specs::Unit::unit_record_of))]
     pub fn unit(&self, alloc: Global, header: UnitHeader<R>) -> Result<Unit<R>, Error>
-        ensures gives { IsUnlessOom result
+        ensures gives { ExactlyUnlessOomIf
+            (is_ok (from_offset header.debug_abbrev_offset self.now.debug_abbrev)) (λ u. u) result
             (unit_record_of self.now header) }
     {
         let rest = read_from(&self.debug_abbrev.section, header.debug_abbrev_offset)?;

@@ -8,7 +8,7 @@ returns-in_err-attribute g c =
     let p = err_from_is_err_and c.from_residual.result c.from_residual.ensures.1 in
     let i = c.loop-specification.invariant in
     let fault = rw (i.same, c.specification-item.is) at c.in_err-attribute.ensures.gives in
-    record { gives = rw (p.1, p.2) (λ ne. sym i.gives ∙ root_values-fault _ _ _ _ _ _ _ c.loop-specification-test.true (fault (λ _ _. ne))) }
+    record { gives = rw (p.1, p.2) (λ ne. sym i.gives ∙ root_values-fault _ _ _ _ _ _ _ c.loop-specification-test.true (fault (λ shares _. ne shares))) }
 
 pub loop-specification-preserved : goal.loop-specification-preserved
 loop-specification-preserved g c =

@@ -1,0 +1,422 @@
+//! Worked cases: headers, records, entries, strings and addresses, and refused growths.
+
+use bytes::Bytes;
+use gimli::{
+    AttributeValue, DebugAbbrev, DebugAddr, DebugAranges, DebugInfo, DebugLine, DebugLineStr,
+    DebugRanges, DebugRngLists, DebugStr, DebugStrOffsets, Dwarf, DwarfFileType, EndianBytes,
+    EndianSlice, Error, Format, Reader, RunTimeEndian, Unit, UnitHeader, UnitOffset, UnitRef,
+    UnitType,
+};
+use std::alloc::{AllocError, Global};
+use std::test::Fail;
+
+// A unit with DW_AT_stmt_list, DW_AT_comp_dir, DW_AT_low_pc and DW_AT_high_pc.
+const ABBREV: &[u8] = b"\x01\x11\0\x10\x17\x1b\x08\x11\x01\x12\x06\0\0\0";
+
+// The unit [0x10, 0x30) in "/w", version 4.
+const INFO: &[u8] = b"\x1b\0\0\0\x04\0\0\0\0\0\x08\x01\0\0\0\0/w\0\x10\0\0\0\0\0\0\0\x20\0\0\0";
+
+// The same unit with the highest byte of each number first.
+const INFO_BIG: &[u8] = b"\0\0\0\x1b\0\x04\0\0\0\0\x08\x01\0\0\0\0/w\0\0\0\0\0\0\0\0\x10\0\0\0\x20";
+
+// The same unit in 64-bit DWARF.
+const INFO_64: &[u8] = b"\xff\xff\xff\xff\x23\0\0\0\0\0\0\0\x04\0\0\0\0\0\0\0\0\0\x08\x01\
+    \0\0\0\0\0\0\0\0/w\0\x10\0\0\0\0\0\0\0\x20\0\0\0";
+
+// A line program without rows, of a file "a.c".
+const LINE: &[u8] =
+    b"\x33\0\0\0\x04\0\x1b\0\0\0\x01\x01\x01\xfb\x0e\x0d\0\x01\x01\x01\x01\0\0\0\x01\0\0\x01\
+    \0a.c\0\0\0\0\0\0\x09\x02\x10\0\0\0\0\0\0\0\x01\xf4\x02\x10\0\x01\x01";
+
+// The same program with the highest byte of each number first.
+const LINE_BIG: &[u8] =
+    b"\0\0\0\x33\0\x04\0\0\0\x1b\x01\x01\x01\xfb\x0e\x0d\0\x01\x01\x01\x01\0\0\0\x01\0\0\x01\
+    \0a.c\0\0\0\0\0\0\x09\x02\0\0\0\0\0\0\0\x10\x01\xf4\x02\x10\0\x01\x01";
+
+// A skeleton unit, version 5, whose header has an identifier.
+const SKELETON: &[u8] = b"\x2a\0\0\0\x05\0\x04\x08\0\0\0\0\x88\x77\x66\x55\x44\x33\x22\x11\x01\
+    \0\0\0\0/w\0s.dwo\0\x10\0\0\0\0\0\0\0\x20\0\0\0";
+
+// The answers of a refusal, past all that is compared with them.
+const OOM: u64 = u64::MAX;
+
+const EOF: u64 = u64::MAX - 1;
+
+const OUTSIDE: u64 = u64::MAX - 2;
+
+const NO_STRING: u64 = u64::MAX - 3;
+
+const NO_SUP: u64 = u64::MAX - 4;
+
+const OTHER: u64 = u64::MAX - 5;
+
+// Nothing where something might be.
+const NONE: u64 = u64::MAX - 6;
+
+fn fault(error: Error) -> u64 {
+    match error {
+        Error::OutOfMemory => OOM,
+        Error::UnexpectedEof => EOF,
+        Error::OffsetOutOfBounds => OUTSIDE,
+        Error::ExpectedString => NO_STRING,
+        Error::NoSupplementary => NO_SUP,
+        _ => OTHER,
+    }
+}
+
+// Bytes as a number in base 256, after a 1 that keeps their number.
+fn spelled(bytes: &[u8]) -> u64 {
+    let mut number = 1u64;
+    for byte in bytes {
+        number = number.wrapping_mul(256).wrapping_add(u64::from(*byte));
+    }
+    number
+}
+
+// Sections, of which these are given; beside them strings, and tables whose entries begin at 8.
+fn slices<'a>(info: &'a [u8], line: &'a [u8], order: RunTimeEndian) -> Dwarf<EndianSlice<'a>> {
+    Dwarf {
+        debug_abbrev: DebugAbbrev::from(EndianSlice::new(ABBREV, order)),
+        debug_addr: DebugAddr::from(EndianSlice::new(
+            b"headhead\x10\0\0\0\0\0\0\0\x20\0\0\0\0\0\0\0",
+            order,
+        )),
+        debug_aranges: DebugAranges::from(EndianSlice::new(&[], order)),
+        debug_info: DebugInfo::from(EndianSlice::new(info, order)),
+        debug_line: DebugLine::from(EndianSlice::new(line, order)),
+        debug_line_str: DebugLineStr::from(EndianSlice::new(b"/w\0", order)),
+        debug_ranges: DebugRanges::from(EndianSlice::new(&[], order)),
+        debug_rnglists: DebugRngLists::from(EndianSlice::new(&[], order)),
+        debug_str: DebugStr::from(EndianSlice::new(b"x\0main\0cut", order)),
+        debug_str_offsets: DebugStrOffsets::from(EndianSlice::new(
+            b"headhead\0\0\0\0\x02\0\0\0",
+            order,
+        )),
+        file_type: DwarfFileType::Main,
+    }
+}
+
+fn shared(alloc: Global, bytes: &[u8], order: RunTimeEndian) -> Result<EndianBytes, AllocError> {
+    Ok(EndianBytes::new(Bytes::copy_from_slice(alloc, bytes)?, order))
+}
+
+// The same over shared bytes.
+fn counted(
+    alloc: Global,
+    info: &[u8],
+    line: &[u8],
+    order: RunTimeEndian,
+) -> Result<Dwarf<EndianBytes>, AllocError> {
+    Ok(Dwarf {
+        debug_abbrev: DebugAbbrev::from(shared(alloc, ABBREV, order)?),
+        debug_addr: DebugAddr::from(shared(
+            alloc,
+            b"headhead\x10\0\0\0\0\0\0\0\x20\0\0\0\0\0\0\0",
+            order,
+        )?),
+        debug_aranges: DebugAranges::from(shared(alloc, &[], order)?),
+        debug_info: DebugInfo::from(shared(alloc, info, order)?),
+        debug_line: DebugLine::from(shared(alloc, line, order)?),
+        debug_line_str: DebugLineStr::from(shared(alloc, b"/w\0", order)?),
+        debug_ranges: DebugRanges::from(shared(alloc, &[], order)?),
+        debug_rnglists: DebugRngLists::from(shared(alloc, &[], order)?),
+        debug_str: DebugStr::from(shared(alloc, b"x\0main\0cut", order)?),
+        debug_str_offsets: DebugStrOffsets::from(shared(
+            alloc,
+            b"headhead\0\0\0\0\x02\0\0\0",
+            order,
+        )?),
+        file_type: DwarfFileType::Main,
+    })
+}
+
+fn type_code(unit_type: UnitType) -> u64 {
+    match unit_type {
+        UnitType::Compile => 1,
+        UnitType::TypeUnit => 2,
+        UnitType::Partial => 3,
+        UnitType::Skeleton => 4,
+        UnitType::SplitCompile => 5,
+        UnitType::SplitType => 6,
+    }
+}
+
+// The version, address size, bytes of an offset, kind and offset of a header.
+fn header_code<R: Reader>(header: &UnitHeader<R>) -> [u64; 5] {
+    let width = match header.format() {
+        Format::Dwarf32 => 4,
+        Format::Dwarf64 => 8,
+    };
+    [
+        u64::from(header.version()),
+        u64::from(header.address_size()),
+        width,
+        type_code(header.type_()),
+        header.offset().0,
+    ]
+}
+
+// The first header, and then what a second call answers: NONE at the end.
+fn headers_code<R: Reader>(dwarf: &Dwarf<R>) -> ([u64; 5], u64) {
+    let mut units = match dwarf.units() {
+        Ok(units) => units,
+        Err(error) => return ([fault(error); 5], 0),
+    };
+    let first = match units.next() {
+        Ok(Some(header)) => header_code(&header),
+        Ok(None) => [NONE; 5],
+        Err(error) => [fault(error); 5],
+    };
+    let second = match units.next() {
+        Ok(Some(_)) => 1,
+        Ok(None) => NONE,
+        Err(error) => fault(error),
+    };
+    (first, second)
+}
+
+#[test]
+fn a_header_has_its_fields(rt: HostRuntime) -> Result<(), Fail> {
+    let cases: [(&[u8], RunTimeEndian, ([u64; 5], u64)); 6] = [
+        (INFO, RunTimeEndian::Little, ([4, 8, 4, 1, 0], NONE)),
+        (INFO_BIG, RunTimeEndian::Big, ([4, 8, 4, 1, 0], NONE)),
+        (INFO_64, RunTimeEndian::Little, ([4, 8, 8, 1, 0], NONE)),
+        (SKELETON, RunTimeEndian::Little, ([5, 8, 4, 4, 0], NONE)),
+        (&INFO[..30], RunTimeEndian::Little, ([EOF; 5], NONE)),
+        (&[], RunTimeEndian::Little, ([NONE; 5], NONE)),
+    ];
+    for (info, order, want) in cases {
+        assert_eq!(rt; headers_code(&slices(info, LINE, order)), want);
+        assert_eq!(rt;
+            headers_code(&counted(rt.alloc(), info, LINE, order)?),
+            want
+        );
+    }
+    Ok(())
+}
+
+fn first_unit<R: Reader>(alloc: Global, dwarf: &Dwarf<R>) -> Result<Unit<R>, Error> {
+    match dwarf.units()?.next()? {
+        Some(header) => dwarf.unit(alloc, header),
+        None => Err(Error::MissingUnitDie),
+    }
+}
+
+// The directory, low_pc, name, identifier, and whether there is a line program.
+fn record_code<R: Reader>(alloc: Global, dwarf: &Dwarf<R>) -> [u64; 5] {
+    let unit = match first_unit(alloc, dwarf) {
+        Ok(unit) => unit,
+        Err(error) => return [fault(error); 5],
+    };
+    let comp_dir = match &unit.comp_dir {
+        Some(text) => spelled(text.to_slice()),
+        None => NONE,
+    };
+    let dwo_id = match unit.dwo_id {
+        Some(id) => id.0,
+        None => NONE,
+    };
+    [
+        comp_dir,
+        unit.low_pc,
+        u64::from(unit.name.is_some()),
+        dwo_id,
+        u64::from(unit.line_program.is_some()),
+    ]
+}
+
+#[test]
+fn a_unit_is_what_its_root_says(rt: HostRuntime) -> Result<(), Fail> {
+    let plain = [0x1_2f77, 0x10, 0, NONE, 1];
+    let cases: [(&[u8], &[u8], RunTimeEndian); 3] = [
+        (INFO, LINE, RunTimeEndian::Little),
+        (INFO_BIG, LINE_BIG, RunTimeEndian::Big),
+        (INFO_64, LINE, RunTimeEndian::Little),
+    ];
+    for (info, line, order) in cases {
+        assert_eq!(rt; record_code(rt.alloc(), &slices(info, line, order)), plain);
+        assert_eq!(rt;
+            record_code(rt.alloc(), &counted(rt.alloc(), info, line, order)?),
+            plain
+        );
+    }
+    // The root's low_pc is read from the bytes of its text, since the abbreviation isn't a skeleton's.
+    let skeleton = [0x1_2f77, 0x0010_006f_7764_2e73, 0, 0x1122_3344_5566_7788, 1];
+    let order = RunTimeEndian::Little;
+    assert_eq!(rt;
+        record_code(rt.alloc(), &slices(SKELETON, LINE, order)),
+        skeleton
+    );
+    Ok(())
+}
+
+// Where the root begins, its tag, its attributes' names, and where it ends.
+fn entries_code<R: Reader>(alloc: Global, dwarf: &Dwarf<R>) -> Result<[u64; 7], Error> {
+    let unit = first_unit(alloc, dwarf)?;
+    let mut entries = UnitRef::new(dwarf, &unit).entries_raw(None)?;
+    let start = entries.next_offset().0;
+    let Some(abbreviation) = entries.read_abbreviation()? else {
+        return Err(Error::MissingUnitDie);
+    };
+    let mut names = [0; 4];
+    let mut count = 0;
+    for specification in abbreviation.attributes() {
+        let attribute = entries.read_attribute(*specification)?;
+        if count < 4 {
+            names[count] = attribute.name().0;
+            count += 1;
+        }
+    }
+    let end = if entries.is_empty() {
+        entries.next_offset().0
+    } else {
+        NONE
+    };
+    let [a, b, c, d] = names;
+    Ok([start, abbreviation.tag().0, a, b, c, d, end])
+}
+
+fn entries_answer<R: Reader>(alloc: Global, dwarf: &Dwarf<R>) -> [u64; 7] {
+    match entries_code(alloc, dwarf) {
+        Ok(code) => code,
+        Err(error) => [fault(error); 7],
+    }
+}
+
+#[test]
+fn entries_are_read_one_by_one(rt: HostRuntime) -> Result<(), Fail> {
+    let cases: [(&[u8], &[u8], RunTimeEndian, [u64; 7]); 3] = [
+        (
+            INFO,
+            LINE,
+            RunTimeEndian::Little,
+            [11, 0x11, 0x10, 0x1b, 0x11, 0x12, 31],
+        ),
+        (
+            INFO_BIG,
+            LINE_BIG,
+            RunTimeEndian::Big,
+            [11, 0x11, 0x10, 0x1b, 0x11, 0x12, 31],
+        ),
+        (
+            INFO_64,
+            LINE,
+            RunTimeEndian::Little,
+            [23, 0x11, 0x10, 0x1b, 0x11, 0x12, 47],
+        ),
+    ];
+    for (info, line, order, want) in cases {
+        assert_eq!(rt;
+            entries_answer(rt.alloc(), &slices(info, line, order)),
+            want
+        );
+        assert_eq!(rt;
+            entries_answer(rt.alloc(), &counted(rt.alloc(), info, line, order)?),
+            want
+        );
+    }
+    Ok(())
+}
+
+// Where the entries from an offset on begin, strings by five values, and addresses by four indexes.
+fn places_code<R: Reader>(alloc: Global, dwarf: &Dwarf<R>, own: R) -> Result<[u64; 17], Error> {
+    let mut unit = first_unit(alloc, dwarf)?;
+    unit.str_offsets_base = 8;
+    unit.addr_base = 8;
+    let unit = UnitRef::new(dwarf, &unit);
+    Ok([
+        start_code(unit, 12),
+        start_code(unit, 0),
+        start_code(unit, 10),
+        start_code(unit, 31),
+        start_code(unit, u64::MAX),
+        string_code(unit, AttributeValue::String(own)),
+        string_code(unit, AttributeValue::DebugStrRef(2)),
+        string_code(unit, AttributeValue::DebugLineStrRef(0)),
+        string_code(unit, AttributeValue::DebugStrOffsetsIndex(1)),
+        string_code(unit, AttributeValue::DebugStrRef(7)),
+        string_code(unit, AttributeValue::DebugStrRef(11)),
+        string_code(unit, AttributeValue::DebugStrOffsetsIndex(2)),
+        string_code(unit, AttributeValue::DebugStrRefSup(0)),
+        string_code(unit, AttributeValue::Udata(0)),
+        number_code(unit.address(0)),
+        number_code(unit.address(1)),
+        number_code(unit.address(u64::MAX)),
+    ])
+}
+
+fn number_code(answer: Result<u64, Error>) -> u64 {
+    match answer {
+        Ok(number) => number,
+        Err(error) => fault(error),
+    }
+}
+
+fn start_code<R: Reader>(unit: UnitRef<'_, R>, offset: u64) -> u64 {
+    match unit.entries_raw(Some(UnitOffset(offset))) {
+        Ok(entries) => entries.next_offset().0,
+        Err(error) => fault(error),
+    }
+}
+
+fn string_code<R: Reader>(unit: UnitRef<'_, R>, value: AttributeValue<R>) -> u64 {
+    match unit.attr_string(value) {
+        Ok(text) => spelled(text.to_slice()),
+        Err(error) => fault(error),
+    }
+}
+
+fn places_answer<R: Reader>(alloc: Global, dwarf: &Dwarf<R>, own: R) -> [u64; 17] {
+    match places_code(alloc, dwarf, own) {
+        Ok(code) => code,
+        Err(error) => [fault(error); 17],
+    }
+}
+
+#[test]
+fn strings_addresses_and_offsets_are_found_or_refused(rt: HostRuntime) -> Result<(), Fail> {
+    let want = [
+        12,
+        OUTSIDE,
+        OUTSIDE,
+        OUTSIDE,
+        OUTSIDE,
+        0x16f_776e,
+        0x1_6d61_696e,
+        0x1_2f77,
+        0x1_6d61_696e,
+        EOF,
+        OUTSIDE,
+        OUTSIDE,
+        NO_SUP,
+        NO_STRING,
+        0x10,
+        0x20,
+        OUTSIDE,
+    ];
+    let order = RunTimeEndian::Little;
+    let own = EndianSlice::new(b"own", order);
+    assert_eq!(rt;
+        places_answer(rt.alloc(), &slices(INFO, LINE, order), own),
+        want
+    );
+    let own = shared(rt.alloc(), b"own", order)?;
+    assert_eq!(rt;
+        places_answer(rt.alloc(), &counted(rt.alloc(), INFO, LINE, order)?, own),
+        want
+    );
+    Ok(())
+}
+
+// A refused growth, wherever it is met, is OutOfMemory and changes no answer.
+#[test]
+fn a_refused_growth_is_out_of_memory(rt: HostRuntime) -> Result<(), Fail> {
+    let order = RunTimeEndian::Little;
+    let answer = entries_answer(rt.alloc(), &slices(INFO, LINE, order));
+    assert!(rt; answer == [OOM; 7] || answer == [11, 0x11, 0x10, 0x1b, 0x11, 0x12, 31]);
+    if let Ok(dwarf) = counted(rt.alloc(), INFO, LINE, order) {
+        let answer = entries_answer(rt.alloc(), &dwarf);
+        assert!(rt; answer == [OOM; 7] || answer == [11, 0x11, 0x10, 0x1b, 0x11, 0x12, 31]);
+    }
+    Ok(())
+}

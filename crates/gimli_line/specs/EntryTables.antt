@@ -60,7 +60,8 @@ pub record EntryValues : Type 0 where
 abbrev pub with_value : ℕ → AttributeValue Section → EntryValues → EntryValues
 with_value type value entry =
     if type == DW_LNCT_path then record entry { path_name = Some value }
-    else if type == DW_LNCT_directory_index then record entry { directory_index = unwrap_or (constant_of value) 0 }
+    else if type == DW_LNCT_directory_index
+    then record entry { directory_index = unwrap_or (constant_of value) 0 }
     else entry
 
 -- an entry of which nothing is read
@@ -68,9 +69,10 @@ abbrev pub no_entry : EntryValues
 no_entry = record { path_name = None; directory_index = 0 }
 
 -- the values of an entry, of which those that aren't known are dropped
-unfoldable pub values_at : Encoding → List EntryFormat → EntryValues → Section → Reading (EntryValues)
+unfoldable pub values_at : Encoding → List EntryFormat → EntryValues → Section → Reading EntryValues
 values_at e [] entry s = Ok (entry, s)
-values_at e (f ∷ formats) entry s = value_at e f.form.0 s >>= λ x. values_at e formats (with_value f.content_type x.0 entry) x.1
+values_at e (f ∷ formats) entry s =
+    value_at e f.form.0 s >>= λ x. values_at e formats (with_value f.content_type x.0 entry) x.1
 
 -- a file with this path, which each format has
 abbrev pub filed : Option (AttributeValue Section) → ℕ → Result File Error

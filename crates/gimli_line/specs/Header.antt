@@ -19,14 +19,16 @@ pub record Header : Type 0 where
   pub include_directories : List (AttributeValue Section)
   pub file_names : List File
 
--- a header, and the bytes of the program behind it
+-- a header, and the bytes of the program that follow it
 pub record Program : Type 0 where
   pub header : Header
   pub program : Section
 
 -- an entry of a table, counted from 1 below version 5 and from 0 in it
 abbrev pub entry_of : {A : Type 0} → ℕ → ℕ → List A → Option A
-entry_of version n entries = if nat_lt version 5 then (if n == 0 then None else slice_get entries (n - 1)) else slice_get entries n
+entry_of version n entries =
+    if nat_lt version 5 then (if n == 0 then None else slice_get entries (n - 1))
+    else slice_get entries n
 
 -- a file by its index
 abbrev pub file_of : Header → ℕ → Option File

@@ -27,14 +27,17 @@ lines_of p = record {
 
 -- what a call gave of the rows that were left, and which are left: after a refusal none. OutOfMemory may be
 -- its answer instead
-abbrev pub YieldsUnlessOom : {X : Type 0} → List (Result X Error) → Result (Option X) Error → List (Result X Error) → Type 0
+abbrev pub YieldsUnlessOom : {X : Type 0} → List (Result X Error) → Result (Option X) Error
+    → List (Result X Error) → Type 0
 YieldsUnlessOom old (Ok None) new = (old ≡ []) × (new ≡ [])
 YieldsUnlessOom old (Ok (Some x)) new = old ≡ Ok x ∷ new
 YieldsUnlessOom old (Err e) new = (new ≡ []) × (e ≢ OutOfMemory → old ≡ Err e ∷ [])
 
 -- the files so far and those to come are the same, and so is the rest of the header
 abbrev pub KeepsFiles : Lines → Lines → Type 0
-KeepsFiles old new = (old.header.file_names ++ old.to_define ≡ new.header.file_names ++ new.to_define) × (new.header ≡ record old.header { file_names = new.header.file_names })
+KeepsFiles old new =
+    (old.header.file_names ++ old.to_define ≡ new.header.file_names ++ new.to_define)
+    × (new.header ≡ record old.header { file_names = new.header.file_names })
 
 -- a header with more files
 abbrev pub with_files : Header → List File → Header

@@ -54,7 +54,8 @@ standard_at h code s =
     else if code == DW_LNS_set_prologue_end then Ok (Other, s)
     else if code == DW_LNS_set_epilogue_begin then Ok (Other, s)
     else if code == DW_LNS_set_isa then as_opcode (λ n. Other) (uleb128_at s)
-    else as_opcode (λ x. Other) (numbers_skipped (slice_index h.standard_opcode_lengths.bytes (code - 1)) s)
+    else as_opcode (λ x. Other)
+    (numbers_skipped (slice_index h.standard_opcode_lengths.bytes (code - 1)) s)
 
 -- the operand of an extended opcode that defines no file
 unfoldable pub operand_at : ℕ → ℕ → Section → Reading Opcode
@@ -101,7 +102,8 @@ gives_file (Err e) = false
 unfoldable pub coded_instruction_at : Header → ℕ → Section → Reading (LineInstruction File)
 coded_instruction_at h code s =
     if code == 0 then extended_at h s
-    else if nat_le h.line_encoding.opcode_base code then Ok (Changes (Special (code - h.line_encoding.opcode_base)), s)
+    else if nat_le h.line_encoding.opcode_base code
+    then Ok (Changes (Special (code - h.line_encoding.opcode_base)), s)
     else (standard_at h code s >>= λ op. Ok (Changes op.0, op.1))
 
 -- an instruction, none at the end

@@ -16,7 +16,8 @@ use Rattle.gimli_line.specs.Tables.{tables_at}
 -- the address size: of the unit below version 5, else of the header, with a segment selector size of 0
 unfoldable pub address_size_at : ℕ → ℕ → Section → Reading ℕ
 address_size_at version unit_size s =
-    if nat_lt version 5 then (refused_if (not (is_address_size unit_size)) UnsupportedAddressSize >>= λ _. Ok (unit_size, s))
+    if nat_lt version 5
+    then (refused_if (not (is_address_size unit_size)) UnsupportedAddressSize >>= λ _. Ok (unit_size, s))
     else do
       size ← fixed_at 1 s
       known ← refused_if (not (is_address_size size.0)) UnsupportedAddressSize

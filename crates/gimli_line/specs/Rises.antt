@@ -23,4 +23,5 @@ NeverFalls (r ∷ s ∷ rows) = (r.end_sequence ≡ false → r.address ≤ s.ad
 
 -- the rows of any instructions never fall
 abbrev pub RowsRise : Type 0
-RowsRise = (e : LineEncoding) (run : Run (LineInstruction File) Section) → 0 < e.maximum_operations_per_instruction → NeverFalls (rows_before (rows_of e run))
+RowsRise = (e : LineEncoding) (run : Run (LineInstruction File) Section)
+    → 0 < e.maximum_operations_per_instruction → NeverFalls (rows_before (rows_of e run))

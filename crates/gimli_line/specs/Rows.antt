@@ -65,7 +65,9 @@ pub record AddressState : Type 0 where
 
 -- the base, and the minimum length for each full instruction of the operations since then
 abbrev pub address_of : LineEncoding → AddressState → ℕ
-address_of e c = c.base + e.minimum_instruction_length * (sum_by (advance e) c.counting / e.maximum_operations_per_instruction)
+address_of e c =
+    c.base
+    + e.minimum_instruction_length * (sum_by (advance e) c.counting / e.maximum_operations_per_instruction)
 
 -- from this address on
 abbrev pub based : ℕ → AddressState
@@ -74,9 +76,15 @@ based a = record { base = a; counting = []; dropping = false }
 -- an accepted address and a fixed advance are new bases; while dropping nothing counts
 abbrev pub address_state : LineEncoding → List Opcode → AddressState
 address_state e [] = based 0
-address_state e (SetAddress a ∷ past) = if is_tombstone e a || nat_lt a (address_of e (address_state e past)) then record (address_state e past) { dropping = true } else based a
-address_state e (FixedAdvancePc n ∷ past) = if (address_state e past).dropping then address_state e past else based (address_of e (address_state e past) + n)
-address_state e (op ∷ past) = if (address_state e past).dropping then address_state e past else record (address_state e past) { counting = op ∷ (address_state e past).counting }
+address_state e (SetAddress a ∷ past) =
+    if is_tombstone e a || nat_lt a (address_of e (address_state e past))
+    then record (address_state e past) { dropping = true } else based a
+address_state e (FixedAdvancePc n ∷ past) =
+    if (address_state e past).dropping then address_state e past
+    else based (address_of e (address_state e past) + n)
+address_state e (op ∷ past) =
+    if (address_state e past).dropping then address_state e past
+    else record (address_state e past) { counting = op ∷ (address_state e past).counting }
 
 -- the address
 abbrev pub address_after : LineEncoding → List Opcode → ℕ
@@ -105,10 +113,12 @@ makes_row Copy = true
 makes_row _ = false
 
 -- the row of the newest opcode, if it appends one, before the rows of the opcodes that follow
-abbrev pub row_from : LineEncoding → Opcode → List Opcode → List (Result LineRow Error) → List (Result LineRow Error)
+abbrev pub row_from : LineEncoding → Opcode → List Opcode → List (Result LineRow Error)
+    → List (Result LineRow Error)
 row_from e op past rest =
     if is_end op then Ok (row_after e past true) ∷ rest
-    else (if makes_row op && not (address_state e past).dropping then Ok (row_after e past false) ∷ rest else rest)
+    else (if makes_row op && not (address_state e past).dropping then Ok (row_after e past false) ∷ rest
+    else rest)
 
 -- the opcodes of the sequence before the next one: none after an end
 abbrev pub past_after : Opcode → List Opcode → List Opcode
@@ -120,22 +130,29 @@ ended (Ok z) = []
 ended (Err x) = Err x ∷ []
 
 -- the rows of opcodes, up to the first after which the address passes its size
-abbrev pub rows_after : {Z : Type 0} → LineEncoding → List Opcode → List Opcode → Result Z Error → List (Result LineRow Error)
+abbrev pub rows_after : {Z : Type 0} → LineEncoding → List Opcode → List Opcode → Result Z Error
+    → List (Result LineRow Error)
 rows_after e past [] end = ended end
 rows_after e past (op ∷ ops) end =
-    if nat_lt (address_after e (op ∷ past)) (limit e) then row_from e op (op ∷ past) (rows_after e (past_after op past) ops end) else Err AddressOverflow ∷ []
+    if nat_lt (address_after e (op ∷ past)) (limit e)
+    then row_from e op (op ∷ past) (rows_after e (past_after op past) ops end)
+    else Err AddressOverflow ∷ []
 
 -- the rows of a program's instructions, and at most one fault, the last
-abbrev pub rows_of : {F Z : Type 0} → LineEncoding → Run (LineInstruction F) Z → List (Result LineRow Error)
+abbrev pub rows_of : {F Z : Type 0} → LineEncoding → Run (LineInstruction F) Z
+    → List (Result LineRow Error)
 rows_of e run = rows_after e [] (opcodes_in run.items) run.end
 
 -- whether the newest opcode has a row or a fault
 abbrev pub ends_search : LineEncoding → Opcode → List Opcode → Bool
 ends_search e op past =
-    not (nat_lt (address_after e past) (limit e)) || is_end op || makes_row op && not (address_state e past).dropping
+    not (nat_lt (address_after e past) (limit e)) || is_end op
+    || makes_row op && not (address_state e past).dropping
 
 -- the files that instructions define before the next row or fault
-abbrev pub files_ahead : {F : Type 0} → LineEncoding → List Opcode → List (LineInstruction F) → List F
+abbrev pub files_ahead : {F : Type 0} → LineEncoding → List Opcode → List (LineInstruction F)
+    → List F
 files_ahead e past [] = []
-files_ahead e past (Changes op ∷ more) = if ends_search e op (op ∷ past) then [] else files_ahead e (op ∷ past) more
+files_ahead e past (Changes op ∷ more) =
+    if ends_search e op (op ∷ past) then [] else files_ahead e (op ∷ past) more
 files_ahead e past (Defines f ∷ more) = f ∷ files_ahead e past more

@@ -38,7 +38,8 @@ advanced e n r =
 -- the address is set
 abbrev pub placed : LineEncoding → ℕ → Registers → Registers
 placed e a r =
-    if is_tombstone e a || nat_lt a r.address then record r { dropping = true } else record r { address = a; op_index = 0; dropping = false }
+    if is_tombstone e a || nat_lt a r.address then record r { dropping = true }
+    else record r { address = a; op_index = 0; dropping = false }
 
 -- advanced by bytes
 abbrev pub pushed : ℕ → Registers → Registers
@@ -46,7 +47,8 @@ pushed n r = if r.dropping then r else record r { address = r.address + n; op_in
 
 -- the registers after an opcode
 abbrev pub step : LineEncoding → Registers → Opcode → Registers
-step e r (Special n) = advanced e (n / e.line_range) (record r { line = moved r.line (line_advance e n) })
+step e r (Special n) =
+    advanced e (n / e.line_range) (record r { line = moved r.line (line_advance e n) })
 step e r Copy = r
 step e r (AdvancePc n) = advanced e n r
 step e r (AdvanceLine z) = record r { line = moved r.line z }
@@ -75,31 +77,38 @@ row r end = record {
 
 -- the row that an opcode appends, after its step
 abbrev pub row_of : Opcode → Registers → Option LineRow
-row_of op r = if is_end op then Some (row r true) else (if makes_row op && not r.dropping then Some (row r false) else None)
+row_of op r =
+    if is_end op then Some (row r true)
+    else (if makes_row op && not r.dropping then Some (row r false) else None)
 
 -- the registers of the next opcode
 abbrev pub next : Opcode → Registers → Registers
 next op r = if is_end op then start else r
 
 -- the row that an opcode appends, and the registers of the next one
-unfoldable pub executed : LineEncoding → Registers → Opcode → Result (Option LineRow × Registers) Error
+unfoldable pub executed : LineEncoding → Registers → Opcode
+    → Result (Option LineRow × Registers) Error
 executed e r op = fitting e (step e r op) >>= λ s. Ok (row_of op s, next op s)
 
 -- the row that an instruction appends, the registers of the next one, and the header with its files
-unfoldable pub taken : Header → Registers → LineInstruction File → Result (Option LineRow × Registers × Header) Error
+unfoldable pub taken : Header → Registers → LineInstruction File
+    → Result (Option LineRow × Registers × Header) Error
 taken h r (Changes op) = executed h.line_encoding r op >>= λ x. Ok (x.0, x.1, h)
 taken h r (Defines f) = Ok (None, r, record h { file_names = h.file_names ++ f ∷ [] })
 
 -- the row that a standard opcode appends, the registers of the next one, and the bytes after its operands
-unfoldable pub step_standard : Header → Registers → ℕ → Section → Result (Option LineRow × Registers × Section) Error
+unfoldable pub step_standard : Header → Registers → ℕ → Section
+    → Result (Option LineRow × Registers × Section) Error
 step_standard h r code s = do
   op ← standard_at h code s
   next ← executed h.line_encoding r op.0
   Ok (next.0, next.1, op.1)
 
 -- the row that the instruction with this code appends, and the registers, the header and the bytes of the next one
-unfoldable pub step_instruction : Header → Registers → ℕ → Section → Result (Option LineRow × Registers × Header × Section) Error
+unfoldable pub step_instruction : Header → Registers → ℕ → Section
+    → Result (Option LineRow × Registers × Header × Section) Error
 step_instruction h r code s =
     if code == 0 then (extended_at h s >>= λ i. taken h r i.0 >>= λ x. Ok (x.0, x.1, x.2, i.1))
-    else if nat_le h.line_encoding.opcode_base code then (executed h.line_encoding r (Special (code - h.line_encoding.opcode_base)) >>= λ x. Ok (x.0, x.1, h, s))
+    else if nat_le h.line_encoding.opcode_base code
+    then (executed h.line_encoding r (Special (code - h.line_encoding.opcode_base)) >>= λ x. Ok (x.0, x.1, h, s))
     else (step_standard h r code s >>= λ x. Ok (x.0, x.1, h, x.2))

@@ -13,8 +13,8 @@ use std::alloc::Global;
 pub(crate) fn duplicate_value<R: Reader>(
     value: &AttributeValue<R>,
 ) -> Result<AttributeValue<R>, Error>
-    ensures gives { ExactlyUnlessOomIf (R.shares && holds_bytes value.now) (seen_value R.section) result
-        (Ok (seen_value R.section value.now)) }
+    ensures gives { ExactlyUnlessOomIf (R.shares && holds_bytes value.now)
+        (seen_value R.section) result (Ok (seen_value R.section value.now)) }
 {
     match value {
         AttributeValue::Addr(x) => Ok(AttributeValue::Addr(*x)),
@@ -57,7 +57,8 @@ fn duplicate_values<R: Reader>(
     alloc: Global,
     values: &[AttributeValue<R>],
 ) -> Result<Vec<AttributeValue<R>>, Error>
-    ensures gives { ExactlyUnlessOom (λ v. map (seen_value R.section) v.items) result (Ok (map (seen_value R.section) values.now)) }
+    ensures gives { ExactlyUnlessOom (λ v. map (seen_value R.section) v.items) result
+        (Ok (map (seen_value R.section) values.now)) }
 {
     let mut copies = Vec::new(alloc);
     for value in values {

@@ -71,7 +71,8 @@ fn read_times_format<R: Reader>(
 // Reads a count, and as many formats.
 #[tactic(auto, unfolding(crate::specs::EntryTables::formats_at))]
 fn read_formats<R: Reader>(alloc: Global, input: &mut R) -> Result<Vec<EntryFormat>, Error>
-    ensures gives { ExactlyUnlessOom (λ v. (v.items, R.section input.new)) result (formats_at (R.section input.old)) }
+    ensures gives { ExactlyUnlessOom (λ v. (v.items, R.section input.new)) result
+        (formats_at (R.section input.old)) }
 {
     let count = input.read_u8()?;
     read_times_format(alloc, count, input)
@@ -204,7 +205,8 @@ pub(crate) fn paths_of<R: Reader>(
     alloc: Global,
     entries: Vec<FileEntry<R>>,
 ) -> Result<Vec<AttributeValue<R>>, Error>
-    ensures gives { ExactlyUnlessOom (λ v. map (seen_value R.section) v.items) result (Ok (map (λ f. f.path_name) entries.items)) }
+    ensures gives { ExactlyUnlessOom (λ v. map (seen_value R.section) v.items) result
+        (Ok (map (λ f. f.path_name) entries.items)) }
 {
     let mut paths = Vec::new(alloc);
     for entry in entries {

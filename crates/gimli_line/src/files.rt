@@ -29,8 +29,7 @@ impl<R: Reader> LineProgramHeader<R> {
     ///
     /// Files count from 1 in versions 2 to 4, and from 0 in version 5; none where there is no such file.
     pub fn file(&self, index: u64) -> Option<&FileEntry<R>>
-        ensures gives { option_map (λ f. f.now) result
-            ≡ file_of self.now index }
+        ensures gives { option_map (λ f. f.now) result ≡ file_of self.now index }
     {
         entry(self.encoding.version, index, &self.file_names)
     }
@@ -74,7 +73,8 @@ impl<R: Reader> FileEntry<R> {
         &self,
         header: &LineProgramHeader<R>,
     ) -> Result<Option<AttributeValue<R>>, Error>
-        ensures gives { ExactlyUnlessOomIf (R.shares && is_in_bytes (directory_of header.now self.now))
+        ensures gives { ExactlyUnlessOomIf
+            (R.shares && is_in_bytes (directory_of header.now self.now))
             (option_map (seen_value R.section)) result (Ok (directory_of header.now self.now)) }
     {
         let index = self.directory_index;

@@ -127,8 +127,8 @@ fn take_instruction<R: Reader>(
     instruction: LineInstruction<FileEntry<R>>,
 ) -> Result<Option<LineRow>, Error>
     requires running { IsRunning header.old.line_encoding registers.old }
-    ensures gives { ExactlyUnlessOomIf (is_file instruction) (λ x. (x, registers.new, header.new)) result
-        (taken header.old registers.old instruction) }
+    ensures gives { ExactlyUnlessOomIf (is_file instruction)
+        (λ x. (x, registers.new, header.new)) result (taken header.old registers.old instruction) }
     ensures running { OnOk result (IsRunning header.new.line_encoding registers.new) }
     ensures kept { OnErr result (header.new ≡ header.old) }
 {
@@ -152,7 +152,8 @@ fn step_instruction<R: Reader>(
     program: &mut R,
 ) -> Result<Option<LineRow>, Error>
     requires running { IsRunning header.old.line_encoding registers.old }
-    ensures gives { ExactlyUnlessOomIf (gives_file (coded_instruction_at header.old code (R.section program.old)))
+    ensures gives { ExactlyUnlessOomIf
+        (gives_file (coded_instruction_at header.old code (R.section program.old)))
         (λ x. (x, registers.new, header.new, R.section program.new)) result
         (step_instruction header.old registers.old code (R.section program.old)) }
     ensures running { OnOk result (IsRunning header.new.line_encoding registers.new) }
@@ -178,10 +179,11 @@ fn find_row<R: Reader>(
     requires running { IsRunning header.old.line_encoding registers.old }
     ensures gives { Finds (rows_left header.old registers.old (R.section program.old)) result
         (rows_left header.new registers.new (R.section program.new)) }
-    ensures memory { IfErr result (λ e. ahead_left header.old registers.old (R.section program.old) ≡ []
+    ensures memory { IfErr result (λ e.
+        ahead_left header.old registers.old (R.section program.old) ≡ []
         → rows_left header.old registers.old (R.section program.old) ≡ Err e ∷ []) }
-    ensures header { DefinesAhead header.old (ahead_left header.old registers.old (R.section program.old))
-        result header.new }
+    ensures header { DefinesAhead header.old
+        (ahead_left header.old registers.old (R.section program.old)) result header.new }
     ensures files { OnOk result (DefinesOn header.old (R.section program.old)
         header.new (R.section program.new)) }
     ensures all { IfOk result (λ row. row ≡ None → (R.section program.new).bytes ≡ []) }

@@ -12,7 +12,7 @@ use crate::parameters::LineParameters;
 use crate::program::IncompleteLineProgram;
 use crate::tables::read_tables;
 use gimli_read::{
-    EndianSlice, Encoding, Error, Format, Reader, RunTimeEndian, read_initial_length,
+    Encoding, EndianSlice, Error, Format, Reader, RunTimeEndian, read_initial_length,
 };
 use std::alloc::Global;
 use std::marker::Model;

@@ -64,7 +64,8 @@ fn instructions(parameters: &LineParameters, op_index: u8, operations: u64) -> (
 
 // Whether an address stands for code that isn't there, or is below the current one.
 fn starts_dropping(parameters: &LineParameters, address: u64, current: u64) -> bool
-    ensures gives { result ≡ (is_tombstone parameters.now.encoding address || nat_lt address current) }
+    ensures gives { result
+        ≡ (is_tombstone parameters.now.encoding address || nat_lt address current) }
 {
     parameters.greatest <= address.saturating_add(1) || address < current
 }
@@ -117,7 +118,8 @@ impl Registers {
     fn advance(&mut self, parameters: &LineParameters, operations: u64) -> Result<(), Error>
         requires running { IsRunning parameters.now.encoding self.old }
         ensures gives { Exactly (λ _. self.new) result
-            (fitting parameters.now.encoding (advanced parameters.now.encoding operations self.old)) }
+            (fitting parameters.now.encoding
+            (advanced parameters.now.encoding operations self.old)) }
     {
         if self.dropping {
             return Ok(());

@@ -68,7 +68,8 @@ fn read_directories<R: Reader>(
     alloc: Global,
     input: &mut R,
 ) -> Result<Vec<AttributeValue<R>>, Error>
-    ensures gives { ExactlyUnlessOom (λ v. (map (seen_value R.section) v.items, R.section input.new)) result
+    ensures gives { ExactlyUnlessOom
+        (λ v. (map (seen_value R.section) v.items, R.section input.new)) result
         (collected (run_of directory_at (R.section input.old))) }
 {
     let mut directories = Vec::new(alloc);

@@ -8,7 +8,7 @@ use Rattle.gimli_read.specs.Section.{Section}
 use Rattle.gimli_read.specs.Reading.{Reading, ◌>>=◌, refused_if}
 use Rattle.gimli_read.specs.Leb128.{uleb128_at}
 use Rattle.gimli_read.specs.Abbreviations.{Specification, Abbrev, with_code, HasDistinctCodes}
-use Rattle.gimli_read.specs.Abbrev.{constant_at, coded, specification_at, specifications_at, head_at, declaration_at, abbreviation_at, extended, table_within, head_and_pair_at, front_at, takes_memory}
+use Rattle.gimli_read.specs.Abbrev.{constant_at, coded, specification_at, specifications_at, declaration_head_at, declaration_at, abbreviation_at, extended, table_within, head_and_pair_at, front_at, takes_memory}
 use Rattle.gimli_read.proofs.Shorter.{Shorter, shorter_bind, shorter_then, shorter_if, shorter_err, shorter_ok, fixed-shorter, uleb128-shorter, sleb128-shorter, TakesBytes, takes_by, shorter_by}
 use Rattle.gimli_read.proofs.Steps.{bind_ok, same_value, end_is_none}
 use Rattle.gimli_read.proofs.RunLemmas.{collected-shorter, collected-fault}
@@ -26,8 +26,8 @@ specification_shorter s =
 pub specification_takes : TakesBytes specification_at
 specification_takes = takes_by specification_at specification_shorter
 
-head_shorter : (s : Section) → Shorter (length s.bytes) (head_at s)
-unfolding head_at
+head_shorter : (s : Section) → Shorter (length s.bytes) (declaration_head_at s)
+unfolding declaration_head_at
 head_shorter s =
     shorter_bind (uleb128-shorter s) (λ t ht. shorter_then (refused_if (t.0 == 0) BadAbbreviation) (λ _.
     shorter_bind (fixed-shorter 1 t.1 (omega arith)) (λ c hc. shorter_then (refused_if (nat_lt 1 c.0) BadAbbreviation) (λ _. shorter_ok (omega arith)))))
@@ -61,17 +61,17 @@ abbreviation_takes table s = at (length s.bytes == 0)
     at false = out _ (after_code_shorter table s)
 
 -- two ways on that agree on what is shorter
-agrees : (table : List Abbrev) (s : Section) (j k : List Abbrev → Section → Result (List Abbrev) Error) → ((u : List Abbrev) (t : Section) → length t.bytes < length s.bytes → j u t ≡ k u t)
+extended_agrees : (table : List Abbrev) (s : Section) (j k : List Abbrev → Section → Result (List Abbrev) Error) → ((u : List Abbrev) (t : Section) → length t.bytes < length s.bytes → j u t ≡ k u t)
     → (r : Reading (Option Abbrev)) → IfOk r (λ p. IfSome p.0 (λ _. length p.1.bytes < length s.bytes)) → (r >>= λ a. extended j table a.0 a.1) ≡ (r >>= λ a. extended k table a.0 a.1)
-agrees table s j k same (Err e) h = refl
-agrees table s j k same (Ok (None, t)) h = refl
-agrees table s j k same (Ok (Some a, t)) h = same (table ++ a ∷ []) t h
+extended_agrees table s j k same (Err e) h = refl
+extended_agrees table s j k same (Ok (None, t)) h = refl
+extended_agrees table s j k same (Ok (Some a, t)) h = same (table ++ a ∷ []) t h
 
 table_enough : (n m : ℕ) (table : List Abbrev) (s : Section) → length s.bytes < n → length s.bytes < m → table_within n table s ≡ table_within m table s
 unfolding table_within
 table_enough zero m table s h k = absurd (omega arith)
 table_enough (suc n) zero table s h k = absurd (omega arith)
-table_enough (suc n) (suc m) table s h k = agrees table s (table_within n) (table_within m) (λ u t l. table_enough n m u t (omega arith) (omega arith)) (abbreviation_at table s) (abbreviation_takes table s)
+table_enough (suc n) (suc m) table s h k = extended_agrees table s (table_within n) (table_within m) (λ u t l. table_enough n m u t (omega arith) (omega arith)) (abbreviation_at table s) (abbreviation_takes table s)
 
 -- the table that a section goes on with
 abbrev pub table_from : List Abbrev → Section → Result (List Abbrev) Error
@@ -79,7 +79,7 @@ table_from table s = table_within (length s.bytes + 1) table s
 
 table_next : (table : List Abbrev) (s : Section) → table_from table s ≡ (abbreviation_at table s >>= λ a. extended table_from table a.0 a.1)
 unfolding table_within
-table_next table s = ap (λ n. table_within n table s) (add-one (length s.bytes)) ∙ agrees table s (table_within (length s.bytes)) table_from (λ u t l. table_enough (length s.bytes) (length t.bytes + 1) u t l (omega arith)) (abbreviation_at table s) (abbreviation_takes table s)
+table_next table s = ap (λ n. table_within n table s) (add-one (length s.bytes)) ∙ extended_agrees table s (table_within (length s.bytes)) table_from (λ u t l. table_enough (length s.bytes) (length t.bytes + 1) u t l (omega arith)) (abbreviation_at table s) (abbreviation_takes table s)
 
 pub table_fault : (table : List Abbrev) (s : Section) (e : Error) → abbreviation_at table s ≡ Err e → table_from table s ≡ Err e
 table_fault table s e h = table_next table s ∙ ap (λ r. r >>= λ a. extended table_from table a.0 a.1) h
@@ -103,7 +103,7 @@ found_some x = Ok (Some x.0, x.1)
 declaration_code : (code : ℕ) (s : Section) (a : Abbrev) (t : Section) → declaration_at code s ≡ Ok (a, t) → a.code ≡ code
 unfolding declaration_at
 declaration_code code s a t h =
-    let x = bind_ok (head_at s) (λ x. specifications_at x.1 >>= λ y. Ok (coded code x.0 y.0, y.1)) (a, t) h in
+    let x = bind_ok (declaration_head_at s) (λ x. specifications_at x.1 >>= λ y. Ok (coded code x.0 y.0, y.1)) (a, t) h in
     let y = bind_ok (specifications_at x.0.1) (λ y. Ok (coded code x.0.0 y.0, y.1)) (a, t) x.2 in
     let same : coded code x.0.0 y.0.0 ≡ a = same_value {A = Abbrev} {B = Section} (coded code x.0.0 y.0.0, y.0.1) (a, t) y.2 in
     ap (λ (z : Abbrev). z.code) (sym same)
@@ -117,13 +117,13 @@ abbreviation_new table s t a h = at_end (length s.bytes == 0) h
     none None e = refl
     none (Some x) e = cc
 
-    told : (x : Abbrev) (u : Section) → ◌≡◌ {A = Reading (Option Abbrev)} (Ok (Some x, u)) (Ok (Some a, t)) → x ≡ a
-    told x u e = let same : Some x ≡ Some a = same_value {A = Option Abbrev} {B = Section} (Some x, u) (Some a, t) e in cc
+    same_item : (x : Abbrev) (u : Section) → ◌≡◌ {A = Reading (Option Abbrev)} (Ok (Some x, u)) (Ok (Some a, t)) → x ≡ a
+    same_item x u e = let same : Some x ≡ Some a = same_value {A = Option Abbrev} {B = Section} (Some x, u) (Some a, t) e in cc
 
     at_declaration : (code : ℕ) (r : Reading Abbrev) → ((x : Abbrev) (u : Section) → r ≡ Ok (x, u) → x.code ≡ code) → with_code code table ≡ None → (r >>= found_some) ≡ Ok (Some a, t) → with_code a.code table ≡ None
     at_declaration code (Err e) is n h = cc
     at_declaration code (Ok x) is n h =
-        let same : x.0 ≡ a = told x.0 x.1 h in
+        let same : x.0 ≡ a = same_item x.0 x.1 h in
         ap (λ c. with_code c table) (ap (λ (y : Abbrev). y.code) (sym same) ∙ is x.0 x.1 refl) ∙ n
 
     at_new : (code : ℕ) (u : Section) (b : Bool) → is_some (with_code code table) ≡ b → (refused_if b BadAbbreviation >>= λ _. declaration_at code u >>= found_some) ≡ Ok (Some a, t) → with_code a.code table ≡ None
@@ -197,9 +197,9 @@ abbreviation_front table s t a h = at_end (length s.bytes == 0) h
     at_declaration : (code : ℕ) (u : Section) (r : Reading Abbrev) → declaration_at code u ≡ r → (r >>= found_some) ≡ Ok (Some a, t) → is_ok (head_and_pair_at u) ≡ true
     at_declaration code u (Err e) is h = absurd cc
     at_declaration code u (Ok x) is h =
-        let y = bind_ok (head_at u) (λ y. specifications_at y.1 >>= λ z. Ok (coded code y.0 z.0, z.1)) x is in
+        let y = bind_ok (declaration_head_at u) (λ y. specifications_at y.1 >>= λ z. Ok (coded code y.0 z.0, z.1)) x is in
         let z = bind_ok (specifications_at y.0.1) (λ z. Ok (coded code y.0.0 z.0, z.1)) x y.2 in
-        ok_bind (head_at u) (λ y. specification_at y.1) y.0 y.1 (specifications_begun y.0.1 z.0 z.1)
+        ok_bind (declaration_head_at u) (λ y. specification_at y.1) y.0 y.1 (specifications_begun y.0.1 z.0 z.1)
 
     at_new : (code : ℕ) (u : Section) (b : Bool) → (refused_if b BadAbbreviation >>= λ _. declaration_at code u >>= found_some) ≡ Ok (Some a, t) → is_ok (head_and_pair_at u) ≡ true
     at_new code u true h = absurd cc

@@ -13,7 +13,7 @@ use Rattle.gimli_read.specs.Reading.{Reading, ◌>>=◌}
 use Rattle.gimli_read.specs.Form.{NamedValue, value_at, implicit_of, attribute_at}
 use Rattle.gimli_read.specs.Value.{section_of, IsValue, IsAttributeValue}
 use Rattle.gimli_read.specs.ValueLaws.{ReadsAttribute, ReadsAttributeAlone}
-use Rattle.gimli_read.proofs.Steps.{bind_ok, chosen, same_rest, same_value}
+use Rattle.gimli_read.proofs.Steps.{bind_ok, branch_taken, same_rest, same_value}
 use Rattle.gimli_read.proofs.ValueTexts.{value_reads, value_alone}
 
 abbrev of_parts : DwAt → AttributeValue Section → NamedValue
@@ -48,7 +48,7 @@ implicit_is (Some z) v h = (z, refl, cc)
 pub attribute_alone : ReadsAttributeAlone
 unfolding attribute_at
 attribute_alone e x s rest a h =
-    elim (chosen (x.form.0 == DW_FORM_implicit_const.0) (implicit_read x s) (value_read e x s) (Ok (a, rest)) h) [
+    elim (branch_taken (x.form.0 == DW_FORM_implicit_const.0) (implicit_read x s) (value_read e x s) (Ok (a, rest)) h) [
       | inl c ↦
           let b = bind_ok (implicit_of x.constant) (λ value. Ok (of_parts x.name value, s)) (a, rest) c.1 in
           let is : of_parts x.name b.0 ≡ a = same_value (of_parts x.name b.0, s) (a, rest) b.2 in

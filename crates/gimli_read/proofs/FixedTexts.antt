@@ -10,7 +10,7 @@ use Rattle.gimli_read.specs.declared.endian.RunTimeEndian.TheVariants.{Little, B
 use Rattle.gimli_read.specs.Section.{Section, after}
 use Rattle.gimli_read.specs.Number.{number_of, fixed_at}
 use Rattle.gimli_read.specs.Value.{low_first, high_first, number_in, section_of}
-use Rattle.gimli_read.specs.ValueLaws.{IsCut, ReadsFixed, ReadsFixedAlone}
+use Rattle.gimli_read.specs.ValueLaws.{IsTextAndRest, ReadsFixed, ReadsFixedAlone}
 use Rattle.gimli_read.proofs.Steps.{guard_ok}
 
 low_read : (front text rest : List ℕ) → little_from (length front) (length text) (front ++ (text ++ rest)) ≡ low_first text
@@ -42,7 +42,7 @@ fixed_whole order text rest = rw (not_short text rest, number_read order text re
 pub fixed_reads : ReadsFixed
 fixed_reads order n x text rest u = ap (λ k. fixed_at k (section_of order (text ++ rest))) (sym u.long) ∙ fixed_whole order text rest ∙ ap (λ y. Ok (y, section_of order rest)) (sym u.value)
 
-pub cut_at : (n : ℕ) (s rest : Section) → after n s ≡ rest → IsCut s (take n s.bytes) rest
+pub cut_at : (n : ℕ) (s rest : Section) → after n s ≡ rest → IsTextAndRest s (take n s.bytes) rest
 cut_at n s rest e = sym (ap (λ t. section_of t.endian (take n s.bytes ++ t.bytes)) (sym e) ∙ ap (section_of s.endian) (take-append-drop n s.bytes))
 
 pub take_long : (n : ℕ) (bytes : List ℕ) → ltb (length bytes) n ≡ false → length (take n bytes) ≡ n

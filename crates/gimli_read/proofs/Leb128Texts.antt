@@ -8,7 +8,7 @@ use Rattle.std.proofs.lemmas.List.Quantifiers.{position-Some}
 use Rattle.std.proofs.lemmas.Grind.{common_steps}
 use Rattle.gimli_read.specs.declared.error.Error.TheVariants.{BadLeb128}
 use Rattle.gimli_read.specs.Leb128.{uleb128_value, sleb128_value, fits_i64, cut_after, leb128_text, uleb128_in, sleb128_in, IsLeb128Text, ReadsUleb128, ReadsUleb128Alone, ReadsSleb128, ReadsSleb128Alone}
-use Rattle.gimli_read.proofs.Steps.{bind_ok, chosen, same_rest, same_value}
+use Rattle.gimli_read.proofs.Steps.{bind_ok, branch_taken, same_rest, same_value}
 
 position_at : (p : ℕ → Bool) (xs : List ℕ) (i : ℕ) → i < length xs → ((k : ℕ) → k < i → p (get_or xs k 0) ≡ false) → p (get_or xs i 0) ≡ true → position p xs ≡ Some i
 position_at p xs i h before at =
@@ -55,7 +55,7 @@ unfolding uleb128_in
 uleb128_alone bytes rest n e =
     let b = bind_ok (leb128_text bytes) (λ text. cond (ltb (uleb128_value text.0) (2 ^ 64)) (Ok (uleb128_value text.0, text.1)) (Err BadLeb128)) (n, rest) e in
     let s = leb128_text_is bytes (position (λ b. nat_lt b 128) (take 10 bytes)) b.0.0 b.0.1 refl b.1 in
-    elim (chosen (ltb (uleb128_value b.0.0) (2 ^ 64)) (Ok (uleb128_value b.0.0, b.0.1)) (Err BadLeb128) (Ok (n, rest)) b.2) [
+    elim (branch_taken (ltb (uleb128_value b.0.0) (2 ^ 64)) (Ok (uleb128_value b.0.0, b.0.1)) (Err BadLeb128) (Ok (n, rest)) b.2) [
       | inl t ↦
           let r : b.0.1 ≡ rest = same_rest (uleb128_value b.0.0, b.0.1) (n, rest) t.1 in
           let v : uleb128_value b.0.0 ≡ n = same_value (uleb128_value b.0.0, b.0.1) (n, rest) t.1 in
@@ -72,7 +72,7 @@ unfolding sleb128_in
 sleb128_alone bytes rest z e =
     let b = bind_ok (leb128_text bytes) (λ text. cond (fits_i64 (sleb128_value text.0)) (Ok (sleb128_value text.0, text.1)) (Err BadLeb128)) (z, rest) e in
     let s = leb128_text_is bytes (position (λ b. nat_lt b 128) (take 10 bytes)) b.0.0 b.0.1 refl b.1 in
-    elim (chosen (fits_i64 (sleb128_value b.0.0)) (Ok (sleb128_value b.0.0, b.0.1)) (Err BadLeb128) (Ok (z, rest)) b.2) [
+    elim (branch_taken (fits_i64 (sleb128_value b.0.0)) (Ok (sleb128_value b.0.0, b.0.1)) (Err BadLeb128) (Ok (z, rest)) b.2) [
       | inl t ↦
           let r : b.0.1 ≡ rest = same_rest (sleb128_value b.0.0, b.0.1) (z, rest) t.1 in
           let v : sleb128_value b.0.0 ≡ z = same_value (sleb128_value b.0.0, b.0.1) (z, rest) t.1 in

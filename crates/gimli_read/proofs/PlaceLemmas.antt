@@ -96,7 +96,7 @@ not_among table d code n i x s e =
     let clash : None ≡ Some x = sym c ∙ k in
     absurd cc
 
--- two numbers that differ are told apart
+-- two numbers that differ do not compare equal
 pub apart_cmp : (m n : ℕ) → (n ≢ m) → is_eq (nat_cmp m n) ≡ false
 apart_cmp m n ne = at (nat_cmp m n) refl
   where

@@ -30,8 +30,8 @@ unsigned_byte (x ∷ rest) b e h =
 positive_is : (b : ℕ) → b < 64 → pos b ≡ sleb128_value (b ∷ [])
 positive_is b h = rw (lt-ltb b 64 h) (ap pos (byte_value b (omega arith)))
 
-negative_is : (b : ℕ) → 64 ≤ b → b < 128 → pos b -ℤ pos 128 ≡ sleb128_value (b ∷ [])
-negative_is b k h = rw (le-ltb b 64 k) (ap (λ n. pos n -ℤ pos 128) (byte_value b h))
+negative_byte_is : (b : ℕ) → 64 ≤ b → b < 128 → pos b -ℤ pos 128 ≡ sleb128_value (b ∷ [])
+negative_byte_is b k h = rw (le-ltb b 64 k) (ap (λ n. pos n -ℤ pos 128) (byte_value b h))
 
 below_zero : (b : ℕ) → b < 128 → pos b -ℤ pos 128 ≡ negsuc (127 - b)
 below_zero b h = grind (arith, common_steps)
@@ -41,7 +41,7 @@ value_fits b h = by_sign (cases_lt b 64)
   where
     by_sign : (b < 64) ⊎ (64 ≤ b) → fits_i64 (sleb128_value (b ∷ [])) ≡ true
     by_sign (inl l) = let big : b < 2 ^ 63 = omega arith in ap fits_i64 (sym (positive_is b l)) ∙ lt-ltb b (2 ^ 63) big
-    by_sign (inr k) = let big : 127 - b < 2 ^ 63 = omega arith in ap fits_i64 (sym (negative_is b k h) ∙ below_zero b h) ∙ lt-ltb (127 - b) (2 ^ 63) big
+    by_sign (inr k) = let big : 127 - b < 2 ^ 63 = omega arith in ap fits_i64 (sym (negative_byte_is b k h) ∙ below_zero b h) ∙ lt-ltb (127 - b) (2 ^ 63) big
 
 -- a small difference is one of signed numbers
 difference_is : (m n : ℕ) → m < 128 → n ≤ 128 → to_z w64 (of_z w64 (to_z w64 m -ℤ to_z w64 n)) ≡ pos m -ℤ pos n
@@ -61,7 +61,7 @@ sign_value b h = by_sign (cases_lt b 64)
         rw sign (difference_is b 0 h (omega arith) ∙ whole ∙ positive_is b l)
     by_sign (inr k) =
         let sign : b / 64 * 128 ≡ 128 = omega arith in
-        rw sign (difference_is b 128 h (omega arith) ∙ negative_is b k h)
+        rw sign (difference_is b 128 h (omega arith) ∙ negative_byte_is b k h)
 
 pub signed_byte : (bytes : List ℕ) (b : ℕ) → slice_get bytes 0 ≡ Some b → b < 128 → sleb128_in bytes ≡ Ok (sleb128_value (b ∷ []), drop 1 bytes)
 signed_byte [] b e h = absurd cc

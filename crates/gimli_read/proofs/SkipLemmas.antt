@@ -8,15 +8,15 @@ use Rattle.gimli_read.specs.Abbreviations.{Specification}
 use Rattle.gimli_read.specs.Number.{skipped_at}
 use Rattle.gimli_read.specs.Form.{NamedValue, attribute_at}
 use Rattle.gimli_read.specs.Value.{section_of}
-use Rattle.gimli_read.specs.ValueLaws.{IsCut}
+use Rattle.gimli_read.specs.ValueLaws.{IsTextAndRest}
 use Rattle.gimli_read.proofs.FixedTexts.{not_short}
 use Rattle.gimli_read.proofs.AttributeTexts.{attribute_alone}
 
-cut_skipped : (s rest : Section) (text : List ℕ) (n : ℕ) → IsCut s text rest → n ≡ length text → skipped_at n s ≡ Ok (tt, rest)
+cut_skipped : (s rest : Section) (text : List ℕ) (n : ℕ) → IsTextAndRest s text rest → n ≡ length text → skipped_at n s ≡ Ok (tt, rest)
 cut_skipped s rest text n cut is =
     ap (skipped_at n) cut ∙ ap (λ k. skipped_at k (section_of rest.endian (text ++ rest.bytes))) is ∙ rw (not_short text rest.bytes, drop-append_seam text rest.bytes) refl
 
-taken_is : (s rest : Section) (text : List ℕ) → IsCut s text rest → length s.bytes - length rest.bytes ≡ length text
+taken_is : (s rest : Section) (text : List ℕ) → IsTextAndRest s text rest → length s.bytes - length rest.bytes ≡ length text
 taken_is s rest text cut =
     let whole : length s.bytes ≡ length (text ++ rest.bytes) = ap (λ (u : Section). length u.bytes) cut in
     omega (arith, whole, length-append text rest.bytes)

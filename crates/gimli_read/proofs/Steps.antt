@@ -19,9 +19,9 @@ bind_ok (Ok x) f y e = (x, refl, e)
 bind_ok (Err d) f y e = absurd cc
 
 -- which way a test went
-pub chosen : {A : Type 0} (b : Bool) (x y z : A) → cond b x y ≡ z → ((b ≡ true) × (x ≡ z)) ⊎ ((b ≡ false) × (y ≡ z))
-chosen true x y z e = inl (refl, e)
-chosen false x y z e = inr (refl, e)
+pub branch_taken : {A : Type 0} (b : Bool) (x y z : A) → cond b x y ≡ z → ((b ≡ true) × (x ≡ z)) ⊎ ((b ≡ false) × (y ≡ z))
+branch_taken true x y z e = inl (refl, e)
+branch_taken false x y z e = inr (refl, e)
 
 -- two equal answers leave the same
 pub same_rest : {A B : Type 0} (x y : A × B) → done x ≡ done y → x.1 ≡ y.1
@@ -31,7 +31,7 @@ same_rest {A = A} {B = B} x y e = let k : x ≡ y = cc in ap (λ (p : A × B). p
 pub same_value : {A B : Type 0} (x y : A × B) → done x ≡ done y → x.0 ≡ y.0
 same_value {A = A} {B = B} x y e = let k : x ≡ y = cc in ap (λ (p : A × B). p.0) k
 
--- a fault that is given may be told
+-- a fault that is given may be answered
 pub refuses_fault : {Y : Type 0} (e : Error) (given : Result Y Error) → given ≡ Err e → IsFaultUnlessOom e given
 refuses_fault e given h = λ _. h
 

@@ -39,8 +39,8 @@ abbrev pub specifications_at : Section → Reading (List Specification)
 specifications_at s = collected (run_of specification_at s)
 
 -- a tag, and whether children follow
-unfoldable pub head_at : Section → Reading (DwTag × Bool)
-head_at s = do
+unfoldable pub declaration_head_at : Section → Reading (DwTag × Bool)
+declaration_head_at s = do
   tag ← uleb128_at s
   known ← refused_if (tag.0 == 0) BadAbbreviation
   children ← fixed_at 1 tag.1
@@ -55,13 +55,13 @@ coded code head attributes =
 -- what follows a code
 unfoldable pub declaration_at : ℕ → Section → Reading Abbrev
 declaration_at code s = do
-  head ← head_at s
+  head ← declaration_head_at s
   attributes ← specifications_at head.1
   Ok (coded code head.0 attributes.0, attributes.1)
 
 -- a head, and its first pair or the end of its pairs
 abbrev pub head_and_pair_at : Section → Reading (Option Specification)
-head_and_pair_at s = head_at s >>= λ head. specification_at head.1
+head_and_pair_at s = declaration_head_at s >>= λ head. specification_at head.1
 
 -- the front of a table: a code, a head, and its first pair or the end of its pairs
 unfoldable pub front_at : Section → Reading (Option Specification)

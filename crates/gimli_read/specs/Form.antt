@@ -77,15 +77,15 @@ implicit_of None = Err UnknownForm
 implicit_of (Some z) = Ok (values.Sdata z)
 
 -- a value of an attribute by its specification
-abbrev pub named : Specification → AttributeValue Section → NamedValue
-named specification value = record { name = specification.name; value = value }
+abbrev pub named_value : Specification → AttributeValue Section → NamedValue
+named_value specification value = record { name = specification.name; value = value }
 
 -- the attribute of a specification
 unfoldable pub attribute_at : Encoding → Specification → Section → Reading (NamedValue)
 attribute_at encoding specification s =
     if specification.form.0 == DW_FORM_implicit_const.0 then
-    (implicit_of specification.constant >>= λ value. Ok (named specification value, s))
-    else (value_at encoding specification.form.0 s >>= λ v. Ok (named specification v.0, v.1))
+    (implicit_of specification.constant >>= λ value. Ok (named_value specification value, s))
+    else (value_at encoding specification.form.0 s >>= λ v. Ok (named_value specification v.0, v.1))
 
 -- a signed number that isn't negative
 abbrev pub unsigned_of : ℤ → Option ℕ

@@ -48,6 +48,11 @@ is_address_size n = n == 1 || n == 2 || n == 4 || n == 8
 abbrev pub address_at : ℕ → Section → Reading ℕ
 address_at size s = if is_address_size size then fixed_at size s else Err UnsupportedAddressSize
 
+-- the number of bytes of an offset
+abbrev pub offset_size : Format → ℕ
+offset_size Dwarf32 = 4
+offset_size Dwarf64 = 8
+
 -- an offset or a length, which the format makes four bytes or eight
 abbrev pub offset_at : Format → Section → Reading ℕ
 offset_at Dwarf32 s = fixed_at 4 s

@@ -5,14 +5,12 @@ use Rattle.std.specs.Prelude.{◌≡◌, ◌≢◌, ◌⊎◌, ℕ, zero, suc, �
 use Rattle.gimli_read.specs.declared.constants.TheConstants.DwForm.{DW_FORM_indirect, DW_FORM_implicit_const}
 use Rattle.gimli_read.specs.declared.endian.RunTimeEndian.{RunTimeEndian}
 use Rattle.gimli_read.specs.declared.endian.RunTimeEndian.TheVariants.{Little, Big}
-use Rattle.gimli_read.specs.declared.endian.Format.{Format}
-use Rattle.gimli_read.specs.declared.endian.Format.TheVariants.{Dwarf32, Dwarf64}
 use Rattle.gimli_read.specs.declared.endian.Encoding.{Encoding}
 use Rattle.gimli_read.specs.declared.value.AttributeValue.{AttributeValue}
 use Rattle.gimli_read.specs.declared.value.AttributeValue.TheVariants as values
 use Rattle.gimli_read.specs.Abbreviations.{Specification}
 use Rattle.gimli_read.specs.Section.{Section}
-use Rattle.gimli_read.specs.Number.{is_address_size}
+use Rattle.gimli_read.specs.Number.{is_address_size, offset_size}
 use Rattle.gimli_read.specs.Leb128.{IsUleb128, IsSleb128}
 use Rattle.gimli_read.specs.Form.{NamedValue}
 use Rattle.gimli_read.specs.FormEncoding.{FormEncoding, Fixed, Address, Offset, AddressOrOffset, Unsigned, Signed, Block1, Block2, Block4, Block, Text, Empty, form_encoding_of}
@@ -41,11 +39,6 @@ pub record IsFixed (order : RunTimeEndian) (n : ℕ) (text : List ℕ) (x : ℕ)
 abbrev pub IsAddress : Encoding → RunTimeEndian → List ℕ → ℕ → Type 0
 IsAddress encoding order text x =
     (is_address_size encoding.address_size ≡ true) × IsFixed order encoding.address_size text x
-
--- the number of bytes of an offset
-abbrev pub offset_size : Format → ℕ
-offset_size Dwarf32 = 4
-offset_size Dwarf64 = 8
 
 -- an offset
 abbrev pub IsOffset : Encoding → RunTimeEndian → List ℕ → ℕ → Type 0

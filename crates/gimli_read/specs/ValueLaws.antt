@@ -12,40 +12,40 @@ use Rattle.gimli_read.specs.Form.{NamedValue, value_at, attribute_at}
 use Rattle.gimli_read.specs.Value.{section_of, IsFixed, IsValue, IsAttribute}
 
 -- the text, with what is left after it, is read as x
-abbrev pub IsRead : {X : Type 0} → (Section → Reading X) → RunTimeEndian → List ℕ → List ℕ → X
+abbrev pub IsReadAs : {X : Type 0} → (Section → Reading X) → RunTimeEndian → List ℕ → List ℕ → X
     → Type 0
-IsRead reading order text rest x =
+IsReadAs reading order text rest x =
     reading (section_of order (text ++ rest)) ≡ Ok (x, section_of order rest)
 
 -- the section is a text and what is left
-abbrev pub IsCut : Section → List ℕ → Section → Type 0
-IsCut s text rest = s ≡ section_of rest.endian (text ++ rest.bytes)
+abbrev pub IsTextAndRest : Section → List ℕ → Section → Type 0
+IsTextAndRest s text rest = s ≡ section_of rest.endian (text ++ rest.bytes)
 
 -- each text of a fixed number is read as that number, whatever follows
 abbrev pub ReadsFixed : Type 0
 ReadsFixed =
     (order : RunTimeEndian) (n x : ℕ) (text rest : List ℕ)
-    → IsFixed order n text x → IsRead (fixed_at n) order text rest x
+    → IsFixed order n text x → IsReadAs (fixed_at n) order text rest x
 
 -- and nothing else is read
 abbrev pub ReadsFixedAlone : Type 0
 ReadsFixedAlone =
     (n x : ℕ) (s rest : Section) → fixed_at n s ≡ Ok (x, rest)
-    → (text : List ℕ) × IsFixed s.endian n text x × IsCut s text rest
+    → (text : List ℕ) × IsFixed s.endian n text x × IsTextAndRest s text rest
 
 -- each text of a value is read as that value, whatever follows
 abbrev pub ReadsValue : Type 0
 ReadsValue =
     (encoding : Encoding) (order : RunTimeEndian) (form : ℕ) (text rest : List ℕ)
     (value : AttributeValue Section)
-    → IsValue encoding order form text value → IsRead (value_at encoding form) order text rest value
+    → IsValue encoding order form text value → IsReadAs (value_at encoding form) order text rest value
 
 -- and nothing else is read
 abbrev pub ReadsValueAlone : Type 0
 ReadsValueAlone =
     (encoding : Encoding) (form : ℕ) (s rest : Section) (value : AttributeValue Section)
     → value_at encoding form s ≡ Ok (value, rest)
-    → (text : List ℕ) × IsValue encoding s.endian form text value × IsCut s text rest
+    → (text : List ℕ) × IsValue encoding s.endian form text value × IsTextAndRest s text rest
 
 -- each text of an attribute is read as that attribute, whatever follows
 abbrev pub ReadsAttribute : Type 0
@@ -53,7 +53,7 @@ ReadsAttribute =
     (encoding : Encoding) (order : RunTimeEndian) (specification : Specification)
     (text rest : List ℕ) (attribute : NamedValue)
     → IsAttribute encoding order specification text attribute
-    → IsRead (attribute_at encoding specification) order text rest attribute
+    → IsReadAs (attribute_at encoding specification) order text rest attribute
 
 -- and nothing else is read
 abbrev pub ReadsAttributeAlone : Type 0
@@ -62,4 +62,4 @@ ReadsAttributeAlone =
     (attribute : NamedValue)
     → attribute_at encoding specification s ≡ Ok (attribute, rest)
     → (text : List ℕ) × IsAttribute encoding s.endian specification text attribute
-    × IsCut s text rest
+    × IsTextAndRest s text rest

@@ -7,7 +7,7 @@ ghost use Rattle.std.specs.BTreeMap.{get};
 ghost use Rattle.gimli_read.specs.Reading.{ExactlyUnlessOomIf, Reads};
 ghost use Rattle.gimli_read.specs.Abbreviations.{with_code};
 ghost use Rattle.gimli_read.specs.AbbreviationPlaces.{if_coded, IsSameApart};
-ghost use Rattle.gimli_read.specs.Abbrev.{specification_at, specifications_at, head_at, declaration_at, head_and_pair_at, abbreviation_at, takes_memory, table_at};
+ghost use Rattle.gimli_read.specs.Abbrev.{specification_at, specifications_at, declaration_head_at, declaration_at, head_and_pair_at, abbreviation_at, takes_memory, table_at};
 
 use crate::constants::{DwAt, DwForm, DwTag};
 use crate::error::Error;
@@ -173,9 +173,9 @@ fn read_specifications<R: Reader>(
 }
 
 // A tag, and whether children follow.
-#[tactic(auto, unfolding(crate::specs::Abbrev::head_at))]
+#[tactic(auto, unfolding(crate::specs::Abbrev::declaration_head_at))]
 fn read_head<R: Reader>(input: &mut R) -> Result<(DwTag, bool), Error>
-    ensures gives { Reads R.section input.old input.new result head_at }
+    ensures gives { Reads R.section input.old input.new result declaration_head_at }
 {
     let tag = input.read_uleb128()?;
     if tag == 0 {

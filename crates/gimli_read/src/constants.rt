@@ -1,4 +1,4 @@
-//! Constants of DWARF, in the standard's spelling (DWARF 5, sections 7.5.3 to 7.5.6 and 7.12).
+//! Constants of DWARF, by the names of the standard (DWARF 5, sections 7.5.3 to 7.5.6 and 7.12).
 
 ghost use Rattle.std.specs.Prelude.{◌≡◌};
 ghost use Rattle.gimli_read.specs.StringForm.{is_string_form};

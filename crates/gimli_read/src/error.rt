@@ -10,7 +10,7 @@ use std::alloc::{AllocError, AllocFailed};
 #[derive(Clone, Copy, Debug, PartialEq, Eq, thiserror::Error)]
 #[error("{}", self.text())]
 pub enum Error {
-    /// Memory was wanted, and a growth was refused. It may stand in place of any other refusal.
+    /// A refused growth. Each call says where it may stand in place of its answer.
     OutOfMemory,
     /// Fewer bytes are left than the reading needs.
     UnexpectedEof,

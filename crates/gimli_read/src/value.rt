@@ -48,7 +48,7 @@ pub enum AttributeValue<R> {
     Exprloc(R),
     /// Whether something holds.
     Flag(bool),
-    /// An offset in a section that the attribute's name tells.
+    /// An offset in a section that the attribute's name decides.
     SecOffset(u64),
     /// The index of an address in `.debug_addr`.
     DebugAddrIndex(u64),

@@ -1,6 +1,6 @@
 use Rattle.std.proofs.Common.{sym, ◌∙◌, eq-eqb, rules}
 use Rattle.std.proofs.lemmas.Result.{err_from_is_err_and}
-use Rattle.gimli_read.proofs.FormLemmas.{form_fault, form_more, form_last, uleb128_less}
+use Rattle.gimli_read.proofs.FormLemmas.{form_fault, form_more, form_last, form_less}
 use Rattle.gimli_read.proofs.value.read_form.Goals as goal
 
 pub returns-in_err-form : goal.returns-in_err-form
@@ -15,7 +15,7 @@ returns-in_err-form-2 g c =
     record { gives = rw (p.1, p.2) (sym i.2 ∙ form_more _ _ _ i.1 (eq-eqb _ _ c.loop-form-test.true) ∙ form_fault _ _ c.in_err-form-2.ensures.gives) }
 
 pub loop-form-smaller : goal.loop-form-smaller
-loop-form-smaller g c = uleb128_less _ _ _ c.in_ok-form-2.ensures.gives
+loop-form-smaller g c = form_less _ _ _ c.in_ok-form-2.ensures.gives
 
 pub loop-form-preserved : goal.loop-form-preserved
 loop-form-preserved g c =

@@ -15,10 +15,10 @@ use Rattle.gimli_read.specs.declared.endian.RunTimeEndian.{RunTimeEndian}
 use Rattle.elf.specs.declared.layout.Class.{Class}
 use Rattle.elf.specs.declared.section.SectionHeader.{SectionHeader}
 use Rattle.elf.specs.Layout.{layout_of}
-use Rattle.elf.specs.Held.{table_at}
+use Rattle.elf.specs.SectionBytes.{string_table_in}
 use Rattle.gimli_read.specs.Topmost.{greatest, topmost, last}
-use Rattle.elf.specs.Symbols.{preference, chosen, strings_number, symbol_bytes, taken_in}
-use Rattle.elf.specs.Table.{sooner, IsTable, HasSymbols, IsBelow, IsAbove}
+use Rattle.elf.specs.Symbols.{preference, nearest_symbol, symbol_names_number, symbol_bytes, usable_in}
+use Rattle.elf.specs.SymbolTable.{precedes, IsSymbolTable, HasSymbols, IsBelow, IsAbove}
 
 module _ {X : Type 0} where
   -- x is one of the elements
@@ -130,8 +130,8 @@ preference_le : (z x : Entry) → x.address ≡ z.address → IsBefore z x → p
 preference_le z x e h = elim h [ inl lt ↦ absurd (omega arith) | inr i ↦ i.1 ]
 
 -- z counts where each symbol is above the probe or before z, and z is the last of those that tie with it
-counting : (probe : ℕ) (xs : List Entry) (z : Entry) → All (λ x. (probe < x.address) ⊎ IsBefore z x) xs → z.address ≤ probe → last (filter (is_tied z) xs) ≡ Some z → chosen probe xs ≡ Some z
-unfolding chosen
+counting : (probe : ℕ) (xs : List Entry) (z : Entry) → All (λ x. (probe < x.address) ⊎ IsBefore z x) xs → z.address ≤ probe → last (filter (is_tied z) xs) ≡ Some z → nearest_symbol probe xs ≡ Some z
+unfolding nearest_symbol
 counting probe xs z all low is =
     let below : Entry → Bool = λ x. nat_le x.address probe in
     let bs = filter below xs in
@@ -154,12 +154,12 @@ counting probe xs z all low is =
     agrees a b p t h = grind (arith, nat_tests)
 
 -- none counts where each symbol is above the probe
-counting_none : (probe : ℕ) (xs : List Entry) → All (IsAbove probe) xs → chosen probe xs ≡ None
-unfolding chosen
+counting_none : (probe : ℕ) (xs : List Entry) → All (IsAbove probe) xs → nearest_symbol probe xs ≡ None
+unfolding nearest_symbol
 counting_none probe xs all = ap (λ (ys : List Entry). last (topmost preference (topmost (λ (x : Entry). x.address) ys))) (filter_none (λ (x : Entry). nat_le x.address probe) xs all)
 
 -- the order of a table is one
-order : IsStrictWeakOrder sooner
+order : IsStrictWeakOrder precedes
 order = ranks_by (then_total (on_total (λ (p : ℕ × ℕ). p.0) nat_cmp_total) (on_total (λ (p : ℕ × ℕ). p.1) nat_cmp_total)) (λ (e : Entry). (e.address, preference e))
 
 before_from : (a p b q : ℕ) → is_lt (ordering_then (nat_cmp a b) (nat_cmp p q)) ≡ false → (b < a) ⊎ ((b ≡ a) × (q ≤ p))
@@ -168,7 +168,7 @@ before_from a p b q e = grind (arith, nat_tests)
 tied_from : (a p b q : ℕ) → (not (is_lt (ordering_then (nat_cmp a b) (nat_cmp p q))) && not (is_lt (ordering_then (nat_cmp b a) (nat_cmp q p)))) ≡ (b == a && q == p)
 tied_from a p b q = grind (arith, nat_tests)
 
-ties_are : (z x : Entry) → ties sooner z x ≡ is_tied z x
+ties_are : (z x : Entry) → ties precedes z x ≡ is_tied z x
 ties_are z x = tied_from z.address (preference z) x.address (preference x)
 
 tied_itself : (z : Entry) → is_tied z z ≡ true
@@ -178,14 +178,14 @@ tied_itself z = itself z.address (preference z)
     itself a p = grind (arith, nat_tests)
 
 -- a symbol of the file is in the table
-in_table : (symbols table : List Entry) → IsTable symbols table → (x : Entry) → Among x symbols → Among x table
+in_table : (symbols table : List Entry) → IsSymbolTable symbols table → (x : Entry) → Among x symbols → Among x table
 in_table symbols table is x h =
-    let t : ties sooner x x ≡ true = ties_are x x ∙ tied_itself x in
-    (among_filter (ties sooner x) table x (subst (Among x) (sym (is.stable x)) (among_passes (ties sooner x) symbols x h t))).0
+    let t : ties precedes x x ≡ true = ties_are x x ∙ tied_itself x in
+    (among_filter (ties precedes x) table x (subst (Among x) (sym (is.stable x)) (among_passes (ties precedes x) symbols x h t))).0
 
 -- no symbol counts where the whole table is above the probe
-pub chosen_none : (symbols table : List Entry) (probe : ℕ) → IsTable symbols table → AllWithin (IsAbove probe) table 0 (length table) → None ≡ chosen probe symbols
-chosen_none symbols table probe is above =
+pub nearest_none : (symbols table : List Entry) (probe : ℕ) → IsSymbolTable symbols table → AllWithin (IsAbove probe) table 0 (length table) → None ≡ nearest_symbol probe symbols
+nearest_none symbols table probe is above =
     let each : (x : Entry) → Among x symbols → IsAbove probe x = λ x h. (
     let p = among_place table x (in_table symbols table is x h) in
     let P : Entry → Type 0 = IsAbove probe in
@@ -193,8 +193,8 @@ chosen_none symbols table probe is above =
     sym (counting_none probe symbols (all_among (IsAbove probe) symbols each))
 
 -- the last symbol of the table at or below the probe counts
-pub chosen_is : (symbols table : List Entry) (probe n : ℕ) (z : Entry) → IsTable symbols table → n < length table → slice_get table n ≡ Some z → AllWithin (IsBelow probe) table 0 (suc n) → AllWithin (IsAbove probe) table (suc n) (length table) → Some z ≡ chosen probe symbols
-chosen_is symbols table probe n z is less e below above =
+pub nearest_is : (symbols table : List Entry) (probe n : ℕ) (z : Entry) → IsSymbolTable symbols table → n < length table → slice_get table n ≡ Some z → AllWithin (IsBelow probe) table 0 (suc n) → AllWithin (IsAbove probe) table (suc n) (length table) → Some z ≡ nearest_symbol probe symbols
+nearest_is symbols table probe n z is less e below above =
     let here : get_or table n z ≡ z = get_or_from_slice_get table n z z e in
     let P : Entry → Type 0 = IsBelow probe in
     let low : z.address ≤ probe = reach z.address (subst P here (below n z (omega arith) (omega arith))) in
@@ -202,7 +202,7 @@ chosen_is symbols table probe n z is less e below above =
     let p = among_place table x (in_table symbols table is x h) in
     place x p.0 p.1 p.2 here) in
     let tie : filter (is_tied z) symbols ≡ filter (is_tied z) table =
-    sym (filter_agree (ties sooner z) (is_tied z) (ties_are z) symbols) ∙ sym (is.stable z) ∙ filter_agree (ties sooner z) (is_tied z) (ties_are z) table in
+    sym (filter_agree (ties precedes z) (is_tied z) (ties_are z) symbols) ∙ sym (is.stable z) ∙ filter_agree (ties precedes z) (is_tied z) (ties_are z) table in
     let end : last (filter (is_tied z) table) ≡ Some z =
     last_passing (is_tied z) table n z e (tied_itself z) (λ k d a b. past z.address (get_or table k d).address (preference (get_or table k d) == preference z) low (above k d a b)) in
     sym (counting probe symbols z (all_among (λ x. (probe < x.address) ⊎ IsBefore z x) symbols each) low (ap last tie ∙ end))
@@ -221,24 +221,24 @@ chosen_is symbols table probe n z is less e below above =
       where
         by_cases : (b : Bool) → nat_le k n ≡ b → (probe < x.address) ⊎ IsBefore z x
         by_cases true t =
-            let up : sooner (get_or table n z) (get_or table k z) ≡ false = sorted_far sooner order table is.sorted k n z (grind (arith, nat_tests)) less in
+            let up : precedes (get_or table n z) (get_or table k z) ≡ false = sorted_far precedes order table is.sorted k n z (grind (arith, nat_tests)) less in
             let same : get_or table k z ≡ x = get_or_default table k z x l ∙ at in
-            let up' : sooner z x ≡ false = rw (here, same) at up in
+            let up' : precedes z x ≡ false = rw (here, same) at up in
             inr (before_from z.address (preference z) x.address (preference x) up')
         by_cases false t =
             let Q : Entry → Type 0 = IsAbove probe in
             inl (beyond x.address (subst Q at (above k x (grind (arith, nat_tests)) l)))
 
 -- a sorted table rises by address
-pub rises : (symbols table : List Entry) → IsTable symbols table → IsNonDecreasingBy (λ (e : Entry). e.address) table
+pub rises : (symbols table : List Entry) → IsSymbolTable symbols table → IsNonDecreasingBy (λ (e : Entry). e.address) table
 rises symbols table is i j d le lt =
-    let up = sorted_far sooner order table is.sorted i j d le lt in
+    let up = sorted_far precedes order table is.sorted i j d le lt in
     let at = before_from (get_or table j d).address (preference (get_or table j d)) (get_or table i d).address (preference (get_or table i d)) up in
     elim at [ inl l ↦ omega arith | inr e ↦ (let same = e.0 in omega arith) ]
 
 -- the table of a file is that of its symbols
 pub table_is : (bytes : List ℕ) (endian : RunTimeEndian) (class : Class) (sections : List SectionHeader) (strings : ℕ) (table : List Entry) → HasSymbols bytes endian class sections strings table
-    → IsTable (taken_in endian (layout_of class) (table_at bytes sections (strings_number sections)) (symbol_bytes bytes sections)) table
+    → IsSymbolTable (usable_in endian (layout_of class) (string_table_in bytes sections (symbol_names_number sections)) (symbol_bytes bytes sections)) table
 table_is bytes endian class sections strings table h =
-    let P : ℕ → Type 0 = λ n. IsTable (taken_in endian (layout_of class) (table_at bytes sections n) (symbol_bytes bytes sections)) table in
-    subst P h.named_by h.put
+    let P : ℕ → Type 0 = λ n. IsSymbolTable (usable_in endian (layout_of class) (string_table_in bytes sections n) (symbol_bytes bytes sections)) table in
+    subst P h.named_by h.symbols

@@ -7,22 +7,22 @@ use Rattle.elf.specs.declared.symbol.Entry.{Entry}
 use Rattle.elf.specs.declared.layout.Class.{Class}
 use Rattle.elf.specs.declared.section.SectionHeader.{SectionHeader}
 use Rattle.elf.specs.Layout.{layout_of}
-use Rattle.elf.specs.Held.{table_at}
-use Rattle.elf.specs.Symbols.{preference, strings_number, symbol_bytes, taken_in}
+use Rattle.elf.specs.SectionBytes.{string_table_in}
+use Rattle.elf.specs.Symbols.{preference, symbol_names_number, symbol_bytes, usable_in}
 
--- a stands before b: by the address, then by the preference
-abbrev pub sooner : Entry → Entry → Bool
-sooner a b = is_lt (ordering_then (nat_cmp a.address b.address) (nat_cmp (preference a) (preference b)))
+-- whether a comes before b: by the address, then by the preference
+abbrev pub precedes : Entry → Entry → Bool
+precedes a b = is_lt (ordering_then (nat_cmp a.address b.address) (nat_cmp (preference a) (preference b)))
 
 -- the table is the symbols in that order, those that tie in the order of the file
-pub record IsTable (symbols table : List Entry) : Type 0 where
-  pub sorted : IsSortedBy sooner table
-  pub stable : IsStableBy sooner symbols table
+pub record IsSymbolTable (symbols table : List Entry) : Type 0 where
+  pub sorted : IsSortedBy precedes table
+  pub stable : IsStableBy precedes symbols table
 
 -- a file's sorted symbols, and the number of the section that has their names
-pub record HasSymbols (bytes : List ℕ) (endian : RunTimeEndian) (class : Class) (sections : List SectionHeader) (strings : ℕ) (table : List Entry) : Type 0 where
-  pub named_by : strings ≡ strings_number sections
-  pub put : IsTable (taken_in endian (layout_of class) (table_at bytes sections strings) (symbol_bytes bytes sections)) table
+pub record HasSymbols (bytes : List ℕ) (endian : RunTimeEndian) (class : Class) (sections : List SectionHeader) (names : ℕ) (table : List Entry) : Type 0 where
+  pub named_by : names ≡ symbol_names_number sections
+  pub symbols : IsSymbolTable (usable_in endian (layout_of class) (string_table_in bytes sections names) (symbol_bytes bytes sections)) table
 
 -- the symbol is at or below the probe
 abbrev pub IsBelow : ℕ → Entry → Type 0

@@ -1,19 +1,16 @@
 -- When a file takes memory (on specs/ObjectFile.antt).
-use Rattle.std.proofs.Common.{ℕ, zero, suc, ◌≡◌, ◌≢◌, ◌∙◌, ◌==◌, Bool, true, false, not, List, [], ◌∷◌, Ok, Err, length, drop, arith, ap, sym, subst, refl}
-use Rattle.std.specs.Prelude.{Result}
+use Rattle.std.proofs.Common.{ℕ, zero, suc, ◌≡◌, ◌≢◌, ◌∙◌, ◌==◌, true, not, List, [], ◌∷◌, Ok, length, drop, arith, ap, subst, refl}
 use Rattle.std.proofs.lemmas.Bool.Decides.{nat_tests}
 use Rattle.gimli_read.specs.Reading.{◌>>=◌}
 use Rattle.gimli_read.specs.declared.endian.RunTimeEndian.{RunTimeEndian}
-use Rattle.elf.specs.declared.error.LoaderError.{LoaderError}
-use Rattle.elf.specs.declared.error.LoaderError.TheVariants.{OutOfMemory}
 use Rattle.elf.specs.declared.layout.Layout.{Layout}
 use Rattle.elf.specs.declared.header.Ident.{Ident}
 use Rattle.elf.specs.declared.header.FileHeader.{FileHeader}
 use Rattle.elf.specs.declared.section.SectionHeader.{SectionHeader}
 use Rattle.elf.specs.Layout.{layout_of}
-use Rattle.elf.specs.Header.{ident_in, header_in, section_in, sections_in}
-use Rattle.elf.specs.Loading.{Loading, LoadsUnlessOomFor}
-use Rattle.elf.specs.ObjectFile.{ObjectFile, object_file_of, object_file_with, gives_sections}
+use Rattle.elf.specs.Header.{ident_in, header_in, sections_in}
+use Rattle.elf.specs.Loading.{Loading}
+use Rattle.elf.specs.ObjectFile.{object_file_of, object_file_with, gives_sections}
 use Rattle.elf.specs.Symbols.{symbol_bytes}
 
 -- so many section headers are read

@@ -1,15 +1,10 @@
 -- Texts that end before their zero byte (on specs/SectionBytes.antt and specs/Sections.antt).
-use Rattle.std.proofs.Common.{ℕ, zero, suc, ◌≡◌, ◌≢◌, ◌<◌, ◌≤◌, ◌+◌, ◌-◌, Bool, true, false, cond, not, ◌&&◌, List, [], ◌∷◌, Some, None, length, take, drop, length-drop, length-take, nat_lt, nat_le, ◌==◌, arith, ◌∙◌, ap, sym, subst, refl, rules}
-use Rattle.std.specs.Prelude.{Option, option_map, option_and_then, codes}
-use Rattle.std.specs.Str.{bytes_eq}
-use Rattle.std.specs.Option.{option_map_or}
+use Rattle.std.proofs.Common.{ℕ, zero, suc, ◌≡◌, ◌≤◌, ◌+◌, Bool, true, false, cond, not, List, [], ◌∷◌, Some, None, length, take, nat_lt, nat_le, ◌==◌, arith, ◌∙◌, ap, sym, refl}
+use Rattle.std.specs.Prelude.{Option, option_map, option_and_then}
 use Rattle.std.specs.List.{position_or_len}
 use Rattle.std.proofs.lemmas.Bool.Decides.{nat_tests}
-use Rattle.std.proofs.lemmas.Slice.Eq.{bytes_eq-Decides}
-use Rattle.std.specs.Bool.{Decides}
 use Rattle.std.proofs.lemmas.List.{take_all}
 use Rattle.elf.specs.SectionBytes.{front_text}
-use Rattle.elf.specs.Sections.{is_zdebug_text}
 
 -- the text, if it has no more than so many bytes
 abbrev pub if_short : ℕ → List ℕ → Option (List ℕ)

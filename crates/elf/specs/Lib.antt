@@ -6,4 +6,5 @@ pub mod SectionBytes
 pub mod ObjectFile
 pub mod Sections
 pub mod Symbols
+pub mod TextStarts
 pub mod SymbolTable

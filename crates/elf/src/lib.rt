@@ -8,6 +8,7 @@ mod header;
 mod layout;
 mod section;
 mod symbol;
+mod text_starts;
 #[cfg(test)]
 mod tests;
 

@@ -6,6 +6,7 @@ ghost use Rattle.elf.specs.Layout.{layout_of};
 ghost use Rattle.elf.specs.Symbols.{named_address, symbol_table, symbol_bytes, symbol_names_number, entry_in, utf8_from, name_from, name_of, is_usable_type, is_usable, usable_in, is_preferred_bind, preference, covers, nearest_symbol};
 ghost use Rattle.std.specs.List.Sorted.{IsNonDecreasingBy, IsPartitionPoint};
 ghost use Rattle.elf.specs.declared.symbol.Entry.{Entry as SymbolEntry};
+ghost use Rattle.elf.specs.TextStarts.{text_starts};
 ghost use Rattle.elf.specs.SymbolTable.{IsSymbolTable, IsBelow, IsAbove};
 
 use crate::constants::{
@@ -14,6 +15,7 @@ use crate::constants::{
 use crate::header::Ident;
 use crate::layout;
 use crate::section::{self, SectionHeader};
+use crate::text_starts;
 use std::alloc::{AllocError, Global};
 use std::str;
 
@@ -100,12 +102,22 @@ impl Entry {
         name_in(section::text_at(names, u64::from(self.name))?)
     }
 
-    // Whether the entry is a usable symbol.
-    fn is_usable(&self, names: &[u8]) -> bool
+    // Whether the entry has a name, by the places where texts begin.
+    fn has_name(&self, names: &[u8], starts: &[bool]) -> bool
+        requires starts { starts.now ≡ text_starts names.now }
+        ensures gives { result ≡ is_some (name_of names.now self.now) }
+    {
+        let at = self.name as usize;
+        at < names.len() && (names[at] != 0 && starts[at])
+    }
+
+    // Whether the entry is a usable symbol, by the places where texts begin.
+    fn is_usable(&self, names: &[u8], starts: &[bool]) -> bool
+        requires starts { starts.now ≡ text_starts names.now }
         ensures gives { result ≡ is_usable names.now self.now }
     {
         u64::from(self.section) != SHN_UNDEF
-            && (is_usable_type(self.info % 16) && self.name(names).is_some())
+            && (is_usable_type(self.info % 16) && self.has_name(names, starts))
     }
 
     // The symbol's rank among those at its address.
@@ -184,10 +196,16 @@ pub(crate) fn names_number(sections: &[SectionHeader]) -> u64
 }
 
 // Adds an entry, if it is a usable symbol.
-fn push_usable(all: &mut Vec<Entry>, entry: Entry, names: &[u8]) -> Result<(), AllocError>
+fn push_usable(
+    all: &mut Vec<Entry>,
+    entry: Entry,
+    names: &[u8],
+    starts: &[bool],
+) -> Result<(), AllocError>
+    requires starts { starts.now ≡ text_starts names.now }
     ensures gives { OnOk result (all.new.items ≡ all.old.items ++ filter (is_usable names.now) (entry ∷ [])) }
 {
-    if entry.is_usable(names) {
+    if entry.is_usable(names, starts) {
         all.push(entry)?;
     }
     Ok(())
@@ -200,10 +218,11 @@ fn usable(alloc: Global, bytes: &[u8], names: &[u8], ident: Ident) -> Result<Vec
 {
     let size = ident.class.layout().symbol_size;
     let count = bytes.len() / size;
+    let starts = text_starts::text_starts(alloc, names)?;
     let mut all = Vec::new(alloc);
     let mut rest = bytes;
     for _ in 0..count {
-        push_usable(&mut all, entry_at(rest, ident), names)?;
+        push_usable(&mut all, entry_at(rest, ident), names, &starts)?;
         let (_, after) = rest.split_at(size);
         rest = after;
     }

@@ -1,4 +1,4 @@
-use Rattle.std.proofs.Common.{rules, ◌≡◌, ◌∙◌, ◌+◌, ℕ, List, suc, ap, sym, arith, take, drop, option_map}
+use Rattle.std.proofs.Common.{rules, ◌≡◌, ◌∙◌, ◌+◌, ℕ, List, suc, ap, sym, arith, take, option_map}
 use Rattle.std.specs.Prelude.{option_and_then}
 use Rattle.elf.specs.SectionBytes.{front_text, short_text_at}
 use Rattle.elf.proofs.TextLemmas.{if_short, front_text_within, front_text_all}

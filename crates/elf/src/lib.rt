@@ -9,8 +9,6 @@ mod layout;
 mod section;
 mod symbol;
 mod text_starts;
-#[cfg(test)]
-mod tests;
 
 pub use crate::error::LoaderError;
 pub use crate::file::ElfFile;

@@ -1,58 +1,74 @@
-//! Writes ELF files: a header, the sections' bytes, the table of their names, the section headers.
+//! Writes ELF files, for tests and stored runs (System V ABI, Object Files).
+//!
+//! A file is its header, the sections' bytes, the table of their names, and the section headers. No
+//! clause says what is written: tests read it back, and a stored run compares it.
+#![tactic(auto)]
 
 ghost use Rattle.std.specs.Prelude.{◌≤◌};
 
 use std::alloc::{AllocError, Global};
 
+const HALF_SIZE: usize = 2;
+
+const WORD_SIZE: usize = 4;
+
+const SHT_PROGBITS: u32 = 1;
+
+const SHT_STRTAB: u32 = 3;
+
+const ET_EXEC: u16 = 2;
+
+const EM_X86_64: u64 = 62;
+
 /// The class and byte order of a file, and its e_type.
 #[derive(Clone, Copy)]
-pub(super) struct Shape {
-    pub(super) is_64: bool,
-    pub(super) is_big: bool,
-    pub(super) e_type: u16,
+pub struct Shape {
+    pub is_64: bool,
+    pub is_big: bool,
+    pub e_type: u16,
 }
 
 /// Each class in each byte order, as a program that was linked.
-pub(super) const SHAPES: [Shape; 4] = [
+pub const SHAPES: [Shape; 4] = [
     Shape {
         is_64: true,
         is_big: false,
-        e_type: 2,
+        e_type: ET_EXEC,
     },
     Shape {
         is_64: true,
         is_big: true,
-        e_type: 2,
+        e_type: ET_EXEC,
     },
     Shape {
         is_64: false,
         is_big: false,
-        e_type: 2,
+        e_type: ET_EXEC,
     },
     Shape {
         is_64: false,
         is_big: true,
-        e_type: 2,
+        e_type: ET_EXEC,
     },
 ];
 
 /// A section to be written.
 #[derive(Clone, Copy)]
-pub(super) struct Part<'a> {
-    pub(super) name: &'a str,
-    pub(super) kind: u32,
-    pub(super) flags: u64,
-    pub(super) address: u64,
-    pub(super) link: u32,
-    pub(super) info: u32,
-    pub(super) bytes: &'a [u8],
+pub struct Section<'a> {
+    pub name: &'a str,
+    pub kind: u32,
+    pub flags: u64,
+    pub address: u64,
+    pub link: u32,
+    pub info: u32,
+    pub bytes: &'a [u8],
 }
 
 /// A section of plain bytes (PROGBITS).
-pub(super) fn plain<'a>(name: &'a str, bytes: &'a [u8]) -> Part<'a> {
-    Part {
+pub fn plain<'a>(name: &'a str, bytes: &'a [u8]) -> Section<'a> {
+    Section {
         name,
-        kind: 1,
+        kind: SHT_PROGBITS,
         flags: 0,
         address: 0,
         link: 0,
@@ -61,19 +77,19 @@ pub(super) fn plain<'a>(name: &'a str, bytes: &'a [u8]) -> Part<'a> {
     }
 }
 
-/// A symbol to be written; its name in bytes, of which the file's writer makes a table.
+/// A symbol to be written.
 #[derive(Clone, Copy)]
-pub(super) struct Sym<'a> {
-    pub(super) name: &'a [u8],
-    pub(super) info: u8,
-    pub(super) section: u16,
-    pub(super) address: u64,
-    pub(super) size: u64,
+pub struct Symbol<'a> {
+    pub name: &'a [u8],
+    pub info: u8,
+    pub section: u16,
+    pub address: u64,
+    pub size: u64,
 }
 
 /// A symbol of section 1.
-pub(super) fn symbol(name: &[u8], info: u8, address: u64, size: u64) -> Sym<'_> {
-    Sym {
+pub fn named_symbol(name: &[u8], info: u8, address: u64, size: u64) -> Symbol<'_> {
+    Symbol {
         name,
         info,
         section: 1,
@@ -82,7 +98,7 @@ pub(super) fn symbol(name: &[u8], info: u8, address: u64, size: u64) -> Sym<'_> 
     }
 }
 
-// A number of so many bytes.
+// A number of `size` bytes.
 fn put(out: &mut Vec<u8>, shape: Shape, number: u64, size: usize) -> Result<(), AllocError>
     requires fits { size ≤ 8 }
 {
@@ -95,8 +111,8 @@ fn put(out: &mut Vec<u8>, shape: Shape, number: u64, size: usize) -> Result<(), 
     }
 }
 
-// An address, an offset or a size.
-fn put_word(out: &mut Vec<u8>, shape: Shape, number: u64) -> Result<(), AllocError> {
+// An address, an offset or a size, as wide as an address of the class.
+fn put_wide(out: &mut Vec<u8>, shape: Shape, number: u64) -> Result<(), AllocError> {
     put(out, shape, number, if shape.is_64 { 8 } else { 4 })
 }
 
@@ -107,18 +123,18 @@ fn put_section(
     name: usize,
     offset: usize,
     size: usize,
-    part: &Part<'_>,
+    section: &Section<'_>,
 ) -> Result<(), AllocError> {
-    put(out, shape, name as u64, 4)?;
-    put(out, shape, u64::from(part.kind), 4)?;
-    put_word(out, shape, part.flags)?;
-    put_word(out, shape, part.address)?;
-    put_word(out, shape, offset as u64)?;
-    put_word(out, shape, size as u64)?;
-    put(out, shape, u64::from(part.link), 4)?;
-    put(out, shape, u64::from(part.info), 4)?;
-    put_word(out, shape, 1)?;
-    put_word(out, shape, 0)
+    put(out, shape, name as u64, WORD_SIZE)?;
+    put(out, shape, u64::from(section.kind), WORD_SIZE)?;
+    put_wide(out, shape, section.flags)?;
+    put_wide(out, shape, section.address)?;
+    put_wide(out, shape, offset as u64)?;
+    put_wide(out, shape, size as u64)?;
+    put(out, shape, u64::from(section.link), WORD_SIZE)?;
+    put(out, shape, u64::from(section.info), WORD_SIZE)?;
+    put_wide(out, shape, 1)?;
+    put_wide(out, shape, 0)
 }
 
 // The file's header: the place of the section headers, their count, and which has the names.
@@ -133,25 +149,25 @@ fn put_file(
     out.push(if shape.is_big { 2 } else { 1 })?;
     out.push(1)?;
     out.extend_from_slice(&[0; 9])?;
-    put(out, shape, u64::from(shape.e_type), 2)?;
-    put(out, shape, 0x3e, 2)?;
-    put(out, shape, 1, 4)?;
-    put_word(out, shape, 0)?;
-    put_word(out, shape, 0)?;
-    put_word(out, shape, sections_at as u64)?;
-    put(out, shape, 0, 4)?;
-    put(out, shape, if shape.is_64 { 64 } else { 52 }, 2)?;
-    put(out, shape, 0, 4)?;
-    put(out, shape, if shape.is_64 { 64 } else { 40 }, 2)?;
-    put(out, shape, (names as u64).saturating_add(1), 2)?;
-    put(out, shape, names as u64, 2)
+    put(out, shape, u64::from(shape.e_type), HALF_SIZE)?;
+    put(out, shape, EM_X86_64, HALF_SIZE)?;
+    put(out, shape, 1, WORD_SIZE)?;
+    put_wide(out, shape, 0)?;
+    put_wide(out, shape, 0)?;
+    put_wide(out, shape, sections_at as u64)?;
+    put(out, shape, 0, WORD_SIZE)?;
+    put(out, shape, if shape.is_64 { 64 } else { 52 }, HALF_SIZE)?;
+    put(out, shape, 0, WORD_SIZE)?;
+    put(out, shape, if shape.is_64 { 64 } else { 40 }, HALF_SIZE)?;
+    put(out, shape, (names as u64).saturating_add(1), HALF_SIZE)?;
+    put(out, shape, names as u64, HALF_SIZE)
 }
 
-/// A file of these sections, and of the table of names after them.
-pub(super) fn written(
+/// A file of these sections, and of the table of their names after them. Refused `AllocError`.
+pub fn elf_file(
     alloc: Global,
     shape: Shape,
-    parts: &[Part<'_>],
+    sections: &[Section<'_>],
 ) -> Result<Vec<u8>, AllocError> {
     let start: usize = if shape.is_64 { 64 } else { 52 };
     let mut body = Vec::new(alloc);
@@ -161,22 +177,22 @@ pub(super) fn written(
     // Section 0 is all zeros.
     let header_size: usize = if shape.is_64 { 64 } else { 40 };
     headers.extend_from_slice(&[0; 64][..header_size])?;
-    for part in parts {
+    for section in sections {
         let offset = start.saturating_add(body.len());
         put_section(
             &mut headers,
             shape,
             names.len(),
             offset,
-            part.bytes.len(),
-            part,
+            section.bytes.len(),
+            section,
         )?;
-        names.extend_from_slice(part.name.as_bytes())?;
+        names.extend_from_slice(section.name.as_bytes())?;
         names.push(0)?;
-        body.extend_from_slice(part.bytes)?;
+        body.extend_from_slice(section.bytes)?;
     }
-    let table = Part {
-        kind: 3,
+    let table = Section {
+        kind: SHT_STRTAB,
         ..plain("", &[])
     };
     let name = names.len();
@@ -189,7 +205,7 @@ pub(super) fn written(
         &mut file,
         shape,
         start.saturating_add(body.len()),
-        parts.len().saturating_add(1),
+        sections.len().saturating_add(1),
     )?;
     file.extend_from_slice(&body)?;
     file.extend_from_slice(&headers)?;
@@ -198,23 +214,23 @@ pub(super) fn written(
 
 /// A symbol table and the table of its names.
 #[derive(Drop)]
-pub(super) struct Tables {
-    pub(super) symbols: Vec<u8>,
-    pub(super) strings: Vec<u8>,
+pub struct SymbolTables {
+    pub symbols: Vec<u8>,
+    pub strings: Vec<u8>,
 }
 
-/// The tables of these symbols, the null symbol first.
-pub(super) fn symbol_tables(
+/// The tables of these symbols, the null symbol first. Refused `AllocError`.
+pub fn symbol_tables(
     alloc: Global,
     shape: Shape,
-    symbols: &[Sym<'_>],
-) -> Result<Tables, AllocError> {
+    symbols: &[Symbol<'_>],
+) -> Result<SymbolTables, AllocError> {
     let mut entries = Vec::new(alloc);
     let mut strings = Vec::new(alloc);
     strings.push(0)?;
-    let none = Sym {
+    let none = Symbol {
         section: 0,
-        ..symbol(b"", 0, 0, 0)
+        ..named_symbol(b"", 0, 0, 0)
     };
     put_symbol(&mut entries, shape, 0, &none)?;
     for symbol in symbols {
@@ -222,7 +238,7 @@ pub(super) fn symbol_tables(
         strings.extend_from_slice(symbol.name)?;
         strings.push(0)?;
     }
-    Ok(Tables {
+    Ok(SymbolTables {
         symbols: entries,
         strings,
     })
@@ -233,16 +249,16 @@ fn put_symbol(
     out: &mut Vec<u8>,
     shape: Shape,
     name: usize,
-    symbol: &Sym<'_>,
+    symbol: &Symbol<'_>,
 ) -> Result<(), AllocError> {
-    put(out, shape, name as u64, 4)?;
+    put(out, shape, name as u64, WORD_SIZE)?;
     if !shape.is_64 {
-        put(out, shape, symbol.address, 4)?;
-        put(out, shape, symbol.size, 4)?;
+        put(out, shape, symbol.address, WORD_SIZE)?;
+        put(out, shape, symbol.size, WORD_SIZE)?;
     }
     out.push(symbol.info)?;
     out.push(0)?;
-    put(out, shape, u64::from(symbol.section), 2)?;
+    put(out, shape, u64::from(symbol.section), HALF_SIZE)?;
     if shape.is_64 {
         put(out, shape, symbol.address, 8)?;
         put(out, shape, symbol.size, 8)?;

@@ -20,14 +20,17 @@ is_nonzero n e = grind (arith, nat_tests)
 -- at a zero byte the empty text begins
 pub start_at_zero : (tail : List ℕ) → 0 < length tail → slice_index tail 0 ≡ 0 → IsTextDistance tail (Some 0)
 start_at_zero [] some e = absurd (omega arith)
-start_at_zero (b ∷ bytes) some e = ([], record {
-  is_text = front_text_zero b bytes (is_zero b e);
-  in_bytes = omega arith;
-  in_text = omega arith;
-  front = refl;
-  starts = IsUtf8-nil;
-  none_before = λ k l. absurd (omega arith);
-})
+start_at_zero (b ∷ bytes) some e = (
+  [],
+  record {
+    is_text = front_text_zero b bytes (is_zero b e);
+    in_bytes = omega arith;
+    in_text = omega arith;
+    front = refl;
+    starts = IsUtf8-nil;
+    none_before = λ k l. absurd (omega arith);
+  },
+)
 
 -- without a zero byte after it no text begins
 pub start_without_zero : (tail : List ℕ) → 0 < length tail → slice_index tail 0 ≢ 0 → IsTextDistance (drop 1 tail) None → IsTextDistance tail None
@@ -44,15 +47,17 @@ start_found [] d some e h u = absurd (omega arith)
 start_found (b ∷ bytes) d some e h u =
     let text = h.0 in
     let u' : IsUtf8 (b ∷ take d text) = subst (λ (xs : List ℕ). IsUtf8 (b ∷ xs)) h.1.front u in
-    let whole : IsUtf8 (take (suc d) (b ∷ text) ++ drop (suc d) (b ∷ text)) = IsUtf8-append (b ∷ take d text) (drop d text) u' h.1.starts in
-    (b ∷ text, record {
-      is_text = text_of_next b bytes text e h.1.is_text;
-      in_bytes = omega arith;
-      in_text = omega arith;
-      front = refl;
-      starts = subst IsUtf8 (take-append-drop (suc d) (b ∷ text)) whole;
-      none_before = λ k l. absurd (omega arith);
-    })
+    let whole : IsUtf8 (take (suc d) (b ∷ text) ++ drop (suc d) (b ∷ text)) = IsUtf8-append (b ∷ take d text) (drop d text) u' h.1.starts in (
+      b ∷ text,
+      record {
+        is_text = text_of_next b bytes text e h.1.is_text;
+        in_bytes = omega arith;
+        in_text = omega arith;
+        front = refl;
+        starts = subst IsUtf8 (take-append-drop (suc d) (b ∷ text)) whole;
+        none_before = λ k l. absurd (omega arith);
+      },
+    )
 
 -- no text begins here, and the nearest one stays
 further : (b d : ℕ) (bytes text : List ℕ) → b ≢ 0 → TextAfter bytes d text → ¬ (IsUtf8 (b ∷ text)) → TextAfter (b ∷ bytes) (suc d) (b ∷ text)
@@ -76,8 +81,8 @@ start_broken (b ∷ bytes) d some e h isnt =
     let text = h.0 in
     let long : suc d ≤ length (b ∷ text) = (let l = h.1.in_text in omega arith) in
     let bad : ¬ (IsUtf8 (b ∷ text)) = λ u.
-        let cut = IsUtf8-take (b ∷ text) (suc d) u (IsCharBoundary-from_drop (b ∷ text) (suc d) long h.1.starts) in
-        isnt (subst (λ (xs : List ℕ). IsUtf8 (b ∷ xs)) (sym h.1.front) cut) in
+    let cut = IsUtf8-take (b ∷ text) (suc d) u (IsCharBoundary-from_drop (b ∷ text) (suc d) long h.1.starts) in
+    isnt (subst (λ (xs : List ℕ). IsUtf8 (b ∷ xs)) (sym h.1.front) cut) in
     (b ∷ text, further b d bytes text e h.1 bad)
 
 -- a text that is not empty is a character of one to four bytes and a text

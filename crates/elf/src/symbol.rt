@@ -13,9 +13,8 @@ use crate::constants::{
     SHN_UNDEF, SHT_DYNSYM, SHT_SYMTAB, STB_GLOBAL, STB_WEAK, STT_FUNC, STT_NOTYPE, STT_OBJECT,
 };
 use crate::header::Ident;
-use crate::layout;
 use crate::section::{self, SectionHeader};
-use crate::text_starts;
+use crate::{layout, text_starts};
 use std::alloc::{AllocError, Global};
 use std::str;
 

@@ -82,7 +82,7 @@ const NUMBERS: [u64; 5] = [0x61, 0x2b, 0x61, 0x30, 0x1_006100];
 
 // With each growth of the calls refused in turn the calls after it are right.
 #[test]
-fn a_refused_growth_is_told_and_the_next_call_is_right(rt: HostRuntime) {
+fn a_refused_growth_is_answered_and_the_next_call_is_right(rt: HostRuntime) {
     match parsed(rt.alloc()) {
         Ok(file) => assert_eq!(rt; numbers(&file), NUMBERS),
         Err(error) => assert_eq!(rt; refusal(error), 0),
@@ -90,7 +90,7 @@ fn a_refused_growth_is_told_and_the_next_call_is_right(rt: HostRuntime) {
 }
 
 #[test]
-fn without_a_refused_growth_all_is_read(rt: HostRuntime) -> Result<(), Fail> {
+fn with_ample_memory_all_is_read(rt: HostRuntime) -> Result<(), Fail> {
     let bytes = Bytes::copy_from_slice(rt.alloc(), &FILE)?;
     let file = ElfFile::parse(rt.alloc(), EndianBytes::new(bytes, RunTimeEndian::Little))?;
     let strings = digits(EMPTY, file.section(".strtab")?.to_slice());

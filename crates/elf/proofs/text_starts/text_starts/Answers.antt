@@ -21,7 +21,7 @@ one_more table read marks more mark l known pushed is =
     let rest = text_starts (drop (suc at) table) in
     let marked : reverse (text_starts (drop at table)) ≡ reverse rest ++ here ∷ [] = ap reverse (starts_next table at (omega arith)) ∙ reverse-append (here ∷ []) rest in
     pushed ∙ ap (λ (m : List Bool). m ++ mark ∷ []) known ∙ ap (λ (b : Bool). reverse (text_starts (drop (length table - read) table)) ++ b ∷ []) is
-        ∙ ap (λ (k : ℕ). reverse (text_starts (drop k table)) ++ here ∷ []) next ∙ sym marked
+    ∙ ap (λ (k : ℕ). reverse (text_starts (drop k table)) ++ here ∷ []) next ∙ sym marked
 
 pub text_distance-distance-requires-clause-next : goal.text_distance-distance-requires-clause-next
 text_distance-distance-requires-clause-next c =

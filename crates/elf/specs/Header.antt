@@ -1,7 +1,8 @@
--- An ELF file's own header and its section headers (System V ABI, Object Files: ELF Header, Sections).
--- Own: a file without the whole magic is NotElf; one that has it, but no class or data byte, another value of
--- these, or not the whole header of its class, is BadElf, and so are section headers outside the file or of
--- another size than the class's.
+-- An ELF file's own header and its section headers (System V ABI, Object Files: ELF Header,
+-- Sections).
+-- Own: a file without the whole magic is NotElf; one that has it, but no class or data byte,
+-- another value of these, or not the whole header of its class, is BadElf, and so are section
+-- headers outside the file or of another size than the class's.
 use Rattle.std.specs.Prelude.{ℕ, zero, suc, ◌+◌, ◌*◌, ◌==◌, Bool, not, List, [], ◌∷◌, Ok, Err, if◌then◌else◌, drop, take, length, slice_index, nat_lt}
 use Rattle.std.specs.Str.{bytes_eq}
 use Rattle.gimli_read.specs.declared.endian.RunTimeEndian.{RunTimeEndian}
@@ -28,7 +29,9 @@ class_of n = if n == ELFCLASS32 then Ok Elf32 else if n == ELFCLASS64 then Ok El
 
 -- the byte order that a byte names
 abbrev pub endian_of : ℕ → Loading RunTimeEndian
-endian_of n = if n == ELFDATA2LSB then Ok Little else if n == ELFDATA2MSB then Ok Big else Err BadElf
+endian_of n = if n == ELFDATA2LSB then Ok Little
+    else if n == ELFDATA2MSB then Ok Big
+    else Err BadElf
 
 -- what e_ident says
 unfoldable pub ident_in : List ℕ → Loading Ident
@@ -54,7 +57,8 @@ unfoldable pub header_in : RunTimeEndian → Layout → List ℕ → Loading Fil
 header_in endian l bytes = if nat_lt (length bytes) l.header_size then Err BadElf
     else (let start = number_at endian l.e_shoff l.address_size bytes in
     let is_relocatable = is_relocatable_in endian l bytes in
-    if start == 0 then Ok (record { is_relocatable = is_relocatable; start = 0; count = 0; name_index = 0 })
+    if start == 0
+    then Ok (record { is_relocatable = is_relocatable; start = 0; count = 0; name_index = 0 })
     else if not (number_at endian l.e_shentsize HALF_SIZE bytes == l.section_size) then Err BadElf
     else (count_in endian l start bytes >>= λ count.
     if nat_lt (length bytes) (start + count * l.section_size) then Err BadElf
@@ -81,4 +85,5 @@ section_in endian l bytes = record {
 -- so many section headers, one after another
 abbrev pub sections_in : RunTimeEndian → Layout → ℕ → List ℕ → List SectionHeader
 sections_in endian l zero bytes = []
-sections_in endian l (suc n) bytes = section_in endian l bytes ∷ sections_in endian l n (drop l.section_size bytes)
+sections_in endian l (suc n) bytes = section_in endian l bytes
+    ∷ sections_in endian l n (drop l.section_size bytes)

@@ -1,5 +1,5 @@
--- Where the fields of an ELF file's headers and symbols stand, for files of 32 and of 64 bits (System V ABI,
--- Object Files: ELF Header, Sections, Symbol Table).
+-- Where the fields of an ELF file's headers and symbols stand, for files of 32 and of 64 bits
+-- (System V ABI, Object Files: ELF Header, Sections, Symbol Table).
 use Rattle.std.specs.Prelude.{ℕ, ◌+◌, ◌≤◌, List, drop}
 use Rattle.gimli_read.specs.declared.endian.RunTimeEndian.{RunTimeEndian}
 use Rattle.gimli_read.specs.Number.{number_of}
@@ -65,7 +65,8 @@ layout_of Elf64 = record {
 
 -- each field of the file's header is within it
 abbrev pub FieldsInHeader : Layout → Type 0
-FieldsInHeader l = (l.e_type + HALF_SIZE ≤ l.header_size) × (l.e_shoff + l.address_size ≤ l.header_size)
+FieldsInHeader l = (l.e_type + HALF_SIZE ≤ l.header_size)
+    × (l.e_shoff + l.address_size ≤ l.header_size)
     × (l.e_shentsize + HALF_SIZE ≤ l.header_size) × (l.e_shnum + HALF_SIZE ≤ l.header_size)
     × (l.e_shstrndx + HALF_SIZE ≤ l.header_size)
 
@@ -74,7 +75,8 @@ abbrev pub FieldsInSection : Layout → Type 0
 FieldsInSection l = (40 ≤ l.section_size) × (l.section_size ≤ 64)
     × (l.sh_name + WORD_SIZE ≤ l.section_size) × (l.sh_type + WORD_SIZE ≤ l.section_size)
     × (l.sh_flags + l.address_size ≤ l.section_size) × (l.sh_addr + l.address_size ≤ l.section_size)
-    × (l.sh_offset + l.address_size ≤ l.section_size) × (l.sh_size + l.address_size ≤ l.section_size)
+    × (l.sh_offset + l.address_size ≤ l.section_size)
+    × (l.sh_size + l.address_size ≤ l.section_size)
     × (l.sh_link + WORD_SIZE ≤ l.section_size) × (l.sh_info + WORD_SIZE ≤ l.section_size)
 
 -- each field of a symbol is within it

@@ -14,7 +14,8 @@ Loading A = Result A LoaderError
 abbrev pub LoadsUnlessOom : {X Y : Type 0} → (X → Y) → Loading X → Loading Y → Type 0
 LoadsUnlessOom view result given = ExactlyUnless OutOfMemory view result given
 
--- the answer is what is given, or OutOfMemory, which is an answer only if what is given takes memory
+-- the answer is what is given, or OutOfMemory, which is an answer only if what is given takes
+-- memory
 abbrev pub LoadsUnlessOomFor : {X : Type 0} → (Loading X → Bool) → Loading X → Loading X → Type 0
 LoadsUnlessOomFor takes (Ok x) given = given ≡ Ok x
 LoadsUnlessOomFor takes (Err e) given = (takes given ≡ true → e ≢ OutOfMemory) → given ≡ Err e

@@ -25,12 +25,15 @@ pub record ObjectFile : Type 0 where
 
 -- the section that has the names: where e_shstrndx is SHN_XINDEX, it is the link of section 0
 abbrev pub name_table_of : ℕ → List SectionHeader → ℕ
-name_table_of n sections = if n == SHN_XINDEX then option_map_or (λ (s : SectionHeader). s.link) (slice_get sections 0) 0 else n
+name_table_of n sections = if n == SHN_XINDEX
+    then option_map_or (λ (s : SectionHeader). s.link) (slice_get sections 0) 0
+    else n
 
 -- the file of an identification and a header
 abbrev pub object_file_with : List ℕ → Ident → FileHeader → ObjectFile
 object_file_with bytes ident header =
-    let sections = sections_in ident.endian (layout_of ident.class) header.count (drop header.start bytes) in
+    let l = layout_of ident.class in
+    let sections = sections_in ident.endian l header.count (drop header.start bytes) in
     record {
       bytes = bytes;
       class = ident.class;

@@ -1,6 +1,7 @@
--- The bytes of a file that are a section's, and the texts of a table (System V ABI, Object Files: Sections, String
--- Table).
--- Own: section 0 is no string table (SHN_UNDEF), and a string table outside the file is an empty one.
+-- The bytes of a file that are a section's, and the texts of a table (System V ABI, Object Files:
+-- Sections, String Table).
+-- Own: section 0 is no string table (SHN_UNDEF), and a string table outside the file is an empty
+-- one.
 -- Own: a text outside its table, or without its zero byte, is no text.
 use Rattle.std.specs.Prelude.{ℕ, ◌+◌, ◌==◌, List, [], Option, Some, None, if◌then◌else◌, drop, take, length, nat_le, nat_lt, option_map, option_and_then}
 use Rattle.std.specs.List.{position, slice_get}
@@ -8,7 +9,8 @@ use Rattle.std.specs.Option.{option_map_or}
 use Rattle.elf.specs.declared.constants.TheConstants.{SHN_UNDEF, SHT_NOBITS}
 use Rattle.elf.specs.declared.section.SectionHeader.{SectionHeader}
 
--- the bytes of a section: none of the file for NOBITS, and no answer where they stand outside the file
+-- the bytes of a section: none of the file for NOBITS, and no answer where they stand outside the
+-- file
 abbrev pub section_bytes_in : List ℕ → SectionHeader → Option (List ℕ)
 section_bytes_in bytes s = if s.kind == SHT_NOBITS then Some []
     else if nat_lt (length bytes) (s.offset + s.size) then None
@@ -29,4 +31,5 @@ table_text_at table at = front_text (drop at table)
 
 -- the text at a place of a string table, if it has no more than so many bytes
 abbrev pub short_text_at : ℕ → List ℕ → ℕ → Option (List ℕ)
-short_text_at limit table at = option_and_then (λ text. if nat_le (length text) limit then Some text else None) (table_text_at table at)
+short_text_at limit table at = option_and_then
+    (λ text. if nat_le (length text) limit then Some text else None) (table_text_at table at)

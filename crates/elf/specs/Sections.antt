@@ -1,7 +1,8 @@
 -- Sections by their names (System V ABI, Object Files: Sections).
 -- Own: the first section of a name counts. A section that is missing, or NOBITS, is empty.
--- Own: refused, in this order, are a section outside the file, a compressed one, and one that still needs
--- relocations; a missing one is compressed where .zdebug_ stands in place of the .debug_ of its name.
+-- Own: refused, in this order, are a section outside the file, a compressed one, and one that
+-- still needs relocations; a missing one is compressed where .zdebug_ stands in place of the
+-- .debug_ of its name.
 use Rattle.std.specs.Prelude.{ℕ, ◌+◌, ◌==◌, ◌&&◌, ◌||◌, ◌^◌, Bool, false, not, List, [], Option, Some, None, Ok, Err, if◌then◌else◌, drop, take, length, nat_lt, codes, bit_and, option_map, option_and_then}
 use Rattle.std.specs.Str.{bytes_eq}
 use Rattle.std.specs.List.{position, slice_get, list_any}
@@ -21,7 +22,7 @@ section_names_of file = string_table_in file.bytes file.sections file.name_table
 
 -- whether a text of the table is the name
 abbrev pub is_named : List ℕ → List ℕ → SectionHeader → Bool
-is_named names name s = option_map_or (λ text. bytes_eq text name) (table_text_at names s.name) false
+is_named names name s = option_map_or (λ t. bytes_eq t name) (table_text_at names s.name) false
 
 -- the number of the first section of a name
 abbrev pub number_named : List ℕ → ObjectFile → Option ℕ
@@ -29,11 +30,14 @@ number_named name file = position (is_named (section_names_of file) name) file.s
 
 -- that section, beside its number
 abbrev pub first_named : List ℕ → ObjectFile → Option (ℕ × SectionHeader)
-first_named name file = option_and_then (λ n. option_map (λ (s : SectionHeader). (n, s)) (slice_get file.sections n)) (number_named name file)
+first_named name file = option_and_then (λ n.
+    option_map (λ (s : SectionHeader). (n, s)) (slice_get file.sections n)) (number_named name file)
 
 -- the addresses of a section; none where they pass 64 bits
 abbrev pub addresses_of : SectionHeader → Option Range
-addresses_of s = if nat_lt (s.address + s.size) (2 ^ 64) then Some (record { begin = s.address; end = s.address + s.size }) else None
+addresses_of s = if nat_lt (s.address + s.size) (2 ^ 64)
+    then Some (record { begin = s.address; end = s.address + s.size })
+    else None
 
 -- the addresses of the first section of a name, whatever its type and flags
 abbrev pub section_range_at : List ℕ → ObjectFile → Option Range
@@ -41,7 +45,8 @@ section_range_at name file = option_and_then (λ found. addresses_of found.1) (f
 
 -- whether a text is the name with .zdebug_ in place of .debug_
 abbrev pub is_zdebug_text : List ℕ → List ℕ → Bool
-is_zdebug_text name text = bytes_eq (take 7 name) (codes ".debug_") && (bytes_eq (take 8 text) (codes ".zdebug_") && bytes_eq (drop 8 text) (drop 7 name))
+is_zdebug_text name text = bytes_eq (take 7 name) (codes ".debug_")
+    && (bytes_eq (take 8 text) (codes ".zdebug_") && bytes_eq (drop 8 text) (drop 7 name))
 
 -- whether a section has such a name
 abbrev pub is_zdebug : List ℕ → List ℕ → SectionHeader → Bool
@@ -73,11 +78,14 @@ contents_of file n s = if s.kind == SHT_NOBITS then Ok (no_bytes file)
 
 -- the answer for a name that no section has
 abbrev pub missing_section : List ℕ → ObjectFile → Loading Section
-missing_section name file = if list_any (is_zdebug (section_names_of file) name) file.sections then Err CompressedSection else Ok (no_bytes file)
+missing_section name file = if list_any (is_zdebug (section_names_of file) name) file.sections
+    then Err CompressedSection
+    else Ok (no_bytes file)
 
 -- the bytes of the first section of a name
 unfoldable pub section_at : List ℕ → ObjectFile → Loading Section
-section_at name file = option_map_or (λ found. contents_of file found.0 found.1) (first_named name file) (missing_section name file)
+section_at name file = option_map_or (λ found. contents_of file found.0 found.1)
+    (first_named name file) (missing_section name file)
 
 -- whether a loading gives a section with bytes, which it shares with the file
 abbrev pub gives_bytes_of_file : Loading Section → Bool

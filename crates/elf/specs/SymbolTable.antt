@@ -12,7 +12,8 @@ use Rattle.elf.specs.Symbols.{preference, symbol_names_number, symbol_bytes, usa
 
 -- whether a comes before b: by the address, then by the preference
 abbrev pub precedes : Entry → Entry → Bool
-precedes a b = is_lt (ordering_then (nat_cmp a.address b.address) (nat_cmp (preference a) (preference b)))
+precedes a b = is_lt
+    (ordering_then (nat_cmp a.address b.address) (nat_cmp (preference a) (preference b)))
 
 -- the table is the symbols in that order, those that tie in the order of the file
 pub record IsSymbolTable (symbols table : List Entry) : Type 0 where
@@ -20,9 +21,11 @@ pub record IsSymbolTable (symbols table : List Entry) : Type 0 where
   pub stable : IsStableBy precedes symbols table
 
 -- a file's sorted symbols, and the number of the section that has their names
-pub record HasSymbols (bytes : List ℕ) (endian : RunTimeEndian) (class : Class) (sections : List SectionHeader) (names : ℕ) (table : List Entry) : Type 0 where
+pub record HasSymbols (bytes : List ℕ) (endian : RunTimeEndian) (class : Class)
+    (sections : List SectionHeader) (names : ℕ) (table : List Entry) : Type 0 where
   pub named_by : names ≡ symbol_names_number sections
-  pub symbols : IsSymbolTable (usable_in endian (layout_of class) (string_table_in bytes sections names) (symbol_bytes bytes sections)) table
+  pub symbols : IsSymbolTable (usable_in endian (layout_of class)
+      (string_table_in bytes sections names) (symbol_bytes bytes sections)) table
 
 -- the symbol is at or below the probe
 abbrev pub IsBelow : ℕ → Entry → Type 0

@@ -1,10 +1,11 @@
 -- The symbols of a file, and the one of a probe (System V ABI, Object Files: Symbol Table).
--- Own: the first SYMTAB is the table, else the first DYNSYM. A table or strings outside the file count as none,
--- and a short tail of the table is passed over.
--- Own: a symbol is usable if it has a section, is of type NOTYPE, OBJECT or FUNC, and has a nonempty name in UTF-8.
--- Own: a probe's symbol is the one with the greatest address not above it, if its size is 0 or the probe is below
--- its end. Of several at one address OBJECT and FUNC come before NOTYPE, then the binds GLOBAL and WEAK before
--- others, then the later entry before the earlier.
+-- Own: the first SYMTAB is the table, else the first DYNSYM. A table or strings outside the file
+-- count as none, and a short tail of the table is passed over.
+-- Own: a symbol is usable if it has a section, is of type NOTYPE, OBJECT or FUNC, and has a
+-- nonempty name in UTF-8.
+-- Own: a probe's symbol is the one with the greatest address not above it, if its size is 0 or
+-- the probe is below its end. Of several at one address OBJECT and FUNC come before NOTYPE, then
+-- the binds GLOBAL and WEAK before others, then the later entry before the earlier.
 use Rattle.std.specs.Prelude.{ℕ, zero, suc, ◌+◌, ◌/◌, ◌%◌, ◌==◌, ◌&&◌, ◌||◌, Bool, not, List, [], ◌∷◌, Option, Some, None, if◌then◌else◌, drop, length, filter, slice_index, nat_le, nat_lt, is_some, option_map, option_and_then}
 use Rattle.std.specs.List.{find}
 use Rattle.std.specs.Str.{is_utf8}
@@ -31,15 +32,18 @@ named_address s = record { name = s.name.now; address = s.address }
 
 -- the section that is the symbol table
 abbrev pub symbol_table : List SectionHeader → Option SectionHeader
-symbol_table sections = option_or (find (λ s. s.kind == SHT_SYMTAB) sections) (find (λ s. s.kind == SHT_DYNSYM) sections)
+symbol_table sections = option_or (find (λ s. s.kind == SHT_SYMTAB) sections)
+    (find (λ s. s.kind == SHT_DYNSYM) sections)
 
 -- the bytes of the symbol table
 abbrev pub symbol_bytes : List ℕ → List SectionHeader → List ℕ
-symbol_bytes bytes sections = option_map_or (λ t. t) (option_and_then (section_bytes_in bytes) (symbol_table sections)) []
+symbol_bytes bytes sections = option_map_or (λ t. t)
+    (option_and_then (section_bytes_in bytes) (symbol_table sections)) []
 
 -- the number of the section that has the symbols' names
 abbrev pub symbol_names_number : List SectionHeader → ℕ
-symbol_names_number sections = option_map_or (λ (s : SectionHeader). s.link) (symbol_table sections) 0
+symbol_names_number sections = option_map_or (λ (s : SectionHeader). s.link)
+    (symbol_table sections) 0
 
 -- the table of the symbols' names
 abbrev pub symbol_names_of : ObjectFile → List ℕ
@@ -58,7 +62,8 @@ entry_in endian l bytes = record {
 -- so many entries, one after another
 abbrev pub entries_in : RunTimeEndian → Layout → ℕ → List ℕ → List Entry
 entries_in endian l zero bytes = []
-entries_in endian l (suc n) bytes = entry_in endian l bytes ∷ entries_in endian l n (drop l.symbol_size bytes)
+entries_in endian l (suc n) bytes = entry_in endian l bytes
+    ∷ entries_in endian l n (drop l.symbol_size bytes)
 
 -- the bytes, if they are UTF-8
 abbrev pub utf8_from : List ℕ → Option (List ℕ)
@@ -78,15 +83,18 @@ is_usable_type t = t == STT_NOTYPE || t == STT_OBJECT || t == STT_FUNC
 
 -- whether an entry is a usable symbol
 abbrev pub is_usable : List ℕ → Entry → Bool
-is_usable names e = not (e.section == SHN_UNDEF) && (is_usable_type (e.info % 16) && is_some (name_of names e))
+is_usable names e = not (e.section == SHN_UNDEF)
+    && (is_usable_type (e.info % 16) && is_some (name_of names e))
 
 -- the usable symbols of a table
 abbrev pub usable_in : RunTimeEndian → Layout → List ℕ → List ℕ → List Entry
-usable_in endian l names bytes = filter (is_usable names) (entries_in endian l (length bytes / l.symbol_size) bytes)
+usable_in endian l names bytes = filter (is_usable names)
+    (entries_in endian l (length bytes / l.symbol_size) bytes)
 
 -- the usable symbols of a file, in the order of its table
 abbrev pub symbols_of : ObjectFile → List Entry
-symbols_of file = usable_in file.endian (layout_of file.class) (symbol_names_of file) (symbol_bytes file.bytes file.sections)
+symbols_of file = usable_in file.endian (layout_of file.class) (symbol_names_of file)
+    (symbol_bytes file.bytes file.sections)
 
 -- whether the bind is preferred
 abbrev pub is_preferred_bind : ℕ → Bool
@@ -94,11 +102,14 @@ is_preferred_bind b = b == STB_GLOBAL || b == STB_WEAK
 
 -- the rank of a symbol among those at its address: by its type, then by its bind
 abbrev pub preference : Entry → ℕ
-preference e = (if e.info % 16 == STT_NOTYPE then 0 else 2) + (if is_preferred_bind (e.info / 16) then 1 else 0)
+preference e = (if e.info % 16 == STT_NOTYPE then 0 else 2)
+    + (if is_preferred_bind (e.info / 16) then 1 else 0)
 
--- of the symbols at or below the probe those with the greatest address, of these the preferred ones, of these the last
+-- of the symbols at or below the probe those with the greatest address, of these the preferred
+-- ones, of these the last
 unfoldable pub nearest_symbol : ℕ → List Entry → Option Entry
-nearest_symbol probe symbols = last (topmost preference (topmost (λ e. e.address) (filter (λ e. nat_le e.address probe) symbols)))
+nearest_symbol probe symbols = last (topmost preference
+    (topmost (λ e. e.address) (filter (λ e. nat_le e.address probe) symbols)))
 
 -- whether a symbol at or below the probe covers it
 abbrev pub covers : ℕ → Entry → Bool
@@ -107,5 +118,6 @@ covers probe e = e.size == 0 || nat_lt probe (e.address + e.size)
 -- the name, which each usable symbol has, and the address of a probe's symbol
 unfoldable pub symbol_at : ℕ → ObjectFile → Option NamedAddress
 symbol_at probe file = option_and_then (λ e.
-    if covers probe e then option_map (λ name. record { name = name; address = e.address }) (name_of (symbol_names_of file) e)
+    if covers probe e
+    then option_map (λ name. record { name = name; address = e.address }) (name_of (symbol_names_of file) e)
     else None) (nearest_symbol probe (symbols_of file))

@@ -13,7 +13,8 @@ abbrev pub text_starts : List ℕ → List Bool
 text_starts [] = []
 text_starts (b ∷ bytes) = begins_text (b ∷ bytes) ∷ text_starts bytes
 
--- the text at the front, of which the part after so many bytes is UTF-8, and none after fewer bytes is
+-- the text at the front, of which the part after so many bytes is UTF-8, and none after fewer
+-- bytes is
 pub record TextAfter (bytes : List ℕ) (distance : ℕ) (text : List ℕ) : Type 0 where
   pub is_text : front_text bytes ≡ Some text
   pub in_bytes : distance ≤ length bytes
@@ -22,7 +23,8 @@ pub record TextAfter (bytes : List ℕ) (distance : ℕ) (text : List ℕ) : Typ
   pub starts : IsUtf8 (drop distance text)
   pub none_before : (k : ℕ) → k < distance → ¬ (IsUtf8 (drop k text))
 
--- the distance of the nearest text in UTF-8 that ends at the next zero byte; none without a zero byte
+-- the distance of the nearest text in UTF-8 that ends at the next zero byte; none without a zero
+-- byte
 abbrev pub IsTextDistance : List ℕ → Option ℕ → Type 0
 IsTextDistance bytes None = front_text bytes ≡ None
 IsTextDistance bytes (Some distance) = (text : List ℕ) × TextAfter bytes distance text

@@ -44,7 +44,8 @@ impl Model for ElfFile {
     } };
 
     ghost invariant = { λ f.
-        HasSymbols f.bytes.bytes f.bytes.endian f.class f.sections.items f.symbol_names f.symbols.items };
+        HasSymbols f.bytes.bytes f.bytes.endian f.class f.sections.items f.symbol_names
+        f.symbols.items };
 }
 
 // The number of the section that has the sections' names.
@@ -80,7 +81,7 @@ impl ElfFile {
     /// | Refusal | When |
     /// |---|---|
     /// | `NotElf` | the bytes don't begin with the whole magic |
-    /// | `BadElf` | the header or a section header isn't wholly there, or has an unknown class, byte order or entry size |
+    /// | `BadElf` | the header or a section header isn't whole; an unknown class, byte order or entry size |
     /// | `OutOfMemory` | a growth was refused; the file has a section |
     ///
     /// Source: System V ABI, Object Files.
@@ -113,17 +114,19 @@ impl ElfFile {
     }
 
     /// The bytes of the first section of a name, in the file's byte order; they are shared with the
-    /// file. Empty where there is no such section, or it is NOBITS. Takes memory for one byte or more.
+    /// file. Empty where there is no such section, or it is NOBITS. Takes memory for one byte or
+    /// more.
     ///
     /// | Refusal, in this order | When |
     /// |---|---|
     /// | `BadElf` | the section isn't wholly within the file |
-    /// | `CompressedSection` | it is compressed, or missing while `.zdebug_` with the rest of its name is there |
-    /// | `RelocationsNeeded` | the file is relocatable, and a nonempty REL or RELA section is for it |
+    /// | `CompressedSection` | it is compressed, or only `.zdebug_` with the rest of its name is there |
+    /// | `RelocationsNeeded` | the file is relocatable, with a nonempty REL or RELA section for it |
     /// | `OutOfMemory` | a growth was refused; the section has a byte |
     #[tactic(auto, unfolding(crate::specs::Sections::section_at))]
     pub fn section(&self, name: &str) -> Result<EndianBytes, LoaderError>
-        ensures gives { LoadsUnlessOomFor gives_bytes_of_file result (section_at name.now self.now) }
+        ensures gives { LoadsUnlessOomFor gives_bytes_of_file result
+            (section_at name.now self.now) }
     {
         match self.first_named(name.as_bytes()) {
             Some((number, section)) => self.contents(number, &section),
@@ -131,8 +134,8 @@ impl ElfFile {
         }
     }
 
-    /// The addresses of the first section of a name, whatever its type and flags; none where there is
-    /// no such section, or where its end passes 64 bits. Takes no memory.
+    /// The addresses of the first section of a name, whatever its type and flags; none where
+    /// there is no such section, or where its end passes 64 bits. Takes no memory.
     pub fn section_range(&self, name: &[u8]) -> Option<Range>
         ensures gives { result ≡ section_range_at name.now self.now }
     {
@@ -140,13 +143,13 @@ impl ElfFile {
         section.addresses()
     }
 
-    /// The symbol of a probe: the one with the greatest address not above it, if its size is 0 or the
-    /// probe is below its end. Takes no memory.
+    /// The symbol of a probe: the one with the greatest address not above it, if its size is 0 or
+    /// the probe is below its end. Takes no memory.
     ///
-    /// Of several at one address objects and functions come before untyped ones, then global and weak
-    /// ones before others, then the later one in the file. Only those symbols are looked at that have a
-    /// section and a nonempty UTF-8 name, and are untyped, objects or functions. They are those of the
-    /// first SYMTAB, else of the first DYNSYM.
+    /// Of several at one address objects and functions come before untyped ones, then global and
+    /// weak ones before others, then the later one in the file. Only those symbols are looked at
+    /// that have a section and a nonempty UTF-8 name, and are untyped, objects or functions. They
+    /// are those of the first SYMTAB, else of the first DYNSYM.
     #[tactic(auto, unfolding(crate::specs::Symbols::symbol_at))]
     pub fn symbol(&self, probe: u64) -> Option<Symbol<'_>>
         ensures gives { option_map named_address result ≡ symbol_at probe self.now }
@@ -209,7 +212,8 @@ impl ElfFile {
     // The bytes of a section.
     #[tactic(auto, unfolding(crate::specs::Sections::contents_of))]
     fn contents(&self, number: usize, section: &SectionHeader) -> Result<EndianBytes, LoaderError>
-        ensures gives { LoadsUnlessOomFor gives_bytes_of_file result (contents_of self.now number section.now) }
+        ensures gives { LoadsUnlessOomFor gives_bytes_of_file result
+            (contents_of self.now number section.now) }
     {
         if section.is_nobits() {
             return Ok(self.no_bytes());

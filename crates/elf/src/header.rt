@@ -21,7 +21,8 @@ pub(crate) struct Ident {
     pub(crate) endian: RunTimeEndian,
 }
 
-/// Whether a file is relocatable, where its section headers begin and how many there are, and e_shstrndx.
+/// Whether a file is relocatable, where its section headers begin and how many there are, and
+/// e_shstrndx.
 #[derive(Clone, Copy)]
 pub(crate) struct FileHeader {
     pub(crate) is_relocatable: bool,
@@ -78,7 +79,8 @@ pub(crate) fn read_ident(bytes: &[u8]) -> Result<Ident, LoaderError>
     Ok(Ident { class, endian })
 }
 
-// The number of section headers from place `at` on; where e_shnum is 0, it is the size of section 0.
+// The number of section headers from place `at` on; where e_shnum is 0, it is the size of section
+// 0.
 #[tactic(auto, unfolding(crate::specs::Layout::number_at))]
 fn count_of(bytes: &[u8], at: u64, ident: Ident) -> Result<u64, LoaderError>
     requires whole { (layout_of ident.class).header_size ≤ length bytes.now }

@@ -16,8 +16,8 @@ pub(crate) enum Class {
     Elf64,
 }
 
-/// How many bytes a header, a section header, a symbol and an address of a class take, and at which byte
-/// of its header or symbol each field begins.
+/// How many bytes a header, a section header, a symbol and an address of a class take, and at
+/// which byte of its header or symbol each field begins.
 #[derive(Clone, Copy)]
 pub(crate) struct Layout {
     pub(crate) address_size: usize,

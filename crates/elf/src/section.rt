@@ -220,7 +220,8 @@ pub(crate) fn text_at(table: &[u8], at: u64) -> Option<&[u8]>
     front_text(rest_at(table, at))
 }
 
-// The text at a place of a string table, if it has no more than `limit` bytes. Reads at most one more.
+// The text at a place of a string table, if it has no more than `limit` bytes. Reads at most one
+// more.
 fn short_text_at(table: &[u8], at: u64, limit: usize) -> Option<&[u8]>
     ensures gives { option_map (λ t. t.now) result ≡ short_text_at limit table.now at }
 {

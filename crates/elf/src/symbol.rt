@@ -202,7 +202,8 @@ fn push_usable(
     starts: &[bool],
 ) -> Result<(), AllocError>
     requires starts { starts.now ≡ text_starts names.now }
-    ensures gives { OnOk result (all.new.items ≡ all.old.items ++ filter (is_usable names.now) (entry ∷ [])) }
+    ensures gives { OnOk result
+        (all.new.items ≡ all.old.items ++ filter (is_usable names.now) (entry ∷ [])) }
 {
     if entry.is_usable(names, starts) {
         all.push(entry)?;
@@ -228,8 +229,8 @@ fn usable(alloc: Global, bytes: &[u8], names: &[u8], ident: Ident) -> Result<Vec
     Ok(all)
 }
 
-/// The usable symbols of a table by address, then by preference, then as in the file. Takes no memory
-/// for an empty table.
+/// The usable symbols of a table by address, then by preference, then as in the file. Takes no
+/// memory for an empty table.
 pub(crate) fn sorted(
     alloc: Global,
     bytes: &[u8],
@@ -237,7 +238,8 @@ pub(crate) fn sorted(
     ident: Ident,
 ) -> Result<Vec<Entry>, AllocError>
     ensures sorted { IfOk result (λ v.
-        IsSymbolTable (usable_in ident.endian (layout_of ident.class) names.now bytes.now) v.items) }
+        IsSymbolTable (usable_in ident.endian (layout_of ident.class) names.now bytes.now)
+        v.items) }
     ensures none { bytes.now ≡ [] → IsOk result }
 {
     if bytes.is_empty() {

@@ -1,7 +1,7 @@
 //! The places of a string table where texts in UTF-8 begin, found for all places at once.
 //!
-//! Many symbols may share one long name, or have parts of it for names. So the table is read once, from
-//! its last byte to its first, and no text is read for each symbol that has it.
+//! Many symbols may share one long name, or have parts of it for names. So the table is read
+//! once, from its last byte to its first, and no text is read for each symbol that has it.
 
 ghost use Rattle.std.specs.Prelude.{◌≡◌, ◌<◌, length, drop, IfOk, MatchBool};
 ghost use Rattle.std.specs.Str.{IsUtf8};
@@ -23,8 +23,8 @@ fn is_utf8(bytes: &[u8]) -> bool
     }
 }
 
-// How many bytes after the front of `tail` the nearest text in UTF-8 begins, up to its next zero byte;
-// `None` without a zero byte. `next` is the same for the tail after the first byte.
+// How many bytes after the front of `tail` the nearest text in UTF-8 begins, up to its next zero
+// byte; `None` without a zero byte. `next` is the same for the tail after the first byte.
 fn text_distance(tail: &[u8], next: Option<usize>) -> Option<usize>
     requires some { 0 < length tail.now }
     requires next { IsTextDistance (drop 1 tail.now) next }
@@ -34,7 +34,8 @@ fn text_distance(tail: &[u8], next: Option<usize>) -> Option<usize>
         return Some(0);
     }
     let distance = next? + 1;
-    // After a text's first character its rest begins a text too, so the nearest one is within four bytes.
+    // After a text's first character its rest begins a text too, so the nearest one is within
+    // four bytes.
     if distance > MAX_LEN_UTF8 {
         return Some(distance);
     }

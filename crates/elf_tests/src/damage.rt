@@ -1,8 +1,8 @@
 //! Files with a field changed, or cut off.
 //!
 //! A line of a table is a case: the changed field; a place in the file and the bytes that are put
-//! there, as often as needed; the wanted answer. Numbers are hexadecimal. A test finds no line whose
-//! answer is another one.
+//! there, as often as needed; the wanted answer. Numbers are hexadecimal. A test finds no line
+//! whose answer is another one.
 
 use crate::answers::{EMPTY, digits, open, refusal, section_number, symbol_numbers};
 use elf::LoaderError;
@@ -119,7 +119,8 @@ fn first_wrong_symbol<'a>(alloc: Global, file: &[u8], cases: &'a str) -> &'a str
     "none"
 }
 
-// A file with .text at 0x10 and .debug_info, of 64 bits, little endian (0) or of 32 bits, big endian (3).
+// A file with .text at 0x10 and .debug_info, of 64 bits, little endian (0) or of 32 bits, big
+// endian (3).
 fn sections_file(alloc: Global, shape: usize) -> Option<Vec<u8>> {
     let text = Section {
         address: 0x10,
@@ -201,8 +202,8 @@ the names end before the zero; 144: 12; empty
 the names are NOBITS; 128: 08; empty
 ";
 
-// Of 32 bits, big endian, 0xf8 bytes: .text at 34, .debug_info at 38, the names from 3b to 58, and the
-// section headers at 58, 80, a8 and d0.
+// Of 32 bits, big endian, 0xf8 bytes: .text at 34, .debug_info at 38, the names from 3b to 58,
+// and the section headers at 58, 80, a8 and d0.
 const OF_32_BITS: &str = "\
 nothing; 01 02 03
 class of 64 bits, where e_shentsize is 0300; 04: 02; BadElf
@@ -241,8 +242,9 @@ fn a_changed_field_has_its_answer(rt: HostRuntime) -> Result<(), Fail> {
     Ok(())
 }
 
-// Of 64 bits, little endian: the null symbol at 41, the symbol at 59, the strings from 71 to 76, and the
-// section headers at 97, d7 (.text), 117 (.symtab), 157 (.strtab) and 197 (the names, of which .text is at 1).
+// Of 64 bits, little endian: the null symbol at 41, the symbol at 59, the strings from 71 to 76,
+// and the section headers at 97, d7 (.text), 117 (.symtab), 157 (.strtab) and 197 (the names, of
+// which .text is at 1).
 const SYMBOLS: &str = "\
 nothing; one 10
 st_name, the second letter; 59: 02; ne 10
@@ -299,7 +301,8 @@ fn a_changed_symbol_has_its_answer(rt: HostRuntime) -> Result<(), Fail> {
     Ok(())
 }
 
-// The first length at which a cut file has another answer than it should; its own length where none has.
+// The first length at which a cut file has another answer than it should; its own length where
+// none has.
 fn first_wrong_cut(alloc: Global, file: &[u8]) -> usize {
     for len in 0..file.len() {
         let want = if len < 4 {
@@ -341,7 +344,9 @@ fn symbol_outside(alloc: Global, number: usize) -> Option<[u64; 2]> {
     let mut file = elf_file(alloc, SHAPES[0], &sections).ok()?;
     // The five section headers are at the end, and sh_offset is at their byte 24.
     let headers = file.len().saturating_sub(64 * 5);
-    let at = headers.saturating_add(number.saturating_mul(64)).saturating_add(24);
+    let at = headers
+        .saturating_add(number.saturating_mul(64))
+        .saturating_add(24);
     for step in 0..8usize {
         *file.get_mut(at.saturating_add(step))? = 0xff;
     }

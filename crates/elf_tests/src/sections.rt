@@ -1,8 +1,6 @@
 //! Sections by name, and their addresses.
 
-use crate::answers::{
-    EMPTY, bounds, open, open_as, order_number, section_number, symbol_numbers,
-};
+use crate::answers::{EMPTY, bounds, open, open_as, order_number, section_number, symbol_numbers};
 use elf::ElfFile;
 use elf_writer::{SHAPES, Section, Shape, elf_file, plain};
 use gimli_read::RunTimeEndian;
@@ -16,7 +14,8 @@ const SHT_REL: u32 = 9;
 
 const SHF_COMPRESSED: u64 = 0x800;
 
-// Of .debug_info, .text and .debug_line the bytes and the orders, of .text the addresses, and a symbol.
+// Of .debug_info, .text and .debug_line the bytes and the orders, of .text the addresses, and a
+// symbol.
 fn numbers(file: &ElfFile) -> [u64; 10] {
     let [begin, end] = bounds(file.section_range(b".text"));
     let [name, address] = symbol_numbers(file.symbol(0x1000));

@@ -79,7 +79,10 @@ fn the_preferred_one_of_an_address(rt: HostRuntime) -> Result<(), Fail> {
     ];
     for (first, second, want) in cases {
         let file = file_of(rt.alloc(), SHAPES[0], SHT_SYMTAB, &[first, second])?;
-        assert_eq!(rt; symbol_numbers(file.symbol(0x10)), [digits(0, want.name), 0x10]);
+        assert_eq!(rt;
+            symbol_numbers(file.symbol(0x10)),
+            [digits(0, want.name), 0x10]
+        );
     }
     Ok(())
 }
@@ -105,11 +108,20 @@ fn what_is_no_symbol(rt: HostRuntime) -> Result<(), Fail> {
         (named_symbol(b"a\xc3", 0x10, 0x20, 0), kept_is),
         (named_symbol(b"\xc3\xa9\xa9", 0x10, 0x20, 0), kept_is),
         (named_symbol(b"\xe2\x82", 0x10, 0x20, 0), kept_is),
-        (named_symbol(b"\xe2\x82\xac", 0x10, 0x20, 0), [0xe282ac, 0x20]),
-        (named_symbol(b"\xf0\x9f\x98\x80", 0x10, 0x20, 0), [0xf09f9880, 0x20]),
+        (
+            named_symbol(b"\xe2\x82\xac", 0x10, 0x20, 0),
+            [0xe282ac, 0x20],
+        ),
+        (
+            named_symbol(b"\xf0\x9f\x98\x80", 0x10, 0x20, 0),
+            [0xf09f9880, 0x20],
+        ),
         (named_symbol(b"\xed\xa0\x80", 0x10, 0x20, 0), kept_is),
         (named_symbol(b"\xc0\x80", 0x10, 0x20, 0), kept_is),
-        (named_symbol(b"a\xc3\xa9b", 0x10, 0x20, 0), [0x61c3a962, 0x20]),
+        (
+            named_symbol(b"a\xc3\xa9b", 0x10, 0x20, 0),
+            [0x61c3a962, 0x20],
+        ),
         (named_symbol(b"\xffabcd", 0x10, 0x20, 0), kept_is),
         (named_symbol(b"ab\xffcd", 0x10, 0x20, 0), kept_is),
     ];
@@ -145,8 +157,8 @@ fn the_nearest_one_has_to_reach(rt: HostRuntime) -> Result<(), Fail> {
     Ok(())
 }
 
-// The symbol at 0x10 in a file with these tables and their strings, which are section 3; two ones for a
-// file that is refused.
+// The symbol at 0x10 in a file with these tables and their strings, which are section 3; two ones
+// for a file that is refused.
 fn at_16(alloc: Global, entries: &[Section<'_>; 2], strings: &[u8]) -> [u64; 2] {
     let [first, second] = entries;
     let sections = [*first, *second, plain(".strtab", strings)];
@@ -161,7 +173,11 @@ fn at_16(alloc: Global, entries: &[Section<'_>; 2], strings: &[u8]) -> [u64; 2] 
 
 #[test]
 fn which_table_counts(rt: HostRuntime) -> Result<(), Fail> {
-    let one = symbol_tables(rt.alloc(), SHAPES[0], &[named_symbol(b"one", 0x12, 0x10, 0)])?;
+    let one = symbol_tables(
+        rt.alloc(),
+        SHAPES[0],
+        &[named_symbol(b"one", 0x12, 0x10, 0)],
+    )?;
     let two = symbol_tables(rt.alloc(), SHAPES[0], &[named_symbol(b"one", 0x12, 0x8, 0)])?;
     let full = Section {
         kind: SHT_SYMTAB,

@@ -1,4 +1,5 @@
-//! The program `write_elf`: writes an ELF file whose sections are files of this folder, to standard output.
+//! The program `write_elf`: writes an ELF file whose sections are files of this folder, to
+//! standard output.
 //!
 //! Each word names a section and the file of its bytes.
 #![tactic(auto)]

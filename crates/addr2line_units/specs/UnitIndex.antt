@@ -13,7 +13,7 @@ use Rattle.gimli.specs.declared.unit.UnitType.{UnitType}
 use Rattle.gimli.specs.declared.unit.UnitType.TheVariants.{TypeUnit, Partial, SplitType}
 use Rattle.gimli.specs.Header.{UnitHeaderFields}
 use Rattle.gimli.specs.Sections.{Sections}
-use Rattle.gimli.specs.Unit.{UnitRecord, unit_of}
+use Rattle.gimli.specs.Unit.{UnitRecord, unit_record_of}
 use Rattle.gimli.specs.UnitsLeft.{all_headers}
 use Rattle.addr2line_lines.specs.InOrder.{in_order}
 use Rattle.addr2line_lines.specs.RangeAttributes.{root_range_attributes, ranges_of}
@@ -65,7 +65,7 @@ with_record d m (Ok u) = unit_ranges d u >>= λ ranges. Ok (with_indexed m u ran
 
 -- one more unit
 unfoldable pub with_unit : Sections → UnitIndex → UnitHeaderFields → Result UnitIndex Error
-with_unit d m h = if is_type_unit h.unit_type then Ok m else with_record d m (unit_of d h)
+with_unit d m h = if is_type_unit h.unit_type then Ok m else with_record d m (unit_record_of d h)
 
 -- the units of headers, each whole before the next header, up to the first fault
 unfoldable pub index_units : Sections → UnitIndex → List (Result (UnitHeaderFields) Error) → Result UnitIndex Error

@@ -78,7 +78,7 @@ fn take_unit<R: Reader>(
     kept: Option<ResUnit<R>>,
 ) -> Result<Option<ResUnit<R>>, Error>
     requires read { HasLinesOf dwarf.now kept }
-    ensures gives { ExactlyUnlessOom (unit_index_of R.section) result (with_unit dwarf.now
+    ensures gives { ExactlyUnlessOom (unit_index_of) result (with_unit dwarf.now
         (unit_index_of kept) header) }
     ensures read { IfOk result (HasLinesOf dwarf.now) }
 {

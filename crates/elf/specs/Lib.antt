@@ -1,9 +1,10 @@
-pub mod Reading
+pub mod Loading
 pub mod Text
 pub mod Layout
 pub mod Header
-pub mod Held
-pub mod View
+pub mod SectionBytes
+pub mod ObjectFile
 pub mod Sections
 pub mod Symbols
-pub mod Table
+pub mod TextStarts
+pub mod SymbolTable

@@ -2,7 +2,7 @@
 
 ghost use Rattle.std.specs.Prelude.{◌≡◌};
 ghost use Rattle.elf.specs.declared.error.LoaderError.TheVariants.{OutOfMemory};
-ghost use Rattle.elf.specs.Text.{text_of, told};
+ghost use Rattle.elf.specs.Text.{loader_text_of, loader_error_of};
 
 use gimli_read::Error;
 use std::alloc::{AllocError, AllocFailed};
@@ -25,14 +25,14 @@ pub enum LoaderError {
     PathNotUtf8,
     /// A refused reading of DWARF bytes.
     Dwarf(Error),
-    /// Memory was wanted, and a growth was refused. It may stand in place of any other refusal.
+    /// A growth was refused. Only a call that takes memory for its answer is refused so.
     OutOfMemory,
 }
 
 impl LoaderError {
     /// What the refusal says, in lower case. Takes no memory.
     pub fn text(&self) -> &'static str
-        ensures gives { result.now ≡ text_of self.now }
+        ensures gives { result.now ≡ loader_text_of self.now }
     {
         match self {
             LoaderError::Io => "the file cannot be read",
@@ -64,7 +64,7 @@ impl<T: Drop> From<AllocFailed<T>> for LoaderError {
 }
 
 impl From<Error> for LoaderError {
-    ghost from_gives = { λ error e. e ≡ told error };
+    ghost from_gives = { λ error e. e ≡ loader_error_of error };
 
     fn from(error: Error) -> LoaderError {
         match error {

@@ -2,30 +2,30 @@
 
 ghost use Rattle.std.specs.Prelude.{◌≡◌, ◌≤◌, ◌+◌, ◌*◌, length, take, IfOk};
 ghost use Rattle.std.specs.Str.{bytes_eq};
-ghost use Rattle.elf.specs.Reading.{Exactly};
 ghost use Rattle.elf.specs.Layout.{layout_of};
 ghost use Rattle.elf.specs.Header.{class_of, endian_of, ident_in, count_in, header_in};
 
+use crate::constants::{
+    EI_CLASS, EI_DATA, ELFCLASS32, ELFCLASS64, ELFDATA2LSB, ELFDATA2MSB, ET_REL, HALF_SIZE,
+};
 use crate::error::LoaderError;
 use crate::layout::{self, Class};
 use gimli_read::RunTimeEndian;
 
 const MAGIC: [u8; 4] = [0x7f, 0x45, 0x4c, 0x46];
 
-// The e_type of a file that is not linked yet.
-const ET_REL: u64 = 1;
-
-/// How the bytes of a file are read.
+/// The class and the byte order of a file.
 #[derive(Clone, Copy)]
 pub(crate) struct Ident {
     pub(crate) class: Class,
     pub(crate) endian: RunTimeEndian,
 }
 
-/// What a file's header says of it and of its section headers.
+/// Whether a file is relocatable, where its section headers begin and how many there are, and
+/// e_shstrndx.
 #[derive(Clone, Copy)]
 pub(crate) struct FileHeader {
-    pub(crate) is_object: bool,
+    pub(crate) is_relocatable: bool,
     pub(crate) start: usize,
     pub(crate) count: usize,
     pub(crate) name_index: u64,
@@ -46,8 +46,8 @@ fn class_from(byte: u8) -> Result<Class, LoaderError>
     ensures gives { result ≡ class_of byte }
 {
     match byte {
-        1 => Ok(Class::Elf32),
-        2 => Ok(Class::Elf64),
+        ELFCLASS32 => Ok(Class::Elf32),
+        ELFCLASS64 => Ok(Class::Elf64),
         _ => Err(LoaderError::BadElf),
     }
 }
@@ -57,13 +57,13 @@ fn endian_from(byte: u8) -> Result<RunTimeEndian, LoaderError>
     ensures gives { result ≡ endian_of byte }
 {
     match byte {
-        1 => Ok(RunTimeEndian::Little),
-        2 => Ok(RunTimeEndian::Big),
+        ELFDATA2LSB => Ok(RunTimeEndian::Little),
+        ELFDATA2MSB => Ok(RunTimeEndian::Big),
         _ => Err(LoaderError::BadElf),
     }
 }
 
-/// What the first six bytes say.
+/// The class and the byte order that e_ident says.
 #[tactic(auto, unfolding(crate::specs::Header::ident_in))]
 pub(crate) fn read_ident(bytes: &[u8]) -> Result<Ident, LoaderError>
     ensures gives { result ≡ ident_in bytes.now }
@@ -71,22 +71,23 @@ pub(crate) fn read_ident(bytes: &[u8]) -> Result<Ident, LoaderError>
     if !begins_with(bytes, &MAGIC) {
         return Err(LoaderError::NotElf);
     }
-    if bytes.len() < 6 {
+    if bytes.len() <= EI_DATA {
         return Err(LoaderError::BadElf);
     }
-    let class = class_from(bytes[4])?;
-    let endian = endian_from(bytes[5])?;
+    let class = class_from(bytes[EI_CLASS])?;
+    let endian = endian_from(bytes[EI_DATA])?;
     Ok(Ident { class, endian })
 }
 
-// How many section headers stand from place `at` on.
+// The number of section headers from place `at` on; where e_shnum is 0, it is the size of section
+// 0.
 #[tactic(auto, unfolding(crate::specs::Layout::number_at))]
 fn count_of(bytes: &[u8], at: u64, ident: Ident) -> Result<u64, LoaderError>
     requires whole { (layout_of ident.class).header_size ≤ length bytes.now }
     ensures gives { result ≡ count_in ident.endian (layout_of ident.class) at bytes.now }
 {
     let layout = ident.class.layout();
-    let count = layout::number(bytes, layout.e_shnum, 2, ident.endian);
+    let count = layout::number(bytes, layout.e_shnum, HALF_SIZE, ident.endian);
     if count != 0 {
         return Ok(count);
     }
@@ -95,10 +96,10 @@ fn count_of(bytes: &[u8], at: u64, ident: Ident) -> Result<u64, LoaderError>
         return Err(LoaderError::BadElf);
     }
     let (_, rest) = bytes.split_at(at as usize);
-    Ok(layout::number(rest, layout.sh_size, layout.word, ident.endian))
+    Ok(layout::number(rest, layout.sh_size, layout.address_size, ident.endian))
 }
 
-/// What the file's header says.
+/// The file's header.
 #[tactic(auto, unfolding(crate::specs::Header::header_in))]
 pub(crate) fn read_header(bytes: &[u8], ident: Ident) -> Result<FileHeader, LoaderError>
     ensures gives { result ≡ header_in ident.endian (layout_of ident.class) bytes.now }
@@ -109,17 +110,19 @@ pub(crate) fn read_header(bytes: &[u8], ident: Ident) -> Result<FileHeader, Load
     if bytes.len() < layout.header_size {
         return Err(LoaderError::BadElf);
     }
-    let is_object = layout::number(bytes, 16, 2, ident.endian) == ET_REL;
-    let start = layout::number(bytes, layout.e_shoff, layout.word, ident.endian);
+    let is_relocatable = layout::number(bytes, layout.e_type, HALF_SIZE, ident.endian) == ET_REL;
+    let start = layout::number(bytes, layout.e_shoff, layout.address_size, ident.endian);
     if start == 0 {
         return Ok(FileHeader {
-            is_object,
+            is_relocatable,
             start: 0,
             count: 0,
             name_index: 0,
         });
     }
-    if layout::number(bytes, layout.e_shentsize, 2, ident.endian) != layout.section_size as u64 {
+    if layout::number(bytes, layout.e_shentsize, HALF_SIZE, ident.endian)
+        != layout.section_size as u64
+    {
         return Err(LoaderError::BadElf);
     }
     let count = count_of(bytes, start, ident)?;
@@ -133,9 +136,9 @@ pub(crate) fn read_header(bytes: &[u8], ident: Ident) -> Result<FileHeader, Load
         return Err(LoaderError::BadElf);
     }
     Ok(FileHeader {
-        is_object,
+        is_relocatable,
         start: start as usize,
         count: count as usize,
-        name_index: layout::number(bytes, layout.e_shstrndx, 2, ident.endian),
+        name_index: layout::number(bytes, layout.e_shstrndx, HALF_SIZE, ident.endian),
     })
 }

@@ -1,14 +1,14 @@
 //! ELF files: their sections, the addresses of these, and their symbols.
 #![tactic(auto)]
 
+mod constants;
 mod error;
 mod file;
 mod header;
 mod layout;
 mod section;
 mod symbol;
-#[cfg(test)]
-mod tests;
+mod text_starts;
 
 pub use crate::error::LoaderError;
 pub use crate::file::ElfFile;

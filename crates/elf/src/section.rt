@@ -1,24 +1,18 @@
-//! Section headers, and what of a file belongs to a section (System V ABI, Object Files: Sections).
+//! Section headers, and the bytes of a section (System V ABI, Object Files: Sections).
 
-ghost use Rattle.std.specs.Prelude.{◌≡◌, ◌≤◌, ◌+◌, ◌*◌, ◌==◌, ℕ, List, length, not, nat_lt, bit_and, option_map, IfOk};
+ghost use Rattle.std.specs.Prelude.{◌≡◌, ◌≤◌, ◌+◌, ◌*◌, ◌==◌, ℕ, List, length, not, nat_lt, bit_and, drop, option_map, IfOk, IsOk};
 ghost use Rattle.std.specs.List.{list_any, position};
+ghost use Rattle.elf.specs.declared.constants.TheConstants.{SHT_NOBITS};
 ghost use Rattle.elf.specs.Layout.{layout_of};
 ghost use Rattle.elf.specs.Header.{section_in, sections_in};
-ghost use Rattle.elf.specs.Held.{held_in, table_at, text_at};
-ghost use Rattle.elf.specs.Sections.{addresses_of, is_named, is_zdebug_of, is_zdebug, relocates};
+ghost use Rattle.elf.specs.SectionBytes.{section_bytes_in, string_table_in, front_text, table_text_at, short_text_at};
+ghost use Rattle.elf.specs.Sections.{addresses_of, is_compressed, is_named, is_zdebug_text, is_zdebug, relocates};
 
+use crate::constants::{SHF_COMPRESSED, SHN_UNDEF, SHT_NOBITS, SHT_REL, SHT_RELA, WORD_SIZE};
 use crate::header::{self, Ident};
 use crate::layout;
 use gimli_read::Range;
 use std::alloc::{AllocError, Global};
-
-const SHT_RELA: u64 = 4;
-
-const SHT_NOBITS: u64 = 8;
-
-const SHT_REL: u64 = 9;
-
-const SHF_COMPRESSED: u64 = 0x800;
 
 /// A section header of either class.
 #[derive(Clone, Copy)]
@@ -40,18 +34,18 @@ fn header_at(bytes: &[u8], ident: Ident) -> SectionHeader
 {
     let layout = ident.class.layout();
     SectionHeader {
-        name: layout::number(bytes, 0, 4, ident.endian),
-        kind: layout::number(bytes, 4, 4, ident.endian),
-        flags: layout::number(bytes, layout.sh_flags, layout.word, ident.endian),
-        address: layout::number(bytes, layout.sh_addr, layout.word, ident.endian),
-        offset: layout::number(bytes, layout.sh_offset, layout.word, ident.endian),
-        size: layout::number(bytes, layout.sh_size, layout.word, ident.endian),
-        link: layout::number(bytes, layout.sh_link, 4, ident.endian),
-        info: layout::number(bytes, layout.sh_info, 4, ident.endian),
+        name: layout::number(bytes, layout.sh_name, WORD_SIZE, ident.endian),
+        kind: layout::number(bytes, layout.sh_type, WORD_SIZE, ident.endian),
+        flags: layout::number(bytes, layout.sh_flags, layout.address_size, ident.endian),
+        address: layout::number(bytes, layout.sh_addr, layout.address_size, ident.endian),
+        offset: layout::number(bytes, layout.sh_offset, layout.address_size, ident.endian),
+        size: layout::number(bytes, layout.sh_size, layout.address_size, ident.endian),
+        link: layout::number(bytes, layout.sh_link, WORD_SIZE, ident.endian),
+        info: layout::number(bytes, layout.sh_info, WORD_SIZE, ident.endian),
     }
 }
 
-/// As many section headers, one after another.
+/// Reads `count` section headers, one after another. Takes memory for one or more.
 pub(crate) fn headers(
     alloc: Global,
     bytes: &[u8],
@@ -61,6 +55,7 @@ pub(crate) fn headers(
     requires whole { count * (layout_of ident.class).section_size ≤ length bytes.now }
     ensures gives { IfOk result (λ v.
         v.items ≡ sections_in ident.endian (layout_of ident.class) count bytes.now) }
+    ensures none { count ≡ 0 → IsOk result }
 {
     let size = ident.class.layout().section_size;
     let mut all = Vec::new(alloc);
@@ -76,12 +71,12 @@ pub(crate) fn headers(
 impl SectionHeader {
     /// Whether the section has no bytes in the file.
     pub(crate) fn is_nobits(&self) -> bool
-        ensures gives { result ≡ (self.now.kind == 8) }
+        ensures gives { result ≡ (self.now.kind == SHT_NOBITS) }
     {
         self.kind == SHT_NOBITS
     }
 
-    /// Whether the section's place is outside a file of so many bytes.
+    /// Whether the section's bytes aren't all within a file of `len` bytes.
     pub(crate) fn is_outside(&self, len: usize) -> bool
         ensures gives { result ≡ nat_lt len (self.now.offset + self.now.size) }
     {
@@ -91,7 +86,7 @@ impl SectionHeader {
 
     /// Whether the section's bytes are compressed.
     pub(crate) fn is_compressed(&self) -> bool
-        ensures gives { result ≡ not (bit_and self.now.flags 0x800 == 0) }
+        ensures gives { result ≡ is_compressed self.now }
     {
         self.flags & SHF_COMPRESSED != 0
     }
@@ -104,7 +99,7 @@ impl SectionHeader {
             && (self.size != 0 && self.info == number as u64)
     }
 
-    /// The section's addresses; nothing where they pass 64 bits.
+    /// The section's addresses; none where they pass 64 bits.
     pub(crate) fn addresses(&self) -> Option<Range>
         ensures gives { result ≡ addresses_of self.now }
     {
@@ -115,9 +110,9 @@ impl SectionHeader {
         })
     }
 
-    /// The bytes of the section, none for NOBITS; nothing where they stand outside the file.
+    /// The bytes of the section, no bytes for NOBITS; `None` where they are outside the file.
     pub(crate) fn bytes_in<'a>(&self, file: &'a [u8]) -> Option<&'a [u8]>
-        ensures gives { option_map (λ b. b.now) result ≡ held_in file.now self.now }
+        ensures gives { option_map (λ b. b.now) result ≡ section_bytes_in file.now self.now }
     {
         if self.is_nobits() {
             return Some(&file[..0]);
@@ -126,15 +121,15 @@ impl SectionHeader {
             return None;
         }
         let (_, rest) = file.split_at(self.offset as usize);
-        let (held, _) = rest.split_at(self.size as usize);
-        Some(held)
+        let (own, _) = rest.split_at(self.size as usize);
+        Some(own)
     }
 
     /// Whether a text of the table is the section's name.
     pub(crate) fn is_named(&self, names: &[u8], name: &[u8]) -> bool
         ensures gives { result ≡ is_named names.now name.now self.now }
     {
-        match text_in(names, self.name) {
+        match short_text_at(names, self.name, name.len()) {
             Some(text) => text == name,
             None => false,
         }
@@ -144,7 +139,7 @@ impl SectionHeader {
     pub(crate) fn is_zdebug(&self, names: &[u8], name: &[u8]) -> bool
         ensures gives { result ≡ is_zdebug names.now name.now self.now }
     {
-        match text_in(names, self.name) {
+        match short_text_at(names, self.name, name.len() + 1) {
             Some(text) => is_zdebug_text(name, text),
             None => false,
         }
@@ -169,7 +164,7 @@ pub(crate) fn has_zdebug(sections: &[SectionHeader], names: &[u8], name: &[u8]) 
 
 // Whether a text is the name with `.zdebug_` in place of `.debug_`.
 fn is_zdebug_text(name: &[u8], text: &[u8]) -> bool
-    ensures gives { result ≡ is_zdebug_of name.now text.now }
+    ensures gives { result ≡ is_zdebug_text name.now text.now }
 {
     if !header::begins_with(name, b".debug_") || !header::begins_with(text, b".zdebug_") {
         return false;
@@ -179,9 +174,9 @@ fn is_zdebug_text(name: &[u8], text: &[u8]) -> bool
 
 /// The string table that a section number names.
 pub(crate) fn string_table<'a>(file: &'a [u8], sections: &[SectionHeader], number: u64) -> &'a [u8]
-    ensures gives { result.now ≡ table_at file.now sections.now number }
+    ensures gives { result.now ≡ string_table_in file.now sections.now number }
 {
-    if number == 0 || number >= sections.len() as u64 {
+    if number == SHN_UNDEF || number >= sections.len() as u64 {
         return &file[..0];
     }
     match sections[number as usize].bytes_in(file) {
@@ -190,23 +185,49 @@ pub(crate) fn string_table<'a>(file: &'a [u8], sections: &[SectionHeader], numbe
     }
 }
 
-// Where the first zero byte stands.
+// The place of the first zero byte.
 fn zero_of(bytes: &[u8]) -> Option<usize>
     ensures found { result ≡ position (λ b. b == 0) bytes.now }
 {
     bytes.iter().position(|byte| *byte == 0)
 }
 
-/// The text at a place of a string table, up to its zero byte.
-pub(crate) fn text_in(table: &[u8], at: u64) -> Option<&[u8]>
-    ensures gives { option_map (λ t. t.now) result ≡ text_at table.now at }
+// The text at the front, up to its zero byte.
+fn front_text(bytes: &[u8]) -> Option<&[u8]>
+    ensures gives { option_map (λ t. t.now) result ≡ front_text bytes.now }
 {
-    if at > table.len() as u64 {
-        return None;
-    }
-    let (_, rest) = table.split_at(at as usize);
-    match zero_of(rest) {
-        Some(len) => rest.get(..len),
+    match zero_of(bytes) {
+        Some(len) => bytes.get(..len),
         None => None,
     }
+}
+
+// What follows a place of a table.
+fn rest_at(table: &[u8], at: u64) -> &[u8]
+    ensures gives { result.now ≡ drop at table.now }
+{
+    if at > table.len() as u64 {
+        return &table[..0];
+    }
+    let (_, rest) = table.split_at(at as usize);
+    rest
+}
+
+/// The text at a place of a string table, up to its zero byte.
+pub(crate) fn text_at(table: &[u8], at: u64) -> Option<&[u8]>
+    ensures gives { option_map (λ t. t.now) result ≡ table_text_at table.now at }
+{
+    front_text(rest_at(table, at))
+}
+
+// The text at a place of a string table, if it has no more than `limit` bytes. Reads at most one
+// more.
+fn short_text_at(table: &[u8], at: u64, limit: usize) -> Option<&[u8]>
+    ensures gives { option_map (λ t. t.now) result ≡ short_text_at limit table.now at }
+{
+    let rest = rest_at(table, at);
+    if rest.len() <= limit {
+        return front_text(rest);
+    }
+    front_text(&rest[..limit + 1])
 }

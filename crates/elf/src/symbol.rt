@@ -1,22 +1,22 @@
 //! Symbols (System V ABI, Object Files: Symbol Table).
 
-ghost use Rattle.std.specs.Prelude.{◌≡◌, ◌≤◌, ◌==◌, ℕ, List, [], ◌∷◌, ◌++◌, length, filter, is_some, option_map, OnOk, IfOk};
+ghost use Rattle.std.specs.Prelude.{◌≡◌, ◌≤◌, ◌==◌, ℕ, List, [], ◌∷◌, ◌++◌, length, filter, is_some, option_map, OnOk, IfOk, IsOk};
 ghost use Rattle.std.specs.List.{find, slice_get};
 ghost use Rattle.elf.specs.Layout.{layout_of};
-ghost use Rattle.elf.specs.Symbols.{symbol_table, symbol_bytes, strings_number, entry_in, utf8_from, name_from, name_of, is_taken, taken_in, preference, reaches, chosen};
+ghost use Rattle.elf.specs.Symbols.{named_address, symbol_table, symbol_bytes, symbol_names_number, entry_in, utf8_from, name_from, name_of, is_usable_type, is_usable, usable_in, is_preferred_bind, preference, covers, nearest_symbol};
 ghost use Rattle.std.specs.List.Sorted.{IsNonDecreasingBy, IsPartitionPoint};
 ghost use Rattle.elf.specs.declared.symbol.Entry.{Entry as SymbolEntry};
-ghost use Rattle.elf.specs.Table.{IsTable, IsBelow, IsAbove};
+ghost use Rattle.elf.specs.TextStarts.{text_starts};
+ghost use Rattle.elf.specs.SymbolTable.{IsSymbolTable, IsBelow, IsAbove};
 
+use crate::constants::{
+    SHN_UNDEF, SHT_DYNSYM, SHT_SYMTAB, STB_GLOBAL, STB_WEAK, STT_FUNC, STT_NOTYPE, STT_OBJECT,
+};
 use crate::header::Ident;
-use crate::layout;
 use crate::section::{self, SectionHeader};
+use crate::{layout, text_starts};
 use std::alloc::{AllocError, Global};
 use std::str;
-
-const SHT_SYMTAB: u64 = 2;
-
-const SHT_DYNSYM: u64 = 11;
 
 /// The name of an address.
 #[derive(Clone, Copy, Debug, PartialEq, Eq)]
@@ -28,21 +28,21 @@ pub struct Symbol<'a> {
 impl<'a> Symbol<'a> {
     // A symbol of that name.
     pub(crate) fn new(name: &'a str, address: u64) -> Symbol<'a>
-        ensures gives { (result.name.now ≡ name.now) × (result.address ≡ address) }
+        ensures gives { named_address result ≡ record { name = name.now; address = address } }
     {
         Symbol { name, address }
     }
 
     /// The symbol's name, as the file has it. Takes no memory.
     pub fn name(&self) -> &'a str
-        ensures gives { result.now ≡ self.now.name.now }
+        ensures gives { result.now ≡ (named_address self.now).name }
     {
         self.name
     }
 
     /// The symbol's address, as the file has it. Takes no memory.
     pub fn address(&self) -> u64
-        ensures gives { result ≡ self.now.address }
+        ensures gives { result ≡ (named_address self.now).address }
     {
         self.address
     }
@@ -65,11 +65,11 @@ fn entry_at(bytes: &[u8], ident: Ident) -> Entry
 {
     let layout = ident.class.layout();
     Entry {
-        name: layout::word(bytes, ident.endian),
+        name: layout::word(bytes, layout.st_name, ident.endian),
         info: bytes[layout.st_info],
         section: layout::half(bytes, layout.st_shndx, ident.endian),
-        address: layout::number(bytes, layout.st_value, layout.word, ident.endian),
-        size: layout::number(bytes, layout.st_size, layout.word, ident.endian),
+        address: layout::number(bytes, layout.st_value, layout.address_size, ident.endian),
+        size: layout::number(bytes, layout.st_size, layout.address_size, ident.endian),
     }
 }
 
@@ -95,35 +95,63 @@ fn name_in(text: &[u8]) -> Option<&str>
 
 impl Entry {
     /// The entry's name.
-    pub(crate) fn name<'a>(&self, strings: &'a [u8]) -> Option<&'a str>
-        ensures gives { option_map (λ name. name.now) result ≡ name_of strings.now self.now }
+    pub(crate) fn name<'a>(&self, names: &'a [u8]) -> Option<&'a str>
+        ensures gives { option_map (λ name. name.now) result ≡ name_of names.now self.now }
     {
-        name_in(section::text_in(strings, u64::from(self.name))?)
+        name_in(section::text_at(names, u64::from(self.name))?)
     }
 
-    // Whether the entry counts.
-    fn is_taken(&self, strings: &[u8]) -> bool
-        ensures gives { result ≡ is_taken strings.now self.now }
+    // Whether the entry has a name, by the places where texts begin.
+    fn has_name(&self, names: &[u8], starts: &[bool]) -> bool
+        requires starts { starts.now ≡ text_starts names.now }
+        ensures gives { result ≡ is_some (name_of names.now self.now) }
     {
-        self.section != 0 && (self.info % 16 < 3 && self.name(strings).is_some())
+        let at = self.name as usize;
+        at < names.len() && (names[at] != 0 && starts[at])
     }
 
-    // Where the symbol stands among those at its address.
+    // Whether the entry is a usable symbol, by the places where texts begin.
+    fn is_usable(&self, names: &[u8], starts: &[bool]) -> bool
+        requires starts { starts.now ≡ text_starts names.now }
+        ensures gives { result ≡ is_usable names.now self.now }
+    {
+        u64::from(self.section) != SHN_UNDEF
+            && (is_usable_type(self.info % 16) && self.has_name(names, starts))
+    }
+
+    // The symbol's rank among those at its address.
     fn preference(&self) -> u8
         ensures gives { result ≡ preference self.now }
     {
-        let by_type = if self.info % 16 == 0 { 0 } else { 2 };
-        let bind = self.info / 16;
-        let by_bind = if bind == 1 || bind == 2 { 1 } else { 0 };
+        let by_type = if self.info % 16 == STT_NOTYPE { 0 } else { 2 };
+        let by_bind = if is_preferred_bind(self.info / 16) {
+            1
+        } else {
+            0
+        };
         by_type + by_bind
     }
 
-    /// Whether a symbol at or below the probe reaches it.
-    pub(crate) fn reaches(&self, probe: u64) -> bool
-        ensures gives { result ≡ reaches probe self.now }
+    /// Whether a symbol at or below the probe covers it.
+    pub(crate) fn covers(&self, probe: u64) -> bool
+        ensures gives { result ≡ covers probe self.now }
     {
         self.size == 0 || probe.saturating_sub(self.address) < self.size
     }
+}
+
+// Whether the type is one that a usable symbol has.
+fn is_usable_type(kind: u8) -> bool
+    ensures gives { result ≡ is_usable_type kind }
+{
+    matches!(kind, STT_NOTYPE | STT_OBJECT | STT_FUNC)
+}
+
+// Whether the bind is preferred.
+fn is_preferred_bind(bind: u8) -> bool
+    ensures gives { result ≡ is_preferred_bind bind }
+{
+    matches!(bind, STB_GLOBAL | STB_WEAK)
 }
 
 // The first section of a kind.
@@ -157,8 +185,8 @@ pub(crate) fn table_bytes<'a>(file: &'a [u8], sections: &[SectionHeader]) -> &'a
 }
 
 /// The number of the section that has the symbols' names.
-pub(crate) fn strings_in(sections: &[SectionHeader]) -> u64
-    ensures gives { result ≡ strings_number sections.now }
+pub(crate) fn names_number(sections: &[SectionHeader]) -> u64
+    ensures gives { result ≡ symbol_names_number sections.now }
 {
     match table_in(sections) {
         Some(section) => section.link,
@@ -166,54 +194,63 @@ pub(crate) fn strings_in(sections: &[SectionHeader]) -> u64
     }
 }
 
-// One more entry, if it counts.
-fn push_taken(all: &mut Vec<Entry>, entry: Entry, strings: &[u8]) -> Result<(), AllocError>
-    ensures gives { OnOk result (all.new.items ≡ all.old.items ++ filter (is_taken strings.now) (entry ∷ [])) }
+// Adds an entry, if it is a usable symbol.
+fn push_usable(
+    all: &mut Vec<Entry>,
+    entry: Entry,
+    names: &[u8],
+    starts: &[bool],
+) -> Result<(), AllocError>
+    requires starts { starts.now ≡ text_starts names.now }
+    ensures gives { OnOk result
+        (all.new.items ≡ all.old.items ++ filter (is_usable names.now) (entry ∷ [])) }
 {
-    if entry.is_taken(strings) {
+    if entry.is_usable(names, starts) {
         all.push(entry)?;
     }
     Ok(())
 }
 
-// The entries of a table that count, in its order.
-fn taken(
-    alloc: Global,
-    bytes: &[u8],
-    strings: &[u8],
-    ident: Ident,
-) -> Result<Vec<Entry>, AllocError>
+// The usable symbols of a table, in its order.
+fn usable(alloc: Global, bytes: &[u8], names: &[u8], ident: Ident) -> Result<Vec<Entry>, AllocError>
     ensures gives { IfOk result (λ v.
-        v.items ≡ taken_in ident.endian (layout_of ident.class) strings.now bytes.now) }
+        v.items ≡ usable_in ident.endian (layout_of ident.class) names.now bytes.now) }
 {
     let size = ident.class.layout().symbol_size;
     let count = bytes.len() / size;
+    let starts = text_starts::text_starts(alloc, names)?;
     let mut all = Vec::new(alloc);
     let mut rest = bytes;
     for _ in 0..count {
-        push_taken(&mut all, entry_at(rest, ident), strings)?;
+        push_usable(&mut all, entry_at(rest, ident), names, &starts)?;
         let (_, after) = rest.split_at(size);
         rest = after;
     }
     Ok(all)
 }
 
-/// The entries of a table that count, by address, then by preference, then as in the file.
+/// The usable symbols of a table by address, then by preference, then as in the file. Takes no
+/// memory for an empty table.
 pub(crate) fn sorted(
     alloc: Global,
     bytes: &[u8],
-    strings: &[u8],
+    names: &[u8],
     ident: Ident,
 ) -> Result<Vec<Entry>, AllocError>
     ensures sorted { IfOk result (λ v.
-        IsTable (taken_in ident.endian (layout_of ident.class) strings.now bytes.now) v.items) }
+        IsSymbolTable (usable_in ident.endian (layout_of ident.class) names.now bytes.now)
+        v.items) }
+    ensures none { bytes.now ≡ [] → IsOk result }
 {
-    let mut all = taken(alloc, bytes, strings, ident)?;
+    if bytes.is_empty() {
+        return Ok(Vec::new(alloc));
+    }
+    let mut all = usable(alloc, bytes, names, ident)?;
     all.sort_by_key(|entry| (entry.address, entry.preference()))?;
     Ok(all)
 }
 
-// How many symbols of a sorted table stand at or below the probe.
+// The number of symbols of a sorted table that are at or below the probe.
 fn count_below(table: &[Entry], probe: u64) -> usize
     ensures bound { result ≤ length table.now }
     ensures split { IsNonDecreasingBy (λ (e : SymbolEntry). e.address) table.now
@@ -230,8 +267,9 @@ fn nth(table: &[Entry], place: usize) -> Option<Entry>
 }
 
 /// The symbol at the probe or nearest below it, in a sorted table.
-pub(crate) fn nearest(table: &[Entry], probe: u64) -> Option<Entry>
-    ensures found { (symbols : List SymbolEntry) → IsTable symbols table.now → result ≡ chosen probe symbols }
+pub(crate) fn nearest_in(table: &[Entry], probe: u64) -> Option<Entry>
+    ensures found { (symbols : List SymbolEntry) → IsSymbolTable symbols table.now
+        → result ≡ nearest_symbol probe symbols }
 {
     let count = count_below(table, probe);
     if count == 0 {

@@ -1,30 +1,33 @@
-//! The program `write_elf`: writes an ELF file whose sections are files of this folder, to standard output.
+//! The program `write_elf`: writes an ELF file whose sections are files of this folder, to
+//! standard output.
 //!
 //! Each word names a section and the file of its bytes.
 #![tactic(auto)]
 
-mod writer;
-
-use crate::writer::Writer;
+use elf_writer::{SHAPES, elf_file, plain};
 use std::alloc::Global;
 use std::io::Write;
 use std::process::ExitCode;
 use std::{env, fs, io};
 
-// The words behind the program's name.
+// The words after the program's name.
 fn words_of(rt: &(impl std::rt::Env + AllocGlobal)) -> io::Result<Vec<String>> {
     Ok(env::args(rt)?.skip(1).collect(rt.alloc())?)
 }
 
-// The file that the words ask for.
+// The file that the words ask for, of 64 bits and little endian.
 fn file_of(rt: &(impl std::rt::Env + std::fs::Files + AllocGlobal)) -> io::Result<Vec<u8>> {
     let alloc: Global = rt.alloc();
-    let mut writer = Writer::new(alloc)?;
-    for word in &words_of(rt)? {
-        let bytes = fs::read(rt, word.as_str())?;
-        writer.add(word.as_str(), bytes.as_slice())?;
+    let words = words_of(rt)?;
+    let mut contents = Vec::new(alloc);
+    for word in &words {
+        contents.push(fs::read(rt, word.as_str())?)?;
     }
-    Ok(writer.file(alloc)?)
+    let mut sections = Vec::new(alloc);
+    for (word, bytes) in words.iter().zip(contents.iter()) {
+        sections.push(plain(word.as_str(), bytes.as_slice()))?;
+    }
+    Ok(elf_file(alloc, SHAPES[0], &sections)?)
 }
 
 fn main(rt: HostRuntime) -> ExitCode {

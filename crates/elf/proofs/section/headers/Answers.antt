@@ -1,6 +1,6 @@
-use Rattle.std.proofs.Common.{◌≡◌, ◌∙◌, ◌+◌, ◌-◌, suc, ap, drop, arith}
+use Rattle.std.proofs.Common.{rules, ◌≡◌, ◌∙◌, ◌+◌, ◌-◌, suc, ap, drop, arith}
 use Rattle.elf.specs.Layout.{layout_of}
-use Rattle.elf.proofs.Runs.{room_next, sections_next, sections_end}
+use Rattle.elf.proofs.TableLemmas.{room_next, sections_next, sections_end}
 use Rattle.elf.proofs.section.headers.Goals as goal
 
 pub loop-preserved : goal.loop-preserved
@@ -17,4 +17,4 @@ loop-preserved c =
 pub returns : goal.returns
 returns c =
     let n : c.args.count - c.loop.counter ≡ 0 = omega arith in
-    record { gives = sections_end _ (layout_of c.args.ident.class) _ _ _ _ n c.loop.invariant.read }
+    record { gives = sections_end _ (layout_of c.args.ident.class) _ _ _ _ n c.loop.invariant.read; none = λ e. search rules }

@@ -1,4 +1,4 @@
-use Rattle.elf.proofs.Texts.{utf8_some, utf8_none}
+use Rattle.elf.proofs.Utf8Lemmas.{utf8_some, utf8_none}
 use Rattle.elf.proofs.symbol.utf8_in.Goals as goal
 
 pub returns-in-Ok : goal.returns-in-Ok

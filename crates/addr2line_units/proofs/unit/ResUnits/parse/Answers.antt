@@ -6,7 +6,7 @@ use Rattle.addr2line_units.proofs.unit.ResUnits.parse.Goals as goal
 pub returns-in_err-header-clause-gives : goal.returns-in_err-header-clause-gives
 returns-in_err-header-clause-gives g c =
     let p = err_from_is_err_and c.from_residual-in_err-header.result c.from_residual-in_err-header.ensures.1 in
-    rw (p.1, p.2) (λ ne. sym c.loop-unit.invariant.gives ∙ unit_index-fault _ _ _ _ (c.in_err-header.ensures.gives ne))
+    rw (p.1, p.2) (λ ne. sym c.loop-unit.invariant.gives ∙ unit_index-fault _ _ _ _ (c.in_err-header.ensures.gives (λ _ _. ne)))
 
 pub returns-in_err-unit-clause-gives : goal.returns-in_err-unit-clause-gives
 returns-in_err-unit-clause-gives g c =

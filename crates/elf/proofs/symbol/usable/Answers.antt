@@ -1,0 +1,25 @@
+use Rattle.std.proofs.Common.{◌≡◌, ◌∙◌, ◌+◌, ◌-◌, ◌/◌, ℕ, suc, ap, drop, filter, length, arith}
+use Rattle.elf.specs.Layout.{layout_of}
+use Rattle.elf.specs.Symbols.{is_usable, entries_in}
+use Rattle.elf.proofs.TableLemmas.{room_next, entries_next, entries_end}
+use Rattle.elf.proofs.symbol.usable.Goals as goal
+
+pub loop-preserved : goal.loop-preserved
+loop-preserved c =
+    let inv = c.loop.invariant in
+    let count = length c.args.bytes.now / c.layout-size.result.symbol_size in
+    let n : count - c.loop.counter ≡ suc (count - (c.loop.counter + 1)) = omega arith in
+    let cut : c.split_at.result.1.now ≡ drop (layout_of c.args.ident.class).symbol_size c.loop.rest.now = c.split_at.ensures.back ∙ ap (λ k. drop k c.loop.rest.now) inv.size_is in
+    record {
+      size_is = inv.size_is;
+      room = room_next _ _ _ _ _ n inv.room c.split_at.ensures.back_len;
+      read = entries_next _ (layout_of c.args.ident.class) (is_usable c.args.names.now) _ _ _ _ _ _ _ c.entry_at.result n inv.read cut c.in_ok-push_usable.ensures.gives c.entry_at.ensures.gives;
+    }
+
+pub returns : goal.returns
+returns c =
+    let l = layout_of c.args.ident.class in
+    let count = length c.args.bytes.now / c.layout-size.result.symbol_size in
+    let n : count - c.loop.counter ≡ 0 = omega arith in
+    let read = entries_end _ l (is_usable c.args.names.now) _ _ _ _ n c.loop.invariant.read in
+    record { gives = read ∙ ap (λ (k : ℕ). filter (is_usable c.args.names.now) (entries_in c.args.ident.endian l (length c.args.bytes.now / k) c.args.bytes.now)) c.loop.invariant.size_is }

@@ -1,0 +1,9 @@
+use Rattle.std.proofs.Common.{◌≡◌, ◌-◌, length, drop, reverse}
+use Rattle.elf.specs.TextStarts.{text_starts, IsTextDistance}
+use Rattle.elf.proofs.text_starts.text_starts.Given as goal
+
+abbrev pub invariant-loop-read : goal.invariant-loop-read
+invariant-loop-read l = record {
+  distance : IsTextDistance (drop (length l.table - l.read) l.table) l.distance;
+  starts : l.starts.items ≡ reverse (text_starts (drop (length l.table - l.read) l.table));
+}

@@ -1,0 +1,21 @@
+-- What a loading of an ELF file gives, and what an answer has to do with it.
+-- A loading gives a value, or the first fault in the order of its steps.
+-- Own: no loading gives OutOfMemory, which only a refused growth answers.
+use Rattle.std.specs.Prelude.{◌≡◌, ◌≢◌, Bool, true, Result, Ok, Err}
+use Rattle.gimli_read.specs.Reading.{ExactlyUnless}
+use Rattle.elf.specs.declared.error.LoaderError.{LoaderError}
+use Rattle.elf.specs.declared.error.LoaderError.TheVariants.{OutOfMemory}
+
+-- a value, or the fault
+abbrev pub Loading : Type 0 → Type 0
+Loading A = Result A LoaderError
+
+-- the answer, seen by view, is what is given, or OutOfMemory
+abbrev pub LoadsUnlessOom : {X Y : Type 0} → (X → Y) → Loading X → Loading Y → Type 0
+LoadsUnlessOom view result given = ExactlyUnless OutOfMemory view result given
+
+-- the answer is what is given, or OutOfMemory, which is an answer only if what is given takes
+-- memory
+abbrev pub LoadsUnlessOomFor : {X : Type 0} → (Loading X → Bool) → Loading X → Loading X → Type 0
+LoadsUnlessOomFor takes (Ok x) given = given ≡ Ok x
+LoadsUnlessOomFor takes (Err e) given = (takes given ≡ true → e ≢ OutOfMemory) → given ≡ Err e

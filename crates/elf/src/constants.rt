@@ -1,0 +1,56 @@
+//! Constants of ELF files, in the standard's spelling (System V ABI, Object Files).
+
+// The size of an Elf32_Half or Elf64_Half, in bytes.
+pub(crate) const HALF_SIZE: usize = 2;
+
+// The size of an Elf32_Word or Elf64_Word, in bytes.
+pub(crate) const WORD_SIZE: usize = 4;
+
+// Where e_ident has the class and the byte order.
+pub(crate) const EI_CLASS: usize = 4;
+
+pub(crate) const EI_DATA: usize = 5;
+
+// The classes.
+pub(crate) const ELFCLASS32: u8 = 1;
+
+pub(crate) const ELFCLASS64: u8 = 2;
+
+// The byte orders.
+pub(crate) const ELFDATA2LSB: u8 = 1;
+
+pub(crate) const ELFDATA2MSB: u8 = 2;
+
+// The e_type of a relocatable file.
+pub(crate) const ET_REL: u64 = 1;
+
+// Section numbers with a meaning of their own: no section, and a number that section 0 has.
+pub(crate) const SHN_UNDEF: u64 = 0;
+
+pub(crate) const SHN_XINDEX: u64 = 0xffff;
+
+// Types of sections.
+pub(crate) const SHT_SYMTAB: u64 = 2;
+
+pub(crate) const SHT_RELA: u64 = 4;
+
+pub(crate) const SHT_NOBITS: u64 = 8;
+
+pub(crate) const SHT_REL: u64 = 9;
+
+pub(crate) const SHT_DYNSYM: u64 = 11;
+
+// The flag of a section whose bytes are compressed.
+pub(crate) const SHF_COMPRESSED: u64 = 0x800;
+
+// Types of symbols.
+pub(crate) const STT_NOTYPE: u8 = 0;
+
+pub(crate) const STT_OBJECT: u8 = 1;
+
+pub(crate) const STT_FUNC: u8 = 2;
+
+// Binds of symbols.
+pub(crate) const STB_GLOBAL: u8 = 1;
+
+pub(crate) const STB_WEAK: u8 = 2;

@@ -1,0 +1,15 @@
+//! Tests of the public calls of `elf`.
+#![tactic(auto)]
+
+#[cfg(test)]
+mod answers;
+#[cfg(test)]
+mod damage;
+#[cfg(test)]
+mod growths;
+#[cfg(test)]
+mod sections;
+#[cfg(test)]
+mod symbols;
+#[cfg(test)]
+mod texts;

@@ -13,7 +13,7 @@ use Rattle.gimli_read.specs.declared.value.AttributeValue.TheVariants as values
 use Rattle.gimli_read.specs.Section.{Section, first, after}
 use Rattle.gimli_read.specs.Reading.{Reading, ◌>>=◌, done}
 use Rattle.gimli_read.specs.Number.{ended_at, is_address_size, fixed_at, split_at, address_at, null_terminated_at}
-use Rattle.gimli_read.specs.Value.{offset_size}
+use Rattle.gimli_read.specs.Number.{offset_size}
 use Rattle.gimli.specs.Sections.{Sections}
 use Rattle.gimli.specs.Text.{from_offset, string_at, string_length_at, indexed_number, indexed_string, string_of}
 use Rattle.gimli.specs.Unit.{readable_string, gives_string}

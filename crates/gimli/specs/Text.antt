@@ -10,7 +10,7 @@ use Rattle.gimli_read.specs.declared.value.AttributeValue.TheVariants as values
 use Rattle.gimli_read.specs.Section.{Section, after}
 use Rattle.gimli_read.specs.Reading.{◌>>=◌}
 use Rattle.gimli_read.specs.Number.{address_at, null_terminated_at}
-use Rattle.gimli_read.specs.Value.{offset_size}
+use Rattle.gimli_read.specs.Number.{offset_size}
 use Rattle.gimli.specs.Sections.{Sections}
 
 -- a section from an offset on

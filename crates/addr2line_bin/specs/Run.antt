@@ -5,7 +5,7 @@ use Rattle.std.specs.declared.string.String.{String}
 use Rattle.std.specs.declared.alloc.Global.{Global}
 use Rattle.std.specs.Io.KnownBytes.{Appends}
 use Rattle.gimli.specs.Sections.{Sections}
-use Rattle.elf.specs.Reading.{Reading, ExactlyUnlessOom}
+use Rattle.elf.specs.Loading.{Loading, LoadsUnlessOom}
 use Rattle.addr2line_units.specs.Located.{location_of}
 use Rattle.addr2line_bin.specs.Put.{Part, Goes}
 use Rattle.addr2line_bin.specs.Text.{outs, errs, probes_in}
@@ -57,12 +57,12 @@ abbrev pub IsRun : List ℕ → Option (List ℕ) → Option (List ℕ) → Opti
 IsRun name oo on eo en out_text err_text e = IsWhole oo on eo en out_text err_text e ⊎ IsCut name oo on eo en out_text err_text e
 
 -- what goes to both streams for the words of addresses, where this is what the file gives
-abbrev pub IsAnswered : List ℕ → Option (List ℕ) → Option (List ℕ) → Option (List ℕ) → Option (List ℕ) → List (String Global) → Reading Sections → Exit → Type 0
+abbrev pub IsAnswered : List ℕ → Option (List ℕ) → Option (List ℕ) → Option (List ℕ) → Option (List ℕ) → List (String Global) → Loading Sections → Exit → Type 0
 IsAnswered name oo on eo en words (Ok d) e = IsRun name oo on eo en (outs (location_of d) (probes_in words)) (errs (location_of d) name (probes_in words)) e
 IsAnswered name oo on eo en words (Err fault) e = (on ≡ oo) × ((has_failed : Bool) × Goes eo en has_failed (load_fault_text name fault)) × (e ≡ exit.Failed)
 
 -- the same for the bytes of a file, or the fault of their reading; it may be OutOfMemory instead
-pub record IsAnswer (name : List ℕ) (oo on eo en : Option (List ℕ)) (words : List (String Global)) (bytes : Reading (List ℕ)) (e : Exit) : Type 0 where
-  pub given : Reading Sections
-  pub gives : ExactlyUnlessOom (λ d. d) given (loaded_of bytes)
+pub record IsAnswer (name : List ℕ) (oo on eo en : Option (List ℕ)) (words : List (String Global)) (bytes : Loading (List ℕ)) (e : Exit) : Type 0 where
+  pub given : Loading Sections
+  pub gives : LoadsUnlessOom (λ d. d) given (loaded_of bytes)
   pub answered : IsAnswered name oo on eo en words given e

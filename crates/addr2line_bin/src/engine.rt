@@ -175,7 +175,7 @@ fn print_words<L: Locate, W: Write, E: Write>(
 /// Writes why a run stopped early.
 #[tactic(auto, using(crate::proofs::Parts::sends_nothing, crate::proofs::Parts::keeps_itself))]
 pub fn tell_last<E: Write>(name: &str, stop: Stop, err: &mut E, has_failed: &mut bool) -> Exit
-    ensures told { Sends (E.contents err.old) (E.contents err.new) has_failed.old has_failed.new
+    ensures loader_error_of { Sends (E.contents err.old) (E.contents err.new) has_failed.old has_failed.new
         (last_text name.now stop) }
     ensures exit { result ≡ exit_at stop }
 {
@@ -226,7 +226,7 @@ pub fn tell_load_fault<E: Write>(
     err: &mut E,
     has_failed: &mut bool,
 ) -> Exit
-    ensures told { Sends (E.contents err.old) (E.contents err.new) has_failed.old has_failed.new
+    ensures loader_error_of { Sends (E.contents err.old) (E.contents err.new) has_failed.old has_failed.new
         (load_fault_text name.now fault) }
     ensures exit { result ≡ exit.Failed }
 {
@@ -238,7 +238,7 @@ pub fn tell_load_fault<E: Write>(
 /// Writes how the program is used.
 #[tactic(auto, using(crate::proofs::Parts::sends_on))]
 pub fn tell_usage<E: Write>(name: &str, err: &mut E, has_failed: &mut bool) -> Exit
-    ensures told { Sends (E.contents err.old) (E.contents err.new) has_failed.old has_failed.new
+    ensures loader_error_of { Sends (E.contents err.old) (E.contents err.new) has_failed.old has_failed.new
         (usage_text name.now) }
     ensures exit { result ≡ exit.Misused }
 {

@@ -66,16 +66,16 @@ cached_after : {X : Type 0} (old new : LazyLines) (r : Result X Error) → IsAns
 cached_after old new (Ok x) a h = h
 cached_after old new (Err e) a h = h.0 a
 
+same_index : (d : Sections) (m n : UnitIndex) → unit_index d ≡ Ok m → unit_index d ≡ Ok n → m ≡ n
+same_index d m n e f = ok_is m n (sym e ∙ f)
+  where
+    ok_is : (a b : UnitIndex) → ◌≡◌ {A = Result UnitIndex Error} (Ok a) (Ok b) → a ≡ b
+    ok_is a b k = cc
+
 module _ {R : Type 0} (d : Sections) (probe : ℕ) where
   -- the context of a unit
   abbrev state : Option (ResUnit R) → ContextState
   state unit = record { sections = d; parsed = parsed_in unit }
-
-  same_index : (m n : UnitIndex) → unit_index d ≡ Ok m → unit_index d ≡ Ok n → m ≡ n
-  same_index m n e f = ok_is m n (sym e ∙ f)
-    where
-      ok_is : (a b : UnitIndex) → ◌≡◌ {A = Result UnitIndex Error} (Ok a) (Ok b) → a ≡ b
-      ok_is a b k = cc
 
   -- a lookup of the unit is ready where nothing covers the probe, or its lines are cached
   ready_unit : (c : ContextState) (unit : Option (ResUnit R)) → (unit_holds probe unit ≡ true → has_parsed c 0 ≡ true) → ready_along c (unit_index_of unit).units probe (cover probe (unit_index_of unit).ranges) ≡ true
@@ -103,7 +103,7 @@ module _ {R : Type 0} (d : Sections) (probe : ℕ) where
       ready = λ a m e. (
         let P : UnitIndex → Type 0 = λ x. ready_along (state new) x.units probe (cover probe x.ranges) ≡ true in
         let cached : unit_holds probe old ≡ true → has_parsed (state new) 0 ≡ true = λ h. ap (λ b. list_any (λ m. m == 0) (parsed_by b)) (cached_after (lines_in_cache old) (lines_in_cache new) r (answer a) (caches h)) in
-        subst P (same_index (unit_index_of old) m index e) (ready_unit (state new) old cached)
+        subst P (same_index d (unit_index_of old) m index e) (ready_unit (state new) old cached)
       );
     }
 

@@ -7,6 +7,3 @@ pub use crate::context::Context;
 pub use addr2line_lines::Location;
 pub use addr2line_units::frame::{demangle, demangle_auto};
 pub use gimli;
-
-#[cfg(test)]
-mod tests;

@@ -3,6 +3,4 @@
 
 pub mod frame;
 mod legacy;
-#[cfg(test)]
-mod tests;
 pub mod unit;

@@ -63,27 +63,30 @@ fn sections_in_one_value_answer_alike(rt: HostRuntime) -> Result<(), Fail> {
     Ok(())
 }
 
-// How many bytes, from 1 on, the section can be cut to without UnexpectedEof.
-fn whole_cuts(alloc: Global) -> usize {
-    let mut whole = 0;
+// Whether the section, cut to each number of bytes from 1 on, is refused UnexpectedEof.
+fn each_cut_is_refused(alloc: Global) -> bool {
+    let mut refused = true;
     for len in 1..INFO.len() {
         match context_of(alloc, &ABBREV, &INFO[..len], &LINE) {
             Err(Error::UnexpectedEof) => {}
-            _ => whole += 1,
+            _ => refused = false,
         }
     }
-    whole
+    refused
 }
 
 #[test]
 fn a_unit_that_is_cut_refuses_the_context(rt: HostRuntime) {
-    assert_eq!(rt; whole_cuts(rt.alloc()), 0);
+    assert_eq!(rt; each_cut_is_refused(rt.alloc()), true);
 }
 
 // The texts of the files 0 to 2, "none" where there is none, and the line at 0x20.
 fn files_and_line(lines: &Lines) -> ([&str; 3], Option<u32>) {
     let files = [0, 1, 2].map(|index| lines.file(index).unwrap_or("none"));
-    (files, lines.find_location(0x20).and_then(|location| location.line))
+    (
+        files,
+        lines.find_location(0x20).and_then(|location| location.line),
+    )
 }
 
 #[test]
@@ -95,7 +98,10 @@ fn the_lines_of_a_unit(rt: HostRuntime) -> Result<(), Fail> {
     let lines = Lines::parse(rt.alloc(), &dwarf, &unit)?;
     assert_eq!(rt; files_and_line(&lines), (["", "/w/a.c", "none"], Some(3)));
     let range = read_root_ranges(UnitRef::new(&dwarf, &unit))?.range();
-    assert_eq!(rt; range.map(|range| [range.begin, range.end]), Some([0x10, 0x30]));
+    assert_eq!(rt;
+        range.map(|range| [range.begin, range.end]),
+        Some([0x10, 0x30])
+    );
     assert_eq!(rt; RangeAttributes::new().range().is_none(), true);
     Ok(())
 }

@@ -1,5 +1,6 @@
 //! The library in use, as the README shows it.
 
+use super::sections::{ABBREV, INFO, LINE};
 use addr2line::Context;
 use addr2line::gimli::read::{EndianSlice, Error, RunTimeEndian};
 use addr2line::gimli::{
@@ -8,8 +9,6 @@ use addr2line::gimli::{
 };
 use std::alloc::Global;
 use std::test::Fail;
-
-use super::sections::{ABBREV, INFO, LINE};
 
 fn line_at(
     alloc: Global,

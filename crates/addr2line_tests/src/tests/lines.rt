@@ -119,25 +119,49 @@ const TOMBSTONE: [u8; 55] = [
     0x01, 0xf4, 0x02, 0x10, 0x00, 0x01, 0x01,
 ];
 
-// The code of line `n` of "/w/a.c" at column 0.
-const fn at(n: u32) -> u32 {
-    1_000_000 + 1_000 * n
-}
+// Lines of "/w/a.c" at column 0.
+const LINE_1: u32 = 1_001_000;
+
+const LINE_2: u32 = 1_002_000;
+
+const LINE_3: u32 = 1_003_000;
+
+const LINE_4: u32 = 1_004_000;
+
+const LINE_131: u32 = 1_131_000;
+
+const LINE_200: u32 = 1_200_000;
 
 #[test]
 fn each_address_has_the_line_of_its_span(rt: HostRuntime) -> Result<(), Fail> {
     let cases: [(&[u8], [u64; 4], [u32; 4]); 10] = [
-        (&SAME_ADDRESS, [0xf, 0x10, 0x2f, 0x30], [0, at(2), at(3), 0]),
-        (&THREE_SEQUENCES, [2, 5, 0x18, 8], [at(1), at(1), at(3), 0]),
-        (&FOUR_SEQUENCES, [2, 5, 0x18, 8], [at(4), 0, at(3), 0]),
+        (&SAME_ADDRESS, [0xf, 0x10, 0x2f, 0x30], [0, LINE_2, LINE_3, 0]),
+        (&THREE_SEQUENCES, [2, 5, 0x18, 8], [LINE_1, LINE_1, LINE_3, 0]),
+        (&FOUR_SEQUENCES, [2, 5, 0x18, 8], [LINE_4, 0, LINE_3, 0]),
         // No file has the index; the line and the column are as before.
-        (&WIDE_FILE, [0xf, 0x10, 0x2f, 0x30], [0, 2_001_000, 2_001_000, 0]),
+        (
+            &WIDE_FILE,
+            [0xf, 0x10, 0x2f, 0x30],
+            [0, 2_001_000, 2_001_000, 0],
+        ),
         // Line 0 gives neither a line nor a column; of a line and a column the low 32 bits count.
-        (&LINES_BY_LOW_BITS, [0xf, 0x10, 0x20, 0x30], [0, 1_000_999, 1_007_005, 0]),
-        (&DISCARDED, [0xf, 0x10, 0x1f, 0x20], [0, at(2), at(2), 0]),
+        (
+            &LINES_BY_LOW_BITS,
+            [0xf, 0x10, 0x20, 0x30],
+            [0, 1_000_999, 1_007_005, 0],
+        ),
+        (&DISCARDED, [0xf, 0x10, 0x1f, 0x20], [0, LINE_2, LINE_2, 0]),
         (&WITHOUT_ADDRESSES, [0, 0x30, 0x40, 0x50], [0, 0, 0, 0]),
-        (&TWO_HUNDRED_ROWS, [0x120a, 0x131f, 0x1320, 6], [at(131), at(200), 0, 0]),
-        (&SHARED_BLOCK, [0x120a, 0x131f, 0x1320, 6], [at(131), at(200), 0, at(2)]),
+        (
+            &TWO_HUNDRED_ROWS,
+            [0x120a, 0x131f, 0x1320, 6],
+            [LINE_131, LINE_200, 0, 0],
+        ),
+        (
+            &SHARED_BLOCK,
+            [0x120a, 0x131f, 0x1320, 6],
+            [LINE_131, LINE_200, 0, LINE_2],
+        ),
         (&TOMBSTONE, [0, 0x10, 0x20, u64::MAX], [0, 0, 0, 0]),
     ];
     for (line, probes, want) in cases {

@@ -192,7 +192,10 @@ fn no_other_language_is_demangled(rt: HostRuntime) {
     for number in [0x00, 0x0c, 0x1b, 0x1d, 0x8001] {
         let language = DwLang(number);
         let same = gives_auto(rt.alloc(), name, Some(language), name);
-        assert_eq!(rt; (gives(rt.alloc(), name, language, None), same), (true, true));
+        assert_eq!(rt;
+            (gives(rt.alloc(), name, language, None), same),
+            (true, true)
+        );
     }
 }
 
@@ -205,7 +208,11 @@ fn an_unknown_language_is_tried_as_rust(rt: HostRuntime) {
         ("_ZN3foo3barEv", Some(RUST), "_ZN3foo3barEv"),
     ];
     for (name, language, want) in cases {
-        assert_eq!(rt; gives_auto(rt.alloc(), name, language, want), true, "{name}");
+        assert_eq!(rt;
+            gives_auto(rt.alloc(), name, language, want),
+            true,
+            "{name}"
+        );
     }
 }
 
@@ -220,6 +227,12 @@ fn gives_or_refuses(alloc: Global, name: &str, want: &str) -> bool {
         Err(error) => error == Error::OutOfMemory,
     };
     named && auto
+}
+
+#[test]
+fn growths_that_are_granted_give_a_text(rt: HostRuntime) {
+    let [.., (name, want)] = PROGRAM;
+    assert_eq!(rt; gives(rt.alloc(), name, RUST, Some(want)), true);
 }
 
 // Each growth is refused in turn by `tools/refuse_growths`.

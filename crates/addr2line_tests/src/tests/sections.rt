@@ -99,14 +99,11 @@ pub fn code_of(context: &mut Context<EndianSlice<'_>>, probe: u64) -> u32 {
 }
 
 /// The locations of addresses as numbers.
-pub fn codes_of<const N: usize>(
-    context: Context<EndianSlice<'_>>,
-    probes: [u64; N],
-) -> [u32; N] {
+pub fn codes_of<const N: usize>(context: Context<EndianSlice<'_>>, probes: [u64; N]) -> [u32; N] {
     let mut context = context;
     let mut codes = [0; N];
-    for (code, probe) in codes.iter_mut().zip(probes) {
-        *code = code_of(&mut context, probe);
+    for i in 0..N {
+        codes[i] = code_of(&mut context, probes[i]);
     }
     codes
 }

@@ -1,6 +1,6 @@
 -- The entries of a unit from an offset on (DWARF 5, section 7.5).
--- Own: an offset counts from the start of the unit's length, and is valid from the end of the header to below the
--- unit's end; any other is OffsetOutOfBounds.
+-- Own: an offset counts from the start of the unit's length, and is valid from the end of the
+-- header to below the unit's end; any other is OffsetOutOfBounds.
 use Rattle.std.specs.Prelude.{ℕ, ◌+◌, ◌-◌, nat_lt, pos, List, length, Option, Some, None, Result, Ok, Err, if◌then◌else◌}
 use Rattle.gimli_read.specs.declared.error.Error.{Error}
 use Rattle.gimli_read.specs.declared.error.Error.TheVariants.{OffsetOutOfBounds}
@@ -28,12 +28,14 @@ abbrev pub entry_bytes_from : UnitHeaderFields → Option ℕ → Result Section
 entry_bytes_from header None = Ok header.entries
 entry_bytes_from header (Some offset) =
     if nat_lt offset header.header_length then Err OffsetOutOfBounds
-    else if nat_lt offset (unit_length header) then Ok (after (offset - header.header_length) header.entries)
+    else if nat_lt offset (unit_length header)
+    then Ok (after (offset - header.header_length) header.entries)
     else Err OffsetOutOfBounds
 
 -- the entries of a unit from an offset on, or from the root entry
 abbrev pub entries_from : UnitRecord → Option ℕ → Result EntriesLeft Error
-entries_from u offset = entry_bytes_from u.header offset >>= λ left. Ok (entries_at u.header u.abbreviations left)
+entries_from u offset =
+    entry_bytes_from u.header offset >>= λ left. Ok (entries_at u.header u.abbreviations left)
 
 -- the attributes of a unit's root entry, in their order
 abbrev pub root_attributes_of : UnitRecord → Result (List NamedValue) Error

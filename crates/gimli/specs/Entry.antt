@@ -1,4 +1,5 @@
--- Entries (DWARF 5, sections 2.3 and 7.5.2): a code, and the values of the attributes that its abbreviation lists.
+-- Entries (DWARF 5, sections 2.3 and 7.5.2): a code, and the values of the attributes that its
+-- abbreviation lists.
 use Rattle.std.specs.Prelude.{◌==◌, ℕ, ◌+◌, ◌<◌, ◌≤◌, ◌^◌, ℤ, pos, negsuc, ◌+ℤ◌, unsigned_abs, Bool, List, [], ◌∷◌, length, Option, Some, None, Result, Ok, Err, if◌then◌else◌}
 use Rattle.gimli_read.specs.declared.error.Error.{Error}
 use Rattle.gimli_read.specs.declared.error.Error.TheVariants.{UnknownAbbreviation, MissingUnitDie}
@@ -14,7 +15,8 @@ pub record EntryCursor : Type 0 where
   pub left : Section
   pub depth : ℤ
 
--- what the entries of a unit are read by: the sizes of values, the abbreviations, and the unit's length with its header
+-- what the entries of a unit are read by: the sizes of values, the abbreviations, and the unit's
+-- length with its header
 pub record EntryUnit : Type 0 where
   pub encoding : Encoding
   pub abbreviations : List Abbrev
@@ -27,7 +29,8 @@ pub record EntriesLeft : Type 0 where
 
 -- each level of depth took a byte of the unit, which has fewer than 2 ^ 63
 abbrev pub IsInUnit : ℕ → Section → ℤ → Type 0
-IsInUnit unit_length left depth = (unsigned_abs depth + length left.bytes ≤ unit_length) × (unit_length < 2 ^ 63)
+IsInUnit unit_length left depth =
+    (unsigned_abs depth + length left.bytes ≤ unit_length) × (unit_length < 2 ^ 63)
 
 -- the depth after an entry: one more where it has children
 abbrev pub depth_after_entry : Bool → ℤ → ℤ
@@ -38,30 +41,39 @@ abbrev pub depth_after_closing : ℤ → ℤ
 depth_after_closing depth = depth +ℤ negsuc 0
 
 -- the abbreviation of an entry's code, where the table has it
-abbrev pub opening_entry : Option Abbrev → EntryCursor → Result (Option Abbrev × EntryCursor) Error
+abbrev pub opening_entry : Option Abbrev → EntryCursor
+    → Result (Option Abbrev × EntryCursor) Error
 opening_entry None cursor = Err UnknownAbbreviation
-opening_entry (Some a) cursor =
-    Ok (Some a, record { left = cursor.left; depth = depth_after_entry a.has_children cursor.depth })
+opening_entry (Some a) cursor = Ok (
+  Some a,
+  record {
+    left = cursor.left;
+    depth = depth_after_entry a.has_children cursor.depth;
+  },
+)
 
 -- the abbreviation of the next entry, none of a closing entry
-unfoldable pub entry_abbreviation_at : List Abbrev → EntryCursor → Result (Option Abbrev × EntryCursor) Error
+unfoldable pub entry_abbreviation_at : List Abbrev → EntryCursor
+    → Result (Option Abbrev × EntryCursor) Error
 entry_abbreviation_at table cursor = do
   code ← uleb128_at cursor.left
-  if code.0 == 0 then Ok (None, record { left = code.1; depth = depth_after_closing cursor.depth })
+  if code.0 == 0
+      then Ok (None, record { left = code.1; depth = depth_after_closing cursor.depth })
       else opening_entry (with_code code.0 table) (record { left = code.1; depth = cursor.depth })
 
 -- the attributes of the specifications, one after another
 unfoldable pub attributes_at : Encoding → List Specification → Section → Reading (List NamedValue)
 attributes_at encoding [] s = Ok ([], s)
 attributes_at encoding (x ∷ xs) s =
-    attribute_at encoding x s >>= λ a. attributes_at encoding xs a.1 >>= λ more. Ok (a.0 ∷ more.0, more.1)
+    attribute_at encoding x s >>= λ a.
+    attributes_at encoding xs a.1 >>= λ more. Ok (a.0 ∷ more.0, more.1)
 
 -- the specifications of the root entry, which a closing entry isn't
 abbrev pub root_specifications : Option Abbrev → Result (List Specification) Error
 root_specifications None = Err MissingUnitDie
 root_specifications (Some a) = Ok a.attributes
 
--- the attributes of the root entry, which is the first one of a unit
+-- the attributes of a unit's root entry, with which its entries begin
 unfoldable pub root_attributes : Encoding → List Abbrev → Section → Result (List NamedValue) Error
 root_attributes encoding table s = do
   root ← entry_abbreviation_at table (record { left = s; depth = pos 0 })

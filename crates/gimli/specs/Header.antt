@@ -1,5 +1,6 @@
 -- The headers of units (DWARF 5, section 7.5.1; DWARF 4, section 7.5.1.1).
--- Own: versions 2 to 5; another is UnknownVersion. A unit type other than those of section 7.5.1 is UnknownUnitType.
+-- Own: versions 2 to 5; another is UnknownVersion. A unit type other than those of section 7.5.1 is
+-- UnknownUnitType.
 use Rattle.std.specs.Prelude.{ℕ, ◌-◌, ◌==◌, ◌||◌, not, length, Option, Some, None, Result, Ok, Err, if◌then◌else◌}
 use Rattle.gimli_read.specs.declared.error.Error.{Error}
 use Rattle.gimli_read.specs.declared.error.Error.TheVariants.{UnknownVersion, UnknownUnitType, UnsupportedAddressSize}
@@ -15,7 +16,8 @@ use Rattle.gimli.specs.declared.unit.DwoId.{DwoId}
 use Rattle.gimli_read.specs.declared.value.DebugInfoOffset.{DebugInfoOffset}
 use Rattle.gimli_read.specs.declared.endian.Encoding.{Encoding}
 
--- the fields of a unit's header, its offset in the section, its length, and the bytes of the unit's entries
+-- the fields of a unit's header, the unit's offset in the section, the header's length, and the
+-- bytes of the unit's entries
 pub record UnitHeaderFields : Type 0 where
   pub encoding : Encoding
   pub unit_type : UnitType
@@ -70,9 +72,10 @@ type_fields_at format Skeleton s = dwo_id_at s
 type_fields_at format SplitCompile s = dwo_id_at s
 type_fields_at format SplitType s = signature_at format s
 
--- the fields after the version, of version 5, in a unit of these many bytes at this offset of the section
+-- the fields after the version, of version 5, in a unit at an offset of the section; its length is
+-- counted with the field that gives it
 unfoldable pub fields_5_at : ℕ → ℕ → Format → Section → Result UnitHeaderFields Error
-fields_5_at offset size format s = do
+fields_5_at offset unit_length format s = do
   unit_type ← unit_type_at s
   address_size ← unit_address_size_at unit_type.1
   abbrev_offset ← offset_at format address_size.1
@@ -83,13 +86,13 @@ fields_5_at offset size format s = do
     offset = record { 0 = offset };
     debug_abbrev_offset = abbrev_offset.0;
     dwo_id = type_fields.0;
-    header_length = size - length type_fields.1.bytes;
+    header_length = unit_length - length type_fields.1.bytes;
     entries = type_fields.1;
   })
 
 -- the same of versions 2 to 4
 unfoldable pub fields_4_at : ℕ → ℕ → Format → ℕ → Section → Result UnitHeaderFields Error
-fields_4_at offset size format version s = do
+fields_4_at offset unit_length format version s = do
   abbrev_offset ← offset_at format s
   address_size ← unit_address_size_at abbrev_offset.1
   Ok (record {
@@ -98,29 +101,33 @@ fields_4_at offset size format version s = do
     offset = record { 0 = offset };
     debug_abbrev_offset = abbrev_offset.0;
     dwo_id = None;
-    header_length = size - length address_size.1.bytes;
+    header_length = unit_length - length address_size.1.bytes;
     entries = address_size.1;
   })
 
 -- the fields after the length
 unfoldable pub header_fields_at : ℕ → ℕ → Format → Section → Result UnitHeaderFields Error
-header_fields_at offset size format s = do
+header_fields_at offset unit_length format s = do
   version ← fixed_at 2 s
-  if version.0 == 2 || version.0 == 3 || version.0 == 4 then fields_4_at offset size format version.0 version.1
-      else if version.0 == 5 then fields_5_at offset size format version.1
+  if version.0 == 2 || version.0 == 3 || version.0 == 4
+      then fields_4_at offset unit_length format version.0 version.1
+      else if version.0 == 5 then fields_5_at offset unit_length format version.1
       else Err UnknownVersion
 
 -- the header of the unit at the front of what is left of a section of these many bytes
 unfoldable pub unit_header_at : ℕ → Section → Reading UnitHeaderFields
 unit_header_at section_length s = do
-  unit_length ← initial_length_at s
-  unit ← split_at unit_length.0.0 unit_length.1
-  header ← header_fields_at (section_length - length s.bytes) (length s.bytes - length unit.1.bytes) unit_length.0.1 unit.0
+  initial_length ← initial_length_at s
+  unit ← split_at initial_length.0.0 initial_length.1
+  header ← header_fields_at (section_length - length s.bytes) (length s.bytes - length unit.1.bytes)
+      initial_length.0.1 unit.0
   Ok (header, unit.1)
 
 -- the next unit's header, or none at the section's end
 unfoldable pub next_header_at : ℕ → Section → Reading (Option UnitHeaderFields)
-next_header_at section_length s = if length s.bytes == 0 then Ok (None, s) else (unit_header_at section_length s >>= λ header. Ok (Some header.0, header.1))
+next_header_at section_length s =
+    if length s.bytes == 0 then Ok (None, s)
+    else (unit_header_at section_length s >>= λ header. Ok (Some header.0, header.1))
 
 -- the headers of a section: it is its units, one after another, up to its end or the first fault
 abbrev pub headers_of : Section → Run UnitHeaderFields Section

@@ -1,7 +1,8 @@
 -- The record of a unit: what its root entry's attributes give (DWARF 5, sections 3.1.1 and 7.5.5).
--- Own: of each attribute the last counts. One whose forms are not of its class counts as not there: low_pc is an
--- address or an index, stmt_list and the bases are section offsets, and so are data4 and data8 of the offset's
--- width under stmt_list in versions 2 and 3. A name or a directory that can't be read counts as none.
+-- Own: of each attribute the last counts. One of a form that is not of its class counts as not
+-- there: low_pc is an address or an index, stmt_list and the bases are section offsets, and so are
+-- data4 and data8 of the offset's width under stmt_list in versions 2 and 3; GNU_dwo_id is a
+-- constant. A name or a directory that can't be read counts as none.
 use Rattle.std.specs.Prelude.{ℕ, ◌==◌, ◌||◌, nat_le, Bool, List, fold, Option, Some, None, Result, Ok, if◌then◌else◌}
 use Rattle.std.specs.Option.{option_or}
 use Rattle.gimli_read.specs.declared.error.Error.{Error}
@@ -54,8 +55,10 @@ of_width _ _ n = None
 -- a value of the class section offset under stmt_list
 abbrev pub line_offset : Encoding → AttributeValue Section → Option ℕ
 line_offset encoding (values.SecOffset n) = Some n
-line_offset encoding (values.Data4 n) = if is_before_4 encoding then of_width Dwarf32 encoding.format n else None
-line_offset encoding (values.Data8 n) = if is_before_4 encoding then of_width Dwarf64 encoding.format n else None
+line_offset encoding (values.Data4 n) =
+    if is_before_4 encoding then of_width Dwarf32 encoding.format n else None
+line_offset encoding (values.Data8 n) =
+    if is_before_4 encoding then of_width Dwarf64 encoding.format n else None
 line_offset encoding _ = None
 
 -- the values with one more attribute
@@ -63,21 +66,38 @@ abbrev pub with_root_attribute : Encoding → RootValues → NamedValue → Root
 with_root_attribute encoding root a =
     if a.name.0 == DW_AT_name.0 then record root { name = Some a.value }
     else if a.name.0 == DW_AT_comp_dir.0 then record root { comp_dir = Some a.value }
-    else if a.name.0 == DW_AT_low_pc.0 then record root { low_pc = option_or (address_value a.value) root.low_pc }
-    else if a.name.0 == DW_AT_stmt_list.0 then record root { stmt_list = option_or (line_offset encoding a.value) root.stmt_list }
-    else if a.name.0 == DW_AT_str_offsets_base.0 then record root { str_offsets_base = option_or (section_offset a.value) root.str_offsets_base }
-    else if a.name.0 == DW_AT_addr_base.0 || a.name.0 == DW_AT_GNU_addr_base.0 then record root { addr_base = option_or (section_offset a.value) root.addr_base }
-    else if a.name.0 == DW_AT_rnglists_base.0 || a.name.0 == DW_AT_GNU_ranges_base.0 then record root { rnglists_base = option_or (section_offset a.value) root.rnglists_base }
-    else if a.name.0 == DW_AT_GNU_dwo_id.0 then record root { dwo_id = option_or (constant_of a.value) root.dwo_id }
+    else if a.name.0 == DW_AT_low_pc.0
+    then record root { low_pc = option_or (address_value a.value) root.low_pc }
+    else if a.name.0 == DW_AT_stmt_list.0
+    then record root { stmt_list = option_or (line_offset encoding a.value) root.stmt_list }
+    else if a.name.0 == DW_AT_str_offsets_base.0
+    then record root { str_offsets_base = option_or (section_offset a.value) root.str_offsets_base }
+    else if a.name.0 == DW_AT_addr_base.0 || a.name.0 == DW_AT_GNU_addr_base.0
+    then record root { addr_base = option_or (section_offset a.value) root.addr_base }
+    else if a.name.0 == DW_AT_rnglists_base.0 || a.name.0 == DW_AT_GNU_ranges_base.0
+    then record root { rnglists_base = option_or (section_offset a.value) root.rnglists_base }
+    else if a.name.0 == DW_AT_GNU_dwo_id.0
+    then record root { dwo_id = option_or (constant_of a.value) root.dwo_id }
     else root
 
 -- before the first attribute
 abbrev pub no_root_values : RootValues
-no_root_values = record { name = None; comp_dir = None; low_pc = None; stmt_list = None; str_offsets_base = None; addr_base = None; rnglists_base = None; dwo_id = None }
+no_root_values = record {
+  name = None;
+  comp_dir = None;
+  low_pc = None;
+  stmt_list = None;
+  str_offsets_base = None;
+  addr_base = None;
+  rnglists_base = None;
+  dwo_id = None;
+}
 
 -- the values after the attributes that a reading gives
-abbrev pub root_values_after : Encoding → RootValues → Reading (List NamedValue) → Result RootValues Error
-root_values_after encoding root read = read >>= λ x. Ok (fold (with_root_attribute encoding) root x.0)
+abbrev pub root_values_after : Encoding → RootValues → Reading (List NamedValue)
+    → Result RootValues Error
+root_values_after encoding root read =
+    read >>= λ x. Ok (fold (with_root_attribute encoding) root x.0)
 
 -- the values of the attributes of a unit's root entry
 unfoldable pub root_values_of : Encoding → List Abbrev → Section → Result RootValues Error

@@ -1,4 +1,5 @@
--- The sections that DWARF is read from (DWARF 5, section 7.5 and appendix B), each as bytes in an order.
+-- The sections that DWARF is read from (DWARF 5, section 7.5 and appendix B), each as bytes in an
+-- order.
 use Rattle.gimli_read.specs.Section.{Section}
 use Rattle.gimli.specs.declared.dwarf.DwarfFileType.{DwarfFileType}
 

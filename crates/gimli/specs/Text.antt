@@ -1,5 +1,6 @@
 -- Strings, offsets of strings and addresses by index (DWARF 5, sections 7.26 and 7.27).
--- Own: an offset past the section's end is OffsetOutOfBounds, and so is an entry of a table that isn't wholly in it.
+-- Own: an offset past the section's end is OffsetOutOfBounds, and so is an entry of a table that
+-- isn't wholly in it.
 -- Own: a value of no string form is ExpectedString.
 use Rattle.std.specs.Prelude.{ℕ, ◌+◌, ◌*◌, nat_lt, length, Result, Ok, Err, if◌then◌else◌}
 use Rattle.gimli_read.specs.declared.error.Error.{Error}
@@ -9,13 +10,13 @@ use Rattle.gimli_read.specs.declared.value.AttributeValue.{AttributeValue}
 use Rattle.gimli_read.specs.declared.value.AttributeValue.TheVariants as values
 use Rattle.gimli_read.specs.Section.{Section, after}
 use Rattle.gimli_read.specs.Reading.{◌>>=◌}
-use Rattle.gimli_read.specs.Number.{address_at, null_terminated_at}
-use Rattle.gimli_read.specs.Number.{offset_size}
+use Rattle.gimli_read.specs.Number.{address_at, null_terminated_at, offset_size}
 use Rattle.gimli.specs.Sections.{Sections}
 
 -- a section from an offset on
 abbrev pub from_offset : ℕ → Section → Result Section Error
-from_offset offset s = if nat_lt (length s.bytes) offset then Err OffsetOutOfBounds else Ok (after offset s)
+from_offset offset s =
+    if nat_lt (length s.bytes) offset then Err OffsetOutOfBounds else Ok (after offset s)
 
 -- the string at an offset, without the zero byte that ends it
 unfoldable pub string_at : ℕ → Section → Result Section Error
@@ -37,7 +38,8 @@ indexed_number size base index s =
 -- the string of an index, where the unit's offsets of strings begin at a base
 abbrev pub indexed_string : Sections → Format → ℕ → ℕ → Result Section Error
 indexed_string d format base index =
-    indexed_number (offset_size format) base index d.debug_str_offsets >>= λ offset. string_at offset d.debug_str
+    indexed_number (offset_size format) base index d.debug_str_offsets >>= λ offset.
+    string_at offset d.debug_str
 
 -- the string that a value stands for, where the unit's offsets of strings begin at a base
 -- limit: no supplementary file is read yet

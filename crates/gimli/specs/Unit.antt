@@ -1,7 +1,7 @@
 -- A unit: its header, its abbreviations and its record (DWARF 5, sections 3.1.1 and 7.5).
 -- Own: bases begin at 0; in a version 5 unit of a split file at the end of the table's header.
--- Own: the record is faulty by its abbreviations, its first entry, its line program's header, or the index of
--- its low_pc, in this order. A name or a directory that can't be read counts as none.
+-- Own: the record is faulty by its abbreviations, its root entry, its line program's header, or the
+-- index of its low_pc, in this order. A name or a directory that can't be read counts as none.
 use Rattle.std.specs.Prelude.{ℕ, ◌==◌, Bool, false, List, option_map, option_and_then, Option, Some, None, is_some, Result, Ok, Err, unwrap_or, if◌then◌else◌}
 use Rattle.std.specs.Result.{result_ok}
 use Rattle.gimli_read.specs.declared.error.Error.{Error}
@@ -46,7 +46,8 @@ by_format short long Dwarf64 = long
 -- the length of a table's header in a version 5 unit of a split file, else 0
 abbrev pub first_base : ℕ → ℕ → DwarfFileType → Encoding → ℕ
 first_base short long Main encoding = 0
-first_base short long Dwo encoding = if encoding.version == 5 then by_format short long encoding.format else 0
+first_base short long Dwo encoding =
+    if encoding.version == 5 then by_format short long encoding.format else 0
 
 -- the address that a value stands for, where its index counts from base
 abbrev pub address_from : Sections → Encoding → ℕ → AddressValue → Result ℕ Error
@@ -67,23 +68,27 @@ line_program_of d encoding (Some offset) = do
   Ok (Some program)
 
 -- the string of a value, none where it can't be read
-abbrev pub readable_string : Sections → Format → ℕ → Option (AttributeValue Section) → Option Section
-readable_string d format base value = option_and_then (λ v. result_ok (string_of d format base v)) value
+abbrev pub readable_string : Sections → Format → ℕ → Option (AttributeValue Section)
+    → Option Section
+readable_string d format base value =
+    option_and_then (λ v. result_ok (string_of d format base v)) value
 
 -- whether a string is given
 abbrev pub gives_string : Result (Option Section) Error → Bool
 gives_string (Ok string) = is_some string
 gives_string (Err e) = false
 
--- the identifier of the header, else that of the first entry
+-- the identifier of the header, else that of the root entry
 abbrev pub dwo_id_of : Option DwoId → Option ℕ → Option DwoId
 dwo_id_of (Some id) given = Some id
 dwo_id_of None given = option_map (λ (n : ℕ). record { 0 = n }) given
 
--- the unit of a header, whose first entry says this
-unfoldable pub completed_record : Sections → UnitHeaderFields → List Abbrev → RootValues → Result UnitRecord Error
+-- the unit of a header, whose root entry has these values
+unfoldable pub completed_record : Sections → UnitHeaderFields → List Abbrev → RootValues
+    → Result UnitRecord Error
 completed_record d header table root =
-    let str_offsets_base = unwrap_or root.str_offsets_base (first_base 8 16 d.file_type header.encoding) in
+    let str_offsets_base =
+    unwrap_or root.str_offsets_base (first_base 8 16 d.file_type header.encoding) in
     let addr_base = unwrap_or root.addr_base 0 in
     do
       program ← line_program_of d header.encoding root.stmt_list

@@ -69,7 +69,8 @@ impl<R: Reader> Model for Dwarf<R> {
 }
 
 impl<R: Reader> Dwarf<R> {
-    /// The headers of the units of `.debug_info`. Refused `OutOfMemory` alone, where bytes are shared.
+    /// The headers of the units of `.debug_info`. Refused `OutOfMemory` alone, where bytes are
+    /// shared.
     pub fn units(&self) -> Result<UnitHeaders<R>, Error>
         ensures gives { ExactlyUnlessOomFor R.shares is_ok (λ u. u) result
             (Ok (all_headers self.now.debug_info)) }

@@ -33,7 +33,11 @@ impl<'a, R: Reader> Model for EntriesRaw<'a, R> {
     ghost Value = { EntriesLeft };
 
     ghost view = { λ e. record {
-      unit = record { encoding = e.encoding; abbreviations = e.abbreviations.now; length = e.unit_length };
+      unit = record {
+        encoding = e.encoding;
+        abbreviations = e.abbreviations.now;
+        length = e.unit_length;
+      };
       cursor = record { left = R.section e.input; depth = e.depth };
     } };
 

@@ -58,16 +58,18 @@ fn read_type_fields<R: Reader>(
     }
 }
 
-// The fields after the version, of version 5, in a unit of `size` bytes at `offset`.
+// The fields after the version, of version 5, in a unit at `offset`; `unit_length`
+// counts the field that gives it.
 #[tactic(auto, unfolding(crate::specs::Header::fields_5_at))]
 fn read_fields_5<R: Reader>(
     offset: u64,
-    size: u64,
+    unit_length: u64,
     format: Format,
     mut input: R,
 ) -> Result<UnitHeader<R>, Error>
-    requires in_range { size < 2 ^ 63 }
-    ensures gives { Exactly (λ h. h) result (fields_5_at offset size format (R.section input)) }
+    requires in_range { unit_length < 2 ^ 63 }
+    ensures gives { Exactly (λ h. h) result
+        (fields_5_at offset unit_length format (R.section input)) }
 {
     let unit_type = read_unit_type(&mut input)?;
     let address_size = read_address_size(&mut input)?;
@@ -84,7 +86,7 @@ fn read_fields_5<R: Reader>(
         offset: DebugInfoOffset(offset),
         debug_abbrev_offset,
         dwo_id,
-        header_length: size.saturating_sub(left),
+        header_length: unit_length.saturating_sub(left),
         entries: input,
     })
 }
@@ -93,14 +95,14 @@ fn read_fields_5<R: Reader>(
 #[tactic(auto, unfolding(crate::specs::Header::fields_4_at))]
 fn read_fields_4<R: Reader>(
     offset: u64,
-    size: u64,
+    unit_length: u64,
     format: Format,
     version: u16,
     mut input: R,
 ) -> Result<UnitHeader<R>, Error>
-    requires in_range { size < 2 ^ 63 }
+    requires in_range { unit_length < 2 ^ 63 }
     ensures gives { Exactly (λ h. h) result
-        (fields_4_at offset size format version (R.section input)) }
+        (fields_4_at offset unit_length format version (R.section input)) }
 {
     let debug_abbrev_offset = input.read_offset(format)?;
     let address_size = read_address_size(&mut input)?;
@@ -115,7 +117,7 @@ fn read_fields_4<R: Reader>(
         offset: DebugInfoOffset(offset),
         debug_abbrev_offset,
         dwo_id: None,
-        header_length: size.saturating_sub(left),
+        header_length: unit_length.saturating_sub(left),
         entries: input,
     })
 }
@@ -124,18 +126,18 @@ fn read_fields_4<R: Reader>(
 #[tactic(auto, unfolding(crate::specs::Header::header_fields_at))]
 fn read_fields<R: Reader>(
     offset: u64,
-    size: u64,
+    unit_length: u64,
     format: Format,
     mut input: R,
 ) -> Result<UnitHeader<R>, Error>
-    requires in_range { size < 2 ^ 63 }
+    requires in_range { unit_length < 2 ^ 63 }
     ensures gives { Exactly (λ h. h) result
-        (header_fields_at offset size format (R.section input)) }
+        (header_fields_at offset unit_length format (R.section input)) }
 {
     let version = input.read_u16()?;
     match version {
-        2..=4 => read_fields_4(offset, size, format, version, input),
-        5 => read_fields_5(offset, size, format, input),
+        2..=4 => read_fields_4(offset, unit_length, format, version, input),
+        5 => read_fields_5(offset, unit_length, format, input),
         _ => Err(Error::UnknownVersion),
     }
 }
@@ -150,9 +152,9 @@ pub(crate) fn read_header<R: Reader>(
         (unit_header_at section_length (R.section input.old)) }
 {
     let len = input.to_slice().len() as u64;
-    let (unit_length, format) = read_initial_length(input)?;
-    let unit = input.split(unit_length)?;
+    let (length, format) = read_initial_length(input)?;
+    let unit = input.split(length)?;
     let offset = section_length.saturating_sub(len);
-    let size = len.saturating_sub(input.len());
-    read_fields(offset, size, format, unit)
+    let unit_length = len.saturating_sub(input.len());
+    read_fields(offset, unit_length, format, unit)
 }

@@ -153,7 +153,8 @@ fn read_root_attributes<R: Reader>(
     specifications: &[AttributeSpecification],
 ) -> Result<RootAttributes<R>, Error>
     requires encoding { entries.old.unit.encoding ≡ encoding }
-    ensures gives { ExactlyUnlessOomIf R.shares (λ r. r) result (root_values_after encoding no_root_values
+    ensures gives { ExactlyUnlessOomIf R.shares (λ r. r) result
+        (root_values_after encoding no_root_values
         (attributes_at encoding specifications.now entries.old.cursor.left)) }
 {
     let mut root = RootAttributes::new();

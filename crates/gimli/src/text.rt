@@ -111,8 +111,8 @@ fn read_indexed_string<R: Reader>(
 /// The string that a value stands for, without the zero byte that ends it. `base` is where the
 /// unit's offsets of strings begin, in bytes.
 ///
-/// Refused `ExpectedString` for a value of no string form, `OffsetOutOfBounds`, `UnexpectedEof` where
-/// no zero byte ends it, and `NoSupplementary` for a string of a supplementary file; else
+/// Refused `ExpectedString` for a value of no string form, `OffsetOutOfBounds`, `UnexpectedEof`
+/// where no zero byte ends it, and `NoSupplementary` for a string of a supplementary file; else
 /// `OutOfMemory` where bytes are shared.
 #[tactic(auto, unfolding(crate::specs::Text::string_of))]
 pub(crate) fn read_string<R: Reader>(
@@ -139,8 +139,8 @@ pub(crate) fn read_string<R: Reader>(
 }
 
 impl<R: Reader> Dwarf<R> {
-    /// The string that a value of an attribute of the unit stands for, without the zero byte that ends
-    /// it.
+    /// The string that a value of an attribute of the unit stands for, without the zero byte that
+    /// ends it.
     ///
     /// Refused `ExpectedString` for a value of no string form, `OffsetOutOfBounds`, `UnexpectedEof`
     /// where no zero byte ends it, and `NoSupplementary` for a string of a supplementary file; else

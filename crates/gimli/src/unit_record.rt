@@ -1,4 +1,4 @@
-//! Units: headers with what their first entry says.
+//! Units: headers with what their root entry says.
 
 ghost use Rattle.std.specs.Prelude.{◌≡◌, Ok, is_ok, option_map};
 ghost use Rattle.gimli_read.specs.Reading.{Exactly, ExactlyUnlessOomFor, ExactlyUnlessOomIf, IsUnlessOom};
@@ -15,7 +15,7 @@ use gimli_read::{Abbreviations, AttributeValue, Encoding, Error, Format, Reader}
 use std::alloc::Global;
 use std::marker::Model;
 
-/// A unit: its header, its abbreviations, and what its first entry says.
+/// A unit: its header, its abbreviations, and what its root entry says.
 #[derive(Drop)]
 pub struct Unit<R: Reader> {
     /// The header.
@@ -140,7 +140,7 @@ fn read_readable_string<R: Reader>(
     }
 }
 
-// The identifier of the header, else that of the first entry.
+// The identifier of the header, else that of the root entry.
 fn dwo_id_of(in_header: Option<DwoId>, given: Option<u64>) -> Option<DwoId>
     ensures gives { result ≡ dwo_id_of in_header given }
 {
@@ -153,7 +153,7 @@ fn dwo_id_of(in_header: Option<DwoId>, given: Option<u64>) -> Option<DwoId>
     }
 }
 
-// The unit of a header, whose first entry says this.
+// The unit of a header, whose root entry has these values.
 #[tactic(auto, unfolding(crate::specs::Unit::completed_record))]
 fn complete<R: Reader>(
     alloc: Global,
@@ -194,9 +194,9 @@ fn complete<R: Reader>(
 }
 
 impl<R: Reader> Dwarf<R> {
-    /// The unit of a header: its abbreviations, and what its first entry says.
+    /// The unit of a header: its abbreviations, and what its root entry says.
     ///
-    /// Refused by its abbreviations (`OffsetOutOfBounds`, `BadAbbreviation`), its first entry
+    /// Refused by its abbreviations (`OffsetOutOfBounds`, `BadAbbreviation`), its root entry
     /// (`UnexpectedEof`, `MissingUnitDie`, `UnknownAbbreviation`, `UnknownForm` and what a value is
     /// refused for), its line program's header (`OffsetOutOfBounds` and what a header is refused
     /// for), or the index of its low_pc (`OffsetOutOfBounds`), in this order, and `OutOfMemory`.

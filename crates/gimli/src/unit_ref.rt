@@ -31,7 +31,7 @@ impl<R: Reader> Clone for UnitRef<'_, R> {
     }
 }
 
-// The bytes of the entries from an offset on, or from the first entry.
+// The bytes of the entries from an offset on, or from the root entry.
 fn read_entry_bytes<R: Reader>(
     header: &UnitHeader<R>,
     offset: Option<UnitOffset>,
@@ -64,10 +64,11 @@ impl<'a, R: Reader> UnitRef<'a, R> {
         UnitRef { dwarf, unit }
     }
 
-    /// The entries from an offset on, or from the first one, at depth 0.
+    /// The entries from an offset on, or from the root entry, at depth 0.
     ///
-    /// The offset is in bytes from the start of the unit's length. Refused `OffsetOutOfBounds` where
-    /// it isn't between the header's end and the unit's, and `OutOfMemory`.
+    /// The offset is in bytes from the start of the unit's length. Refused `OffsetOutOfBounds`
+    /// where it is before the header's end or not below the unit's end; else `OutOfMemory` where
+    /// bytes are shared.
     pub fn entries_raw(&self, offset: Option<UnitOffset>) -> Result<EntriesRaw<'a, R>, Error>
         ensures gives { ExactlyUnlessOomFor R.shares is_ok (λ e. e) result
             (entries_from self.now.unit.now (option_map (λ o. o.0) offset)) }
@@ -91,7 +92,8 @@ impl<'a, R: Reader> UnitRef<'a, R> {
     /// Refused `OffsetOutOfBounds` where its entry isn't wholly in the section, and
     /// `UnsupportedAddressSize`.
     pub fn address(&self, index: u64) -> Result<u64, Error>
-        ensures gives { Exactly (λ a. a) result (indexed_number self.now.unit.now.header.encoding.address_size
+        ensures gives { Exactly (λ a. a) result
+            (indexed_number self.now.unit.now.header.encoding.address_size
             self.now.unit.now.addr_base index self.now.dwarf.now.debug_addr) }
     {
         let unit = self.unit;

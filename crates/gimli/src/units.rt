@@ -83,9 +83,9 @@ impl<R: Reader> UnitHeaders<R> {
     /// The next unit's header, or none at the section's end.
     ///
     /// Refused `UnknownReservedLength`, `UnexpectedEof`, `UnknownVersion`, `UnknownUnitType` and
-    /// `UnsupportedAddressSize` by the header's fields in their order: then no further unit is given.
-    /// May fail with `OutOfMemory` in place of a header, where bytes are shared: then a later call
-    /// gives that header. Source: DWARF 5, section 7.5.1.
+    /// `UnsupportedAddressSize` by the header's fields in their order: then no further unit is
+    /// given. May fail with `OutOfMemory` in place of a header, where bytes are shared: then a
+    /// later call gives that header. Source: DWARF 5, section 7.5.1.
     pub fn next(&mut self) -> Result<Option<UnitHeader<R>>, Error>
         ensures gives { ExactlyUnlessOomFor R.shares gives_header (λ h. (h, self.new)) result
             (next_given self.old) }

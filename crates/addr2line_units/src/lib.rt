@@ -2,7 +2,10 @@
 #![tactic(auto)]
 
 pub mod frame;
+mod laws;
 mod legacy;
 #[cfg(test)]
 mod tests;
 pub mod unit;
+
+pub use crate::laws::legacy_name_laws;

@@ -11,7 +11,7 @@ pub append_none : {X : Type 0} (xs : List X) → xs ++ [] ≡ xs
 append_none [] = refl
 append_none (x ∷ xs) = ap (λ ys. x ∷ ys) (append_none xs)
 
--- rows before those of the first stretch
+-- rows before those of the first group
 abbrev put_all : List LineRow → List RowGroup → List RowGroup
 put_all p [] = []
 put_all p (s ∷ rest) = record { rows = p ++ s.rows; last = s.last } ∷ rest

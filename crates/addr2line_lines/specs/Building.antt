@@ -22,13 +22,18 @@ pub record IsPending (rows : List LineRow) : Type 0 where
 
 -- once the row was taken, addresses fall no more than before, whatever rows follow
 abbrev pub StillRises : List LineRow → LineRow → List LineRow → Type 0
-StillRises old row new = (left : List LineRow) → NeverFalls (old ++ row ∷ left) → NeverFalls (new ++ left)
+StillRises old row new =
+    (left : List LineRow) → NeverFalls (old ++ row ∷ left) → NeverFalls (new ++ left)
 
 -- once the row was added, the sequences are the same, whatever rows follow
 abbrev pub SameSequences : List LineRow → LineRow → List LineRow → Type 0
-SameSequences old row new = (left : List LineRow) → sequences_of (new ++ left) ≡ sequences_of (old ++ row ∷ left)
+SameSequences old row new =
+    (left : List LineRow) → sequences_of (new ++ left) ≡ sequences_of (old ++ row ∷ left)
 
--- once the row was taken, the sequences before and after it are together the same, whatever rows follow
-abbrev pub SameTogether : List Sequence → List LineRow → LineRow → List Sequence → List LineRow → Type 0
+-- once the row was taken, the sequences before and after it are together the same, whatever
+-- rows follow
+abbrev pub SameTogether
+    : List Sequence → List LineRow → LineRow → List Sequence → List LineRow → Type 0
 SameTogether before old row after new =
-    (left : List LineRow) → NeverFalls (old ++ row ∷ left) → after ++ sequences_of (new ++ left) ≡ before ++ sequences_of (old ++ row ∷ left)
+    (left : List LineRow) → NeverFalls (old ++ row ∷ left)
+    → after ++ sequences_of (new ++ left) ≡ before ++ sequences_of (old ++ row ∷ left)

@@ -1,13 +1,13 @@
 -- The texts of a unit's files by index (DWARF 5, section 6.2.4).
--- Own: below version 5 index 0 is the unit's own name; where there is none the text is empty. A file's directory
--- counts unless its index is 0 or has no entry. The fault of the texts is the first one by index.
+-- Own: below version 5 index 0 is the unit's own name; where there is none the text is empty. A
+-- file's directory counts unless its index is 0 or has no entry. The fault of the texts is the
+-- first one by index.
 use Rattle.std.specs.Prelude.{ℕ, ◌==◌, nat_lt, List, [], ◌∷◌, ◌++◌, Option, Some, None, option_map, Result, Ok, if◌then◌else◌}
 use Rattle.gimli_read.specs.declared.error.Error.{Error}
 use Rattle.gimli_read.specs.declared.value.AttributeValue.{AttributeValue}
 use Rattle.gimli_read.specs.Section.{Section}
 use Rattle.gimli_read.specs.Reading.{◌>>=◌}
-use Rattle.gimli_line.specs.Header.{File}
-use Rattle.gimli_line.specs.Header.{Header, directory_of}
+use Rattle.gimli_line.specs.Header.{File, Header, directory_of}
 use Rattle.gimli.specs.Sections.{Sections}
 use Rattle.gimli.specs.Unit.{UnitRecord, attr_string_of}
 use Rattle.addr2line_lines.specs.Files.{file_text, own_text}
@@ -17,7 +17,8 @@ abbrev pub bytes_of : Option Section → Option (List ℕ)
 bytes_of s = option_map (λ (t : Section). t.bytes) s
 
 -- the string of a value, where there is one
-abbrev pub optional_string : Sections → UnitRecord → Option (AttributeValue Section) → Result (Option Section) Error
+abbrev pub optional_string
+    : Sections → UnitRecord → Option (AttributeValue Section) → Result (Option Section) Error
 optional_string d u None = Ok None
 optional_string d u (Some value) = attr_string_of d u value >>= λ text. Ok (Some text)
 
@@ -33,9 +34,10 @@ text_of_file d u h f = do
   Ok (file_text (bytes_of u.comp_dir) (bytes_of directory) path.bytes)
 
 -- the texts of files, one after another
-unfoldable pub texts_of : Sections → UnitRecord → Header → List (File) → Result (List (List ℕ)) Error
+unfoldable pub texts_of : Sections → UnitRecord → Header → List File → Result (List (List ℕ)) Error
 texts_of d u h [] = Ok []
-texts_of d u h (f ∷ files) = text_of_file d u h f >>= λ text. texts_of d u h files >>= λ more. Ok (text ∷ more)
+texts_of d u h (f ∷ files) =
+    text_of_file d u h f >>= λ text. texts_of d u h files >>= λ more. Ok (text ∷ more)
 
 -- texts after others
 abbrev pub texts_after : List (List ℕ) → Result (List (List ℕ)) Error → Result (List (List ℕ)) Error
@@ -47,11 +49,13 @@ at_least_one [] = [] ∷ []
 at_least_one (text ∷ texts) = text ∷ texts
 
 -- the texts below version 5: first the unit's own name
-abbrev pub own_name_first : Sections → UnitRecord → Header → List (File) → Result (List (List ℕ)) Error
-own_name_first d u h files = texts_after (own_text (bytes_of u.comp_dir) (bytes_of u.name) ∷ []) (texts_of d u h files)
+abbrev pub own_name_first
+    : Sections → UnitRecord → Header → List File → Result (List (List ℕ)) Error
+own_name_first d u h files =
+    texts_after (own_text (bytes_of u.comp_dir) (bytes_of u.name) ∷ []) (texts_of d u h files)
 
 -- the texts by index, from 0 on
-abbrev pub file_texts : Sections → UnitRecord → Header → List (File) → Result (List (List ℕ)) Error
+abbrev pub file_texts : Sections → UnitRecord → Header → List File → Result (List (List ℕ)) Error
 file_texts d u h files =
     if nat_lt h.encoding.version 5 then own_name_first d u h files
     else (texts_of d u h files >>= λ texts. Ok (at_least_one texts))

@@ -1,5 +1,6 @@
--- The texts of files (DWARF 5, section 6.2.4: a file's path is below its directory, and that below the unit's).
--- Own: bytes are decoded lossily, and each text is pushed onto what stands before it.
+-- The texts of files (DWARF 5, section 6.2.4: a file's path is below its directory, and that below
+-- the unit's).
+-- Own: bytes are decoded lossily, and each text is pushed onto the path so far.
 use Rattle.std.specs.Prelude.{ℕ, List, [], Option, Some, None}
 use Rattle.gimli_read.specs.Text.{lossy_text}
 use Rattle.addr2line_lines.specs.Paths.{pushed}

@@ -17,7 +17,8 @@ in_order sooner (x ∷ xs) = put sooner x (in_order sooner xs)
 
 -- x begins before y, or with y and ends before it
 abbrev pub begins_sooner : {X : Type 0} → (X → ℕ) → (X → ℕ) → X → X → Bool
-begins_sooner begin end x y = is_lt (ordering_then (nat_cmp (begin x) (begin y)) (nat_cmp (end x) (end y)))
+begins_sooner begin end x y =
+    is_lt (ordering_then (nat_cmp (begin x) (begin y)) (nat_cmp (end x) (end y)))
 
 -- no element is sooner than one before it
 abbrev pub IsInOrder : {X : Type 0} → (X → X → Bool) → List X → Type 0
@@ -26,4 +27,5 @@ IsInOrder sooner (x ∷ xs) = AllByRecursion (λ y. sooner y x ≡ false) xs × 
 
 -- what is picked of ranges in order is what is picked of them as they are listed
 abbrev pub OrderIsFree : {X : Type 0} → (X → ℕ) → (X → ℕ) → Type 0
-OrderIsFree {X} begin end = (probe : ℕ) (xs : List X) → pick begin end probe (in_order (begins_sooner begin end) xs) ≡ pick begin end probe xs
+OrderIsFree {X} begin end = (probe : ℕ) (xs : List X)
+    → pick begin end probe (in_order (begins_sooner begin end) xs) ≡ pick begin end probe xs

@@ -1,5 +1,6 @@
 -- The location in a source file of an address (DWARF 5, section 6.2).
--- Own: line 0 gives neither line nor column; otherwise column 0 is a column. An index past the files gives no file.
+-- Own: line 0 gives neither line nor column; otherwise column 0 is a column. An index past the
+-- files gives no file.
 use Rattle.std.specs.Prelude.{ℕ, List, Option, Some, None, slice_get, option_map, ◌==◌, if◌then◌else◌}
 use Rattle.gimli_line.specs.declared.row.LineRow.{LineRow}
 use Rattle.addr2line_lines.specs.declared.row.Row.{Row}
@@ -23,7 +24,11 @@ if_lined row n = if row.line == 0 then None else Some n
 
 -- the location that a row gives
 abbrev pub location_of_row : List (List ℕ) → Row → Location
-location_of_row files row = record { file = slice_get files row.file_index; line = if_lined row row.line; column = if_lined row row.column }
+location_of_row files row = record {
+      file = slice_get files row.file_index;
+      line = if_lined row row.line;
+      column = if_lined row row.column;
+    }
 
 -- the location of the probe
 abbrev pub location_at : ℕ → LineTable → Option Location

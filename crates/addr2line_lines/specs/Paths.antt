@@ -1,26 +1,39 @@
 -- A text pushed onto a path; texts are bytes.
--- Own: a text that begins with `/` or `\`, or has `:/` or `:\` at bytes 1 and 2, replaces the path. Otherwise a
--- separator stands between, unless the path is empty or ends in it: `\` where the path begins with `\` or has `:\` at
--- bytes 1 and 2, else `/`.
+-- Own: a text that begins with `/` or `\`, or has `:/` or `:\` at bytes 1 and 2, replaces the path.
+-- Otherwise a separator stands between, unless the path is empty or ends in it: `\` where the path
+-- begins with `\` or has `:\` at bytes 1 and 2, else `/`.
 use Rattle.std.specs.Prelude.{ℕ, Bool, false, not, ◌&&◌, ◌||◌, List, [], ◌∷◌, ◌++◌, ◌==◌, ◌-◌, Option, Some, None, slice_get, length, if◌then◌else◌}
+
+-- the byte `/`
+abbrev pub slash : ℕ
+slash = 47
+
+-- the byte `\`
+abbrev pub backslash : ℕ
+backslash = 92
+
+-- the byte `:`
+abbrev pub colon : ℕ
+colon = 58
 
 -- `/` or `\`
 abbrev pub is_slash : ℕ → Bool
-is_slash b = b == 47 || b == 92
+is_slash b = b == slash || b == backslash
 
 -- the text replaces what it is pushed onto
 abbrev pub replaces : List ℕ → Bool
 replaces [] = false
 replaces (a ∷ []) = is_slash a
 replaces (a ∷ b ∷ []) = is_slash a
-replaces (a ∷ b ∷ c ∷ rest) = is_slash a || (b == 58 && is_slash c)
+replaces (a ∷ b ∷ c ∷ rest) = is_slash a || (b == colon && is_slash c)
 
 -- what separates the parts of the path
 abbrev pub separator : List ℕ → ℕ
-separator [] = 47
-separator (a ∷ []) = if a == 92 then 92 else 47
-separator (a ∷ b ∷ []) = if a == 92 then 92 else 47
-separator (a ∷ b ∷ c ∷ rest) = if a == 92 || (b == 58 && c == 92) then 92 else 47
+separator [] = slash
+separator (a ∷ []) = if a == backslash then backslash else slash
+separator (a ∷ b ∷ []) = if a == backslash then backslash else slash
+separator (a ∷ b ∷ c ∷ rest) =
+    if a == backslash || (b == colon && c == backslash) then backslash else slash
 
 -- there is a byte, and it is not s
 abbrev pub is_other : ℕ → Option ℕ → Bool
@@ -33,7 +46,8 @@ lacks s path = is_other s (slice_get path (length path - 1))
 
 -- a text below a path
 abbrev pub joined : List ℕ → List ℕ → List ℕ
-joined path text = (if lacks (separator path) path then path ++ separator path ∷ [] else path) ++ text
+joined path text =
+    (if lacks (separator path) path then path ++ separator path ∷ [] else path) ++ text
 
 -- a text pushed onto a path
 abbrev pub pushed : List ℕ → List ℕ → List ℕ

@@ -1,6 +1,7 @@
 -- The addresses of an entry (DWARF 5, section 2.17).
--- Own: of low_pc, of high_pc as an address and of high_pc as a size the last that counts is taken; a high_pc address
--- counts before a size, whose sum wraps at 64 bits. Empty and reversed ranges are dropped.
+-- Own: of low_pc, of high_pc as an address and of high_pc as a size the last that counts is taken; a
+-- high_pc address counts before a size, whose sum wraps at 64 bits. Empty and reversed ranges are
+-- dropped.
 -- limit: no range list is read yet
 use Rattle.std.specs.Prelude.{ℕ, ◌+◌, ◌%◌, ◌^◌, ◌==◌, nat_lt, List, [], ◌∷◌, fold, Option, Some, None, Result, Ok, Err, if◌then◌else◌}
 use Rattle.std.specs.Option.{option_or}
@@ -30,27 +31,37 @@ abbrev pub no_range_attributes : RangeAttributes
 no_range_attributes = record { low_pc = None; high_pc = None; size = None }
 
 -- one more attribute
-unfoldable pub with_range_attribute : Sections → UnitRecord → RangeAttributes → NamedValue → Result RangeAttributes Error
+unfoldable pub with_range_attribute
+    : Sections → UnitRecord → RangeAttributes → NamedValue → Result RangeAttributes Error
 with_range_attribute d u r a =
-    if a.name.0 == DW_AT_low_pc.0 then (attr_address d u a.value >>= λ low. Ok (record r { low_pc = option_or low r.low_pc }))
+    if a.name.0 == DW_AT_low_pc.0 then (attr_address d u a.value >>= λ low.
+        Ok (record r { low_pc = option_or low r.low_pc }))
     else if a.name.0 == DW_AT_high_pc.0 then (attr_address d u a.value >>= λ high.
-    Ok (record r { high_pc = option_or high r.high_pc; size = option_or (constant_of a.value) r.size }))
+        Ok (record r {
+          high_pc = option_or high r.high_pc;
+          size = option_or (constant_of a.value) r.size;
+        }))
     else Ok r
 
 -- one more attribute, where none before it has a fault
-abbrev pub or_with_range_attribute : Sections → UnitRecord → Result RangeAttributes Error → NamedValue → Result RangeAttributes Error
+abbrev pub or_with_range_attribute
+    : Sections → UnitRecord → Result RangeAttributes Error → NamedValue → Result RangeAttributes Error
 or_with_range_attribute d u r a = r >>= λ x. with_range_attribute d u x a
 
 -- what attributes say, the last of each counting, or the first fault of an address's index
-abbrev pub range_attributes_of : Sections → UnitRecord → List NamedValue → Result RangeAttributes Error
-range_attributes_of d u attributes = fold (or_with_range_attribute d u) (Ok no_range_attributes) attributes
+abbrev pub range_attributes_of
+    : Sections → UnitRecord → List NamedValue → Result RangeAttributes Error
+range_attributes_of d u attributes =
+    fold (or_with_range_attribute d u) (Ok no_range_attributes) attributes
 
 -- the range attributes of a unit's root entry
 abbrev pub root_range_attributes : Sections → UnitRecord → Result RangeAttributes Error
-root_range_attributes d u = root_attributes_of u >>= λ attributes. range_attributes_of d u attributes
+root_range_attributes d u =
+    root_attributes_of u >>= λ attributes. range_attributes_of d u attributes
 
 -- what attributes that are read say, after those that were read before
-abbrev pub range_attributes_after : Sections → UnitRecord → Result RangeAttributes Error → Reading (List NamedValue) → Result RangeAttributes Error
+abbrev pub range_attributes_after : Sections → UnitRecord → Result RangeAttributes Error
+    → Reading (List NamedValue) → Result RangeAttributes Error
 range_attributes_after d u r read = read >>= λ x. fold (or_with_range_attribute d u) r x.0
 
 -- a range, unless it is empty or reversed

@@ -9,7 +9,8 @@ use Rattle.addr2line_lines.specs.Sequences.{Sequence, sequences_of}
 -- addresses rise from each row to all later ones, none is above the end
 abbrev pub Climbs : ℕ → List Row → Type 0
 Climbs end [] = Unit {0}
-Climbs end (r ∷ rows) = (r.address ≤ end) × (AllByRecursion (λ (s : Row). r.address < s.address) rows × Climbs end rows)
+Climbs end (r ∷ rows) =
+    (r.address ≤ end) × (AllByRecursion (λ (s : Row). r.address < s.address) rows × Climbs end rows)
 
 -- there are rows, and the first one has the address
 abbrev pub StartsAt : ℕ → List Row → Type 0
@@ -24,4 +25,5 @@ pub record IsRising (s : Sequence) : Type 0 where
 
 -- where addresses do not fall, the sequences rise
 abbrev pub SequencesRise : Type 0
-SequencesRise = (rows : List LineRow) → NeverFalls rows → AllByRecursion IsRising (sequences_of rows)
+SequencesRise =
+    (rows : List LineRow) → NeverFalls rows → AllByRecursion IsRising (sequences_of rows)

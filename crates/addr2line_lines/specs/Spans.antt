@@ -1,6 +1,7 @@
--- Which row an address belongs to (DWARF 5, section 6.2.2: a row describes the code from its address up to the next
--- row's).
--- Own: a row's span runs up to the next greater address of a row of its sequence, or to the sequence's end.
+-- Which row an address belongs to (DWARF 5, section 6.2.2: a row describes the code from its address
+-- up to the next row's).
+-- Own: a row's span runs up to the next greater address of a row of its sequence, or to the
+-- sequence's end.
 -- Own: of overlapping sequences the picked one counts.
 use Rattle.std.specs.Prelude.{ℕ, ◌≡◌, ◌<◌, ◌≤◌, Bool, ◌&&◌, List, [], ◌∷◌, Option, Some, filter, find, map, min, option_and_then, option_map, nat_le, nat_lt}
 use Rattle.addr2line_lines.specs.declared.row.Row.{Row}
@@ -26,7 +27,8 @@ abbrev pub least_of : ℕ → List ℕ → ℕ
 least_of n [] = n
 least_of n (m ∷ ms) = min m (least_of n ms)
 
--- where the span of a row ends: at the next greater address of the rows, or at the end of their sequence
+-- where the span of a row ends: at the next greater address of the rows, or at the end of their
+-- sequence
 abbrev pub span_end : ℕ → List Row → Row → ℕ
 span_end end rows r = least_of end (filter (λ a. nat_lt r.address a) (map row_address rows))
 
@@ -48,4 +50,5 @@ row_at probe sequences = option_and_then (row_in probe) (pick start_of end_of pr
 
 -- each address of a sequence that rises has a row
 abbrev pub EachAddressHasRow : Type 0
-EachAddressHasRow = (probe : ℕ) (s : Sequence) → IsRising s → s.start ≤ probe → probe < s.end → (r : Row) × (row_in probe s ≡ Some r)
+EachAddressHasRow = (probe : ℕ) (s : Sequence) → IsRising s → s.start ≤ probe → probe < s.end
+    → (r : Row) × (row_in probe s ≡ Some r)

@@ -1,5 +1,6 @@
 -- The lines of a unit: its files and its sequences, or their fault (DWARF 5, section 6.2).
--- Own: the program's fault stands before that of the files' texts. A unit without a line program has no lines.
+-- Own: the program's fault comes before that of the files' texts. A unit without a line program has
+-- no lines.
 use Rattle.std.specs.Prelude.{◌++◌, [], Option, Some, None, Result, Ok}
 use Rattle.gimli_read.specs.declared.error.Error.{Error}
 use Rattle.gimli_read.specs.Reading.{◌>>=◌}
@@ -18,10 +19,11 @@ program_lines d u p = do
   files ← file_texts d u p.header (p.header.file_names ++ (lines_of p).to_define)
   Ok (line_table_of files rows)
 
--- the lines of a unit
+-- the lines of a program, none where there is no program
 abbrev pub lines_in : Sections → UnitRecord → Option Program → Result LineTable Error
 lines_in d u None = Ok (record { files = []; sequences = [] })
 lines_in d u (Some p) = program_lines d u p
 
+-- the lines of a unit, by its program
 abbrev pub unit_lines : Sections → UnitRecord → Result LineTable Error
 unit_lines d u = lines_in d u u.line_program

@@ -113,7 +113,8 @@ fn with_attribute<R: Reader>(
     ranges: Result<RangeAttributes, Error>,
     attribute: Attribute<R>,
 ) -> Result<RangeAttributes, Error>
-    ensures gives { result ≡ or_with_range_attribute unit.entry.dwarf.now unit.entry.unit.now ranges attribute }
+    ensures gives { result ≡ or_with_range_attribute unit.entry.dwarf.now unit.entry.unit.now
+        ranges attribute }
 {
     match ranges {
         Ok(ranges) => ranges.take(unit, attribute),
@@ -121,16 +122,16 @@ fn with_attribute<R: Reader>(
     }
 }
 
-// The range attributes among those of specifications. A value that can't be read is a fault before that of an
-// address's index, so the first of these waits until all values are read.
+// The range attributes among those of specifications. A value that can't be read is a fault before
+// that of an address's index, so the first of these waits until all values are read.
 fn read_ranges<R: Reader>(
     unit: UnitRef<'_, R>,
     entries: &mut EntriesRaw<'_, R>,
     specifications: &[AttributeSpecification],
 ) -> Result<RangeAttributes, Error>
     requires encoding { entries.old.unit.encoding ≡ unit.unit.now.header.encoding }
-    ensures gives { IsUnlessOom result (range_attributes_after unit.entry.dwarf.now unit.entry.unit.now
-        (Ok no_range_attributes) (attributes_at unit.entry.unit.now.header.encoding
+    ensures gives { IsUnlessOom result (range_attributes_after unit.entry.dwarf.now
+        unit.entry.unit.now (Ok no_range_attributes) (attributes_at unit.entry.unit.now.header.encoding
         specifications.now entries.old.cursor.left)) }
 {
     let mut ranges = Ok(RangeAttributes::new());
@@ -143,8 +144,9 @@ fn read_ranges<R: Reader>(
 
 /// The range attributes of a unit's root entry.
 ///
-/// Refused by the entry's code and its values in their order, `MissingUnitDie` at a closing entry, then by the
-/// first index of an address that isn't wholly in its section; may fail with `OutOfMemory` instead.
+/// Refused by the entry's code and its values in their order, `MissingUnitDie` at a closing entry,
+/// then by the first index of an address that isn't wholly in its section; may fail with
+/// `OutOfMemory` instead.
 #[tactic(auto, unfolding(gimli::specs::Entry::root_attributes))]
 pub fn read_root_ranges<R: Reader>(unit: UnitRef<'_, R>) -> Result<RangeAttributes, Error>
     ensures gives { IsUnlessOom result

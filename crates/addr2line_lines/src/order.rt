@@ -1,8 +1,7 @@
 //! Sequences in order.
 
 ghost use Rattle.std.specs.Prelude.{◌≡◌, OnOk, OnErr};
-ghost use Rattle.addr2line_lines.specs.Pick.{LoneIsPicked};
-ghost use Rattle.addr2line_lines.specs.InOrder.{in_order, begins_sooner, OrderIsFree};
+ghost use Rattle.addr2line_lines.specs.InOrder.{in_order, begins_sooner};
 ghost use Rattle.addr2line_lines.specs.Sequences.{start_of, end_of};
 
 use crate::sequence::LineSequence;

@@ -40,7 +40,7 @@ fn stored_row(row: &LineRow) -> Row
 
 /// Rows as they are stored.
 pub(crate) fn stored_rows(alloc: Global, rows: &[LineRow]) -> Result<Vec<Row>, AllocError>
-    ensures gives { IfOk result (λ kept. kept.items ≡ map stored_row rows.now) }
+    ensures gives { IfOk result (λ stored. stored.items ≡ map stored_row rows.now) }
 {
     rows.iter().map(|row| stored_row(row)).collect(alloc)
 }

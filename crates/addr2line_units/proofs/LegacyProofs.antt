@@ -14,27 +14,27 @@ use Rattle.addr2line_units.specs.LegacyLaws.{FindsLegacyNames, FindsOnlyLegacyNa
 text_is : (name text : List ℕ) → legacy_text name ≡ Some text → IsLegacyName name text
 unfolding legacy_text spelled_text elements_text
 text_is name text h =
-    let behind : (spelled : List ℕ) × (without_prefix (without_llvm name) ≡ Some spelled) × (spelled_text spelled ≡ Some text) = then_some _ _ _ h in
-    let start : (p : List ℕ) × IsPrefix p × (without_llvm name ≡ p ++ behind.0) = prefix_found (without_llvm name) behind.0 behind.1 in
-    let first : (e : List ℕ × List ℕ) × (element_at behind.0 ≡ Some e) × (option_map (λ suffix. elements_text behind.0 ++ suffix) (suffix_at (elements_at behind.0).1) ≡ Some text) = then_some _ _ _ behind.2 in
-    let end : (suffix : List ℕ) × (suffix_at (elements_at behind.0).1 ≡ Some suffix) × (elements_text behind.0 ++ suffix ≡ text) = map_some _ _ _ first.2 in
-    let closed : ((elements_at behind.0).1 ≡ 69 ∷ end.0) × IsSuffix end.0 = suffix_found (elements_at behind.0).1 end.0 end.1 in
-    let one : (elements_at behind.0).0 ≡ first.0.0 ∷ (elements_at first.0.1).0 = ap (λ p. p.0) (elements_some behind.0 first.0.0 first.0.1 first.1) in
+    let tail : (spelled : List ℕ) × (without_prefix (without_llvm name) ≡ Some spelled) × (spelled_text spelled ≡ Some text) = then_some _ _ _ h in
+    let start : (p : List ℕ) × IsPrefix p × (without_llvm name ≡ p ++ tail.0) = prefix_found (without_llvm name) tail.0 tail.1 in
+    let first : (e : List ℕ × List ℕ) × (element_at tail.0 ≡ Some e) × (option_map (λ suffix. elements_text tail.0 ++ suffix) (suffix_at (elements_at tail.0).1) ≡ Some text) = then_some _ _ _ tail.2 in
+    let end : (suffix : List ℕ) × (suffix_at (elements_at tail.0).1 ≡ Some suffix) × (elements_text tail.0 ++ suffix ≡ text) = map_some _ _ _ first.2 in
+    let closed : ((elements_at tail.0).1 ≡ 69 ∷ end.0) × IsSuffix end.0 = suffix_found (elements_at tail.0).1 end.0 end.1 in
+    let one : (elements_at tail.0).0 ≡ first.0.0 ∷ (elements_at first.0.1).0 = ap (λ p. p.0) (elements_some tail.0 first.0.0 first.0.1 first.1) in
     record {
       kept = without_llvm name;
       prefix = start.0;
-      spelled = behind.0;
-      elements = (elements_at behind.0).0;
-      shown = without_hash (elements_at behind.0).0;
-      texts = map element_text (without_hash (elements_at behind.0).0);
+      spelled = tail.0;
+      elements = (elements_at tail.0).0;
+      shown = without_hash (elements_at tail.0).0;
+      texts = map element_text (without_hash (elements_at tail.0).0);
       suffix = end.0;
       is_kept = kept_is name;
       is_prefix = start.1;
       whole = start.2;
-      are_elements = subst (AreElements (elements_at behind.0).0 behind.0) closed.0 (elements_are behind.0);
+      are_elements = subst (AreElements (elements_at tail.0).0 tail.0) closed.0 (elements_are tail.0);
       some = subst (λ es. 0 < length es) (sym one) (omega arith);
-      are_shown = shown_are (elements_at behind.0).0;
-      are_texts = texts_are (without_hash (elements_at behind.0).0);
+      are_shown = shown_are (elements_at tail.0).0;
+      are_texts = texts_are (without_hash (elements_at tail.0).0);
       is_suffix = closed.1;
       is_text = sym end.2;
     }

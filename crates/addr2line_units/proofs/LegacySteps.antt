@@ -9,7 +9,7 @@ use Rattle.std.proofs.lemmas.List.Sums.{prefix_len-le-length}
 use Rattle.std.specs.Str.Parse.{digits_value}
 use Rattle.std.proofs.lemmas.Str.Parse.{digits_value-take-le}
 use Rattle.std.proofs.lemmas.Int.Digits.{digits_value_more}
-use Rattle.addr2line_units.specs.LegacyName.{llvm_mark, is_llvm_byte, is_suffix_byte, is_hash, joined, behind_colons}
+use Rattle.addr2line_units.specs.LegacyName.{llvm_mark, is_llvm_byte, is_suffix_byte, is_hash, joined, after_colons}
 use Rattle.addr2line_units.specs.LegacyText.{without_llvm, element_at, ascii_front, elements_by, elements_within, elements_at, without_hash, element_text, joint_text, escape_in, escape_text, is_dot_first, plain_from, is_suffix}
 
 -- both sides of a test
@@ -189,12 +189,12 @@ pub ruleset plain_steps = (escape_shown, escape_none, dots_shown, byte_shown, te
 -- the texts that are left to add, after colons unless none was added before
 abbrev pub texts_from : Bool → List (List ℕ) → List ℕ
 texts_from true texts = joined texts
-texts_from false texts = behind_colons texts
+texts_from false texts = after_colons texts
 
 abbrev pub left_text : Bool → List ℕ → List ℕ
 left_text first text = texts_from first (map element_text (without_hash (elements_at text).0))
 
-texts_cons : (first : Bool) (text : List ℕ) (texts : List (List ℕ)) → texts_from first (text ∷ texts) ≡ joint_text first text ++ behind_colons texts
+texts_cons : (first : Bool) (text : List ℕ) (texts : List (List ℕ)) → texts_from first (text ∷ texts) ≡ joint_text first text ++ after_colons texts
 texts_cons true text texts = refl
 texts_cons false text texts = refl
 

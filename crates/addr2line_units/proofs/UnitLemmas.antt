@@ -79,7 +79,7 @@ pub found_covered : (d : Sections) (u : UnitRecord) (probe : ℕ) (range : Optio
 found_covered d u probe None h = cc
 found_covered d u probe (Some r) h = ap (λ b. along d (u ∷ []) probe (in_order ends_sooner (if b then record { unit = 0; range = r } ∷ [] else []))) h ∙ at_unit (unit_lines d u)
   where
-    at_unit : (lines : Result Lines Error) → ((lines >>= λ l. Ok (location_at probe l)) >>= λ place. or_along (Ok None) place) ≡ ((lines >>= λ l. Ok (Some l)) >>= λ l. Ok (option_and_then (λ (x : Lines). location_at probe x) l))
+    at_unit : (lines : Result Lines Error) → ((lines >>= λ l. Ok (location_at probe l)) >>= λ location. or_along (Ok None) location) ≡ ((lines >>= λ l. Ok (Some l)) >>= λ l. Ok (option_and_then (λ (x : Lines). location_at probe x) l))
     at_unit (Err e) = refl
     at_unit (Ok l) = at_place (location_at probe l)
 
@@ -98,5 +98,5 @@ step-unit_index d m more left rest h n k = sym (unit_index-next d m left rest h 
 -- what is found of a unit whose lines are cached by now
 pub found_again : {R : Type 0} (d : Sections) (probe : ℕ) (old new : ResUnit R) (result : Result (Unit {0}) Error) → range_holds probe old.range ≡ true → new.range ≡ old.range → ExactlyUnlessOom (λ _. cached_lines new.lines) result (lines_answer d old.dw_unit) → ExactlyUnlessOom (λ _. cached_location_at probe (Some new)) result (location_along d (unit_index_of (Some old)) probe)
 found_again d probe old new result h same k =
-    let kept : cached_location_at probe (Some new) ≡ option_and_then (λ (l : Lines). location_at probe l) (cached_lines new.lines) = ap (λ b. if b then option_and_then (λ (l : Lines). location_at probe l) (cached_lines new.lines) else None) (ap (range_holds probe) same ∙ h) in
-    rw (kept, found_covered d old.dw_unit probe old.range h) (gives_on (λ _. cached_lines new.lines) (λ l. option_and_then (λ (x : Lines). location_at probe x) l) result _ k)
+    let cached : cached_location_at probe (Some new) ≡ option_and_then (λ (l : Lines). location_at probe l) (cached_lines new.lines) = ap (λ b. if b then option_and_then (λ (l : Lines). location_at probe l) (cached_lines new.lines) else None) (ap (range_holds probe) same ∙ h) in
+    rw (cached, found_covered d old.dw_unit probe old.range h) (gives_on (λ _. cached_lines new.lines) (λ l. option_and_then (λ (x : Lines). location_at probe x) l) result _ k)

@@ -1,5 +1,6 @@
 -- The lines of units as a context caches them, as the private functions see them.
--- Own: lines are read when they are first asked for, and cached then, their fault too. OutOfMemory is never cached.
+-- Own: lines are read when they are first asked for, and cached then, their fault too. OutOfMemory is
+-- never cached.
 use Rattle.std.specs.Prelude.{◌≡◌, ◌≢◌, ℕ, Bool, true, false, ◌&&◌, nat_le, nat_lt, [], ◌∷◌, map, Option, Some, None, option_and_then, Result, Ok, Err, if◌then◌else◌}
 use Rattle.std.specs.Option.{option_to_list}
 use Rattle.gimli_read.specs.declared.range.Range.{Range}
@@ -45,7 +46,8 @@ StaysCached old new = is_uncached old ≡ false → new ≡ old
 -- after an answer the lines are cached, or their fault; after OutOfMemory they are as before
 abbrev pub CachesAnswer : {X : Type 0} → LazyLines → Result X Error → LazyLines → Type 0
 CachesAnswer old (Ok x) new = is_uncached new ≡ false
-CachesAnswer old (Err e) new = (e ≢ OutOfMemory → is_uncached new ≡ false) × (e ≡ OutOfMemory → new ≡ old)
+CachesAnswer old (Err e) new =
+    (e ≢ OutOfMemory → is_uncached new ≡ false) × (e ≡ OutOfMemory → new ≡ old)
 
 -- what the lines of a unit are once they are cached
 abbrev pub lines_answer : Sections → UnitRecord → Result (Option Lines) Error
@@ -54,7 +56,10 @@ lines_answer d u = unit_lines d u >>= λ lines. Ok (Some lines)
 -- the index of the unit that a context has, with the range that leads to it
 abbrev pub unit_index_of : {R : Type 0} → Option (ResUnit R) → UnitIndex
 unit_index_of None = record { units = []; ranges = [] }
-unit_index_of (Some k) = record { units = k.dw_unit ∷ []; ranges = map (λ (r : Range). record { unit = 0; range = r }) (option_to_list k.range) }
+unit_index_of (Some k) = record {
+      units = k.dw_unit ∷ [];
+      ranges = map (λ (r : Range). record { unit = 0; range = r }) (option_to_list k.range);
+    }
 
 -- its cached lines
 abbrev pub HasLinesOf : {R : Type 0} → Sections → Option (ResUnit R) → Type 0
@@ -79,4 +84,6 @@ unit_holds probe (Some k) = range_holds probe k.range
 -- the location of the probe in the cached lines
 abbrev pub cached_location_at : {R : Type 0} → ℕ → Option (ResUnit R) → Option Location
 cached_location_at probe None = None
-cached_location_at probe (Some k) = if range_holds probe k.range then option_and_then (λ lines. location_at probe lines) (cached_lines k.lines) else None
+cached_location_at probe (Some k) =
+    if range_holds probe k.range
+    then option_and_then (λ lines. location_at probe lines) (cached_lines k.lines) else None

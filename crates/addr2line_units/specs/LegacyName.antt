@@ -1,7 +1,8 @@
 -- Legacy names of Rust: which texts are such names, and the text that a name stands for.
--- Source: the mangling that rustc calls legacy: a prefix, elements after their decimal lengths, `E`, a suffix.
--- Own: one element at least; a suffix is empty, or begins with a dot and has only ASCII letters, digits and
--- punctuation.
+-- Source: the mangling that rustc calls legacy: a prefix, elements after their decimal lengths, `E`,
+-- a suffix.
+-- Own: one element at least; a suffix is empty, or begins with a dot and has only ASCII letters,
+-- digits and punctuation.
 use Rattle.std.specs.Prelude.{◌≡◌, ◌≢◌, ◌<◌, ◌≤◌, ◌==◌, ◌||◌, ◌&&◌, ◌⊎◌, ℕ, Bool, true, false, List, [], ◌∷◌, ◌++◌, length, codes, encode_utf8}
 use Rattle.std.specs.Int.{is_in_range}
 use Rattle.std.specs.Char.{IsScalar, is_control, is_ascii, is_ascii_digit, is_ascii_hexdigit, is_ascii_alphanumeric, is_ascii_punctuation}
@@ -32,12 +33,15 @@ is_hash (b ∷ bs) = b == 104 && list_all is_ascii_hexdigit bs
 -- the front of the name up to its first mark, and the rest after it
 pub record IsFirstMark (name front rest : List ℕ) : Type 0 where
   pub whole : name ≡ front ++ (llvm_mark ++ rest)
-  pub first : (earlier later : List ℕ) → name ≡ earlier ++ (llvm_mark ++ later) → length front ≤ length earlier
+  pub first : (earlier later : List ℕ) → name ≡ earlier ++ (llvm_mark ++ later)
+      → length front ≤ length earlier
 
 -- what is left of the name: all before the first mark, if only such bytes follow it, and else all
 pub data IsKept (name kept : List ℕ) : Type 0 where
-  cut : (rest : List ℕ) → IsFirstMark name kept rest → list_all is_llvm_byte rest ≡ true → IsKept name kept
-  whole : name ≡ kept → ((front rest : List ℕ) → IsFirstMark name front rest → list_all is_llvm_byte rest ≡ false)
+  cut : (rest : List ℕ) → IsFirstMark name kept rest → list_all is_llvm_byte rest ≡ true
+      → IsKept name kept
+  whole : name ≡ kept
+      → ((front rest : List ℕ) → IsFirstMark name front rest → list_all is_llvm_byte rest ≡ false)
       → IsKept name kept
 
 -- what a name begins with
@@ -49,7 +53,8 @@ abbrev pub NoDigitFirst : List ℕ → Type 0
 NoDigitFirst [] = Unit {0}
 NoDigitFirst (b ∷ bs) = is_ascii_digit b ≡ false
 
--- a decimal length, which takes all digits that stand there, then that many ASCII bytes, the element
+-- a decimal length, which takes all digits that stand there, then that many ASCII bytes, the
+-- element
 pub record IsElement (digits element rest : List ℕ) : Type 0 where
   pub some : 0 < length digits
   pub only_digits : list_all is_ascii_digit digits ≡ true
@@ -61,12 +66,15 @@ pub record IsElement (digits element rest : List ℕ) : Type 0 where
 abbrev pub AreElements : List (List ℕ) → List ℕ → List ℕ → Type 0
 AreElements [] text rest = text ≡ rest
 AreElements (element ∷ elements) text rest =
-    (digits after : List ℕ) × IsElement digits element after × (text ≡ digits ++ (element ++ after)) × AreElements elements after rest
+    (digits after : List ℕ) × IsElement digits element after
+    × (text ≡ digits ++ (element ++ after)) × AreElements elements after rest
 
 -- the elements that are shown: all but a last one that is a hash
 pub data AreShown (elements shown : List (List ℕ)) : Type 0 where
-  hashed : (hash : List ℕ) → elements ≡ shown ++ (hash ∷ []) → is_hash hash ≡ true → AreShown elements shown
-  all : elements ≡ shown → ((front : List (List ℕ)) (last : List ℕ) → elements ≡ front ++ (last ∷ []) → is_hash last ≡ false)
+  hashed : (hash : List ℕ) → elements ≡ shown ++ (hash ∷ []) → is_hash hash ≡ true
+      → AreShown elements shown
+  all : elements ≡ shown
+      → ((front : List (List ℕ)) (last : List ℕ) → elements ≡ front ++ (last ∷ []) → is_hash last ≡ false)
       → AreShown elements shown
 
 -- what stands between two dollars, and the character that it means
@@ -92,7 +100,7 @@ abbrev pub NoDotFirst : List ℕ → Type 0
 NoDotFirst [] = Unit {0}
 NoDotFirst (b ∷ bs) = b ≢ 46
 
--- the bytes of an element from one place on, read from the left, and their text
+-- bytes of an element, read from the left up to its end, and their text
 pub data IsPlain : List ℕ → List ℕ → Type 0 where
   nothing : IsPlain [] []
   dots : (rest text : List ℕ) → IsPlain rest text → IsPlain (46 ∷ 46 ∷ rest) (58 ∷ 58 ∷ text)
@@ -104,8 +112,10 @@ pub data IsPlain : List ℕ → List ℕ → Type 0 where
 
 -- an element and its text: a leading `_$` loses the underscore
 pub data IsElementText (element text : List ℕ) : Type 0 where
-  bare : (rest : List ℕ) → element ≡ 95 ∷ 36 ∷ rest → IsPlain (36 ∷ rest) text → IsElementText element text
-  other : ((rest : List ℕ) → element ≢ 95 ∷ 36 ∷ rest) → IsPlain element text → IsElementText element text
+  bare : (rest : List ℕ) → element ≡ 95 ∷ 36 ∷ rest → IsPlain (36 ∷ rest) text
+      → IsElementText element text
+  other : ((rest : List ℕ) → element ≢ 95 ∷ 36 ∷ rest) → IsPlain element text
+      → IsElementText element text
 
 -- a text for each element, in order
 abbrev pub AreTexts : List (List ℕ) → List (List ℕ) → Type 0
@@ -115,14 +125,14 @@ AreTexts (element ∷ elements) [] = ⊥
 AreTexts (element ∷ elements) (text ∷ texts) = IsElementText element text × AreTexts elements texts
 
 -- two colons before each of the texts
-abbrev pub behind_colons : List (List ℕ) → List ℕ
-behind_colons [] = []
-behind_colons (text ∷ texts) = 58 ∷ 58 ∷ (text ++ behind_colons texts)
+abbrev pub after_colons : List (List ℕ) → List ℕ
+after_colons [] = []
+after_colons (text ∷ texts) = 58 ∷ 58 ∷ (text ++ after_colons texts)
 
 -- the texts, with two colons between them
 abbrev pub joined : List (List ℕ) → List ℕ
 joined [] = []
-joined (text ∷ texts) = text ++ behind_colons texts
+joined (text ∷ texts) = text ++ after_colons texts
 
 -- what may follow the `E`
 abbrev pub IsSuffix : List ℕ → Type 0

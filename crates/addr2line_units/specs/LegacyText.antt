@@ -1,11 +1,12 @@
--- The text of a legacy name of Rust as a function of the name. `LegacyLaws` says that it is what `IsLegacyName`
--- relates the name to, and none where it relates the name to nothing.
+-- The text of a legacy name of Rust as a function of the name. `LegacyLaws` says that it is what
+-- `IsLegacyName` relates the name to, and none where it relates the name to nothing.
 -- Own: a name is demangled only in Rust, and one without a language as one of Rust.
 use Rattle.std.specs.Prelude.{ℕ, zero, suc, ◌+◌, ◌==◌, ◌&&◌, ◌||◌, Bool, true, false, List, [], ◌∷◌, ◌++◌, length, take, drop, map, not, nat_lt, nat_le, nat_eq, if◌then◌else◌, Option, Some, None, option_map, option_and_then, codes, encode_utf8}
 use Rattle.std.specs.Char.{is_ascii, is_ascii_digit, is_control}
 use Rattle.std.specs.List.{list_all, prefix_len, position, starts_with}
 use Rattle.std.specs.Str.{bytes_eq}
 use Rattle.std.specs.Str.Parse.{digits_value}
+use Rattle.gimli_read.specs.declared.constants.TheConstants.DwLang.{DW_LANG_Rust}
 use Rattle.addr2line_units.specs.LegacyName.{llvm_mark, is_llvm_byte, is_suffix_byte, is_lower_hex, is_hash, joined}
 
 -- the name up to the first mark of LLVM, where only such bytes follow it
@@ -25,7 +26,8 @@ without_prefix name = if starts_with nat_eq name (codes "_ZN") then Some (drop 3
 -- the first bytes, if they are ASCII and there are so many, and those after them
 abbrev pub ascii_front : ℕ → List ℕ → Option (List ℕ × List ℕ)
 ascii_front n bytes =
-    if nat_le n (length bytes) && list_all is_ascii (take n bytes) then Some (take n bytes, drop n bytes) else None
+    if nat_le n (length bytes) && list_all is_ascii (take n bytes)
+    then Some (take n bytes, drop n bytes) else None
 
 -- the element after its decimal length, and what follows it
 unfoldable pub element_at : List ℕ → Option (List ℕ × List ℕ)
@@ -34,7 +36,8 @@ element_at text =
     if nat_lt 0 n then ascii_front (digits_value 10 (take n text)) (drop n text) else None
 
 -- an element before those that stand after it, or none
-abbrev pub elements_by : Option (List ℕ × List ℕ) → List ℕ → (List ℕ → List (List ℕ) × List ℕ) → List (List ℕ) × List ℕ
+abbrev pub elements_by : Option (List ℕ × List ℕ) → List ℕ
+    → (List ℕ → List (List ℕ) × List ℕ) → List (List ℕ) × List ℕ
 elements_by None text next = ([], text)
 elements_by (Some e) text next = (e.0 ∷ (next e.1).0, (next e.1).1)
 
@@ -55,13 +58,16 @@ without_hash (e ∷ f ∷ es) = e ∷ without_hash (f ∷ es)
 
 -- the character of that number, if it is one and no control
 abbrev pub shown_char : ℕ → Option ℕ
-shown_char n = if (nat_lt n 0xD800 || (nat_le 0xE000 n && nat_lt n 0x11_0000)) && not (is_control n) then Some n else None
+shown_char n =
+    if (nat_lt n 0xD800 || (nat_le 0xE000 n && nat_lt n 0x11_0000)) && not (is_control n)
+    then Some n else None
 
 -- the character that the digits after `u` name
 abbrev pub numbered_char : List ℕ → Option ℕ
 numbered_char [] = None
 numbered_char (b ∷ digits) =
-    if b == 117 && (nat_lt 0 (length digits) && list_all is_lower_hex digits) then shown_char (digits_value 16 digits) else None
+    if b == 117 && (nat_lt 0 (length digits) && list_all is_lower_hex digits)
+    then shown_char (digits_value 16 digits) else None
 
 -- the character that stands between two dollars
 unfoldable pub escape_char : List ℕ → Option ℕ
@@ -78,7 +84,8 @@ escape_char body = if bytes_eq body (codes "SP") then Some 64
 -- the escape after a dollar: its character, and how many bytes it takes
 unfoldable pub escape_in : List ℕ → Option (ℕ × ℕ)
 escape_in rest =
-    option_and_then (λ k. option_map (λ c. (c, k + 1)) (escape_char (take k rest))) (position (λ b. b == 36) rest)
+    option_and_then (λ k. option_map (λ c. (c, k + 1)) (escape_char (take k rest)))
+        (position (λ b. b == 36) rest)
 
 -- whether a dot stands first
 abbrev pub is_dot_first : List ℕ → Bool
@@ -128,17 +135,20 @@ suffix_at (b ∷ bs) = if b == 69 && is_suffix bs then Some bs else None
 -- the text of what follows the prefix
 unfoldable pub spelled_text : List ℕ → Option (List ℕ)
 spelled_text text =
-    option_and_then (λ _. option_map (λ suffix. elements_text text ++ suffix) (suffix_at (elements_at text).1)) (element_at text)
+    option_and_then (λ _.
+        option_map (λ suffix. elements_text text ++ suffix) (suffix_at (elements_at text).1))
+        (element_at text)
 
 -- the text of a legacy name
 unfoldable pub legacy_text : List ℕ → Option (List ℕ)
 legacy_text name = option_and_then spelled_text (without_prefix (without_llvm name))
 
--- the text of a name in the language of that number: that of a legacy name where it is Rust (0x1c), else none
+-- the text of a name in the language of that number: that of a legacy name where it is Rust, else
+-- none
 unfoldable pub demangled : ℕ → List ℕ → Option (List ℕ)
-demangled language name = if language == 0x1c then legacy_text name else None
+demangled language name = if language == DW_LANG_Rust.0 then legacy_text name else None
 
 -- the text of a name whose language may be unknown: then it is tried as one of Rust
 abbrev pub demangled_auto : Option ℕ → List ℕ → Option (List ℕ)
-demangled_auto None name = demangled 0x1c name
+demangled_auto None name = demangled DW_LANG_Rust.0 name
 demangled_auto (Some language) name = demangled language name

@@ -1,6 +1,7 @@
--- The location of an address (DWARF 5, section 6.2): that of the first unit among those that cover it which has one.
--- Own: the first unit whose lines have a fault gives that fault, and the first that has a location gives it,
--- whichever comes first.
+-- The location of an address (DWARF 5, section 6.2): that of the first unit among those that cover
+-- it which has one.
+-- Own: the first unit whose lines have a fault gives that fault, and the first that has a location
+-- gives it, whichever comes first.
 use Rattle.std.specs.Prelude.{ℕ, List, [], ◌∷◌, slice_get, Option, Some, None, Result, Ok}
 use Rattle.gimli_read.specs.declared.error.Error.{Error}
 use Rattle.gimli_read.specs.Reading.{◌>>=◌}
@@ -16,14 +17,17 @@ location_in d probe None = Ok None
 location_in d probe (Some u) = unit_lines d u >>= λ lines. Ok (location_at probe lines)
 
 -- the location that was found, else the one that is found further on
-abbrev pub or_along : Result (Option Location) Error → Option Location → Result (Option Location) Error
+abbrev pub or_along
+    : Result (Option Location) Error → Option Location → Result (Option Location) Error
 or_along rest None = rest
-or_along rest (Some place) = Ok (Some place)
+or_along rest (Some location) = Ok (Some location)
 
 -- the location of the probe along ranges
 abbrev pub along : Sections → List UnitRecord → ℕ → List UnitRange → Result (Option Location) Error
 along d units probe [] = Ok None
-along d units probe (r ∷ ranges) = location_in d probe (slice_get units r.unit) >>= λ place. or_along (along d units probe ranges) place
+along d units probe (r ∷ ranges) =
+    location_in d probe (slice_get units r.unit)
+    >>= λ location. or_along (along d units probe ranges) location
 
 -- the location of the probe in the index
 abbrev pub location_along : Sections → UnitIndex → ℕ → Result (Option Location) Error

@@ -1,7 +1,7 @@
 -- The index of a context: its units, and the ranges of addresses that lead to them
 -- (DWARF 5, sections 2.17, 3.1 and 6.1.2).
--- Own: a type unit is passed over, and so is a unit whose record is faulty; a partial unit of version 5 has
--- no range. The first fault of a header, or of a unit's range attributes, refuses the context.
+-- Own: a type unit is passed over, and so is a unit whose record is faulty; a partial unit of version
+-- 5 has no range. The first fault of a header, or of a unit's range attributes, refuses the context.
 -- limit: no range list, no .debug_aranges and no line sequences are read for ranges yet
 use Rattle.std.specs.Prelude.{ℕ, nat_lt, nat_le, Bool, true, false, ◌&&◌, List, [], ◌∷◌, ◌++◌, length, map, filter, Result, Ok, Err, if◌then◌else◌}
 use Rattle.std.specs.Ordering.{is_lt, nat_cmp, ordering_then}
@@ -18,7 +18,7 @@ use Rattle.gimli.specs.UnitsLeft.{all_headers}
 use Rattle.addr2line_lines.specs.InOrder.{in_order}
 use Rattle.addr2line_lines.specs.RangeAttributes.{root_range_attributes, ranges_of}
 
--- a range that leads to a unit, by its place in the index
+-- a range that leads to a unit, by its index in the list of units
 pub record UnitRange : Type 0 where
   pub unit : ℕ
   pub range : Range
@@ -45,7 +45,9 @@ is_partial _ = false
 
 -- the ranges of a unit
 abbrev pub unit_ranges : Sections → UnitRecord → Result (List Range) Error
-unit_ranges d u = if is_partial u.header.unit_type then Ok [] else (root_range_attributes d u >>= λ r. Ok (ranges_of r))
+unit_ranges d u =
+    if is_partial u.header.unit_type then Ok []
+    else (root_range_attributes d u >>= λ r. Ok (ranges_of r))
 
 -- whether there is a unit already
 abbrev pub has_unit : UnitIndex → Bool
@@ -56,7 +58,10 @@ has_unit m = nat_lt 0 (length m.units)
 abbrev pub with_indexed : UnitIndex → UnitRecord → List Range → UnitIndex
 with_indexed m u ranges =
     if has_unit m then m
-    else record { units = m.units ++ u ∷ []; ranges = m.ranges ++ map (λ r. record { unit = length m.units; range = r }) ranges }
+    else record {
+      units = m.units ++ u ∷ [];
+      ranges = m.ranges ++ map (λ r. record { unit = length m.units; range = r }) ranges;
+    }
 
 -- a unit that was read, or that is passed over
 abbrev pub with_record : Sections → UnitIndex → Result UnitRecord Error → Result UnitIndex Error
@@ -68,7 +73,8 @@ unfoldable pub with_unit : Sections → UnitIndex → UnitHeaderFields → Resul
 with_unit d m h = if is_type_unit h.unit_type then Ok m else with_record d m (unit_record_of d h)
 
 -- the units of headers, each whole before the next header, up to the first fault
-unfoldable pub index_units : Sections → UnitIndex → List (Result (UnitHeaderFields) Error) → Result UnitIndex Error
+unfoldable pub index_units
+    : Sections → UnitIndex → List (Result UnitHeaderFields Error) → Result UnitIndex Error
 index_units d m [] = Ok m
 index_units d m (Ok h ∷ rest) = with_unit d m h >>= λ more. index_units d more rest
 index_units d m (Err e ∷ rest) = Err e
@@ -79,7 +85,8 @@ unit_index d = index_units d no_units (all_headers d.debug_info)
 
 -- by end, then by unit, then by begin
 abbrev pub ends_sooner : UnitRange → UnitRange → Bool
-ends_sooner a b = is_lt (ordering_then (nat_cmp a.range.end b.range.end) (ordering_then (nat_cmp a.unit b.unit) (nat_cmp a.range.begin b.range.begin)))
+ends_sooner a b = is_lt (ordering_then (nat_cmp a.range.end b.range.end)
+    (ordering_then (nat_cmp a.unit b.unit) (nat_cmp a.range.begin b.range.begin)))
 
 -- the range holds the probe
 abbrev pub covers : ℕ → UnitRange → Bool

@@ -2,8 +2,8 @@
 
 ghost use Rattle.std.specs.Prelude.{◌≡◌, ◌≢◌, IfOk, IfSome, IsOkUnless, option_map, unwrap_or, string_bytes};
 ghost use Rattle.std.specs.Cow.{cow_str_bytes};
+ghost use Rattle.gimli_read.specs.declared.constants.TheConstants.DwLang.{DW_LANG_Rust};
 ghost use Rattle.gimli_read.specs.declared.error.Error.TheVariants.{OutOfMemory};
-ghost use Rattle.addr2line_units.specs.LegacyLaws.{FindsLegacyNames, FindsOnlyLegacyNames, HasOneText};
 ghost use Rattle.addr2line_units.specs.LegacyText.{demangled, demangled_auto};
 
 use crate::legacy::LegacyName;
@@ -25,7 +25,7 @@ pub fn demangle(alloc: Global, name: &str, language: DwLang) -> Result<Option<St
         ≡ demangled language.0 name.now) }
     ensures refused { IsOkUnless result OutOfMemory }
     ensures none { demangled language.0 name.now ≡ None → result ≡ Ok None }
-    ensures memory { language.0 ≢ 0x1c → result ≡ Ok None }
+    ensures memory { language.0 ≢ DW_LANG_Rust.0 → result ≡ Ok None }
 {
     if language != DwLang::DW_LANG_Rust {
         return Ok(None);
@@ -55,7 +55,7 @@ pub fn demangle_auto<'a>(
     ensures refused { IsOkUnless result OutOfMemory }
     ensures none { demangled_auto (option_map (λ l. l.0) language) (cow_str_bytes name.entry) ≡ None
         → result ≡ Ok name.entry }
-    ensures memory { IfSome language (λ l. l.0 ≢ 0x1c → result ≡ Ok name.entry) }
+    ensures memory { IfSome language (λ l. l.0 ≢ DW_LANG_Rust.0 → result ≡ Ok name.entry) }
 {
     match demangle(
         alloc,
@@ -66,12 +66,3 @@ pub fn demangle_auto<'a>(
         None => Ok(name),
     }
 }
-
-/// The names that `demangle` takes are the legacy names and no others, and each has one text.
-///
-/// It does nothing: its clauses are the laws. Takes no memory.
-pub fn legacy_name_laws()
-    ensures found { FindsLegacyNames }
-    ensures only { FindsOnlyLegacyNames }
-    ensures one { HasOneText }
-{}

@@ -2,5 +2,8 @@
 #![tactic(auto)]
 
 pub mod frame;
+mod laws;
 mod legacy;
 pub mod unit;
+
+pub use crate::laws::legacy_name_laws;

@@ -75,23 +75,23 @@ fn take_unit<R: Reader>(
     alloc: Global,
     dwarf: &Dwarf<R>,
     header: UnitHeader<R>,
-    kept: Option<ResUnit<R>>,
+    first: Option<ResUnit<R>>,
 ) -> Result<Option<ResUnit<R>>, Error>
-    requires read { HasLinesOf dwarf.now kept }
+    requires read { HasLinesOf dwarf.now first }
     ensures gives { ExactlyUnlessOom (unit_index_of) result (with_unit dwarf.now
-        (unit_index_of kept) header) }
+        (unit_index_of first) header) }
     ensures read { IfOk result (HasLinesOf dwarf.now) }
 {
     if is_type_unit(header.type_()) {
-        return Ok(kept);
+        return Ok(first);
     }
     let dw_unit = match dwarf.unit(alloc, header) {
         Ok(unit) => unit,
         Err(Error::OutOfMemory) => return Err(Error::OutOfMemory),
-        Err(_) => return Ok(kept),
+        Err(_) => return Ok(first),
     };
     let range = read_unit_range(dwarf, &dw_unit)?;
-    match kept {
+    match first {
         Some(unit) => Ok(Some(unit)),
         None => Ok(Some(ResUnit {
             dw_unit,
@@ -104,9 +104,9 @@ fn take_unit<R: Reader>(
 impl<R: Reader> ResUnits<R> {
     /// The units of `.debug_info` that a context has.
     ///
-    /// Refused by the first fault of a header or of a unit's range attributes, each unit whole before
-    /// the next header, and `OutOfMemory`. A type unit and a unit whose record is faulty are passed
-    /// over.
+    /// Refused by the first fault of a header or of a unit's range attributes, each unit whole
+    /// before the next header; may fail with `OutOfMemory` instead. A type unit and a unit whose
+    /// record is faulty are passed over.
     pub fn parse(alloc: Global, dwarf: &Dwarf<R>) -> Result<ResUnits<R>, Error>
         ensures gives { ExactlyUnlessOom (λ u. unit_index_of u.unit) result
             (unit_index dwarf.now) }
@@ -162,6 +162,7 @@ fn lines_of(lines: &LazyLines) -> Option<&Lines>
     }
 }
 
+// Whether nothing is cached yet.
 fn is_uncached(lines: &LazyLines) -> bool
     ensures gives { result ≡ is_uncached lines.now }
 {
@@ -210,8 +211,8 @@ impl<R: Reader> ResUnit<R> {
             self.old.lines }
         ensures gives { ExactlyUnlessOom (λ _. cached_lines self.new.lines) result
             (lines_answer dwarf.now self.old.dw_unit) }
-        ensures exact { is_uncached self.old.lines ≡ false → Exactly (λ _. cached_lines self.new.lines) result
-            (lines_answer dwarf.now self.old.dw_unit) }
+        ensures exact { is_uncached self.old.lines ≡ false →
+            Exactly (λ _. cached_lines self.new.lines) result (lines_answer dwarf.now self.old.dw_unit) }
         ensures stays { StaysCached self.old.lines self.new.lines }
         ensures caches { CachesAnswer self.old.lines result self.new.lines }
         ensures unit { self.new.dw_unit ≡ self.old.dw_unit }
@@ -225,8 +226,8 @@ impl<R: Reader> ResUnit<R> {
 }
 
 impl<R: Reader> ResUnits<R> {
-    /// Reads the lines of the unit that covers an address, unless they are cached, and caches them, or
-    /// their fault. Takes no memory where they are cached, nor where no unit covers the address.
+    /// Reads the lines of the unit that covers an address, unless they are cached, and caches them,
+    /// or their fault. Takes no memory where they are cached, nor where no unit covers the address.
     ///
     /// Refused by that fault; may fail with `OutOfMemory` instead, which is never cached.
     pub fn read_lines(&mut self, alloc: Global, dwarf: &Dwarf<R>, probe: u64) -> Result<(), Error>
@@ -239,7 +240,8 @@ impl<R: Reader> ResUnits<R> {
         ensures stays { StaysCached (lines_in_cache self.old.unit) (lines_in_cache self.new.unit) }
         ensures caches { unit_holds probe self.old.unit ≡ true → CachesAnswer
             (lines_in_cache self.old.unit) result (lines_in_cache self.new.unit) }
-        ensures uncovered { unit_holds probe self.old.unit ≡ false → (result ≡ Ok tt) × (self.new ≡ self.old) }
+        ensures uncovered { unit_holds probe self.old.unit ≡ false →
+            (result ≡ Ok tt) × (self.new ≡ self.old) }
         ensures units { unit_index_of self.new.unit ≡ unit_index_of self.old.unit }
         ensures read { HasLinesOf dwarf.now self.new.unit }
     {

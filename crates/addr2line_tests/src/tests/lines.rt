@@ -135,8 +135,16 @@ const LINE_200: u32 = 1_200_000;
 #[test]
 fn each_address_has_the_line_of_its_span(rt: HostRuntime) -> Result<(), Fail> {
     let cases: [(&[u8], [u64; 4], [u32; 4]); 10] = [
-        (&SAME_ADDRESS, [0xf, 0x10, 0x2f, 0x30], [0, LINE_2, LINE_3, 0]),
-        (&THREE_SEQUENCES, [2, 5, 0x18, 8], [LINE_1, LINE_1, LINE_3, 0]),
+        (
+            &SAME_ADDRESS,
+            [0xf, 0x10, 0x2f, 0x30],
+            [0, LINE_2, LINE_3, 0],
+        ),
+        (
+            &THREE_SEQUENCES,
+            [2, 5, 0x18, 8],
+            [LINE_1, LINE_1, LINE_3, 0],
+        ),
         (&FOUR_SEQUENCES, [2, 5, 0x18, 8], [LINE_4, 0, LINE_3, 0]),
         // No file has the index; the line and the column are as before.
         (

@@ -12,7 +12,7 @@ use Rattle.addr2line_lines.specs.InOrder.{in_order}
 use Rattle.addr2line_lines.specs.Location.{Location}
 use Rattle.addr2line_units.specs.declared.unit.LazyLines.{LazyLines}
 use Rattle.addr2line_units.specs.declared.unit.ResUnit.{ResUnit}
-use Rattle.addr2line_units.specs.UnitIndex.{UnitIndex, UnitRange, unit_index, ends_sooner, covers, cover}
+use Rattle.addr2line_units.specs.UnitIndex.{UnitIndex, UnitRange, unit_index, ends_sooner, range_covers, cover}
 use Rattle.addr2line_units.specs.Located.{location_in, location_along, location_of}
 use Rattle.addr2line_units.specs.CachedLines.{unit_index_of, StaysCached, CachesAnswer, lines_in_cache, is_uncached, range_holds, unit_holds}
 use Rattle.addr2line.specs.Context.{ContextState, has_parsed, decides, ready_along, IsReady, IsAnswer, AfterLookup, parsed_in}
@@ -40,7 +40,7 @@ module _ (c : ContextState) (units : List UnitRecord) (probe : ℕ) where
 
   ready_parsed : (range : Option Range) → has_parsed c 0 ≡ true → ready_along c units probe (cover probe (ranges_of range)) ≡ true
   ready_parsed None h = refl
-  ready_parsed (Some r) h = by_cases (covers probe (record { unit = 0; range = r }))
+  ready_parsed (Some r) h = by_cases (range_covers probe (record { unit = 0; range = r }))
     where
       by_cases : (b : Bool) → along b r ≡ true
       by_cases true = ap (λ x. x && (decides (location_in c.sections probe (slice_get units 0)) || true)) h ∙ or_true (decides (location_in c.sections probe (slice_get units 0)))
@@ -101,10 +101,10 @@ module _ {R : Type 0} (d : Sections) (probe : ℕ) where
       sections = refl;
       stays = λ n h. stays_by (is_uncached (lines_in_cache old)) (lines_in_cache old) (lines_in_cache new) n refl stays h;
       ready = λ a m e. (
-        let P : UnitIndex → Type 0 = λ x. ready_along (state new) x.units probe (cover probe x.ranges) ≡ true in
-        let cached : unit_holds probe old ≡ true → has_parsed (state new) 0 ≡ true = λ h. ap (λ b. list_any (λ m. m == 0) (parsed_by b)) (cached_after (lines_in_cache old) (lines_in_cache new) r (answer a) (caches h)) in
-        subst P (same_index d (unit_index_of old) m index e) (ready_unit (state new) old cached)
-      );
+          let P : UnitIndex → Type 0 = λ x. ready_along (state new) x.units probe (cover probe x.ranges) ≡ true in
+          let cached : unit_holds probe old ≡ true → has_parsed (state new) 0 ≡ true = λ h. ap (λ b. list_any (λ m. m == 0) (parsed_by b)) (cached_after (lines_in_cache old) (lines_in_cache new) r (answer a) (caches h)) in
+          subst P (same_index d (unit_index_of old) m index e) (ready_unit (state new) old cached)
+          );
     }
 
     pub location_is : location_of d probe ≡ location_along d (unit_index_of old) probe

@@ -1,6 +1,7 @@
--- A context as callers see it: the sections that it was made from (DWARF 5, section 7.5), and of which units it has
--- parsed the lines.
--- Own: the lines of a unit, or their fault, are parsed when a lookup first asks for them, and stay parsed.
+-- A context as callers see it: the sections that it was made from (DWARF 5, section 7.5), and of
+-- which units it has parsed the lines.
+-- Own: the lines of a unit, or their fault, are parsed when a lookup first asks for them, and stay
+-- parsed.
 use Rattle.std.specs.Prelude.{◌≡◌, ◌≢◌, ℕ, ◌==◌, ◌&&◌, ◌||◌, Bool, true, false, List, [], ◌∷◌, slice_get, Option, Some, None, Result, Ok, Err, if◌then◌else◌}
 use Rattle.std.specs.List.{list_any}
 use Rattle.gimli_read.specs.declared.error.Error.{Error}
@@ -15,7 +16,7 @@ use Rattle.addr2line_units.specs.UnitIndex.{UnitIndex, UnitRange, unit_index, co
 use Rattle.addr2line_units.specs.Located.{location_in}
 use Rattle.addr2line_units.specs.CachedLines.{unit_index_of, HasLinesOf, lines_in_cache, is_uncached}
 
--- the sections, and the units, by their places in the index, whose lines are parsed
+-- the sections, and the units whose lines are parsed, by their index in the list of units
 pub record ContextState : Type 0 where
   pub sections : Sections
   pub parsed : List ℕ
@@ -37,19 +38,25 @@ decides (Err e) = true
 -- whether along these ranges the lines of each unit are parsed, up to the one that decides
 abbrev pub ready_along : ContextState → List UnitRecord → ℕ → List UnitRange → Bool
 ready_along c units probe [] = true
-ready_along c units probe (r ∷ ranges) = has_parsed c r.unit && (decides (location_in c.sections probe (slice_get units r.unit)) || ready_along c units probe ranges)
+ready_along c units probe (r ∷ ranges) =
+    has_parsed c r.unit
+    && (decides (location_in c.sections probe (slice_get units r.unit))
+    || ready_along c units probe ranges)
 
 -- a lookup of the probe parses nothing: no unit covers it, or the lines that it asks for are parsed
 abbrev pub IsReady : ContextState → ℕ → Type 0
-IsReady c probe = (m : UnitIndex) → unit_index c.sections ≡ Ok m → ready_along c m.units probe (cover probe m.ranges) ≡ true
+IsReady c probe = (m : UnitIndex) → unit_index c.sections ≡ Ok m
+    → ready_along c m.units probe (cover probe m.ranges) ≡ true
 
 -- an answer other than OutOfMemory
 abbrev pub IsAnswer : {X : Type 0} → Result X Error → Type 0
 IsAnswer (Ok x) = Unit {0}
 IsAnswer (Err e) = e ≢ OutOfMemory
 
--- after a lookup the sections are the same, what was parsed stays parsed, and the same lookup parses nothing more
-pub record AfterLookup {X : Type 0} (probe : ℕ) (result : Result X Error) (old new : ContextState) : Type 0 where
+-- after a lookup the sections are the same, what was parsed stays parsed, and the same lookup parses
+-- nothing more
+pub record AfterLookup {X : Type 0} (probe : ℕ) (result : Result X Error)
+    (old new : ContextState) : Type 0 where
   pub sections : new.sections ≡ old.sections
   pub stays : (n : ℕ) → has_parsed old n ≡ true → has_parsed new n ≡ true
   pub ready : IsAnswer result → IsReady new probe

@@ -19,7 +19,8 @@ use std::alloc::Global;
 use std::marker::Model;
 use std::rc::Rc;
 
-/// What addresses are looked up in: the sections of a file, its units, and their lines as far as they are parsed.
+/// What addresses are looked up in: the sections of a file, its units, and their lines as far as
+/// they are parsed.
 #[derive(Drop)]
 pub struct Context<R: Reader> {
     alloc: Global,
@@ -28,7 +29,7 @@ pub struct Context<R: Reader> {
 }
 
 impl<R: Reader> Model for Context<R> {
-        ghost use Rattle.addr2line.specs.Context.{ContextState, IsContext, parsed_in};
+    ghost use Rattle.addr2line.specs.Context.{ContextState, IsContext, parsed_in};
 
     ghost Value = { ContextState };
 
@@ -45,11 +46,12 @@ impl<R: Reader> Context<R> {
 
     /// A context of the sections of a file.
     ///
-    /// The headers, records and range attributes of all units are read; the first unit whose record can
-    /// be read answers lookups.
-    /// Refused by the first fault of a header or of the range attributes of a unit whose record can be
-    /// read, each unit whole before the next header; may fail with `OutOfMemory` instead. A unit whose
-    /// record is faulty is passed over. No line program is run.
+    /// The headers, records and range attributes of all units are read; the first unit whose record
+    /// can be read answers lookups. No line program is run.
+    ///
+    /// Refused by the first fault of a header or of the range attributes of a unit whose record can
+    /// be read, each unit whole before the next header; may fail with `OutOfMemory` instead. A type
+    /// unit and a unit whose record is faulty are passed over.
     pub fn from_dwarf(alloc: Global, dwarf: Dwarf<R>) -> Result<Context<R>, Error>
         ensures gives { ExactlyUnlessOom (λ c. c.sections) result
             (context_of dwarf) }
@@ -115,10 +117,11 @@ impl<R: Reader> Context<R> {
 
     /// The location of an address: its file, line and column, none where no unit covers it.
     ///
-    /// `probe` is an address as the file has it. The lines of the unit that covers it are parsed at the
-    /// first such lookup, and stay parsed, their fault too. Refused by that fault; may fail with
-    /// `OutOfMemory` instead, which is never cached. Takes no memory where the lines that it asks for are
-    /// parsed, nor where no unit covers `probe`.
+    /// `probe` is an address as the file has it. The lines of the unit that covers it are parsed at
+    /// the first such lookup, and stay parsed, their fault too.
+    ///
+    /// Refused by that fault; may fail with `OutOfMemory` instead, which is never cached. Takes no
+    /// memory where the lines that it asks for are parsed, nor where no unit covers `probe`.
     ///
     /// Source: DWARF 5, section 6.2. Own: which of several sequences counts.
     pub fn find_location(&mut self, probe: u64) -> Result<Option<Location<'_>>, Error>
@@ -126,7 +129,8 @@ impl<R: Reader> Context<R> {
             (location_of self.old.sections probe) }
         ensures exact { IsReady self.old probe → Exactly (option_map seen_location) result
             (location_of self.old.sections probe) }
-        ensures* kept { sem 𝓛 (EndsAs R.row R.Reader self.entry (AfterLookup probe result self.old)) }
+        ensures* kept { sem 𝓛 (EndsAs R.row R.Reader self.entry
+            (AfterLookup probe result self.old)) }
     {
         self.units.read_lines(self.alloc, &self.dwarf, probe)?;
         Ok(self.units.find_location(probe))

@@ -25,10 +25,10 @@ if_lined row n = if row.line == 0 then None else Some n
 -- the location that a row gives
 abbrev pub location_of_row : List (List ℕ) → Row → Location
 location_of_row files row = record {
-      file = slice_get files row.file_index;
-      line = if_lined row row.line;
-      column = if_lined row row.column;
-    }
+  file = slice_get files row.file_index;
+  line = if_lined row row.line;
+  column = if_lined row row.column;
+}
 
 -- the location of the probe
 abbrev pub location_at : ℕ → LineTable → Option Location

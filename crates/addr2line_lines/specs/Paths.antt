@@ -45,10 +45,10 @@ abbrev pub lacks : ℕ → List ℕ → Bool
 lacks s path = is_other s (slice_get path (length path - 1))
 
 -- a text below a path
-abbrev pub joined : List ℕ → List ℕ → List ℕ
-joined path text =
+abbrev pub joined_path : List ℕ → List ℕ → List ℕ
+joined_path path text =
     (if lacks (separator path) path then path ++ separator path ∷ [] else path) ++ text
 
 -- a text pushed onto a path
-abbrev pub pushed : List ℕ → List ℕ → List ℕ
-pushed path text = if replaces text then text else joined path text
+abbrev pub pushed_path : List ℕ → List ℕ → List ℕ
+pushed_path path text = if replaces text then text else joined_path path text

@@ -35,12 +35,12 @@ unfoldable pub with_range_attribute
     : Sections → UnitRecord → RangeAttributes → NamedValue → Result RangeAttributes Error
 with_range_attribute d u r a =
     if a.name.0 == DW_AT_low_pc.0 then (attr_address d u a.value >>= λ low.
-        Ok (record r { low_pc = option_or low r.low_pc }))
+    Ok (record r { low_pc = option_or low r.low_pc }))
     else if a.name.0 == DW_AT_high_pc.0 then (attr_address d u a.value >>= λ high.
-        Ok (record r {
-          high_pc = option_or high r.high_pc;
-          size = option_or (constant_of a.value) r.size;
-        }))
+    Ok (record r {
+      high_pc = option_or high r.high_pc;
+      size = option_or (constant_of a.value) r.size;
+    }))
     else Ok r
 
 -- one more attribute, where none before it has a fault

@@ -41,11 +41,11 @@ latest (r ∷ rows) =
 -- a row as it is stored
 abbrev pub stored_row : LineRow → Row
 stored_row r = record {
-      address = r.address;
-      file_index = r.file_index;
-      line = r.line % 2 ^ 32;
-      column = r.column % 2 ^ 32;
-    }
+  address = r.address;
+  file_index = r.file_index;
+  line = r.line % 2 ^ 32;
+  column = r.column % 2 ^ 32;
+}
 
 -- the sequence of rows with an end row, if they are one
 abbrev pub sequence_of : List LineRow → LineRow → Option Sequence

@@ -3,7 +3,7 @@
 ghost use Rattle.std.specs.Prelude.{◌≡◌, IfOk, OnOk};
 ghost use Rattle.std.specs.Option.{option_copied};
 ghost use Rattle.std.specs.String.{string_bytes};
-ghost use Rattle.addr2line_lines.specs.Paths.{replaces, separator, lacks, joined, pushed};
+ghost use Rattle.addr2line_lines.specs.Paths.{replaces, separator, lacks, joined_path, pushed_path};
 ghost use Rattle.addr2line_lines.specs.Files.{file_text, base_text, directory_text, own_text};
 
 use bstr::ByteSlice;
@@ -45,7 +45,8 @@ fn lacks_separator(path: &str, separator: char) -> bool
 
 // Adds a text below a path.
 fn join(path: &mut String, text: &str) -> Result<(), AllocError>
-    ensures gives { OnOk result (string_bytes path.new ≡ joined (string_bytes path.old) text.now) }
+    ensures gives { OnOk result (string_bytes path.new ≡
+        joined_path (string_bytes path.old) text.now) }
 {
     let separator = separator_of(path.as_str());
     if lacks_separator(path.as_str(), separator) {
@@ -58,7 +59,8 @@ fn join(path: &mut String, text: &str) -> Result<(), AllocError>
 ///
 /// Fails only where a growth is refused, and then the path may be any text.
 pub(crate) fn push_path(path: &mut String, text: &str) -> Result<(), AllocError>
-    ensures gives { OnOk result (string_bytes path.new ≡ pushed (string_bytes path.old) text.now) }
+    ensures gives { OnOk result (string_bytes path.new ≡
+        pushed_path (string_bytes path.old) text.now) }
 {
     if is_absolute(text) {
         path.clear();

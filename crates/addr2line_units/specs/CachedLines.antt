@@ -57,9 +57,9 @@ lines_answer d u = unit_lines d u >>= λ lines. Ok (Some lines)
 abbrev pub unit_index_of : {R : Type 0} → Option (ResUnit R) → UnitIndex
 unit_index_of None = record { units = []; ranges = [] }
 unit_index_of (Some k) = record {
-      units = k.dw_unit ∷ [];
-      ranges = map (λ (r : Range). record { unit = 0; range = r }) (option_to_list k.range);
-    }
+  units = k.dw_unit ∷ [];
+  ranges = map (λ (r : Range). record { unit = 0; range = r }) (option_to_list k.range);
+}
 
 -- its cached lines
 abbrev pub HasLinesOf : {R : Type 0} → Sections → Option (ResUnit R) → Type 0

@@ -85,7 +85,7 @@ escape_char body = if bytes_eq body (codes "SP") then Some 64
 unfoldable pub escape_in : List ℕ → Option (ℕ × ℕ)
 escape_in rest =
     option_and_then (λ k. option_map (λ c. (c, k + 1)) (escape_char (take k rest)))
-        (position (λ b. b == 36) rest)
+    (position (λ b. b == 36) rest)
 
 -- whether a dot stands first
 abbrev pub is_dot_first : List ℕ → Bool
@@ -136,8 +136,8 @@ suffix_at (b ∷ bs) = if b == 69 && is_suffix bs then Some bs else None
 unfoldable pub spelled_text : List ℕ → Option (List ℕ)
 spelled_text text =
     option_and_then (λ _.
-        option_map (λ suffix. elements_text text ++ suffix) (suffix_at (elements_at text).1))
-        (element_at text)
+    option_map (λ suffix. elements_text text ++ suffix) (suffix_at (elements_at text).1))
+    (element_at text)
 
 -- the text of a legacy name
 unfoldable pub legacy_text : List ℕ → Option (List ℕ)

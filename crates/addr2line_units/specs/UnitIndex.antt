@@ -89,9 +89,9 @@ ends_sooner a b = is_lt (ordering_then (nat_cmp a.range.end b.range.end)
     (ordering_then (nat_cmp a.unit b.unit) (nat_cmp a.range.begin b.range.begin)))
 
 -- the range holds the probe
-abbrev pub covers : ℕ → UnitRange → Bool
-covers probe r = nat_le r.range.begin probe && nat_lt probe r.range.end
+abbrev pub range_covers : ℕ → UnitRange → Bool
+range_covers probe r = nat_le r.range.begin probe && nat_lt probe r.range.end
 
 -- the ranges that hold the probe, in order
 abbrev pub cover : ℕ → List UnitRange → List UnitRange
-cover probe ranges = in_order ends_sooner (filter (covers probe) ranges)
+cover probe ranges = in_order ends_sooner (filter (range_covers probe) ranges)

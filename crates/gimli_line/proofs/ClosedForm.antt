@@ -11,9 +11,10 @@ use Rattle.gimli_line.specs.declared.opcode.LineInstruction.TheVariants.{Changes
 use Rattle.gimli_line.specs.declared.registers.Registers.{Registers}
 use Rattle.gimli_line.specs.declared.row.LineRow.{LineRow}
 use Rattle.gimli_line.specs.Encoding.{limit}
-use Rattle.gimli_line.specs.Rows.{address_state, address_after, row_after, row_from, past_after, rows_after, is_end, makes_row, ends_search, files_ahead}
+use Rattle.gimli_line.specs.Rows.{address_state, address_after, row_after, row_from, past_after, rows_after, is_end, makes_row}
+use Rattle.gimli_line.specs.Ahead.{ends_search, files_ahead}
 use Rattle.gimli_line.specs.Steps.{start, step, fitting, row, row_of, next, executed}
-use Rattle.gimli_line.specs.Left.{with_row, continued, rows_from, rows_left, files_left, ahead_after, ahead_from, ahead_left}
+use Rattle.gimli_line.specs.Left.{with_row_first, continued_rows, rows_from, rows_left, files_left, ahead_after, ahead_from, ahead_left}
 use Rattle.gimli_line.specs.Header.{File, Header, Program}
 use Rattle.gimli_line.specs.Lines.{Lines, lines_of}
 use Rattle.gimli_line.specs.Opcode.{opcodes_in, instructions_of}
@@ -25,29 +26,29 @@ row_is e r past end s = let a = s.address in let f = s.file in let l = s.line in
 module _ {Z : Type 0} (e : LineEncoding) (past : List Opcode) (op : Opcode) (ops : List Opcode) (end : Result Z Error) where
   -- after an opcode whose address fits
   emits : (r : Registers) → StandsFor e r (op ∷ past) → rows_from e start ops end ≡ rows_after e [] ops end → rows_from e r ops end ≡ rows_after e (op ∷ past) ops end
-      → with_row (row_of op r) (rows_from e (next op r) ops end) ≡ row_from e op (op ∷ past) (rows_after e (past_after op past) ops end)
+      → with_row_first (row_of op r) (rows_from e (next op r) ops end) ≡ row_from e op (op ∷ past) (rows_after e (past_after op past) ops end)
   emits r s anew on = at (is_end op)
     where
-      shown : (m : Bool) → with_row (cond (m && not r.dropping) (Some (row r false)) None) (rows_from e r ops end)
+      shown : (m : Bool) → with_row_first (cond (m && not r.dropping) (Some (row r false)) None) (rows_from e r ops end)
           ≡ cond (m && not (address_state e (op ∷ past)).dropping) (Ok (row_after e (op ∷ past) false) ∷ rows_after e (op ∷ past) ops end) (rows_after e (op ∷ past) ops end)
-      shown m = ap (λ d. with_row (cond (m && not d) (Some (row r false)) None) (rows_from e r ops end)) s.dropping ∙ by_test (m && not (address_state e (op ∷ past)).dropping)
+      shown m = ap (λ d. with_row_first (cond (m && not d) (Some (row r false)) None) (rows_from e r ops end)) s.dropping ∙ by_test (m && not (address_state e (op ∷ past)).dropping)
         where
-          by_test : (b : Bool) → with_row (cond b (Some (row r false)) None) (rows_from e r ops end) ≡ cond b (Ok (row_after e (op ∷ past) false) ∷ rows_after e (op ∷ past) ops end) (rows_after e (op ∷ past) ops end)
+          by_test : (b : Bool) → with_row_first (cond b (Some (row r false)) None) (rows_from e r ops end) ≡ cond b (Ok (row_after e (op ∷ past) false) ∷ rows_after e (op ∷ past) ops end) (rows_after e (op ∷ past) ops end)
           by_test true = let f = row_is e r (op ∷ past) false s in cc
           by_test false = on
 
-      at : (b : Bool) → with_row (cond b (Some (row r true)) (cond (makes_row op && not r.dropping) (Some (row r false)) None)) (rows_from e (cond b start r) ops end)
+      at : (b : Bool) → with_row_first (cond b (Some (row r true)) (cond (makes_row op && not r.dropping) (Some (row r false)) None)) (rows_from e (cond b start r) ops end)
           ≡ (let rest = rows_after e (cond b [] (op ∷ past)) ops end in cond b (Ok (row_after e (op ∷ past) true) ∷ rest) (cond (makes_row op && not (address_state e (op ∷ past)).dropping) (Ok (row_after e (op ∷ past) false) ∷ rest) rest))
       at true = let f = row_is e r (op ∷ past) true s in cc
       at false = shown (makes_row op)
 
   -- and with the test
   executes : (r : Registers) → StandsFor e r (op ∷ past) → rows_from e start ops end ≡ rows_after e [] ops end → rows_from e r ops end ≡ rows_after e (op ∷ past) ops end
-      → continued (λ q. rows_from e q ops end) (fitting e r >>= λ q. Ok (row_of op q, next op q))
+      → continued_rows (λ q. rows_from e q ops end) (fitting e r >>= λ q. Ok (row_of op q, next op q))
       ≡ cond (nat_lt (address_after e (op ∷ past)) (limit e)) (row_from e op (op ∷ past) (rows_after e (past_after op past) ops end)) (Err AddressOverflow ∷ [])
-  executes r s anew on = ap (λ a. continued (λ q. rows_from e q ops end) (cond (nat_lt a (limit e)) (Ok r) (Err AddressOverflow) >>= λ q. Ok (row_of op q, next op q))) s.address ∙ by_test (nat_lt (address_after e (op ∷ past)) (limit e))
+  executes r s anew on = ap (λ a. continued_rows (λ q. rows_from e q ops end) (cond (nat_lt a (limit e)) (Ok r) (Err AddressOverflow) >>= λ q. Ok (row_of op q, next op q))) s.address ∙ by_test (nat_lt (address_after e (op ∷ past)) (limit e))
     where
-      by_test : (b : Bool) → continued (λ q. rows_from e q ops end) (cond b (Ok r) (Err AddressOverflow) >>= λ q. Ok (row_of op q, next op q)) ≡ cond b (row_from e op (op ∷ past) (rows_after e (past_after op past) ops end)) (Err AddressOverflow ∷ [])
+      by_test : (b : Bool) → continued_rows (λ q. rows_from e q ops end) (cond b (Ok r) (Err AddressOverflow) >>= λ q. Ok (row_of op q, next op q)) ≡ cond b (row_from e op (op ∷ past) (rows_after e (past_after op past) ops end)) (Err AddressOverflow ∷ [])
       by_test true = emits r s anew on
       by_test false = refl
 

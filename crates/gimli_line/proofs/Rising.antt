@@ -12,8 +12,8 @@ use Rattle.gimli_line.specs.declared.row.LineRow.{LineRow}
 use Rattle.gimli_line.specs.Encoding.{limit}
 use Rattle.gimli_line.specs.Opcode.{opcodes_in}
 use Rattle.gimli_line.specs.Rows.{line_advance, moved, is_tombstone, is_end, makes_row, ended}
-use Rattle.gimli_line.specs.Steps.{start, advanced, placed, pushed, step, fitting, row, row_of, next, executed}
-use Rattle.gimli_line.specs.Left.{with_row, continued, rows_from}
+use Rattle.gimli_line.specs.Steps.{start, advanced, placed, fixed_advanced, step, fitting, row, row_of, next, executed}
+use Rattle.gimli_line.specs.Left.{with_row_first, continued_rows, rows_from}
 use Rattle.gimli_line.specs.Rises.{rows_before, NeverFalls, RowsRise}
 use Rattle.gimli_line.proofs.ClosedForm.{rows_of-start}
 
@@ -28,8 +28,8 @@ advanced_grows e n r = by_cases r.dropping
     by_cases true = omega arith
     by_cases false = omega arith
 
-pushed_grows : (n : ℕ) (r : Registers) → r.address ≤ (pushed n r).address
-pushed_grows n r = by_cases r.dropping
+fixed_advanced_grows : (n : ℕ) (r : Registers) → r.address ≤ (fixed_advanced n r).address
+fixed_advanced_grows n r = by_cases r.dropping
   where
     by_cases : (b : Bool) → r.address ≤ (cond b r (record r { address = r.address + n; op_index = 0 })).address
     by_cases true = omega arith
@@ -57,7 +57,7 @@ step_grows e r (AdvanceLine z) = omega arith
 step_grows e r (SetFile n) = omega arith
 step_grows e r (SetColumn n) = omega arith
 step_grows e r ConstAddPc = advanced_grows e _ r
-step_grows e r (FixedAdvancePc n) = pushed_grows n r
+step_grows e r (FixedAdvancePc n) = fixed_advanced_grows n r
 step_grows e r EndSequence = omega arith
 step_grows e r (SetAddress a) = placed_grows e a r
 step_grows e r Other = omega arith
@@ -87,19 +87,19 @@ add m n r rows l same h = record { falls = by_list rows h.falls h.next; next = l
 
 module _ {Z : Type 0} (e : LineEncoding) (op : Opcode) (ops : List Opcode) (end : Result Z Error) where
   emits : (m : ℕ) (r : Registers) → m ≤ r.address → Climbs 0 (rows_before (rows_from e start ops end)) → Climbs r.address (rows_before (rows_from e r ops end))
-      → Climbs m (rows_before (with_row (row_of op r) (rows_from e (next op r) ops end)))
+      → Climbs m (rows_before (with_row_first (row_of op r) (rows_from e (next op r) ops end)))
   emits m r l anew on = at (is_end op) (makes_row op && not r.dropping)
     where
-      at : (b d : Bool) → Climbs m (rows_before (with_row (cond b (Some (row r true)) (cond d (Some (row r false)) None)) (rows_from e (cond b start r) ops end)))
+      at : (b d : Bool) → Climbs m (rows_before (with_row_first (cond b (Some (row r true)) (cond d (Some (row r false)) None)) (rows_from e (cond b start r) ops end)))
       at true d = add m 0 (row r true) (rows_before (rows_from e start ops end)) l (λ k. cc) anew
       at false true = add m r.address (row r false) (rows_before (rows_from e r ops end)) l (λ k. refl) on
       at false false = weaker m r.address (rows_before (rows_from e r ops end)) l on
 
   executes : (m : ℕ) (r : Registers) → m ≤ r.address → Climbs 0 (rows_before (rows_from e start ops end)) → Climbs r.address (rows_before (rows_from e r ops end))
-      → Climbs m (rows_before (continued (λ q. rows_from e q ops end) (fitting e r >>= λ q. Ok (row_of op q, next op q))))
+      → Climbs m (rows_before (continued_rows (λ q. rows_from e q ops end) (fitting e r >>= λ q. Ok (row_of op q, next op q))))
   executes m r l anew on = by_test (nat_lt r.address (limit e))
     where
-      by_test : (b : Bool) → Climbs m (rows_before (continued (λ q. rows_from e q ops end) (cond b (Ok r) (Err AddressOverflow) >>= λ q. Ok (row_of op q, next op q))))
+      by_test : (b : Bool) → Climbs m (rows_before (continued_rows (λ q. rows_from e q ops end) (cond b (Ok r) (Err AddressOverflow) >>= λ q. Ok (row_of op q, next op q))))
       by_test true = emits m r l anew on
       by_test false = record { falls = tt; next = tt }
 

@@ -17,7 +17,7 @@ use Rattle.gimli_line.specs.declared.row.LineRow.{LineRow}
 use Rattle.gimli_line.specs.Header.{File, Header}
 use Rattle.gimli_line.specs.Opcode.{instruction_at, coded_instruction_at, extended_at, extended_in, standard_at, instructions_of, opcodes_in, files_in}
 use Rattle.gimli_line.specs.Steps.{executed, taken, step_instruction, step_standard}
-use Rattle.gimli_line.specs.Left.{rows_from, continued, with_row, rows_left, files_left, DefinesOn, Finds}
+use Rattle.gimli_line.specs.Left.{rows_from, continued_rows, with_row_first, rows_left, files_left, DefinesOn, Finds}
 use Rattle.gimli_line.specs.Lines.{YieldsUnlessOom}
 use Rattle.gimli_line.proofs.Shortening.{instruction-takes}
 
@@ -50,7 +50,7 @@ left_end h r s t f = ap (rows_in h r) (run_at h s (Ok (None, t)) f)
 pub files_end : (h : Header) (s t : Section) → instruction_at h s ≡ Ok (None, t) → files_left h s ≡ []
 files_end h s t f = ap (λ (v : Run (LineInstruction File) Section). files_in v.items) (run_at h s (Ok (None, t)) f)
 
-left_changes : (h : Header) (r : Registers) (s t : Section) (op : Opcode) → instruction_at h s ≡ Ok (Some (Changes op), t) → rows_left h r s ≡ continued (λ q. rows_left h q t) (executed h.line_encoding r op)
+left_changes : (h : Header) (r : Registers) (s t : Section) (op : Opcode) → instruction_at h s ≡ Ok (Some (Changes op), t) → rows_left h r s ≡ continued_rows (λ q. rows_left h q t) (executed h.line_encoding r op)
 unfolding rows_in rows_from
 left_changes h r s t op f = ap (rows_in h r) (run_at h s (Ok (Some (Changes op), t)) f)
 
@@ -60,25 +60,25 @@ left_defines h r s t x f = ap (rows_in h r) (run_at h s (Ok (Some (Defines x), t
 
 -- the row of an instruction is the first
 pub left_more : (h : Header) (r : Registers) (s t : Section) (i : LineInstruction File) (row : Option LineRow) (q : Registers) (g : Header) → instruction_at h s ≡ Ok (Some i, t) → taken h r i ≡ Ok (row, q, g)
-    → rows_left h r s ≡ with_row row (rows_left g q t)
+    → rows_left h r s ≡ with_row_first row (rows_left g q t)
 unfolding taken rows_in
 left_more h r s t (Changes op) row q g f k = left_changes h r s t op f ∙ by_cases (executed h.line_encoding r op) k
   where
-    by_cases : (x : Result (Option LineRow × Registers) Error) → (x >>= λ y. done {A = State} (y.0, y.1, h)) ≡ Ok (row, q, g) → continued (λ p. rows_left h p t) x ≡ with_row row (rows_left g q t)
+    by_cases : (x : Result (Option LineRow × Registers) Error) → (x >>= λ y. done {A = State} (y.0, y.1, h)) ≡ Ok (row, q, g) → continued_rows (λ p. rows_left h p t) x ≡ with_row_first row (rows_left g q t)
     by_cases (Ok y) e =
         let same : ◌≡◌ {A = State} (y.0, y.1, h) (row, q, g) = cc in
-        ap (λ (z : State). with_row z.0 (rows_left z.2 z.1 t)) same
+        ap (λ (z : State). with_row_first z.0 (rows_left z.2 z.1 t)) same
     by_cases (Err d) e = cc
 left_more h r s t (Defines x) row q g f k =
     let same : ◌≡◌ {A = State} (None, r, record h { file_names = h.file_names ++ x ∷ [] }) (row, q, g) = cc in
-    left_defines h r s t x f ∙ sym (ap (rows_in h r) (same_run h (h.file_names ++ x ∷ []) t)) ∙ ap (λ (z : State). with_row z.0 (rows_left z.2 z.1 t)) same
+    left_defines h r s t x f ∙ sym (ap (rows_in h r) (same_run h (h.file_names ++ x ∷ []) t)) ∙ ap (λ (z : State). with_row_first z.0 (rows_left z.2 z.1 t)) same
 
 -- and its fault is the last
 pub left_taken_fault : (h : Header) (r : Registers) (s t : Section) (i : LineInstruction File) (e : Error) → instruction_at h s ≡ Ok (Some i, t) → taken h r i ≡ Err e → rows_left h r s ≡ Err e ∷ []
 unfolding taken
 left_taken_fault h r s t (Changes op) e f k = left_changes h r s t op f ∙ by_cases (executed h.line_encoding r op) k
   where
-    by_cases : (x : Result (Option LineRow × Registers) Error) → (x >>= λ y. done {A = State} (y.0, y.1, h)) ≡ Err e → continued (λ p. rows_left h p t) x ≡ Err e ∷ []
+    by_cases : (x : Result (Option LineRow × Registers) Error) → (x >>= λ y. done {A = State} (y.0, y.1, h)) ≡ Err e → continued_rows (λ p. rows_left h p t) x ≡ Err e ∷ []
     by_cases (Ok y) k = cc
     by_cases (Err d) k = cc
 left_taken_fault h r s t (Defines x) e f k = cc

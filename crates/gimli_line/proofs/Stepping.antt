@@ -7,7 +7,7 @@ use Rattle.gimli_line.specs.declared.opcode.Opcode.{Opcode}
 use Rattle.gimli_line.specs.declared.opcode.Opcode.TheVariants.{Special, Copy, AdvancePc, AdvanceLine, SetFile, SetColumn, ConstAddPc, FixedAdvancePc, EndSequence, SetAddress, Other}
 use Rattle.gimli_line.specs.declared.registers.Registers.{Registers}
 use Rattle.gimli_line.specs.Rows.{AddressState, address_state, based, address_of, address_after, advance, line_advance, moved, line_after, file_after, column_after, is_tombstone}
-use Rattle.gimli_line.specs.Steps.{start, advanced, placed, pushed, step}
+use Rattle.gimli_line.specs.Steps.{start, advanced, placed, fixed_advanced, step}
 use Rattle.gimli_line.proofs.Division.{div_sum, mod_sum}
 
 -- the registers hold what the opcodes before make
@@ -155,7 +155,7 @@ module _ (e : LineEncoding) (past : List Opcode) (r : Registers) (s : StandsFor 
           at b same
 
   -- bytes that are passed over
-  pushes : (n : ℕ) → StandsFor e (pushed n r) (FixedAdvancePc n ∷ past)
+  pushes : (n : ℕ) → StandsFor e (fixed_advanced n r) (FixedAdvancePc n ∷ past)
   pushes n = by_cases r.dropping refl
     where
       by_cases : (b : Bool) → r.dropping ≡ b → StandsFor e (cond b r (record r { address = r.address + n; op_index = 0 })) (FixedAdvancePc n ∷ past)

@@ -87,8 +87,8 @@ entry_at e formats s = do
   Ok (file, entry.1)
 
 -- formats, a count, and as many entries
-unfoldable pub table_at : Encoding → Section → Reading (List File)
-table_at e s = do
+unfoldable pub entry_table_at : Encoding → Section → Reading (List File)
+entry_table_at e s = do
   formats ← formats_at s
   count ← uleb128_at formats.1
   sound ← refused_if (not (count.0 == 0) && not (is_sound_format formats.0)) BadLineHeader

@@ -1,5 +1,5 @@
--- What is left of a line program, as the private functions see it: by registers, one opcode at a time. That
--- its rows and files are those of Rows is proved.
+-- What is left of a line program, as the private functions see it: by registers, one opcode at a
+-- time. That its rows and files are those of Rows is proved.
 use Rattle.std.specs.Prelude.{◌≡◌, ◌≢◌, ◌++◌, List, [], ◌∷◌, Option, Some, None, Result, Ok, Err}
 use Rattle.gimli_read.specs.declared.error.Error.{Error}
 use Rattle.gimli_read.specs.declared.error.Error.TheVariants.{OutOfMemory}
@@ -16,21 +16,22 @@ use Rattle.gimli_line.specs.Rows.{ended}
 use Rattle.gimli_line.specs.Steps.{executed}
 
 -- a row, if there is one, before others
-abbrev pub with_row : Option LineRow → List (Result LineRow Error) → List (Result LineRow Error)
-with_row None rest = rest
-with_row (Some x) rest = Ok x ∷ rest
+abbrev pub with_row_first : Option LineRow → List (Result LineRow Error)
+    → List (Result LineRow Error)
+with_row_first None rest = rest
+with_row_first (Some x) rest = Ok x ∷ rest
 
 -- the row of an opcode, and then the others
-abbrev pub continued : (Registers → List (Result LineRow Error))
+abbrev pub continued_rows : (Registers → List (Result LineRow Error))
     → Result (Option LineRow × Registers) Error → List (Result LineRow Error)
-continued others (Ok x) = with_row x.0 (others x.1)
-continued others (Err x) = Err x ∷ []
+continued_rows others (Ok x) = with_row_first x.0 (others x.1)
+continued_rows others (Err x) = Err x ∷ []
 
 -- the rows of opcodes from these registers on
 unfoldable pub rows_from : {Z : Type 0} → LineEncoding → Registers → List Opcode → Result Z Error
     → List (Result LineRow Error)
 rows_from e r [] end = ended end
-rows_from e r (op ∷ ops) end = continued (λ s. rows_from e s ops end) (executed e r op)
+rows_from e r (op ∷ ops) end = continued_rows (λ s. rows_from e s ops end) (executed e r op)
 
 -- the rows that are left, from these registers on
 abbrev pub rows_left : Header → Registers → Section → List (Result LineRow Error)

@@ -5,6 +5,7 @@ pub mod EntryTables
 pub mod Tables
 pub mod Program
 pub mod Rows
+pub mod Ahead
 pub mod Lines
 pub mod Rises
 pub mod Steps

@@ -6,10 +6,11 @@ use Rattle.gimli_read.specs.declared.error.Error.TheVariants.{OutOfMemory}
 use Rattle.gimli_line.specs.declared.row.LineRow.{LineRow}
 use Rattle.gimli_line.specs.Header.{File, Header, Program}
 use Rattle.gimli_line.specs.Opcode.{instructions_of, files_in}
-use Rattle.gimli_line.specs.Rows.{rows_of, files_ahead}
+use Rattle.gimli_line.specs.Rows.{rows_of}
+use Rattle.gimli_line.specs.Ahead.{files_ahead}
 
--- the header with the files that are defined so far, the rows and at most one fault that are left, the files
--- that are defined before the next of them, and all that are still to be defined
+-- the header with the files that are defined so far, the rows and at most one fault that are left,
+-- the files that are defined before the next of them, and all that are still to be defined
 pub record Lines : Type 0 where
   pub header : Header
   pub left : List (Result LineRow Error)
@@ -25,8 +26,8 @@ lines_of p = record {
   to_define = files_in (instructions_of p.header p.program).items;
 }
 
--- what a call gave of the rows that were left, and which are left: after a refusal none. OutOfMemory may be
--- its answer instead
+-- what a call gave of the rows that were left, and which are left: after a refusal none.
+-- OutOfMemory may be its answer instead
 abbrev pub YieldsUnlessOom : {X : Type 0} → List (Result X Error) → Result (Option X) Error
     → List (Result X Error) → Type 0
 YieldsUnlessOom old (Ok None) new = (old ≡ []) × (new ≡ [])
@@ -44,13 +45,16 @@ abbrev pub with_files : Header → List File → Header
 with_files h files = record h { file_names = h.file_names ++ files }
 
 -- the header has the first of the files ahead, and these are not defined yet
-pub record HasDefined (old : Header) (ahead : List File) (new : Header) (rest : List File) : Type 0 where
+pub record HasDefined (old : Header) (ahead : List File) (new : Header) (rest : List File)
+    : Type 0 where
   pub defined : List File
   pub header : new ≡ with_files old defined
   pub ahead_is : ahead ≡ defined ++ rest
 
--- the header that a refusal leaves has the files ahead: all of them, unless memory was refused for one
-pub record DefinesUpTo (old : Header) (ahead : List File) (fault : Error) (new : Header) : Type 0 where
+-- the header that a refusal leaves has the files ahead: all of them, unless memory was refused for
+-- one
+pub record DefinesUpTo (old : Header) (ahead : List File) (fault : Error) (new : Header)
+    : Type 0 where
   pub rest : List File
   pub some : HasDefined old ahead new rest
   pub all : fault ≢ OutOfMemory → rest ≡ []

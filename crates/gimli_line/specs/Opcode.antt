@@ -16,7 +16,8 @@ use Rattle.gimli_line.specs.declared.opcode.LineInstruction.TheVariants.{Changes
 use Rattle.gimli_line.specs.declared.constants.TheConstants.{DW_LNS_copy, DW_LNS_advance_pc, DW_LNS_advance_line, DW_LNS_set_file, DW_LNS_set_column, DW_LNS_negate_stmt, DW_LNS_set_basic_block, DW_LNS_const_add_pc, DW_LNS_fixed_advance_pc, DW_LNS_set_prologue_end, DW_LNS_set_epilogue_begin, DW_LNS_set_isa, DW_LNE_end_sequence, DW_LNE_set_address, DW_LNE_define_file, DW_LNE_set_discriminator}
 use Rattle.gimli_line.specs.Header.{File, Header}
 
--- a file that has this path: what follows the path is its directory, a time and a length, both dropped
+-- a file that has this path: what follows the path is its directory, a time and a length, both
+-- dropped
 unfoldable pub file_with_path_at : Section → Section → Reading File
 file_with_path_at path s = do
   directory ← uleb128_at s

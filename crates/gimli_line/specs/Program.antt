@@ -13,11 +13,13 @@ use Rattle.gimli_line.specs.declared.encoding.LineEncoding.{LineEncoding}
 use Rattle.gimli_line.specs.Header.{Program}
 use Rattle.gimli_line.specs.Tables.{tables_at}
 
--- the address size: of the unit below version 5, else of the header, with a segment selector size of 0
+-- the address size: of the unit below version 5, else of the header, with a segment selector size
+-- of 0
 unfoldable pub address_size_at : ℕ → ℕ → Section → Reading ℕ
 address_size_at version unit_size s =
     if nat_lt version 5
-    then (refused_if (not (is_address_size unit_size)) UnsupportedAddressSize >>= λ _. Ok (unit_size, s))
+    then (refused_if (not (is_address_size unit_size)) UnsupportedAddressSize
+    >>= λ _. Ok (unit_size, s))
     else do
       size ← fixed_at 1 s
       known ← refused_if (not (is_address_size size.0)) UnsupportedAddressSize
@@ -73,7 +75,8 @@ unit_fields_at unit_size format s = do
   size ← address_size_at version.0 unit_size version.1
   header_length ← offset_at format size.1
   header ← split_at header_length.0 header_length.1
-  numbers ← numbers_at (record { address_size = size.0; format = format; version = version.0 }) header.0
+  numbers ← numbers_at (record { address_size = size.0; format = format; version = version.0 })
+      header.0
   lengths ← split_at (numbers.0.opcode_base - 1) numbers.1
   Ok (record {
     encoding = record { address_size = size.0; format = format; version = version.0 };
@@ -84,8 +87,8 @@ unit_fields_at unit_size format s = do
   })
 
 -- the fields of the header that begins here
-unfoldable pub header_fields_at : ℕ → Section → Result HeaderFields Error
-header_fields_at unit_size s = do
+unfoldable pub line_header_fields_at : ℕ → Section → Result HeaderFields Error
+line_header_fields_at unit_size s = do
   length ← initial_length_at s
   unit ← split_at length.0.0 length.1
   unit_fields_at unit_size length.0.1 unit.0
@@ -93,7 +96,7 @@ header_fields_at unit_size s = do
 -- the line program that begins here, in a unit with this address size
 unfoldable pub line_program_at : ℕ → Section → Result Program Error
 line_program_at unit_size s = do
-  fields ← header_fields_at unit_size s
+  fields ← line_header_fields_at unit_size s
   tables ← tables_at fields.encoding fields.tables
   Ok (record {
     header = record {

@@ -1,4 +1,5 @@
--- What rows mean to one who walks code: within a sequence addresses do not fall (DWARF 5, section 6.2.1).
+-- What rows mean to one who walks code: within a sequence addresses do not fall (DWARF 5, section
+-- 6.2.1).
 use Rattle.std.specs.Prelude.{◌≡◌, ◌<◌, ◌≤◌, List, [], ◌∷◌, false, Result, Ok, Err}
 use Rattle.gimli_read.specs.declared.error.Error.{Error}
 use Rattle.gimli_read.specs.Section.{Section}

@@ -1,8 +1,8 @@
 -- The rows of a line program (DWARF 5, sections 6.2.2 and 6.2.5).
 -- Own: a line below zero becomes 0, and one of 2^64 or more wraps.
 -- Own: AddressOverflow stands at the first opcode after which the address passes the address size.
--- Own: an address of all ones, of all ones less one, or below the current one starts dropping: no rows, and
--- no changes of the address, until one that is none of these, or the sequence's end.
+-- Own: an address of all ones, of all ones less one, or below the current one starts dropping: no
+-- rows, and no changes of the address, until one that is none of these, or the sequence's end.
 use Rattle.std.specs.Prelude.{ℕ, ◌+◌, ◌-◌, ◌*◌, ◌/◌, ◌%◌, ◌^◌, ℤ, pos, negsuc, ◌+ℤ◌, Bool, true, false, ◌||◌, ◌&&◌, not, List, [], ◌∷◌, Result, Ok, Err, sum_by, nat_lt, nat_le, if◌then◌else◌}
 use Rattle.gimli_read.specs.declared.error.Error.{Error}
 use Rattle.gimli_read.specs.declared.error.Error.TheVariants.{AddressOverflow}
@@ -11,7 +11,6 @@ use Rattle.gimli_line.specs.declared.encoding.LineEncoding.{LineEncoding}
 use Rattle.gimli_line.specs.declared.opcode.Opcode.{Opcode}
 use Rattle.gimli_line.specs.declared.opcode.Opcode.TheVariants.{Special, Copy, AdvancePc, AdvanceLine, SetFile, SetColumn, ConstAddPc, FixedAdvancePc, EndSequence, SetAddress}
 use Rattle.gimli_line.specs.declared.opcode.LineInstruction.{LineInstruction}
-use Rattle.gimli_line.specs.declared.opcode.LineInstruction.TheVariants.{Changes, Defines}
 use Rattle.gimli_line.specs.declared.row.LineRow.{LineRow}
 use Rattle.gimli_line.specs.Encoding.{limit}
 use Rattle.gimli_line.specs.Opcode.{opcodes_in}
@@ -67,7 +66,8 @@ pub record AddressState : Type 0 where
 abbrev pub address_of : LineEncoding → AddressState → ℕ
 address_of e c =
     c.base
-    + e.minimum_instruction_length * (sum_by (advance e) c.counting / e.maximum_operations_per_instruction)
+    + e.minimum_instruction_length
+    * (sum_by (advance e) c.counting / e.maximum_operations_per_instruction)
 
 -- from this address on
 abbrev pub based : ℕ → AddressState
@@ -117,7 +117,8 @@ abbrev pub row_from : LineEncoding → Opcode → List Opcode → List (Result L
     → List (Result LineRow Error)
 row_from e op past rest =
     if is_end op then Ok (row_after e past true) ∷ rest
-    else (if makes_row op && not (address_state e past).dropping then Ok (row_after e past false) ∷ rest
+    else (if makes_row op && not (address_state e past).dropping
+    then Ok (row_after e past false) ∷ rest
     else rest)
 
 -- the opcodes of the sequence before the next one: none after an end
@@ -142,17 +143,3 @@ rows_after e past (op ∷ ops) end =
 abbrev pub rows_of : {F Z : Type 0} → LineEncoding → Run (LineInstruction F) Z
     → List (Result LineRow Error)
 rows_of e run = rows_after e [] (opcodes_in run.items) run.end
-
--- whether the newest opcode has a row or a fault
-abbrev pub ends_search : LineEncoding → Opcode → List Opcode → Bool
-ends_search e op past =
-    not (nat_lt (address_after e past) (limit e)) || is_end op
-    || makes_row op && not (address_state e past).dropping
-
--- the files that instructions define before the next row or fault
-abbrev pub files_ahead : {F : Type 0} → LineEncoding → List Opcode → List (LineInstruction F)
-    → List F
-files_ahead e past [] = []
-files_ahead e past (Changes op ∷ more) =
-    if ends_search e op (op ∷ past) then [] else files_ahead e (op ∷ past) more
-files_ahead e past (Defines f ∷ more) = f ∷ files_ahead e past more

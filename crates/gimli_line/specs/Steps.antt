@@ -1,5 +1,5 @@
--- Line programs as the private functions see them: registers, one opcode at a time. That the rows are
--- those of Rows is proved.
+-- Line programs as the private functions see them: registers, one opcode at a time. That the rows
+-- are those of Rows is proved.
 use Rattle.std.specs.Prelude.{◌++◌, ℕ, ◌+◌, ◌-◌, ◌*◌, ◌/◌, ◌%◌, ◌<◌, Bool, true, false, ◌||◌, ◌&&◌, not, [], ◌∷◌, Option, Some, None, Result, Ok, Err, nat_lt, nat_le, ◌==◌, if◌then◌else◌}
 use Rattle.gimli_read.specs.declared.error.Error.{Error}
 use Rattle.gimli_read.specs.declared.error.Error.TheVariants.{AddressOverflow}
@@ -21,7 +21,8 @@ use Rattle.gimli_line.specs.Rows.{line_advance, moved, is_tombstone, is_end, mak
 abbrev pub start : Registers
 start = record { address = 0; op_index = 0; file_index = 1; line = 1; column = 0; dropping = false }
 
--- the registers that an instruction finds: the operation lies inside its instruction, and the address fits
+-- the registers that an instruction finds: the operation lies inside its instruction, and the
+-- address fits
 pub record IsRunning (e : LineEncoding) (r : Registers) : Type 0 where
   pub index : r.op_index < e.maximum_operations_per_instruction
   pub fits : r.address < limit e
@@ -31,7 +32,9 @@ abbrev pub advanced : LineEncoding → ℕ → Registers → Registers
 advanced e n r =
     if r.dropping then r
     else record r {
-      address = r.address + e.minimum_instruction_length * ((r.op_index + n) / e.maximum_operations_per_instruction);
+      address = r.address
+          + e.minimum_instruction_length
+          * ((r.op_index + n) / e.maximum_operations_per_instruction);
       op_index = (r.op_index + n) % e.maximum_operations_per_instruction;
     }
 
@@ -42,8 +45,8 @@ placed e a r =
     else record r { address = a; op_index = 0; dropping = false }
 
 -- advanced by bytes
-abbrev pub pushed : ℕ → Registers → Registers
-pushed n r = if r.dropping then r else record r { address = r.address + n; op_index = 0 }
+abbrev pub fixed_advanced : ℕ → Registers → Registers
+fixed_advanced n r = if r.dropping then r else record r { address = r.address + n; op_index = 0 }
 
 -- the registers after an opcode
 abbrev pub step : LineEncoding → Registers → Opcode → Registers
@@ -55,7 +58,7 @@ step e r (AdvanceLine z) = record r { line = moved r.line z }
 step e r (SetFile n) = record r { file_index = n }
 step e r (SetColumn n) = record r { column = n }
 step e r ConstAddPc = advanced e ((255 - e.opcode_base) / e.line_range) r
-step e r (FixedAdvancePc n) = pushed n r
+step e r (FixedAdvancePc n) = fixed_advanced n r
 step e r EndSequence = r
 step e r (SetAddress a) = placed e a r
 step e r Other = r
@@ -96,7 +99,8 @@ unfoldable pub taken : Header → Registers → LineInstruction File
 taken h r (Changes op) = executed h.line_encoding r op >>= λ x. Ok (x.0, x.1, h)
 taken h r (Defines f) = Ok (None, r, record h { file_names = h.file_names ++ f ∷ [] })
 
--- the row that a standard opcode appends, the registers of the next one, and the bytes after its operands
+-- the row that a standard opcode appends, the registers of the next one, and the bytes after its
+-- operands
 unfoldable pub step_standard : Header → Registers → ℕ → Section
     → Result (Option LineRow × Registers × Section) Error
 step_standard h r code s = do
@@ -104,11 +108,13 @@ step_standard h r code s = do
   next ← executed h.line_encoding r op.0
   Ok (next.0, next.1, op.1)
 
--- the row that the instruction with this code appends, and the registers, the header and the bytes of the next one
+-- the row that the instruction with this code appends, and the registers, the header and the bytes
+-- of the next one
 unfoldable pub step_instruction : Header → Registers → ℕ → Section
     → Result (Option LineRow × Registers × Header × Section) Error
 step_instruction h r code s =
     if code == 0 then (extended_at h s >>= λ i. taken h r i.0 >>= λ x. Ok (x.0, x.1, x.2, i.1))
     else if nat_le h.line_encoding.opcode_base code
-    then (executed h.line_encoding r (Special (code - h.line_encoding.opcode_base)) >>= λ x. Ok (x.0, x.1, h, s))
+    then (executed h.line_encoding r (Special (code - h.line_encoding.opcode_base))
+    >>= λ x. Ok (x.0, x.1, h, s))
     else (step_standard h r code s >>= λ x. Ok (x.0, x.1, h, x.2))

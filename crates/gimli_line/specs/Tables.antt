@@ -7,7 +7,7 @@ use Rattle.gimli_read.specs.Section.{Section}
 use Rattle.gimli_read.specs.Reading.{Reading, ◌>>=◌}
 use Rattle.gimli_read.specs.Number.{null_terminated_at}
 use Rattle.gimli_read.specs.Run.{run_of, collected}
-use Rattle.gimli_line.specs.EntryTables.{table_at}
+use Rattle.gimli_line.specs.EntryTables.{entry_table_at}
 use Rattle.gimli_line.specs.Header.{File}
 use Rattle.gimli_line.specs.Opcode.{file_with_path_at}
 
@@ -40,9 +40,15 @@ old_tables_at s = do
 -- the tables of version 5
 unfoldable pub new_tables_at : Encoding → Section → Reading Tables
 new_tables_at e s = do
-  directories ← table_at e s
-  files ← table_at e directories.1
-  Ok (record { include_directories = map (λ (f : File). f.path_name) directories.0; file_names = files.0 }, files.1)
+  directories ← entry_table_at e s
+  files ← entry_table_at e directories.1
+  Ok (
+    record {
+      include_directories = map (λ (f : File). f.path_name) directories.0;
+      file_names = files.0;
+    },
+    files.1,
+  )
 
 -- the tables of a version
 unfoldable pub tables_at : Encoding → Section → Reading Tables

@@ -1,4 +1,5 @@
-//! The opcodes and content types of line programs, in the standard's spelling (DWARF 5, section 7.22).
+//! The opcodes and content types of line programs, in the standard's spelling (DWARF 5, section
+//! 7.22).
 
 /// Appends a row.
 pub(crate) const DW_LNS_copy: u8 = 0x01;

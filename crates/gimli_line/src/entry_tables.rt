@@ -3,7 +3,7 @@
 ghost use Rattle.std.specs.Prelude.{◌≡◌, ◌==◌, ◌&&◌, not, count_by, map, Ok};
 ghost use Rattle.gimli_read.specs.Reading.{ExactlyUnlessOom, ExactlyUnlessOomIf, Reads};
 ghost use Rattle.gimli_read.specs.Form.{seen_value};
-ghost use Rattle.gimli_line.specs.EntryTables.{times, format_at, formats_at, is_path, is_bad_path, is_sound_format, no_entry, with_value, values_at, entry_at, table_at};
+ghost use Rattle.gimli_line.specs.EntryTables.{times, format_at, formats_at, is_path, is_bad_path, is_sound_format, no_entry, with_value, values_at, entry_at, entry_table_at};
 
 use crate::constants::{DW_LNCT_directory_index, DW_LNCT_path};
 use crate::header::FileEntry;
@@ -183,14 +183,14 @@ fn read_entries<R: Reader>(
 }
 
 /// Reads a table of version 5: directories or files.
-#[tactic(auto, unfolding(crate::specs::EntryTables::table_at))]
+#[tactic(auto, unfolding(crate::specs::EntryTables::entry_table_at))]
 pub(crate) fn read_table<R: Reader>(
     alloc: Global,
     encoding: Encoding,
     input: &mut R,
 ) -> Result<Vec<FileEntry<R>>, Error>
     ensures gives { ExactlyUnlessOom (λ v. (v.items, R.section input.new)) result
-        (table_at encoding (R.section input.old)) }
+        (entry_table_at encoding (R.section input.old)) }
 {
     let formats = read_formats(alloc, input)?;
     let count = input.read_uleb128()?;

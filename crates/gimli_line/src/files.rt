@@ -27,7 +27,8 @@ fn entry<T>(version: u16, index: u64, entries: &[T]) -> Option<&T>
 impl<R: Reader> LineProgramHeader<R> {
     /// The file of an index, as rows have it. Takes no memory.
     ///
-    /// Files count from 1 in versions 2 to 4, and from 0 in version 5; none where there is no such file.
+    /// Files count from 1 in versions 2 to 4, and from 0 in version 5; none where there is no such
+    /// file.
     pub fn file(&self, index: u64) -> Option<&FileEntry<R>>
         ensures gives { option_map (λ f. f.now) result ≡ file_of self.now index }
     {
@@ -67,8 +68,8 @@ impl<R: Reader> FileEntry<R> {
 
     /// The directory in the header of the same program. Refused `OutOfMemory` alone.
     ///
-    /// Directories count from 1 in versions 2 to 4, where index 0 is the unit's own, and from 0 in version
-    /// 5; none where there is no such directory.
+    /// Directories count from 1 in versions 2 to 4, where index 0 is the unit's own, and from 0 in
+    /// version 5; none where there is no such directory.
     pub fn directory(
         &self,
         header: &LineProgramHeader<R>,

@@ -1,12 +1,13 @@
-//! Laws of line programs: functions with empty bodies, whose contracts say what holds of the definitions.
+//! Laws of line programs: functions with empty bodies, whose contracts say what holds of the
+//! definitions.
 
 ghost use Rattle.gimli_line.specs.Rises.{rows_before, NeverFalls, RowsRise};
 
 use crate::program::LineRows;
 use gimli_read::Reader;
 
-/// Within a sequence the addresses of a program's rows do not fall, whatever its opcodes: a law, with no
-/// code.
+/// Within a sequence the addresses of a program's rows do not fall, whatever its opcodes: a law,
+/// with no code.
 pub fn rows_laws()
     ensures rise { RowsRise }
 {}

@@ -39,8 +39,8 @@ impl<R: Reader> IncompleteLineProgram<R> {
         &self.header
     }
 
-    /// The rows of the program, from its first opcode on, over a copy of its header. Refused `OutOfMemory`
-    /// alone.
+    /// The rows of the program, from its first opcode on, over a copy of its header. Refused
+    /// `OutOfMemory` alone.
     pub fn rows(&self) -> Result<LineRows<R>, Error>
         ensures gives { IsUnlessOom result (Ok (lines_of self.now)) }
     {
@@ -53,7 +53,8 @@ impl<R: Reader> IncompleteLineProgram<R> {
     }
 }
 
-/// The rows of a line program that are still to come, and its header with the files that are defined so far.
+/// The rows of a line program that are still to come, and its header with the files that are
+/// defined so far.
 #[derive(Drop)]
 pub struct LineRows<R: Reader> {
     pub(crate) header: LineProgramHeader<R>,
@@ -89,11 +90,11 @@ impl<R: Reader> LineRows<R> {
 
     /// The next row; none at the end, and after a refusal.
     ///
-    /// The header has each file that is defined before the row, also where the answer is a refusal. Refused
-    /// where an opcode is: the refusals of its numbers, `UnexpectedEof` where its bytes aren't whole, and
-    /// `AddressOverflow` at the first opcode after which the address passes its size. May fail with
-    /// `OutOfMemory` instead where a file is defined before the next row: no other opcode takes memory.
-    /// Source: DWARF 5, section 6.2.5.
+    /// The header has each file that is defined before the row, also where the answer is a refusal.
+    /// Refused where an opcode is: the refusals of its numbers, `UnexpectedEof` where its bytes
+    /// aren't whole, and `AddressOverflow` at the first opcode after which the address passes its
+    /// size. May fail with `OutOfMemory` instead where a file is defined before the next row: no
+    /// other opcode takes memory. Source: DWARF 5, section 6.2.5.
     pub fn next_row(&mut self) -> Result<Option<LineRow>, Error>
         ensures gives { YieldsUnlessOom self.old.left result self.new.left }
         ensures memory { IfErr result (λ e. self.old.ahead ≡ [] → self.old.left ≡ Err e ∷ []) }
@@ -141,8 +142,8 @@ fn take_instruction<R: Reader>(
     }
 }
 
-// Reads the instruction that has this code, takes it in, and gives the row that it appends, if any. Most rows
-// are those of special opcodes: theirs is the short way.
+// Reads the instruction that has this code, takes it in, and gives the row that it appends, if any.
+// Most rows are those of special opcodes: theirs is the short way.
 #[inline(always)]
 #[tactic(auto, unfolding(crate::specs::Steps::step_instruction, crate::specs::Steps::taken, crate::specs::Opcode::coded_instruction_at))]
 fn step_instruction<R: Reader>(

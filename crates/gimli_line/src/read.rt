@@ -4,7 +4,7 @@ ghost use Rattle.std.specs.Prelude.{◌≡◌, ◌<◌, true, is_ok, IfOk};
 ghost use Rattle.gimli_read.specs.Reading.{Exactly, ExactlyUnlessOomIf, Reads};
 ghost use Rattle.gimli_read.specs.Number.{is_address_size};
 ghost use Rattle.gimli_line.specs.Opcode.{fault_of};
-ghost use Rattle.gimli_line.specs.Program.{address_size_at, nonzero_at, operations_at, numbers_at, unit_fields_at, header_fields_at, line_program_at};
+ghost use Rattle.gimli_line.specs.Program.{address_size_at, nonzero_at, operations_at, numbers_at, unit_fields_at, line_header_fields_at, line_program_at};
 
 use crate::encoding::LineEncoding;
 use crate::header::LineProgramHeader;
@@ -153,10 +153,10 @@ fn read_unit_fields<R: Reader>(
 }
 
 // The fields of the header that begins here.
-#[tactic(auto, unfolding(crate::specs::Program::header_fields_at))]
+#[tactic(auto, unfolding(crate::specs::Program::line_header_fields_at))]
 fn read_header_fields<R: Reader>(unit_size: u8, mut input: R) -> Result<HeaderFields<R>, Error>
     ensures gives { ExactlyUnlessOomIf R.shares (λ f. f) result
-        (header_fields_at unit_size (R.section input)) }
+        (line_header_fields_at unit_size (R.section input)) }
 {
     let (length, format) = read_initial_length(&mut input)?;
     let unit = input.split(length)?;
@@ -166,7 +166,8 @@ fn read_header_fields<R: Reader>(unit_size: u8, mut input: R) -> Result<HeaderFi
 // The fault of the fields of a header, if they have one. Takes no memory.
 fn check_header_fields(unit_size: u8, bytes: &[u8], endian: RunTimeEndian) -> Result<(), Error>
     ensures gives { Exactly (λ x. x) result
-        (fault_of (header_fields_at unit_size (record { bytes = bytes.now; endian = endian }))) }
+        (fault_of (line_header_fields_at unit_size
+        (record { bytes = bytes.now; endian = endian }))) }
 {
     let _fields = read_header_fields(unit_size, EndianSlice::new(bytes, endian))?;
     Ok(())
@@ -174,19 +175,21 @@ fn check_header_fields(unit_size: u8, bytes: &[u8], endian: RunTimeEndian) -> Re
 
 /// Reads the header of the line program that begins here, with its tables; no opcode is run.
 ///
-/// `input` are the bytes of `.debug_line` from the program's offset on. `address_size`, in bytes, is the
-/// unit's; version 5 has its own. Refused where a field is, in their order: the refusals of its numbers,
-/// `UnknownReservedLength`, `UnknownVersion` (known are 2 to 5), `UnsupportedAddressSize`,
-/// `UnsupportedSegmentSize`, `BadLineHeader` for a zero that may not be and for a faulty format of a table,
-/// and `UnknownForm`. May fail with `OutOfMemory` instead where all fields before the tables are sound: a
-/// fault of theirs takes no memory. Source: DWARF 5, section 6.2.4.
+/// `input` are the bytes of `.debug_line` from the program's offset on. `address_size`, in bytes,
+/// is the unit's; version 5 has its own. Refused where a field is, in their order: the refusals of
+/// its numbers, `UnknownReservedLength`, `UnknownVersion` (known are 2 to 5),
+/// `UnsupportedAddressSize`, `UnsupportedSegmentSize`, `BadLineHeader` for a zero that may not be
+/// and for a faulty format of a table, and `UnknownForm`. May fail with `OutOfMemory` instead where
+/// all fields before the tables are sound: a fault of theirs takes no memory. Source: DWARF 5,
+/// section 6.2.4.
 #[tactic(auto, unfolding(crate::specs::Program::line_program_at))]
 pub fn read_line_program<R: Reader>(
     alloc: Global,
     input: R,
     address_size: u8,
 ) -> Result<IncompleteLineProgram<R>, Error>
-    ensures gives { ExactlyUnlessOomIf (is_ok (header_fields_at address_size (R.section input)))
+    ensures gives { ExactlyUnlessOomIf
+        (is_ok (line_header_fields_at address_size (R.section input)))
         (λ p. p) result (line_program_at address_size (R.section input)) }
 {
     // A part of shared bytes takes memory, so the fields are looked at in borrowed bytes first.

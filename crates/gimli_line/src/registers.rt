@@ -4,7 +4,7 @@ ghost use Rattle.std.specs.Prelude.{◌≡◌, ◌+◌, ◌/◌, ◌%◌, ◌^�
 ghost use Rattle.gimli_read.specs.Reading.{Exactly};
 ghost use Rattle.gimli_line.specs.Encoding.{limit};
 ghost use Rattle.gimli_line.specs.Rows.{moved, line_advance, is_tombstone, is_end, makes_row};
-ghost use Rattle.gimli_line.specs.Steps.{IsRunning, start, advanced, placed, pushed, step, fitting, row, row_of, next, executed};
+ghost use Rattle.gimli_line.specs.Steps.{IsRunning, start, advanced, placed, fixed_advanced, step, fitting, row, row_of, next, executed};
 
 use crate::opcode::Opcode;
 use crate::parameters::LineParameters;
@@ -132,10 +132,10 @@ impl Registers {
     }
 
     // Advances by bytes.
-    fn push(&mut self, parameters: &LineParameters, bytes: u16) -> Result<(), Error>
+    fn fixed_advance(&mut self, parameters: &LineParameters, bytes: u16) -> Result<(), Error>
         requires running { IsRunning parameters.now.encoding self.old }
         ensures gives { Exactly (λ _. self.new) result
-            (fitting parameters.now.encoding (pushed bytes self.old)) }
+            (fitting parameters.now.encoding (fixed_advanced bytes self.old)) }
     {
         if self.dropping {
             return Ok(());
@@ -174,7 +174,7 @@ impl Registers {
                 let last = u64::from(parameters.quotient(255 - parameters.encoding.opcode_base));
                 return self.advance(parameters, last);
             }
-            Opcode::FixedAdvancePc(n) => return self.push(parameters, n),
+            Opcode::FixedAdvancePc(n) => return self.fixed_advance(parameters, n),
             Opcode::AdvanceLine(by) => self.line = move_line(self.line, by),
             Opcode::SetFile(n) => self.file_index = n,
             Opcode::SetColumn(n) => self.column = n,

@@ -38,7 +38,8 @@ abbrev pub ReadsValue : Type 0
 ReadsValue =
     (encoding : Encoding) (order : RunTimeEndian) (form : ℕ) (text rest : List ℕ)
     (value : AttributeValue Section)
-    → IsValue encoding order form text value → IsReadAs (value_at encoding form) order text rest value
+    → IsValue encoding order form text value
+    → IsReadAs (value_at encoding form) order text rest value
 
 -- and nothing else is read
 abbrev pub ReadsValueAlone : Type 0

@@ -103,13 +103,9 @@ impl<'a, R: Reader> EntriesRaw<'a, R> {
         self.depth
     }
 
-    /// Reads the code of the next entry: its abbreviation, or none of a closing entry.
-    ///
-    /// Refused `UnexpectedEof` and `BadLeb128` for the code, and `UnknownAbbreviation` where the
-    /// unit's table hasn't it. After a refusal the reading may stand anywhere. Takes no memory.
-    /// Source: DWARF 5, section 7.5.2.
+    // Reads the code of the next entry. After a refusal the reading may stand anywhere.
     #[tactic(auto, unfolding(crate::specs::Entry::entry_abbreviation_at), using(crate::proofs::EntryLemmas::code_takes, crate::proofs::EntryLemmas::entry_in_unit, crate::proofs::EntryLemmas::closing_in_unit, crate::proofs::EntryLemmas::still_in_unit, crate::proofs::EntryLemmas::next_fits))]
-    pub fn read_abbreviation(&mut self) -> Result<Option<&'a Abbreviation>, Error>
+    fn read_code(&mut self) -> Result<Option<&'a Abbreviation>, Error>
         ensures gives { Exactly (λ a. (option_map (λ r. r.now) a, self.new.cursor)) result
             (entry_abbreviation_at self.old.unit.abbreviations self.old.cursor) }
         ensures unit { self.new.unit ≡ self.old.unit }
@@ -126,6 +122,27 @@ impl<'a, R: Reader> EntriesRaw<'a, R> {
         };
         self.depth = depth_after_entry(abbreviation.has_children(), self.depth);
         Ok(Some(abbreviation))
+    }
+
+    /// Reads the code of the next entry: its abbreviation, or none of a closing entry.
+    ///
+    /// Refused `UnexpectedEof` and `BadLeb128` for the code, and `UnknownAbbreviation` where the
+    /// unit's table hasn't it. After a refusal nothing is left to read. Takes no memory.
+    /// Source: DWARF 5, section 7.5.2.
+    #[tactic(auto, using(crate::proofs::EntryLemmas::still_in_unit))]
+    pub fn read_abbreviation(&mut self) -> Result<Option<&'a Abbreviation>, Error>
+        ensures gives { Exactly (λ a. (option_map (λ r. r.now) a, self.new.cursor)) result
+            (entry_abbreviation_at self.old.unit.abbreviations self.old.cursor) }
+        ensures refused { OnErr result (self.new.cursor.left.bytes ≡ []) }
+        ensures unit { self.new.unit ≡ self.old.unit }
+    {
+        match self.read_code() {
+            Ok(abbreviation) => Ok(abbreviation),
+            Err(error) => {
+                self.input.skip(self.input.len())?;
+                Err(error)
+            }
+        }
     }
 
     /// Reads the next attribute's value, by its specification.

@@ -1,123 +1,11 @@
 //! Files with a field changed, or cut off.
-//!
-//! A line of a table is a case: the changed field; a place in the file and the bytes that are put
-//! there, as often as needed; the wanted answer. Numbers are hexadecimal. A test finds no line
-//! whose answer is another one.
 
-use crate::answers::{EMPTY, digits, open, refusal, section_number, symbol_numbers};
+use crate::answers::open;
+use crate::tables::{first_wrong_section, first_wrong_symbol, symbols_file};
 use elf::LoaderError;
-use elf_writer::{SHAPES, Section, elf_file, named_symbol, plain, symbol_tables};
+use elf_writer::{SHAPES, Section, elf_file, named_symbol, plain};
 use std::alloc::Global;
 use std::test::Fail;
-
-const SHT_SYMTAB: u32 = 2;
-
-// A number that no answer has: a case that can't be read.
-const UNREADABLE: u64 = 0;
-
-// Puts bytes at a place of a file; `None` where that can't be done.
-fn put(file: &mut [u8], place: &str, bytes: &str) -> Option<()> {
-    let mut at = usize::from_str_radix(place.trim(), 16).ok()?;
-    for byte in bytes.split_whitespace() {
-        *file.get_mut(at)? = u8::from_str_radix(byte, 16).ok()?;
-        at = at.saturating_add(1);
-    }
-    Some(())
-}
-
-// Makes the changes of a case.
-fn change(file: &mut [u8], changes: &str) -> Option<()> {
-    for change in changes.split(';') {
-        if let Some((place, bytes)) = change.split_once(':') {
-            put(file, place, bytes)?;
-        }
-    }
-    Some(())
-}
-
-// The bytes of a table's words as digits.
-fn hex(front: u64, words: &str) -> u64 {
-    let mut number = front;
-    for word in words.split_whitespace() {
-        match u8::from_str_radix(word, 16) {
-            Ok(byte) => number = digits(number, &[byte]),
-            Err(_) => return UNREADABLE,
-        }
-    }
-    number
-}
-
-// The wanted number of a section, of a table's words.
-fn section_wanted(words: &str) -> u64 {
-    match words {
-        "NotElf" => refusal(LoaderError::NotElf),
-        "BadElf" => refusal(LoaderError::BadElf),
-        "CompressedSection" => refusal(LoaderError::CompressedSection),
-        "RelocationsNeeded" => refusal(LoaderError::RelocationsNeeded),
-        "empty" => EMPTY,
-        bytes => hex(EMPTY, bytes),
-    }
-}
-
-// The number of .debug_info.
-fn section_found(alloc: Global, file: &[u8]) -> u64 {
-    match open(alloc, file) {
-        Ok(file) => section_number(&file, ".debug_info"),
-        Err(error) => refusal(error),
-    }
-}
-
-// The wanted name and address of a symbol, of a table's words.
-fn symbol_wanted(words: &str) -> [u64; 2] {
-    match words.split_once(' ') {
-        Some((name, address)) => [digits(0, name.as_bytes()), hex(0, address)],
-        None => [0, 0],
-    }
-}
-
-// The name and address of the symbol at 0x18.
-fn symbol_found(alloc: Global, file: &[u8]) -> [u64; 2] {
-    match open(alloc, file) {
-        Ok(file) => symbol_numbers(file.symbol(0x18)),
-        Err(error) => [refusal(error), 0],
-    }
-}
-
-// Whether a case has its answer; `None` where it can't be read, or memory is wanting.
-fn is_section_right(alloc: Global, file: &[u8], case: &str) -> Option<bool> {
-    let (changes, want) = case.rsplit_once(';')?;
-    let mut file = Vec::from_slice(alloc, file).ok()?;
-    change(&mut file, changes)?;
-    Some(section_found(alloc, &file) == section_wanted(want.trim()))
-}
-
-// The first line whose answer is another one.
-fn first_wrong_section<'a>(alloc: Global, file: &[u8], cases: &'a str) -> &'a str {
-    for case in cases.lines() {
-        if is_section_right(alloc, file, case) != Some(true) {
-            return case;
-        }
-    }
-    "none"
-}
-
-// Whether a case has its answer; `None` where it can't be read, or memory is wanting.
-fn is_symbol_right(alloc: Global, file: &[u8], case: &str) -> Option<bool> {
-    let (changes, want) = case.rsplit_once(';')?;
-    let mut file = Vec::from_slice(alloc, file).ok()?;
-    change(&mut file, changes)?;
-    Some(symbol_found(alloc, &file) == symbol_wanted(want.trim()))
-}
-
-// The first line whose answer is another one.
-fn first_wrong_symbol<'a>(alloc: Global, file: &[u8], cases: &'a str) -> &'a str {
-    for case in cases.lines() {
-        if is_symbol_right(alloc, file, case) != Some(true) {
-            return case;
-        }
-    }
-    "none"
-}
 
 // A file with .text at 0x10 and .debug_info, of 64 bits, little endian (0) or of 32 bits, big
 // endian (3).
@@ -281,22 +169,10 @@ the strings are outside; 16f: d8 01; none
 the strings end before the zero; 177: 04; none
 ";
 
-// A file with .text and a symbol.
-fn symbols_file(alloc: Global) -> Option<Vec<u8>> {
-    let symbols = [named_symbol(b"one", 0x12, 0x10, 0x10)];
-    let tables = symbol_tables(alloc, SHAPES[0], &symbols).ok()?;
-    let entries = Section {
-        kind: SHT_SYMTAB,
-        link: 3,
-        ..plain(".symtab", &tables.symbols)
-    };
-    let strings = plain(".strtab", &tables.strings);
-    elf_file(alloc, SHAPES[0], &[plain(".text", &[0]), entries, strings]).ok()
-}
-
 #[test]
 fn a_changed_symbol_has_its_answer(rt: HostRuntime) -> Result<(), Fail> {
-    let file = symbols_file(rt.alloc()).ok_or("a file")?;
+    let symbols = [named_symbol(b"one", 0x12, 0x10, 0x10)];
+    let file = symbols_file(rt.alloc(), SHAPES[0], &symbols).ok_or("a file")?;
     assert_eq!(rt; first_wrong_symbol(rt.alloc(), &file, SYMBOLS), "none");
     Ok(())
 }
@@ -328,36 +204,4 @@ fn a_cut_file_is_refused(rt: HostRuntime) -> Result<(), Fail> {
         assert_eq!(rt; first_wrong_cut(rt.alloc(), &file), file.len());
     }
     Ok(())
-}
-
-// The symbol at 0x10 of a file whose section of a number has all ones for an offset.
-fn symbol_outside(alloc: Global, number: usize) -> Option<[u64; 2]> {
-    let symbols = [named_symbol(b"one", 0x12, 0x10, 0)];
-    let tables = symbol_tables(alloc, SHAPES[0], &symbols).ok()?;
-    let full = Section {
-        kind: SHT_SYMTAB,
-        link: 3,
-        ..plain(".symtab", &tables.symbols)
-    };
-    let dynamic = Section { kind: 11, ..full };
-    let sections = [full, dynamic, plain(".strtab", &tables.strings)];
-    let mut file = elf_file(alloc, SHAPES[0], &sections).ok()?;
-    // The five section headers are at the end, and sh_offset is at their byte 24.
-    let headers = file.len().saturating_sub(64 * 5);
-    let at = headers
-        .saturating_add(number.saturating_mul(64))
-        .saturating_add(24);
-    for step in 0..8usize {
-        *file.get_mut(at.saturating_add(step))? = 0xff;
-    }
-    let file = open(alloc, &file).ok()?;
-    Some(symbol_numbers(file.symbol(0x10)))
-}
-
-#[test]
-fn a_table_outside_the_file_is_empty(rt: HostRuntime) {
-    let one = [digits(0, b"one"), 0x10];
-    for (number, want) in [(0, one), (1, [0, 0]), (2, one), (3, [0, 0]), (4, one)] {
-        assert_eq!(rt; symbol_outside(rt.alloc(), number), Some(want));
-    }
 }

@@ -12,4 +12,6 @@ mod sections;
 #[cfg(test)]
 mod symbols;
 #[cfg(test)]
+mod tables;
+#[cfg(test)]
 mod texts;

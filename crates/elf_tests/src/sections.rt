@@ -1,10 +1,11 @@
 //! Sections by name, and their addresses.
 
 use crate::answers::{EMPTY, bounds, open, open_as, order_number, section_number, symbol_numbers};
+use crate::tables::{section_found, section_wanted};
 use elf::ElfFile;
 use elf_writer::{SHAPES, Section, Shape, elf_file, plain};
 use gimli_read::RunTimeEndian;
-use std::test::Fail;
+use std::alloc::Global;
 
 const SHT_RELA: u32 = 4;
 
@@ -33,26 +34,30 @@ fn numbers(file: &ElfFile) -> [u64; 10] {
     ]
 }
 
-#[test]
-fn byte_five_alone_gives_the_order(rt: HostRuntime) -> Result<(), Fail> {
+// The numbers of a file of that shape, by a reader of that order.
+fn numbers_as(alloc: Global, shape: Shape, endian: RunTimeEndian) -> Option<[u64; 10]> {
     let text = Section {
         address: 0x1000,
         ..plain(".text", &[7, 8])
     };
+    let bytes = elf_file(alloc, shape, &[text, plain(".debug_info", &[1, 2, 3])]).ok()?;
+    let file = open_as(alloc, bytes.as_slice(), endian).ok()?;
+    Some(numbers(&file))
+}
+
+#[test]
+fn byte_five_alone_gives_the_order(rt: HostRuntime) {
     for shape in SHAPES {
-        let bytes = elf_file(rt.alloc(), shape, &[text, plain(".debug_info", &[1, 2, 3])])?;
         let (order, other) = if shape.is_big {
             (2, RunTimeEndian::Little)
         } else {
             (1, RunTimeEndian::Big)
         };
-        let file = open_as(rt.alloc(), bytes.as_slice(), other)?;
         let want = [
             0x1_010203, order, 0x1_0708, order, EMPTY, order, 0x1000, 0x1002, 0, 0,
         ];
-        assert_eq!(rt; numbers(&file), want);
+        assert_eq!(rt; numbers_as(rt.alloc(), shape, other), Some(want));
     }
-    Ok(())
 }
 
 // The ranges of some names.
@@ -67,16 +72,15 @@ fn ranges(file: &ElfFile) -> [[u64; 2]; 6] {
     ]
 }
 
-#[test]
-fn section_range(rt: HostRuntime) -> Result<(), Fail> {
-    let bytes = [0; 0x20];
+// The ranges of a file with two sections of a name, one whose end passes 64 bits, and a NOBITS one.
+fn ranges_found(alloc: Global) -> Option<[[u64; 2]; 6]> {
     let text = Section {
         address: 0x10,
-        ..plain(".text", &bytes)
+        ..plain(".text", &[0; 0x20])
     };
     let again = Section {
         address: 0x80,
-        ..plain(".text", &bytes)
+        ..text
     };
     let last = Section {
         address: u64::MAX,
@@ -88,11 +92,14 @@ fn section_range(rt: HostRuntime) -> Result<(), Fail> {
         address: 0x40,
         ..plain(".bss", &[0, 0])
     };
-    let file = elf_file(rt.alloc(), SHAPES[0], &[text, again, last, zero])?;
-    let file = open(rt.alloc(), file.as_slice())?;
+    let bytes = elf_file(alloc, SHAPES[0], &[text, again, last, zero]).ok()?;
+    Some(ranges(&open(alloc, bytes.as_slice()).ok()?))
+}
+
+#[test]
+fn section_range(rt: HostRuntime) {
     let want = [[0x10, 0x30], [0, 0], [0x40, 0x42], [0, 0], [0, 0], [0, 0]];
-    assert_eq!(rt; ranges(&file), want);
-    Ok(())
+    assert_eq!(rt; ranges_found(rt.alloc()), Some(want));
 }
 
 // The bytes of a name that several sections have, and of one with `z`.
@@ -103,82 +110,85 @@ fn named(file: &ElfFile) -> [u64; 2] {
     ]
 }
 
-#[test]
-fn the_first_of_a_name_counts(rt: HostRuntime) -> Result<(), Fail> {
+// Those of a file with two sections of the name, and one with `z`.
+fn named_found(alloc: Global) -> Option<[u64; 2]> {
     let sections = [
         plain(".debug_str", &[1]),
         plain(".debug_str", &[2]),
         plain(".zdebug_str", &[3]),
     ];
-    let file = elf_file(rt.alloc(), SHAPES[0], &sections)?;
-    let file = open(rt.alloc(), file.as_slice())?;
-    assert_eq!(rt; named(&file), [0x101, 0x103]);
-    Ok(())
-}
-
-const INFO: Section<'static> = Section {
-    name: ".debug_info",
-    kind: 1,
-    flags: 0,
-    address: 0,
-    link: 0,
-    info: 0,
-    bytes: &[1, 2],
-};
-
-// .debug_info of a file, or the refusal of the file.
-fn info_number(file: &Result<ElfFile, elf::LoaderError>) -> u64 {
-    match file {
-        Ok(file) => section_number(file, ".debug_info"),
-        Err(_) => 0,
-    }
+    let bytes = elf_file(alloc, SHAPES[0], &sections).ok()?;
+    Some(named(&open(alloc, bytes.as_slice()).ok()?))
 }
 
 #[test]
-fn compressed_or_relocated(rt: HostRuntime) -> Result<(), Fail> {
-    let compressed = Section {
-        flags: SHF_COMPRESSED,
-        ..INFO
+fn the_first_of_a_name_counts(rt: HostRuntime) {
+    assert_eq!(rt; named_found(rt.alloc()), Some([0x101, 0x103]));
+}
+
+// The section of a word of a table.
+fn section_of(word: &str) -> Option<Section<'static>> {
+    let (name, kind, flags, info, bytes): (&str, u32, u64, u32, &[u8]) = match word.trim() {
+        "info" => (".debug_info", 1, 0, 0, &[1, 2]),
+        "compressed" => (".debug_info", 1, SHF_COMPRESSED, 0, &[1, 2]),
+        "renamed" => (".zdebug_info", 1, 0, 0, &[1, 2]),
+        "split" => (".zdebug_info.dwo", 1, 0, 0, &[1, 2]),
+        "rela" => (".rela.debug_info", SHT_RELA, 0, 1, &[1, 2]),
+        "rel" => (".rela.debug_info", SHT_REL, 0, 1, &[1, 2]),
+        "other" => (".rela.debug_info", SHT_RELA, 0, 2, &[1, 2]),
+        "empty" => (".rela.debug_info", SHT_RELA, 0, 1, &[]),
+        _ => return None,
     };
-    let renamed = Section {
-        name: ".zdebug_info",
-        ..INFO
-    };
-    let split = Section {
-        name: ".zdebug_info.dwo",
-        ..INFO
-    };
-    let rela = Section {
-        name: ".rela.debug_info",
-        kind: SHT_RELA,
-        info: 1,
-        ..INFO
-    };
-    let rel = Section {
-        kind: SHT_REL,
-        ..rela
-    };
-    let other = Section { info: 2, ..rela };
-    let empty = Section { bytes: &[], ..rela };
-    let cases: [(u16, [Section<'_>; 2], u64); 12] = [
-        (1, [INFO, INFO], 0x1_0102),
-        (1, [compressed, rela], 24),
-        (2, [compressed, INFO], 24),
-        (2, [renamed, split], 24),
-        (2, [renamed, INFO], 0x1_0102),
-        (2, [split, split], EMPTY),
-        (1, [INFO, rela], 25),
-        (1, [INFO, rel], 25),
-        (1, [INFO, other], 0x1_0102),
-        (1, [INFO, empty], 0x1_0102),
-        (3, [INFO, rela], 0x1_0102),
-        (3, [INFO, rel], 0x1_0102),
-    ];
-    for (e_type, sections, want) in cases {
-        for shape in SHAPES {
-            let file = elf_file(rt.alloc(), Shape { e_type, ..shape }, &sections)?;
-            assert_eq!(rt; info_number(&open(rt.alloc(), file.as_slice())), want);
+    Some(Section {
+        kind,
+        flags,
+        info,
+        ..plain(name, bytes)
+    })
+}
+
+// Whether a case has its answer; `None` where it can't be read, or memory is wanting.
+fn is_file_right(alloc: Global, shape: Shape, case: &str) -> Option<bool> {
+    let (e_type, rest) = case.split_once(';')?;
+    let (sections, want) = rest.split_once(';')?;
+    let (first, second) = sections.split_once(',')?;
+    let e_type = u16::from_str_radix(e_type, 16).ok()?;
+    let sections = [section_of(first)?, section_of(second)?];
+    let file = elf_file(alloc, Shape { e_type, ..shape }, &sections).ok()?;
+    Some(section_found(alloc, &file) == section_wanted(want.trim()))
+}
+
+// The first line, of an e_type, two sections and the answer, whose answer is another one.
+fn first_wrong_file<'a>(alloc: Global, shape: Shape, cases: &'a str) -> &'a str {
+    for case in cases.lines() {
+        if is_file_right(alloc, shape, case) != Some(true) {
+            return case;
         }
     }
-    Ok(())
+    "none"
+}
+
+const COMPRESSED_OR_RELOCATED: &str = "\
+1; info, info; 01 02
+1; compressed, rela; CompressedSection
+2; compressed, info; CompressedSection
+2; renamed, split; CompressedSection
+2; renamed, info; 01 02
+2; split, split; empty
+1; info, rela; RelocationsNeeded
+1; info, rel; RelocationsNeeded
+1; info, other; 01 02
+1; info, empty; 01 02
+3; info, rela; 01 02
+3; info, rel; 01 02
+";
+
+#[test]
+fn compressed_or_relocated(rt: HostRuntime) {
+    for shape in SHAPES {
+        assert_eq!(rt;
+            first_wrong_file(rt.alloc(), shape, COMPRESSED_OR_RELOCATED),
+            "none"
+        );
+    }
 }

@@ -1,136 +1,131 @@
 //! The symbol of a probe.
 
-use crate::answers::{digits, open, symbol_numbers};
-use elf::{ElfFile, LoaderError};
-use elf_writer::{SHAPES, Section, Shape, Symbol, elf_file, named_symbol, plain, symbol_tables};
+use crate::tables::{first_wrong_probe, first_wrong_symbol, symbols_file, symbols_file_as};
+use elf_writer::{SHAPES, Section, Shape, elf_file, named_symbol, plain, symbol_tables};
 use std::alloc::Global;
 use std::test::Fail;
 
 const SHT_SYMTAB: u32 = 2;
 
+const SHT_STRTAB: u32 = 3;
+
 const SHT_DYNSYM: u32 = 11;
 
-// No symbol.
-const NONE: [u64; 2] = [0, 0];
+const THE_GLOBAL_ONE: &str = "\
+0f; none
+12; b 10
+18; none
+";
 
-// A file of one section and a symbol table of that kind.
-fn file_of(
-    alloc: Global,
-    shape: Shape,
-    kind: u32,
-    symbols: &[Symbol<'_>],
-) -> Result<ElfFile, LoaderError> {
-    let tables = symbol_tables(alloc, shape, symbols)?;
-    let entries = Section {
-        kind,
-        link: 3,
-        ..plain(".symtab", &tables.symbols)
-    };
-    let strings = plain(".strtab", &tables.strings);
-    let bytes = elf_file(alloc, shape, &[plain(".text", &[0]), entries, strings])?;
-    open(alloc, bytes.as_slice())
-}
+const NO_SYMBOL: &str = "\
+0f; none
+12; none
+18; none
+";
 
-// The symbols at three probes.
-fn at(file: &ElfFile, probes: [u64; 3]) -> [[u64; 2]; 3] {
-    [
-        symbol_numbers(file.symbol(probes[0])),
-        symbol_numbers(file.symbol(probes[1])),
-        symbol_numbers(file.symbol(probes[2])),
-    ]
-}
-
-#[test]
-fn symbol_choice(rt: HostRuntime) -> Result<(), Fail> {
+// The first probe of three symbols at 0x10 that has another symbol than it should, in a file of
+// that shape whose table is of that kind.
+fn first_wrong_choice<'a>(alloc: Global, shape: Shape, kind: u32, cases: &'a str) -> &'a str {
     let symbols = [
         named_symbol(b"a", 0x02, 0x10, 0x10),
         named_symbol(b"b", 0x12, 0x10, 8),
         named_symbol(b"c", 0x10, 0x10, 0),
     ];
-    let b = [0x62, 0x10];
+    match symbols_file_as(alloc, shape, kind, &symbols) {
+        Some(file) => first_wrong_probe(alloc, &file, cases),
+        None => "no file",
+    }
+}
+
+#[test]
+fn symbol_choice(rt: HostRuntime) {
     for shape in SHAPES {
-        for (kind, want) in [(SHT_SYMTAB, b), (SHT_DYNSYM, b), (3, NONE)] {
-            let file = file_of(rt.alloc(), shape, kind, &symbols)?;
-            assert_eq!(rt; at(&file, [0x12, 0x18, 0xf]), [want, NONE, NONE]);
+        for (kind, cases) in [
+            (SHT_SYMTAB, THE_GLOBAL_ONE),
+            (SHT_DYNSYM, THE_GLOBAL_ONE),
+            (SHT_STRTAB, NO_SYMBOL),
+        ] {
+            assert_eq!(rt; first_wrong_choice(rt.alloc(), shape, kind, cases), "none");
         }
     }
-    Ok(())
 }
+
+// Of 64 bits, little endian: two symbols at 0x10, of which st_info is at 5d and 75.
+const PREFERRED: &str = "\
+untyped, object; 5d: 10; 75: 01; second 10
+object, untyped; 5d: 01; 75: 10; first 10
+object, function; 5d: 01; 75: 02; second 10
+function, object; 5d: 02; 75: 01; second 10
+global, function; 5d: 12; 75: 02; first 10
+global, weak; 5d: 12; 75: 22; second 10
+weak, global; 5d: 22; 75: 12; second 10
+weak, unique; 5d: 22; 75: a2; first 10
+unique, function; 5d: a2; 75: 02; second 10
+function, unique; 5d: 02; 75: a2; second 10
+";
 
 #[test]
 fn the_preferred_one_of_an_address(rt: HostRuntime) -> Result<(), Fail> {
-    let untyped = named_symbol(b"untyped", 0x10, 0x10, 0);
-    let object = named_symbol(b"object", 0x01, 0x10, 0);
-    let function = named_symbol(b"function", 0x02, 0x10, 0);
-    let global = named_symbol(b"global", 0x12, 0x10, 0);
-    let weak = named_symbol(b"weak", 0x22, 0x10, 0);
-    let unique = named_symbol(b"unique", 0xa2, 0x10, 0);
-    let cases = [
-        (untyped, object, object),
-        (object, untyped, object),
-        (object, function, function),
-        (function, object, object),
-        (global, function, global),
-        (global, weak, weak),
-        (weak, global, global),
-        (weak, unique, weak),
-        (unique, function, function),
-        (function, unique, unique),
+    let symbols = [
+        named_symbol(b"first", 0x12, 0x10, 0),
+        named_symbol(b"second", 0x12, 0x10, 0),
     ];
-    for (first, second, want) in cases {
-        let file = file_of(rt.alloc(), SHAPES[0], SHT_SYMTAB, &[first, second])?;
-        assert_eq!(rt;
-            symbol_numbers(file.symbol(0x10)),
-            [digits(0, want.name), 0x10]
-        );
-    }
+    let file = symbols_file(rt.alloc(), SHAPES[0], &symbols).ok_or("a file")?;
+    assert_eq!(rt; first_wrong_symbol(rt.alloc(), &file, PREFERRED), "none");
     Ok(())
 }
 
+// Of 64 bits, little endian: "kept" at 0x10 and "other" at 0x18, of which st_info is at 75,
+// st_shndx at 77, and the name from 8f to 94.
+const USABLE: &str = "\
+nothing; other 18
+undefined; 77: 00; kept 10
+no name; 8f: 00; kept 10
+a section; 75: 13; kept 10
+a file; 75: 14; kept 10
+local storage; 75: 16; kept 10
+a byte that no character has; 8f: ff 00; kept 10
+a character of two bytes; 75: 10; 8f: c3 a9 00; é 18
+its second byte; 75: 10; 8f: a9 00; kept 10
+its first byte, at the end; 75: 10; 8f: 61 c3 00; kept 10
+its second byte, once more; 75: 10; 8f: c3 a9 a9 00; kept 10
+a character of three bytes; 75: 10; 8f: e2 82 ac 00; € 18
+two of its bytes; 75: 10; 8f: e2 82 00; kept 10
+a character of four bytes; 75: 10; 8f: f0 9f 98 80 00; 😀 18
+a surrogate; 75: 10; 8f: ed a0 80 00; kept 10
+a zero of two bytes; 75: 10; 8f: c0 80 00; kept 10
+a character between others; 75: 10; 8f: 61 c3 a9 62 00; aéb 18
+no character before others; 75: 10; 8f: ff 61 62 63 64 00; kept 10
+no character between others; 75: 10; 8f: 61 62 ff 63 64 00; kept 10
+the second byte is where the name begins; 71: 07; 8f: c3 a9 62 00; kept 10
+the name begins after a character; 71: 08; 8f: c3 a9 62 00; b 18
+";
+
 #[test]
 fn what_is_no_symbol(rt: HostRuntime) -> Result<(), Fail> {
-    let kept = named_symbol(b"kept", 0x12, 0x10, 0);
-    let undefined = Symbol {
-        section: 0,
-        ..named_symbol(b"undefined", 0x12, 0x20, 0)
-    };
-    let kept_is = [digits(0, b"kept"), 0x10];
-    let cases = [
-        (undefined, kept_is),
-        (named_symbol(b"", 0x12, 0x20, 0), kept_is),
-        (named_symbol(b"\xff", 0x12, 0x20, 0), kept_is),
-        (named_symbol(b"section", 0x13, 0x20, 0), kept_is),
-        (named_symbol(b"file", 0x14, 0x20, 0), kept_is),
-        (named_symbol(b"local storage", 0x16, 0x20, 0), kept_is),
-        (named_symbol(b"\xc3\xa9", 0x10, 0x20, 0), [0xc3a9, 0x20]),
-        // Parts of characters, and texts that begin or end with one.
-        (named_symbol(b"\xa9", 0x10, 0x20, 0), kept_is),
-        (named_symbol(b"a\xc3", 0x10, 0x20, 0), kept_is),
-        (named_symbol(b"\xc3\xa9\xa9", 0x10, 0x20, 0), kept_is),
-        (named_symbol(b"\xe2\x82", 0x10, 0x20, 0), kept_is),
-        (
-            named_symbol(b"\xe2\x82\xac", 0x10, 0x20, 0),
-            [0xe282ac, 0x20],
-        ),
-        (
-            named_symbol(b"\xf0\x9f\x98\x80", 0x10, 0x20, 0),
-            [0xf09f9880, 0x20],
-        ),
-        (named_symbol(b"\xed\xa0\x80", 0x10, 0x20, 0), kept_is),
-        (named_symbol(b"\xc0\x80", 0x10, 0x20, 0), kept_is),
-        (
-            named_symbol(b"a\xc3\xa9b", 0x10, 0x20, 0),
-            [0x61c3a962, 0x20],
-        ),
-        (named_symbol(b"\xffabcd", 0x10, 0x20, 0), kept_is),
-        (named_symbol(b"ab\xffcd", 0x10, 0x20, 0), kept_is),
+    let symbols = [
+        named_symbol(b"kept", 0x12, 0x10, 0),
+        named_symbol(b"other", 0x12, 0x18, 0),
     ];
-    for (symbol, want) in cases {
-        let file = file_of(rt.alloc(), SHAPES[0], SHT_SYMTAB, &[kept, symbol])?;
-        assert_eq!(rt; symbol_numbers(file.symbol(0x20)), want);
-    }
+    let file = symbols_file(rt.alloc(), SHAPES[0], &symbols).ok_or("a file")?;
+    assert_eq!(rt; first_wrong_symbol(rt.alloc(), &file, USABLE), "none");
     Ok(())
 }
+
+const REACHED: &str = "\
+00; none
+0f; none
+10; outer 10
+1f; outer 10
+20; inner 20
+23; inner 20
+24; none
+3f; none
+40; open 40
+ff ff ff ff ff ff ff fd; open 40
+ff ff ff ff ff ff ff fe; last ff ff ff ff ff ff ff fe
+ff ff ff ff ff ff ff ff; last ff ff ff ff ff ff ff fe
+";
 
 #[test]
 fn the_nearest_one_has_to_reach(rt: HostRuntime) -> Result<(), Fail> {
@@ -140,84 +135,56 @@ fn the_nearest_one_has_to_reach(rt: HostRuntime) -> Result<(), Fail> {
         named_symbol(b"outer", 0x12, 0x10, 0x100),
         named_symbol(b"last", 0x12, u64::MAX - 1, 4),
     ];
-    let file = file_of(rt.alloc(), SHAPES[0], SHT_SYMTAB, &symbols)?;
-    let outer = [digits(0, b"outer"), 0x10];
-    let inner = [digits(0, b"inner"), 0x20];
-    let open = [digits(0, b"open"), 0x40];
-    let last = [digits(0, b"last"), u64::MAX - 1];
-    let cases = [
-        ([0, 0xf, 0x10], [NONE, NONE, outer]),
-        ([0x1f, 0x23, 0x24], [outer, inner, NONE]),
-        ([0x3f, 0x40, u64::MAX - 2], [NONE, open, open]),
-        ([0x20, u64::MAX - 1, u64::MAX], [inner, last, last]),
-    ];
-    for (probes, want) in cases {
-        assert_eq!(rt; at(&file, probes), want);
-    }
+    let file = symbols_file(rt.alloc(), SHAPES[0], &symbols).ok_or("a file")?;
+    assert_eq!(rt; first_wrong_probe(rt.alloc(), &file, REACHED), "none");
     Ok(())
 }
 
-// The symbol at 0x10 in a file with these tables and their strings, which are section 3; two ones
-// for a file that is refused.
-fn at_16(alloc: Global, entries: &[Section<'_>; 2], strings: &[u8]) -> [u64; 2] {
-    let [first, second] = entries;
-    let sections = [*first, *second, plain(".strtab", strings)];
-    let Ok(bytes) = elf_file(alloc, SHAPES[0], &sections) else {
-        return [1, 1];
+// Of 64 bits, little endian: a SYMTAB with a symbol at 10, another one with that name at 8, and
+// the strings that both name. The values are at 60 and 90, and the section headers at c8, 108,
+// 148, 188 (the strings) and 1c8 (the names).
+const TABLES: &str = "\
+two of SYMTAB; one 10
+two of SYMTAB, the lower symbol first; 60: 08; 90: 10; one 08
+DYNSYM, then SYMTAB; 10c: 0b; one 08
+two of DYNSYM; 10c: 0b; 14c: 0b; one 10
+SYMTAB without a whole symbol; 128: 2f; 14c: 0b; 90: 10; none
+SYMTAB without bytes; 128: 00; 14c: 0b; 90: 10; none
+SYMTAB, NOBITS; 10c: 08; 14c: 0b; one 08
+SYMTAB without strings; 130: 00; 14c: 0b; 90: 10; none
+SYMTAB, whose strings are no section; 130: 09; 14c: 0b; 90: 10; none
+strings without the last zero byte; 1a8: 04; none
+section 0 outside; e0: ff ff ff ff ff ff ff ff; 14c: 0b; 90: 10; one 10
+SYMTAB outside; 120: ff ff ff ff ff ff ff ff; 14c: 0b; 90: 10; none
+DYNSYM outside; 160: ff ff ff ff ff ff ff ff; 14c: 0b; 90: 10; one 10
+strings outside; 1a0: ff ff ff ff ff ff ff ff; 14c: 0b; 90: 10; none
+names outside; 1e0: ff ff ff ff ff ff ff ff; 14c: 0b; 90: 10; one 10
+";
+
+// The file of two symbol tables.
+fn two_tables(alloc: Global) -> Option<Vec<u8>> {
+    let first = symbol_tables(alloc, SHAPES[0], &[named_symbol(b"one", 0x12, 0x10, 0)]).ok()?;
+    let second = symbol_tables(alloc, SHAPES[0], &[named_symbol(b"one", 0x12, 8, 0)]).ok()?;
+    let one = Section {
+        kind: SHT_SYMTAB,
+        link: 3,
+        ..plain(".symtab", &first.symbols)
     };
-    match open(alloc, bytes.as_slice()) {
-        Ok(file) => symbol_numbers(file.symbol(0x10)),
-        Err(_) => [1, 1],
-    }
+    let other = Section {
+        bytes: &second.symbols,
+        ..one
+    };
+    elf_file(
+        alloc,
+        SHAPES[0],
+        &[one, other, plain(".strtab", &first.strings)],
+    )
+    .ok()
 }
 
 #[test]
 fn which_table_counts(rt: HostRuntime) -> Result<(), Fail> {
-    let one = symbol_tables(
-        rt.alloc(),
-        SHAPES[0],
-        &[named_symbol(b"one", 0x12, 0x10, 0)],
-    )?;
-    let two = symbol_tables(rt.alloc(), SHAPES[0], &[named_symbol(b"one", 0x12, 0x8, 0)])?;
-    let full = Section {
-        kind: SHT_SYMTAB,
-        link: 3,
-        ..plain(".symtab", &one.symbols)
-    };
-    let dynamic = Section {
-        kind: SHT_DYNSYM,
-        ..full
-    };
-    let later = Section {
-        bytes: &two.symbols,
-        ..full
-    };
-    // The 23 bytes of a symbol that isn't whole are passed over.
-    let short = Section {
-        bytes: &one.symbols[..one.symbols.len().saturating_sub(1)],
-        ..full
-    };
-    let unnamed = Section { link: 0, ..full };
-    let elsewhere = Section { link: 9, ..full };
-    let other = Section {
-        kind: SHT_DYNSYM,
-        ..later
-    };
-    let strings: &[u8] = &one.strings;
-    // Without its zero byte the name is none.
-    let unended: &[u8] = b"\0one";
-    let cases = [
-        ([full, later], strings, [digits(0, b"one"), 0x10]),
-        ([later, full], strings, [digits(0, b"one"), 0x8]),
-        ([dynamic, later], strings, [digits(0, b"one"), 0x8]),
-        ([dynamic, other], strings, [digits(0, b"one"), 0x10]),
-        ([short, dynamic], strings, NONE),
-        ([unnamed, dynamic], strings, NONE),
-        ([elsewhere, dynamic], strings, NONE),
-        ([full, later], unended, NONE),
-    ];
-    for (entries, strings, want) in cases {
-        assert_eq!(rt; at_16(rt.alloc(), &entries, strings), want);
-    }
+    let file = two_tables(rt.alloc()).ok_or("a file")?;
+    assert_eq!(rt; first_wrong_symbol(rt.alloc(), &file, TABLES), "none");
     Ok(())
 }

@@ -15,7 +15,7 @@ use Rattle.addr2line_units.specs.declared.unit.ResUnit.{ResUnit}
 use Rattle.addr2line_units.specs.UnitIndex.{UnitIndex, UnitRange, unit_index, ends_sooner, range_covers, cover}
 use Rattle.addr2line_units.specs.Located.{location_in, location_along, location_of}
 use Rattle.addr2line_units.specs.CachedLines.{unit_index_of, StaysCached, CachesAnswer, lines_in_cache, is_uncached, range_holds, unit_holds}
-use Rattle.addr2line.specs.Context.{ContextState, has_parsed, decides, ready_along, IsReady, IsAnswer, AfterLookup, parsed_in}
+use Rattle.addr2line.specs.Context.{ContextState, has_parsed, decides, ready_along, IsReady, IsNotOom, AfterLookup, parsed_in}
 
 -- the range that leads to the one unit
 abbrev ranges_of : Option Range → List UnitRange
@@ -62,7 +62,7 @@ stays_by : (b : Bool) (old new : LazyLines) (n : ℕ) → is_uncached old ≡ b 
 stays_by true old new n is stays h = cc
 stays_by false old new n is stays h = ap (λ x. list_any (λ m. m == n) (parsed_by x)) (ap is_uncached (stays is) ∙ is) ∙ h
 
-cached_after : {X : Type 0} (old new : LazyLines) (r : Result X Error) → IsAnswer r → CachesAnswer old r new → is_uncached new ≡ false
+cached_after : {X : Type 0} (old new : LazyLines) (r : Result X Error) → IsNotOom r → CachesAnswer old r new → is_uncached new ≡ false
 cached_after old new (Ok x) a h = h
 cached_after old new (Err e) a h = h.0 a
 
@@ -95,7 +95,7 @@ module _ {R : Type 0} (d : Sections) (probe : ℕ) where
     pub cached_if_ready : IsReady (state old) probe → unit_holds probe old ≡ true → is_uncached (lines_in_cache old) ≡ false
     cached_if_ready ready h = cached_if_parsed (is_uncached (lines_in_cache old)) (cached_unit (state old) old h (ready (unit_index_of old) index))
 
-    pub after_lookup : {X : Type 0} (r : Result (Unit {0}) Error) (result : Result X Error) → (IsAnswer result → IsAnswer r) → StaysCached (lines_in_cache old) (lines_in_cache new)
+    pub after_lookup : {X : Type 0} (r : Result (Unit {0}) Error) (result : Result X Error) → (IsNotOom result → IsNotOom r) → StaysCached (lines_in_cache old) (lines_in_cache new)
         → (unit_holds probe old ≡ true → CachesAnswer (lines_in_cache old) r (lines_in_cache new)) → AfterLookup probe result (state old) (state new)
     after_lookup r result answer stays caches = record {
       sections = refl;

@@ -48,10 +48,10 @@ abbrev pub IsReady : ContextState → ℕ → Type 0
 IsReady c probe = (m : UnitIndex) → unit_index c.sections ≡ Ok m
     → ready_along c m.units probe (cover probe m.ranges) ≡ true
 
--- an answer other than OutOfMemory
-abbrev pub IsAnswer : {X : Type 0} → Result X Error → Type 0
-IsAnswer (Ok x) = Unit {0}
-IsAnswer (Err e) = e ≢ OutOfMemory
+-- any answer but OutOfMemory
+abbrev pub IsNotOom : {X : Type 0} → Result X Error → Type 0
+IsNotOom (Ok x) = Unit {0}
+IsNotOom (Err e) = e ≢ OutOfMemory
 
 -- after a lookup the sections are the same, what was parsed stays parsed, and the same lookup parses
 -- nothing more
@@ -59,7 +59,7 @@ pub record AfterLookup {X : Type 0} (probe : ℕ) (result : Result X Error)
     (old new : ContextState) : Type 0 where
   pub sections : new.sections ≡ old.sections
   pub stays : (n : ℕ) → has_parsed old n ≡ true → has_parsed new n ≡ true
-  pub ready : IsAnswer result → IsReady new probe
+  pub ready : IsNotOom result → IsReady new probe
 
 -- the units whose lines are parsed, as the fields have them: at most the first one
 abbrev pub parsed_in : {R : Type 0} → Option (ResUnit R) → List ℕ

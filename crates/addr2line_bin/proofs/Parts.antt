@@ -1,7 +1,7 @@
 -- Texts that go to a writer one after another.
 use Rattle.std.proofs.Common.{◌∙◌, ℕ, Bool, true, false, List, [], ◌++◌, Option, Some, None, refl, sym, ap, append-nil, append_assoc}
 use Rattle.std.specs.Io.KnownBytes.{Appends, Keeps}
-use Rattle.addr2line_bin.specs.Put.{Part, Goes, Sends, Begins}
+use Rattle.addr2line_bin.specs.Put.{WritesPrefix, WritesUnlessFailed, WritesIfUnfailed, WritesPrefixIfUnfailed}
 
 pub appends_nothing : (old new : Option (List ℕ)) → Keeps old new → Appends old new []
 appends_nothing None new k = tt
@@ -21,7 +21,7 @@ appends_both (Some xs) (Some ys) None a b p q = q
 appends_both (Some xs) (Some ys) (Some zs) a b p q = q ∙ ap (λ s. s ++ b) p ∙ append_assoc xs a b
 
 -- what was whole, and then a beginning
-pub part_later : (old mid new : Option (List ℕ)) (a b : List ℕ) → Appends old mid a → Part mid new b → Part old new (a ++ b)
+pub part_later : (old mid new : Option (List ℕ)) (a b : List ℕ) → Appends old mid a → WritesPrefix mid new b → WritesPrefix old new (a ++ b)
 part_later old mid new a b p q = record {
   written = a ++ q.written;
   rest = q.rest;
@@ -30,7 +30,7 @@ part_later old mid new a b p q = record {
 }
 
 -- a beginning of a text is one of a longer text
-pub part_longer : (old new : Option (List ℕ)) (a b : List ℕ) → Part old new a → Part old new (a ++ b)
+pub part_longer : (old new : Option (List ℕ)) (a b : List ℕ) → WritesPrefix old new a → WritesPrefix old new (a ++ b)
 part_longer old new a b p = record {
   written = p.written;
   rest = p.rest ++ b;
@@ -38,23 +38,23 @@ part_longer old new a b p = record {
   appends = p.appends;
 }
 
-pub whole : (old new : Option (List ℕ)) (a : List ℕ) → Appends old new a → Part old new a
+pub whole : (old new : Option (List ℕ)) (a : List ℕ) → Appends old new a → WritesPrefix old new a
 whole old new a p = record { written = a; rest = []; joins = sym (append-nil a); appends = p }
 
-pub part_kept : (old mid new : Option (List ℕ)) (a : List ℕ) → Part old mid a → Keeps mid new → Part old new a
+pub part_kept : (old mid new : Option (List ℕ)) (a : List ℕ) → WritesPrefix old mid a → Keeps mid new → WritesPrefix old new a
 part_kept old mid new a p k = record { written = p.written; rest = p.rest; joins = p.joins; appends = keeps_after old mid new p.written p.appends k }
 
 -- a text, and then one more
-pub goes_on : (old mid new : Option (List ℕ)) (f g : Bool) (a b : List ℕ) → Goes old mid f a → Sends mid new f g b → Goes old new g (a ++ b)
+pub goes_on : (old mid new : Option (List ℕ)) (f g : Bool) (a b : List ℕ) → WritesUnlessFailed old mid f a → WritesIfUnfailed mid new f g b → WritesUnlessFailed old new g (a ++ b)
 goes_on old mid new true true a b p q = part_longer old new a b (part_kept old mid new a p q.0)
 goes_on old mid new true false a b p q = absurd (cc)
 goes_on old mid new false true a b p q = part_later old mid new a b p q
 goes_on old mid new false false a b p q = appends_both old mid new a b p q
 
-pub part_flushed : (old mid new : Option (List ℕ)) (a : List ℕ) → Appends old mid a → Keeps mid new → Part old new a
+pub part_flushed : (old mid new : Option (List ℕ)) (a : List ℕ) → Appends old mid a → Keeps mid new → WritesPrefix old new a
 part_flushed old mid new a p k = whole old new a (keeps_after old mid new a p k)
 
-pub sends_nothing : (old : Option (List ℕ)) (f : Bool) → Keeps old old → Sends old old f f []
+pub sends_nothing : (old : Option (List ℕ)) (f : Bool) → Keeps old old → WritesIfUnfailed old old f f []
 sends_nothing old true k = (k, refl)
 sends_nothing old false k = appends_nothing old old k
 
@@ -69,22 +69,22 @@ keeps_both (Some xs) (Some ys) None p q = q
 keeps_both (Some xs) (Some ys) (Some zs) p q = q ∙ p
 
 -- what was sent, and one more text
-pub sends_on : (old mid new : Option (List ℕ)) (f g h : Bool) (a b : List ℕ) → Sends old mid f g a → Sends mid new g h b → Sends old new f h (a ++ b)
+pub sends_on : (old mid new : Option (List ℕ)) (f g h : Bool) (a b : List ℕ) → WritesIfUnfailed old mid f g a → WritesIfUnfailed mid new g h b → WritesIfUnfailed old new f h (a ++ b)
 sends_on old mid new true true h a b p q = (keeps_both old mid new p.0 q.0, q.1)
 sends_on old mid new true false h a b p q = absurd (cc)
 sends_on old mid new false g h a b p q = goes_on old mid new g h a b p q
 
-pub begins_with_nothing : (old : Option (List ℕ)) (f : Bool) (text : List ℕ) → Begins old old f f text
+pub begins_with_nothing : (old : Option (List ℕ)) (f : Bool) (text : List ℕ) → WritesPrefixIfUnfailed old old f f text
 begins_with_nothing old f text = record { sent = []; rest = text; joins = refl; sends = sends_nothing old f (keeps_itself old) }
 
-pub begins_whole : (old new : Option (List ℕ)) (f g : Bool) (text : List ℕ) → Sends old new f g text → Begins old new f g text
+pub begins_whole : (old new : Option (List ℕ)) (f g : Bool) (text : List ℕ) → WritesIfUnfailed old new f g text → WritesPrefixIfUnfailed old new f g text
 begins_whole old new f g text t = record { sent = text; rest = []; joins = sym (append-nil text); sends = t }
 
-pub part_nothing : (old : Option (List ℕ)) (text : List ℕ) → Part old old text
+pub part_nothing : (old : Option (List ℕ)) (text : List ℕ) → WritesPrefix old old text
 part_nothing old text = record { written = []; rest = text; joins = refl; appends = appends_nothing old old (keeps_itself old) }
 
 -- what was sent whole, and a beginning of the next text
-pub begins_later : (old mid new : Option (List ℕ)) (f g h : Bool) (a b : List ℕ) → Sends old mid f g a → Begins mid new g h b → Begins old new f h (a ++ b)
+pub begins_later : (old mid new : Option (List ℕ)) (f g h : Bool) (a b : List ℕ) → WritesIfUnfailed old mid f g a → WritesPrefixIfUnfailed mid new g h b → WritesPrefixIfUnfailed old new f h (a ++ b)
 begins_later old mid new f g h a b p q = record {
   sent = a ++ q.sent;
   rest = q.rest;
@@ -92,5 +92,5 @@ begins_later old mid new f g h a b p q = record {
   sends = sends_on old mid new f g h a q.sent p q.sends;
 }
 
-pub begins_longer : (old new : Option (List ℕ)) (f g : Bool) (a b : List ℕ) → Begins old new f g a → Begins old new f g (a ++ b)
+pub begins_longer : (old new : Option (List ℕ)) (f g : Bool) (a b : List ℕ) → WritesPrefixIfUnfailed old new f g a → WritesPrefixIfUnfailed old new f g (a ++ b)
 begins_longer old new f g a b p = record { sent = p.sent; rest = p.rest ++ b; joins = ap (λ s. s ++ b) p.joins ∙ append_assoc p.sent p.rest b; sends = p.sends }

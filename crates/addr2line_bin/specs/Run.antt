@@ -7,7 +7,7 @@ use Rattle.std.specs.Io.KnownBytes.{Appends}
 use Rattle.gimli.specs.Sections.{Sections}
 use Rattle.elf.specs.Loading.{Loading, LoadsUnlessOom}
 use Rattle.addr2line_units.specs.Located.{location_of}
-use Rattle.addr2line_bin.specs.Put.{Part, Goes}
+use Rattle.addr2line_bin.specs.Put.{WritesPrefix, WritesUnlessFailed}
 use Rattle.addr2line_bin.specs.Text.{outs, errs, probes_in}
 use Rattle.addr2line_bin.specs.Load.{loaded_of}
 use Rattle.addr2line_bin.specs.Told.{load_fault_text}
@@ -38,19 +38,19 @@ status_at exit.Misused = 2
 pub record IsWhole (out_old out_new err_old err_new : Option (List ℕ)) (out_text err_text : List ℕ) (e : Exit) : Type 0 where
   pub out : Appends out_old out_new out_text
   pub has_failed : Bool
-  pub err : Goes err_old err_new has_failed err_text
+  pub err : WritesUnlessFailed err_old err_new has_failed err_text
   pub exit : e ≡ exit.Done
 
 -- the run stopped early: a beginning of the output, a beginning of the faults, and a last line
 pub record IsCut (name : List ℕ) (out_old out_new err_old err_new : Option (List ℕ)) (out_text err_text : List ℕ) (e : Exit) : Type 0 where
-  pub out : Part out_old out_new out_text
+  pub out : WritesPrefix out_old out_new out_text
   pub sent : List ℕ
   pub rest : List ℕ
   pub joins : err_text ≡ sent ++ rest
   pub why : Stop
   pub exit : e ≡ exit_at why
   pub has_failed : Bool
-  pub err : Goes err_old err_new has_failed (sent ++ last_text name why)
+  pub err : WritesUnlessFailed err_old err_new has_failed (sent ++ last_text name why)
 
 -- the run wrote all of both texts, or stopped early
 abbrev pub IsRun : List ℕ → Option (List ℕ) → Option (List ℕ) → Option (List ℕ) → Option (List ℕ) → List ℕ → List ℕ → Exit → Type 0
@@ -59,7 +59,7 @@ IsRun name oo on eo en out_text err_text e = IsWhole oo on eo en out_text err_te
 -- what goes to both streams for the words of addresses, where this is what the file gives
 abbrev pub IsAnswered : List ℕ → Option (List ℕ) → Option (List ℕ) → Option (List ℕ) → Option (List ℕ) → List (String Global) → Loading Sections → Exit → Type 0
 IsAnswered name oo on eo en words (Ok d) e = IsRun name oo on eo en (outs (location_of d) (probes_in words)) (errs (location_of d) name (probes_in words)) e
-IsAnswered name oo on eo en words (Err fault) e = (on ≡ oo) × ((has_failed : Bool) × Goes eo en has_failed (load_fault_text name fault)) × (e ≡ exit.Failed)
+IsAnswered name oo on eo en words (Err fault) e = (on ≡ oo) × ((has_failed : Bool) × WritesUnlessFailed eo en has_failed (load_fault_text name fault)) × (e ≡ exit.Failed)
 
 -- the same for the bytes of a file, or the fault of their reading; it may be OutOfMemory instead
 pub record IsAnswer (name : List ℕ) (oo on eo en : Option (List ℕ)) (words : List (String Global)) (bytes : Loading (List ℕ)) (e : Exit) : Type 0 where

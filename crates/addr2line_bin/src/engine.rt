@@ -6,7 +6,7 @@ ghost use Rattle.std.specs.Io.BufRead.{Rests};
 ghost use Rattle.std.specs.Io.KnownBytes.{Appends};
 ghost use Rattle.gimli_read.specs.Reading.{ExactlyUnlessOom};
 ghost use Rattle.addr2line_lines.specs.SeenLocation.{seen_location};
-ghost use Rattle.addr2line_bin.specs.Put.{Part, Sends, Begins};
+ghost use Rattle.addr2line_bin.specs.Put.{WritesPrefix, WritesIfUnfailed, WritesPrefixIfUnfailed};
 ghost use Rattle.addr2line_bin.specs.Text.{location_text, location_or_none, hex, fault_line, fault_text, out_of, told_of, outs, errs, probes_in};
 ghost use Rattle.addr2line_bin.specs.declared.engine.Exit.TheVariants as exit;
 ghost use Rattle.addr2line_bin.specs.Told.{load_fault_text, usage_text};
@@ -133,11 +133,11 @@ fn step<L: Locate, W: Write, E: Write>(
     ensures kept { L.found context.new ≡ L.found context.old }
     ensures out { OnOk result (Appends (W.contents out.old) (W.contents out.new)
         (out_of (L.found context.old) probe)) }
-    ensures part { OnErr result (Part (W.contents out.old) (W.contents out.new)
+    ensures part { OnErr result (WritesPrefix (W.contents out.old) (W.contents out.new)
         (out_of (L.found context.old) probe)) }
-    ensures err { OnOk result (Sends (E.contents err.old) (E.contents err.new)
+    ensures err { OnOk result (WritesIfUnfailed (E.contents err.old) (E.contents err.new)
         has_failed.old has_failed.new (told_of (L.found context.old) name.now probe)) }
-    ensures begun { OnErr result (Begins (E.contents err.old) (E.contents err.new)
+    ensures begun { OnErr result (WritesPrefixIfUnfailed (E.contents err.old) (E.contents err.new)
         has_failed.old has_failed.new (told_of (L.found context.old) name.now probe)) }
 {
     let texts = texts_of(alloc, name, context, probe)?;
@@ -158,11 +158,11 @@ fn print_words<L: Locate, W: Write, E: Write>(
 ) -> Result<(), Stop>
     ensures out { OnOk result (Appends (W.contents out.old) (W.contents out.new)
         (outs (L.found context.old) (probes_in words.now))) }
-    ensures part { OnErr result (Part (W.contents out.old) (W.contents out.new)
+    ensures part { OnErr result (WritesPrefix (W.contents out.old) (W.contents out.new)
         (outs (L.found context.old) (probes_in words.now))) }
-    ensures err { OnOk result (Sends (E.contents err.old) (E.contents err.new)
+    ensures err { OnOk result (WritesIfUnfailed (E.contents err.old) (E.contents err.new)
         has_failed.old has_failed.new (errs (L.found context.old) name.now (probes_in words.now))) }
-    ensures begun { OnErr result (Begins (E.contents err.old) (E.contents err.new)
+    ensures begun { OnErr result (WritesPrefixIfUnfailed (E.contents err.old) (E.contents err.new)
         has_failed.old has_failed.new (errs (L.found context.old) name.now (probes_in words.now))) }
 {
     for word in words {
@@ -175,7 +175,7 @@ fn print_words<L: Locate, W: Write, E: Write>(
 /// Writes why a run stopped early.
 #[tactic(auto, using(crate::proofs::Parts::sends_nothing, crate::proofs::Parts::keeps_itself))]
 pub fn tell_last<E: Write>(name: &str, stop: Stop, err: &mut E, has_failed: &mut bool) -> Exit
-    ensures loader_error_of { Sends (E.contents err.old) (E.contents err.new) has_failed.old has_failed.new
+    ensures loader_error_of { WritesIfUnfailed (E.contents err.old) (E.contents err.new) has_failed.old has_failed.new
         (last_text name.now stop) }
     ensures exit { result ≡ exit_at stop }
 {
@@ -226,7 +226,7 @@ pub fn tell_load_fault<E: Write>(
     err: &mut E,
     has_failed: &mut bool,
 ) -> Exit
-    ensures loader_error_of { Sends (E.contents err.old) (E.contents err.new) has_failed.old has_failed.new
+    ensures loader_error_of { WritesIfUnfailed (E.contents err.old) (E.contents err.new) has_failed.old has_failed.new
         (load_fault_text name.now fault) }
     ensures exit { result ≡ exit.Failed }
 {
@@ -238,7 +238,7 @@ pub fn tell_load_fault<E: Write>(
 /// Writes how the program is used.
 #[tactic(auto, using(crate::proofs::Parts::sends_on))]
 pub fn tell_usage<E: Write>(name: &str, err: &mut E, has_failed: &mut bool) -> Exit
-    ensures loader_error_of { Sends (E.contents err.old) (E.contents err.new) has_failed.old has_failed.new
+    ensures loader_error_of { WritesIfUnfailed (E.contents err.old) (E.contents err.new) has_failed.old has_failed.new
         (usage_text name.now) }
     ensures exit { result ≡ exit.Misused }
 {

@@ -2,7 +2,7 @@
 
 ghost use Rattle.std.specs.Prelude.{◌≡◌, ◌≢◌, ◌++◌, OnOk, IfErr, MatchResult};
 ghost use Rattle.std.specs.Io.KnownBytes.{Appends};
-ghost use Rattle.addr2line_bin.specs.Put.{Part, Sends};
+ghost use Rattle.addr2line_bin.specs.Put.{WritesPrefix, WritesIfUnfailed};
 ghost use Rattle.addr2line_bin.specs.declared.stream.Stop.TheVariants as stop;
 
 use std::alloc::AllocError;
@@ -42,7 +42,7 @@ impl From<io::Error> for Stop {
 fn put<W: Write>(out: &mut W, bytes: &[u8]) -> io::Result<()>
     ensures gives { MatchResult result
         (λ _. Appends (W.contents out.old) (W.contents out.new) bytes.now)
-        (λ _. Part (W.contents out.old) (W.contents out.new) bytes.now) }
+        (λ _. WritesPrefix (W.contents out.old) (W.contents out.new) bytes.now) }
 {
     let mut rest = bytes;
     while !rest.is_empty() {
@@ -58,7 +58,7 @@ fn put<W: Write>(out: &mut W, bytes: &[u8]) -> io::Result<()>
 
 /// Sends a text to standard error, unless it has failed before; `has_failed` is whether it has by now.
 pub fn tell<W: Write>(err: &mut W, has_failed: &mut bool, text: &str)
-    ensures gives { Sends (W.contents err.old) (W.contents err.new) has_failed.old has_failed.new text.now }
+    ensures gives { WritesIfUnfailed (W.contents err.old) (W.contents err.new) has_failed.old has_failed.new text.now }
 {
     if !*has_failed {
         *has_failed = put(err, text.as_bytes()).is_err();
@@ -68,7 +68,7 @@ pub fn tell<W: Write>(err: &mut W, has_failed: &mut bool, text: &str)
 /// Sends two texts, one after the other.
 #[tactic(auto, using(crate::proofs::Parts::sends_on))]
 pub fn tell_both<W: Write>(err: &mut W, has_failed: &mut bool, first: &str, second: &str)
-    ensures gives { Sends (W.contents err.old) (W.contents err.new) has_failed.old has_failed.new
+    ensures gives { WritesIfUnfailed (W.contents err.old) (W.contents err.new) has_failed.old has_failed.new
         (first.now ++ second.now) }
 {
     tell(err, has_failed, first);
@@ -80,7 +80,7 @@ pub fn tell_both<W: Write>(err: &mut W, has_failed: &mut bool, first: &str, seco
 pub fn send<W: Write>(out: &mut W, text: &str) -> Result<(), Stop>
     ensures gives { OnOk result (Appends (W.contents out.old) (W.contents out.new) text.now) }
     ensures refused { IfErr result (λ e. (e ≢ stop.OutOfMemory)
-        × Part (W.contents out.old) (W.contents out.new) text.now) }
+        × WritesPrefix (W.contents out.old) (W.contents out.new) text.now) }
 {
     put(out, text.as_bytes())?;
     out.flush()?;

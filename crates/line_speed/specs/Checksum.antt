@@ -25,19 +25,22 @@ marks row = bit row.end_sequence + 2 * bit row.dropped
 
 -- the fields of a row, each times a number of its own
 abbrev pub fields : LineRow → ℕ
-fields row = wrapped (wrapped (wrapped (wrapped (row.address + wrapped (row.line * 3)) + wrapped (row.column * 5)) + wrapped (row.file_index * 7)) + wrapped (marks row * 11))
+fields row =
+    wrapped (wrapped (wrapped (wrapped (row.address + wrapped (row.line * 3))
+    + wrapped (row.column * 5)) + wrapped (row.file_index * 7)) + wrapped (marks row * 11))
 
 -- a sum with one row more
 abbrev pub with_row : ℕ → LineRow → ℕ
 with_row sum row = wrapped (wrapped (sum * 31) + fields row)
 
--- a sum with the rows of a list, or the fault behind them
+-- a sum with the rows of a list, or the fault after them
 unfoldable pub with_rows : ℕ → List (Result LineRow Error) → Result ℕ Error
 with_rows sum [] = Ok sum
 with_rows sum (Ok row ∷ rest) = with_rows (with_row sum row) rest
 with_rows sum (Err e ∷ rest) = Err e
 
--- a program and where the next one stands, none at the end; addresses have 8 bytes where version 2 to 4 leaves it to the unit
+-- a program and where the next one stands, none at the end; addresses have 8 bytes where version 2
+-- to 4 leaves it to the unit
 unfoldable pub program_at : Section → Reading (Option Program)
 program_at s = if length s.bytes == 0 then Ok (None, s) else do
   length ← initial_length_at s

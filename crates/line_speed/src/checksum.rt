@@ -61,7 +61,8 @@ fn with_program<R: Reader>(sum: u64, program: &IncompleteLineProgram<R>) -> Resu
     with_rows(sum, &mut rows)
 }
 
-/// The checksum of all rows of a section's line programs, which stand one after another, of address size 8.
+/// The checksum of all rows of a section's line programs, which stand one after another, of
+/// address size 8.
 ///
 /// Refused as `read_line_program`, `rows` and `next_row` are.
 pub fn checksum_of<R: Reader>(alloc: Global, section: R) -> Result<u64, Error>

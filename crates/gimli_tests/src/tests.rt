@@ -240,7 +240,8 @@ fn a_unit_is_what_its_root_says(rt: HostRuntime) -> Result<(), Fail> {
             plain
         );
     }
-    // The root's low_pc is read from the bytes of its text, since the abbreviation isn't a skeleton's.
+    // The root's low_pc is read from the bytes of its text, since the abbreviation isn't a
+    // skeleton's.
     let skeleton = [0x1_2f77, 0x0010_006f_7764_2e73, 0, 0x1122_3344_5566_7788, 1];
     let order = RunTimeEndian::Little;
     assert_eq!(rt;

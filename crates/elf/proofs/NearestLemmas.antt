@@ -1,4 +1,5 @@
--- Which symbol a probe means, in a sorted table and in the file's own order (on specs/Symbols.antt and specs/Table.antt).
+-- Which symbol a probe means, in a sorted table and in the file's own order (on
+-- specs/Symbols.antt and specs/SymbolTable.antt).
 use Rattle.std.proofs.Common.{ℕ, zero, suc, ◌≡◌, ◌<◌, ◌≤◌, ◌⊎◌, Bool, true, false, cond, not, ◌&&◌, List, [], ◌∷◌, Some, None, length, filter, get_or, nat_cmp, nat_le, ◌==◌, arith, inl, inr, ◌∙◌, subst, ap, sym, refl}
 use Rattle.std.specs.Cmp.{IsStrictWeakOrder}
 use Rattle.std.specs.Ordering.{is_lt, ordering_then}
@@ -129,7 +130,8 @@ address_le z x h = elim h [ inl lt ↦ omega arith | inr e ↦ (let f = e.0 in o
 preference_le : (z x : Entry) → x.address ≡ z.address → IsBefore z x → preference x ≤ preference z
 preference_le z x e h = elim h [ inl lt ↦ absurd (omega arith) | inr i ↦ i.1 ]
 
--- z counts where each symbol is above the probe or before z, and z is the last of those that tie with it
+-- z counts where each symbol is above the probe or before z, and z is the last of those that tie
+-- with it
 counting : (probe : ℕ) (xs : List Entry) (z : Entry) → All (λ x. (probe < x.address) ⊎ IsBefore z x) xs → z.address ≤ probe → last (filter (is_tied z) xs) ≡ Some z → nearest_symbol probe xs ≡ Some z
 unfolding nearest_symbol
 counting probe xs z all low is =

@@ -1,4 +1,5 @@
--- Where texts in UTF-8 begin, from the last place of a table to the first (on specs/TextStarts.antt).
+-- Where texts in UTF-8 begin, from the last place of a table to the first (on
+-- specs/TextStarts.antt).
 use Rattle.std.proofs.Common.{ℕ, zero, suc, ◌≡◌, ◌≢◌, ◌<◌, ◌≤◌, ◌+◌, Bool, true, false, cond, List, [], ◌∷◌, ◌++◌, Some, None, length, take, drop, get_or, slice_index, ◌==◌, arith, ◌∙◌, ap, sym, subst, refl}
 use Rattle.std.specs.Prelude.{Option, option_map, option_and_then, is_some}
 use Rattle.std.specs.Str.{IsUtf8, encode_utf8_all, is_utf8}

@@ -119,5 +119,6 @@ covers probe e = e.size == 0 || nat_lt probe (e.address + e.size)
 unfoldable pub symbol_at : ℕ → ObjectFile → Option NamedAddress
 symbol_at probe file = option_and_then (λ e.
     if covers probe e
-    then option_map (λ name. record { name = name; address = e.address }) (name_of (symbol_names_of file) e)
+    then option_map (λ name. record { name = name; address = e.address })
+    (name_of (symbol_names_of file) e)
     else None) (nearest_symbol probe (symbols_of file))

@@ -81,7 +81,7 @@ impl ElfFile {
     /// | Refusal | When |
     /// |---|---|
     /// | `NotElf` | the bytes don't begin with the whole magic |
-    /// | `BadElf` | the header or a section header isn't whole; an unknown class, byte order or entry size |
+    /// | `BadElf` | a header isn't wholly in the file; an unknown class, byte order or entry size |
     /// | `OutOfMemory` | a growth was refused; the file has a section |
     ///
     /// Source: System V ABI, Object Files.
@@ -120,8 +120,8 @@ impl ElfFile {
     /// | Refusal, in this order | When |
     /// |---|---|
     /// | `BadElf` | the section isn't wholly within the file |
-    /// | `CompressedSection` | it is compressed, or only `.zdebug_` with the rest of its name is there |
-    /// | `RelocationsNeeded` | the file is relocatable, with a nonempty REL or RELA section for it |
+    /// | `CompressedSection` | it is compressed, or there only with `.zdebug_` for `.debug_` |
+    /// | `RelocationsNeeded` | a relocatable file has a nonempty REL or RELA section for it |
     /// | `OutOfMemory` | a growth was refused; the section has a byte |
     #[tactic(auto, unfolding(crate::specs::Sections::section_at))]
     pub fn section(&self, name: &str) -> Result<EndianBytes, LoaderError>

@@ -24,7 +24,7 @@ const READ: &str = "\
 nothing; 01 02 03
 the rest of e_ident; 06: 09 09 09 09 09 09 09 09 09 09; 01 02 03
 e_type; 10: 01; 01 02 03
-e_machine to e_phoff; 12: ff ff ff ff ff ff ff ff ff ff ff ff ff ff ff ff ff ff ff ff ff ff; 01 02 03
+from e_machine on; 12: ff ff ff ff ff ff ff ff ff ff ff ff ff ff ff ff ff ff ff ff ff ff; 01 02 03
 e_flags to e_phnum; 30: ff ff ff ff ff ff ff ff ff ff; 01 02 03
 e_shnum 0, given by section 0; 3c: 00; 84: 04; 01 02 03
 the size of section 0, beside e_shnum; 84: 09; 01 02 03
@@ -33,7 +33,7 @@ sh_type, no NOBITS; e8: 09; 01 02 03
 sh_flags, all but the compressed one; ec: ff f7 ff ff ff ff ff ff; 01 02 03
 sh_addr; f4: ff ff ff ff ff ff ff ff; 01 02 03
 sh_offset, the last bytes of the file; fc: 61 01; 00 00 00
-sh_link to sh_entsize; 10c: ff ff ff ff ff ff ff ff ff ff ff ff ff ff ff ff ff ff ff ff ff ff ff ff; 01 02 03
+sh_link and on; 10c: ff ff ff ff ff ff ff ff ff ff ff ff ff ff ff ff ff ff ff ff ff ff ff ff; 01 02 03
 sh_name, two of that name; a4: 07; 09 09 09 09
 e_type 1, and a RELA section for another; 10: 01; a8: 04; d0: 01; 01 02 03
 e_type 1, and an empty RELA section for it; 10: 01; a8: 04; d0: 02; c4: 00; 01 02 03

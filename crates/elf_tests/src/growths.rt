@@ -83,16 +83,16 @@ fn a_refused_growth_is_answered_and_the_next_call_is_right(rt: HostRuntime) {
     }
 }
 
-// The numbers of a file of shared bytes.
-fn ample(alloc: Global) -> Option<[u64; 5]> {
+// The strings of a file of shared bytes, by one call, and its numbers.
+fn ample(alloc: Global) -> Option<(u64, [u64; 5])> {
     let bytes = Bytes::copy_from_slice(alloc, &FILE).ok()?;
     let file = ElfFile::parse(alloc, EndianBytes::new(bytes, RunTimeEndian::Little)).ok()?;
-    Some(numbers(&file))
+    Some((section_number(&file, ".strtab"), numbers(&file)))
 }
 
 #[test]
 fn with_ample_memory_all_is_read(rt: HostRuntime) {
-    assert_eq!(rt; ample(rt.alloc()), Some(NUMBERS));
+    assert_eq!(rt; ample(rt.alloc()), Some((0x1_006100, NUMBERS)));
 }
 
 // A file of shared bytes: a refused section leaves it as it was.

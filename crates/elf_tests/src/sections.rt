@@ -147,7 +147,7 @@ fn section_of(word: &str) -> Option<Section<'static>> {
     })
 }
 
-// Whether a case has its answer; `None` where it can't be read, or memory is wanting.
+// Whether a case has its answer; `None` where it can't be read, or a growth was refused.
 fn is_file_right(alloc: Global, shape: Shape, case: &str) -> Option<bool> {
     let (e_type, rest) = case.split_once(';')?;
     let (sections, want) = rest.split_once(';')?;

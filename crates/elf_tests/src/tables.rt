@@ -82,7 +82,7 @@ fn symbol_found(alloc: Global, file: &[u8]) -> [u64; 2] {
     }
 }
 
-// Whether a case has its answer; `None` where it can't be read, or memory is wanting.
+// Whether a case has its answer; `None` where it can't be read, or a growth was refused.
 fn is_section_right(alloc: Global, file: &[u8], case: &str) -> Option<bool> {
     let (changes, want) = case.rsplit_once(';')?;
     let mut file = Vec::from_slice(alloc, file).ok()?;
@@ -100,7 +100,7 @@ pub(crate) fn first_wrong_section<'a>(alloc: Global, file: &[u8], cases: &'a str
     "none"
 }
 
-// Whether a case has its answer; `None` where it can't be read, or memory is wanting.
+// Whether a case has its answer; `None` where it can't be read, or a growth was refused.
 fn is_symbol_right(alloc: Global, file: &[u8], case: &str) -> Option<bool> {
     let (changes, want) = case.rsplit_once(';')?;
     let mut file = Vec::from_slice(alloc, file).ok()?;

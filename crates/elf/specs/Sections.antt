@@ -65,12 +65,12 @@ abbrev pub is_relocated : ObjectFile → ℕ → Bool
 is_relocated file n = file.is_relocatable && list_any (relocates n) file.sections
 
 -- no bytes in the file's order
-abbrev pub no_bytes : ObjectFile → Section
-no_bytes file = record { bytes = []; endian = file.endian }
+abbrev pub empty_contents : ObjectFile → Section
+empty_contents file = record { bytes = []; endian = file.endian }
 
 -- the bytes of section n
 unfoldable pub contents_of : ObjectFile → ℕ → SectionHeader → Loading Section
-contents_of file n s = if s.kind == SHT_NOBITS then Ok (no_bytes file)
+contents_of file n s = if s.kind == SHT_NOBITS then Ok (empty_contents file)
     else if nat_lt (length file.bytes) (s.offset + s.size) then Err BadElf
     else if is_compressed s then Err CompressedSection
     else if is_relocated file n then Err RelocationsNeeded
@@ -80,7 +80,7 @@ contents_of file n s = if s.kind == SHT_NOBITS then Ok (no_bytes file)
 abbrev pub missing_section : List ℕ → ObjectFile → Loading Section
 missing_section name file = if list_any (is_zdebug (section_names_of file) name) file.sections
     then Err CompressedSection
-    else Ok (no_bytes file)
+    else Ok (empty_contents file)
 
 -- the bytes of the first section of a name
 unfoldable pub section_at : List ℕ → ObjectFile → Loading Section

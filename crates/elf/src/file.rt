@@ -6,7 +6,7 @@ ghost use Rattle.elf.specs.Loading.{LoadsUnlessOomFor};
 ghost use Rattle.elf.specs.ObjectFile.{ObjectFile, object_file_of, name_table_of, gives_sections};
 ghost use Rattle.elf.specs.Symbols.{named_address, nearest_symbol, symbol_names_of, symbols_of, symbol_at};
 ghost use Rattle.elf.specs.SymbolTable.{HasSymbols};
-ghost use Rattle.elf.specs.Sections.{section_names_of, number_named, first_named, section_range_at, no_bytes, contents_of, missing_section, section_at, gives_bytes_of_file};
+ghost use Rattle.elf.specs.Sections.{section_names_of, number_named, first_named, section_range_at, empty_contents, contents_of, missing_section, section_at, gives_bytes_of_file};
 
 use crate::constants::SHN_XINDEX;
 use crate::error::LoaderError;
@@ -203,8 +203,8 @@ impl ElfFile {
     }
 
     // No bytes.
-    fn no_bytes(&self) -> EndianBytes
-        ensures gives { result ≡ no_bytes self.now }
+    fn empty_contents(&self) -> EndianBytes
+        ensures gives { result ≡ empty_contents self.now }
     {
         EndianBytes::new(Bytes::new(), self.bytes.endian())
     }
@@ -216,7 +216,7 @@ impl ElfFile {
             (contents_of self.now number section.now) }
     {
         if section.is_nobits() {
-            return Ok(self.no_bytes());
+            return Ok(self.empty_contents());
         }
         if section.is_outside(self.bytes.to_slice().len()) {
             return Err(LoaderError::BadElf);
@@ -237,6 +237,6 @@ impl ElfFile {
         if section::has_zdebug(&self.sections, self.section_names(), name) {
             return Err(LoaderError::CompressedSection);
         }
-        Ok(self.no_bytes())
+        Ok(self.empty_contents())
     }
 }

@@ -53,8 +53,8 @@ abbrev pub IsNotOom : {X : Type 0} → Result X Error → Type 0
 IsNotOom (Ok x) = Unit {0}
 IsNotOom (Err e) = e ≢ OutOfMemory
 
--- after a lookup the sections are the same, what was parsed stays parsed, and the same lookup parses
--- nothing more
+-- after a lookup the sections are the same, what was parsed stays parsed, and the same lookup
+-- parses nothing more
 pub record AfterLookup {X : Type 0} (probe : ℕ) (result : Result X Error)
     (old new : ContextState) : Type 0 where
   pub sections : new.sections ≡ old.sections

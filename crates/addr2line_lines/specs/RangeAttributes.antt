@@ -1,6 +1,6 @@
 -- The addresses of an entry (DWARF 5, section 2.17).
--- Own: of low_pc, of high_pc as an address and of high_pc as a size the last that counts is taken; a
--- high_pc address counts before a size, whose sum wraps at 64 bits. Empty and reversed ranges are
+-- Own: of low_pc, of high_pc as an address and of high_pc as a size the last that counts is taken;
+-- a high_pc address counts before a size, whose sum wraps at 64 bits. Empty and reversed ranges are
 -- dropped.
 -- limit: no range list is read yet
 use Rattle.std.specs.Prelude.{ℕ, ◌+◌, ◌%◌, ◌^◌, ◌==◌, nat_lt, List, [], ◌∷◌, fold, Option, Some, None, Result, Ok, Err, if◌then◌else◌}
@@ -45,7 +45,8 @@ with_range_attribute d u r a =
 
 -- one more attribute, where none before it has a fault
 abbrev pub or_with_range_attribute
-    : Sections → UnitRecord → Result RangeAttributes Error → NamedValue → Result RangeAttributes Error
+    : Sections → UnitRecord → Result RangeAttributes Error → NamedValue
+    → Result RangeAttributes Error
 or_with_range_attribute d u r a = r >>= λ x. with_range_attribute d u x a
 
 -- what attributes say, the last of each counting, or the first fault of an address's index

@@ -1,5 +1,5 @@
--- Which row an address belongs to (DWARF 5, section 6.2.2: a row describes the code from its address
--- up to the next row's).
+-- Which row an address belongs to (DWARF 5, section 6.2.2: a row describes the code from its
+-- address up to the next row's).
 -- Own: a row's span runs up to the next greater address of a row of its sequence, or to the
 -- sequence's end.
 -- Own: of overlapping sequences the picked one counts.

@@ -131,8 +131,9 @@ fn read_ranges<R: Reader>(
 ) -> Result<RangeAttributes, Error>
     requires encoding { entries.old.unit.encoding ≡ unit.unit.now.header.encoding }
     ensures gives { IsUnlessOom result (range_attributes_after unit.entry.dwarf.now
-        unit.entry.unit.now (Ok no_range_attributes) (attributes_at unit.entry.unit.now.header.encoding
-        specifications.now entries.old.cursor.left)) }
+        unit.entry.unit.now (Ok no_range_attributes)
+        (attributes_at unit.entry.unit.now.header.encoding specifications.now
+        entries.old.cursor.left)) }
 {
     let mut ranges = Ok(RangeAttributes::new());
     for specification in specifications {

@@ -1,6 +1,6 @@
 -- The lines of units as a context caches them, as the private functions see them.
--- Own: lines are read when they are first asked for, and cached then, their fault too. OutOfMemory is
--- never cached.
+-- Own: lines are read when they are first asked for, and cached then, their fault too. OutOfMemory
+-- is never cached.
 use Rattle.std.specs.Prelude.{◌≡◌, ◌≢◌, ℕ, Bool, true, false, ◌&&◌, nat_le, nat_lt, [], ◌∷◌, map, Option, Some, None, option_and_then, Result, Ok, Err, if◌then◌else◌}
 use Rattle.std.specs.Option.{option_to_list}
 use Rattle.gimli_read.specs.declared.range.Range.{Range}

@@ -1,6 +1,6 @@
 -- Legacy names of Rust: which texts are such names, and the text that a name stands for.
--- Source: the mangling that rustc calls legacy: a prefix, elements after their decimal lengths, `E`,
--- a suffix.
+-- Source: the mangling that rustc calls legacy: a prefix, elements after their decimal lengths,
+-- `E`, a suffix.
 -- Own: one element at least; a suffix is empty, or begins with a dot and has only ASCII letters,
 -- digits and punctuation.
 use Rattle.std.specs.Prelude.{◌≡◌, ◌≢◌, ◌<◌, ◌≤◌, ◌==◌, ◌||◌, ◌&&◌, ◌⊎◌, ℕ, Bool, true, false, List, [], ◌∷◌, ◌++◌, length, codes, encode_utf8}
@@ -74,7 +74,8 @@ pub data AreShown (elements shown : List (List ℕ)) : Type 0 where
   hashed : (hash : List ℕ) → elements ≡ shown ++ (hash ∷ []) → is_hash hash ≡ true
       → AreShown elements shown
   all : elements ≡ shown
-      → ((front : List (List ℕ)) (last : List ℕ) → elements ≡ front ++ (last ∷ []) → is_hash last ≡ false)
+      → ((front : List (List ℕ)) (last : List ℕ) → elements ≡ front ++ (last ∷ [])
+      → is_hash last ≡ false)
       → AreShown elements shown
 
 -- what stands between two dollars, and the character that it means

@@ -1,7 +1,8 @@
 -- The index of a context: its units, and the ranges of addresses that lead to them
 -- (DWARF 5, sections 2.17, 3.1 and 6.1.2).
--- Own: a type unit is passed over, and so is a unit whose record is faulty; a partial unit of version
--- 5 has no range. The first fault of a header, or of a unit's range attributes, refuses the context.
+-- Own: a type unit is passed over, and so is a unit whose record is faulty; a partial unit of
+-- version 5 has no range. The first fault of a header, or of a unit's range attributes, refuses the
+-- context.
 -- limit: no range list, no .debug_aranges and no line sequences are read for ranges yet
 use Rattle.std.specs.Prelude.{ℕ, nat_lt, nat_le, Bool, true, false, ◌&&◌, List, [], ◌∷◌, ◌++◌, length, map, filter, Result, Ok, Err, if◌then◌else◌}
 use Rattle.std.specs.Ordering.{is_lt, nat_cmp, ordering_then}

@@ -188,7 +188,8 @@ fn is_left_out(element: &[u8], after: &[u8]) -> bool
 /// Adds the text of the elements.
 #[tactic(auto, using(crate::proofs::LegacySteps::left_kept, crate::proofs::LegacySteps::left_hash, crate::proofs::LegacySteps::left_none), unfolding(crate::specs::LegacyText::elements_text))]
 fn push_elements(out: &mut String, elements: &[u8]) -> Result<(), AllocError>
-    ensures { OnOk result (string_bytes out.new ≡ string_bytes out.old ++ elements_text elements.now) }
+    ensures { OnOk result (string_bytes out.new ≡
+        string_bytes out.old ++ elements_text elements.now) }
 {
     let mut rest = elements;
     let mut is_first = true;

@@ -212,7 +212,8 @@ impl<R: Reader> ResUnit<R> {
         ensures gives { ExactlyUnlessOom (λ _. cached_lines self.new.lines) result
             (lines_answer dwarf.now self.old.dw_unit) }
         ensures exact { is_uncached self.old.lines ≡ false →
-            Exactly (λ _. cached_lines self.new.lines) result (lines_answer dwarf.now self.old.dw_unit) }
+            Exactly (λ _. cached_lines self.new.lines) result
+            (lines_answer dwarf.now self.old.dw_unit) }
         ensures stays { StaysCached self.old.lines self.new.lines }
         ensures caches { CachesAnswer self.old.lines result self.new.lines }
         ensures unit { self.new.dw_unit ≡ self.old.dw_unit }

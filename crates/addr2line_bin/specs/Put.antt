@@ -1,4 +1,5 @@
--- What goes to a writer that may fail: its bytes, where they are known, grow by a text or by a beginning of it.
+-- What goes to a writer that may fail: its bytes, where they are known, grow by a text or by a
+-- beginning of it.
 -- Own: after a failed write to standard error nothing more goes there.
 use Rattle.std.specs.Prelude.{◌≡◌, ℕ, Bool, true, false, List, ◌++◌, Option}
 use Rattle.std.specs.Io.KnownBytes.{Appends, Keeps}
@@ -21,7 +22,8 @@ WritesIfUnfailed old new true after text = Keeps old new × (after ≡ true)
 WritesIfUnfailed old new false after text = WritesUnlessFailed old new after text
 
 -- a beginning of a text is sent
-pub record WritesPrefixIfUnfailed (old new : Option (List ℕ)) (before after : Bool) (text : List ℕ) : Type 0 where
+pub record WritesPrefixIfUnfailed
+    (old new : Option (List ℕ)) (before after : Bool) (text : List ℕ) : Type 0 where
   pub sent : List ℕ
   pub rest : List ℕ
   pub joins : text ≡ sent ++ rest
@@ -34,7 +36,8 @@ pub record HasWritten (old new : Option (List ℕ)) (all rest : List ℕ) : Type
   pub appends : Appends old new written
 
 -- the same of what is sent
-pub record HasSent (old new : Option (List ℕ)) (before after : Bool) (all rest : List ℕ) : Type 0 where
+pub record HasSent
+    (old new : Option (List ℕ)) (before after : Bool) (all rest : List ℕ) : Type 0 where
   pub sent : List ℕ
   pub joins : all ≡ sent ++ rest
   pub sends : WritesIfUnfailed old new before after sent

@@ -1,5 +1,6 @@
 -- A whole run of the program.
--- Own: a failed write of the output ends the run, without a text for a broken pipe; so does a refused growth.
+-- Own: a failed write of the output ends the run, without a text for a broken pipe; so does a
+-- refused growth.
 use Rattle.std.specs.Prelude.{◌≡◌, ◌⊎◌, ℕ, Bool, true, false, List, [], ◌++◌, Option, Ok, Err, codes}
 use Rattle.std.specs.declared.string.String.{String}
 use Rattle.std.specs.declared.alloc.Global.{Global}
@@ -35,14 +36,19 @@ status_at exit.Failed = 1
 status_at exit.Misused = 2
 
 -- all of both texts went out, but that a failed error stream got a beginning
-pub record IsWhole (out_old out_new err_old err_new : Option (List ℕ)) (out_text err_text : List ℕ) (e : Exit) : Type 0 where
+pub record IsWhole
+    (out_old out_new err_old err_new : Option (List ℕ)) (out_text err_text : List ℕ) (e : Exit)
+    : Type 0 where
   pub out : Appends out_old out_new out_text
   pub has_failed : Bool
   pub err : WritesUnlessFailed err_old err_new has_failed err_text
   pub exit : e ≡ exit.Done
 
 -- the run stopped early: a beginning of the output, a beginning of the faults, and a last line
-pub record IsCut (name : List ℕ) (out_old out_new err_old err_new : Option (List ℕ)) (out_text err_text : List ℕ) (e : Exit) : Type 0 where
+pub record IsCut
+    (name : List ℕ) (out_old out_new err_old err_new : Option (List ℕ))
+    (out_text err_text : List ℕ) (e : Exit)
+    : Type 0 where
   pub out : WritesPrefix out_old out_new out_text
   pub sent : List ℕ
   pub rest : List ℕ
@@ -53,16 +59,29 @@ pub record IsCut (name : List ℕ) (out_old out_new err_old err_new : Option (Li
   pub err : WritesUnlessFailed err_old err_new has_failed (sent ++ last_text name why)
 
 -- the run wrote all of both texts, or stopped early
-abbrev pub IsRun : List ℕ → Option (List ℕ) → Option (List ℕ) → Option (List ℕ) → Option (List ℕ) → List ℕ → List ℕ → Exit → Type 0
-IsRun name oo on eo en out_text err_text e = IsWhole oo on eo en out_text err_text e ⊎ IsCut name oo on eo en out_text err_text e
+abbrev pub IsRun
+    : List ℕ → Option (List ℕ) → Option (List ℕ) → Option (List ℕ) → Option (List ℕ)
+    → List ℕ → List ℕ → Exit → Type 0
+IsRun name oo on eo en out_text err_text e =
+    IsWhole oo on eo en out_text err_text e ⊎ IsCut name oo on eo en out_text err_text e
 
 -- what goes to both streams for the words of addresses, where this is what the file gives
-abbrev pub IsAnswered : List ℕ → Option (List ℕ) → Option (List ℕ) → Option (List ℕ) → Option (List ℕ) → List (String Global) → Loading Sections → Exit → Type 0
-IsAnswered name oo on eo en words (Ok d) e = IsRun name oo on eo en (outs (location_of d) (probes_in words)) (errs (location_of d) name (probes_in words)) e
-IsAnswered name oo on eo en words (Err fault) e = (on ≡ oo) × ((has_failed : Bool) × WritesUnlessFailed eo en has_failed (load_fault_text name fault)) × (e ≡ exit.Failed)
+abbrev pub IsAnswered
+    : List ℕ → Option (List ℕ) → Option (List ℕ) → Option (List ℕ) → Option (List ℕ)
+    → List (String Global) → Loading Sections → Exit → Type 0
+IsAnswered name oo on eo en words (Ok d) e =
+    IsRun name oo on eo en
+    (outs (location_of d) (probes_in words)) (errs (location_of d) name (probes_in words)) e
+IsAnswered name oo on eo en words (Err fault) e =
+    (on ≡ oo)
+    × ((has_failed : Bool) × WritesUnlessFailed eo en has_failed (load_fault_text name fault))
+    × (e ≡ exit.Failed)
 
 -- the same for the bytes of a file, or the fault of their reading; it may be OutOfMemory instead
-pub record IsAnswer (name : List ℕ) (oo on eo en : Option (List ℕ)) (words : List (String Global)) (bytes : Loading (List ℕ)) (e : Exit) : Type 0 where
+pub record IsAnswer
+    (name : List ℕ) (oo on eo en : Option (List ℕ)) (words : List (String Global))
+    (bytes : Loading (List ℕ)) (e : Exit)
+    : Type 0 where
   pub given : Loading Sections
   pub gives : LoadsUnlessOom (λ d. d) given (loaded_of bytes)
   pub answered : IsAnswered name oo on eo en words given e

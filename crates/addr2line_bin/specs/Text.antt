@@ -1,5 +1,5 @@
 -- The text of the program: what goes to its two streams for the addresses that are asked for.
--- Own: a fault is written to standard error, and the address is printed as one that has no location.
+-- Own: a fault is written to standard error, and its address is printed as one without a location.
 use Rattle.std.specs.Prelude.{ℕ, List, [], ◌∷◌, ◌++◌, Option, Some, None, Result, Ok, Err, codes, map, unwrap_or, string_bytes, false}
 use Rattle.std.specs.declared.string.String.{String}
 use Rattle.std.specs.declared.alloc.Global.{Global}
@@ -17,7 +17,8 @@ line_text (Some n) = decimal n
 -- a location on a line of its own
 abbrev pub location_text : Option Location → List ℕ
 location_text None = codes "??:0\n"
-location_text (Some p) = unwrap_or p.file (codes "??") ++ codes ":" ++ line_text p.line ++ codes "\n"
+location_text (Some p) =
+    unwrap_or p.file (codes "??") ++ codes ":" ++ line_text p.line ++ codes "\n"
 
 -- what is found, where there is no fault
 abbrev pub location_or_none : Result (Option Location) Error → Option Location
@@ -30,7 +31,9 @@ hex n = radix_digits 16 false n
 
 -- the line of a lookup's fault
 abbrev pub fault_line : List ℕ → ℕ → Error → List ℕ
-fault_line name probe e = name ++ codes ": failed to find location for 0x" ++ hex probe ++ codes ": " ++ text_of e ++ codes "\n"
+fault_line name probe e =
+    name ++ codes ": failed to find location for 0x" ++ hex probe
+    ++ codes ": " ++ text_of e ++ codes "\n"
 
 -- what a lookup writes to standard error
 abbrev pub fault_text : List ℕ → ℕ → Result (Option Location) Error → List ℕ

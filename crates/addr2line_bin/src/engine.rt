@@ -107,7 +107,8 @@ fn texts_of<L: Locate>(
     probe: Option<u64>,
 ) -> Result<Texts, AllocError>
     ensures out { IfOk result (λ t. string_bytes t.out ≡ out_of (L.found context.old) probe) }
-    ensures err { IfOk result (λ t. string_bytes t.err ≡ told_of (L.found context.old) name.now probe) }
+    ensures err { IfOk result (λ t. string_bytes t.err
+        ≡ told_of (L.found context.old) name.now probe) }
     ensures kept { L.found context.new ≡ L.found context.old }
 {
     let mut out = String::new(alloc);
@@ -175,7 +176,8 @@ fn print_words<L: Locate, W: Write, E: Write>(
 /// Writes why a run stopped early.
 #[tactic(auto, using(crate::proofs::Parts::sends_nothing, crate::proofs::Parts::keeps_itself))]
 pub fn tell_last<E: Write>(name: &str, stop: Stop, err: &mut E, has_failed: &mut bool) -> Exit
-    ensures loader_error_of { WritesIfUnfailed (E.contents err.old) (E.contents err.new) has_failed.old has_failed.new
+    ensures err { WritesIfUnfailed (E.contents err.old) (E.contents err.new)
+        has_failed.old has_failed.new
         (last_text name.now stop) }
     ensures exit { result ≡ exit_at stop }
 {
@@ -198,7 +200,8 @@ pub fn tell_last<E: Write>(name: &str, stop: Stop, err: &mut E, has_failed: &mut
 /// standard error.
 ///
 /// What goes to `out` is the joined texts of the words' locations, or a beginning of it after a
-/// failed write or a refused growth; then the last line on standard error says so, but for a broken pipe.
+/// failed write or a refused growth; then the last line on standard error says so, but for a broken
+/// pipe.
 pub fn print<L: Locate, W: Write, E: Write>(
     alloc: Global,
     name: &str,
@@ -226,7 +229,8 @@ pub fn tell_load_fault<E: Write>(
     err: &mut E,
     has_failed: &mut bool,
 ) -> Exit
-    ensures loader_error_of { WritesIfUnfailed (E.contents err.old) (E.contents err.new) has_failed.old has_failed.new
+    ensures err { WritesIfUnfailed (E.contents err.old) (E.contents err.new)
+        has_failed.old has_failed.new
         (load_fault_text name.now fault) }
     ensures exit { result ≡ exit.Failed }
 {
@@ -238,7 +242,8 @@ pub fn tell_load_fault<E: Write>(
 /// Writes how the program is used.
 #[tactic(auto, using(crate::proofs::Parts::sends_on))]
 pub fn tell_usage<E: Write>(name: &str, err: &mut E, has_failed: &mut bool) -> Exit
-    ensures loader_error_of { WritesIfUnfailed (E.contents err.old) (E.contents err.new) has_failed.old has_failed.new
+    ensures err { WritesIfUnfailed (E.contents err.old) (E.contents err.new)
+        has_failed.old has_failed.new
         (usage_text name.now) }
     ensures exit { result ≡ exit.Misused }
 {

@@ -56,9 +56,11 @@ fn put<W: Write>(out: &mut W, bytes: &[u8]) -> io::Result<()>
     Ok(())
 }
 
-/// Sends a text to standard error, unless it has failed before; `has_failed` is whether it has by now.
+/// Sends a text to standard error, unless it has failed before; `has_failed` is whether it has by
+/// now.
 pub fn tell<W: Write>(err: &mut W, has_failed: &mut bool, text: &str)
-    ensures gives { WritesIfUnfailed (W.contents err.old) (W.contents err.new) has_failed.old has_failed.new text.now }
+    ensures gives { WritesIfUnfailed (W.contents err.old) (W.contents err.new)
+        has_failed.old has_failed.new text.now }
 {
     if !*has_failed {
         *has_failed = put(err, text.as_bytes()).is_err();
@@ -68,7 +70,8 @@ pub fn tell<W: Write>(err: &mut W, has_failed: &mut bool, text: &str)
 /// Sends two texts, one after the other.
 #[tactic(auto, using(crate::proofs::Parts::sends_on))]
 pub fn tell_both<W: Write>(err: &mut W, has_failed: &mut bool, first: &str, second: &str)
-    ensures gives { WritesIfUnfailed (W.contents err.old) (W.contents err.new) has_failed.old has_failed.new
+    ensures gives { WritesIfUnfailed (W.contents err.old) (W.contents err.new)
+        has_failed.old has_failed.new
         (first.now ++ second.now) }
 {
     tell(err, has_failed, first);

@@ -106,8 +106,8 @@ fn the_lines_of_a_unit(rt: HostRuntime) -> Result<(), Fail> {
     Ok(())
 }
 
-// A context's answers at two addresses, where it had memory: each growth of the calls is refused in turn by
-// `tools/refuse_growths`.
+// A context's answers at two addresses, where it had memory: each growth of the calls is refused in
+// turn by `tools/refuse_growths`.
 fn retried(context: &mut Context<EndianSlice<'_>>) -> [u32; 2] {
     let mut codes = [0; 2];
     for (code, probe) in codes.iter_mut().zip([0x10, 0x20]) {

@@ -79,7 +79,7 @@ pub fn context_of<'a>(
 }
 
 /// The location of an address as a number: 0 where there is none, 9,000,000 for UnexpectedEof and
-/// 8,000,000 for another fault. Else a million for "/w/a.c", two for no file and three for another; a
+/// 8,000,000 for another fault. Else a million for "/w/a.c", two for no file, three for another; a
 /// thousand for each line, and the column, 999 for none.
 pub fn code_of(context: &mut Context<EndianSlice<'_>>, probe: u64) -> u32 {
     match context.find_location(probe) {

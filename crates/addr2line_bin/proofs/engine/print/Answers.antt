@@ -14,6 +14,6 @@ returns-in-Err g c =
         why = c.in-Err.stop;
         exit = c.tell_last.ensures.exit;
         has_failed = c.tell_last.new.has_failed;
-        err = sends_on (g.E.Write.contents c.args.err.now) _ _ false c.print_words.new.has_failed _ b.sent _ b.sends c.tell_last.ensures.loader_error_of;
+        err = sends_on (g.E.Write.contents c.args.err.now) _ _ false c.print_words.new.has_failed _ b.sent _ b.sends c.tell_last.ensures.err;
       });
     }

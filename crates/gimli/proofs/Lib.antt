@@ -3,3 +3,4 @@ pub mod FrontLemmas
 pub mod HeaderLemmas
 pub mod RecordLemmas
 pub mod StringLemmas
+pub mod UnitLemmas

@@ -2,7 +2,7 @@
 -- Own: bases begin at 0; in a version 5 unit of a split file at the end of the table's header.
 -- Own: the record is faulty by its abbreviations, its root entry, its line program's header, or the
 -- index of its low_pc, in this order. A name or a directory that can't be read counts as none.
-use Rattle.std.specs.Prelude.{ℕ, ◌==◌, Bool, false, List, option_map, option_and_then, Option, Some, None, is_some, Result, Ok, Err, unwrap_or, if◌then◌else◌}
+use Rattle.std.specs.Prelude.{ℕ, ◌==◌, ◌||◌, Bool, false, List, option_map, option_and_then, Option, Some, None, is_some, Result, Ok, Err, unwrap_or, if◌then◌else◌}
 use Rattle.std.specs.Result.{result_ok}
 use Rattle.gimli_read.specs.declared.error.Error.{Error}
 use Rattle.gimli_read.specs.declared.endian.Encoding.{Encoding}
@@ -12,7 +12,7 @@ use Rattle.gimli_read.specs.declared.value.AttributeValue.{AttributeValue}
 use Rattle.gimli_read.specs.Section.{Section}
 use Rattle.gimli_read.specs.Reading.{◌>>=◌}
 use Rattle.gimli_read.specs.Abbreviations.{Abbrev}
-use Rattle.gimli_read.specs.Abbrev.{table_at}
+use Rattle.gimli_read.specs.Abbrev.{table_at, takes_memory}
 use Rattle.gimli_line.specs.Header.{Program}
 use Rattle.gimli_line.specs.Program.{line_program_at}
 use Rattle.gimli.specs.declared.dwarf.DwarfFileType.{DwarfFileType}
@@ -113,6 +113,18 @@ unit_record_of d header = do
   table ← table_at rest
   root ← root_values_of header.encoding table header.entries
   completed_record d header table root
+
+-- whether memory may be taken for the abbreviations from an offset on: for the table's own entries,
+-- or where readers share their bytes
+abbrev pub abbreviations_take_memory : Bool → Result Section Error → Bool
+abbreviations_take_memory shares (Ok rest) = shares || takes_memory rest
+abbreviations_take_memory shares (Err e) = false
+
+-- whether memory may be taken for the unit of a header: without abbreviations it has no root entry,
+-- so nothing that follows takes any
+abbrev pub unit_takes_memory : Bool → Sections → UnitHeaderFields → Bool
+unit_takes_memory shares d header =
+    abbreviations_take_memory shares (from_offset header.debug_abbrev_offset d.debug_abbrev)
 
 -- the string that a value of an attribute of a unit stands for
 abbrev pub attr_string_of : Sections → UnitRecord → AttributeValue Section → Result Section Error

@@ -1,10 +1,9 @@
 //! Units: headers with what their root entry says.
 
-ghost use Rattle.std.specs.Prelude.{◌≡◌, Ok, is_ok, option_map};
+ghost use Rattle.std.specs.Prelude.{◌≡◌, Ok, is_some, option_map};
 ghost use Rattle.gimli_read.specs.Reading.{Exactly, ExactlyUnlessOomFor, ExactlyUnlessOomIf, IsUnlessOom};
 ghost use Rattle.gimli_read.specs.Form.{seen_value};
-ghost use Rattle.gimli.specs.Text.{from_offset};
-ghost use Rattle.gimli.specs.Unit.{by_format, first_base, low_pc_of, line_program_of, readable_string, gives_string, dwo_id_of, completed_record, unit_record_of};
+ghost use Rattle.gimli.specs.Unit.{first_base, low_pc_of, line_program_of, readable_string, gives_string, dwo_id_of, completed_record, unit_record_of, unit_takes_memory};
 
 use crate::dwarf::{Dwarf, DwarfFileType};
 use crate::record::{AddressValue, RootAttributes, read_root};
@@ -102,14 +101,14 @@ fn read_low_pc<R: Reader>(
     }
 }
 
-// The line program at the offset that stmt_list gives, if it gives one.
+// The line program at the offset that stmt_list gives, if it gives one. Else takes no memory.
 fn read_program<R: Reader>(
     alloc: Global,
     dwarf: &Dwarf<R>,
     encoding: Encoding,
     stmt_list: Option<u64>,
 ) -> Result<Option<IncompleteLineProgram<R>>, Error>
-    ensures gives { IsUnlessOom result
+    ensures gives { ExactlyUnlessOomIf (is_some stmt_list) (λ p. p) result
         (line_program_of dwarf.now encoding stmt_list) }
 {
     let Some(offset) = stmt_list else {
@@ -199,12 +198,12 @@ impl<R: Reader> Dwarf<R> {
     /// Refused by its abbreviations (`OffsetOutOfBounds`, `BadAbbreviation`), its root entry
     /// (`UnexpectedEof`, `MissingUnitDie`, `UnknownAbbreviation`, `UnknownForm` and what a value is
     /// refused for), its line program's header (`OffsetOutOfBounds` and what a header is refused
-    /// for), or the index of its low_pc (`OffsetOutOfBounds`), in this order, and `OutOfMemory`.
+    /// for), or the index of its low_pc (`OffsetOutOfBounds`), in this order. May fail with
+    /// `OutOfMemory` instead, where its abbreviations take memory or readers share their bytes.
     #[tactic(auto, unfolding(crate::specs::Unit::unit_record_of))]
     pub fn unit(&self, alloc: Global, header: UnitHeader<R>) -> Result<Unit<R>, Error>
-        ensures gives { ExactlyUnlessOomIf
-            (is_ok (from_offset header.debug_abbrev_offset self.now.debug_abbrev)) (λ u. u) result
-            (unit_record_of self.now header) }
+        ensures gives { ExactlyUnlessOomIf (unit_takes_memory R.shares self.now header) (λ u. u)
+            result (unit_record_of self.now header) }
     {
         let rest = read_from(&self.debug_abbrev.section, header.debug_abbrev_offset)?;
         let abbreviations = Abbreviations::parse(alloc, rest)?;

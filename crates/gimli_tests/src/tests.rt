@@ -37,6 +37,18 @@ const LINE_BIG: &[u8] =
 const SKELETON: &[u8] = b"\x2a\0\0\0\x05\0\x04\x08\0\0\0\0\x88\x77\x66\x55\x44\x33\x22\x11\x01\
     \0\0\0\0/w\0s.dwo\0\x10\0\0\0\0\0\0\0\x20\0\0\0";
 
+// A head of 8 bytes, and the addresses 0x10 and 0x20.
+const ADDR: &[u8] = b"headhead\x10\0\0\0\0\0\0\0\x20\0\0\0\0\0\0\0";
+
+// The same addresses with the highest byte of each first.
+const ADDR_BIG: &[u8] = b"headhead\0\0\0\0\0\0\0\x10\0\0\0\0\0\0\0\x20";
+
+// A head of 8 bytes, and the offsets 0 and 2.
+const STR_OFFSETS: &[u8] = b"headhead\0\0\0\0\x02\0\0\0";
+
+// The same offsets with the highest byte of each first.
+const STR_OFFSETS_BIG: &[u8] = b"headhead\0\0\0\0\0\0\0\x02";
+
 // The answers of a refusal, past all that is compared with them.
 const OOM: u64 = u64::MAX;
 
@@ -73,14 +85,19 @@ fn spelled(bytes: &[u8]) -> u64 {
     number
 }
 
+// The bytes whose numbers are in this order.
+fn in_order<'a>(order: RunTimeEndian, little: &'a [u8], big: &'a [u8]) -> &'a [u8] {
+    match order {
+        RunTimeEndian::Little => little,
+        RunTimeEndian::Big => big,
+    }
+}
+
 // Sections, of which these are given; beside them strings, and tables whose entries begin at 8.
 fn slices<'a>(info: &'a [u8], line: &'a [u8], order: RunTimeEndian) -> Dwarf<EndianSlice<'a>> {
     Dwarf {
         debug_abbrev: DebugAbbrev::from(EndianSlice::new(ABBREV, order)),
-        debug_addr: DebugAddr::from(EndianSlice::new(
-            b"headhead\x10\0\0\0\0\0\0\0\x20\0\0\0\0\0\0\0",
-            order,
-        )),
+        debug_addr: DebugAddr::from(EndianSlice::new(in_order(order, ADDR, ADDR_BIG), order)),
         debug_aranges: DebugAranges::from(EndianSlice::new(&[], order)),
         debug_info: DebugInfo::from(EndianSlice::new(info, order)),
         debug_line: DebugLine::from(EndianSlice::new(line, order)),
@@ -89,7 +106,7 @@ fn slices<'a>(info: &'a [u8], line: &'a [u8], order: RunTimeEndian) -> Dwarf<End
         debug_rnglists: DebugRngLists::from(EndianSlice::new(&[], order)),
         debug_str: DebugStr::from(EndianSlice::new(b"x\0main\0cut", order)),
         debug_str_offsets: DebugStrOffsets::from(EndianSlice::new(
-            b"headhead\0\0\0\0\x02\0\0\0",
+            in_order(order, STR_OFFSETS, STR_OFFSETS_BIG),
             order,
         )),
         file_type: DwarfFileType::Main,
@@ -109,11 +126,7 @@ fn counted(
 ) -> Result<Dwarf<EndianBytes>, AllocError> {
     Ok(Dwarf {
         debug_abbrev: DebugAbbrev::from(shared(alloc, ABBREV, order)?),
-        debug_addr: DebugAddr::from(shared(
-            alloc,
-            b"headhead\x10\0\0\0\0\0\0\0\x20\0\0\0\0\0\0\0",
-            order,
-        )?),
+        debug_addr: DebugAddr::from(shared(alloc, in_order(order, ADDR, ADDR_BIG), order)?),
         debug_aranges: DebugAranges::from(shared(alloc, &[], order)?),
         debug_info: DebugInfo::from(shared(alloc, info, order)?),
         debug_line: DebugLine::from(shared(alloc, line, order)?),
@@ -123,7 +136,7 @@ fn counted(
         debug_str: DebugStr::from(shared(alloc, b"x\0main\0cut", order)?),
         debug_str_offsets: DebugStrOffsets::from(shared(
             alloc,
-            b"headhead\0\0\0\0\x02\0\0\0",
+            in_order(order, STR_OFFSETS, STR_OFFSETS_BIG),
             order,
         )?),
         file_type: DwarfFileType::Main,
@@ -284,21 +297,14 @@ fn entries_answer<R: Reader>(alloc: Global, dwarf: &Dwarf<R>) -> [u64; 7] {
     }
 }
 
+// What the unit of each byte order answers.
+const ENTRIES: [u64; 7] = [11, 0x11, 0x10, 0x1b, 0x11, 0x12, 31];
+
 #[test]
 fn entries_are_read_one_by_one(rt: HostRuntime) -> Result<(), Fail> {
     let cases: [(&[u8], &[u8], RunTimeEndian, [u64; 7]); 3] = [
-        (
-            INFO,
-            LINE,
-            RunTimeEndian::Little,
-            [11, 0x11, 0x10, 0x1b, 0x11, 0x12, 31],
-        ),
-        (
-            INFO_BIG,
-            LINE_BIG,
-            RunTimeEndian::Big,
-            [11, 0x11, 0x10, 0x1b, 0x11, 0x12, 31],
-        ),
+        (INFO, LINE, RunTimeEndian::Little, ENTRIES),
+        (INFO_BIG, LINE_BIG, RunTimeEndian::Big, ENTRIES),
         (
             INFO_64,
             LINE,
@@ -319,8 +325,9 @@ fn entries_are_read_one_by_one(rt: HostRuntime) -> Result<(), Fail> {
     Ok(())
 }
 
-// Where the entries from an offset on begin, strings by five values, and addresses by four indexes.
-fn places_code<R: Reader>(alloc: Global, dwarf: &Dwarf<R>, own: R) -> Result<[u64; 17], Error> {
+// Where the entries from five offsets on begin, strings by nine values, and addresses by four
+// indexes.
+fn places_code<R: Reader>(alloc: Global, dwarf: &Dwarf<R>, own: R) -> Result<[u64; 18], Error> {
     let mut unit = first_unit(alloc, dwarf)?;
     unit.str_offsets_base = 8;
     unit.addr_base = 8;
@@ -342,6 +349,7 @@ fn places_code<R: Reader>(alloc: Global, dwarf: &Dwarf<R>, own: R) -> Result<[u6
         string_code(unit, AttributeValue::Udata(0)),
         number_code(unit.address(0)),
         number_code(unit.address(1)),
+        number_code(unit.address(2)),
         number_code(unit.address(u64::MAX)),
     ])
 }
@@ -367,57 +375,91 @@ fn string_code<R: Reader>(unit: UnitRef<'_, R>, value: AttributeValue<R>) -> u64
     }
 }
 
-fn places_answer<R: Reader>(alloc: Global, dwarf: &Dwarf<R>, own: R) -> [u64; 17] {
+fn places_answer<R: Reader>(alloc: Global, dwarf: &Dwarf<R>, own: R) -> [u64; 18] {
     match places_code(alloc, dwarf, own) {
         Ok(code) => code,
-        Err(error) => [fault(error); 17],
+        Err(error) => [fault(error); 18],
     }
 }
 
+// What the unit of each byte order answers.
+const PLACES: [u64; 18] = [
+    12,
+    OUTSIDE,
+    OUTSIDE,
+    OUTSIDE,
+    OUTSIDE,
+    0x16f_776e,
+    0x1_6d61_696e,
+    0x1_2f77,
+    0x1_6d61_696e,
+    EOF,
+    OUTSIDE,
+    OUTSIDE,
+    NO_SUP,
+    NO_STRING,
+    0x10,
+    0x20,
+    OUTSIDE,
+    OUTSIDE,
+];
+
 #[test]
 fn strings_addresses_and_offsets_are_found_or_refused(rt: HostRuntime) -> Result<(), Fail> {
-    let want = [
-        12,
-        OUTSIDE,
-        OUTSIDE,
-        OUTSIDE,
-        OUTSIDE,
-        0x16f_776e,
-        0x1_6d61_696e,
-        0x1_2f77,
-        0x1_6d61_696e,
-        EOF,
-        OUTSIDE,
-        OUTSIDE,
-        NO_SUP,
-        NO_STRING,
-        0x10,
-        0x20,
-        OUTSIDE,
+    let cases: [(&[u8], &[u8], RunTimeEndian); 2] = [
+        (INFO, LINE, RunTimeEndian::Little),
+        (INFO_BIG, LINE_BIG, RunTimeEndian::Big),
     ];
-    let order = RunTimeEndian::Little;
-    let own = EndianSlice::new(b"own", order);
-    assert_eq!(rt;
-        places_answer(rt.alloc(), &slices(INFO, LINE, order), own),
-        want
-    );
-    let own = shared(rt.alloc(), b"own", order)?;
-    assert_eq!(rt;
-        places_answer(rt.alloc(), &counted(rt.alloc(), INFO, LINE, order)?, own),
-        want
-    );
+    for (info, line, order) in cases {
+        let own = EndianSlice::new(b"own", order);
+        assert_eq!(rt;
+            places_answer(rt.alloc(), &slices(info, line, order), own),
+            PLACES
+        );
+        let own = shared(rt.alloc(), b"own", order)?;
+        assert_eq!(rt;
+            places_answer(rt.alloc(), &counted(rt.alloc(), info, line, order)?, own),
+            PLACES
+        );
+    }
     Ok(())
+}
+
+// The answers of borrowed and of shared bytes; OOM throughout where shared bytes aren't had.
+fn each(alloc: Global) -> ([u64; 7], [u64; 7], [u64; 18]) {
+    let order = RunTimeEndian::Little;
+    let borrowed = entries_answer(alloc, &slices(INFO, LINE, order));
+    let Ok(dwarf) = counted(alloc, INFO, LINE, order) else {
+        return (borrowed, [OOM; 7], [OOM; 18]);
+    };
+    let entries = entries_answer(alloc, &dwarf);
+    let places = match shared(alloc, b"own", order) {
+        Ok(own) => places_answer(alloc, &dwarf, own),
+        Err(_) => [OOM; 18],
+    };
+    (borrowed, entries, places)
+}
+
+// Whether each answer is the granted one or OOM.
+fn is_either(found: [u64; 18], granted: [u64; 18]) -> bool {
+    let mut either = true;
+    for (found, granted) in found.into_iter().zip(granted) {
+        either = either && (found == granted || found == OOM);
+    }
+    either
 }
 
 // A refused growth, wherever it is met, is OutOfMemory and changes no answer.
 #[test]
-fn a_refused_growth_is_out_of_memory(rt: HostRuntime) -> Result<(), Fail> {
-    let order = RunTimeEndian::Little;
-    let answer = entries_answer(rt.alloc(), &slices(INFO, LINE, order));
-    assert!(rt; answer == [OOM; 7] || answer == [11, 0x11, 0x10, 0x1b, 0x11, 0x12, 31]);
-    if let Ok(dwarf) = counted(rt.alloc(), INFO, LINE, order) {
-        let answer = entries_answer(rt.alloc(), &dwarf);
-        assert!(rt; answer == [OOM; 7] || answer == [11, 0x11, 0x10, 0x1b, 0x11, 0x12, 31]);
-    }
-    Ok(())
+fn a_refused_growth_is_out_of_memory(rt: HostRuntime) {
+    let (borrowed, entries, places) = each(rt.alloc());
+    let either = is_either(places, PLACES);
+    assert!(rt; borrowed == ENTRIES || borrowed == [OOM; 7]);
+    assert!(rt; entries == ENTRIES || entries == [OOM; 7]);
+    assert!(rt; either);
+}
+
+#[test]
+fn each_growth_is_granted(rt: HostRuntime) {
+    assert_eq!(rt; each(rt.alloc()), (ENTRIES, ENTRIES, PLACES));
 }

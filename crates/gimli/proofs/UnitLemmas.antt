@@ -1,0 +1,90 @@
+-- A unit whose root entry is read has abbreviations, which take memory (on specs/Unit.antt).
+use Rattle.std.proofs.Common.{◌≡◌, ℕ, ◌==◌, ◌||◌, pos, Bool, true, false, cond, List, [], Option, Some, None, IfOk, Result, Ok, Err, refl, ap, sym, ◌∙◌}
+use Rattle.gimli_read.specs.declared.error.Error.{Error}
+use Rattle.gimli_read.specs.declared.error.Error.TheVariants.{UnknownAbbreviation}
+use Rattle.gimli_read.specs.declared.endian.Encoding.{Encoding}
+use Rattle.gimli_read.specs.Section.{Section}
+use Rattle.gimli_read.specs.Reading.{Reading, ◌>>=◌, IsUnlessOom, ExactlyUnlessOomIf}
+use Rattle.gimli_read.specs.Leb128.{uleb128_at}
+use Rattle.gimli_read.specs.Abbreviations.{Abbrev}
+use Rattle.gimli_read.specs.Abbrev.{abbreviation_at, table_at, takes_memory}
+use Rattle.gimli_read.proofs.AbbrevLemmas.{table_ends, table_fault, abbreviation_front}
+use Rattle.gimli.specs.Entry.{EntryCursor, depth_after_closing, entry_abbreviation_at, root_specifications, root_attributes, attributes_at}
+use Rattle.gimli.specs.Header.{UnitHeaderFields}
+use Rattle.gimli.specs.Record.{RootValues, root_values_of}
+use Rattle.gimli.specs.Sections.{Sections}
+use Rattle.gimli.specs.Text.{from_offset}
+use Rattle.gimli.specs.Unit.{abbreviations_take_memory, unit_takes_memory, completed_record, unit_record_of}
+
+-- a reading of no value
+record NeverOk {A : Type 0} (r : Result A Error) : Type 0 where
+  by : IfOk r (λ _. ⊥)
+
+never_bind : {A B : Type 0} {r : Result A Error} (f : A → Result B Error) → NeverOk r → NeverOk (r >>= f)
+never_bind {r = Ok x} f h = absurd h.by
+never_bind {r = Err e} f h = record { by = tt }
+
+-- the entry of an empty table closes, if one is read
+closing_alone : (cursor : EntryCursor) → IfOk (entry_abbreviation_at [] cursor) (λ x. x.0 ≡ None)
+unfolding entry_abbreviation_at
+closing_alone cursor = at (uleb128_at cursor.left)
+  where
+    at_code : (code : ℕ × Section) (b : Bool) → IfOk {T = Option Abbrev × EntryCursor} (cond b (Ok (None, record { left = code.1; depth = depth_after_closing cursor.depth })) (Err UnknownAbbreviation)) (λ x. x.0 ≡ None)
+    at_code code true = refl
+    at_code code false = tt
+
+    at : (r : Reading ℕ) → IfOk {T = Option Abbrev × EntryCursor} (r >>= λ code. cond (code.0 == 0) (Ok (None, record { left = code.1; depth = depth_after_closing cursor.depth })) (Err UnknownAbbreviation)) (λ x. x.0 ≡ None)
+    at (Ok code) = at_code code (code.0 == 0)
+    at (Err e) = tt
+
+attributes_never : (e : Encoding) (s : Section) → NeverOk (root_attributes e [] s)
+unfolding root_attributes
+attributes_never e s = at (entry_abbreviation_at [] (record { left = s; depth = pos 0 })) (closing_alone (record { left = s; depth = pos 0 }))
+  where
+    at : (r : Result (Option Abbrev × EntryCursor) Error) → IfOk r (λ x. x.0 ≡ None)
+        → NeverOk (r >>= λ root. root_specifications root.0 >>= λ specifications. attributes_at e specifications root.1.left >>= λ attributes. Ok attributes.0)
+    at (Ok (None, c)) h = record { by = tt }
+    at (Ok (Some a, c)) h = absurd cc
+    at (Err d) h = record { by = tt }
+
+-- no root entry is read by an empty table
+root_never : (e : Encoding) (s : Section) → NeverOk (root_values_of e [] s)
+unfolding root_values_of
+root_never e s = never_bind _ (attributes_never e s)
+
+-- abbreviations by which a root entry is read take memory
+pub root_takes_memory : (e : Encoding) (rest entries : Section) (table : List Abbrev) (root : RootValues) → table_at rest ≡ Ok table → root_values_of e table entries ≡ Ok root → takes_memory rest ≡ true
+root_takes_memory e rest entries table root h k = at (abbreviation_at [] rest) refl
+  where
+    empty : (r : Result RootValues Error) → NeverOk r → r ≡ Ok root → ⊥
+    empty (Ok x) n q = n.by
+    empty (Err d) n q = absurd cc
+
+    at : (r : Reading (Option Abbrev)) → abbreviation_at [] rest ≡ r → takes_memory rest ≡ true
+    at (Ok (None, t)) p =
+        let q : Ok table ≡ Ok [] = sym h ∙ table_ends [] rest t p in
+        let is : table ≡ [] = cc in
+        absurd (empty (root_values_of e [] entries) (root_never e entries) (ap (λ t. root_values_of e t entries) (sym is) ∙ k))
+    at (Ok (Some a, t)) p = abbreviation_front [] rest t a p
+    at (Err d) p = absurd (let q : Err d ≡ Ok table = sym (table_fault [] rest d p) ∙ h in cc)
+
+or_shared : (shares takes : Bool) → takes ≡ true → shares || takes ≡ true
+or_shared true takes h = refl
+or_shared false takes h = h
+
+-- what a unit is whose root entry is read, and that memory may be taken for it
+pub unit_is : (d : Sections) (header : UnitHeaderFields) (shares : Bool) (rest : Section) (table : List Abbrev) (root : RootValues)
+    → from_offset header.debug_abbrev_offset d.debug_abbrev ≡ Ok rest → table_at rest ≡ Ok table → root_values_of header.encoding table header.entries ≡ Ok root
+    → (unit_takes_memory shares d header ≡ true) × (unit_record_of d header ≡ completed_record d header table root)
+unfolding unit_record_of
+unit_is d header shares rest table root h k l = (
+  ap (abbreviations_take_memory shares) h ∙ or_shared shares (takes_memory rest) (root_takes_memory header.encoding rest header.entries table root k l),
+  ap (λ (r : Result Section Error). r >>= λ s. table_at s >>= λ t. root_values_of header.encoding t header.entries >>= λ v. completed_record d header t v) h
+      ∙ ap (λ (r : Result (List Abbrev) Error). r >>= λ t. root_values_of header.encoding t header.entries >>= λ v. completed_record d header t v) k
+      ∙ ap (λ (r : Result RootValues Error). r >>= λ v. completed_record d header table v) l,
+)
+
+-- an answer for which memory may be taken, by what it is the same as
+pub taken_if : {X : Type 0} (may : Bool) (r given same : Result X Error) → may ≡ true → given ≡ same → IsUnlessOom r same → ExactlyUnlessOomIf may (λ x. x) r given
+taken_if may (Ok x) given same m h k = h ∙ k
+taken_if may (Err e) given same m h k = λ n. h ∙ k (n m)

@@ -425,41 +425,53 @@ fn strings_addresses_and_offsets_are_found_or_refused(rt: HostRuntime) -> Result
     Ok(())
 }
 
-// The answers of borrowed and of shared bytes; OOM throughout where shared bytes aren't had.
-fn each(alloc: Global) -> ([u64; 7], [u64; 7], [u64; 18]) {
-    let order = RunTimeEndian::Little;
-    let borrowed = entries_answer(alloc, &slices(INFO, LINE, order));
-    let Ok(dwarf) = counted(alloc, INFO, LINE, order) else {
-        return (borrowed, [OOM; 7], [OOM; 18]);
-    };
-    let entries = entries_answer(alloc, &dwarf);
-    let places = match shared(alloc, b"own", order) {
-        Ok(own) => places_answer(alloc, &dwarf, own),
-        Err(_) => [OOM; 18],
-    };
-    (borrowed, entries, places)
+// 0 for what is granted, OOM for that in its place, OTHER for any other answer.
+fn entries_met(found: [u64; 7]) -> u64 {
+    if found == ENTRIES {
+        0
+    } else if found == [OOM; 7] {
+        OOM
+    } else {
+        OTHER
+    }
 }
 
-// Whether each answer is the granted one or OOM.
-fn is_either(found: [u64; 18], granted: [u64; 18]) -> bool {
-    let mut either = true;
-    for (found, granted) in found.into_iter().zip(granted) {
-        either = either && (found == granted || found == OOM);
+// The same of places, of which each may be refused alone.
+fn places_met(found: [u64; 18]) -> u64 {
+    let mut met = 0;
+    for (found, granted) in found.into_iter().zip(PLACES) {
+        if found == OOM {
+            met = OOM;
+        } else if found != granted {
+            return OTHER;
+        }
     }
-    either
+    met
+}
+
+// The entries of borrowed bytes, and the entries and the places of shared ones.
+fn each(alloc: Global) -> [u64; 3] {
+    let order = RunTimeEndian::Little;
+    let borrowed = entries_met(entries_answer(alloc, &slices(INFO, LINE, order)));
+    let Ok(dwarf) = counted(alloc, INFO, LINE, order) else {
+        return [borrowed, OOM, OOM];
+    };
+    let entries = entries_met(entries_answer(alloc, &dwarf));
+    let places = match shared(alloc, b"own", order) {
+        Ok(own) => places_met(places_answer(alloc, &dwarf, own)),
+        Err(_) => OOM,
+    };
+    [borrowed, entries, places]
 }
 
 // A refused growth, wherever it is met, is OutOfMemory and changes no answer.
 #[test]
 fn a_refused_growth_is_out_of_memory(rt: HostRuntime) {
-    let (borrowed, entries, places) = each(rt.alloc());
-    let either = is_either(places, PLACES);
-    assert!(rt; borrowed == ENTRIES || borrowed == [OOM; 7]);
-    assert!(rt; entries == ENTRIES || entries == [OOM; 7]);
-    assert!(rt; either);
+    let [borrowed, entries, places] = each(rt.alloc());
+    assert!(rt; borrowed != OTHER && entries != OTHER && places != OTHER);
 }
 
 #[test]
 fn each_growth_is_granted(rt: HostRuntime) {
-    assert_eq!(rt; each(rt.alloc()), (ENTRIES, ENTRIES, PLACES));
+    assert_eq!(rt; each(rt.alloc()), [0; 3]);
 }

@@ -106,6 +106,13 @@ fn the_lines_of_a_unit(rt: HostRuntime) -> Result<(), Fail> {
     Ok(())
 }
 
+#[test]
+fn growths_that_are_granted_give_locations(rt: HostRuntime) -> Result<(), Fail> {
+    let context = context_of(rt.alloc(), &ABBREV, &INFO, &LINE)?;
+    assert_eq!(rt; codes_of(context, PROBES), FOUND);
+    Ok(())
+}
+
 // A context's second answers at two addresses: the first may be refused memory, as each growth is in
 // turn by `tools/refuse_growths`.
 fn retried(context: &mut Context<EndianSlice<'_>>) -> [u32; 2] {

@@ -1,6 +1,6 @@
 //! Contexts: what lookups are made in.
 
-ghost use Rattle.std.specs.Prelude.{◌≡◌, option_map};
+ghost use Rattle.std.specs.Prelude.{◌≡◌, ◌^◌, ◌-◌, [], None, Ok, IfOk, option_map};
 ghost use Rattle.std.specs.Borrow.{sem};
 ghost use Rattle.gimli_read.specs.Reading.{Exactly, ExactlyUnlessOom};
 ghost use Rattle.gimli.specs.declared.dwarf.DwarfFileType.TheVariants.{Main};
@@ -55,6 +55,7 @@ impl<R: Reader> Context<R> {
     pub fn from_dwarf(alloc: Global, dwarf: Dwarf<R>) -> Result<Context<R>, Error>
         ensures gives { ExactlyUnlessOom (λ c. c.sections) result
             (context_of dwarf) }
+        ensures unread { IfOk result (λ c. c.parsed ≡ []) }
     {
         let units = ResUnits::parse(alloc, &dwarf)?;
         let dwarf = Rc::new(alloc, dwarf)?;
@@ -94,7 +95,9 @@ impl<R: Reader> Context<R> {
           debug_str = R.section debug_str.section;
           debug_str_offsets = R.section debug_str_offsets.section;
           file_type = Main;
+          sup = None;
         })) }
+        ensures unread { IfOk result (λ c. c.parsed ≡ []) }
     {
         let _ = default_section;
         Context::from_dwarf(
@@ -111,11 +114,13 @@ impl<R: Reader> Context<R> {
                 debug_str,
                 debug_str_offsets,
                 file_type: DwarfFileType::Main,
+                sup: None,
             },
         )
     }
 
-    /// The location of an address: its file, line and column, none where no unit covers it.
+    /// The location of an address: its file, line and column; none where no unit covers it, or where
+    /// no row has it. No unit covers 2^64 - 1.
     ///
     /// `probe` is an address as the file has it. The lines of the unit that covers it are parsed at
     /// the first such lookup, and stay parsed, their fault too.
@@ -129,6 +134,7 @@ impl<R: Reader> Context<R> {
             (location_of self.old.sections probe) }
         ensures exact { IsReady self.old probe → Exactly (option_map seen_location) result
             (location_of self.old.sections probe) }
+        ensures last { probe ≡ 2 ^ 64 - 1 → result ≡ Ok None }
         ensures* kept { sem 𝓛 (EndsAs R.row R.Reader self.entry
             (AfterLookup probe result self.old)) }
     {

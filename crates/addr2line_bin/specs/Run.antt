@@ -23,6 +23,11 @@ last_text name stop.OutOfMemory = name ++ codes ": out of memory\n"
 last_text name (stop.Output true) = []
 last_text name (stop.Output false) = name ++ codes ": error writing output\n"
 
+-- that line goes to a standard error that hasn't failed before
+abbrev pub TellsLast : List ℕ → Stop → Option (List ℕ) → Option (List ℕ) → Type 0
+TellsLast name why old new =
+    (has_failed : Bool) × WritesUnlessFailed old new has_failed (last_text name why)
+
 -- how it ends
 abbrev pub exit_at : Stop → Exit
 exit_at stop.OutOfMemory = exit.Failed

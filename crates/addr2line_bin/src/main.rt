@@ -4,7 +4,10 @@
 ghost use Rattle.std.specs.Process.{exit_status};
 ghost use Rattle.std.specs.Prelude.{◌≡◌};
 ghost use Rattle.addr2line_lines.specs.Rows.{result_map};
-ghost use Rattle.addr2line_bin.specs.Run.{IsAnswer, status_at};
+ghost use Rattle.addr2line_bin.specs.Told.{read_fault_of};
+ghost use Rattle.addr2line_bin.specs.Run.{IsAnswer, TellsLast, status_at};
+ghost use Rattle.addr2line_bin.specs.declared.engine.Exit.TheVariants as exit;
+ghost use Rattle.addr2line_bin.specs.declared.stream.Stop.TheVariants as stop;
 
 mod address;
 mod command;
@@ -34,7 +37,9 @@ fn words_of(rt: &(impl std::rt::Env + AllocGlobal)) -> Result<Vec<String>, Error
 }
 
 // Why a file can't be read.
-fn fault_of(kind: ErrorKind) -> LoaderError {
+fn fault_of(kind: ErrorKind) -> LoaderError
+    ensures gives { result ≡ read_fault_of kind }
+{
     match kind {
         ErrorKind::OutOfMemory => LoaderError::OutOfMemory,
         _ => LoaderError::Io,
@@ -61,7 +66,10 @@ fn run<W: Write, E: Write>(
 }
 
 // Writes that memory was refused before there is a file.
-fn tell_no_memory<E: Write>(name: &str, err: &mut E) -> Exit {
+fn tell_no_memory<E: Write>(name: &str, err: &mut E) -> Exit
+    ensures err { TellsLast name.now stop.OutOfMemory (E.contents err.old) (E.contents err.new) }
+    ensures exit { result ≡ exit.Failed }
+{
     tell_last(name, Stop::OutOfMemory, err, &mut false)
 }
 

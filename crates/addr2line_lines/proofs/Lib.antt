@@ -5,6 +5,13 @@ pub mod RowGroupLemmas
 pub mod RiseLemmas
 pub mod SeekLemmas
 pub mod SpanLemmas
+pub mod ColumnLemmas
+pub mod PackedLemmas
+pub mod BuildLemmas
+pub mod DigitLemmas
+pub mod SearchLemmas
+pub mod TableLemmas
+pub mod RangeSpans
 pub mod LonePick
 pub mod RowLemmas
 pub mod FileLemmas

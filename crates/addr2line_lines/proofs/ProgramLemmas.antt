@@ -1,7 +1,6 @@
 -- The lines of a program, of its rows and its files (on specs/UnitLines.antt).
 use Rattle.std.proofs.Common.{◌≡◌, ℕ, ◌++◌, List, Result, Ok, Err, sym, ap, ◌∙◌}
 use Rattle.gimli_read.specs.declared.error.Error.{Error}
-use Rattle.gimli_read.specs.Section.{Section}
 use Rattle.gimli_read.specs.Reading.{◌>>=◌}
 use Rattle.gimli_line.specs.Header.{File}
 use Rattle.gimli_line.specs.declared.row.LineRow.{LineRow}

@@ -1,11 +1,25 @@
--- What rows taken one at a time leave of the sequences (on specs/Sequences.antt and specs/Building.antt).
-use Rattle.std.proofs.Common.{ℕ, ◌≡◌, ◌<◌, ◌≤◌, ◌||◌, ◌==◌, Bool, true, false, cond, List, [], ◌∷◌, ◌++◌, arith, ◌∙◌, ap, sym, refl, append_assoc, Some, None}
+-- What the rows since the last end row make of the sequences (on specs/Sequences.antt).
+use Rattle.std.proofs.Common.{ℕ, ◌≡◌, ◌<◌, ◌≤◌, ◌||◌, ◌==◌, Bool, true, false, cond, List, [], ◌∷◌, ◌++◌, arith, ◌∙◌, ap, sym, refl, append_assoc}
 use Rattle.std.proofs.lemmas.Bool.Decides.{nat_tests}
 use Rattle.std.specs.List.{AllByRecursion, list_any, filter_map, cons_option}
 use Rattle.gimli_line.specs.declared.row.LineRow.{LineRow}
-use Rattle.addr2line_lines.specs.Sequences.{RowGroup, Sequence, put_first, row_groups, latest, sequence_of, sequence_in, sequences_of}
+use Rattle.addr2line_lines.specs.Sequences.{RowGroup, put_first, row_groups, latest, sequence_of, sequence_in, sequences_of}
 use Rattle.gimli_line.specs.Rises.{NeverFalls}
-use Rattle.addr2line_lines.specs.Building.{Apart, Open, IsPending}
+
+-- no two neighbours have one address
+abbrev pub Apart : List LineRow → Type 0
+Apart [] = Unit {0}
+Apart (r ∷ []) = Unit {0}
+Apart (r ∷ s ∷ rows) = (r.address ≡ s.address → ⊥) × Apart (s ∷ rows)
+
+-- no end row is among the rows
+abbrev pub Open : List LineRow → Type 0
+Open rows = AllByRecursion (λ (r : LineRow). r.end_sequence ≡ false) rows
+
+-- rows of a sequence that goes on
+pub record IsPending (rows : List LineRow) : Type 0 where
+  pub open_ended : Open rows
+  pub apart : Apart rows
 
 pub append_none : {X : Type 0} (xs : List X) → xs ++ [] ≡ xs
 append_none [] = refl
@@ -149,20 +163,11 @@ falls_back (r ∷ []) left e h = falls_back [] left e h.1
 falls_back (r ∷ s ∷ p) left e h = falls_back (s ∷ p) left e h.1
 
 -- an end row closes the rows before it
-ended : (p left : List LineRow) (e : LineRow) → IsPending p → e.end_sequence ≡ true → NeverFalls (p ++ e ∷ left) → sequences_of (p ++ e ∷ left) ≡ cons_option (sequence_of p e) (sequences_of left)
-ended p left e pending is n =
+pub ended_is : (p left : List LineRow) (e : LineRow) → IsPending p → e.end_sequence ≡ true → NeverFalls (p ++ e ∷ left) → sequences_of (p ++ e ∷ left) ≡ cons_option (sequence_of p e) (sequences_of left)
+ended_is p left e pending is n =
     ap (filter_map sequence_in) (row_groups-open p (e ∷ left) pending.open_ended)
     ∙ ap (λ b. filter_map sequence_in (put_all p (cond b (record { rows = []; last = e } ∷ row_groups left) (put_first e (row_groups left))))) is
     ∙ ap (λ rows. cons_option (sequence_of rows e) (sequences_of left)) (ap latest (append_none p) ∙ latest_same p pending.open_ended pending.apart (falls_front p (e ∷ left) n))
-
-pub closed_some : (before after : List Sequence) (rows left : List LineRow) (e : LineRow) (s : Sequence) → sequence_of rows e ≡ Some s → after ≡ before ++ s ∷ []
-    → IsPending rows → e.end_sequence ≡ true → NeverFalls (rows ++ e ∷ left) → after ++ sequences_of left ≡ before ++ sequences_of (rows ++ e ∷ left)
-closed_some before after rows left e s is new pending end n =
-    ap (λ ss. ss ++ sequences_of left) new ∙ append_assoc before (s ∷ []) (sequences_of left) ∙ ap (λ o. before ++ cons_option o (sequences_of left)) (sym is) ∙ ap (λ ss. before ++ ss) (sym (ended rows left e pending end n))
-
-pub closed_none : (before : List Sequence) (rows left : List LineRow) (e : LineRow) → sequence_of rows e ≡ None
-    → IsPending rows → e.end_sequence ≡ true → NeverFalls (rows ++ e ∷ left) → before ++ sequences_of left ≡ before ++ sequences_of (rows ++ e ∷ left)
-closed_none before rows left e is pending end n = ap (λ o. before ++ cons_option o (sequences_of left)) (sym is) ∙ ap (λ ss. before ++ ss) (sym (ended rows left e pending end n))
 
 -- rows that no end row follows are dropped
 pub none_open : (p : List LineRow) → IsPending p → sequences_of (p ++ []) ≡ []

@@ -1,7 +1,7 @@
--- Searches in lists that do not fall (on specs/Pick.antt).
-use Rattle.std.proofs.Common.{ℕ, ◌≡◌, ◌-◌, ◌≤◌, Bool, true, false, cond, nat_cmp, List, [], ◌∷◌, length, take, arith, ◌∙◌, ap, sym, refl, zero, suc}
-use Rattle.std.specs.List.{filter, AllWithin, AllByRecursion, slice_get}
-use Rattle.std.specs.List.Sorted.{IsNonDecreasingBy, IsPartitionPoint}
+-- Lists in order do not fall (on specs/InOrder.antt).
+use Rattle.std.proofs.Common.{ℕ, ◌≡◌, ◌-◌, ◌≤◌, false, nat_cmp, List, [], ◌∷◌, length, arith, ◌∙◌, ap, sym, refl, zero, suc}
+use Rattle.std.specs.List.{AllByRecursion, slice_get}
+use Rattle.std.specs.List.Sorted.{IsNonDecreasingBy}
 use Rattle.std.specs.Ordering.{is_lt, ordering_then}
 use Rattle.std.proofs.lemmas.Bool.Decides.{nat_tests}
 use Rattle.std.proofs.lemmas.List.Elements.{All-from_recursion}
@@ -16,24 +16,6 @@ last_is (x ∷ y ∷ ys) =
     let i : length (x ∷ y ∷ ys) - 1 ≡ suc (length ys) = omega arith in
     let j : length (y ∷ ys) - 1 ≡ length ys = omega arith in
     last_is (y ∷ ys) ∙ ap (slice_get (y ∷ ys)) j ∙ sym (ap (slice_get (x ∷ y ∷ ys)) i)
-
-module _ {X : Type 0} (p : X → Bool) where
-  none_pass : (xs : List X) → AllWithin (λ y. p y ≡ false) xs 0 (length xs) → filter p xs ≡ []
-  none_pass [] f = refl
-  none_pass (x ∷ xs) f =
-      ap (λ b. cond b (x ∷ filter p xs) (filter p xs)) (f 0 x (omega arith) (omega arith)) ∙ none_pass xs (λ k d low high. f (suc k) d (omega arith) (omega arith))
-
-  -- those that pass stand before the place from which none does
-  pub passing_is : (xs : List X) (i : ℕ) → i ≤ length xs → IsPartitionPoint (λ y. p y ≡ true) (λ y. p y ≡ false) xs i → filter p xs ≡ take i xs
-  passing_is xs zero le h = none_pass xs h.1
-  passing_is [] (suc i) le h = absurd (omega arith)
-  passing_is (x ∷ xs) (suc i) le h =
-      ap (λ b. cond b (x ∷ filter p xs) (filter p xs)) (h.0 0 x (omega arith) (omega arith))
-      ∙ ap (λ ys. x ∷ ys) (passing_is xs i (omega arith) ((λ k d low high. h.0 (suc k) d (omega arith) (omega arith)), (λ k d low high. h.1 (suc k) d (omega arith) (omega arith))))
-
-  -- so the last of them is the one before that place
-  pub last_passing : (xs : List X) (i : ℕ) → i ≤ length xs → IsPartitionPoint (λ y. p y ≡ true) (λ y. p y ≡ false) xs i → slice_get (take i xs) (length (take i xs) - 1) ≡ last (filter p xs)
-  last_passing xs i le h = sym (last_is (take i xs)) ∙ ap last (sym (passing_is xs i le h))
 
 module _ {X : Type 0} (n : X → ℕ) where
   -- no number is above a later one

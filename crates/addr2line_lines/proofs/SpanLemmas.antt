@@ -1,33 +1,21 @@
 -- The row whose span holds a probe (on specs/Spans.antt).
 use Rattle.std.proofs.Math.Nat.{min-eq_left, min-eq_right}
-use Rattle.std.proofs.Common.{ℕ, min, map, filter, ◌≡◌, ◌<◌, ◌≤◌, inl, inr, Bool, true, false, cond, ◌&&◌, List, [], ◌∷◌, Option, Some, None, nat_le, nat_lt, arith, ◌∙◌, ap, sym, subst, refl}
+use Rattle.std.proofs.Common.{ℕ, min, map, filter, ◌≡◌, ◌<◌, ◌≤◌, inl, inr, Bool, true, false, cond, ◌&&◌, List, [], ◌∷◌, Some, None, nat_le, nat_lt, arith, ◌∙◌, ap, sym, refl}
 use Rattle.std.specs.List.{find, AllByRecursion}
 use Rattle.std.specs.Option.{option_map, option_and_then}
-use Rattle.std.specs.List.Sorted.{IsNonDecreasingBy}
 use Rattle.std.proofs.lemmas.Bool.{cases_lt}
 use Rattle.std.proofs.lemmas.Bool.Decides.{nat_tests}
 use Rattle.addr2line_lines.specs.declared.row.Row.{Row}
-use Rattle.addr2line_lines.specs.Sequences.{Sequence, start_of, end_of}
+use Rattle.addr2line_lines.specs.Sequences.{Sequence, end_of}
 use Rattle.addr2line_lines.specs.Rises.{Climbs, IsRising, StartsAt}
 use Rattle.gimli_read.specs.Topmost.{last}
-use Rattle.addr2line_lines.specs.InOrder.{in_order, begins_sooner, IsInOrder}
-use Rattle.addr2line_lines.specs.Pick.{pick, at_or_below, if_past}
-use Rattle.addr2line_lines.specs.Spans.{Span, spanned, least_of, span_end, spans, span_holds, row_address, row_in, row_at, EachAddressHasRow}
-use Rattle.addr2line_lines.specs.Ordered.{IsOrdered}
-use Rattle.addr2line_lines.proofs.PickLemmas.{In-last, In-filter}
-use Rattle.addr2line_lines.proofs.OrderLemmas.{All-in, in_order_ordered, in_order_all, begins_order}
-use Rattle.addr2line_lines.proofs.OrderPick.{candidate_ordered, pick_in_order}
-use Rattle.addr2line_lines.proofs.SeekLemmas.{Up, non_decreasing}
+use Rattle.addr2line_lines.specs.RangesLeft.{next_spans}
+use Rattle.addr2line_lines.specs.Pick.{at_or_below, if_past}
+use Rattle.addr2line_lines.specs.Spans.{Span, spanned, least_of, span_end, spans, span_holds, row_address, row_in, EachAddressHasRow}
 
 -- a row with the end of its span
 abbrev spanning : ℕ → List Row → Row → Span
 spanning end rows r = record { row = r; end = span_end end rows r }
-
--- each row's span up to the next listed row, the last one's up to the end: the same where rows climb
-abbrev next_spans : ℕ → List Row → List Span
-next_spans end [] = []
-next_spans end (r ∷ []) = record { row = r; end = end } ∷ []
-next_spans end (r ∷ s ∷ rows) = record { row = r; end = s.address } ∷ next_spans end (s ∷ rows)
 
 below : (x y : ℕ) → x < y → nat_lt x y ≡ true
 below x y l = grind (arith, nat_tests)
@@ -86,7 +74,7 @@ first_end : (end : ℕ) (r : Row) (rows : List Row) → Climbs end (r ∷ rows) 
 first_end end r rows up = low_row end r r rows (omega arith) ∙ ap (least_of end) (all_greater r.address rows up.1.0)
 
 -- the spans of rows that climb
-spans_next : (end : ℕ) (rows : List Row) → Climbs end rows → spans end rows ≡ next_spans end rows
+pub spans_next : (end : ℕ) (rows : List Row) → Climbs end rows → spans end rows ≡ next_spans end rows
 spans_next end [] up = refl
 spans_next end (r ∷ []) up = ap (λ e. record { row = r; end = e } ∷ []) (first_end end r [] up)
 spans_next end (r ∷ s ∷ rows) up =
@@ -141,50 +129,9 @@ next_last probe end (r ∷ s ∷ rows) up l =
 pub span_last : (probe end : ℕ) (rows : List Row) → Climbs end rows → probe < end → option_map spanned (find (span_holds probe) (spans end rows)) ≡ last (at_or_below row_address probe rows)
 span_last probe end rows up l = ap (λ ss. option_map spanned (find (span_holds probe) ss)) (spans_next end rows up) ∙ next_last probe end rows up l
 
--- rows that climb do not fall
-up_of : (end : ℕ) (rows : List Row) → Climbs end rows → Up row_address rows
-up_of end [] up = tt
-up_of end (r ∷ rows) up = (weaker r.address rows up.1.0, up_of end rows up.1.1)
-  where
-    weaker : (m : ℕ) (rs : List Row) → AllByRecursion (λ (s : Row). m < s.address) rs → AllByRecursion (λ (s : Row). m ≤ s.address) rs
-    weaker m [] all = tt
-    weaker m (x ∷ rs) all = ((let h = all.0 in omega arith), weaker m rs all.1)
-
-pub rows_rise : (s : Sequence) → IsRising s → IsNonDecreasingBy row_address s.rows
-rows_rise s h = non_decreasing row_address s.rows (up_of s.end s.rows h.rises)
-
 -- the row of a sequence that ends past the probe
 pub row_within : (probe : ℕ) (s : Sequence) → IsRising s → probe < s.end → option_and_then (row_in probe) (if_past end_of probe s) ≡ last (at_or_below row_address probe s.rows)
 row_within probe s h l = ap (λ b. option_and_then (row_in probe) (cond b (Some s) None)) (below probe s.end l) ∙ span_last probe s.end s.rows h.rises l
-
--- sequences in order, each of which rises
-pub record Sorted (ss : List Sequence) : Type 0 where
-  pub ordered : IsInOrder (begins_sooner start_of end_of) ss
-  pub rising : AllByRecursion IsRising ss
-
--- so are those that the listed ones are put into
-pub sorted_from : (listed ss : List Sequence) → IsOrdered listed ss → Sorted ss
-sorted_from listed ss h =
-    let sooner = begins_sooner start_of end_of in
-    let made : Sorted (in_order sooner listed) = record { ordered = in_order_ordered sooner (begins_order start_of end_of) listed; rising = in_order_all sooner IsRising listed h.rising } in
-    let P : List Sequence → Type 0 = λ xs. Sorted xs in
-    subst P (sym h.sorted_is) made
-
--- of sequences in order the last that starts at or below the probe is the candidate
-row_at_last : (probe : ℕ) (ss : List Sequence) (o : Option Sequence) → Sorted ss → o ≡ last (at_or_below start_of probe ss) → row_at probe ss ≡ option_and_then (row_in probe) (option_and_then (if_past end_of probe) o)
-row_at_last probe ss o h e =
-    ap (λ x. option_and_then (row_in probe) (option_and_then (if_past end_of probe) x)) (candidate_ordered start_of end_of probe ss h.ordered ∙ sym e)
-
--- and it decides for the listed ones
-pub row_at_listed : (probe : ℕ) (listed ss : List Sequence) (o : Option Sequence) → IsOrdered listed ss → o ≡ last (at_or_below start_of probe ss) → row_at probe listed ≡ option_and_then (row_in probe) (option_and_then (if_past end_of probe) o)
-row_at_listed probe listed ss o h e =
-    let free : pick start_of end_of probe ss ≡ pick start_of end_of probe listed = ap (pick start_of end_of probe) h.sorted_is ∙ pick_in_order start_of end_of probe listed in
-    ap (option_and_then (row_in probe)) (sym free) ∙ row_at_last probe ss o (sorted_from listed ss h) e
-
--- and it rises
-pub last_rises : (probe : ℕ) (ss : List Sequence) (s : Sequence) → Sorted ss → Some s ≡ last (at_or_below start_of probe ss) → IsRising s
-last_rises probe ss s h e =
-    All-in IsRising ss s h.rising (In-filter (λ x. nat_le (start_of x) probe) ss s (In-last (at_or_below start_of probe ss) s (sym e))).0
 
 some_last : (r : Row) (rows : List Row) → (x : Row) × (last (r ∷ rows) ≡ Some x)
 some_last r [] = (r, refl)

@@ -1,39 +1,75 @@
--- The rows since the last end row, as the private functions see them.
-use Rattle.std.specs.Prelude.{◌≡◌, List, [], ◌∷◌, ◌++◌, false}
+-- What a line program's rows make one after another, as the private functions see them: the
+-- sequences so far, and the rows since the last end row, as they are stored.
+use Rattle.std.specs.Prelude.{ℕ, ◌≡◌, ◌-◌, ◌≤◌, ◌==◌, ◌&&◌, Bool, false, not, nat_lt, List, [], ◌∷◌, ◌++◌, length, take, drop, map, fold, Option, Some, None, if◌then◌else◌}
 use Rattle.std.specs.List.{AllByRecursion}
+use Rattle.std.specs.Option.{option_to_list}
+use Rattle.gimli_read.specs.Topmost.{last}
 use Rattle.gimli_line.specs.declared.row.LineRow.{LineRow}
-use Rattle.addr2line_lines.specs.Sequences.{Sequence, sequences_of}
-use Rattle.gimli_line.specs.Rises.{NeverFalls}
+use Rattle.addr2line_lines.specs.declared.row.Row.{Row}
+use Rattle.addr2line_lines.specs.declared.sequence.LineSequence.{LineSequence}
+use Rattle.addr2line_lines.specs.Sequences.{Sequence, stored_row}
+use Rattle.addr2line_lines.specs.Packed.{IsWithin, packed_rows_in, unpacked}
 
--- no two neighbours have one address
-abbrev pub Apart : List LineRow → Type 0
-Apart [] = Unit {0}
-Apart (r ∷ []) = Unit {0}
-Apart (r ∷ s ∷ rows) = (r.address ≡ s.address → ⊥) × Apart (s ∷ rows)
+-- the sequences, and the rows of the one that goes on
+pub record Built : Type 0 where
+  pub sequences : List Sequence
+  pub pending : List Row
 
--- no end row is among the rows
-abbrev pub Open : List LineRow → Type 0
-Open rows = AllByRecursion (λ (r : LineRow). r.end_sequence ≡ false) rows
+-- before the first row
+abbrev pub nothing_built : Built
+nothing_built = record { sequences = []; pending = [] }
 
--- rows of a sequence that goes on
-pub record IsPending (rows : List LineRow) : Type 0 where
-  pub open_ended : Open rows
-  pub apart : Apart rows
+-- the row, if there is one, has the address
+abbrev pub has_address : ℕ → Option Row → Bool
+has_address a None = false
+has_address a (Some r) = r.address == a
 
--- once the row was taken, addresses fall no more than before, whatever rows follow
-abbrev pub StillRises : List LineRow → LineRow → List LineRow → Type 0
-StillRises old row new =
-    (left : List LineRow) → NeverFalls (old ++ row ∷ left) → NeverFalls (new ++ left)
+-- the rows without the last one, if that has the address
+abbrev pub without_last : ℕ → List Row → List Row
+without_last a rows =
+    if has_address a (last rows) then take (length rows - 1) rows else rows
 
--- once the row was added, the sequences are the same, whatever rows follow
-abbrev pub SameSequences : List LineRow → LineRow → List LineRow → Type 0
-SameSequences old row new =
-    (left : List LineRow) → sequences_of (new ++ left) ≡ sequences_of (old ++ row ∷ left)
+-- a row after others; it replaces the last one, if that has its address
+abbrev pub with_row : List Row → LineRow → List Row
+with_row rows r = without_last r.address rows ++ stored_row r ∷ []
 
--- once the row was taken, the sequences before and after it are together the same, whatever
--- rows follow
-abbrev pub SameTogether
-    : List Sequence → List LineRow → LineRow → List Sequence → List LineRow → Type 0
-SameTogether before old row after new =
-    (left : List LineRow) → NeverFalls (old ++ row ∷ left)
-    → after ++ sequences_of (new ++ left) ≡ before ++ sequences_of (old ++ row ∷ left)
+-- the sequence of rows with their end row, if they are one
+abbrev pub closed : List Row → LineRow → Option Sequence
+closed [] end = None
+closed (r ∷ rows) end =
+    if not end.dropped && nat_lt r.address end.address then Some (record {
+      start = r.address;
+      end = end.address;
+      rows = r ∷ rows;
+    })
+    else None
+
+-- an end row
+abbrev pub ended : Built → LineRow → Built
+ended b end = record {
+  sequences = b.sequences ++ option_to_list (closed b.pending end);
+  pending = [];
+}
+
+-- one row more
+abbrev pub taken : Built → LineRow → Built
+taken b r =
+    if r.end_sequence then ended b r
+    else record { sequences = b.sequences; pending = with_row b.pending r }
+
+-- what rows make of what there is
+abbrev pub all_taken : Built → List LineRow → Built
+all_taken b rows = fold taken b rows
+
+-- what the fields of a builder stand for
+abbrev pub built : List Row → List LineSequence → ℕ → Built
+built rows sequences first = record {
+  sequences = map (unpacked rows) sequences;
+  pending = drop first rows;
+}
+
+-- the rows before place first, which is no further than the rows go, are those of the sequences
+pub record IsBuilder (rows : List Row) (sequences : List LineSequence) (first : ℕ) : Type 0 where
+  pub upto : first ≤ length rows
+  pub each : AllByRecursion (IsWithin first) sequences
+  pub no_others : first ≡ packed_rows_in sequences

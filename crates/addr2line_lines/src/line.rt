@@ -1,71 +1,65 @@
 //! The lines of a unit.
 
-ghost use Rattle.std.specs.Prelude.{◌≡◌, Ok, map, slice_get, option_map};
+ghost use Rattle.std.specs.Prelude.{◌≡◌, ◌+◌, ◌≤◌, Ok, length, map, slice_get, option_map};
 ghost use Rattle.std.specs.Option.{option_copied};
 ghost use Rattle.std.specs.List.{AllByRecursion};
 ghost use Rattle.std.specs.String.{string_bytes};
-ghost use Rattle.addr2line_lines.specs.Rises.{IsRising};
+ghost use Rattle.addr2line_lines.specs.Packed.{IsAmong, packed_rows_in, unpacked};
+ghost use Rattle.addr2line_lines.specs.Counts.{most_looks_in};
+ghost use Rattle.addr2line_lines.specs.RangeLocations.{locations_in_range, sequence_ranges};
 ghost use Rattle.gimli_read.specs.Reading.{IsUnlessOom};
 ghost use Rattle.addr2line_lines.specs.UnitLines.{program_lines, unit_lines};
-ghost use Rattle.addr2line_lines.specs.Location.{location_of_row, location_at};
+ghost use Rattle.addr2line_lines.specs.Location.{location_at};
 ghost use Rattle.addr2line_lines.specs.SeenLocation.{seen_location};
 ghost use Rattle.addr2line_lines.specs.Spans.{row_at};
 
+use crate::count::Count;
 use crate::files::read_file_texts;
-use crate::location::Location;
-use crate::order::sort_sequences;
+use crate::location::{Location, file_text, row_location};
+use crate::packed::{CountedRows, PackedRows};
+use crate::range::{LineLocationRangeIter, LineRanges};
 use crate::row::Row;
-use crate::seek::{last_sequence, row_of_sequence};
-use crate::sequence::{LineSequence, read_sequences};
+use crate::search::search;
+use crate::sequence::{UnitRows, read_sequences};
 use gimli::line::IncompleteLineProgram;
-use gimli::read::{Error, Reader};
+use gimli::read::{Error, Range, Reader};
 use gimli::{Dwarf, Unit};
 use std::alloc::Global;
 use std::marker::Model;
-use std::snapshot::Snapshot;
+use std::mem;
 
 /// The lines of a unit: the texts of its files, and its sequences.
 #[derive(Drop)]
 pub struct Lines {
     files: Vec<String>,
-    // By start, then end, then place in the program.
-    sequences: Vec<LineSequence>,
-    // The same in the program's order, for contracts alone: it has no bytes.
-    listed: Snapshot<Vec<LineSequence>>,
+    packed: PackedRows,
 }
 
 impl Model for Lines {
     ghost use Rattle.std.specs.Prelude.{map};
     ghost use Rattle.std.specs.String.{string_bytes};
     ghost use Rattle.addr2line_lines.specs.Location.{LineTable};
-    ghost use Rattle.addr2line_lines.specs.Ordered.{IsOrdered};
+    ghost use Rattle.addr2line_lines.specs.Packed.{unpacked};
 
     ghost Value = { LineTable };
 
     ghost view = { λ l. record {
       files = map string_bytes l.files.items;
-      sequences = l.listed.value.items;
+      sequences = map (unpacked l.packed.rows) l.packed.listed;
     } };
-
-    ghost invariant = { λ l. IsOrdered l.listed.value.items l.sequences.items };
 }
 
-// The lines of files and sequences, which are put in order. Refused `OutOfMemory` alone.
-fn make_lines(files: Vec<String>, sequences: Vec<LineSequence>) -> Result<Lines, Error>
-    requires rising { AllByRecursion IsRising sequences.items }
+// The lines of files, rows and sequences. Refused `OutOfMemory` alone.
+fn make_lines(alloc: Global, files: Vec<String>, unit: UnitRows) -> Result<Lines, Error>
+    requires among { AllByRecursion (IsAmong unit.rows) unit.sequences.items }
+    requires no_others { length unit.rows ≡ packed_rows_in unit.sequences.items }
     ensures gives { IsUnlessOom result (Ok (record {
       files = map string_bytes files.items;
-      sequences = sequences.items;
+      sequences = map (unpacked unit.rows) unit.sequences.items;
     })) }
 {
-    let listed = Snapshot::of(&sequences);
-    let mut sequences = sequences;
-    sort_sequences(&mut sequences)?;
-    Ok(Lines {
-        files,
-        sequences,
-        listed,
-    })
+    let packed = PackedRows::new(alloc, unit)?;
+    Ok(Lines { files, packed })
 }
 
 // The lines of a unit's program.
@@ -89,7 +83,7 @@ fn read_program<R: Reader>(
         program.header(),
         rows.header().file_names(),
     )?;
-    make_lines(files, sequences)
+    make_lines(alloc, files, sequences)
 }
 
 impl Lines {
@@ -103,7 +97,7 @@ impl Lines {
     {
         match &unit.line_program {
             Some(program) => read_program(alloc, dwarf, unit, program),
-            None => make_lines(Vec::new(alloc), Vec::new(alloc)),
+            None => make_lines(alloc, Vec::new(alloc), UnitRows::new(alloc)),
         }
     }
 
@@ -111,33 +105,23 @@ impl Lines {
     pub fn file(&self, index: u64) -> Option<&str>
         ensures gives { option_copied result ≡ slice_get self.now.files index }
     {
-        Some(self.files.get(index as usize)?.as_str())
+        file_text(&self.files, index)
     }
 
     // The row whose span holds the probe, in the picked sequence.
-    fn find_row(&self, probe: u64) -> Option<Row>
+    fn find_row(&self, looks: &mut Count, probe: u64) -> Option<Row>
         ensures found { result ≡ row_at probe self.now.sequences }
+        ensures cost { looks.new ≤ looks.old + most_looks_in self.now }
+        ensures raised { looks.old ≤ looks.new }
     {
-        row_of_sequence(last_sequence(&self.sequences, probe)?, probe)
-    }
-
-    // The location that a row gives.
-    fn row_location(&self, row: Row) -> Location<'_>
-        ensures gives { seen_location result ≡ location_of_row self.now.files row }
-    {
-        let file = self.file(row.file_index);
-        if row.line == 0 {
-            return Location {
-                file,
-                line: None,
-                column: None,
-            };
-        }
-        Location {
-            file,
-            line: Some(row.line),
-            column: Some(row.column),
-        }
+        self.packed.known();
+        let mut rows = CountedRows {
+            packed: &self.packed,
+            looks: mem::replace(looks, Count::new()),
+        };
+        let row = search(&mut rows, probe);
+        *looks = rows.looks;
+        row
     }
 
     /// The location of an address, `None` where no sequence has it. Takes no memory.
@@ -151,6 +135,45 @@ impl Lines {
     pub fn find_location(&self, probe: u64) -> Option<Location<'_>>
         ensures found { option_map seen_location result ≡ location_at probe self.now }
     {
-        Some(self.row_location(self.find_row(probe)?))
+        self.find_location_counted(&mut Count::new(), probe)
+    }
+
+    /// The same, and how often it looked at the lines. Takes no memory.
+    ///
+    /// `looks` is raised by one with each look at a sequence, at the first address of a block of 64
+    /// rows, and at a row: together at most by the number of binary digits of the number of
+    /// sequences, that of the number of blocks, and 64.
+    pub fn find_location_counted(&self, looks: &mut Count, probe: u64) -> Option<Location<'_>>
+        ensures found { option_map seen_location result ≡ location_at probe self.now }
+        ensures cost { looks.new ≤ looks.old + most_looks_in self.now }
+        ensures raised { looks.old ≤ looks.new }
+    {
+        Some(row_location(&self.files, self.find_row(looks, probe)?))
+    }
+
+    /// The rows of a unit's range whose spans meet the addresses from `low` up to `high`, each with
+    /// its address, the length of its span, and its location. Takes no memory.
+    ///
+    /// Sequences come by start, then end, then place in the program; of each come, by address, the
+    /// rows whose address is below `high` and below the end of `unit`, and whose span ends past
+    /// `low` and past the begin of `unit`. Spans aren't cut at the range's ends; these may be
+    /// reversed.
+    ///
+    /// Source: DWARF 5, section 6.2.2. Own: the order, and what is met.
+    pub fn find_location_range(&self, unit: Range, low: u64, high: u64) -> LineLocationRangeIter<'_>
+        ensures gives { result ≡ locations_in_range self.now unit low high }
+    {
+        self.packed.known();
+        let low = low.max(unit.begin);
+        let high = high.min(unit.end);
+        LineLocationRangeIter::new(&self.files, &self.packed, low, high)
+    }
+
+    /// The ranges of the sequences, by begin, then end, then place in the program. Takes no memory.
+    pub fn ranges(&self) -> LineRanges<'_>
+        ensures gives { result ≡ sequence_ranges self.now }
+    {
+        self.packed.known();
+        LineRanges::new(self.packed.sequences())
     }
 }

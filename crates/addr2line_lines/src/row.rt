@@ -1,10 +1,9 @@
 //! Rows, as they are stored.
 
-ghost use Rattle.std.specs.Prelude.{◌≡◌, ◌%◌, ◌^◌, map, IfOk};
+ghost use Rattle.std.specs.Prelude.{◌≡◌, ◌%◌, ◌^◌};
 ghost use Rattle.addr2line_lines.specs.Sequences.{stored_row};
 
 use gimli_line::LineRow;
-use std::alloc::{AllocError, Global};
 
 /// A row of a sequence, as it is stored.
 #[derive(Clone, Copy, Debug, PartialEq, Eq)]
@@ -26,8 +25,8 @@ fn low_bits(number: u64) -> u32
     (number % (1 << 32)) as u32
 }
 
-// A row as it is stored.
-fn stored_row(row: &LineRow) -> Row
+/// A row as it is stored.
+pub(crate) fn stored_row(row: &LineRow) -> Row
     ensures gives { result ≡ stored_row row.now }
 {
     Row {
@@ -36,11 +35,4 @@ fn stored_row(row: &LineRow) -> Row
         line: low_bits(row.line),
         column: low_bits(row.column),
     }
-}
-
-/// Rows as they are stored.
-pub(crate) fn stored_rows(alloc: Global, rows: &[LineRow]) -> Result<Vec<Row>, AllocError>
-    ensures gives { IfOk result (λ stored. stored.items ≡ map stored_row rows.now) }
-{
-    rows.iter().map(|row| stored_row(row)).collect(alloc)
 }

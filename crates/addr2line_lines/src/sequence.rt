@@ -1,103 +1,166 @@
 //! Sequences, from the rows of a line program.
 
-ghost use Rattle.std.specs.Prelude.{◌≡◌, ◌++◌, false, IfOk, OnOk};
+ghost use Rattle.std.specs.Prelude.{◌≡◌, [], ◌+◌, ◌++◌, drop, map, length, option_map, IfOk, IfSome, OnOk};
 ghost use Rattle.std.specs.List.{AllByRecursion};
+ghost use Rattle.gimli_read.specs.Topmost.{last};
 ghost use Rattle.gimli_read.specs.Reading.{ExactlyUnlessOom};
 ghost use Rattle.addr2line_lines.specs.Rows.{read_all, result_map};
-ghost use Rattle.addr2line_lines.specs.Sequences.{sequence_of, sequences_of};
+ghost use Rattle.addr2line_lines.specs.Sequences.{sequences_of};
 ghost use Rattle.gimli_line.specs.Rises.{NeverFalls};
-ghost use Rattle.addr2line_lines.specs.Rises.{IsRising, SequencesRise};
-ghost use Rattle.addr2line_lines.specs.Building.{IsPending, SameSequences, SameTogether, StillRises};
+ghost use Rattle.addr2line_lines.specs.Packed.{IsAmong, IsWithin, packed_rows_in, unpacked};
+ghost use Rattle.addr2line_lines.specs.Building.{closed, ended, has_address, nothing_built, taken, without_last};
 
-use crate::row::{Row, stored_rows};
+use crate::columns::Columns;
+use crate::row::stored_row;
 use gimli_line::{LineRow, LineRows};
 use gimli_read::{Error, Reader};
 use std::alloc::{AllocError, Global};
 use std::marker::Model;
 
-/// The rows up to an end row, of each address one, by address.
-#[derive(Drop)]
+/// The rows up to an end row, of each address one, by address: a place among the unit's rows.
+#[derive(Clone, Copy, Debug, PartialEq, Eq)]
 pub struct LineSequence {
     /// The address of the first row.
     pub start: u64,
     /// The end address, which is no longer of the sequence.
     pub end: u64,
-    /// The rows.
-    pub rows: Vec<Row>,
+    /// The place of the first row.
+    pub first: usize,
+    /// The number of rows.
+    pub len: usize,
 }
 
-impl Model for LineSequence {
-    ghost use Rattle.addr2line_lines.specs.Sequences.{Sequence};
-
-    ghost Value = { Sequence };
-
-    ghost view = { λ s. record { start = s.start; end = s.end; rows = s.rows.items } };
-}
-
-// The sequence of rows with their end row, if they are one.
-fn close(alloc: Global, rows: &[LineRow], last: LineRow) -> Result<Option<LineSequence>, AllocError>
-    ensures gives { IfOk result (λ sequence. sequence ≡ sequence_of rows.now last) }
+// Whether the last row, if one is at place `first` or after it, has the address.
+fn ends_at(rows: &Columns, first: usize, address: u64) -> bool
+    ensures gives { result ≡ has_address address (last (drop first rows.now)) }
 {
-    let Some(first) = rows.first() else {
-        return Ok(None);
-    };
-    if last.dropped || first.address >= last.address {
-        return Ok(None);
-    }
-    Ok(Some(LineSequence {
-        start: first.address,
-        end: last.address,
-        rows: stored_rows(alloc, rows)?,
-    }))
+    let len = rows.len();
+    len > first && rows.address(len - 1) == address
 }
 
-// Adds a row; one at the address of the last row replaces it.
-fn add_row(rows: &mut Vec<LineRow>, row: LineRow) -> Result<(), AllocError>
-    ensures pending { IsPending rows.old.items → row.end_sequence ≡ false →
-        OnOk result (IsPending rows.new.items) }
-    ensures same { IsPending rows.old.items → row.end_sequence ≡ false →
-        OnOk result (SameSequences rows.old.items row rows.new.items) }
-    ensures rises { OnOk result (StillRises rows.old.items row rows.new.items) }
+// The sequence of the rows from place `first` on with their end row, if they are one.
+fn closed(rows: &Columns, first: usize, end: LineRow) -> Option<LineSequence>
+    ensures gives { option_map (unpacked rows.now) result ≡ closed (drop first rows.now) end }
+    ensures first { IfSome result (λ s. s.first ≡ first) }
+    ensures all { IfSome result (λ s. s.first + s.len ≡ length rows.now) }
 {
-    let Some(last) = rows.pop() else {
-        rows.push(row)?;
-        return Ok(());
-    };
-    if last.address == row.address {
-        rows.push(row)?;
-        return Ok(());
+    let len = rows.len().saturating_sub(first);
+    if len == 0 || end.dropped {
+        return None;
     }
-    rows.push(last)?;
-    rows.push(row)?;
-    Ok(())
+    let start = rows.address(first);
+    if start >= end.address {
+        return None;
+    }
+    Some(LineSequence {
+        start,
+        end: end.address,
+        first,
+        len,
+    })
 }
 
-// The rows since the last end row, and the sequences before it.
+// The rows so far, and the sequences of those before the first one of the sequence that goes on.
 #[derive(Drop)]
 struct Builder {
-    pending: Vec<LineRow>,
+    rows: Columns,
     sequences: Vec<LineSequence>,
+    first: usize,
+}
+
+impl Model for Builder {
+    ghost use Rattle.addr2line_lines.specs.Building.{Built, built, IsBuilder};
+
+    ghost Value = { Built };
+
+    ghost view = { λ b. built b.rows b.sequences.items b.first };
+
+    ghost invariant = { λ b. IsBuilder b.rows b.sequences.items b.first };
 }
 
 impl Builder {
-    // Adds a row, or closes the sequence that it ends.
-    fn take_row(&mut self, alloc: Global, row: LineRow) -> Result<(), AllocError>
-        ensures pending { IsPending self.old.pending.items →
-            OnOk result (IsPending self.new.pending.items) }
-        ensures rises { OnOk result (StillRises self.old.pending.items row self.new.pending.items) }
-        ensures same { IsPending self.old.pending.items → OnOk result (SameTogether
-            self.old.sequences.items self.old.pending.items row
-            self.new.sequences.items self.new.pending.items) }
+    // Nothing yet.
+    fn new(alloc: Global) -> Builder
+        ensures gives { result ≡ nothing_built }
     {
-        if !row.end_sequence {
-            return add_row(&mut self.pending, row);
+        Builder {
+            rows: Columns::new(alloc),
+            sequences: Vec::new(alloc),
+            first: 0,
         }
-        let sequence = close(alloc, &self.pending, row)?;
-        self.pending.clear();
-        if let Some(sequence) = sequence {
-            self.sequences.push(sequence)?;
+    }
+
+    // Ends the sequence that goes on; where it is none, its rows are dropped.
+    fn close(&mut self, end: LineRow) -> Result<(), AllocError>
+        ensures gives { OnOk result (self.new ≡ ended self.old end) }
+    {
+        match closed(&self.rows, self.first, end) {
+            Some(sequence) => {
+                self.sequences.push(sequence)?;
+                self.first = self.rows.len();
+            }
+            None => self.rows.truncate(self.first),
         }
         Ok(())
+    }
+
+    // Drops the last row of the sequence that goes on, if it has the address.
+    fn drop_last_at(&mut self, address: u64)
+        ensures gives { self.new ≡ record self.old {
+          pending = without_last address self.old.pending;
+        } }
+    {
+        if ends_at(&self.rows, self.first, address) {
+            self.rows.truncate(self.rows.len() - 1);
+        }
+    }
+
+    // Takes a row: it ends the sequence that goes on, replaces the last row, or follows it.
+    fn take_row(&mut self, alloc: Global, row: LineRow) -> Result<(), AllocError>
+        ensures gives { OnOk result (self.new ≡ taken self.old row) }
+    {
+        if row.end_sequence {
+            return self.close(row);
+        }
+        self.drop_last_at(row.address);
+        self.rows.push(alloc, stored_row(&row))?;
+        Ok(())
+    }
+
+    // The rows and the sequences, without the rows that no end row follows.
+    fn finish(self) -> UnitRows
+        ensures gives { map (unpacked result.rows) result.sequences.items ≡ self.sequences }
+        ensures within { AllByRecursion (IsWithin (length result.rows)) result.sequences.items }
+        ensures no_others { length result.rows ≡ packed_rows_in result.sequences.items }
+    {
+        let mut rows = self.rows;
+        let mut sequences = self.sequences;
+        rows.truncate(self.first);
+        rows.shrink();
+        sequences.shrink_to_fit();
+        UnitRows { rows, sequences }
+    }
+}
+
+/// The rows of a unit, and its sequences among them in the program's order.
+#[derive(Drop)]
+pub(crate) struct UnitRows {
+    /// The rows of the sequences, in the program's order.
+    pub rows: Columns,
+    /// The sequences.
+    pub sequences: Vec<LineSequence>,
+}
+
+impl UnitRows {
+    /// No rows. Takes no memory.
+    pub(crate) fn new(alloc: Global) -> UnitRows
+        ensures rows { result.rows ≡ [] }
+        ensures sequences { result.sequences.items ≡ [] }
+    {
+        UnitRows {
+            rows: Columns::new(alloc),
+            sequences: Vec::new(alloc),
+        }
     }
 }
 
@@ -108,26 +171,24 @@ fn never_falls<R: Reader>(rows: &LineRows<R>)
     rows.rises();
 }
 
-/// The sequences of a program's rows, in the program's order.
+/// The rows and sequences of a line program.
 ///
 /// Refused with the program's fault; may fail with `OutOfMemory` instead.
 pub(crate) fn read_sequences<R: Reader>(
     alloc: Global,
     rows: &mut LineRows<R>,
-) -> Result<Vec<LineSequence>, Error>
-    ensures gives { ExactlyUnlessOom (λ v. v.items) result
+) -> Result<UnitRows, Error>
+    ensures gives { ExactlyUnlessOom (λ u. map (unpacked u.rows) u.sequences.items) result
         (result_map sequences_of (read_all rows.old.left)) }
-    ensures rise { IfOk result (λ v. AllByRecursion IsRising v.items) }
+    ensures among { IfOk result (λ u. AllByRecursion (IsAmong u.rows) u.sequences.items) }
+    ensures no_others { IfOk result (λ u. length u.rows ≡ packed_rows_in u.sequences.items) }
     ensures files { OnOk result
         (rows.new.header.file_names ≡ rows.old.header.file_names ++ rows.old.to_define) }
 {
     never_falls(rows);
-    let mut builder = Builder {
-        pending: Vec::new(alloc),
-        sequences: Vec::new(alloc),
-    };
+    let mut builder = Builder::new(alloc);
     while let Some(row) = rows.next_row()? {
         builder.take_row(alloc, row)?;
     }
-    Ok(builder.sequences)
+    Ok(builder.finish())
 }

@@ -1,7 +1,15 @@
-//! Worked cases of paths, which no public call shows alone.
+//! Worked cases of paths and of the search, which no public call shows alone.
 
+use crate::count::Count;
+use crate::packed::{CountedRows, PackedRows};
 use crate::path::{make_file_text, make_own_text, push_path};
-use std::alloc::Global;
+use crate::row::Row;
+use crate::search::{Table, search};
+use crate::sequence::{LineSequence, read_sequences};
+use gimli_line::read_line_program;
+use gimli_read::{EndianSlice, Error, RunTimeEndian};
+use std::alloc::{AllocError, Global};
+use std::test::Fail;
 
 // Whether pushing the text onto the path gives the wanted one.
 fn is_pushed(alloc: Global, path: &str, text: &str, want: &str) -> bool {
@@ -49,4 +57,114 @@ fn a_file_stands_below_its_directory_and_the_units(rt: HostRuntime) {
         is_own_text(alloc, Some(b"/w"), None, ""),
     ];
     assert_eq!(rt; answers, [true; 4]);
+}
+
+// A table that counts its looks at run time too.
+#[derive(Drop)]
+struct SeenTable<T> {
+    table: T,
+    seen: u64,
+}
+
+impl<T: Table> Table for SeenTable<T> {
+    ghost looks = { λ c. T.looks c.table };
+
+    ghost sequences = { λ c. T.sequences c.table };
+
+    ghost rows = { λ c. T.rows c.table };
+
+    fn len(&self) -> usize {
+        self.table.len()
+    }
+
+    fn sequence(&mut self, place: usize) -> LineSequence {
+        self.seen = self.seen.saturating_add(1);
+        self.table.sequence(place)
+    }
+
+    fn block(&mut self, place: usize) -> u64 {
+        self.seen = self.seen.saturating_add(1);
+        self.table.block(place)
+    }
+
+    fn row(&mut self, place: usize) -> Row {
+        self.seen = self.seen.saturating_add(1);
+        self.table.row(place)
+    }
+}
+
+// The header of a line program of version 4 with one file, without its first four bytes.
+const HEADER: [u8; 33] = [
+    0x04, 0x00, 0x1b, 0x00, 0x00, 0x00, 0x01, 0x01, 0x01, 0xfb, 0x0e, 0x0d, 0x00, 0x01, 0x01, 0x01,
+    0x01, 0x00, 0x00, 0x00, 0x01, 0x00, 0x00, 0x01, 0x00, 0x61, 0x2e, 0x63, 0x00, 0x00, 0x00, 0x00,
+    0x00,
+];
+
+// A row 4 addresses and a line further.
+const NEXT_ROW: u8 = 0x4b;
+
+// Adds a sequence: row i at `address` + 4i of line i + 1, and the end 4 addresses after the last.
+fn push_sequence(program: &mut Vec<u8>, address: u16, rows: usize) -> Result<(), AllocError> {
+    let [low, high] = address.to_le_bytes();
+    program.extend_from_slice(&[0, 9, 2, low, high, 0, 0, 0, 0, 0, 0, 1])?;
+    for _ in 1..rows {
+        program.push(NEXT_ROW)?;
+    }
+    program.extend_from_slice(&[2, 4, 0, 1, 1])
+}
+
+// The bytes of a line program of such sequences, each by its first address and number of rows.
+fn section_of(alloc: Global, sequences: &[(u16, usize)]) -> Result<Vec<u8>, AllocError> {
+    let mut program = Vec::new(alloc);
+    for (address, rows) in sequences {
+        push_sequence(&mut program, *address, *rows)?;
+    }
+    let [a, b, c, d, ..] = (HEADER.len() + program.len()).to_le_bytes();
+    let mut section = Vec::new(alloc);
+    section.extend_from_slice(&[a, b, c, d])?;
+    section.extend_from_slice(&HEADER)?;
+    section.extend_from_slice(&program)?;
+    Ok(section)
+}
+
+// The rows of such a line program, packed.
+fn packed_of(alloc: Global, sequences: &[(u16, usize)]) -> Result<PackedRows, Error> {
+    let section = section_of(alloc, sequences)?;
+    let bytes = EndianSlice::new(&section, RunTimeEndian::Little);
+    let program = read_line_program(alloc, bytes, 8)?;
+    let mut rows = program.rows()?;
+    Ok(PackedRows::new(alloc, read_sequences(alloc, &mut rows)?)?)
+}
+
+// The line at a probe, 0 for none, and the number of looks.
+fn line_and_looks(packed: &PackedRows, probe: u64) -> (u32, u64) {
+    packed.known();
+    let mut table = SeenTable {
+        table: CountedRows {
+            packed,
+            looks: Count::new(),
+        },
+        seen: 0,
+    };
+    let row = search(&mut table, probe);
+    (row.map_or(0, |row| row.line), table.seen)
+}
+
+// One sequence of 200 rows, and one of 30 rows after it, so that block 3 spans both.
+const SHARED_BLOCK: [(u16, usize); 2] = [(0x1000, 200), (0, 30)];
+
+// The lines at four probes, and whether each took at most so many looks.
+fn bounded_lines(packed: &PackedRows, most: u64) -> ([u32; 4], bool) {
+    let found = [0x120a, 0x131f, 0x1320, 6].map(|probe| line_and_looks(packed, probe));
+    let bounded = found.iter().all(|(_, looks)| *looks <= most);
+    (found.map(|(line, _)| line), bounded)
+}
+
+#[test]
+fn a_search_takes_few_looks(rt: HostRuntime) -> Result<(), Fail> {
+    let alone = packed_of(rt.alloc(), &SHARED_BLOCK[..1])?;
+    assert_eq!(rt; bounded_lines(&alone, 68), ([131, 200, 0, 0], true));
+    let shared = packed_of(rt.alloc(), &SHARED_BLOCK)?;
+    assert_eq!(rt; bounded_lines(&shared, 69), ([131, 200, 0, 2], true));
+    Ok(())
 }

@@ -2,6 +2,7 @@
 
 mod context;
 mod example;
+mod line_ranges;
 mod lines;
 mod names;
 mod sections;

@@ -8,14 +8,14 @@ use Rattle.gimli_read.specs.Reading.{◌>>=◌, ExactlyUnlessOom}
 use Rattle.gimli_read.specs.Yields.{next_given}
 use Rattle.gimli.specs.Header.{UnitHeaderFields}
 use Rattle.gimli.specs.Sections.{Sections}
-use Rattle.gimli.specs.Unit.{UnitRecord}
+use Rattle.gimli.specs.Unit.{UnitRecord, unit_record_of}
 use Rattle.addr2line_lines.specs.InOrder.{in_order}
 use Rattle.addr2line_lines.specs.UnitLines.{unit_lines}
 use Rattle.addr2line_lines.specs.Location.{LineTable as Lines, Location, location_at}
 use Rattle.addr2line_units.specs.declared.unit.LazyLines.{LazyLines}
 use Rattle.addr2line_units.specs.declared.unit.ResUnit.{ResUnit}
 use Rattle.addr2line_units.specs.declared.unit.LazyLines.TheVariants.{Unread, Read, Faulty}
-use Rattle.addr2line_units.specs.UnitIndex.{UnitIndex, with_unit, index_units, ends_sooner}
+use Rattle.addr2line_units.specs.UnitIndex.{UnitIndex, is_type_unit, unit_ranges, with_indexed, with_record, with_unit, index_units, ends_sooner}
 use Rattle.addr2line_units.specs.Located.{along, or_along, location_along}
 use Rattle.addr2line_units.specs.CachedLines.{AreLinesOf, cached_answer, lines_answer, cached_lines, is_uncached, range_holds, unit_index_of, cached_location_at}
 
@@ -100,3 +100,9 @@ pub found_again : {R : Type 0} (d : Sections) (probe : ℕ) (old new : ResUnit R
 found_again d probe old new result h same k =
     let cached : cached_location_at probe (Some new) ≡ option_and_then (λ (l : Lines). location_at probe l) (cached_lines new.lines) = ap (λ b. if b then option_and_then (λ (l : Lines). location_at probe l) (cached_lines new.lines) else None) (ap (range_holds probe) same ∙ h) in
     rw (cached, found_covered d old.dw_unit probe old.range h) (gives_on (λ _. cached_lines new.lines) (λ l. option_and_then (λ (x : Lines). location_at probe x) l) result _ k)
+
+-- a fault of the ranges of a unit whose record can be read
+pub range_fault : (d : Sections) (m : UnitIndex) (h : UnitHeaderFields) (u : UnitRecord) (e : Error) → is_type_unit h.unit_type ≡ false → unit_record_of d h ≡ Ok u → unit_ranges d u ≡ Err e → with_unit d m h ≡ Err e
+unfolding with_unit
+range_fault d m h u e t r f =
+    ap (λ b. if b then Ok m else with_record d m (unit_record_of d h)) t ∙ ap (with_record d m) r ∙ ap (λ x. x >>= λ ranges. Ok (with_indexed m u ranges)) f

@@ -1,6 +1,6 @@
 //! The units of a context.
 
-ghost use Rattle.std.specs.Prelude.{◌≡◌, ◌≢◌, false, true, Ok, Err, OnOk, OnErr, IfOk, IfErr, option_map, option_copied};
+ghost use Rattle.std.specs.Prelude.{◌≡◌, ◌≢◌, ◌^◌, ◌-◌, None, false, true, Ok, Err, OnOk, OnErr, IfOk, IfErr, option_map, option_copied};
 ghost use Rattle.std.specs.Option.{option_to_list};
 ghost use Rattle.gimli_read.specs.Reading.{ExactlyUnlessOom, Exactly};
 ghost use Rattle.addr2line_units.specs.UnitIndex.{is_type_unit, is_partial, unit_ranges, with_unit, index_units, unit_index};
@@ -80,7 +80,10 @@ fn take_unit<R: Reader>(
     requires read { HasLinesOf dwarf.now first }
     ensures gives { ExactlyUnlessOom (unit_index_of) result (with_unit dwarf.now
         (unit_index_of first) header) }
+    ensures skipped { is_type_unit header.unit_type ≡ true → result ≡ Ok first }
     ensures read { IfOk result (HasLinesOf dwarf.now) }
+    ensures unread { is_uncached (lines_in_cache first) ≡ true
+        → IfOk result (λ u. is_uncached (lines_in_cache u) ≡ true) }
 {
     if is_type_unit(header.type_()) {
         return Ok(first);
@@ -111,6 +114,7 @@ impl<R: Reader> ResUnits<R> {
         ensures gives { ExactlyUnlessOom (λ u. unit_index_of u.unit) result
             (unit_index dwarf.now) }
         ensures read { IfOk result (λ u. HasLinesOf dwarf.now u.unit) }
+        ensures unread { IfOk result (λ u. is_uncached (lines_in_cache u.unit) ≡ true) }
     {
         let mut headers = dwarf.units()?;
         let mut unit = None;
@@ -172,6 +176,7 @@ fn is_uncached(lines: &LazyLines) -> bool
 // Whether a range holds an address, where there is one.
 fn range_holds(range: Option<Range>, probe: u64) -> bool
     ensures gives { result ≡ range_holds probe range }
+    ensures last { probe ≡ 2 ^ 64 - 1 → result ≡ false }
 {
     match range {
         Some(range) => range.begin <= probe && probe < range.end,
@@ -243,6 +248,7 @@ impl<R: Reader> ResUnits<R> {
             (lines_in_cache self.old.unit) result (lines_in_cache self.new.unit) }
         ensures uncovered { unit_holds probe self.old.unit ≡ false →
             (result ≡ Ok tt) × (self.new ≡ self.old) }
+        ensures last { probe ≡ 2 ^ 64 - 1 → result ≡ Ok tt }
         ensures units { unit_index_of self.new.unit ≡ unit_index_of self.old.unit }
         ensures read { HasLinesOf dwarf.now self.new.unit }
     {
@@ -261,6 +267,7 @@ impl<R: Reader> ResUnits<R> {
     /// The location of an address in the cached lines. Takes no memory.
     pub fn find_location(&self, probe: u64) -> Option<Location<'_>>
         ensures found { option_map seen_location result ≡ cached_location_at probe self.now.unit }
+        ensures last { probe ≡ 2 ^ 64 - 1 → result ≡ None }
     {
         let unit = self.unit.as_ref()?;
         if !range_holds(unit.range, probe) {

@@ -1,20 +1,42 @@
 -- Each level of depth took a byte of the unit (on specs/Entry.antt).
-use Rattle.std.proofs.Common.{◌≡◌, ℕ, zero, suc, ◌+◌, ◌^◌, ◌<◌, ◌≤◌, ◌++◌, Bool, true, false, length, Ok, ap, arith, ℤ, pos, negsuc, ◌+ℤ◌, FitsSigned, w64, length-append}
+use Rattle.std.proofs.Common.{◌≡◌, ℕ, zero, suc, ◌+◌, ◌^◌, ◌<◌, ◌≤◌, ◌++◌, ◌==◌, Bool, true, false, cond, List, Option, Some, None, IfOk, length, Ok, Err, ap, arith, ℤ, pos, negsuc, ◌+ℤ◌, FitsSigned, w64, length-append}
 use Rattle.std.specs.Prelude.{unsigned_abs}
 use Rattle.std.proofs.lemmas.Grind.{common_steps}
+use Rattle.std.proofs.lemmas.Result.{IfOk-at_ok}
 use Rattle.std.proofs.lemmas.Int.{fits_signed_from_abs}
 use Rattle.gimli_read.specs.declared.endian.Encoding.{Encoding}
-use Rattle.gimli_read.specs.Abbreviations.{Specification}
+use Rattle.gimli_read.specs.Abbreviations.{Abbrev, Specification, with_code}
 use Rattle.gimli_read.specs.Section.{Section}
+use Rattle.gimli_read.specs.Reading.{Reading, ◌>>=◌}
 use Rattle.gimli_read.specs.Leb128.{uleb128_at}
 use Rattle.gimli_read.specs.Form.{NamedValue, attribute_at}
-use Rattle.gimli_read.proofs.Shorter.{shorter_at, uleb128-shorter}
+use Rattle.gimli_read.proofs.Shorter.{Shorter, shorter_at, uleb128-shorter}
 use Rattle.gimli_read.proofs.AttributeTexts.{attribute_alone}
-use Rattle.gimli.specs.Entry.{IsInUnit, depth_after_entry, depth_after_closing}
+use Rattle.gimli.specs.Entry.{EntryCursor, IsInUnit, depth_after_entry, depth_after_closing, opening_entry, entry_abbreviation_at}
 
 -- a code takes a byte at least
 pub code_takes : (s t : Section) (n : ℕ) → uleb128_at s ≡ Ok (n, t) → length t.bytes < length s.bytes
 code_takes s t n h = shorter_at (uleb128-shorter s) n t h
+
+-- so does the code of an entry
+pub abbreviation_takes : (table : List Abbrev) (c d : EntryCursor) (a : Option Abbrev) → entry_abbreviation_at table c ≡ Ok (a, d) → length d.left.bytes < length c.left.bytes
+unfolding entry_abbreviation_at
+abbreviation_takes table c d a h = IfOk-at_ok Fewer h (at (uleb128_at c.left) (uleb128-shorter c.left))
+  where
+    Fewer : Option Abbrev × EntryCursor → Type 0
+    Fewer x = length x.1.left.bytes < length c.left.bytes
+
+    found : (o : Option Abbrev) (t : Section) → length t.bytes < length c.left.bytes → IfOk (opening_entry o (record { left = t; depth = c.depth })) Fewer
+    found None t k = tt
+    found (Some b) t k = k
+
+    picked : (code : ℕ × Section) (b : Bool) → length code.1.bytes < length c.left.bytes → IfOk {T = Option Abbrev × EntryCursor} (cond b (Ok (None, record { left = code.1; depth = depth_after_closing c.depth })) (opening_entry (with_code code.0 table) (record { left = code.1; depth = c.depth }))) Fewer
+    picked code true k = k
+    picked code false k = found (with_code code.0 table) code.1 k
+
+    at : (r : Reading ℕ) → Shorter (length c.left.bytes) r → IfOk {T = Option Abbrev × EntryCursor} (r >>= λ code. cond (code.0 == 0) (Ok (None, record { left = code.1; depth = depth_after_closing c.depth })) (opening_entry (with_code code.0 table) (record { left = code.1; depth = c.depth }))) Fewer
+    at (Ok code) k = picked code (code.0 == 0) k.by
+    at (Err e) k = tt
 
 -- an attribute leaves no more bytes than there were
 pub attribute_leaves : (e : Encoding) (x : Specification) (s t : Section) (a : NamedValue) → attribute_at e x s ≡ Ok (a, t) → length t.bytes ≤ length s.bytes

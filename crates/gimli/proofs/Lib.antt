@@ -1,6 +1,14 @@
+pub mod ArangeLemmas
+pub mod UpToEnd
+pub mod AskedLemmas
 pub mod EntryLemmas
 pub mod FrontLemmas
 pub mod HeaderLemmas
+pub mod RangeLemmas
+pub mod ItemLemmas
+pub mod ItemReads
+pub mod ItemTexts
+pub mod UnitTexts
 pub mod RecordLemmas
 pub mod StringLemmas
 pub mod UnitLemmas

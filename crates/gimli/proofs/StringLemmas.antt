@@ -14,8 +14,8 @@ use Rattle.gimli_read.specs.Section.{Section, first, after}
 use Rattle.gimli_read.specs.Reading.{Reading, ◌>>=◌, done}
 use Rattle.gimli_read.specs.Number.{ended_at, is_address_size, fixed_at, split_at, address_at, null_terminated_at}
 use Rattle.gimli_read.specs.Number.{offset_size}
-use Rattle.gimli.specs.Sections.{Sections}
-use Rattle.gimli.specs.Text.{from_offset, string_at, string_length_at, indexed_number, indexed_string, string_of}
+use Rattle.gimli.specs.Sections.{Sections, SupSections}
+use Rattle.gimli.specs.Text.{from_offset, string_at, string_length_at, indexed_number, indexed_string, sup_string_at, string_of, string_takes_memory}
 use Rattle.gimli.specs.Unit.{readable_string, gives_string}
 
 -- a reading that never gives OutOfMemory
@@ -63,20 +63,29 @@ number_never size base index s =
 indexed_never : (d : Sections) (format : Format) (base index : ℕ) → NeverOom (indexed_string d format base index)
 indexed_never d format base index = never_bind (number_never (offset_size format) base index d.debug_str_offsets) (λ offset. string_at_never offset d.debug_str)
 
+sup_string_never : (offset : ℕ) (sup : Option SupSections) → NeverOom (sup_string_at offset sup)
+sup_string_never offset None = record { by = λ p. absurd cc }
+sup_string_never offset (Some sup) = string_at_never offset sup.debug_str
+
 string_never : (d : Sections) (format : Format) (base : ℕ) (v : AttributeValue Section) → NeverOom (string_of d format base v)
 unfolding string_of
 string_never d format base (values.String s) = never_ok
 string_never d format base (values.DebugStrRef offset) = string_at_never offset d.debug_str
 string_never d format base (values.DebugLineStrRef offset) = string_at_never offset d.debug_line_str
-string_never d format base (values.DebugStrRefSup offset) = record { by = λ p. absurd cc }
+string_never d format base (values.DebugStrRefSup offset) = sup_string_never offset d.sup
 string_never d format base (values.DebugStrOffsetsIndex index) = indexed_never d format base index
 string_never d format base _ = record { by = λ p. absurd cc }
 
+-- a string takes memory only where bytes are shared
+shared_if : {shares : Bool} (v : AttributeValue Section) → string_takes_memory shares v ≡ true → shares ≡ true
+shared_if (values.String s) h = absurd cc
+shared_if _ h = h
+
 -- a string that is given only where it can be read is never refused OutOfMemory but by a refused growth
 pub string_refused : (d : Sections) (format : Format) (base : ℕ) (v : AttributeValue Section) (shares : Bool)
-    → ((shares ≡ true → is_ok (string_of d format base v) ≡ true → OutOfMemory ≢ OutOfMemory) → string_of d format base v ≡ Err OutOfMemory)
+    → ((string_takes_memory shares v ≡ true → is_ok (string_of d format base v) ≡ true → OutOfMemory ≢ OutOfMemory) → string_of d format base v ≡ Err OutOfMemory)
     → (shares ≡ true → gives_string (Ok (readable_string d format base (Some v))) ≡ true → OutOfMemory ≢ OutOfMemory) → ⊥
-string_refused d format base v shares h m = at (string_of d format base v) (string_never d format base v) h m
+string_refused d format base v shares h m = at (string_of d format base v) (string_never d format base v) (λ k. h (λ t. k (shared_if v t))) m
   where
     at : (r : Result Section Error) → NeverOom r → ((shares ≡ true → is_ok r ≡ true → OutOfMemory ≢ OutOfMemory) → r ≡ Err OutOfMemory) → (shares ≡ true → gives_string (Ok (result_ok r)) ≡ true → OutOfMemory ≢ OutOfMemory) → ⊥
     at (Ok x) n h m = n.by (h (λ s _. m s refl))

@@ -8,7 +8,8 @@ use Rattle.gimli_read.specs.Section.{Section}
 use Rattle.gimli_read.specs.Reading.{Reading, ◌>>=◌}
 use Rattle.gimli_read.specs.Leb128.{uleb128_at}
 use Rattle.gimli_read.specs.Abbreviations.{Abbrev, Specification, with_code}
-use Rattle.gimli_read.specs.Form.{NamedValue, attribute_at}
+use Rattle.gimli_read.specs.Form.{NamedValue}
+unfoldable pub use Rattle.gimli_read.specs.Form.{attributes_at}
 
 -- the bytes that are left of a unit's entries, and how many entries are open around the next one
 pub record EntryCursor : Type 0 where
@@ -60,13 +61,6 @@ entry_abbreviation_at table cursor = do
   if code.0 == 0
       then Ok (None, record { left = code.1; depth = depth_after_closing cursor.depth })
       else opening_entry (with_code code.0 table) (record { left = code.1; depth = cursor.depth })
-
--- the attributes of the specifications, one after another
-unfoldable pub attributes_at : Encoding → List Specification → Section → Reading (List NamedValue)
-attributes_at encoding [] s = Ok ([], s)
-attributes_at encoding (x ∷ xs) s =
-    attribute_at encoding x s >>= λ a.
-    attributes_at encoding xs a.1 >>= λ more. Ok (a.0 ∷ more.0, more.1)
 
 -- the specifications of the root entry, which a closing entry isn't
 abbrev pub root_specifications : Option Abbrev → Result (List Specification) Error

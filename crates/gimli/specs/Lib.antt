@@ -1,3 +1,4 @@
+pub mod AddressSize
 pub mod Header
 pub mod UnitsLeft
 pub mod Sections
@@ -6,3 +7,13 @@ pub mod Entry
 pub mod Record
 pub mod Unit
 pub mod Entries
+pub mod Aranges
+pub mod Split
+pub mod Offsets
+pub mod Asked
+pub mod RangeListEntries
+pub mod Ranges
+pub mod RangesLeft
+pub mod RangesOffset
+pub mod Items
+pub mod ItemLaws

@@ -2,11 +2,13 @@
 -- Own: of each attribute the last counts. One of a form that is not of its class counts as not
 -- there: low_pc is an address or an index, stmt_list and the bases are section offsets, and so are
 -- data4 and data8 of the offset's width under stmt_list in versions 2 and 3; GNU_dwo_id is a
--- constant. A name or a directory that can't be read counts as none.
-use Rattle.std.specs.Prelude.{ℕ, ◌==◌, ◌||◌, nat_le, Bool, List, fold, Option, Some, None, Result, Ok, if◌then◌else◌}
+-- constant. A name or a directory that can't be read counts as none. GNU_dwo_name names a split file
+-- below version 5, dwo_name from then on, in any form.
+use Rattle.std.specs.Prelude.{ℕ, ◌==◌, ◌||◌, nat_le, nat_lt, Bool, List, fold, Option, Some, None, Result, Ok, if◌then◌else◌}
 use Rattle.std.specs.Option.{option_or}
 use Rattle.gimli_read.specs.declared.error.Error.{Error}
-use Rattle.gimli_read.specs.declared.constants.TheConstants.DwAt.{DW_AT_name, DW_AT_comp_dir, DW_AT_low_pc, DW_AT_stmt_list, DW_AT_str_offsets_base, DW_AT_addr_base, DW_AT_GNU_addr_base, DW_AT_rnglists_base, DW_AT_GNU_ranges_base, DW_AT_GNU_dwo_id}
+use Rattle.gimli_read.specs.declared.constants.TheConstants.DwAt.{DW_AT_name, DW_AT_comp_dir, DW_AT_low_pc, DW_AT_stmt_list, DW_AT_str_offsets_base, DW_AT_addr_base, DW_AT_GNU_addr_base, DW_AT_rnglists_base, DW_AT_GNU_ranges_base, DW_AT_GNU_dwo_id, DW_AT_GNU_dwo_name, DW_AT_dwo_name}
+use Rattle.gimli_read.specs.declared.constants.DwAt.{DwAt}
 use Rattle.gimli_read.specs.declared.endian.Encoding.{Encoding}
 use Rattle.gimli_read.specs.declared.endian.Format.{Format}
 use Rattle.gimli_read.specs.declared.endian.Format.TheVariants.{Dwarf32, Dwarf64}
@@ -30,6 +32,7 @@ pub record RootValues : Type 0 where
   pub addr_base : Option ℕ
   pub rnglists_base : Option ℕ
   pub dwo_id : Option ℕ
+  pub dwo_name : Option (AttributeValue Section)
 
 -- a value of the class address
 abbrev pub address_value : AttributeValue Section → Option AddressValue
@@ -61,6 +64,11 @@ line_offset encoding (values.Data8 n) =
     if is_before_4 encoding then of_width Dwarf64 encoding.format n else None
 line_offset encoding _ = None
 
+-- the attribute that names a split file
+abbrev pub dwo_name_attribute : Encoding → DwAt
+dwo_name_attribute encoding =
+    if nat_lt encoding.version 5 then DW_AT_GNU_dwo_name else DW_AT_dwo_name
+
 -- the values with one more attribute
 abbrev pub with_root_attribute : Encoding → RootValues → NamedValue → RootValues
 with_root_attribute encoding root a =
@@ -78,6 +86,8 @@ with_root_attribute encoding root a =
     then record root { rnglists_base = option_or (section_offset a.value) root.rnglists_base }
     else if a.name.0 == DW_AT_GNU_dwo_id.0
     then record root { dwo_id = option_or (constant_of a.value) root.dwo_id }
+    else if a.name.0 == (dwo_name_attribute encoding).0
+    then record root { dwo_name = Some a.value }
     else root
 
 -- before the first attribute
@@ -91,6 +101,7 @@ no_root_values = record {
   addr_base = None;
   rnglists_base = None;
   dwo_id = None;
+  dwo_name = None;
 }
 
 -- the values after the attributes that a reading gives

@@ -15,6 +15,7 @@ use Rattle.gimli_read.specs.Abbreviations.{Abbrev}
 use Rattle.gimli_read.specs.Abbrev.{table_at, takes_memory}
 use Rattle.gimli_line.specs.Header.{Program}
 use Rattle.gimli_line.specs.Program.{line_program_at}
+use Rattle.gimli.specs.declared.constants.TheConstants.{STR_OFFSETS_HEADER_32, STR_OFFSETS_HEADER_64, RNGLISTS_HEADER_32, RNGLISTS_HEADER_64}
 use Rattle.gimli.specs.declared.dwarf.DwarfFileType.{DwarfFileType}
 use Rattle.gimli.specs.declared.dwarf.DwarfFileType.TheVariants.{Main, Dwo}
 use Rattle.gimli.specs.declared.unit.DwoId.{DwoId}
@@ -88,7 +89,8 @@ unfoldable pub completed_record : Sections → UnitHeaderFields → List Abbrev 
     → Result UnitRecord Error
 completed_record d header table root =
     let str_offsets_base =
-    unwrap_or root.str_offsets_base (first_base 8 16 d.file_type header.encoding) in
+    unwrap_or root.str_offsets_base
+    (first_base STR_OFFSETS_HEADER_32 STR_OFFSETS_HEADER_64 d.file_type header.encoding) in
     let addr_base = unwrap_or root.addr_base 0 in
     do
       program ← line_program_of d header.encoding root.stmt_list
@@ -101,7 +103,8 @@ completed_record d header table root =
         low_pc = low_pc;
         str_offsets_base = str_offsets_base;
         addr_base = addr_base;
-        rnglists_base = unwrap_or root.rnglists_base (first_base 12 20 d.file_type header.encoding);
+        rnglists_base = unwrap_or root.rnglists_base
+            (first_base RNGLISTS_HEADER_32 RNGLISTS_HEADER_64 d.file_type header.encoding);
         dwo_id = dwo_id_of header.dwo_id root.dwo_id;
         line_program = program;
       })

@@ -3,14 +3,14 @@
 ghost use Rattle.std.specs.Prelude.{◌≡◌, ◌<◌, ◌≤◌, ◌+◌, ◌-◌, ◌^◌, ◌==◌, [], length, option_map, OnErr, unsigned_abs};
 ghost use Rattle.gimli_read.specs.Reading.{Exactly, ExactlyUnlessOomFor};
 ghost use Rattle.gimli_read.specs.HeldBytes.{gives_attribute_bytes};
-ghost use Rattle.gimli_read.specs.Form.{attribute_at};
+ghost use Rattle.gimli_read.specs.Form.{attribute_at, attributes_at, rest_of};
 ghost use Rattle.gimli.specs.Entry.{depth_after_entry, depth_after_closing, entry_abbreviation_at};
 ghost use Rattle.gimli.specs.Entries.{entries_at};
 
 use crate::unit::UnitHeader;
 use gimli_read::{
     Abbreviation, Abbreviations, Attribute, AttributeSpecification, Encoding, Error, Reader,
-    UnitOffset, read_attribute,
+    UnitOffset, read_attribute, skip_attributes, skip_attributes_of,
 };
 use std::marker::Model;
 
@@ -164,6 +164,52 @@ impl<'a, R: Reader> EntriesRaw<'a, R> {
     {
         match read_attribute(&mut self.input, self.encoding, specification) {
             Ok(attribute) => Ok(attribute),
+            Err(error) => {
+                self.input.skip(self.input.len())?;
+                Err(error)
+            }
+        }
+    }
+
+    /// Passes over the next attributes, which are read and dropped one after another. Takes no
+    /// memory.
+    ///
+    /// Refused as `read_attribute` is at the first that can't be read, but for `OutOfMemory`. After
+    /// a refusal nothing is left to read.
+    #[tactic(auto, using(gimli_read::proofs::SkipLemmas::attributes_leave, crate::proofs::EntryLemmas::still_in_unit))]
+    pub fn skip_attributes(
+        &mut self,
+        specifications: &[AttributeSpecification],
+    ) -> Result<(), Error>
+        ensures gives { Exactly (λ _. self.new.cursor.left) result (rest_of (attributes_at
+            self.old.unit.encoding specifications.now self.old.cursor.left)) }
+        ensures refused { OnErr result (self.new.cursor.left.bytes ≡ []) }
+        ensures unit { self.new.unit ≡ self.old.unit }
+        ensures depth { self.new.cursor.depth ≡ self.old.cursor.depth }
+    {
+        match skip_attributes(&mut self.input, self.encoding, specifications) {
+            Ok(()) => Ok(()),
+            Err(error) => {
+                self.input.skip(self.input.len())?;
+                Err(error)
+            }
+        }
+    }
+
+    /// Passes over all attributes of an entry of this abbreviation, as `skip_attributes` does; at
+    /// once where their forms alone say how many bytes they have. Takes no memory.
+    ///
+    /// Refused as `skip_attributes` is. After a refusal nothing is left to read.
+    #[tactic(auto, using(gimli_read::proofs::SkipLemmas::attributes_leave, crate::proofs::EntryLemmas::still_in_unit))]
+    pub fn skip_attributes_of(&mut self, abbreviation: &Abbreviation) -> Result<(), Error>
+        ensures gives { Exactly (λ _. self.new.cursor.left) result (rest_of (attributes_at
+            self.old.unit.encoding abbreviation.now.attributes self.old.cursor.left)) }
+        ensures refused { OnErr result (self.new.cursor.left.bytes ≡ []) }
+        ensures unit { self.new.unit ≡ self.old.unit }
+        ensures depth { self.new.cursor.depth ≡ self.old.cursor.depth }
+    {
+        match skip_attributes_of(&mut self.input, self.encoding, abbreviation) {
+            Ok(()) => Ok(()),
             Err(error) => {
                 self.input.skip(self.input.len())?;
                 Err(error)

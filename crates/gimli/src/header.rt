@@ -1,6 +1,7 @@
 //! Reading the headers of units.
 
-ghost use Rattle.std.specs.Prelude.{◌≡◌, ◌<◌, ◌^◌};
+ghost use Rattle.std.specs.Prelude.{◌≡◌, ◌<◌, ◌^◌, true, IfOk};
+ghost use Rattle.gimli_read.specs.Number.{is_address_size};
 ghost use Rattle.gimli_read.specs.Reading.{Exactly, ExactlyUnlessOomIf, Reads};
 ghost use Rattle.gimli.specs.Header.{unit_address_size_at, unit_type_at, type_fields_at};
 ghost use Rattle.gimli.specs.Header.{fields_4_at, fields_5_at, header_fields_at, unit_header_at};
@@ -13,8 +14,9 @@ use gimli_read::{DebugInfoOffset, Encoding, Error, Format, Reader, read_initial_
 
 // An address size.
 #[tactic(auto, unfolding(crate::specs::Header::unit_address_size_at))]
-fn read_address_size<R: Reader>(input: &mut R) -> Result<u8, Error>
+pub(crate) fn read_address_size<R: Reader>(input: &mut R) -> Result<u8, Error>
     ensures gives { Reads R.section input.old input.new result unit_address_size_at }
+    ensures known { IfOk result (λ size. is_address_size size ≡ true) }
 {
     let size = input.read_u8()?;
     match size {

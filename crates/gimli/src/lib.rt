@@ -1,11 +1,18 @@
 //! Reading the sections of DWARF: units, their records and their strings.
 #![tactic(auto)]
 
+mod address_size;
+mod aranges;
 mod constants;
 mod dwarf;
 mod entries;
 mod header;
+mod laws;
+mod load;
+mod ranges;
+mod ranges_offset;
 mod record;
+mod rnglists;
 mod sections;
 mod text;
 mod unit;
@@ -13,13 +20,17 @@ mod unit_record;
 mod unit_ref;
 mod units;
 
-pub use crate::dwarf::{Dwarf, DwarfFileType};
+pub use crate::aranges::{ArangeEntryIter, ArangeHeader, ArangeHeaderIter};
+pub use crate::dwarf::{Dwarf, DwarfFileType, SupDwarf};
 pub use crate::entries::EntriesRaw;
+pub use crate::laws::{item_laws, unit_laws};
+pub use crate::load::SectionId;
+pub use crate::ranges::RngListIter;
 pub use crate::sections::{
     DebugAbbrev, DebugAddr, DebugAranges, DebugInfo, DebugLine, DebugLineStr, DebugRanges,
     DebugRngLists, DebugStr, DebugStrOffsets,
 };
-pub use crate::unit::{DwoId, UnitHeader, UnitType};
+pub use crate::unit::{DwoId, ToUnitOffset, UnitHeader, UnitType};
 pub use crate::unit_record::Unit;
 pub use crate::unit_ref::UnitRef;
 pub use crate::units::UnitHeaders;

@@ -4,7 +4,7 @@ ghost use Rattle.std.specs.Prelude.{◌≡◌};
 ghost use Rattle.gimli_read.specs.Reading.{ExactlyUnlessOomIf};
 ghost use Rattle.gimli_read.specs.Form.{seen_value};
 ghost use Rattle.gimli.specs.Entry.{attributes_at};
-ghost use Rattle.gimli.specs.Record.{address_value, section_offset, line_offset, with_root_attribute, no_root_values, root_values_after, root_values_of};
+ghost use Rattle.gimli.specs.Record.{address_value, section_offset, line_offset, dwo_name_attribute, with_root_attribute, no_root_values, root_values_after, root_values_of};
 
 use crate::entries::EntriesRaw;
 use crate::unit::UnitHeader;
@@ -34,6 +34,7 @@ pub(crate) struct RootAttributes<R: Reader> {
     pub(crate) addr_base: Option<u64>,
     pub(crate) rnglists_base: Option<u64>,
     pub(crate) dwo_id: Option<u64>,
+    pub(crate) dwo_name: Option<AttributeValue<R>>,
 }
 
 impl<R: Reader> Model for RootAttributes<R> {
@@ -52,6 +53,7 @@ impl<R: Reader> Model for RootAttributes<R> {
       addr_base = r.addr_base;
       rnglists_base = r.rnglists_base;
       dwo_id = r.dwo_id;
+      dwo_name = option_map (seen_value R.section) r.dwo_name;
     } };
 }
 
@@ -100,6 +102,17 @@ fn line_offset<R: Reader>(encoding: Encoding, value: &AttributeValue<R>) -> Opti
     }
 }
 
+// The attribute that names a split file.
+fn dwo_name_attribute(encoding: Encoding) -> DwAt
+    ensures gives { result ≡ dwo_name_attribute encoding }
+{
+    if encoding.version < 5 {
+        DwAt::DW_AT_GNU_dwo_name
+    } else {
+        DwAt::DW_AT_dwo_name
+    }
+}
+
 impl<R: Reader> RootAttributes<R> {
     // Before the first attribute.
     pub(crate) fn new() -> RootAttributes<R>
@@ -114,6 +127,7 @@ impl<R: Reader> RootAttributes<R> {
             addr_base: None,
             rnglists_base: None,
             dwo_id: None,
+            dwo_name: None,
         }
     }
 
@@ -141,6 +155,7 @@ impl<R: Reader> RootAttributes<R> {
                 self.rnglists_base = section_offset(&value).or(self.rnglists_base);
             }
             DwAt::DW_AT_GNU_dwo_id => self.dwo_id = constant.or(self.dwo_id),
+            _ if name == dwo_name_attribute(encoding) => self.dwo_name = Some(value),
             _ => {}
         }
     }

@@ -5,7 +5,7 @@ ghost use Rattle.gimli_read.specs.Reading.{Exactly, ExactlyUnlessOomFor};
 ghost use Rattle.gimli_read.specs.Form.{seen_value};
 ghost use Rattle.gimli_read.specs.Number.{offset_size};
 ghost use Rattle.gimli.specs.Unit.{attr_string_of};
-ghost use Rattle.gimli.specs.Text.{from_offset, string_at, string_length_at, indexed_number, indexed_string, string_of};
+ghost use Rattle.gimli.specs.Text.{from_offset, string_at, string_length_at, indexed_number, indexed_string, sup_string_at, string_of, string_takes_memory};
 
 use crate::dwarf::Dwarf;
 use crate::unit_record::Unit;
@@ -108,12 +108,23 @@ fn read_indexed_string<R: Reader>(
     read_string_at(&dwarf.debug_str.section, offset)
 }
 
+// The string at an offset of the supplementary file's strings.
+fn read_sup_string<R: Reader>(dwarf: &Dwarf<R>, offset: u64) -> Result<R, Error>
+    ensures gives { ExactlyUnlessOomFor R.shares is_ok R.section result
+        (sup_string_at offset dwarf.now.sup) }
+{
+    match &dwarf.sup {
+        Some(sup) => read_string_at(&sup.debug_str.section, offset),
+        None => Err(Error::NoSupplementary),
+    }
+}
+
 /// The string that a value stands for, without the zero byte that ends it. `base` is where the
 /// unit's offsets of strings begin, in bytes.
 ///
 /// Refused `ExpectedString` for a value of no string form, `OffsetOutOfBounds`, `UnexpectedEof`
-/// where no zero byte ends it, and `NoSupplementary` for a string of a supplementary file; else
-/// `OutOfMemory` where bytes are shared.
+/// where no zero byte ends it, and `NoSupplementary` for a string of a supplementary file that isn't
+/// there; else `OutOfMemory` where bytes are shared and the value doesn't hold the string itself.
 #[tactic(auto, unfolding(crate::specs::Text::string_of))]
 pub(crate) fn read_string<R: Reader>(
     dwarf: &Dwarf<R>,
@@ -121,7 +132,8 @@ pub(crate) fn read_string<R: Reader>(
     base: u64,
     value: AttributeValue<R>,
 ) -> Result<R, Error>
-    ensures gives { ExactlyUnlessOomFor R.shares is_ok R.section result
+    ensures gives { ExactlyUnlessOomFor
+        (string_takes_memory R.shares (seen_value R.section value)) is_ok R.section result
         (string_of dwarf.now format base (seen_value R.section value)) }
 {
     match value {
@@ -130,7 +142,7 @@ pub(crate) fn read_string<R: Reader>(
         AttributeValue::DebugLineStrRef(offset) => {
             read_string_at(&dwarf.debug_line_str.section, offset)
         }
-        AttributeValue::DebugStrRefSup(_) => Err(Error::NoSupplementary),
+        AttributeValue::DebugStrRefSup(offset) => read_sup_string(dwarf, offset),
         AttributeValue::DebugStrOffsetsIndex(index) => {
             read_indexed_string(dwarf, format, base, index)
         }
@@ -143,10 +155,11 @@ impl<R: Reader> Dwarf<R> {
     /// ends it.
     ///
     /// Refused `ExpectedString` for a value of no string form, `OffsetOutOfBounds`, `UnexpectedEof`
-    /// where no zero byte ends it, and `NoSupplementary` for a string of a supplementary file; else
-    /// `OutOfMemory` where bytes are shared. Source: DWARF 5, sections 7.5.5 and 7.26.
+    /// where no zero byte ends it, and `NoSupplementary` for a string of a supplementary file that
+    /// isn't there; else `OutOfMemory` where bytes are shared and the value doesn't hold the string itself. Source: DWARF 5, sections 7.5.5 and 7.26.
     pub fn attr_string(&self, unit: &Unit<R>, value: AttributeValue<R>) -> Result<R, Error>
-        ensures gives { ExactlyUnlessOomFor R.shares is_ok R.section result
+        ensures gives { ExactlyUnlessOomFor
+            (string_takes_memory R.shares (seen_value R.section value)) is_ok R.section result
             (attr_string_of self.now unit.now (seen_value R.section value)) }
     {
         read_string(

@@ -1,8 +1,9 @@
 //! Units and what their headers say.
 
-ghost use Rattle.std.specs.Prelude.{◌≡◌};
+ghost use Rattle.std.specs.Prelude.{◌≡◌, ℕ, option_map};
+ghost use Rattle.gimli.specs.Offsets.{unit_offset_of};
 
-use gimli_read::{DebugInfoOffset, Encoding, Format, Reader};
+use gimli_read::{DebugInfoOffset, Encoding, Format, Reader, UnitOffset};
 use std::marker::Model;
 
 /// What kind of unit a unit is (DWARF 5, section 7.5.1).
@@ -96,5 +97,30 @@ impl<R: Reader> UnitHeader<R> {
         ensures gives { result ≡ self.now.offset }
     {
         self.offset
+    }
+}
+
+/// An offset in `.debug_info`, seen from a unit. It stands in a trait since the offset itself is of the
+/// crate below.
+pub trait ToUnitOffset {
+    /// Where in `.debug_info` this is, in bytes.
+    ghost place: { Self → ℕ };
+
+    /// The offset in the unit of a header, in bytes from the start of the unit's length; none before
+    /// the header's end and from the unit's end on. Takes no memory.
+    fn to_unit_offset<R: Reader>(&self, header: &UnitHeader<R>) -> Option<UnitOffset>
+        ensures gives { option_map (λ n. n.0) result ≡ unit_offset_of (place self.now) header.now };
+}
+
+impl ToUnitOffset for DebugInfoOffset {
+    ghost place = { λ offset. offset.0 };
+
+    fn to_unit_offset<R: Reader>(&self, header: &UnitHeader<R>) -> Option<UnitOffset> {
+        let offset = self.0.checked_sub(header.offset.0)?;
+        let end = header.header_length + header.entries.len();
+        if offset < header.header_length || offset >= end {
+            return None;
+        }
+        Some(UnitOffset(offset))
     }
 }

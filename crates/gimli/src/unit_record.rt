@@ -3,8 +3,12 @@
 ghost use Rattle.std.specs.Prelude.{◌≡◌, Ok, is_some, option_map};
 ghost use Rattle.gimli_read.specs.Reading.{Exactly, ExactlyUnlessOomFor, ExactlyUnlessOomIf, IsUnlessOom};
 ghost use Rattle.gimli_read.specs.Form.{seen_value};
+ghost use Rattle.gimli.specs.Split.{dwo_name_of, relocated};
 ghost use Rattle.gimli.specs.Unit.{first_base, low_pc_of, line_program_of, readable_string, gives_string, dwo_id_of, completed_record, unit_record_of, unit_takes_memory};
 
+use crate::constants::{
+    RNGLISTS_HEADER_32, RNGLISTS_HEADER_64, STR_OFFSETS_HEADER_32, STR_OFFSETS_HEADER_64,
+};
 use crate::dwarf::{Dwarf, DwarfFileType};
 use crate::record::{AddressValue, RootAttributes, read_root};
 use crate::text::{read_from, read_indexed_number, read_string};
@@ -31,7 +35,8 @@ pub struct Unit<R: Reader> {
     pub str_offsets_base: u64,
     /// Where the unit's addresses begin in `.debug_addr`, in bytes.
     pub addr_base: u64,
-    /// Where the unit's range lists begin in `.debug_rnglists`, in bytes.
+    /// Where the unit's offsets of range lists begin in `.debug_rnglists`, in bytes; in a split file
+    /// below version 5 what its offsets into `.debug_ranges` count from.
     pub rnglists_base: u64,
     /// The identifier that the unit shares with a split unit, where it has one.
     pub dwo_id: Option<DwoId>,
@@ -166,13 +171,19 @@ fn complete<R: Reader>(
 {
     let encoding = header.encoding;
     let file_type = dwarf.file_type;
-    let str_offsets_base = root
-        .str_offsets_base
-        .unwrap_or(first_base(8, 16, file_type, encoding));
+    let str_offsets_base = root.str_offsets_base.unwrap_or(first_base(
+        STR_OFFSETS_HEADER_32,
+        STR_OFFSETS_HEADER_64,
+        file_type,
+        encoding,
+    ));
     let addr_base = root.addr_base.unwrap_or(0);
-    let rnglists_base = root
-        .rnglists_base
-        .unwrap_or(first_base(12, 20, file_type, encoding));
+    let rnglists_base = root.rnglists_base.unwrap_or(first_base(
+        RNGLISTS_HEADER_32,
+        RNGLISTS_HEADER_64,
+        file_type,
+        encoding,
+    ));
     let line_program = read_program(alloc, dwarf, encoding, root.stmt_list)?;
     let low_pc = read_low_pc(dwarf, encoding, addr_base, root.low_pc)?;
     let dwo_id = dwo_id_of(header.dwo_id, root.dwo_id);
@@ -195,7 +206,8 @@ fn complete<R: Reader>(
 impl<R: Reader> Dwarf<R> {
     /// The unit of a header: its abbreviations, and what its root entry says.
     ///
-    /// Refused by its abbreviations (`OffsetOutOfBounds`, `BadAbbreviation`), its root entry
+    /// Refused by its abbreviations (`OffsetOutOfBounds`, `BadAbbreviation`, `UnexpectedEof`,
+    /// `BadLeb128`), its root entry
     /// (`UnexpectedEof`, `MissingUnitDie`, `UnknownAbbreviation`, `UnknownForm` and what a value is
     /// refused for), its line program's header (`OffsetOutOfBounds` and what a header is refused
     /// for), or the index of its low_pc (`OffsetOutOfBounds`), in this order. May fail with
@@ -209,5 +221,32 @@ impl<R: Reader> Dwarf<R> {
         let abbreviations = Abbreviations::parse(alloc, rest)?;
         let root = read_root(&header, &abbreviations)?;
         complete(alloc, self, header, abbreviations, root)
+    }
+}
+
+impl<R: Reader> Unit<R> {
+    /// The name of the unit's split file, as its root entry gives it: `DW_AT_GNU_dwo_name` below
+    /// version 5, else `DW_AT_dwo_name`, in whatever form; the last one counts.
+    ///
+    /// Refused as the root entry is: `UnexpectedEof`, `BadLeb128`, `MissingUnitDie`,
+    /// `UnknownAbbreviation`, `UnknownForm` and what a value is refused for; else `OutOfMemory` where bytes are shared.
+    pub fn dwo_name(&self) -> Result<Option<AttributeValue<R>>, Error>
+        ensures gives { ExactlyUnlessOomIf R.shares (option_map (seen_value R.section)) result
+            (dwo_name_of self.now) }
+    {
+        let root = read_root(&self.header, &self.abbreviations)?;
+        Ok(root.dwo_name)
+    }
+
+    /// Takes over what the main unit of this split unit relocates: low_pc, the base of addresses
+    /// and, below version 5, that of range lists. Takes no memory.
+    pub fn copy_relocated_attributes(&mut self, main: &Unit<R>)
+        ensures gives { self.new ≡ relocated self.old main.now }
+    {
+        self.low_pc = main.low_pc;
+        self.addr_base = main.addr_base;
+        if self.header.encoding.version < 5 {
+            self.rnglists_base = main.rnglists_base;
+        }
     }
 }

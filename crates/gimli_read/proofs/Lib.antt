@@ -5,10 +5,11 @@ pub mod ShortLeb128
 pub mod Shorter
 pub mod RunLemmas
 pub mod FormLemmas
-pub mod SkipLemmas
 pub mod FixedTexts
 pub mod ValueTexts
 pub mod AttributeTexts
+pub mod SizeLemmas
+pub mod SkipLemmas
 pub mod AlikeLemmas
 pub mod AbbrevLemmas
 pub mod Listed

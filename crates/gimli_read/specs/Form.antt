@@ -1,7 +1,7 @@
 -- The value of an attribute by its form (DWARF 5, sections 7.5.5 and 7.5.6).
 -- Own: a form that is not listed is UnknownForm where a value of it is read; so is DW_FORM_indirect
 -- to DW_FORM_implicit_const, whose value stands in the abbreviation.
-use Rattle.std.specs.Prelude.{ℕ, zero, suc, ◌+◌, ◌==◌, length, Option, Some, None, Result, Ok, Err, if◌then◌else◌, ℤ, pos, negsuc}
+use Rattle.std.specs.Prelude.{ℕ, zero, suc, ◌+◌, ◌==◌, length, List, [], ◌∷◌, Option, Some, None, Result, Ok, Err, if◌then◌else◌, ℤ, pos, negsuc}
 use Rattle.gimli_read.specs.declared.error.Error.{Error}
 use Rattle.gimli_read.specs.declared.error.Error.TheVariants.{UnknownForm, UnexpectedEof}
 use Rattle.gimli_read.specs.declared.endian.Encoding.{Encoding}
@@ -86,6 +86,13 @@ attribute_at encoding specification s =
     if specification.form.0 == DW_FORM_implicit_const.0 then
     (implicit_of specification.constant >>= λ value. Ok (named_value specification value, s))
     else (value_at encoding specification.form.0 s >>= λ v. Ok (named_value specification v.0, v.1))
+
+-- the attributes of the specifications, one after another
+unfoldable pub attributes_at : Encoding → List Specification → Section → Reading (List NamedValue)
+attributes_at encoding [] s = Ok ([], s)
+attributes_at encoding (x ∷ xs) s =
+    attribute_at encoding x s >>= λ a.
+    attributes_at encoding xs a.1 >>= λ more. Ok (a.0 ∷ more.0, more.1)
 
 -- a signed number that isn't negative
 abbrev pub unsigned_of : ℤ → Option ℕ

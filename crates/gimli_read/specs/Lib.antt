@@ -8,6 +8,9 @@ pub mod Run
 pub mod Yields
 pub mod FormEncoding
 pub mod Form
+pub mod ValueSize
+pub mod Skip
+pub mod SizedRuns
 pub mod HeldBytes
 pub mod StringForm
 pub mod Value

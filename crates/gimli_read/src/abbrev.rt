@@ -1,17 +1,22 @@
 //! Abbreviation tables.
 
-ghost use Rattle.std.specs.Prelude.{◌≡◌, ◌≢◌, ◌<◌, ◌+◌, ◌^◌, [], ◌∷◌, ◌++◌, None, Some, OnOk, is_ok, is_some, option_copied};
+ghost use Rattle.std.specs.Prelude.{◌≡◌, ◌≢◌, ◌<◌, ◌+◌, ◌^◌, [], ◌∷◌, ◌++◌, None, Some, IfOk, IfErr, OnOk, is_ok, is_some, option_copied};
 ghost use Rattle.std.specs.List.{slice_get};
 ghost use Rattle.std.specs.Ordering.{nat_cmp};
 ghost use Rattle.std.specs.BTreeMap.{get};
 ghost use Rattle.gimli_read.specs.Reading.{ExactlyUnlessOomIf, Reads};
 ghost use Rattle.gimli_read.specs.Abbreviations.{with_code};
 ghost use Rattle.gimli_read.specs.AbbreviationPlaces.{if_coded, IsSameApart};
+ghost use Rattle.gimli_read.specs.declared.error.Error.TheVariants.{OutOfMemory};
+ghost use Rattle.gimli_read.specs.SizedRuns.{AreRunsOf};
+ghost use Rattle.gimli_read.specs.ValueSize.{value_size_of, attribute_size};
 ghost use Rattle.gimli_read.specs.Abbrev.{specification_at, specifications_at, declaration_head_at, declaration_at, head_and_pair_at, abbreviation_at, takes_memory, table_at};
 
 use crate::constants::{DwAt, DwForm, DwTag};
+use crate::endian::Encoding;
 use crate::error::Error;
 use crate::reader::Reader;
+use crate::size::{TotalSize, ValueSize, size_of_form};
 use std::alloc::{AllocError, Global};
 use std::collections::BTreeMap;
 use std::marker::Model;
@@ -56,6 +61,37 @@ impl AttributeSpecification {
     {
         self.constant
     }
+
+    // What says how many bytes the attribute's value has.
+    fn value_size(&self) -> ValueSize
+        ensures gives { result ≡ value_size_of self.now }
+    {
+        if self.form == DwForm::DW_FORM_implicit_const {
+            return match self.constant {
+                Some(_) => ValueSize::Bytes(0),
+                None => ValueSize::Variable,
+            };
+        }
+        size_of_form(self.form)
+    }
+
+    /// How many bytes the attribute's value has in a unit of this encoding, where its form alone
+    /// says so; none for another form, and for an address of a size other than 1, 2, 4 and 8. Takes
+    /// no memory. Source: DWARF 5, section 7.5.6.
+    pub fn size(&self, encoding: Encoding) -> Option<u8>
+        ensures gives { result ≡ attribute_size encoding self.now }
+    {
+        self.value_size().bytes(encoding)
+    }
+}
+
+/// Attributes of known sizes, and after them an attribute of another size.
+#[derive(Clone, Copy)]
+pub struct SizedRun {
+    // How many bytes the attributes of known sizes have.
+    pub(crate) size: TotalSize,
+    // The attribute after them.
+    pub(crate) next: AttributeSpecification,
 }
 
 /// What the entries of a code are: their tag, whether they have children, and their attributes.
@@ -65,10 +101,15 @@ pub struct Abbreviation {
     tag: DwTag,
     has_children: bool,
     attributes: Vec<AttributeSpecification>,
+    // The attributes again, those of known sizes together.
+    runs: Vec<SizedRun>,
+    // How many bytes the attributes after the runs have.
+    last: TotalSize,
 }
 
 impl Model for Abbreviation {
     ghost use Rattle.gimli_read.specs.Abbreviations.{Abbrev};
+    ghost use Rattle.gimli_read.specs.SizedRuns.{AreRunsOf};
 
     ghost Value = { Abbrev };
 
@@ -78,6 +119,8 @@ impl Model for Abbreviation {
       has_children = a.has_children;
       attributes = a.attributes.items;
     } };
+
+    ghost invariant = { λ a. AreRunsOf a.attributes.items a.runs.items a.last };
 }
 
 impl Abbreviation {
@@ -107,6 +150,13 @@ impl Abbreviation {
         ensures gives { result.now ≡ self.now.attributes }
     {
         self.attributes.as_slice()
+    }
+
+    // The attributes in runs, and how many bytes those after the runs have.
+    pub(crate) fn runs(&self) -> (&[SizedRun], TotalSize)
+        ensures gives { AreRunsOf self.now.attributes result.0.now result.1 }
+    {
+        (self.runs.as_slice(), self.last)
     }
 }
 
@@ -172,6 +222,31 @@ fn read_specifications<R: Reader>(
     Ok(attributes)
 }
 
+// Attributes in runs, and how many bytes those after the runs have. Refused `OutOfMemory` alone.
+fn sized_runs(
+    alloc: Global,
+    attributes: &[AttributeSpecification],
+) -> Result<(Vec<SizedRun>, TotalSize), Error>
+    ensures gives { IfOk result (λ r. AreRunsOf attributes.now r.0.items r.1) }
+    ensures refused { IfErr result (λ e. e ≡ OutOfMemory) }
+{
+    let mut runs = Vec::new(alloc);
+    let mut last = TotalSize::new();
+    for attribute in attributes {
+        match last.with(attribute.value_size()) {
+            Some(longer) => last = longer,
+            None => {
+                runs.push(SizedRun {
+                    size: last,
+                    next: *attribute,
+                })?;
+                last = TotalSize::new();
+            }
+        }
+    }
+    Ok((runs, last))
+}
+
 // A tag, and whether children follow.
 #[tactic(auto, unfolding(crate::specs::Abbrev::declaration_head_at))]
 fn read_head<R: Reader>(input: &mut R) -> Result<(DwTag, bool), Error>
@@ -200,11 +275,14 @@ fn read_declaration<R: Reader>(
 {
     let (tag, has_children) = read_head(input)?;
     let attributes = read_specifications(alloc, input)?;
+    let (runs, last) = sized_runs(alloc, &attributes)?;
     Ok(Abbreviation {
         code,
         tag,
         has_children,
         attributes,
+        runs,
+        last,
     })
 }
 

@@ -3,6 +3,7 @@
 ghost use Rattle.std.specs.Prelude.{◌≡◌, true, false};
 ghost use Rattle.gimli_read.specs.Leb128.{ReadsUleb128, ReadsUleb128Alone, ReadsSleb128, ReadsSleb128Alone};
 ghost use Rattle.gimli_read.specs.Alike.{AnswerAlike, AnswerAlikeUnlessOom};
+ghost use Rattle.gimli_read.specs.ValueSize.{LeavesItsSize};
 ghost use Rattle.gimli_read.specs.ValueLaws.{ReadsFixed, ReadsFixedAlone, ReadsValue, ReadsValueAlone, ReadsAttribute, ReadsAttributeAlone};
 
 use crate::endian_bytes::EndianBytes;
@@ -26,6 +27,12 @@ pub fn value_laws()
     ensures value_alone { ReadsValueAlone }
     ensures attribute { ReadsAttribute }
     ensures attribute_alone { ReadsAttributeAlone }
+{}
+
+/// To read an attribute whose form alone says its size is to pass over as many bytes: where they are
+/// missing, both are `UnexpectedEof`.
+pub fn size_laws()
+    ensures leaves { LeavesItsSize }
 {}
 
 /// Readers of equal sections answer alike.

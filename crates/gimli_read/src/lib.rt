@@ -11,6 +11,7 @@ mod laws;
 mod leb128;
 mod range;
 mod reader;
+mod size;
 mod skip;
 mod value;
 
@@ -20,10 +21,10 @@ pub use crate::endian::{Encoding, Format, RunTimeEndian};
 pub use crate::endian_bytes::EndianBytes;
 pub use crate::endian_slice::EndianSlice;
 pub use crate::error::Error;
-pub use crate::laws::{alike_laws, leb128_laws, sharing_laws, value_laws};
+pub use crate::laws::{alike_laws, leb128_laws, sharing_laws, size_laws, value_laws};
 pub use crate::range::Range;
 pub use crate::reader::{Reader, read_initial_length};
-pub use crate::skip::skip_attribute;
+pub use crate::skip::{skip_attribute, skip_attributes, skip_attributes_of};
 pub use crate::value::{
     Attribute, AttributeValue, DebugInfoOffset, UnitOffset, read_attribute, read_value,
 };

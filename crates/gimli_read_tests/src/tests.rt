@@ -4,6 +4,7 @@ mod forms;
 mod growths;
 mod numbers;
 mod passing;
+mod skipping;
 mod tables;
 
 use bytes::Bytes;

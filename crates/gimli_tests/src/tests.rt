@@ -1,5 +1,7 @@
 //! Worked cases: headers, records, entries, strings and addresses, and refused growths.
 
+mod nesting;
+
 use bytes::Bytes;
 use gimli::{
     AttributeValue, DebugAbbrev, DebugAddr, DebugAranges, DebugInfo, DebugLine, DebugLineStr,
@@ -110,6 +112,7 @@ fn slices<'a>(info: &'a [u8], line: &'a [u8], order: RunTimeEndian) -> Dwarf<End
             order,
         )),
         file_type: DwarfFileType::Main,
+        sup: None,
     }
 }
 
@@ -140,6 +143,7 @@ fn counted(
             order,
         )?),
         file_type: DwarfFileType::Main,
+        sup: None,
     })
 }
 

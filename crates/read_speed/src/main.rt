@@ -3,9 +3,13 @@
 //!
 //! Arguments: a way and a file. The way is `nothing`, or one of `u32`, `uleb128`, `sleb128`, `split`
 //! and `duplicate` with `-slice` for borrowed bytes or `-bytes` for shared ones. It is timed from
-//! outside, by tools/read_speed.
+//! outside, by tools/read_speed. The way `entries` takes a file of three sections, each after its
+//! length in eight bytes, and passes over the entries of all units.
 #![tactic(auto)]
 
+mod entries;
+
+use crate::entries::entries_checksum;
 use bytes::Bytes;
 use gimli_read::{EndianBytes, EndianSlice, Reader, RunTimeEndian};
 use std::alloc::Global;
@@ -73,30 +77,31 @@ fn duplicates<R: Reader + Drop>(input: &mut R) -> u64 {
 }
 
 // The checksum of a way, if it is one.
-fn checksum_of<R: Reader + Drop>(way: &str, input: &mut R) -> Option<u64> {
+fn checksum_of<R: Reader + Drop>(alloc: Global, way: &str, input: &mut R) -> Option<u64> {
     match way {
         "u32" => Some(words(input)),
         "uleb128" => Some(unsigned(input)),
         "sleb128" => Some(signed(input)),
         "split" => Some(parts(input)),
         "duplicate" => Some(duplicates(input)),
+        "entries" => entries_checksum(alloc, input).ok(),
         _ => None,
     }
 }
 
 // The checksum of a file's bytes, if the way is one and there is memory.
-fn checksum(way: &str, bytes: Vec<u8>) -> Option<u64> {
+fn checksum(alloc: Global, way: &str, bytes: Vec<u8>) -> Option<u64> {
     if way == "nothing" {
         return Some(0);
     }
     if let Some(way) = way.strip_suffix("-slice") {
         let mut input = EndianSlice::new(bytes.as_slice(), RunTimeEndian::Little);
-        return checksum_of(way, &mut input);
+        return checksum_of(alloc, way, &mut input);
     }
     let way = way.strip_suffix("-bytes")?;
     let bytes = Bytes::from_vec(bytes).ok()?;
     let mut input = EndianBytes::new(bytes, RunTimeEndian::Little);
-    checksum_of(way, &mut input)
+    checksum_of(alloc, way, &mut input)
 }
 
 fn main(rt: HostRuntime) -> ExitCode {
@@ -113,7 +118,7 @@ fn main(rt: HostRuntime) -> ExitCode {
     let Ok(bytes) = fs::read(&rt, path.as_str()) else {
         return ExitCode::from(1);
     };
-    match checksum(way.as_str(), bytes) {
+    match checksum(alloc, way.as_str(), bytes) {
         None => ExitCode::from(2),
         Some(sum) => match println!(rt; "{sum}") {
             Ok(()) => ExitCode::SUCCESS,

@@ -41,6 +41,7 @@ fn the_line_of_an_address(rt: HostRuntime) -> Result<(), Fail> {
         debug_str: DebugStr::from(section(&[])),
         debug_str_offsets: DebugStrOffsets::from(section(&[])),
         file_type: DwarfFileType::Main,
+        sup: None,
     };
     assert_eq!(rt; line_at(rt.alloc(), dwarf, 0x20)?, Some(3));
     Ok(())

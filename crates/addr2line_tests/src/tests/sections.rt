@@ -52,6 +52,7 @@ pub fn dwarf_of<'a>(abbrev: &'a [u8], info: &'a [u8], line: &'a [u8]) -> Dwarf<E
         debug_str: DebugStr::from(little(&[])),
         debug_str_offsets: DebugStrOffsets::from(little(&[])),
         file_type: DwarfFileType::Main,
+        sup: None,
     }
 }
 

@@ -1,4 +1,4 @@
-use Rattle.std.proofs.Common.{◌≡◌, sym, ap, ◌∙◌}
+use Rattle.std.proofs.Common.{sym, ap, ◌∙◌}
 use Rattle.std.proofs.lemmas.Result.{err_from_is_err_and}
 use Rattle.addr2line_lines.proofs.RangeLemmas.{range_attributes-more, range_attributes-fault, range_attributes-end, is_unless_oom}
 use Rattle.addr2line_lines.proofs.function.read_ranges.Goals as goal

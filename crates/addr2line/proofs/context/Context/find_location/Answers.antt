@@ -18,6 +18,7 @@ returns-in_err-read_lines g c =
       record {
         gives = λ n. location_is d c.args.probe old new index ∙ same ∙ c.in_err-read_lines.ensures.gives n;
         exact = λ ready. location_is d c.args.probe old new index ∙ same ∙ exact_fault d c.args.probe old new index _ _ ready (λ h. (c.in_err-read_lines.ensures.uncovered h).0) c.in_err-read_lines.ensures.exact;
+        last = λ p. let whole = c.in_err-read_lines.ensures.last p in cc;
         kept = tt;
       },
     )
@@ -32,5 +33,10 @@ returns g c =
     let found = location_is d c.args.probe old new index ∙ same ∙ c.in_ok-read_lines.ensures.gives ∙ ap Ok (sym c.find_location.ensures.found) in
     rw (sym c.self.view_is) (
       (refl, (λ _. tt), after_lookup d c.args.probe old new index (Ok c.in_ok-read_lines.field-0) _ (λ _. tt) c.in_ok-read_lines.ensures.stays c.in_ok-read_lines.ensures.caches),
-      record { gives = found; exact = λ _. found; kept = tt },
+      record {
+        gives = found;
+        exact = λ _. found;
+        last = λ p. ap Ok (c.find_location.ensures.last p);
+        kept = tt;
+      },
     )

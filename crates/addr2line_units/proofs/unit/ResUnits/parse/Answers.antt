@@ -17,6 +17,7 @@ pub loop-unit-preserved : goal.loop-unit-preserved
 loop-unit-preserved g c = record {
   gives = step-unit_index _ _ _ _ _ _ (rw c.in-Some.is at c.in_ok-header.ensures.gives) c.in_ok-unit.ensures.gives ∙ c.loop-unit.invariant.gives;
   read = c.in_ok-unit.ensures.read;
+  unread = c.in_ok-unit.ensures.unread c.loop-unit.invariant.unread;
 }
 
 pub returns-clause-gives : goal.returns-clause-gives

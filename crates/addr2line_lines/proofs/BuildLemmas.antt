@@ -1,0 +1,210 @@
+-- Rows taken one after another make the sequences of the rows (on specs/Building.antt).
+use Rattle.std.proofs.Common.{ℕ, ◌≡◌, ◌+◌, ◌-◌, ◌<◌, ◌≤◌, ◌==◌, ◌⊎◌, Bool, true, false, cond, List, [], ◌∷◌, ◌++◌, Option, Some, None, map, length, take, drop, get_or, arith, inl, inr, ◌∙◌, ap, sym, subst, refl, append_assoc, append-nil, Result, Ok, Err, IfOk}
+use Rattle.std.specs.List.{AllByRecursion, cons_option}
+use Rattle.std.proofs.lemmas.List.Sums.{sum_by_push}
+use Rattle.std.specs.Option.{option_to_list}
+use Rattle.std.proofs.lemmas.Bool.{cases_lt}
+use Rattle.std.proofs.lemmas.Bool.Decides.{nat_tests}
+use Rattle.std.proofs.lemmas.List.{drop-append-le, drop-take, drop_all, get_or-drop, length_push, length-drop, map_push, take-append-le, take-take, take_at}
+use Rattle.std.proofs.lemmas.Option.{slice_get-get_or}
+use Rattle.gimli_read.specs.Topmost.{last}
+use Rattle.gimli_line.specs.declared.row.LineRow.{LineRow}
+use Rattle.gimli_line.specs.Rises.{NeverFalls}
+use Rattle.addr2line_lines.specs.declared.row.Row.{Row}
+use Rattle.addr2line_lines.specs.Rows.{result_map}
+use Rattle.addr2line_lines.specs.Sequences.{Sequence, stored_row, sequence_of, sequences_of}
+use Rattle.addr2line_lines.specs.declared.sequence.LineSequence.{LineSequence}
+use Rattle.addr2line_lines.specs.Building.{Built, IsBuilder, all_taken, built, closed, ended, has_address, nothing_built, taken, with_row, without_last}
+use Rattle.addr2line_lines.specs.Packed.{IsWithin, address_at, packed_rows_in, unpacked}
+use Rattle.addr2line_lines.proofs.PackedLemmas.{all_push, all_same, all_within}
+use Rattle.addr2line_lines.proofs.SeekLemmas.{last_is}
+use Rattle.addr2line_lines.proofs.RowGroupLemmas.{IsPending, append_none, ended_is, falls_back, falls_replaced, none_open, pending_more, pending_replaced, replaced}
+
+-- sequences, and rows that go on
+abbrev going : List Sequence → List LineRow → Built
+going ss p = record { sequences = ss; pending = map stored_row p }
+
+-- by the last element
+by_last : (P : List LineRow → Type 0) → P [] → ((q : List LineRow) (a : LineRow) → P (q ++ a ∷ [])) → (p : List LineRow) → P p
+by_last P none more [] = none
+by_last P none more (x ∷ p) = by_last (λ ys. P (x ∷ ys)) (more [] x) (λ q a. more (x ∷ q) a) p
+
+last_push : {X : Type 0} (xs : List X) (x : X) → last (xs ++ x ∷ []) ≡ Some x
+last_push [] x = refl
+last_push (y ∷ []) x = refl
+last_push (y ∷ z ∷ xs) x = last_push (z ∷ xs) x
+
+-- the rows without the last one, where that has the address
+without_same : (rows : List Row) (a : Row) (m : ℕ) → a.address ≡ m → without_last m (rows ++ a ∷ []) ≡ rows
+without_same rows a m e =
+    ap (λ o. cond (has_address m o) (take (length (rows ++ a ∷ []) - 1) (rows ++ a ∷ [])) (rows ++ a ∷ [])) (last_push rows a)
+    ∙ ap (λ b. cond b (take (length (rows ++ a ∷ []) - 1) (rows ++ a ∷ [])) (rows ++ a ∷ [])) (is_same a.address m e)
+    ∙ take_at rows (a ∷ []) (length (rows ++ a ∷ []) - 1) (let l = length_push rows a in omega arith)
+  where
+    is_same : (x y : ℕ) → x ≡ y → (x == y) ≡ true
+    is_same x y e = grind (arith, nat_tests)
+
+without_other : (rows : List Row) (a : Row) (m : ℕ) → (a.address ≡ m → ⊥) → without_last m (rows ++ a ∷ []) ≡ rows ++ a ∷ []
+without_other rows a m e =
+    ap (λ o. cond (has_address m o) (take (length (rows ++ a ∷ []) - 1) (rows ++ a ∷ [])) (rows ++ a ∷ [])) (last_push rows a)
+    ∙ ap (λ b. cond b (take (length (rows ++ a ∷ []) - 1) (rows ++ a ∷ [])) (rows ++ a ∷ [])) (is_other a.address m e)
+  where
+    is_other : (x y : ℕ) → (x ≡ y → ⊥) → (x == y) ≡ false
+    is_other x y e = grind (arith, nat_tests)
+
+-- rows that one row more makes, and which make the same sequences
+record Goes (p : List LineRow) (r : LineRow) (rows : List LineRow) : Type 0 where
+  new : List LineRow
+  is : with_row (map stored_row p) r ≡ map stored_row new
+  pending : IsPending new
+  falls : NeverFalls (new ++ rows)
+  same : sequences_of (new ++ rows) ≡ sequences_of (p ++ r ∷ rows)
+
+goes_on : (r : LineRow) (rows : List LineRow) → r.end_sequence ≡ false → (p : List LineRow) → IsPending p → NeverFalls (p ++ r ∷ rows) → Goes p r rows
+goes_on r rows o = by_last (λ p. IsPending p → NeverFalls (p ++ r ∷ rows) → Goes p r rows) first more
+  where
+    first : IsPending [] → NeverFalls (r ∷ rows) → Goes [] r rows
+    first h n = record { new = r ∷ []; is = refl; pending = record { open_ended = (o, tt); apart = tt }; falls = n; same = refl }
+
+    decided : (x y : ℕ) → (x ≡ y) ⊎ (x ≡ y → ⊥)
+    decided x y = by_test (x == y) refl
+      where
+        by_test : (b : Bool) → (x == y) ≡ b → (x ≡ y) ⊎ (x ≡ y → ⊥)
+        by_test true e = inl (grind (arith, nat_tests))
+        by_test false e = inr (λ k. grind (arith, nat_tests))
+
+    more : (q : List LineRow) (a : LineRow) → IsPending (q ++ a ∷ []) → NeverFalls ((q ++ a ∷ []) ++ r ∷ rows) → Goes (q ++ a ∷ []) r rows
+    more q a h n =
+        let stored : map stored_row (q ++ a ∷ []) ≡ map stored_row q ++ stored_row a ∷ [] = map_push stored_row q a in
+        elim (decided a.address r.address) [
+          | inl e ↦ record {
+            new = q ++ r ∷ [];
+            is = ap (λ xs. without_last r.address xs ++ stored_row r ∷ []) stored ∙ ap (λ xs. xs ++ stored_row r ∷ []) (without_same (map stored_row q) (stored_row a) r.address e) ∙ sym (map_push stored_row q r);
+            pending = pending_replaced q a r e o h;
+            falls = falls_replaced q rows a r e n;
+            same = ap sequences_of (append_assoc q (r ∷ []) rows) ∙ sym (replaced q rows a r h.open_ended o e);
+          }
+          | inr e ↦ record {
+            new = (q ++ a ∷ []) ++ r ∷ [];
+            is = ap (λ xs. without_last r.address xs ++ stored_row r ∷ []) stored ∙ ap (λ xs. xs ++ stored_row r ∷ []) (without_other (map stored_row q) (stored_row a) r.address e ∙ sym stored) ∙ sym (map_push stored_row (q ++ a ∷ []) r);
+            pending = pending_more q a r e o h;
+            falls = (let P : List LineRow → Type 0 = λ xs. NeverFalls xs in subst P (sym (append_assoc (q ++ a ∷ []) (r ∷ []) rows)) n);
+            same = ap sequences_of (append_assoc (q ++ a ∷ []) (r ∷ []) rows);
+          }
+        ]
+
+closed_is : (p : List LineRow) (end : LineRow) → closed (map stored_row p) end ≡ sequence_of p end
+closed_is [] end = refl
+closed_is (r ∷ p) end = refl
+
+option_first : (o : Option Sequence) (ss : List Sequence) → option_to_list o ++ ss ≡ cons_option o ss
+option_first None ss = refl
+option_first (Some s) ss = refl
+
+takes_end : (b : Built) (r : LineRow) → r.end_sequence ≡ true → taken b r ≡ ended b r
+takes_end b r e = ap (λ t. cond t (ended b r) (record { sequences = b.sequences; pending = with_row b.pending r })) e
+
+pub takes_row : (b : Built) (r : LineRow) → r.end_sequence ≡ false → taken b r ≡ record { sequences = b.sequences; pending = with_row b.pending r }
+takes_row b r e = ap (λ t. cond t (ended b r) (record { sequences = b.sequences; pending = with_row b.pending r })) e
+
+makes_more : (r : LineRow) (rows : List LineRow) (b : Bool) → r.end_sequence ≡ b
+    → ((ss : List Sequence) (p : List LineRow) → IsPending p → NeverFalls (p ++ rows) → (all_taken (going ss p) rows).sequences ≡ ss ++ sequences_of (p ++ rows))
+    → (ss : List Sequence) (p : List LineRow) → IsPending p → NeverFalls (p ++ r ∷ rows) → (all_taken (going ss p) (r ∷ rows)).sequences ≡ ss ++ sequences_of (p ++ r ∷ rows)
+makes_more r rows true e again ss p h n =
+    let new : List Sequence = option_to_list (closed (map stored_row p) r) in
+    ap (λ b. (all_taken b rows).sequences) (takes_end (going ss p) r e)
+    ∙ again (ss ++ new) [] (record { open_ended = tt; apart = tt }) (falls_back p rows r n)
+    ∙ append_assoc ss new (sequences_of rows)
+    ∙ ap (λ xs. ss ++ xs) (ap (λ o. option_to_list o ++ sequences_of rows) (closed_is p r) ∙ option_first (sequence_of p r) (sequences_of rows) ∙ sym (ended_is p rows r h e n))
+makes_more r rows false e again ss p h n =
+    let g = goes_on r rows e p h n in
+    ap (λ b. (all_taken b rows).sequences) (takes_row (going ss p) r e ∙ ap (λ xs. record { sequences = ss; pending = xs }) g.is)
+    ∙ again ss g.new g.pending g.falls
+    ∙ ap (λ xs. ss ++ xs) g.same
+
+makes : (rows : List LineRow) (ss : List Sequence) (p : List LineRow) → IsPending p → NeverFalls (p ++ rows) → (all_taken (going ss p) rows).sequences ≡ ss ++ sequences_of (p ++ rows)
+makes [] ss p h n = sym (ap (λ xs. ss ++ xs) (none_open p h) ∙ append_none ss)
+makes (r ∷ rows) ss p h n = makes_more r rows r.end_sequence refl (makes rows) ss p h n
+
+pub all_taken_is : (rows : List LineRow) → NeverFalls rows → (all_taken nothing_built rows).sequences ≡ sequences_of rows
+all_taken_is rows n = makes rows [] [] (record { open_ended = tt; apart = tt }) n
+
+-- the same of rows that can be read
+pub taken_all : {E : Type 0} (r : Result (List LineRow) E) → IfOk r NeverFalls → result_map (λ rows. (all_taken nothing_built rows).sequences) r ≡ result_map sequences_of r
+taken_all (Ok rows) n = ap Ok (all_taken_is rows n)
+taken_all (Err e) n = refl
+
+-- what a builder stands for
+same_built : (a b : List Sequence) (p q : List Row) → a ≡ b → p ≡ q → ◌≡◌ {A = Built} (record { sequences = a; pending = p }) (record { sequences = b; pending = q })
+same_built a b p q e f = cc
+
+module _ (rows : List Row) (ss : List LineSequence) (first : ℕ) (is : IsBuilder rows ss first) (new : List Row) where
+  -- one row more
+  pub built_push : (r : Row) → new ≡ rows ++ r ∷ [] → built new ss first ≡ record { sequences = map (unpacked rows) ss; pending = drop first rows ++ r ∷ [] }
+  built_push r e =
+      same_built _ _ _ _ (all_same rows new first ss (ap (take first) e ∙ take-append-le first rows (r ∷ []) is.upto) is.each)
+      (ap (drop first) e ∙ drop-append-le first rows (r ∷ []) is.upto)
+
+  -- fewer rows
+  pub built_take : (n : ℕ) → first ≤ n → new ≡ take n rows → built new ss first ≡ record { sequences = map (unpacked rows) ss; pending = take (n - first) (drop first rows) }
+  built_take n le e =
+      let sum : first + (n - first) ≡ n = omega arith in
+      same_built _ _ _ _ (all_same rows new first ss (ap (take first) e ∙ take-take first n rows le) is.each)
+      (ap (drop first) e ∙ ap (λ m. drop first (take m rows)) (sym sum) ∙ drop-take first (n - first) rows)
+
+  -- without the rows that go on
+  pub built_dropped : new ≡ take first rows → built new ss first ≡ record { sequences = map (unpacked rows) ss; pending = [] }
+  built_dropped e =
+      let none : first - first ≡ 0 = omega arith in
+      built_take first (omega arith) e ∙ ap (λ n. record { sequences = map (unpacked rows) ss; pending = take n (drop first rows) }) none
+
+  -- without the last row
+  pub built_without : first < length rows → new ≡ take (length rows - 1) rows → built new ss first ≡ record { sequences = map (unpacked rows) ss; pending = take (length (drop first rows) - 1) (drop first rows) }
+  built_without l e =
+      let len = length-drop first rows in
+      let same : length rows - 1 - first ≡ length (drop first rows) - 1 = omega arith in
+      built_take (length rows - 1) (omega arith) e ∙ ap (λ n. record { sequences = map (unpacked rows) ss; pending = take n (drop first rows) }) same
+
+  pub finished_is : (xs : List LineSequence) → new ≡ take first rows → xs ≡ ss → map (unpacked new) xs ≡ map (unpacked rows) ss
+  finished_is xs e f = ap (map (unpacked new)) f ∙ all_same rows new first ss (ap (take first) e ∙ take-take first first rows (omega arith)) is.each
+
+pub ended_none : (b : Built) (end : LineRow) → None ≡ closed b.pending end → ◌≡◌ {A = Built} (record { sequences = b.sequences; pending = [] }) (ended b end)
+ended_none b end e = same_built _ _ _ _ (sym (ap (λ o. b.sequences ++ option_to_list o) (sym e) ∙ append-nil b.sequences)) refl
+
+-- whether the last row has an address
+pub ends_at_is : (rows : List Row) (first n x a : ℕ) → n ≡ length rows → first < n → x ≡ address_at rows (n - 1) → (x == a) ≡ has_address a (last (drop first rows))
+ends_at_is rows first n x a len l is =
+    let none : Row = record { address = 0; file_index = 0; line = 0; column = 0 } in
+    let left = length-drop first rows in
+    let place : first + (length (drop first rows) - 1) ≡ n - 1 = omega arith in
+    let at : last (drop first rows) ≡ Some (get_or (drop first rows) (length (drop first rows) - 1) none) =
+    last_is (drop first rows) ∙ slice_get-get_or (drop first rows) (length (drop first rows) - 1) none (omega arith) in
+    let row : (get_or (drop first rows) (length (drop first rows) - 1) none).address ≡ address_at rows (n - 1) =
+    ap (λ (r : Row). r.address) (get_or-drop first rows (length (drop first rows) - 1) none) ∙ ap (address_at rows) place in
+    ap (λ y. y == a) (is ∙ sym row) ∙ sym (ap (has_address a) at)
+
+pub without_is : (rows : List Row) (a : ℕ) → has_address a (last rows) ≡ true → without_last a rows ≡ take (length rows - 1) rows
+without_is rows a e = ap (λ b. cond b (take (length rows - 1) rows) rows) e
+
+pub without_none : (rows : List Row) (a : ℕ) → has_address a (last rows) ≡ false → without_last a rows ≡ rows
+without_none rows a e = ap (λ b. cond b (take (length rows - 1) rows) rows) e
+
+pub ends_inside : (rows : List Row) (first a : ℕ) → has_address a (last (drop first rows)) ≡ true → first < length rows
+ends_inside rows first a e =
+    elim (cases_lt first (length rows)) [
+      | inl lt ↦ lt
+      | inr ge ↦ (let f : has_address a (last (drop first rows)) ≡ false = ap (λ xs. has_address a (last xs)) (drop_all first rows ge) in absurd cc)
+    ]
+
+-- one sequence more, of all rows after the others
+pub closes_is : (rows : List Row) (ss : List LineSequence) (first : ℕ) → IsBuilder rows ss first → (s : LineSequence) → s.first ≡ first → s.first + s.len ≡ length rows
+    → (xs : List LineSequence) → xs ≡ ss ++ s ∷ [] → (n : ℕ) → n ≡ length rows → IsBuilder rows xs n
+closes_is rows ss first is s at all xs e n len =
+    let P : List LineSequence → Type 0 = λ ys. AllByRecursion (IsWithin n) ys in
+    let upto = is.upto in let others = is.no_others in
+    let more = ap packed_rows_in e ∙ sum_by_push (λ (t : LineSequence). t.len) ss s in
+    record {
+      upto = omega arith;
+      each = subst P (sym e) (all_push (IsWithin n) ss s (all_within first n ss (omega arith) is.each) (omega arith));
+      no_others = omega arith;
+    }

@@ -1,0 +1,34 @@
+-- Rows in columns, as the private functions see them.
+use Rattle.std.specs.Prelude.{ℕ, ◌≡◌, ◌<◌, ◌^◌, Bool, false, nat_le, List, [], ◌∷◌, length}
+use Rattle.std.specs.Vec.{vec_len, vec_capacity}
+use Rattle.addr2line_lines.specs.declared.columns.FileIndexes.{FileIndexes}
+use Rattle.addr2line_lines.specs.declared.columns.FileIndexes.TheVariants.{Narrow, Wide}
+use Rattle.addr2line_lines.specs.declared.row.Row.{Row}
+
+-- the indexes, whatever their width
+abbrev pub indexes_of : FileIndexes → List ℕ
+indexes_of (Narrow v) = v.items
+indexes_of (Wide v) = v.items
+
+-- the index doesn't fit where the indexes have 16 bits
+abbrev pub is_beyond : FileIndexes → ℕ → Bool
+is_beyond (Narrow v) n = nat_le (2 ^ 16) n
+is_beyond (Wide v) n = false
+
+-- there is room for one index more, which fits
+abbrev pub HasRoom : FileIndexes → ℕ → Type 0
+HasRoom (Narrow v) n = (n < 2 ^ 16) × (vec_len v < vec_capacity v)
+HasRoom (Wide v) n = vec_len v < vec_capacity v
+
+-- the rows of columns, as far as each column goes
+abbrev pub rows_from : List ℕ → List ℕ → List ℕ → List ℕ → List Row
+rows_from (a ∷ addresses) (f ∷ files) (l ∷ lines) (c ∷ columns) =
+    record { address = a; file_index = f; line = l; column = c }
+    ∷ rows_from addresses files lines columns
+rows_from _ _ _ _ = []
+
+-- the columns are equally long
+pub record AreEven (addresses files lines columns : List ℕ) : Type 0 where
+  pub files_even : length files ≡ length addresses
+  pub lines_even : length lines ≡ length addresses
+  pub columns_even : length columns ≡ length addresses

@@ -1,0 +1,115 @@
+-- Items, one at a time, and subtrees (on specs/Items.antt).
+use Rattle.std.proofs.Common.{◌≡◌, ℕ, zero, suc, ◌+◌, ◌-◌, ◌<◌, ◌≤◌, ◌==◌, Bool, true, false, cond, List, [], ◌∷◌, length, IfOk, Option, Some, None, Result, Ok, Err, refl, sym, ap, subst, ◌∙◌, arith, ℤ}
+use Rattle.std.specs.Prelude.{int_lt, ◌<ℤ◌}
+use Rattle.std.specs.List.{AllByRecursion}
+use Rattle.std.proofs.lemmas.Int.{ints}
+use Rattle.gimli_read.specs.declared.error.Error.{Error}
+use Rattle.gimli_read.specs.declared.error.Error.TheVariants.{UnexpectedEof, UnknownAbbreviation}
+use Rattle.gimli_read.specs.Section.{Section}
+use Rattle.gimli_read.specs.Reading.{Reading, ◌>>=◌}
+use Rattle.gimli_read.specs.Leb128.{uleb128_at}
+use Rattle.gimli_read.specs.Abbreviations.{Abbrev, with_code}
+use Rattle.gimli_read.specs.Form.{NamedValue, attributes_at}
+use Rattle.gimli_read.specs.Run.{Run, Next, More, Stop, next_of, cons, continued, run_within}
+use Rattle.gimli.specs.Entry.{EntryCursor, EntryUnit, depth_after_entry, depth_after_closing, opening_entry, entry_abbreviation_at}
+use Rattle.gimli.specs.Items.{Entry, Item, depth_after, depth_behind, item_at, item_from, next_item_at, items_from, items_inside, subtree_of}
+use Rattle.gimli.specs.ItemLaws.{SubtreesLieDeeper}
+
+-- an item that is read lies at the depth where it begins, and the next one at the depth after it
+pub record IsNext (start following : EntryCursor) (x : Item) : Type 0 where
+  pub depth : x.depth ≡ start.depth
+  pub after : following.depth ≡ depth_after x
+
+record Nexts (start : EntryCursor) (r : Result (Option Item × EntryCursor) Error) : Type 0 where
+  by : (x : Item) (c : EntryCursor) → r ≡ Ok (Some x, c) → IsNext start c x
+
+-- a code that is read, and the depth after it
+abbrev Opened : EntryCursor → Option Abbrev × EntryCursor → Type 0
+Opened start x = elim x.0 [ None ↦ x.1.depth ≡ depth_after_closing start.depth | Some a ↦ x.1.depth ≡ depth_after_entry a.has_children start.depth ]
+
+opened : (table : List Abbrev) (start : EntryCursor) → IfOk (entry_abbreviation_at table start) (Opened start)
+unfolding entry_abbreviation_at
+opened table start = at (uleb128_at start.left)
+  where
+    found : (o : Option Abbrev) (t : Section) → IfOk (opening_entry o (record { left = t; depth = start.depth })) (Opened start)
+    found None t = tt
+    found (Some a) t = refl
+
+    picked : (code : ℕ × Section) (b : Bool) → IfOk {T = Option Abbrev × EntryCursor} (cond b (Ok (None, record { left = code.1; depth = depth_after_closing start.depth })) (opening_entry (with_code code.0 table) (record { left = code.1; depth = start.depth }))) (Opened start)
+    picked code true = refl
+    picked code false = found (with_code code.0 table) code.1
+
+    at : (r : Reading ℕ) → IfOk {T = Option Abbrev × EntryCursor} (r >>= λ code. cond (code.0 == 0) (Ok (None, record { left = code.1; depth = depth_after_closing start.depth })) (opening_entry (with_code code.0 table) (record { left = code.1; depth = start.depth }))) (Opened start)
+    at (Ok code) = picked code (code.0 == 0)
+    at (Err e) = tt
+
+-- no item where there is one
+not_some : (x : Item) (c d : EntryCursor) → ◌≡◌ {A = Result (Option Item × EntryCursor) Error} (Ok (None, c)) (Ok (Some x, d)) → ⊥
+not_some x c d h =
+    let pairs : ◌≡◌ {A = Option Item × EntryCursor} (None, c) (Some x, d) = cc in
+    let first : None ≡ Some x = ap (λ (p : Option Item × EntryCursor). p.0) pairs in
+    cc
+
+nexts : (unit : EntryUnit) (start : EntryCursor) → Nexts start (next_item_at unit start)
+unfolding next_item_at
+nexts unit start = at (length start.left.bytes == 0) (entry_abbreviation_at unit.abbreviations start) (opened unit.abbreviations start)
+  where
+    same_item : (x : Item) (c : EntryCursor) (y : Item) (d : EntryCursor) → ◌≡◌ {A = Result (Option Item × EntryCursor) Error} (Ok (Some y, d)) (Ok (Some x, c)) → IsNext start d y → IsNext start c x
+    same_item x c y d h n =
+        let pairs : ◌≡◌ {A = Option Item × EntryCursor} (Some y, d) (Some x, c) = cc in
+        let first : Some y ≡ Some x = ap (λ (p : Option Item × EntryCursor). p.0) pairs in
+        let is : y ≡ x = cc in
+        let to : d ≡ c = ap (λ (p : Option Item × EntryCursor). p.1) pairs in
+        subst (λ z. IsNext start c z) is (subst (λ z. IsNext start z y) to n)
+
+    read : (a : Abbrev) (cursor : EntryCursor) → cursor.depth ≡ depth_after_entry a.has_children start.depth → (r : Reading (List NamedValue))
+        → Nexts start (r >>= λ x. Ok (Some (item_at unit start (Some (record { abbreviation = a; attributes = x.0 }))), record { left = x.1; depth = cursor.depth }))
+    read a cursor h (Ok x) = record { by = λ y c k. same_item y c (item_at unit start (Some (record { abbreviation = a; attributes = x.0 }))) (record { left = x.1; depth = cursor.depth }) k (record { depth = refl; after = h }) }
+    read a cursor h (Err e) = record { by = λ y c k. absurd cc }
+
+    coded : (r : Result (Option Abbrev × EntryCursor) Error) → IfOk r (Opened start) → Nexts start (r >>= λ x. item_from unit start x)
+    coded (Ok (None, cursor)) h = record { by = λ y c k. same_item y c (item_at unit start None) cursor k (record { depth = refl; after = h }) }
+    coded (Ok (Some a, cursor)) h = read a cursor h (attributes_at unit.encoding a.attributes cursor.left)
+    coded (Err e) h = record { by = λ y c k. absurd cc }
+
+    at : (b : Bool) (r : Result (Option Abbrev × EntryCursor) Error) → IfOk r (Opened start) → Nexts start (cond b (Ok (None, start)) (r >>= λ x. item_from unit start x))
+    at true r h = record { by = λ y c k. absurd (not_some y start c k) }
+    at false r h = coded r h
+
+pub next_is : (unit : EntryUnit) (start following : EntryCursor) (x : Item) → next_item_at unit start ≡ Ok (Some x, following) → IsNext start following x
+next_is unit start following x h = (nexts unit start).by x following h
+
+-- the items that are read of at most n from a place on
+abbrev pub run : EntryUnit → ℕ → EntryCursor → Run Item EntryCursor
+run unit n c = run_within (λ d. next_of (next_item_at unit d)) n c
+
+less : (a b : ℤ) → int_lt a b ≡ true → a <ℤ b
+less a b h = grind (arith, ints)
+
+-- those inside lie deeper
+abbrev AreDeeper : ℤ → ℤ → Run Item EntryCursor → Type 0
+AreDeeper depth now r = AllByRecursion (λ y. depth <ℤ y.depth) (items_inside depth now r.items r.end).items
+
+none_deeper : {Z : Type 0} (depth now : ℤ) (end : Result Z Error) → AllByRecursion (λ y. depth <ℤ y.depth) (items_inside depth now [] end).items
+none_deeper depth now end = at (int_lt depth now)
+  where
+    at : (b : Bool) → AllByRecursion (λ y. depth <ℤ y.depth) (cond {A = Run Item (Unit {0})} b (record { items = []; end = end >>= λ z. Err UnexpectedEof }) (record { items = []; end = Ok tt })).items
+    at true = tt
+    at false = tt
+
+deeper_within : (unit : EntryUnit) (depth : ℤ) (n : ℕ) (c : EntryCursor) → AreDeeper depth c.depth (run unit n c)
+unfolding run_within
+deeper_within unit depth zero c = none_deeper {Z = EntryCursor} depth c.depth (Err UnexpectedEof)
+deeper_within unit depth (suc n) c = at (deeper_within unit depth n) (next_item_at unit c) (λ x d h. next_is unit c d x h)
+  where
+    more : ((d : EntryCursor) → AreDeeper depth d.depth (run unit n d)) → (x : Item) (d : EntryCursor) → IsNext c d x → (b : Bool) → int_lt depth c.depth ≡ b → AllByRecursion (λ y. depth <ℤ y.depth) (cond {A = Run Item (Unit {0})} b (cons x (items_inside depth (depth_after x) (run unit n d).items (run unit n d).end)) (record { items = []; end = Ok tt })).items
+    more ih x d h true k = (subst (λ z. depth <ℤ z) (sym h.depth) (less depth c.depth k), subst (λ z. AreDeeper depth z (run unit n d)) h.after (ih d))
+    more ih x d h false k = tt
+
+    at : ((d : EntryCursor) → AreDeeper depth d.depth (run unit n d)) → (r : Result (Option Item × EntryCursor) Error) → ((x : Item) (d : EntryCursor) → r ≡ Ok (Some x, d) → IsNext c d x) → AreDeeper depth c.depth (continued (run unit n) (next_of r))
+    at ih (Err e) h = none_deeper {Z = EntryCursor} depth c.depth (Err e)
+    at ih (Ok (None, d)) h = none_deeper {Z = EntryCursor} depth c.depth (Ok d)
+    at ih (Ok (Some x, d)) h = more ih x d (h x d refl) (int_lt depth c.depth) refl
+
+pub subtrees_lie_deeper : SubtreesLieDeeper
+subtrees_lie_deeper unit start following x h = subst (λ z. AreDeeper x.depth z (items_from unit following)) (next_is unit start following x h).after (deeper_within unit x.depth (length following.left.bytes + 1) following)

@@ -1,0 +1,38 @@
+-- Split files and what they take from the file that they belong to (DWARF 5, section 7.3.2).
+use Rattle.std.specs.Prelude.{ℕ, nat_lt, Option, Result, Ok, if◌then◌else◌}
+use Rattle.gimli_read.specs.declared.error.Error.{Error}
+use Rattle.gimli_read.specs.declared.value.AttributeValue.{AttributeValue}
+use Rattle.gimli_read.specs.Section.{Section}
+use Rattle.gimli_read.specs.Reading.{◌>>=◌}
+use Rattle.gimli.specs.declared.dwarf.DwarfFileType.TheVariants.{Dwo}
+use Rattle.gimli.specs.Sections.{Sections}
+use Rattle.gimli.specs.Record.{root_values_of}
+use Rattle.gimli.specs.Unit.{UnitRecord}
+
+-- the sections of a split file of a parent: addresses, range lists of versions 2 to 4 and the
+-- supplementary file are the parent's
+abbrev pub split_sections : Sections → Sections → Sections
+split_sections split parent = record split {
+  file_type = Dwo;
+  debug_addr = parent.debug_addr;
+  debug_ranges = parent.debug_ranges;
+  sup = parent.sup;
+}
+
+-- the name of a unit's split file, as its root entry gives it
+abbrev pub dwo_name_of : UnitRecord → Result (Option (AttributeValue Section)) Error
+dwo_name_of u =
+    root_values_of u.header.encoding u.abbreviations u.header.entries >>= λ root. Ok root.dwo_name
+
+-- the base of range lists of a split unit: below version 5 its main unit's
+abbrev pub relocated_rnglists_base : UnitRecord → UnitRecord → ℕ
+relocated_rnglists_base u main =
+    if nat_lt u.header.encoding.version 5 then main.rnglists_base else u.rnglists_base
+
+-- a split unit with the addresses and bases that its main unit relocates
+abbrev pub relocated : UnitRecord → UnitRecord → UnitRecord
+relocated u main = record u {
+  low_pc = main.low_pc;
+  addr_base = main.addr_base;
+  rnglists_base = relocated_rnglists_base u main;
+}

@@ -1,0 +1,18 @@
+//! Addresses of a size.
+
+ghost use Rattle.std.specs.Prelude.{◌≡◌, true};
+ghost use Rattle.gimli_read.specs.Number.{is_address_size};
+ghost use Rattle.gimli.specs.AddressSize.{greatest_address};
+
+/// The greatest address of a size: all ones.
+pub(crate) fn greatest_address(size: u8) -> u64
+    requires size { is_address_size size ≡ true }
+    ensures gives { result ≡ greatest_address size }
+{
+    match size {
+        1 => u64::from(u8::MAX),
+        2 => u64::from(u16::MAX),
+        4 => u64::from(u32::MAX),
+        _ => u64::MAX,
+    }
+}

@@ -1,0 +1,18 @@
+//! Laws of units and their items: functions with a contract and no code.
+
+ghost use Rattle.gimli.specs.ItemLaws.{UnitsCover, EntriesFollowHeaders, ItemsCover, ItemsAlone, SubtreesLieDeeper};
+
+/// A section that is read to its end is the texts of its units, one after another, and in the text
+/// of a unit its entries follow its header.
+pub fn unit_laws()
+    ensures cover { UnitsCover }
+    ensures entries { EntriesFollowHeaders }
+{}
+
+/// The entries of a unit that are read to its end are the texts of its items, one after another, and
+/// of no others; the items between an item and the end of its subtree lie deeper than it.
+pub fn item_laws()
+    ensures cover { ItemsCover }
+    ensures alone { ItemsAlone }
+    ensures deeper { SubtreesLieDeeper }
+{}

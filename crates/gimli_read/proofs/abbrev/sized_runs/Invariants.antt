@@ -1,0 +1,12 @@
+use Rattle.std.proofs.Common.{◌≡◌, drop, true}
+use Rattle.gimli_read.specs.declared.endian.Encoding.{Encoding}
+use Rattle.gimli_read.specs.Section.{Section}
+use Rattle.gimli_read.specs.Number.{is_address_size}
+use Rattle.gimli_read.specs.Form.{attributes_at, rest_of}
+use Rattle.gimli_read.proofs.SizeLemmas.{so_far}
+use Rattle.gimli_read.proofs.abbrev.sized_runs.Given as goal
+
+abbrev pub invariant-loop-attribute : goal.invariant-loop-attribute
+invariant-loop-attribute l =
+    (e : Encoding) (s : Section) → is_address_size e.address_size ≡ true
+    → so_far e l.runs.items l.last (drop l.attribute-index l.attributes) s ≡ rest_of (attributes_at e l.attributes s)

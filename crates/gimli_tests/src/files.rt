@@ -1,0 +1,257 @@
+//! Worked cases of files together: sections by name, supplementary and split files, address ranges.
+
+use gimli::{
+    AttributeValue, DebugAddr, DebugInfoOffset, Dwarf, DwarfFileType, EndianSlice, Error, Reader,
+    RunTimeEndian, SectionId, ToUnitOffset, Unit,
+};
+use std::alloc::Global;
+use std::test::Fail;
+
+const ORDER: RunTimeEndian = RunTimeEndian::Little;
+
+// A skeleton unit with DW_AT_stmt_list, DW_AT_comp_dir, DW_AT_dwo_name, DW_AT_low_pc and
+// DW_AT_high_pc.
+const ABBREV: &[u8] = b"\x01\x4a\0\x10\x17\x1b\x08\x76\x08\x11\x01\x12\x06\0\0\0";
+
+// The unit [0x10, 0x30) in "/w" whose entries are in "s.dwo", version 5.
+const INFO: &[u8] = b"\x2a\0\0\0\x05\0\x04\x08\0\0\0\0\x88\x77\x66\x55\x44\x33\x22\x11\x01\
+    \0\0\0\0/w\0s.dwo\0\x10\0\0\0\0\0\0\0\x20\0\0\0";
+
+// A line program of a file "a.c", version 5.
+const LINE: &[u8] = b"\x40\0\0\0\x05\0\x08\0\x24\0\0\0\x01\x01\x01\xfb\x0e\x0d\0\x01\x01\x01\x01\
+    \0\0\0\x01\0\0\x01\x01\x01\x08\x01/w\0\x02\x01\x08\x02\x0b\x01a.c\0\0\0\x09\x02\x10\0\0\0\0\0\0\0\
+    \x04\0\x01\xf4\x02\x10\0\x01\x01";
+
+// The range [0x10, 0x30) of the unit at 0, and a pair whose sum passes 32 bits.
+const ARANGES: &[u8] = b"\x24\0\0\0\x02\0\0\0\0\0\x04\0\0\0\0\0\x10\0\0\0\x20\0\0\0\
+    \xf0\xff\xff\xff\x20\0\0\0\0\0\0\0\0\0\0\0";
+
+// The bytes of a section of the file.
+fn bytes_of(id: SectionId) -> &'static [u8] {
+    match id {
+        SectionId::DebugAbbrev => ABBREV,
+        SectionId::DebugInfo => INFO,
+        SectionId::DebugLine => LINE,
+        SectionId::DebugAranges => ARANGES,
+        SectionId::DebugStr => b"own\0",
+        _ => b"",
+    }
+}
+
+// The bytes of a section of its supplementary file.
+fn sup_bytes_of(id: SectionId) -> &'static [u8] {
+    match id {
+        SectionId::DebugStr => b"x\0sup\0",
+        _ => b"",
+    }
+}
+
+fn slice_of(bytes: &'static [u8]) -> EndianSlice<'static> {
+    EndianSlice::new(bytes, ORDER)
+}
+
+// Another number for each fault that the cases meet.
+fn fault(error: Error) -> u64 {
+    match error {
+        Error::OutOfMemory => 1001,
+        Error::UnexpectedEof => 1002,
+        Error::OffsetOutOfBounds => 1003,
+        Error::NoSupplementary => 1004,
+        Error::UnknownVersion => 1005,
+        Error::UnsupportedSegmentSize => 1006,
+        _ => 1007,
+    }
+}
+
+// Bytes as a number in base 256, after a 1 that keeps their number.
+fn spelled(bytes: &[u8]) -> u64 {
+    let mut number = 1u64;
+    for byte in bytes {
+        number = number.wrapping_mul(256).wrapping_add(u64::from(*byte));
+    }
+    number
+}
+
+fn first_unit<R: Reader>(alloc: Global, dwarf: &Dwarf<R>) -> Result<Unit<R>, Error> {
+    match dwarf.units()?.next()? {
+        Some(header) => dwarf.unit(alloc, header),
+        None => Err(Error::MissingUnitDie),
+    }
+}
+
+fn string_code<R: Reader>(dwarf: &Dwarf<R>, unit: &Unit<R>, value: AttributeValue<R>) -> u64 {
+    match dwarf.attr_string(unit, value) {
+        Ok(text) => spelled(text.to_slice()),
+        Err(error) => fault(error),
+    }
+}
+
+// The offset in the unit of an offset in the section, 999 where it is none.
+fn offset_code<R: Reader>(unit: &Unit<R>, offset: u64) -> u64 {
+    match DebugInfoOffset(offset).to_unit_offset(&unit.header) {
+        Some(offset) => offset.0,
+        None => 999,
+    }
+}
+
+// The split name, a supplementary string, three offsets, and the unit's low_pc and bases after
+// another unit's were taken over, whose low_pc is 7, whose addresses begin at 8 and whose range lists
+// begin at 9.
+fn unit_code<R: Reader>(alloc: Global, dwarf: &Dwarf<R>) -> Result<[u64; 8], Error> {
+    let mut unit = first_unit(alloc, dwarf)?;
+    let name = match unit.dwo_name()? {
+        Some(value) => string_code(dwarf, &unit, value),
+        None => 0,
+    };
+    let sup = string_code(dwarf, &unit, AttributeValue::DebugStrRefSup(2));
+    let mut main = first_unit(alloc, dwarf)?;
+    main.low_pc = 7;
+    main.addr_base = 8;
+    main.rnglists_base = 9;
+    unit.copy_relocated_attributes(&main);
+    Ok([
+        name,
+        sup,
+        offset_code(&unit, 19),
+        offset_code(&unit, 20),
+        offset_code(&unit, 46),
+        unit.low_pc,
+        unit.addr_base,
+        unit.rnglists_base,
+    ])
+}
+
+fn unit_answer<R: Reader>(alloc: Global, dwarf: &Dwarf<R>) -> [u64; 8] {
+    match unit_code(alloc, dwarf) {
+        Ok(code) => code,
+        Err(error) => [fault(error); 8],
+    }
+}
+
+const S_DWO: u64 = 0x1_732e_6477_6f;
+
+#[test]
+fn a_file_has_its_split_name_and_its_supplementary_strings(rt: HostRuntime) -> Result<(), Fail> {
+    let alloc = rt.alloc();
+    let alone = [S_DWO, 1004, 999, 20, 999, 7, 8, 0];
+    let with_sup = [S_DWO, 0x173_7570, 999, 20, 999, 7, 8, 0];
+    let mut slices: Dwarf<EndianSlice<'_>> = Dwarf::load(|id| -> Result<EndianSlice<'_>, Error> {
+        Ok(slice_of(bytes_of(id)))
+    })?;
+    assert_eq!(rt; unit_answer(alloc, &slices), alone);
+    slices.load_sup(alloc, |id| -> Result<EndianSlice<'_>, Error> {
+        Ok(slice_of(sup_bytes_of(id)))
+    })?;
+    assert_eq!(rt; unit_answer(alloc, &slices), with_sup);
+    Ok(())
+}
+
+// A section that can't be had refuses the file.
+fn refused_code(refused: SectionId) -> u64 {
+    let answer: Result<Dwarf<EndianSlice<'_>>, Error> = Dwarf::load(|id| -> Result<
+        EndianSlice<'_>,
+        Error,
+    > {
+        if id == refused {
+            Err(Error::UnknownVersion)
+        } else {
+            Ok(slice_of(bytes_of(id)))
+        }
+    });
+    match answer {
+        Ok(dwarf) => spelled(dwarf.debug_str.section.to_slice()),
+        Err(error) => fault(error),
+    }
+}
+
+#[test]
+fn a_refused_section_refuses_the_file(rt: HostRuntime) {
+    assert_eq!(rt; refused_code(SectionId::DebugAbbrev), 1005);
+    assert_eq!(rt; refused_code(SectionId::DebugStrOffsets), 1005);
+}
+
+// What a split file takes of its parent: its kind, the first address, and a string of the parent's
+// supplementary file.
+fn split_code<R: Reader>(alloc: Global, split: &mut Dwarf<R>, parent: &Dwarf<R>) -> [u64; 3] {
+    if let Err(error) = split.make_dwo(parent) {
+        return [fault(error); 3];
+    }
+    let kind = match split.file_type {
+        DwarfFileType::Main => 0,
+        DwarfFileType::Dwo => 1,
+    };
+    let addresses = split.debug_addr.section.len();
+    let sup = match first_unit(alloc, split) {
+        Ok(unit) => string_code(split, &unit, AttributeValue::DebugStrRefSup(2)),
+        Err(error) => fault(error),
+    };
+    [kind, addresses, sup]
+}
+
+#[test]
+fn a_split_file_takes_its_parents_addresses(rt: HostRuntime) -> Result<(), Fail> {
+    let alloc = rt.alloc();
+    let mut parent: Dwarf<EndianSlice<'_>> = Dwarf::load(|id| -> Result<EndianSlice<'_>, Error> {
+        Ok(slice_of(bytes_of(id)))
+    })?;
+    parent.load_sup(alloc, |id| -> Result<EndianSlice<'_>, Error> {
+        Ok(slice_of(sup_bytes_of(id)))
+    })?;
+    parent.debug_addr = DebugAddr::from(slice_of(b"\x01\x02\x03"));
+    let mut split: Dwarf<EndianSlice<'_>> = Dwarf::load(|id| -> Result<EndianSlice<'_>, Error> {
+        Ok(slice_of(bytes_of(id)))
+    })?;
+    assert_eq!(rt; split_code(alloc, &mut split, &parent), [1, 3, 0x173_7570]);
+    Ok(())
+}
+
+// The unit of the first set and its first two ranges' ends, 0 where there is none, and what stands
+// after the set: 0 at the end.
+fn aranges_code(bytes: &[u8]) -> [u64; 5] {
+    let section = gimli::DebugAranges::from(EndianSlice::new(bytes, ORDER));
+    let mut sets = section.headers();
+    let mut code = [0; 5];
+    match sets.next() {
+        Ok(Some(set)) => {
+            code[0] = set.debug_info_offset().0;
+            let mut ranges = set.entries();
+            if let Some(range) = ranges.next() {
+                code[1] = range.begin;
+                code[2] = range.end;
+            }
+            if let Some(range) = ranges.next() {
+                code[3] = range.end;
+            }
+        }
+        Ok(None) => {}
+        Err(error) => code[0] = fault(error),
+    }
+    code[4] = match sets.next() {
+        Ok(Some(_)) => 1,
+        Ok(None) => 0,
+        Err(error) => fault(error),
+    };
+    code
+}
+
+#[test]
+fn address_ranges_are_listed_by_sets(rt: HostRuntime) {
+    // A segment size of 1, at byte 11.
+    let segments: &[u8] = b"\x24\0\0\0\x02\0\0\0\0\0\x04\x01\0\0\0\0\x10\0\0\0\x20\0\0\0\
+        \xf0\xff\xff\xff\x20\0\0\0\0\0\0\0\0\0\0\0";
+    // Addresses of 8 bytes: 4 bytes of padding, one pair, and a short tail; the unit is at 0x2e.
+    let wide: &[u8] =
+        b"\x24\0\0\0\x02\0\x2e\0\0\0\x08\0\0\0\0\0\x10\0\0\0\0\0\0\0\x02\0\0\0\0\0\0\0\
+        \x01\0\0\0\0\0\0\0";
+    let cases: [(&[u8], [u64; 5]); 6] = [
+        (ARANGES, [0, 0x10, 0x30, 0, 0]),
+        (&ARANGES[..39], [1002, 0, 0, 0, 0]),
+        (&[], [0, 0, 0, 0, 0]),
+        (segments, [1006, 0, 0, 0, 0]),
+        (wide, [0x2e, 0x10, 0x12, 0, 0]),
+        (b"\x02\0\0\0\x03\0", [1005, 0, 0, 0, 0]),
+    ];
+    for (bytes, want) in cases {
+        assert_eq!(rt; aranges_code(bytes), want);
+    }
+}

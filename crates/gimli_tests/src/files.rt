@@ -1,8 +1,9 @@
 //! Worked cases of files together: sections by name, supplementary and split files, address ranges.
 
+use bytes::Bytes;
 use gimli::{
-    AttributeValue, DebugAddr, DebugInfoOffset, Dwarf, DwarfFileType, EndianSlice, Error, Reader,
-    RunTimeEndian, SectionId, ToUnitOffset, Unit,
+    AttributeValue, DebugAddr, DebugInfoOffset, Dwarf, DwarfFileType, EndianBytes, EndianSlice,
+    Error, Reader, RunTimeEndian, SectionId, ToUnitOffset, Unit,
 };
 use std::alloc::Global;
 use std::test::Fail;
@@ -11,19 +12,20 @@ const ORDER: RunTimeEndian = RunTimeEndian::Little;
 
 // A skeleton unit with DW_AT_stmt_list, DW_AT_comp_dir, DW_AT_dwo_name, DW_AT_low_pc and
 // DW_AT_high_pc.
-const ABBREV: &[u8] = b"\x01\x4a\0\x10\x17\x1b\x08\x76\x08\x11\x01\x12\x06\0\0\0";
+pub const ABBREV: &[u8] = b"\x01\x4a\0\x10\x17\x1b\x08\x76\x08\x11\x01\x12\x06\0\0\0";
 
 // The unit [0x10, 0x30) in "/w" whose entries are in "s.dwo", version 5.
-const INFO: &[u8] = b"\x2a\0\0\0\x05\0\x04\x08\0\0\0\0\x88\x77\x66\x55\x44\x33\x22\x11\x01\
+pub const INFO: &[u8] = b"\x2a\0\0\0\x05\0\x04\x08\0\0\0\0\x88\x77\x66\x55\x44\x33\x22\x11\x01\
     \0\0\0\0/w\0s.dwo\0\x10\0\0\0\0\0\0\0\x20\0\0\0";
 
 // A line program of a file "a.c", version 5.
-const LINE: &[u8] = b"\x40\0\0\0\x05\0\x08\0\x24\0\0\0\x01\x01\x01\xfb\x0e\x0d\0\x01\x01\x01\x01\
+pub const LINE: &[u8] =
+    b"\x40\0\0\0\x05\0\x08\0\x24\0\0\0\x01\x01\x01\xfb\x0e\x0d\0\x01\x01\x01\x01\
     \0\0\0\x01\0\0\x01\x01\x01\x08\x01/w\0\x02\x01\x08\x02\x0b\x01a.c\0\0\0\x09\x02\x10\0\0\0\0\0\0\0\
     \x04\0\x01\xf4\x02\x10\0\x01\x01";
 
 // The range [0x10, 0x30) of the unit at 0, and a pair whose sum passes 32 bits.
-const ARANGES: &[u8] = b"\x24\0\0\0\x02\0\0\0\0\0\x04\0\0\0\0\0\x10\0\0\0\x20\0\0\0\
+pub const ARANGES: &[u8] = b"\x24\0\0\0\x02\0\0\0\0\0\x04\0\0\0\0\0\x10\0\0\0\x20\0\0\0\
     \xf0\xff\xff\xff\x20\0\0\0\0\0\0\0\0\0\0\0";
 
 // The bytes of a section of the file.
@@ -134,7 +136,6 @@ const S_DWO: u64 = 0x1_732e_6477_6f;
 fn a_file_has_its_split_name_and_its_supplementary_strings(rt: HostRuntime) -> Result<(), Fail> {
     let alloc = rt.alloc();
     let alone = [S_DWO, 1004, 999, 20, 999, 7, 8, 0];
-    let with_sup = [S_DWO, 0x173_7570, 999, 20, 999, 7, 8, 0];
     let mut slices: Dwarf<EndianSlice<'_>> = Dwarf::load(|id| -> Result<EndianSlice<'_>, Error> {
         Ok(slice_of(bytes_of(id)))
     })?;
@@ -142,7 +143,7 @@ fn a_file_has_its_split_name_and_its_supplementary_strings(rt: HostRuntime) -> R
     slices.load_sup(alloc, |id| -> Result<EndianSlice<'_>, Error> {
         Ok(slice_of(sup_bytes_of(id)))
     })?;
-    assert_eq!(rt; unit_answer(alloc, &slices), with_sup);
+    assert_eq!(rt; unit_answer(alloc, &slices), WITH_SUP);
     Ok(())
 }
 
@@ -205,9 +206,65 @@ fn a_split_file_takes_its_parents_addresses(rt: HostRuntime) -> Result<(), Fail>
     Ok(())
 }
 
+fn copied(alloc: Global, bytes: &[u8]) -> Result<EndianBytes, Error> {
+    Ok(EndianBytes::new(Bytes::copy_from_slice(alloc, bytes)?, ORDER))
+}
+
+// The file over bytes in memory of their own, whose supplementary file is asked for once more where
+// it was refused; and whether it was.
+fn held_file(alloc: Global) -> Result<(Dwarf<EndianBytes>, bool), Error> {
+    let mut file: Dwarf<EndianBytes> = Dwarf::load(|id| -> Result<EndianBytes, Error> {
+        copied(alloc, bytes_of(id))
+    })?;
+    let mut ask = |id| -> Result<EndianBytes, Error> { copied(alloc, sup_bytes_of(id)) };
+    let is_refused = file.load_sup(alloc, &mut ask).is_err();
+    if is_refused {
+        file.load_sup(alloc, &mut ask)?;
+    }
+    Ok((file, is_refused))
+}
+
+const WITH_SUP: [u64; 8] = [S_DWO, 0x173_7570, 999, 20, 999, 7, 8, 0];
+
+const TAKEN: [u64; 3] = [1, 0, 0x173_7570];
+
+// What its unit says, and what a split file takes of it, the second answers where the first were
+// refused; and whether any was.
+fn held_code(alloc: Global) -> Result<([u64; 8], [u64; 3], bool), Error> {
+    let (parent, is_parent_refused) = held_file(alloc)?;
+    let (mut split, is_split_refused) = held_file(alloc)?;
+    let mut is_refused = is_parent_refused || is_split_refused;
+    let mut unit = unit_answer(alloc, &parent);
+    if unit != WITH_SUP {
+        unit = unit_answer(alloc, &parent);
+        is_refused = true;
+    }
+    let mut taken = split_code(alloc, &mut split, &parent);
+    if taken != TAKEN {
+        taken = split_code(alloc, &mut split, &parent);
+        is_refused = true;
+    }
+    Ok((unit, taken, is_refused))
+}
+
+// A refused growth leaves a file as it was: the same call is granted after it.
+#[test]
+fn a_refused_growth_leaves_a_file_as_it_was(rt: HostRuntime) {
+    match held_code(rt.alloc()) {
+        Ok((unit, taken, _)) => assert_eq!(rt; (unit, taken), (WITH_SUP, TAKEN)),
+        Err(error) => assert_eq!(rt; fault(error), 1001),
+    }
+}
+
+#[test]
+fn each_growth_of_a_file_is_granted(rt: HostRuntime) {
+    let is_granted = matches!(held_code(rt.alloc()), Ok((_, _, false)));
+    assert!(rt; is_granted);
+}
+
 // The unit of the first set and its first two ranges' ends, 0 where there is none, and what stands
 // after the set: 0 at the end.
-fn aranges_code(bytes: &[u8]) -> [u64; 5] {
+pub fn aranges_code(bytes: &[u8]) -> [u64; 5] {
     let section = gimli::DebugAranges::from(EndianSlice::new(bytes, ORDER));
     let mut sets = section.headers();
     let mut code = [0; 5];

@@ -8,3 +8,5 @@ mod files;
 mod ranges;
 #[cfg(test)]
 mod tests;
+#[cfg(test)]
+mod vectors;

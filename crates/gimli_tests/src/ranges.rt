@@ -34,7 +34,7 @@ const VERSION_5_BIG: &[u8] = b"\0\0\0\x09\0\x05\x01\x08\0\0\0\0\x01";
 const ADDR: &[u8] = b"headhead\x10\0\0\0\0\0\0\0\x20\0\0\0\0\0\0\0";
 
 // Offsets [0x10, 0x20), the base 0x100, and offsets [0x1, 0x5).
-const RANGES_32: &[u8] = b"\x10\0\0\0\x20\0\0\0\xff\xff\xff\xff\0\x01\0\0\x01\0\0\0\x05\0\0\0\
+pub const RANGES_32: &[u8] = b"\x10\0\0\0\x20\0\0\0\xff\xff\xff\xff\0\x01\0\0\x01\0\0\0\x05\0\0\0\
     \0\0\0\0\0\0\0\0";
 
 // The same list with the highest byte of each number first.
@@ -48,7 +48,8 @@ const RNGLIST: &[u8] = b"\x04\x10\x20\x07\0\x01\0\0\0\0\0\0\x08\0";
 const RNGLIST_BIG: &[u8] = b"\x04\x10\x20\x07\0\0\0\0\0\0\x01\0\x08\0";
 
 // A header, a table of one offset, 4, at 12, and the list.
-const RNGLISTS: &[u8] = b"\x1a\0\0\0\x05\0\x08\0\x01\0\0\0\x04\0\0\0\x04\x10\x20\x07\0\x01\0\0\0\
+pub const RNGLISTS: &[u8] =
+    b"\x1a\0\0\0\x05\0\x08\0\x01\0\0\0\x04\0\0\0\x04\x10\x20\x07\0\x01\0\0\0\
     \0\0\0\x08\0";
 
 // Forms.
@@ -152,7 +153,7 @@ fn only_unit<R: Reader>(alloc: Global, dwarf: &Dwarf<R>) -> Result<Unit<R>, Erro
     Ok(unit)
 }
 
-fn next_code<R: Reader>(ranges: &mut RngListIter<'_, R>) -> (u64, u64) {
+pub fn next_code<R: Reader>(ranges: &mut RngListIter<'_, R>) -> (u64, u64) {
     match ranges.next() {
         Ok(Some(range)) => (range.begin, range.end),
         Ok(None) => END,

@@ -1,6 +1,6 @@
 //! Worked cases: headers, records, entries, strings and addresses, and refused growths.
 
-mod nesting;
+pub mod nesting;
 
 use bytes::Bytes;
 use gimli::{
@@ -10,23 +10,26 @@ use gimli::{
     UnitType,
 };
 use std::alloc::{AllocError, Global};
-use std::test::Fail;
 
 // A unit with DW_AT_stmt_list, DW_AT_comp_dir, DW_AT_low_pc and DW_AT_high_pc.
-const ABBREV: &[u8] = b"\x01\x11\0\x10\x17\x1b\x08\x11\x01\x12\x06\0\0\0";
+pub const ABBREV: &[u8] = b"\x01\x11\0\x10\x17\x1b\x08\x11\x01\x12\x06\0\0\0";
 
 // The unit [0x10, 0x30) in "/w", version 4.
-const INFO: &[u8] = b"\x1b\0\0\0\x04\0\0\0\0\0\x08\x01\0\0\0\0/w\0\x10\0\0\0\0\0\0\0\x20\0\0\0";
+pub const INFO: &[u8] = b"\x1b\0\0\0\x04\0\0\0\0\0\x08\x01\0\0\0\0/w\0\x10\0\0\0\0\0\0\0\x20\0\0\0";
 
 // The same unit with the highest byte of each number first.
 const INFO_BIG: &[u8] = b"\0\0\0\x1b\0\x04\0\0\0\0\x08\x01\0\0\0\0/w\0\0\0\0\0\0\0\0\x10\0\0\0\x20";
 
 // The same unit in 64-bit DWARF.
-const INFO_64: &[u8] = b"\xff\xff\xff\xff\x23\0\0\0\0\0\0\0\x04\0\0\0\0\0\0\0\0\0\x08\x01\
+pub const INFO_64: &[u8] = b"\xff\xff\xff\xff\x23\0\0\0\0\0\0\0\x04\0\0\0\0\0\0\0\0\0\x08\x01\
+    \0\0\0\0\0\0\0\0/w\0\x10\0\0\0\0\0\0\0\x20\0\0\0";
+
+// The same, whose length is one of those that are reserved.
+const RESERVED: &[u8] = b"\xf0\xff\xff\xff\x23\0\0\0\0\0\0\0\x04\0\0\0\0\0\0\0\0\0\x08\x01\
     \0\0\0\0\0\0\0\0/w\0\x10\0\0\0\0\0\0\0\x20\0\0\0";
 
 // A line program without rows, of a file "a.c".
-const LINE: &[u8] =
+pub const LINE: &[u8] =
     b"\x33\0\0\0\x04\0\x1b\0\0\0\x01\x01\x01\xfb\x0e\x0d\0\x01\x01\x01\x01\0\0\0\x01\0\0\x01\
     \0a.c\0\0\0\0\0\0\x09\x02\x10\0\0\0\0\0\0\0\x01\xf4\x02\x10\0\x01\x01";
 
@@ -62,18 +65,21 @@ const NO_STRING: u64 = u64::MAX - 3;
 
 const NO_SUP: u64 = u64::MAX - 4;
 
+const RESERVED_LENGTH: u64 = u64::MAX - 7;
+
 const OTHER: u64 = u64::MAX - 5;
 
 // Nothing where something might be.
 const NONE: u64 = u64::MAX - 6;
 
-fn fault(error: Error) -> u64 {
+pub fn fault(error: Error) -> u64 {
     match error {
         Error::OutOfMemory => OOM,
         Error::UnexpectedEof => EOF,
         Error::OffsetOutOfBounds => OUTSIDE,
         Error::ExpectedString => NO_STRING,
         Error::NoSupplementary => NO_SUP,
+        Error::UnknownReservedLength => RESERVED_LENGTH,
         _ => OTHER,
     }
 }
@@ -88,7 +94,7 @@ fn spelled(bytes: &[u8]) -> u64 {
 }
 
 // The bytes whose numbers are in this order.
-fn in_order<'a>(order: RunTimeEndian, little: &'a [u8], big: &'a [u8]) -> &'a [u8] {
+fn in_order(order: RunTimeEndian, little: &'static [u8], big: &'static [u8]) -> &'static [u8] {
     match order {
         RunTimeEndian::Little => little,
         RunTimeEndian::Big => big,
@@ -116,35 +122,45 @@ fn slices<'a>(info: &'a [u8], line: &'a [u8], order: RunTimeEndian) -> Dwarf<End
     }
 }
 
-fn shared(alloc: Global, bytes: &[u8], order: RunTimeEndian) -> Result<EndianBytes, AllocError> {
-    Ok(EndianBytes::new(Bytes::copy_from_slice(alloc, bytes)?, order))
+fn shared(bytes: &'static [u8], order: RunTimeEndian) -> EndianBytes {
+    EndianBytes::new(Bytes::from_static(bytes), order)
 }
 
 // The same over shared bytes.
-fn counted(
-    alloc: Global,
-    info: &[u8],
-    line: &[u8],
-    order: RunTimeEndian,
-) -> Result<Dwarf<EndianBytes>, AllocError> {
-    Ok(Dwarf {
-        debug_abbrev: DebugAbbrev::from(shared(alloc, ABBREV, order)?),
-        debug_addr: DebugAddr::from(shared(alloc, in_order(order, ADDR, ADDR_BIG), order)?),
-        debug_aranges: DebugAranges::from(shared(alloc, &[], order)?),
-        debug_info: DebugInfo::from(shared(alloc, info, order)?),
-        debug_line: DebugLine::from(shared(alloc, line, order)?),
-        debug_line_str: DebugLineStr::from(shared(alloc, b"/w\0", order)?),
-        debug_ranges: DebugRanges::from(shared(alloc, &[], order)?),
-        debug_rnglists: DebugRngLists::from(shared(alloc, &[], order)?),
-        debug_str: DebugStr::from(shared(alloc, b"x\0main\0cut", order)?),
+fn counted(info: &'static [u8], line: &'static [u8], order: RunTimeEndian) -> Dwarf<EndianBytes> {
+    Dwarf {
+        debug_abbrev: DebugAbbrev::from(shared(ABBREV, order)),
+        debug_addr: DebugAddr::from(shared(in_order(order, ADDR, ADDR_BIG), order)),
+        debug_aranges: DebugAranges::from(shared(&[], order)),
+        debug_info: DebugInfo::from(shared(info, order)),
+        debug_line: DebugLine::from(shared(line, order)),
+        debug_line_str: DebugLineStr::from(shared(b"/w\0", order)),
+        debug_ranges: DebugRanges::from(shared(&[], order)),
+        debug_rnglists: DebugRngLists::from(shared(&[], order)),
+        debug_str: DebugStr::from(shared(b"x\0main\0cut", order)),
         debug_str_offsets: DebugStrOffsets::from(shared(
-            alloc,
             in_order(order, STR_OFFSETS, STR_OFFSETS_BIG),
             order,
-        )?),
+        )),
         file_type: DwarfFileType::Main,
         sup: None,
-    })
+    }
+}
+
+fn copied(alloc: Global, bytes: &[u8], order: RunTimeEndian) -> Result<EndianBytes, AllocError> {
+    Ok(EndianBytes::new(Bytes::copy_from_slice(alloc, bytes)?, order))
+}
+
+// The same, where the bytes that strings and line programs are parts of stand in memory of their own.
+fn held(alloc: Global, order: RunTimeEndian) -> Result<Dwarf<EndianBytes>, AllocError> {
+    let info = copied(alloc, INFO, order)?;
+    let line = copied(alloc, LINE, order)?;
+    let strings = copied(alloc, b"x\0main\0cut", order)?;
+    let mut dwarf = counted(INFO, LINE, order);
+    dwarf.debug_info = DebugInfo::from(info);
+    dwarf.debug_line = DebugLine::from(line);
+    dwarf.debug_str = DebugStr::from(strings);
+    Ok(dwarf)
 }
 
 fn type_code(unit_type: UnitType) -> u64 {
@@ -174,7 +190,7 @@ fn header_code<R: Reader>(header: &UnitHeader<R>) -> [u64; 5] {
 }
 
 // The first header, and then what a second call answers: NONE at the end.
-fn headers_code<R: Reader>(dwarf: &Dwarf<R>) -> ([u64; 5], u64) {
+pub fn headers_code<R: Reader>(dwarf: &Dwarf<R>) -> ([u64; 5], u64) {
     let mut units = match dwarf.units() {
         Ok(units) => units,
         Err(error) => return ([fault(error); 5], 0),
@@ -193,26 +209,27 @@ fn headers_code<R: Reader>(dwarf: &Dwarf<R>) -> ([u64; 5], u64) {
 }
 
 #[test]
-fn a_header_has_its_fields(rt: HostRuntime) -> Result<(), Fail> {
-    let cases: [(&[u8], RunTimeEndian, ([u64; 5], u64)); 6] = [
+fn a_header_has_its_fields(rt: HostRuntime) {
+    let cases: [(&'static [u8], RunTimeEndian, ([u64; 5], u64)); 7] = [
         (INFO, RunTimeEndian::Little, ([4, 8, 4, 1, 0], NONE)),
         (INFO_BIG, RunTimeEndian::Big, ([4, 8, 4, 1, 0], NONE)),
         (INFO_64, RunTimeEndian::Little, ([4, 8, 8, 1, 0], NONE)),
         (SKELETON, RunTimeEndian::Little, ([5, 8, 4, 4, 0], NONE)),
+        (
+            RESERVED,
+            RunTimeEndian::Little,
+            ([RESERVED_LENGTH; 5], NONE),
+        ),
         (&INFO[..30], RunTimeEndian::Little, ([EOF; 5], NONE)),
         (&[], RunTimeEndian::Little, ([NONE; 5], NONE)),
     ];
     for (info, order, want) in cases {
         assert_eq!(rt; headers_code(&slices(info, LINE, order)), want);
-        assert_eq!(rt;
-            headers_code(&counted(rt.alloc(), info, LINE, order)?),
-            want
-        );
+        assert_eq!(rt; headers_code(&counted(info, LINE, order)), want);
     }
-    Ok(())
 }
 
-fn first_unit<R: Reader>(alloc: Global, dwarf: &Dwarf<R>) -> Result<Unit<R>, Error> {
+pub fn first_unit<R: Reader>(alloc: Global, dwarf: &Dwarf<R>) -> Result<Unit<R>, Error> {
     match dwarf.units()?.next()? {
         Some(header) => dwarf.unit(alloc, header),
         None => Err(Error::MissingUnitDie),
@@ -220,7 +237,7 @@ fn first_unit<R: Reader>(alloc: Global, dwarf: &Dwarf<R>) -> Result<Unit<R>, Err
 }
 
 // The directory, low_pc, name, identifier, and whether there is a line program.
-fn record_code<R: Reader>(alloc: Global, dwarf: &Dwarf<R>) -> [u64; 5] {
+pub fn record_code<R: Reader>(alloc: Global, dwarf: &Dwarf<R>) -> [u64; 5] {
     let unit = match first_unit(alloc, dwarf) {
         Ok(unit) => unit,
         Err(error) => return [fault(error); 5],
@@ -243,19 +260,16 @@ fn record_code<R: Reader>(alloc: Global, dwarf: &Dwarf<R>) -> [u64; 5] {
 }
 
 #[test]
-fn a_unit_is_what_its_root_says(rt: HostRuntime) -> Result<(), Fail> {
+fn a_unit_is_what_its_root_says(rt: HostRuntime) {
     let plain = [0x1_2f77, 0x10, 0, NONE, 1];
-    let cases: [(&[u8], &[u8], RunTimeEndian); 3] = [
+    let cases: [(&'static [u8], &'static [u8], RunTimeEndian); 3] = [
         (INFO, LINE, RunTimeEndian::Little),
         (INFO_BIG, LINE_BIG, RunTimeEndian::Big),
         (INFO_64, LINE, RunTimeEndian::Little),
     ];
     for (info, line, order) in cases {
         assert_eq!(rt; record_code(rt.alloc(), &slices(info, line, order)), plain);
-        assert_eq!(rt;
-            record_code(rt.alloc(), &counted(rt.alloc(), info, line, order)?),
-            plain
-        );
+        assert_eq!(rt; record_code(rt.alloc(), &counted(info, line, order)), plain);
     }
     // The root's low_pc is read from the bytes of its text, since the abbreviation isn't a
     // skeleton's.
@@ -265,7 +279,6 @@ fn a_unit_is_what_its_root_says(rt: HostRuntime) -> Result<(), Fail> {
         record_code(rt.alloc(), &slices(SKELETON, LINE, order)),
         skeleton
     );
-    Ok(())
 }
 
 // Where the root begins, its tag, its attributes' names, and where it ends.
@@ -305,8 +318,8 @@ fn entries_answer<R: Reader>(alloc: Global, dwarf: &Dwarf<R>) -> [u64; 7] {
 const ENTRIES: [u64; 7] = [11, 0x11, 0x10, 0x1b, 0x11, 0x12, 31];
 
 #[test]
-fn entries_are_read_one_by_one(rt: HostRuntime) -> Result<(), Fail> {
-    let cases: [(&[u8], &[u8], RunTimeEndian, [u64; 7]); 3] = [
+fn entries_are_read_one_by_one(rt: HostRuntime) {
+    let cases: [(&'static [u8], &'static [u8], RunTimeEndian, [u64; 7]); 3] = [
         (INFO, LINE, RunTimeEndian::Little, ENTRIES),
         (INFO_BIG, LINE_BIG, RunTimeEndian::Big, ENTRIES),
         (
@@ -322,11 +335,10 @@ fn entries_are_read_one_by_one(rt: HostRuntime) -> Result<(), Fail> {
             want
         );
         assert_eq!(rt;
-            entries_answer(rt.alloc(), &counted(rt.alloc(), info, line, order)?),
+            entries_answer(rt.alloc(), &counted(info, line, order)),
             want
         );
     }
-    Ok(())
 }
 
 // Where the entries from five offsets on begin, strings by nine values, and addresses by four
@@ -372,7 +384,7 @@ fn start_code<R: Reader>(unit: UnitRef<'_, R>, offset: u64) -> u64 {
     }
 }
 
-fn string_code<R: Reader>(unit: UnitRef<'_, R>, value: AttributeValue<R>) -> u64 {
+pub fn string_code<R: Reader>(unit: UnitRef<'_, R>, value: AttributeValue<R>) -> u64 {
     match unit.attr_string(value) {
         Ok(text) => spelled(text.to_slice()),
         Err(error) => fault(error),
@@ -409,8 +421,8 @@ const PLACES: [u64; 18] = [
 ];
 
 #[test]
-fn strings_addresses_and_offsets_are_found_or_refused(rt: HostRuntime) -> Result<(), Fail> {
-    let cases: [(&[u8], &[u8], RunTimeEndian); 2] = [
+fn strings_addresses_and_offsets_are_found_or_refused(rt: HostRuntime) {
+    let cases: [(&'static [u8], &'static [u8], RunTimeEndian); 2] = [
         (INFO, LINE, RunTimeEndian::Little),
         (INFO_BIG, LINE_BIG, RunTimeEndian::Big),
     ];
@@ -420,13 +432,12 @@ fn strings_addresses_and_offsets_are_found_or_refused(rt: HostRuntime) -> Result
             places_answer(rt.alloc(), &slices(info, line, order), own),
             PLACES
         );
-        let own = shared(rt.alloc(), b"own", order)?;
+        let own = shared(b"own", order);
         assert_eq!(rt;
-            places_answer(rt.alloc(), &counted(rt.alloc(), info, line, order)?, own),
+            places_answer(rt.alloc(), &counted(info, line, order), own),
             PLACES
         );
     }
-    Ok(())
 }
 
 // 0 for what is granted, OOM for that in its place, OTHER for any other answer.
@@ -457,11 +468,11 @@ fn places_met(found: [u64; 18]) -> u64 {
 fn each(alloc: Global) -> [u64; 3] {
     let order = RunTimeEndian::Little;
     let borrowed = entries_met(entries_answer(alloc, &slices(INFO, LINE, order)));
-    let Ok(dwarf) = counted(alloc, INFO, LINE, order) else {
+    let Ok(dwarf) = held(alloc, order) else {
         return [borrowed, OOM, OOM];
     };
     let entries = entries_met(entries_answer(alloc, &dwarf));
-    let places = match shared(alloc, b"own", order) {
+    let places = match copied(alloc, b"own", order) {
         Ok(own) => places_met(places_answer(alloc, &dwarf, own)),
         Err(_) => OOM,
     };

@@ -23,6 +23,13 @@ const LINE_V5: [u8; 68] = [
     0x10, 0x00, 0x01, 0x01,
 ];
 
+// The same unit in 64-bit DWARF.
+const INFO_64: [u8; 47] = [
+    0xff, 0xff, 0xff, 0xff, 0x23, 0x00, 0x00, 0x00, 0x00, 0x00, 0x00, 0x00, 0x04, 0x00, 0x00, 0x00,
+    0x00, 0x00, 0x00, 0x00, 0x00, 0x00, 0x08, 0x01, 0x00, 0x00, 0x00, 0x00, 0x00, 0x00, 0x00, 0x00,
+    0x2f, 0x77, 0x00, 0x10, 0x00, 0x00, 0x00, 0x00, 0x00, 0x00, 0x00, 0x20, 0x00, 0x00, 0x00,
+];
+
 const PROBES: [u64; 8] = [0xf, 0x10, 0x1f, 0x20, 0x2f, 0x30, 0x10, u64::MAX];
 
 // Lines 1 and 3 of "/w/a.c" at column 0.
@@ -41,9 +48,10 @@ const FAULT: [u32; 8] = [
 fn lookups_over_three_sections(rt: HostRuntime) -> Result<(), Fail> {
     let mut cut = LINE;
     cut[53] = 0x7f;
-    let cases: [(&[u8], &[u8], &[u8], [u32; 8]); 5] = [
+    let cases: [(&[u8], &[u8], &[u8], [u32; 8]); 6] = [
         (&ABBREV, &INFO, &LINE, FOUND),
         (&ABBREV, &INFO_V5, &LINE_V5, FOUND),
+        (&ABBREV, &INFO_64, &LINE, FOUND),
         // No unit, and a unit whose record is faulty.
         (&[], &[], &[], NOTHING),
         (&ABBREV, &INFO, &[], NOTHING),
@@ -78,6 +86,14 @@ fn each_cut_is_refused(alloc: Global) -> bool {
 #[test]
 fn a_unit_that_is_cut_refuses_the_context(rt: HostRuntime) {
     assert_eq!(rt; each_cut_is_refused(rt.alloc()), true);
+}
+
+#[test]
+fn a_reserved_length_refuses_the_context(rt: HostRuntime) {
+    let mut reserved = INFO_64;
+    reserved[0] = 0xf0;
+    let refused = context_of(rt.alloc(), &ABBREV, &reserved, &LINE);
+    assert!(rt; matches!(refused, Err(Error::UnknownReservedLength)));
 }
 
 // The texts of the files 0 to 2, "none" where there is none, and the line at 0x20.

@@ -8,13 +8,13 @@ use gimli::{
 use std::alloc::Global;
 
 // A unit, a subprogram with children and one without, and an inlined function.
-const ABBREV: &[u8] = b"\x01\x11\x01\x10\x17\x1b\x08\x11\x01\x12\x06\0\0\
+pub const ABBREV: &[u8] = b"\x01\x11\x01\x10\x17\x1b\x08\x11\x01\x12\x06\0\0\
     \x02\x2e\x01\x03\x08\x11\x01\x12\x06\0\0\
     \x03\x1d\0\x31\x13\x11\x01\x12\x06\x58\x0b\x59\x0b\x57\x0b\0\0\
     \x04\x2e\0\x03\x08\0\0\0";
 
 // The unit: a subprogram, another one with an inlined function inside, and two closing entries.
-const NESTED: &[u8] = b"\x43\0\0\0\x04\0\0\0\0\0\x08\
+pub const NESTED: &[u8] = b"\x43\0\0\0\x04\0\0\0\0\0\x08\
     \x01\0\0\0\0/w\0\x10\0\0\0\0\0\0\0\x20\0\0\0\
     \x04g\0\
     \x02f\0\x10\0\0\0\0\0\0\0\x20\0\0\0\

@@ -1,9 +1,9 @@
 //! Worked cases of files together: sections by name, supplementary and split files, address ranges.
 
-use bytes::Bytes;
+use crate::tests::{counted, shared};
 use gimli::{
-    AttributeValue, DebugAddr, DebugInfoOffset, Dwarf, DwarfFileType, EndianBytes, EndianSlice,
-    Error, Reader, RunTimeEndian, SectionId, ToUnitOffset, Unit,
+    AttributeValue, DebugAbbrev, DebugAddr, DebugInfoOffset, Dwarf, DwarfFileType, EndianBytes,
+    EndianSlice, Error, Reader, RunTimeEndian, SectionId, ToUnitOffset, Unit,
 };
 use std::alloc::Global;
 use std::test::Fail;
@@ -206,60 +206,86 @@ fn a_split_file_takes_its_parents_addresses(rt: HostRuntime) -> Result<(), Fail>
     Ok(())
 }
 
-fn copied(alloc: Global, bytes: &[u8]) -> Result<EndianBytes, Error> {
-    Ok(EndianBytes::new(Bytes::copy_from_slice(alloc, bytes)?, ORDER))
+// The file over shared bytes.
+fn shared_file() -> Dwarf<EndianBytes> {
+    let mut file = counted(INFO, LINE, ORDER);
+    file.debug_abbrev = DebugAbbrev::from(shared(ABBREV, ORDER));
+    file
 }
 
-// The file over bytes in memory of their own, whose supplementary file is asked for once more where
-// it was refused; and whether it was.
-fn held_file(alloc: Global) -> Result<(Dwarf<EndianBytes>, bool), Error> {
-    let mut file: Dwarf<EndianBytes> = Dwarf::load(|id| -> Result<EndianBytes, Error> {
-        copied(alloc, bytes_of(id))
-    })?;
-    let mut ask = |id| -> Result<EndianBytes, Error> { copied(alloc, sup_bytes_of(id)) };
-    let is_refused = file.load_sup(alloc, &mut ask).is_err();
-    if is_refused {
-        file.load_sup(alloc, &mut ask)?;
+fn add_shared_sup(alloc: Global, file: &mut Dwarf<EndianBytes>) -> Result<(), Error> {
+    file.load_sup(alloc, |id| -> Result<EndianBytes, Error> {
+        Ok(shared(sup_bytes_of(id), ORDER))
+    })
+}
+
+// Adds the supplementary file, and asks for it once more where it was refused; how often it was.
+fn add_sup_again(alloc: Global, file: &mut Dwarf<EndianBytes>) -> u64 {
+    let mut refused = 0u64;
+    for _ in 0..2 {
+        if add_shared_sup(alloc, file).is_ok() {
+            return refused;
+        }
+        refused = refused.wrapping_add(1);
     }
-    Ok((file, is_refused))
+    refused
 }
 
 const WITH_SUP: [u64; 8] = [S_DWO, 0x173_7570, 999, 20, 999, 7, 8, 0];
 
-const TAKEN: [u64; 3] = [1, 0, 0x173_7570];
+const TAKEN: [u64; 3] = [1, 24, 0x173_7570];
 
-// What its unit says, and what a split file takes of it, the second answers where the first were
-// refused; and whether any was.
-fn held_code(alloc: Global) -> Result<([u64; 8], [u64; 3], bool), Error> {
-    let (parent, is_parent_refused) = held_file(alloc)?;
-    let (mut split, is_split_refused) = held_file(alloc)?;
-    let mut is_refused = is_parent_refused || is_split_refused;
-    let mut unit = unit_answer(alloc, &parent);
-    if unit != WITH_SUP {
-        unit = unit_answer(alloc, &parent);
-        is_refused = true;
+// What its unit says, the second answer where the first was refused; and how often it was.
+fn unit_again(alloc: Global, file: &Dwarf<EndianBytes>) -> ([u64; 8], u64) {
+    let first = unit_answer(alloc, file);
+    if first == WITH_SUP {
+        (first, 0)
+    } else {
+        (unit_answer(alloc, file), 1)
     }
-    let mut taken = split_code(alloc, &mut split, &parent);
-    if taken != TAKEN {
-        taken = split_code(alloc, &mut split, &parent);
-        is_refused = true;
+}
+
+// What a split file takes of it, in the same way.
+fn taken_again(alloc: Global, parent: &Dwarf<EndianBytes>) -> ([u64; 3], u64) {
+    let mut split = shared_file();
+    let mut refused = 0u64;
+    let mut taken = [0; 3];
+    for _ in 0..2 {
+        taken = split_code(alloc, &mut split, parent);
+        if taken == TAKEN {
+            return (taken, refused);
+        }
+        refused = refused.wrapping_add(1);
     }
-    Ok((unit, taken, is_refused))
+    (taken, refused)
+}
+
+// The same of a file over shared bytes, and how many growths were refused.
+fn unit_of_shared(alloc: Global) -> ([u64; 8], u64) {
+    let mut file = shared_file();
+    let refused = add_sup_again(alloc, &mut file);
+    let (unit, again) = unit_again(alloc, &file);
+    (unit, refused.wrapping_add(again))
+}
+
+fn taken_of_shared(alloc: Global) -> ([u64; 3], u64) {
+    let mut parent = shared_file();
+    let refused = add_sup_again(alloc, &mut parent);
+    let (taken, again) = taken_again(alloc, &parent);
+    (taken, refused.wrapping_add(again))
 }
 
 // A refused growth leaves a file as it was: the same call is granted after it.
 #[test]
 fn a_refused_growth_leaves_a_file_as_it_was(rt: HostRuntime) {
-    match held_code(rt.alloc()) {
-        Ok((unit, taken, _)) => assert_eq!(rt; (unit, taken), (WITH_SUP, TAKEN)),
-        Err(error) => assert_eq!(rt; fault(error), 1001),
-    }
+    assert_eq!(rt; unit_of_shared(rt.alloc()).0, WITH_SUP);
+    assert_eq!(rt; taken_of_shared(rt.alloc()).0, TAKEN);
 }
 
 #[test]
 fn each_growth_of_a_file_is_granted(rt: HostRuntime) {
-    let is_granted = matches!(held_code(rt.alloc()), Ok((_, _, false)));
-    assert!(rt; is_granted);
+    assert_eq!(rt; unit_of_shared(rt.alloc()).1, 0);
+    assert_eq!(rt; taken_of_shared(rt.alloc()).1, 0);
 }
 
 // The unit of the first set and its first two ranges' ends, 0 where there is none, and what stands

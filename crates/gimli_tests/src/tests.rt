@@ -102,7 +102,7 @@ fn in_order(order: RunTimeEndian, little: &'static [u8], big: &'static [u8]) -> 
 }
 
 // Sections, of which these are given; beside them strings, and tables whose entries begin at 8.
-fn slices<'a>(info: &'a [u8], line: &'a [u8], order: RunTimeEndian) -> Dwarf<EndianSlice<'a>> {
+pub fn slices<'a>(info: &'a [u8], line: &'a [u8], order: RunTimeEndian) -> Dwarf<EndianSlice<'a>> {
     Dwarf {
         debug_abbrev: DebugAbbrev::from(EndianSlice::new(ABBREV, order)),
         debug_addr: DebugAddr::from(EndianSlice::new(in_order(order, ADDR, ADDR_BIG), order)),
@@ -122,12 +122,16 @@ fn slices<'a>(info: &'a [u8], line: &'a [u8], order: RunTimeEndian) -> Dwarf<End
     }
 }
 
-fn shared(bytes: &'static [u8], order: RunTimeEndian) -> EndianBytes {
+pub fn shared(bytes: &'static [u8], order: RunTimeEndian) -> EndianBytes {
     EndianBytes::new(Bytes::from_static(bytes), order)
 }
 
 // The same over shared bytes.
-fn counted(info: &'static [u8], line: &'static [u8], order: RunTimeEndian) -> Dwarf<EndianBytes> {
+pub fn counted(
+    info: &'static [u8],
+    line: &'static [u8],
+    order: RunTimeEndian,
+) -> Dwarf<EndianBytes> {
     Dwarf {
         debug_abbrev: DebugAbbrev::from(shared(ABBREV, order)),
         debug_addr: DebugAddr::from(shared(in_order(order, ADDR, ADDR_BIG), order)),
@@ -341,33 +345,53 @@ fn entries_are_read_one_by_one(rt: HostRuntime) {
     }
 }
 
-// Where the entries from five offsets on begin, strings by nine values, and addresses by four
-// indexes.
-fn places_code<R: Reader>(alloc: Global, dwarf: &Dwarf<R>, own: R) -> Result<[u64; 18], Error> {
+// Where the entries from five offsets on begin.
+fn starts_code<R: Reader>(unit: UnitRef<'_, R>) -> [u64; 5] {
+    [12, 0, 10, 31, u64::MAX].map(|offset| start_code(unit, offset))
+}
+
+// Strings by nine values.
+fn strings_code<R: Reader>(unit: UnitRef<'_, R>, own: R) -> [u64; 9] {
+    let own = string_code(unit, AttributeValue::String(own));
+    let [second, cut, outside] = [2, 7, 11].map(|offset| string_code(
+        unit,
+        AttributeValue::DebugStrRef(offset),
+    ));
+    let [indexed, past] = [1, 2].map(|index| string_code(
+        unit,
+        AttributeValue::DebugStrOffsetsIndex(index),
+    ));
+    [
+        own,
+        second,
+        string_code(unit, AttributeValue::DebugLineStrRef(0)),
+        indexed,
+        cut,
+        outside,
+        past,
+        string_code(unit, AttributeValue::DebugStrRefSup(0)),
+        string_code(unit, AttributeValue::Udata(0)),
+    ]
+}
+
+// Addresses by four indexes.
+fn addresses_code<R: Reader>(unit: UnitRef<'_, R>) -> [u64; 4] {
+    [0, 1, 2, u64::MAX].map(|index| number_code(unit.address(index)))
+}
+
+type Places = ([u64; 5], [u64; 9], [u64; 4]);
+
+// Entries, strings and addresses of the unit.
+fn places_code<R: Reader>(alloc: Global, dwarf: &Dwarf<R>, own: R) -> Result<Places, Error> {
     let mut unit = first_unit(alloc, dwarf)?;
     unit.str_offsets_base = 8;
     unit.addr_base = 8;
     let unit = UnitRef::new(dwarf, &unit);
-    Ok([
-        start_code(unit, 12),
-        start_code(unit, 0),
-        start_code(unit, 10),
-        start_code(unit, 31),
-        start_code(unit, u64::MAX),
-        string_code(unit, AttributeValue::String(own)),
-        string_code(unit, AttributeValue::DebugStrRef(2)),
-        string_code(unit, AttributeValue::DebugLineStrRef(0)),
-        string_code(unit, AttributeValue::DebugStrOffsetsIndex(1)),
-        string_code(unit, AttributeValue::DebugStrRef(7)),
-        string_code(unit, AttributeValue::DebugStrRef(11)),
-        string_code(unit, AttributeValue::DebugStrOffsetsIndex(2)),
-        string_code(unit, AttributeValue::DebugStrRefSup(0)),
-        string_code(unit, AttributeValue::Udata(0)),
-        number_code(unit.address(0)),
-        number_code(unit.address(1)),
-        number_code(unit.address(2)),
-        number_code(unit.address(u64::MAX)),
-    ])
+    Ok((
+        starts_code(unit),
+        strings_code(unit, own),
+        addresses_code(unit),
+    ))
 }
 
 fn number_code(answer: Result<u64, Error>) -> u64 {
@@ -391,34 +415,32 @@ pub fn string_code<R: Reader>(unit: UnitRef<'_, R>, value: AttributeValue<R>) ->
     }
 }
 
-fn places_answer<R: Reader>(alloc: Global, dwarf: &Dwarf<R>, own: R) -> [u64; 18] {
+fn places_answer<R: Reader>(alloc: Global, dwarf: &Dwarf<R>, own: R) -> Places {
     match places_code(alloc, dwarf, own) {
         Ok(code) => code,
-        Err(error) => [fault(error); 18],
+        Err(error) => {
+            let fault = fault(error);
+            ([fault; 5], [fault; 9], [fault; 4])
+        }
     }
 }
 
 // What the unit of each byte order answers.
-const PLACES: [u64; 18] = [
-    12,
-    OUTSIDE,
-    OUTSIDE,
-    OUTSIDE,
-    OUTSIDE,
-    0x16f_776e,
-    0x1_6d61_696e,
-    0x1_2f77,
-    0x1_6d61_696e,
-    EOF,
-    OUTSIDE,
-    OUTSIDE,
-    NO_SUP,
-    NO_STRING,
-    0x10,
-    0x20,
-    OUTSIDE,
-    OUTSIDE,
-];
+const PLACES: Places = (
+    [12, OUTSIDE, OUTSIDE, OUTSIDE, OUTSIDE],
+    [
+        0x16f_776e,
+        0x1_6d61_696e,
+        0x1_2f77,
+        0x1_6d61_696e,
+        EOF,
+        OUTSIDE,
+        OUTSIDE,
+        NO_SUP,
+        NO_STRING,
+    ],
+    [0x10, 0x20, OUTSIDE, OUTSIDE],
+);
 
 #[test]
 fn strings_addresses_and_offsets_are_found_or_refused(rt: HostRuntime) {
@@ -427,16 +449,11 @@ fn strings_addresses_and_offsets_are_found_or_refused(rt: HostRuntime) {
         (INFO_BIG, LINE_BIG, RunTimeEndian::Big),
     ];
     for (info, line, order) in cases {
-        let own = EndianSlice::new(b"own", order);
-        assert_eq!(rt;
-            places_answer(rt.alloc(), &slices(info, line, order), own),
-            PLACES
-        );
+        let slice = EndianSlice::new(b"own", order);
+        let borrowed = places_answer(rt.alloc(), &slices(info, line, order), slice);
         let own = shared(b"own", order);
-        assert_eq!(rt;
-            places_answer(rt.alloc(), &counted(info, line, order), own),
-            PLACES
-        );
+        let shared = places_answer(rt.alloc(), &counted(info, line, order), own);
+        assert_eq!(rt; [places_met(borrowed), places_met(shared)], [0; 2]);
     }
 }
 
@@ -451,17 +468,27 @@ fn entries_met(found: [u64; 7]) -> u64 {
     }
 }
 
-// The same of places, of which each may be refused alone.
-fn places_met(found: [u64; 18]) -> u64 {
+// The same of numbers, of which each may be refused alone.
+fn numbers_met(found: &[u64], granted: &[u64]) -> u64 {
     let mut met = 0;
-    for (found, granted) in found.into_iter().zip(PLACES) {
-        if found == OOM {
+    for (found, granted) in found.iter().zip(granted) {
+        if *found == OOM {
             met = OOM;
         } else if found != granted {
             return OTHER;
         }
     }
     met
+}
+
+// The same of places.
+fn places_met((starts, strings, addresses): Places) -> u64 {
+    let met = [
+        numbers_met(&starts, &PLACES.0),
+        numbers_met(&strings, &PLACES.1),
+        numbers_met(&addresses, &PLACES.2),
+    ];
+    numbers_met(&met, &[0; 3])
 }
 
 // The entries of borrowed bytes, and the entries and the places of shared ones.

@@ -1,10 +1,9 @@
 //! Each vector read by both readers, whole and without its last byte: equal values and faults.
 
 use crate::{files, ranges, tests};
-use bytes::Bytes;
 use gimli::{
-    Dwarf, EndianBytes, EndianSlice, EntriesRaw, Error, LineRow, Reader, RunTimeEndian, SectionId,
-    Unit, UnitRef,
+    DebugAbbrev, DebugAranges, DebugRanges, DebugRngLists, Dwarf, EndianBytes, EndianSlice,
+    EntriesRaw, Error, LineRow, Reader, RunTimeEndian, Unit, UnitRef,
 };
 use std::alloc::Global;
 
@@ -33,22 +32,41 @@ fn mixed(sum: u64, number: u64) -> u64 {
     sum.wrapping_mul(31).wrapping_add(number)
 }
 
-// The bytes of a section, without their last one where it is cut.
-fn bytes_of(vector: Vector, is_cut: bool, id: SectionId) -> &'static [u8] {
-    let bytes = match id {
-        SectionId::DebugAbbrev => vector.0,
-        SectionId::DebugInfo => vector.1,
-        SectionId::DebugLine => vector.2,
-        SectionId::DebugAranges => files::ARANGES,
-        SectionId::DebugRanges => ranges::RANGES_32,
-        SectionId::DebugRngLists => ranges::RNGLISTS,
-        _ => b"",
-    };
+// Bytes without their last one, where they are to be cut.
+fn cut(bytes: &'static [u8], is_cut: bool) -> &'static [u8] {
     if is_cut && !bytes.is_empty() {
         &bytes[..bytes.len() - 1]
     } else {
         bytes
     }
+}
+
+fn borrowed(bytes: &'static [u8], is_cut: bool) -> EndianSlice<'static> {
+    EndianSlice::new(cut(bytes, is_cut), ORDER)
+}
+
+fn shared(bytes: &'static [u8], is_cut: bool) -> EndianBytes {
+    tests::shared(cut(bytes, is_cut), ORDER)
+}
+
+// The sections of a vector, and lists of ranges.
+fn borrowed_file(vector: Vector, is_cut: bool) -> Dwarf<EndianSlice<'static>> {
+    let mut dwarf = tests::slices(cut(vector.1, is_cut), cut(vector.2, is_cut), ORDER);
+    dwarf.debug_abbrev = DebugAbbrev::from(borrowed(vector.0, is_cut));
+    dwarf.debug_aranges = DebugAranges::from(borrowed(files::ARANGES, is_cut));
+    dwarf.debug_ranges = DebugRanges::from(borrowed(ranges::RANGES_32, is_cut));
+    dwarf.debug_rnglists = DebugRngLists::from(borrowed(ranges::RNGLISTS, is_cut));
+    dwarf
+}
+
+// The same over shared bytes.
+fn shared_file(vector: Vector, is_cut: bool) -> Dwarf<EndianBytes> {
+    let mut dwarf = tests::counted(cut(vector.1, is_cut), cut(vector.2, is_cut), ORDER);
+    dwarf.debug_abbrev = DebugAbbrev::from(shared(vector.0, is_cut));
+    dwarf.debug_aranges = DebugAranges::from(shared(files::ARANGES, is_cut));
+    dwarf.debug_ranges = DebugRanges::from(shared(ranges::RANGES_32, is_cut));
+    dwarf.debug_rnglists = DebugRngLists::from(shared(ranges::RNGLISTS, is_cut));
+    dwarf
 }
 
 // The next item: where it begins and its depth, its tag, and its attributes' names, strings and
@@ -172,24 +190,11 @@ fn sums<R: Reader>(alloc: Global, dwarf: &Dwarf<R>) -> [u64; 16] {
     ]
 }
 
-// The sums of both readers.
-fn both(alloc: Global, vector: Vector, is_cut: bool) -> Result<[[u64; 16]; 2], Error> {
-    let borrowed: Dwarf<EndianSlice<'_>> = Dwarf::load(|id| -> Result<EndianSlice<'_>, Error> {
-        Ok(EndianSlice::new(bytes_of(vector, is_cut, id), ORDER))
-    })?;
-    let shared: Dwarf<EndianBytes> = Dwarf::load(|id| -> Result<EndianBytes, Error> {
-        let bytes = Bytes::from_static(bytes_of(vector, is_cut, id));
-        Ok(EndianBytes::new(bytes, ORDER))
-    })?;
-    Ok([sums(alloc, &borrowed), sums(alloc, &shared)])
-}
-
 // Whether both readers give the same sums.
 fn are_alike(alloc: Global, vector: Vector, is_cut: bool) -> bool {
-    match both(alloc, vector, is_cut) {
-        Ok([borrowed, shared]) => borrowed == shared,
-        Err(_) => false,
-    }
+    let borrowed = sums(alloc, &borrowed_file(vector, is_cut));
+    let shared = sums(alloc, &shared_file(vector, is_cut));
+    borrowed == shared
 }
 
 #[test]

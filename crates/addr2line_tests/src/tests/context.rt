@@ -1,6 +1,8 @@
 //! Contexts: which sections make one, and what its lookups answer at each call.
 
-use super::sections::{ABBREV, INFO, INFO_WIDE, LINE, code_of, codes_of, context_of, dwarf_of};
+use super::sections::{
+    ABBREV, INFO, INFO_WIDE, LINE, code_of, codes_of, context_of, dwarf_of, lines_of,
+};
 use addr2line::Context;
 use addr2line::gimli::read::{EndianSlice, Error};
 use addr2line_lines::{Lines, RangeAttributes, read_root_ranges};
@@ -105,19 +107,24 @@ fn files_and_line(lines: &Lines) -> ([&str; 3], Option<u32>) {
     )
 }
 
+// The range of the unit's root.
+fn root_range(alloc: Global) -> Result<Option<[u64; 2]>, Error> {
+    let dwarf = dwarf_of(&ABBREV, &INFO, &LINE);
+    match dwarf.units()?.next()? {
+        Some(header) => {
+            let unit = dwarf.unit(alloc, header)?;
+            let range = read_root_ranges(UnitRef::new(&dwarf, &unit))?.range();
+            Ok(range.map(|range| [range.begin, range.end]))
+        }
+        None => Err(Error::MissingUnitDie),
+    }
+}
+
 #[test]
 fn the_lines_of_a_unit(rt: HostRuntime) -> Result<(), Fail> {
-    let dwarf = dwarf_of(&ABBREV, &INFO, &LINE);
-    let mut units = dwarf.units()?;
-    let header = units.next()?.ok_or("no unit")?;
-    let unit = dwarf.unit(rt.alloc(), header)?;
-    let lines = Lines::parse(rt.alloc(), &dwarf, &unit)?;
+    let lines = lines_of(rt.alloc(), &INFO, &LINE)?;
     assert_eq!(rt; files_and_line(&lines), (["", "/w/a.c", "none"], Some(3)));
-    let range = read_root_ranges(UnitRef::new(&dwarf, &unit))?.range();
-    assert_eq!(rt;
-        range.map(|range| [range.begin, range.end]),
-        Some([0x10, 0x30])
-    );
+    assert_eq!(rt; root_range(rt.alloc()), Ok(Some([0x10, 0x30])));
     assert_eq!(rt; RangeAttributes::new().range().is_none(), true);
     Ok(())
 }

@@ -1,7 +1,7 @@
 //! The rows of a range of addresses, the ranges of sequences, and looks, by the lines of one unit.
 
 use super::lines::{FOUR_SEQUENCES, SAME_ADDRESS, THREE_SEQUENCES};
-use super::sections::{ABBREV, INFO_WIDE, dwarf_of};
+use super::sections::{INFO_WIDE, lines_of};
 use addr2line::gimli::read::{Error, Range};
 use addr2line_lines::{Count, Lines};
 use std::alloc::Global;
@@ -23,19 +23,6 @@ const ZERO_LENGTH_AND_ANOTHER: [u8; 76] = [
     0x01, 0x02, 0x10, 0x03, 0x01, 0x01, 0x00, 0x01, 0x01, 0x00, 0x09, 0x02, 0x20, 0x00, 0x00, 0x00,
     0x00, 0x00, 0x00, 0x00, 0x03, 0x04, 0x01, 0x02, 0x08, 0x00, 0x01, 0x01,
 ];
-
-// The lines of the unit with this program.
-fn lines_of(alloc: Global, line: &[u8]) -> Result<Lines, Error> {
-    let dwarf = dwarf_of(&ABBREV, &INFO_WIDE, line);
-    let mut units = dwarf.units()?;
-    match units.next()? {
-        Some(header) => {
-            let unit = dwarf.unit(alloc, header)?;
-            Lines::parse(alloc, &dwarf, &unit)
-        }
-        None => Err(Error::MissingUnitDie),
-    }
-}
 
 // No item.
 const NONE: [u64; 3] = [0, 0, 0];
@@ -86,7 +73,7 @@ fn a_range_meets_rows_with_their_whole_spans(rt: HostRuntime) -> Result<(), Fail
         ),
     ];
     for (line, range, want) in cases {
-        let lines = lines_of(rt.alloc(), line)?;
+        let lines = lines_of(rt.alloc(), &INFO_WIDE, line)?;
         assert_eq!(rt; items_of(&lines, range), want);
     }
     Ok(())
@@ -103,7 +90,7 @@ fn ranges_of(lines: &Lines) -> [[u64; 2]; 4] {
 
 #[test]
 fn sequences_have_ranges_in_order(rt: HostRuntime) -> Result<(), Fail> {
-    let lines = lines_of(rt.alloc(), &FOUR_SEQUENCES)?;
+    let lines = lines_of(rt.alloc(), &INFO_WIDE, &FOUR_SEQUENCES)?;
     assert_eq!(rt; ranges_of(&lines), [[0, 4], [0, 8], [2, 3], [0x10, 0x30]]);
     Ok(())
 }
@@ -121,7 +108,7 @@ fn lines_at(lines: &Lines, probe: u64) -> [u32; 2] {
 
 #[test]
 fn a_lookup_that_counts_answers_alike(rt: HostRuntime) -> Result<(), Fail> {
-    let lines = lines_of(rt.alloc(), &FOUR_SEQUENCES)?;
+    let lines = lines_of(rt.alloc(), &INFO_WIDE, &FOUR_SEQUENCES)?;
     let answers = [2, 5, 0x18].map(|probe| lines_at(&lines, probe));
     assert_eq!(rt; answers, [[4, 4], [0, 0], [3, 3]]);
     Ok(())
@@ -130,14 +117,14 @@ fn a_lookup_that_counts_answers_alike(rt: HostRuntime) -> Result<(), Fail> {
 // The lines at 2, 5 and 0x18 after a first parse that may be refused memory, as each of its growths
 // is in turn by `tools/refuse_growths`.
 fn parsed_again(alloc: Global) -> Result<[u32; 3], Error> {
-    let _first = lines_of(alloc, &FOUR_SEQUENCES).is_ok();
-    let lines = lines_of(alloc, &FOUR_SEQUENCES)?;
+    let _first = lines_of(alloc, &INFO_WIDE, &FOUR_SEQUENCES).is_ok();
+    let lines = lines_of(alloc, &INFO_WIDE, &FOUR_SEQUENCES)?;
     Ok([2, 5, 0x18].map(|probe| lines_at(&lines, probe)[0]))
 }
 
 #[test]
 fn growths_that_are_granted_give_lines(rt: HostRuntime) -> Result<(), Fail> {
-    let lines = lines_of(rt.alloc(), &FOUR_SEQUENCES)?;
+    let lines = lines_of(rt.alloc(), &INFO_WIDE, &FOUR_SEQUENCES)?;
     assert_eq!(rt; lines_at(&lines, 2), [4, 4]);
     Ok(())
 }

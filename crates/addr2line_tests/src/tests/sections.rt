@@ -6,6 +6,7 @@ use addr2line::gimli::{
     DebugAbbrev, DebugAddr, DebugAranges, DebugInfo, DebugLine, DebugLineStr, DebugRanges,
     DebugRngLists, DebugStr, DebugStrOffsets, Dwarf, DwarfFileType,
 };
+use addr2line_lines::Lines;
 use std::alloc::Global;
 
 /// A unit with DW_AT_stmt_list, DW_AT_comp_dir, DW_AT_low_pc and DW_AT_high_pc.
@@ -77,6 +78,18 @@ pub fn context_of<'a>(
         DebugStrOffsets::from(little(&[])),
         little(&[]),
     )
+}
+
+/// The lines of the unit with this program.
+pub fn lines_of(alloc: Global, info: &[u8], line: &[u8]) -> Result<Lines, Error> {
+    let dwarf = dwarf_of(&ABBREV, info, line);
+    match dwarf.units()?.next()? {
+        Some(header) => {
+            let unit = dwarf.unit(alloc, header)?;
+            Lines::parse(alloc, &dwarf, &unit)
+        }
+        None => Err(Error::MissingUnitDie),
+    }
 }
 
 /// The location of an address as a number: 0 where there is none, 9,000,000 for UnexpectedEof and

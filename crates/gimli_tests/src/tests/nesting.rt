@@ -84,14 +84,14 @@ fn items<R: Reader>(alloc: Global, dwarf: &Dwarf<R>, way: Way) -> Result<[[u64; 
 
 // How many of the seven items of the first bytes of NESTED, as a unit of that length, aren't these;
 // 1000 where the unit can't be read.
-fn wrong_items(alloc: Global, len: usize, way: Way, want: &[[u64; 3]; 7]) -> u64 {
+fn wrong_items(alloc: Global, len: u8, way: Way, want: &[[u64; 3]; 7]) -> u64 {
     let order = RunTimeEndian::Little;
     let mut info = [0; NESTED_LEN];
     for (byte, nested) in info.iter_mut().zip(NESTED) {
         *byte = *nested;
     }
-    info[0] = (len as u8).wrapping_sub(4);
-    let mut dwarf = slices(&info[..len.min(NESTED_LEN)], LINE, order);
+    info[0] = len.wrapping_sub(4);
+    let mut dwarf = slices(&info[..NESTED_LEN.min(usize::from(len))], LINE, order);
     dwarf.debug_abbrev = DebugAbbrev::from(EndianSlice::new(ABBREV, order));
     let Ok(rows) = items(alloc, &dwarf, way) else {
         return 1000;
@@ -124,7 +124,7 @@ fn items_are_nested(rt: HostRuntime) {
     let open = [0x46, 1, NONE];
     let inside = [0x45, 2, NONE];
     let missing = [0x44, 2, NONE];
-    let cases: [(usize, [[u64; 3]; 7]); 5] = [
+    let cases: [(u8, [[u64; 3]; 7]); 5] = [
         (0x47, [ROOT, FIRST, SECOND, INLINED, CLOSING, LAST, end]),
         (0x46, [ROOT, FIRST, SECOND, INLINED, CLOSING, open, open]),
         (0x45, [ROOT, FIRST, SECOND, INLINED, inside, inside, inside]),

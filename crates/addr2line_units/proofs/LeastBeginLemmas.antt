@@ -12,7 +12,7 @@ use Rattle.addr2line_lines.proofs.SeekLemmas.{Up, non_decreasing}
 use Rattle.addr2line_units.specs.declared.index.IndexedRange.{IndexedRange}
 use Rattle.addr2line_units.specs.declared.index.UnitRange.{UnitRange}
 use Rattle.addr2line_units.specs.UnitIndex.{ends_sooner}
-use Rattle.addr2line_units.specs.LeastBegins.{AreIndexed, AreLeastBegins, begins_by, is_between, least_begin, unit_range_of, with_least_begins}
+use Rattle.addr2line_units.specs.LeastBegins.{AreIndexed, AreLeastBegins, EndFits, begins_by, is_between, least_begin, unit_range_of, with_least_begins}
 use Rattle.addr2line_units.proofs.IndexLemmas.{ends_order}
 
 -- the ranges that were taken from the end, and what was made of them
@@ -21,21 +21,30 @@ pub record IsMade (all left : List UnitRange) (made : List IndexedRange) (least 
   pub all_are : left ++ taken ≡ all
   pub made_are : made ≡ reverse (with_least_begins taken)
   pub least_is : least ≡ least_begin taken
+  pub fit : AllByRecursion EndFits taken
 
 pub none_made : (all : List UnitRange) → IsMade all all [] (2 ^ 64 - 1)
-none_made all = record { taken = []; all_are = append-nil all; made_are = refl; least_is = refl }
+none_made all = record { taken = []; all_are = append-nil all; made_are = refl; least_is = refl; fit = tt }
 
 pub one_made : (all left rest : List UnitRange) (made : List IndexedRange) (least : ℕ) (x : UnitRange) → IsMade all left made least → left ≡ rest ++ x ∷ []
-    → (n : ℕ) → n ≡ min least x.range.begin → IsMade all rest (made ++ record { unit_range = x; least_begin = n } ∷ []) n
-one_made all left rest made least x h e n is =
-    let now : n ≡ min (least_begin h.taken) x.range.begin = is ∙ ap (λ m. min m x.range.begin) h.least_is in
+    → (y : IndexedRange) → y.unit_range ≡ x → y.least_begin ≡ min least x.range.begin → EndFits x → IsMade all rest (made ++ y ∷ []) y.least_begin
+one_made all left rest made least x h e y same is small =
+    let now : y.least_begin ≡ min (least_begin h.taken) x.range.begin = is ∙ ap (λ m. min m x.range.begin) h.least_is in
     let last : IndexedRange = record { unit_range = x; least_begin = min (least_begin h.taken) x.range.begin } in
     record {
       taken = x ∷ h.taken;
       all_are = sym (append_assoc rest (x ∷ []) h.taken) ∙ ap (λ xs. xs ++ h.taken) (sym e) ∙ h.all_are;
-      made_are = ap (λ m. made ++ record { unit_range = x; least_begin = m } ∷ []) now ∙ ap (λ xs. xs ++ last ∷ []) h.made_are ∙ sym (reverse-append (last ∷ []) (with_least_begins h.taken));
+      made_are = ap (λ z. made ++ z ∷ []) (parts_are y last same now) ∙ ap (λ xs. xs ++ last ∷ []) h.made_are ∙ sym (reverse-append (last ∷ []) (with_least_begins h.taken));
       least_is = now;
+      fit = (small, h.fit);
     }
+  where
+    parts_are : (y z : IndexedRange) → y.unit_range ≡ z.unit_range → y.least_begin ≡ z.least_begin → y ≡ z
+    parts_are y z e f = ap (λ (r : UnitRange). record { unit_range = r; least_begin = y.least_begin }) e ∙ ap (λ n. record { unit_range = z.unit_range; least_begin = n }) f
+
+-- once none is left, all were taken
+pub all_fit : (all left : List UnitRange) (made : List IndexedRange) (least : ℕ) → left ≡ [] → IsMade all left made least → AllByRecursion EndFits all
+all_fit all left made least e h = subst (AllByRecursion EndFits) (sym (ap (λ xs. xs ++ h.taken) e) ∙ h.all_are) h.fit
 
 -- what stands beside ranges with their least begins
 pub ranges_beside : (ranges : List UnitRange) → map unit_range_of (with_least_begins ranges) ≡ ranges
@@ -99,7 +108,7 @@ abbrev pub ends_by : ℕ → IndexedRange → Bool
 ends_by low y = leb y.unit_range.range.end low
 
 -- from the first range on that ends past low, those that begin by the last address
-pub from_point : (low last : ℕ) (xs : List IndexedRange) (n : ℕ) → n ≤ length xs → IsPartitionPoint (λ y. ends_by low y ≡ true) (λ y. ends_by low y ≡ false) xs n
+from_point : (low last : ℕ) (xs : List IndexedRange) (n : ℕ) → n ≤ length xs → IsPartitionPoint (λ y. ends_by low y ≡ true) (λ y. ends_by low y ≡ false) xs n
     → filter (begins_by last) (map unit_range_of (drop n xs)) ≡ filter (is_between low last) (map unit_range_of xs)
 from_point low last [] zero le h = refl
 from_point low last [] (suc n) le h = refl
@@ -116,6 +125,14 @@ from_point low last (x ∷ xs) (suc n) le h =
     before : (b e : ℕ) → leb e low ≡ true → (nat_lt low e && nat_le b last) ≡ false
     before b e l = grind (arith, nat_tests)
 
+pub found_from : (low last : ℕ) (items xs ys : List IndexedRange) (n : ℕ) → xs ≡ items → ys ≡ items → n ≤ length xs → IsPartitionPoint (λ y. ends_by low y ≡ true) (λ y. ends_by low y ≡ false) xs n
+    → filter (begins_by last) (map unit_range_of (take (length ys - n) (drop n ys))) ≡ filter (is_between low last) (map unit_range_of items)
+found_from low last items xs ys n e f le h =
+    ap (λ zs. filter (begins_by last) (map unit_range_of zs)) (rest_is n ys items f)
+    ∙ ap (λ zs. filter (begins_by last) (map unit_range_of (drop n zs))) (sym e)
+    ∙ from_point low last xs n le h
+    ∙ ap (λ zs. filter (is_between low last) (map unit_range_of zs)) e
+
 -- the table of ranges that were put in order
 ok_is : (xs ys : List IndexedRange) → ◌≡◌ {A = Result (List IndexedRange) Error} (Ok xs) (Ok ys) → ys ≡ xs
 ok_is xs ys e = cc
@@ -123,10 +140,20 @@ ok_is xs ys e = cc
 pub given_is : (listed ordered : List UnitRange) (made : List IndexedRange) → ordered ≡ in_order ends_sooner listed → ◌≡◌ {A = Result (List IndexedRange) Error} (Ok (with_least_begins ordered)) (Ok made) → in_order ends_sooner listed ≡ map unit_range_of made
 given_is listed ordered made e h = sym e ∙ sym (ranges_beside ordered) ∙ sym (ap (map unit_range_of) (ok_is _ _ h))
 
-pub indexed_is : (listed ordered : List UnitRange) (made : List IndexedRange) → ordered ≡ in_order ends_sooner listed → ◌≡◌ {A = Result (List IndexedRange) Error} (Ok (with_least_begins ordered)) (Ok made) → AreIndexed made
-indexed_is listed ordered made e h =
+pub indexed_is : (listed ordered : List UnitRange) (made : List IndexedRange) → ordered ≡ in_order ends_sooner listed → ◌≡◌ {A = Result (List IndexedRange) Error} (Ok (with_least_begins ordered)) (Ok made) → AllByRecursion EndFits ordered → AreIndexed made
+indexed_is listed ordered made e h fit =
     let is = given_is listed ordered made e h in
     record {
       ordered = subst (IsInOrder ends_sooner) is (in_order_ordered ends_sooner ends_order listed);
       least = ok_is _ _ h ∙ ap with_least_begins (e ∙ is);
+      fit = subst (AllByRecursion EndFits) (e ∙ is) fit;
     }
+
+-- no range ends past the greatest address
+pub none_past_greatest : (low last : ℕ) → low ≡ 2 ^ 64 - 1 → (ranges : List UnitRange) → AllByRecursion EndFits ranges → filter (is_between low last) ranges ≡ []
+none_past_greatest low last e [] fit = refl
+none_past_greatest low last e (r ∷ ranges) fit =
+    ap (λ b. cond b (r ∷ filter (is_between low last) ranges) (filter (is_between low last) ranges)) (of_numbers r.range.begin r.range.end fit.0) ∙ none_past_greatest low last e ranges fit.1
+  where
+    of_numbers : (b d : ℕ) → d < 2 ^ 64 → (nat_lt low d && nat_le b last) ≡ false
+    of_numbers b d h = grind (arith, nat_tests)

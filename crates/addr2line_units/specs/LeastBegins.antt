@@ -1,5 +1,6 @@
 -- The least begins beside ranges in order, as the private functions see them.
-use Rattle.std.specs.Prelude.{ℕ, ◌≡◌, ◌-◌, ◌^◌, Bool, ◌&&◌, nat_le, nat_lt, min, List, [], ◌∷◌, map}
+use Rattle.std.specs.Prelude.{ℕ, ◌≡◌, ◌-◌, ◌<◌, ◌^◌, Bool, ◌&&◌, nat_le, nat_lt, min, List, [], ◌∷◌, map}
+use Rattle.std.specs.List.{AllByRecursion}
 use Rattle.addr2line_lines.specs.InOrder.{IsInOrder}
 use Rattle.addr2line_units.specs.declared.index.IndexedRange.{IndexedRange}
 use Rattle.addr2line_units.specs.declared.index.UnitRange.{UnitRange}
@@ -24,10 +25,15 @@ unit_range_of r = r.unit_range
 abbrev pub AreLeastBegins : List IndexedRange → Type 0
 AreLeastBegins ranges = ranges ≡ with_least_begins (map unit_range_of ranges)
 
+-- the range ends at or below the greatest address
+abbrev pub EndFits : UnitRange → Type 0
+EndFits r = r.range.end < 2 ^ 64
+
 -- the ranges are in order, and their least begins are right
 pub record AreIndexed (ranges : List IndexedRange) : Type 0 where
   pub ordered : IsInOrder ends_sooner (map unit_range_of ranges)
   pub least : AreLeastBegins ranges
+  pub fit : AllByRecursion EndFits (map unit_range_of ranges)
 
 -- the range begins at or below last
 abbrev pub begins_by : ℕ → UnitRange → Bool

@@ -1,10 +1,11 @@
 //! The ranges of a context's units, and the search for those that hold an address.
 
-ghost use Rattle.std.specs.Prelude.{◌≡◌, List, Ok, filter, length, map, nat_lt};
+ghost use Rattle.std.specs.Prelude.{◌≡◌, ◌-◌, ◌^◌, List, [], Ok, OnOk, filter, length, min, nat_lt};
+ghost use Rattle.std.specs.List.{AllByRecursion};
 ghost use Rattle.std.specs.Iterator.{YieldsFirst, item_count};
 ghost use Rattle.gimli_read.specs.Reading.{ExactlyUnlessOomIf};
 ghost use Rattle.addr2line_lines.specs.InOrder.{in_order};
-ghost use Rattle.addr2line_units.specs.LeastBegins.{is_between, with_least_begins};
+ghost use Rattle.addr2line_units.specs.LeastBegins.{EndFits, is_between, with_least_begins};
 ghost use Rattle.addr2line_units.specs.UnitIndex.{cover, cover_range, ends_sooner, range_covers, range_overlaps};
 
 use gimli::read::{Error, Range};
@@ -53,21 +54,33 @@ fn sort_ranges(ranges: &mut Vec<UnitRange>)
     ranges.sort_unstable_by_key(|r| (r.range.end, r.unit, r.range.begin));
 }
 
+// A range beside the least begin of it and of all after it.
+fn index_range(unit_range: UnitRange, least_after: u64) -> IndexedRange
+    ensures range { result.unit_range ≡ unit_range }
+    ensures least { result.least_begin ≡ min least_after unit_range.range.begin }
+    ensures fits { EndFits unit_range }
+{
+    let least_begin = least_after.min(unit_range.range.begin);
+    IndexedRange {
+        unit_range,
+        least_begin,
+    }
+}
+
 // Each range beside the least begin of it and of all after it.
 //
 // Refused `OutOfMemory` alone, and only where there is a range.
 fn add_least_begins(alloc: Global, mut ranges: Vec<UnitRange>) -> Result<Vec<IndexedRange>, Error>
     ensures gives { ExactlyUnlessOomIf (nat_lt 0 (length ranges.items)) (λ v. v.items) result
         (Ok (with_least_begins ranges.items)) }
+    ensures fits { OnOk result (AllByRecursion EndFits ranges.items) }
 {
     let mut indexed = Vec::with_capacity(alloc, ranges.len())?;
     let mut least_begin = u64::MAX;
     while let Some(unit_range) = ranges.pop() {
-        least_begin = least_begin.min(unit_range.range.begin);
-        indexed.push(IndexedRange {
-            unit_range,
-            least_begin,
-        })?;
+        let range = index_range(unit_range, least_begin);
+        least_begin = range.least_begin;
+        indexed.push(range)?;
     }
     indexed.reverse();
     Ok(indexed)
@@ -89,6 +102,7 @@ impl UnitRanges {
     // The ranges that end past `low` and begin at or below `last`, in order.
     fn find_between(&self, low: u64, last: u64) -> UnitRangeIter<'_>
         ensures gives { result ≡ filter (is_between low last) self.now }
+        ensures last { low ≡ 2 ^ 64 - 1 → result ≡ [] }
     {
         let first = self
             .ranges
@@ -123,6 +137,7 @@ impl UnitRanges {
         ensures gives { result ≡ filter (range_covers probe) self.now }
         ensures cover { (listed : List UnitRange) → self.now ≡ in_order ends_sooner listed
             → result ≡ cover probe listed }
+        ensures last { probe ≡ 2 ^ 64 - 1 → result ≡ [] }
     {
         self.find_between(probe, probe)
     }

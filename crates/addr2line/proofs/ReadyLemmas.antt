@@ -12,7 +12,8 @@ use Rattle.addr2line_lines.specs.InOrder.{in_order}
 use Rattle.addr2line_lines.specs.Location.{Location}
 use Rattle.addr2line_units.specs.declared.unit.LazyLines.{LazyLines}
 use Rattle.addr2line_units.specs.declared.unit.ResUnit.{ResUnit}
-use Rattle.addr2line_units.specs.UnitIndex.{UnitIndex, UnitRange, unit_index, ends_sooner, range_covers, cover}
+use Rattle.addr2line_units.specs.declared.index.UnitRange.{UnitRange}
+use Rattle.addr2line_units.specs.UnitIndex.{UnitIndex, unit_index, ends_sooner, range_covers, cover}
 use Rattle.addr2line_units.specs.Located.{location_in, location_along, location_of}
 use Rattle.addr2line_units.specs.CachedLines.{unit_index_of, StaysCached, CachesAnswer, lines_in_cache, is_uncached, range_holds, unit_holds}
 use Rattle.addr2line.specs.Context.{ContextState, has_parsed, decides, ready_along, IsReady, IsNotOom, AfterLookup, parsed_in}

@@ -12,7 +12,8 @@ use Rattle.gimli.specs.Sections.{Sections}
 use Rattle.gimli.specs.Unit.{UnitRecord}
 use Rattle.addr2line_lines.specs.Location.{Location}
 use Rattle.addr2line_units.specs.declared.unit.ResUnit.{ResUnit}
-use Rattle.addr2line_units.specs.UnitIndex.{UnitIndex, UnitRange, unit_index, cover}
+use Rattle.addr2line_units.specs.declared.index.UnitRange.{UnitRange}
+use Rattle.addr2line_units.specs.UnitIndex.{UnitIndex, unit_index, cover}
 use Rattle.addr2line_units.specs.Located.{location_in}
 use Rattle.addr2line_units.specs.CachedLines.{unit_index_of, HasLinesOf, lines_in_cache, is_uncached}
 

@@ -4,3 +4,5 @@ pub mod LegacyElements
 pub mod LegacyPlain
 pub mod LegacyProofs
 pub mod UnitLemmas
+pub mod IndexLemmas
+pub mod LeastBeginLemmas

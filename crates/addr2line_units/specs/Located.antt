@@ -9,7 +9,8 @@ use Rattle.gimli.specs.Sections.{Sections}
 use Rattle.gimli.specs.Unit.{UnitRecord}
 use Rattle.addr2line_lines.specs.Location.{Location, location_at}
 use Rattle.addr2line_lines.specs.UnitLines.{unit_lines}
-use Rattle.addr2line_units.specs.UnitIndex.{UnitRange, UnitIndex, unit_index, cover}
+use Rattle.addr2line_units.specs.declared.index.UnitRange.{UnitRange}
+use Rattle.addr2line_units.specs.UnitIndex.{UnitIndex, unit_index, cover}
 
 -- the location of the probe in a unit, or the fault of its lines
 abbrev pub location_in : Sections → ℕ → Option UnitRecord → Result (Option Location) Error

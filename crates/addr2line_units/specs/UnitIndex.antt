@@ -18,11 +18,7 @@ use Rattle.gimli.specs.Unit.{UnitRecord, unit_record_of}
 use Rattle.gimli.specs.UnitsLeft.{all_headers}
 use Rattle.addr2line_lines.specs.InOrder.{in_order}
 use Rattle.addr2line_lines.specs.RangeAttributes.{root_range_attributes, ranges_of}
-
--- a range that leads to a unit, by its index in the list of units
-pub record UnitRange : Type 0 where
-  pub unit : ℕ
-  pub range : Range
+use Rattle.addr2line_units.specs.declared.index.UnitRange.{UnitRange}
 
 -- the units, and the ranges that lead to them
 pub record UnitIndex : Type 0 where
@@ -96,3 +92,11 @@ range_covers probe r = nat_le r.range.begin probe && nat_lt probe r.range.end
 -- the ranges that hold the probe, in order
 abbrev pub cover : ℕ → List UnitRange → List UnitRange
 cover probe ranges = in_order ends_sooner (filter (range_covers probe) ranges)
+
+-- the range ends past low and begins below high
+abbrev pub range_overlaps : ℕ → ℕ → UnitRange → Bool
+range_overlaps low high r = nat_lt low r.range.end && nat_lt r.range.begin high
+
+-- the ranges that end past low and begin below high, in order; low may be above high
+abbrev pub cover_range : ℕ → ℕ → List UnitRange → List UnitRange
+cover_range low high ranges = in_order ends_sooner (filter (range_overlaps low high) ranges)

@@ -2,6 +2,7 @@
 #![tactic(auto)]
 
 pub mod frame;
+pub mod index;
 mod laws;
 mod legacy;
 pub mod unit;

@@ -1,0 +1,24 @@
+use Rattle.std.proofs.Common.{rules, List, ap, sym, subst, ◌∙◌, filter}
+use Rattle.std.specs.List.{AllByRecursion}
+use Rattle.std.proofs.lemmas.List.Sorted.{IsPartitionPoint-from_clause, IsPartitionedBy-leb}
+use Rattle.addr2line_units.specs.declared.index.IndexedRange.{IndexedRange}
+use Rattle.addr2line_units.specs.LeastBegins.{AreLeastBegins, EndFits, is_between}
+use Rattle.addr2line_units.proofs.LeastBeginLemmas.{EndsRise, dropped_least, ends_by, ends_rise, found_from, none_past_greatest, rest_is}
+use Rattle.addr2line_units.proofs.index.UnitRanges.find_between.Goals as goal
+
+pub invariant_of-result : goal.invariant_of-result
+invariant_of-result c =
+    let same = rest_is c.partition_point-first.result _ _ c.deref-2.ensures.value in
+    subst AreLeastBegins (sym same) (dropped_least c.partition_point-first.result _ c.self.invariant.least)
+
+pub returns : goal.returns
+returns c =
+    let low = c.args.low in
+    let last = c.args.last in
+    let items : List IndexedRange = c.self.inside.ranges.items in
+    let ordered = subst EndsRise (sym c.deref.ensures.value) (ends_rise items c.self.invariant.ordered) in
+    let parted = IsPartitionedBy-leb (λ (y : IndexedRange). y.unit_range.range.end) _ low ordered in
+    let point = IsPartitionPoint-from_clause (ends_by low) _ _ c.partition_point-first.ensures.partitioned parted (λ a r q k. search rules) in
+    let between = found_from low last items _ _ _ c.deref.ensures.value c.deref-2.ensures.value c.partition_point-first.ensures.bound point ∙ ap (filter (is_between low last)) c.self.view_is in
+    let fit = subst (AllByRecursion EndFits) c.self.view_is c.self.invariant.fit in
+    record { gives = between; last = λ e. between ∙ none_past_greatest low last e c.args.self.now fit }

@@ -1,0 +1,253 @@
+//! The ranges of a context's units, and the search for those that hold an address.
+
+ghost use Rattle.std.specs.Prelude.{◌≡◌, ◌-◌, ◌^◌, List, [], Ok, OnOk, filter, length, min, nat_lt};
+ghost use Rattle.std.specs.List.{AllByRecursion};
+ghost use Rattle.std.specs.Iterator.{YieldsFirst, item_count};
+ghost use Rattle.gimli_read.specs.Reading.{ExactlyUnlessOomIf};
+ghost use Rattle.addr2line_lines.specs.InOrder.{in_order};
+ghost use Rattle.addr2line_units.specs.LeastBegins.{EndFits, is_between, with_least_begins};
+ghost use Rattle.addr2line_units.specs.UnitIndex.{cover, cover_range, ends_sooner, range_covers, range_overlaps};
+
+use gimli::read::{Error, Range};
+use std::alloc::Global;
+use std::marker::Model;
+
+/// A range of addresses that leads to a unit.
+#[derive(Clone, Copy, Debug, PartialEq, Eq)]
+pub struct UnitRange {
+    /// The place of the unit in the list of units.
+    pub unit: usize,
+    /// The addresses.
+    pub range: Range,
+}
+
+// A range, and the least begin of it and of all after it.
+#[derive(Clone, Copy, Debug)]
+struct IndexedRange {
+    unit_range: UnitRange,
+    least_begin: u64,
+}
+
+/// The ranges of units, by end, then by unit, then by begin.
+#[derive(Drop)]
+pub struct UnitRanges {
+    ranges: Vec<IndexedRange>,
+}
+
+impl Model for UnitRanges {
+    ghost use Rattle.std.specs.Prelude.{List, map};
+    ghost use Rattle.addr2line_units.specs.LeastBegins.{AreIndexed, unit_range_of};
+    ghost use Rattle.addr2line_units.specs.declared.index.UnitRange.{UnitRange};
+
+    ghost Value = { List UnitRange };
+
+    ghost view = { λ t. map unit_range_of t.ranges.items };
+
+    ghost invariant = { λ t. AreIndexed t.ranges.items };
+}
+
+// Puts ranges in order of end, then unit, then begin.
+fn sort_ranges(ranges: &mut Vec<UnitRange>)
+    ensures gives { ranges.new.items ≡ in_order ends_sooner ranges.old.items }
+    ensures len { length ranges.new.items ≡ length ranges.old.items }
+{
+    ranges.sort_unstable_by_key(|r| (r.range.end, r.unit, r.range.begin));
+}
+
+// A range beside the least begin of it and of all after it.
+fn index_range(unit_range: UnitRange, least_after: u64) -> IndexedRange
+    ensures range { result.unit_range ≡ unit_range }
+    ensures least { result.least_begin ≡ min least_after unit_range.range.begin }
+    ensures fits { EndFits unit_range }
+{
+    let least_begin = least_after.min(unit_range.range.begin);
+    IndexedRange {
+        unit_range,
+        least_begin,
+    }
+}
+
+// Each range beside the least begin of it and of all after it.
+//
+// Refused `OutOfMemory` alone, and only where there is a range.
+fn add_least_begins(alloc: Global, mut ranges: Vec<UnitRange>) -> Result<Vec<IndexedRange>, Error>
+    ensures gives { ExactlyUnlessOomIf (nat_lt 0 (length ranges.items)) (λ v. v.items) result
+        (Ok (with_least_begins ranges.items)) }
+    ensures fits { OnOk result (AllByRecursion EndFits ranges.items) }
+{
+    let mut indexed = Vec::with_capacity(alloc, ranges.len())?;
+    let mut least_begin = u64::MAX;
+    while let Some(unit_range) = ranges.pop() {
+        let range = index_range(unit_range, least_begin);
+        least_begin = range.least_begin;
+        indexed.push(range)?;
+    }
+    indexed.reverse();
+    Ok(indexed)
+}
+
+impl UnitRanges {
+    /// The table of ranges that are listed in any order.
+    ///
+    /// Refused `OutOfMemory` alone, and only where there is a range.
+    pub fn new(alloc: Global, mut ranges: Vec<UnitRange>) -> Result<UnitRanges, Error>
+        ensures gives { ExactlyUnlessOomIf (nat_lt 0 (length ranges.items)) (λ t. t) result
+            (Ok (in_order ends_sooner ranges.items)) }
+    {
+        sort_ranges(&mut ranges);
+        let ranges = add_least_begins(alloc, ranges)?;
+        Ok(UnitRanges { ranges })
+    }
+
+    // The ranges that end past `low` and begin at or below `last`, in order.
+    fn find_between(&self, low: u64, last: u64) -> UnitRangeIter<'_>
+        ensures gives { result ≡ filter (is_between low last) self.now }
+        ensures last { low ≡ 2 ^ 64 - 1 → result ≡ [] }
+    {
+        let first = self
+            .ranges
+            .partition_point(|r| r.unit_range.range.end <= low);
+        UnitRangeIter {
+            ranges: &self.ranges[first..],
+            last,
+        }
+    }
+
+    /// The ranges that end past `low` and begin below `high`, in order. Takes no memory.
+    ///
+    /// `low` may be above `high`.
+    pub fn find_range(&self, low: u64, high: u64) -> UnitRangeIter<'_>
+        ensures gives { result ≡ filter (range_overlaps low high) self.now }
+        ensures cover { (listed : List UnitRange) → self.now ≡ in_order ends_sooner listed
+            → result ≡ cover_range low high listed }
+    {
+        match high.checked_sub(1) {
+            Some(last) => self.find_between(low, last),
+            None => UnitRangeIter {
+                ranges: &[],
+                last: 0,
+            },
+        }
+    }
+
+    /// The ranges that hold `probe`, in order. Takes no memory.
+    ///
+    /// None holds the greatest address, since none ends past it.
+    pub fn find(&self, probe: u64) -> UnitRangeIter<'_>
+        ensures gives { result ≡ filter (range_covers probe) self.now }
+        ensures cover { (listed : List UnitRange) → self.now ≡ in_order ends_sooner listed
+            → result ≡ cover probe listed }
+        ensures last { probe ≡ 2 ^ 64 - 1 → result ≡ [] }
+    {
+        self.find_between(probe, probe)
+    }
+}
+
+/// The ranges that a search finds, in the order of their table.
+#[derive(Drop)]
+pub struct UnitRangeIter<'a> {
+    ranges: &'a [IndexedRange],
+    // The last address at which a range may begin.
+    last: u64,
+}
+
+impl<'a> Model for UnitRangeIter<'a> {
+    ghost use Rattle.std.specs.Prelude.{List, filter, map};
+    ghost use Rattle.addr2line_units.specs.LeastBegins.{AreLeastBegins, begins_by, unit_range_of};
+    ghost use Rattle.addr2line_units.specs.declared.index.UnitRange.{UnitRange};
+
+    ghost Value = { List UnitRange };
+
+    ghost view = { λ i. filter (begins_by i.last) (map unit_range_of i.ranges.now) };
+
+    ghost invariant = { λ i. AreLeastBegins i.ranges.now };
+}
+
+impl<'a> Iterator for UnitRangeIter<'a> {
+    type Item = UnitRange;
+
+    ghost next_gives = { YieldsFirst (λ i. i) };
+
+    ghost remaining = { item_count (λ i. i) };
+
+    /// The next range. Takes no memory.
+    fn next(&mut self) -> Option<UnitRange> {
+        loop {
+            let (first, rest) = self.ranges.split_first()?;
+            // One range that begins too late ends no search: after [90, 95) stands [0, 100).
+            if first.least_begin > self.last {
+                return None;
+            }
+            self.ranges = rest;
+            if first.unit_range.range.begin <= self.last {
+                return Some(first.unit_range);
+            }
+        }
+    }
+}
+
+#[cfg(test)]
+mod tests {
+    use super::*;
+    use std::test::Fail;
+
+    // A range that leads to a unit, from `begin` to below `end`.
+    fn leads_to(unit: usize, begin: u64, end: u64) -> UnitRange {
+        UnitRange {
+            unit,
+            range: Range { begin, end },
+        }
+    }
+
+    fn table(alloc: Global, listed: &[UnitRange]) -> Result<UnitRanges, Error> {
+        let mut ranges = Vec::new(alloc);
+        ranges.extend_from_slice(listed)?;
+        UnitRanges::new(alloc, ranges)
+    }
+
+    // The unit of a range, 9 where there is none.
+    fn unit_code(range: Option<UnitRange>) -> usize {
+        match range {
+            Some(range) => range.unit,
+            None => 9,
+        }
+    }
+
+    // The units of the first three ranges.
+    fn unit_codes(mut ranges: UnitRangeIter<'_>) -> [usize; 3] {
+        let first = unit_code(ranges.next());
+        let second = unit_code(ranges.next());
+        [first, second, unit_code(ranges.next())]
+    }
+
+    // What four ranges and an address find among ranges that overlap.
+    fn found_among(ranges: &UnitRanges) -> [[usize; 3]; 5] {
+        [
+            unit_codes(ranges.find_range(20, 25)),
+            unit_codes(ranges.find_range(20, 20)),
+            unit_codes(ranges.find_range(25, 15)),
+            unit_codes(ranges.find_range(15, 12)),
+            unit_codes(ranges.find(20)),
+        ]
+    }
+
+    #[test]
+    fn ranges_are_found_in_order_of_their_ends(rt: HostRuntime) -> Result<(), Fail> {
+        let listed = [
+            leads_to(0, 0, 100),
+            leads_to(1, 10, 20),
+            leads_to(2, 20, 30),
+        ];
+        let ranges = table(rt.alloc(), &listed)?;
+        let want = [[2, 0, 9], [0, 9, 9], [0, 9, 9], [1, 0, 9], [2, 0, 9]];
+        assert_eq!(rt; found_among(&ranges), want);
+        Ok(())
+    }
+
+    #[test]
+    fn a_unit_of_two_such_ranges_is_found_twice(rt: HostRuntime) -> Result<(), Fail> {
+        let ranges = table(rt.alloc(), &[leads_to(0, 0, 40), leads_to(0, 5, 50)])?;
+        assert_eq!(rt; unit_codes(ranges.find(6)), [0, 0, 9]);
+        Ok(())
+    }
+}

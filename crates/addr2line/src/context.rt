@@ -57,8 +57,19 @@ impl<R: Reader> Context<R> {
             (context_of dwarf) }
         ensures unread { IfOk result (λ c. c.parsed ≡ []) }
     {
-        let units = ResUnits::parse(alloc, &dwarf)?;
         let dwarf = Rc::new(alloc, dwarf)?;
+        Context::from_arc_dwarf(alloc, dwarf)
+    }
+
+    /// A context of the sections of a file that others may hold too.
+    ///
+    /// Refused as `from_dwarf` is.
+    pub fn from_arc_dwarf(alloc: Global, dwarf: Rc<Dwarf<R>>) -> Result<Context<R>, Error>
+        ensures gives { ExactlyUnlessOom (λ c. c.sections) result
+            (context_of dwarf.value) }
+        ensures unread { IfOk result (λ c. c.parsed ≡ []) }
+    {
+        let units = ResUnits::parse(alloc, &dwarf)?;
         Ok(Context {
             alloc,
             dwarf,

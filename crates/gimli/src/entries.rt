@@ -104,6 +104,7 @@ impl<'a, R: Reader> EntriesRaw<'a, R> {
     }
 
     // Reads the code of the next entry. After a refusal the reading may stand anywhere.
+    #[inline(always)]
     #[tactic(auto, unfolding(crate::specs::Entry::entry_abbreviation_at), using(crate::proofs::EntryLemmas::code_takes, crate::proofs::EntryLemmas::entry_in_unit, crate::proofs::EntryLemmas::closing_in_unit, crate::proofs::EntryLemmas::still_in_unit, crate::proofs::EntryLemmas::next_fits))]
     fn read_code(&mut self) -> Result<Option<&'a Abbreviation>, Error>
         ensures gives { Exactly (λ a. (option_map (λ r. r.now) a, self.new.cursor)) result
@@ -129,6 +130,7 @@ impl<'a, R: Reader> EntriesRaw<'a, R> {
     /// Refused `UnexpectedEof` and `BadLeb128` for the code, and `UnknownAbbreviation` where the
     /// unit's table hasn't it. After a refusal nothing is left to read. Takes no memory.
     /// Source: DWARF 5, section 7.5.2.
+    #[inline(always)]
     #[tactic(auto, using(crate::proofs::EntryLemmas::still_in_unit))]
     pub fn read_abbreviation(&mut self) -> Result<Option<&'a Abbreviation>, Error>
         ensures gives { Exactly (λ a. (option_map (λ r. r.now) a, self.new.cursor)) result
@@ -200,6 +202,7 @@ impl<'a, R: Reader> EntriesRaw<'a, R> {
     /// once where their forms alone say how many bytes they have. Takes no memory.
     ///
     /// Refused as `skip_attributes` is. After a refusal nothing is left to read.
+    #[inline(always)]
     #[tactic(auto, using(gimli_read::proofs::SkipLemmas::attributes_leave, crate::proofs::EntryLemmas::still_in_unit))]
     pub fn skip_attributes_of(&mut self, abbreviation: &Abbreviation) -> Result<(), Error>
         ensures gives { Exactly (λ _. self.new.cursor.left) result (rest_of (attributes_at

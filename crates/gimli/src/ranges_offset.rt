@@ -2,15 +2,14 @@
 
 ghost use Rattle.std.specs.Prelude.{◌≡◌};
 ghost use Rattle.gimli_read.specs.Form.{seen_value};
-ghost use Rattle.gimli_read.specs.Number.{offset_size};
 ghost use Rattle.gimli_read.specs.Reading.{Exactly};
-ghost use Rattle.gimli.specs.Record.{line_offset};
 ghost use Rattle.gimli.specs.RangesOffset.{offset_from_base, ranges_base, rnglists_offset, offset_with_base, ranges_offset_of};
 
 use crate::dwarf::{Dwarf, DwarfFileType};
-use crate::text::read_indexed_number;
+use crate::record::line_offset;
+use crate::text::{read_indexed_number, size_of_offset};
 use crate::unit_record::Unit;
-use gimli_read::{AttributeValue, Encoding, Error, Format, Reader};
+use gimli_read::{AttributeValue, Error, Reader};
 
 // An offset that counts from a base.
 fn offset_from_base(base: u64, offset: u64) -> Result<Option<u64>, Error>
@@ -38,16 +37,6 @@ fn ranges_base<R: Reader>(file_type: DwarfFileType, unit: &Unit<R>) -> u64
     }
 }
 
-// How many bytes an offset has.
-fn offset_size(format: Format) -> u8
-    ensures gives { result ≡ offset_size format }
-{
-    match format {
-        Format::Dwarf32 => 4,
-        Format::Dwarf64 => 8,
-    }
-}
-
 // The offset of a list by its index in the unit's table of offsets.
 fn rnglists_offset<R: Reader>(
     dwarf: &Dwarf<R>,
@@ -56,34 +45,10 @@ fn rnglists_offset<R: Reader>(
 ) -> Result<Option<u64>, Error>
     ensures gives { Exactly (λ n. n) result (rnglists_offset dwarf.now unit.now index) }
 {
-    let size = offset_size(unit.header.encoding.format);
+    let size = size_of_offset(unit.header.encoding.format);
     let base = unit.rnglists_base;
     let offset = read_indexed_number(&dwarf.debug_rnglists.section, size, base, index)?;
     offset_from_base(base, offset)
-}
-
-// A value of the class section offset under DW_AT_ranges, without its base.
-fn section_offset<R: Reader>(encoding: Encoding, value: &AttributeValue<R>) -> Option<u64>
-    ensures gives { result ≡ line_offset encoding (seen_value R.section value.now) }
-{
-    match value {
-        AttributeValue::SecOffset(offset) => Some(*offset),
-        AttributeValue::Data4(offset) => {
-            if encoding.version <= 3 && encoding.format == Format::Dwarf32 {
-                Some(u64::from(*offset))
-            } else {
-                None
-            }
-        }
-        AttributeValue::Data8(offset) => {
-            if encoding.version <= 3 && encoding.format == Format::Dwarf64 {
-                Some(*offset)
-            } else {
-                None
-            }
-        }
-        _ => None,
-    }
 }
 
 // A section offset, if it is one, with its base.
@@ -113,6 +78,6 @@ pub(crate) fn read_ranges_offset<R: Reader>(
 {
     match value {
         AttributeValue::DebugRngListsIndex(index) => rnglists_offset(dwarf, unit, *index),
-        _ => offset_with_base(dwarf, unit, section_offset(unit.header.encoding, value)),
+        _ => offset_with_base(dwarf, unit, line_offset(unit.header.encoding, value)),
     }
 }

@@ -78,8 +78,9 @@ fn section_offset<R: Reader>(value: &AttributeValue<R>) -> Option<u64>
     }
 }
 
-// A value of the class section offset under stmt_list.
-fn line_offset<R: Reader>(encoding: Encoding, value: &AttributeValue<R>) -> Option<u64>
+/// A value of the class section offset under DW_AT_stmt_list or DW_AT_ranges, which up to version 3
+/// may be a constant as wide as an offset.
+pub(crate) fn line_offset<R: Reader>(encoding: Encoding, value: &AttributeValue<R>) -> Option<u64>
     ensures gives { result ≡ line_offset encoding (seen_value R.section value.now) }
 {
     match value {

@@ -53,8 +53,8 @@ fn read_string_at<R: Reader>(section: &R, offset: u64) -> Result<R, Error>
     Ok(string)
 }
 
-// How many bytes an offset has.
-fn size_of_offset(format: Format) -> u8
+/// How many bytes an offset has.
+pub(crate) fn size_of_offset(format: Format) -> u8
     ensures gives { result ≡ offset_size format }
 {
     match format {

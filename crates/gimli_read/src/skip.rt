@@ -2,15 +2,19 @@
 
 ghost use Rattle.std.specs.Prelude.{◌≡◌, OnErr};
 ghost use Rattle.gimli_read.specs.Reading.{Exactly};
+ghost use Rattle.gimli_read.specs.Number.{null_terminated_at};
+ghost use Rattle.gimli_read.specs.Leb128.{uleb128_at};
+ghost use Rattle.gimli_read.specs.FormEncoding.{form_encoding_of, block_at};
 ghost use Rattle.gimli_read.specs.Form.{rest_of, attribute_at, attributes_at};
 ghost use Rattle.gimli_read.specs.SizedRuns.{run_rest, rest_after_runs};
-ghost use Rattle.gimli_read.specs.Skip.{rest_after, IsStillToSkip};
+ghost use Rattle.gimli_read.specs.Skip.{encoded_end, rest_after, IsStillToSkip};
 
 use crate::abbrev::{Abbreviation, AttributeSpecification, SizedRun};
+use crate::constants::DwForm;
 use crate::endian::Encoding;
 use crate::endian_slice::EndianSlice;
 use crate::error::Error;
-use crate::reader::Reader;
+use crate::reader::{Reader, zero_of};
 use crate::size::{TotalSize, address_bytes};
 use crate::value::read_attribute;
 
@@ -43,6 +47,89 @@ pub fn skip_attribute<R: Reader>(
     input.skip(taken)
 }
 
+// What says where a value of variable size ends.
+#[derive(Clone, Copy)]
+enum ValueEnd {
+    // The last byte of an unsigned LEB128 number.
+    Number,
+    // An unsigned LEB128 number before it: how many bytes follow.
+    Block,
+    // A zero byte.
+    Text,
+    // Something else.
+    Other,
+}
+
+// What says where a value of a form ends.
+#[inline(always)]
+#[tactic(auto, unfolding(crate::specs::FormEncoding::form_encoding_of))]
+fn end_of_form(form: DwForm) -> ValueEnd
+    ensures gives { result ≡ encoded_end (form_encoding_of form.0) }
+{
+    match form {
+        DwForm::DW_FORM_addrx
+        | DwForm::DW_FORM_GNU_addr_index
+        | DwForm::DW_FORM_udata
+        | DwForm::DW_FORM_loclistx
+        | DwForm::DW_FORM_rnglistx
+        | DwForm::DW_FORM_strx
+        | DwForm::DW_FORM_GNU_str_index
+        | DwForm::DW_FORM_ref_udata => ValueEnd::Number,
+        DwForm::DW_FORM_block | DwForm::DW_FORM_exprloc => ValueEnd::Block,
+        DwForm::DW_FORM_string => ValueEnd::Text,
+        _ => ValueEnd::Other,
+    }
+}
+
+// Passes over a text, and the zero byte that ends it.
+#[inline(always)]
+fn skip_text(bytes: &mut EndianSlice<'_>) -> Result<(), Error>
+    ensures gives { Exactly (λ _. bytes.new) result (rest_of (null_terminated_at bytes.old)) }
+{
+    match zero_of(bytes.to_slice()) {
+        None => Err(Error::UnexpectedEof),
+        Some(len) => bytes.skip(len as u64 + 1),
+    }
+}
+
+// Passes over a length, and as many bytes.
+#[inline(always)]
+fn skip_block(bytes: &mut EndianSlice<'_>) -> Result<(), Error>
+    ensures gives { Exactly (λ _. bytes.new) result (rest_of (block_at (uleb128_at bytes.old))) }
+{
+    let len = bytes.read_uleb128()?;
+    bytes.skip(len)
+}
+
+// Passes over an attribute. Where its form is one of the frequent ones of variable size, no value
+// is made.
+#[inline(always)]
+#[tactic(auto, using(crate::proofs::SkipLemmas::number_left, crate::proofs::SkipLemmas::block_left, crate::proofs::SkipLemmas::text_left))]
+fn skip_value(
+    bytes: &mut EndianSlice<'_>,
+    encoding: Encoding,
+    specification: &AttributeSpecification,
+) -> Result<(), Error>
+    ensures gives { Exactly (λ _. bytes.new) result
+        (rest_of (attribute_at encoding specification.now bytes.old)) }
+{
+    match end_of_form(specification.form()) {
+        ValueEnd::Number => {
+            bytes.read_uleb128()?;
+            Ok(())
+        }
+        ValueEnd::Block => skip_block(bytes),
+        ValueEnd::Text => skip_text(bytes),
+        ValueEnd::Other => {
+            // By a reader of its own, so that `bytes` need not stand in memory.
+            let mut rest = bytes.duplicate()?;
+            read_attribute(&mut rest, encoding, *specification)?;
+            *bytes = rest;
+            Ok(())
+        }
+    }
+}
+
 // Passes over `run` bytes and an attribute, but for those bytes at their end whose number is known:
 // gives how many these are.
 fn skip_next(
@@ -60,11 +147,12 @@ fn skip_next(
         }
     }
     bytes.skip(run)?;
-    read_attribute(bytes, encoding, specification)?;
+    skip_value(bytes, encoding, &specification)?;
     Ok(0)
 }
 
 // Passes over attributes. Those of known sizes that follow one another are passed over together.
+#[inline(never)]
 fn skip_each(
     bytes: &mut EndianSlice<'_>,
     encoding: Encoding,
@@ -103,15 +191,16 @@ pub fn skip_attributes<R: Reader>(
 }
 
 // Passes over a run.
-fn skip_run(bytes: &mut EndianSlice<'_>, encoding: Encoding, run: SizedRun) -> Result<(), Error>
-    ensures gives { Exactly (λ _. bytes.new) result (run_rest encoding run bytes.old) }
+#[inline(always)]
+fn skip_run(bytes: &mut EndianSlice<'_>, encoding: Encoding, run: &SizedRun) -> Result<(), Error>
+    ensures gives { Exactly (λ _. bytes.new) result (run_rest encoding run.now bytes.old) }
 {
     bytes.skip(run.size.bytes(encoding))?;
-    read_attribute(bytes, encoding, run.next)?;
-    Ok(())
+    skip_value(bytes, encoding, &run.next)
 }
 
 // Passes over runs, and as many bytes after them as attributes of known sizes have.
+#[inline(always)]
 fn skip_runs(
     bytes: &mut EndianSlice<'_>,
     encoding: Encoding,
@@ -122,12 +211,13 @@ fn skip_runs(
         (rest_after_runs encoding runs.now last bytes.old) }
 {
     for run in runs {
-        skip_run(bytes, encoding, *run)?;
+        skip_run(bytes, encoding, run)?;
     }
     bytes.skip(last.bytes(encoding))
 }
 
 // Passes over the attributes of an abbreviation.
+#[inline(always)]
 fn skip_all(
     bytes: &mut EndianSlice<'_>,
     encoding: Encoding,
@@ -141,7 +231,13 @@ fn skip_all(
             let (runs, last) = abbreviation.runs();
             skip_runs(bytes, encoding, runs, last)
         }
-        None => skip_each(bytes, encoding, abbreviation.attributes()),
+        None => {
+            // As in `skip_value`.
+            let mut rest = bytes.duplicate()?;
+            skip_each(&mut rest, encoding, abbreviation.attributes())?;
+            *bytes = rest;
+            Ok(())
+        }
     }
 }
 
@@ -149,6 +245,7 @@ fn skip_all(
 /// known sizes together and without looking at each. Takes no memory.
 ///
 /// Refused as `skip_attributes` is, and leaves the reader where it stood then.
+#[inline(always)]
 #[tactic(auto, using(crate::proofs::SkipLemmas::attributes_skipped, crate::proofs::SkipLemmas::attributes_leave))]
 pub fn skip_attributes_of<R: Reader>(
     input: &mut R,

@@ -1,6 +1,6 @@
 //! The lines of a unit.
 
-ghost use Rattle.std.specs.Prelude.{◌≡◌, ◌+◌, ◌≤◌, Ok, length, map, slice_get, option_map};
+ghost use Rattle.std.specs.Prelude.{◌≡◌, ◌+◌, ◌<◌, ◌≤◌, IfSome, Ok, length, map, slice_get, option_map};
 ghost use Rattle.std.specs.Option.{option_copied};
 ghost use Rattle.std.specs.List.{AllByRecursion};
 ghost use Rattle.std.specs.String.{string_bytes};
@@ -113,6 +113,7 @@ impl Lines {
         ensures found { result ≡ row_at probe self.now.sequences }
         ensures cost { looks.new ≤ looks.old + most_looks_in self.now }
         ensures raised { looks.old ≤ looks.new }
+        ensures counted { IfSome result (λ row. looks.old < looks.new) }
     {
         self.packed.known();
         let mut rows = CountedRows {
@@ -142,11 +143,13 @@ impl Lines {
     ///
     /// `looks` is raised by one with each look at a sequence, at the first address of a block of 64
     /// rows, and at a row: together at most by the number of binary digits of the number of
-    /// sequences, that of the number of blocks, and 64.
+    /// sequences, that of the number of blocks, and 64, and by one at least where there is a
+    /// location.
     pub fn find_location_counted(&self, looks: &mut Count, probe: u64) -> Option<Location<'_>>
         ensures found { option_map seen_location result ≡ location_at probe self.now }
         ensures cost { looks.new ≤ looks.old + most_looks_in self.now }
         ensures raised { looks.old ≤ looks.new }
+        ensures counted { IfSome result (λ location. looks.old < looks.new) }
     {
         Some(row_location(&self.files, self.find_row(looks, probe)?))
     }

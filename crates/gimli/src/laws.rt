@@ -1,6 +1,6 @@
 //! Laws of units and their items: functions with a contract and no code.
 
-ghost use Rattle.gimli.specs.ItemLaws.{UnitsCover, EntriesFollowHeaders, ItemsCover, ItemsAlone, SubtreesLieDeeper};
+ghost use Rattle.gimli.specs.ItemLaws.{UnitsCover, EntriesFollowHeaders, ItemsCover, ItemsAlone, SubtreesLieDeeper, SubtreesClose};
 
 /// A section that is read to its end is the texts of its units, one after another, and in the text
 /// of a unit its entries follow its header.
@@ -10,9 +10,11 @@ pub fn unit_laws()
 {}
 
 /// The entries of a unit that are read to its end are the texts of its items, one after another, and
-/// of no others; the items between an item and the end of its subtree lie deeper than it.
+/// of no others; the items between an item and the end of its subtree lie deeper than it, and after
+/// the subtree the depth is its own again.
 pub fn item_laws()
     ensures cover { ItemsCover }
     ensures alone { ItemsAlone }
     ensures deeper { SubtreesLieDeeper }
+    ensures close { SubtreesClose }
 {}

@@ -1,13 +1,13 @@
 //! The lines of a unit.
 
-ghost use Rattle.std.specs.Prelude.{◌≡◌, ◌+◌, ◌<◌, ◌≤◌, IfSome, Ok, length, map, slice_get, option_map};
+ghost use Rattle.std.specs.Prelude.{◌≡◌, ◌+◌, ◌<◌, ◌≤◌, [], IfSome, Ok, is_some, length, map, slice_get, option_map};
 ghost use Rattle.std.specs.Option.{option_copied};
 ghost use Rattle.std.specs.List.{AllByRecursion};
 ghost use Rattle.std.specs.String.{string_bytes};
 ghost use Rattle.addr2line_lines.specs.Packed.{IsAmong, packed_rows_in, unpacked};
 ghost use Rattle.addr2line_lines.specs.Counts.{most_looks_in};
 ghost use Rattle.addr2line_lines.specs.RangeLocations.{locations_in_range, sequence_ranges};
-ghost use Rattle.gimli_read.specs.Reading.{IsUnlessOom};
+ghost use Rattle.gimli_read.specs.Reading.{ExactlyUnlessOomIf, IsUnlessOom};
 ghost use Rattle.addr2line_lines.specs.UnitLines.{program_lines, unit_lines};
 ghost use Rattle.addr2line_lines.specs.Location.{location_at};
 ghost use Rattle.addr2line_lines.specs.SeenLocation.{seen_location};
@@ -87,17 +87,27 @@ fn read_program<R: Reader>(
 }
 
 impl Lines {
+    // No lines. Takes no memory.
+    fn none(alloc: Global) -> Lines
+        ensures gives { result ≡ record { files = []; sequences = [] } }
+    {
+        Lines {
+            files: Vec::new(alloc),
+            packed: PackedRows::none(alloc),
+        }
+    }
+
     /// The lines of a unit: its program is run, and the texts of its files are made.
     ///
     /// Refused by the program's fault, else by the first text of a file, by index, that can't be
-    /// read, and `OutOfMemory`. A unit without a line program has no lines.
+    /// read, and `OutOfMemory`. A unit without a line program has no lines, and takes no memory.
     pub fn parse<R: Reader>(alloc: Global, dwarf: &Dwarf<R>, unit: &Unit<R>) -> Result<Lines, Error>
-        ensures gives { IsUnlessOom result
+        ensures gives { ExactlyUnlessOomIf (is_some unit.now.line_program) (λ lines. lines) result
             (unit_lines dwarf.now unit.now) }
     {
         match &unit.line_program {
             Some(program) => read_program(alloc, dwarf, unit, program),
-            None => make_lines(alloc, Vec::new(alloc), UnitRows::new(alloc)),
+            None => Ok(Lines::none(alloc)),
         }
     }
 

@@ -9,9 +9,10 @@ pub fn unit_laws()
     ensures entries { EntriesFollowHeaders }
 {}
 
-/// The entries of a unit that are read to its end are the texts of its items, one after another, and
-/// of no others; the items between an item and the end of its subtree lie deeper than it, and after
-/// the subtree the depth is its own again.
+/// The entries of a unit that are read to its end are the texts of its items, one after another,
+/// and of no others. The items between an item and the end of its subtree lie deeper than it. After
+/// the subtree of an entry the depth is its own again; where no items end it, the fault is theirs,
+/// or `UnexpectedEof`.
 pub fn item_laws()
     ensures cover { ItemsCover }
     ensures alone { ItemsAlone }

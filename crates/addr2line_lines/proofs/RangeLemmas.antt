@@ -1,11 +1,11 @@
 -- Range attributes, one at a time (on specs/RangeAttributes.antt).
-use Rattle.std.proofs.Common.{◌≡◌, ℕ, ◌+◌, ◌<◌, ◌≤◌, List, ◌∷◌, length, drop, get_or, Result, Ok, Err, refl, ap, ◌∙◌}
+use Rattle.std.proofs.Common.{◌≡◌, ℕ, ◌+◌, ◌<◌, ◌≤◌, Bool, List, ◌∷◌, length, drop, get_or, Result, Ok, Err, refl, ap, ◌∙◌}
 use Rattle.std.proofs.lemmas.List.{at_drop_more, at_drop_all}
 use Rattle.gimli_read.specs.declared.error.Error.{Error}
 use Rattle.gimli_read.specs.declared.endian.Encoding.{Encoding}
 use Rattle.gimli_read.specs.Abbreviations.{Specification}
 use Rattle.gimli_read.specs.Section.{Section}
-use Rattle.gimli_read.specs.Reading.{Reading, ◌>>=◌, IsUnlessOom}
+use Rattle.gimli_read.specs.Reading.{Reading, ◌>>=◌, ExactlyUnlessOomIf}
 use Rattle.gimli_read.specs.Form.{NamedValue, attribute_at}
 use Rattle.gimli.specs.Sections.{Sections}
 use Rattle.gimli.specs.Entry.{attributes_at}
@@ -38,6 +38,6 @@ module _ (d : Sections) (u : UnitRecord) (e : Encoding) (r : Result RangeAttribu
   range_attributes-end s h = at_drop_all (λ ys. range_attributes_after d u r (attributes_at e ys s)) xs i h
 
 -- an answer that is what is given
-pub is_unless_oom : {X : Type 0} (result given : Result X Error) → given ≡ result → IsUnlessOom result given
-is_unless_oom (Ok x) given e = e
-is_unless_oom (Err f) given e = λ _. e
+pub is_unless_oom : {X : Type 0} (may : Bool) (result given : Result X Error) → given ≡ result → ExactlyUnlessOomIf may (λ x. x) result given
+is_unless_oom may (Ok x) given e = e
+is_unless_oom may (Err f) given e = λ _. e

@@ -2,7 +2,7 @@
 
 ghost use Rattle.std.specs.Prelude.{◌≡◌, [], ◌∷◌, Ok};
 ghost use Rattle.std.specs.Option.{option_to_list};
-ghost use Rattle.gimli_read.specs.Reading.{Exactly, IsUnlessOom};
+ghost use Rattle.gimli_read.specs.Reading.{Exactly, ExactlyUnlessOomIf};
 ghost use Rattle.gimli_read.specs.Form.{seen_value};
 ghost use Rattle.gimli.specs.Entry.{attributes_at};
 ghost use Rattle.addr2line_lines.specs.RangeAttributes.{attr_address, no_range_attributes, with_range_attribute, or_with_range_attribute, range_attributes_after, root_range_attributes, range_between, range_to, ranges_of};
@@ -130,8 +130,8 @@ fn read_ranges<R: Reader>(
     specifications: &[AttributeSpecification],
 ) -> Result<RangeAttributes, Error>
     requires encoding { entries.old.unit.encoding ≡ unit.unit.now.header.encoding }
-    ensures gives { IsUnlessOom result (range_attributes_after unit.entry.dwarf.now
-        unit.entry.unit.now (Ok no_range_attributes)
+    ensures gives { ExactlyUnlessOomIf R.shares (λ r. r) result (range_attributes_after
+        unit.entry.dwarf.now unit.entry.unit.now (Ok no_range_attributes)
         (attributes_at unit.entry.unit.now.header.encoding specifications.now
         entries.old.cursor.left)) }
 {
@@ -147,10 +147,10 @@ fn read_ranges<R: Reader>(
 ///
 /// Refused by the entry's code and its values in their order, `MissingUnitDie` at a closing entry,
 /// then by the first index of an address that isn't wholly in its section; may fail with
-/// `OutOfMemory` instead.
+/// `OutOfMemory` instead, where bytes are shared.
 #[tactic(auto, unfolding(gimli::specs::Entry::root_attributes))]
 pub fn read_root_ranges<R: Reader>(unit: UnitRef<'_, R>) -> Result<RangeAttributes, Error>
-    ensures gives { IsUnlessOom result
+    ensures gives { ExactlyUnlessOomIf R.shares (λ r. r) result
         (root_range_attributes unit.entry.dwarf.now unit.entry.unit.now) }
 {
     let mut entries = unit.entries_raw(None)?;

@@ -1,13 +1,13 @@
 //! The lines of a unit.
 
-ghost use Rattle.std.specs.Prelude.{◌≡◌, ◌+◌, ◌≤◌, Ok, length, map, slice_get, option_map};
+ghost use Rattle.std.specs.Prelude.{◌≡◌, ◌+◌, ◌<◌, ◌≤◌, [], IfSome, Ok, is_some, length, map, slice_get, option_map};
 ghost use Rattle.std.specs.Option.{option_copied};
 ghost use Rattle.std.specs.List.{AllByRecursion};
 ghost use Rattle.std.specs.String.{string_bytes};
 ghost use Rattle.addr2line_lines.specs.Packed.{IsAmong, packed_rows_in, unpacked};
 ghost use Rattle.addr2line_lines.specs.Counts.{most_looks_in};
 ghost use Rattle.addr2line_lines.specs.RangeLocations.{locations_in_range, sequence_ranges};
-ghost use Rattle.gimli_read.specs.Reading.{IsUnlessOom};
+ghost use Rattle.gimli_read.specs.Reading.{ExactlyUnlessOomIf, IsUnlessOom};
 ghost use Rattle.addr2line_lines.specs.UnitLines.{program_lines, unit_lines};
 ghost use Rattle.addr2line_lines.specs.Location.{location_at};
 ghost use Rattle.addr2line_lines.specs.SeenLocation.{seen_location};
@@ -87,17 +87,27 @@ fn read_program<R: Reader>(
 }
 
 impl Lines {
+    // No lines. Takes no memory.
+    fn none(alloc: Global) -> Lines
+        ensures gives { result ≡ record { files = []; sequences = [] } }
+    {
+        Lines {
+            files: Vec::new(alloc),
+            packed: PackedRows::none(alloc),
+        }
+    }
+
     /// The lines of a unit: its program is run, and the texts of its files are made.
     ///
     /// Refused by the program's fault, else by the first text of a file, by index, that can't be
-    /// read, and `OutOfMemory`. A unit without a line program has no lines.
+    /// read, and `OutOfMemory`. A unit without a line program has no lines, and takes no memory.
     pub fn parse<R: Reader>(alloc: Global, dwarf: &Dwarf<R>, unit: &Unit<R>) -> Result<Lines, Error>
-        ensures gives { IsUnlessOom result
+        ensures gives { ExactlyUnlessOomIf (is_some unit.now.line_program) (λ lines. lines) result
             (unit_lines dwarf.now unit.now) }
     {
         match &unit.line_program {
             Some(program) => read_program(alloc, dwarf, unit, program),
-            None => make_lines(alloc, Vec::new(alloc), UnitRows::new(alloc)),
+            None => Ok(Lines::none(alloc)),
         }
     }
 
@@ -113,6 +123,7 @@ impl Lines {
         ensures found { result ≡ row_at probe self.now.sequences }
         ensures cost { looks.new ≤ looks.old + most_looks_in self.now }
         ensures raised { looks.old ≤ looks.new }
+        ensures counted { IfSome result (λ row. looks.old < looks.new) }
     {
         self.packed.known();
         let mut rows = CountedRows {
@@ -142,11 +153,13 @@ impl Lines {
     ///
     /// `looks` is raised by one with each look at a sequence, at the first address of a block of 64
     /// rows, and at a row: together at most by the number of binary digits of the number of
-    /// sequences, that of the number of blocks, and 64.
+    /// sequences, that of the number of blocks, and 64, and by one at least where there is a
+    /// location.
     pub fn find_location_counted(&self, looks: &mut Count, probe: u64) -> Option<Location<'_>>
         ensures found { option_map seen_location result ≡ location_at probe self.now }
         ensures cost { looks.new ≤ looks.old + most_looks_in self.now }
         ensures raised { looks.old ≤ looks.new }
+        ensures counted { IfSome result (λ location. looks.old < looks.new) }
     {
         Some(row_location(&self.files, self.find_row(looks, probe)?))
     }

@@ -1,6 +1,6 @@
 //! The rows and the sequences of a unit, as they are searched.
 
-ghost use Rattle.std.specs.Prelude.{◌≡◌, ◌<◌, ◌^◌, length, slice_get, Some, IfOk, OnOk, OnErr};
+ghost use Rattle.std.specs.Prelude.{◌≡◌, [], ◌<◌, ◌^◌, length, slice_get, Some, IfOk, OnOk, OnErr};
 ghost use Rattle.std.specs.List.{AllByRecursion};
 ghost use Rattle.addr2line_lines.specs.InOrder.{in_order};
 ghost use Rattle.addr2line_lines.specs.Packed.{AreBlocks, IsAmong, address_at, IsTable, packed_rows_in, packed_sooner};
@@ -64,6 +64,20 @@ fn sort_sequences(sequences: &mut Vec<LineSequence>) -> Result<(), AllocError>
 }
 
 impl PackedRows {
+    /// No rows and no sequences. Takes no memory.
+    pub(crate) fn none(alloc: Global) -> PackedRows
+        ensures rows { result.rows ≡ [] }
+        ensures listed { result.listed ≡ [] }
+    {
+        let sequences = Vec::new(alloc);
+        PackedRows {
+            rows: Columns::new(alloc),
+            coarse: Vec::new(alloc),
+            listed: Snapshot::of(&sequences),
+            sequences,
+        }
+    }
+
     /// Rows and sequences, which are put in order. Fails only where a growth is refused.
     pub(crate) fn new(alloc: Global, unit: UnitRows) -> Result<PackedRows, AllocError>
         requires among { AllByRecursion (IsAmong unit.rows) unit.sequences.items }

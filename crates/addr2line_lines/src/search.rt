@@ -1,6 +1,6 @@
 //! The search for the row of an address, in any table whose reads count.
 
-ghost use Rattle.std.specs.Prelude.{◌≡◌, ℕ, ◌+◌, ◌-◌, ◌*◌, ◌%◌, ◌<◌, ◌≤◌, ◌^◌, List, length, map, Some, slice_get};
+ghost use Rattle.std.specs.Prelude.{◌≡◌, ℕ, ◌+◌, ◌-◌, ◌*◌, ◌%◌, ◌<◌, ◌≤◌, ◌^◌, List, length, map, IfSome, Some, slice_get};
 ghost use Rattle.gimli_read.specs.Topmost.{last};
 ghost use Rattle.addr2line_lines.specs.Digits.{digits};
 ghost use Rattle.addr2line_lines.specs.InOrder.{IsInOrder};
@@ -124,7 +124,7 @@ fn last_row<T: Table>(table: &mut T, sequence: LineSequence, from: usize, probe:
     ensures found { Some result ≡
         last (at_or_below row_address probe (unpacked (T.rows table.old) sequence).rows) }
     ensures cost { T.looks table.new ≤ T.looks table.old + block_rows }
-    ensures raised { T.looks table.old ≤ T.looks table.new }
+    ensures raised { T.looks table.old < T.looks table.new }
     ensures sequences { T.sequences table.new ≡ T.sequences table.old }
     ensures rows { T.rows table.new ≡ T.rows table.old }
 {
@@ -149,6 +149,7 @@ pub(crate) fn search<T: Table>(table: &mut T, probe: u64) -> Option<Row>
     ensures cost { T.looks table.new ≤ T.looks table.old
         + most_looks (length (T.sequences table.old)) (length (T.rows table.old)) }
     ensures raised { T.looks table.old ≤ T.looks table.new }
+    ensures counted { IfSome result (λ row. T.looks table.old < T.looks table.new) }
     ensures sequences { T.sequences table.new ≡ T.sequences table.old }
     ensures rows { T.rows table.new ≡ T.rows table.old }
 {

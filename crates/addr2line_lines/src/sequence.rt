@@ -1,6 +1,6 @@
 //! Sequences, from the rows of a line program.
 
-ghost use Rattle.std.specs.Prelude.{◌≡◌, [], ◌+◌, ◌++◌, drop, map, length, option_map, IfOk, IfSome, OnOk};
+ghost use Rattle.std.specs.Prelude.{◌≡◌, ◌+◌, ◌++◌, drop, map, length, option_map, IfOk, IfSome, OnOk};
 ghost use Rattle.std.specs.List.{AllByRecursion};
 ghost use Rattle.gimli_read.specs.Topmost.{last};
 ghost use Rattle.gimli_read.specs.Reading.{ExactlyUnlessOom};
@@ -149,19 +149,6 @@ pub(crate) struct UnitRows {
     pub rows: Columns,
     /// The sequences.
     pub sequences: Vec<LineSequence>,
-}
-
-impl UnitRows {
-    /// No rows. Takes no memory.
-    pub(crate) fn new(alloc: Global) -> UnitRows
-        ensures rows { result.rows ≡ [] }
-        ensures sequences { result.sequences.items ≡ [] }
-    {
-        UnitRows {
-            rows: Columns::new(alloc),
-            sequences: Vec::new(alloc),
-        }
-    }
 }
 
 // Within a sequence the addresses of the rows to come don't fall.

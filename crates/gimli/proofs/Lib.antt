@@ -8,6 +8,7 @@ pub mod RangeLemmas
 pub mod ItemLemmas
 pub mod ItemReads
 pub mod ItemTexts
+pub mod SubtreeLemmas
 pub mod UnitTexts
 pub mod RecordLemmas
 pub mod StringLemmas

@@ -1,10 +1,15 @@
 -- Units and items as texts (DWARF 5, sections 7.5.1 to 7.5.3): a section is the texts of its units,
--- one after another, and a unit's entries are the texts of its items.
-use Rattle.std.specs.Prelude.{◌≡◌, ◌≢◌, ℕ, ◌+◌, ◌≤◌, ℤ, ◌<ℤ◌, List, [], ◌∷◌, ◌++◌, length, take, drop, Option, Some, None, Ok, IsOk}
+-- one after another, and a unit's entries are the texts of its items; and where subtrees end
+-- (section 2.3).
+use Rattle.std.specs.Prelude.{◌≡◌, ◌≢◌, ℕ, ◌+◌, ◌≤◌, ℤ, ◌<ℤ◌, List, [], ◌∷◌, ◌++◌, length, take, drop, Option, Some, None, Result, Ok, Err, IsOk}
 use Rattle.std.specs.List.{AllByRecursion, flat_map}
 use Rattle.gimli_read.specs.declared.endian.RunTimeEndian.{RunTimeEndian}
 use Rattle.gimli_read.specs.declared.endian.Encoding.{Encoding}
+use Rattle.gimli_read.specs.declared.error.Error.{Error}
+use Rattle.gimli_read.specs.declared.error.Error.TheVariants.{UnexpectedEof}
 use Rattle.gimli_read.specs.Section.{Section}
+use Rattle.gimli_read.specs.Reading.{◌>>=◌}
+use Rattle.gimli_read.specs.Run.{Run}
 use Rattle.gimli_read.specs.Abbreviations.{Specification, with_code}
 use Rattle.gimli_read.specs.Leb128.{IsUleb128}
 use Rattle.gimli_read.specs.Form.{NamedValue}
@@ -80,3 +85,27 @@ SubtreesLieDeeper =
     (unit : EntryUnit) (start following : EntryCursor) (x : Item)
     → next_item_at unit start ≡ Ok (Some x, following)
     → AllByRecursion (λ y. x.depth <ℤ y.depth) (subtree_of x (items_from unit following)).items
+
+-- the depth after items, of which the first lies at a depth
+abbrev pub depth_after_all : ℤ → List Item → ℤ
+depth_after_all now [] = now
+depth_after_all now (x ∷ xs) = depth_after_all (depth_after x) xs
+
+-- of items that begin at a depth `now` these are a front, after which the depth is the one wanted;
+-- or they are all, after which it is still greater, and the fault is theirs, or UnexpectedEof where
+-- they have none
+abbrev pub Closes : {Z : Type 0} → ℤ → ℤ → Run Item Z → List Item → Result (Unit {0}) Error → Type 0
+Closes depth now following items (Ok u) =
+    (rest : List Item) × (following.items ≡ items ++ rest) × (depth_after_all now items ≡ depth)
+Closes depth now following items (Err e) =
+    (items ≡ following.items) × (depth <ℤ depth_after_all now items)
+    × ◌≡◌ {A = Result (Unit {0}) Error} (following.end >>= λ z. Err UnexpectedEof) (Err e)
+
+-- an entry's subtree is a front of the items after it, after which the depth is the entry's own; or
+-- there is no such front, and its fault is that of the items, or UnexpectedEof
+abbrev pub SubtreesClose : Type 0
+SubtreesClose =
+    (unit : EntryUnit) (start following : EntryCursor) (x : Item) (e : Entry)
+    → next_item_at unit start ≡ Ok (Some x, following) → x.entry ≡ Some e
+    → Closes x.depth (depth_after x) (items_from unit following)
+    (subtree_of x (items_from unit following)).items (subtree_of x (items_from unit following)).end

@@ -1,6 +1,6 @@
 //! Laws of units and their items: functions with a contract and no code.
 
-ghost use Rattle.gimli.specs.ItemLaws.{UnitsCover, EntriesFollowHeaders, ItemsCover, ItemsAlone, SubtreesLieDeeper};
+ghost use Rattle.gimli.specs.ItemLaws.{UnitsCover, EntriesFollowHeaders, ItemsCover, ItemsAlone, SubtreesLieDeeper, SubtreesClose};
 
 /// A section that is read to its end is the texts of its units, one after another, and in the text
 /// of a unit its entries follow its header.
@@ -9,10 +9,13 @@ pub fn unit_laws()
     ensures entries { EntriesFollowHeaders }
 {}
 
-/// The entries of a unit that are read to its end are the texts of its items, one after another, and
-/// of no others; the items between an item and the end of its subtree lie deeper than it.
+/// The entries of a unit that are read to its end are the texts of its items, one after another,
+/// and of no others. The items between an item and the end of its subtree lie deeper than it. After
+/// the subtree of an entry the depth is its own again; where no items end it, the fault is theirs,
+/// or `UnexpectedEof`.
 pub fn item_laws()
     ensures cover { ItemsCover }
     ensures alone { ItemsAlone }
     ensures deeper { SubtreesLieDeeper }
+    ensures close { SubtreesClose }
 {}

@@ -8,7 +8,7 @@ returns-in_err-attribute g c =
     let p = err_from_is_err_and c.from_residual.result c.from_residual.ensures.1 in
     let i = c.loop-specification.invariant in
     let fault = rw (i.same, c.specification-item.is) at c.in_err-attribute.ensures.gives in
-    record { gives = rw (p.1, p.2) (λ ne. sym i.gives ∙ range_attributes-fault _ _ _ _ _ _ _ _ _ c.loop-specification-test.true (fault (λ _ _. ne))) }
+    record { gives = rw (p.1, p.2) (λ ne. sym i.gives ∙ range_attributes-fault _ _ _ _ _ _ _ _ _ c.loop-specification-test.true (fault (λ shares _. ne shares))) }
 
 pub loop-specification-preserved : goal.loop-specification-preserved
 loop-specification-preserved g c =
@@ -22,4 +22,4 @@ loop-specification-preserved g c =
 pub returns : goal.returns
 returns g c =
     let i = c.loop-specification.invariant in
-    record { gives = is_unless_oom _ _ (sym i.gives ∙ range_attributes-end _ _ _ _ _ _ _ c.loop-specification-test.false) }
+    record { gives = is_unless_oom _ _ _ (sym i.gives ∙ range_attributes-end _ _ _ _ _ _ _ c.loop-specification-test.false) }

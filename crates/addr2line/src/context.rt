@@ -130,8 +130,8 @@ impl<R: Reader> Context<R> {
         )
     }
 
-    /// The location of an address: its file, line and column; none where no unit covers it, or where
-    /// no row has it. No unit covers 2^64 - 1.
+    /// The location of an address: its file, line and column; none where no unit covers it, or
+    /// where no row has it. No unit covers 2^64 - 1.
     ///
     /// `probe` is an address as the file has it. The lines of the unit that covers it are parsed at
     /// the first such lookup, and stay parsed, their fault too.

@@ -32,7 +32,8 @@ seen_located x = record { address = x.0; length = x.1; location = seen_location 
 abbrev pub located_left : List (List ℕ) → ℕ → ℕ → List Span → Packed → ℕ → List LocatedSpan
 located_left files low high current packed next =
     map (located files) current
-    ++ flat_map (located_in files low high) (map (unpacked packed.rows) (drop next packed.sequences))
+    ++ flat_map (located_in files low high)
+    (map (unpacked packed.rows) (drop next packed.sequences))
 
 -- the range of a sequence
 abbrev pub packed_range : LineSequence → Range

@@ -1,5 +1,5 @@
--- The address ranges of units (DWARF 5, section 6.1.2): sets of pairs of an address and a length, one
--- set for one unit.
+-- The address ranges of units (DWARF 5, section 6.1.2): sets of pairs of an address and a length,
+-- one set for one unit.
 -- Own: a version other than 2 is UnknownVersion, an address size other than 1, 2, 4 and 8 is
 -- UnsupportedAddressSize, and a segment size other than 0 is UnsupportedSegmentSize.
 -- Own: pairs of length 0, pairs whose sum passes the greatest address, and a tail that is shorter
@@ -18,7 +18,8 @@ use Rattle.gimli.specs.declared.constants.TheConstants.{ARANGES_VERSION}
 use Rattle.gimli.specs.AddressSize.{greatest_address}
 use Rattle.gimli.specs.Header.{unit_address_size_at}
 
--- a set: where its unit begins in .debug_info, the size of its addresses, and the bytes of its pairs
+-- a set: where its unit begins in .debug_info, the size of its addresses, and the bytes of its
+-- pairs
 pub record ArangeSet : Type 0 where
   pub debug_info_offset : DebugInfoOffset
   pub address_size : ℕ

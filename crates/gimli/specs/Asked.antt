@@ -41,13 +41,15 @@ all_sections = DebugAbbrev ∷ DebugAddr ∷ DebugAranges ∷ DebugInfo ∷ Debu
 
 -- a caller's function was asked for sections one after another, each time in the state in which the
 -- call before left it; its answers, seen as bytes, are these, up to the first refusal
-unfoldable pub Asked : {F A E : Type 0} → (A → Section) → (F → SectionId → Result A E → F → Type 0) → F
+unfoldable pub Asked
+    : {F A E : Type 0} → (A → Section) → (F → SectionId → Result A E → F → Type 0) → F
     → List SectionId → Result (List Section) E → Type 0
 Asked see step f [] answers = answers ≡ Ok []
 Asked see step f (x ∷ xs) answers =
     (answer : _) × (g : _) × step f x answer g × elim answer [
       | Err e ↦ answers ≡ Err e
-      | Ok a ↦ (more : _) × Asked see step g xs more × (answers ≡ (more >>= λ rest. Ok (see a ∷ rest)))
+      | Ok a ↦ (more : _) × Asked see step g xs more
+          × (answers ≡ (more >>= λ rest. Ok (see a ∷ rest)))
     ]
 
 -- the sections of a supplementary file, in the order in which they are asked for

@@ -2,8 +2,8 @@
 -- Own: of each attribute the last counts. One of a form that is not of its class counts as not
 -- there: low_pc is an address or an index, stmt_list and the bases are section offsets, and so are
 -- data4 and data8 of the offset's width under stmt_list in versions 2 and 3; GNU_dwo_id is a
--- constant. A name or a directory that can't be read counts as none. GNU_dwo_name names a split file
--- below version 5, dwo_name from then on, in any form.
+-- constant. A name or a directory that can't be read counts as none. GNU_dwo_name names a split
+-- file below version 5, dwo_name from then on, in any form.
 use Rattle.std.specs.Prelude.{ℕ, ◌==◌, ◌||◌, nat_le, nat_lt, Bool, List, fold, Option, Some, None, Result, Ok, if◌then◌else◌}
 use Rattle.std.specs.Option.{option_or}
 use Rattle.gimli_read.specs.declared.error.Error.{Error}

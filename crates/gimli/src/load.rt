@@ -81,7 +81,8 @@ impl<R: Reader> SupDwarf<R> {
     // The sections that `f` gives, asked for in the order of their names, up to its first refusal.
     fn load<E, F: FnMut(SectionId) -> Result<R, E>>(mut f: F) -> Result<SupDwarf<R>, E>
         requires { F.IsAlwaysCallable f }
-        ensures gives { Asked R.section F.step f all_sections (result_map_both sup_section_list (λ e. e) result) }
+        ensures gives { Asked R.section F.step f all_sections
+            (result_map_both sup_section_list (λ e. e) result) }
     {
         Ok(SupDwarf {
             debug_abbrev: DebugAbbrev::from(f(SectionId::DebugAbbrev)?),

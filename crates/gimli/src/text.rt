@@ -123,8 +123,9 @@ fn read_sup_string<R: Reader>(dwarf: &Dwarf<R>, offset: u64) -> Result<R, Error>
 /// unit's offsets of strings begin, in bytes.
 ///
 /// Refused `ExpectedString` for a value of no string form, `OffsetOutOfBounds`, `UnexpectedEof`
-/// where no zero byte ends it, and `NoSupplementary` for a string of a supplementary file that isn't
-/// there; else `OutOfMemory` where bytes are shared and the value doesn't hold the string itself.
+/// where no zero byte ends it, and `NoSupplementary` for a string of a supplementary file that
+/// isn't there; else `OutOfMemory` where bytes are shared and the value doesn't hold the string
+/// itself.
 #[tactic(auto, unfolding(crate::specs::Text::string_of))]
 pub(crate) fn read_string<R: Reader>(
     dwarf: &Dwarf<R>,
@@ -156,7 +157,8 @@ impl<R: Reader> Dwarf<R> {
     ///
     /// Refused `ExpectedString` for a value of no string form, `OffsetOutOfBounds`, `UnexpectedEof`
     /// where no zero byte ends it, and `NoSupplementary` for a string of a supplementary file that
-    /// isn't there; else `OutOfMemory` where bytes are shared and the value doesn't hold the string itself. Source: DWARF 5, sections 7.5.5 and 7.26.
+    /// isn't there; else `OutOfMemory` where bytes are shared and the value doesn't hold the string
+    /// itself. Source: DWARF 5, sections 7.5.5 and 7.26.
     pub fn attr_string(&self, unit: &Unit<R>, value: AttributeValue<R>) -> Result<R, Error>
         ensures gives { ExactlyUnlessOomFor
             (string_takes_memory R.shares (seen_value R.section value)) is_ok R.section result

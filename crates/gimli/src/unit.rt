@@ -100,14 +100,14 @@ impl<R: Reader> UnitHeader<R> {
     }
 }
 
-/// An offset in `.debug_info`, seen from a unit. It stands in a trait since the offset itself is of the
-/// crate below.
+/// An offset in `.debug_info`, seen from a unit. It stands in a trait since the offset itself is of
+/// the crate below.
 pub trait ToUnitOffset {
     /// Where in `.debug_info` this is, in bytes.
     ghost place: { Self → ℕ };
 
-    /// The offset in the unit of a header, in bytes from the start of the unit's length; none before
-    /// the header's end and from the unit's end on. Takes no memory.
+    /// The offset in the unit of a header, in bytes from the start of the unit's length; none
+    /// before the header's end and from the unit's end on. Takes no memory.
     fn to_unit_offset<R: Reader>(&self, header: &UnitHeader<R>) -> Option<UnitOffset>
         ensures gives { option_map (λ n. n.0) result ≡ unit_offset_of (place self.now) header.now };
 }

@@ -35,8 +35,8 @@ pub struct Unit<R: Reader> {
     pub str_offsets_base: u64,
     /// Where the unit's addresses begin in `.debug_addr`, in bytes.
     pub addr_base: u64,
-    /// Where the unit's offsets of range lists begin in `.debug_rnglists`, in bytes; in a split file
-    /// below version 5 what its offsets into `.debug_ranges` count from.
+    /// Where the unit's offsets of range lists begin in `.debug_rnglists`, in bytes; in a split
+    /// file below version 5 what its offsets into `.debug_ranges` count from.
     pub rnglists_base: u64,
     /// The identifier that the unit shares with a split unit, where it has one.
     pub dwo_id: Option<DwoId>,
@@ -229,7 +229,8 @@ impl<R: Reader> Unit<R> {
     /// version 5, else `DW_AT_dwo_name`, in whatever form; the last one counts.
     ///
     /// Refused as the root entry is: `UnexpectedEof`, `BadLeb128`, `MissingUnitDie`,
-    /// `UnknownAbbreviation`, `UnknownForm` and what a value is refused for; else `OutOfMemory` where bytes are shared.
+    /// `UnknownAbbreviation`, `UnknownForm` and what a value is refused for; where bytes are
+    /// shared it may fail with `OutOfMemory` instead.
     pub fn dwo_name(&self) -> Result<Option<AttributeValue<R>>, Error>
         ensures gives { ExactlyUnlessOomIf R.shares (option_map (seen_value R.section)) result
             (dwo_name_of self.now) }

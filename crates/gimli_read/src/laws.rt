@@ -29,8 +29,8 @@ pub fn value_laws()
     ensures attribute_alone { ReadsAttributeAlone }
 {}
 
-/// To read an attribute whose form alone says its size is to pass over as many bytes: where they are
-/// missing, both are `UnexpectedEof`.
+/// To read an attribute whose form alone says its size is to pass over as many bytes: where they
+/// are missing, both are `UnexpectedEof`.
 pub fn size_laws()
     ensures leaves { LeavesItsSize }
 {}

@@ -119,7 +119,12 @@ pub struct TotalSize {
 impl TotalSize {
     // Of no value.
     pub(crate) fn new() -> TotalSize
-        ensures gives { result ≡ record { bytes = 0; addresses = 0; offsets = 0; addresses_or_offsets = 0 } }
+        ensures gives { result ≡ record {
+          bytes = 0;
+          addresses = 0;
+          offsets = 0;
+          addresses_or_offsets = 0;
+        } }
     {
         TotalSize {
             bytes: 0,

@@ -44,7 +44,8 @@ fn fault(error: Error) -> u128 {
     }
 }
 
-// Bytes as a number in base 256, after a 1 that keeps their number; of more than 14 bytes, their number alone.
+// Bytes as a number in base 256, after a 1 that keeps their number; of more than 14 bytes, their
+// number alone.
 fn spelled(bytes: &[u8]) -> u128 {
     if bytes.len() > 14 {
         return bytes.len() as u128;
@@ -106,7 +107,8 @@ fn shared(alloc: Global, bytes: &[u8], endian: RunTimeEndian) -> Result<EndianBy
     Ok(EndianBytes::new(Bytes::copy_from_slice(alloc, bytes)?, endian))
 }
 
-// An attribute by the name call_line (0x59) of a form below 0x4000, as a table has it; 9 is its value in the table.
+// An attribute by the name call_line (0x59) of a form below 0x4000, as a table has it; 9 is its
+// value in the table.
 fn specification(alloc: Global, form: u64, constant: u8) -> Result<AttributeSpecification, Error> {
     let [low, high, ..] = form.wrapping_mul(2).to_le_bytes();
     let low = (low / 2) | 0x80;

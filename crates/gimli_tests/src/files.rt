@@ -97,8 +97,8 @@ fn offset_code<R: Reader>(unit: &Unit<R>, offset: u64) -> u64 {
 }
 
 // The split name, a supplementary string, three offsets, and the unit's low_pc and bases after
-// another unit's were taken over, whose low_pc is 7, whose addresses begin at 8 and whose range lists
-// begin at 9.
+// another unit's were taken over, whose low_pc is 7, whose addresses begin at 8 and whose range
+// lists begin at 9.
 fn unit_code<R: Reader>(alloc: Global, dwarf: &Dwarf<R>) -> Result<[u64; 8], Error> {
     let mut unit = first_unit(alloc, dwarf)?;
     let name = match unit.dwo_name()? {

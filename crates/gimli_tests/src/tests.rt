@@ -155,7 +155,8 @@ fn copied(alloc: Global, bytes: &[u8], order: RunTimeEndian) -> Result<EndianByt
     Ok(EndianBytes::new(Bytes::copy_from_slice(alloc, bytes)?, order))
 }
 
-// The same, where the bytes that strings and line programs are parts of stand in memory of their own.
+// The same, where the bytes that strings and line programs are parts of stand in memory of their
+// own.
 fn held(alloc: Global, order: RunTimeEndian) -> Result<Dwarf<EndianBytes>, AllocError> {
     let info = copied(alloc, INFO, order)?;
     let line = copied(alloc, LINE, order)?;

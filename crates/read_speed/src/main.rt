@@ -1,10 +1,10 @@
 //! The program `read_speed`: reads the numbers of a file in one way, and prints their checksum
 //! alone.
 //!
-//! Arguments: a way and a file. The way is `nothing`, or one of `u32`, `uleb128`, `sleb128`, `split`
-//! and `duplicate` with `-slice` for borrowed bytes or `-bytes` for shared ones. It is timed from
-//! outside, by tools/read_speed. The way `entries` takes a file of three sections, each after its
-//! length in eight bytes, and passes over the entries of all units.
+//! Arguments: a way and a file. The way is `nothing`, or one of `u32`, `uleb128`, `sleb128`,
+//! `split` and `duplicate` with `-slice` for borrowed bytes or `-bytes` for shared ones. It is
+//! timed from outside, by tools/read_speed. The way `entries` takes a file of three sections, each
+//! after its length in eight bytes, and passes over the entries of all units.
 #![tactic(auto)]
 
 mod entries;

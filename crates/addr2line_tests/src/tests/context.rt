@@ -136,8 +136,8 @@ fn growths_that_are_granted_give_locations(rt: HostRuntime) -> Result<(), Fail> 
     Ok(())
 }
 
-// A context's second answers at two addresses: the first may be refused memory, as each growth is in
-// turn by `tools/refuse_growths`.
+// A context's second answers at two addresses: the first may be refused memory, as each growth is
+// in turn by `tools/refuse_growths`.
 fn retried(context: &mut Context<EndianSlice<'_>>) -> [u32; 2] {
     let mut codes = [0; 2];
     for (code, probe) in codes.iter_mut().zip([0x10, 0x20]) {

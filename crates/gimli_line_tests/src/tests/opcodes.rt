@@ -17,8 +17,8 @@ fn push(to: &mut Vec<u8>, order: RunTimeEndian, size: usize, number: u8) -> Resu
     Ok(())
 }
 
-// A program of version 4 without files. The numbers are the minimum length, the operations, default_is_stmt,
-// the line base, the line range and the opcode base.
+// A program of version 4 without files. The numbers are the minimum length, the operations,
+// default_is_stmt, the line base, the line range and the opcode base.
 pub(super) fn program(
     alloc: Global,
     order: RunTimeEndian,

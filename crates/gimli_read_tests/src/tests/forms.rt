@@ -193,8 +193,8 @@ fn each_form_of_a_number_is_read(rt: HostRuntime) -> Result<(), Fail> {
     Ok(())
 }
 
-// A form, the bytes, and what is read in 64-bit DWARF with the lowest byte first: the variant in hexadecimal or a
-// fault, the number or bytes, and how many bytes are left.
+// A form, the bytes, and what is read in 64-bit DWARF with the lowest byte first: the variant in
+// hexadecimal or a fault, the number or bytes, and how many bytes are left.
 const SPECIAL: &str = "08 0102030405060708090a0b0c0d0e0f100011 18 10 1
 0a 0208090a 2 10809 1
 0a 0408090a eof 0 0
@@ -260,7 +260,8 @@ fn ref_addr_of_version_2_is_an_address(rt: HostRuntime) {
     }
 }
 
-// The name of an attribute, its constant (1000 for none), how many bytes are left, its variant, and its number.
+// The name of an attribute, its constant (1000 for none), how many bytes are left, its variant, and
+// its number.
 fn attribute<R: Reader>(input: R, specification: AttributeSpecification) -> [u128; 5] {
     let mut input = input;
     match read_attribute(&mut input, encoding(Format::Dwarf32), specification) {

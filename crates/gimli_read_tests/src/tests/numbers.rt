@@ -86,9 +86,9 @@ fn called<R: Reader>(input: R, call: &str) -> [u128; 2] {
     [answer, u128::from(input.len())]
 }
 
-// A call, the bytes, the answer with the lowest byte first and with the highest first, and how many bytes are left.
-// The first seven of uleb and the first ten of sleb are the standard's own examples (DWARF 5, section 7.6, figures 22
-// and 23).
+// A call, the bytes, the answer with the lowest byte first and with the highest first, and how many
+// bytes are left. The first seven of uleb and the first ten of sleb are the standard's own examples
+// (DWARF 5, section 7.6, figures 22 and 23).
 const CALLS: &str = "uleb 02 2 2 0
 uleb 7f 7f 7f 0
 uleb 8001 80 80 0

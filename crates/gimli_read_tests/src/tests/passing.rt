@@ -41,8 +41,8 @@ fn left(
     ])
 }
 
-// The form, the size of addresses, the version, the bytes where a value stands, and how many are left after it
-// in 32-bit and in 64-bit DWARF.
+// The form, the size of addresses, the version, the bytes where a value stands, and how many are
+// left after it in 32-bit and in 64-bit DWARF.
 const PASSED: &str = "01 4 5 0102030405060708090a 6 6
 01 8 5 0102030405060708090a 2 2
 01 3 5 0102030405060708090a size size
@@ -136,8 +136,8 @@ fn what_is_passed_over_is_what_is_read(rt: HostRuntime) -> Result<(), Fail> {
     Ok(())
 }
 
-// The form, the bytes where a value stands with the lowest byte first and with the highest first, and how many are left
-// after it.
+// The form, the bytes where a value stands with the lowest byte first and with the highest first,
+// and how many are left after it.
 const ORDERED: &str = "0a 02080910 02080910 1
 03 0200080910 0002080910 1
 04 02000000080910 00000002080910 1

@@ -8,14 +8,15 @@ use gimli_read::{
 use std::alloc::Global;
 use std::test::Fail;
 
-// Of zero bytes each block and each text is empty, and each LEB128 number is one byte, in both byte orders.
+// Of zero bytes each block and each text is empty, and each LEB128 number is one byte, in both byte
+// orders.
 const ZEROS: [u8; 20] = [0; 20];
 
 // The form of DW_FORM_implicit_const, after which a table has a constant.
 const IMPLICIT_CONST: u64 = 0x21;
 
-// A form, and the bytes of a value of it over zeros in four kinds of units: addresses of 4 bytes and offsets of 4, 8 and 8
-// (version 5), 4 and 8, 8 and 4 (version 2).
+// A form, and the bytes of a value of it over zeros in four kinds of units: addresses of 4 bytes
+// and offsets of 4, 8 and 8 (version 5), 4 and 8, 8 and 4 (version 2).
 const SIZES: &str = "01 4 8 4 8
 1b 1 1 1 1
 1f01 1 1 1 1

@@ -5,8 +5,8 @@ use gimli_read::{Abbreviations, DwAt, DwForm, Reader, RunTimeEndian};
 use std::alloc::Global;
 use std::test::Fail;
 
-// What the table says of a code: tag, 16 times, a digit for children, 16 times, and the number of attributes; 0 for
-// nothing.
+// What the table says of a code: tag, 16 times, a digit for children, 16 times, and the number of
+// attributes; 0 for nothing.
 fn said(table: &Abbreviations, code: u64) -> u128 {
     match table.get(code) {
         None => 0,

@@ -48,7 +48,8 @@ fn pass<R: Reader>(
     }
 }
 
-// Where the next item begins, its depth, and its tag, 0 of a closing entry; the place and depth of the unit's end, and NONE.
+// Where the next item begins, its depth, and its tag, 0 of a closing entry; the place and depth of
+// the unit's end, and NONE.
 fn next_item<R: Reader>(entries: &mut EntriesRaw<'_, R>, way: Way) -> Result<[u64; 3], Error> {
     let offset = entries.next_offset().0;
     let depth = entries.next_depth().cast_unsigned() as u64;

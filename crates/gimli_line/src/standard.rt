@@ -17,6 +17,7 @@ use crate::row::LineRow;
 use gimli_read::{Error, Reader};
 
 // Skips numbers.
+#[inline(always)]
 fn skip_numbers<R: Reader>(input: &mut R, count: u8) -> Result<(), Error>
     ensures gives { Reads R.section input.old input.new result (numbers_skipped count) }
 {

@@ -115,7 +115,7 @@ fn with_lookups(sum: u64, kept: &[KeptLines], lookups: u64) -> u64 {
     sum
 }
 
-/// The checksum of the addresses that kept units cover, and of as many locations.
+/// The checksum of the addresses that kept units cover, and of the locations of `lookups` of them.
 pub fn kept_checksum<R: Reader + Drop>(
     alloc: Global,
     input: &mut R,

@@ -1,9 +1,9 @@
 //! The program `line_speed`: a checksum of rows, of kept lines, or of lookups in them.
 //!
-//! Arguments: a mode and a file. The modes `borrowed` and `shared` take a `.debug_line` section, whose
-//! rows are read over borrowed or shared bytes. The modes `kept` and `lookups` take a file of four
-//! sections, each after its length in eight bytes: the lines of all units are kept, and a thousand or
-//! a million addresses more are looked up.
+//! Arguments: a mode and a file. The modes `borrowed` and `shared` take a `.debug_line` section,
+//! whose rows are read over borrowed or shared bytes. The modes `kept` and `lookups` take a file of
+//! four sections, each after its length in eight bytes: the lines of all units are kept, and a
+//! thousand addresses are looked up, or a million more.
 #![tactic(auto)]
 
 mod checksum;

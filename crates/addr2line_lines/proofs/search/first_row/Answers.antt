@@ -40,35 +40,35 @@ loop-size-preserved g c =
     let some = z.some in
     let upto = i.upto in let was = i.cost in let from = i.from in
     elim c.if-block-probe.branch [
-      then-block-probe w ↦ (
-        let e = w.best-is in
-        let P : ℕ → Type 0 = λ k. address_at rows k ≤ c.args.probe in
-        record {
-          some = omega arith;
-          upto = omega arith;
-          sequences = c.block.ensures.sequences ∙ i.sequences;
-          rows = c.block.ensures.rows ∙ i.rows;
-          cost = omega arith;
-          raised = (let r = i.raised in omega arith);
-          from = omega arith;
-          inside = omega arith;
-          below = subst P (sym e) (let t = w.if-block-probe in omega arith);
-          past = λ j low high. i.past j (omega arith) high;
-        })
-    | else-block-probe w ↦ (
-        let e = w.best-is in
-        let P : ℕ → Type 0 = λ k. address_at rows k ≤ c.args.probe in
-        let later = past_from rows c.args.sequence (64 * m) c.args.probe z (omega arith) (let t = w.if-block-probe in omega arith) in
-        record {
-          some = omega arith;
-          upto = omega arith;
-          sequences = c.block.ensures.sequences ∙ i.sequences;
-          rows = c.block.ensures.rows ∙ i.rows;
-          cost = omega arith;
-          raised = (let r = i.raised in omega arith);
-          from = omega arith;
-          inside = (let n = i.inside in omega arith);
-          below = subst P (sym e) i.below;
-          past = λ j low high. later j (omega arith) high;
-        })
+      | then-block-probe w ↦ (
+          let e = w.best-is in
+          let P : ℕ → Type 0 = λ k. address_at rows k ≤ c.args.probe in
+          record {
+            some = omega arith;
+            upto = omega arith;
+            sequences = c.block.ensures.sequences ∙ i.sequences;
+            rows = c.block.ensures.rows ∙ i.rows;
+            cost = omega arith;
+            raised = (let r = i.raised in omega arith);
+            from = omega arith;
+            inside = omega arith;
+            below = subst P (sym e) (let t = w.if-block-probe in omega arith);
+            past = λ j low high. i.past j (omega arith) high;
+          })
+      | else-block-probe w ↦ (
+          let e = w.best-is in
+          let P : ℕ → Type 0 = λ k. address_at rows k ≤ c.args.probe in
+          let later = past_from rows c.args.sequence (64 * m) c.args.probe z (omega arith) (let t = w.if-block-probe in omega arith) in
+          record {
+            some = omega arith;
+            upto = omega arith;
+            sequences = c.block.ensures.sequences ∙ i.sequences;
+            rows = c.block.ensures.rows ∙ i.rows;
+            cost = omega arith;
+            raised = (let r = i.raised in omega arith);
+            from = omega arith;
+            inside = (let n = i.inside in omega arith);
+            below = subst P (sym e) i.below;
+            past = λ j low high. later j (omega arith) high;
+          })
     ]

@@ -97,17 +97,16 @@ fn first_row<T: Table>(table: &mut T, sequence: LineSequence, probe: u64) -> usi
     ensures rows { T.rows table.new ≡ T.rows table.old }
 {
     let last = sequence.first + (sequence.len - 1);
-    let mut low = sequence.first / BLOCK_ROWS + 1;
-    let mut high = last / BLOCK_ROWS + 1;
     let mut best = sequence.first;
-    while low < high {
-        let middle = low + (high - low) / 2;
+    // Each step takes half, rounded up, whichever way the test goes, so that it needs no branch.
+    let mut size = last / BLOCK_ROWS - best / BLOCK_ROWS + 1;
+    while size > 1 {
+        let half = size / 2;
+        let middle = best / BLOCK_ROWS + half;
         if table.block(middle) <= probe {
             best = BLOCK_ROWS * middle;
-            low = middle + 1;
-        } else {
-            high = middle;
         }
+        size -= half;
     }
     best
 }
@@ -130,15 +129,12 @@ fn last_row<T: Table>(table: &mut T, sequence: LineSequence, from: usize, probe:
 {
     let left = sequence.len - (from - sequence.first);
     let until = from + left.min(BLOCK_ROWS - from % BLOCK_ROWS);
-    let mut found = table.row(from);
-    for place in from + 1..until {
-        let row = table.row(place);
-        if row.address > probe {
-            return found;
+    for next in from + 1..until {
+        if table.row(next).address > probe {
+            return table.row(next - 1);
         }
-        found = row;
     }
-    found
+    table.row(until - 1)
 }
 
 /// The row of the picked sequence whose span holds the probe. Takes no memory.

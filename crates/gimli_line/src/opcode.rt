@@ -133,6 +133,7 @@ fn read_operand<R: Reader>(address_size: u8, code: u8, input: &mut R) -> Result<
 
 /// Reads a length, and an extended opcode in as many bytes. All but a whole file is read from a
 /// slice, so that nothing else takes memory.
+#[inline(always)]
 #[tactic(auto, unfolding(crate::specs::Opcode::extended_in, crate::specs::Opcode::extended_at))]
 pub(crate) fn read_extended<R: Reader>(
     header: &LineProgramHeader<R>,

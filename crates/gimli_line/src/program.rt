@@ -95,6 +95,7 @@ impl<R: Reader> LineRows<R> {
     /// aren't whole, and `AddressOverflow` at the first opcode after which the address passes its
     /// size. May fail with `OutOfMemory` instead where a file is defined before the next row: no
     /// other opcode takes memory. Source: DWARF 5, section 6.2.5.
+    #[inline(always)]
     pub fn next_row(&mut self) -> Result<Option<LineRow>, Error>
         ensures gives { YieldsUnlessOom self.old.left result self.new.left }
         ensures memory { IfErr result (λ e. self.old.ahead ≡ [] → self.old.left ≡ Err e ∷ []) }
@@ -121,6 +122,7 @@ fn skip_rest<R: Reader>(input: &mut R)
 }
 
 // Takes an instruction in, and gives the row that it appends, if any.
+#[inline(always)]
 #[tactic(auto, unfolding(crate::specs::Steps::taken))]
 fn take_instruction<R: Reader>(
     header: &mut LineProgramHeader<R>,
@@ -172,6 +174,7 @@ fn step_instruction<R: Reader>(
 }
 
 // Runs the program up to its next row.
+#[inline(always)]
 fn find_row<R: Reader>(
     header: &mut LineProgramHeader<R>,
     registers: &mut Registers,

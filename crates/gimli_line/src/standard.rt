@@ -2,7 +2,7 @@
 
 ghost use Rattle.std.specs.Prelude.{◌≡◌, ◌<◌, ◌-◌, OnOk, slice_index};
 ghost use Rattle.gimli_read.specs.Reading.{Exactly, Reads};
-ghost use Rattle.gimli_line.specs.Opcode.{numbers_skipped};
+ghost use Rattle.gimli_line.specs.Opcode.{numbers_skipped, standard_at};
 ghost use Rattle.gimli_line.specs.Steps.{IsRunning, step_standard};
 
 use crate::constants::{
@@ -17,6 +17,7 @@ use crate::row::LineRow;
 use gimli_read::{Error, Reader};
 
 // Skips numbers.
+#[inline(always)]
 fn skip_numbers<R: Reader>(input: &mut R, count: u8) -> Result<(), Error>
     ensures gives { Reads R.section input.old input.new result (numbers_skipped count) }
 {
@@ -41,11 +42,43 @@ fn count_of<R: Reader>(header: &LineProgramHeader<R>, code: u8) -> u8
     }
 }
 
-/// Reads the operands of a standard opcode, takes it in, and gives the row that it appends, if any.
-///
-/// Each opcode is taken in where its operands are read, so that none is stored and looked at again.
+// A standard opcode with its operands.
 #[inline(always)]
-#[tactic(auto, unfolding(crate::specs::Opcode::standard_at, crate::specs::Steps::step_standard))]
+#[tactic(auto, unfolding(crate::specs::Opcode::standard_at))]
+fn read_standard<R: Reader>(
+    header: &LineProgramHeader<R>,
+    code: u8,
+    input: &mut R,
+) -> Result<Opcode, Error>
+    requires some { 0 < code }
+    ensures gives { Reads R.section input.old input.new result (standard_at header.now code) }
+{
+    match code {
+        DW_LNS_copy => Ok(Opcode::Copy),
+        DW_LNS_advance_pc => Ok(Opcode::AdvancePc(input.read_uleb128()?)),
+        DW_LNS_advance_line => Ok(Opcode::AdvanceLine(input.read_sleb128()?)),
+        DW_LNS_set_file => Ok(Opcode::SetFile(input.read_uleb128()?)),
+        DW_LNS_set_column => Ok(Opcode::SetColumn(input.read_uleb128()?)),
+        DW_LNS_negate_stmt => Ok(Opcode::Other),
+        DW_LNS_set_basic_block => Ok(Opcode::Other),
+        DW_LNS_const_add_pc => Ok(Opcode::ConstAddPc),
+        DW_LNS_fixed_advance_pc => Ok(Opcode::FixedAdvancePc(input.read_u16()?)),
+        DW_LNS_set_prologue_end => Ok(Opcode::Other),
+        DW_LNS_set_epilogue_begin => Ok(Opcode::Other),
+        DW_LNS_set_isa => {
+            input.read_uleb128()?;
+            Ok(Opcode::Other)
+        }
+        _ => {
+            skip_numbers(input, count_of(header, code))?;
+            Ok(Opcode::Other)
+        }
+    }
+}
+
+/// Reads the operands of a standard opcode, takes it in, and gives the row that it appends, if any.
+#[inline(always)]
+#[tactic(auto, unfolding(crate::specs::Steps::step_standard))]
 pub(crate) fn step_standard<R: Reader>(
     header: &LineProgramHeader<R>,
     registers: &mut Registers,
@@ -58,41 +91,6 @@ pub(crate) fn step_standard<R: Reader>(
         (step_standard header.now registers.old code (R.section input.old)) }
     ensures running { OnOk result (IsRunning header.now.line_encoding registers.new) }
 {
-    let parameters = &header.parameters;
-    match code {
-        DW_LNS_copy => registers.execute(parameters, Opcode::Copy),
-        DW_LNS_advance_pc => {
-            let operations = input.read_uleb128()?;
-            registers.execute(parameters, Opcode::AdvancePc(operations))
-        }
-        DW_LNS_advance_line => {
-            let by = input.read_sleb128()?;
-            registers.execute(parameters, Opcode::AdvanceLine(by))
-        }
-        DW_LNS_set_file => {
-            let file = input.read_uleb128()?;
-            registers.execute(parameters, Opcode::SetFile(file))
-        }
-        DW_LNS_set_column => {
-            let column = input.read_uleb128()?;
-            registers.execute(parameters, Opcode::SetColumn(column))
-        }
-        DW_LNS_negate_stmt => registers.execute(parameters, Opcode::Other),
-        DW_LNS_set_basic_block => registers.execute(parameters, Opcode::Other),
-        DW_LNS_const_add_pc => registers.execute(parameters, Opcode::ConstAddPc),
-        DW_LNS_fixed_advance_pc => {
-            let bytes = input.read_u16()?;
-            registers.execute(parameters, Opcode::FixedAdvancePc(bytes))
-        }
-        DW_LNS_set_prologue_end => registers.execute(parameters, Opcode::Other),
-        DW_LNS_set_epilogue_begin => registers.execute(parameters, Opcode::Other),
-        DW_LNS_set_isa => {
-            input.read_uleb128()?;
-            registers.execute(parameters, Opcode::Other)
-        }
-        _ => {
-            skip_numbers(input, count_of(header, code))?;
-            registers.execute(parameters, Opcode::Other)
-        }
-    }
+    let opcode = read_standard(header, code, input)?;
+    registers.execute(&header.parameters, opcode)
 }

@@ -1,14 +1,26 @@
-//! The program `line_speed`: a checksum of all rows of a `.debug_line` section.
+//! The program `line_speed`: a checksum of rows, of kept lines, or of lookups in them.
+//!
+//! Arguments: a mode and a file. The modes `borrowed` and `shared` take a `.debug_line` section,
+//! whose rows are read over borrowed or shared bytes. The modes `kept` and `lookups` take a file of
+//! four sections, each after its length in eight bytes: the lines of all units are kept, and a
+//! thousand addresses are looked up, or a million more.
 #![tactic(auto)]
 
 mod checksum;
+mod kept;
 
 use crate::checksum::checksum_of;
+use crate::kept::kept_checksum;
 use bytes::Bytes;
 use gimli_read::{EndianBytes, EndianSlice, Error, RunTimeEndian};
 use std::alloc::Global;
 use std::process::ExitCode;
 use std::{env, fs, io};
+
+// A sum with one more number.
+fn mixed(sum: u64, number: u64) -> u64 {
+    sum.wrapping_mul(31).wrapping_add(number)
+}
 
 // The checksum of a section, read over the reader that the mode names; none for another mode.
 fn sum_of(alloc: Global, mode: &str, bytes: Vec<u8>) -> Option<Result<u64, Error>> {
@@ -22,7 +34,13 @@ fn sum_of(alloc: Global, mode: &str, bytes: Vec<u8>) -> Option<Result<u64, Error
             Err(_) => Some(Err(Error::OutOfMemory)),
         };
     }
-    None
+    let lookups = match mode {
+        "kept" => 1_000,
+        "lookups" => 1_001_000,
+        _ => return None,
+    };
+    let mut input = EndianSlice::new(&bytes, RunTimeEndian::Little);
+    Some(kept_checksum(alloc, &mut input, lookups))
 }
 
 // The checksum of the file that the words name, in the mode that they name; none for other words.

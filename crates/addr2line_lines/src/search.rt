@@ -91,7 +91,8 @@ fn first_row<T: Table>(table: &mut T, sequence: LineSequence, probe: u64) -> usi
     ensures below { address_at (T.rows table.old) result ≤ probe }
     ensures past { ArePastFrom probe (T.rows table.old) sequence
         (result - result % block_rows + block_rows) }
-    ensures cost { T.looks table.new ≤ T.looks table.old + digits (blocks (length (T.rows table.old))) }
+    ensures cost { T.looks table.new
+        ≤ T.looks table.old + digits (blocks (length (T.rows table.old))) }
     ensures raised { T.looks table.old ≤ T.looks table.new }
     ensures sequences { T.sequences table.new ≡ T.sequences table.old }
     ensures rows { T.rows table.new ≡ T.rows table.old }

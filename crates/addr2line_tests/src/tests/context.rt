@@ -8,6 +8,7 @@ use addr2line::gimli::read::{EndianSlice, Error};
 use addr2line_lines::{Lines, RangeAttributes, read_root_ranges};
 use gimli::UnitRef;
 use std::alloc::Global;
+use std::rc::Rc;
 use std::test::Fail;
 
 // The same unit, version 5.
@@ -69,6 +70,9 @@ fn lookups_over_three_sections(rt: HostRuntime) -> Result<(), Fail> {
 #[test]
 fn sections_in_one_value_answer_alike(rt: HostRuntime) -> Result<(), Fail> {
     let context = Context::from_dwarf(rt.alloc(), dwarf_of(&ABBREV, &INFO, &LINE))?;
+    assert_eq!(rt; codes_of(context, PROBES), FOUND);
+    let held = Rc::new(rt.alloc(), dwarf_of(&ABBREV, &INFO, &LINE))?;
+    let context = Context::from_arc_dwarf(rt.alloc(), held)?;
     assert_eq!(rt; codes_of(context, PROBES), FOUND);
     Ok(())
 }

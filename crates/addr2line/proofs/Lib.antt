@@ -1,1 +1,1 @@
-pub mod ReadyLemmas
+pub mod ContextLemmas

@@ -1,72 +1,84 @@
--- A context as callers see it: the sections that it was made from (DWARF 5, section 7.5), and of
--- which units it has parsed the lines.
+-- A context as callers see it: the sections that it was made from (DWARF 5, section 7.5), the first
+-- answers to the loads of its units, of which units it has parsed the lines, and how often it
+-- looked at them.
 -- Own: the lines of a unit, or their fault, are parsed when a lookup first asks for them, and stay
--- parsed.
-use Rattle.std.specs.Prelude.{◌≡◌, ◌≢◌, ℕ, ◌==◌, ◌&&◌, ◌||◌, Bool, true, false, List, [], ◌∷◌, slice_get, Option, Some, None, Result, Ok, Err, if◌then◌else◌}
-use Rattle.std.specs.List.{list_any}
+-- parsed; a context that is made has parsed them only where they give a unit its ranges.
+-- limit: no unit is loaded yet, so there is no answer
+use Rattle.std.specs.Prelude.{◌≡◌, ℕ, ◌+◌, ◌≤◌, Bool, true, List, [], map, Option, Result, Ok, Err}
 use Rattle.gimli_read.specs.declared.error.Error.{Error}
-use Rattle.gimli_read.specs.declared.error.Error.TheVariants.{OutOfMemory}
-use Rattle.gimli_read.specs.Section.{Section}
 use Rattle.gimli_read.specs.Reading.{◌>>=◌}
 use Rattle.gimli.specs.Sections.{Sections}
 use Rattle.gimli.specs.Unit.{UnitRecord}
-use Rattle.addr2line_lines.specs.Location.{Location}
-use Rattle.addr2line_units.specs.declared.unit.ResUnit.{ResUnit}
 use Rattle.addr2line_units.specs.declared.index.UnitRange.{UnitRange}
-use Rattle.addr2line_units.specs.UnitIndex.{UnitIndex, unit_index, cover}
-use Rattle.addr2line_units.specs.Located.{location_in}
-use Rattle.addr2line_units.specs.CachedLines.{unit_index_of, HasLinesOf, lines_in_cache, is_uncached}
+use Rattle.addr2line_units.specs.declared.unit.ResUnit.{ResUnit}
+use Rattle.addr2line_units.specs.CachedLines.{HaveLinesOf, indexed_units}
+use Rattle.addr2line_units.specs.Located.{all_lines, along, lines_fault, looks_along}
+use Rattle.addr2line_units.specs.Made.{Made, asks_lines, made, ranged_units, sup_units}
+use Rattle.addr2line_units.specs.Parsed.{AreParsed, IsNotOom, StaysParsed, ready_along}
+use Rattle.addr2line_units.specs.UnitIndex.{cover, cover_range}
 
--- the sections, and the units whose lines are parsed, by their index in the list of units
+-- the first answer to the load of a unit: the sections of a split file, or none
+pub record FirstAnswer : Type 0 where
+  pub unit : ℕ
+  pub sections : Option Sections
+
+-- the sections, the first answers, of which units the lines are parsed, and how often they were
+-- looked at
 pub record ContextState : Type 0 where
   pub sections : Sections
-  pub parsed : List ℕ
+  pub answers : List FirstAnswer
+  pub parsed : List Bool
+  pub looks : ℕ
 
--- the sections of a context, or the fault that refuses it
-abbrev pub context_of : Sections → Result Sections Error
-context_of d = unit_index d >>= λ m. Ok d
-
--- whether the lines of a unit are parsed
-abbrev pub has_parsed : ContextState → ℕ → Bool
-has_parsed c n = list_any (λ m. m == n) c.parsed
-
--- whether a unit's answer ends a lookup: a location, or the fault of its lines
-abbrev pub decides : Result (Option Location) Error → Bool
-decides (Ok None) = false
-decides (Ok (Some l)) = true
-decides (Err e) = true
-
--- whether along these ranges the lines of each unit are parsed, up to the one that decides
-abbrev pub ready_along : ContextState → List UnitRecord → ℕ → List UnitRange → Bool
-ready_along c units probe [] = true
-ready_along c units probe (r ∷ ranges) =
-    has_parsed c r.unit
-    && (decides (location_in c.sections probe (slice_get units r.unit))
-    || ready_along c units probe ranges)
+-- a context of sections as it is made, or the fault that refuses it
+abbrev pub new_context : Sections → Result ContextState Error
+new_context d = do
+  units ← ranged_units d
+  sup ← sup_units d.sup
+  Ok (record { sections = d; answers = []; parsed = map asks_lines units; looks = 0 })
 
 -- a lookup of the probe parses nothing: no unit covers it, or the lines that it asks for are parsed
 abbrev pub IsReady : ContextState → ℕ → Type 0
-IsReady c probe = (m : UnitIndex) → unit_index c.sections ≡ Ok m
-    → ready_along c m.units probe (cover probe m.ranges) ≡ true
+IsReady c probe = (m : Made) → made c.sections ≡ Ok m
+    → ready_along c.sections m.units c.parsed probe (cover probe m.ranges) ≡ true
 
--- any answer but OutOfMemory
-abbrev pub IsNotOom : {X : Type 0} → Result X Error → Type 0
-IsNotOom (Ok x) = Unit {0}
-IsNotOom (Err e) = e ≢ OutOfMemory
+-- a lookup of a range parses nothing
+abbrev pub IsReadyForRange : ContextState → ℕ → ℕ → Type 0
+IsReadyForRange c low high = (m : Made) → made c.sections ≡ Ok m
+    → AreParsed c.parsed (cover_range low high m.ranges)
 
--- after a lookup the sections are the same, what was parsed stays parsed, and the same lookup
--- parses nothing more
+-- the most looks of a lookup of the probe
+abbrev pub LooksWithin : ℕ → ContextState → ContextState → Type 0
+LooksWithin probe old new = (m : Made) → made old.sections ≡ Ok m
+    → new.looks ≤ old.looks + looks_along old.sections m.units (cover probe m.ranges)
+
+-- the sections and the first answers are the same, and what was parsed stays parsed
+pub record Stays (old new : ContextState) : Type 0 where
+  pub sections : new.sections ≡ old.sections
+  pub answers : new.answers ≡ old.answers
+  pub parsed : StaysParsed old.parsed new.parsed
+
+-- after a lookup of the probe the same lookup parses nothing more
 pub record AfterLookup {X : Type 0} (probe : ℕ) (result : Result X Error)
     (old new : ContextState) : Type 0 where
-  pub sections : new.sections ≡ old.sections
-  pub stays : (n : ℕ) → has_parsed old n ≡ true → has_parsed new n ≡ true
+  pub stays : Stays old new
   pub ready : IsNotOom result → IsReady new probe
+  pub raised : old.looks ≤ new.looks
+  pub cost : LooksWithin probe old new
 
--- the units whose lines are parsed, as the fields have them: at most the first one
-abbrev pub parsed_in : {R : Type 0} → Option (ResUnit R) → List ℕ
-parsed_in unit = if is_uncached (lines_in_cache unit) then [] else 0 ∷ []
+-- after a lookup of a range the same lookup parses nothing more
+pub record AfterRangeLookup {X : Type 0} (low high : ℕ) (result : Result X Error)
+    (old new : ContextState) : Type 0 where
+  pub stays : Stays old new
+  pub ready : IsNotOom result → IsReadyForRange new low high
 
--- the unit of the context is the one that the sections give, and so are its cached lines
-pub record IsContext {R : Type 0} (d : Sections) (unit : Option (ResUnit R)) : Type 0 where
-  pub index_is : unit_index d ≡ Ok (unit_index_of unit)
-  pub lines : HasLinesOf d unit
+-- whether the lines of all units can be read, or the first fault
+abbrev pub lines_of_all : Sections → Result (Unit {0}) Error
+lines_of_all d = made d >>= λ m. lines_fault (all_lines d m.units)
+
+-- what a context has is what its sections give
+pub record IsContext {R : Type 0} (d : Sections) (units : List (ResUnit R))
+    (ranges : List UnitRange) (sup : List UnitRecord) : Type 0 where
+  pub made_is : made d
+      ≡ Ok (record { units = indexed_units units; ranges = ranges; sup_units = sup })
+  pub lines : HaveLinesOf d units

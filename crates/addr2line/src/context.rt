@@ -1,15 +1,19 @@
 //! Contexts: what lookups are made in.
 
-ghost use Rattle.std.specs.Prelude.{◌≡◌, ◌^◌, ◌-◌, [], None, Ok, IfOk, option_map};
+ghost use Rattle.std.specs.Prelude.{◌≡◌, ◌^◌, ◌-◌, ℕ, None, IfErr, IfOk, IsOk, Ok, OnOk, is_ok, option_map, true};
 ghost use Rattle.std.specs.Borrow.{sem};
-ghost use Rattle.gimli_read.specs.Reading.{Exactly, ExactlyUnlessOom};
+ghost use Rattle.gimli_read.specs.declared.error.Error.TheVariants.{OutOfMemory};
+ghost use Rattle.gimli_read.specs.Reading.{Exactly, ExactlyUnlessOom, ExactlyUnlessOomIf};
 ghost use Rattle.gimli.specs.declared.dwarf.DwarfFileType.TheVariants.{Main};
 ghost use Rattle.addr2line_lines.specs.SeenLocation.{seen_location};
-ghost use Rattle.addr2line_units.specs.Located.{location_of};
-ghost use Rattle.addr2line.specs.Context.{context_of, IsReady, AfterLookup};
+ghost use Rattle.addr2line_units.specs.Indexed.{context_takes_memory};
+ghost use Rattle.addr2line_units.specs.Located.{location_of, spans_of};
+ghost use Rattle.addr2line.specs.Context.{new_context, lines_of_all, AfterLookup, IsReady, IsReadyForRange, Stays};
 
-use addr2line_lines::Location;
-use addr2line_units::unit::ResUnits;
+use addr2line_lines::{Count, Location};
+use addr2line_units::range::LocationRangeIter;
+use addr2line_units::sup::SupUnits;
+use addr2line_units::units::ResUnits;
 use gimli::read::{Error, Reader};
 use gimli::{
     DebugAbbrev, DebugAddr, DebugAranges, DebugInfo, DebugLine, DebugLineStr, DebugRanges,
@@ -26,19 +30,27 @@ pub struct Context<R: Reader> {
     alloc: Global,
     dwarf: Rc<Dwarf<R>>,
     units: ResUnits<R>,
+    sup_units: SupUnits<R>,
+    // How often the lines of units were looked at, for contracts alone: it has no bytes.
+    looks: Count,
 }
 
 impl<R: Reader> Model for Context<R> {
-    ghost use Rattle.addr2line.specs.Context.{ContextState, IsContext, parsed_in};
+    ghost use Rattle.std.specs.Prelude.{[]};
+    ghost use Rattle.addr2line_units.specs.CachedLines.{parsed_units};
+    ghost use Rattle.addr2line.specs.Context.{ContextState, IsContext};
 
     ghost Value = { ContextState };
 
     ghost view = { λ c. record {
       sections = c.dwarf.value;
-      parsed = parsed_in c.units.unit;
+      answers = [];
+      parsed = parsed_units c.units.units.items;
+      looks = c.looks;
     } };
 
-    ghost invariant = { λ c. IsContext c.dwarf.value c.units.unit };
+    ghost invariant = { λ c. IsContext c.dwarf.value c.units.units.items c.units.ranges
+        c.sup_units.units.items };
 }
 
 impl<R: Reader> Context<R> {
@@ -46,16 +58,17 @@ impl<R: Reader> Context<R> {
 
     /// A context of the sections of a file.
     ///
-    /// The headers, records and range attributes of all units are read; the first unit whose record
-    /// can be read answers lookups. No line program is run.
+    /// The sets of `.debug_aranges` are read, then the headers, records and range attributes of all
+    /// units, then the headers and records of the supplementary file. The line program of a unit is
+    /// run here only where neither `.debug_aranges` nor the unit's attributes give it a range.
     ///
-    /// Refused by the first fault of a header or of the range attributes of a unit whose record can
-    /// be read, each unit whole before the next header; may fail with `OutOfMemory` instead. A type
-    /// unit and a unit whose record is faulty are passed over.
+    /// Refused by the first fault of a set's header, of a unit's header, or of the range attributes
+    /// or range list of a unit whose record can be read, each unit whole before the next header;
+    /// then by that of a header of the supplementary file. May fail with `OutOfMemory` instead. A
+    /// type unit and a unit whose record is faulty are passed over; a partial unit of version 5 has
+    /// no range. Source: DWARF 5, sections 2.17, 3.1 and 6.1.2.
     pub fn from_dwarf(alloc: Global, dwarf: Dwarf<R>) -> Result<Context<R>, Error>
-        ensures gives { ExactlyUnlessOom (λ c. c.sections) result
-            (context_of dwarf) }
-        ensures unread { IfOk result (λ c. c.parsed ≡ []) }
+        ensures gives { ExactlyUnlessOom (λ c. c) result (new_context dwarf) }
     {
         let dwarf = Rc::new(alloc, dwarf)?;
         Context::from_arc_dwarf(alloc, dwarf)
@@ -63,17 +76,20 @@ impl<R: Reader> Context<R> {
 
     /// A context of the sections of a file that others may hold too.
     ///
-    /// Refused as `from_dwarf` is.
+    /// Refused as `from_dwarf` is; takes no memory where there is no unit, no set of
+    /// `.debug_aranges` and no supplementary file, and no bytes are shared.
     pub fn from_arc_dwarf(alloc: Global, dwarf: Rc<Dwarf<R>>) -> Result<Context<R>, Error>
-        ensures gives { ExactlyUnlessOom (λ c. c.sections) result
-            (context_of dwarf.value) }
-        ensures unread { IfOk result (λ c. c.parsed ≡ []) }
+        ensures gives { ExactlyUnlessOomIf (context_takes_memory R.shares dwarf.value) (λ c. c)
+            result (new_context dwarf.value) }
     {
         let units = ResUnits::parse(alloc, &dwarf)?;
+        let sup_units = SupUnits::parse(alloc, &dwarf)?;
         Ok(Context {
             alloc,
             dwarf,
             units,
+            sup_units,
+            looks: Count::new(),
         })
     }
 
@@ -94,7 +110,7 @@ impl<R: Reader> Context<R> {
         debug_str_offsets: DebugStrOffsets<R>,
         default_section: R,
     ) -> Result<Context<R>, Error>
-        ensures gives { ExactlyUnlessOom (λ c. c.sections) result (context_of (record {
+        ensures gives { ExactlyUnlessOom (λ c. c) result (new_context (record {
           debug_abbrev = R.section debug_abbrev.section;
           debug_addr = R.section debug_addr.section;
           debug_aranges = R.section debug_aranges.section;
@@ -108,7 +124,6 @@ impl<R: Reader> Context<R> {
           file_type = Main;
           sup = None;
         })) }
-        ensures unread { IfOk result (λ c. c.parsed ≡ []) }
     {
         let _ = default_section;
         Context::from_dwarf(
@@ -133,13 +148,15 @@ impl<R: Reader> Context<R> {
     /// The location of an address: its file, line and column; none where no unit covers it, or
     /// where no row has it. No unit covers 2^64 - 1.
     ///
-    /// `probe` is an address as the file has it. The lines of the unit that covers it are parsed at
-    /// the first such lookup, and stay parsed, their fault too.
+    /// `probe` is an address as the file has it. Of the ranges that hold it, by end, then unit,
+    /// then begin, the first whose unit has a location gives it. The lines of each unit up to it
+    /// are parsed at the first such lookup, and stay parsed, their fault too.
     ///
-    /// Refused by that fault; may fail with `OutOfMemory` instead, which is never cached. Takes no
-    /// memory where the lines that it asks for are parsed, nor where no unit covers `probe`.
+    /// Refused by the first such fault; may fail with `OutOfMemory` instead, which is never cached.
+    /// Takes no memory where the lines that it asks for are parsed, nor where no unit covers
+    /// `probe`.
     ///
-    /// Source: DWARF 5, section 6.2. Own: which of several sequences counts.
+    /// Source: DWARF 5, section 6.2. Own: which of several sequences counts, and which unit.
     pub fn find_location(&mut self, probe: u64) -> Result<Option<Location<'_>>, Error>
         ensures gives { ExactlyUnlessOom (option_map seen_location) result
             (location_of self.old.sections probe) }
@@ -149,7 +166,51 @@ impl<R: Reader> Context<R> {
         ensures* kept { sem 𝓛 (EndsAs R.row R.Reader self.entry
             (AfterLookup probe result self.old)) }
     {
-        self.units.read_lines(self.alloc, &self.dwarf, probe)?;
-        Ok(self.units.find_location(probe))
+        let place = self
+            .units
+            .find_place(self.alloc, &self.dwarf, &mut self.looks, probe)?;
+        match place {
+            Some(place) => Ok(Some(self.units.location(place))),
+            None => Ok(None),
+        }
+    }
+
+    /// The rows that the addresses from `low` up to `high` meet, each with its address, the length
+    /// of its span, and its location: unit range after unit range, by end, then unit, then begin.
+    ///
+    /// Addresses are as the file has them; `low` may be above `high`. The lines of each unit that
+    /// is met are parsed, unless they are, and stay parsed, their fault too; a fault is given in
+    /// the place of the unit's rows.
+    ///
+    /// Refused `OutOfMemory` alone, which is never cached; takes no memory where the lines are
+    /// parsed.
+    ///
+    /// Source: DWARF 5, section 6.2.2. Own: the order, and what is met.
+    pub fn find_location_range(
+        &mut self,
+        low: u64,
+        high: u64,
+    ) -> Result<LocationRangeIter<'_, R>, Error>
+        ensures gives { IfOk result (λ rows. spans_of self.old.sections low high ≡ Ok rows) }
+        ensures refused { IfErr result (λ e. e ≡ OutOfMemory) }
+        ensures exact { IsReadyForRange self.old low high → IsOk result }
+    {
+        self.units.cache_lines(self.alloc, &self.dwarf, low, high)?;
+        Ok(self.units.find_location_range(low, high))
+    }
+
+    /// Parses the lines of all units in their order, unless they are parsed; they stay parsed,
+    /// their fault too.
+    ///
+    /// Refused by the first fault; may fail with `OutOfMemory` instead, which is never cached. Once
+    /// it isn't refused, `find_location` takes no memory and finds no fault.
+    pub fn parse_lines(&mut self) -> Result<(), Error>
+        ensures gives { ExactlyUnlessOom (λ x. x) result (lines_of_all self.old.sections) }
+        ensures stays { Stays self.old self.new }
+        ensures ready { OnOk result ((probe : ℕ) → IsReady self.new probe) }
+        ensures found { OnOk result ((probe : ℕ) → is_ok
+            (location_of self.new.sections probe) ≡ true) }
+    {
+        self.units.parse_lines(self.alloc, &self.dwarf)
     }
 }

@@ -6,4 +6,5 @@ mod context;
 pub use crate::context::Context;
 pub use addr2line_lines::Location;
 pub use addr2line_units::frame::{demangle, demangle_auto};
+pub use addr2line_units::range::LocationRangeIter;
 pub use gimli;

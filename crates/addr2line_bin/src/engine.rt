@@ -222,6 +222,24 @@ pub fn print<L: Locate, W: Write, E: Write>(
     }
 }
 
+/// The same of a context that nothing else is asked of.
+pub fn print_all<L: Locate + Drop, W: Write, E: Write>(
+    alloc: Global,
+    name: &str,
+    context: L,
+    words: &[String],
+    out: &mut W,
+    err: &mut E,
+) -> Exit
+    ensures gives { IsRun name.now (W.contents out.old) (W.contents out.new)
+        (E.contents err.old) (E.contents err.new)
+        (outs (L.found context) (probes_in words.now))
+        (errs (L.found context) name.now (probes_in words.now)) result }
+{
+    let mut context = context;
+    print(alloc, name, &mut context, words, out, err)
+}
+
 /// Writes why the debug information of a file can't be loaded.
 pub fn tell_load_fault<E: Write>(
     name: &str,

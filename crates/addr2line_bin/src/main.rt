@@ -19,7 +19,7 @@ mod tests;
 mod text;
 
 use crate::command::{Request, name_of, request_of};
-use crate::engine::{Exit, print, tell_last, tell_load_fault, tell_usage};
+use crate::engine::{Exit, print_all, tell_last, tell_load_fault, tell_usage};
 use crate::load::load_from;
 use crate::stream::Stop;
 use elf::LoaderError;
@@ -60,7 +60,7 @@ fn run<W: Write, E: Write>(
         (result_map (λ v. v.items) bytes) result }
 {
     match load_from(alloc, bytes) {
-        Ok(mut context) => print(alloc, name, &mut context, addresses, out, err),
+        Ok(context) => print_all(alloc, name, context, addresses, out, err),
         Err(fault) => tell_load_fault(name, fault, err, &mut false),
     }
 }

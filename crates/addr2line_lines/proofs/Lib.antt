@@ -17,3 +17,9 @@ pub mod RowLemmas
 pub mod FileLemmas
 pub mod ProgramLemmas
 pub mod RangeLemmas
+pub mod ShortestLemmas
+pub mod SegmentLemmas
+pub mod SweepLemmas
+pub mod SegmentSearch
+pub mod FunctionLemmas
+pub mod FunctionOrder

@@ -9,7 +9,7 @@ use Rattle.addr2line_lines.specs.Pick.{if_past, IsDisjoint, LoneIsPicked}
 use Rattle.addr2line_lines.proofs.PickLemmas.{In, In-passes, All-passing, IsBefore, same_ends, counting_is}
 
 module _ {X : Type 0} where
-  from_contains : (xs : List X) (z : X) (k : ℕ) → k < length xs → slice_index_or xs k z ≡ z → In z xs
+  pub from_contains : (xs : List X) (z : X) (k : ℕ) → k < length xs → slice_index_or xs k z ≡ z → In z xs
   from_contains [] z k l e = absurd (omega arith)
   from_contains (x ∷ xs) z zero l e = inl e
   from_contains (x ∷ xs) z (suc k) l e = inr (from_contains xs z k (omega arith) e)

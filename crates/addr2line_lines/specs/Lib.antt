@@ -19,3 +19,8 @@ pub mod SeenLocation
 pub mod FileTexts
 pub mod UnitLines
 pub mod RangeAttributes
+pub mod Shortest
+pub mod Segments
+pub mod Sweep
+pub mod Functions
+pub mod FoundFunctions

@@ -1,23 +1,26 @@
 -- The addresses of an entry (DWARF 5, section 2.17).
 -- Own: of low_pc, of high_pc as an address and of high_pc as a size the last that counts is taken;
--- a high_pc address counts before a size, whose sum wraps at 64 bits. Empty and reversed ranges are
--- dropped.
--- limit: no range list is read yet
-use Rattle.std.specs.Prelude.{ℕ, ◌+◌, ◌%◌, ◌^◌, ◌==◌, nat_lt, List, [], ◌∷◌, fold, Option, Some, None, Result, Ok, if◌then◌else◌}
+-- of ranges the last, also where its value is of another class and stands for no list.
+-- Own: a range list counts before low_pc, also an empty one, and its fault is the answer; a high_pc
+-- address counts before a size, whose sum wraps at 64 bits. Empty and reversed ranges are dropped.
+use Rattle.std.specs.Prelude.{ℕ, ◌+◌, ◌%◌, ◌^◌, ◌==◌, nat_lt, Bool, true, false, List, [], ◌∷◌, map, fold, Option, Some, None, Result, Ok, if◌then◌else◌}
 use Rattle.std.specs.Option.{option_or}
 use Rattle.gimli_read.specs.declared.error.Error.{Error}
 use Rattle.gimli_read.specs.declared.range.Range.{Range}
 use Rattle.gimli_read.specs.declared.value.AttributeValue.{AttributeValue}
 use Rattle.gimli_read.specs.declared.value.AttributeValue.TheVariants as values
-use Rattle.gimli_read.specs.declared.constants.TheConstants.DwAt.{DW_AT_low_pc, DW_AT_high_pc}
+use Rattle.gimli_read.specs.declared.constants.TheConstants.DwAt.{DW_AT_low_pc, DW_AT_high_pc, DW_AT_ranges}
 use Rattle.gimli_read.specs.Section.{Section}
 use Rattle.gimli_read.specs.Reading.{Reading, ◌>>=◌}
 use Rattle.gimli_read.specs.Form.{NamedValue, constant_of}
+use Rattle.gimli.specs.Ranges.{ranges_at}
+use Rattle.gimli.specs.RangesOffset.{ranges_offset_of}
 use Rattle.gimli.specs.Sections.{Sections}
 use Rattle.gimli.specs.Text.{indexed_number}
 use Rattle.gimli.specs.Unit.{UnitRecord}
 use Rattle.gimli.specs.Entries.{root_attributes_of}
 use Rattle.addr2line_lines.specs.declared.function.RangeAttributes.{RangeAttributes}
+use Rattle.addr2line_lines.specs.Rows.{read_all}
 
 -- the address that a value stands for, none of a value of another class
 abbrev pub attr_address : Sections → UnitRecord → AttributeValue Section → Result (Option ℕ) Error
@@ -28,7 +31,7 @@ attr_address d u _ = Ok None
 
 -- before the first attribute
 abbrev pub no_range_attributes : RangeAttributes
-no_range_attributes = record { low_pc = None; high_pc = None; size = None }
+no_range_attributes = record { low_pc = None; high_pc = None; size = None; ranges_offset = None }
 
 -- one more attribute
 unfoldable pub with_range_attribute
@@ -41,6 +44,8 @@ with_range_attribute d u r a =
       high_pc = option_or high r.high_pc;
       size = option_or (constant_of a.value) r.size;
     }))
+    else if a.name.0 == DW_AT_ranges.0 then (ranges_offset_of d u a.value >>= λ offset.
+    Ok (record r { ranges_offset = offset }))
     else Ok r
 
 -- one more attribute, where none before it has a fault
@@ -75,6 +80,29 @@ range_to low (Some high) size = range_between low high
 range_to low None (Some size) = range_between low ((low + size) % 2 ^ 64)
 range_to low None None = []
 
--- the ranges of the attributes
+-- the range of low_pc and high_pc, if there is one
 abbrev pub ranges_of : RangeAttributes → List Range
 ranges_of r = elim r.low_pc [ None ↦ [] | Some low ↦ range_to low r.high_pc r.size ]
+
+-- the ranges of the attributes, and the fault after them, if there is one
+abbrev pub range_list_of
+    : Sections → UnitRecord → RangeAttributes → Result (List (Result Range Error)) Error
+range_list_of d u r = elim r.ranges_offset
+    [ None ↦ Ok (map Ok (ranges_of r)) | Some offset ↦ ranges_at d u offset ]
+
+-- all ranges of a list, or its first fault
+abbrev pub all_ranges : Result (List (Result Range Error)) Error → Result (List Range) Error
+all_ranges list = list >>= read_all
+
+-- the ranges of the attributes, or the first fault of their range list
+abbrev pub attribute_ranges : Sections → UnitRecord → RangeAttributes → Result (List Range) Error
+attribute_ranges d u r = all_ranges (range_list_of d u r)
+
+-- whether the first of a list can be read
+abbrev pub begins_well : {X E : Type 0} → Result (List (Result X E)) E → Bool
+begins_well (Ok (Ok x ∷ rest)) = true
+begins_well _ = false
+
+-- whether the attributes give a range before any fault
+abbrev pub gives_a_range : Sections → UnitRecord → RangeAttributes → Bool
+gives_a_range d u r = begins_well (range_list_of d u r)

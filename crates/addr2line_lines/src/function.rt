@@ -1,14 +1,16 @@
 //! The addresses of entries.
 
-ghost use Rattle.std.specs.Prelude.{◌≡◌, [], ◌∷◌, Ok};
+ghost use Rattle.std.specs.Prelude.{◌≡◌, [], ◌∷◌, Ok, OnOk};
 ghost use Rattle.std.specs.Option.{option_to_list};
 ghost use Rattle.gimli_read.specs.Reading.{Exactly, ExactlyUnlessOomIf};
-ghost use Rattle.gimli_read.specs.Form.{seen_value};
+ghost use Rattle.gimli_read.specs.Form.{rest_of, seen_value};
 ghost use Rattle.gimli.specs.Entry.{attributes_at};
-ghost use Rattle.addr2line_lines.specs.RangeAttributes.{attr_address, no_range_attributes, with_range_attribute, or_with_range_attribute, range_attributes_after, root_range_attributes, range_between, range_to, ranges_of};
+ghost use Rattle.gimli.specs.Ranges.{ranges_at};
+ghost use Rattle.addr2line_lines.specs.RangeAttributes.{attr_address, no_range_attributes, with_range_attribute, or_with_range_attribute, range_attributes_after, root_range_attributes, range_between, range_to, ranges_of, all_ranges, attribute_ranges, begins_well, gives_a_range};
 
 use gimli::read::{Attribute, AttributeSpecification, AttributeValue, DwAt, Error, Range, Reader};
 use gimli::{EntriesRaw, UnitRef};
+use std::alloc::Global;
 
 /// What the attributes of an entry say of its addresses, the last of each counting.
 #[derive(Clone, Copy, Debug, PartialEq, Eq)]
@@ -19,6 +21,9 @@ pub struct RangeAttributes {
     pub high_pc: Option<u64>,
     /// The number of addresses.
     pub size: Option<u64>,
+    /// Where the range list begins, in bytes from the start of the section that `UnitRef::ranges`
+    /// reads; none where there is no list.
+    pub ranges_offset: Option<u64>,
 }
 
 // The address that a value stands for, none of a value of another class.
@@ -56,12 +61,13 @@ impl RangeAttributes {
             low_pc: None,
             high_pc: None,
             size: None,
+            ranges_offset: None,
         }
     }
 
-    // Takes one more attribute in.
+    /// Takes one more attribute in.
     #[tactic(auto, unfolding(crate::specs::RangeAttributes::with_range_attribute))]
-    fn take<R: Reader>(
+    pub fn take<R: Reader>(
         self,
         unit: UnitRef<'_, R>,
         attribute: Attribute<R>,
@@ -79,6 +85,7 @@ impl RangeAttributes {
                     low_pc: low.or(self.low_pc),
                     high_pc: self.high_pc,
                     size: self.size,
+                    ranges_offset: self.ranges_offset,
                 })
             }
             DwAt::DW_AT_high_pc => {
@@ -87,14 +94,22 @@ impl RangeAttributes {
                     low_pc: self.low_pc,
                     high_pc: high.or(self.high_pc),
                     size: size.or(self.size),
+                    ranges_offset: self.ranges_offset,
                 })
             }
+            // A value of another class takes an earlier list away, as there is one list at most.
+            DwAt::DW_AT_ranges => Ok(RangeAttributes {
+                low_pc: self.low_pc,
+                high_pc: self.high_pc,
+                size: self.size,
+                ranges_offset: unit.attr_ranges_offset(value)?,
+            }),
             _ => Ok(self),
         }
     }
 
-    /// The range of the attributes: up to the high_pc address, else of the size; none where it is
-    /// empty or reversed. Takes no memory.
+    /// The range from low_pc on: up to the high_pc address, else of the size; none where it is
+    /// empty or reversed. It counts only where there is no range list. Takes no memory.
     pub fn range(&self) -> Option<Range>
         ensures gives { option_to_list result ≡ ranges_of self.now }
     {
@@ -122,9 +137,9 @@ fn with_attribute<R: Reader>(
     }
 }
 
-// The range attributes among those of specifications. A value that can't be read is a fault before
-// that of an address's index, so the first of these waits until all values are read.
-fn read_ranges<R: Reader>(
+/// The range attributes among those of specifications. A value that can't be read is a fault before
+/// that of an address's index, so the first of these waits until all values are read.
+pub(crate) fn read_range_attributes<R: Reader>(
     unit: UnitRef<'_, R>,
     entries: &mut EntriesRaw<'_, R>,
     specifications: &[AttributeSpecification],
@@ -134,6 +149,10 @@ fn read_ranges<R: Reader>(
         unit.entry.dwarf.now unit.entry.unit.now (Ok no_range_attributes)
         (attributes_at unit.entry.unit.now.header.encoding specifications.now
         entries.old.cursor.left)) }
+    ensures left { OnOk result (rest_of (attributes_at unit.entry.unit.now.header.encoding
+        specifications.now entries.old.cursor.left) ≡ Ok entries.new.cursor.left) }
+    ensures unit { entries.new.unit ≡ entries.old.unit }
+    ensures depth { entries.new.cursor.depth ≡ entries.old.cursor.depth }
 {
     let mut ranges = Ok(RangeAttributes::new());
     for specification in specifications {
@@ -146,8 +165,8 @@ fn read_ranges<R: Reader>(
 /// The range attributes of a unit's root entry.
 ///
 /// Refused by the entry's code and its values in their order, `MissingUnitDie` at a closing entry,
-/// then by the first index of an address that isn't wholly in its section; may fail with
-/// `OutOfMemory` instead, where bytes are shared.
+/// then by the first index, of an address or a range list, that isn't wholly in its section, or
+/// range list's offset of 2^64 or more; may fail with `OutOfMemory` instead, where bytes are shared.
 #[tactic(auto, unfolding(gimli::specs::Entry::root_attributes))]
 pub fn read_root_ranges<R: Reader>(unit: UnitRef<'_, R>) -> Result<RangeAttributes, Error>
     ensures gives { ExactlyUnlessOomIf R.shares (λ r. r) result
@@ -155,7 +174,51 @@ pub fn read_root_ranges<R: Reader>(unit: UnitRef<'_, R>) -> Result<RangeAttribut
 {
     let mut entries = unit.entries_raw(None)?;
     match entries.read_abbreviation()? {
-        Some(abbreviation) => read_ranges(unit, &mut entries, abbreviation.attributes()),
+        Some(abbreviation) => read_range_attributes(unit, &mut entries, abbreviation.attributes()),
         None => Err(Error::MissingUnitDie),
+    }
+}
+
+// The ranges of the range list at an offset, in its order.
+fn read_range_list<R: Reader>(
+    alloc: Global,
+    unit: UnitRef<'_, R>,
+    offset: u64,
+) -> Result<Vec<Range>, Error>
+    ensures gives { ExactlyUnlessOomIf
+        (begins_well (ranges_at unit.entry.dwarf.now unit.entry.unit.now offset)) (λ v. v.items)
+        result (all_ranges (ranges_at unit.entry.dwarf.now unit.entry.unit.now offset)) }
+{
+    let mut list = unit.ranges(offset)?;
+    let mut ranges = Vec::new(alloc);
+    while let Some(range) = list.next()? {
+        ranges.push(range)?;
+    }
+    Ok(ranges)
+}
+
+/// The ranges of addresses of an entry with these attributes, as the file has them.
+///
+/// Those of the range list where there is one, in its order, else that of `RangeAttributes::range`.
+/// Refused `UnsupportedAddressSize` and by the first fault of the range list; may fail with
+/// `OutOfMemory` instead, only where a range comes before any fault. Source: DWARF 5, section 2.17.
+pub fn read_ranges<R: Reader>(
+    alloc: Global,
+    unit: UnitRef<'_, R>,
+    attributes: &RangeAttributes,
+) -> Result<Vec<Range>, Error>
+    ensures gives { ExactlyUnlessOomIf
+        (gives_a_range unit.entry.dwarf.now unit.entry.unit.now attributes.now) (λ v. v.items)
+        result (attribute_ranges unit.entry.dwarf.now unit.entry.unit.now attributes.now) }
+{
+    match attributes.ranges_offset {
+        Some(offset) => read_range_list(alloc, unit, offset),
+        None => {
+            let mut ranges = Vec::new(alloc);
+            if let Some(range) = attributes.range() {
+                ranges.push(range)?;
+            }
+            Ok(ranges)
+        }
     }
 }

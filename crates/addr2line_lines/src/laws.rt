@@ -1,9 +1,11 @@
-//! Laws of sequences and of the choice among them, with no code.
+//! Laws of sequences, of functions and of the choice among them, with no code.
 
 ghost use Rattle.addr2line_lines.specs.Sequences.{start_of, end_of};
 ghost use Rattle.addr2line_lines.specs.Rises.{SequencesRise};
 ghost use Rattle.addr2line_lines.specs.InOrder.{OrderIsFree};
 ghost use Rattle.addr2line_lines.specs.Pick.{LoneIsPicked};
+ghost use Rattle.addr2line_lines.specs.Functions.{function_begin, function_end, function_offset};
+ghost use Rattle.addr2line_lines.specs.Shortest.{LoneIsShortest, NoneIsShorter};
 ghost use Rattle.addr2line_lines.specs.Spans.{EachAddressHasRow};
 
 /// Where addresses don't fall within a sequence, the sequences of the rows rise.
@@ -24,4 +26,16 @@ pub fn order_is_free()
 /// A sequence that holds an address is picked where all others are disjoint from it.
 pub fn lone_is_picked()
     ensures law { LoneIsPicked start_of end_of }
+{}
+
+/// The function at an address is that of a range that holds it where no other that holds it is
+/// shorter, or as long and of a lesser entry offset.
+pub fn none_is_shorter()
+    ensures law { NoneIsShorter function_begin function_end function_offset }
+{}
+
+/// A range that holds an address is the shortest, and the one that is picked, where all others are
+/// disjoint from it.
+pub fn lone_is_shortest()
+    ensures law { LoneIsShortest function_begin function_end function_offset }
 {}

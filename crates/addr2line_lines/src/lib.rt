@@ -5,6 +5,7 @@ mod columns;
 mod count;
 mod files;
 mod function;
+mod functions;
 mod laws;
 mod line;
 mod location;
@@ -13,14 +14,21 @@ mod path;
 mod range;
 mod row;
 mod search;
+mod segments;
 mod sequence;
 
 pub use crate::count::Count;
-pub use crate::function::{RangeAttributes, read_root_ranges};
-pub use crate::laws::{each_address_has_a_row, lone_is_picked, order_is_free, sequences_rise};
+pub use crate::function::{RangeAttributes, read_ranges, read_root_ranges};
+pub use crate::functions::Functions;
+pub use crate::laws::{
+    each_address_has_a_row, lone_is_picked, lone_is_shortest, none_is_shorter, order_is_free,
+    sequences_rise,
+};
 pub use crate::line::Lines;
 pub use crate::location::Location;
 pub use crate::range::{LineLocationRangeIter, LineRanges};
+pub use crate::row::Row;
+pub use crate::segments::{FunctionAddress, Segments};
 
 #[cfg(test)]
 mod tests;

@@ -9,7 +9,7 @@ ghost use Rattle.addr2line_lines.specs.Counts.{most_looks_in};
 ghost use Rattle.addr2line_lines.specs.RangeLocations.{locations_in_range, sequence_ranges};
 ghost use Rattle.gimli_read.specs.Reading.{ExactlyUnlessOomIf, IsUnlessOom};
 ghost use Rattle.addr2line_lines.specs.UnitLines.{program_lines, unit_lines};
-ghost use Rattle.addr2line_lines.specs.Location.{location_at};
+ghost use Rattle.addr2line_lines.specs.Location.{location_at, location_of_row};
 ghost use Rattle.addr2line_lines.specs.SeenLocation.{seen_location};
 ghost use Rattle.addr2line_lines.specs.Spans.{row_at};
 
@@ -118,8 +118,12 @@ impl Lines {
         file_text(&self.files, index)
     }
 
-    // The row whose span holds the probe, in the picked sequence.
-    fn find_row(&self, looks: &mut Count, probe: u64) -> Option<Row>
+    /// The row of an address, `None` where no sequence has it. Takes no memory.
+    ///
+    /// `probe` and `looks` are those of `find_location_counted`.
+    ///
+    /// Source: DWARF 5, section 6.2.2. Own: which of several sequences counts.
+    pub fn find_row(&self, looks: &mut Count, probe: u64) -> Option<Row>
         ensures found { result ≡ row_at probe self.now.sequences }
         ensures cost { looks.new ≤ looks.old + most_looks_in self.now }
         ensures raised { looks.old ≤ looks.new }
@@ -133,6 +137,13 @@ impl Lines {
         let row = search(&mut rows, probe);
         *looks = rows.looks;
         row
+    }
+
+    /// The location of a row. Takes no memory.
+    pub fn location(&self, row: Row) -> Location<'_>
+        ensures gives { seen_location result ≡ location_of_row self.now.files row }
+    {
+        row_location(&self.files, row)
     }
 
     /// The location of an address, `None` where no sequence has it. Takes no memory.
@@ -161,7 +172,7 @@ impl Lines {
         ensures raised { looks.old ≤ looks.new }
         ensures counted { IfSome result (λ location. looks.old < looks.new) }
     {
-        Some(row_location(&self.files, self.find_row(looks, probe)?))
+        Some(self.location(self.find_row(looks, probe)?))
     }
 
     /// The rows of a unit's range whose spans meet the addresses from `low` up to `high`, each with

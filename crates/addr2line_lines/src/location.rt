@@ -1,6 +1,6 @@
 //! A location in a source file.
 
-ghost use Rattle.std.specs.Prelude.{◌≡◌, map, slice_get, option_copied, string_bytes};
+ghost use Rattle.std.specs.Prelude.{◌≡◌, [], map, slice_get, option_copied, string_bytes};
 ghost use Rattle.addr2line_lines.specs.Location.{location_of_row};
 ghost use Rattle.addr2line_lines.specs.SeenLocation.{seen_location};
 
@@ -40,5 +40,14 @@ pub(crate) fn row_location(files: &[String], row: Row) -> Location<'_>
         file,
         line: Some(row.line),
         column: Some(row.column),
+    }
+}
+
+impl<'a> Location<'a> {
+    /// The location that a row gives where there are no files. Takes no memory.
+    pub fn without_file(row: Row) -> Location<'a>
+        ensures gives { seen_location result ≡ location_of_row [] row }
+    {
+        row_location(&[], row)
     }
 }

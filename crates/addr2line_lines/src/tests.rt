@@ -5,9 +5,10 @@ use crate::packed::{CountedRows, PackedRows};
 use crate::path::{make_file_text, make_own_text, push_path};
 use crate::row::Row;
 use crate::search::{Table, search};
+use crate::segments::{FunctionAddress, Segments};
 use crate::sequence::{LineSequence, read_sequences};
 use gimli_line::read_line_program;
-use gimli_read::{EndianSlice, Error, RunTimeEndian};
+use gimli_read::{EndianSlice, Error, Range, RunTimeEndian};
 use std::alloc::{AllocError, Global};
 use std::test::Fail;
 
@@ -167,4 +168,48 @@ fn a_search_takes_few_looks(rt: HostRuntime) -> Result<(), Fail> {
     let shared = packed_of(rt.alloc(), &SHARED_BLOCK)?;
     assert_eq!(rt; bounded_lines(&shared, 69), ([131, 200, 0, 2], true));
     Ok(())
+}
+
+// The functions at three addresses, 9 where there is none, 99 where no memory is left.
+fn functions_at(alloc: Global, ranges: &[(u64, u64, usize)], probes: [u64; 3]) -> [usize; 3] {
+    let mut addresses = Vec::new(alloc);
+    for (begin, end, function) in ranges {
+        let range = Range {
+            begin: *begin,
+            end: *end,
+        };
+        let function = *function;
+        if addresses.push(FunctionAddress { range, function }).is_err() {
+            return [99; 3];
+        }
+    }
+    let Ok(segments) = Segments::new(alloc, addresses) else {
+        return [99; 3];
+    };
+    probes.map(|probe| segments.find(probe).unwrap_or(9))
+}
+
+#[test]
+fn the_shortest_range_counts(rt: HostRuntime) {
+    let cases: [(&[(u64, u64, usize)], [u64; 3], [usize; 3]); 4] = [
+        (
+            &[(0x10, 0x30, 0), (0x20, 0x28, 1)],
+            [0x24, 0x2a, 0x30],
+            [1, 0, 9],
+        ),
+        (
+            &[(0x10, 0x20, 1), (0x10, 0x20, 0)],
+            [0xf, 0x10, 0x1f],
+            [9, 0, 0],
+        ),
+        (
+            &[(0, 100, 0), (40, 50, 0), (45, 60, 1)],
+            [47, 52, 60],
+            [0, 1, 0],
+        ),
+        (&[], [0, 1, u64::MAX], [9, 9, 9]),
+    ];
+    for (ranges, probes, want) in cases {
+        assert_eq!(rt; functions_at(rt.alloc(), ranges, probes), want);
+    }
 }

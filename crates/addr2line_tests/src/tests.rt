@@ -2,7 +2,12 @@
 
 mod context;
 mod example;
+mod functions;
 mod line_ranges;
 mod lines;
+mod location_ranges;
 mod names;
+mod range_attributes;
+mod refused_growths;
 mod sections;
+mod units;

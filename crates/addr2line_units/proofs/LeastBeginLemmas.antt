@@ -61,7 +61,7 @@ dropped_least (suc n) [] h = h
 dropped_least (suc n) (x ∷ xs) h = dropped_least n xs (later_least x xs h)
 
 -- a slice from a place on is what is left from there on
-pub rest_is : (n : ℕ) (ys xs : List IndexedRange) → ys ≡ xs → take (length ys - n) (drop n ys) ≡ drop n xs
+pub rest_is : {X : Type 0} (n : ℕ) (ys xs : List X) → ys ≡ xs → take (length ys - n) (drop n ys) ≡ drop n xs
 rest_is n ys xs e = let left = length-drop n ys in take_all (length ys - n) (drop n ys) (omega arith) ∙ ap (drop n) e
 
 -- where the least begin is past the last address of a search, none begins by it
@@ -140,10 +140,11 @@ ok_is xs ys e = cc
 pub given_is : (listed ordered : List UnitRange) (made : List IndexedRange) → ordered ≡ in_order ends_sooner listed → ◌≡◌ {A = Result (List IndexedRange) Error} (Ok (with_least_begins ordered)) (Ok made) → in_order ends_sooner listed ≡ map unit_range_of made
 given_is listed ordered made e h = sym e ∙ sym (ranges_beside ordered) ∙ sym (ap (map unit_range_of) (ok_is _ _ h))
 
-pub indexed_is : (listed ordered : List UnitRange) (made : List IndexedRange) → ordered ≡ in_order ends_sooner listed → ◌≡◌ {A = Result (List IndexedRange) Error} (Ok (with_least_begins ordered)) (Ok made) → AllByRecursion EndFits ordered → AreIndexed made
+pub indexed_is : (listed ordered : List UnitRange) (made : List IndexedRange) → ordered ≡ in_order ends_sooner listed → ◌≡◌ {A = Result (List IndexedRange) Error} (Ok (with_least_begins ordered)) (Ok made) → AllByRecursion EndFits ordered → AreIndexed listed made
 indexed_is listed ordered made e h fit =
     let is = given_is listed ordered made e h in
     record {
+      sorted = sym is;
       ordered = subst (IsInOrder ends_sooner) is (in_order_ordered ends_sooner ends_order listed);
       least = ok_is _ _ h ∙ ap with_least_begins (e ∙ is);
       fit = subst (AllByRecursion EndFits) (e ∙ is) fit;

@@ -3,6 +3,10 @@ pub mod LegacyMarks
 pub mod LegacyElements
 pub mod LegacyPlain
 pub mod LegacyProofs
+pub mod AttributeLemmas
+pub mod ArangeLemmas
+pub mod MadeLemmas
+pub mod UnitsLemmas
 pub mod UnitLemmas
 pub mod IndexLemmas
 pub mod LeastBeginLemmas

@@ -1,21 +1,26 @@
 -- The lines of units as a context caches them, as the private functions see them.
 -- Own: lines are read when they are first asked for, and cached then, their fault too. OutOfMemory
 -- is never cached.
-use Rattle.std.specs.Prelude.{◌≡◌, ◌≢◌, ℕ, Bool, true, false, ◌&&◌, nat_le, nat_lt, [], ◌∷◌, map, Option, Some, None, option_and_then, Result, Ok, Err, if◌then◌else◌}
-use Rattle.std.specs.Option.{option_to_list}
-use Rattle.gimli_read.specs.declared.range.Range.{Range}
+use Rattle.std.specs.Prelude.{◌≡◌, ◌≢◌, ℕ, Bool, true, false, not, List, [], ◌∷◌, map, Option, Some, None, slice_get, Result, Ok, Err}
+use Rattle.std.specs.List.{AllByRecursion}
 use Rattle.gimli_read.specs.declared.error.Error.{Error}
 use Rattle.gimli_read.specs.declared.error.Error.TheVariants.{OutOfMemory}
-use Rattle.gimli_read.specs.Section.{Section}
+use Rattle.gimli_read.specs.declared.range.Range.{Range}
 use Rattle.gimli_read.specs.Reading.{◌>>=◌}
 use Rattle.gimli.specs.Sections.{Sections}
 use Rattle.gimli.specs.Unit.{UnitRecord}
-use Rattle.addr2line_lines.specs.Location.{LineTable as Lines, Location, location_at}
+use Rattle.addr2line_lines.specs.declared.row.Row.{Row}
+use Rattle.addr2line_lines.specs.Location.{LineTable as Lines, Location, location_of_row}
+use Rattle.addr2line_lines.specs.RangeLocations.{LocatedSpan, locations_in_range, sequence_ranges}
+use Rattle.addr2line_lines.specs.Counts.{most_looks_in}
+use Rattle.addr2line_lines.specs.Spans.{row_at}
 use Rattle.addr2line_lines.specs.UnitLines.{unit_lines}
+use Rattle.addr2line_units.specs.declared.place.Place.{Place}
 use Rattle.addr2line_units.specs.declared.unit.LazyLines.{LazyLines}
 use Rattle.addr2line_units.specs.declared.unit.LazyLines.TheVariants.{Unread, Read, Faulty}
 use Rattle.addr2line_units.specs.declared.unit.ResUnit.{ResUnit}
-use Rattle.addr2line_units.specs.UnitIndex.{UnitIndex}
+use Rattle.addr2line_units.specs.Made.{IndexedUnit}
+use Rattle.addr2line_units.specs.Located.{all_read, lines_fault}
 
 -- the cached lines are those that the unit's bytes give
 abbrev pub AreLinesOf : Sections → UnitRecord → LazyLines → Type 0
@@ -53,37 +58,81 @@ CachesAnswer old (Err e) new =
 abbrev pub lines_answer : Sections → UnitRecord → Result (Option Lines) Error
 lines_answer d u = unit_lines d u >>= λ lines. Ok (Some lines)
 
--- the index of the unit that a context has, with the range that leads to it
-abbrev pub unit_index_of : {R : Type 0} → Option (ResUnit R) → UnitIndex
-unit_index_of None = record { units = []; ranges = [] }
-unit_index_of (Some k) = record {
-  units = k.dw_unit ∷ [];
-  ranges = map (λ (r : Range). record { unit = 0; range = r }) (option_to_list k.range);
-}
+-- the texts of the files of cached lines
+abbrev pub cached_files : LazyLines → List (List ℕ)
+cached_files (Read lines) = lines.files
+cached_files _ = []
 
--- its cached lines
-abbrev pub HasLinesOf : {R : Type 0} → Sections → Option (ResUnit R) → Type 0
-HasLinesOf d None = Unit {0}
-HasLinesOf d (Some k) = AreLinesOf d k.dw_unit k.lines
+-- the ranges of the sequences of cached lines
+abbrev pub cached_ranges : LazyLines → List Range
+cached_ranges (Read lines) = sequence_ranges lines
+cached_ranges _ = []
 
--- what is cached of it, nothing where there is no unit
+-- the row of the probe in cached lines
+abbrev pub cached_row : ℕ → LazyLines → Option Row
+cached_row probe (Read lines) = row_at probe lines.sequences
+cached_row probe _ = None
+
+-- the most looks at cached lines
+abbrev pub cached_looks : LazyLines → ℕ
+cached_looks (Read lines) = most_looks_in lines
+cached_looks _ = 0
+
+-- what cached lines have in a range, or their cached fault
+abbrev pub cached_spans : Range → ℕ → ℕ → LazyLines → List (Result LocatedSpan Error)
+cached_spans range low high Unread = []
+cached_spans range low high (Read lines) = all_read (locations_in_range lines range low high)
+cached_spans range low high (Faulty e) = Err e ∷ []
+
+-- a unit and its language, as the fields have them
+abbrev pub indexed_unit : {R : Type 0} → ResUnit R → IndexedUnit
+indexed_unit u = record { unit = u.dw_unit; language = u.lang }
+
+-- whether the lines of a unit are parsed
+abbrev pub is_parsed : {R : Type 0} → ResUnit R → Bool
+is_parsed u = not (is_uncached u.lines)
+
+-- the units, as the fields have them
+abbrev pub indexed_units : {R : Type 0} → List (ResUnit R) → List IndexedUnit
+indexed_units units = map indexed_unit units
+
+-- of which units the lines are parsed
+abbrev pub parsed_units : {R : Type 0} → List (ResUnit R) → List Bool
+parsed_units units = map is_parsed units
+
+-- the cached lines of each unit are its own
+abbrev pub HaveLinesOf : {R : Type 0} → Sections → List (ResUnit R) → Type 0
+HaveLinesOf d units = AllByRecursion (λ u. AreLinesOf d u.dw_unit u.lines) units
+
+-- the lines of a unit, as they are cached
 abbrev pub lines_in_cache : {R : Type 0} → Option (ResUnit R) → LazyLines
 lines_in_cache None = Unread
-lines_in_cache (Some k) = k.lines
+lines_in_cache (Some u) = u.lines
 
--- whether a range holds the probe, where there is one
-abbrev pub range_holds : ℕ → Option Range → Bool
-range_holds probe None = false
-range_holds probe (Some r) = nat_le r.begin probe && nat_lt probe r.end
+-- the lines of a unit by its number, as they are cached
+abbrev pub lines_at : {R : Type 0} → List (ResUnit R) → ℕ → LazyLines
+lines_at units n = lines_in_cache (slice_get units n)
 
--- whether the range of the unit holds the probe
-abbrev pub unit_holds : {R : Type 0} → ℕ → Option (ResUnit R) → Bool
-unit_holds probe None = false
-unit_holds probe (Some k) = range_holds probe k.range
+-- the unit is the same, and so is what is cached of it
+pub record StaysUnit {R : Type 0} (old new : ResUnit R) : Type 0 where
+  pub indexed : indexed_unit new ≡ indexed_unit old
+  pub lines : StaysCached old.lines new.lines
 
--- the location of the probe in the cached lines
-abbrev pub cached_location_at : {R : Type 0} → ℕ → Option (ResUnit R) → Option Location
-cached_location_at probe None = None
-cached_location_at probe (Some k) =
-    if range_holds probe k.range
-    then option_and_then (λ lines. location_at probe lines) (cached_lines k.lines) else None
+-- each unit is the same, and so is what is cached of it
+abbrev pub StayUnits : {R : Type 0} → List (ResUnit R) → List (ResUnit R) → Type 0
+StayUnits [] [] = Unit {0}
+StayUnits (u ∷ us) (v ∷ vs) = StaysUnit u v × StayUnits us vs
+StayUnits _ _ = ⊥
+
+-- whether the lines of a unit can be read, none where there is no such unit
+abbrev pub lines_answer_at : Sections → Option IndexedUnit → Result (Unit {0}) Error
+lines_answer_at d None = Ok tt
+lines_answer_at d (Some u) = lines_fault (unit_lines d u.unit)
+
+-- a row in the lines of a unit
+abbrev pub place_of_row : ℕ → Row → Place
+place_of_row n row = record { unit = n; row = row }
+
+-- the location of a row in the lines of a unit
+abbrev pub location_at_place : {R : Type 0} → List (ResUnit R) → Place → Location
+location_at_place units place = location_of_row (cached_files (lines_at units place.unit)) place.row

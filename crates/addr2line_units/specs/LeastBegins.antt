@@ -1,7 +1,7 @@
 -- The least begins beside ranges in order, as the private functions see them.
 use Rattle.std.specs.Prelude.{ℕ, ◌≡◌, ◌-◌, ◌<◌, ◌^◌, Bool, ◌&&◌, nat_le, nat_lt, min, List, [], ◌∷◌, map}
 use Rattle.std.specs.List.{AllByRecursion}
-use Rattle.addr2line_lines.specs.InOrder.{IsInOrder}
+use Rattle.addr2line_lines.specs.InOrder.{IsInOrder, in_order}
 use Rattle.addr2line_units.specs.declared.index.IndexedRange.{IndexedRange}
 use Rattle.addr2line_units.specs.declared.index.UnitRange.{UnitRange}
 use Rattle.addr2line_units.specs.UnitIndex.{ends_sooner}
@@ -29,8 +29,9 @@ AreLeastBegins ranges = ranges ≡ with_least_begins (map unit_range_of ranges)
 abbrev pub EndFits : UnitRange → Type 0
 EndFits r = r.range.end < 2 ^ 64
 
--- the ranges are in order, and their least begins are right
-pub record AreIndexed (ranges : List IndexedRange) : Type 0 where
+-- the ranges are those that are listed, in order, and their least begins are right
+pub record AreIndexed (listed : List UnitRange) (ranges : List IndexedRange) : Type 0 where
+  pub sorted : map unit_range_of ranges ≡ in_order ends_sooner listed
   pub ordered : IsInOrder ends_sooner (map unit_range_of ranges)
   pub least : AreLeastBegins ranges
   pub fit : AllByRecursion EndFits (map unit_range_of ranges)

@@ -1,7 +1,13 @@
 pub mod LegacyName
 pub mod LegacyText
 pub mod LegacyLaws
+pub mod UnitAranges
+pub mod UnitAttributes
 pub mod UnitIndex
 pub mod LeastBegins
+pub mod Made
 pub mod Located
+pub mod Parsed
 pub mod CachedLines
+pub mod Indexed
+pub mod RangeLookup

@@ -1,16 +1,17 @@
 //! The ranges of a context's units, and the search for those that hold an address.
 
-ghost use Rattle.std.specs.Prelude.{◌≡◌, ◌-◌, ◌^◌, List, [], Ok, OnOk, filter, length, min, nat_lt};
+ghost use Rattle.std.specs.Prelude.{◌≡◌, ◌-◌, ◌^◌, [], Ok, OnOk, filter, length, min, nat_lt};
 ghost use Rattle.std.specs.List.{AllByRecursion};
 ghost use Rattle.std.specs.Iterator.{YieldsFirst, item_count};
 ghost use Rattle.gimli_read.specs.Reading.{ExactlyUnlessOomIf};
 ghost use Rattle.addr2line_lines.specs.InOrder.{in_order};
 ghost use Rattle.addr2line_units.specs.LeastBegins.{EndFits, is_between, with_least_begins};
-ghost use Rattle.addr2line_units.specs.UnitIndex.{cover, cover_range, ends_sooner, range_covers, range_overlaps};
+ghost use Rattle.addr2line_units.specs.UnitIndex.{cover, cover_range, ends_sooner};
 
 use gimli::read::{Error, Range};
 use std::alloc::Global;
 use std::marker::Model;
+use std::snapshot::Snapshot;
 
 /// A range of addresses that leads to a unit.
 #[derive(Clone, Copy, Debug, PartialEq, Eq)]
@@ -28,22 +29,25 @@ struct IndexedRange {
     least_begin: u64,
 }
 
-/// The ranges of units, by end, then by unit, then by begin.
+/// The ranges that lead to units.
 #[derive(Drop)]
 pub struct UnitRanges {
+    // By end, then by unit, then by begin.
     ranges: Vec<IndexedRange>,
+    // The same as they are listed, for contracts alone: it has no bytes.
+    listed: Snapshot<Vec<UnitRange>>,
 }
 
 impl Model for UnitRanges {
-    ghost use Rattle.std.specs.Prelude.{List, map};
-    ghost use Rattle.addr2line_units.specs.LeastBegins.{AreIndexed, unit_range_of};
+    ghost use Rattle.std.specs.Prelude.{List};
+    ghost use Rattle.addr2line_units.specs.LeastBegins.{AreIndexed};
     ghost use Rattle.addr2line_units.specs.declared.index.UnitRange.{UnitRange};
 
     ghost Value = { List UnitRange };
 
-    ghost view = { λ t. map unit_range_of t.ranges.items };
+    ghost view = { λ t. t.listed.value.items };
 
-    ghost invariant = { λ t. AreIndexed t.ranges.items };
+    ghost invariant = { λ t. AreIndexed t.listed.value.items t.ranges.items };
 }
 
 // Puts ranges in order of end, then unit, then begin.
@@ -92,16 +96,17 @@ impl UnitRanges {
     /// Refused `OutOfMemory` alone, and only where there is a range.
     pub fn new(alloc: Global, mut ranges: Vec<UnitRange>) -> Result<UnitRanges, Error>
         ensures gives { ExactlyUnlessOomIf (nat_lt 0 (length ranges.items)) (λ t. t) result
-            (Ok (in_order ends_sooner ranges.items)) }
+            (Ok ranges.items) }
     {
+        let listed = Snapshot::of(&ranges);
         sort_ranges(&mut ranges);
         let ranges = add_least_begins(alloc, ranges)?;
-        Ok(UnitRanges { ranges })
+        Ok(UnitRanges { ranges, listed })
     }
 
     // The ranges that end past `low` and begin at or below `last`, in order.
     fn find_between(&self, low: u64, last: u64) -> UnitRangeIter<'_>
-        ensures gives { result ≡ filter (is_between low last) self.now }
+        ensures gives { result ≡ filter (is_between low last) (in_order ends_sooner self.now) }
         ensures last { low ≡ 2 ^ 64 - 1 → result ≡ [] }
     {
         let first = self
@@ -117,9 +122,7 @@ impl UnitRanges {
     ///
     /// `low` may be above `high`.
     pub fn find_range(&self, low: u64, high: u64) -> UnitRangeIter<'_>
-        ensures gives { result ≡ filter (range_overlaps low high) self.now }
-        ensures cover { (listed : List UnitRange) → self.now ≡ in_order ends_sooner listed
-            → result ≡ cover_range low high listed }
+        ensures gives { result ≡ cover_range low high self.now }
     {
         match high.checked_sub(1) {
             Some(last) => self.find_between(low, last),
@@ -134,9 +137,7 @@ impl UnitRanges {
     ///
     /// None holds the greatest address, since none ends past it.
     pub fn find(&self, probe: u64) -> UnitRangeIter<'_>
-        ensures gives { result ≡ filter (range_covers probe) self.now }
-        ensures cover { (listed : List UnitRange) → self.now ≡ in_order ends_sooner listed
-            → result ≡ cover probe listed }
+        ensures gives { result ≡ cover probe self.now }
         ensures last { probe ≡ 2 ^ 64 - 1 → result ≡ [] }
     {
         self.find_between(probe, probe)

@@ -1,10 +1,17 @@
 //! Names, locations and frames of units.
 #![tactic(auto)]
 
+pub mod aranges;
+pub mod attributes;
 pub mod frame;
 pub mod index;
 mod laws;
 mod legacy;
+pub mod lookup;
+pub mod place;
+pub mod range;
+pub mod sup;
 pub mod unit;
+pub mod units;
 
 pub use crate::laws::legacy_name_laws;

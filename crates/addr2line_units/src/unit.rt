@@ -1,17 +1,22 @@
-//! The units of a context.
+//! A unit of a context, and its lines.
 
-ghost use Rattle.std.specs.Prelude.{◌≡◌, ◌≢◌, ◌^◌, ◌-◌, None, false, true, Ok, Err, OnOk, OnErr, IfOk, IfErr, option_map, option_copied};
-ghost use Rattle.std.specs.Option.{option_to_list};
+ghost use Rattle.std.specs.Prelude.{◌≡◌, ◌≢◌, ◌+◌, ◌++◌, ◌≤◌, [], true, false, not, map, Ok, Err, OnOk, OnErr, IfOk, IfErr, option_map, option_copied};
 ghost use Rattle.gimli_read.specs.Reading.{ExactlyUnlessOom, Exactly};
-ghost use Rattle.addr2line_units.specs.UnitIndex.{is_type_unit, is_partial, unit_ranges, with_unit, index_units, unit_index};
 ghost use Rattle.gimli_read.specs.declared.error.Error.TheVariants.{OutOfMemory};
+ghost use Rattle.addr2line_lines.specs.Location.{location_of_row};
 ghost use Rattle.addr2line_lines.specs.SeenLocation.{seen_location};
-ghost use Rattle.addr2line_units.specs.Located.{location_along};
-ghost use Rattle.addr2line_units.specs.CachedLines.{AreLinesOf, HasLinesOf, StaysCached, CachesAnswer, unit_index_of, cached_answer, lines_answer, lines_in_cache, cached_lines, is_uncached, range_holds, unit_holds, cached_location_at};
+ghost use Rattle.addr2line_units.specs.declared.unit.LazyLines.TheVariants.{Unread};
+ghost use Rattle.addr2line_units.specs.Made.{is_partial, is_type_unit, asks_lines, given_at, given_ranges, ranged_unit, unit_ranges};
+ghost use Rattle.addr2line_units.specs.Located.{location_in, looks_in};
+ghost use Rattle.addr2line_units.specs.UnitAranges.{range_in};
+ghost use Rattle.addr2line_units.specs.CachedLines.{AreLinesOf, StaysCached, CachesAnswer, StaysUnit, cached_answer, cached_files, cached_looks, cached_ranges, cached_row, indexed_unit, lines_answer, cached_lines, is_parsed, is_uncached};
+ghost use Rattle.addr2line_units.specs.Indexed.{ranged_seen};
 
-use addr2line_lines::{Lines, Location, read_root_ranges};
-use gimli::read::{Error, Range, Reader};
-use gimli::{Dwarf, Unit, UnitHeader, UnitRef, UnitType};
+use crate::aranges::{UnitArange, UnitAranges};
+use crate::attributes::read_unit_attributes;
+use addr2line_lines::{Count, Lines, RangeAttributes, Row, read_ranges};
+use gimli::read::{DwLang, Error, Range, Reader};
+use gimli::{Dwarf, Unit, UnitRef, UnitType};
 use std::alloc::Global;
 
 /// The lines of a unit, read when they are first asked for.
@@ -30,21 +35,14 @@ pub enum LazyLines {
 pub struct ResUnit<R: Reader> {
     /// The unit.
     pub dw_unit: Unit<R>,
-    /// The addresses that lead to it.
-    pub range: Option<Range>,
+    /// Its language.
+    pub lang: Option<DwLang>,
     /// Its lines.
     pub lines: LazyLines,
 }
 
-/// The units of a context: of those whose record can be read the first.
-#[derive(Drop)]
-pub struct ResUnits<R: Reader> {
-    /// The unit, where there is one.
-    pub unit: Option<ResUnit<R>>,
-}
-
 // Whether a unit describes types alone.
-fn is_type_unit(unit_type: UnitType) -> bool
+pub(crate) fn is_type_unit(unit_type: UnitType) -> bool
     ensures gives { result ≡ is_type_unit unit_type }
 {
     matches!(unit_type, UnitType::TypeUnit | UnitType::SplitType)
@@ -57,72 +55,74 @@ fn is_partial(unit_type: UnitType) -> bool
     matches!(unit_type, UnitType::Partial)
 }
 
-// The range of a unit, if it has one.
-fn read_unit_range<R: Reader>(dwarf: &Dwarf<R>, unit: &Unit<R>) -> Result<Option<Range>, Error>
-    ensures gives { ExactlyUnlessOom option_to_list result
-        (unit_ranges dwarf.now unit.now) }
+// The ranges that are listed for a unit. Refused `OutOfMemory` alone.
+fn copy_ranges(alloc: Global, listed: &[UnitArange]) -> Result<Vec<Range>, Error>
+    ensures gives { ExactlyUnlessOom (λ v. v.items) result (Ok (map range_in listed.now)) }
 {
-    if is_partial(unit.header.type_()) {
-        return Ok(None);
+    let mut ranges = Vec::with_capacity(alloc, listed.len())?;
+    for arange in listed {
+        ranges.push(arange.range)?;
     }
-    let ranges = read_root_ranges(UnitRef::new(dwarf, unit))?;
-    Ok(ranges.range())
+    Ok(ranges)
 }
 
-// Adds the unit of a header, unless there is one already.
-#[tactic(auto, unfolding(crate::specs::UnitIndex::with_unit))]
-fn take_unit<R: Reader>(
+// The ranges that `.debug_aranges` or the attributes of a unit give.
+fn read_given_ranges<R: Reader>(
+    alloc: Global,
+    unit: UnitRef<'_, R>,
+    aranges: &UnitAranges,
+    attributes: &RangeAttributes,
+) -> Result<Vec<Range>, Error>
+    ensures gives { ExactlyUnlessOom (λ v. v.items) result (given_ranges unit.entry.dwarf.now
+        aranges.now unit.entry.unit.now attributes.now) }
+{
+    if attributes.ranges_offset.is_none() {
+        let record = unit.unit;
+        let listed = aranges.find(record.header.offset());
+        if !listed.is_empty() {
+            return copy_ranges(alloc, listed);
+        }
+    }
+    read_ranges(alloc, unit, attributes)
+}
+
+// The language of a unit, and the ranges that `.debug_aranges` or its attributes give.
+#[tactic(auto, unfolding(crate::specs::Made::given_at))]
+fn read_given<R: Reader>(
+    alloc: Global,
+    unit: UnitRef<'_, R>,
+    aranges: &UnitAranges,
+) -> Result<(Option<DwLang>, Vec<Range>), Error>
+    ensures gives { ExactlyUnlessOom (λ x. (x.0, x.1.items)) result
+        (given_at unit.entry.dwarf.now aranges.now unit.entry.unit.now) }
+{
+    let record = unit.unit;
+    if is_partial(record.header.type_()) {
+        return Ok((None, Vec::new(alloc)));
+    }
+    let attributes = read_unit_attributes(unit)?;
+    let ranges = read_given_ranges(alloc, unit, aranges, &attributes.ranges)?;
+    Ok((attributes.language, ranges))
+}
+
+// A unit whose record was read, and its given ranges.
+pub(crate) fn read_ranged_unit<R: Reader>(
     alloc: Global,
     dwarf: &Dwarf<R>,
-    header: UnitHeader<R>,
-    first: Option<ResUnit<R>>,
-) -> Result<Option<ResUnit<R>>, Error>
-    requires read { HasLinesOf dwarf.now first }
-    ensures gives { ExactlyUnlessOom (unit_index_of) result (with_unit dwarf.now
-        (unit_index_of first) header) }
-    ensures skipped { is_type_unit header.unit_type ≡ true → result ≡ Ok first }
-    ensures read { IfOk result (HasLinesOf dwarf.now) }
-    ensures unread { is_uncached (lines_in_cache first) ≡ true
-        → IfOk result (λ u. is_uncached (lines_in_cache u) ≡ true) }
+    aranges: &UnitAranges,
+    dw_unit: Unit<R>,
+) -> Result<(ResUnit<R>, Vec<Range>), Error>
+    ensures gives { ExactlyUnlessOom (λ x. ranged_seen x.0 x.1.items) result
+        (ranged_unit dwarf.now aranges.now dw_unit) }
+    ensures unread { IfOk result (λ x. x.0.lines ≡ Unread) }
 {
-    if is_type_unit(header.type_()) {
-        return Ok(first);
-    }
-    let dw_unit = match dwarf.unit(alloc, header) {
-        Ok(unit) => unit,
-        Err(Error::OutOfMemory) => return Err(Error::OutOfMemory),
-        Err(_) => return Ok(first),
+    let (lang, ranges) = read_given(alloc, UnitRef::new(dwarf, &dw_unit), aranges)?;
+    let unit = ResUnit {
+        dw_unit,
+        lang,
+        lines: LazyLines::Unread,
     };
-    let range = read_unit_range(dwarf, &dw_unit)?;
-    match first {
-        Some(unit) => Ok(Some(unit)),
-        None => Ok(Some(ResUnit {
-            dw_unit,
-            range,
-            lines: LazyLines::Unread,
-        })),
-    }
-}
-
-impl<R: Reader> ResUnits<R> {
-    /// The units of `.debug_info` that a context has.
-    ///
-    /// Refused by the first fault of a header or of a unit's range attributes, each unit whole
-    /// before the next header; may fail with `OutOfMemory` instead. A type unit and a unit whose
-    /// record is faulty are passed over.
-    pub fn parse(alloc: Global, dwarf: &Dwarf<R>) -> Result<ResUnits<R>, Error>
-        ensures gives { ExactlyUnlessOom (λ u. unit_index_of u.unit) result
-            (unit_index dwarf.now) }
-        ensures read { IfOk result (λ u. HasLinesOf dwarf.now u.unit) }
-        ensures unread { IfOk result (λ u. is_uncached (lines_in_cache u.unit) ≡ true) }
-    {
-        let mut headers = dwarf.units()?;
-        let mut unit = None;
-        while let Some(header) = headers.next()? {
-            unit = take_unit(alloc, dwarf, header, unit)?;
-        }
-        Ok(ResUnits { unit })
-    }
+    Ok((unit, ranges))
 }
 
 // The lines of a unit, or their fault, as they are cached. Refused `OutOfMemory` alone.
@@ -157,7 +157,7 @@ fn check_lines(lines: &LazyLines) -> Result<(), Error>
 }
 
 // The cached lines, if there are any.
-fn lines_of(lines: &LazyLines) -> Option<&Lines>
+pub(crate) fn lines_of(lines: &LazyLines) -> Option<&Lines>
     ensures gives { option_copied result ≡ cached_lines lines.now }
 {
     match lines {
@@ -173,21 +173,38 @@ fn is_uncached(lines: &LazyLines) -> bool
     matches!(lines, LazyLines::Unread)
 }
 
-// Whether a range holds an address, where there is one.
-fn range_holds(range: Option<Range>, probe: u64) -> bool
-    ensures gives { result ≡ range_holds probe range }
-    ensures last { probe ≡ 2 ^ 64 - 1 → result ≡ false }
+// The ranges of the sequences of cached lines. Refused `OutOfMemory` alone.
+fn sequence_ranges(alloc: Global, lines: &LazyLines) -> Result<Vec<Range>, Error>
+    ensures gives { ExactlyUnlessOom (λ v. v.items) result (Ok (cached_ranges lines.now)) }
+    ensures refused { IfErr result (λ e. e ≡ OutOfMemory) }
 {
-    match range {
-        Some(range) => range.begin <= probe && probe < range.end,
-        None => false,
+    let mut ranges = Vec::new(alloc);
+    let LazyLines::Read(lines) = lines else {
+        return Ok(ranges);
+    };
+    let mut sequences = lines.ranges();
+    while let Some(range) = sequences.next() {
+        ranges.push(range)?;
+    }
+    Ok(ranges)
+}
+
+// The row of an address in cached lines.
+fn find_cached_row(lines: &LazyLines, looks: &mut Count, probe: u64) -> Option<Row>
+    ensures found { result ≡ cached_row probe lines.now }
+    ensures cost { looks.new ≤ looks.old + cached_looks lines.now }
+    ensures raised { looks.old ≤ looks.new }
+{
+    match lines {
+        LazyLines::Read(lines) => lines.find_row(looks, probe),
+        LazyLines::Faulty(_) | LazyLines::Unread => None,
     }
 }
 
 impl<R: Reader> ResUnit<R> {
     // Caches the lines, or their fault, unless they are cached. Refused `OutOfMemory` alone.
     #[tactic(auto, using(crate::proofs::UnitLemmas::cached_before))]
-    fn cache_lines(&mut self, alloc: Global, dwarf: &Dwarf<R>) -> Result<(), Error>
+    pub(crate) fn cache_lines(&mut self, alloc: Global, dwarf: &Dwarf<R>) -> Result<(), Error>
         requires read { AreLinesOf dwarf.now self.old.dw_unit
             self.old.lines }
         ensures gives { OnOk result (cached_answer self.new.lines
@@ -200,7 +217,7 @@ impl<R: Reader> ResUnit<R> {
         ensures refused { IfErr result (λ e. e ≡ OutOfMemory) }
         ensures memory { OnErr result (self.new.lines ≡ self.old.lines) }
         ensures unit { self.new.dw_unit ≡ self.old.dw_unit }
-        ensures range { self.new.range ≡ self.old.range }
+        ensures lang { self.new.lang ≡ self.old.lang }
         ensures read { AreLinesOf dwarf.now self.new.dw_unit
             self.new.lines }
     {
@@ -211,7 +228,7 @@ impl<R: Reader> ResUnit<R> {
     }
 
     // Reads the lines, unless they are cached, and caches them, or their fault.
-    fn read_lines(&mut self, alloc: Global, dwarf: &Dwarf<R>) -> Result<(), Error>
+    pub(crate) fn read_lines(&mut self, alloc: Global, dwarf: &Dwarf<R>) -> Result<(), Error>
         requires read { AreLinesOf dwarf.now self.old.dw_unit
             self.old.lines }
         ensures gives { ExactlyUnlessOom (λ _. cached_lines self.new.lines) result
@@ -222,57 +239,59 @@ impl<R: Reader> ResUnit<R> {
         ensures stays { StaysCached self.old.lines self.new.lines }
         ensures caches { CachesAnswer self.old.lines result self.new.lines }
         ensures unit { self.new.dw_unit ≡ self.old.dw_unit }
-        ensures range { self.new.range ≡ self.old.range }
+        ensures lang { self.new.lang ≡ self.old.lang }
         ensures read { AreLinesOf dwarf.now self.new.dw_unit
             self.new.lines }
     {
         self.cache_lines(alloc, dwarf)?;
         check_lines(&self.lines)
     }
-}
 
-impl<R: Reader> ResUnits<R> {
-    /// Reads the lines of the unit that covers an address, unless they are cached, and caches them,
-    /// or their fault. Takes no memory where they are cached, nor where no unit covers the address.
-    ///
-    /// Refused by that fault; may fail with `OutOfMemory` instead, which is never cached.
-    pub fn read_lines(&mut self, alloc: Global, dwarf: &Dwarf<R>, probe: u64) -> Result<(), Error>
-        requires read { HasLinesOf dwarf.now self.old.unit }
-        ensures gives { ExactlyUnlessOom (λ _. cached_location_at probe self.new.unit) result
-            (location_along dwarf.now (unit_index_of self.old.unit) probe) }
-        ensures exact { is_uncached (lines_in_cache self.old.unit) ≡ false → Exactly
-            (λ _. cached_location_at probe self.new.unit) result (location_along
-            dwarf.now (unit_index_of self.old.unit) probe) }
-        ensures stays { StaysCached (lines_in_cache self.old.unit) (lines_in_cache self.new.unit) }
-        ensures caches { unit_holds probe self.old.unit ≡ true → CachesAnswer
-            (lines_in_cache self.old.unit) result (lines_in_cache self.new.unit) }
-        ensures uncovered { unit_holds probe self.old.unit ≡ false →
-            (result ≡ Ok tt) × (self.new ≡ self.old) }
-        ensures last { probe ≡ 2 ^ 64 - 1 → result ≡ Ok tt }
-        ensures units { unit_index_of self.new.unit ≡ unit_index_of self.old.unit }
-        ensures read { HasLinesOf dwarf.now self.new.unit }
+    // The ranges that lead to the unit: those that are given, or where there are none those of its
+    // line sequences; its lines are cached then, their fault too. Refused `OutOfMemory` alone.
+    pub(crate) fn or_line_ranges(
+        &mut self,
+        alloc: Global,
+        dwarf: &Dwarf<R>,
+        given: Vec<Range>,
+    ) -> Result<Vec<Range>, Error>
+        requires unread { self.old.lines ≡ Unread }
+        ensures gives { ExactlyUnlessOom (λ v. v.items) result (Ok (unit_ranges dwarf.now
+            (ranged_seen self.old given.items))) }
+        ensures refused { IfErr result (λ e. e ≡ OutOfMemory) }
+        ensures parsed { OnOk result (is_parsed self.new ≡ asks_lines
+            (ranged_seen self.old given.items)) }
+        ensures unit { indexed_unit self.new ≡ indexed_unit self.old }
+        ensures read { AreLinesOf dwarf.now self.new.dw_unit self.new.lines }
     {
-        match &mut self.unit {
-            Some(unit) => {
-                if range_holds(unit.range, probe) {
-                    unit.read_lines(alloc, dwarf)
-                } else {
-                    Ok(())
-                }
-            }
-            None => Ok(()),
+        if !given.is_empty() || is_partial(self.dw_unit.header.type_()) {
+            return Ok(given);
         }
+        self.cache_lines(alloc, dwarf)?;
+        sequence_ranges(alloc, &self.lines)
     }
 
-    /// The location of an address in the cached lines. Takes no memory.
-    pub fn find_location(&self, probe: u64) -> Option<Location<'_>>
-        ensures found { option_map seen_location result ≡ cached_location_at probe self.now.unit }
-        ensures last { probe ≡ 2 ^ 64 - 1 → result ≡ None }
+    // The row of an address, whose lines are read and cached, unless they are.
+    pub(crate) fn find_row(
+        &mut self,
+        alloc: Global,
+        dwarf: &Dwarf<R>,
+        looks: &mut Count,
+        probe: u64,
+    ) -> Result<Option<Row>, Error>
+        requires read { AreLinesOf dwarf.now self.old.dw_unit self.old.lines }
+        ensures gives { ExactlyUnlessOom (option_map (location_of_row (cached_files
+            self.new.lines))) result (location_in dwarf.now probe (Some (indexed_unit self.old))) }
+        ensures exact { is_uncached self.old.lines ≡ false → Exactly (option_map
+            (location_of_row (cached_files self.new.lines))) result
+            (location_in dwarf.now probe (Some (indexed_unit self.old))) }
+        ensures stays { StaysUnit self.old self.new }
+        ensures caches { CachesAnswer self.old.lines result self.new.lines }
+        ensures read { AreLinesOf dwarf.now self.new.dw_unit self.new.lines }
+        ensures cost { looks.new ≤ looks.old + looks_in dwarf.now (Some (indexed_unit self.old)) }
+        ensures raised { looks.old ≤ looks.new }
     {
-        let unit = self.unit.as_ref()?;
-        if !range_holds(unit.range, probe) {
-            return None;
-        }
-        lines_of(&unit.lines)?.find_location(probe)
+        self.read_lines(alloc, dwarf)?;
+        Ok(find_cached_row(&self.lines, looks, probe))
     }
 }

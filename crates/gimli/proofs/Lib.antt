@@ -13,3 +13,4 @@ pub mod UnitTexts
 pub mod RecordLemmas
 pub mod StringLemmas
 pub mod UnitLemmas
+pub mod CachedTableLemmas

@@ -14,7 +14,7 @@ use Rattle.gimli.specs.Header.{UnitHeaderFields}
 use Rattle.gimli.specs.Record.{RootValues, root_values_of}
 use Rattle.gimli.specs.Sections.{Sections}
 use Rattle.gimli.specs.Text.{from_offset}
-use Rattle.gimli.specs.Unit.{abbreviations_take_memory, unit_takes_memory, completed_record, unit_record_of}
+use Rattle.gimli.specs.Unit.{abbreviations_take_memory, unit_takes_memory, completed_record, unit_by, unit_record_of}
 
 -- a reading of no value
 record NeverOk {A : Type 0} (r : Result A Error) : Type 0 where
@@ -76,10 +76,10 @@ or_shared false takes h = h
 pub unit_is : (d : Sections) (header : UnitHeaderFields) (shares : Bool) (rest : Section) (table : List Abbrev) (root : RootValues)
     → from_offset header.debug_abbrev_offset d.debug_abbrev ≡ Ok rest → table_at rest ≡ Ok table → root_values_of header.encoding table header.entries ≡ Ok root
     → (unit_takes_memory shares d header ≡ true) × (unit_record_of d header ≡ completed_record d header table root)
-unfolding unit_record_of
+unfolding unit_record_of unit_by
 unit_is d header shares rest table root h k l = (
   ap (abbreviations_take_memory shares) h ∙ or_shared shares (takes_memory rest) (root_takes_memory header.encoding rest header.entries table root k l),
-  ap (λ (r : Result Section Error). r >>= λ s. table_at s >>= λ t. root_values_of header.encoding t header.entries >>= λ v. completed_record d header t v) h
+  ap (λ (r : Result Section Error). (r >>= table_at) >>= λ t. root_values_of header.encoding t header.entries >>= λ v. completed_record d header t v) h
       ∙ ap (λ (r : Result (List Abbrev) Error). r >>= λ t. root_values_of header.encoding t header.entries >>= λ v. completed_record d header t v) k
       ∙ ap (λ (r : Result RootValues Error). r >>= λ v. completed_record d header table v) l,
 )

@@ -65,7 +65,7 @@ section_list d =
     ∷ d.debug_line_str ∷ d.debug_ranges ∷ d.debug_rnglists ∷ d.debug_str ∷ d.debug_str_offsets ∷ []
 
 -- the sections that a caller gave are those of a file's supplementary file from then on; or the
--- answer is the caller's first refusal, or one for want of memory to share them, and the file is as
+-- answer is the caller's first refusal, or OutOfMemory if they can't be shared, and the file is as
 -- it was
 abbrev pub Supplies : {E : Type 0} → (E → Type 0) → Result SupSections E → Result (Unit {0}) E
     → Sections → Sections → Type 0

@@ -6,6 +6,7 @@ pub mod Text
 pub mod Entry
 pub mod Record
 pub mod Unit
+pub mod CachedTables
 pub mod Entries
 pub mod Aranges
 pub mod Split

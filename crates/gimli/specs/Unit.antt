@@ -109,13 +109,22 @@ completed_record d header table root =
         line_program = program;
       })
 
--- the unit of a header
-unfoldable pub unit_record_of : Sections → UnitHeaderFields → Result UnitRecord Error
-unit_record_of d header = do
-  rest ← from_offset header.debug_abbrev_offset d.debug_abbrev
-  table ← table_at rest
+-- the unit of a header, whose table is read
+unfoldable pub unit_by : Sections → UnitHeaderFields → Result (List Abbrev) Error
+    → Result UnitRecord Error
+unit_by d header read = do
+  table ← read
   root ← root_values_of header.encoding table header.entries
   completed_record d header table root
+
+-- the table at an offset
+abbrev pub table_from : ℕ → Section → Result (List Abbrev) Error
+table_from offset s = from_offset offset s >>= table_at
+
+-- the unit of a header
+unfoldable pub unit_record_of : Sections → UnitHeaderFields → Result UnitRecord Error
+unit_record_of d header =
+    unit_by d header (table_from header.debug_abbrev_offset d.debug_abbrev)
 
 -- whether memory may be taken for the abbreviations from an offset on: for the table's own entries,
 -- or where readers share their bytes

@@ -1,6 +1,7 @@
 //! Reading the sections of DWARF: units, their records and their strings.
 #![tactic(auto)]
 
+mod abbreviations_cache;
 mod address_size;
 mod aranges;
 mod constants;
@@ -20,6 +21,7 @@ mod unit_record;
 mod unit_ref;
 mod units;
 
+pub use crate::abbreviations_cache::AbbreviationsCache;
 pub use crate::aranges::{ArangeEntryIter, ArangeHeader, ArangeHeaderIter};
 pub use crate::dwarf::{Dwarf, DwarfFileType, SupDwarf};
 pub use crate::entries::EntriesRaw;

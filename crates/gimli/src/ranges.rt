@@ -160,7 +160,7 @@ pub struct RngListIter<'a, R: Reader> {
     input: EndianSlice<'a>,
     // What offsets count from.
     base_address: u64,
-    // Whether the list's end or a fault is behind.
+    // Whether the list's end was reached, or a fault was given.
     ended: bool,
 }
 

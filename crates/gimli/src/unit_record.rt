@@ -17,14 +17,15 @@ use gimli_line::{IncompleteLineProgram, read_line_program};
 use gimli_read::{Abbreviations, AttributeValue, Encoding, Error, Format, Reader};
 use std::alloc::Global;
 use std::marker::Model;
+use std::rc::Rc;
 
 /// A unit: its header, its abbreviations, and what its root entry says.
 #[derive(Drop)]
 pub struct Unit<R: Reader> {
     /// The header.
     pub header: UnitHeader<R>,
-    /// The abbreviations of the unit's entries.
-    pub(crate) abbreviations: Abbreviations,
+    /// The abbreviations of the unit's entries, which units of one table share.
+    pub(crate) abbreviations: Rc<Abbreviations>,
     /// The name of the primary source file, where it can be read.
     pub name: Option<R>,
     /// The directory of the compilation, where it can be read.
@@ -53,7 +54,7 @@ impl<R: Reader> Model for Unit<R> {
 
     ghost view = { λ u. record {
       header = u.header;
-      abbreviations = u.abbreviations;
+      abbreviations = u.abbreviations.value;
       name = option_map R.section u.name;
       comp_dir = option_map R.section u.comp_dir;
       low_pc = u.low_pc;
@@ -157,17 +158,17 @@ fn dwo_id_of(in_header: Option<DwoId>, given: Option<u64>) -> Option<DwoId>
     }
 }
 
-// The unit of a header, whose root entry has these values.
+/// The unit of a header, whose root entry has these values.
 #[tactic(auto, unfolding(crate::specs::Unit::completed_record))]
-fn complete<R: Reader>(
+pub(crate) fn complete<R: Reader>(
     alloc: Global,
     dwarf: &Dwarf<R>,
     header: UnitHeader<R>,
-    abbreviations: Abbreviations,
+    abbreviations: Rc<Abbreviations>,
     root: RootAttributes<R>,
 ) -> Result<Unit<R>, Error>
     ensures gives { IsUnlessOom result (completed_record dwarf.now
-        header abbreviations root) }
+        header abbreviations.value root) }
 {
     let encoding = header.encoding;
     let file_type = dwarf.file_type;
@@ -212,7 +213,7 @@ impl<R: Reader> Dwarf<R> {
     /// refused for), its line program's header (`OffsetOutOfBounds` and what a header is refused
     /// for), or the index of its low_pc (`OffsetOutOfBounds`), in this order. May fail with
     /// `OutOfMemory` instead, where its abbreviations take memory or readers share their bytes.
-    #[tactic(auto, unfolding(crate::specs::Unit::unit_record_of))]
+    #[tactic(auto, unfolding(crate::specs::Unit::unit_record_of, crate::specs::Unit::unit_by))]
     pub fn unit(&self, alloc: Global, header: UnitHeader<R>) -> Result<Unit<R>, Error>
         ensures gives { ExactlyUnlessOomIf (unit_takes_memory R.shares self.now header) (λ u. u)
             result (unit_record_of self.now header) }
@@ -220,6 +221,7 @@ impl<R: Reader> Dwarf<R> {
         let rest = read_from(&self.debug_abbrev.section, header.debug_abbrev_offset)?;
         let abbreviations = Abbreviations::parse(alloc, rest)?;
         let root = read_root(&header, &abbreviations)?;
+        let abbreviations = Rc::new(alloc, abbreviations)?;
         complete(alloc, self, header, abbreviations, root)
     }
 }

@@ -333,6 +333,13 @@ impl Abbreviations {
         }
     }
 
+    /// The abbreviations in the order of the table. Takes no memory.
+    pub fn as_slice(&self) -> &[Abbreviation]
+        ensures gives { result.now ≡ self.now }
+    {
+        self.entries.as_slice()
+    }
+
     // Whether the table has a code.
     fn has(&self, code: u64) -> bool
         ensures gives { result ≡ is_some (with_code code self.now) }

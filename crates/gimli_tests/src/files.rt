@@ -6,7 +6,6 @@ use gimli::{
     EndianSlice, Error, Reader, RunTimeEndian, SectionId, ToUnitOffset, Unit,
 };
 use std::alloc::Global;
-use std::test::Fail;
 
 const ORDER: RunTimeEndian = RunTimeEndian::Little;
 
@@ -96,55 +95,95 @@ fn offset_code<R: Reader>(unit: &Unit<R>, offset: u64) -> u64 {
     }
 }
 
-// The split name, a supplementary string, three offsets, and the unit's low_pc and bases after
-// another unit's were taken over, whose low_pc is 7, whose addresses begin at 8 and whose range
-// lists begin at 9.
-fn unit_code<R: Reader>(alloc: Global, dwarf: &Dwarf<R>) -> Result<[u64; 8], Error> {
-    let mut unit = first_unit(alloc, dwarf)?;
-    let name = match unit.dwo_name()? {
-        Some(value) => string_code(dwarf, &unit, value),
-        None => 0,
+// The split name, a supplementary string, and three offsets.
+fn names_code<R: Reader>(dwarf: &Dwarf<R>, unit: &Unit<R>) -> [u64; 5] {
+    let name = match unit.dwo_name() {
+        Ok(Some(value)) => string_code(dwarf, unit, value),
+        Ok(None) => 0,
+        Err(error) => fault(error),
     };
-    let sup = string_code(dwarf, &unit, AttributeValue::DebugStrRefSup(2));
-    let mut main = first_unit(alloc, dwarf)?;
+    [
+        name,
+        string_code(dwarf, unit, AttributeValue::DebugStrRefSup(2)),
+        offset_code(unit, 19),
+        offset_code(unit, 20),
+        offset_code(unit, 46),
+    ]
+}
+
+// A unit's low_pc and bases after another unit's were taken over, whose low_pc is 7, whose
+// addresses begin at 8 and whose range lists begin at 9.
+fn taken_over_code<R: Reader>(unit: &mut Unit<R>, main: &mut Unit<R>) -> [u64; 3] {
     main.low_pc = 7;
     main.addr_base = 8;
     main.rnglists_base = 9;
-    unit.copy_relocated_attributes(&main);
-    Ok([
-        name,
-        sup,
-        offset_code(&unit, 19),
-        offset_code(&unit, 20),
-        offset_code(&unit, 46),
-        unit.low_pc,
-        unit.addr_base,
-        unit.rnglists_base,
-    ])
+    unit.copy_relocated_attributes(main);
+    [unit.low_pc, unit.addr_base, unit.rnglists_base]
 }
 
+// The same of a unit and the file's first unit.
+fn bases_code<R: Reader>(alloc: Global, dwarf: &Dwarf<R>, unit: &mut Unit<R>) -> [u64; 3] {
+    match first_unit(alloc, dwarf) {
+        Ok(mut main) => taken_over_code(unit, &mut main),
+        Err(error) => [fault(error); 3],
+    }
+}
+
+fn unit_code<R: Reader>(alloc: Global, dwarf: &Dwarf<R>, unit: &mut Unit<R>) -> [u64; 8] {
+    let [name, sup, before, first, past] = names_code(dwarf, unit);
+    let [low_pc, addr_base, rnglists_base] = bases_code(alloc, dwarf, unit);
+    [
+        name,
+        sup,
+        before,
+        first,
+        past,
+        low_pc,
+        addr_base,
+        rnglists_base,
+    ]
+}
+
+// The names and offsets of the file's first unit, and its bases after they were taken over.
 fn unit_answer<R: Reader>(alloc: Global, dwarf: &Dwarf<R>) -> [u64; 8] {
-    match unit_code(alloc, dwarf) {
-        Ok(code) => code,
+    match first_unit(alloc, dwarf) {
+        Ok(mut unit) => unit_code(alloc, dwarf, &mut unit),
         Err(error) => [fault(error); 8],
     }
 }
 
 const S_DWO: u64 = 0x1_732e_6477_6f;
 
-#[test]
-fn a_file_has_its_split_name_and_its_supplementary_strings(rt: HostRuntime) -> Result<(), Fail> {
-    let alloc = rt.alloc();
-    let alone = [S_DWO, 1004, 999, 20, 999, 7, 8, 0];
-    let mut slices: Dwarf<EndianSlice<'_>> = Dwarf::load(|id| -> Result<EndianSlice<'_>, Error> {
-        Ok(slice_of(bytes_of(id)))
-    })?;
-    assert_eq!(rt; unit_answer(alloc, &slices), alone);
-    slices.load_sup(alloc, |id| -> Result<EndianSlice<'_>, Error> {
+fn load_slices() -> Result<Dwarf<EndianSlice<'static>>, Error> {
+    Dwarf::load(|id| -> Result<EndianSlice<'_>, Error> { Ok(slice_of(bytes_of(id))) })
+}
+
+fn add_slices_sup(alloc: Global, file: &mut Dwarf<EndianSlice<'static>>) -> Result<(), Error> {
+    file.load_sup(alloc, |id| -> Result<EndianSlice<'_>, Error> {
         Ok(slice_of(sup_bytes_of(id)))
-    })?;
-    assert_eq!(rt; unit_answer(alloc, &slices), WITH_SUP);
-    Ok(())
+    })
+}
+
+// What the unit of a file says without its supplementary file, and with it.
+fn both_units(alloc: Global, file: &mut Dwarf<EndianSlice<'static>>) -> [[u64; 8]; 2] {
+    let alone = unit_answer(alloc, file);
+    match add_slices_sup(alloc, file) {
+        Ok(()) => [alone, unit_answer(alloc, file)],
+        Err(error) => [alone, [fault(error); 8]],
+    }
+}
+
+fn units_of_slices(alloc: Global) -> [[u64; 8]; 2] {
+    match load_slices() {
+        Ok(mut file) => both_units(alloc, &mut file),
+        Err(error) => [[fault(error); 8]; 2],
+    }
+}
+
+#[test]
+fn a_file_has_its_split_name_and_its_supplementary_strings(rt: HostRuntime) {
+    let alone = [S_DWO, 1004, 999, 20, 999, 7, 8, 0];
+    assert_eq!(rt; units_of_slices(rt.alloc()), [alone, WITH_SUP]);
 }
 
 // A section that can't be had refuses the file.
@@ -171,46 +210,75 @@ fn a_refused_section_refuses_the_file(rt: HostRuntime) {
     assert_eq!(rt; refused_code(SectionId::DebugStrOffsets), 1005);
 }
 
-// What a split file takes of its parent: its kind, the first address, and a string of the parent's
-// supplementary file.
-fn split_code<R: Reader>(alloc: Global, split: &mut Dwarf<R>, parent: &Dwarf<R>) -> [u64; 3] {
-    if let Err(error) = split.make_dwo(parent) {
-        return [fault(error); 3];
-    }
-    let kind = match split.file_type {
+fn kind_code(file_type: DwarfFileType) -> u64 {
+    match file_type {
         DwarfFileType::Main => 0,
         DwarfFileType::Dwo => 1,
-    };
-    let addresses = split.debug_addr.section.len();
-    let sup = match first_unit(alloc, split) {
-        Ok(unit) => string_code(split, &unit, AttributeValue::DebugStrRefSup(2)),
+    }
+}
+
+// A string of the supplementary file.
+fn sup_code<R: Reader>(alloc: Global, dwarf: &Dwarf<R>) -> u64 {
+    match first_unit(alloc, dwarf) {
+        Ok(unit) => string_code(dwarf, &unit, AttributeValue::DebugStrRefSup(2)),
         Err(error) => fault(error),
-    };
-    [kind, addresses, sup]
+    }
+}
+
+// What a split file takes of its parent: its kind, the length of the addresses, and a string of the
+// parent's supplementary file.
+fn split_code<R: Reader>(alloc: Global, split: &mut Dwarf<R>, parent: &Dwarf<R>) -> [u64; 3] {
+    match split.make_dwo(parent) {
+        Ok(()) => [
+            kind_code(split.file_type),
+            split.debug_addr.section.len(),
+            sup_code(alloc, split),
+        ],
+        Err(error) => [fault(error); 3],
+    }
+}
+
+// The same of a parent with addresses and its supplementary file.
+fn split_of(
+    alloc: Global,
+    split: &mut Dwarf<EndianSlice<'static>>,
+    parent: &mut Dwarf<EndianSlice<'static>>,
+) -> [u64; 3] {
+    parent.debug_addr = DebugAddr::from(slice_of(b"\x01\x02\x03"));
+    match add_slices_sup(alloc, parent) {
+        Ok(()) => split_code(alloc, split, parent),
+        Err(error) => [fault(error); 3],
+    }
+}
+
+fn split_of_parent(alloc: Global, parent: &mut Dwarf<EndianSlice<'static>>) -> [u64; 3] {
+    match load_slices() {
+        Ok(mut split) => split_of(alloc, &mut split, parent),
+        Err(error) => [fault(error); 3],
+    }
+}
+
+fn split_of_slices(alloc: Global) -> [u64; 3] {
+    match load_slices() {
+        Ok(mut parent) => split_of_parent(alloc, &mut parent),
+        Err(error) => [fault(error); 3],
+    }
 }
 
 #[test]
-fn a_split_file_takes_its_parents_addresses(rt: HostRuntime) -> Result<(), Fail> {
-    let alloc = rt.alloc();
-    let mut parent: Dwarf<EndianSlice<'_>> = Dwarf::load(|id| -> Result<EndianSlice<'_>, Error> {
-        Ok(slice_of(bytes_of(id)))
-    })?;
-    parent.load_sup(alloc, |id| -> Result<EndianSlice<'_>, Error> {
-        Ok(slice_of(sup_bytes_of(id)))
-    })?;
-    parent.debug_addr = DebugAddr::from(slice_of(b"\x01\x02\x03"));
-    let mut split: Dwarf<EndianSlice<'_>> = Dwarf::load(|id| -> Result<EndianSlice<'_>, Error> {
-        Ok(slice_of(bytes_of(id)))
-    })?;
-    assert_eq!(rt; split_code(alloc, &mut split, &parent), [1, 3, 0x173_7570]);
-    Ok(())
+fn a_split_file_takes_its_parents_addresses(rt: HostRuntime) {
+    assert_eq!(rt; split_of_slices(rt.alloc()), [1, 3, 0x173_7570]);
+}
+
+fn with_abbreviations<R: Reader>(file: Dwarf<R>, abbreviations: R) -> Dwarf<R> {
+    let mut file = file;
+    file.debug_abbrev = DebugAbbrev::from(abbreviations);
+    file
 }
 
 // The file over shared bytes.
 fn shared_file() -> Dwarf<EndianBytes> {
-    let mut file = counted(INFO, LINE, ORDER);
-    file.debug_abbrev = DebugAbbrev::from(shared(ABBREV, ORDER));
-    file
+    with_abbreviations(counted(INFO, LINE, ORDER), shared(ABBREV, ORDER))
 }
 
 fn add_shared_sup(alloc: Global, file: &mut Dwarf<EndianBytes>) -> Result<(), Error> {
@@ -235,44 +303,47 @@ const WITH_SUP: [u64; 8] = [S_DWO, 0x173_7570, 999, 20, 999, 7, 8, 0];
 
 const TAKEN: [u64; 3] = [1, 24, 0x173_7570];
 
-// What its unit says, the second answer where the first was refused; and how often it was.
-fn unit_again(alloc: Global, file: &Dwarf<EndianBytes>) -> ([u64; 8], u64) {
-    let first = unit_answer(alloc, file);
+// What its unit says, the second answer where the first was refused; and how often that and a
+// growth before it were refused.
+fn unit_again<R: Reader>(alloc: Global, file: Dwarf<R>, refused: u64) -> ([u64; 8], u64) {
+    let first = unit_answer(alloc, &file);
     if first == WITH_SUP {
-        (first, 0)
+        (first, refused)
     } else {
-        (unit_answer(alloc, file), 1)
+        (unit_answer(alloc, &file), refused.wrapping_add(1))
     }
 }
 
-// What a split file takes of it, in the same way.
-fn taken_again(alloc: Global, parent: &Dwarf<EndianBytes>) -> ([u64; 3], u64) {
-    let mut split = shared_file();
-    let mut refused = 0u64;
-    let mut taken = [0; 3];
-    for _ in 0..2 {
-        taken = split_code(alloc, &mut split, parent);
-        if taken == TAKEN {
-            return (taken, refused);
-        }
-        refused = refused.wrapping_add(1);
+// What a split file takes of its parent, in the same way.
+fn taken_again<R: Reader>(
+    alloc: Global,
+    split: Dwarf<R>,
+    parent: Dwarf<R>,
+    refused: u64,
+) -> ([u64; 3], u64) {
+    let mut split = split;
+    let first = split_code(alloc, &mut split, &parent);
+    if first == TAKEN {
+        (first, refused)
+    } else {
+        (
+            split_code(alloc, &mut split, &parent),
+            refused.wrapping_add(1),
+        )
     }
-    (taken, refused)
 }
 
-// The same of a file over shared bytes, and how many growths were refused.
+// The same of files over shared bytes, to which the supplementary file is added.
 fn unit_of_shared(alloc: Global) -> ([u64; 8], u64) {
     let mut file = shared_file();
     let refused = add_sup_again(alloc, &mut file);
-    let (unit, again) = unit_again(alloc, &file);
-    (unit, refused.wrapping_add(again))
+    unit_again(alloc, file, refused)
 }
 
 fn taken_of_shared(alloc: Global) -> ([u64; 3], u64) {
     let mut parent = shared_file();
     let refused = add_sup_again(alloc, &mut parent);
-    let (taken, again) = taken_again(alloc, &parent);
-    (taken, refused.wrapping_add(again))
+    taken_again(alloc, shared_file(), parent, refused)
 }
 
 // A refused growth leaves a file as it was: the same call is granted after it.

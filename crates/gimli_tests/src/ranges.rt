@@ -161,38 +161,27 @@ pub fn next_code<R: Reader>(ranges: &mut RngListIter<'_, R>) -> (u64, u64) {
     }
 }
 
-// What three calls answer of the list at an offset.
-fn ranges_code<R: Reader>(alloc: Global, dwarf: &Dwarf<R>, offset: u64) -> [(u64, u64); 3] {
-    let unit = match only_unit(alloc, dwarf) {
-        Ok(unit) => unit,
-        Err(error) => return [(fault(error), 1); 3],
-    };
-    let mut ranges = match UnitRef::new(dwarf, &unit).ranges(offset) {
-        Ok(ranges) => ranges,
-        Err(error) => return [(fault(error), 2); 3],
-    };
-    [
-        next_code(&mut ranges),
-        next_code(&mut ranges),
-        next_code(&mut ranges),
-    ]
+// What three calls answer of the unit's list at an offset.
+fn list_answers<R: Reader>(unit: UnitRef<'_, R>, offset: u64) -> [(u64, u64); 3] {
+    match unit.ranges(offset) {
+        Ok(mut ranges) => [
+            next_code(&mut ranges),
+            next_code(&mut ranges),
+            next_code(&mut ranges),
+        ],
+        Err(error) => [(fault(error), 2); 3],
+    }
 }
 
-// The same of both readers.
-fn both_code(
-    alloc: Global,
-    info: &'static [u8],
-    ranges: &'static [u8],
-    rnglists: &'static [u8],
-    order: RunTimeEndian,
-    offset: u64,
-) -> [[(u64, u64); 3]; 2] {
-    let borrowed = slices(info, ranges, rnglists, order, DwarfFileType::Main);
-    let shared = counted(info, ranges, rnglists, order);
-    [
-        ranges_code(alloc, &borrowed, offset),
-        ranges_code(alloc, &shared, offset),
-    ]
+fn ranges_code<R: Reader>(alloc: Global, dwarf: &Dwarf<R>, offset: u64) -> [(u64, u64); 3] {
+    match only_unit(alloc, dwarf) {
+        Ok(unit) => list_answers(UnitRef::new(dwarf, &unit), offset),
+        Err(error) => [(fault(error), 1); 3],
+    }
+}
+
+fn ranges_of<R: Reader>(alloc: Global, dwarf: Dwarf<R>, offset: u64) -> [(u64, u64); 3] {
+    ranges_code(alloc, &dwarf, offset)
 }
 
 #[test]
@@ -228,7 +217,14 @@ fn a_list_of_a_section_gives_its_ranges(rt: HostRuntime) {
         (VERSION_5, &[], RNGLIST, Little, 15, outside),
     ];
     for (info, ranges, rnglists, order, offset, want) in cases {
-        let found = both_code(rt.alloc(), info, ranges, rnglists, order, offset);
+        let found = [
+            ranges_of(
+                rt.alloc(),
+                slices(info, ranges, rnglists, order, DwarfFileType::Main),
+                offset,
+            ),
+            ranges_of(rt.alloc(), counted(info, ranges, rnglists, order), offset),
+        ];
         assert_eq!(rt; found, [want, want]);
     }
 }
@@ -236,8 +232,11 @@ fn a_list_of_a_section_gives_its_ranges(rt: HostRuntime) {
 // What three calls answer of the list with which both sections begin.
 fn list_code(alloc: Global, info: &[u8], list: &[u8]) -> [(u64, u64); 3] {
     let order = RunTimeEndian::Little;
-    let dwarf = slices(info, list, list, order, DwarfFileType::Main);
-    ranges_code(alloc, &dwarf, 0)
+    ranges_of(
+        alloc,
+        slices(info, list, list, order, DwarfFileType::Main),
+        0,
+    )
 }
 
 #[test]
@@ -355,6 +354,14 @@ fn value_of<R>(form: DwForm, number: u32) -> AttributeValue<R> {
     }
 }
 
+fn offset_answer<R: Reader>(unit: UnitRef<'_, R>, value: AttributeValue<R>) -> u64 {
+    match unit.attr_ranges_offset(value) {
+        Ok(Some(offset)) => offset,
+        Ok(None) => NONE,
+        Err(error) => fault(error),
+    }
+}
+
 // The offset that a value stands for in a unit whose range lists begin at a base.
 fn offset_code<R: Reader>(
     alloc: Global,
@@ -362,16 +369,22 @@ fn offset_code<R: Reader>(
     base: u64,
     value: AttributeValue<R>,
 ) -> u64 {
-    let mut unit = match only_unit(alloc, dwarf) {
-        Ok(unit) => unit,
-        Err(error) => return fault(error),
-    };
-    unit.rnglists_base = base;
-    match UnitRef::new(dwarf, &unit).attr_ranges_offset(value) {
-        Ok(Some(offset)) => offset,
-        Ok(None) => NONE,
+    match only_unit(alloc, dwarf) {
+        Ok(mut unit) => {
+            unit.rnglists_base = base;
+            offset_answer(UnitRef::new(dwarf, &unit), value)
+        }
         Err(error) => fault(error),
     }
+}
+
+fn offset_of<R: Reader>(
+    alloc: Global,
+    dwarf: Dwarf<R>,
+    base: u64,
+    value: AttributeValue<R>,
+) -> u64 {
+    offset_code(alloc, &dwarf, base, value)
 }
 
 #[test]
@@ -401,6 +414,6 @@ fn a_value_of_ranges_stands_for_an_offset(rt: HostRuntime) {
     for (info, file_type, base, form, number, want) in cases {
         let dwarf = slices(info, &[], RNGLISTS, RunTimeEndian::Little, file_type);
         let value = value_of(form, number);
-        assert_eq!(rt; offset_code(rt.alloc(), &dwarf, base, value), want);
+        assert_eq!(rt; offset_of(rt.alloc(), dwarf, base, value), want);
     }
 }

@@ -1,13 +1,14 @@
 //! Worked cases: headers, records, entries, strings and addresses, and refused growths.
 
+pub mod abbreviations;
 pub mod nesting;
 
 use bytes::Bytes;
 use gimli::{
-    AttributeValue, DebugAbbrev, DebugAddr, DebugAranges, DebugInfo, DebugLine, DebugLineStr,
-    DebugRanges, DebugRngLists, DebugStr, DebugStrOffsets, Dwarf, DwarfFileType, EndianBytes,
-    EndianSlice, Error, Format, Reader, RunTimeEndian, Unit, UnitHeader, UnitOffset, UnitRef,
-    UnitType,
+    AttributeSpecification, AttributeValue, DebugAbbrev, DebugAddr, DebugAranges, DebugInfo,
+    DebugLine, DebugLineStr, DebugRanges, DebugRngLists, DebugStr, DebugStrOffsets, Dwarf,
+    DwarfFileType, EndianBytes, EndianSlice, EntriesRaw, Error, Format, Reader, RunTimeEndian,
+    Unit, UnitHeader, UnitOffset, UnitRef, UnitType,
 };
 use std::alloc::{AllocError, Global};
 
@@ -155,17 +156,22 @@ fn copied(alloc: Global, bytes: &[u8], order: RunTimeEndian) -> Result<EndianByt
     Ok(EndianBytes::new(Bytes::copy_from_slice(alloc, bytes)?, order))
 }
 
+// The same with other units, line programs and strings.
+fn holding<R: Reader>(dwarf: Dwarf<R>, info: R, line: R, strings: R) -> Dwarf<R> {
+    let mut dwarf = dwarf;
+    dwarf.debug_info = DebugInfo::from(info);
+    dwarf.debug_line = DebugLine::from(line);
+    dwarf.debug_str = DebugStr::from(strings);
+    dwarf
+}
+
 // The same, where the bytes that strings and line programs are parts of stand in memory of their
 // own.
 fn held(alloc: Global, order: RunTimeEndian) -> Result<Dwarf<EndianBytes>, AllocError> {
     let info = copied(alloc, INFO, order)?;
     let line = copied(alloc, LINE, order)?;
     let strings = copied(alloc, b"x\0main\0cut", order)?;
-    let mut dwarf = counted(INFO, LINE, order);
-    dwarf.debug_info = DebugInfo::from(info);
-    dwarf.debug_line = DebugLine::from(line);
-    dwarf.debug_str = DebugStr::from(strings);
-    Ok(dwarf)
+    Ok(holding(counted(INFO, LINE, order), info, line, strings))
 }
 
 fn type_code(unit_type: UnitType) -> u64 {
@@ -213,6 +219,10 @@ pub fn headers_code<R: Reader>(dwarf: &Dwarf<R>) -> ([u64; 5], u64) {
     (first, second)
 }
 
+fn headers_of<R: Reader>(dwarf: Dwarf<R>) -> ([u64; 5], u64) {
+    headers_code(&dwarf)
+}
+
 #[test]
 fn a_header_has_its_fields(rt: HostRuntime) {
     let cases: [(&'static [u8], RunTimeEndian, ([u64; 5], u64)); 7] = [
@@ -229,8 +239,11 @@ fn a_header_has_its_fields(rt: HostRuntime) {
         (&[], RunTimeEndian::Little, ([NONE; 5], NONE)),
     ];
     for (info, order, want) in cases {
-        assert_eq!(rt; headers_code(&slices(info, LINE, order)), want);
-        assert_eq!(rt; headers_code(&counted(info, LINE, order)), want);
+        let found = [
+            headers_of(slices(info, LINE, order)),
+            headers_of(counted(info, LINE, order)),
+        ];
+        assert_eq!(rt; found, [want, want]);
     }
 }
 
@@ -264,52 +277,71 @@ pub fn record_code<R: Reader>(alloc: Global, dwarf: &Dwarf<R>) -> [u64; 5] {
     ]
 }
 
+fn record_of<R: Reader>(alloc: Global, dwarf: Dwarf<R>) -> [u64; 5] {
+    record_code(alloc, &dwarf)
+}
+
 #[test]
 fn a_unit_is_what_its_root_says(rt: HostRuntime) {
     let plain = [0x1_2f77, 0x10, 0, NONE, 1];
-    let cases: [(&'static [u8], &'static [u8], RunTimeEndian); 3] = [
-        (INFO, LINE, RunTimeEndian::Little),
-        (INFO_BIG, LINE_BIG, RunTimeEndian::Big),
-        (INFO_64, LINE, RunTimeEndian::Little),
-    ];
-    for (info, line, order) in cases {
-        assert_eq!(rt; record_code(rt.alloc(), &slices(info, line, order)), plain);
-        assert_eq!(rt; record_code(rt.alloc(), &counted(info, line, order)), plain);
-    }
     // The root's low_pc is read from the bytes of its text, since the abbreviation isn't a
     // skeleton's.
     let skeleton = [0x1_2f77, 0x0010_006f_7764_2e73, 0, 0x1122_3344_5566_7788, 1];
-    let order = RunTimeEndian::Little;
-    assert_eq!(rt;
-        record_code(rt.alloc(), &slices(SKELETON, LINE, order)),
-        skeleton
-    );
+    let cases: [(&'static [u8], &'static [u8], RunTimeEndian, [u64; 5]); 4] = [
+        (INFO, LINE, RunTimeEndian::Little, plain),
+        (INFO_BIG, LINE_BIG, RunTimeEndian::Big, plain),
+        (INFO_64, LINE, RunTimeEndian::Little, plain),
+        (SKELETON, LINE, RunTimeEndian::Little, skeleton),
+    ];
+    for (info, line, order, want) in cases {
+        let found = [
+            record_of(rt.alloc(), slices(info, line, order)),
+            record_of(rt.alloc(), counted(info, line, order)),
+        ];
+        assert_eq!(rt; found, [want, want]);
+    }
 }
 
-// Where the root begins, its tag, its attributes' names, and where it ends.
-fn entries_code<R: Reader>(alloc: Global, dwarf: &Dwarf<R>) -> Result<[u64; 7], Error> {
-    let unit = first_unit(alloc, dwarf)?;
-    let mut entries = UnitRef::new(dwarf, &unit).entries_raw(None)?;
-    let start = entries.next_offset().0;
-    let Some(abbreviation) = entries.read_abbreviation()? else {
-        return Err(Error::MissingUnitDie);
-    };
+// The names of the next attributes, by their specifications, at most four.
+fn attribute_names<R: Reader>(
+    entries: &mut EntriesRaw<'_, R>,
+    specifications: &[AttributeSpecification],
+) -> Result<[u64; 4], Error> {
     let mut names = [0; 4];
     let mut count = 0;
-    for specification in abbreviation.attributes() {
+    for specification in specifications {
         let attribute = entries.read_attribute(*specification)?;
         if count < 4 {
             names[count] = attribute.name().0;
             count += 1;
         }
     }
+    Ok(names)
+}
+
+// Where the root begins, its tag, its attributes' names, and where it ends.
+fn root_code<R: Reader>(entries: &mut EntriesRaw<'_, R>) -> Result<[u64; 7], Error> {
+    let start = entries.next_offset().0;
+    let Some(abbreviation) = entries.read_abbreviation()? else {
+        return Err(Error::MissingUnitDie);
+    };
+    let [a, b, c, d] = attribute_names(entries, abbreviation.attributes())?;
     let end = if entries.is_empty() {
         entries.next_offset().0
     } else {
         NONE
     };
-    let [a, b, c, d] = names;
     Ok([start, abbreviation.tag().0, a, b, c, d, end])
+}
+
+fn unit_entries_code<R: Reader>(unit: UnitRef<'_, R>) -> Result<[u64; 7], Error> {
+    let mut entries = unit.entries_raw(None)?;
+    root_code(&mut entries)
+}
+
+fn entries_code<R: Reader>(alloc: Global, dwarf: &Dwarf<R>) -> Result<[u64; 7], Error> {
+    let unit = first_unit(alloc, dwarf)?;
+    unit_entries_code(UnitRef::new(dwarf, &unit))
 }
 
 fn entries_answer<R: Reader>(alloc: Global, dwarf: &Dwarf<R>) -> [u64; 7] {
@@ -317,6 +349,10 @@ fn entries_answer<R: Reader>(alloc: Global, dwarf: &Dwarf<R>) -> [u64; 7] {
         Ok(code) => code,
         Err(error) => [fault(error); 7],
     }
+}
+
+fn entries_of<R: Reader>(alloc: Global, dwarf: Dwarf<R>) -> [u64; 7] {
+    entries_answer(alloc, &dwarf)
 }
 
 // What the unit of each byte order answers.
@@ -335,41 +371,35 @@ fn entries_are_read_one_by_one(rt: HostRuntime) {
         ),
     ];
     for (info, line, order, want) in cases {
-        assert_eq!(rt;
-            entries_answer(rt.alloc(), &slices(info, line, order)),
-            want
-        );
-        assert_eq!(rt;
-            entries_answer(rt.alloc(), &counted(info, line, order)),
-            want
-        );
+        let found = [
+            entries_of(rt.alloc(), slices(info, line, order)),
+            entries_of(rt.alloc(), counted(info, line, order)),
+        ];
+        assert_eq!(rt; found, [want, want]);
     }
 }
 
 // Where the entries from five offsets on begin.
 fn starts_code<R: Reader>(unit: UnitRef<'_, R>) -> [u64; 5] {
-    [12, 0, 10, 31, u64::MAX].map(|offset| start_code(unit, offset))
+    [
+        start_code(unit, 12),
+        start_code(unit, 0),
+        start_code(unit, 10),
+        start_code(unit, 31),
+        start_code(unit, u64::MAX),
+    ]
 }
 
 // Strings by nine values.
 fn strings_code<R: Reader>(unit: UnitRef<'_, R>, own: R) -> [u64; 9] {
-    let own = string_code(unit, AttributeValue::String(own));
-    let [second, cut, outside] = [2, 7, 11].map(|offset| string_code(
-        unit,
-        AttributeValue::DebugStrRef(offset),
-    ));
-    let [indexed, past] = [1, 2].map(|index| string_code(
-        unit,
-        AttributeValue::DebugStrOffsetsIndex(index),
-    ));
     [
-        own,
-        second,
+        string_code(unit, AttributeValue::String(own)),
+        string_code(unit, AttributeValue::DebugStrRef(2)),
         string_code(unit, AttributeValue::DebugLineStrRef(0)),
-        indexed,
-        cut,
-        outside,
-        past,
+        string_code(unit, AttributeValue::DebugStrOffsetsIndex(1)),
+        string_code(unit, AttributeValue::DebugStrRef(7)),
+        string_code(unit, AttributeValue::DebugStrRef(11)),
+        string_code(unit, AttributeValue::DebugStrOffsetsIndex(2)),
         string_code(unit, AttributeValue::DebugStrRefSup(0)),
         string_code(unit, AttributeValue::Udata(0)),
     ]
@@ -377,27 +407,36 @@ fn strings_code<R: Reader>(unit: UnitRef<'_, R>, own: R) -> [u64; 9] {
 
 // Addresses by four indexes.
 fn addresses_code<R: Reader>(unit: UnitRef<'_, R>) -> [u64; 4] {
-    [0, 1, 2, u64::MAX].map(|index| number_code(unit.address(index)))
+    [
+        address_code(unit, 0),
+        address_code(unit, 1),
+        address_code(unit, 2),
+        address_code(unit, u64::MAX),
+    ]
 }
 
 type Places = ([u64; 5], [u64; 9], [u64; 4]);
 
 // Entries, strings and addresses of the unit.
+fn unit_places<R: Reader>(unit: UnitRef<'_, R>, own: R) -> Places {
+    (
+        starts_code(unit),
+        strings_code(unit, own),
+        addresses_code(unit),
+    )
+}
+
+// The same of the first unit, whose offsets of strings and addresses begin at 8.
 fn places_code<R: Reader>(alloc: Global, dwarf: &Dwarf<R>, own: R) -> Result<Places, Error> {
     let mut unit = first_unit(alloc, dwarf)?;
     unit.str_offsets_base = 8;
     unit.addr_base = 8;
-    let unit = UnitRef::new(dwarf, &unit);
-    Ok((
-        starts_code(unit),
-        strings_code(unit, own),
-        addresses_code(unit),
-    ))
+    Ok(unit_places(UnitRef::new(dwarf, &unit), own))
 }
 
-fn number_code(answer: Result<u64, Error>) -> u64 {
-    match answer {
-        Ok(number) => number,
+fn address_code<R: Reader>(unit: UnitRef<'_, R>, index: u64) -> u64 {
+    match unit.address(index) {
+        Ok(address) => address,
         Err(error) => fault(error),
     }
 }
@@ -443,6 +482,11 @@ const PLACES: Places = (
     [0x10, 0x20, OUTSIDE, OUTSIDE],
 );
 
+// 0 where they are these.
+fn places_of<R: Reader>(alloc: Global, dwarf: Dwarf<R>, own: R) -> u64 {
+    places_met(places_answer(alloc, &dwarf, own))
+}
+
 #[test]
 fn strings_addresses_and_offsets_are_found_or_refused(rt: HostRuntime) {
     let cases: [(&'static [u8], &'static [u8], RunTimeEndian); 2] = [
@@ -451,10 +495,15 @@ fn strings_addresses_and_offsets_are_found_or_refused(rt: HostRuntime) {
     ];
     for (info, line, order) in cases {
         let slice = EndianSlice::new(b"own", order);
-        let borrowed = places_answer(rt.alloc(), &slices(info, line, order), slice);
-        let own = shared(b"own", order);
-        let shared = places_answer(rt.alloc(), &counted(info, line, order), own);
-        assert_eq!(rt; [places_met(borrowed), places_met(shared)], [0; 2]);
+        let found = [
+            places_of(rt.alloc(), slices(info, line, order), slice),
+            places_of(
+                rt.alloc(),
+                counted(info, line, order),
+                shared(b"own", order),
+            ),
+        ];
+        assert_eq!(rt; found, [0; 2]);
     }
 }
 
@@ -492,18 +541,28 @@ fn places_met((starts, strings, addresses): Places) -> u64 {
     numbers_met(&met, &[0; 3])
 }
 
+// The entries and the places, where there is a string of their own.
+fn each_of<R: Reader>(alloc: Global, dwarf: Dwarf<R>, own: Result<R, AllocError>) -> [u64; 2] {
+    let entries = entries_met(entries_answer(alloc, &dwarf));
+    match own {
+        Ok(own) => [entries, places_of(alloc, dwarf, own)],
+        Err(_) => [entries, OOM],
+    }
+}
+
+// The same of shared bytes.
+fn each_of_shared(alloc: Global, order: RunTimeEndian) -> [u64; 2] {
+    match held(alloc, order) {
+        Ok(dwarf) => each_of(alloc, dwarf, copied(alloc, b"own", order)),
+        Err(_) => [OOM; 2],
+    }
+}
+
 // The entries of borrowed bytes, and the entries and the places of shared ones.
 fn each(alloc: Global) -> [u64; 3] {
     let order = RunTimeEndian::Little;
-    let borrowed = entries_met(entries_answer(alloc, &slices(INFO, LINE, order)));
-    let Ok(dwarf) = held(alloc, order) else {
-        return [borrowed, OOM, OOM];
-    };
-    let entries = entries_met(entries_answer(alloc, &dwarf));
-    let places = match copied(alloc, b"own", order) {
-        Ok(own) => places_met(places_answer(alloc, &dwarf, own)),
-        Err(_) => OOM,
-    };
+    let borrowed = entries_met(entries_of(alloc, slices(INFO, LINE, order)));
+    let [entries, places] = each_of_shared(alloc, order);
     [borrowed, entries, places]
 }
 

@@ -49,24 +49,42 @@ fn shared(bytes: &'static [u8], is_cut: bool) -> EndianBytes {
     tests::shared(cut(bytes, is_cut), ORDER)
 }
 
+// The same file with these sections.
+fn with_sections<R: Reader>(
+    dwarf: Dwarf<R>,
+    abbrev: R,
+    aranges: R,
+    ranges: R,
+    rnglists: R,
+) -> Dwarf<R> {
+    let mut dwarf = dwarf;
+    dwarf.debug_abbrev = DebugAbbrev::from(abbrev);
+    dwarf.debug_aranges = DebugAranges::from(aranges);
+    dwarf.debug_ranges = DebugRanges::from(ranges);
+    dwarf.debug_rnglists = DebugRngLists::from(rnglists);
+    dwarf
+}
+
 // The sections of a vector, and lists of ranges.
 fn borrowed_file(vector: Vector, is_cut: bool) -> Dwarf<EndianSlice<'static>> {
-    let mut dwarf = tests::slices(cut(vector.1, is_cut), cut(vector.2, is_cut), ORDER);
-    dwarf.debug_abbrev = DebugAbbrev::from(borrowed(vector.0, is_cut));
-    dwarf.debug_aranges = DebugAranges::from(borrowed(files::ARANGES, is_cut));
-    dwarf.debug_ranges = DebugRanges::from(borrowed(ranges::RANGES_32, is_cut));
-    dwarf.debug_rnglists = DebugRngLists::from(borrowed(ranges::RNGLISTS, is_cut));
-    dwarf
+    with_sections(
+        tests::slices(cut(vector.1, is_cut), cut(vector.2, is_cut), ORDER),
+        borrowed(vector.0, is_cut),
+        borrowed(files::ARANGES, is_cut),
+        borrowed(ranges::RANGES_32, is_cut),
+        borrowed(ranges::RNGLISTS, is_cut),
+    )
 }
 
 // The same over shared bytes.
 fn shared_file(vector: Vector, is_cut: bool) -> Dwarf<EndianBytes> {
-    let mut dwarf = tests::counted(cut(vector.1, is_cut), cut(vector.2, is_cut), ORDER);
-    dwarf.debug_abbrev = DebugAbbrev::from(shared(vector.0, is_cut));
-    dwarf.debug_aranges = DebugAranges::from(shared(files::ARANGES, is_cut));
-    dwarf.debug_ranges = DebugRanges::from(shared(ranges::RANGES_32, is_cut));
-    dwarf.debug_rnglists = DebugRngLists::from(shared(ranges::RNGLISTS, is_cut));
-    dwarf
+    with_sections(
+        tests::counted(cut(vector.1, is_cut), cut(vector.2, is_cut), ORDER),
+        shared(vector.0, is_cut),
+        shared(files::ARANGES, is_cut),
+        shared(ranges::RANGES_32, is_cut),
+        shared(ranges::RNGLISTS, is_cut),
+    )
 }
 
 // The next item: where it begins and its depth, its tag, and its attributes' names, strings and
@@ -147,18 +165,23 @@ fn rows_sum<R: Reader>(unit: &Unit<R>) -> u64 {
     sum
 }
 
-// The first unit: its header, record, items, range lists at 0 and 16, and rows.
-fn unit_sums<R: Reader>(alloc: Global, dwarf: &Dwarf<R>) -> Result<[u64; 5], Error> {
-    let mut unit = tests::first_unit(alloc, dwarf)?;
-    unit.rnglists_base = 12;
-    let view = UnitRef::new(dwarf, &unit);
-    Ok([
+// A unit's items, range lists at 0 and 16, rows and low_pc.
+fn view_sums<R: Reader>(dwarf: &Dwarf<R>, unit: &Unit<R>) -> [u64; 5] {
+    let view = UnitRef::new(dwarf, unit);
+    [
         items_sum(view),
         list_sum(view, 0),
         list_sum(view, 16),
-        rows_sum(&unit),
+        rows_sum(unit),
         unit.low_pc,
-    ])
+    ]
+}
+
+// The same of the first unit, whose range lists begin at 12.
+fn unit_sums<R: Reader>(alloc: Global, dwarf: &Dwarf<R>) -> Result<[u64; 5], Error> {
+    let mut unit = tests::first_unit(alloc, dwarf)?;
+    unit.rnglists_base = 12;
+    Ok(view_sums(dwarf, &unit))
 }
 
 // The headers, the first unit's record, what it holds, and the address ranges.
@@ -190,10 +213,14 @@ fn sums<R: Reader>(alloc: Global, dwarf: &Dwarf<R>) -> [u64; 16] {
     ]
 }
 
+fn sums_of<R: Reader>(alloc: Global, dwarf: Dwarf<R>) -> [u64; 16] {
+    sums(alloc, &dwarf)
+}
+
 // Whether both readers give the same sums.
 fn are_alike(alloc: Global, vector: Vector, is_cut: bool) -> bool {
-    let borrowed = sums(alloc, &borrowed_file(vector, is_cut));
-    let shared = sums(alloc, &shared_file(vector, is_cut));
+    let borrowed = sums_of(alloc, borrowed_file(vector, is_cut));
+    let shared = sums_of(alloc, shared_file(vector, is_cut));
     borrowed == shared
 }
 

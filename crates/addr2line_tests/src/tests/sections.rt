@@ -1,12 +1,13 @@
 //! The sections of one unit, and the answers of a context over them as numbers.
 
-use addr2line::Context;
-use addr2line::gimli::read::{EndianSlice, Error, RunTimeEndian};
+use addr2line::gimli::read::{EndianBytes, EndianSlice, Error, Reader, RunTimeEndian};
 use addr2line::gimli::{
     DebugAbbrev, DebugAddr, DebugAranges, DebugInfo, DebugLine, DebugLineStr, DebugRanges,
     DebugRngLists, DebugStr, DebugStrOffsets, Dwarf, DwarfFileType,
 };
+use addr2line::{Context, Location};
 use addr2line_lines::Lines;
+use bytes::Bytes;
 use std::alloc::Global;
 
 /// A unit with DW_AT_stmt_list, DW_AT_comp_dir, DW_AT_low_pc and DW_AT_high_pc.
@@ -57,6 +58,33 @@ pub fn dwarf_of<'a>(abbrev: &'a [u8], info: &'a [u8], line: &'a [u8]) -> Dwarf<E
     }
 }
 
+/// A reader of shared bytes in little endian.
+pub fn shared(bytes: &'static [u8]) -> EndianBytes {
+    EndianBytes::new(Bytes::from_static(bytes), RunTimeEndian::Little)
+}
+
+/// The same sections over shared bytes.
+pub fn shared_dwarf_of(
+    abbrev: &'static [u8],
+    info: &'static [u8],
+    line: &'static [u8],
+) -> Dwarf<EndianBytes> {
+    Dwarf {
+        debug_abbrev: DebugAbbrev::from(shared(abbrev)),
+        debug_addr: DebugAddr::from(shared(&[])),
+        debug_aranges: DebugAranges::from(shared(&[])),
+        debug_info: DebugInfo::from(shared(info)),
+        debug_line: DebugLine::from(shared(line)),
+        debug_line_str: DebugLineStr::from(shared(&[])),
+        debug_ranges: DebugRanges::from(shared(&[])),
+        debug_rnglists: DebugRngLists::from(shared(&[])),
+        debug_str: DebugStr::from(shared(&[])),
+        debug_str_offsets: DebugStrOffsets::from(shared(&[])),
+        file_type: DwarfFileType::Main,
+        sup: None,
+    }
+}
+
 /// A context of three sections, each by itself; the others are empty.
 pub fn context_of<'a>(
     alloc: Global,
@@ -64,11 +92,22 @@ pub fn context_of<'a>(
     info: &'a [u8],
     line: &'a [u8],
 ) -> Result<Context<EndianSlice<'a>>, Error> {
+    context_with(alloc, abbrev, info, line, &[])
+}
+
+/// The same with sets of address ranges.
+pub fn context_with<'a>(
+    alloc: Global,
+    abbrev: &'a [u8],
+    info: &'a [u8],
+    line: &'a [u8],
+    aranges: &'a [u8],
+) -> Result<Context<EndianSlice<'a>>, Error> {
     Context::from_sections(
         alloc,
         DebugAbbrev::from(little(abbrev)),
         DebugAddr::from(little(&[])),
-        DebugAranges::from(little(&[])),
+        DebugAranges::from(little(aranges)),
         DebugInfo::from(little(info)),
         DebugLine::from(little(line)),
         DebugLineStr::from(little(&[])),
@@ -92,28 +131,42 @@ pub fn lines_of(alloc: Global, info: &[u8], line: &[u8]) -> Result<Lines, Error>
     }
 }
 
-/// The location of an address as a number: 0 where there is none, 9,000,000 for UnexpectedEof and
-/// 8,000,000 for another fault. Else a million for "/w/a.c", two for no file, three for another; a
-/// thousand for each line, and the column, 999 for none.
-pub fn code_of(context: &mut Context<EndianSlice<'_>>, probe: u64) -> u32 {
+/// A fault as a number above those of locations.
+pub fn fault_code(error: Error) -> u32 {
+    match error {
+        Error::UnexpectedEof => 9_000_000,
+        Error::OutOfMemory => 9_100_000,
+        Error::UnknownReservedLength => 9_200_000,
+        Error::UnsupportedSegmentSize => 9_300_000,
+        Error::OffsetOutOfBounds => 9_400_000,
+        _ => 8_000_000,
+    }
+}
+
+/// A location as a number: a million for "/w/a.c", two for no file, three for another, four for
+/// "/v/a.c"; a thousand for each line, and the column, 999 for none.
+pub fn location_code(location: Location<'_>) -> u32 {
+    let file = match location.file {
+        Some("/w/a.c") => 1_000_000,
+        Some("/v/a.c") => 4_000_000,
+        None => 2_000_000,
+        Some(_) => 3_000_000,
+    };
+    let line = location.line.unwrap_or(0).min(900) * 1_000;
+    file + line + location.column.unwrap_or(999).min(999)
+}
+
+/// The location of an address as a number: 0 where there is none, and a fault's number.
+pub fn code_of<R: Reader>(context: &mut Context<R>, probe: u64) -> u32 {
     match context.find_location(probe) {
         Ok(None) => 0,
-        Ok(Some(location)) => {
-            let file = match location.file {
-                Some("/w/a.c") => 1_000_000,
-                None => 2_000_000,
-                Some(_) => 3_000_000,
-            };
-            let line = location.line.unwrap_or(0).min(900) * 1_000;
-            file + line + location.column.unwrap_or(999).min(999)
-        }
-        Err(Error::UnexpectedEof) => 9_000_000,
-        Err(_) => 8_000_000,
+        Ok(Some(location)) => location_code(location),
+        Err(error) => fault_code(error),
     }
 }
 
 /// The locations of addresses as numbers.
-pub fn codes_of<const N: usize>(context: Context<EndianSlice<'_>>, probes: [u64; N]) -> [u32; N] {
+pub fn codes_of<R: Reader, const N: usize>(context: Context<R>, probes: [u64; N]) -> [u32; N] {
     let mut context = context;
     let mut codes = [0; N];
     for i in 0..N {

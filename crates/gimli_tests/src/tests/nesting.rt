@@ -65,22 +65,38 @@ fn next_item<R: Reader>(entries: &mut EntriesRaw<'_, R>, way: Way) -> Result<[u6
     }
 }
 
+// The next item, or the fault, the depth and the place where it stands.
+fn item_code<R: Reader>(entries: &mut EntriesRaw<'_, R>, way: Way) -> [u64; 3] {
+    match next_item(entries, way) {
+        Ok(item) => item,
+        Err(error) => [
+            fault(error),
+            entries.next_depth().cast_unsigned() as u64,
+            entries.next_offset().0,
+        ],
+    }
+}
+
 // Seven items, or fewer and then the end or the fault over and over.
-fn items<R: Reader>(alloc: Global, dwarf: &Dwarf<R>, way: Way) -> Result<[[u64; 3]; 7], Error> {
-    let unit = first_unit(alloc, dwarf)?;
-    let mut entries = UnitRef::new(dwarf, &unit).entries_raw(None)?;
+fn unit_items<R: Reader>(unit: UnitRef<'_, R>, way: Way) -> Result<[[u64; 3]; 7], Error> {
+    let mut entries = unit.entries_raw(None)?;
     let mut rows = [[0; 3]; 7];
     for row in &mut rows {
-        *row = match next_item(&mut entries, way) {
-            Ok(item) => item,
-            Err(error) => [
-                fault(error),
-                entries.next_depth().cast_unsigned() as u64,
-                entries.next_offset().0,
-            ],
-        };
+        *row = item_code(&mut entries, way);
     }
     Ok(rows)
+}
+
+fn items<R: Reader>(
+    alloc: Global,
+    dwarf: Dwarf<R>,
+    abbreviations: R,
+    way: Way,
+) -> Result<[[u64; 3]; 7], Error> {
+    let mut dwarf = dwarf;
+    dwarf.debug_abbrev = DebugAbbrev::from(abbreviations);
+    let unit = first_unit(alloc, &dwarf)?;
+    unit_items(UnitRef::new(&dwarf, &unit), way)
 }
 
 // How many of the seven items of the first bytes of NESTED, as a unit of that length, aren't these;
@@ -92,9 +108,8 @@ fn wrong_items(alloc: Global, len: u8, way: Way, want: &[[u64; 3]; 7]) -> u64 {
         *byte = *nested;
     }
     info[0] = len.wrapping_sub(4);
-    let mut dwarf = slices(&info[..NESTED_LEN.min(usize::from(len))], LINE, order);
-    dwarf.debug_abbrev = DebugAbbrev::from(EndianSlice::new(ABBREV, order));
-    let Ok(rows) = items(alloc, &dwarf, way) else {
+    let dwarf = slices(&info[..NESTED_LEN.min(usize::from(len))], LINE, order);
+    let Ok(rows) = items(alloc, dwarf, EndianSlice::new(ABBREV, order), way) else {
         return 1000;
     };
     let mut wrong = 0u64;
@@ -167,19 +182,27 @@ fn items_are_nested(rt: HostRuntime) {
 // How many entries stand inside one another.
 const LEVELS: u64 = 10_000;
 
+// The depth after the next item, if it is an entry.
+fn pass_item<R: Reader>(entries: &mut EntriesRaw<'_, R>) -> Result<Option<isize>, Error> {
+    match entries.read_abbreviation()? {
+        Some(abbreviation) => {
+            entries.skip_attributes_of(abbreviation)?;
+            Ok(Some(entries.next_depth()))
+        }
+        None => Ok(None),
+    }
+}
+
 // How many items are read, the depth after the entries, and the depth after the closing entries.
-fn depths<R: Reader>(alloc: Global, dwarf: &Dwarf<R>) -> Result<[u64; 3], Error> {
-    let unit = first_unit(alloc, dwarf)?;
-    let mut entries = UnitRef::new(dwarf, &unit).entries_raw(None)?;
+fn pass_items<R: Reader>(entries: &mut EntriesRaw<'_, R>) -> Result<[u64; 3], Error> {
     let mut count = 0u64;
     let mut deepest = 0;
     for _ in 0..3 * LEVELS {
         if entries.is_empty() {
             break;
         }
-        if let Some(abbreviation) = entries.read_abbreviation()? {
-            entries.skip_attributes_of(abbreviation)?;
-            deepest = entries.next_depth();
+        if let Some(depth) = pass_item(entries)? {
+            deepest = depth;
         }
         count = count.wrapping_add(1);
     }
@@ -188,6 +211,18 @@ fn depths<R: Reader>(alloc: Global, dwarf: &Dwarf<R>) -> Result<[u64; 3], Error>
         deepest.cast_unsigned() as u64,
         entries.next_depth().cast_unsigned() as u64,
     ])
+}
+
+fn unit_depths<R: Reader>(unit: UnitRef<'_, R>) -> Result<[u64; 3], Error> {
+    let mut entries = unit.entries_raw(None)?;
+    pass_items(&mut entries)
+}
+
+fn depths<R: Reader>(alloc: Global, dwarf: Dwarf<R>, abbreviations: R) -> Result<[u64; 3], Error> {
+    let mut dwarf = dwarf;
+    dwarf.debug_abbrev = DebugAbbrev::from(abbreviations);
+    let unit = first_unit(alloc, &dwarf)?;
+    unit_depths(UnitRef::new(&dwarf, &unit))
 }
 
 // The same of a unit of as many entries inside one another, and one closing entry more.
@@ -204,9 +239,8 @@ fn deep(alloc: Global) -> Result<[u64; 3], Error> {
         info.push(0)?;
     }
     let order = RunTimeEndian::Little;
-    let mut dwarf = slices(&info, &[], order);
-    dwarf.debug_abbrev = DebugAbbrev::from(EndianSlice::new(b"\x01\x11\x01\0\0\0", order));
-    depths(alloc, &dwarf)
+    let abbreviations = EndianSlice::new(b"\x01\x11\x01\0\0\0", order);
+    depths(alloc, slices(&info, &[], order), abbreviations)
 }
 
 #[test]

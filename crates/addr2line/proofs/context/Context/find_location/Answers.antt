@@ -1,42 +1,82 @@
-use Rattle.std.proofs.Common.{refl, sym, ap, ◌∙◌, Ok, Err}
+use Rattle.std.proofs.Common.{refl, sym, ap, subst, ◌∙◌, Ok, Some}
 use Rattle.std.proofs.lemmas.Result.{err_from_is_err_and}
-use Rattle.addr2line_units.specs.Located.{location_along}
-use Rattle.addr2line_units.specs.CachedLines.{unit_index_of}
-use Rattle.addr2line.proofs.ReadyLemmas.{after_lookup, location_is, exact_fault}
+use Rattle.addr2line_units.specs.CachedLines.{HaveLinesOf}
+use Rattle.addr2line.proofs.ContextLemmas.{after_lookup, location_is, still_a_context}
 use Rattle.addr2line.proofs.context.Context.find_location.Goals as goal
 
-pub returns-in_err-read_lines : goal.returns-in_err-read_lines
-returns-in_err-read_lines g c =
+pub invariant_of-self : goal.invariant_of-self
+invariant_of-self g c =
+    let i = c.self.invariant in
+    still_a_context c.self.inside.dwarf.value c.self.inside.units.units.items c.self.inside.units.ranges _ i.made_is _ c.find_place.ensures.stay _ c.find_place.ensures.ranges (subst (λ d. HaveLinesOf d c.find_place.new.self.units.items) c.deref.ensures c.find_place.ensures.read)
+
+pub invariant_of-self-in-Some : goal.invariant_of-self-in-Some
+invariant_of-self-in-Some g c =
+    let i = c.self.invariant in
+    still_a_context c.self.inside.dwarf.value c.self.inside.units.units.items c.self.inside.units.ranges _ i.made_is _ c.find_place.ensures.stay _ c.find_place.ensures.ranges (subst (λ d. HaveLinesOf d c.find_place.new.self.units.items) c.deref.ensures c.find_place.ensures.read)
+
+pub invariant_of-self-in-None : goal.invariant_of-self-in-None
+invariant_of-self-in-None g c =
+    let i = c.self.invariant in
+    still_a_context c.self.inside.dwarf.value c.self.inside.units.units.items c.self.inside.units.ranges _ i.made_is _ c.find_place.ensures.stay _ c.find_place.ensures.ranges (subst (λ d. HaveLinesOf d c.find_place.new.self.units.items) c.deref.ensures c.find_place.ensures.read)
+
+pub returns-in_err-place : goal.returns-in_err-place
+returns-in_err-place g c =
+    let i = c.self.invariant in
     let d = c.self.inside.dwarf.value in
-    let old = c.self.inside.units.unit in
-    let new = c.read_lines.new.self.unit in
-    let index = c.self.invariant.index_is in
-    let same = ap (λ dwarf. location_along dwarf (unit_index_of old) c.args.probe) (sym c.deref.ensures) in
+    let old = c.self.inside.units.units.items in
+    let new = c.find_place.new.self.units.items in
+    let ranges = c.self.inside.units.ranges in
+    let sup = c.self.inside.sup_units.units.items in
+    let e = rw c.deref.ensures at c.in_err-place.ensures in
     let p = err_from_is_err_and c.from_residual.result c.from_residual.ensures.1 in
+    let is = location_is d old ranges sup i.made_is c.args.probe in
     rw (p.1, p.2, sym c.self.view_is) (
-      (refl, (λ _. tt), after_lookup d c.args.probe old new index (Err c.in_err-read_lines.field-0.0) _ (λ a. a) c.in_err-read_lines.ensures.stays c.in_err-read_lines.ensures.caches),
+      (refl, (λ _. tt), after_lookup d old ranges sup i.made_is new e.stay c.self.inside.looks c.find_place.new.looks c.args.probe _ e.ready e.raised e.cost),
       record {
-        gives = λ n. location_is d c.args.probe old new index ∙ same ∙ c.in_err-read_lines.ensures.gives n;
-        exact = λ ready. location_is d c.args.probe old new index ∙ same ∙ exact_fault d c.args.probe old new index _ _ ready (λ h. (c.in_err-read_lines.ensures.uncovered h).0) c.in_err-read_lines.ensures.exact;
-        last = λ p. let whole = c.in_err-read_lines.ensures.last p in cc;
+        gives = λ n. is ∙ e.gives n;
+        exact = λ ready. is ∙ e.exact (ready _ i.made_is);
+        last = λ q. let whole = e.last q in cc;
         kept = tt;
       },
     )
 
-pub returns : goal.returns
-returns g c =
+pub returns-in-Some : goal.returns-in-Some
+returns-in-Some g c =
+    let i = c.self.invariant in
     let d = c.self.inside.dwarf.value in
-    let old = c.self.inside.units.unit in
-    let new = c.read_lines.new.self.unit in
-    let index = c.self.invariant.index_is in
-    let same = ap (λ dwarf. location_along dwarf (unit_index_of old) c.args.probe) (sym c.deref.ensures) in
-    let found = location_is d c.args.probe old new index ∙ same ∙ c.in_ok-read_lines.ensures.gives ∙ ap Ok (sym c.find_location.ensures.found) in
+    let old = c.self.inside.units.units.items in
+    let new = c.find_place.new.self.units.items in
+    let ranges = c.self.inside.units.ranges in
+    let sup = c.self.inside.sup_units.units.items in
+    let e = rw (c.deref.ensures, c.in-Some.is) at c.in_ok-place.ensures in
+    let is = location_is d old ranges sup i.made_is c.args.probe in
+    let found = is ∙ e.gives ∙ ap (λ l. Ok (Some l)) (sym c.location.ensures.gives) in
     rw (sym c.self.view_is) (
-      (refl, (λ _. tt), after_lookup d c.args.probe old new index (Ok c.in_ok-read_lines.field-0) _ (λ _. tt) c.in_ok-read_lines.ensures.stays c.in_ok-read_lines.ensures.caches),
+      (refl, (λ _. tt), after_lookup d old ranges sup i.made_is new e.stay c.self.inside.looks c.find_place.new.looks c.args.probe _ e.ready e.raised e.cost),
       record {
         gives = found;
-        exact = λ _. found;
-        last = λ p. ap Ok (c.find_location.ensures.last p);
+        exact = λ ready. found;
+        last = λ q. let whole = e.last q in cc;
+        kept = tt;
+      },
+    )
+
+pub returns-in-None : goal.returns-in-None
+returns-in-None g c =
+    let i = c.self.invariant in
+    let d = c.self.inside.dwarf.value in
+    let old = c.self.inside.units.units.items in
+    let new = c.find_place.new.self.units.items in
+    let ranges = c.self.inside.units.ranges in
+    let sup = c.self.inside.sup_units.units.items in
+    let e = rw (c.deref.ensures, c.in-None.is) at c.in_ok-place.ensures in
+    let is = location_is d old ranges sup i.made_is c.args.probe in
+    rw (sym c.self.view_is) (
+      (refl, (λ _. tt), after_lookup d old ranges sup i.made_is new e.stay c.self.inside.looks c.find_place.new.looks c.args.probe _ e.ready e.raised e.cost),
+      record {
+        gives = is ∙ e.gives;
+        exact = λ ready. is ∙ e.gives;
+        last = λ q. refl;
         kept = tt;
       },
     )

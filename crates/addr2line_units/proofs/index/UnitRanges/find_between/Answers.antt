@@ -2,7 +2,9 @@ use Rattle.std.proofs.Common.{rules, List, ap, sym, subst, ◌∙◌, filter}
 use Rattle.std.specs.List.{AllByRecursion}
 use Rattle.std.proofs.lemmas.List.Sorted.{IsPartitionPoint-from_clause, IsPartitionedBy-leb}
 use Rattle.addr2line_units.specs.declared.index.IndexedRange.{IndexedRange}
+use Rattle.addr2line_lines.specs.InOrder.{in_order}
 use Rattle.addr2line_units.specs.LeastBegins.{AreLeastBegins, EndFits, is_between}
+use Rattle.addr2line_units.specs.UnitIndex.{ends_sooner}
 use Rattle.addr2line_units.proofs.LeastBeginLemmas.{EndsRise, dropped_least, ends_by, ends_rise, found_from, none_past_greatest, rest_is}
 use Rattle.addr2line_units.proofs.index.UnitRanges.find_between.Goals as goal
 
@@ -19,6 +21,8 @@ returns c =
     let ordered = subst EndsRise (sym c.deref.ensures.value) (ends_rise items c.self.invariant.ordered) in
     let parted = IsPartitionedBy-leb (λ (y : IndexedRange). y.unit_range.range.end) _ low ordered in
     let point = IsPartitionPoint-from_clause (ends_by low) _ _ c.partition_point-first.ensures.partitioned parted (λ a r q k. search rules) in
-    let between = found_from low last items _ _ _ c.deref.ensures.value c.deref-2.ensures.value c.partition_point-first.ensures.bound point ∙ ap (filter (is_between low last)) c.self.view_is in
-    let fit = subst (AllByRecursion EndFits) c.self.view_is c.self.invariant.fit in
-    record { gives = between; last = λ e. between ∙ none_past_greatest low last e c.args.self.now fit }
+    let ranges = in_order ends_sooner c.args.self.now in
+    let sorted = c.self.invariant.sorted ∙ ap (in_order ends_sooner) c.self.view_is in
+    let between = found_from low last items _ _ _ c.deref.ensures.value c.deref-2.ensures.value c.partition_point-first.ensures.bound point ∙ ap (filter (is_between low last)) sorted in
+    let fit = subst (AllByRecursion EndFits) sorted c.self.invariant.fit in
+    record { gives = between; last = λ e. between ∙ none_past_greatest low last e ranges fit }

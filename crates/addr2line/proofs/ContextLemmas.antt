@@ -1,0 +1,203 @@
+-- What a context has and what its sections give (on specs/Context.antt).
+use Rattle.std.proofs.Common.{◌≡◌, ℕ, zero, suc, ◌+◌, ◌≤◌, ◌||◌, Bool, true, false, List, [], ◌∷◌, ◌++◌, not, map, slice_get, Option, Some, None, Result, Ok, Err, refl, sym, ap, subst, ◌∙◌}
+use Rattle.std.specs.Prelude.{OnOk, is_ok}
+use Rattle.gimli_read.specs.declared.error.Error.{Error}
+use Rattle.gimli_read.specs.declared.range.Range.{Range}
+use Rattle.gimli_read.specs.Reading.{◌>>=◌, ExactlyUnlessOom}
+use Rattle.gimli.specs.Sections.{Sections}
+use Rattle.gimli.specs.Unit.{UnitRecord}
+use Rattle.addr2line_lines.specs.Location.{LineTable, Location, location_at}
+use Rattle.addr2line_lines.specs.UnitLines.{unit_lines}
+use Rattle.addr2line_lines.specs.Rows.{read_all, result_map}
+use Rattle.addr2line_units.specs.declared.index.UnitRange.{UnitRange}
+use Rattle.addr2line_units.specs.declared.unit.LazyLines.{LazyLines}
+use Rattle.addr2line_units.specs.declared.unit.LazyLines.TheVariants.{Faulty, Read, Unread}
+use Rattle.addr2line_units.specs.declared.unit.ResUnit.{ResUnit}
+use Rattle.addr2line_units.specs.CachedLines.{AreLinesOf, HaveLinesOf, StayUnits, cached_spans, indexed_units, is_uncached, lines_at, parsed_units}
+use Rattle.addr2line_units.specs.Indexed.{IndexState, context_takes_memory, index_of, index_takes_memory, sup_takes_memory}
+use Rattle.addr2line_units.specs.Located.{along, all_lines, lines_fault, lines_of_unit, location_in, location_of, or_along, spans_in, spans_or_fault, looks_along, spans_along, spans_of}
+use Rattle.addr2line_units.specs.Made.{IndexedUnit, Made, RangedUnit, asks_lines, indexed_of, made, ranged_units, ranges_from, sup_units}
+use Rattle.addr2line_units.specs.Parsed.{AreAllParsed, AreParsed, IsNotOom, has_parsed, ready_along}
+use Rattle.addr2line_units.specs.RangeLookup.{cached_along}
+use Rattle.addr2line_units.specs.UnitIndex.{cover, cover_range}
+use Rattle.addr2line_units.proofs.UnitsLemmas.{ready_both, stay_indexed, stay_parsed}
+use Rattle.addr2line.specs.Context.{AfterLookup, AfterRangeLookup, ContextState, IsContext, IsReady, Stays, lines_of_all, new_context}
+
+ok_is : {X : Type 0} (x y : X) → ◌≡◌ {A = Result X Error} (Ok x) (Ok y) → x ≡ y
+ok_is x y e = cc
+
+-- a context that is made
+pub context_made : (d : Sections) (i : IndexState) (sup : List UnitRecord) → (ranged_units d >>= λ units. Ok (index_of d units)) ≡ Ok i → sup_units d.sup ≡ Ok sup
+    → new_context d ≡ Ok (record { sections = d; answers = []; parsed = i.parsed; looks = 0 })
+context_made d i sup e f = of_units (ranged_units d) e
+  where
+    state : List Bool → Result ContextState Error
+    state parsed = Ok (record { sections = d; answers = []; parsed = parsed; looks = 0 })
+
+    of_units : (r : Result (List RangedUnit) Error) → (r >>= λ units. Ok (index_of d units)) ≡ Ok i
+        → (r >>= λ units. sup_units d.sup >>= λ s. state (map asks_lines units)) ≡ state i.parsed
+    of_units (Ok units) h =
+        ap (λ (r : Result (List UnitRecord) Error). r >>= λ s. state (map asks_lines units)) f
+        ∙ ap (λ (x : IndexState). state x.parsed) (ok_is (index_of d units) i h)
+    of_units (Err x) h = absurd (err_ok h)
+      where
+        err_ok : ◌≡◌ {A = Result IndexState Error} (Err x) (Ok i) → ⊥
+        err_ok k = cc
+
+pub what_is_made : (d : Sections) (i : IndexState) (sup : List UnitRecord) → (ranged_units d >>= λ units. Ok (index_of d units)) ≡ Ok i → sup_units d.sup ≡ Ok sup
+    → made d ≡ Ok (record { units = i.units; ranges = i.ranges; sup_units = sup })
+what_is_made d i sup e f = of_units (ranged_units d) e
+  where
+    all : List IndexedUnit → List UnitRange → List UnitRecord → Result Made Error
+    all units ranges s = Ok (record { units = units; ranges = ranges; sup_units = s })
+
+    of_units : (r : Result (List RangedUnit) Error) → (r >>= λ units. Ok (index_of d units)) ≡ Ok i
+        → (r >>= λ units. sup_units d.sup >>= λ s. all (map indexed_of units) (ranges_from d 0 units) s) ≡ all i.units i.ranges sup
+    of_units (Ok units) h =
+        ap (λ (r : Result (List UnitRecord) Error). r >>= λ s. all (map indexed_of units) (ranges_from d 0 units) s) f
+        ∙ ap (λ (x : IndexState). all x.units x.ranges sup) (ok_is (index_of d units) i h)
+    of_units (Err x) h = absurd (err_ok h)
+      where
+        err_ok : ◌≡◌ {A = Result IndexState Error} (Err x) (Ok i) → ⊥
+        err_ok k = cc
+
+-- a fault of the supplementary file refuses the context
+pub context_fault : (d : Sections) (i : IndexState) (f : Error) → (ranged_units d >>= λ units. Ok (index_of d units)) ≡ Ok i → sup_units d.sup ≡ Err f → new_context d ≡ Err f
+context_fault d i f e h = of_units (ranged_units d) e
+  where
+    state : List Bool → Result ContextState Error
+    state parsed = Ok (record { sections = d; answers = []; parsed = parsed; looks = 0 })
+
+    of_units : (r : Result (List RangedUnit) Error) → (r >>= λ units. Ok (index_of d units)) ≡ Ok i → (r >>= λ units. sup_units d.sup >>= λ s. state (map asks_lines units)) ≡ Err f
+    of_units (Ok units) k = ap (λ (r : Result (List UnitRecord) Error). r >>= λ s. state (map asks_lines units)) h
+    of_units (Err x) k = absurd (err_ok k)
+      where
+        err_ok : ◌≡◌ {A = Result IndexState Error} (Err x) (Ok i) → ⊥
+        err_ok l = cc
+
+-- memory may be taken for a context where it may be for its supplementary file
+pub sup_memory : (shares : Bool) (d : Sections) → sup_takes_memory shares d.sup ≡ true → context_takes_memory shares d ≡ true
+sup_memory shares d e = ap (λ b. index_takes_memory shares d || b) e ∙ or_true (index_takes_memory shares d)
+  where
+    or_true : (b : Bool) → (b || true) ≡ true
+    or_true true = refl
+    or_true false = refl
+
+module _ {R : Type 0} (d : Sections) (old : List (ResUnit R)) (ranges : List UnitRange) (sup : List UnitRecord)
+    (made_is : made d ≡ Ok (record { units = indexed_units old; ranges = ranges; sup_units = sup })) where
+  -- the answers of a context by its parts
+  pub location_is : (probe : ℕ) → location_of d probe ≡ along d (indexed_units old) probe (cover probe ranges)
+  location_is probe = ap (λ r. r >>= λ (m : Made). along d m.units probe (cover probe m.ranges)) made_is
+
+  pub spans_are : (low high : ℕ) → spans_of d low high ≡ Ok (spans_along d (indexed_units old) low high (cover_range low high ranges))
+  spans_are low high = ap (λ r. r >>= λ (m : Made). Ok (spans_along d m.units low high (cover_range low high m.ranges))) made_is
+
+  pub lines_are : lines_of_all d ≡ lines_fault (all_lines d (indexed_units old))
+  lines_are = ap (λ r. r >>= λ (m : Made). lines_fault (all_lines d m.units)) made_is
+
+  -- what holds of all that may be made holds of what is made
+  of_made : (P : Made → Type 0) → P (record { units = indexed_units old; ranges = ranges; sup_units = sup }) → (m : Made) → made d ≡ Ok m → P m
+  of_made P h m e = subst P (ok_is _ _ (sym made_is ∙ e)) h
+
+  module _ (new : List (ResUnit R)) (stay : StayUnits old new) (looks now : ℕ) where
+    pub all_stays : Stays (record { sections = d; answers = []; parsed = parsed_units old; looks = looks }) (record { sections = d; answers = []; parsed = parsed_units new; looks = now })
+    all_stays = record { sections = refl; answers = refl; parsed = stay_parsed old new stay }
+
+    pub after_lookup : {X : Type 0} (probe : ℕ) (result : Result X Error)
+        → (IsNotOom result → ready_along d (indexed_units old) (parsed_units new) probe (cover probe ranges) ≡ true) → looks ≤ now → now ≤ looks + looks_along d (indexed_units old) (cover probe ranges)
+        → AfterLookup probe result (record { sections = d; answers = []; parsed = parsed_units old; looks = looks }) (record { sections = d; answers = []; parsed = parsed_units new; looks = now })
+    after_lookup probe result ready raised cost = record {
+      stays = all_stays;
+      ready = λ answered. of_made (λ m. ready_along d m.units (parsed_units new) probe (cover probe m.ranges) ≡ true) (ready answered);
+      raised = raised;
+      cost = of_made (λ m. now ≤ looks + looks_along d m.units (cover probe m.ranges)) cost;
+    }
+
+    pub after_range_lookup : {X : Type 0} (low high : ℕ) (result : Result X Error) → (IsNotOom result → AreParsed (parsed_units new) (cover_range low high ranges))
+        → AfterRangeLookup low high result (record { sections = d; answers = []; parsed = parsed_units old; looks = looks }) (record { sections = d; answers = []; parsed = parsed_units new; looks = now })
+    after_range_lookup low high result ready = record {
+      stays = all_stays;
+      ready = λ answered. of_made (λ m. AreParsed (parsed_units new) (cover_range low high m.ranges)) (ready answered);
+    }
+
+-- what a context has after a call is still what its sections give
+pub still_a_context : {R : Type 0} (d : Sections) (old : List (ResUnit R)) (ranges : List UnitRange) (sup : List UnitRecord) → made d ≡ Ok (record { units = indexed_units old; ranges = ranges; sup_units = sup })
+    → (new : List (ResUnit R)) → StayUnits old new → (now : List UnitRange) → now ≡ ranges → HaveLinesOf d new → IsContext d new now sup
+still_a_context d old ranges sup made_is new stay now same lines = record {
+  made_is = made_is ∙ ap (λ us. Ok (record { units = us; ranges = ranges; sup_units = sup })) (sym (stay_indexed old new stay)) ∙ ap (λ rs. Ok (record { units = indexed_units new; ranges = rs; sup_units = sup })) (sym same);
+  lines = lines;
+}
+
+-- whether lines can be read, of each unit and along ranges
+module _ (d : Sections) where
+  first_ok : (u : IndexedUnit) (us : List IndexedUnit) → lines_fault (all_lines d (u ∷ us)) ≡ Ok tt → (is_ok (lines_of_unit d u) ≡ true) × (lines_fault (all_lines d us) ≡ Ok tt)
+  first_ok u us e = of_lines (lines_of_unit d u) (map (lines_of_unit d) us) e
+    where
+      of_rest : (x : LineTable) (r : Result (List LineTable) Error) → lines_fault (result_map (λ xs. x ∷ xs) r) ≡ Ok tt → lines_fault r ≡ Ok tt
+      of_rest x (Ok xs) h = refl
+      of_rest x (Err f) h = h
+
+      err_ok : (f : Error) → ◌≡◌ {A = Result (Unit {0}) Error} (Err f) (Ok tt) → ⊥
+      err_ok f k = cc
+
+      of_lines : (l : Result LineTable Error) (rest : List (Result LineTable Error)) → lines_fault (read_all (l ∷ rest)) ≡ Ok tt → (is_ok l ≡ true) × (lines_fault (read_all rest) ≡ Ok tt)
+      of_lines (Ok x) rest h = (refl, of_rest x (read_all rest) h)
+      of_lines (Err x) rest h = absurd (err_ok x h)
+
+  each_ok : (us : List IndexedUnit) (probe n : ℕ) → lines_fault (all_lines d us) ≡ Ok tt → is_ok (location_in d probe (slice_get us n)) ≡ true
+  each_ok [] probe n e = refl
+  each_ok (u ∷ us) probe zero e = of_lines (lines_of_unit d u) (first_ok u us e).0
+    where
+      of_lines : (l : Result LineTable Error) → is_ok l ≡ true → is_ok (l >>= λ lines. Ok (location_at probe lines)) ≡ true
+      of_lines (Ok x) h = refl
+      of_lines (Err x) h = h
+  each_ok (u ∷ us) probe (suc n) e = each_ok us probe n (first_ok u us e).1
+
+  pub along_ok : (us : List IndexedUnit) (probe : ℕ) (ranges : List UnitRange) → lines_fault (all_lines d us) ≡ Ok tt → is_ok (along d us probe ranges) ≡ true
+  along_ok us probe [] e = refl
+  along_ok us probe (r ∷ ranges) e = of_location (location_in d probe (slice_get us r.unit)) (each_ok us probe r.unit e) (along_ok us probe ranges e)
+    where
+      of_location : (l : Result (Option Location) Error) → is_ok l ≡ true → is_ok (along d us probe ranges) ≡ true → is_ok (l >>= λ x. or_along (along d us probe ranges) x) ≡ true
+      of_location (Ok None) h k = k
+      of_location (Ok (Some x)) h k = refl
+      of_location (Err x) h k = h
+
+  -- where the lines of all units are parsed, each lookup is ready
+  pub all_ready : (us : List IndexedUnit) (p : List Bool) → AreAllParsed p → (probe : ℕ) (ranges : List UnitRange) → ready_along d us p probe ranges ≡ true
+  all_ready us p all probe [] = refl
+  all_ready us p all probe (r ∷ ranges) = ready_both d us probe r ranges p (all r.unit) (all_ready us p all probe ranges)
+
+-- what holds of an answer that is given
+pub when_ok : {P : Type 0} (result given : Result (Unit {0}) Error) → ExactlyUnlessOom (λ x. x) result given → (given ≡ Ok tt → P) → OnOk result P
+when_ok (Ok tt) given e f = f e
+when_ok (Err x) given e f = tt
+
+-- where the lines of all units are parsed after an answer, each lookup is ready then
+pub ready_if_ok : (result : Result (Unit {0}) Error) (d : Sections) (p : List Bool) (looks : ℕ) → OnOk result (AreAllParsed p)
+    → OnOk result ((probe : ℕ) → IsReady (record { sections = d; answers = []; parsed = p; looks = looks }) probe)
+ready_if_ok (Ok tt) d p looks all = λ probe m made. all_ready d m.units p all probe (cover probe m.ranges)
+ready_if_ok (Err e) d p looks all = tt
+
+pub err_is_not_ok : {X : Type 0} (e : Error) (x : X) → ◌≡◌ {A = Result X Error} (Err e) (Ok x) → ⊥
+err_is_not_ok e x k = cc
+
+-- what cached lines have in ranges is what the lines of the units have
+module _ {R : Type 0} (d : Sections) (low high : ℕ) where
+  spans_at : (us : List (ResUnit R)) (n : ℕ) (range : Range) → HaveLinesOf d us → has_parsed (parsed_units us) n ≡ true → spans_in d low high range (slice_get (indexed_units us) n) ≡ cached_spans range low high (lines_at us n)
+  spans_at [] n range own e = refl
+  spans_at (u ∷ us) zero range own e = of_lines u.lines own.0 e
+    where
+      of_lines : (l : LazyLines) → AreLinesOf d u.dw_unit l → not (is_uncached l) ≡ true → spans_or_fault range low high (unit_lines d u.dw_unit) ≡ cached_spans range low high l
+      of_lines Unread h k = absurd (false_true k)
+        where
+          false_true : false ≡ true → ⊥
+          false_true q = cc
+      of_lines (Read lines) h k = ap (spans_or_fault range low high) h
+      of_lines (Faulty f) h k = ap (spans_or_fault range low high) h
+  spans_at (u ∷ us) (suc n) range own e = spans_at us n range own.1 e
+
+  pub spans_cached : (us : List (ResUnit R)) (ranges : List UnitRange) → HaveLinesOf d us → AreParsed (parsed_units us) ranges → spans_along d (indexed_units us) low high ranges ≡ cached_along us low high ranges
+  spans_cached us [] own all = refl
+  spans_cached us (r ∷ ranges) own all =
+      ap (λ xs. xs ++ spans_along d (indexed_units us) low high ranges) (spans_at us r.unit r.range own all.0)
+      ∙ ap (λ xs. cached_spans r.range low high (lines_at us r.unit) ++ xs) (spans_cached us ranges own all.1)

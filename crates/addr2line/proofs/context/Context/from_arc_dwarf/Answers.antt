@@ -1,0 +1,28 @@
+use Rattle.std.proofs.Common.{subst}
+use Rattle.std.proofs.lemmas.Result.{err_from_is_err_and}
+use Rattle.addr2line_units.specs.CachedLines.{HaveLinesOf}
+use Rattle.addr2line.proofs.ContextLemmas.{context_fault, context_made, sup_memory, what_is_made}
+use Rattle.addr2line.proofs.context.Context.from_arc_dwarf.Goals as goal
+
+pub returns-in_err-sup_units : goal.returns-in_err-sup_units
+returns-in_err-sup_units g c =
+    let p = err_from_is_err_and c.from_residual-in_err-sup_units.result c.from_residual-in_err-sup_units.ensures.1 in
+    let d = c.args.dwarf.value in
+    let units = rw c.deref.ensures at c.in_ok-units.ensures.gives in
+    let sup = rw c.deref-2.ensures at c.in_err-sup_units.ensures.gives in
+    record { gives = rw (p.1, p.2) (λ may. context_fault d _ _ units (sup (λ takes. may (sup_memory g.R.Reader.shares d takes)))) }
+
+pub invariant_of-result : goal.invariant_of-result
+invariant_of-result g c =
+    let units = rw c.deref.ensures at c.in_ok-units.ensures.gives in
+    let sup = rw c.deref-2.ensures at c.in_ok-sup_units.ensures.gives in
+    record {
+      made_is = what_is_made c.args.dwarf.value _ _ units sup;
+      lines = subst (λ d. HaveLinesOf d c.in_ok-units.units.units.items) c.deref.ensures c.in_ok-units.ensures.read;
+    }
+
+pub returns : goal.returns
+returns g c =
+    let units = rw c.deref.ensures at c.in_ok-units.ensures.gives in
+    let sup = rw c.deref-2.ensures at c.in_ok-sup_units.ensures.gives in
+    record { gives = rw c.new.ensures.gives (context_made c.args.dwarf.value _ _ units sup) }

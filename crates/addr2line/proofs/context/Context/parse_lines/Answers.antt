@@ -1,0 +1,27 @@
+use Rattle.std.proofs.Common.{ap, subst, sym, ◌∙◌}
+use Rattle.std.specs.Prelude.{is_ok}
+use Rattle.addr2line_units.specs.CachedLines.{HaveLinesOf}
+use Rattle.addr2line_units.specs.UnitIndex.{cover}
+use Rattle.addr2line.proofs.ContextLemmas.{all_stays, along_ok, location_is, ready_if_ok, still_a_context, when_ok}
+use Rattle.addr2line.proofs.context.Context.parse_lines.Goals as goal
+
+pub invariant_of-self : goal.invariant_of-self
+invariant_of-self g c =
+    let i = c.self.invariant in
+    still_a_context c.self.inside.dwarf.value c.self.inside.units.units.items c.self.inside.units.ranges _ i.made_is _ c.parse_lines.ensures.stay _ c.parse_lines.ensures.ranges (subst (λ d. HaveLinesOf d c.parse_lines.new.self.units.items) c.deref.ensures c.parse_lines.ensures.read)
+
+pub returns-clause-stays : goal.returns-clause-stays
+returns-clause-stays g c =
+    rw (sym c.self.view_is) (all_stays c.self.inside.dwarf.value c.self.inside.units.units.items c.self.inside.units.ranges _ c.self.invariant.made_is c.parse_lines.new.self.units.items c.parse_lines.ensures.stay c.self.inside.looks c.self.inside.looks)
+
+pub returns-clause-ready : goal.returns-clause-ready
+returns-clause-ready g c = ready_if_ok _ c.self.inside.dwarf.value _ c.self.inside.looks c.parse_lines.ensures.parsed
+
+pub returns-clause-found : goal.returns-clause-found
+returns-clause-found g c =
+    let i = c.self.invariant in
+    let d = c.self.inside.dwarf.value in
+    let old = c.self.inside.units.units.items in
+    let ranges = c.self.inside.units.ranges in
+    let given = rw c.deref.ensures at c.parse_lines.ensures.gives in
+    when_ok _ _ given (λ read probe. ap is_ok (location_is d old ranges _ i.made_is probe) ∙ along_ok d _ probe (cover probe ranges) read)

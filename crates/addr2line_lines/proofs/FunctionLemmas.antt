@@ -1,0 +1,193 @@
+-- The functions of a unit, one item at a time (on specs/FoundFunctions.antt).
+use Rattle.std.proofs.Common.{◌≡◌, ℕ, ◌<◌, ◌==◌, Bool, true, false, cond, List, [], ◌∷◌, ◌++◌, map, length, Option, Some, None, Result, Ok, Err, OnOk, refl, ap, sym, ◌∙◌, arith, append-nil, append_assoc}
+use Rattle.gimli_read.specs.declared.error.Error.{Error}
+use Rattle.gimli_read.specs.declared.endian.Encoding.{Encoding}
+use Rattle.gimli_read.specs.Abbreviations.{Abbrev}
+use Rattle.gimli_read.specs.Section.{Section}
+use Rattle.gimli_read.specs.Reading.{Reading, ◌>>=◌, Exactly, ExactlyUnlessOom}
+use Rattle.gimli_read.specs.Form.{NamedValue, rest_of}
+use Rattle.gimli_read.specs.Run.{Run, cons, fold_of, fold_run}
+use Rattle.gimli_read.proofs.SkipLemmas.{attributes_leave}
+use Rattle.gimli.specs.Entry.{EntryCursor, EntryUnit, attributes_at, entry_abbreviation_at}
+use Rattle.gimli.specs.Items.{Item, item_at, item_from, items_from, next_item_at, next_offset_of}
+use Rattle.gimli.specs.Sections.{Sections}
+use Rattle.gimli.specs.Unit.{UnitRecord}
+use Rattle.gimli.proofs.EntryLemmas.{abbreviation_takes}
+use Rattle.gimli.proofs.ItemReads.{items_end, items_fault, items_more}
+use Rattle.addr2line_lines.specs.declared.function.RangeAttributes.{RangeAttributes}
+use Rattle.addr2line_lines.specs.RangeAttributes.{no_range_attributes, range_attributes_after, range_attributes_of}
+use Rattle.addr2line_lines.specs.Functions.{is_subprogram}
+use Rattle.addr2line_lines.specs.FoundFunctions.{FoundFunctions, found_at, found_from, with_attributes, with_found}
+
+-- lists with one more element
+pub one_read : {X Y : Type 0} (f : X → Y) (read : List X) (x : X) (rest : List Y) → map f read ++ f x ∷ rest ≡ map f (read ++ x ∷ []) ++ rest
+one_read f [] x rest = refl
+one_read f (y ∷ read) x rest = ap (λ ys. f y ∷ ys) (one_read f read x rest)
+
+pub one_added : {X Y : Type 0} (f : X → Y) (old : List Y) (read : List X) (x : X) → (old ++ map f read) ++ f x ∷ [] ≡ old ++ map f (read ++ x ∷ [])
+one_added f old read x = append_assoc old (map f read) (f x ∷ []) ∙ ap (λ ys. old ++ ys) (one_read f read x [] ∙ append-nil (map f (read ++ x ∷ [])))
+
+-- an answer, and a place beside it
+pub beside : {X Y Z : Type 0} (r : Result Z Error) (x : X) (y : Y) (given : Result X Error) (whole : Result (X × Y) Error) → whole ≡ (given >>= λ v. Ok (v, y)) → ExactlyUnlessOom (λ _. x) r given → ExactlyUnlessOom (λ _. (x, y)) r whole
+beside (Ok z) x y given whole h k = h ∙ ap (λ g. g >>= λ v. Ok (v, y)) k
+beside (Err e) x y given whole h k = λ ne. h ∙ ap (λ g. g >>= λ v. Ok (v, y)) (k ne)
+
+-- what is found, and where the entry ends
+abbrev pub ending : EntryCursor → Result FoundFunctions Error → Result (FoundFunctions × EntryCursor) Error
+ending s r = r >>= λ more. Ok (more, s)
+
+-- whether an item is given
+abbrev gives_item : Result (Option Item × EntryCursor) Error → Bool
+gives_item (Ok (Some x, t)) = true
+gives_item (Ok (None, t)) = false
+gives_item (Err e) = false
+
+module _ (d : Sections) (u : UnitRecord) (unit : EntryUnit) where
+  -- what is found at an item that is read
+  abbrev found_after : FoundFunctions → Result (Option Item × EntryCursor) Error → Result (FoundFunctions × EntryCursor) Error
+  found_after found r = r >>= λ x. elim x.0 [ None ↦ Ok (found, x.1) | Some item ↦ with_found d u found item >>= λ more. Ok (more, x.1) ]
+
+  coded : (c : EntryCursor) → (length c.left.bytes == 0) ≡ false → next_item_at unit c ≡ (entry_abbreviation_at unit.abbreviations c >>= λ x. item_from unit c x)
+  unfolding next_item_at
+  coded c h = ap (λ b. cond b (Ok (None, c)) (entry_abbreviation_at unit.abbreviations c >>= λ x. item_from unit c x)) h
+
+  at_code : (c : EntryCursor) (found : FoundFunctions) (r : Result (Option Abbrev × EntryCursor) Error) → (length c.left.bytes == 0) ≡ false → entry_abbreviation_at unit.abbreviations c ≡ r → found_at d u unit c found ≡ found_after found (r >>= λ x. item_from unit c x)
+  at_code c found r h k = ap (found_after found) (coded c h ∙ ap (λ s. s >>= λ x. item_from unit c x) k)
+
+  pub code_fault : (c : EntryCursor) (found : FoundFunctions) (e : Error) → (length c.left.bytes == 0) ≡ false → entry_abbreviation_at unit.abbreviations c ≡ Err e → found_at d u unit c found ≡ Err e
+  code_fault c found e h k = at_code c found (Err e) h k
+
+  pub closing_found : (c t : EntryCursor) (found : FoundFunctions) → (length c.left.bytes == 0) ≡ false → entry_abbreviation_at unit.abbreviations c ≡ Ok (None, t) → found_at d u unit c found ≡ Ok (found, t)
+  closing_found c t found h k = at_code c found (Ok (None, t)) h k
+
+  -- what is found at an entry whose attributes are read
+  abbrev found_entry : EntryCursor → EntryCursor → FoundFunctions → Abbrev → Reading (List NamedValue) → Result (FoundFunctions × EntryCursor) Error
+  found_entry c t found a read = found_after found (read >>= λ x. Ok (Some (item_at unit c (Some (record { abbreviation = a; attributes = x.0 }))), record { left = x.1; depth = t.depth }))
+
+  at_entry : (c t : EntryCursor) (found : FoundFunctions) (a : Abbrev) (e : Encoding) → (length c.left.bytes == 0) ≡ false → entry_abbreviation_at unit.abbreviations c ≡ Ok (Some a, t) → e ≡ unit.encoding → found_at d u unit c found ≡ found_entry c t found a (attributes_at e a.attributes t.left)
+  at_entry c t found a e h k q = at_code c found (Ok (Some a, t)) h k ∙ ap (λ f. found_entry c t found a (attributes_at f a.attributes t.left)) (sym q)
+
+  -- no function's entry
+  not_function : (c t : EntryCursor) (found : FoundFunctions) (a : Abbrev) → is_subprogram a ≡ false → (read : Reading (List NamedValue)) → found_entry c t found a read ≡ (rest_of read >>= λ s. Ok (found, record { left = s; depth = t.depth }))
+  not_function c t found a h (Err e) = refl
+  not_function c t found a h (Ok x) =
+      ap (λ b. ending (record { left = x.1; depth = t.depth }) (cond {A = Result FoundFunctions Error} b (range_attributes_of d u x.0 >>= λ r. with_attributes d u r (next_offset_of unit c) found) (Ok found))) h
+
+  pub other_found : (c t s : EntryCursor) (found : FoundFunctions) (a : Abbrev) (e : Encoding) (r : Result (Unit {0}) Error) → (length c.left.bytes == 0) ≡ false → entry_abbreviation_at unit.abbreviations c ≡ Ok (Some a, t) → e ≡ unit.encoding → is_subprogram a ≡ false
+      → s.depth ≡ t.depth → Exactly (λ _. s.left) r (rest_of (attributes_at e a.attributes t.left)) → ExactlyUnlessOom (λ _. (found, s)) r (found_at d u unit c found)
+  other_found c t s found a e (Ok z) h k q n m g =
+      at_entry c t found a e h k q ∙ not_function c t found a n (attributes_at e a.attributes t.left)
+      ∙ ap (λ v. v >>= λ s'. Ok (found, record { left = s'; depth = t.depth })) g
+      ∙ ap (λ v. Ok (found, record { left = s.left; depth = v })) (sym m)
+  other_found c t s found a e (Err f) h k q n m g = λ ne.
+      at_entry c t found a e h k q ∙ not_function c t found a n (attributes_at e a.attributes t.left)
+      ∙ ap (λ v. v >>= λ s'. Ok (found, record { left = s'; depth = t.depth })) g
+
+  -- a function's entry
+  function_is : (c t : EntryCursor) (found : FoundFunctions) (a : Abbrev) → is_subprogram a ≡ true → (read : Reading (List NamedValue))
+      → found_entry c t found a read ≡ (read >>= λ x. range_attributes_of d u x.0 >>= λ r. ending (record { left = x.1; depth = t.depth }) (with_attributes d u r (next_offset_of unit c) found))
+  function_is c t found a h (Err e) = refl
+  function_is c t found a h (Ok x) =
+      ap (λ b. ending (record { left = x.1; depth = t.depth }) (cond {A = Result FoundFunctions Error} b (range_attributes_of d u x.0 >>= λ r. with_attributes d u r (next_offset_of unit c) found) (Ok found))) h
+      ∙ nested (range_attributes_of d u x.0)
+    where
+      nested : (r : Result RangeAttributes Error) → ending (record { left = x.1; depth = t.depth }) (r >>= λ v. with_attributes d u v (next_offset_of unit c) found)
+          ≡ (r >>= λ v. ending (record { left = x.1; depth = t.depth }) (with_attributes d u v (next_offset_of unit c) found))
+      nested (Ok v) = refl
+      nested (Err e) = refl
+
+  pub function_fault : (c t : EntryCursor) (found : FoundFunctions) (a : Abbrev) (e : Encoding) (f : Error) → (length c.left.bytes == 0) ≡ false → entry_abbreviation_at unit.abbreviations c ≡ Ok (Some a, t) → e ≡ unit.encoding → is_subprogram a ≡ true
+      → range_attributes_after d u (Ok no_range_attributes) (attributes_at e a.attributes t.left) ≡ Err f → found_at d u unit c found ≡ Err f
+  function_fault c t found a e f h k q n m = at_entry c t found a e h k q ∙ function_is c t found a n (attributes_at e a.attributes t.left) ∙ faulty (attributes_at e a.attributes t.left) m
+    where
+      faulty : (read : Reading (List NamedValue)) → range_attributes_after d u (Ok no_range_attributes) read ≡ Err f → (read >>= λ x. range_attributes_of d u x.0 >>= λ r. ending (record { left = x.1; depth = t.depth }) (with_attributes d u r (next_offset_of unit c) found)) ≡ Err f
+      faulty (Ok x) m = ap (λ v. v >>= λ r. ending (record { left = x.1; depth = t.depth }) (with_attributes d u r (next_offset_of unit c) found)) m
+      faulty (Err g) m = let same : g ≡ f = cc in ap Err same
+
+  pub function_found : (c t s : EntryCursor) (found : FoundFunctions) (a : Abbrev) (e : Encoding) (r : RangeAttributes) (offset : ℕ) → (length c.left.bytes == 0) ≡ false → entry_abbreviation_at unit.abbreviations c ≡ Ok (Some a, t) → e ≡ unit.encoding → is_subprogram a ≡ true
+      → range_attributes_after d u (Ok no_range_attributes) (attributes_at e a.attributes t.left) ≡ Ok r → rest_of (attributes_at e a.attributes t.left) ≡ Ok s.left → s.depth ≡ t.depth → offset ≡ next_offset_of unit c
+      → found_at d u unit c found ≡ ending s (with_attributes d u r offset found)
+  function_found c t s found a e r offset h k q n m l z o = at_entry c t found a e h k q ∙ function_is c t found a n (attributes_at e a.attributes t.left) ∙ whole (attributes_at e a.attributes t.left) m l
+    where
+      whole : (read : Reading (List NamedValue)) → range_attributes_after d u (Ok no_range_attributes) read ≡ Ok r → rest_of read ≡ Ok s.left
+          → (read >>= λ x. range_attributes_of d u x.0 >>= λ v. ending (record { left = x.1; depth = t.depth }) (with_attributes d u v (next_offset_of unit c) found)) ≡ ending s (with_attributes d u r offset found)
+      whole (Err g) m l = cc
+      whole (Ok x) m l =
+          let left : x.1 ≡ s.left = cc in
+          ap (λ v. v >>= λ w. ending (record { left = x.1; depth = t.depth }) (with_attributes d u w (next_offset_of unit c) found)) m
+          ∙ ap (λ v. ending (record { left = v; depth = t.depth }) (with_attributes d u r (next_offset_of unit c) found)) left
+          ∙ ap (λ v. ending (record { left = s.left; depth = v }) (with_attributes d u r (next_offset_of unit c) found)) (sym z)
+          ∙ ap (λ v. ending s (with_attributes d u r v found)) (sym o)
+
+  pub entry_shorter : (c t : EntryCursor) (left : Section) (a : Abbrev) (e : Encoding) → entry_abbreviation_at unit.abbreviations c ≡ Ok (Some a, t) → rest_of (attributes_at e a.attributes t.left) ≡ Ok left → length left.bytes < length c.left.bytes
+  entry_shorter c t left a e k l =
+      let code = abbreviation_takes unit.abbreviations c t (Some a) k in
+      let values = attributes_leave e a.attributes t.left left l in
+      omega arith
+
+  pub skipped_shorter : (c t s : EntryCursor) (a : Abbrev) (e : Encoding) (r : Result (Unit {0}) Error) → entry_abbreviation_at unit.abbreviations c ≡ Ok (Some a, t) → Exactly (λ _. s.left) r (rest_of (attributes_at e a.attributes t.left))
+      → OnOk r (length s.left.bytes < length c.left.bytes)
+  skipped_shorter c t s a e (Ok z) k g = entry_shorter c t s.left a e k g
+  skipped_shorter c t s a e (Err f) k g = tt
+
+  pub closing_shorter : (c t : EntryCursor) → entry_abbreviation_at unit.abbreviations c ≡ Ok (None, t) → length t.left.bytes < length c.left.bytes
+  closing_shorter c t k = abbreviation_takes unit.abbreviations c t None k
+
+  -- there is an item where there are bytes
+  some_item : (c t : EntryCursor) → (length c.left.bytes == 0) ≡ false → next_item_at unit c ≡ Ok (None, t) → ⊥
+  some_item c t h k = by_code (entry_abbreviation_at unit.abbreviations c) (sym (coded c h) ∙ k)
+    where
+      by_values : (r : Reading (List NamedValue)) (a : Abbrev) (z : EntryCursor) → ◌≡◌ {A = Result (Option Item × EntryCursor) Error} (r >>= λ x. Ok (Some (item_at unit c (Some (record { abbreviation = a; attributes = x.0 }))), record { left = x.1; depth = z.depth })) (Ok (None, t)) → ⊥
+      by_values (Ok x) a z e = let no = ap gives_item e in absurd cc
+      by_values (Err f) a z e = absurd cc
+
+      by_code : (r : Result (Option Abbrev × EntryCursor) Error) → (r >>= λ x. item_from unit c x) ≡ Ok (None, t) → ⊥
+      by_code (Ok (None, z)) e = let no = ap gives_item e in absurd cc
+      by_code (Ok (Some a, z)) e = by_values (attributes_at unit.encoding a.attributes z.left) a z e
+      by_code (Err f) e = absurd cc
+
+  -- what is found of a run of items
+  abbrev found_run : FoundFunctions → Run Item EntryCursor → Result FoundFunctions Error
+  found_run found items = fold_of (with_found d u) found items >>= λ more. Ok more.0
+
+  pub found_end : (c : EntryCursor) (found : FoundFunctions) → (length c.left.bytes == 0) ≡ true → found_from d u unit c found ≡ Ok found
+  unfolding next_item_at fold_run
+  found_end c found h = ap (found_run found) (items_end unit c c (ap (λ b. cond b (Ok (None, c)) (entry_abbreviation_at unit.abbreviations c >>= λ x. item_from unit c x)) h))
+
+  one_found : (r : Result FoundFunctions Error) (items : Run Item EntryCursor) (more : FoundFunctions) (s t : EntryCursor) → ending t r ≡ Ok (more, s) → (r ≡ Ok more) × (t ≡ s)
+  one_found (Ok v) items more s t e = let p : ◌≡◌ {A = FoundFunctions × EntryCursor} (v, t) (more, s) = cc in (ap Ok (ap (λ x. x.0) p), ap (λ x. x.1) p)
+  one_found (Err f) items more s t e = absurd cc
+
+  none_one : (r : Result FoundFunctions Error) (t : EntryCursor) (e : Error) → ending t r ≡ Err e → r ≡ Err e
+  none_one (Ok v) t e h = absurd cc
+  none_one (Err f) t e h = let same : f ≡ e = cc in ap Err same
+
+  found_with : (found : FoundFunctions) (x : Item) (items : Run Item EntryCursor) → found_run found (cons x items) ≡ (with_found d u found x >>= λ more. found_run more items)
+  unfolding fold_run
+  found_with found x items = nested (with_found d u found x)
+    where
+      nested : (r : Result FoundFunctions Error) → ((r >>= λ b. fold_run (with_found d u) b items.items items.end) >>= λ more. Ok more.0) ≡ (r >>= λ more. found_run more items)
+      nested (Ok v) = refl
+      nested (Err e) = refl
+
+  pub found_step : (c s : EntryCursor) (found more : FoundFunctions) → (length c.left.bytes == 0) ≡ false → found_at d u unit c found ≡ Ok (more, s) → found_from d u unit c found ≡ found_from d u unit s more
+  found_step c s found more h k = by_cases (next_item_at unit c) refl k
+    where
+      by_cases : (r : Result (Option Item × EntryCursor) Error) → next_item_at unit c ≡ r → found_after found r ≡ Ok (more, s) → found_from d u unit c found ≡ found_from d u unit s more
+      by_cases (Err e) q k = absurd cc
+      by_cases (Ok (None, t)) q k = absurd (some_item c t h q)
+      by_cases (Ok (Some x, t)) q k =
+          let one = one_found (with_found d u found x) (items_from unit t) more s t k in
+          ap (found_run found) (items_more unit c t x q) ∙ found_with found x (items_from unit t)
+          ∙ ap (λ r. r >>= λ v. found_run v (items_from unit t)) one.0 ∙ ap (λ v. found_run more (items_from unit v)) one.1
+
+  pub found_fault : (c : EntryCursor) (found : FoundFunctions) (e : Error) → (length c.left.bytes == 0) ≡ false → found_at d u unit c found ≡ Err e → found_from d u unit c found ≡ Err e
+  unfolding fold_run
+  found_fault c found e h k = by_cases (next_item_at unit c) refl k
+    where
+      by_cases : (r : Result (Option Item × EntryCursor) Error) → next_item_at unit c ≡ r → found_after found r ≡ Err e → found_from d u unit c found ≡ Err e
+      by_cases (Err f) q k = let same : f ≡ e = cc in ap (found_run found) (items_fault unit c f q) ∙ ap Err same
+      by_cases (Ok (None, t)) q k = absurd (some_item c t h q)
+      by_cases (Ok (Some x, t)) q k =
+          ap (found_run found) (items_more unit c t x q) ∙ found_with found x (items_from unit t)
+          ∙ ap (λ r. r >>= λ v. found_run v (items_from unit t)) (none_one (with_found d u found x) t e k)

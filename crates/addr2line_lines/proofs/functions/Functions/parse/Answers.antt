@@ -1,0 +1,33 @@
+use Rattle.std.proofs.Common.{◌≡◌, List, map, Ok, Result, ap, subst, ◌∙◌}
+use Rattle.std.proofs.lemmas.Result.{err_from_is_err_and}
+use Rattle.gimli_read.specs.declared.error.Error.{Error as Fault}
+use Rattle.addr2line_lines.specs.declared.segments.FunctionAddress.{FunctionAddress}
+use Rattle.addr2line_lines.specs.Functions.{functions_of}
+use Rattle.addr2line_lines.specs.FoundFunctions.{AreFunctions, function_range_of, seen_found}
+use Rattle.addr2line_lines.proofs.FunctionOrder.{Agrees, are_functions, functions_agree}
+use Rattle.addr2line_lines.proofs.functions.Functions.parse.Goals as goal
+
+ok_is : (xs ys : List FunctionAddress) → ◌≡◌ {A = Result (List FunctionAddress) Fault} (Ok xs) (Ok ys) → xs ≡ ys
+ok_is xs ys e = cc
+
+pub returns-in_err-functions : goal.returns-in_err-functions
+returns-in_err-functions g c =
+    let p = err_from_is_err_and c.from_residual.result c.from_residual.ensures.1 in
+    let d = c.args.unit.dwarf.now in
+    let u = c.args.unit.unit.now in
+    record { gives = rw (p.1, p.2) (λ ne. subst (Agrees (functions_of d u)) (c.in_err-functions.ensures.gives ne) (functions_agree d u)) }
+
+pub invariant_of-result : goal.invariant_of-result
+invariant_of-result g c =
+    let found = seen_found c.in_ok-functions.field-0 in
+    let listed = ok_is _ _ c.in_ok-addresses.ensures.gives in
+    subst (AreFunctions found.offsets) listed (are_functions c.args.unit.dwarf.now c.args.unit.unit.now found c.in_ok-functions.ensures.gives)
+
+pub returns : goal.returns
+returns g c =
+    let d = c.args.unit.dwarf.now in
+    let u = c.args.unit.unit.now in
+    let found = seen_found c.in_ok-functions.field-0 in
+    let listed = ok_is _ _ c.in_ok-addresses.ensures.gives in
+    let a = subst (Agrees (functions_of d u)) c.in_ok-functions.ensures.gives (functions_agree d u) in
+    record { gives = a.0 ∙ ap (λ xs. Ok (map (function_range_of found.offsets) xs)) listed }

@@ -1,0 +1,15 @@
+use Rattle.std.proofs.Common.{◌≡◌, length}
+use Rattle.addr2line_lines.specs.FoundFunctions.{found_from, found_in, seen_found}
+use Rattle.addr2line_lines.proofs.functions.read_functions.Given as goal
+
+abbrev pub invariant-loop-unit : goal.invariant-loop-unit
+invariant-loop-unit g l =
+    let d = l.fn.unit.dwarf.now in
+    let u = l.fn.unit.unit.now in
+    record {
+      gives : found_from d u l.entries.unit l.entries.cursor (seen_found l.found) ≡ found_in d u;
+      unit : l.entries.unit.encoding ≡ u.header.encoding;
+    }
+
+abbrev pub decreases-loop-unit : goal.decreases-loop-unit
+decreases-loop-unit g l = length l.entries.cursor.left.bytes

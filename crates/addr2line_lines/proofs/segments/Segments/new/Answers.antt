@@ -1,0 +1,26 @@
+use Rattle.std.proofs.Common.{ℕ, ◌≡◌, ◌<◌, true, nat_lt, length, ap, sym, subst, arith}
+use Rattle.std.proofs.lemmas.Bool.Decides.{nat_tests}
+use Rattle.std.proofs.lemmas.List.Sorted.{length_permutation}
+use Rattle.std.proofs.lemmas.Result.{err_from_is_err_and}
+use Rattle.addr2line_lines.specs.Segments.{AreSegments}
+use Rattle.addr2line_lines.proofs.SegmentSearch.{permuted_segments}
+use Rattle.addr2line_lines.proofs.segments.Segments.new.Goals as goal
+
+pub invariant_of-result : goal.invariant_of-result
+invariant_of-result c =
+    let sorted = c.sort_addresses.new.addresses.items in
+    subst (λ v. AreSegments v.items c.in_ok-segments.segments.items) (sym c.of-listed.ensures)
+    (permuted_segments c.args.addresses.items sorted c.in_ok-segments.segments.items c.sort_addresses.ensures.same
+    (subst (λ xs. AreSegments xs c.in_ok-segments.segments.items) c.deref.ensures.value c.in_ok-segments.ensures.gives))
+
+pub returns-in_err-segments : goal.returns-in_err-segments
+returns-in_err-segments c =
+    let p = err_from_is_err_and c.from_residual.result c.from_residual.ensures.1 in
+    let e = c.in_err-segments.ensures.refused in
+    let n = ap length c.deref.ensures.value in
+    let m = length_permutation c.args.addresses.items c.sort_addresses.new.addresses.items c.sort_addresses.ensures.same in
+    let some = e.1 in
+    record { gives = rw (p.1, p.2) (λ f. absurd (f (more (length c.args.addresses.items) (omega arith)) e.0)) }
+  where
+    more : (n : ℕ) → 0 < n → nat_lt 0 n ≡ true
+    more n l = grind (arith, nat_tests)

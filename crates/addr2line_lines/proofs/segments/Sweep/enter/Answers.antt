@@ -1,0 +1,15 @@
+use Rattle.std.proofs.Common.{◌∷◌, heap_items, arith, subst}
+use Rattle.std.specs.List.Sorted.{IsPermutation}
+use Rattle.addr2line_lines.proofs.SweepLemmas.{advanced_to, entered, none_ends}
+use Rattle.addr2line_lines.proofs.segments.Sweep.enter.Goals as goal
+
+pub returns-clause-swept : goal.returns-clause-swept
+returns-clause-swept c = λ addresses next d begun inside_it is h.
+    let a = c.args.address in
+    let was = c.args.self.now in
+    let now = c.advance.new.self in
+    let on = advanced_to addresses next was.at a.range.begin was.segments.items (heap_items was.running) now.at now.segments.items (heap_items now.running)
+    c.in_ok-advance.ensures.at c.in_ok-advance.ensures.segments c.in_ok-advance.ensures.running h begun (none_ends addresses next was.at a.range.begin was.segments.items (heap_items was.running) c.requires.closed) c.in_ok-advance.ensures.first in
+    let at = c.in_ok-advance.ensures.at in
+    entered addresses next now.at (heap_items now.running) (heap_items c.push.new.self) now.segments.items a d inside_it is on (omega arith)
+    (subst (λ o. IsPermutation (o ∷ heap_items now.running) (heap_items c.push.new.self)) c.as_running.ensures.gives c.in_ok-push.ensures.permutation) (c.in_ok-push.ensures.heap_order on.heap)

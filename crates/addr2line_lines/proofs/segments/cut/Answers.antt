@@ -1,0 +1,35 @@
+use Rattle.std.proofs.Common.{length, heap_items, arith, ap, refl}
+use Rattle.addr2line_lines.specs.declared.segments.FunctionAddress.{FunctionAddress}
+use Rattle.addr2line_lines.proofs.SweepLemmas.{all_cut, begun_from}
+use Rattle.addr2line_lines.proofs.segments.cut.Goals as goal
+
+pub loop-address-init : goal.loop-address-init
+loop-address-init c =
+    let a = ap length c.new-sweep.ensures.segments in
+    let b = ap length c.new-sweep.ensures.running in
+    record { swept = c.new-sweep.ensures.swept c.args.addresses.now; few = omega arith }
+
+pub returns-clause-gives : goal.returns-clause-gives
+returns-clause-gives c =
+    let all = c.args.addresses.now in
+    let i = c.loop-address.invariant in
+    let next = c.loop-address.address-index in
+    let past = c.loop-address-test.false in
+    let now = c.close-2.new.self in
+    let a = i.few in let b = c.in_ok-close-2.ensures.few in
+    all_cut all next now.at (heap_items now.running) now.segments.items (omega arith) (c.in_ok-close-2.ensures.all (omega arith))
+    (c.in_ok-close-2.ensures.swept all next (λ j d low m. absurd (omega arith)) i.swept) (omega arith)
+
+pub loop-address-preserved : goal.loop-address-preserved
+loop-address-preserved c =
+    let all = c.args.addresses.now in
+    let i = c.loop-address.invariant in
+    let next = c.loop-address.address-index in
+    let here = c.loop-address-test.true in
+    let d : FunctionAddress = record { range = record { begin = 0; end = 0 }; function = 0 } in
+    let begun = begun_from all next d c.requires.sorted here in
+    let a = i.few in let b = c.in_ok-close.ensures.few in let e = c.in_ok-enter.ensures.few in
+    record {
+      swept = c.in_ok-enter.ensures.swept all next d begun here refl (c.in_ok-close.ensures.swept all next begun i.swept);
+      few = omega arith;
+    }

@@ -1,0 +1,106 @@
+-- The functions of a unit as they are found, as the private functions see them.
+use Rattle.std.specs.Prelude.{ℕ, ◌<◌, List, [], ◌∷◌, ◌++◌, map, length, slice_index_or, Some, None, Result, Ok, if◌then◌else◌}
+use Rattle.std.specs.List.{All}
+use Rattle.gimli_read.specs.declared.error.Error.{Error}
+use Rattle.gimli_read.specs.declared.range.Range.{Range}
+use Rattle.gimli_read.specs.declared.value.UnitOffset.{UnitOffset}
+use Rattle.gimli_read.specs.Reading.{◌>>=◌}
+use Rattle.gimli_read.specs.Run.{fold_of}
+use Rattle.gimli.specs.Entry.{EntryCursor, EntryUnit}
+use Rattle.gimli.specs.Items.{Item, items_from, items_of, next_item_at}
+use Rattle.gimli.specs.Ranges.{ranges_at}
+use Rattle.gimli.specs.Sections.{Sections}
+use Rattle.gimli.specs.Unit.{UnitRecord}
+use Rattle.addr2line_lines.specs.declared.function.RangeAttributes.{RangeAttributes}
+use Rattle.addr2line_lines.specs.declared.functions.Found.{Found}
+use Rattle.addr2line_lines.specs.declared.segments.FunctionAddress.{FunctionAddress}
+use Rattle.addr2line_lines.specs.Functions.{FunctionRange, is_subprogram}
+use Rattle.addr2line_lines.specs.RangeAttributes.{all_ranges, attribute_ranges, range_attributes_of}
+
+-- where the entries of functions begin, and the ranges by the places of functions
+pub record FoundFunctions : Type 0 where
+  pub offsets : List UnitOffset
+  pub addresses : List FunctionAddress
+
+-- before the first
+abbrev pub none_found : FoundFunctions
+none_found = record { offsets = []; addresses = [] }
+
+-- a range of the function of a place
+abbrev pub address_of : ℕ → Range → FunctionAddress
+address_of function range = record { range = range; function = function }
+
+-- the ranges of a range list after others
+abbrev pub with_range_list : Sections → UnitRecord → ℕ → ℕ → List FunctionAddress
+    → Result (List FunctionAddress) Error
+with_range_list d u offset function addresses = all_ranges (ranges_at d u offset) >>= λ ranges.
+    Ok (addresses ++ map (address_of function) ranges)
+
+-- the ranges of range attributes after others
+abbrev pub with_ranges : Sections → UnitRecord → RangeAttributes → ℕ → List FunctionAddress
+    → Result (List FunctionAddress) Error
+with_ranges d u attributes function addresses = attribute_ranges d u attributes >>= λ ranges.
+    Ok (addresses ++ map (address_of function) ranges)
+
+-- one more function, if it has a range
+abbrev pub found_more : FoundFunctions → ℕ → List Range → FoundFunctions
+found_more found offset [] = found
+found_more found offset (r ∷ ranges) = record {
+  offsets = found.offsets ++ record { 0 = offset } ∷ [];
+  addresses = found.addresses ++ map (address_of (length found.offsets)) (r ∷ ranges);
+}
+
+-- the function of an entry that begins at an offset, if its attributes give a range
+abbrev pub with_attributes : Sections → UnitRecord → RangeAttributes → ℕ → FoundFunctions
+    → Result FoundFunctions Error
+with_attributes d u attributes offset found = attribute_ranges d u attributes >>= λ ranges.
+    Ok (found_more found offset ranges)
+
+-- those of one more item, if it is a function's entry
+abbrev pub with_found : Sections → UnitRecord → FoundFunctions → Item
+    → Result FoundFunctions Error
+with_found d u found x = elim x.entry [
+  | None ↦ Ok found
+  | Some e ↦ if is_subprogram e.abbreviation
+      then (range_attributes_of d u e.attributes >>= λ r.
+      with_attributes d u r x.offset found)
+      else Ok found
+]
+
+-- those of the next item, and where it ends
+abbrev pub found_at : Sections → UnitRecord → EntryUnit → EntryCursor → FoundFunctions
+    → Result (FoundFunctions × EntryCursor) Error
+found_at d u unit cursor found = next_item_at unit cursor >>= λ x. elim x.0 [
+  | None ↦ Ok (found, x.1)
+  | Some item ↦ with_found d u found item >>= λ more. Ok (more, x.1)
+]
+
+-- those of the items from a place on, after what was found
+abbrev pub found_from : Sections → UnitRecord → EntryUnit → EntryCursor → FoundFunctions
+    → Result FoundFunctions Error
+found_from d u unit cursor found =
+    fold_of (with_found d u) found (items_from unit cursor) >>= λ more. Ok more.0
+
+-- what is found in a unit
+abbrev pub found_in : Sections → UnitRecord → Result FoundFunctions Error
+found_in d u = fold_of (with_found d u) none_found (items_of u) >>= λ more. Ok more.0
+
+-- what was found
+abbrev pub seen_found : Found → FoundFunctions
+seen_found f = record { offsets = f.functions.items; addresses = f.addresses.items }
+
+-- a range, by where the entry of its function begins
+abbrev pub function_range_of : List UnitOffset → FunctionAddress → FunctionRange
+function_range_of offsets a =
+    record { offset = (slice_index_or offsets a.function (record { 0 = 0 })).0; range = a.range }
+
+-- a place is that of a function
+abbrev pub IsPlaceIn : List UnitOffset → FunctionAddress → Type 0
+IsPlaceIn offsets a = a.function < length offsets
+
+-- functions in the order of their entries, and ranges by their places
+pub record AreFunctions (offsets : List UnitOffset) (addresses : List FunctionAddress)
+    : Type 0 where
+  pub places : All (IsPlaceIn offsets) addresses
+  pub rising : (i j : ℕ) (d : UnitOffset) → i < j → j < length offsets
+      → (slice_index_or offsets i d).0 < (slice_index_or offsets j d).0

@@ -1,0 +1,62 @@
+-- The functions of a unit (DWARF 5, section 3.3).
+-- Own: all subprogram entries, at any depth, whose range attributes give a range; the entries are
+-- read to the unit's end, and the first fault is that of all functions.
+use Rattle.std.specs.Prelude.{ℕ, ◌==◌, Bool, List, [], ◌++◌, map, Option, Some, None, Result, Ok, if◌then◌else◌}
+use Rattle.std.specs.Option.{option_map}
+use Rattle.gimli_read.specs.declared.error.Error.{Error}
+use Rattle.gimli_read.specs.declared.range.Range.{Range}
+use Rattle.gimli_read.specs.declared.constants.TheConstants.DwTag.{DW_TAG_subprogram}
+use Rattle.gimli_read.specs.Abbreviations.{Abbrev}
+use Rattle.gimli_read.specs.Reading.{◌>>=◌}
+use Rattle.gimli_read.specs.Run.{fold_of}
+use Rattle.gimli.specs.Items.{Entry, Item, items_of}
+use Rattle.gimli.specs.Sections.{Sections}
+use Rattle.gimli.specs.Unit.{UnitRecord}
+use Rattle.addr2line_lines.specs.RangeAttributes.{attribute_ranges, range_attributes_of}
+use Rattle.addr2line_lines.specs.Shortest.{shortest}
+
+-- a range of a function, and where its entry begins, in bytes from the start of the unit's length
+pub record FunctionRange : Type 0 where
+  pub offset : ℕ
+  pub range : Range
+
+-- the first address
+abbrev pub function_begin : FunctionRange → ℕ
+function_begin f = f.range.begin
+
+-- the address after the last one
+abbrev pub function_end : FunctionRange → ℕ
+function_end f = f.range.end
+
+-- where the entry begins
+abbrev pub function_offset : FunctionRange → ℕ
+function_offset f = f.offset
+
+-- whether an entry is a function's
+abbrev pub is_subprogram : Abbrev → Bool
+is_subprogram a = a.tag.0 == DW_TAG_subprogram.0
+
+-- the ranges of an entry
+abbrev pub entry_ranges : Sections → UnitRecord → Entry → Result (List Range) Error
+entry_ranges d u e = range_attributes_of d u e.attributes >>= λ r. attribute_ranges d u r
+
+-- those of one more item, if it is a function's entry
+abbrev pub with_function : Sections → UnitRecord → List FunctionRange → Item
+    → Result (List FunctionRange) Error
+with_function d u found x = elim x.entry [
+  | None ↦ Ok found
+  | Some e ↦ if is_subprogram e.abbreviation
+      then (entry_ranges d u e >>= λ ranges.
+      Ok (found ++ map (λ r. record { offset = x.offset; range = r }) ranges))
+      else Ok found
+]
+
+-- the ranges of the functions of a unit, in the order of their entries, or the first fault
+abbrev pub functions_of : Sections → UnitRecord → Result (List FunctionRange) Error
+functions_of d u = fold_of (with_function d u) [] (items_of u) >>= λ found. Ok found.0
+
+-- the function with the shortest range that holds the probe, by where its entry begins
+abbrev pub function_offset_at : ℕ → List FunctionRange → Option ℕ
+function_offset_at probe functions =
+    option_map function_offset
+    (shortest function_begin function_end function_offset probe functions)

@@ -1,0 +1,43 @@
+use Rattle.std.proofs.Common.{rules, subst, sym, true}
+use Rattle.std.proofs.lemmas.Result.{err_from_is_err_and}
+use Rattle.addr2line_units.specs.CachedLines.{parsed_units}
+use Rattle.addr2line_units.specs.Parsed.{AreParsed}
+use Rattle.addr2line_units.proofs.UnitsLemmas.{stay_all, stay_over, stay_parsed}
+use Rattle.addr2line_units.proofs.lookup.cache_lines_along.Goals as goal
+
+pub loop-range-init : goal.loop-range-init
+loop-range-init g c = record {
+  stay = stay_all c.args.units.now.items;
+  read = c.requires.read;
+  exact = λ ready. ready;
+  parsed = λ p stays ready. ready;
+}
+
+pub returns-in_err-cache_lines_in-clause-exact : goal.returns-in_err-cache_lines_in-clause-exact
+returns-in_err-cache_lines_in-clause-exact g c = λ ready.
+    let i = c.loop-range.invariant in
+    let us = c.args.units.now.items in
+    let at = subst (AreParsed (parsed_units us)) c.in-Some.ensures.steps (i.exact ready) in
+    let none = c.in_err-cache_lines_in.ensures.exact (stay_parsed us c.loop-range.units.items i.stay c.in-Some.range.unit at.0) in
+    search rules
+
+pub returns-in_err-cache_lines_in-clause-stay : goal.returns-in_err-cache_lines_in-clause-stay
+returns-in_err-cache_lines_in-clause-stay g c = stay_over c.args.units.now.items c.loop-range.units.items c.cache_lines_in.new.units.items c.loop-range.invariant.stay c.in_err-cache_lines_in.ensures.stay
+
+pub loop-range-preserved : goal.loop-range-preserved
+loop-range-preserved g c =
+    let i = c.loop-range.invariant in
+    let us = c.args.units.now.items in
+    let mid = c.loop-range.units.items in
+    let now = c.cache_lines_in.new.units.items in
+    record {
+      stay = stay_over us mid now i.stay c.in_ok-cache_lines_in.ensures.stay;
+      read = c.in_ok-cache_lines_in.ensures.read;
+      exact = λ ready. (subst (AreParsed (parsed_units us)) c.in-Some.ensures.steps (i.exact ready)).1;
+      parsed = λ p stays ready. i.parsed p (λ n parsed. stays n (stay_parsed mid now c.in_ok-cache_lines_in.ensures.stay n parsed)) (subst (AreParsed p) (sym c.in-Some.ensures.steps) (stays c.in-Some.range.unit c.in_ok-cache_lines_in.ensures.parsed, ready));
+    }
+
+pub returns-clause-parsed : goal.returns-clause-parsed
+returns-clause-parsed g c =
+    let now = parsed_units c.loop-range.units.items in
+    c.loop-range.invariant.parsed now (λ n parsed. parsed) (subst (AreParsed now) (sym c.in_default.ensures.steps.0) tt)

@@ -1,0 +1,17 @@
+use Rattle.std.proofs.Common.{List, Bool, length}
+use Rattle.addr2line_units.specs.CachedLines.{HaveLinesOf, StayUnits, parsed_units}
+use Rattle.addr2line_units.specs.Parsed.{AreParsed, StaysParsed}
+use Rattle.addr2line_units.proofs.lookup.cache_lines_along.Given as goal
+
+abbrev pub invariant-loop-range : goal.invariant-loop-range
+invariant-loop-range g l =
+    let first = parsed_units l.fn.units.items in
+    record {
+      stay : StayUnits l.fn.units.items l.units.items;
+      read : HaveLinesOf l.dwarf l.units.items;
+      exact : AreParsed first l.fn.ranges → AreParsed first l.ranges;
+      parsed : (p : List Bool) → StaysParsed (parsed_units l.units.items) p → AreParsed p l.ranges → AreParsed p l.fn.ranges;
+    }
+
+abbrev pub decreases-loop-range : goal.decreases-loop-range
+decreases-loop-range g l = length l.ranges

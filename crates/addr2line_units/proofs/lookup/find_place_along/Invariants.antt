@@ -1,0 +1,24 @@
+use Rattle.std.proofs.Common.{List, [], Bool, true, ◌≡◌, ◌+◌, ◌≤◌, length}
+use Rattle.addr2line_units.specs.CachedLines.{HaveLinesOf, StayUnits, indexed_units, parsed_units}
+use Rattle.addr2line_units.specs.Located.{along, looks_along}
+use Rattle.addr2line_units.specs.Parsed.{StaysParsed, ready_along}
+use Rattle.addr2line_units.proofs.lookup.find_place_along.Given as goal
+
+abbrev pub invariant-loop-range : goal.invariant-loop-range
+invariant-loop-range g l =
+    let d = l.dwarf in
+    let units = indexed_units l.fn.units.items in
+    let first = parsed_units l.fn.units.items in
+    record {
+      stay : StayUnits l.fn.units.items l.units.items;
+      read : HaveLinesOf d l.units.items;
+      rest : along d units l.probe l.ranges ≡ along d units l.probe l.fn.ranges;
+      exact : ready_along d units first l.probe l.fn.ranges ≡ true → ready_along d units first l.probe l.ranges ≡ true;
+      ready : (p : List Bool) → StaysParsed (parsed_units l.units.items) p → ready_along d units p l.probe l.ranges ≡ true → ready_along d units p l.probe l.fn.ranges ≡ true;
+      cost : l.looks + looks_along d units l.ranges ≤ l.fn.looks + looks_along d units l.fn.ranges;
+      raised : l.fn.looks ≤ l.looks;
+      none : l.fn.ranges ≡ [] → l.ranges ≡ [];
+    }
+
+abbrev pub decreases-loop-range : goal.decreases-loop-range
+decreases-loop-range g l = length l.ranges

@@ -1,0 +1,28 @@
+use Rattle.std.proofs.Common.{ap, rules, subst, sym, ◌+◌, ◌≤◌}
+use Rattle.addr2line_units.specs.Located.{looks_in}
+use Rattle.addr2line_units.proofs.UnitsLemmas.{answer_cached, parsed_at, parsed_set, row_found, row_found_exactly, stay_all, stay_set, unit_at}
+use Rattle.addr2line_units.proofs.lookup.find_row_in.Goals as goal
+
+pub returns-then-number-len-clause-stay : goal.returns-then-number-len-clause-stay
+returns-then-number-len-clause-stay g c = stay_all c.args.units.now.items
+
+pub returns-clause-gives : goal.returns-clause-gives
+returns-clause-gives g c = row_found _ _ c.args.units.now.items c.args.number c.index_mut-unit.result.now c.find_row.new.self _ (search rules) c.index_mut-unit.ensures.value c.find_row.ensures.gives
+
+pub returns-clause-exact : goal.returns-clause-exact
+returns-clause-exact g c = λ parsed.
+    let us = c.args.units.now.items in
+    let u = c.index_mut-unit.result.now in
+    let value = c.index_mut-unit.ensures.value in
+    row_found_exactly _ _ us c.args.number u c.find_row.new.self _ (search rules) value (c.find_row.ensures.exact (parsed_at us c.args.number u (search rules) value parsed))
+
+pub returns-clause-parsed : goal.returns-clause-parsed
+returns-clause-parsed g c = λ answered. parsed_set c.args.units.now.items c.args.number c.find_row.new.self (search rules) (answer_cached _ _ _ c.find_row.ensures.caches answered)
+
+pub returns-clause-stay : goal.returns-clause-stay
+returns-clause-stay g c = stay_set c.args.units.now.items c.args.number c.index_mut-unit.result.now c.find_row.new.self (search rules) c.index_mut-unit.ensures.value c.find_row.ensures.stays
+
+pub returns-clause-cost : goal.returns-clause-cost
+returns-clause-cost g c =
+    let same = unit_at c.args.units.now.items c.args.number c.index_mut-unit.result.now (search rules) c.index_mut-unit.ensures.value in
+    subst (λ o. c.find_row.new.looks ≤ c.args.looks.now + looks_in c.args.dwarf.now o) (sym same) c.find_row.ensures.cost

@@ -1,0 +1,16 @@
+use Rattle.std.proofs.Common.{ℕ, ◌≡◌, ◌<◌, drop, length, true}
+use Rattle.addr2line_units.specs.CachedLines.{HaveLinesOf, StayUnits, indexed_units, parsed_units}
+use Rattle.addr2line_units.specs.Located.{all_lines, lines_fault}
+use Rattle.addr2line_units.specs.Parsed.{has_parsed}
+use Rattle.addr2line_units.proofs.lookup.read_all_lines.Given as goal
+
+abbrev pub invariant-loop-number : goal.invariant-loop-number
+invariant-loop-number g l =
+    let units = indexed_units l.fn.units.items in
+    record {
+      stay : StayUnits l.fn.units.items l.units.items;
+      read : HaveLinesOf l.dwarf l.units.items;
+      count : l.count ≡ length units;
+      rest : lines_fault (all_lines l.dwarf (drop l.number units)) ≡ lines_fault (all_lines l.dwarf units);
+      parsed : (n : ℕ) → n < l.number → has_parsed (parsed_units l.units.items) n ≡ true;
+    }

@@ -1,0 +1,34 @@
+use Rattle.std.proofs.Common.{List, Ok, ap, length, nat_lt, rules, subst, sym, ◌++◌, ◌∙◌, ◌≡◌}
+use Rattle.std.proofs.lemmas.Result.{err_from_is_err_and}
+use Rattle.gimli_read.specs.Reading.{◌>>=◌}
+use Rattle.gimli.specs.Unit.{UnitRecord}
+use Rattle.gimli.specs.UnitsLeft.{all_headers}
+use Rattle.addr2line_units.specs.Made.{sup_unit_of_header, units_of}
+use Rattle.addr2line_units.proofs.MadeLemmas.{all_first, given_some, rest_some, some_headers, sup_more}
+use Rattle.addr2line_units.proofs.sup.read_sup_units.Goals as goal
+
+pub loop-units-init : goal.loop-units-init
+loop-units-init g c =
+    let d = c.args.dwarf.now in
+    let all : c.in_ok-headers.headers ≡ all_headers d.debug_info = search rules in
+    record {
+      gives = subst (λ (kept : List UnitRecord). (units_of (sup_unit_of_header d) c.in_ok-headers.headers >>= λ units. Ok (kept ++ units)) ≡ units_of (sup_unit_of_header d) (all_headers d.debug_info)) (sym c.new-units.ensures.items) (all_first (units_of (sup_unit_of_header d) c.in_ok-headers.headers) ∙ ap (units_of (sup_unit_of_header d)) all);
+      some = λ e. some_headers g.R.Reader.shares d (ap (λ headers. nat_lt 0 (length headers)) (sym all) ∙ e);
+      same = search rules;
+    }
+
+pub loop-units-preserved : goal.loop-units-preserved
+loop-units-preserved g c =
+    let i = c.loop-units.invariant in
+    let left = given_some _ _ _ (rw c.in-Some.is at c.in_ok-header.ensures.gives) in
+    record {
+      gives = rw (c.in_ok-push_sup_unit.ensures.gives, i.same) (sym (sup_more c.args.dwarf.now c.loop-units.units.items _ _ _ left) ∙ i.gives);
+      some = λ e. i.some (rest_some _ _ _ left);
+      same = c.in_ok-push_sup_unit.ensures.same ∙ i.same;
+    }
+
+pub returns-in_err-push_sup_unit : goal.returns-in_err-push_sup_unit
+returns-in_err-push_sup_unit g c =
+    let p = err_from_is_err_and c.from_residual-in_err-push_sup_unit.result c.from_residual-in_err-push_sup_unit.ensures.1 in
+    let left = given_some _ _ _ (rw c.in-Some.is at c.in_ok-header.ensures.gives) in
+    record { gives = rw (p.1, p.2) (λ wanted. absurd (wanted (c.loop-units.invariant.some (rest_some _ _ _ left)) c.in_err-push_sup_unit.ensures.refused)) }

@@ -1,0 +1,6 @@
+use Rattle.std.proofs.Common.{◌≡◌, ◌++◌, drop, map}
+use Rattle.addr2line_units.specs.Made.{range_of_unit}
+use Rattle.addr2line_units.proofs.units.push_ranges.Given as goal
+
+abbrev pub invariant-loop-range : goal.invariant-loop-range
+invariant-loop-range l = l.unit_ranges.items ++ map (range_of_unit l.unit) (drop l.range-index l.ranges) ≡ l.fn.unit_ranges.items ++ map (range_of_unit l.unit) l.ranges

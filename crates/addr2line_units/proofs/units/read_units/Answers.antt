@@ -1,0 +1,53 @@
+use Rattle.std.proofs.Common.{Ok, ap, arith, length, refl, rules, sym, true, nat_lt, ◌∙◌, ◌≡◌, ◌<◌, subst}
+use Rattle.std.proofs.lemmas.Result.{err_from_is_err_and}
+use Rattle.gimli_read.specs.Reading.{◌>>=◌}
+use Rattle.gimli.specs.UnitsLeft.{all_headers}
+use Rattle.addr2line_units.specs.CachedLines.{HaveLinesOf}
+use Rattle.addr2line_units.specs.Indexed.{appended, index_of, index_seen}
+use Rattle.addr2line_units.specs.Made.{unit_of_header, units_of}
+use Rattle.addr2line_units.proofs.MadeLemmas.{given_fault, given_some, index_fault, index_more, rest_some, shared_headers, shorter, some_headers}
+use Rattle.addr2line_units.proofs.units.read_units.Goals as goal
+
+pub loop-index-init : goal.loop-index-init
+loop-index-init g c =
+    let d = c.args.dwarf.now in
+    let aranges = c.args.aranges.now in
+    let all : c.in_ok-headers.headers ≡ all_headers d.debug_info = search rules in
+    record {
+      gives = ap (λ m. units_of (unit_of_header d aranges) c.in_ok-headers.headers >>= λ units. Ok (appended d m units)) c.new-index.ensures.none ∙ ap (λ headers. units_of (unit_of_header d aranges) headers >>= λ units. Ok (index_of d units)) all;
+      some = λ e. some_headers g.R.Reader.shares d (ap (λ headers. nat_lt 0 (length headers)) (sym all) ∙ e);
+      same = search rules;
+      read = subst (HaveLinesOf d) (sym c.new-index.ensures.units) tt;
+    }
+
+pub loop-index-smaller : goal.loop-index-smaller
+loop-index-smaller g c =
+    let left = given_some _ _ _ (rw c.in-Some.is at c.in_ok-header.ensures.gives) in
+    shorter _ _ _ left
+
+pub loop-index-preserved : goal.loop-index-preserved
+loop-index-preserved g c =
+    let i = c.loop-index.invariant in
+    let left = given_some _ _ _ (rw c.in-Some.is at c.in_ok-header.ensures.gives) in
+    record {
+      gives = sym (index_more c.args.dwarf.now c.args.aranges.now (index_seen c.loop-index.index) _ _ _ _ left c.in_ok-take.ensures.gives) ∙ i.gives;
+      some = λ e. i.some (rest_some _ _ _ left);
+      same = c.in_ok-take.ensures.same;
+      read = c.in_ok-take.ensures.read;
+    }
+
+pub returns-in_err-take-clause-gives : goal.returns-in_err-take-clause-gives
+returns-in_err-take-clause-gives g c =
+    let p = err_from_is_err_and c.from_residual-in_err-take.result c.from_residual-in_err-take.ensures.1 in
+    let i = c.loop-index.invariant in
+    let left = given_some _ _ _ (rw c.in-Some.is at c.in_ok-header.ensures.gives) in
+    rw (p.1, p.2) (λ may. sym i.gives ∙ index_fault c.args.dwarf.now c.args.aranges.now (index_seen c.loop-index.index) _ _ _ _ left (c.in_err-take.ensures.gives (may (i.some (rest_some _ _ _ left)))))
+
+pub returns-in_err-header-clause-gives : goal.returns-in_err-header-clause-gives
+returns-in_err-header-clause-gives g c =
+    let p = err_from_is_err_and c.from_residual-in_err-header.result c.from_residual-in_err-header.ensures.1 in
+    let i = c.loop-index.invariant in
+    let d = c.args.dwarf.now in
+    rw (p.1, p.2) (λ may.
+    let left = given_fault _ _ (c.in_err-header.ensures.gives (λ shares _. may (shared_headers g.R.Reader.shares d shares))) in
+    sym i.gives ∙ ap (λ headers. units_of (unit_of_header d c.args.aranges.now) headers >>= λ units. Ok (appended d (index_seen c.loop-index.index) units)) left)

@@ -1,0 +1,108 @@
+-- The units of a context and their ranges as they are read, one after another, as the private
+-- functions see them.
+use Rattle.std.specs.Prelude.{ℕ, ◌||◌, Bool, false, List, [], ◌∷◌, ◌++◌, length, map, nat_lt, Option, Some, None, Result, Ok, Err}
+use Rattle.gimli_read.specs.declared.error.Error.{Error}
+use Rattle.gimli_read.specs.declared.range.Range.{Range}
+use Rattle.gimli_read.specs.Reading.{◌>>=◌}
+use Rattle.gimli.specs.Header.{UnitHeaderFields}
+use Rattle.gimli.specs.Sections.{Sections, SupSections}
+use Rattle.gimli.specs.UnitsLeft.{all_headers}
+use Rattle.addr2line_units.specs.declared.aranges.UnitArange.{UnitArange}
+use Rattle.addr2line_units.specs.declared.index.UnitRange.{UnitRange}
+use Rattle.addr2line_units.specs.declared.unit.ResUnit.{ResUnit}
+use Rattle.addr2line_units.specs.declared.units.Index.{Index}
+use Rattle.addr2line_units.specs.declared.units.ResUnits.{ResUnits}
+use Rattle.addr2line_units.specs.CachedLines.{indexed_unit, indexed_units, parsed_units}
+use Rattle.addr2line_units.specs.Made.{IndexedUnit, RangedUnit, asks_lines, indexed_of, range_of_unit, ranged_units, ranges_from, sup_sections, unit_of_header, unit_ranges, units_of}
+use Rattle.addr2line_units.specs.UnitAranges.{has_sets}
+
+-- units, the ranges that lead to them, and of which units the lines are parsed
+pub record IndexState : Type 0 where
+  pub units : List IndexedUnit
+  pub ranges : List UnitRange
+  pub parsed : List Bool
+
+-- before the first unit
+abbrev pub no_index : IndexState
+no_index = record { units = []; ranges = []; parsed = [] }
+
+-- those of units that are read
+abbrev pub index_of : Sections → List RangedUnit → IndexState
+index_of d units = record {
+  units = map indexed_of units;
+  ranges = ranges_from d 0 units;
+  parsed = map asks_lines units;
+}
+
+-- the units of the sections with the ranges that .debug_aranges lists, or the first fault
+abbrev pub indexed_with : Sections → List UnitArange → Result IndexState Error
+indexed_with d aranges =
+    units_of (unit_of_header d aranges) (all_headers d.debug_info)
+    >>= λ units. Ok (index_of d units)
+
+-- the units of the sections, or the first fault
+abbrev pub indexed : Sections → Result IndexState Error
+indexed d = ranged_units d >>= λ units. Ok (index_of d units)
+
+-- one more unit
+abbrev pub with_ranged : Sections → IndexState → RangedUnit → IndexState
+with_ranged d m u = record {
+  units = m.units ++ u.indexed ∷ [];
+  ranges = m.ranges ++ map (range_of_unit (length m.units)) (unit_ranges d u);
+  parsed = m.parsed ++ asks_lines u ∷ [];
+}
+
+-- one more unit, unless it is passed over
+abbrev pub or_with_ranged : Sections → IndexState → Option RangedUnit → IndexState
+or_with_ranged d m None = m
+or_with_ranged d m (Some u) = with_ranged d m u
+
+-- the unit of one more header
+abbrev pub with_header : Sections → List UnitArange → IndexState → UnitHeaderFields
+    → Result IndexState Error
+with_header d aranges m h = unit_of_header d aranges h >>= λ u. Ok (or_with_ranged d m u)
+
+-- units that are read, behind those that were
+abbrev pub appended : Sections → IndexState → List RangedUnit → IndexState
+appended d m units = record {
+  units = m.units ++ map indexed_of units;
+  ranges = m.ranges ++ ranges_from d (length m.units) units;
+  parsed = m.parsed ++ map asks_lines units;
+}
+
+-- whether memory may be taken for units: where there is one, or where readers share their bytes
+abbrev pub units_take_memory : Bool → Sections → Bool
+units_take_memory shares d = shares || nat_lt 0 (length (all_headers d.debug_info))
+
+-- whether memory may be taken for units and their ranges
+abbrev pub index_takes_memory : Bool → Sections → Bool
+index_takes_memory shares d = has_sets d.debug_aranges || units_take_memory shares d
+
+-- what was read so far
+abbrev pub index_seen : {R : Type 0} → Index R → IndexState
+index_seen i = record {
+  units = indexed_units i.units.items;
+  ranges = i.ranges.items;
+  parsed = parsed_units i.units.items;
+}
+
+-- what a context has
+abbrev pub units_seen : {R : Type 0} → ResUnits R → IndexState
+units_seen u = record {
+  units = indexed_units u.units.items;
+  ranges = u.ranges;
+  parsed = parsed_units u.units.items;
+}
+
+-- a unit and the ranges that are given for it
+abbrev pub ranged_seen : {R : Type 0} → ResUnit R → List Range → RangedUnit
+ranged_seen u given = record { indexed = indexed_unit u; given = given }
+
+-- whether memory may be taken for the units of a supplementary file
+abbrev pub sup_takes_memory : Bool → Option SupSections → Bool
+sup_takes_memory shares None = false
+sup_takes_memory shares (Some s) = units_take_memory shares (sup_sections s)
+
+-- whether memory may be taken for all that a context has
+abbrev pub context_takes_memory : Bool → Sections → Bool
+context_takes_memory shares d = index_takes_memory shares d || sup_takes_memory shares d.sup

@@ -1,0 +1,48 @@
+-- What one call gives of the rows and faults that a range lookup has left.
+-- Own: a fault ends nothing: the next call goes on after it. As an iterator the lookup gives none in
+-- the place of a fault.
+use Rattle.std.specs.Prelude.{◌≡◌, ℕ, List, [], ◌∷◌, ◌++◌, flat_map, Option, Some, None, option_map, Result, Ok, Err}
+use Rattle.gimli_read.specs.declared.error.Error.{Error}
+use Rattle.addr2line_lines.specs.declared.location.Location.{Location as SourceLocation}
+use Rattle.addr2line_lines.specs.RangeLocations.{LocatedSpan}
+use Rattle.addr2line_lines.specs.Rows.{result_map}
+use Rattle.addr2line_lines.specs.SeenLocation.{seen_location}
+use Rattle.addr2line_units.specs.declared.index.UnitRange.{UnitRange}
+use Rattle.addr2line_units.specs.declared.unit.ResUnit.{ResUnit}
+use Rattle.addr2line_units.specs.CachedLines.{cached_spans, lines_at}
+use Rattle.addr2line_units.specs.Located.{all_read}
+
+-- a row with its address and the length of its span
+abbrev pub seen_span : ℕ × ℕ × SourceLocation → LocatedSpan
+seen_span x = record { address = x.0; length = x.1; location = seen_location x.2 }
+
+-- the call gave the first row or fault that was left, and the others are left
+abbrev pub YieldsOn : {X : Type 0} → List (Result X Error) → Result (Option X) Error
+    → List (Result X Error) → Type 0
+YieldsOn [] r left = (r ≡ Ok None) × (left ≡ [])
+YieldsOn (Ok x ∷ rest) r left = (r ≡ Ok (Some x)) × (left ≡ rest)
+YieldsOn (Err e ∷ rest) r left = (r ≡ Err e) × (left ≡ rest)
+
+-- the same, with none in the place of a fault
+abbrev pub YieldsRow : {X : Type 0} → List (Result X Error) → Option X → List (Result X Error)
+    → Type 0
+YieldsRow [] r left = (r ≡ None) × (left ≡ [])
+YieldsRow (Ok x ∷ rest) r left = (r ≡ Some x) × (left ≡ rest)
+YieldsRow (Err e ∷ rest) r left = (r ≡ None) × (left ≡ rest)
+
+-- what is left of the rows of a unit
+abbrev pub rows_left : Option (List LocatedSpan) → List (Result LocatedSpan Error)
+rows_left None = []
+rows_left (Some spans) = all_read spans
+
+-- the rows of a unit, or its fault
+abbrev pub rows_or_fault : Result (Option (List LocatedSpan)) Error
+    → List (Result LocatedSpan Error)
+rows_or_fault (Ok rows) = rows_left rows
+rows_or_fault (Err e) = Err e ∷ []
+
+-- what cached lines have in the ranges that are left
+abbrev pub cached_along : {R : Type 0} → List (ResUnit R) → ℕ → ℕ → List UnitRange
+    → List (Result LocatedSpan Error)
+cached_along units low high ranges =
+    flat_map (λ (r : UnitRange). cached_spans r.range low high (lines_at units r.unit)) ranges

@@ -1,0 +1,172 @@
+//! Lookups of addresses among units.
+
+ghost use Rattle.std.specs.Prelude.{◌≡◌, ◌+◌, ◌≤◌, [], None, true, IfErr, OnOk, Ok, option_map, slice_get};
+ghost use Rattle.gimli_read.specs.declared.error.Error.TheVariants.{OutOfMemory};
+ghost use Rattle.gimli_read.specs.Reading.{Exactly, ExactlyUnlessOom};
+ghost use Rattle.addr2line_units.specs.Located.{all_lines, along, lines_fault, location_in, looks_along, looks_in};
+ghost use Rattle.addr2line_units.specs.Parsed.{AreAllParsed, AreParsed, IsNotOom, has_parsed, ready_along};
+ghost use Rattle.addr2line_units.specs.CachedLines.{HaveLinesOf, StayUnits, indexed_units, lines_answer_at, location_at_place, parsed_units, place_of_row};
+
+use crate::index::UnitRangeIter;
+use crate::place::Place;
+use crate::unit::ResUnit;
+use addr2line_lines::{Count, Row};
+use gimli::Dwarf;
+use gimli::read::{Error, Reader};
+use std::alloc::Global;
+
+// The row of an address in the lines of a unit, which are cached then, or their fault; none where
+// there is no unit of that number.
+fn find_row_in<R: Reader>(
+    alloc: Global,
+    dwarf: &Dwarf<R>,
+    units: &mut Vec<ResUnit<R>>,
+    number: usize,
+    looks: &mut Count,
+    probe: u64,
+) -> Result<Option<Row>, Error>
+    requires read { HaveLinesOf dwarf.now units.old.items }
+    ensures gives { ExactlyUnlessOom (option_map (λ row. location_at_place units.new.items
+        (place_of_row number row))) result (location_in dwarf.now probe
+        (slice_get (indexed_units units.old.items) number)) }
+    ensures exact { has_parsed (parsed_units units.old.items) number ≡ true → Exactly
+        (option_map (λ row. location_at_place units.new.items (place_of_row number row))) result
+        (location_in dwarf.now probe (slice_get (indexed_units units.old.items) number)) }
+    ensures parsed { IsNotOom result → has_parsed (parsed_units units.new.items) number ≡ true }
+    ensures stay { StayUnits units.old.items units.new.items }
+    ensures read { HaveLinesOf dwarf.now units.new.items }
+    ensures cost { looks.new ≤ looks.old + looks_in dwarf.now
+        (slice_get (indexed_units units.old.items) number) }
+    ensures raised { looks.old ≤ looks.new }
+{
+    if number >= units.len() {
+        return Ok(None);
+    }
+    let unit = &mut units[number];
+    unit.find_row(alloc, dwarf, looks, probe)
+}
+
+// The place of an address in the first unit along ranges that has one. The lines of each unit up
+// to it are cached then, or their fault, which ends the search.
+pub(crate) fn find_place_along<R: Reader>(
+    alloc: Global,
+    dwarf: &Dwarf<R>,
+    units: &mut Vec<ResUnit<R>>,
+    mut ranges: UnitRangeIter<'_>,
+    looks: &mut Count,
+    probe: u64,
+) -> Result<Option<Place>, Error>
+    requires read { HaveLinesOf dwarf.now units.old.items }
+    ensures gives { ExactlyUnlessOom (option_map (location_at_place units.new.items)) result
+        (along dwarf.now (indexed_units units.old.items) probe ranges.entry) }
+    ensures exact { ready_along dwarf.now (indexed_units units.old.items)
+        (parsed_units units.old.items) probe ranges.entry ≡ true → Exactly
+        (option_map (location_at_place units.new.items)) result
+        (along dwarf.now (indexed_units units.old.items) probe ranges.entry) }
+    ensures ready { IsNotOom result → ready_along dwarf.now (indexed_units units.old.items)
+        (parsed_units units.new.items) probe ranges.entry ≡ true }
+    ensures stay { StayUnits units.old.items units.new.items }
+    ensures read { HaveLinesOf dwarf.now units.new.items }
+    ensures cost { looks.new ≤ looks.old + looks_along dwarf.now
+        (indexed_units units.old.items) ranges.entry }
+    ensures raised { looks.old ≤ looks.new }
+    ensures none { ranges.entry ≡ [] → result ≡ Ok None }
+{
+    while let Some(range) = ranges.next() {
+        if let Some(row) = find_row_in(alloc, dwarf, units, range.unit, looks, probe)? {
+            return Ok(Some(Place {
+                unit: range.unit,
+                row,
+            }));
+        }
+    }
+    Ok(None)
+}
+
+// Caches the lines of a unit, or their fault; there may be no unit of that number. Refused
+// `OutOfMemory` alone.
+fn cache_lines_in<R: Reader>(
+    alloc: Global,
+    dwarf: &Dwarf<R>,
+    units: &mut Vec<ResUnit<R>>,
+    number: usize,
+) -> Result<(), Error>
+    requires read { HaveLinesOf dwarf.now units.old.items }
+    ensures exact { has_parsed (parsed_units units.old.items) number ≡ true → result ≡ Ok tt }
+    ensures parsed { OnOk result (has_parsed (parsed_units units.new.items) number ≡ true) }
+    ensures refused { IfErr result (λ e. e ≡ OutOfMemory) }
+    ensures stay { StayUnits units.old.items units.new.items }
+    ensures read { HaveLinesOf dwarf.now units.new.items }
+{
+    if number >= units.len() {
+        return Ok(());
+    }
+    let unit = &mut units[number];
+    unit.cache_lines(alloc, dwarf)
+}
+
+// Caches the lines of the units that ranges lead to, or their faults. Refused `OutOfMemory` alone.
+pub(crate) fn cache_lines_along<R: Reader>(
+    alloc: Global,
+    dwarf: &Dwarf<R>,
+    units: &mut Vec<ResUnit<R>>,
+    mut ranges: UnitRangeIter<'_>,
+) -> Result<(), Error>
+    requires read { HaveLinesOf dwarf.now units.old.items }
+    ensures exact { AreParsed (parsed_units units.old.items) ranges.entry → result ≡ Ok tt }
+    ensures parsed { OnOk result (AreParsed (parsed_units units.new.items) ranges.entry) }
+    ensures refused { IfErr result (λ e. e ≡ OutOfMemory) }
+    ensures stay { StayUnits units.old.items units.new.items }
+    ensures read { HaveLinesOf dwarf.now units.new.items }
+{
+    while let Some(range) = ranges.next() {
+        cache_lines_in(alloc, dwarf, units, range.unit)?;
+    }
+    Ok(())
+}
+
+// Reads the lines of a unit, unless they are cached, and caches them, or their fault.
+fn read_lines_in<R: Reader>(
+    alloc: Global,
+    dwarf: &Dwarf<R>,
+    units: &mut Vec<ResUnit<R>>,
+    number: usize,
+) -> Result<(), Error>
+    requires read { HaveLinesOf dwarf.now units.old.items }
+    ensures gives { ExactlyUnlessOom (λ x. x) result
+        (lines_answer_at dwarf.now (slice_get (indexed_units units.old.items) number)) }
+    ensures exact { has_parsed (parsed_units units.old.items) number ≡ true → Exactly (λ x. x)
+        result (lines_answer_at dwarf.now (slice_get (indexed_units units.old.items) number)) }
+    ensures parsed { IsNotOom result → has_parsed (parsed_units units.new.items) number ≡ true }
+    ensures stay { StayUnits units.old.items units.new.items }
+    ensures read { HaveLinesOf dwarf.now units.new.items }
+{
+    if number >= units.len() {
+        return Ok(());
+    }
+    let unit = &mut units[number];
+    unit.read_lines(alloc, dwarf)
+}
+
+// Reads the lines of all units in their order, unless they are cached, and caches them; the first
+// fault ends it.
+pub(crate) fn read_all_lines<R: Reader>(
+    alloc: Global,
+    dwarf: &Dwarf<R>,
+    units: &mut Vec<ResUnit<R>>,
+) -> Result<(), Error>
+    requires read { HaveLinesOf dwarf.now units.old.items }
+    ensures gives { ExactlyUnlessOom (λ x. x) result
+        (lines_fault (all_lines dwarf.now (indexed_units units.old.items))) }
+    ensures exact { AreAllParsed (parsed_units units.old.items) → Exactly (λ x. x) result
+        (lines_fault (all_lines dwarf.now (indexed_units units.old.items))) }
+    ensures parsed { OnOk result (AreAllParsed (parsed_units units.new.items)) }
+    ensures stay { StayUnits units.old.items units.new.items }
+    ensures read { HaveLinesOf dwarf.now units.new.items }
+{
+    let count = units.len();
+    for number in 0..count {
+        read_lines_in(alloc, dwarf, units, number)?;
+    }
+    Ok(())
+}

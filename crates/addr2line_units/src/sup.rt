@@ -1,0 +1,130 @@
+//! The units of a supplementary file.
+
+ghost use Rattle.std.specs.Prelude.{◌≡◌, ◌++◌, [], IfErr, Ok, OnOk};
+ghost use Rattle.std.specs.Option.{option_to_list};
+ghost use Rattle.std.specs.Result.{result_ok};
+ghost use Rattle.gimli_read.specs.declared.error.Error.TheVariants.{OutOfMemory};
+ghost use Rattle.gimli_read.specs.Reading.{ExactlyUnlessOom, ExactlyUnlessOomIf};
+ghost use Rattle.gimli.specs.Unit.{unit_record_of};
+ghost use Rattle.gimli.specs.UnitsLeft.{all_headers};
+ghost use Rattle.addr2line_units.specs.Made.{sup_sections, sup_unit_of_header, sup_units, units_of};
+ghost use Rattle.addr2line_units.specs.Indexed.{sup_takes_memory, units_take_memory};
+
+use gimli::read::{Error, Reader};
+use gimli::{
+    AbbreviationsCache, DebugAbbrev, DebugAddr, DebugAranges, DebugInfo, DebugLine, DebugLineStr,
+    DebugRanges, DebugRngLists, DebugStr, DebugStrOffsets, Dwarf, DwarfFileType, SupDwarf, Unit,
+    UnitHeader,
+};
+use std::alloc::Global;
+
+/// The units of a supplementary file, which entries of a file may refer to.
+#[derive(Drop)]
+pub struct SupUnits<R: Reader> {
+    /// The sections of the supplementary file, if there is one.
+    pub dwarf: Option<Dwarf<R>>,
+    /// Its units, in the order of its `.debug_info`.
+    pub units: Vec<Unit<R>>,
+}
+
+// The sections of a supplementary file as those of a file of its own. Refused `OutOfMemory` alone,
+// where bytes are shared.
+fn duplicate_sections<R: Reader>(sup: &SupDwarf<R>) -> Result<Dwarf<R>, Error>
+    ensures gives { ExactlyUnlessOomIf R.shares (λ d. d) result (Ok (sup_sections sup.now)) }
+{
+    Ok(Dwarf {
+        debug_abbrev: DebugAbbrev::from(sup.debug_abbrev.section.duplicate()?),
+        debug_addr: DebugAddr::from(sup.debug_addr.section.duplicate()?),
+        debug_aranges: DebugAranges::from(sup.debug_aranges.section.duplicate()?),
+        debug_info: DebugInfo::from(sup.debug_info.section.duplicate()?),
+        debug_line: DebugLine::from(sup.debug_line.section.duplicate()?),
+        debug_line_str: DebugLineStr::from(sup.debug_line_str.section.duplicate()?),
+        debug_ranges: DebugRanges::from(sup.debug_ranges.section.duplicate()?),
+        debug_rnglists: DebugRngLists::from(sup.debug_rnglists.section.duplicate()?),
+        debug_str: DebugStr::from(sup.debug_str.section.duplicate()?),
+        debug_str_offsets: DebugStrOffsets::from(sup.debug_str_offsets.section.duplicate()?),
+        file_type: DwarfFileType::Main,
+        sup: None,
+    })
+}
+
+// The unit of a header, none where its record is faulty. Refused `OutOfMemory` alone.
+fn read_sup_unit<R: Reader>(
+    alloc: Global,
+    abbreviations: &mut AbbreviationsCache<'_, R>,
+    header: UnitHeader<R>,
+) -> Result<Option<Unit<R>>, Error>
+    ensures gives { ExactlyUnlessOom (λ u. u) result
+        (sup_unit_of_header abbreviations.old.dwarf header) }
+    ensures refused { IfErr result (λ e. e ≡ OutOfMemory) }
+    ensures same { abbreviations.new.dwarf ≡ abbreviations.old.dwarf }
+{
+    match abbreviations.unit(alloc, header) {
+        Ok(unit) => Ok(Some(unit)),
+        Err(Error::OutOfMemory) => Err(Error::OutOfMemory),
+        Err(_) => Ok(None),
+    }
+}
+
+// Adds the unit of a header, unless its record is faulty. Refused `OutOfMemory` alone.
+fn push_sup_unit<R: Reader>(
+    alloc: Global,
+    abbreviations: &mut AbbreviationsCache<'_, R>,
+    header: UnitHeader<R>,
+    units: &mut Vec<Unit<R>>,
+) -> Result<(), Error>
+    ensures gives { OnOk result (units.new.items ≡ units.old.items
+        ++ option_to_list (result_ok (unit_record_of abbreviations.old.dwarf header))) }
+    ensures same { abbreviations.new.dwarf ≡ abbreviations.old.dwarf }
+    ensures refused { IfErr result (λ e. e ≡ OutOfMemory) }
+{
+    if let Some(unit) = read_sup_unit(alloc, abbreviations, header)? {
+        units.push(unit)?;
+    }
+    Ok(())
+}
+
+// The units of a supplementary file whose record can be read.
+fn read_sup_units<R: Reader>(alloc: Global, dwarf: &Dwarf<R>) -> Result<Vec<Unit<R>>, Error>
+    ensures gives { ExactlyUnlessOomIf (units_take_memory R.shares dwarf.now) (λ v. v.items) result
+        (units_of (sup_unit_of_header dwarf.now) (all_headers dwarf.now.debug_info)) }
+{
+    let mut headers = dwarf.units()?;
+    let mut abbreviations = AbbreviationsCache::new(alloc, dwarf);
+    let mut units = Vec::new(alloc);
+    while let Some(header) = headers.next()? {
+        push_sup_unit(alloc, &mut abbreviations, header, &mut units)?;
+    }
+    Ok(units)
+}
+
+impl<R: Reader> SupUnits<R> {
+    /// No units. Takes no memory.
+    pub fn new(alloc: Global) -> SupUnits<R>
+        ensures gives { result.units.items ≡ [] }
+    {
+        SupUnits {
+            dwarf: None,
+            units: Vec::new(alloc),
+        }
+    }
+
+    /// The units of the supplementary file, if there is one, whose record can be read.
+    ///
+    /// Refused by the first fault of a unit's header; may fail with `OutOfMemory` instead, where
+    /// there is a unit or bytes are shared. Source: DWARF 5, sections 3.1 and 7.3.6.
+    pub fn parse(alloc: Global, dwarf: &Dwarf<R>) -> Result<SupUnits<R>, Error>
+        ensures gives { ExactlyUnlessOomIf (sup_takes_memory R.shares dwarf.now.sup)
+            (λ s. s.units.items) result (sup_units dwarf.now.sup) }
+    {
+        let Some(sup) = &dwarf.sup else {
+            return Ok(SupUnits::new(alloc));
+        };
+        let dwarf = duplicate_sections(sup)?;
+        let units = read_sup_units(alloc, &dwarf)?;
+        Ok(SupUnits {
+            dwarf: Some(dwarf),
+            units,
+        })
+    }
+}

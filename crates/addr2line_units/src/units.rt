@@ -1,0 +1,300 @@
+//! The units of a context, and the ranges that lead to them.
+
+ghost use Rattle.std.specs.Prelude.{◌≡◌, ◌+◌, ◌++◌, ◌-◌, ◌^◌, ◌≤◌, [], None, IfErr, IfOk, IfSome, Ok, OnOk, map, option_map, true};
+ghost use Rattle.gimli_read.specs.declared.error.Error.TheVariants.{OutOfMemory};
+ghost use Rattle.gimli_read.specs.Reading.{Exactly, ExactlyUnlessOom, ExactlyUnlessOomIf};
+ghost use Rattle.addr2line_units.specs.declared.unit.LazyLines.TheVariants.{Unread};
+ghost use Rattle.addr2line_units.specs.Made.{range_of_unit, unit_of_header};
+ghost use Rattle.addr2line_units.specs.Indexed.{index_seen, index_takes_memory, indexed, indexed_with, no_index, ranged_seen, units_seen, units_take_memory, with_header, with_ranged};
+ghost use Rattle.addr2line_units.specs.CachedLines.{HaveLinesOf, StayUnits, cached_files, indexed_units, location_at_place, parsed_units};
+ghost use Rattle.addr2line_units.specs.Located.{all_lines, along, lines_fault, looks_along};
+ghost use Rattle.addr2line_units.specs.Parsed.{AreAllParsed, AreParsed, IsNotOom, ready_along};
+ghost use Rattle.addr2line_units.specs.RangeLookup.{cached_along};
+ghost use Rattle.addr2line_units.specs.UnitIndex.{cover, cover_range};
+ghost use Rattle.addr2line_lines.specs.Location.{location_of_row};
+ghost use Rattle.addr2line_lines.specs.SeenLocation.{seen_location};
+
+use crate::aranges::UnitAranges;
+use crate::index::{UnitRange, UnitRanges};
+use crate::lookup::{cache_lines_along, find_place_along, read_all_lines};
+use crate::place::Place;
+use crate::range::LocationRangeIter;
+use crate::unit::{LazyLines, ResUnit, is_type_unit, read_ranged_unit};
+use addr2line_lines::{Count, Location, Row};
+use gimli::read::{Error, Range, Reader};
+use gimli::{AbbreviationsCache, Dwarf, UnitHeader};
+use std::alloc::Global;
+
+/// The units of a context, and the ranges that lead to them.
+#[derive(Drop)]
+pub struct ResUnits<R: Reader> {
+    /// The units, in the order of `.debug_info`.
+    pub units: Vec<ResUnit<R>>,
+    /// Their ranges.
+    pub ranges: UnitRanges,
+}
+
+// The units and ranges that were read so far.
+#[derive(Drop)]
+struct Index<R: Reader> {
+    units: Vec<ResUnit<R>>,
+    ranges: Vec<UnitRange>,
+}
+
+// The location of a row in cached lines.
+fn location_of(lines: &LazyLines, row: Row) -> Location<'_>
+    ensures gives { seen_location result ≡ location_of_row (cached_files lines.now) row }
+{
+    match lines {
+        LazyLines::Read(lines) => lines.location(row),
+        LazyLines::Faulty(_) | LazyLines::Unread => Location::without_file(row),
+    }
+}
+
+// The unit of a header, none where it is passed over.
+#[tactic(auto, unfolding(crate::specs::Made::unit_of_header))]
+fn read_unit<R: Reader>(
+    alloc: Global,
+    dwarf: &Dwarf<R>,
+    abbreviations: &mut AbbreviationsCache<'_, R>,
+    aranges: &UnitAranges,
+    header: UnitHeader<R>,
+) -> Result<Option<(ResUnit<R>, Vec<Range>)>, Error>
+    requires same { abbreviations.old.dwarf ≡ dwarf.now }
+    ensures same { abbreviations.new.dwarf ≡ dwarf.now }
+    ensures gives { ExactlyUnlessOom (option_map (λ x. ranged_seen x.0 x.1.items)) result
+        (unit_of_header dwarf.now aranges.now header) }
+    ensures unread { IfOk result (λ x. IfSome x (λ y. y.0.lines ≡ Unread)) }
+{
+    if is_type_unit(header.type_()) {
+        return Ok(None);
+    }
+    match abbreviations.unit(alloc, header) {
+        Ok(unit) => Ok(Some(read_ranged_unit(alloc, dwarf, aranges, unit)?)),
+        Err(Error::OutOfMemory) => Err(Error::OutOfMemory),
+        Err(_) => Ok(None),
+    }
+}
+
+// Adds the ranges of a unit. Refused `OutOfMemory` alone.
+fn push_ranges(unit_ranges: &mut Vec<UnitRange>, unit: usize, ranges: &[Range]) -> Result<(), Error>
+    ensures gives { OnOk result (unit_ranges.new.items
+        ≡ unit_ranges.old.items ++ map (range_of_unit unit) ranges.now) }
+    ensures refused { IfErr result (λ e. e ≡ OutOfMemory) }
+{
+    for range in ranges {
+        unit_ranges.push(UnitRange {
+            unit,
+            range: *range,
+        })?;
+    }
+    Ok(())
+}
+
+impl<R: Reader> Index<R> {
+    // Before the first unit.
+    fn new(alloc: Global) -> Index<R>
+        ensures none { index_seen result ≡ no_index }
+        ensures units { result.units.items ≡ [] }
+    {
+        Index {
+            units: Vec::new(alloc),
+            ranges: Vec::new(alloc),
+        }
+    }
+
+    // Adds a unit with the ranges that lead to it. Refused `OutOfMemory` alone.
+    fn push(
+        &mut self,
+        alloc: Global,
+        dwarf: &Dwarf<R>,
+        mut unit: ResUnit<R>,
+        given: Vec<Range>,
+    ) -> Result<(), Error>
+        requires unread { unit.lines ≡ Unread }
+        requires read { HaveLinesOf dwarf.now self.old.units.items }
+        ensures gives { OnOk result (index_seen self.new ≡ with_ranged dwarf.now
+            (index_seen self.old) (ranged_seen unit given.items)) }
+        ensures read { OnOk result (HaveLinesOf dwarf.now self.new.units.items) }
+        ensures refused { IfErr result (λ e. e ≡ OutOfMemory) }
+    {
+        let ranges = unit.or_line_ranges(alloc, dwarf, given)?;
+        push_ranges(&mut self.ranges, self.units.len(), &ranges)?;
+        self.units.push(unit)?;
+        Ok(())
+    }
+
+    // Adds the unit of a header, unless it is passed over.
+    fn take(
+        &mut self,
+        alloc: Global,
+        dwarf: &Dwarf<R>,
+        abbreviations: &mut AbbreviationsCache<'_, R>,
+        aranges: &UnitAranges,
+        header: UnitHeader<R>,
+    ) -> Result<(), Error>
+        requires same { abbreviations.old.dwarf ≡ dwarf.now }
+        requires read { HaveLinesOf dwarf.now self.old.units.items }
+        ensures gives { ExactlyUnlessOom (λ _. index_seen self.new) result
+            (with_header dwarf.now aranges.now (index_seen self.old) header) }
+        ensures same { abbreviations.new.dwarf ≡ dwarf.now }
+        ensures read { OnOk result (HaveLinesOf dwarf.now self.new.units.items) }
+    {
+        if let Some((unit, given)) = read_unit(alloc, dwarf, abbreviations, aranges, header)? {
+            self.push(alloc, dwarf, unit, given)?;
+        }
+        Ok(())
+    }
+}
+
+// The units of the headers of a section, each whole before the next header.
+fn read_units<R: Reader>(
+    alloc: Global,
+    dwarf: &Dwarf<R>,
+    aranges: &UnitAranges,
+) -> Result<Index<R>, Error>
+    ensures gives { ExactlyUnlessOomIf (units_take_memory R.shares dwarf.now) index_seen result
+        (indexed_with dwarf.now aranges.now) }
+    ensures read { IfOk result (λ i. HaveLinesOf dwarf.now i.units.items) }
+{
+    let mut headers = dwarf.units()?;
+    let mut abbreviations = AbbreviationsCache::new(alloc, dwarf);
+    let mut index = Index::new(alloc);
+    while let Some(header) = headers.next()? {
+        index.take(alloc, dwarf, &mut abbreviations, aranges, header)?;
+    }
+    Ok(index)
+}
+
+impl<R: Reader> ResUnits<R> {
+    /// The units of `.debug_info` that a context has, and the ranges that lead to them.
+    ///
+    /// All sets of `.debug_aranges` are read first. A unit is read whole before the next header: a
+    /// type unit and a unit whose record is faulty are passed over; a partial unit of version 5 has
+    /// no range and no language. The line program of a unit is run here only where neither
+    /// `.debug_aranges` nor the unit's attributes give it a range.
+    ///
+    /// Refused by the first fault of a set's header, of a unit's header, or of the range attributes
+    /// of a unit whose record can be read; may fail with `OutOfMemory` instead, where there is a
+    /// set or a unit, or bytes are shared. Source: DWARF 5, sections 2.17, 3.1 and 6.1.2.
+    pub fn parse(alloc: Global, dwarf: &Dwarf<R>) -> Result<ResUnits<R>, Error>
+        ensures gives { ExactlyUnlessOomIf (index_takes_memory R.shares dwarf.now) units_seen result
+            (indexed dwarf.now) }
+        ensures read { IfOk result (λ u. HaveLinesOf dwarf.now u.units.items) }
+    {
+        let aranges = UnitAranges::parse(alloc, &dwarf.debug_aranges)?;
+        let Index { units, ranges } = read_units(alloc, dwarf, &aranges)?;
+        let ranges = UnitRanges::new(alloc, ranges)?;
+        Ok(ResUnits { units, ranges })
+    }
+}
+
+impl<R: Reader> ResUnits<R> {
+    /// The row of an address in the first unit among those that cover it which has one. The lines
+    /// of each unit up to it are cached then, or their fault. `looks` is raised by one with each
+    /// look at them.
+    ///
+    /// Refused by the first such fault; may fail with `OutOfMemory` instead, which is never cached.
+    /// Takes no memory where the lines that it asks for are cached, nor where no unit covers the
+    /// address.
+    pub fn find_place(
+        &mut self,
+        alloc: Global,
+        dwarf: &Dwarf<R>,
+        looks: &mut Count,
+        probe: u64,
+    ) -> Result<Option<Place>, Error>
+        requires read { HaveLinesOf dwarf.now self.old.units.items }
+        ensures gives { ExactlyUnlessOom (option_map (location_at_place self.new.units.items))
+            result (along dwarf.now (indexed_units self.old.units.items) probe
+            (cover probe self.old.ranges)) }
+        ensures exact { ready_along dwarf.now (indexed_units self.old.units.items)
+            (parsed_units self.old.units.items) probe (cover probe self.old.ranges) ≡ true
+            → Exactly (option_map (location_at_place self.new.units.items)) result
+            (along dwarf.now (indexed_units self.old.units.items) probe
+            (cover probe self.old.ranges)) }
+        ensures ready { IsNotOom result → ready_along dwarf.now
+            (indexed_units self.old.units.items) (parsed_units self.new.units.items) probe
+            (cover probe self.old.ranges) ≡ true }
+        ensures last { probe ≡ 2 ^ 64 - 1 → result ≡ Ok None }
+        ensures stay { StayUnits self.old.units.items self.new.units.items }
+        ensures ranges { self.new.ranges ≡ self.old.ranges }
+        ensures read { HaveLinesOf dwarf.now self.new.units.items }
+        ensures cost { looks.new ≤ looks.old + looks_along dwarf.now
+            (indexed_units self.old.units.items) (cover probe self.old.ranges) }
+        ensures raised { looks.old ≤ looks.new }
+    {
+        find_place_along(
+            alloc,
+            dwarf,
+            &mut self.units,
+            self.ranges.find(probe),
+            looks,
+            probe,
+        )
+    }
+
+    /// The location of a row of a unit, by its cached lines. Takes no memory.
+    pub fn location(&self, place: Place) -> Location<'_>
+        ensures gives { seen_location result ≡ location_at_place self.now.units.items place }
+    {
+        match self.units.get(place.unit) {
+            Some(unit) => location_of(&unit.lines, place.row),
+            None => Location::without_file(place.row),
+        }
+    }
+
+    /// Caches the lines of the units that a range of addresses meets, or their faults.
+    ///
+    /// Refused `OutOfMemory` alone, which is never cached; takes no memory where they are cached.
+    pub fn cache_lines(
+        &mut self,
+        alloc: Global,
+        dwarf: &Dwarf<R>,
+        low: u64,
+        high: u64,
+    ) -> Result<(), Error>
+        requires read { HaveLinesOf dwarf.now self.old.units.items }
+        ensures exact { AreParsed (parsed_units self.old.units.items)
+            (cover_range low high self.old.ranges) → result ≡ Ok tt }
+        ensures parsed { OnOk result (AreParsed (parsed_units self.new.units.items)
+            (cover_range low high self.old.ranges)) }
+        ensures refused { IfErr result (λ e. e ≡ OutOfMemory) }
+        ensures stay { StayUnits self.old.units.items self.new.units.items }
+        ensures ranges { self.new.ranges ≡ self.old.ranges }
+        ensures read { HaveLinesOf dwarf.now self.new.units.items }
+    {
+        cache_lines_along(
+            alloc,
+            dwarf,
+            &mut self.units,
+            self.ranges.find_range(low, high),
+        )
+    }
+
+    /// The rows that a range of addresses meets, by the cached lines. Takes no memory.
+    pub fn find_location_range(&self, low: u64, high: u64) -> LocationRangeIter<'_, R>
+        ensures gives { result ≡ cached_along self.now.units.items low high
+            (cover_range low high self.now.ranges) }
+    {
+        LocationRangeIter::new(&self.units, self.ranges.find_range(low, high), low, high)
+    }
+
+    /// Reads the lines of all units in their order, unless they are cached, and caches them, or
+    /// their fault.
+    ///
+    /// Refused by the first fault; may fail with `OutOfMemory` instead, which is never cached.
+    pub fn parse_lines(&mut self, alloc: Global, dwarf: &Dwarf<R>) -> Result<(), Error>
+        requires read { HaveLinesOf dwarf.now self.old.units.items }
+        ensures gives { ExactlyUnlessOom (λ x. x) result
+            (lines_fault (all_lines dwarf.now (indexed_units self.old.units.items))) }
+        ensures exact { AreAllParsed (parsed_units self.old.units.items) → Exactly (λ x. x) result
+            (lines_fault (all_lines dwarf.now (indexed_units self.old.units.items))) }
+        ensures parsed { OnOk result (AreAllParsed (parsed_units self.new.units.items)) }
+        ensures stay { StayUnits self.old.units.items self.new.units.items }
+        ensures ranges { self.new.ranges ≡ self.old.ranges }
+        ensures read { HaveLinesOf dwarf.now self.new.units.items }
+    {
+        read_all_lines(alloc, dwarf, &mut self.units)
+    }
+}

@@ -29,9 +29,9 @@ returns-clause-gives g c =
     let lines = subst (λ s. HaveLinesOf s new) c.deref.ensures c.cache_lines.ensures.read in
     let cached = spans_cached d c.args.low c.args.high new rows lines c.in_ok-cache_lines.ensures.parsed in
     rw (sym c.self.view_is) (
-      spans_are d old ranges _ c.self.invariant.made_is c.args.low c.args.high
-      ∙ ap (λ us. Ok (spans_along d us c.args.low c.args.high rows)) (sym (stay_indexed old new c.cache_lines.ensures.stay))
-      ∙ ap Ok cached
-      ∙ ap (λ rs. Ok (cached_along new c.args.low c.args.high (cover_range c.args.low c.args.high rs))) (sym c.cache_lines.ensures.ranges)
-      ∙ ap Ok (sym c.find_location_range.ensures.gives)
+    spans_are d old ranges _ c.self.invariant.made_is c.args.low c.args.high
+    ∙ ap (λ us. Ok (spans_along d us c.args.low c.args.high rows)) (sym (stay_indexed old new c.cache_lines.ensures.stay))
+    ∙ ap Ok cached
+    ∙ ap (λ rs. Ok (cached_along new c.args.low c.args.high (cover_range c.args.low c.args.high rs))) (sym c.cache_lines.ensures.ranges)
+    ∙ ap Ok (sym c.find_location_range.ensures.gives)
     )

@@ -21,7 +21,7 @@ use Rattle.addr2line_units.specs.Parsed.{AreAllParsed, AreParsed, IsNotOom, has_
 use Rattle.addr2line_units.specs.RangeLookup.{cached_along}
 use Rattle.addr2line_units.specs.UnitIndex.{cover, cover_range}
 use Rattle.addr2line_units.proofs.UnitsLemmas.{ready_both, stay_indexed, stay_parsed}
-use Rattle.addr2line.specs.Context.{AfterLookup, AfterRangeLookup, ContextState, IsContext, IsReady, Stays, lines_of_all, new_context}
+use Rattle.addr2line.specs.Context.{AfterLookup, AfterRangeLookup, ContextState, IsContext, IsReady, IsReadyForRange, Stays, lines_of_all, new_context}
 
 ok_is : {X : Type 0} (x y : X) → ◌≡◌ {A = Result X Error} (Ok x) (Ok y) → x ≡ y
 ok_is x y e = cc
@@ -113,12 +113,13 @@ module _ {R : Type 0} (d : Sections) (old : List (ResUnit R)) (ranges : List Uni
       cost = of_made (λ m. now ≤ looks + looks_along d m.units (cover probe m.ranges)) cost;
     }
 
-    pub after_range_lookup : {X : Type 0} (low high : ℕ) (result : Result X Error) → (IsNotOom result → AreParsed (parsed_units new) (cover_range low high ranges))
-        → AfterRangeLookup low high result (record { sections = d; answers = []; parsed = parsed_units old; looks = looks }) (record { sections = d; answers = []; parsed = parsed_units new; looks = now })
-    after_range_lookup low high result ready = record {
-      stays = all_stays;
-      ready = λ answered. of_made (λ m. AreParsed (parsed_units new) (cover_range low high m.ranges)) (ready answered);
-    }
+  pub after_range_lookup : (new : List (ResUnit R)) → StayUnits old new → (looks : ℕ) → {X : Type 0} (low high : ℕ) (result : Result X Error) → (IsNotOom result → AreParsed (parsed_units new) (cover_range low high ranges))
+      → AfterRangeLookup low high result (record { sections = d; answers = []; parsed = parsed_units old; looks = looks }) (record { sections = d; answers = []; parsed = parsed_units new; looks = looks })
+  after_range_lookup new stay looks low high result ready = record {
+    stays = all_stays new stay looks looks;
+    ready = λ answered. of_made (λ m. AreParsed (parsed_units new) (cover_range low high m.ranges)) (ready answered);
+    looks = refl;
+  }
 
 -- what a context has after a call is still what its sections give
 pub still_a_context : {R : Type 0} (d : Sections) (old : List (ResUnit R)) (ranges : List UnitRange) (sup : List UnitRecord) → made d ≡ Ok (record { units = indexed_units old; ranges = ranges; sup_units = sup })
@@ -177,6 +178,15 @@ pub ready_if_ok : (result : Result (Unit {0}) Error) (d : Sections) (p : List Bo
     → OnOk result ((probe : ℕ) → IsReady (record { sections = d; answers = []; parsed = p; looks = looks }) probe)
 ready_if_ok (Ok tt) d p looks all = λ probe m made. all_ready d m.units p all probe (cover probe m.ranges)
 ready_if_ok (Err e) d p looks all = tt
+
+all_parsed_along : (p : List Bool) → AreAllParsed p → (rs : List UnitRange) → AreParsed p rs
+all_parsed_along p all [] = tt
+all_parsed_along p all (r ∷ rs) = (all r.unit, all_parsed_along p all rs)
+
+pub range_ready_if_ok : (result : Result (Unit {0}) Error) (d : Sections) (p : List Bool) (looks : ℕ) → OnOk result (AreAllParsed p)
+    → OnOk result ((low high : ℕ) → IsReadyForRange (record { sections = d; answers = []; parsed = p; looks = looks }) low high)
+range_ready_if_ok (Ok tt) d p looks all = λ low high m made. all_parsed_along p all (cover_range low high m.ranges)
+range_ready_if_ok (Err e) d p looks all = tt
 
 pub err_is_not_ok : {X : Type 0} (e : Error) (x : X) → ◌≡◌ {A = Result X Error} (Err e) (Ok x) → ⊥
 err_is_not_ok e x k = cc

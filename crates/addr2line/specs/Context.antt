@@ -71,6 +71,7 @@ pub record AfterRangeLookup {X : Type 0} (low high : ℕ) (result : Result X Err
     (old new : ContextState) : Type 0 where
   pub stays : Stays old new
   pub ready : IsNotOom result → IsReadyForRange new low high
+  pub looks : new.looks ≡ old.looks
 
 -- whether the lines of all units can be read, or the first fault
 abbrev pub lines_of_all : Sections → Result (Unit {0}) Error

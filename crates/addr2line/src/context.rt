@@ -8,7 +8,9 @@ ghost use Rattle.gimli.specs.declared.dwarf.DwarfFileType.TheVariants.{Main};
 ghost use Rattle.addr2line_lines.specs.SeenLocation.{seen_location};
 ghost use Rattle.addr2line_units.specs.Indexed.{context_takes_memory};
 ghost use Rattle.addr2line_units.specs.Located.{location_of, spans_of};
-ghost use Rattle.addr2line.specs.Context.{new_context, lines_of_all, AfterLookup, IsReady, IsReadyForRange, Stays};
+ghost use Rattle.addr2line_units.specs.LocationsLeft.{locations_left};
+ghost use Rattle.addr2line_units.specs.Parsed.{AreAllParsed};
+ghost use Rattle.addr2line.specs.Context.{new_context, lines_of_all, AfterLookup, AfterRangeLookup, IsReady, IsReadyForRange, Stays};
 
 use addr2line_lines::{Count, Location};
 use addr2line_units::range::LocationRangeIter;
@@ -191,9 +193,12 @@ impl<R: Reader> Context<R> {
         low: u64,
         high: u64,
     ) -> Result<LocationRangeIter<'_, R>, Error>
-        ensures gives { IfOk result (λ rows. spans_of self.old.sections low high ≡ Ok rows) }
+        ensures gives { IfOk result (λ rows. spans_of self.old.sections low high
+            ≡ Ok (locations_left rows)) }
         ensures refused { IfErr result (λ e. e ≡ OutOfMemory) }
         ensures exact { IsReadyForRange self.old low high → IsOk result }
+        ensures* kept { sem 𝓛 (EndsAs R.row R.Reader self.entry
+            (AfterRangeLookup low high result self.old)) }
     {
         self.units.cache_lines(self.alloc, &self.dwarf, low, high)?;
         Ok(self.units.find_location_range(low, high))
@@ -206,8 +211,14 @@ impl<R: Reader> Context<R> {
     /// it isn't refused, `find_location` takes no memory and finds no fault.
     pub fn parse_lines(&mut self) -> Result<(), Error>
         ensures gives { ExactlyUnlessOom (λ x. x) result (lines_of_all self.old.sections) }
+        ensures exact { AreAllParsed self.old.parsed
+            → Exactly (λ x. x) result (lines_of_all self.old.sections) }
         ensures stays { Stays self.old self.new }
+        ensures looks { self.new.looks ≡ self.old.looks }
+        ensures parsed { OnOk result (AreAllParsed self.new.parsed) }
         ensures ready { OnOk result ((probe : ℕ) → IsReady self.new probe) }
+        ensures ready_for_range { OnOk result ((low high : ℕ)
+            → IsReadyForRange self.new low high) }
         ensures found { OnOk result ((probe : ℕ) → is_ok
             (location_of self.new.sections probe) ≡ true) }
     {

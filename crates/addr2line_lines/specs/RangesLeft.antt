@@ -1,12 +1,15 @@
 -- The rows of a range that are left, as the private functions see them.
-use Rattle.std.specs.Prelude.{ℕ, ◌-◌, List, [], ◌∷◌, ◌++◌, drop, flat_map, map, take}
+use Rattle.std.specs.Prelude.{ℕ, ◌-◌, List, [], ◌∷◌, ◌++◌, drop, filter, flat_map, map, take}
+use Rattle.std.specs.String.{string_bytes}
 use Rattle.addr2line_lines.specs.declared.location.Location.{Location as SourceLocation}
+use Rattle.addr2line_lines.specs.declared.range.LineLocationRangeIter.{LineLocationRangeIter}
 use Rattle.addr2line_lines.specs.declared.range.LineSpan.{LineSpan}
+use Rattle.addr2line_lines.specs.declared.spans.SequenceSpans.{SequenceSpans}
 use Rattle.addr2line_lines.specs.declared.row.Row.{Row}
 use Rattle.gimli_read.specs.declared.range.Range.{Range}
 use Rattle.addr2line_lines.specs.declared.sequence.LineSequence.{LineSequence}
 use Rattle.addr2line_lines.specs.Packed.{Packed, unpacked}
-use Rattle.addr2line_lines.specs.RangeLocations.{LocatedSpan, located, located_in}
+use Rattle.addr2line_lines.specs.RangeLocations.{LocatedSpan, located, located_in, meets}
 use Rattle.addr2line_lines.specs.SeenLocation.{seen_location}
 use Rattle.addr2line_lines.specs.Spans.{Span}
 
@@ -34,6 +37,17 @@ located_left files low high current packed next =
     map (located files) current
     ++ flat_map (located_in files low high)
     (map (unpacked packed.rows) (drop next packed.sequences))
+
+-- the rows of a sequence that are left and that a range meets
+abbrev pub spans_of_sequence : SequenceSpans → List Span
+spans_of_sequence s =
+    filter (meets s.low s.high) (spans_left s.end s.packed.now.rows s.place s.until)
+
+-- the rows of a unit that are left and that a range meets
+abbrev pub rows_left : LineLocationRangeIter → List LocatedSpan
+rows_left i =
+    located_left (map string_bytes i.files.now) i.low i.high (spans_of_sequence i.current)
+    i.packed.now i.next
 
 -- the range of a sequence
 abbrev pub packed_range : LineSequence → Range

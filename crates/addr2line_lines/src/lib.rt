@@ -16,6 +16,7 @@ mod row;
 mod search;
 mod segments;
 mod sequence;
+mod spans;
 
 pub use crate::count::Count;
 pub use crate::function::{RangeAttributes, read_ranges, read_root_ranges};

@@ -5,13 +5,14 @@ ghost use Rattle.std.specs.Iterator.{YieldsFirst, YieldsFirstBy, item_count};
 ghost use Rattle.std.specs.String.{string_bytes};
 ghost use Rattle.addr2line_lines.specs.Packed.{IsAmong, unpacked};
 ghost use Rattle.addr2line_lines.specs.RangeLocations.{located, located_in, meets};
-ghost use Rattle.addr2line_lines.specs.RangesLeft.{packed_range, seen_located, seen_span, spans_left};
+ghost use Rattle.addr2line_lines.specs.RangesLeft.{packed_range, rows_left, seen_located, seen_span, spans_left, spans_of_sequence};
 ghost use Rattle.addr2line_lines.specs.Spans.{spans};
 
 use crate::location::{Location, row_location};
 use crate::packed::PackedRows;
 use crate::row::Row;
 use crate::sequence::LineSequence;
+use crate::spans::SequenceSpans;
 use gimli_read::Range;
 use std::marker::Model;
 
@@ -57,35 +58,10 @@ fn located(files: &[String], span: LineSpan) -> (u64, u64, Location<'_>)
     (span.row.address, length, row_location(files, span.row))
 }
 
-// The rows of a sequence that are still to come and that a range meets.
-#[derive(Drop)]
-struct SequenceSpans<'a> {
-    packed: &'a PackedRows,
-    place: usize,
-    until: usize,
-    end: u64,
-    low: u64,
-    high: u64,
-}
-
-impl<'a> Model for SequenceSpans<'a> {
-    ghost use Rattle.std.specs.Prelude.{List, ◌≤◌, length, filter};
-    ghost use Rattle.addr2line_lines.specs.RangeLocations.{meets};
-    ghost use Rattle.addr2line_lines.specs.RangesLeft.{spans_left};
-    ghost use Rattle.addr2line_lines.specs.Spans.{Span};
-
-    ghost Value = { List Span };
-
-    ghost view = { λ s. filter (meets s.low s.high)
-        (spans_left s.end s.packed.now.rows s.place s.until) };
-
-    ghost invariant = { λ s. s.until ≤ length s.packed.now.rows };
-}
-
 impl<'a> SequenceSpans<'a> {
     // No rows.
     fn none(packed: &'a PackedRows) -> SequenceSpans<'a>
-        ensures gives { result ≡ [] }
+        ensures gives { spans_of_sequence result ≡ [] }
     {
         SequenceSpans {
             packed,
@@ -101,7 +77,7 @@ impl<'a> SequenceSpans<'a> {
     fn new(packed: &'a PackedRows, sequence: LineSequence, low: u64, high: u64) -> SequenceSpans<'a>
         requires few { length packed.now.rows < 2 ^ 64 }
         requires among { IsAmong packed.now.rows sequence }
-        ensures gives { result ≡ filter (meets low high)
+        ensures gives { spans_of_sequence result ≡ filter (meets low high)
             (spans sequence.end (unpacked packed.now.rows sequence).rows) }
     {
         SequenceSpans {
@@ -116,7 +92,7 @@ impl<'a> SequenceSpans<'a> {
 
     // The next of them.
     fn next_span(&mut self) -> Option<LineSpan>
-        ensures gives { YieldsFirstBy seen_span (λ s. s) self.old result self.new }
+        ensures gives { YieldsFirstBy seen_span spans_of_sequence self.old result self.new }
     {
         while self.place < self.until {
             let span = span_at(self.packed, self.place, self.until, self.end);
@@ -142,18 +118,6 @@ pub struct LineLocationRangeIter<'a> {
     current: SequenceSpans<'a>,
 }
 
-impl<'a> Model for LineLocationRangeIter<'a> {
-    ghost use Rattle.std.specs.Prelude.{List, map};
-    ghost use Rattle.std.specs.String.{string_bytes};
-    ghost use Rattle.addr2line_lines.specs.RangeLocations.{LocatedSpan};
-    ghost use Rattle.addr2line_lines.specs.RangesLeft.{located_left};
-
-    ghost Value = { List LocatedSpan };
-
-    ghost view = { λ i. located_left (map string_bytes i.files.now) i.low i.high i.current
-        i.packed.now i.next };
-}
-
 impl<'a> LineLocationRangeIter<'a> {
     /// Those between `low` and `high`.
     pub(crate) fn new(
@@ -162,7 +126,7 @@ impl<'a> LineLocationRangeIter<'a> {
         low: u64,
         high: u64,
     ) -> LineLocationRangeIter<'a>
-        ensures gives { result ≡ flat_map (located_in (map string_bytes files.now) low high)
+        ensures gives { rows_left result ≡ flat_map (located_in (map string_bytes files.now) low high)
             (map (unpacked packed.now.rows) packed.now.sequences) }
     {
         LineLocationRangeIter {
@@ -179,9 +143,9 @@ impl<'a> LineLocationRangeIter<'a> {
 impl<'a> Iterator for LineLocationRangeIter<'a> {
     type Item = (u64, u64, Location<'a>);
 
-    ghost next_gives = { YieldsFirstBy seen_located (λ i. i) };
+    ghost next_gives = { YieldsFirstBy seen_located rows_left };
 
-    ghost remaining = { item_count (λ i. i) };
+    ghost remaining = { item_count rows_left };
 
     /// The next row: its address, the length of its span, and its location. Takes no memory.
     fn next(&mut self) -> Option<(u64, u64, Location<'a>)> {

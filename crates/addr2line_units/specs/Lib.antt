@@ -11,3 +11,5 @@ pub mod Parsed
 pub mod CachedLines
 pub mod Indexed
 pub mod RangeLookup
+pub mod UnitRangesLeft
+pub mod LocationsLeft

@@ -31,14 +31,14 @@ YieldsRow (Ok x ∷ rest) r left = (r ≡ Some x) × (left ≡ rest)
 YieldsRow (Err e ∷ rest) r left = (r ≡ None) × (left ≡ rest)
 
 -- what is left of the rows of a unit
-abbrev pub rows_left : Option (List LocatedSpan) → List (Result LocatedSpan Error)
-rows_left None = []
-rows_left (Some spans) = all_read spans
+abbrev pub unit_rows_left : Option (List LocatedSpan) → List (Result LocatedSpan Error)
+unit_rows_left None = []
+unit_rows_left (Some spans) = all_read spans
 
 -- the rows of a unit, or its fault
 abbrev pub rows_or_fault : Result (Option (List LocatedSpan)) Error
     → List (Result LocatedSpan Error)
-rows_or_fault (Ok rows) = rows_left rows
+rows_or_fault (Ok rows) = unit_rows_left rows
 rows_or_fault (Err e) = Err e ∷ []
 
 -- what cached lines have in the ranges that are left

@@ -7,7 +7,9 @@ ghost use Rattle.gimli_read.specs.Reading.{ExactlyUnlessOomIf};
 ghost use Rattle.addr2line_lines.specs.InOrder.{in_order};
 ghost use Rattle.addr2line_units.specs.LeastBegins.{EndFits, is_between, with_least_begins};
 ghost use Rattle.addr2line_units.specs.UnitIndex.{cover, cover_range, ends_sooner};
+ghost use Rattle.addr2line_units.specs.UnitRangesLeft.{ranges_left};
 
+use crate::range_iter::UnitRangeIter;
 use gimli::read::{Error, Range};
 use std::alloc::Global;
 use std::marker::Model;
@@ -24,9 +26,9 @@ pub struct UnitRange {
 
 // A range, and the least begin of it and of all after it.
 #[derive(Clone, Copy, Debug)]
-struct IndexedRange {
-    unit_range: UnitRange,
-    least_begin: u64,
+pub(crate) struct IndexedRange {
+    pub(crate) unit_range: UnitRange,
+    pub(crate) least_begin: u64,
 }
 
 /// The ranges that lead to units.
@@ -106,8 +108,8 @@ impl UnitRanges {
 
     // The ranges that end past `low` and begin at or below `last`, in order.
     fn find_between(&self, low: u64, last: u64) -> UnitRangeIter<'_>
-        ensures gives { result ≡ filter (is_between low last) (in_order ends_sooner self.now) }
-        ensures last { low ≡ 2 ^ 64 - 1 → result ≡ [] }
+        ensures gives { ranges_left result ≡ filter (is_between low last) (in_order ends_sooner self.now) }
+        ensures last { low ≡ 2 ^ 64 - 1 → ranges_left result ≡ [] }
     {
         let first = self
             .ranges
@@ -122,54 +124,34 @@ impl UnitRanges {
     ///
     /// `low` may be above `high`.
     pub fn find_range(&self, low: u64, high: u64) -> UnitRangeIter<'_>
-        ensures gives { result ≡ cover_range low high self.now }
+        ensures gives { ranges_left result ≡ cover_range low high self.now }
     {
-        match high.checked_sub(1) {
-            Some(last) => self.find_between(low, last),
-            None => UnitRangeIter {
+        let Some(last) = high.checked_sub(1) else {
+            return UnitRangeIter {
                 ranges: &[],
                 last: 0,
-            },
-        }
+            };
+        };
+        self.find_between(low, last)
     }
 
     /// The ranges that hold `probe`, in order. Takes no memory.
     ///
     /// None holds the greatest address, since none ends past it.
     pub fn find(&self, probe: u64) -> UnitRangeIter<'_>
-        ensures gives { result ≡ cover probe self.now }
-        ensures last { probe ≡ 2 ^ 64 - 1 → result ≡ [] }
+        ensures gives { ranges_left result ≡ cover probe self.now }
+        ensures last { probe ≡ 2 ^ 64 - 1 → ranges_left result ≡ [] }
     {
         self.find_between(probe, probe)
     }
 }
 
-/// The ranges that a search finds, in the order of their table.
-#[derive(Drop)]
-pub struct UnitRangeIter<'a> {
-    ranges: &'a [IndexedRange],
-    // The last address at which a range may begin.
-    last: u64,
-}
-
-impl<'a> Model for UnitRangeIter<'a> {
-    ghost use Rattle.std.specs.Prelude.{List, filter, map};
-    ghost use Rattle.addr2line_units.specs.LeastBegins.{AreLeastBegins, begins_by, unit_range_of};
-    ghost use Rattle.addr2line_units.specs.declared.index.UnitRange.{UnitRange};
-
-    ghost Value = { List UnitRange };
-
-    ghost view = { λ i. filter (begins_by i.last) (map unit_range_of i.ranges.now) };
-
-    ghost invariant = { λ i. AreLeastBegins i.ranges.now };
-}
-
 impl<'a> Iterator for UnitRangeIter<'a> {
     type Item = UnitRange;
 
-    ghost next_gives = { YieldsFirst (λ i. i) };
+    ghost next_gives = { YieldsFirst ranges_left };
 
-    ghost remaining = { item_count (λ i. i) };
+    ghost remaining = { item_count ranges_left };
 
     /// The next range. Takes no memory.
     fn next(&mut self) -> Option<UnitRange> {

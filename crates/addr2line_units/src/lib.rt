@@ -10,6 +10,7 @@ mod legacy;
 pub mod lookup;
 pub mod place;
 pub mod range;
+pub mod range_iter;
 pub mod sup;
 pub mod unit;
 pub mod units;

@@ -5,9 +5,10 @@ ghost use Rattle.gimli_read.specs.declared.error.Error.TheVariants.{OutOfMemory}
 ghost use Rattle.gimli_read.specs.Reading.{Exactly, ExactlyUnlessOom};
 ghost use Rattle.addr2line_units.specs.Located.{all_lines, along, lines_fault, location_in, looks_along, looks_in};
 ghost use Rattle.addr2line_units.specs.Parsed.{AreAllParsed, AreParsed, IsNotOom, has_parsed, ready_along};
+ghost use Rattle.addr2line_units.specs.UnitRangesLeft.{ranges_left};
 ghost use Rattle.addr2line_units.specs.CachedLines.{HaveLinesOf, StayUnits, indexed_units, lines_answer_at, location_at_place, parsed_units, place_of_row};
 
-use crate::index::UnitRangeIter;
+use crate::range_iter::UnitRangeIter;
 use crate::place::Place;
 use crate::unit::ResUnit;
 use addr2line_lines::{Count, Row};
@@ -58,19 +59,19 @@ pub(crate) fn find_place_along<R: Reader>(
 ) -> Result<Option<Place>, Error>
     requires read { HaveLinesOf dwarf.now units.old.items }
     ensures gives { ExactlyUnlessOom (option_map (location_at_place units.new.items)) result
-        (along dwarf.now (indexed_units units.old.items) probe ranges.entry) }
+        (along dwarf.now (indexed_units units.old.items) probe (ranges_left ranges.entry)) }
     ensures exact { ready_along dwarf.now (indexed_units units.old.items)
-        (parsed_units units.old.items) probe ranges.entry ≡ true → Exactly
+        (parsed_units units.old.items) probe (ranges_left ranges.entry) ≡ true → Exactly
         (option_map (location_at_place units.new.items)) result
-        (along dwarf.now (indexed_units units.old.items) probe ranges.entry) }
+        (along dwarf.now (indexed_units units.old.items) probe (ranges_left ranges.entry)) }
     ensures ready { IsNotOom result → ready_along dwarf.now (indexed_units units.old.items)
-        (parsed_units units.new.items) probe ranges.entry ≡ true }
+        (parsed_units units.new.items) probe (ranges_left ranges.entry) ≡ true }
     ensures stay { StayUnits units.old.items units.new.items }
     ensures read { HaveLinesOf dwarf.now units.new.items }
     ensures cost { looks.new ≤ looks.old + looks_along dwarf.now
-        (indexed_units units.old.items) ranges.entry }
+        (indexed_units units.old.items) (ranges_left ranges.entry) }
     ensures raised { looks.old ≤ looks.new }
-    ensures none { ranges.entry ≡ [] → result ≡ Ok None }
+    ensures none { ranges_left ranges.entry ≡ [] → result ≡ Ok None }
 {
     while let Some(range) = ranges.next() {
         if let Some(row) = find_row_in(alloc, dwarf, units, range.unit, looks, probe)? {
@@ -113,8 +114,8 @@ pub(crate) fn cache_lines_along<R: Reader>(
     mut ranges: UnitRangeIter<'_>,
 ) -> Result<(), Error>
     requires read { HaveLinesOf dwarf.now units.old.items }
-    ensures exact { AreParsed (parsed_units units.old.items) ranges.entry → result ≡ Ok tt }
-    ensures parsed { OnOk result (AreParsed (parsed_units units.new.items) ranges.entry) }
+    ensures exact { AreParsed (parsed_units units.old.items) (ranges_left ranges.entry) → result ≡ Ok tt }
+    ensures parsed { OnOk result (AreParsed (parsed_units units.new.items) (ranges_left ranges.entry)) }
     ensures refused { IfErr result (λ e. e ≡ OutOfMemory) }
     ensures stay { StayUnits units.old.items units.new.items }
     ensures read { HaveLinesOf dwarf.now units.new.items }

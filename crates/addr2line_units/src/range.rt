@@ -3,15 +3,19 @@
 ghost use Rattle.std.specs.Prelude.{◌≡◌, option_map};
 ghost use Rattle.addr2line_lines.specs.Rows.{result_map};
 ghost use Rattle.addr2line_units.specs.CachedLines.{cached_spans, lines_at};
+ghost use Rattle.addr2line_lines.specs.RangesLeft.{rows_left};
+ghost use Rattle.addr2line_units.specs.LocationsLeft.{locations_left};
 ghost use Rattle.addr2line_units.specs.RangeLookup.{YieldsOn, YieldsRow, cached_along, rows_or_fault, seen_span};
+ghost use Rattle.addr2line_units.specs.UnitRangesLeft.{ranges_left};
 
-use crate::index::{UnitRange, UnitRangeIter};
+use crate::index::UnitRange;
+use crate::range_iter::UnitRangeIter;
 use crate::unit::{LazyLines, ResUnit};
 use addr2line_lines::{LineLocationRangeIter, Location};
 use gimli::read::{Error, Range, Reader};
-use std::marker::Model;
 
 /// The rows that a range of addresses meets, unit range after unit range.
+// It has no `Model`, so that what a lookup lends is seen to hold nothing but references.
 #[derive(Drop)]
 pub struct LocationRangeIter<'ctx, R: Reader> {
     units: &'ctx Vec<ResUnit<R>>,
@@ -23,17 +27,6 @@ pub struct LocationRangeIter<'ctx, R: Reader> {
     rows: Option<LineLocationRangeIter<'ctx>>,
 }
 
-impl<'ctx, R: Reader> Model for LocationRangeIter<'ctx, R> {
-    ghost use Rattle.std.specs.Prelude.{◌++◌, List, Result};
-    ghost use Rattle.gimli_read.specs.declared.error.Error.{Error};
-    ghost use Rattle.addr2line_lines.specs.RangeLocations.{LocatedSpan};
-    ghost use Rattle.addr2line_units.specs.RangeLookup.{cached_along, rows_left};
-
-    ghost Value = { List (Result LocatedSpan Error) };
-
-    ghost view = { λ i. rows_left i.rows ++ cached_along i.units.now.items i.low i.high i.ranges };
-}
-
 // What cached lines have in a unit range.
 fn rows_of<'ctx>(
     lines: &'ctx LazyLines,
@@ -41,7 +34,7 @@ fn rows_of<'ctx>(
     low: u64,
     high: u64,
 ) -> Result<Option<LineLocationRangeIter<'ctx>>, Error>
-    ensures gives { rows_or_fault result ≡ cached_spans range low high lines.now }
+    ensures gives { rows_or_fault (result_map (option_map rows_left) result) ≡ cached_spans range low high lines.now }
 {
     match lines {
         LazyLines::Unread => Ok(None),
@@ -57,7 +50,7 @@ fn rows_in<'ctx, R: Reader>(
     low: u64,
     high: u64,
 ) -> Result<Option<LineLocationRangeIter<'ctx>>, Error>
-    ensures gives { rows_or_fault result
+    ensures gives { rows_or_fault (result_map (option_map rows_left) result)
         ≡ cached_spans range.range low high (lines_at units.now.items range.unit) }
 {
     match units.get(range.unit) {
@@ -74,7 +67,8 @@ impl<'ctx, R: Reader> LocationRangeIter<'ctx, R> {
         low: u64,
         high: u64,
     ) -> LocationRangeIter<'ctx, R>
-        ensures gives { result ≡ cached_along units.now.items low high ranges.entry }
+        ensures gives { locations_left result ≡ cached_along units.now.items low high
+            (ranges_left ranges.entry) }
     {
         LocationRangeIter {
             units,
@@ -91,7 +85,8 @@ impl<'ctx, R: Reader> LocationRangeIter<'ctx, R> {
     /// Refused by the fault of a unit's lines, in the place of its rows; a later call goes on with
     /// the next unit range. Source: DWARF 5, section 6.2.2.
     pub fn next_loc(&mut self) -> Result<Option<(u64, u64, Location<'ctx>)>, Error>
-        ensures gives { YieldsOn self.old (result_map (option_map seen_span) result) self.new }
+        ensures gives { YieldsOn (locations_left self.old) (result_map (option_map seen_span) result)
+            (locations_left self.new) }
     {
         loop {
             if let Some(rows) = &mut self.rows {
@@ -112,9 +107,10 @@ impl<'ctx, R: Reader> Iterator for LocationRangeIter<'ctx, R> {
 
     ghost use Rattle.std.specs.Iterator.{item_count};
 
-    ghost next_gives = { λ old result new. YieldsRow old (option_map seen_span result) new };
+    ghost next_gives = { λ old result new. YieldsRow (locations_left old)
+        (option_map seen_span result) (locations_left new) };
 
-    ghost remaining = { item_count (λ i. i) };
+    ghost remaining = { item_count locations_left };
 
     /// The next row, as `next_loc` gives it; none also in the place of a fault. Takes no memory.
     fn next(&mut self) -> Option<(u64, u64, Location<'ctx>)> {

@@ -7,6 +7,7 @@ ghost use Rattle.addr2line_units.specs.declared.unit.LazyLines.TheVariants.{Unre
 ghost use Rattle.addr2line_units.specs.Made.{range_of_unit, unit_of_header};
 ghost use Rattle.addr2line_units.specs.Indexed.{index_seen, index_takes_memory, indexed, indexed_with, no_index, ranged_seen, units_seen, units_take_memory, with_header, with_ranged};
 ghost use Rattle.addr2line_units.specs.CachedLines.{HaveLinesOf, StayUnits, cached_files, indexed_units, location_at_place, parsed_units};
+ghost use Rattle.addr2line_units.specs.LocationsLeft.{locations_left};
 ghost use Rattle.addr2line_units.specs.Located.{all_lines, along, lines_fault, looks_along};
 ghost use Rattle.addr2line_units.specs.Parsed.{AreAllParsed, AreParsed, IsNotOom, ready_along};
 ghost use Rattle.addr2line_units.specs.RangeLookup.{cached_along};
@@ -274,7 +275,7 @@ impl<R: Reader> ResUnits<R> {
 
     /// The rows that a range of addresses meets, by the cached lines. Takes no memory.
     pub fn find_location_range(&self, low: u64, high: u64) -> LocationRangeIter<'_, R>
-        ensures gives { result ≡ cached_along self.now.units.items low high
+        ensures gives { locations_left result ≡ cached_along self.now.units.items low high
             (cover_range low high self.now.ranges) }
     {
         LocationRangeIter::new(&self.units, self.ranges.find_range(low, high), low, high)

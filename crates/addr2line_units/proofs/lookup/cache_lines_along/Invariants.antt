@@ -1,6 +1,7 @@
 use Rattle.std.proofs.Common.{List, Bool, length}
 use Rattle.addr2line_units.specs.CachedLines.{HaveLinesOf, StayUnits, parsed_units}
 use Rattle.addr2line_units.specs.Parsed.{AreParsed, StaysParsed}
+use Rattle.addr2line_units.specs.UnitRangesLeft.{ranges_left}
 use Rattle.addr2line_units.proofs.lookup.cache_lines_along.Given as goal
 
 abbrev pub invariant-loop-range : goal.invariant-loop-range
@@ -9,9 +10,9 @@ invariant-loop-range g l =
     record {
       stay : StayUnits l.fn.units.items l.units.items;
       read : HaveLinesOf l.dwarf l.units.items;
-      exact : AreParsed first l.fn.ranges → AreParsed first l.ranges;
-      parsed : (p : List Bool) → StaysParsed (parsed_units l.units.items) p → AreParsed p l.ranges → AreParsed p l.fn.ranges;
+      exact : AreParsed first (ranges_left l.fn.ranges) → AreParsed first (ranges_left l.ranges);
+      parsed : (p : List Bool) → StaysParsed (parsed_units l.units.items) p → AreParsed p (ranges_left l.ranges) → AreParsed p (ranges_left l.fn.ranges);
     }
 
 abbrev pub decreases-loop-range : goal.decreases-loop-range
-decreases-loop-range g l = length l.ranges
+decreases-loop-range g l = length (ranges_left l.ranges)

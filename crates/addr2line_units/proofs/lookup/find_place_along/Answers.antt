@@ -3,6 +3,7 @@ use Rattle.std.proofs.lemmas.Result.{err_from_is_err_and}
 use Rattle.addr2line_units.specs.CachedLines.{indexed_units, parsed_units}
 use Rattle.addr2line_units.specs.Located.{along, looks_along}
 use Rattle.addr2line_units.specs.Parsed.{decides, ready_along}
+use Rattle.addr2line_units.specs.UnitRangesLeft.{ranges_left}
 use Rattle.addr2line_units.proofs.UnitsLemmas.{along_fault, along_none, along_some, looks_first, looks_of_step, looks_raised, looks_within, none_first, ready_both, ready_decided, ready_first, ready_rest, stay_all, stay_indexed, stay_over, stay_parsed}
 use Rattle.addr2line_units.proofs.lookup.find_place_along.Goals as goal
 
@@ -24,7 +25,7 @@ returns-in_err-row-clause-gives g c =
     let i = c.loop-range.invariant in
     let units = indexed_units c.args.units.now.items in
     let fault = rw (stay_indexed c.args.units.now.items c.loop-range.units.items i.stay) at c.in_err-row.ensures.gives in
-    rw (p.1, p.2) (λ ne. sym i.rest ∙ ap (along c.args.dwarf.now units c.args.probe) c.in-Some.ensures.steps ∙ along_fault c.args.dwarf.now units c.args.probe c.in-Some.range c.next.new.self _ (fault ne))
+    rw (p.1, p.2) (λ ne. sym i.rest ∙ ap (along c.args.dwarf.now units c.args.probe) c.in-Some.ensures.steps ∙ along_fault c.args.dwarf.now units c.args.probe c.in-Some.range (ranges_left c.next.new.self) _ (fault ne))
 
 pub returns-in_err-row-clause-exact : goal.returns-in_err-row-clause-exact
 returns-in_err-row-clause-exact g c =
@@ -35,8 +36,8 @@ returns-in_err-row-clause-exact g c =
     let fault = rw (stay_indexed us c.loop-range.units.items i.stay) at c.in_err-row.ensures.exact in
     rw (p.1, p.2) (λ ready.
     let at = subst (λ rs. ready_along c.args.dwarf.now units (parsed_units us) c.args.probe rs ≡ true) c.in-Some.ensures.steps (i.exact ready) in
-    let parsed = stay_parsed us c.loop-range.units.items i.stay c.in-Some.range.unit (ready_first c.args.dwarf.now units c.args.probe c.in-Some.range c.next.new.self (parsed_units us) at) in
-    sym i.rest ∙ ap (along c.args.dwarf.now units c.args.probe) c.in-Some.ensures.steps ∙ along_fault c.args.dwarf.now units c.args.probe c.in-Some.range c.next.new.self _ (fault parsed))
+    let parsed = stay_parsed us c.loop-range.units.items i.stay c.in-Some.range.unit (ready_first c.args.dwarf.now units c.args.probe c.in-Some.range (ranges_left c.next.new.self) (parsed_units us) at) in
+    sym i.rest ∙ ap (along c.args.dwarf.now units c.args.probe) c.in-Some.ensures.steps ∙ along_fault c.args.dwarf.now units c.args.probe c.in-Some.range (ranges_left c.next.new.self) _ (fault parsed))
 
 pub returns-in_err-row-clause-ready : goal.returns-in_err-row-clause-ready
 returns-in_err-row-clause-ready g c =
@@ -47,7 +48,7 @@ returns-in_err-row-clause-ready g c =
     let now = parsed_units c.find_row_in.new.units.items in
     let fault = rw (stay_indexed us c.loop-range.units.items i.stay) at c.in_err-row.ensures.gives in
     rw (p.1, p.2) (λ ne.
-    let decided = ready_decided c.args.dwarf.now units c.args.probe c.in-Some.range c.next.new.self now (c.in_err-row.ensures.parsed ne) (ap decides (fault ne)) in
+    let decided = ready_decided c.args.dwarf.now units c.args.probe c.in-Some.range (ranges_left c.next.new.self) now (c.in_err-row.ensures.parsed ne) (ap decides (fault ne)) in
     i.ready now (stay_parsed c.loop-range.units.items c.find_row_in.new.units.items c.in_err-row.ensures.stay) (subst (λ rs. ready_along c.args.dwarf.now units now c.args.probe rs ≡ true) (sym c.in-Some.ensures.steps) decided))
 
 pub returns-in_err-row-clause-stay : goal.returns-in_err-row-clause-stay
@@ -58,14 +59,14 @@ returns-in_err-row-clause-cost g c =
     let i = c.loop-range.invariant in
     let units = indexed_units c.args.units.now.items in
     let cost = rw (stay_indexed c.args.units.now.items c.loop-range.units.items i.stay) at c.in_err-row.ensures.cost in
-    looks_of_step _ _ _ (looks_within _ _ _ _ (looks_along c.args.dwarf.now units c.next.new.self) _ cost i.cost (ap (looks_along c.args.dwarf.now units) c.in-Some.ensures.steps ∙ looks_first c.args.dwarf.now units c.in-Some.range c.next.new.self))
+    looks_of_step _ _ _ (looks_within _ _ _ _ (looks_along c.args.dwarf.now units (ranges_left c.next.new.self)) _ cost i.cost (ap (looks_along c.args.dwarf.now units) c.in-Some.ensures.steps ∙ looks_first c.args.dwarf.now units c.in-Some.range (ranges_left c.next.new.self)))
 
 pub returns-in-Some-2-clause-gives : goal.returns-in-Some-2-clause-gives
 returns-in-Some-2-clause-gives g c =
     let i = c.loop-range.invariant in
     let units = indexed_units c.args.units.now.items in
     let found = rw (c.in-Some-2.is, stay_indexed c.args.units.now.items c.loop-range.units.items i.stay) at c.in_ok-row.ensures.gives in
-    sym i.rest ∙ ap (along c.args.dwarf.now units c.args.probe) c.in-Some.ensures.steps ∙ along_some c.args.dwarf.now units c.args.probe c.in-Some.range c.next.new.self _ found
+    sym i.rest ∙ ap (along c.args.dwarf.now units c.args.probe) c.in-Some.ensures.steps ∙ along_some c.args.dwarf.now units c.args.probe c.in-Some.range (ranges_left c.next.new.self) _ found
 
 pub returns-in-Some-2-clause-exact : goal.returns-in-Some-2-clause-exact
 returns-in-Some-2-clause-exact g c = λ ready. returns-in-Some-2-clause-gives g c
@@ -77,7 +78,7 @@ returns-in-Some-2-clause-ready g c = λ answered.
     let units = indexed_units us in
     let now = parsed_units c.find_row_in.new.units.items in
     let found = rw (c.in-Some-2.is, stay_indexed us c.loop-range.units.items i.stay) at c.in_ok-row.ensures.gives in
-    let decided = ready_decided c.args.dwarf.now units c.args.probe c.in-Some.range c.next.new.self now (c.in_ok-row.ensures.parsed tt) (ap decides found) in
+    let decided = ready_decided c.args.dwarf.now units c.args.probe c.in-Some.range (ranges_left c.next.new.self) now (c.in_ok-row.ensures.parsed tt) (ap decides found) in
     i.ready now (stay_parsed c.loop-range.units.items c.find_row_in.new.units.items c.in_ok-row.ensures.stay) (subst (λ rs. ready_along c.args.dwarf.now units now c.args.probe rs ≡ true) (sym c.in-Some.ensures.steps) decided)
 
 pub returns-in-Some-2-clause-stay : goal.returns-in-Some-2-clause-stay
@@ -88,7 +89,7 @@ returns-in-Some-2-clause-cost g c =
     let i = c.loop-range.invariant in
     let units = indexed_units c.args.units.now.items in
     let cost = rw (stay_indexed c.args.units.now.items c.loop-range.units.items i.stay) at c.in_ok-row.ensures.cost in
-    looks_of_step _ _ _ (looks_within _ _ _ _ (looks_along c.args.dwarf.now units c.next.new.self) _ cost i.cost (ap (looks_along c.args.dwarf.now units) c.in-Some.ensures.steps ∙ looks_first c.args.dwarf.now units c.in-Some.range c.next.new.self))
+    looks_of_step _ _ _ (looks_within _ _ _ _ (looks_along c.args.dwarf.now units (ranges_left c.next.new.self)) _ cost i.cost (ap (looks_along c.args.dwarf.now units) c.in-Some.ensures.steps ∙ looks_first c.args.dwarf.now units c.in-Some.range (ranges_left c.next.new.self)))
 
 pub loop-range-preserved : goal.loop-range-preserved
 loop-range-preserved g c =
@@ -99,7 +100,7 @@ loop-range-preserved g c =
     let mid = c.loop-range.units.items in
     let now = c.find_row_in.new.units.items in
     let r = c.in-Some.range in
-    let rest = c.next.new.self in
+    let rest = ranges_left c.next.new.self in
     let same = stay_indexed us mid i.stay in
     let none = rw (c.in_default-2.is, same) at c.in_ok-row.ensures.gives in
     let cost = rw same at c.in_ok-row.ensures.cost in

@@ -2,6 +2,7 @@ use Rattle.std.proofs.Common.{List, [], Bool, true, ◌≡◌, ◌+◌, ◌≤�
 use Rattle.addr2line_units.specs.CachedLines.{HaveLinesOf, StayUnits, indexed_units, parsed_units}
 use Rattle.addr2line_units.specs.Located.{along, looks_along}
 use Rattle.addr2line_units.specs.Parsed.{StaysParsed, ready_along}
+use Rattle.addr2line_units.specs.UnitRangesLeft.{ranges_left}
 use Rattle.addr2line_units.proofs.lookup.find_place_along.Given as goal
 
 abbrev pub invariant-loop-range : goal.invariant-loop-range
@@ -12,13 +13,13 @@ invariant-loop-range g l =
     record {
       stay : StayUnits l.fn.units.items l.units.items;
       read : HaveLinesOf d l.units.items;
-      rest : along d units l.probe l.ranges ≡ along d units l.probe l.fn.ranges;
-      exact : ready_along d units first l.probe l.fn.ranges ≡ true → ready_along d units first l.probe l.ranges ≡ true;
-      ready : (p : List Bool) → StaysParsed (parsed_units l.units.items) p → ready_along d units p l.probe l.ranges ≡ true → ready_along d units p l.probe l.fn.ranges ≡ true;
-      cost : l.looks + looks_along d units l.ranges ≤ l.fn.looks + looks_along d units l.fn.ranges;
+      rest : along d units l.probe (ranges_left l.ranges) ≡ along d units l.probe (ranges_left l.fn.ranges);
+      exact : ready_along d units first l.probe (ranges_left l.fn.ranges) ≡ true → ready_along d units first l.probe (ranges_left l.ranges) ≡ true;
+      ready : (p : List Bool) → StaysParsed (parsed_units l.units.items) p → ready_along d units p l.probe (ranges_left l.ranges) ≡ true → ready_along d units p l.probe (ranges_left l.fn.ranges) ≡ true;
+      cost : l.looks + looks_along d units (ranges_left l.ranges) ≤ l.fn.looks + looks_along d units (ranges_left l.fn.ranges);
       raised : l.fn.looks ≤ l.looks;
-      none : l.fn.ranges ≡ [] → l.ranges ≡ [];
+      none : ranges_left l.fn.ranges ≡ [] → ranges_left l.ranges ≡ [];
     }
 
 abbrev pub decreases-loop-range : goal.decreases-loop-range
-decreases-loop-range g l = length l.ranges
+decreases-loop-range g l = length (ranges_left l.ranges)

@@ -1,10 +1,11 @@
-use Rattle.std.proofs.Common.{Ok, ap, subst, sym, ◌∙◌}
+use Rattle.std.proofs.Common.{Ok, ap, refl, subst, sym, ◌∙◌}
+use Rattle.std.proofs.lemmas.Result.{err_from_is_err_and}
 use Rattle.addr2line_units.specs.CachedLines.{HaveLinesOf}
 use Rattle.addr2line_units.specs.Located.{spans_along}
 use Rattle.addr2line_units.specs.RangeLookup.{cached_along}
 use Rattle.addr2line_units.specs.UnitIndex.{cover_range}
 use Rattle.addr2line_units.proofs.UnitsLemmas.{stay_indexed}
-use Rattle.addr2line.proofs.ContextLemmas.{err_is_not_ok, spans_are, spans_cached, still_a_context}
+use Rattle.addr2line.proofs.ContextLemmas.{after_range_lookup, err_is_not_ok, spans_are, spans_cached, still_a_context}
 use Rattle.addr2line.proofs.context.Context.find_location_range.Goals as goal
 
 pub invariant_of-self : goal.invariant_of-self
@@ -15,23 +16,47 @@ pub invariant_of-self-2 : goal.invariant_of-self-2
 invariant_of-self-2 g c =
     still_a_context c.self.inside.dwarf.value c.self.inside.units.units.items c.self.inside.units.ranges _ c.self.invariant.made_is _ c.cache_lines.ensures.stay _ c.cache_lines.ensures.ranges (subst (λ d. HaveLinesOf d c.cache_lines.new.self.units.items) c.deref.ensures c.cache_lines.ensures.read)
 
-pub returns-in_err-cache_lines-clause-exact : goal.returns-in_err-cache_lines-clause-exact
-returns-in_err-cache_lines-clause-exact g c =
-    rw (sym c.self.view_is) (λ ready. absurd (err_is_not_ok _ _ (c.in_err-cache_lines.ensures.exact (ready _ c.self.invariant.made_is))))
+pub returns-in_err-cache_lines : goal.returns-in_err-cache_lines
+returns-in_err-cache_lines g c =
+    let i = c.self.invariant in
+    let d = c.self.inside.dwarf.value in
+    let old = c.self.inside.units.units.items in
+    let ranges = c.self.inside.units.ranges in
+    let sup = c.self.inside.sup_units.units.items in
+    let e = c.in_err-cache_lines.ensures in
+    let p = err_from_is_err_and c.from_residual.result c.from_residual.ensures.1 in
+    rw (p.1, p.2, sym c.self.view_is) (
+      (refl, (λ _. tt), after_range_lookup d old ranges sup i.made_is c.cache_lines.new.self.units.items e.stay c.self.inside.looks c.args.low c.args.high _ (λ answered. absurd (answered e.refused))),
+      record {
+        gives = tt;
+        refused = e.refused;
+        exact = λ ready. absurd (err_is_not_ok _ _ (e.exact (ready _ i.made_is)));
+        kept = tt;
+      },
+    )
 
-pub returns-clause-gives : goal.returns-clause-gives
-returns-clause-gives g c =
+pub returns : goal.returns
+returns g c =
+    let i = c.self.invariant in
     let d = c.self.inside.dwarf.value in
     let old = c.self.inside.units.units.items in
     let new = c.cache_lines.new.self.units.items in
     let ranges = c.self.inside.units.ranges in
+    let sup = c.self.inside.sup_units.units.items in
     let rows = cover_range c.args.low c.args.high ranges in
+    let e = c.in_ok-cache_lines.ensures in
     let lines = subst (λ s. HaveLinesOf s new) c.deref.ensures c.cache_lines.ensures.read in
-    let cached = spans_cached d c.args.low c.args.high new rows lines c.in_ok-cache_lines.ensures.parsed in
+    let cached = spans_cached d c.args.low c.args.high new rows lines e.parsed in
     rw (sym c.self.view_is) (
-    spans_are d old ranges _ c.self.invariant.made_is c.args.low c.args.high
-    ∙ ap (λ us. Ok (spans_along d us c.args.low c.args.high rows)) (sym (stay_indexed old new c.cache_lines.ensures.stay))
-    ∙ ap Ok cached
-    ∙ ap (λ rs. Ok (cached_along new c.args.low c.args.high (cover_range c.args.low c.args.high rs))) (sym c.cache_lines.ensures.ranges)
-    ∙ ap Ok (sym c.find_location_range.ensures.gives)
+      (refl, (λ _. tt), after_range_lookup d old ranges sup i.made_is new e.stay c.self.inside.looks c.args.low c.args.high _ (λ answered. e.parsed)),
+      record {
+        gives = spans_are d old ranges sup i.made_is c.args.low c.args.high
+        ∙ ap (λ us. Ok (spans_along d us c.args.low c.args.high rows)) (sym (stay_indexed old new e.stay))
+        ∙ ap Ok cached
+        ∙ ap (λ rs. Ok (cached_along new c.args.low c.args.high (cover_range c.args.low c.args.high rs))) (sym c.cache_lines.ensures.ranges)
+        ∙ ap Ok (sym c.find_location_range.ensures.gives);
+        refused = tt;
+        exact = λ ready. refl;
+        kept = tt;
+      },
     )

@@ -1,8 +1,9 @@
 use Rattle.std.proofs.Common.{ap, subst, sym, ◌∙◌}
 use Rattle.std.specs.Prelude.{is_ok}
+use Rattle.gimli_read.specs.Reading.{Exactly}
 use Rattle.addr2line_units.specs.CachedLines.{HaveLinesOf}
 use Rattle.addr2line_units.specs.UnitIndex.{cover}
-use Rattle.addr2line.proofs.ContextLemmas.{all_stays, along_ok, location_is, ready_if_ok, still_a_context, when_ok}
+use Rattle.addr2line.proofs.ContextLemmas.{all_stays, along_ok, lines_are, location_is, range_ready_if_ok, ready_if_ok, still_a_context, when_ok}
 use Rattle.addr2line.proofs.context.Context.parse_lines.Goals as goal
 
 pub invariant_of-self : goal.invariant_of-self
@@ -25,3 +26,12 @@ returns-clause-found g c =
     let ranges = c.self.inside.units.ranges in
     let given = rw c.deref.ensures at c.parse_lines.ensures.gives in
     when_ok _ _ given (λ read probe. ap is_ok (location_is d old ranges _ i.made_is probe) ∙ along_ok d _ probe (cover probe ranges) read)
+
+pub returns-clause-exact : goal.returns-clause-exact
+returns-clause-exact g c =
+    let i = c.self.invariant in
+    let e = rw c.deref.ensures at c.parse_lines.ensures.exact in
+    rw (sym c.self.view_is) (λ parsed. subst (Exactly (λ x. x) c.parse_lines.result) (sym (lines_are c.self.inside.dwarf.value c.self.inside.units.units.items c.self.inside.units.ranges _ i.made_is)) (e parsed))
+
+pub returns-clause-ready_for_range : goal.returns-clause-ready_for_range
+returns-clause-ready_for_range g c = range_ready_if_ok _ c.self.inside.dwarf.value _ c.self.inside.looks c.parse_lines.ensures.parsed

@@ -11,7 +11,7 @@ use Rattle.addr2line_units.proofs.index.UnitRanges.find_between.Goals as goal
 pub invariant_of-result : goal.invariant_of-result
 invariant_of-result c =
     let same = rest_is c.partition_point-first.result _ _ c.deref-2.ensures.value in
-    subst AreLeastBegins (sym same) (dropped_least c.partition_point-first.result _ c.self.invariant.least)
+    record { least = subst AreLeastBegins (sym same) (dropped_least c.partition_point-first.result _ c.self.invariant.least) }
 
 pub returns : goal.returns
 returns c =

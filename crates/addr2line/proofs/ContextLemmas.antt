@@ -1,5 +1,5 @@
 -- What a context has and what its sections give (on specs/Context.antt).
-use Rattle.std.proofs.Common.{◌≡◌, ℕ, zero, suc, ◌+◌, ◌≤◌, ◌||◌, Bool, true, false, List, [], ◌∷◌, ◌++◌, not, map, slice_get, Option, Some, None, Result, Ok, Err, refl, sym, ap, subst, ◌∙◌}
+use Rattle.std.proofs.Common.{◌≡◌, ℕ, zero, suc, ◌+◌, ◌<◌, ◌≤◌, ◌||◌, Bool, true, false, List, [], ◌∷◌, ◌++◌, not, map, slice_get, Option, Some, None, Result, Ok, Err, refl, sym, ap, subst, ◌∙◌}
 use Rattle.std.specs.Prelude.{OnOk, is_ok}
 use Rattle.gimli_read.specs.declared.error.Error.{Error}
 use Rattle.gimli_read.specs.declared.range.Range.{Range}
@@ -15,7 +15,7 @@ use Rattle.addr2line_units.specs.declared.unit.LazyLines.TheVariants.{Faulty, Re
 use Rattle.addr2line_units.specs.declared.unit.ResUnit.{ResUnit}
 use Rattle.addr2line_units.specs.CachedLines.{AreLinesOf, HaveLinesOf, StayUnits, cached_spans, indexed_units, is_uncached, lines_at, parsed_units}
 use Rattle.addr2line_units.specs.Indexed.{IndexState, context_takes_memory, index_of, index_takes_memory, sup_takes_memory}
-use Rattle.addr2line_units.specs.Located.{along, all_lines, lines_fault, lines_of_unit, location_in, location_of, or_along, spans_in, spans_or_fault, looks_along, spans_along, spans_of}
+use Rattle.addr2line_units.specs.Located.{along, all_lines, is_found, lines_fault, lines_of_unit, location_in, location_of, or_along, spans_in, spans_or_fault, looks_along, spans_along, spans_of}
 use Rattle.addr2line_units.specs.Made.{IndexedUnit, Made, RangedUnit, asks_lines, indexed_of, made, ranged_units, ranges_from, sup_units}
 use Rattle.addr2line_units.specs.Parsed.{AreAllParsed, AreParsed, IsNotOom, has_parsed, ready_along}
 use Rattle.addr2line_units.specs.RangeLookup.{cached_along}
@@ -103,13 +103,14 @@ module _ {R : Type 0} (d : Sections) (old : List (ResUnit R)) (ranges : List Uni
     pub all_stays : Stays (record { sections = d; answers = []; parsed = parsed_units old; looks = looks }) (record { sections = d; answers = []; parsed = parsed_units new; looks = now })
     all_stays = record { sections = refl; answers = refl; parsed = stay_parsed old new stay }
 
-    pub after_lookup : {X : Type 0} (probe : ℕ) (result : Result X Error)
-        → (IsNotOom result → ready_along d (indexed_units old) (parsed_units new) probe (cover probe ranges) ≡ true) → looks ≤ now → now ≤ looks + looks_along d (indexed_units old) (cover probe ranges)
+    pub after_lookup : {X : Type 0} (probe : ℕ) (result : Result (Option X) Error)
+        → (IsNotOom result → ready_along d (indexed_units old) (parsed_units new) probe (cover probe ranges) ≡ true) → looks ≤ now → (is_found result ≡ true → looks < now) → now ≤ looks + looks_along d (indexed_units old) (cover probe ranges)
         → AfterLookup probe result (record { sections = d; answers = []; parsed = parsed_units old; looks = looks }) (record { sections = d; answers = []; parsed = parsed_units new; looks = now })
-    after_lookup probe result ready raised cost = record {
+    after_lookup probe result ready raised counted cost = record {
       stays = all_stays;
       ready = λ answered. of_made (λ m. ready_along d m.units (parsed_units new) probe (cover probe m.ranges) ≡ true) (ready answered);
       raised = raised;
+      counted = counted;
       cost = of_made (λ m. now ≤ looks + looks_along d m.units (cover probe m.ranges)) cost;
     }
 

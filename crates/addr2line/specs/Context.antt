@@ -4,7 +4,7 @@
 -- Own: the lines of a unit, or their fault, are parsed when a lookup first asks for them, and stay
 -- parsed; a context that is made has parsed them only where they give a unit its ranges.
 -- limit: no unit is loaded yet, so there is no answer
-use Rattle.std.specs.Prelude.{◌≡◌, ℕ, ◌+◌, ◌≤◌, Bool, true, List, [], map, Option, Result, Ok, Err}
+use Rattle.std.specs.Prelude.{◌≡◌, ℕ, ◌+◌, ◌<◌, ◌≤◌, Bool, true, List, [], map, Option, Result, Ok, Err}
 use Rattle.gimli_read.specs.declared.error.Error.{Error}
 use Rattle.gimli_read.specs.Reading.{◌>>=◌}
 use Rattle.gimli.specs.Sections.{Sections}
@@ -12,7 +12,7 @@ use Rattle.gimli.specs.Unit.{UnitRecord}
 use Rattle.addr2line_units.specs.declared.index.UnitRange.{UnitRange}
 use Rattle.addr2line_units.specs.declared.unit.ResUnit.{ResUnit}
 use Rattle.addr2line_units.specs.CachedLines.{HaveLinesOf, indexed_units}
-use Rattle.addr2line_units.specs.Located.{all_lines, along, lines_fault, looks_along}
+use Rattle.addr2line_units.specs.Located.{all_lines, along, is_found, lines_fault, looks_along}
 use Rattle.addr2line_units.specs.Made.{Made, asks_lines, made, ranged_units, sup_units}
 use Rattle.addr2line_units.specs.Parsed.{AreParsed, IsNotOom, StaysParsed, ready_along}
 use Rattle.addr2line_units.specs.UnitIndex.{cover, cover_range}
@@ -59,11 +59,12 @@ pub record Stays (old new : ContextState) : Type 0 where
   pub parsed : StaysParsed old.parsed new.parsed
 
 -- after a lookup of the probe the same lookup parses nothing more
-pub record AfterLookup {X : Type 0} (probe : ℕ) (result : Result X Error)
+pub record AfterLookup {X : Type 0} (probe : ℕ) (result : Result (Option X) Error)
     (old new : ContextState) : Type 0 where
   pub stays : Stays old new
   pub ready : IsNotOom result → IsReady new probe
   pub raised : old.looks ≤ new.looks
+  pub counted : is_found result ≡ true → old.looks < new.looks
   pub cost : LooksWithin probe old new
 
 -- after a lookup of a range the same lookup parses nothing more

@@ -3,7 +3,7 @@
 -- Own: the first unit whose lines have a fault gives that fault, and the first that has a location
 -- gives it, whichever comes first. A range lookup gives the fault of a unit in its place and goes
 -- on with the next one.
-use Rattle.std.specs.Prelude.{ℕ, ◌+◌, List, [], ◌∷◌, flat_map, map, slice_get, sum_by, Option, Some, None, option_and_then, Result, Ok, Err}
+use Rattle.std.specs.Prelude.{ℕ, ◌+◌, Bool, true, false, List, [], ◌∷◌, flat_map, map, slice_get, sum_by, Option, Some, None, option_and_then, Result, Ok, Err}
 use Rattle.gimli_read.specs.declared.error.Error.{Error}
 use Rattle.gimli_read.specs.declared.range.Range.{Range}
 use Rattle.gimli_read.specs.Reading.{◌>>=◌}
@@ -26,6 +26,12 @@ lines_of_unit d u = unit_lines d u.unit
 abbrev pub location_in : Sections → ℕ → Option IndexedUnit → Result (Option Location) Error
 location_in d probe None = Ok None
 location_in d probe (Some u) = lines_of_unit d u >>= λ lines. Ok (location_at probe lines)
+
+-- whether something was found
+abbrev pub is_found : {X : Type 0} → Result (Option X) Error → Bool
+is_found (Ok None) = false
+is_found (Ok (Some x)) = true
+is_found (Err e) = false
 
 -- the location that was found, else the one that is found further on
 abbrev pub or_along

@@ -1,9 +1,9 @@
 //! Lookups of addresses among units.
 
-ghost use Rattle.std.specs.Prelude.{◌≡◌, ◌+◌, ◌≤◌, [], None, true, IfErr, OnOk, Ok, option_map, slice_get};
+ghost use Rattle.std.specs.Prelude.{◌≡◌, ◌+◌, ◌<◌, ◌≤◌, [], None, true, IfErr, OnOk, Ok, option_map, slice_get};
 ghost use Rattle.gimli_read.specs.declared.error.Error.TheVariants.{OutOfMemory};
 ghost use Rattle.gimli_read.specs.Reading.{Exactly, ExactlyUnlessOom};
-ghost use Rattle.addr2line_units.specs.Located.{all_lines, along, lines_fault, location_in, looks_along, looks_in};
+ghost use Rattle.addr2line_units.specs.Located.{all_lines, along, is_found, lines_fault, location_in, looks_along, looks_in};
 ghost use Rattle.addr2line_units.specs.Parsed.{AreAllParsed, AreParsed, IsNotOom, has_parsed, ready_along};
 ghost use Rattle.addr2line_units.specs.UnitRangesLeft.{ranges_left};
 ghost use Rattle.addr2line_units.specs.CachedLines.{HaveLinesOf, StayUnits, indexed_units, lines_answer_at, location_at_place, parsed_units, place_of_row};
@@ -39,6 +39,7 @@ fn find_row_in<R: Reader>(
     ensures cost { looks.new ≤ looks.old + looks_in dwarf.now
         (slice_get (indexed_units units.old.items) number) }
     ensures raised { looks.old ≤ looks.new }
+    ensures counted { is_found result ≡ true → looks.old < looks.new }
 {
     if number >= units.len() {
         return Ok(None);
@@ -71,6 +72,7 @@ pub(crate) fn find_place_along<R: Reader>(
     ensures cost { looks.new ≤ looks.old + looks_along dwarf.now
         (indexed_units units.old.items) (ranges_left ranges.entry) }
     ensures raised { looks.old ≤ looks.new }
+    ensures counted { is_found result ≡ true → looks.old < looks.new }
     ensures none { ranges_left ranges.entry ≡ [] → result ≡ Ok None }
 {
     while let Some(range) = ranges.next() {

@@ -1,13 +1,13 @@
 //! A unit of a context, and its lines.
 
-ghost use Rattle.std.specs.Prelude.{◌≡◌, ◌≢◌, ◌+◌, ◌++◌, ◌≤◌, [], true, false, not, map, Ok, Err, OnOk, OnErr, IfOk, IfErr, option_map, option_copied};
+ghost use Rattle.std.specs.Prelude.{◌≡◌, ◌≢◌, ◌+◌, ◌++◌, ◌<◌, ◌≤◌, [], true, false, not, map, Ok, Err, OnOk, OnErr, IfOk, IfErr, IfSome, option_map, option_copied};
 ghost use Rattle.gimli_read.specs.Reading.{ExactlyUnlessOom, Exactly};
 ghost use Rattle.gimli_read.specs.declared.error.Error.TheVariants.{OutOfMemory};
 ghost use Rattle.addr2line_lines.specs.Location.{location_of_row};
 ghost use Rattle.addr2line_lines.specs.SeenLocation.{seen_location};
 ghost use Rattle.addr2line_units.specs.declared.unit.LazyLines.TheVariants.{Unread};
 ghost use Rattle.addr2line_units.specs.Made.{is_partial, is_type_unit, asks_lines, given_at, given_ranges, ranged_unit, unit_ranges};
-ghost use Rattle.addr2line_units.specs.Located.{location_in, looks_in};
+ghost use Rattle.addr2line_units.specs.Located.{is_found, location_in, looks_in};
 ghost use Rattle.addr2line_units.specs.UnitAranges.{range_in};
 ghost use Rattle.addr2line_units.specs.CachedLines.{AreLinesOf, StaysCached, CachesAnswer, StaysUnit, cached_answer, cached_files, cached_looks, cached_ranges, cached_row, indexed_unit, lines_answer, cached_lines, is_parsed, is_uncached};
 ghost use Rattle.addr2line_units.specs.Indexed.{ranged_seen};
@@ -194,6 +194,7 @@ fn find_cached_row(lines: &LazyLines, looks: &mut Count, probe: u64) -> Option<R
     ensures found { result ≡ cached_row probe lines.now }
     ensures cost { looks.new ≤ looks.old + cached_looks lines.now }
     ensures raised { looks.old ≤ looks.new }
+    ensures counted { IfSome result (λ row. looks.old < looks.new) }
 {
     match lines {
         LazyLines::Read(lines) => lines.find_row(looks, probe),
@@ -290,6 +291,7 @@ impl<R: Reader> ResUnit<R> {
         ensures read { AreLinesOf dwarf.now self.new.dw_unit self.new.lines }
         ensures cost { looks.new ≤ looks.old + looks_in dwarf.now (Some (indexed_unit self.old)) }
         ensures raised { looks.old ≤ looks.new }
+        ensures counted { is_found result ≡ true → looks.old < looks.new }
     {
         self.read_lines(alloc, dwarf)?;
         Ok(find_cached_row(&self.lines, looks, probe))

@@ -1,6 +1,6 @@
 //! The units of a context, and the ranges that lead to them.
 
-ghost use Rattle.std.specs.Prelude.{◌≡◌, ◌+◌, ◌++◌, ◌-◌, ◌^◌, ◌≤◌, [], None, IfErr, IfOk, IfSome, Ok, OnOk, map, option_map, true};
+ghost use Rattle.std.specs.Prelude.{◌≡◌, ◌+◌, ◌++◌, ◌-◌, ◌^◌, ◌<◌, ◌≤◌, [], None, IfErr, IfOk, IfSome, Ok, OnOk, map, option_map, true};
 ghost use Rattle.gimli_read.specs.declared.error.Error.TheVariants.{OutOfMemory};
 ghost use Rattle.gimli_read.specs.Reading.{Exactly, ExactlyUnlessOom, ExactlyUnlessOomIf};
 ghost use Rattle.addr2line_units.specs.declared.unit.LazyLines.TheVariants.{Unread};
@@ -8,7 +8,7 @@ ghost use Rattle.addr2line_units.specs.Made.{range_of_unit, unit_of_header};
 ghost use Rattle.addr2line_units.specs.Indexed.{index_seen, index_takes_memory, indexed, indexed_with, no_index, ranged_seen, units_seen, units_take_memory, with_header, with_ranged};
 ghost use Rattle.addr2line_units.specs.CachedLines.{HaveLinesOf, StayUnits, cached_files, indexed_units, location_at_place, parsed_units};
 ghost use Rattle.addr2line_units.specs.LocationsLeft.{locations_left};
-ghost use Rattle.addr2line_units.specs.Located.{all_lines, along, lines_fault, looks_along};
+ghost use Rattle.addr2line_units.specs.Located.{all_lines, along, is_found, lines_fault, looks_along};
 ghost use Rattle.addr2line_units.specs.Parsed.{AreAllParsed, AreParsed, IsNotOom, ready_along};
 ghost use Rattle.addr2line_units.specs.RangeLookup.{cached_along};
 ghost use Rattle.addr2line_units.specs.UnitIndex.{cover, cover_range};
@@ -224,6 +224,7 @@ impl<R: Reader> ResUnits<R> {
         ensures cost { looks.new ≤ looks.old + looks_along dwarf.now
             (indexed_units self.old.units.items) (cover probe self.old.ranges) }
         ensures raised { looks.old ≤ looks.new }
+        ensures counted { is_found result ≡ true → looks.old < looks.new }
     {
         find_place_along(
             alloc,

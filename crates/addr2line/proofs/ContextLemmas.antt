@@ -16,7 +16,7 @@ use Rattle.addr2line_units.specs.declared.unit.ResUnit.{ResUnit}
 use Rattle.addr2line_units.specs.CachedLines.{AreLinesOf, HaveLinesOf, StayUnits, cached_spans, indexed_units, is_uncached, lines_at, parsed_units}
 use Rattle.addr2line_units.specs.Indexed.{IndexState, context_takes_memory, index_of, index_takes_memory, sup_takes_memory}
 use Rattle.addr2line_units.specs.Located.{along, all_lines, is_found, lines_fault, lines_of_unit, location_in, location_of, or_along, spans_in, spans_or_fault, looks_along, spans_along, spans_of}
-use Rattle.addr2line_units.specs.Made.{IndexedUnit, Made, RangedUnit, asks_lines, indexed_of, made, ranged_units, ranges_from, sup_units}
+use Rattle.addr2line_units.specs.Made.{IndexedUnit, Made, RangedUnit, has_lines, indexed_of, made, ranged_units, ranges_from, sup_units}
 use Rattle.addr2line_units.specs.Parsed.{AreAllParsed, AreParsed, IsNotOom, has_parsed, ready_along}
 use Rattle.addr2line_units.specs.RangeLookup.{cached_along}
 use Rattle.addr2line_units.specs.UnitIndex.{cover, cover_range}
@@ -35,9 +35,9 @@ context_made d i sup e f = of_units (ranged_units d) e
     state parsed = Ok (record { sections = d; answers = []; parsed = parsed; looks = 0 })
 
     of_units : (r : Result (List RangedUnit) Error) → (r >>= λ units. Ok (index_of d units)) ≡ Ok i
-        → (r >>= λ units. sup_units d.sup >>= λ s. state (map asks_lines units)) ≡ state i.parsed
+        → (r >>= λ units. sup_units d.sup >>= λ s. state (map has_lines units)) ≡ state i.parsed
     of_units (Ok units) h =
-        ap (λ (r : Result (List UnitRecord) Error). r >>= λ s. state (map asks_lines units)) f
+        ap (λ (r : Result (List UnitRecord) Error). r >>= λ s. state (map has_lines units)) f
         ∙ ap (λ (x : IndexState). state x.parsed) (ok_is (index_of d units) i h)
     of_units (Err x) h = absurd (err_ok h)
       where
@@ -68,8 +68,8 @@ context_fault d i f e h = of_units (ranged_units d) e
     state : List Bool → Result ContextState Error
     state parsed = Ok (record { sections = d; answers = []; parsed = parsed; looks = 0 })
 
-    of_units : (r : Result (List RangedUnit) Error) → (r >>= λ units. Ok (index_of d units)) ≡ Ok i → (r >>= λ units. sup_units d.sup >>= λ s. state (map asks_lines units)) ≡ Err f
-    of_units (Ok units) k = ap (λ (r : Result (List UnitRecord) Error). r >>= λ s. state (map asks_lines units)) h
+    of_units : (r : Result (List RangedUnit) Error) → (r >>= λ units. Ok (index_of d units)) ≡ Ok i → (r >>= λ units. sup_units d.sup >>= λ s. state (map has_lines units)) ≡ Err f
+    of_units (Ok units) k = ap (λ (r : Result (List UnitRecord) Error). r >>= λ s. state (map has_lines units)) h
     of_units (Err x) k = absurd (err_ok k)
       where
         err_ok : ◌≡◌ {A = Result IndexState Error} (Err x) (Ok i) → ⊥

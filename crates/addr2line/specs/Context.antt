@@ -13,7 +13,7 @@ use Rattle.addr2line_units.specs.declared.index.UnitRange.{UnitRange}
 use Rattle.addr2line_units.specs.declared.unit.ResUnit.{ResUnit}
 use Rattle.addr2line_units.specs.CachedLines.{HaveLinesOf, indexed_units}
 use Rattle.addr2line_units.specs.Located.{all_lines, along, is_found, lines_fault, looks_along}
-use Rattle.addr2line_units.specs.Made.{Made, asks_lines, made, ranged_units, sup_units}
+use Rattle.addr2line_units.specs.Made.{Made, has_lines, made, ranged_units, sup_units}
 use Rattle.addr2line_units.specs.Parsed.{AreParsed, IsNotOom, StaysParsed, ready_along}
 use Rattle.addr2line_units.specs.UnitIndex.{cover, cover_range}
 
@@ -35,7 +35,7 @@ abbrev pub new_context : Sections → Result ContextState Error
 new_context d = do
   units ← ranged_units d
   sup ← sup_units d.sup
-  Ok (record { sections = d; answers = []; parsed = map asks_lines units; looks = 0 })
+  Ok (record { sections = d; answers = []; parsed = map has_lines units; looks = 0 })
 
 -- a lookup of the probe parses nothing: no unit covers it, or the lines that it asks for are parsed
 abbrev pub IsReady : ContextState → ℕ → Type 0

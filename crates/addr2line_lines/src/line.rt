@@ -88,8 +88,8 @@ fn read_program<R: Reader>(
 }
 
 impl Lines {
-    // No lines. Takes no memory.
-    fn none(alloc: Global) -> Lines
+    /// No lines, as those of a unit without a line program. Takes no memory.
+    pub fn none(alloc: Global) -> Lines
         ensures gives { result ≡ record { files = []; sequences = [] } }
     {
         Lines {

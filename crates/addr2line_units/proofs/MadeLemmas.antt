@@ -16,7 +16,7 @@ use Rattle.addr2line_lines.specs.Rows.{read_all, result_map}
 use Rattle.addr2line_units.specs.declared.aranges.UnitArange.{UnitArange}
 use Rattle.addr2line_units.specs.declared.index.UnitRange.{UnitRange}
 use Rattle.addr2line_units.specs.Indexed.{IndexState, appended, or_with_ranged, units_take_memory, with_header, with_ranged}
-use Rattle.addr2line_units.specs.Made.{IndexedUnit, RangedUnit, asks_lines, indexed_of, range_of_unit, ranges_from, sup_unit_of_header, unit_of_header, unit_ranges, units_of}
+use Rattle.addr2line_units.specs.Made.{IndexedUnit, RangedUnit, has_lines, indexed_of, range_of_unit, ranges_from, sup_unit_of_header, unit_of_header, unit_ranges, units_of}
 use Rattle.addr2line_units.specs.UnitAranges.{set_aranges}
 
 -- what was left, by what a call gave of it
@@ -90,7 +90,7 @@ module _ (d : Sections) (m : IndexState) where
   appended_more u us =
       of_parts (append_assoc m.units (u.indexed ∷ []) (map indexed_of us))
       (append_assoc m.ranges (map (range_of_unit (length m.units)) (unit_ranges d u)) (ranges_from d (length (m.units ++ u.indexed ∷ [])) us) ∙ ap (λ n. m.ranges ++ (map (range_of_unit (length m.units)) (unit_ranges d u) ++ ranges_from d n us)) (length-append m.units (u.indexed ∷ [])))
-      (append_assoc m.parsed (asks_lines u ∷ []) (map asks_lines us))
+      (append_assoc m.parsed (has_lines u ∷ []) (map has_lines us))
     where
       of_parts : {a b : List IndexedUnit} {p q : List UnitRange} {v w : List Bool} → a ≡ b → p ≡ q → v ≡ w → ◌≡◌ {A = IndexState} (record { units = a; ranges = p; parsed = v }) (record { units = b; ranges = q; parsed = w })
       of_parts e f g = cc

@@ -1,7 +1,7 @@
 -- The lines of units as a context caches them, as the private functions see them.
 -- Own: lines are read when they are first asked for, and cached then, their fault too. OutOfMemory
 -- is never cached.
-use Rattle.std.specs.Prelude.{◌≡◌, ◌≢◌, ℕ, Bool, true, false, not, List, [], ◌∷◌, map, Option, Some, None, slice_get, Result, Ok, Err}
+use Rattle.std.specs.Prelude.{◌≡◌, ◌≢◌, ℕ, Bool, true, false, not, List, [], ◌∷◌, map, Option, Some, None, is_some, slice_get, Result, Ok, Err}
 use Rattle.std.specs.List.{AllByRecursion}
 use Rattle.gimli_read.specs.declared.error.Error.{Error}
 use Rattle.gimli_read.specs.declared.error.Error.TheVariants.{OutOfMemory}
@@ -91,6 +91,11 @@ indexed_unit u = record { unit = u.dw_unit; language = u.lang }
 -- whether the lines of a unit are parsed
 abbrev pub is_parsed : {R : Type 0} → ResUnit R → Bool
 is_parsed u = not (is_uncached u.lines)
+
+-- the lines of a unit that was just read are not parsed, unless it has no line program
+pub record IsUnparsed {R : Type 0} (d : Sections) (u : ResUnit R) : Type 0 where
+  pub uncached : is_uncached u.lines ≡ is_some u.dw_unit.line_program
+  pub lines : AreLinesOf d u.dw_unit u.lines
 
 -- the units, as the fields have them
 abbrev pub indexed_units : {R : Type 0} → List (ResUnit R) → List IndexedUnit

@@ -13,7 +13,7 @@ use Rattle.addr2line_units.specs.declared.unit.ResUnit.{ResUnit}
 use Rattle.addr2line_units.specs.declared.units.Index.{Index}
 use Rattle.addr2line_units.specs.declared.units.ResUnits.{ResUnits}
 use Rattle.addr2line_units.specs.CachedLines.{indexed_unit, indexed_units, parsed_units}
-use Rattle.addr2line_units.specs.Made.{IndexedUnit, RangedUnit, asks_lines, indexed_of, range_of_unit, ranged_units, ranges_from, sup_sections, unit_of_header, unit_ranges, units_of}
+use Rattle.addr2line_units.specs.Made.{IndexedUnit, RangedUnit, has_lines, indexed_of, range_of_unit, ranged_units, ranges_from, sup_sections, unit_of_header, unit_ranges, units_of}
 use Rattle.addr2line_units.specs.UnitAranges.{has_sets}
 
 -- units, the ranges that lead to them, and of which units the lines are parsed
@@ -31,7 +31,7 @@ abbrev pub index_of : Sections → List RangedUnit → IndexState
 index_of d units = record {
   units = map indexed_of units;
   ranges = ranges_from d 0 units;
-  parsed = map asks_lines units;
+  parsed = map has_lines units;
 }
 
 -- the units of the sections with the ranges that .debug_aranges lists, or the first fault
@@ -49,7 +49,7 @@ abbrev pub with_ranged : Sections → IndexState → RangedUnit → IndexState
 with_ranged d m u = record {
   units = m.units ++ u.indexed ∷ [];
   ranges = m.ranges ++ map (range_of_unit (length m.units)) (unit_ranges d u);
-  parsed = m.parsed ++ asks_lines u ∷ [];
+  parsed = m.parsed ++ has_lines u ∷ [];
 }
 
 -- one more unit, unless it is passed over
@@ -67,7 +67,7 @@ abbrev pub appended : Sections → IndexState → List RangedUnit → IndexState
 appended d m units = record {
   units = m.units ++ map indexed_of units;
   ranges = m.ranges ++ ranges_from d (length m.units) units;
-  parsed = m.parsed ++ map asks_lines units;
+  parsed = m.parsed ++ map has_lines units;
 }
 
 -- whether memory may be taken for units: where there is one, or where readers share their bytes

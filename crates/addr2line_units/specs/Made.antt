@@ -9,7 +9,7 @@
 -- Own: a unit without a range list has the ranges that .debug_aranges lists for its offset. One
 -- with a range list, or without such ranges, has those of its attributes; where these give none, an
 -- empty list too, those of its line sequences. Lines that can't be read give no ranges.
-use Rattle.std.specs.Prelude.{ℕ, ◌+◌, Bool, true, false, ◌&&◌, not, List, [], ◌∷◌, ◌++◌, map, filter_map, is_some, Option, Some, None, Result, Ok, Err, if◌then◌else◌}
+use Rattle.std.specs.Prelude.{ℕ, ◌+◌, Bool, true, false, ◌&&◌, ◌||◌, not, List, [], ◌∷◌, ◌++◌, map, filter_map, is_some, Option, Some, None, Result, Ok, Err, if◌then◌else◌}
 use Rattle.std.specs.Result.{result_ok}
 use Rattle.gimli_read.specs.declared.error.Error.{Error}
 use Rattle.gimli_read.specs.declared.constants.DwLang.{DwLang}
@@ -118,6 +118,11 @@ asks_lines u = is_empty u.given && not (is_partial u.indexed.unit.header.unit_ty
     is_empty : List Range → Bool
     is_empty [] = true
     is_empty (r ∷ ranges) = false
+
+-- whether the lines of a unit are parsed when a context is made: where they give its ranges, and
+-- where there is no line program
+abbrev pub has_lines : RangedUnit → Bool
+has_lines u = asks_lines u || not (is_some u.indexed.unit.line_program)
 
 -- the ranges of line sequences, none where the lines can't be read
 abbrev pub line_ranges : Result LineTable Error → List Range

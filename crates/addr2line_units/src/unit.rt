@@ -1,15 +1,15 @@
 //! A unit of a context, and its lines.
 
-ghost use Rattle.std.specs.Prelude.{◌≡◌, ◌≢◌, ◌+◌, ◌++◌, ◌<◌, ◌≤◌, [], true, false, not, map, Ok, Err, OnOk, OnErr, IfOk, IfErr, IfSome, option_map, option_copied};
+ghost use Rattle.std.specs.Prelude.{◌≡◌, ◌≢◌, ◌+◌, ◌++◌, ◌<◌, ◌≤◌, [], true, false, not, map, Ok, Err, OnOk, OnErr, IfOk, IfErr, IfSome, is_some, option_map, option_copied};
 ghost use Rattle.gimli_read.specs.Reading.{ExactlyUnlessOom, Exactly};
 ghost use Rattle.gimli_read.specs.declared.error.Error.TheVariants.{OutOfMemory};
+ghost use Rattle.gimli.specs.Sections.{Sections};
 ghost use Rattle.addr2line_lines.specs.Location.{location_of_row};
 ghost use Rattle.addr2line_lines.specs.SeenLocation.{seen_location};
-ghost use Rattle.addr2line_units.specs.declared.unit.LazyLines.TheVariants.{Unread};
-ghost use Rattle.addr2line_units.specs.Made.{is_partial, is_type_unit, asks_lines, given_at, given_ranges, ranged_unit, unit_ranges};
+ghost use Rattle.addr2line_units.specs.Made.{is_partial, is_type_unit, given_at, given_ranges, has_lines, ranged_unit, unit_ranges};
 ghost use Rattle.addr2line_units.specs.Located.{is_found, location_in, looks_in};
 ghost use Rattle.addr2line_units.specs.UnitAranges.{range_in};
-ghost use Rattle.addr2line_units.specs.CachedLines.{AreLinesOf, StaysCached, CachesAnswer, StaysUnit, cached_answer, cached_files, cached_looks, cached_ranges, cached_row, indexed_unit, lines_answer, cached_lines, is_parsed, is_uncached};
+ghost use Rattle.addr2line_units.specs.CachedLines.{AreLinesOf, IsUnparsed, StaysCached, CachesAnswer, StaysUnit, cached_answer, cached_files, cached_looks, cached_ranges, cached_row, indexed_unit, lines_answer, cached_lines, is_parsed, is_uncached};
 ghost use Rattle.addr2line_units.specs.Indexed.{ranged_seen};
 
 use crate::aranges::{UnitArange, UnitAranges};
@@ -105,6 +105,18 @@ fn read_given<R: Reader>(
     Ok((attributes.language, ranges))
 }
 
+// The lines of a unit before they are asked for: a unit without a line program has none. Takes no
+// memory.
+fn lines_at_first<R: Reader>(alloc: Global, unit: &Unit<R>) -> LazyLines
+    ensures uncached { is_uncached result ≡ is_some unit.now.line_program }
+    ensures read { (d : Sections) → AreLinesOf d unit.now result }
+{
+    match &unit.line_program {
+        Some(_) => LazyLines::Unread,
+        None => LazyLines::Read(Lines::none(alloc)),
+    }
+}
+
 // A unit whose record was read, and its given ranges.
 pub(crate) fn read_ranged_unit<R: Reader>(
     alloc: Global,
@@ -114,13 +126,14 @@ pub(crate) fn read_ranged_unit<R: Reader>(
 ) -> Result<(ResUnit<R>, Vec<Range>), Error>
     ensures gives { ExactlyUnlessOom (λ x. ranged_seen x.0 x.1.items) result
         (ranged_unit dwarf.now aranges.now dw_unit) }
-    ensures unread { IfOk result (λ x. x.0.lines ≡ Unread) }
+    ensures unparsed { IfOk result (λ x. IsUnparsed dwarf.now x.0) }
 {
     let (lang, ranges) = read_given(alloc, UnitRef::new(dwarf, &dw_unit), aranges)?;
+    let lines = lines_at_first(alloc, &dw_unit);
     let unit = ResUnit {
         dw_unit,
         lang,
-        lines: LazyLines::Unread,
+        lines,
     };
     Ok((unit, ranges))
 }
@@ -256,11 +269,11 @@ impl<R: Reader> ResUnit<R> {
         dwarf: &Dwarf<R>,
         given: Vec<Range>,
     ) -> Result<Vec<Range>, Error>
-        requires unread { self.old.lines ≡ Unread }
+        requires unparsed { IsUnparsed dwarf.now self.old }
         ensures gives { ExactlyUnlessOom (λ v. v.items) result (Ok (unit_ranges dwarf.now
             (ranged_seen self.old given.items))) }
         ensures refused { IfErr result (λ e. e ≡ OutOfMemory) }
-        ensures parsed { OnOk result (is_parsed self.new ≡ asks_lines
+        ensures parsed { OnOk result (is_parsed self.new ≡ has_lines
             (ranged_seen self.old given.items)) }
         ensures unit { indexed_unit self.new ≡ indexed_unit self.old }
         ensures read { AreLinesOf dwarf.now self.new.dw_unit self.new.lines }

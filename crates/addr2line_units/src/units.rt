@@ -3,10 +3,9 @@
 ghost use Rattle.std.specs.Prelude.{◌≡◌, ◌+◌, ◌++◌, ◌-◌, ◌^◌, ◌<◌, ◌≤◌, [], None, IfErr, IfOk, IfSome, Ok, OnOk, map, option_map, true};
 ghost use Rattle.gimli_read.specs.declared.error.Error.TheVariants.{OutOfMemory};
 ghost use Rattle.gimli_read.specs.Reading.{Exactly, ExactlyUnlessOom, ExactlyUnlessOomIf};
-ghost use Rattle.addr2line_units.specs.declared.unit.LazyLines.TheVariants.{Unread};
 ghost use Rattle.addr2line_units.specs.Made.{range_of_unit, unit_of_header};
 ghost use Rattle.addr2line_units.specs.Indexed.{index_seen, index_takes_memory, indexed, indexed_with, no_index, ranged_seen, units_seen, units_take_memory, with_header, with_ranged};
-ghost use Rattle.addr2line_units.specs.CachedLines.{HaveLinesOf, StayUnits, cached_files, indexed_units, location_at_place, parsed_units};
+ghost use Rattle.addr2line_units.specs.CachedLines.{HaveLinesOf, IsUnparsed, StayUnits, cached_files, indexed_units, location_at_place, parsed_units};
 ghost use Rattle.addr2line_units.specs.LocationsLeft.{locations_left};
 ghost use Rattle.addr2line_units.specs.Located.{all_lines, along, is_found, lines_fault, looks_along};
 ghost use Rattle.addr2line_units.specs.Parsed.{AreAllParsed, AreParsed, IsNotOom, ready_along};
@@ -65,7 +64,7 @@ fn read_unit<R: Reader>(
     ensures same { abbreviations.new.dwarf ≡ dwarf.now }
     ensures gives { ExactlyUnlessOom (option_map (λ x. ranged_seen x.0 x.1.items)) result
         (unit_of_header dwarf.now aranges.now header) }
-    ensures unread { IfOk result (λ x. IfSome x (λ y. y.0.lines ≡ Unread)) }
+    ensures unparsed { IfOk result (λ x. IfSome x (λ y. IsUnparsed dwarf.now y.0)) }
 {
     if is_type_unit(header.type_()) {
         return Ok(None);
@@ -112,7 +111,7 @@ impl<R: Reader> Index<R> {
         mut unit: ResUnit<R>,
         given: Vec<Range>,
     ) -> Result<(), Error>
-        requires unread { unit.lines ≡ Unread }
+        requires unparsed { IsUnparsed dwarf.now unit }
         requires read { HaveLinesOf dwarf.now self.old.units.items }
         ensures gives { OnOk result (index_seen self.new ≡ with_ranged dwarf.now
             (index_seen self.old) (ranged_seen unit given.items)) }

@@ -12,6 +12,7 @@ use Rattle.gimli.specs.Header.{UnitHeaderFields}
 use Rattle.gimli.specs.Sections.{Sections}
 use Rattle.gimli.specs.Unit.{UnitRecord, unit_record_of}
 use Rattle.gimli.specs.UnitsLeft.{all_headers}
+use Rattle.addr2line_lines.specs.RangeAttributes.{begins_well}
 use Rattle.addr2line_lines.specs.Rows.{read_all, result_map}
 use Rattle.addr2line_units.specs.declared.aranges.UnitArange.{UnitArange}
 use Rattle.addr2line_units.specs.declared.index.UnitRange.{UnitRange}
@@ -108,11 +109,8 @@ sets_more items set rest = more (read_all rest)
 pub shorter : {X : Type 0} (left rest : List (Result X Error)) (x : X) → left ≡ Ok x ∷ rest → length rest < length left
 shorter left rest x e = subst (λ xs. length rest < length xs) (sym e) (omega arith)
 
-pub rest_some : {X : Type 0} (left rest : List (Result X Error)) (x : X) → left ≡ Ok x ∷ rest → nat_lt 0 (length left) ≡ true
-rest_some left rest x e = ap (λ xs. nat_lt 0 (length xs)) e ∙ of_number (length rest)
-  where
-    of_number : (n : ℕ) → nat_lt 0 (suc n) ≡ true
-    of_number n = grind (arith, nat_tests)
+pub rest_some : {X : Type 0} (left rest : List (Result X Error)) (x : X) → left ≡ Ok x ∷ rest → begins_well {E = Error} (Ok left) ≡ true
+rest_some left rest x e = ap (λ xs. begins_well {E = Error} (Ok xs)) e
 
 -- the units that are read, with those that are left
 module _ (d : Sections) (aranges : List UnitArange) (m : IndexState) (left rest : List (Result UnitHeaderFields Error)) (h : UnitHeaderFields) where
@@ -177,7 +175,7 @@ all_first (Ok x) = refl
 all_first (Err e) = refl
 
 -- memory may be taken where there is a header
-pub some_headers : (shares : Bool) (d : Sections) → nat_lt 0 (length (all_headers d.debug_info)) ≡ true → units_take_memory shares d ≡ true
+pub some_headers : (shares : Bool) (d : Sections) → begins_well {E = Error} (Ok (all_headers d.debug_info)) ≡ true → units_take_memory shares d ≡ true
 some_headers true d e = refl
 some_headers false d e = e
 

@@ -1,12 +1,13 @@
 -- The units of a context and their ranges as they are read, one after another, as the private
 -- functions see them.
-use Rattle.std.specs.Prelude.{ℕ, ◌||◌, Bool, false, List, [], ◌∷◌, ◌++◌, length, map, nat_lt, Option, Some, None, Result, Ok, Err}
+use Rattle.std.specs.Prelude.{ℕ, ◌||◌, Bool, false, List, [], ◌∷◌, ◌++◌, length, map, Option, Some, None, Result, Ok, Err}
 use Rattle.gimli_read.specs.declared.error.Error.{Error}
 use Rattle.gimli_read.specs.declared.range.Range.{Range}
 use Rattle.gimli_read.specs.Reading.{◌>>=◌}
 use Rattle.gimli.specs.Header.{UnitHeaderFields}
 use Rattle.gimli.specs.Sections.{Sections, SupSections}
 use Rattle.gimli.specs.UnitsLeft.{all_headers}
+use Rattle.addr2line_lines.specs.RangeAttributes.{begins_well}
 use Rattle.addr2line_units.specs.declared.aranges.UnitArange.{UnitArange}
 use Rattle.addr2line_units.specs.declared.index.UnitRange.{UnitRange}
 use Rattle.addr2line_units.specs.declared.unit.ResUnit.{ResUnit}
@@ -70,9 +71,10 @@ appended d m units = record {
   parsed = m.parsed ++ map has_lines units;
 }
 
--- whether memory may be taken for units: where there is one, or where readers share their bytes
+-- whether memory may be taken for units: where a header can be read, or where readers share their
+-- bytes
 abbrev pub units_take_memory : Bool → Sections → Bool
-units_take_memory shares d = shares || nat_lt 0 (length (all_headers d.debug_info))
+units_take_memory shares d = shares || begins_well (Ok (all_headers d.debug_info))
 
 -- whether memory may be taken for units and their ranges
 abbrev pub index_takes_memory : Bool → Sections → Bool

@@ -1,8 +1,10 @@
 use Rattle.std.proofs.Common.{List, Ok, ap, length, nat_lt, rules, subst, sym, ◌++◌, ◌∙◌, ◌≡◌}
 use Rattle.std.proofs.lemmas.Result.{err_from_is_err_and}
+use Rattle.gimli_read.specs.declared.error.Error.{Error}
 use Rattle.gimli_read.specs.Reading.{◌>>=◌}
 use Rattle.gimli.specs.Unit.{UnitRecord}
 use Rattle.gimli.specs.UnitsLeft.{all_headers}
+use Rattle.addr2line_lines.specs.RangeAttributes.{begins_well}
 use Rattle.addr2line_units.specs.Made.{sup_unit_of_header, units_of}
 use Rattle.addr2line_units.proofs.MadeLemmas.{all_first, given_some, rest_some, some_headers, sup_more}
 use Rattle.addr2line_units.proofs.sup.read_sup_units.Goals as goal
@@ -13,7 +15,7 @@ loop-units-init g c =
     let all : c.in_ok-headers.headers ≡ all_headers d.debug_info = search rules in
     record {
       gives = subst (λ (kept : List UnitRecord). (units_of (sup_unit_of_header d) c.in_ok-headers.headers >>= λ units. Ok (kept ++ units)) ≡ units_of (sup_unit_of_header d) (all_headers d.debug_info)) (sym c.new-units.ensures.items) (all_first (units_of (sup_unit_of_header d) c.in_ok-headers.headers) ∙ ap (units_of (sup_unit_of_header d)) all);
-      some = λ e. some_headers g.R.Reader.shares d (ap (λ headers. nat_lt 0 (length headers)) (sym all) ∙ e);
+      some = λ e. some_headers g.R.Reader.shares d (ap (λ headers. begins_well {E = Error} (Ok headers)) (sym all) ∙ e);
       same = search rules;
     }
 

@@ -1,6 +1,8 @@
 use Rattle.std.proofs.Common.{◌≡◌, ◌++◌, Ok, length, nat_lt, true}
+use Rattle.gimli_read.specs.declared.error.Error.{Error}
 use Rattle.gimli_read.specs.Reading.{◌>>=◌}
 use Rattle.gimli.specs.UnitsLeft.{all_headers}
+use Rattle.addr2line_lines.specs.RangeAttributes.{begins_well}
 use Rattle.addr2line_units.specs.Indexed.{units_take_memory}
 use Rattle.addr2line_units.specs.Made.{sup_unit_of_header, units_of}
 use Rattle.addr2line_units.proofs.sup.read_sup_units.Given as goal
@@ -10,7 +12,7 @@ invariant-loop-units g l =
     let d = l.dwarf in
     record {
       gives : (units_of (sup_unit_of_header d) l.headers >>= λ units. Ok (l.units.items ++ units)) ≡ units_of (sup_unit_of_header d) (all_headers d.debug_info);
-      some : nat_lt 0 (length l.headers) ≡ true → units_take_memory g.R.Reader.shares d ≡ true;
+      some : begins_well {E = Error} (Ok l.headers) ≡ true → units_take_memory g.R.Reader.shares d ≡ true;
       same : l.abbreviations.dwarf ≡ d;
     }
 

@@ -1,9 +1,11 @@
 use Rattle.std.proofs.Common.{Ok, ap, arith, length, refl, rules, sym, true, nat_lt, ◌∙◌, ◌≡◌, ◌<◌, subst}
 use Rattle.std.proofs.lemmas.Result.{err_from_is_err_and}
+use Rattle.gimli_read.specs.declared.error.Error.{Error}
 use Rattle.gimli_read.specs.Reading.{◌>>=◌}
 use Rattle.gimli.specs.UnitsLeft.{all_headers}
 use Rattle.addr2line_units.specs.CachedLines.{HaveLinesOf}
 use Rattle.addr2line_units.specs.Indexed.{appended, index_of, index_seen}
+use Rattle.addr2line_lines.specs.RangeAttributes.{begins_well}
 use Rattle.addr2line_units.specs.Made.{unit_of_header, units_of}
 use Rattle.addr2line_units.proofs.MadeLemmas.{given_fault, given_some, index_fault, index_more, rest_some, shared_headers, shorter, some_headers}
 use Rattle.addr2line_units.proofs.units.read_units.Goals as goal
@@ -15,7 +17,7 @@ loop-index-init g c =
     let all : c.in_ok-headers.headers ≡ all_headers d.debug_info = search rules in
     record {
       gives = ap (λ m. units_of (unit_of_header d aranges) c.in_ok-headers.headers >>= λ units. Ok (appended d m units)) c.new-index.ensures.none ∙ ap (λ headers. units_of (unit_of_header d aranges) headers >>= λ units. Ok (index_of d units)) all;
-      some = λ e. some_headers g.R.Reader.shares d (ap (λ headers. nat_lt 0 (length headers)) (sym all) ∙ e);
+      some = λ e. some_headers g.R.Reader.shares d (ap (λ headers. begins_well {E = Error} (Ok headers)) (sym all) ∙ e);
       same = search rules;
       read = subst (HaveLinesOf d) (sym c.new-index.ensures.units) tt;
     }

@@ -75,6 +75,27 @@ context_fault d i f e h = of_units (ranged_units d) e
         err_ok : ◌≡◌ {A = Result IndexState Error} (Err x) (Ok i) → ⊥
         err_ok l = cc
 
+-- a fault of the units refuses the context
+pub units_fault : (d : Sections) (f : Error) → (ranged_units d >>= λ units. Ok (index_of d units)) ≡ Err f → new_context d ≡ Err f
+units_fault d f e = of_units (ranged_units d) e
+  where
+    state : List Bool → Result ContextState Error
+    state parsed = Ok (record { sections = d; answers = []; parsed = parsed; looks = 0 })
+
+    of_units : (r : Result (List RangedUnit) Error) → (r >>= λ units. Ok (index_of d units)) ≡ Err f → (r >>= λ units. sup_units d.sup >>= λ s. state (map has_lines units)) ≡ Err f
+    of_units (Ok units) k = absurd (ok_err k)
+      where
+        ok_err : ◌≡◌ {A = Result IndexState Error} (Ok (index_of d units)) (Err f) → ⊥
+        ok_err l = cc
+    of_units (Err x) k = same k
+      where
+        same : ◌≡◌ {A = Result IndexState Error} (Err x) (Err f) → ◌≡◌ {A = Result ContextState Error} (Err x) (Err f)
+        same l = cc
+
+-- memory may be taken for a context where it may be for its units
+pub units_memory : (shares : Bool) (d : Sections) → index_takes_memory shares d ≡ true → context_takes_memory shares d ≡ true
+units_memory shares d e = ap (λ b. b || sup_takes_memory shares d.sup) e
+
 -- memory may be taken for a context where it may be for its supplementary file
 pub sup_memory : (shares : Bool) (d : Sections) → sup_takes_memory shares d.sup ≡ true → context_takes_memory shares d ≡ true
 sup_memory shares d e = ap (λ b. index_takes_memory shares d || b) e ∙ or_true (index_takes_memory shares d)

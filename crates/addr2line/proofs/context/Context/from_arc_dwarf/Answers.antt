@@ -1,8 +1,15 @@
 use Rattle.std.proofs.Common.{subst}
 use Rattle.std.proofs.lemmas.Result.{err_from_is_err_and}
 use Rattle.addr2line_units.specs.CachedLines.{HaveLinesOf}
-use Rattle.addr2line.proofs.ContextLemmas.{context_fault, context_made, sup_memory, what_is_made}
+use Rattle.addr2line.proofs.ContextLemmas.{context_fault, context_made, sup_memory, units_fault, units_memory, what_is_made}
 use Rattle.addr2line.proofs.context.Context.from_arc_dwarf.Goals as goal
+
+pub returns-in_err-units : goal.returns-in_err-units
+returns-in_err-units g c =
+    let p = err_from_is_err_and c.from_residual.result c.from_residual.ensures.1 in
+    let d = c.args.dwarf.value in
+    let units = rw c.deref.ensures at c.in_err-units.ensures.gives in
+    record { gives = rw (p.1, p.2) (λ may. units_fault d _ (units (λ takes. may (units_memory g.R.Reader.shares d takes)))) }
 
 pub returns-in_err-sup_units : goal.returns-in_err-sup_units
 returns-in_err-sup_units g c =

@@ -18,7 +18,6 @@ use Rattle.gimli.specs.RangesOffset.{ranges_offset_of}
 use Rattle.gimli.specs.Sections.{Sections}
 use Rattle.gimli.specs.Text.{indexed_number}
 use Rattle.gimli.specs.Unit.{UnitRecord}
-use Rattle.gimli.specs.Entries.{root_attributes_of}
 use Rattle.addr2line_lines.specs.declared.function.RangeAttributes.{RangeAttributes}
 use Rattle.addr2line_lines.specs.Rows.{read_all}
 
@@ -59,11 +58,6 @@ abbrev pub range_attributes_of
     : Sections → UnitRecord → List NamedValue → Result RangeAttributes Error
 range_attributes_of d u attributes =
     fold (or_with_range_attribute d u) (Ok no_range_attributes) attributes
-
--- the range attributes of a unit's root entry
-abbrev pub root_range_attributes : Sections → UnitRecord → Result RangeAttributes Error
-root_range_attributes d u =
-    root_attributes_of u >>= λ attributes. range_attributes_of d u attributes
 
 -- what attributes that are read say, after those that were read before
 abbrev pub range_attributes_after : Sections → UnitRecord → Result RangeAttributes Error

@@ -6,7 +6,7 @@ ghost use Rattle.gimli_read.specs.Reading.{Exactly, ExactlyUnlessOomIf};
 ghost use Rattle.gimli_read.specs.Form.{rest_of, seen_value};
 ghost use Rattle.gimli.specs.Entry.{attributes_at};
 ghost use Rattle.gimli.specs.Ranges.{ranges_at};
-ghost use Rattle.addr2line_lines.specs.RangeAttributes.{attr_address, no_range_attributes, with_range_attribute, or_with_range_attribute, range_attributes_after, root_range_attributes, range_between, range_to, ranges_of, all_ranges, attribute_ranges, begins_well, gives_a_range};
+ghost use Rattle.addr2line_lines.specs.RangeAttributes.{attr_address, no_range_attributes, with_range_attribute, or_with_range_attribute, range_attributes_after, range_between, range_to, ranges_of, all_ranges, attribute_ranges, begins_well, gives_a_range};
 
 use gimli::read::{Attribute, AttributeSpecification, AttributeValue, DwAt, Error, Range, Reader};
 use gimli::{EntriesRaw, UnitRef};
@@ -160,23 +160,6 @@ pub(crate) fn read_range_attributes<R: Reader>(
         ranges = with_attribute(unit, ranges, attribute);
     }
     ranges
-}
-
-/// The range attributes of a unit's root entry.
-///
-/// Refused by the entry's code and its values in their order, `MissingUnitDie` at a closing entry,
-/// then by the first index, of an address or a range list, that isn't wholly in its section, or
-/// range list's offset of 2^64 or more; may fail with `OutOfMemory` instead, where bytes are shared.
-#[tactic(auto, unfolding(gimli::specs::Entry::root_attributes))]
-pub fn read_root_ranges<R: Reader>(unit: UnitRef<'_, R>) -> Result<RangeAttributes, Error>
-    ensures gives { ExactlyUnlessOomIf R.shares (λ r. r) result
-        (root_range_attributes unit.entry.dwarf.now unit.entry.unit.now) }
-{
-    let mut entries = unit.entries_raw(None)?;
-    match entries.read_abbreviation()? {
-        Some(abbreviation) => read_range_attributes(unit, &mut entries, abbreviation.attributes()),
-        None => Err(Error::MissingUnitDie),
-    }
 }
 
 // The ranges of the range list at an offset, in its order.

@@ -19,7 +19,7 @@ mod sequence;
 mod spans;
 
 pub use crate::count::Count;
-pub use crate::function::{RangeAttributes, read_ranges, read_root_ranges};
+pub use crate::function::{RangeAttributes, read_ranges};
 pub use crate::functions::Functions;
 pub use crate::laws::{
     each_address_has_a_row, lone_is_picked, lone_is_shortest, none_is_shorter, order_is_free,

@@ -10,4 +10,5 @@ mod names;
 mod range_attributes;
 mod refused_growths;
 mod sections;
+mod unit_index;
 mod units;

@@ -8,8 +8,8 @@ ghost use Rattle.addr2line_units.specs.Parsed.{AreAllParsed, AreParsed, IsNotOom
 ghost use Rattle.addr2line_units.specs.UnitRangesLeft.{ranges_left};
 ghost use Rattle.addr2line_units.specs.CachedLines.{HaveLinesOf, StayUnits, indexed_units, lines_answer_at, location_at_place, parsed_units, place_of_row};
 
-use crate::range_iter::UnitRangeIter;
 use crate::place::Place;
+use crate::range_iter::UnitRangeIter;
 use crate::unit::ResUnit;
 use addr2line_lines::{Count, Row};
 use gimli::Dwarf;

@@ -1,6 +1,6 @@
 //! A unit of a context, and its lines.
 
-ghost use Rattle.std.specs.Prelude.{◌≡◌, ◌≢◌, ◌+◌, ◌++◌, ◌<◌, ◌≤◌, [], true, false, not, map, Ok, Err, OnOk, OnErr, IfOk, IfErr, IfSome, is_some, option_map, option_copied};
+ghost use Rattle.std.specs.Prelude.{◌≡◌, ◌≢◌, ◌+◌, ◌++◌, ◌<◌, ◌≤◌, [], true, false, not, map, Ok, Err, OnOk, OnErr, IfOk, IfErr, IfSome, is_some, option_map};
 ghost use Rattle.gimli_read.specs.Reading.{ExactlyUnlessOom, Exactly};
 ghost use Rattle.gimli_read.specs.declared.error.Error.TheVariants.{OutOfMemory};
 ghost use Rattle.gimli.specs.Sections.{Sections};
@@ -166,16 +166,6 @@ fn check_lines(lines: &LazyLines) -> Result<(), Error>
     match lines {
         LazyLines::Faulty(error) => Err(*error),
         LazyLines::Read(_) | LazyLines::Unread => Ok(()),
-    }
-}
-
-// The cached lines, if there are any.
-pub(crate) fn lines_of(lines: &LazyLines) -> Option<&Lines>
-    ensures gives { option_copied result ≡ cached_lines lines.now }
-{
-    match lines {
-        LazyLines::Read(lines) => Some(lines),
-        LazyLines::Faulty(_) | LazyLines::Unread => None,
     }
 }
 

@@ -5,7 +5,8 @@ use super::sections::{
 };
 use addr2line::Context;
 use addr2line::gimli::read::{EndianSlice, Error};
-use addr2line_lines::{Lines, RangeAttributes, read_root_ranges};
+use addr2line_lines::{Lines, RangeAttributes};
+use addr2line_units::attributes::read_unit_attributes;
 use gimli::UnitRef;
 use std::alloc::Global;
 use std::rc::Rc;
@@ -117,7 +118,9 @@ fn root_range(alloc: Global) -> Result<Option<[u64; 2]>, Error> {
     match dwarf.units()?.next()? {
         Some(header) => {
             let unit = dwarf.unit(alloc, header)?;
-            let range = read_root_ranges(UnitRef::new(&dwarf, &unit))?.range();
+            let range = read_unit_attributes(UnitRef::new(&dwarf, &unit))?
+                .ranges
+                .range();
             Ok(range.map(|range| [range.begin, range.end]))
         }
         None => Err(Error::MissingUnitDie),

@@ -3,7 +3,8 @@
 use super::sections::{dwarf_of, little};
 use addr2line::gimli::read::{EndianSlice, Error};
 use addr2line::gimli::{DebugRanges, DebugRngLists, Dwarf, UnitRef};
-use addr2line_lines::{read_ranges, read_root_ranges};
+use addr2line_lines::read_ranges;
+use addr2line_units::attributes::read_unit_attributes;
 use std::alloc::Global;
 use std::test::Fail;
 
@@ -51,7 +52,7 @@ fn root_ranges(alloc: Global, abbrev: &[u8], info: &[u8]) -> Result<[u64; 4], Er
     };
     let unit = dwarf.unit(alloc, header)?;
     let unit = UnitRef::new(&dwarf, &unit);
-    let ranges = read_ranges(alloc, unit, &read_root_ranges(unit)?)?;
+    let ranges = read_ranges(alloc, unit, &read_unit_attributes(unit)?.ranges)?;
     let mut told = [0; 4];
     for (i, range) in ranges.iter().enumerate().take(2) {
         told[2 * i] = range.begin;

@@ -51,10 +51,10 @@ returns g c =
       (refl, (λ _. tt), after_range_lookup d old ranges sup i.made_is new e.stay c.self.inside.looks c.args.low c.args.high _ (λ answered. e.parsed)),
       record {
         gives = spans_are d old ranges sup i.made_is c.args.low c.args.high
-        ∙ ap (λ us. Ok (spans_along d us c.args.low c.args.high rows)) (sym (stay_indexed old new e.stay))
-        ∙ ap Ok cached
-        ∙ ap (λ rs. Ok (cached_along new c.args.low c.args.high (cover_range c.args.low c.args.high rs))) (sym c.cache_lines.ensures.ranges)
-        ∙ ap Ok (sym c.find_location_range.ensures.gives);
+            ∙ ap (λ us. Ok (spans_along d us c.args.low c.args.high rows)) (sym (stay_indexed old new e.stay))
+            ∙ ap Ok cached
+            ∙ ap (λ rs. Ok (cached_along new c.args.low c.args.high (cover_range c.args.low c.args.high rs))) (sym c.cache_lines.ensures.ranges)
+            ∙ ap Ok (sym c.find_location_range.ensures.gives);
         refused = tt;
         exact = λ ready. refl;
         kept = tt;

@@ -99,21 +99,21 @@ one_range x y h =
     of_parts u v b c e f g h k = cc
 
 -- what covers a probe, of the ranges in order
-pub cover_is : (probe : ℕ) (listed ranges : List UnitRange) → ranges ≡ in_order ends_sooner listed → filter (range_covers probe) ranges ≡ cover probe listed
+cover_is : (probe : ℕ) (listed ranges : List UnitRange) → ranges ≡ in_order ends_sooner listed → filter (range_covers probe) ranges ≡ cover probe listed
 cover_is probe listed ranges e = ap (filter (range_covers probe)) e ∙ sym (filter_in_order ends_sooner ends_order (range_covers probe) listed)
 
-pub cover_range_is : (low high : ℕ) (listed ranges : List UnitRange) → ranges ≡ in_order ends_sooner listed → filter (range_overlaps low high) ranges ≡ cover_range low high listed
+cover_range_is : (low high : ℕ) (listed ranges : List UnitRange) → ranges ≡ in_order ends_sooner listed → filter (range_overlaps low high) ranges ≡ cover_range low high listed
 cover_range_is low high listed ranges e = ap (filter (range_overlaps low high)) e ∙ sym (filter_in_order ends_sooner ends_order (range_overlaps low high) listed)
 
 -- what begins at or below the last address is what begins below the next
-pub up_to_last : (low high last : ℕ) → high ≡ last + 1 → (ranges : List UnitRange) → filter (is_between low last) ranges ≡ filter (range_overlaps low high) ranges
+up_to_last : (low high last : ℕ) → high ≡ last + 1 → (ranges : List UnitRange) → filter (is_between low last) ranges ≡ filter (range_overlaps low high) ranges
 up_to_last low high last e ranges = filter_agree (is_between low last) (range_overlaps low high) (λ r. of_numbers r.range.begin r.range.end) ranges
   where
     of_numbers : (b d : ℕ) → (nat_lt low d && nat_le b last) ≡ (nat_lt low d && nat_lt b high)
     of_numbers b d = grind (arith, nat_tests)
 
 -- nothing begins below the first address
-pub none_below_first : (low high : ℕ) → (1 ≤ high → ⊥) → (ranges : List UnitRange) → [] ≡ filter (range_overlaps low high) ranges
+none_below_first : (low high : ℕ) → (1 ≤ high → ⊥) → (ranges : List UnitRange) → [] ≡ filter (range_overlaps low high) ranges
 none_below_first low high first [] = refl
 none_below_first low high first (r ∷ ranges) =
     none_below_first low high first ranges ∙ sym (ap (λ b. cond b (r ∷ filter (range_overlaps low high) ranges) (filter (range_overlaps low high) ranges)) (of_numbers r.range.begin r.range.end high first))
@@ -123,8 +123,18 @@ none_below_first low high first (r ∷ ranges) =
     of_numbers b d (suc n) f = absurd (f (omega arith))
 
 -- what lies about one address covers it
-pub at_probe : (probe : ℕ) (ranges : List UnitRange) → filter (is_between probe probe) ranges ≡ filter (range_covers probe) ranges
+at_probe : (probe : ℕ) (ranges : List UnitRange) → filter (is_between probe probe) ranges ≡ filter (range_covers probe) ranges
 at_probe probe ranges = filter_agree (is_between probe probe) (range_covers probe) (λ r. of_numbers r.range.begin r.range.end) ranges
   where
     of_numbers : (b d : ℕ) → (nat_lt probe d && nat_le b probe) ≡ (nat_le b probe && nat_lt probe d)
     of_numbers b d = grind (arith, nat_tests)
+
+-- what a search finds by the ranges as they are listed
+pub covers_found : (probe : ℕ) (listed : List UnitRange) → filter (is_between probe probe) (in_order ends_sooner listed) ≡ cover probe listed
+covers_found probe listed = at_probe probe (in_order ends_sooner listed) ∙ cover_is probe listed (in_order ends_sooner listed) refl
+
+pub overlaps_found : (low high last : ℕ) → high ≡ last + 1 → (listed : List UnitRange) → filter (is_between low last) (in_order ends_sooner listed) ≡ cover_range low high listed
+overlaps_found low high last e listed = up_to_last low high last e (in_order ends_sooner listed) ∙ cover_range_is low high listed (in_order ends_sooner listed) refl
+
+pub none_overlaps : (low high : ℕ) → (1 ≤ high → ⊥) → (listed : List UnitRange) → [] ≡ cover_range low high listed
+none_overlaps low high first listed = none_below_first low high first (in_order ends_sooner listed) ∙ cover_range_is low high listed (in_order ends_sooner listed) refl

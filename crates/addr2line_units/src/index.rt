@@ -123,6 +123,7 @@ impl UnitRanges {
     /// The ranges that end past `low` and begin below `high`, in order. Takes no memory.
     ///
     /// `low` may be above `high`.
+    #[tactic(auto, using(crate::proofs::IndexLemmas::overlaps_found, crate::proofs::IndexLemmas::none_overlaps))]
     pub fn find_range(&self, low: u64, high: u64) -> UnitRangeIter<'_>
         ensures gives { ranges_left result ≡ cover_range low high self.now }
     {
@@ -138,6 +139,7 @@ impl UnitRanges {
     /// The ranges that hold `probe`, in order. Takes no memory.
     ///
     /// None holds the greatest address, since none ends past it.
+    #[tactic(auto, using(crate::proofs::IndexLemmas::covers_found))]
     pub fn find(&self, probe: u64) -> UnitRangeIter<'_>
         ensures gives { ranges_left result ≡ cover probe self.now }
         ensures last { probe ≡ 2 ^ 64 - 1 → ranges_left result ≡ [] }
@@ -154,6 +156,7 @@ impl<'a> Iterator for UnitRangeIter<'a> {
     ghost remaining = { item_count ranges_left };
 
     /// The next range. Takes no memory.
+    #[tactic(auto, using(crate::proofs::LeastBeginLemmas::all_late))]
     fn next(&mut self) -> Option<UnitRange> {
         loop {
             let (first, rest) = self.ranges.split_first()?;

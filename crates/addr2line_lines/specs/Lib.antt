@@ -24,3 +24,7 @@ pub mod Segments
 pub mod Sweep
 pub mod Functions
 pub mod FoundFunctions
+pub mod References
+pub mod Names
+pub mod Details
+pub mod SeenScope

@@ -9,9 +9,11 @@ mod functions;
 mod laws;
 mod line;
 mod location;
+mod name;
 mod packed;
 mod path;
 mod range;
+mod references;
 mod row;
 mod search;
 mod segments;
@@ -27,6 +29,7 @@ pub use crate::laws::{
 pub use crate::line::Lines;
 pub use crate::location::Location;
 pub use crate::range::{LineLocationRangeIter, LineRanges};
+pub use crate::references::{FileUnits, Scope};
 pub use crate::row::Row;
 pub use crate::segments::{FunctionAddress, Segments};
 

@@ -12,6 +12,7 @@ mod location;
 mod name;
 mod packed;
 mod path;
+mod picks;
 mod range;
 mod references;
 mod row;

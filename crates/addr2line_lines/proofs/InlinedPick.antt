@@ -10,7 +10,7 @@ use Rattle.std.proofs.lemmas.List.Elements.{All-from_recursion}
 use Rattle.gimli_read.specs.Topmost.{last}
 use Rattle.addr2line_lines.specs.declared.picks.InlinedFunctionAddress.{InlinedFunctionAddress}
 use Rattle.addr2line_lines.specs.InOrder.{IsInOrder, begins_sooner}
-use Rattle.addr2line_lines.specs.InlinedOrder.{inlined_sooner, place, place_at, place_begin, place_end, places_of_depth}
+use Rattle.addr2line_lines.specs.InlinedOrder.{inlined_sooner, place, place_at, place_begin, place_end, places_of_depth, places_within}
 use Rattle.addr2line_lines.specs.Pick.{at_or_below, candidate, if_past}
 use Rattle.addr2line_lines.proofs.OrderPick.{candidate_ordered}
 use Rattle.addr2line_lines.proofs.PickLemmas.{filter-filter}
@@ -143,3 +143,7 @@ module _ (depth probe : ℕ) (ys : List InlinedFunctionAddress) (up : IsInOrder 
       where
         differs : (p : ℕ) → (p ≡ depth → ⊥) → (p == depth) ≡ false
         differs p k = grind (arith, nat_tests)
+
+-- one depth further
+pub within_some : (n probe depth : ℕ) (ys : List InlinedFunctionAddress) (x : ℕ) → place_at probe depth ys ≡ Some x → places_within (suc n) probe depth ys ≡ x ∷ places_within n probe (depth + 1) ys
+within_some n probe depth ys x e = ap (λ (o : Option ℕ). elim o [ None ↦ [] | Some y ↦ y ∷ places_within n probe (depth + 1) ys ]) e

@@ -1,10 +1,13 @@
 //! The inlined functions at an address.
 
-ghost use Rattle.std.specs.Prelude.{◌≡◌};
+ghost use Rattle.std.specs.Prelude.{◌≡◌, Ok, length, nat_lt};
+ghost use Rattle.gimli_read.specs.Reading.{ExactlyUnlessOomIf};
 ghost use Rattle.addr2line_lines.specs.InOrder.{IsInOrder, in_order};
-ghost use Rattle.addr2line_lines.specs.InlinedOrder.{inlined_sooner, place_at};
+ghost use Rattle.addr2line_lines.specs.InlinedOrder.{inlined_sooner, place_at, places_chain};
 
-use gimli::read::Range;
+use gimli::read::{Error, Range};
+use smallvec::SmallVec;
+use std::alloc::Global;
 
 /// A range of an inlined function.
 #[derive(Clone, Copy, Debug, PartialEq, Eq)]
@@ -49,4 +52,27 @@ pub(crate) fn find_inlined(
     } else {
         None
     }
+}
+
+/// The inlined functions at `probe`, from the outside in: those of depth 0, 1 and so on, up to the
+/// first depth without one, of ranges in order.
+///
+/// Refused `OutOfMemory` alone, and only where there are more than 16. Source: Own.
+pub(crate) fn find_chain(
+    alloc: Global,
+    ranges: &[InlinedFunctionAddress],
+    probe: u64,
+) -> Result<SmallVec<usize, 16>, Error>
+    requires ordered { IsInOrder inlined_sooner ranges.now }
+    ensures gives { ExactlyUnlessOomIf (nat_lt 16 (length (places_chain probe ranges.now)))
+        (λ chain. chain.items) result (Ok (places_chain probe ranges.now)) }
+{
+    let mut chain = SmallVec::new(alloc);
+    for depth in 0..ranges.len() {
+        match find_inlined(ranges, depth, probe) {
+            Some(function) => chain.push(function)?,
+            None => break,
+        }
+    }
+    Ok(chain)
 }

@@ -147,3 +147,8 @@ module _ (depth probe : ℕ) (ys : List InlinedFunctionAddress) (up : IsInOrder 
 -- one depth further
 pub within_some : (n probe depth : ℕ) (ys : List InlinedFunctionAddress) (x : ℕ) → place_at probe depth ys ≡ Some x → places_within (suc n) probe depth ys ≡ x ∷ places_within n probe (depth + 1) ys
 within_some n probe depth ys x e = ap (λ (o : Option ℕ). elim o [ None ↦ [] | Some y ↦ y ∷ places_within n probe (depth + 1) ys ]) e
+
+-- no depth further
+pub within_none : (n probe depth : ℕ) (ys : List InlinedFunctionAddress) → place_at probe depth ys ≡ None → places_within n probe depth ys ≡ []
+within_none zero probe depth ys e = refl
+within_none (suc n) probe depth ys e = ap (λ (o : Option ℕ). elim o [ None ↦ [] | Some y ↦ y ∷ places_within n probe (depth + 1) ys ]) e

@@ -1,9 +1,11 @@
 //! The inlined functions at an address.
 
-ghost use Rattle.std.specs.Prelude.{◌≡◌, Ok, length, nat_lt};
+ghost use Rattle.std.specs.Prelude.{◌≡◌, ℕ, IfOk, List, Ok, length, map, nat_lt};
+ghost use Rattle.std.specs.List.Sorted.{IsNonDecreasingBy};
 ghost use Rattle.gimli_read.specs.Reading.{ExactlyUnlessOomIf};
 ghost use Rattle.addr2line_lines.specs.InOrder.{IsInOrder, in_order};
-ghost use Rattle.addr2line_lines.specs.InlinedOrder.{inlined_sooner, place_at, places_chain};
+ghost use Rattle.addr2line_lines.specs.Details.{InlinedEntry, inlined_chain};
+ghost use Rattle.addr2line_lines.specs.InlinedOrder.{inlined_range_of, inlined_sooner, place, place_at, places_chain};
 
 use gimli::read::{Error, Range};
 use smallvec::SmallVec;
@@ -66,6 +68,10 @@ pub(crate) fn find_chain(
     requires ordered { IsInOrder inlined_sooner ranges.now }
     ensures gives { ExactlyUnlessOomIf (nat_lt 16 (length (places_chain probe ranges.now)))
         (λ chain. chain.items) result (Ok (places_chain probe ranges.now)) }
+    ensures listed { (listed : List InlinedFunctionAddress) → (entry_of : ℕ → InlinedEntry)
+        → IsNonDecreasingBy place listed → ranges.now ≡ in_order inlined_sooner listed
+        → IfOk result (λ chain. map entry_of chain.items
+        ≡ inlined_chain probe (map (inlined_range_of entry_of) listed)) }
 {
     let mut chain = SmallVec::new(alloc);
     for depth in 0..ranges.len() {

@@ -1,7 +1,9 @@
-use Rattle.std.proofs.Common.{rules, ◌≡◌, List, ◌∷◌, [], ◌++◌, ℕ, length, ◌+◌, ◌-◌, suc, arith, ap, sym, ◌∙◌, append_assoc}
-use Rattle.addr2line_lines.specs.InlinedOrder.{places_within}
-use Rattle.addr2line_lines.proofs.InlinedPick.{within_some}
+use Rattle.std.proofs.Common.{rules, ◌≡◌, List, ◌∷◌, [], ◌++◌, ℕ, length, map, append-nil, ◌+◌, ◌-◌, suc, arith, ap, sym, ◌∙◌, append_assoc}
+use Rattle.addr2line_lines.specs.InlinedOrder.{places_chain, places_within}
+use Rattle.addr2line_lines.proofs.InlinedOrder.{listed_chain}
+use Rattle.addr2line_lines.proofs.InlinedPick.{within_none, within_some}
 use Rattle.addr2line_lines.proofs.picks.find_chain.Goals as goal
+use Rattle.addr2line_lines.proofs.picks.find_chain.Goals.{else-loop-depth-test, then-loop-depth-test+in-None}
 
 pub loop-depth-preserved : goal.loop-depth-preserved
 loop-depth-preserved c =
@@ -24,3 +26,17 @@ loop-depth-preserved c =
         ∙ ap (λ rest. c.loop-depth.chain.items ++ rest) (sym (within_some n c.args.probe depth all c.in-Some.function (sym c.in-Some.ensures.found)))
         ∙ ap (λ k. c.loop-depth.chain.items ++ places_within k c.args.probe depth all) (sym next) ∙ i.found;
     }
+
+pub returns-clause-listed : goal.returns-clause-listed
+returns-clause-listed c =
+    let i = c.loop-depth.invariant in
+    let all = c.args.ranges.now in
+    let items = c.loop-depth.chain.items in
+    let depth = c.loop-depth.depth in
+    let left = places_within (length all - depth) c.args.probe depth all in
+    let done : left ≡ [] = elim c.loop-depth-test.branch [
+      | else-loop-depth-test w ↦ (let n : length all - depth ≡ 0 = (let t = w.loop-depth-test.false in omega arith) in ap (λ k. places_within k c.args.probe depth all) n)
+      | then-loop-depth-test+in-None w ↦ within_none (length all - depth) c.args.probe depth all (sym w.in-None.ensures.found)
+    ] in
+    let found : items ≡ places_chain c.args.probe all = sym (append-nil items) ∙ ap (λ rest. items ++ rest) (sym done) ∙ i.found in
+    λ listed entry_of up e. ap (map entry_of) found ∙ listed_chain entry_of c.args.probe listed all up e

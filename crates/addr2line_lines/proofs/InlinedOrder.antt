@@ -143,18 +143,20 @@ module _ (depth : ℕ) where
 
       each : (ys : List InlinedFunctionAddress) → AllByRecursion (λ y. place x ≤ place y) ys → AllByRecursion (λ y. (of_it x && ties begins z x) ≡ true → (of_it y && ties begins z y) ≡ true → inlined_sooner y x ≡ false) ys
       each [] all = tt
-      each (y ∷ ys) all =
-          ((λ e f.
+      each (y ∷ ys) all = (
+        (λ e f.
             let s = same z.range.begin z.range.end x.depth x.range.begin x.range.end e in
             let t = same z.range.begin z.range.end y.depth y.range.begin y.range.end f in
-            of_numbers x.depth x.range.begin x.range.end x.function y.depth y.range.begin y.range.end y.function (t.0 ∙ sym s.0) (t.1 ∙ sym s.1) (t.2 ∙ sym s.2) all.0), each ys all.1)
+            of_numbers x.depth x.range.begin x.range.end x.function y.depth y.range.begin y.range.end y.function (t.0 ∙ sym s.0) (t.1 ∙ sym s.1) (t.2 ∙ sym s.2) all.0),
+        each ys all.1,
+      )
 
   depth_in_order : (xs : List InlinedFunctionAddress) → IsNonDecreasingBy place xs → places_of_depth depth (in_order inlined_sooner xs) ≡ in_order begins (places_of_depth depth xs)
   depth_in_order xs up =
       let o = begins_order place_begin place_end in
       one_order begins o _ _ (depth_ordered depth (in_order inlined_sooner xs) (in_order_ordered inlined_sooner inlined_order xs)) (in_order_ordered begins o (places_of_depth depth xs))
       (λ z. filter-filter of_it (ties begins z) (in_order inlined_sooner xs) ∙ in_order_keeps inlined_sooner (λ x. of_it x && ties begins z x) xs (none_sooner z xs (rising_up place xs up))
-        ∙ sym (filter-filter of_it (ties begins z) xs) ∙ sym (in_order_ties begins o z (places_of_depth depth xs)))
+      ∙ sym (filter-filter of_it (ties begins z) xs) ∙ sym (in_order_ties begins o z (places_of_depth depth xs)))
 
   pub place_in_order : (probe : ℕ) (xs : List InlinedFunctionAddress) → IsNonDecreasingBy place xs → place_at probe depth (in_order inlined_sooner xs) ≡ place_at probe depth xs
   place_in_order probe xs up = ap (λ ys. option_map place (pick place_begin place_end probe ys)) (depth_in_order xs up) ∙ ap (option_map place) (pick_in_order place_begin place_end probe (places_of_depth depth xs))

@@ -1,6 +1,6 @@
 //! The inlined functions at an address.
 
-ghost use Rattle.std.specs.Prelude.{◌≡◌, ℕ, IfOk, List, Ok, length, map, nat_lt};
+ghost use Rattle.std.specs.Prelude.{◌≡◌, ◌≤◌, ◌++◌, ℕ, IfOk, List, Ok, drop, length, map, nat_lt, take};
 ghost use Rattle.std.specs.List.Sorted.{IsNonDecreasingBy};
 ghost use Rattle.gimli_read.specs.Reading.{ExactlyUnlessOomIf};
 ghost use Rattle.addr2line_lines.specs.InOrder.{IsInOrder, in_order};
@@ -25,8 +25,18 @@ pub struct InlinedFunctionAddress {
 /// Puts ranges in order of depth, then begin, then end, then function. Takes no memory.
 pub(crate) fn sort_inlined(ranges: &mut [InlinedFunctionAddress])
     ensures gives { ranges.new ≡ in_order inlined_sooner ranges.old }
+    ensures ordered { IsInOrder inlined_sooner ranges.new }
 {
     ranges.sort_unstable_by_key(|r| (r.depth, r.range.begin, r.range.end, r.function));
+}
+
+/// Puts the ranges from a place on in order. Takes no memory.
+pub(crate) fn sort_inlined_from(ranges: &mut Vec<InlinedFunctionAddress>, start: usize)
+    requires there { start ≤ length ranges.old.items }
+    ensures gives { ranges.new.items ≡ take start ranges.old.items
+        ++ in_order inlined_sooner (drop start ranges.old.items) }
+{
+    sort_inlined(&mut ranges[start..]);
 }
 
 /// The function of a depth that is picked for `probe`, of ranges in order: by the range that begins

@@ -23,8 +23,8 @@ loop-depth-preserved c =
       count = omega arith;
       room = omega arith;
       found = ap (λ items. items ++ places_within n c.args.probe (depth + 1) all) e ∙ append_assoc c.loop-depth.chain.items (c.in-Some.function ∷ []) _
-        ∙ ap (λ rest. c.loop-depth.chain.items ++ rest) (sym (within_some n c.args.probe depth all c.in-Some.function (sym c.in-Some.ensures.found)))
-        ∙ ap (λ k. c.loop-depth.chain.items ++ places_within k c.args.probe depth all) (sym next) ∙ i.found;
+          ∙ ap (λ rest. c.loop-depth.chain.items ++ rest) (sym (within_some n c.args.probe depth all c.in-Some.function (sym c.in-Some.ensures.found)))
+          ∙ ap (λ k. c.loop-depth.chain.items ++ places_within k c.args.probe depth all) (sym next) ∙ i.found;
     }
 
 pub returns-clause-listed : goal.returns-clause-listed

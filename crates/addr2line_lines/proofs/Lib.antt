@@ -25,3 +25,4 @@ pub mod FunctionLemmas
 pub mod FunctionOrder
 pub mod InlinedOrder
 pub mod InlinedPick
+pub mod NestedInlined

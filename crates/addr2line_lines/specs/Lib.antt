@@ -29,3 +29,4 @@ pub mod Names
 pub mod Details
 pub mod SeenScope
 pub mod InlinedOrder
+pub mod NestedInlined

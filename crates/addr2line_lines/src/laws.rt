@@ -6,6 +6,7 @@ ghost use Rattle.addr2line_lines.specs.InOrder.{OrderIsFree};
 ghost use Rattle.addr2line_lines.specs.Pick.{LoneIsPicked};
 ghost use Rattle.addr2line_lines.specs.Functions.{function_begin, function_end, function_offset};
 ghost use Rattle.addr2line_lines.specs.Shortest.{LoneIsShortest, NoneIsShorter};
+ghost use Rattle.addr2line_lines.specs.NestedInlined.{ChainIsWhole, NestedChain};
 ghost use Rattle.addr2line_lines.specs.Spans.{EachAddressHasRow};
 
 /// Where addresses don't fall within a sequence, the sequences of the rows rise.
@@ -38,4 +39,16 @@ pub fn none_is_shorter()
 /// disjoint from it.
 pub fn lone_is_shortest()
     ensures law { LoneIsShortest function_begin function_end function_offset }
+{}
+
+/// The chain at an address is of as many depths as have one picked: it is not cut for want of steps.
+pub fn inlined_chain_is_whole()
+    ensures law { ChainIsWhole }
+{}
+
+/// Where the ranges of inlined entries lie within those of the nearest inlined entries around them,
+/// and those of a depth are disjoint, each entry of the chain at an address is the nearest one
+/// around the next, and none that holds the address is left out.
+pub fn inlined_are_nested()
+    ensures law { NestedChain }
 {}

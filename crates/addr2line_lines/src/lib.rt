@@ -24,8 +24,8 @@ pub use crate::count::Count;
 pub use crate::function::{RangeAttributes, read_ranges, read_root_ranges};
 pub use crate::functions::Functions;
 pub use crate::laws::{
-    each_address_has_a_row, lone_is_picked, lone_is_shortest, none_is_shorter, order_is_free,
-    sequences_rise,
+    each_address_has_a_row, inlined_are_nested, inlined_chain_is_whole, lone_is_picked,
+    lone_is_shortest, none_is_shorter, order_is_free, sequences_rise,
 };
 pub use crate::line::Lines;
 pub use crate::location::Location;

@@ -1,7 +1,8 @@
 -- The chain of nested inlined entries (on specs/NestedInlined.antt).
-use Rattle.std.proofs.Common.{ℕ, ◌≡◌, ◌+◌, ◌-◌, ◌<◌, ◌≤◌, ◌⊎◌, ◌&&◌, ◌==◌, Bool, true, false, cond, nat_le, nat_lt, List, [], ◌∷◌, length, slice_index_or, Option, Some, None, zero, suc, arith, inl, inr, ◌∙◌, ap, subst, sym, refl}
+use Rattle.std.proofs.Common.{ℕ, ◌≡◌, ◌+◌, ◌-◌, ◌<◌, ◌≤◌, ◌⊎◌, ◌&&◌, ◌==◌, Bool, true, false, cond, max, nat_le, nat_lt, List, [], ◌∷◌, length, slice_index_or, Option, Some, None, zero, suc, arith, inl, inr, ◌∙◌, ap, subst, sym, refl}
 use Rattle.std.specs.List.{All, Contains, filter, slice_get}
 use Rattle.std.specs.Option.{option_and_then}
+use Rattle.std.proofs.lemmas.Bool.{cases_lt}
 use Rattle.std.proofs.lemmas.Bool.Decides.{nat_tests}
 use Rattle.std.proofs.lemmas.List.Elements.{All-contains, All-contains_itself}
 use Rattle.gimli_read.specs.Topmost.{greatest, last, topmost}
@@ -71,26 +72,6 @@ chain_ends (suc n) probe depth ranges none = by_cases (inlined_at probe depth ra
         absurd (let g = a.2 in cc)
 
 module _ (around : InlinedEntry → Option InlinedEntry) (ranges : List InlinedRange) (probe : ℕ) (nested : AreNested around ranges) where
-  -- a range that holds the probe is the one of its depth
-  at_depth : (z : InlinedRange) → In z ranges → inlined_holds probe z ≡ true → inlined_at probe z.depth ranges ≡ Some z
-  at_depth z i h =
-      let alone = of_all (IsAlone ranges) ranges z nested.apart i in
-      let mine : InlinedRange → Bool = λ x. x.depth == z.depth in
-      let P : InlinedRange → Type 0 = λ x. x.depth ≡ z.depth → (x ≡ z) ⊎ IsDisjoint inlined_begin inlined_end z x in
-      let Q : InlinedRange → Type 0 = λ x. (x ≡ z) ⊎ IsDisjoint inlined_begin inlined_end z x in
-      let there = contains_in (of_depth z.depth ranges) z (In-passes mine ranges z i (itself z.depth)) in
-      let s = sides z.range.begin z.range.end h in
-      lone_is_picked inlined_begin inlined_end probe (of_depth z.depth ranges) z there s.0 s.1 (All-passing P Q mine (λ x t f. f (same x.depth z.depth t)) ranges alone)
-    where
-      itself : (n : ℕ) → (n == n) ≡ true
-      itself n = grind (arith, nat_tests)
-
-      same : (m n : ℕ) → (m == n) ≡ true → m ≡ n
-      same m n e = grind (arith, nat_tests)
-
-      sides : (a b : ℕ) → (nat_le a probe && nat_lt probe b) ≡ true → (a ≤ probe) × (probe < b)
-      sides a b e = (grind (arith, nat_tests), grind (arith, nat_tests))
-
   -- the range around one that holds the probe
   outer_of : (x : InlinedRange) → In x ranges → inlined_holds probe x ≡ true → 0 < x.depth → IsHeldAround around ranges x probe
   outer_of x i h some = of_all (IsWithinNearest around ranges) ranges x nested.within i some probe h
@@ -103,10 +84,9 @@ module _ (around : InlinedEntry → Option InlinedEntry) (ranges : List InlinedR
   picked_around depth x y e f =
       let a = at_is probe (depth + 1) ranges y f in
       let o = outer_of y a.0 a.2 (let d = a.1 in omega arith) in
-      let same : o.outer.depth ≡ depth = (let d = a.1 in let c = o.depth in omega arith) in
-      let p = at_depth o.outer (listed_in o.outer o.listed) o.holds_it in
-      let q : Some x ≡ Some o.outer = sym e ∙ ap (λ n. inlined_at probe n ranges) (sym same) ∙ p in
-      let it : x ≡ o.outer = cc in
+      let b = at_is probe depth ranges x e in
+      let same : x.depth ≡ o.outer.depth = (let d = a.1 in let c = o.depth in let f = b.1 in omega arith) in
+      let it = of_all (λ (z : InlinedRange). z.depth ≡ o.outer.depth → (p : ℕ) → inlined_holds p z ≡ true → inlined_holds p o.outer ≡ true → z ≡ o.outer) ranges x (of_all (IsAlone ranges) ranges o.outer nested.apart (listed_in o.outer o.listed)) b.0 same probe b.2 o.holds_it in
       o.nearest ∙ ap (λ (r : InlinedRange). Some r.entry) (sym it)
 
   next_within : (n depth : ℕ) → AreInEachOther around (inlined_within n probe depth ranges)
@@ -139,20 +119,57 @@ module _ (around : InlinedEntry → Option InlinedEntry) (ranges : List InlinedR
       let o = outer_of h.it h.listed h.holds_it (let e = h.at in omega arith) in
       held_below k depth (record { it = o.outer; listed = listed_in o.outer o.listed; at = (let e = h.at in let c = o.depth in omega arith); holds_it = o.holds_it })
 
-  at_held : (depth : ℕ) (h : Held depth) → inlined_at probe depth ranges ≡ Some h.it
-  at_held depth h = ap (λ n. inlined_at probe n ranges) (sym h.at) ∙ at_depth h.it h.listed h.holds_it
+  module _ (some : All (λ x. inlined_begin x < inlined_end x) ranges) where
+    some_of : (z : InlinedRange) → In z ranges → inlined_begin z < inlined_end z
+    some_of z i = of_all (λ (x : InlinedRange). inlined_begin x < inlined_end x) ranges z some i
 
-  within_held : (n depth : ℕ) (h : Held depth) → inlined_within (suc n) probe depth ranges ≡ h.it.entry ∷ inlined_within n probe (depth + 1) ranges
-  within_held n depth h = ap (λ (o : Option InlinedRange). elim o [ None ↦ [] | Some x ↦ x.entry ∷ inlined_within n probe (depth + 1) ranges ]) (at_held depth h)
+    -- a range that holds the probe is the one of its depth
+    at_depth : (z : InlinedRange) → In z ranges → inlined_holds probe z ≡ true → inlined_at probe z.depth ranges ≡ Some z
+    at_depth z i h =
+        let alone = of_all (IsAlone ranges) ranges z nested.apart i in
+        let mine : InlinedRange → Bool = λ x. x.depth == z.depth in
+        let P : InlinedRange → Type 0 = λ x. (inlined_begin x < inlined_end x) × (x.depth ≡ z.depth → (p : ℕ) → inlined_holds p x ≡ true → inlined_holds p z ≡ true → x ≡ z) in
+        let Q : InlinedRange → Type 0 = λ x. (x ≡ z) ⊎ IsDisjoint inlined_begin inlined_end z x in
+        let there = contains_in (of_depth z.depth ranges) z (In-passes mine ranges z i (itself z.depth)) in
+        let s = sides z.range.begin z.range.end h in
+        lone_is_picked inlined_begin inlined_end probe (of_depth z.depth ranges) z there s.0 s.1 (All-passing P Q mine (λ x t f. beside x z f.0 (f.1 (same x.depth z.depth t)) (some_of z i)) ranges (λ k d l. (some k d l, alone k d l)))
+      where
+        both : (p a b c d : ℕ) → a ≤ p → c ≤ p → p < b → p < d → ((nat_le a p && nat_lt p b) ≡ true) × ((nat_le c p && nat_lt p d) ≡ true)
+        both p a b c d e f g h = (grind (arith, nat_tests), grind (arith, nat_tests))
 
-  found_at : (n k depth : ℕ) (h : Held (depth + k)) → k < n → slice_get (inlined_within n probe depth ranges) k ≡ Some h.it.entry
-  found_at zero k depth h l = absurd (omega arith)
-  found_at (suc n) zero depth h l =
-      let g : Held depth = record { it = h.it; listed = h.listed; at = (let e = h.at in omega arith); holds_it = h.holds_it } in
-      ap (λ es. slice_get es zero) (within_held n depth g)
-  found_at (suc n) (suc k) depth h l =
-      let g : Held (depth + 1 + k) = record { it = h.it; listed = h.listed; at = (let e = h.at in omega arith); holds_it = h.holds_it } in
-      ap (λ es. slice_get es (suc k)) (within_held n depth (held_below (suc k) depth h)) ∙ found_at n k (depth + 1) g (omega arith)
+        beside : (x z : InlinedRange) → inlined_begin x < inlined_end x → ((p : ℕ) → inlined_holds p x ≡ true → inlined_holds p z ≡ true → x ≡ z) → inlined_begin z < inlined_end z → (x ≡ z) ⊎ IsDisjoint inlined_begin inlined_end z x
+        beside x z l one m =
+            elim (cases_lt (inlined_begin z) (inlined_end x)) [
+              | inr low ↦ inr (l, inl low)
+              | inl u ↦ elim (cases_lt (inlined_begin x) (inlined_end z)) [
+                | inr high ↦ inr (l, inr high)
+                | inl v ↦ (let p = max (inlined_begin x) (inlined_begin z) in let t = both p (inlined_begin x) (inlined_end x) (inlined_begin z) (inlined_end z) (omega arith) (omega arith) (omega arith) (omega arith) in inl (one p t.0 t.1))
+              ]
+            ]
+
+        itself : (n : ℕ) → (n == n) ≡ true
+        itself n = grind (arith, nat_tests)
+
+        same : (m n : ℕ) → (m == n) ≡ true → m ≡ n
+        same m n e = grind (arith, nat_tests)
+
+        sides : (a b : ℕ) → (nat_le a probe && nat_lt probe b) ≡ true → (a ≤ probe) × (probe < b)
+        sides a b e = (grind (arith, nat_tests), grind (arith, nat_tests))
+
+    at_held : (depth : ℕ) (h : Held depth) → inlined_at probe depth ranges ≡ Some h.it
+    at_held depth h = ap (λ n. inlined_at probe n ranges) (sym h.at) ∙ at_depth h.it h.listed h.holds_it
+
+    within_held : (n depth : ℕ) (h : Held depth) → inlined_within (suc n) probe depth ranges ≡ h.it.entry ∷ inlined_within n probe (depth + 1) ranges
+    within_held n depth h = ap (λ (o : Option InlinedRange). elim o [ None ↦ [] | Some x ↦ x.entry ∷ inlined_within n probe (depth + 1) ranges ]) (at_held depth h)
+
+    found_at : (n k depth : ℕ) (h : Held (depth + k)) → k < n → slice_get (inlined_within n probe depth ranges) k ≡ Some h.it.entry
+    found_at zero k depth h l = absurd (omega arith)
+    found_at (suc n) zero depth h l =
+        let g : Held depth = record { it = h.it; listed = h.listed; at = (let e = h.at in omega arith); holds_it = h.holds_it } in
+        ap (λ es. slice_get es zero) (within_held n depth g)
+    found_at (suc n) (suc k) depth h l =
+        let g : Held (depth + 1 + k) = record { it = h.it; listed = h.listed; at = (let e = h.at in omega arith); holds_it = h.holds_it } in
+        ap (λ es. slice_get es (suc k)) (within_held n depth (held_below (suc k) depth h)) ∙ found_at n k (depth + 1) g (omega arith)
 
 -- as many depths as there are ranges at most
 module _ (ranges : List InlinedRange) where
@@ -251,13 +268,13 @@ chain_is_whole n probe ranges l = more_steps ranges (n - length ranges) n probe 
 pub nested_chain : NestedChain
 nested_chain around ranges probe nested = record {
   next = next_within around ranges probe nested (length ranges) 0;
-  all = λ k d l h.
+  all = λ some k d l h.
       let x = slice_index_or ranges k d in
       let i : In x ranges = listed_in around ranges probe nested x (All-contains_itself ranges k d l) in
       let held : Held around ranges probe nested (0 + x.depth) = record { it = x; listed = i; at = omega arith; holds_it = h } in
       let each : Each ranges 0 (x.depth + 1) = λ n low high.
-          (let whole : Held around ranges probe nested (n + (x.depth - n)) = record { it = x; listed = i; at = omega arith; holds_it = h } in
-          let below = held_below around ranges probe nested (x.depth - n) n whole in (below.it, below.listed, below.at)) in
+      (let whole : Held around ranges probe nested (n + (x.depth - n)) = record { it = x; listed = i; at = omega arith; holds_it = h } in
+      let below = held_below around ranges probe nested (x.depth - n) n whole in (below.it, below.listed, below.at)) in
       let few = enough ranges (x.depth + 1) each in
-      found_at around ranges probe nested (length ranges) x.depth 0 held (omega arith);
+      found_at around ranges probe nested some (length ranges) x.depth 0 held (omega arith);
 }

@@ -2,10 +2,9 @@
 -- Own: its steps are enough; where the ranges are nested as the entries are, it is one of entries
 -- inside each other, and none that holds the address is left out. DWARF 5, section 3.3.8, doesn't
 -- ask for ranges so nested.
-use Rattle.std.specs.Prelude.{ℕ, ◌≡◌, ◌+◌, ◌<◌, ◌≤◌, ◌⊎◌, Bool, true, List, [], ◌∷◌, Option, Some, length, slice_get}
+use Rattle.std.specs.Prelude.{ℕ, ◌≡◌, ◌+◌, ◌<◌, ◌≤◌, Bool, true, List, [], ◌∷◌, Option, Some, length, slice_get}
 use Rattle.std.specs.List.{All, Contains}
 use Rattle.addr2line_lines.specs.Details.{InlinedEntry, InlinedRange, inlined_begin, inlined_chain, inlined_end, inlined_within}
-use Rattle.addr2line_lines.specs.Pick.{IsDisjoint}
 use Rattle.addr2line_lines.specs.Shortest.{holds}
 
 -- more steps than there are ranges give the same chain
@@ -33,13 +32,13 @@ abbrev pub IsWithinNearest : (InlinedEntry → Option InlinedEntry) → List Inl
 IsWithinNearest around ranges x = 0 < x.depth → (probe : ℕ) → inlined_holds probe x ≡ true
     → IsHeldAround around ranges x probe
 
--- each other range of the same depth has addresses, and none of those of z
+-- no other range of the same depth holds an address of z
 abbrev pub IsAlone : List InlinedRange → InlinedRange → Type 0
-IsAlone ranges z = All (λ x. x.depth ≡ z.depth
-    → (x ≡ z) ⊎ IsDisjoint inlined_begin inlined_end z x) ranges
+IsAlone ranges z = All (λ x. x.depth ≡ z.depth → (probe : ℕ) → inlined_holds probe x ≡ true
+    → inlined_holds probe z ≡ true → x ≡ z) ranges
 
--- the ranges of entries lie within those of the nearest entries around, and those of a depth are
--- disjoint
+-- the ranges of entries lie within those of the nearest entries around, and those of a depth don't
+-- overlap
 pub record AreNested (around : InlinedEntry → Option InlinedEntry) (ranges : List InlinedRange)
     : Type 0 where
   pub within : All (IsWithinNearest around ranges) ranges
@@ -51,12 +50,13 @@ AreInEachOther around [] = Unit {0}
 AreInEachOther around (x ∷ []) = Unit {0}
 AreInEachOther around (x ∷ y ∷ rest) = (around y ≡ Some x) × AreInEachOther around (y ∷ rest)
 
--- the chain of nested entries: each is the nearest one around the next, and each that has a range
--- that holds the probe stands at its depth
+-- the chain of nested entries: each is the nearest one around the next, and where no range is
+-- empty, each entry that has a range that holds the probe stands at its depth
 pub record IsNestedChain (around : InlinedEntry → Option InlinedEntry) (ranges : List InlinedRange)
     (probe : ℕ) : Type 0 where
   pub next : AreInEachOther around (inlined_chain probe ranges)
-  pub all : All (λ x. inlined_holds probe x ≡ true
+  pub all : All (λ x. inlined_begin x < inlined_end x) ranges
+      → All (λ x. inlined_holds probe x ≡ true
       → slice_get (inlined_chain probe ranges) x.depth ≡ Some x.entry) ranges
 
 -- where entries are nested so are those of the chain, whatever says which is the nearest around

@@ -47,8 +47,8 @@ pub fn inlined_chain_is_whole()
 {}
 
 /// Where the ranges of inlined entries lie within those of the nearest inlined entries around them,
-/// and those of a depth are disjoint, each entry of the chain at an address is the nearest one
-/// around the next, and none that holds the address is left out.
+/// and those of a depth don't overlap, each entry of the chain at an address is the nearest one
+/// around the next. Where no range is empty either, none that holds the address is left out.
 pub fn inlined_are_nested()
     ensures law { NestedChain }
 {}

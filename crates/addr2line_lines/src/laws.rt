@@ -1,4 +1,4 @@
-//! Laws of sequences, of functions and of the choice among them, with no code.
+//! Laws of sequences, of functions, of inlined entries and of the choice among them, with no code.
 
 ghost use Rattle.addr2line_lines.specs.Sequences.{start_of, end_of};
 ghost use Rattle.addr2line_lines.specs.Rises.{SequencesRise};
@@ -41,7 +41,8 @@ pub fn lone_is_shortest()
     ensures law { LoneIsShortest function_begin function_end function_offset }
 {}
 
-/// The chain at an address is of as many depths as have one picked: it is not cut for want of steps.
+/// The chain of inlined entries at an address is not cut short: it ends at the first depth of which
+/// none is picked.
 pub fn inlined_chain_is_whole()
     ensures law { ChainIsWhole }
 {}

@@ -1,4 +1,4 @@
-use Rattle.std.proofs.Common.{rules, ◌≡◌, List, ◌∷◌, [], ◌++◌, ℕ, length, map, append-nil, ◌+◌, ◌-◌, suc, arith, ap, sym, ◌∙◌, append_assoc}
+use Rattle.std.proofs.Common.{◌≡◌, ◌∷◌, [], ◌++◌, length, map, append-nil, ◌+◌, ◌-◌, suc, arith, ap, sym, ◌∙◌, append_assoc}
 use Rattle.addr2line_lines.specs.InlinedOrder.{places_chain, places_within}
 use Rattle.addr2line_lines.proofs.InlinedOrder.{listed_chain}
 use Rattle.addr2line_lines.proofs.InlinedPick.{within_none, within_some}

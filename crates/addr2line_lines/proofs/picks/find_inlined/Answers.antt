@@ -1,4 +1,4 @@
-use Rattle.std.proofs.Common.{rules, ◌≡◌, ℕ, ◌-◌, Bool, List, true, false, arith, sym, ap, ◌∙◌, inl, inr}
+use Rattle.std.proofs.Common.{rules, arith, sym, inl, inr}
 use Rattle.std.proofs.lemmas.List.Sorted.{IsPartitionPoint-from_clause}
 use Rattle.addr2line_lines.proofs.InlinedPick.{IsPlacePast, begins_by, it_counts, it_ends, none_counts, other_depth, parted}
 use Rattle.addr2line_lines.proofs.picks.find_inlined.Goals as goal

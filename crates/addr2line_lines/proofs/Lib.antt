@@ -23,3 +23,6 @@ pub mod SweepLemmas
 pub mod SegmentSearch
 pub mod FunctionLemmas
 pub mod FunctionOrder
+pub mod InlinedOrder
+pub mod InlinedPick
+pub mod NestedInlined

@@ -24,3 +24,9 @@ pub mod Segments
 pub mod Sweep
 pub mod Functions
 pub mod FoundFunctions
+pub mod References
+pub mod Names
+pub mod Details
+pub mod SeenScope
+pub mod InlinedOrder
+pub mod NestedInlined

@@ -1,4 +1,4 @@
-//! Laws of sequences, of functions and of the choice among them, with no code.
+//! Laws of sequences, of functions, of inlined entries and of the choice among them, with no code.
 
 ghost use Rattle.addr2line_lines.specs.Sequences.{start_of, end_of};
 ghost use Rattle.addr2line_lines.specs.Rises.{SequencesRise};
@@ -6,6 +6,7 @@ ghost use Rattle.addr2line_lines.specs.InOrder.{OrderIsFree};
 ghost use Rattle.addr2line_lines.specs.Pick.{LoneIsPicked};
 ghost use Rattle.addr2line_lines.specs.Functions.{function_begin, function_end, function_offset};
 ghost use Rattle.addr2line_lines.specs.Shortest.{LoneIsShortest, NoneIsShorter};
+ghost use Rattle.addr2line_lines.specs.NestedInlined.{ChainIsWhole, NestedChain};
 ghost use Rattle.addr2line_lines.specs.Spans.{EachAddressHasRow};
 
 /// Where addresses don't fall within a sequence, the sequences of the rows rise.
@@ -38,4 +39,17 @@ pub fn none_is_shorter()
 /// disjoint from it.
 pub fn lone_is_shortest()
     ensures law { LoneIsShortest function_begin function_end function_offset }
+{}
+
+/// The chain of inlined entries at an address is not cut short: it ends at the first depth of which
+/// none is picked.
+pub fn inlined_chain_is_whole()
+    ensures law { ChainIsWhole }
+{}
+
+/// Where the ranges of inlined entries lie within those of the nearest inlined entries around them,
+/// and those of a depth don't overlap, each entry of the chain at an address is the nearest one
+/// around the next. Where no range is empty either, none that holds the address is left out.
+pub fn inlined_are_nested()
+    ensures law { NestedChain }
 {}

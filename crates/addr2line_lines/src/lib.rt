@@ -9,9 +9,12 @@ mod functions;
 mod laws;
 mod line;
 mod location;
+mod name;
 mod packed;
 mod path;
+mod picks;
 mod range;
+mod references;
 mod row;
 mod search;
 mod segments;
@@ -22,12 +25,13 @@ pub use crate::count::Count;
 pub use crate::function::{RangeAttributes, read_ranges};
 pub use crate::functions::Functions;
 pub use crate::laws::{
-    each_address_has_a_row, lone_is_picked, lone_is_shortest, none_is_shorter, order_is_free,
-    sequences_rise,
+    each_address_has_a_row, inlined_are_nested, inlined_chain_is_whole, lone_is_picked,
+    lone_is_shortest, none_is_shorter, order_is_free, sequences_rise,
 };
 pub use crate::line::Lines;
 pub use crate::location::Location;
 pub use crate::range::{LineLocationRangeIter, LineRanges};
+pub use crate::references::{FileUnits, Scope};
 pub use crate::row::Row;
 pub use crate::segments::{FunctionAddress, Segments};
 

@@ -3,6 +3,7 @@
 use crate::count::Count;
 use crate::packed::{CountedRows, PackedRows};
 use crate::path::{make_file_text, make_own_text, push_path};
+use crate::picks::{InlinedFunctionAddress, find_chain, sort_inlined};
 use crate::row::Row;
 use crate::search::{Table, search};
 use crate::segments::{FunctionAddress, Segments};
@@ -211,5 +212,48 @@ fn the_shortest_range_counts(rt: HostRuntime) {
     ];
     for (ranges, probes, want) in cases {
         assert_eq!(rt; functions_at(rt.alloc(), ranges, probes), want);
+    }
+}
+
+// The inlined functions at a probe, from the outside in, as digits after a 1; 0 where no memory is
+// left. Each range is a function's: its depth, its first address, the address after its last one.
+fn chain_at(alloc: Global, ranges: &[(usize, u64, u64)], probe: u64) -> usize {
+    let mut addresses = Vec::new(alloc);
+    for (depth, begin, end) in ranges {
+        let address = InlinedFunctionAddress {
+            depth: *depth,
+            range: Range {
+                begin: *begin,
+                end: *end,
+            },
+            function: addresses.len(),
+        };
+        if addresses.push(address).is_err() {
+            return 0;
+        }
+    }
+    sort_inlined(&mut addresses);
+    let Ok(chain) = find_chain(alloc, &addresses, probe) else {
+        return 0;
+    };
+    let mut digits: usize = 1;
+    for function in chain.as_slice() {
+        digits = digits.saturating_mul(10).saturating_add(*function);
+    }
+    digits
+}
+
+#[test]
+fn inlined_functions_are_picked_from_the_outside_in(rt: HostRuntime) {
+    let cases: [(&[(usize, u64, u64)], u64, usize); 6] = [
+        (&[(0, 0, 10), (1, 0, 2), (1, 6, 8)], 7, 102),
+        (&[(0, 0, 10), (1, 0, 2), (1, 6, 8)], 4, 10),
+        (&[(0, 0, 5), (1, 0, 2), (0, 5, 10), (1, 6, 8)], 7, 123),
+        (&[(1, 0, 10), (0, 3, 6), (0, 0, 10), (1, 2, 4)], 7, 1),
+        (&[(0, 0, 9), (0, 0, 8), (0, 0, 9)], 8, 12),
+        (&[], u64::MAX, 1),
+    ];
+    for (ranges, probe, want) in cases {
+        assert_eq!(rt; chain_at(rt.alloc(), ranges, probe), want);
     }
 }

@@ -2,7 +2,8 @@
 -- answers to the loads of its units, of which units it has parsed the lines, and how often it
 -- looked at them.
 -- Own: the lines of a unit, or their fault, are parsed when a lookup first asks for them, and stay
--- parsed; a context that is made has parsed them only where they give a unit its ranges.
+-- parsed; a context that is made has parsed them only where they give a unit its ranges, and a unit
+-- without a line program has its lines, which are none.
 -- limit: no unit is loaded yet, so there is no answer
 use Rattle.std.specs.Prelude.{◌≡◌, ℕ, ◌+◌, ◌<◌, ◌≤◌, Bool, true, List, [], map, Option, Result, Ok, Err}
 use Rattle.gimli_read.specs.declared.error.Error.{Error}

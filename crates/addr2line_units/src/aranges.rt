@@ -81,8 +81,8 @@ impl UnitAranges {
     /// The ranges of all sets of `.debug_aranges`.
     ///
     /// Refused by the first fault of a set's header (`UnknownReservedLength`, `UnexpectedEof`,
-    /// `UnknownVersion`, `UnsupportedAddressSize`, `UnsupportedSegmentSize`); where there is a set
-    /// it may fail with `OutOfMemory` instead. Source: DWARF 5, section 6.1.2.
+    /// `UnknownVersion`, `UnsupportedAddressSize`, `UnsupportedSegmentSize`); where the first can
+    /// be read it may fail with `OutOfMemory` instead. Source: DWARF 5, section 6.1.2.
     pub fn parse<R: Reader>(alloc: Global, section: &DebugAranges<R>) -> Result<UnitAranges, Error>
         ensures gives { ExactlyUnlessOomIf (has_sets (R.section section.now.section)) (λ a. a)
             result (aranges_in (R.section section.now.section)) }

@@ -1,24 +1,29 @@
 -- The units of a context as they are read (on specs/Made.antt and specs/Indexed.antt).
-use Rattle.std.proofs.Common.{◌≡◌, ℕ, suc, ◌+◌, Bool, true, false, ◌<◌, subst, arith, List, [], ◌∷◌, ◌++◌, length, map, drop, filter_map, flat_map, Option, Some, None, Result, Ok, Err, refl, sym, ap, ◌∙◌, nat_lt}
+use Rattle.std.proofs.Common.{◌≡◌, ◌≢◌, ◌&&◌, not, ℕ, suc, ◌+◌, Bool, true, false, ◌||◌, is_ok, if◌then◌else◌, ◌<◌, subst, arith, List, [], ◌∷◌, ◌++◌, length, map, drop, filter_map, flat_map, Option, Some, None, Result, Ok, Err, refl, sym, ap, ◌∙◌, nat_lt}
 use Rattle.std.specs.Option.{option_to_list}
 use Rattle.std.specs.Result.{result_ok}
 use Rattle.std.proofs.lemmas.Bool.Decides.{nat_tests}
 use Rattle.std.proofs.lemmas.List.{append-nil, append_assoc, length-append}
 use Rattle.gimli_read.specs.declared.error.Error.{Error}
+use Rattle.gimli_read.specs.declared.error.Error.TheVariants.{OffsetOutOfBounds, OutOfMemory}
+use Rattle.gimli_read.specs.Abbrev.{table_at}
+use Rattle.gimli_read.specs.Section.{Section, after}
 use Rattle.gimli_read.specs.Reading.{◌>>=◌}
 use Rattle.gimli_read.specs.Yields.{next_given}
 use Rattle.gimli.specs.Aranges.{ArangeSet}
 use Rattle.gimli.specs.Header.{UnitHeaderFields}
 use Rattle.gimli.specs.Sections.{Sections}
-use Rattle.gimli.specs.Unit.{UnitRecord, unit_record_of}
+use Rattle.gimli.specs.CachedTables.{CachedTables, cached_unit_takes_memory, entry_takes_memory, is_cached}
+use Rattle.gimli.specs.Text.{from_offset}
+use Rattle.gimli.specs.Unit.{UnitRecord, unit_by, unit_record_of}
 use Rattle.gimli.specs.UnitsLeft.{all_headers}
 use Rattle.addr2line_lines.specs.RangeAttributes.{begins_well}
 use Rattle.addr2line_lines.specs.Rows.{read_all, result_map}
 use Rattle.addr2line_units.specs.declared.aranges.UnitArange.{UnitArange}
 use Rattle.addr2line_units.specs.declared.index.UnitRange.{UnitRange}
-use Rattle.addr2line_units.specs.Indexed.{IndexState, appended, or_with_ranged, units_take_memory, with_header, with_ranged}
-use Rattle.addr2line_units.specs.Made.{IndexedUnit, RangedUnit, has_lines, indexed_of, range_of_unit, ranges_from, sup_unit_of_header, unit_of_header, unit_ranges, units_of}
-use Rattle.addr2line_units.specs.UnitAranges.{set_aranges}
+use Rattle.addr2line_units.specs.Indexed.{IndexState, appended, has_abbreviations, index_of, index_takes_memory, indexed, indexed_with, or_with_ranged, some_take_memory, unit_takes_memory, with_header, with_ranged}
+use Rattle.addr2line_units.specs.Made.{IndexedUnit, RangedUnit, has_lines, indexed_of, is_type_unit, range_of_unit, ranged_unit, ranges_from, sup_unit_of_header, unit_of_header, unit_ranges, units_of, unless_faulty}
+use Rattle.addr2line_units.specs.UnitAranges.{aranges_in, has_sets, set_aranges}
 
 -- what was left, by what a call gave of it
 module _ {X : Type 0} where
@@ -109,6 +114,17 @@ sets_more items set rest = more (read_all rest)
 pub shorter : {X : Type 0} (left rest : List (Result X Error)) (x : X) → left ≡ Ok x ∷ rest → length rest < length left
 shorter left rest x e = subst (λ xs. length rest < length xs) (sym e) (omega arith)
 
+-- memory may be taken for what is left where it may be for its first header, or for those after it
+pub takes_first : (takes : UnitHeaderFields → Bool) (left rest : List (Result UnitHeaderFields Error)) (h : UnitHeaderFields) → left ≡ Ok h ∷ rest → takes h ≡ true → some_take_memory takes left ≡ true
+takes_first takes left rest h e t = ap (some_take_memory takes) e ∙ ap (λ b. b || some_take_memory takes rest) t
+
+pub takes_rest : (takes : UnitHeaderFields → Bool) (left rest : List (Result UnitHeaderFields Error)) (h : UnitHeaderFields) → left ≡ Ok h ∷ rest → some_take_memory takes rest ≡ true → some_take_memory takes left ≡ true
+takes_rest takes left rest h e t = ap (some_take_memory takes) e ∙ ap (λ b. takes h || b) t ∙ or_true (takes h)
+  where
+    or_true : (b : Bool) → (b || true) ≡ true
+    or_true true = refl
+    or_true false = refl
+
 pub rest_some : {X : Type 0} (left rest : List (Result X Error)) (x : X) → left ≡ Ok x ∷ rest → begins_well {E = Error} (Ok left) ≡ true
 rest_some left rest x e = ap (λ xs. begins_well {E = Error} (Ok xs)) e
 
@@ -174,15 +190,152 @@ pub all_first : {X : Type 0} (r : Result X Error) → (r >>= λ x. Ok x) ≡ r
 all_first (Ok x) = refl
 all_first (Err e) = refl
 
--- memory may be taken where there is a header
-pub some_headers : (shares : Bool) (d : Sections) → begins_well {E = Error} (Ok (all_headers d.debug_info)) ≡ true → units_take_memory shares d ≡ true
-some_headers true d e = refl
-some_headers false d e = e
+-- memory may be taken where it may be for a header
+pub some_headers : (shares : Bool) (takes : UnitHeaderFields → Bool) (d : Sections) → some_take_memory takes (all_headers d.debug_info) ≡ true → (shares || some_take_memory takes (all_headers d.debug_info)) ≡ true
+some_headers true takes d e = refl
+some_headers false takes d e = e
 
 -- memory may be taken where readers share their bytes
-pub shared_headers : (shares : Bool) (d : Sections) → shares ≡ true → units_take_memory shares d ≡ true
-shared_headers true d e = refl
-shared_headers false d e = absurd (false_true e)
+pub shared_headers : (shares : Bool) (takes : UnitHeaderFields → Bool) (d : Sections) → shares ≡ true → (shares || some_take_memory takes (all_headers d.debug_info)) ≡ true
+shared_headers true takes d e = refl
+shared_headers false takes d e = absurd (false_true e)
   where
     false_true : false ≡ true → ⊥
     false_true k = cc
+
+-- a unit whose abbreviations begin outside their section
+module _ (d : Sections) (h : UnitHeaderFields) (outside : has_abbreviations d h ≡ false) where
+  outside_is : from_offset h.debug_abbrev_offset d.debug_abbrev ≡ Err OffsetOutOfBounds
+  outside_is = of_bool (nat_lt (length d.debug_abbrev.bytes) h.debug_abbrev_offset) outside
+    where
+      of_bool : (b : Bool) → is_ok {T = Section} (if b then Err OffsetOutOfBounds else Ok (after h.debug_abbrev_offset d.debug_abbrev)) ≡ false
+          → ◌≡◌ {A = Result Section Error} (if b then Err OffsetOutOfBounds else Ok (after h.debug_abbrev_offset d.debug_abbrev)) (Err OffsetOutOfBounds)
+      of_bool true e = refl
+      of_bool false e = absurd (true_false e)
+        where
+          true_false : true ≡ false → ⊥
+          true_false k = cc
+
+  pub no_record : unit_record_of d h ≡ Err OffsetOutOfBounds
+  unfolding unit_record_of unit_by
+  no_record = ap (λ r. unit_by d h (r >>= table_at)) outside_is
+
+  pub nothing_taken : (shares : Bool) (cache : CachedTables) → cache.dwarf ≡ d → cached_unit_takes_memory shares cache h ≡ false
+  nothing_taken shares cache same = of_bool (is_cached h.debug_abbrev_offset cache) (from_offset h.debug_abbrev_offset cache.dwarf.debug_abbrev) (ap (λ (s : Sections). from_offset h.debug_abbrev_offset s.debug_abbrev) same ∙ outside_is)
+    where
+      of_bool : (b : Bool) (r : Result Section Error) → r ≡ Err OffsetOutOfBounds → (if b then entry_takes_memory shares h (r >>= table_at) else is_ok r) ≡ false
+      of_bool true r e = ap (λ x. entry_takes_memory shares h (x >>= table_at)) e
+      of_bool false r e = ap is_ok e
+
+-- a unit for which memory was taken, or whose record is read, has abbreviations
+module _ (d : Sections) (h : UnitHeaderFields) where
+  unless_outside : ((has_abbreviations d h ≡ false) → ⊥) → has_abbreviations d h ≡ true
+  unless_outside f = of_bool (has_abbreviations d h) f
+    where
+      of_bool : (b : Bool) → (b ≡ false → ⊥) → b ≡ true
+      of_bool true f = refl
+      of_bool false f = absurd (f refl)
+
+  pub where_taken : (shares : Bool) (cache : CachedTables) → cache.dwarf ≡ d → ((cached_unit_takes_memory shares cache h ≡ true → OutOfMemory ≢ OutOfMemory) → unit_record_of d h ≡ Err OutOfMemory) → has_abbreviations d h ≡ true
+  where_taken shares cache same gives = unless_outside (λ outside. other (sym (no_record d h outside) ∙ gives (λ takes. absurd (true_false (sym takes ∙ nothing_taken d h outside shares cache same)))))
+    where
+      other : ◌≡◌ {A = Result UnitRecord Error} (Err OffsetOutOfBounds) (Err OutOfMemory) → ⊥
+      other k = cc
+
+      true_false : true ≡ false → ⊥
+      true_false k = cc
+
+  pub where_read : (u : UnitRecord) → unit_record_of d h ≡ Ok u → has_abbreviations d h ≡ true
+  where_read u e = unless_outside (λ outside. other (sym (no_record d h outside) ∙ e))
+    where
+      other : ◌≡◌ {A = Result UnitRecord Error} (Err OffsetOutOfBounds) (Ok u) → ⊥
+      other k = cc
+
+  pub where_found : (u : UnitRecord) → ◌≡◌ {A = Result (Option UnitRecord) Error} (Ok (result_ok (unit_record_of d h))) (Ok (Some u)) → has_abbreviations d h ≡ true
+  where_found u e = unless_outside (λ outside. other (sym (ap (λ r. Ok (result_ok r)) (no_record d h outside)) ∙ e))
+    where
+      other : ◌≡◌ {A = Result (Option UnitRecord) Error} (Ok None) (Ok (Some u)) → ⊥
+      other k = cc
+
+  pub takes_unit : is_type_unit h.unit_type ≡ false → has_abbreviations d h ≡ true → unit_takes_memory d h ≡ true
+  takes_unit e k = ap (λ b. not b && has_abbreviations d h) e ∙ k
+
+  pub where_kept : (aranges : List UnitArange) (u : RangedUnit) → unit_of_header d aranges h ≡ Ok (Some u) → unit_takes_memory d h ≡ true
+  unfolding unit_of_header
+  where_kept aranges u e = of_bool (is_type_unit h.unit_type) refl e
+    where
+      none_some : ◌≡◌ {A = Result (Option RangedUnit) Error} (Ok None) (Ok (Some u)) → ⊥
+      none_some k = cc
+
+      of_bool : (b : Bool) → is_type_unit h.unit_type ≡ b → (if b then Ok None else unless_faulty d aranges (unit_record_of d h)) ≡ Ok (Some u) → unit_takes_memory d h ≡ true
+      of_bool true same k = absurd (none_some k)
+      of_bool false same k = takes_unit same (unless_outside (λ outside. none_some (sym (ap (unless_faulty d aranges) (no_record d h outside)) ∙ k)))
+
+  pub kept_fault : (aranges : List UnitArange) (u : UnitRecord) (f : Error) → is_type_unit h.unit_type ≡ false → unit_record_of d h ≡ Ok u → ranged_unit d aranges u ≡ Err f → unit_of_header d aranges h ≡ Err f
+  unfolding unit_of_header
+  kept_fault aranges u f e rec k = ap (λ b. if b then Ok None else unless_faulty d aranges (unit_record_of d h)) e ∙ ap (unless_faulty d aranges) rec ∙ ap (λ r. r >>= λ x. Ok (Some x)) k
+
+  none_kept : (aranges : List UnitArange) → unit_takes_memory d h ≡ false → unit_of_header d aranges h ≡ Ok None
+  unfolding unit_of_header
+  none_kept aranges e = of_bool (is_type_unit h.unit_type) (has_abbreviations d h) refl refl e
+    where
+      of_bool : (b k : Bool) → is_type_unit h.unit_type ≡ b → has_abbreviations d h ≡ k → (not b && k) ≡ false → (if b then Ok None else unless_faulty d aranges (unit_record_of d h)) ≡ Ok None
+      of_bool true k same has e = refl
+      of_bool false true same has e = absurd (true_false e)
+        where
+          true_false : true ≡ false → ⊥
+          true_false l = cc
+      of_bool false false same has e = ap (unless_faulty d aranges) (no_record d h has)
+
+-- the ranges of units for which no memory may be taken: there are none
+module _ (d : Sections) (aranges : List UnitArange) where
+  no_units : (headers : List (Result UnitHeaderFields Error)) → some_take_memory (unit_takes_memory d) headers ≡ false → (us : List RangedUnit) → units_of (unit_of_header d aranges) headers ≡ Ok us → us ≡ []
+  no_units [] e us k = sym (ok_is [] us k)
+    where
+      ok_is : (a b : List RangedUnit) → ◌≡◌ {A = Result (List RangedUnit) Error} (Ok a) (Ok b) → a ≡ b
+      ok_is a b l = cc
+  no_units (Err x ∷ headers) e us k = absurd (err_ok k)
+    where
+      err_ok : ◌≡◌ {A = Result (List RangedUnit) Error} (Err x) (Ok us) → ⊥
+      err_ok l = cc
+  no_units (Ok h ∷ headers) e us k =
+      let both = or_false (unit_takes_memory d h) (some_take_memory (unit_takes_memory d) headers) e in
+      no_units headers both.1 us (sym (units_none (unit_of_header d aranges) h headers (none_kept d h aranges both.0)) ∙ k)
+    where
+      or_false : (a b : Bool) → (a || b) ≡ false → (a ≡ false) × (b ≡ false)
+      or_false true b l = absurd (true_false l)
+        where
+          true_false : true ≡ false → ⊥
+          true_false m = cc
+      or_false false b l = (refl, l)
+
+  no_ranges : (headers : List (Result UnitHeaderFields Error)) → some_take_memory (unit_takes_memory d) headers ≡ false → (i : IndexState) → (units_of (unit_of_header d aranges) headers >>= λ units. Ok (index_of d units)) ≡ Ok i → i.ranges ≡ []
+  no_ranges headers e i k = of_units (units_of (unit_of_header d aranges) headers) refl k
+    where
+      ok_is : (a b : IndexState) → ◌≡◌ {A = Result IndexState Error} (Ok a) (Ok b) → a ≡ b
+      ok_is a b l = cc
+
+      of_units : (r : Result (List RangedUnit) Error) → units_of (unit_of_header d aranges) headers ≡ r → (r >>= λ units. Ok (index_of d units)) ≡ Ok i → i.ranges ≡ []
+      of_units (Err x) same is = absurd (err_ok is)
+        where
+          err_ok : ◌≡◌ {A = Result IndexState Error} (Err x) (Ok i) → ⊥
+          err_ok l = cc
+      of_units (Ok us) same is = sym (ap (λ (s : IndexState). s.ranges) (ok_is (index_of d us) i is)) ∙ ap (ranges_from d 0) (no_units headers e us same)
+
+  pub ranges_take : (shares : Bool) (i : IndexState) → indexed_with d aranges ≡ Ok i → nat_lt 0 (length i.ranges) ≡ true → index_takes_memory shares d ≡ true
+  ranges_take shares i k some = of_bool (some_take_memory (unit_takes_memory d) (all_headers d.debug_info)) refl
+    where
+      or_true : (a b : Bool) → (a || (b || true)) ≡ true
+      or_true true b = refl
+      or_true false true = refl
+      or_true false false = refl
+
+      of_bool : (b : Bool) → some_take_memory (unit_takes_memory d) (all_headers d.debug_info) ≡ b → (has_sets d.debug_aranges || (shares || some_take_memory (unit_takes_memory d) (all_headers d.debug_info))) ≡ true
+      of_bool true same = ap (λ x. has_sets d.debug_aranges || (shares || x)) same ∙ or_true (has_sets d.debug_aranges) shares
+      of_bool false same = absurd (false_true (ap (λ (rs : List UnitRange). nat_lt 0 (length rs)) (sym (no_ranges (all_headers d.debug_info) same i k)) ∙ some))
+        where
+          false_true : nat_lt 0 0 ≡ true → ⊥
+          false_true l = cc
+
+  pub indexed_by : aranges_in d.debug_aranges ≡ Ok aranges → indexed d ≡ indexed_with d aranges
+  indexed_by e = ap (λ r. (r >>= λ a. units_of (unit_of_header d a) (all_headers d.debug_info)) >>= λ units. Ok (index_of d units)) e

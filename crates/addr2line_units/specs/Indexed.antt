@@ -1,20 +1,20 @@
 -- The units of a context and their ranges as they are read, one after another, as the private
 -- functions see them.
-use Rattle.std.specs.Prelude.{ℕ, ◌||◌, Bool, false, List, [], ◌∷◌, ◌++◌, length, map, Option, Some, None, Result, Ok, Err}
+use Rattle.std.specs.Prelude.{ℕ, ◌&&◌, ◌||◌, Bool, false, not, is_ok, List, [], ◌∷◌, ◌++◌, length, map, Option, Some, None, Result, Ok, Err}
 use Rattle.gimli_read.specs.declared.error.Error.{Error}
 use Rattle.gimli_read.specs.declared.range.Range.{Range}
 use Rattle.gimli_read.specs.Reading.{◌>>=◌}
 use Rattle.gimli.specs.Header.{UnitHeaderFields}
 use Rattle.gimli.specs.Sections.{Sections, SupSections}
+use Rattle.gimli.specs.Text.{from_offset}
 use Rattle.gimli.specs.UnitsLeft.{all_headers}
-use Rattle.addr2line_lines.specs.RangeAttributes.{begins_well}
 use Rattle.addr2line_units.specs.declared.aranges.UnitArange.{UnitArange}
 use Rattle.addr2line_units.specs.declared.index.UnitRange.{UnitRange}
 use Rattle.addr2line_units.specs.declared.unit.ResUnit.{ResUnit}
 use Rattle.addr2line_units.specs.declared.units.Index.{Index}
 use Rattle.addr2line_units.specs.declared.units.ResUnits.{ResUnits}
 use Rattle.addr2line_units.specs.CachedLines.{indexed_unit, indexed_units, parsed_units}
-use Rattle.addr2line_units.specs.Made.{IndexedUnit, RangedUnit, has_lines, indexed_of, range_of_unit, ranged_units, ranges_from, sup_sections, unit_of_header, unit_ranges, units_of}
+use Rattle.addr2line_units.specs.Made.{IndexedUnit, RangedUnit, has_lines, indexed_of, is_type_unit, range_of_unit, ranged_units, ranges_from, sup_sections, unit_of_header, unit_ranges, units_of}
 use Rattle.addr2line_units.specs.UnitAranges.{has_sets}
 
 -- units, the ranges that lead to them, and of which units the lines are parsed
@@ -71,10 +71,25 @@ appended d m units = record {
   parsed = m.parsed ++ map has_lines units;
 }
 
--- whether memory may be taken for units: where a header can be read, or where readers share their
--- bytes
+-- whether a unit's abbreviations begin in their section
+abbrev pub has_abbreviations : Sections → UnitHeaderFields → Bool
+has_abbreviations d h = is_ok (from_offset h.debug_abbrev_offset d.debug_abbrev)
+
+-- whether memory may be taken for the unit of a header: it is no type unit, and has abbreviations
+abbrev pub unit_takes_memory : Sections → UnitHeaderFields → Bool
+unit_takes_memory d h = not (is_type_unit h.unit_type) && has_abbreviations d h
+
+-- whether it may be for one of headers, up to the first fault
+abbrev pub some_take_memory : (UnitHeaderFields → Bool) → List (Result UnitHeaderFields Error)
+    → Bool
+some_take_memory takes [] = false
+some_take_memory takes (Ok h ∷ headers) = takes h || some_take_memory takes headers
+some_take_memory takes (Err e ∷ headers) = false
+
+-- whether memory may be taken for units: for one of them, or where readers share their bytes
 abbrev pub units_take_memory : Bool → Sections → Bool
-units_take_memory shares d = shares || begins_well (Ok (all_headers d.debug_info))
+units_take_memory shares d =
+    shares || some_take_memory (unit_takes_memory d) (all_headers d.debug_info)
 
 -- whether memory may be taken for units and their ranges
 abbrev pub index_takes_memory : Bool → Sections → Bool
@@ -100,10 +115,15 @@ units_seen u = record {
 abbrev pub ranged_seen : {R : Type 0} → ResUnit R → List Range → RangedUnit
 ranged_seen u given = record { indexed = indexed_unit u; given = given }
 
--- whether memory may be taken for the units of a supplementary file
+-- whether memory may be taken for units of a supplementary file, type units too
+abbrev pub sup_units_take_memory : Bool → Sections → Bool
+sup_units_take_memory shares d =
+    shares || some_take_memory (has_abbreviations d) (all_headers d.debug_info)
+
+-- whether memory may be taken for a supplementary file
 abbrev pub sup_takes_memory : Bool → Option SupSections → Bool
 sup_takes_memory shares None = false
-sup_takes_memory shares (Some s) = units_take_memory shares (sup_sections s)
+sup_takes_memory shares (Some s) = sup_units_take_memory shares (sup_sections s)
 
 -- whether memory may be taken for all that a context has
 abbrev pub context_takes_memory : Bool → Sections → Bool

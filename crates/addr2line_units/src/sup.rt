@@ -1,6 +1,6 @@
 //! The units of a supplementary file.
 
-ghost use Rattle.std.specs.Prelude.{◌≡◌, ◌++◌, [], IfErr, Ok, OnOk};
+ghost use Rattle.std.specs.Prelude.{◌≡◌, ◌++◌, [], true, IfErr, Ok, OnOk};
 ghost use Rattle.std.specs.Option.{option_to_list};
 ghost use Rattle.std.specs.Result.{result_ok};
 ghost use Rattle.gimli_read.specs.declared.error.Error.TheVariants.{OutOfMemory};
@@ -8,7 +8,7 @@ ghost use Rattle.gimli_read.specs.Reading.{ExactlyUnlessOom, ExactlyUnlessOomIf}
 ghost use Rattle.gimli.specs.Unit.{unit_record_of};
 ghost use Rattle.gimli.specs.UnitsLeft.{all_headers};
 ghost use Rattle.addr2line_units.specs.Made.{sup_sections, sup_unit_of_header, sup_units, units_of};
-ghost use Rattle.addr2line_units.specs.Indexed.{sup_takes_memory, units_take_memory};
+ghost use Rattle.addr2line_units.specs.Indexed.{has_abbreviations, sup_takes_memory, sup_units_take_memory};
 
 use gimli::read::{Error, Reader};
 use gimli::{
@@ -54,8 +54,8 @@ fn read_sup_unit<R: Reader>(
     abbreviations: &mut AbbreviationsCache<'_, R>,
     header: UnitHeader<R>,
 ) -> Result<Option<Unit<R>>, Error>
-    ensures gives { ExactlyUnlessOom (λ u. u) result
-        (sup_unit_of_header abbreviations.old.dwarf header) }
+    ensures gives { ExactlyUnlessOomIf (has_abbreviations abbreviations.old.dwarf header) (λ u. u)
+        result (sup_unit_of_header abbreviations.old.dwarf header) }
     ensures refused { IfErr result (λ e. e ≡ OutOfMemory) }
     ensures same { abbreviations.new.dwarf ≡ abbreviations.old.dwarf }
 {
@@ -76,7 +76,8 @@ fn push_sup_unit<R: Reader>(
     ensures gives { OnOk result (units.new.items ≡ units.old.items
         ++ option_to_list (result_ok (unit_record_of abbreviations.old.dwarf header))) }
     ensures same { abbreviations.new.dwarf ≡ abbreviations.old.dwarf }
-    ensures refused { IfErr result (λ e. e ≡ OutOfMemory) }
+    ensures refused { IfErr result (λ e. (e ≡ OutOfMemory)
+        × (has_abbreviations abbreviations.old.dwarf header ≡ true)) }
 {
     if let Some(unit) = read_sup_unit(alloc, abbreviations, header)? {
         units.push(unit)?;
@@ -86,7 +87,7 @@ fn push_sup_unit<R: Reader>(
 
 // The units of a supplementary file whose record can be read.
 fn read_sup_units<R: Reader>(alloc: Global, dwarf: &Dwarf<R>) -> Result<Vec<Unit<R>>, Error>
-    ensures gives { ExactlyUnlessOomIf (units_take_memory R.shares dwarf.now) (λ v. v.items) result
+    ensures gives { ExactlyUnlessOomIf (sup_units_take_memory R.shares dwarf.now) (λ v. v.items) result
         (units_of (sup_unit_of_header dwarf.now) (all_headers dwarf.now.debug_info)) }
 {
     let mut headers = dwarf.units()?;

@@ -4,7 +4,7 @@ ghost use Rattle.std.specs.Prelude.{◌≡◌, ◌+◌, ◌++◌, ◌-◌, ◌^�
 ghost use Rattle.gimli_read.specs.declared.error.Error.TheVariants.{OutOfMemory};
 ghost use Rattle.gimli_read.specs.Reading.{Exactly, ExactlyUnlessOom, ExactlyUnlessOomIf};
 ghost use Rattle.addr2line_units.specs.Made.{range_of_unit, unit_of_header};
-ghost use Rattle.addr2line_units.specs.Indexed.{index_seen, index_takes_memory, indexed, indexed_with, no_index, ranged_seen, units_seen, units_take_memory, with_header, with_ranged};
+ghost use Rattle.addr2line_units.specs.Indexed.{index_seen, index_takes_memory, indexed, indexed_with, no_index, ranged_seen, unit_takes_memory, units_seen, units_take_memory, with_header, with_ranged};
 ghost use Rattle.addr2line_units.specs.CachedLines.{HaveLinesOf, IsUnparsed, StayUnits, cached_files, indexed_units, location_at_place, parsed_units};
 ghost use Rattle.addr2line_units.specs.LocationsLeft.{locations_left};
 ghost use Rattle.addr2line_units.specs.Located.{all_lines, along, is_found, lines_fault, looks_along};
@@ -62,7 +62,8 @@ fn read_unit<R: Reader>(
 ) -> Result<Option<(ResUnit<R>, Vec<Range>)>, Error>
     requires same { abbreviations.old.dwarf ≡ dwarf.now }
     ensures same { abbreviations.new.dwarf ≡ dwarf.now }
-    ensures gives { ExactlyUnlessOom (option_map (λ x. ranged_seen x.0 x.1.items)) result
+    ensures gives { ExactlyUnlessOomIf (unit_takes_memory dwarf.now header)
+        (option_map (λ x. ranged_seen x.0 x.1.items)) result
         (unit_of_header dwarf.now aranges.now header) }
     ensures unparsed { IfOk result (λ x. IfSome x (λ y. IsUnparsed dwarf.now y.0)) }
 {
@@ -135,7 +136,8 @@ impl<R: Reader> Index<R> {
     ) -> Result<(), Error>
         requires same { abbreviations.old.dwarf ≡ dwarf.now }
         requires read { HaveLinesOf dwarf.now self.old.units.items }
-        ensures gives { ExactlyUnlessOom (λ _. index_seen self.new) result
+        ensures gives { ExactlyUnlessOomIf (unit_takes_memory dwarf.now header)
+            (λ _. index_seen self.new) result
             (with_header dwarf.now aranges.now (index_seen self.old) header) }
         ensures same { abbreviations.new.dwarf ≡ dwarf.now }
         ensures read { OnOk result (HaveLinesOf dwarf.now self.new.units.items) }

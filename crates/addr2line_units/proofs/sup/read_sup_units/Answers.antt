@@ -1,12 +1,11 @@
-use Rattle.std.proofs.Common.{List, Ok, ap, length, nat_lt, rules, subst, sym, ◌++◌, ◌∙◌, ◌≡◌}
+use Rattle.std.proofs.Common.{List, Ok, ap, length, nat_lt, rules, subst, sym, ◌++◌, ◌∙◌, ◌≡◌, true}
 use Rattle.std.proofs.lemmas.Result.{err_from_is_err_and}
-use Rattle.gimli_read.specs.declared.error.Error.{Error}
 use Rattle.gimli_read.specs.Reading.{◌>>=◌}
 use Rattle.gimli.specs.Unit.{UnitRecord}
 use Rattle.gimli.specs.UnitsLeft.{all_headers}
-use Rattle.addr2line_lines.specs.RangeAttributes.{begins_well}
+use Rattle.addr2line_units.specs.Indexed.{has_abbreviations, some_take_memory}
 use Rattle.addr2line_units.specs.Made.{sup_unit_of_header, units_of}
-use Rattle.addr2line_units.proofs.MadeLemmas.{all_first, given_some, rest_some, some_headers, sup_more}
+use Rattle.addr2line_units.proofs.MadeLemmas.{all_first, given_some, some_headers, sup_more, takes_first, takes_rest}
 use Rattle.addr2line_units.proofs.sup.read_sup_units.Goals as goal
 
 pub loop-units-init : goal.loop-units-init
@@ -15,7 +14,7 @@ loop-units-init g c =
     let all : c.in_ok-headers.headers ≡ all_headers d.debug_info = search rules in
     record {
       gives = subst (λ (kept : List UnitRecord). (units_of (sup_unit_of_header d) c.in_ok-headers.headers >>= λ units. Ok (kept ++ units)) ≡ units_of (sup_unit_of_header d) (all_headers d.debug_info)) (sym c.new-units.ensures.items) (all_first (units_of (sup_unit_of_header d) c.in_ok-headers.headers) ∙ ap (units_of (sup_unit_of_header d)) all);
-      some = λ e. some_headers g.R.Reader.shares d (ap (λ headers. begins_well {E = Error} (Ok headers)) (sym all) ∙ e);
+      some = λ e. some_headers g.R.Reader.shares (has_abbreviations d) d (ap (some_take_memory (has_abbreviations d)) (sym all) ∙ e);
       same = search rules;
     }
 
@@ -25,7 +24,7 @@ loop-units-preserved g c =
     let left = given_some _ _ _ (rw c.in-Some.is at c.in_ok-header.ensures.gives) in
     record {
       gives = rw (c.in_ok-push_sup_unit.ensures.gives, i.same) (sym (sup_more c.args.dwarf.now c.loop-units.units.items _ _ _ left) ∙ i.gives);
-      some = λ e. i.some (rest_some _ _ _ left);
+      some = λ e. i.some (takes_rest (has_abbreviations c.args.dwarf.now) _ _ _ left e);
       same = c.in_ok-push_sup_unit.ensures.same ∙ i.same;
     }
 
@@ -33,4 +32,4 @@ pub returns-in_err-push_sup_unit : goal.returns-in_err-push_sup_unit
 returns-in_err-push_sup_unit g c =
     let p = err_from_is_err_and c.from_residual-in_err-push_sup_unit.result c.from_residual-in_err-push_sup_unit.ensures.1 in
     let left = given_some _ _ _ (rw c.in-Some.is at c.in_ok-header.ensures.gives) in
-    record { gives = rw (p.1, p.2) (λ wanted. absurd (wanted (c.loop-units.invariant.some (rest_some _ _ _ left)) c.in_err-push_sup_unit.ensures.refused)) }
+    record { gives = rw (p.1, p.2) (λ wanted. absurd (wanted (c.loop-units.invariant.some (takes_first (has_abbreviations c.args.dwarf.now) _ _ _ left (subst (λ s. has_abbreviations s c.in-Some.header ≡ true) c.loop-units.invariant.same c.in_err-push_sup_unit.ensures.refused.1))) c.in_err-push_sup_unit.ensures.refused.0)) }

@@ -1,9 +1,7 @@
 use Rattle.std.proofs.Common.{◌≡◌, ◌++◌, Ok, length, nat_lt, true}
-use Rattle.gimli_read.specs.declared.error.Error.{Error}
 use Rattle.gimli_read.specs.Reading.{◌>>=◌}
 use Rattle.gimli.specs.UnitsLeft.{all_headers}
-use Rattle.addr2line_lines.specs.RangeAttributes.{begins_well}
-use Rattle.addr2line_units.specs.Indexed.{units_take_memory}
+use Rattle.addr2line_units.specs.Indexed.{has_abbreviations, some_take_memory, sup_units_take_memory}
 use Rattle.addr2line_units.specs.Made.{sup_unit_of_header, units_of}
 use Rattle.addr2line_units.proofs.sup.read_sup_units.Given as goal
 
@@ -12,7 +10,7 @@ invariant-loop-units g l =
     let d = l.dwarf in
     record {
       gives : (units_of (sup_unit_of_header d) l.headers >>= λ units. Ok (l.units.items ++ units)) ≡ units_of (sup_unit_of_header d) (all_headers d.debug_info);
-      some : begins_well {E = Error} (Ok l.headers) ≡ true → units_take_memory g.R.Reader.shares d ≡ true;
+      some : some_take_memory (has_abbreviations d) l.headers ≡ true → sup_units_take_memory g.R.Reader.shares d ≡ true;
       same : l.abbreviations.dwarf ≡ d;
     }
 

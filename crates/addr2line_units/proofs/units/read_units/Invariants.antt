@@ -1,9 +1,7 @@
 use Rattle.std.proofs.Common.{◌≡◌, Ok, length, nat_lt, true}
-use Rattle.gimli_read.specs.declared.error.Error.{Error}
 use Rattle.gimli_read.specs.Reading.{◌>>=◌}
 use Rattle.addr2line_units.specs.CachedLines.{HaveLinesOf}
-use Rattle.addr2line_lines.specs.RangeAttributes.{begins_well}
-use Rattle.addr2line_units.specs.Indexed.{appended, index_seen, indexed_with, units_take_memory}
+use Rattle.addr2line_units.specs.Indexed.{appended, index_seen, indexed_with, some_take_memory, unit_takes_memory, units_take_memory}
 use Rattle.addr2line_units.specs.Made.{unit_of_header, units_of}
 use Rattle.addr2line_units.proofs.units.read_units.Given as goal
 
@@ -12,7 +10,7 @@ invariant-loop-index g l =
     let d = l.dwarf in
     record {
       gives : (units_of (unit_of_header d l.aranges) l.headers >>= λ units. Ok (appended d (index_seen l.index) units)) ≡ indexed_with d l.aranges;
-      some : begins_well {E = Error} (Ok l.headers) ≡ true → units_take_memory g.R.Reader.shares d ≡ true;
+      some : some_take_memory (unit_takes_memory d) l.headers ≡ true → units_take_memory g.R.Reader.shares d ≡ true;
       same : l.abbreviations.dwarf ≡ d;
       read : HaveLinesOf d l.index.units.items;
     }

@@ -1,14 +1,22 @@
 -- The unit of an offset among units in order (on specs/References.antt).
-use Rattle.std.proofs.Common.{ℕ, zero, suc, ◌≡◌, ◌+◌, ◌-◌, ◌<◌, ◌≤◌, ◌||◌, Bool, true, false, cond, nat_le, nat_lt, leb, List, [], ◌∷◌, length, slice_index_or, option_map, Option, Some, None, arith, refl, ap, sym, ◌∙◌}
+use Rattle.std.proofs.Common.{ℕ, zero, suc, ◌≡◌, ◌+◌, ◌-◌, ◌<◌, ◌≤◌, ◌||◌, Bool, true, false, cond, nat_le, nat_lt, leb, List, [], ◌∷◌, length, slice_index_or, option_map, Option, Some, None, Result, Ok, Err, arith, refl, ap, subst, sym, ◌∙◌}
 use Rattle.std.specs.List.{All}
 use Rattle.std.specs.List.Sorted.{IsNonDecreasingBy, IsPartitionPoint}
 use Rattle.std.proofs.lemmas.Bool.Decides.{nat_tests}
+use Rattle.gimli_read.specs.declared.error.Error.{Error}
+use Rattle.gimli_read.specs.declared.error.Error.TheVariants.{NoEntryAtGivenOffset}
+use Rattle.gimli_read.specs.declared.value.AttributeValue.{AttributeValue}
+use Rattle.gimli_read.specs.declared.value.AttributeValue.TheVariants as values
+use Rattle.gimli_read.specs.declared.value.DebugInfoOffset.{DebugInfoOffset}
+use Rattle.gimli_read.specs.declared.value.UnitOffset.{UnitOffset}
+use Rattle.gimli_read.specs.Form.{seen_value}
+use Rattle.gimli_read.specs.Section.{Section}
 use Rattle.gimli.specs.Entries.{unit_length}
 use Rattle.gimli.specs.Header.{UnitHeaderFields}
 use Rattle.gimli.specs.Offsets.{unit_offset_of, valid_in}
 use Rattle.gimli.specs.Unit.{UnitRecord}
 use Rattle.addr2line_lines.specs.FoundNames.{BeginsAbove, BeginsBy}
-use Rattle.addr2line_lines.specs.References.{AreInOrder, IsBefore, unit_at}
+use Rattle.addr2line_lines.specs.References.{AreInOrder, EntryPlace, FileRecord, IsBefore, IsFileInOrder, IsScope, Scope, entry_in, entry_in_sup, referred, sup_scope, unit_at}
 
 -- where a unit begins
 abbrev pub unit_begin : UnitRecord → ℕ
@@ -103,3 +111,30 @@ last_begun offset begun units u h bound some point is = one_at offset units (beg
 
     above : (i : ℕ) (d : UnitRecord) → begun - 1 < i → i < length units → unit_offset_of offset (slice_index_or units i d).header ≡ None
     above i d m n = outside_above offset (slice_index_or units i d).header (point.1 i d (omega arith) n)
+
+-- a value of another class refers to nothing
+pub no_reference : {R : Type 0} (see : R → Section) (s : Scope) (u : UnitRecord) (v : AttributeValue R) → ((x : UnitOffset) → v ≡ values.UnitRef x → ⊥) → ((x : DebugInfoOffset) → v ≡ values.DebugInfoRef x → ⊥) → ((x : DebugInfoOffset) → v ≡ values.DebugInfoRefSup x → ⊥)
+    → referred s u (seen_value see v) ≡ Ok None
+no_reference see s u (values.UnitRef x) a b c = absurd (a x refl)
+no_reference see s u (values.DebugInfoRef x) a b c = absurd (b x refl)
+no_reference see s u (values.DebugInfoRefSup x) a b c = absurd (c x refl)
+no_reference see s u _ a b c = refl
+
+-- the scope of an entry that is found
+entry_scope : (s : Scope) (offset : ℕ) (p : EntryPlace) → entry_in s offset ≡ Ok (Some p) → p.scope ≡ s
+entry_scope s offset p e = by_cases (unit_at offset s.file.units) e
+  where
+    by_cases : (o : Option (UnitRecord × ℕ)) → ◌≡◌ {A = Result (Option EntryPlace) Error} (elim o [ None ↦ Err (NoEntryAtGivenOffset offset) | Some x ↦ Ok (Some (record { scope = s; unit = x.0; offset = x.1 })) ]) (Ok (Some p)) → p.scope ≡ s
+    by_cases None e = absurd cc
+    by_cases (Some x) e = let same : ◌≡◌ {A = EntryPlace} (record { scope = s; unit = x.0; offset = x.1 }) p = cc in ap (λ q. q.scope) (sym same)
+
+-- where units stand in order they do so where a reference leads
+sup_in_order : (sup : Option FileRecord) → IsFileInOrder sup → (offset : ℕ) (p : EntryPlace) → entry_in_sup sup offset ≡ Ok (Some p) → IsScope p.scope
+sup_in_order None h offset p e = absurd cc
+sup_in_order (Some file) h offset p e = subst IsScope (sym (entry_scope (sup_scope file) offset p e)) (record { units = h; sup_units = tt })
+
+pub referred_in_order : (s : Scope) (u : UnitRecord) (v : AttributeValue Section) (p : EntryPlace) → IsScope s → referred s u v ≡ Ok (Some p) → IsScope p.scope
+referred_in_order s u (values.UnitRef x) p h e = let same : ◌≡◌ {A = EntryPlace} (record { scope = s; unit = u; offset = x.0 }) p = cc in subst IsScope (ap (λ q. q.scope) same) h
+referred_in_order s u (values.DebugInfoRef x) p h e = subst IsScope (sym (entry_scope s x.0 p e)) h
+referred_in_order s u (values.DebugInfoRefSup x) p h e = sup_in_order s.sup h.sup_units x.0 p e
+referred_in_order s u _ p h e = absurd cc

@@ -1,7 +1,9 @@
 -- What is found of names, as contracts see it.
 use Rattle.std.specs.Prelude.{ℕ, ◌≡◌, leb, Bool, true, false}
-use Rattle.gimli_read.specs.declared.value.UnitOffset.{UnitOffset}
 use Rattle.gimli.specs.Unit.{UnitRecord}
+use Rattle.addr2line_lines.specs.declared.references.EntryPlace.{EntryPlace as EntryPlaceOf}
+use Rattle.addr2line_lines.specs.References.{EntryPlace}
+use Rattle.addr2line_lines.specs.SeenScope.{seen_scope}
 
 -- whether a unit begins at or below an offset
 abbrev pub begins_by : ℕ → UnitRecord → Bool
@@ -14,3 +16,7 @@ BeginsBy offset u = begins_by offset u ≡ true
 -- a unit begins above an offset
 abbrev pub BeginsAbove : ℕ → UnitRecord → Type 0
 BeginsAbove offset u = begins_by offset u ≡ false
+
+-- an entry by its place
+abbrev pub seen_place : {R : Type 0} → EntryPlaceOf R → EntryPlace
+seen_place p = record { scope = seen_scope p.scope; unit = p.unit.now; offset = p.offset.0 }

@@ -1,7 +1,16 @@
 -- What is found of names, as contracts see it.
-use Rattle.std.specs.Prelude.{ℕ, ◌≡◌, leb, Bool, true, false}
+use Rattle.std.specs.Prelude.{ℕ, ◌≡◌, ◌==◌, ◌||◌, leb, Bool, true, false, Option, Some, option_map}
+use Rattle.std.specs.Option.{option_or}
+use Rattle.gimli_read.specs.declared.constants.DwAt.{DwAt}
+use Rattle.gimli_read.specs.declared.constants.TheConstants.DwAt.{DW_AT_name}
+use Rattle.gimli_read.specs.declared.value.AttributeValue.{AttributeValue}
+use Rattle.gimli_read.specs.Abbreviations.{Specification}
+use Rattle.gimli_read.specs.Form.{seen_value}
+use Rattle.gimli_read.specs.Section.{Section}
 use Rattle.gimli.specs.Unit.{UnitRecord}
 use Rattle.addr2line_lines.specs.declared.references.EntryPlace.{EntryPlace as EntryPlaceOf}
+use Rattle.addr2line_lines.specs.declared.name.NameOrOrigin.{NameOrOrigin as NameOrOriginOf}
+use Rattle.addr2line_lines.specs.Names.{NameOrOrigin, is_linkage_name, is_origin}
 use Rattle.addr2line_lines.specs.References.{EntryPlace}
 use Rattle.addr2line_lines.specs.SeenScope.{seen_scope}
 
@@ -20,3 +29,28 @@ BeginsAbove offset u = begins_by offset u ≡ false
 -- an entry by its place
 abbrev pub seen_place : {R : Type 0} → EntryPlaceOf R → EntryPlace
 seen_place p = record { scope = seen_scope p.scope; unit = p.unit.now; offset = p.offset.0 }
+
+-- what an entry that is referred to says of its name
+abbrev pub seen_name : {R : Type 0} → (R → Section) → NameOrOriginOf R → NameOrOrigin
+seen_name see n =
+    record { name = option_map see n.name; origin = option_map (seen_value see) n.origin }
+
+-- whether an attribute may give its entry a name
+abbrev pub is_name_attribute : DwAt → Bool
+is_name_attribute name = is_linkage_name name || name.0 == DW_AT_name.0 || is_origin name
+
+-- the same of a specification
+abbrev pub is_name_specification : Specification → Bool
+is_name_specification x = is_name_attribute x.name
+
+-- the linkage name that an attribute gives, beside what is found after it
+abbrev pub taken : Option Section → NameOrOrigin → Option Section × NameOrOrigin
+taken linkage found = (linkage, found)
+
+-- a string after what was found, if there is one
+abbrev pub with_string : Option Section → NameOrOrigin → NameOrOrigin
+with_string string found = record found { name = option_or string found.name }
+
+-- a reference after what was found
+abbrev pub with_origin : AttributeValue Section → NameOrOrigin → NameOrOrigin
+with_origin value found = record found { origin = Some value }

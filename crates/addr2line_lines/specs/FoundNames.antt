@@ -1,5 +1,6 @@
 -- What is found of names, as contracts see it.
-use Rattle.std.specs.Prelude.{ℕ, ◌≡◌, ◌==◌, ◌||◌, leb, Bool, true, false, Option, Some, option_map}
+use Rattle.std.specs.Prelude.{ℕ, ◌≡◌, ◌==◌, ◌||◌, leb, Bool, true, false, List, ◌∷◌, ◌++◌, Option, Some, option_map}
+use Rattle.std.specs.List.{All}
 use Rattle.std.specs.Option.{option_or}
 use Rattle.gimli_read.specs.declared.constants.DwAt.{DwAt}
 use Rattle.gimli_read.specs.declared.constants.TheConstants.DwAt.{DW_AT_name}
@@ -42,6 +43,15 @@ is_name_attribute name = is_linkage_name name || name.0 == DW_AT_name.0 || is_or
 -- the same of a specification
 abbrev pub is_name_specification : Specification → Bool
 is_name_specification x = is_name_attribute x.name
+
+-- no attribute may give a name
+abbrev pub HasNoName : List Specification → Type 0
+HasNoName specifications = All (λ x. is_name_specification x ≡ false) specifications
+
+-- what comes before an attribute, where no other may give a name, and what comes after it
+abbrev pub IsSplitAtName : List Specification → List Specification → Specification
+    → List Specification → Type 0
+IsSplitAtName all before x after = (all ≡ before ++ x ∷ after) × HasNoName before
 
 -- the linkage name that an attribute gives, beside what is found after it
 abbrev pub taken : Option Section → NameOrOrigin → Option Section × NameOrOrigin

@@ -1,10 +1,10 @@
 //! The names of functions and inlined entries.
 
-ghost use Rattle.std.specs.Prelude.{◌≡◌, ◌==◌, ◌||◌, Ok, option_map};
+ghost use Rattle.std.specs.Prelude.{◌≡◌, ◌<◌, None, Ok, IfSome, length, option_map};
 ghost use Rattle.std.specs.List.{position};
 ghost use Rattle.gimli_read.specs.Form.{seen_value};
 ghost use Rattle.gimli_read.specs.Reading.{ExactlyUnlessOomIf};
-ghost use Rattle.addr2line_lines.specs.FoundNames.{is_name_attribute, is_name_specification, seen_name, seen_place, taken, with_origin, with_string};
+ghost use Rattle.addr2line_lines.specs.FoundNames.{HasNoName, IsSplitAtName, is_name_attribute, is_name_specification, seen_name, seen_place, taken, with_origin, with_string};
 ghost use Rattle.addr2line_lines.specs.Names.{is_linkage_name, is_origin, linkage_name_of, named_at, no_name, readable, referred_name, visited, with_name, with_name_or_origin};
 ghost use Rattle.addr2line_lines.specs.References.{IsScope};
 ghost use Rattle.addr2line_lines.specs.SeenScope.{seen_scope};
@@ -40,10 +40,26 @@ pub(crate) fn is_name_attribute(name: DwAt) -> bool
 // The place of the first attribute that may give a name.
 fn first_name_attribute(specifications: &[AttributeSpecification]) -> Option<usize>
     ensures gives { result ≡ position is_name_specification specifications.now }
+    ensures within { IfSome result (λ k. k < length specifications.now) }
 {
     specifications
         .iter()
         .position(|specification| is_name_attribute(specification.name()))
+}
+
+// The attributes before the first that may give a name, that one, and those after it.
+fn split_at_name(
+    all: &[AttributeSpecification],
+) -> Option<(
+    &[AttributeSpecification],
+    AttributeSpecification,
+    &[AttributeSpecification],
+)>
+    ensures split { IfSome result (λ x. IsSplitAtName all.now x.0.now x.1 x.2.now) }
+    ensures none { result ≡ None → HasNoName all.now }
+{
+    let next = first_name_attribute(all)?;
+    Some((&all[..next], all[next], &all[next + 1..]))
 }
 
 // The string of a value, none where it can't be read. Refused `OutOfMemory` alone.
@@ -145,16 +161,16 @@ fn read_names<R: Reader>(
 {
     let mut found = NameOrOrigin::new();
     let mut rest = specifications;
-    while let Some(next) = first_name_attribute(rest) {
-        entries.skip_attributes(&rest[..next])?;
-        let attribute = entries.read_attribute(rest[next])?;
+    while let Some((before, specification, after)) = split_at_name(rest) {
+        entries.skip_attributes(before)?;
+        let attribute = entries.read_attribute(specification)?;
         if let Some(name) = found.take(place.scope, place.unit, attribute)? {
             return Ok(NameOrOrigin {
                 name: Some(name),
                 origin: None,
             });
         }
-        rest = &rest[next + 1..];
+        rest = after;
     }
     entries.skip_attributes(rest)?;
     Ok(found)
@@ -189,11 +205,11 @@ fn referred_name<'a, R: Reader>(
         let Some(place) = referred(scope, unit, &value)? else {
             return Ok(None);
         };
-        let found = visit(place)?;
-        if found.name.is_some() {
-            return Ok(found.name);
+        let NameOrOrigin { name, origin } = visit(place)?;
+        if name.is_some() {
+            return Ok(name);
         }
-        let Some(origin) = found.origin else {
+        let Some(origin) = origin else {
             return Ok(None);
         };
         scope = place.scope;

@@ -12,6 +12,7 @@ ghost use Rattle.addr2line_lines.specs.SeenScope.{seen_scope};
 use crate::references::{EntryPlace, Scope, referred};
 use gimli::read::{Attribute, AttributeSpecification, AttributeValue, DwAt, Error, Reader};
 use gimli::{EntriesRaw, Unit, UnitRef};
+use std::alloc::AllocError;
 
 // The most entries that are visited for one name.
 const MOST_VISITED: u64 = 16;
@@ -47,19 +48,33 @@ fn first_name_attribute(specifications: &[AttributeSpecification]) -> Option<usi
         .position(|specification| is_name_attribute(specification.name()))
 }
 
-// The attributes before the first that may give a name, that one, and those after it.
-fn split_at_name(
-    all: &[AttributeSpecification],
-) -> Option<(
-    &[AttributeSpecification],
-    AttributeSpecification,
-    &[AttributeSpecification],
-)>
-    ensures split { IfSome result (λ x. IsSplitAtName all.now x.0.now x.1 x.2.now) }
+// The first attribute that may give a name, among others.
+struct AtName<'a> {
+    before: &'a [AttributeSpecification],
+    specification: AttributeSpecification,
+    after: &'a [AttributeSpecification],
+}
+
+impl Copy for AtName<'_> {}
+
+impl Clone for AtName<'_> {
+    fn clone(&self) -> Result<Self, AllocError> {
+        Ok(*self)
+    }
+}
+
+// Attributes, split at the first that may give a name.
+fn split_at_name(all: &[AttributeSpecification]) -> Option<AtName<'_>>
+    ensures split { IfSome result (λ x.
+        IsSplitAtName all.now x.before.now x.specification x.after.now) }
     ensures none { result ≡ None → HasNoName all.now }
 {
-    let next = first_name_attribute(all)?;
-    Some((&all[..next], all[next], &all[next + 1..]))
+    let place = first_name_attribute(all)?;
+    Some(AtName {
+        before: &all[..place],
+        specification: all[place],
+        after: &all[place + 1..],
+    })
 }
 
 // The string of a value, none where it can't be read. Refused `OutOfMemory` alone.
@@ -161,16 +176,16 @@ fn read_names<R: Reader>(
 {
     let mut found = NameOrOrigin::new();
     let mut rest = specifications;
-    while let Some((before, specification, after)) = split_at_name(rest) {
-        entries.skip_attributes(before)?;
-        let attribute = entries.read_attribute(specification)?;
+    while let Some(next) = split_at_name(rest) {
+        entries.skip_attributes(next.before)?;
+        let attribute = entries.read_attribute(next.specification)?;
         if let Some(name) = found.take(place.scope, place.unit, attribute)? {
             return Ok(NameOrOrigin {
                 name: Some(name),
                 origin: None,
             });
         }
-        rest = after;
+        rest = next.after;
     }
     entries.skip_attributes(rest)?;
     Ok(found)

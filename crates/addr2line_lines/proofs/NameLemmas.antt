@@ -1,5 +1,5 @@
 -- What attributes say of names (on specs/Names.antt).
-use Rattle.std.proofs.Common.{ℕ, zero, suc, ◌+◌, ◌-◌, ◌<◌, ◌≤◌, ◌≡◌, ◌≢◌, ◌==◌, ◌||◌, Bool, true, false, cond, nat_lt, List, [], ◌∷◌, ◌++◌, length, take, drop, slice_index_or, Option, Some, None, option_map, Result, Ok, Err, arith, refl, ap, sym, ◌∙◌, append-nil, length-append, length-drop, length-take}
+use Rattle.std.proofs.Common.{ℕ, zero, suc, ◌+◌, ◌-◌, ◌<◌, ◌≤◌, ◌≡◌, ◌≢◌, ◌==◌, ◌||◌, Bool, true, false, cond, nat_lt, List, [], ◌∷◌, ◌++◌, length, take, drop, slice_index_or, Option, Some, None, option_map, Result, Ok, Err, add-one, arith, refl, ap, sym, ◌∙◌, append-nil, length-append, length-drop, length-take}
 use Rattle.std.specs.List.{All, position, position_or_len}
 use Rattle.std.specs.Option.{option_or}
 use Rattle.std.specs.Result.{result_ok}
@@ -18,10 +18,12 @@ use Rattle.gimli_read.specs.Abbreviations.{Specification}
 use Rattle.gimli_read.specs.Form.{NamedValue, attribute_at, attributes_at, implicit_of, named_value, rest_of, value_at}
 use Rattle.gimli_read.specs.Reading.{Reading, ExactlyUnlessOomIf, ◌>>=◌}
 use Rattle.gimli_read.specs.Section.{Section}
+use Rattle.gimli.specs.Entries.{entries_from}
+use Rattle.gimli.specs.Entry.{EntriesLeft, entry_abbreviation_at}
 use Rattle.gimli.specs.Unit.{UnitRecord, attr_string_of}
 use Rattle.addr2line_lines.specs.FoundNames.{HasNoName, IsSplitAtName, is_name_attribute, is_name_specification, taken}
-use Rattle.addr2line_lines.specs.Names.{NameOrOrigin, is_linkage_name, is_origin, linkage_name_of, named_at, readable, with_name_or_origin}
-use Rattle.addr2line_lines.specs.References.{Scope}
+use Rattle.addr2line_lines.specs.Names.{NameOrOrigin, entry_specifications, is_linkage_name, is_origin, linkage_name_of, name_within, named_at, no_name, readable, visited, with_name_or_origin}
+use Rattle.addr2line_lines.specs.References.{EntryPlace, Scope, referred}
 
 -- a string that can't be read is none
 pub unreadable : (s : Scope) (u : UnitRecord) (v : AttributeValue Section) (may ok : Type 0) (e : Error) → (e ≡ OutOfMemory → ⊥) → ((may → ok → e ≢ OutOfMemory) → attr_string_of s.file.sections u v ≡ Err e) → readable s u v ≡ None
@@ -178,3 +180,49 @@ named_other s u after found more a t h = let p = gives s u found more a None h i
 -- fewer attributes are left
 pub fewer_left : (all before : List Specification) (x : Specification) (after : List Specification) → IsSplitAtName all before x after → length after < length all
 fewer_left all before x after h = let e = ap length h.0 in let l = length-append before (x ∷ after) in omega arith
+
+-- what an entry says, whose reading begins
+abbrev entry_read : EntryPlace → EntriesLeft → Result NameOrOrigin Error
+entry_read place entries = do
+  entry ← entry_abbreviation_at entries.unit.abbreviations entries.cursor
+  specifications ← entry_specifications place.offset entry.0
+  named_at place.scope place.unit specifications entry.1.left no_name
+
+-- an entry whose reading can't begin
+pub visited_fault : (place : EntryPlace) (e : Error) → entries_from place.unit (Some place.offset) ≡ Err e → visited place ≡ Err e
+unfolding visited
+visited_fault place e h = ap (λ (r : Result EntriesLeft Error). r >>= λ entries. entry_read place entries) h
+
+-- the name after what an entry says
+abbrev pub after_visit : ℕ → EntryPlace → NameOrOrigin → Result (Option Section) Error
+after_visit n place found = elim found.name [
+  | Some name ↦ Ok (Some name)
+  | None ↦ elim found.origin [ None ↦ Ok None | Some next ↦ name_within n place.scope place.unit next ]
+]
+
+-- the name by an entry that is referred to
+abbrev pub after_referred : ℕ → Option EntryPlace → Result (Option Section) Error
+after_referred n entry = elim entry [ None ↦ Ok None | Some place ↦ visited place >>= λ found. after_visit n place found ]
+
+-- one more entry of a chain
+pub within_step : (m n : ℕ) (s : Scope) (u : UnitRecord) (v : AttributeValue Section) → m ≡ n + 1 → name_within m s u v ≡ (referred s u v >>= λ entry. after_referred n entry)
+unfolding name_within
+within_step m n s u v h = ap (λ k. name_within k s u v) (h ∙ add-one n)
+
+-- where the value can't be followed
+pub within_fault : (m n : ℕ) (s : Scope) (u : UnitRecord) (v : AttributeValue Section) (e : Error) → m ≡ n + 1 → referred s u v ≡ Err e → name_within m s u v ≡ Err e
+within_fault m n s u v e h k = within_step m n s u v h ∙ ap (λ r. r >>= λ entry. after_referred n entry) k
+
+-- where it refers to nothing
+pub within_none : (m n : ℕ) (s : Scope) (u : UnitRecord) (v : AttributeValue Section) → m ≡ n + 1 → referred s u v ≡ Ok None → name_within m s u v ≡ Ok None
+within_none m n s u v h k = within_step m n s u v h ∙ ap (λ r. r >>= λ entry. after_referred n entry) k
+
+-- where it refers to an entry
+pub within_place : (m n : ℕ) (s : Scope) (u : UnitRecord) (v : AttributeValue Section) (place : EntryPlace) (read : Result NameOrOrigin Error) → m ≡ n + 1 → referred s u v ≡ Ok (Some place) → visited place ≡ read
+    → name_within m s u v ≡ (read >>= λ found. after_visit n place found)
+within_place m n s u v place read h k q = within_step m n s u v h ∙ ap (λ r. r >>= λ entry. after_referred n entry) k ∙ ap (λ r. r >>= λ found. after_visit n place found) q
+
+-- after the last entry
+pub within_zero : (s : Scope) (u : UnitRecord) (v : AttributeValue Section) (m : ℕ) → m ≡ 0 → name_within m s u v ≡ Ok None
+unfolding name_within
+within_zero s u v m h = ap (λ k. name_within k s u v) h

@@ -1,5 +1,5 @@
 -- What attributes say of names (on specs/Names.antt).
-use Rattle.std.proofs.Common.{ℕ, zero, suc, ◌+◌, ◌-◌, ◌<◌, ◌≤◌, ◌≡◌, ◌≢◌, ◌==◌, ◌||◌, Bool, true, false, cond, nat_lt, List, [], ◌∷◌, ◌++◌, length, take, drop, slice_index_or, Option, Some, None, option_map, Result, Ok, Err, add-one, arith, refl, ap, sym, ◌∙◌, append-nil, length-append, length-drop, length-take}
+use Rattle.std.proofs.Common.{ℕ, zero, suc, ◌+◌, ◌-◌, ◌<◌, ◌≤◌, ◌≡◌, ◌≢◌, ◌==◌, ◌||◌, Bool, true, false, cond, nat_lt, List, [], ◌∷◌, ◌++◌, length, take, drop, slice_index_or, Option, Some, None, is_some, option_map, Result, Ok, Err, add-one, arith, refl, ap, sym, ◌∙◌, append-nil, length-append, length-drop, length-take}
 use Rattle.std.specs.List.{All, position, position_or_len}
 use Rattle.std.specs.Option.{option_or}
 use Rattle.std.specs.Result.{result_ok}
@@ -15,13 +15,14 @@ use Rattle.gimli_read.specs.declared.error.Error.{Error}
 use Rattle.gimli_read.specs.declared.error.Error.TheVariants.{OutOfMemory}
 use Rattle.gimli_read.specs.declared.value.AttributeValue.{AttributeValue}
 use Rattle.gimli_read.specs.Abbreviations.{Specification}
-use Rattle.gimli_read.specs.Form.{NamedValue, attribute_at, attributes_at, implicit_of, named_value, rest_of, value_at}
+use Rattle.gimli_read.specs.Form.{NamedValue, attribute_at, attributes_at, implicit_of, named_value, rest_of, seen_value, value_at}
 use Rattle.gimli_read.specs.Reading.{Reading, ExactlyUnlessOomIf, ◌>>=◌}
 use Rattle.gimli_read.specs.Section.{Section}
 use Rattle.gimli.specs.Entries.{entries_from}
 use Rattle.gimli.specs.Entry.{EntriesLeft, entry_abbreviation_at}
 use Rattle.gimli.specs.Unit.{UnitRecord, attr_string_of}
-use Rattle.addr2line_lines.specs.FoundNames.{HasNoName, IsSplitAtName, is_name_attribute, is_name_specification, taken}
+use Rattle.addr2line_lines.specs.declared.name.NameOrOrigin.{NameOrOrigin as NameOrOriginOf}
+use Rattle.addr2line_lines.specs.FoundNames.{HasNoName, IsSplitAtName, is_name_attribute, is_name_specification, seen_name, taken}
 use Rattle.addr2line_lines.specs.Names.{NameOrOrigin, entry_specifications, is_linkage_name, is_origin, linkage_name_of, name_within, named_at, no_name, readable, visited, with_name_or_origin}
 use Rattle.addr2line_lines.specs.References.{EntryPlace, Scope, referred}
 
@@ -226,3 +227,28 @@ within_place m n s u v place read h k q = within_step m n s u v h ∙ ap (λ r. 
 pub within_zero : (s : Scope) (u : UnitRecord) (v : AttributeValue Section) (m : ℕ) → m ≡ 0 → name_within m s u v ≡ Ok None
 unfolding name_within
 within_zero s u v m h = ap (λ k. name_within k s u v) h
+
+-- after an entry with a name
+pub visit_named : {R : Type 0} (see : R → Section) (n : ℕ) (place : EntryPlace) (x : NameOrOriginOf R) → true ≡ is_some x.name → after_visit n place (seen_name see x) ≡ Ok (option_map see x.name)
+visit_named see n place x h = at x.name h
+  where
+    at : (o : Option _) → true ≡ is_some o → ◌≡◌ {A = Result (Option Section) Error} (elim (option_map see o) [ Some name ↦ Ok (Some name) | None ↦ elim (option_map (seen_value see) x.origin) [ None ↦ Ok None | Some next ↦ name_within n place.scope place.unit next ] ]) (Ok (option_map see o))
+    at None h = absurd cc
+    at (Some name) h = refl
+
+-- after an entry without one
+visit_unnamed : {R : Type 0} (see : R → Section) (n : ℕ) (place : EntryPlace) (x : NameOrOriginOf R) → false ≡ is_some x.name
+    → after_visit n place (seen_name see x) ≡ elim (option_map (seen_value see) x.origin) [ None ↦ Ok None | Some next ↦ name_within n place.scope place.unit next ]
+visit_unnamed see n place x h = at x.name h
+  where
+    at : (o : Option _) → false ≡ is_some o → ◌≡◌ {A = Result (Option Section) Error} (elim (option_map see o) [ Some name ↦ Ok (Some name) | None ↦ elim (option_map (seen_value see) x.origin) [ None ↦ Ok None | Some next ↦ name_within n place.scope place.unit next ] ]) (elim (option_map (seen_value see) x.origin) [ None ↦ Ok None | Some next ↦ name_within n place.scope place.unit next ])
+    at None h = refl
+    at (Some name) h = absurd cc
+
+-- after an entry that says nothing
+pub visit_ends : {R : Type 0} (see : R → Section) (n : ℕ) (place : EntryPlace) (x : NameOrOriginOf R) → false ≡ is_some x.name → x.origin ≡ None → after_visit n place (seen_name see x) ≡ Ok None
+visit_ends see n place x h k = visit_unnamed see n place x h ∙ ap (λ o. elim (option_map (seen_value see) o) [ None ↦ Ok None | Some next ↦ name_within n place.scope place.unit next ]) k
+
+-- after an entry that refers to another one
+pub visit_goes_on : {R : Type 0} (see : R → Section) (n : ℕ) (place : EntryPlace) (x : NameOrOriginOf R) (v : AttributeValue R) → false ≡ is_some x.name → x.origin ≡ Some v → after_visit n place (seen_name see x) ≡ name_within n place.scope place.unit (seen_value see v)
+visit_goes_on see n place x v h k = visit_unnamed see n place x h ∙ ap (λ o. elim (option_map (seen_value see) o) [ None ↦ Ok None | Some next ↦ name_within n place.scope place.unit next ]) k

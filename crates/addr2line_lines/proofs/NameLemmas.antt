@@ -23,7 +23,7 @@ use Rattle.gimli.specs.Entry.{EntriesLeft, entry_abbreviation_at}
 use Rattle.gimli.specs.Unit.{UnitRecord, attr_string_of}
 use Rattle.addr2line_lines.specs.declared.name.NameOrOrigin.{NameOrOrigin as NameOrOriginOf}
 use Rattle.addr2line_lines.specs.FoundNames.{HasNoName, IsSplitAtName, is_name_attribute, is_name_specification, seen_name, taken}
-use Rattle.addr2line_lines.specs.Names.{NameOrOrigin, entry_specifications, is_linkage_name, is_origin, linkage_name_of, name_within, named_at, no_name, readable, visited, with_name_or_origin}
+use Rattle.addr2line_lines.specs.Names.{NameOrOrigin, entry_specifications, is_linkage_name, is_origin, linkage_name_of, name_within, named_at, no_name, or_referred_name, readable, visited, with_name, with_name_or_origin}
 use Rattle.addr2line_lines.specs.References.{EntryPlace, Scope, referred}
 
 -- a string that can't be read is none
@@ -252,3 +252,37 @@ visit_ends see n place x h k = visit_unnamed see n place x h ∙ ap (λ o. elim 
 -- after an entry that refers to another one
 pub visit_goes_on : {R : Type 0} (see : R → Section) (n : ℕ) (place : EntryPlace) (x : NameOrOriginOf R) (v : AttributeValue R) → false ≡ is_some x.name → x.origin ≡ Some v → after_visit n place (seen_name see x) ≡ name_within n place.scope place.unit (seen_value see v)
 visit_goes_on see n place x v h k = visit_unnamed see n place x h ∙ ap (λ o. elim (option_map (seen_value see) o) [ None ↦ Ok None | Some next ↦ name_within n place.scope place.unit next ]) k
+
+-- by the attribute's name
+abbrev pub by_name : Scope → UnitRecord → Option Section → NamedValue → Bool → Bool → Bool → Result (Option Section) Error
+by_name s u name a linkage is_name origin =
+    cond linkage (Ok (option_or (readable s u a.value) name))
+    (cond is_name (Ok (option_or name (readable s u a.value)))
+    (cond origin (or_referred_name s u name a.value) (Ok name)))
+
+-- the name after an attribute by what the attribute is
+with_is : (s : Scope) (u : UnitRecord) (name : Option Section) (a : NamedValue) (x y z : Bool) → is_linkage_name a.name ≡ x → (a.name.0 == DW_AT_name.0) ≡ y → is_origin a.name ≡ z → with_name s u name a ≡ by_name s u name a x y z
+unfolding with_name
+with_is s u name a x y z h k l =
+    ap (λ b. by_name s u name a b (a.name.0 == DW_AT_name.0) (is_origin a.name)) h ∙ ap (λ b. by_name s u name a x b (is_origin a.name)) k ∙ ap (by_name s u name a x y) l
+
+-- an attribute that may give no name leaves the name as it is
+pub name_kept : (s : Scope) (u : UnitRecord) (name : Option Section) (a : NamedValue) → is_name_attribute a.name ≡ false → with_name s u name a ≡ Ok name
+name_kept s u name a h =
+    let p = none_of (is_linkage_name a.name) (a.name.0 == DW_AT_name.0) (is_origin a.name) h in
+    with_is s u name a false false false p.0 p.1 p.2
+
+-- a name that was found stays, where the attribute is no linkage name
+pub name_stays : {R : Type 0} (see : R → Section) (s : Scope) (u : UnitRecord) (name : Option R) (a : NamedValue) → is_linkage_name a.name ≡ false → true ≡ is_some name → with_name s u (option_map see name) a ≡ Ok (option_map see name)
+name_stays see s u None a h k = absurd cc
+name_stays see s u (Some name) a h k = with_is s u (Some (see name)) a false (a.name.0 == DW_AT_name.0) (is_origin a.name) h refl refl ∙ at (a.name.0 == DW_AT_name.0) (is_origin a.name)
+  where
+    at : (y z : Bool) → by_name s u (Some (see name)) a false y z ≡ Ok (Some (see name))
+    at true z = refl
+    at false true = refl
+    at false false = refl
+
+-- where none was found, by the attribute
+pub name_by : {R : Type 0} (see : R → Section) (s : Scope) (u : UnitRecord) (name : Option R) (a : NamedValue) (y z : Bool) → is_linkage_name a.name ≡ false → false ≡ is_some name → (a.name.0 == DW_AT_name.0) ≡ y → is_origin a.name ≡ z → with_name s u (option_map see name) a ≡ by_name s u None a false y z
+name_by see s u (Some name) a y z h k l m = absurd cc
+name_by see s u None a y z h k l m = with_is s u None a false y z h l m

@@ -1,13 +1,12 @@
 -- What attributes say of names (on specs/Names.antt).
 use Rattle.std.proofs.Common.{ℕ, zero, suc, ◌+◌, ◌-◌, ◌<◌, ◌≤◌, ◌≡◌, ◌≢◌, ◌==◌, ◌||◌, Bool, true, false, cond, nat_lt, List, [], ◌∷◌, ◌++◌, length, take, drop, slice_index_or, Option, Some, None, is_some, option_map, Result, Ok, Err, add-one, arith, refl, ap, sym, ◌∙◌, append-nil, length-append, length-drop, length-take}
-use Rattle.std.specs.List.{All, position, position_or_len}
+use Rattle.std.specs.List.{position, position_or_len}
 use Rattle.std.specs.Option.{option_or}
 use Rattle.std.specs.Result.{result_ok}
 use Rattle.std.proofs.lemmas.Bool.Decides.{nat_tests}
 use Rattle.std.proofs.lemmas.List.{drop_more, get_or-take, take-append-drop, take_all}
 use Rattle.std.proofs.lemmas.List.Quantifiers.{position-Some}
 use Rattle.std.proofs.lemmas.List.Sums.{fails_before_first}
-use Rattle.gimli_read.specs.declared.constants.DwAt.{DwAt}
 use Rattle.gimli_read.specs.declared.constants.TheConstants.DwAt.{DW_AT_name}
 use Rattle.gimli_read.specs.declared.constants.TheConstants.DwForm.{DW_FORM_implicit_const}
 use Rattle.gimli_read.specs.declared.endian.Encoding.{Encoding}
@@ -65,10 +64,11 @@ pub split_at : (xs : List Specification) (n : ℕ) (x : Specification) → posit
 split_at xs n x h is =
     let p = position-Some is_name_specification xs n x h in
     let l = length-take n xs in
-    let m = length-drop (n + 1) xs in
-    (sym (take-append-drop n xs)
-        ∙ ap (λ ys. take n xs ++ ys) (drop_more xs n x p.0 ∙ ap (λ y. y ∷ drop (n + 1) xs) (sym is) ∙ ap (λ ys. x ∷ ys) (sym (take_all (length xs - (n + 1)) (drop (n + 1) xs) (omega arith)))),
-      λ k d b. ap is_name_specification (get_or-take n xs k d (omega arith)) ∙ fails k d (omega arith))
+    let m = length-drop (n + 1) xs in (
+      sym (take-append-drop n xs)
+          ∙ ap (λ ys. take n xs ++ ys) (drop_more xs n x p.0 ∙ ap (λ y. y ∷ drop (n + 1) xs) (sym is) ∙ ap (λ ys. x ∷ ys) (sym (take_all (length xs - (n + 1)) (drop (n + 1) xs) (omega arith)))),
+      λ k d b. ap is_name_specification (get_or-take n xs k d (omega arith)) ∙ fails k d (omega arith),
+    )
   where
     fails : (k : ℕ) (d : Specification) → k < n → is_name_specification (slice_index_or xs k d) ≡ false
     fails k d b = (position-Some is_name_specification xs n d h).2 k b

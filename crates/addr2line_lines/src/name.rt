@@ -12,7 +12,6 @@ ghost use Rattle.addr2line_lines.specs.SeenScope.{seen_scope};
 use crate::references::{EntryPlace, Scope, referred};
 use gimli::read::{Attribute, AttributeSpecification, AttributeValue, DwAt, Error, Reader};
 use gimli::{EntriesRaw, Unit, UnitRef};
-use std::alloc::AllocError;
 
 // The most entries that are visited for one name.
 const MOST_VISITED: u64 = 16;
@@ -49,18 +48,11 @@ fn first_name_attribute(specifications: &[AttributeSpecification]) -> Option<usi
 }
 
 // The first attribute that may give a name, among others.
+#[derive(Clone, Copy)]
 struct AtName<'a> {
     before: &'a [AttributeSpecification],
     specification: AttributeSpecification,
     after: &'a [AttributeSpecification],
-}
-
-impl Copy for AtName<'_> {}
-
-impl Clone for AtName<'_> {
-    fn clone(&self) -> Result<Self, AllocError> {
-        Ok(*self)
-    }
 }
 
 // Attributes, split at the first that may give a name.

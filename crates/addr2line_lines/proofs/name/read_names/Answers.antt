@@ -1,11 +1,9 @@
 use Rattle.std.proofs.Common.{Ok, ap, refl, sym, ◌∙◌}
 use Rattle.std.proofs.lemmas.Result.{err_from_is_err_and}
-use Rattle.gimli_read.specs.Form.{attribute_at, rest_of}
 use Rattle.gimli_read.specs.Reading.{◌>>=◌}
-use Rattle.gimli.specs.Entry.{attributes_at}
 use Rattle.addr2line_lines.specs.FoundNames.{seen_name}
 use Rattle.addr2line_lines.specs.SeenScope.{seen_scope}
-use Rattle.addr2line_lines.proofs.NameLemmas.{fewer_left, named_after, named_end, named_linkage, named_other, passed, passed_fault}
+use Rattle.addr2line_lines.proofs.NameLemmas.{named_after, named_end, named_linkage, named_other, passed, passed_fault}
 use Rattle.addr2line_lines.proofs.name.read_names.Goals as goal
 
 pub returns-in_err-skip_attributes : goal.returns-in_err-skip_attributes

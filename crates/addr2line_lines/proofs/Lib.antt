@@ -25,3 +25,4 @@ pub mod FunctionLemmas
 pub mod FunctionOrder
 pub mod ReferenceLemmas
 pub mod NameLemmas
+pub mod UnitOrder

@@ -26,3 +26,4 @@ pub mod FunctionOrder
 pub mod ReferenceLemmas
 pub mod NameLemmas
 pub mod UnitOrder
+pub mod NameChains

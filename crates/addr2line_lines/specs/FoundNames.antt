@@ -1,4 +1,5 @@
--- What is found of names, as contracts see it.
+-- Names as they are found, and the units and entries that references lead to, as the private
+-- functions see them.
 use Rattle.std.specs.Prelude.{ℕ, ◌≡◌, ◌==◌, ◌||◌, leb, Bool, true, false, List, ◌∷◌, ◌++◌, Option, Some, option_map}
 use Rattle.std.specs.List.{All}
 use Rattle.std.specs.Option.{option_or}

@@ -29,3 +29,4 @@ pub mod Names
 pub mod Details
 pub mod SeenScope
 pub mod FoundNames
+pub mod NameChains

@@ -1,10 +1,9 @@
 -- What chains of entries give (on specs/NameChains.antt).
-use Rattle.std.proofs.Common.{ℕ, ◌≡◌, ◌+◌, ◌-◌, ◌<◌, List, [], ◌∷◌, length, Option, Some, None, Result, Ok, arith, ap, refl, ◌∙◌}
+use Rattle.std.proofs.Common.{ℕ, ◌≡◌, ◌+◌, ◌-◌, List, [], ◌∷◌, length, Option, Some, None, Result, Ok, arith, ap, refl, ◌∙◌}
 use Rattle.gimli_read.specs.declared.error.Error.{Error}
-use Rattle.gimli_read.specs.declared.value.AttributeValue.{AttributeValue}
 use Rattle.gimli_read.specs.Section.{Section}
-use Rattle.addr2line_lines.specs.NameChains.{ChainGivesName, IsChain, LeadsTo, LongChainGivesNone, Reference}
-use Rattle.addr2line_lines.specs.Names.{NameOrOrigin, name_within}
+use Rattle.addr2line_lines.specs.NameChains.{ChainGivesName, IsChain, LongChainGivesNone, Reference}
+use Rattle.addr2line_lines.specs.Names.{name_within}
 use Rattle.addr2line_lines.specs.References.{EntryPlace}
 use Rattle.addr2line_lines.proofs.NameLemmas.{within_place, within_zero}
 

@@ -26,3 +26,7 @@ pub mod FunctionOrder
 pub mod InlinedOrder
 pub mod InlinedPick
 pub mod NestedInlined
+pub mod ReferenceLemmas
+pub mod NameLemmas
+pub mod UnitOrder
+pub mod NameChains

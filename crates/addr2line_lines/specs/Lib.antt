@@ -30,3 +30,5 @@ pub mod Details
 pub mod SeenScope
 pub mod InlinedOrder
 pub mod NestedInlined
+pub mod FoundNames
+pub mod NameChains

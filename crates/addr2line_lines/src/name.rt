@@ -1,16 +1,233 @@
 //! The names of functions and inlined entries.
 
-ghost use Rattle.std.specs.Prelude.{◌≡◌, option_map};
+ghost use Rattle.std.specs.Prelude.{◌≡◌, ◌<◌, None, Ok, IfSome, length, option_map};
+ghost use Rattle.std.specs.List.{position};
+ghost use Rattle.gimli_read.specs.Form.{seen_value};
 ghost use Rattle.gimli_read.specs.Reading.{ExactlyUnlessOomIf};
-ghost use Rattle.addr2line_lines.specs.Names.{with_name};
+ghost use Rattle.addr2line_lines.specs.FoundNames.{HasNoName, IsSplitAtName, is_name_attribute, is_name_specification, seen_name, seen_place, taken, with_origin, with_string};
+ghost use Rattle.addr2line_lines.specs.Names.{is_linkage_name, is_origin, linkage_name_of, named_at, no_name, readable, referred_name, visited, with_name, with_name_or_origin};
 ghost use Rattle.addr2line_lines.specs.References.{IsScope};
 ghost use Rattle.addr2line_lines.specs.SeenScope.{seen_scope};
 
-use crate::references::Scope;
-use gimli::Unit;
-use gimli::read::{Attribute, Error, Reader};
+use crate::references::{EntryPlace, Scope, referred};
+use gimli::read::{Attribute, AttributeSpecification, AttributeValue, DwAt, Error, Reader};
+use gimli::{EntriesRaw, Unit, UnitRef};
+
+// The most entries that are visited for one name.
+const MOST_VISITED: u64 = 16;
+
+// Whether an attribute is a linkage name.
+fn is_linkage_name(name: DwAt) -> bool
+    ensures gives { result ≡ is_linkage_name name }
+{
+    name == DwAt::DW_AT_linkage_name || name == DwAt::DW_AT_MIPS_linkage_name
+}
+
+// Whether an attribute refers to an entry that has the name.
+fn is_origin(name: DwAt) -> bool
+    ensures gives { result ≡ is_origin name }
+{
+    name == DwAt::DW_AT_abstract_origin || name == DwAt::DW_AT_specification
+}
+
+/// Whether an attribute may give its entry a name. Takes no memory.
+pub(crate) fn is_name_attribute(name: DwAt) -> bool
+    ensures gives { result ≡ is_name_attribute name }
+{
+    is_linkage_name(name) || name == DwAt::DW_AT_name || is_origin(name)
+}
+
+// The place of the first attribute that may give a name.
+fn first_name_attribute(specifications: &[AttributeSpecification]) -> Option<usize>
+    ensures gives { result ≡ position is_name_specification specifications.now }
+    ensures within { IfSome result (λ k. k < length specifications.now) }
+{
+    specifications
+        .iter()
+        .position(|specification| is_name_attribute(specification.name()))
+}
+
+// The first attribute that may give a name, among others.
+#[derive(Clone, Copy)]
+struct AtName<'a> {
+    before: &'a [AttributeSpecification],
+    specification: AttributeSpecification,
+    after: &'a [AttributeSpecification],
+}
+
+// Attributes, split at the first that may give a name.
+fn split_at_name(all: &[AttributeSpecification]) -> Option<AtName<'_>>
+    ensures split { IfSome result (λ x.
+        IsSplitAtName all.now x.before.now x.specification x.after.now) }
+    ensures none { result ≡ None → HasNoName all.now }
+{
+    let place = first_name_attribute(all)?;
+    Some(AtName {
+        before: &all[..place],
+        specification: all[place],
+        after: &all[place + 1..],
+    })
+}
+
+// The string of a value, none where it can't be read. Refused `OutOfMemory` alone.
+fn readable<R: Reader>(
+    scope: Scope<'_, R>,
+    unit: &Unit<R>,
+    value: AttributeValue<R>,
+) -> Result<Option<R>, Error>
+    ensures gives { ExactlyUnlessOomIf R.shares (option_map R.section) result
+        (Ok (readable (seen_scope scope.entry) unit.now (seen_value R.section value))) }
+{
+    let file = scope.file;
+    match UnitRef::new(file.dwarf, unit).attr_string(value) {
+        Ok(string) => Ok(Some(string)),
+        Err(error) => match error {
+            Error::OutOfMemory => Err(Error::OutOfMemory),
+            _ => Ok(None),
+        },
+    }
+}
+
+// What an entry that is referred to says of its name: a string, or where else to look.
+#[derive(Drop)]
+struct NameOrOrigin<R: Reader> {
+    name: Option<R>,
+    origin: Option<AttributeValue<R>>,
+}
+
+impl<R: Reader> NameOrOrigin<R> {
+    // Before the first attribute.
+    fn new() -> NameOrOrigin<R>
+        ensures gives { seen_name R.section result ≡ no_name }
+    {
+        NameOrOrigin {
+            name: None,
+            origin: None,
+        }
+    }
+
+    // Sets the name to a string, if it is one.
+    fn set_name(&mut self, string: Option<R>)
+        ensures gives { seen_name R.section self.new ≡ with_string (option_map R.section string)
+            (seen_name R.section self.old) }
+    {
+        if string.is_some() {
+            self.name = string;
+        }
+    }
+
+    // Sets where else to look.
+    fn set_origin(&mut self, value: AttributeValue<R>)
+        ensures gives { seen_name R.section self.new ≡ with_origin (seen_value R.section value)
+            (seen_name R.section self.old) }
+    {
+        self.origin = Some(value);
+    }
+
+    // Takes one more attribute in, and answers a linkage name instead.
+    fn take(
+        &mut self,
+        scope: Scope<'_, R>,
+        unit: &Unit<R>,
+        attribute: Attribute<R>,
+    ) -> Result<Option<R>, Error>
+        ensures gives { ExactlyUnlessOomIf R.shares
+            (λ linkage. taken (option_map R.section linkage) (seen_name R.section self.new)) result
+            (Ok (taken (linkage_name_of (seen_scope scope.entry) unit.now attribute)
+            (with_name_or_origin (seen_scope scope.entry) unit.now
+            (seen_name R.section self.old) attribute))) }
+    {
+        let name = attribute.name();
+        let value = attribute.value();
+        if is_linkage_name(name) {
+            return readable(scope, unit, value);
+        }
+        if name == DwAt::DW_AT_name {
+            let string = readable(scope, unit, value)?;
+            self.set_name(string);
+            return Ok(None);
+        }
+        if is_origin(name) {
+            self.set_origin(value);
+            return Ok(None);
+        }
+        Ok(None)
+    }
+}
+
+// What an entry says of its name, by its attributes up to the first linkage name.
+fn read_names<R: Reader>(
+    place: EntryPlace<'_, R>,
+    entries: &mut EntriesRaw<'_, R>,
+    specifications: &[AttributeSpecification],
+) -> Result<NameOrOrigin<R>, Error>
+    requires encoding { entries.old.unit.encoding ≡ place.unit.now.header.encoding }
+    ensures gives { ExactlyUnlessOomIf R.shares (seen_name R.section) result
+        (named_at (seen_scope place.entry.scope) place.entry.unit.now specifications.now
+        entries.old.cursor.left no_name) }
+{
+    let mut found = NameOrOrigin::new();
+    let mut rest = specifications;
+    while let Some(next) = split_at_name(rest) {
+        entries.skip_attributes(next.before)?;
+        let attribute = entries.read_attribute(next.specification)?;
+        if let Some(name) = found.take(place.scope, place.unit, attribute)? {
+            return Ok(NameOrOrigin {
+                name: Some(name),
+                origin: None,
+            });
+        }
+        rest = next.after;
+    }
+    entries.skip_attributes(rest)?;
+    Ok(found)
+}
+
+// What the entry at a place says of its name.
+#[tactic(auto, unfolding(crate::specs::Names::visited))]
+fn visit<R: Reader>(place: EntryPlace<'_, R>) -> Result<NameOrOrigin<R>, Error>
+    ensures gives { ExactlyUnlessOomIf R.shares (seen_name R.section) result
+        (visited (seen_place place.entry)) }
+{
+    let file = place.scope.file;
+    let unit = UnitRef::new(file.dwarf, place.unit);
+    let mut entries = unit.entries_raw(Some(place.offset))?;
+    match entries.read_abbreviation()? {
+        Some(abbreviation) => read_names(place, &mut entries, abbreviation.attributes()),
+        None => Err(Error::NoEntryAtGivenOffset(place.offset.0)),
+    }
+}
+
+// The name by the entry that a value refers to, and by those that the last reference of each names.
+fn referred_name<'a, R: Reader>(
+    mut scope: Scope<'a, R>,
+    mut unit: &'a Unit<R>,
+    mut value: AttributeValue<R>,
+) -> Result<Option<R>, Error>
+    requires in_order { IsScope (seen_scope scope) }
+    ensures gives { ExactlyUnlessOomIf R.shares (option_map R.section) result
+        (referred_name (seen_scope scope.entry) unit.now (seen_value R.section value)) }
+{
+    for _ in 0..MOST_VISITED {
+        let Some(place) = referred(scope, unit, &value)? else {
+            return Ok(None);
+        };
+        let NameOrOrigin { name, origin } = visit(place)?;
+        if name.is_some() {
+            return Ok(name);
+        }
+        let Some(origin) = origin else {
+            return Ok(None);
+        };
+        scope = place.scope;
+        unit = place.unit;
+        value = origin;
+    }
+    Ok(None)
+}
 
 // The name after one more attribute of the entry itself.
+#[tactic(auto, unfolding(crate::specs::Names::with_name))]
 pub(crate) fn take_name<R: Reader>(
     scope: Scope<'_, R>,
     unit: &Unit<R>,
@@ -21,5 +238,19 @@ pub(crate) fn take_name<R: Reader>(
     ensures gives { ExactlyUnlessOomIf R.shares (option_map R.section) result
         (with_name (seen_scope scope.entry) unit.now (option_map R.section name) attribute) }
 {
-    Ok(name)
+    let attribute_name = attribute.name();
+    let value = attribute.value();
+    if is_linkage_name(attribute_name) {
+        return Ok(readable(scope, unit, value)?.or(name));
+    }
+    if name.is_some() {
+        return Ok(name);
+    }
+    if attribute_name == DwAt::DW_AT_name {
+        readable(scope, unit, value)
+    } else if is_origin(attribute_name) {
+        referred_name(scope, unit, value)
+    } else {
+        Ok(None)
+    }
 }

@@ -1,7 +1,15 @@
 //! References to entries.
 
-use gimli::read::Reader;
-use gimli::{Dwarf, Unit};
+ghost use Rattle.std.specs.Prelude.{◌≡◌, ◌≤◌, length, option_map};
+ghost use Rattle.std.specs.List.Sorted.{IsPartitionPoint};
+ghost use Rattle.gimli_read.specs.Form.{seen_value};
+ghost use Rattle.gimli_read.specs.Reading.{Exactly};
+ghost use Rattle.addr2line_lines.specs.References.{AreInOrder, IsFileInOrder, IsScope, entry_in, entry_in_sup, referred, unit_at};
+ghost use Rattle.addr2line_lines.specs.SeenScope.{seen_scope, seen_file};
+ghost use Rattle.addr2line_lines.specs.FoundNames.{BeginsAbove, BeginsBy, seen_place};
+
+use gimli::read::{AttributeValue, DebugInfoOffset, Error, Reader, UnitOffset};
+use gimli::{Dwarf, ToUnitOffset, Unit};
 use std::alloc::AllocError;
 
 /// The sections of a file, and the units that offsets in its `.debug_info` lead to.
@@ -33,5 +41,108 @@ impl<R: Reader> Copy for Scope<'_, R> {}
 impl<R: Reader> Clone for Scope<'_, R> {
     fn clone(&self) -> Result<Self, AllocError> {
         Ok(*self)
+    }
+}
+
+// How many units begin at or below an offset.
+fn count_begun<R: Reader>(units: &[Unit<R>], offset: DebugInfoOffset) -> usize
+    ensures bound { result ≤ length units.now }
+    ensures split { AreInOrder units.now
+        → IsPartitionPoint (BeginsBy offset.0) (BeginsAbove offset.0) units.now result }
+{
+    units.partition_point(|unit| unit.header.offset().0 <= offset.0)
+}
+
+// The unit among whose entries an offset in `.debug_info` lies, and the offset in it: of units in
+// order only the last that begins at or below the offset can hold it.
+fn find_unit<R: Reader>(
+    units: &[Unit<R>],
+    offset: DebugInfoOffset,
+) -> Option<(&Unit<R>, UnitOffset)>
+    requires in_order { AreInOrder units.now }
+    ensures gives { option_map (λ x. (x.0.now, x.1.0)) result ≡ unit_at offset.0 units.now }
+{
+    let begun = count_begun(units, offset);
+    if begun == 0 {
+        return None;
+    }
+    let unit = &units[begun - 1];
+    let inside = offset.to_unit_offset(&unit.header)?;
+    Some((unit, inside))
+}
+
+// An entry by its place.
+pub(crate) struct EntryPlace<'a, R: Reader> {
+    // Where its references lead.
+    pub(crate) scope: Scope<'a, R>,
+    pub(crate) unit: &'a Unit<R>,
+    // Where it begins, in bytes from the start of the unit's length.
+    pub(crate) offset: UnitOffset,
+}
+
+impl<R: Reader> Copy for EntryPlace<'_, R> {}
+
+impl<R: Reader> Clone for EntryPlace<'_, R> {
+    fn clone(&self) -> Result<Self, AllocError> {
+        Ok(*self)
+    }
+}
+
+// The entry at an offset in `.debug_info`.
+fn find_entry<R: Reader>(
+    scope: Scope<'_, R>,
+    offset: DebugInfoOffset,
+) -> Result<Option<EntryPlace<'_, R>>, Error>
+    requires in_order { AreInOrder scope.file.units.now }
+    ensures gives { Exactly (option_map seen_place) result
+        (entry_in (seen_scope scope.entry) offset.0) }
+{
+    match find_unit(scope.file.units, offset) {
+        Some((unit, offset)) => Ok(Some(EntryPlace {
+            scope,
+            unit,
+            offset,
+        })),
+        None => Err(Error::NoEntryAtGivenOffset(offset.0)),
+    }
+}
+
+// The entry at an offset in the supplementary file's `.debug_info`.
+fn find_entry_in_sup<R: Reader>(
+    sup: Option<FileUnits<'_, R>>,
+    offset: DebugInfoOffset,
+) -> Result<Option<EntryPlace<'_, R>>, Error>
+    requires in_order { IsFileInOrder (option_map seen_file sup) }
+    ensures gives { Exactly (option_map seen_place) result
+        (entry_in_sup (option_map seen_file sup.entry) offset.0) }
+{
+    match sup {
+        Some(file) => find_entry(Scope { file, sup: None }, offset),
+        None => Ok(None),
+    }
+}
+
+/// The entry that a value of an attribute refers to, by an offset in its unit, in `.debug_info` or
+/// in that of the supplementary file; none by another value. Takes no memory.
+///
+/// Refused `NoEntryAtGivenOffset` where an offset in `.debug_info` lies among no unit's entries.
+pub(crate) fn referred<'a, R: Reader>(
+    scope: Scope<'a, R>,
+    unit: &'a Unit<R>,
+    value: &AttributeValue<R>,
+) -> Result<Option<EntryPlace<'a, R>>, Error>
+    requires in_order { IsScope (seen_scope scope) }
+    ensures gives { Exactly (option_map seen_place) result
+        (referred (seen_scope scope.entry) unit.now (seen_value R.section value.now)) }
+{
+    match value {
+        AttributeValue::UnitRef(offset) => Ok(Some(EntryPlace {
+            scope,
+            unit,
+            offset: *offset,
+        })),
+        AttributeValue::DebugInfoRef(offset) => find_entry(scope, *offset),
+        AttributeValue::DebugInfoRefSup(offset) => find_entry_in_sup(scope.sup, *offset),
+        _ => Ok(None),
     }
 }

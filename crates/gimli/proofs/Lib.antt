@@ -14,3 +14,4 @@ pub mod RecordLemmas
 pub mod StringLemmas
 pub mod UnitLemmas
 pub mod CachedTableLemmas
+pub mod HeaderOrder

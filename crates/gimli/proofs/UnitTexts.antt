@@ -91,10 +91,10 @@ pub record IsNextUnit (section_length : ℕ) (s : Section) (p : Given) : Type 0 
   pub unit : (h : UnitHeaderFields) → p.0 ≡ Some h → IsUnitAt section_length s p.1 h
   pub end : p.0 ≡ None → s.bytes ≡ []
 
-record NextUnit (section_length : ℕ) (s : Section) (r : Result Given Error) : Type 0 where
-  by : IfOk r (IsNextUnit section_length s)
+pub record NextUnit (section_length : ℕ) (s : Section) (r : Result Given Error) : Type 0 where
+  pub by : IfOk r (IsNextUnit section_length s)
 
-next_unit : (section_length : ℕ) (s : Section) → NextUnit section_length s (next_header_at section_length s)
+pub next_unit : (section_length : ℕ) (s : Section) → NextUnit section_length s (next_header_at section_length s)
 unfolding next_header_at
 next_unit section_length s = at (length s.bytes == 0) refl
   where

@@ -18,3 +18,4 @@ pub mod RangesLeft
 pub mod RangesOffset
 pub mod Items
 pub mod ItemLaws
+pub mod HeaderOrder

@@ -1,12 +1,19 @@
 //! Laws of units and their items: functions with a contract and no code.
 
 ghost use Rattle.gimli.specs.ItemLaws.{UnitsCover, EntriesFollowHeaders, ItemsCover, ItemsAlone, SubtreesLieDeeper, SubtreesClose};
+ghost use Rattle.gimli.specs.HeaderOrder.{HeadersInOrder};
 
 /// A section that is read to its end is the texts of its units, one after another, and in the text
 /// of a unit its entries follow its header.
 pub fn unit_laws()
     ensures cover { UnitsCover }
     ensures entries { EntriesFollowHeaders }
+{}
+
+/// The units of a section stand one after another: of those whose headers can be read each ends
+/// before a later one begins.
+pub fn headers_in_order()
+    ensures law { HeadersInOrder }
 {}
 
 /// The entries of a unit that are read to its end are the texts of its items, one after another,

@@ -1,0 +1,288 @@
+-- What attributes say of names (on specs/Names.antt).
+use Rattle.std.proofs.Common.{ℕ, zero, suc, ◌+◌, ◌-◌, ◌<◌, ◌≤◌, ◌≡◌, ◌≢◌, ◌==◌, ◌||◌, Bool, true, false, cond, nat_lt, List, [], ◌∷◌, ◌++◌, length, take, drop, slice_index_or, Option, Some, None, is_some, option_map, Result, Ok, Err, add-one, arith, refl, ap, sym, ◌∙◌, append-nil, length-append, length-drop, length-take}
+use Rattle.std.specs.List.{position, position_or_len}
+use Rattle.std.specs.Option.{option_or}
+use Rattle.std.specs.Result.{result_ok}
+use Rattle.std.proofs.lemmas.Bool.Decides.{nat_tests}
+use Rattle.std.proofs.lemmas.List.{drop_more, get_or-take, take-append-drop, take_all}
+use Rattle.std.proofs.lemmas.List.Quantifiers.{position-Some}
+use Rattle.std.proofs.lemmas.List.Sums.{fails_before_first}
+use Rattle.gimli_read.specs.declared.constants.TheConstants.DwAt.{DW_AT_name}
+use Rattle.gimli_read.specs.declared.constants.TheConstants.DwForm.{DW_FORM_implicit_const}
+use Rattle.gimli_read.specs.declared.endian.Encoding.{Encoding}
+use Rattle.gimli_read.specs.declared.error.Error.{Error}
+use Rattle.gimli_read.specs.declared.error.Error.TheVariants.{OutOfMemory}
+use Rattle.gimli_read.specs.declared.value.AttributeValue.{AttributeValue}
+use Rattle.gimli_read.specs.Abbreviations.{Specification}
+use Rattle.gimli_read.specs.Form.{NamedValue, attribute_at, attributes_at, implicit_of, named_value, rest_of, seen_value, value_at}
+use Rattle.gimli_read.specs.Reading.{Reading, ExactlyUnlessOomIf, ◌>>=◌}
+use Rattle.gimli_read.specs.Section.{Section}
+use Rattle.gimli.specs.Entries.{entries_from}
+use Rattle.gimli.specs.Entry.{EntriesLeft, entry_abbreviation_at}
+use Rattle.gimli.specs.Unit.{UnitRecord, attr_string_of}
+use Rattle.addr2line_lines.specs.declared.name.NameOrOrigin.{NameOrOrigin as NameOrOriginOf}
+use Rattle.addr2line_lines.specs.FoundNames.{HasNoName, IsSplitAtName, is_name_attribute, is_name_specification, seen_name, taken}
+use Rattle.addr2line_lines.specs.Names.{NameOrOrigin, entry_specifications, is_linkage_name, is_origin, linkage_name_of, name_within, named_at, no_name, or_referred_name, readable, visited, with_name, with_name_or_origin}
+use Rattle.addr2line_lines.specs.References.{EntryPlace, Scope, referred}
+
+-- a string that can't be read is none
+pub unreadable : (s : Scope) (u : UnitRecord) (v : AttributeValue Section) (may ok : Type 0) (e : Error) → (e ≡ OutOfMemory → ⊥) → ((may → ok → e ≢ OutOfMemory) → attr_string_of s.file.sections u v ≡ Err e) → readable s u v ≡ None
+unreadable s u v may ok e other h = ap result_ok (h (λ _ _. other))
+
+no_name_number : (n : ℕ) → (n == 110 || n == 8199) ≡ true → (n == 3) ≡ false
+no_name_number n h = grind (arith, nat_tests)
+
+no_origin_number : (n : ℕ) → (n == 110 || n == 8199) ≡ true → (n == 49 || n == 71) ≡ false
+no_origin_number n h = grind (arith, nat_tests)
+
+-- a linkage name changes nothing else
+linkage_alone : (s : Scope) (u : UnitRecord) (found : NameOrOrigin) (a : NamedValue) → is_linkage_name a.name ≡ true → with_name_or_origin s u found a ≡ found
+linkage_alone s u found a h =
+    ap (λ b. cond b (record found { name = option_or (readable s u a.value) found.name }) (cond (is_origin a.name) (record found { origin = Some a.value }) found)) (no_name_number a.name.0 h)
+    ∙ ap (λ b. cond b (record found { origin = Some a.value }) found) (no_origin_number a.name.0 h)
+
+-- a linkage name is answered
+pub linkage_taken : {R : Type 0} (see : R → Section) (may : Bool) (s : Scope) (u : UnitRecord) (found : NameOrOrigin) (a : NamedValue) (r : Result (Option R) Error) → is_linkage_name a.name ≡ true → ExactlyUnlessOomIf may (option_map see) r (Ok (readable s u a.value))
+    → ExactlyUnlessOomIf may (λ linkage. taken (option_map see linkage) found) r (Ok (taken (linkage_name_of s u a) (with_name_or_origin s u found a)))
+linkage_taken see may s u found a (Ok x) h k =
+    let string : readable s u a.value ≡ option_map see x = cc in
+    ap (λ b. Ok (taken (cond b (readable s u a.value) None) (with_name_or_origin s u found a))) h
+    ∙ ap (λ o. Ok (taken o (with_name_or_origin s u found a))) string
+    ∙ ap (λ f. Ok (taken (option_map see x) f)) (linkage_alone s u found a h)
+linkage_taken see may s u found a (Err e) h k = λ m. absurd (let q = k m in cc)
+
+-- where no place is the first no attribute may give a name
+pub none_split : (xs : List Specification) → position is_name_specification xs ≡ None → HasNoName xs
+none_split xs h k d l = at (nat_lt (position_or_len is_name_specification xs) (length xs)) refl h
+  where
+    at : (b : Bool) → nat_lt (position_or_len is_name_specification xs) (length xs) ≡ b → ◌≡◌ {A = Option ℕ} (cond b (Some (position_or_len is_name_specification xs)) None) None → is_name_specification (slice_index_or xs k d) ≡ false
+    at true e h = absurd cc
+    at false e h = fails_before_first is_name_specification xs k d (let m : length xs ≤ position_or_len is_name_specification xs = grind (arith, nat_tests) in omega arith)
+
+-- a list is what comes before a place, what stands there, and what comes after it
+pub split_at : (xs : List Specification) (n : ℕ) (x : Specification) → position is_name_specification xs ≡ Some n → x ≡ slice_index_or xs n x → IsSplitAtName xs (take n xs) x (take (length xs - (n + 1)) (drop (n + 1) xs))
+split_at xs n x h is =
+    let p = position-Some is_name_specification xs n x h in
+    let l = length-take n xs in
+    let m = length-drop (n + 1) xs in (
+      sym (take-append-drop n xs)
+          ∙ ap (λ ys. take n xs ++ ys) (drop_more xs n x p.0 ∙ ap (λ y. y ∷ drop (n + 1) xs) (sym is) ∙ ap (λ ys. x ∷ ys) (sym (take_all (length xs - (n + 1)) (drop (n + 1) xs) (omega arith)))),
+      λ k d b. ap is_name_specification (get_or-take n xs k d (omega arith)) ∙ fails k d (omega arith),
+    )
+  where
+    fails : (k : ℕ) (d : Specification) → k < n → is_name_specification (slice_index_or xs k d) ≡ false
+    fails k d b = (position-Some is_name_specification xs n d h).2 k b
+
+-- an attribute has the name of its specification
+attribute_name : (e : Encoding) (x : Specification) (s t : Section) (a : NamedValue) → attribute_at e x s ≡ Ok (a, t) → a.name ≡ x.name
+unfolding attribute_at
+attribute_name e x s t a h = by_form (x.form.0 == DW_FORM_implicit_const.0) h
+  where
+    implicit : (r : Result (AttributeValue Section) Error) → ◌≡◌ {A = Reading NamedValue} (r >>= λ value. Ok (named_value x value, s)) (Ok (a, t)) → a.name ≡ x.name
+    implicit (Ok v) h = let same : ◌≡◌ {A = NamedValue × Section} (named_value x v, s) (a, t) = cc in ap (λ n. n.0.name) (sym same)
+    implicit (Err f) h = absurd cc
+
+    valued : (r : Reading (AttributeValue Section)) → ◌≡◌ {A = Reading NamedValue} (r >>= λ v. Ok (named_value x v.0, v.1)) (Ok (a, t)) → a.name ≡ x.name
+    valued (Ok v) h = let same : ◌≡◌ {A = NamedValue × Section} (named_value x v.0, v.1) (a, t) = cc in ap (λ n. n.0.name) (sym same)
+    valued (Err f) h = absurd cc
+
+    by_form : (b : Bool) → ◌≡◌ {A = Reading NamedValue} (cond b (implicit_of x.constant >>= λ value. Ok (named_value x value, s)) (value_at e x.form.0 s >>= λ v. Ok (named_value x v.0, v.1))) (Ok (a, t)) → a.name ≡ x.name
+    by_form true h = implicit (implicit_of x.constant) h
+    by_form false h = valued (value_at e x.form.0 s) h
+
+-- none of three
+none_of : (a b c : Bool) → (a || b || c) ≡ false → (a ≡ false) × (b ≡ false) × (c ≡ false)
+none_of true b c h = absurd cc
+none_of false true c h = absurd cc
+none_of false false true h = absurd cc
+none_of false false false h = (refl, refl, refl)
+
+-- an attribute that gives no name says nothing of it
+other_found : (s : Scope) (u : UnitRecord) (found : NameOrOrigin) (a : NamedValue) → is_name_attribute a.name ≡ false → with_name_or_origin s u found a ≡ found
+other_found s u found a h =
+    let p = none_of (is_linkage_name a.name) (a.name.0 == DW_AT_name.0) (is_origin a.name) h in
+    ap (λ b. cond b (record found { name = option_or (readable s u a.value) found.name }) (cond (is_origin a.name) (record found { origin = Some a.value }) found)) p.1
+    ∙ ap (λ b. cond b (record found { origin = Some a.value }) found) p.2
+
+no_linkage : (s : Scope) (u : UnitRecord) (a : NamedValue) → is_name_attribute a.name ≡ false → linkage_name_of s u a ≡ None
+no_linkage s u a h = ap (λ b. cond b (readable s u a.value) None) (none_of (is_linkage_name a.name) (a.name.0 == DW_AT_name.0) (is_origin a.name) h).0
+
+-- after an attribute
+abbrev pub named_after : Scope → UnitRecord → List Specification → NameOrOrigin → (NamedValue × Section) → Result NameOrOrigin Error
+named_after s u xs found a = elim (linkage_name_of s u a.0) [
+  | Some name ↦ Ok (record { name = Some name; origin = None })
+  | None ↦ named_at s u xs a.1 (with_name_or_origin s u found a.0)
+]
+
+-- attributes that give no name are passed over
+pub named_over : (s : Scope) (u : UnitRecord) (xs ys : List Specification) (left : Section) (found : NameOrOrigin) → HasNoName xs
+    → named_at s u (xs ++ ys) left found ≡ (rest_of (attributes_at u.header.encoding xs left) >>= λ t. named_at s u ys t found)
+unfolding attributes_at named_at
+named_over s u [] ys left found h = refl
+named_over s u (x ∷ xs) ys left found h = at (λ t. named_over s u xs ys t found (λ k d l. h (suc k) d (omega arith))) (attribute_at u.header.encoding x left) refl
+  where
+    rest : (a : NamedValue) (r : Reading (List NamedValue)) → (rest_of r >>= λ t. named_at s u ys t found) ≡ (rest_of (r >>= λ more. Ok (a ∷ more.0, more.1)) >>= λ t. named_at s u ys t found)
+    rest a (Ok more) = refl
+    rest a (Err f) = refl
+
+    at : ((t : Section) → named_at s u (xs ++ ys) t found ≡ (rest_of (attributes_at u.header.encoding xs t) >>= λ z. named_at s u ys z found)) → (r : Reading NamedValue) → attribute_at u.header.encoding x left ≡ r
+        → (r >>= λ a. named_after s u (xs ++ ys) found a) ≡ (rest_of (r >>= λ a. attributes_at u.header.encoding xs a.1 >>= λ more. Ok (a.0 ∷ more.0, more.1)) >>= λ t. named_at s u ys t found)
+    at more (Err f) k = refl
+    at more (Ok a) k =
+        let same : a.0.name ≡ x.name = attribute_name u.header.encoding x left a.1 a.0 k in
+        let other : is_name_attribute a.0.name ≡ false = ap is_name_attribute same ∙ h zero x (omega arith) in
+        ap (λ o. elim o [ Some name ↦ Ok (record { name = Some name; origin = None }) | None ↦ named_at s u (xs ++ ys) a.1 (with_name_or_origin s u found a.0) ]) (no_linkage s u a.0 other)
+        ∙ ap (named_at s u (xs ++ ys) a.1) (other_found s u found a.0 other)
+        ∙ more a.1
+        ∙ rest a.0 (attributes_at u.header.encoding xs a.1)
+
+-- the same, up to the next attribute that may give one
+pub passed : (s : Scope) (u : UnitRecord) (all before : List Specification) (x : Specification) (after : List Specification) (left t : Section) (found : NameOrOrigin) → IsSplitAtName all before x after → rest_of (attributes_at u.header.encoding before left) ≡ Ok t
+    → named_at s u all left found ≡ (attribute_at u.header.encoding x t >>= λ a. named_after s u after found a)
+unfolding named_at
+passed s u all before x after left t found h k =
+    ap (λ xs. named_at s u xs left found) h.0 ∙ named_over s u before (x ∷ after) left found h.1 ∙ ap (λ (r : Result Section Error). r >>= λ z. named_at s u (x ∷ after) z found) k
+
+-- a fault among them
+pub passed_fault : (s : Scope) (u : UnitRecord) (all before : List Specification) (x : Specification) (after : List Specification) (left : Section) (found : NameOrOrigin) (f : Error) → IsSplitAtName all before x after → rest_of (attributes_at u.header.encoding before left) ≡ Err f
+    → named_at s u all left found ≡ Err f
+unfolding named_at
+passed_fault s u all before x after left found f h k =
+    ap (λ xs. named_at s u xs left found) h.0 ∙ named_over s u before (x ∷ after) left found h.1 ∙ ap (λ (r : Result Section Error). r >>= λ z. named_at s u (x ∷ after) z found) k
+
+-- after the last attribute that may give a name
+pub named_end : (s : Scope) (u : UnitRecord) (xs : List Specification) (left : Section) (found : NameOrOrigin) → HasNoName xs → named_at s u xs left found ≡ (rest_of (attributes_at u.header.encoding xs left) >>= λ t. Ok found)
+unfolding named_at
+named_end s u xs left found h = ap (λ ys. named_at s u ys left found) (sym (append-nil xs)) ∙ named_over s u xs [] left found h
+
+-- what an attribute gives
+gives : (s : Scope) (u : UnitRecord) (found more : NameOrOrigin) (a : NamedValue) (linkage : Option Section) → ◌≡◌ {A = Result (Option Section × NameOrOrigin) Error} (Ok (taken (linkage_name_of s u a) (with_name_or_origin s u found a))) (Ok (taken linkage more))
+    → (linkage_name_of s u a ≡ linkage) × (with_name_or_origin s u found a ≡ more)
+gives s u found more a linkage h =
+    let p : ◌≡◌ {A = Option Section × NameOrOrigin} (taken (linkage_name_of s u a) (with_name_or_origin s u found a)) (taken linkage more) = cc in
+    (ap (λ x. x.0) p, ap (λ x. x.1) p)
+
+abbrev by_linkage : Scope → UnitRecord → List Specification → NameOrOrigin → Section → NamedValue → Option Section → Result NameOrOrigin Error
+by_linkage s u after found t a linkage = elim linkage [
+  | Some name ↦ Ok (record { name = Some name; origin = None })
+  | None ↦ named_at s u after t (with_name_or_origin s u found a)
+]
+
+-- after an attribute that gives a linkage name
+pub named_linkage : (s : Scope) (u : UnitRecord) (after : List Specification) (found more : NameOrOrigin) (a : NamedValue) (t name : Section) → ◌≡◌ {A = Result (Option Section × NameOrOrigin) Error} (Ok (taken (linkage_name_of s u a) (with_name_or_origin s u found a))) (Ok (taken (Some name) more))
+    → named_after s u after found (a, t) ≡ Ok (record { name = Some name; origin = None })
+named_linkage s u after found more a t name h = ap (by_linkage s u after found t a) (gives s u found more a (Some name) h).0
+
+-- after another
+pub named_other : (s : Scope) (u : UnitRecord) (after : List Specification) (found more : NameOrOrigin) (a : NamedValue) (t : Section) → ◌≡◌ {A = Result (Option Section × NameOrOrigin) Error} (Ok (taken (linkage_name_of s u a) (with_name_or_origin s u found a))) (Ok (taken None more))
+    → named_after s u after found (a, t) ≡ named_at s u after t more
+named_other s u after found more a t h = let p = gives s u found more a None h in ap (by_linkage s u after found t a) p.0 ∙ ap (named_at s u after t) p.1
+
+-- fewer attributes are left
+pub fewer_left : (all before : List Specification) (x : Specification) (after : List Specification) → IsSplitAtName all before x after → length after < length all
+fewer_left all before x after h = let e = ap length h.0 in let l = length-append before (x ∷ after) in omega arith
+
+-- what an entry says, whose reading begins
+abbrev entry_read : EntryPlace → EntriesLeft → Result NameOrOrigin Error
+entry_read place entries = do
+  entry ← entry_abbreviation_at entries.unit.abbreviations entries.cursor
+  specifications ← entry_specifications place.offset entry.0
+  named_at place.scope place.unit specifications entry.1.left no_name
+
+-- an entry whose reading can't begin
+pub visited_fault : (place : EntryPlace) (e : Error) → entries_from place.unit (Some place.offset) ≡ Err e → visited place ≡ Err e
+unfolding visited
+visited_fault place e h = ap (λ (r : Result EntriesLeft Error). r >>= λ entries. entry_read place entries) h
+
+-- the name after what an entry says
+abbrev pub after_visit : ℕ → EntryPlace → NameOrOrigin → Result (Option Section) Error
+after_visit n place found = elim found.name [
+  | Some name ↦ Ok (Some name)
+  | None ↦ elim found.origin [ None ↦ Ok None | Some next ↦ name_within n place.scope place.unit next ]
+]
+
+-- the name by an entry that is referred to
+abbrev pub after_referred : ℕ → Option EntryPlace → Result (Option Section) Error
+after_referred n entry = elim entry [ None ↦ Ok None | Some place ↦ visited place >>= λ found. after_visit n place found ]
+
+-- one more entry of a chain
+pub within_step : (m n : ℕ) (s : Scope) (u : UnitRecord) (v : AttributeValue Section) → m ≡ n + 1 → name_within m s u v ≡ (referred s u v >>= λ entry. after_referred n entry)
+unfolding name_within
+within_step m n s u v h = ap (λ k. name_within k s u v) (h ∙ add-one n)
+
+-- where the value can't be followed
+pub within_fault : (m n : ℕ) (s : Scope) (u : UnitRecord) (v : AttributeValue Section) (e : Error) → m ≡ n + 1 → referred s u v ≡ Err e → name_within m s u v ≡ Err e
+within_fault m n s u v e h k = within_step m n s u v h ∙ ap (λ r. r >>= λ entry. after_referred n entry) k
+
+-- where it refers to nothing
+pub within_none : (m n : ℕ) (s : Scope) (u : UnitRecord) (v : AttributeValue Section) → m ≡ n + 1 → referred s u v ≡ Ok None → name_within m s u v ≡ Ok None
+within_none m n s u v h k = within_step m n s u v h ∙ ap (λ r. r >>= λ entry. after_referred n entry) k
+
+-- where it refers to an entry
+pub within_place : (m n : ℕ) (s : Scope) (u : UnitRecord) (v : AttributeValue Section) (place : EntryPlace) (read : Result NameOrOrigin Error) → m ≡ n + 1 → referred s u v ≡ Ok (Some place) → visited place ≡ read
+    → name_within m s u v ≡ (read >>= λ found. after_visit n place found)
+within_place m n s u v place read h k q = within_step m n s u v h ∙ ap (λ r. r >>= λ entry. after_referred n entry) k ∙ ap (λ r. r >>= λ found. after_visit n place found) q
+
+-- after the last entry
+pub within_zero : (s : Scope) (u : UnitRecord) (v : AttributeValue Section) (m : ℕ) → m ≡ 0 → name_within m s u v ≡ Ok None
+unfolding name_within
+within_zero s u v m h = ap (λ k. name_within k s u v) h
+
+-- after an entry with a name
+pub visit_named : {R : Type 0} (see : R → Section) (n : ℕ) (place : EntryPlace) (x : NameOrOriginOf R) → true ≡ is_some x.name → after_visit n place (seen_name see x) ≡ Ok (option_map see x.name)
+visit_named see n place x h = at x.name h
+  where
+    at : (o : Option _) → true ≡ is_some o → ◌≡◌ {A = Result (Option Section) Error} (elim (option_map see o) [ Some name ↦ Ok (Some name) | None ↦ elim (option_map (seen_value see) x.origin) [ None ↦ Ok None | Some next ↦ name_within n place.scope place.unit next ] ]) (Ok (option_map see o))
+    at None h = absurd cc
+    at (Some name) h = refl
+
+-- after an entry without one
+visit_unnamed : {R : Type 0} (see : R → Section) (n : ℕ) (place : EntryPlace) (x : NameOrOriginOf R) → false ≡ is_some x.name
+    → after_visit n place (seen_name see x) ≡ elim (option_map (seen_value see) x.origin) [ None ↦ Ok None | Some next ↦ name_within n place.scope place.unit next ]
+visit_unnamed see n place x h = at x.name h
+  where
+    at : (o : Option _) → false ≡ is_some o → ◌≡◌ {A = Result (Option Section) Error} (elim (option_map see o) [ Some name ↦ Ok (Some name) | None ↦ elim (option_map (seen_value see) x.origin) [ None ↦ Ok None | Some next ↦ name_within n place.scope place.unit next ] ]) (elim (option_map (seen_value see) x.origin) [ None ↦ Ok None | Some next ↦ name_within n place.scope place.unit next ])
+    at None h = refl
+    at (Some name) h = absurd cc
+
+-- after an entry that says nothing
+pub visit_ends : {R : Type 0} (see : R → Section) (n : ℕ) (place : EntryPlace) (x : NameOrOriginOf R) → false ≡ is_some x.name → x.origin ≡ None → after_visit n place (seen_name see x) ≡ Ok None
+visit_ends see n place x h k = visit_unnamed see n place x h ∙ ap (λ o. elim (option_map (seen_value see) o) [ None ↦ Ok None | Some next ↦ name_within n place.scope place.unit next ]) k
+
+-- after an entry that refers to another one
+pub visit_goes_on : {R : Type 0} (see : R → Section) (n : ℕ) (place : EntryPlace) (x : NameOrOriginOf R) (v : AttributeValue R) → false ≡ is_some x.name → x.origin ≡ Some v → after_visit n place (seen_name see x) ≡ name_within n place.scope place.unit (seen_value see v)
+visit_goes_on see n place x v h k = visit_unnamed see n place x h ∙ ap (λ o. elim (option_map (seen_value see) o) [ None ↦ Ok None | Some next ↦ name_within n place.scope place.unit next ]) k
+
+-- by the attribute's name
+abbrev pub by_name : Scope → UnitRecord → Option Section → NamedValue → Bool → Bool → Bool → Result (Option Section) Error
+by_name s u name a linkage is_name origin =
+    cond linkage (Ok (option_or (readable s u a.value) name))
+    (cond is_name (Ok (option_or name (readable s u a.value)))
+    (cond origin (or_referred_name s u name a.value) (Ok name)))
+
+-- the name after an attribute by what the attribute is
+with_is : (s : Scope) (u : UnitRecord) (name : Option Section) (a : NamedValue) (x y z : Bool) → is_linkage_name a.name ≡ x → (a.name.0 == DW_AT_name.0) ≡ y → is_origin a.name ≡ z → with_name s u name a ≡ by_name s u name a x y z
+unfolding with_name
+with_is s u name a x y z h k l =
+    ap (λ b. by_name s u name a b (a.name.0 == DW_AT_name.0) (is_origin a.name)) h ∙ ap (λ b. by_name s u name a x b (is_origin a.name)) k ∙ ap (by_name s u name a x y) l
+
+-- an attribute that may give no name leaves the name as it is
+pub name_kept : (s : Scope) (u : UnitRecord) (name : Option Section) (a : NamedValue) → is_name_attribute a.name ≡ false → with_name s u name a ≡ Ok name
+name_kept s u name a h =
+    let p = none_of (is_linkage_name a.name) (a.name.0 == DW_AT_name.0) (is_origin a.name) h in
+    with_is s u name a false false false p.0 p.1 p.2
+
+-- a name that was found stays, where the attribute is no linkage name
+pub name_stays : {R : Type 0} (see : R → Section) (s : Scope) (u : UnitRecord) (name : Option R) (a : NamedValue) → is_linkage_name a.name ≡ false → true ≡ is_some name → with_name s u (option_map see name) a ≡ Ok (option_map see name)
+name_stays see s u None a h k = absurd cc
+name_stays see s u (Some name) a h k = with_is s u (Some (see name)) a false (a.name.0 == DW_AT_name.0) (is_origin a.name) h refl refl ∙ at (a.name.0 == DW_AT_name.0) (is_origin a.name)
+  where
+    at : (y z : Bool) → by_name s u (Some (see name)) a false y z ≡ Ok (Some (see name))
+    at true z = refl
+    at false true = refl
+    at false false = refl
+
+-- where none was found, by the attribute
+pub name_by : {R : Type 0} (see : R → Section) (s : Scope) (u : UnitRecord) (name : Option R) (a : NamedValue) (y z : Bool) → is_linkage_name a.name ≡ false → false ≡ is_some name → (a.name.0 == DW_AT_name.0) ≡ y → is_origin a.name ≡ z → with_name s u (option_map see name) a ≡ by_name s u None a false y z
+name_by see s u (Some name) a y z h k l m = absurd cc
+name_by see s u None a y z h k l m = with_is s u None a false y z h l m

@@ -1,0 +1,67 @@
+-- Names as they are found, and the units and entries that references lead to, as the private
+-- functions see them.
+use Rattle.std.specs.Prelude.{ℕ, ◌≡◌, ◌==◌, ◌||◌, leb, Bool, true, false, List, ◌∷◌, ◌++◌, Option, Some, option_map}
+use Rattle.std.specs.List.{All}
+use Rattle.std.specs.Option.{option_or}
+use Rattle.gimli_read.specs.declared.constants.DwAt.{DwAt}
+use Rattle.gimli_read.specs.declared.constants.TheConstants.DwAt.{DW_AT_name}
+use Rattle.gimli_read.specs.declared.value.AttributeValue.{AttributeValue}
+use Rattle.gimli_read.specs.Abbreviations.{Specification}
+use Rattle.gimli_read.specs.Form.{seen_value}
+use Rattle.gimli_read.specs.Section.{Section}
+use Rattle.gimli.specs.Unit.{UnitRecord}
+use Rattle.addr2line_lines.specs.declared.references.EntryPlace.{EntryPlace as EntryPlaceOf}
+use Rattle.addr2line_lines.specs.declared.name.NameOrOrigin.{NameOrOrigin as NameOrOriginOf}
+use Rattle.addr2line_lines.specs.Names.{NameOrOrigin, is_linkage_name, is_origin}
+use Rattle.addr2line_lines.specs.References.{EntryPlace}
+use Rattle.addr2line_lines.specs.SeenScope.{seen_scope}
+
+-- whether a unit begins at or below an offset
+abbrev pub begins_by : ℕ → UnitRecord → Bool
+begins_by offset u = leb u.header.offset.0 offset
+
+-- a unit begins at or below an offset
+abbrev pub BeginsBy : ℕ → UnitRecord → Type 0
+BeginsBy offset u = begins_by offset u ≡ true
+
+-- a unit begins above an offset
+abbrev pub BeginsAbove : ℕ → UnitRecord → Type 0
+BeginsAbove offset u = begins_by offset u ≡ false
+
+-- an entry by its place
+abbrev pub seen_place : {R : Type 0} → EntryPlaceOf R → EntryPlace
+seen_place p = record { scope = seen_scope p.scope; unit = p.unit.now; offset = p.offset.0 }
+
+-- what an entry that is referred to says of its name
+abbrev pub seen_name : {R : Type 0} → (R → Section) → NameOrOriginOf R → NameOrOrigin
+seen_name see n =
+    record { name = option_map see n.name; origin = option_map (seen_value see) n.origin }
+
+-- whether an attribute may give its entry a name
+abbrev pub is_name_attribute : DwAt → Bool
+is_name_attribute name = is_linkage_name name || name.0 == DW_AT_name.0 || is_origin name
+
+-- the same of a specification
+abbrev pub is_name_specification : Specification → Bool
+is_name_specification x = is_name_attribute x.name
+
+-- no attribute may give a name
+abbrev pub HasNoName : List Specification → Type 0
+HasNoName specifications = All (λ x. is_name_specification x ≡ false) specifications
+
+-- what comes before an attribute, where no other may give a name, and what comes after it
+abbrev pub IsSplitAtName : List Specification → List Specification → Specification
+    → List Specification → Type 0
+IsSplitAtName all before x after = (all ≡ before ++ x ∷ after) × HasNoName before
+
+-- the linkage name that an attribute gives, beside what is found after it
+abbrev pub taken : Option Section → NameOrOrigin → Option Section × NameOrOrigin
+taken linkage found = (linkage, found)
+
+-- a string after what was found, if there is one
+abbrev pub with_string : Option Section → NameOrOrigin → NameOrOrigin
+with_string string found = record found { name = option_or string found.name }
+
+-- a reference after what was found
+abbrev pub with_origin : AttributeValue Section → NameOrOrigin → NameOrOrigin
+with_origin value found = record found { origin = Some value }

@@ -23,3 +23,4 @@ pub mod SweepLemmas
 pub mod SegmentSearch
 pub mod FunctionLemmas
 pub mod FunctionOrder
+pub mod DetailLemmas

@@ -28,3 +28,4 @@ pub mod References
 pub mod Names
 pub mod Details
 pub mod SeenScope
+pub mod FoundDetails

@@ -6,6 +6,7 @@ mod count;
 mod files;
 mod function;
 mod functions;
+mod inlined;
 mod laws;
 mod line;
 mod location;

@@ -1,0 +1,198 @@
+-- The attributes of inlined entries and functions, one at a time (on specs/FoundDetails.antt).
+use Rattle.std.proofs.Common.{◌≡◌, ℕ, ◌+◌, ◌<◌, ◌≤◌, ◌⊎◌, ◌==◌, ◌||◌, Bool, true, false, cond, List, [], ◌∷◌, drop, get_or, inl, inr, length, Option, Some, None, Result, Ok, Err, refl, ap, subst, sym, ◌∙◌}
+use Rattle.std.proofs.lemmas.Bool.{eqb-true}
+use Rattle.std.proofs.lemmas.List.{at_drop_more, at_drop_all}
+use Rattle.gimli_read.specs.declared.constants.DwAt.{DwAt}
+use Rattle.gimli_read.specs.declared.constants.TheConstants.DwAt.{DW_AT_abstract_origin, DW_AT_call_column, DW_AT_call_file, DW_AT_call_line, DW_AT_high_pc, DW_AT_linkage_name, DW_AT_low_pc, DW_AT_MIPS_linkage_name, DW_AT_name, DW_AT_ranges, DW_AT_specification}
+use Rattle.gimli_read.specs.declared.error.Error.{Error}
+use Rattle.gimli_read.specs.declared.endian.Encoding.{Encoding}
+use Rattle.gimli_read.specs.Abbreviations.{Specification}
+use Rattle.gimli_read.specs.declared.value.AttributeValue.{AttributeValue}
+use Rattle.gimli_read.specs.declared.constants.TheConstants.DwForm.{DW_FORM_implicit_const}
+use Rattle.gimli_read.specs.Form.{NamedValue, attribute_at, implicit_of, named_value, rest_of, value_at}
+use Rattle.gimli_read.specs.Reading.{Reading, ◌>>=◌, ExactlyUnlessOomIf}
+use Rattle.gimli_read.specs.Section.{Section}
+use Rattle.gimli.specs.Entry.{attributes_at}
+use Rattle.gimli.specs.Sections.{Sections}
+use Rattle.gimli.specs.Unit.{UnitRecord}
+use Rattle.addr2line_lines.specs.declared.function.RangeAttributes.{RangeAttributes}
+use Rattle.addr2line_lines.specs.Details.{CallSite, InlinedAttributes, or_with_inlined_attribute, with_call, with_inlined_attribute}
+use Rattle.addr2line_lines.specs.FoundDetails.{IsReadIf, IsTakenIn, inlined_attributes_after, is_call, is_name, is_range_name, is_wanted, with_read_attribute}
+use Rattle.addr2line_lines.specs.Names.{is_linkage_name, is_origin, with_name}
+use Rattle.addr2line_lines.specs.RangeAttributes.{with_range_attribute}
+use Rattle.addr2line_lines.specs.References.{Scope}
+
+-- none of two tests
+neither : (b c : Bool) → (b || c) ≡ false → (b ≡ false) × (c ≡ false)
+neither true c h = absurd cc
+neither false c h = (refl, h)
+
+-- where no test holds, what stands last counts
+second : {A : Type 0} (b : Bool) (x y : A) → b ≡ false → cond b x y ≡ y
+second b x y h = ap (λ c. cond c x y) h
+
+-- what holds of the names of ranges holds of each of them
+by_range_name : (P : DwAt → Type 0) → P DW_AT_low_pc → P DW_AT_high_pc → P DW_AT_ranges → (name : DwAt) → is_range_name name ≡ true → P name
+by_range_name P low high ranges name h = by_low (name.0 == DW_AT_low_pc.0) refl h
+  where
+    same : (other : DwAt) → (name.0 == other.0) ≡ true → P other → P name
+    same other e p = subst (λ (n : ℕ). P (record { 0 = n })) (let s : name.0 ≡ other.0 = eqb-true name.0 other.0 e in cc) p
+
+    by_high : (b : Bool) → (name.0 == DW_AT_high_pc.0) ≡ b → (b || name.0 == DW_AT_ranges.0) ≡ true → P name
+    by_high true e h = same DW_AT_high_pc e high
+    by_high false e h = same DW_AT_ranges h ranges
+
+    by_low : (b : Bool) → (name.0 == DW_AT_low_pc.0) ≡ b → (b || name.0 == DW_AT_high_pc.0 || name.0 == DW_AT_ranges.0) ≡ true → P name
+    by_low true e h = same DW_AT_low_pc e low
+    by_low false e h = by_high (name.0 == DW_AT_high_pc.0) refl h
+
+module _ (scope : Scope) (u : UnitRecord) where
+  -- an attribute of the ranges says nothing of the name
+  range_nameless : (name : Option Section) (a : NamedValue) → is_range_name a.name ≡ true → with_name scope u name a ≡ Ok name
+  unfolding with_name
+  range_nameless name a h = by_range_name (λ n. with_name scope u name (record { name = n; value = a.value }) ≡ Ok name) refl refl refl a.name h
+
+  -- an attribute that says nothing of the name
+  pub nameless : (name : Option Section) (a : NamedValue) → is_name a.name ≡ false → with_name scope u name a ≡ Ok name
+  unfolding with_name
+  nameless name a h =
+      let p = neither (is_linkage_name a.name || a.name.0 == DW_AT_name.0) (is_origin a.name) h in
+      let q = neither (is_linkage_name a.name) (a.name.0 == DW_AT_name.0) p.0 in
+      second _ _ _ q.0 ∙ second _ _ _ q.1 ∙ second _ _ _ p.1
+
+  -- an attribute that says nothing of the ranges
+  pub rangeless : (d : Sections) (r : RangeAttributes) (a : NamedValue) → is_range_name a.name ≡ false → with_range_attribute d u r a ≡ Ok r
+  unfolding with_range_attribute
+  rangeless d r a h =
+      let p = neither (a.name.0 == DW_AT_low_pc.0 || a.name.0 == DW_AT_high_pc.0) (a.name.0 == DW_AT_ranges.0) h in
+      let q = neither (a.name.0 == DW_AT_low_pc.0) (a.name.0 == DW_AT_high_pc.0) p.0 in
+      second _ _ _ q.0 ∙ second _ _ _ q.1 ∙ second _ _ _ p.1
+
+  -- an attribute that says nothing of the call
+  callless : (version : ℕ) (call : CallSite) (a : NamedValue) → is_call a.name ≡ false → with_call version call a ≡ call
+  callless version call a h =
+      let p = neither (a.name.0 == DW_AT_call_file.0 || a.name.0 == DW_AT_call_line.0) (a.name.0 == DW_AT_call_column.0) h in
+      let q = neither (a.name.0 == DW_AT_call_file.0) (a.name.0 == DW_AT_call_line.0) p.0 in
+      second _ _ _ q.0 ∙ second _ _ _ q.1 ∙ second _ _ _ p.1
+
+  abbrev with_call_of : InlinedAttributes → CallSite → Result InlinedAttributes Error
+  with_call_of x call = Ok (record { ranges = x.ranges; name = x.name; call = call })
+
+  abbrev pub with_name_of : InlinedAttributes → NamedValue → RangeAttributes → Result (Option Section) Error → Result InlinedAttributes Error
+  with_name_of x a ranges r = r >>= λ name. Ok (record { ranges = ranges; name = name; call = with_call u.header.encoding.version x.call a })
+
+  abbrev pub with_ranges_of : InlinedAttributes → NamedValue → Result RangeAttributes Error → Result InlinedAttributes Error
+  with_ranges_of x a r = r >>= λ ranges. Ok (record { ranges = ranges; name = x.name; call = with_call u.header.encoding.version x.call a })
+
+  -- an attribute of the ranges
+  pub range_attribute : (x : InlinedAttributes) (a : NamedValue) → is_range_name a.name ≡ true → with_inlined_attribute scope u x a ≡ with_ranges_of x a (with_range_attribute scope.file.sections u x.ranges a)
+  unfolding with_inlined_attribute
+  range_attribute x a h = by_ranges (with_range_attribute scope.file.sections u x.ranges a)
+    where
+      by_ranges : (r : Result RangeAttributes Error) → (r >>= λ ranges. with_name_of x a ranges (with_name scope u x.name a)) ≡ with_ranges_of x a r
+      by_ranges (Ok ranges) = ap (with_name_of x a ranges) (range_nameless x.name a h)
+      by_ranges (Err e) = refl
+
+  -- an attribute that says nothing of the ranges
+  pub other_attribute : (x : InlinedAttributes) (a : NamedValue) → is_range_name a.name ≡ false → with_inlined_attribute scope u x a ≡ with_name_of x a x.ranges (with_name scope u x.name a)
+  unfolding with_inlined_attribute
+  other_attribute x a h = ap (λ r. r >>= λ ranges. with_name_of x a ranges (with_name scope u x.name a)) (rangeless scope.file.sections x.ranges a h)
+
+  -- an attribute that says nothing of an inlined entry
+  pub unwanted : (x : InlinedAttributes) (a : NamedValue) → is_wanted a.name ≡ false → with_inlined_attribute scope u x a ≡ Ok x
+  unwanted x a h =
+      let p = neither (is_range_name a.name || is_name a.name) (is_call a.name) h in
+      let q = neither (is_range_name a.name) (is_name a.name) p.0 in
+      other_attribute x a q.0 ∙ ap (with_name_of x a x.ranges) (nameless x.name a q.1) ∙ ap (with_call_of x) (callless u.header.encoding.version x.call a p.1)
+
+-- what attributes say, and what is left after them, one at a time
+module _ (scope : Scope) (u : UnitRecord) (e : Encoding) (x : Result InlinedAttributes Error) (xs : List Specification) (i : ℕ) where
+  abbrev next : Reading NamedValue → Result InlinedAttributes Error
+  next read = inlined_attributes_after scope u x (read >>= λ a. attributes_at e (drop (i + 1) xs) a.1 >>= λ more. Ok (a.0 ∷ more.0, more.1))
+
+  pub inlined-more : (s : Specification) (left t : Section) (a : NamedValue) → i < length xs → attribute_at e (get_or xs i s) left ≡ Ok (a, t)
+      → inlined_attributes_after scope u x (attributes_at e (drop i xs) left) ≡ inlined_attributes_after scope u (or_with_inlined_attribute scope u x a) (attributes_at e (drop (i + 1) xs) t)
+  unfolding attributes_at
+  inlined-more s left t a h k =
+      at_drop_more (λ ys. inlined_attributes_after scope u x (attributes_at e ys left)) xs i s h ∙ ap next k ∙ front (attributes_at e (drop (i + 1) xs) t)
+    where
+      front : (read : Reading (List NamedValue)) → inlined_attributes_after scope u x (read >>= λ more. Ok (a ∷ more.0, more.1)) ≡ inlined_attributes_after scope u (or_with_inlined_attribute scope u x a) read
+      front (Ok y) = refl
+      front (Err y) = refl
+
+  pub inlined-fault : (s : Specification) (left : Section) (f : Error) → i < length xs → attribute_at e (get_or xs i s) left ≡ Err f
+      → inlined_attributes_after scope u x (attributes_at e (drop i xs) left) ≡ Err f
+  unfolding attributes_at
+  inlined-fault s left f h k = at_drop_more (λ ys. inlined_attributes_after scope u x (attributes_at e ys left)) xs i s h ∙ ap next k
+
+  pub inlined-end : (left : Section) → length xs ≤ i → inlined_attributes_after scope u x (attributes_at e (drop i xs) left) ≡ x
+  unfolding attributes_at
+  inlined-end left h = at_drop_all (λ ys. inlined_attributes_after scope u x (attributes_at e ys left)) xs i h
+
+-- an answer after one more attribute
+pub taken : {X Y : Type 0} (may : Bool) (view : X → Y) (more : Y → Result Y Error) (found next : Result X Error) (given : Result Y Error) → ExactlyUnlessOomIf may view found given → IsTakenIn may view more found next → ExactlyUnlessOomIf may view next (given >>= more)
+taken may view more (Ok x) next given h t = subst (λ g. ExactlyUnlessOomIf may view next (g >>= more)) (sym h) t
+taken may view more (Err e) next given h t = subst (λ r. ExactlyUnlessOomIf may view r (given >>= more)) (sym t) (λ k. ap (λ g. g >>= more) (h k))
+
+-- an attribute that was read or passed over, and what it says
+pub record Passed (given : Reading NamedValue) (left : Section) (name : DwAt) (o : Option NamedValue) (wanted : Bool) : Type 0 where
+  pub attribute : NamedValue
+  pub is : given ≡ Ok (attribute, left)
+  pub said : (o ≡ Some attribute) ⊎ ((o ≡ None) × (attribute.name ≡ name) × (wanted ≡ false))
+
+named : (e : Encoding) (x : Specification) (s t : Section) (a : NamedValue) → attribute_at e x s ≡ Ok (a, t) → a.name ≡ x.name
+unfolding attribute_at
+named e x s t a h = by_form (x.form.0 == DW_FORM_implicit_const.0) h
+  where
+    same : (v : AttributeValue Section) (r : Section) → ◌≡◌ {A = Reading NamedValue} (Ok (named_value x v, r)) (Ok (a, t)) → a.name ≡ x.name
+    same v r k = let p : ◌≡◌ {A = NamedValue × Section} (named_value x v, r) (a, t) = cc in ap (λ (y : NamedValue × Section). y.0.name) (sym p)
+
+    by_constant : (r : Result (AttributeValue Section) Error) → ◌>>=◌ {B = NamedValue × Section} r (λ v. Ok (named_value x v, s)) ≡ Ok (a, t) → a.name ≡ x.name
+    by_constant (Ok v) k = same v s k
+    by_constant (Err f) k = absurd cc
+
+    by_value : (r : Reading (AttributeValue Section)) → ◌>>=◌ {B = NamedValue × Section} r (λ v. Ok (named_value x v.0, v.1)) ≡ Ok (a, t) → a.name ≡ x.name
+    by_value (Ok v) k = same v.0 v.1 k
+    by_value (Err f) k = absurd cc
+
+    by_form : (b : Bool) → cond b (◌>>=◌ {B = NamedValue × Section} (implicit_of x.constant) (λ v. Ok (named_value x v, s))) (◌>>=◌ {B = NamedValue × Section} (value_at e x.form.0 s) (λ v. Ok (named_value x v.0, v.1))) ≡ Ok (a, t) → a.name ≡ x.name
+    by_form true k = by_constant (implicit_of x.constant) k
+    by_form false k = by_value (value_at e x.form.0 s) k
+
+pub passed : (may wanted : Bool) (e : Encoding) (x : Specification) (s left : Section) (o : Option NamedValue) → IsReadIf may wanted left (Ok o) (attribute_at e x s) → Passed (attribute_at e x s) left x.name o wanted
+passed may wanted e x s left (Some a) h = record { attribute = a; is = h; said = inl refl }
+passed may wanted e x s left None h = by_read (attribute_at e x s) refl h.0
+  where
+    by_read : (r : Reading NamedValue) → attribute_at e x s ≡ r → rest_of r ≡ Ok left → Passed (attribute_at e x s) left x.name None wanted
+    by_read (Ok a) k l = let is : attribute_at e x s ≡ Ok (a.0, left) = k ∙ ap (λ r. Ok (a.0, r)) (let same : a.1 ≡ left = cc in same) in record { attribute = a.0; is = is; said = inr (refl, named e x s left a.0 is, h.1) }
+    by_read (Err f) k l = absurd cc
+
+-- passing over one attribute
+pub one_rest : (e : Encoding) (x : Specification) (s : Section) → rest_of (attribute_at e x s) ≡ rest_of (attributes_at e (x ∷ []) s)
+unfolding attributes_at
+one_rest e x s = by_read (attribute_at e x s)
+  where
+    by_read : (r : Reading NamedValue) → rest_of r ≡ rest_of (r >>= λ a. attributes_at e [] a.1 >>= λ more. Ok (a.0 ∷ more.0, more.1))
+    by_read (Ok a) = refl
+    by_read (Err f) = refl
+
+pub no_rest : {A : Type 0} (r : Reading A) (f : Error) → rest_of r ≡ Err f → r ≡ Err f
+no_rest (Ok a) f h = absurd cc
+no_rest (Err g) f h = let same : g ≡ f = cc in ap Err same
+
+-- an attribute that says nothing of an inlined entry changes nothing
+pub still : (scope : Scope) (u : UnitRecord) (x : Result InlinedAttributes Error) (a : NamedValue) → is_wanted a.name ≡ false → or_with_inlined_attribute scope u x a ≡ x
+still scope u (Ok x) a h = unwanted scope u x a h
+still scope u (Err f) a h = refl
+
+-- an attribute that was passed over says nothing of an inlined entry
+pub said : (scope : Scope) (u : UnitRecord) (x : Result InlinedAttributes Error) (given : Reading NamedValue) (left : Section) (name : DwAt) (o : Option NamedValue) (wanted : Bool) → (p : Passed given left name o wanted) → wanted ≡ is_wanted name
+    → or_with_inlined_attribute scope u x p.attribute ≡ (x >>= λ y. with_read_attribute scope u y o)
+said scope u x given left name o wanted p w = elim p.said [
+  | inl e ↦ ap (λ v. x >>= λ y. with_read_attribute scope u y v) (sym e)
+  | inr h ↦ still scope u x p.attribute (ap is_wanted h.1 ∙ sym w ∙ h.2) ∙ whole x ∙ ap (λ v. x >>= λ y. with_read_attribute scope u y v) (sym h.0)
+]
+  where
+    whole : (r : Result InlinedAttributes Error) → r ≡ (r >>= λ y. Ok y)
+    whole (Ok y) = refl
+    whole (Err f) = refl

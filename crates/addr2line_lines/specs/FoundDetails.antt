@@ -1,0 +1,68 @@
+-- The details of functions as they are found, as the private functions see them.
+use Rattle.std.specs.Prelude.{◌≡◌, ◌≢◌, ℕ, ◌+◌, ◌==◌, ◌||◌, Bool, true, false, List, [], ◌∷◌, ◌++◌, fold, map, length, Option, Some, None, option_map, Result, Ok, Err, if◌then◌else◌}
+use Rattle.gimli_read.specs.declared.constants.DwAt.{DwAt}
+use Rattle.gimli_read.specs.declared.constants.TheConstants.DwAt.{DW_AT_call_column, DW_AT_call_file, DW_AT_call_line, DW_AT_high_pc, DW_AT_low_pc, DW_AT_name, DW_AT_ranges}
+use Rattle.gimli_read.specs.declared.error.Error.{Error}
+use Rattle.gimli_read.specs.declared.error.Error.TheVariants.{OutOfMemory}
+use Rattle.gimli_read.specs.Form.{NamedValue, rest_of}
+use Rattle.gimli_read.specs.Reading.{Reading, ◌>>=◌, ExactlyUnlessOomIf}
+use Rattle.gimli_read.specs.Section.{Section}
+use Rattle.gimli.specs.Unit.{UnitRecord}
+use Rattle.addr2line_lines.specs.declared.inlined.CallSite as declared_call
+use Rattle.addr2line_lines.specs.declared.inlined.InlinedAttributes as declared_attributes
+use Rattle.addr2line_lines.specs.Details.{CallSite, InlinedAttributes, no_inlined_attributes, or_with_inlined_attribute, with_inlined_attribute}
+use Rattle.addr2line_lines.specs.Names.{is_linkage_name, is_origin}
+use Rattle.addr2line_lines.specs.References.{Scope}
+
+-- a call
+abbrev pub seen_call : declared_call.CallSite → CallSite
+seen_call c = record { file = c.file; line = c.line; column = c.column }
+
+-- what attributes of an inlined entry say
+abbrev pub seen_attributes : {R : Type 0} → (R → Section) → declared_attributes.InlinedAttributes R
+    → InlinedAttributes
+seen_attributes see x =
+    record { ranges = x.ranges; name = option_map see x.name; call = seen_call x.call }
+
+-- whether an attribute says of an entry's ranges
+abbrev pub is_range_name : DwAt → Bool
+is_range_name name =
+    name.0 == DW_AT_low_pc.0 || name.0 == DW_AT_high_pc.0 || name.0 == DW_AT_ranges.0
+
+-- whether an attribute says of an entry's name
+abbrev pub is_name : DwAt → Bool
+is_name name = is_linkage_name name || name.0 == DW_AT_name.0 || is_origin name
+
+-- whether an attribute says of a call
+abbrev pub is_call : DwAt → Bool
+is_call name =
+    name.0 == DW_AT_call_file.0 || name.0 == DW_AT_call_line.0 || name.0 == DW_AT_call_column.0
+
+-- whether an attribute says something of an inlined entry
+abbrev pub is_wanted : DwAt → Bool
+is_wanted name = is_range_name name || is_name name || is_call name
+
+-- an answer is a fault that was there, or what is given with one more attribute
+abbrev pub IsTakenIn : {X Y : Type 0} → Bool → (X → Y) → (Y → Result Y Error) → Result X Error
+    → Result X Error → Type 0
+IsTakenIn may view more (Ok x) result = ExactlyUnlessOomIf may view result (more (view x))
+IsTakenIn may view more (Err e) result = result ≡ Err e
+
+-- an attribute was read that is wanted, or passed over; or what is given is the fault
+abbrev pub IsReadIf : Bool → Bool → Section → Result (Option NamedValue) Error
+    → Reading NamedValue → Type 0
+IsReadIf may wanted left (Ok (Some a)) given = given ≡ Ok (a, left)
+IsReadIf may wanted left (Ok None) given = (rest_of given ≡ Ok left) × (wanted ≡ false)
+IsReadIf may wanted left (Err e) given = (may ≡ true → e ≢ OutOfMemory) → given ≡ Err e
+
+-- one more attribute, if it was wanted
+abbrev pub with_read_attribute : Scope → UnitRecord → InlinedAttributes → Option NamedValue
+    → Result InlinedAttributes Error
+with_read_attribute scope u x None = Ok x
+with_read_attribute scope u x (Some a) = with_inlined_attribute scope u x a
+
+-- what attributes that are read say, after those that were read before
+abbrev pub inlined_attributes_after : Scope → UnitRecord → Result InlinedAttributes Error
+    → Reading (List NamedValue) → Result InlinedAttributes Error
+inlined_attributes_after scope u x read =
+    read >>= λ y. fold (or_with_inlined_attribute scope u) x y.0

@@ -1,5 +1,5 @@
 -- The attributes of inlined entries and functions, one at a time (on specs/FoundDetails.antt).
-use Rattle.std.proofs.Common.{◌≡◌, ℕ, ◌+◌, ◌<◌, ◌≤◌, ◌⊎◌, ◌==◌, ◌||◌, Bool, true, false, cond, List, [], ◌∷◌, drop, get_or, inl, inr, length, Option, Some, None, Result, Ok, Err, refl, ap, subst, sym, ◌∙◌}
+use Rattle.std.proofs.Common.{◌≡◌, ℕ, ◌+◌, ◌<◌, ◌≤◌, ◌⊎◌, ◌==◌, ◌||◌, Bool, true, false, cond, List, [], ◌∷◌, drop, fold, get_or, inl, inr, length, Option, Some, None, Result, Ok, Err, refl, ap, subst, sym, ◌∙◌}
 use Rattle.std.proofs.lemmas.Bool.{eqb-true}
 use Rattle.std.proofs.lemmas.List.{at_drop_more, at_drop_all}
 use Rattle.gimli_read.specs.declared.constants.DwAt.{DwAt}
@@ -17,8 +17,8 @@ use Rattle.gimli.specs.Sections.{Sections}
 use Rattle.gimli.specs.Unit.{UnitRecord}
 use Rattle.addr2line_lines.specs.declared.function.RangeAttributes.{RangeAttributes}
 use Rattle.addr2line_lines.specs.Details.{CallSite, InlinedAttributes, or_with_inlined_attribute, with_call, with_inlined_attribute}
-use Rattle.addr2line_lines.specs.FoundDetails.{IsReadIf, IsTakenIn, inlined_attributes_after, is_call, is_name, is_range_name, is_wanted, with_read_attribute}
-use Rattle.addr2line_lines.specs.Names.{is_linkage_name, is_origin, with_name}
+use Rattle.addr2line_lines.specs.FoundDetails.{IsReadIf, IsTakenIn, is_call, is_name, is_range_name, is_wanted, with_read_attribute, with_read_name}
+use Rattle.addr2line_lines.specs.Names.{is_linkage_name, is_origin, or_with_name, with_name}
 use Rattle.addr2line_lines.specs.RangeAttributes.{with_range_attribute}
 use Rattle.addr2line_lines.specs.References.{Scope}
 
@@ -105,29 +105,32 @@ module _ (scope : Scope) (u : UnitRecord) where
       let q = neither (is_range_name a.name) (is_name a.name) p.0 in
       other_attribute x a q.0 ∙ ap (with_name_of x a x.ranges) (nameless x.name a q.1) ∙ ap (with_call_of x) (callless u.header.encoding.version x.call a p.1)
 
--- what attributes say, and what is left after them, one at a time
-module _ (scope : Scope) (u : UnitRecord) (e : Encoding) (x : Result InlinedAttributes Error) (xs : List Specification) (i : ℕ) where
-  abbrev next : Reading NamedValue → Result InlinedAttributes Error
-  next read = inlined_attributes_after scope u x (read >>= λ a. attributes_at e (drop (i + 1) xs) a.1 >>= λ more. Ok (a.0 ∷ more.0, more.1))
+-- what attributes say that are read, one at a time
+module _ {A : Type 0} (f : Result A Error → NamedValue → Result A Error) (e : Encoding) (x : Result A Error) (xs : List Specification) (i : ℕ) where
+  abbrev after : Result A Error → Reading (List NamedValue) → Result A Error
+  after y read = read >>= λ z. fold f y z.0
 
-  pub inlined-more : (s : Specification) (left t : Section) (a : NamedValue) → i < length xs → attribute_at e (get_or xs i s) left ≡ Ok (a, t)
-      → inlined_attributes_after scope u x (attributes_at e (drop i xs) left) ≡ inlined_attributes_after scope u (or_with_inlined_attribute scope u x a) (attributes_at e (drop (i + 1) xs) t)
+  abbrev next : Reading NamedValue → Result A Error
+  next read = after x (read >>= λ a. attributes_at e (drop (i + 1) xs) a.1 >>= λ more. Ok (a.0 ∷ more.0, more.1))
+
+  pub fold-more : (s : Specification) (left t : Section) (a : NamedValue) → i < length xs → attribute_at e (get_or xs i s) left ≡ Ok (a, t)
+      → after x (attributes_at e (drop i xs) left) ≡ after (f x a) (attributes_at e (drop (i + 1) xs) t)
   unfolding attributes_at
-  inlined-more s left t a h k =
-      at_drop_more (λ ys. inlined_attributes_after scope u x (attributes_at e ys left)) xs i s h ∙ ap next k ∙ front (attributes_at e (drop (i + 1) xs) t)
+  fold-more s left t a h k =
+      at_drop_more (λ ys. after x (attributes_at e ys left)) xs i s h ∙ ap next k ∙ front (attributes_at e (drop (i + 1) xs) t)
     where
-      front : (read : Reading (List NamedValue)) → inlined_attributes_after scope u x (read >>= λ more. Ok (a ∷ more.0, more.1)) ≡ inlined_attributes_after scope u (or_with_inlined_attribute scope u x a) read
+      front : (read : Reading (List NamedValue)) → after x (read >>= λ more. Ok (a ∷ more.0, more.1)) ≡ after (f x a) read
       front (Ok y) = refl
       front (Err y) = refl
 
-  pub inlined-fault : (s : Specification) (left : Section) (f : Error) → i < length xs → attribute_at e (get_or xs i s) left ≡ Err f
-      → inlined_attributes_after scope u x (attributes_at e (drop i xs) left) ≡ Err f
+  pub fold-fault : (s : Specification) (left : Section) (g : Error) → i < length xs → attribute_at e (get_or xs i s) left ≡ Err g
+      → after x (attributes_at e (drop i xs) left) ≡ Err g
   unfolding attributes_at
-  inlined-fault s left f h k = at_drop_more (λ ys. inlined_attributes_after scope u x (attributes_at e ys left)) xs i s h ∙ ap next k
+  fold-fault s left g h k = at_drop_more (λ ys. after x (attributes_at e ys left)) xs i s h ∙ ap next k
 
-  pub inlined-end : (left : Section) → length xs ≤ i → inlined_attributes_after scope u x (attributes_at e (drop i xs) left) ≡ x
+  pub fold-end : (left : Section) → length xs ≤ i → after x (attributes_at e (drop i xs) left) ≡ x
   unfolding attributes_at
-  inlined-end left h = at_drop_all (λ ys. inlined_attributes_after scope u x (attributes_at e ys left)) xs i h
+  fold-end left h = at_drop_all (λ ys. after x (attributes_at e ys left)) xs i h
 
 -- an answer after one more attribute
 pub taken : {X Y : Type 0} (may : Bool) (view : X → Y) (more : Y → Result Y Error) (found next : Result X Error) (given : Result Y Error) → ExactlyUnlessOomIf may view found given → IsTakenIn may view more found next → ExactlyUnlessOomIf may view next (given >>= more)
@@ -196,3 +199,15 @@ said scope u x given left name o wanted p w = elim p.said [
     whole : (r : Result InlinedAttributes Error) → r ≡ (r >>= λ y. Ok y)
     whole (Ok y) = refl
     whole (Err f) = refl
+
+-- an attribute that was passed over says nothing of a name
+pub name_said : (scope : Scope) (u : UnitRecord) (x : Result (Option Section) Error) (given : Reading NamedValue) (left : Section) (name : DwAt) (o : Option NamedValue) (wanted : Bool) → (p : Passed given left name o wanted) → wanted ≡ is_name name
+    → or_with_name scope u x p.attribute ≡ (x >>= λ y. with_read_name scope u y o)
+name_said scope u x given left name o wanted p w = elim p.said [
+  | inl e ↦ ap (λ v. x >>= λ y. with_read_name scope u y v) (sym e)
+  | inr h ↦ same x (ap is_name h.1 ∙ sym w ∙ h.2) ∙ ap (λ v. x >>= λ y. with_read_name scope u y v) (sym h.0)
+]
+  where
+    same : (r : Result (Option Section) Error) → is_name p.attribute.name ≡ false → or_with_name scope u r p.attribute ≡ (r >>= λ y. Ok y)
+    same (Ok y) h = nameless scope u y p.attribute h
+    same (Err f) h = refl

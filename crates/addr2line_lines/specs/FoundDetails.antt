@@ -1,17 +1,21 @@
 -- The details of functions as they are found, as the private functions see them.
-use Rattle.std.specs.Prelude.{◌≡◌, ◌≢◌, ℕ, ◌+◌, ◌==◌, ◌||◌, Bool, true, false, List, [], ◌∷◌, ◌++◌, fold, map, length, Option, Some, None, option_map, Result, Ok, Err, if◌then◌else◌}
+use Rattle.std.specs.Prelude.{◌≡◌, ◌≢◌, ℕ, ◌+◌, ◌==◌, ◌||◌, ◌&&◌, Bool, true, false, List, [], ◌∷◌, ◌++◌, filter, fold, map, length, Option, Some, None, option_map, Result, Ok, Err, if◌then◌else◌}
 use Rattle.gimli_read.specs.declared.constants.DwAt.{DwAt}
 use Rattle.gimli_read.specs.declared.constants.TheConstants.DwAt.{DW_AT_call_column, DW_AT_call_file, DW_AT_call_line, DW_AT_high_pc, DW_AT_low_pc, DW_AT_name, DW_AT_ranges}
 use Rattle.gimli_read.specs.declared.error.Error.{Error}
 use Rattle.gimli_read.specs.declared.error.Error.TheVariants.{OutOfMemory}
+use Rattle.gimli_read.specs.Abbreviations.{Abbrev}
 use Rattle.gimli_read.specs.Form.{NamedValue, rest_of}
 use Rattle.gimli_read.specs.Reading.{Reading, ◌>>=◌, ExactlyUnlessOomIf}
 use Rattle.gimli_read.specs.Section.{Section}
 use Rattle.gimli.specs.Unit.{UnitRecord}
 use Rattle.addr2line_lines.specs.declared.inlined.CallSite as declared_call
 use Rattle.addr2line_lines.specs.declared.inlined.InlinedAttributes as declared_attributes
-use Rattle.addr2line_lines.specs.Details.{CallSite, InlinedAttributes, no_inlined_attributes, or_with_inlined_attribute, with_inlined_attribute}
-use Rattle.addr2line_lines.specs.Names.{is_linkage_name, is_origin}
+use Rattle.addr2line_lines.specs.declared.nesting.Kind.{Kind}
+use Rattle.addr2line_lines.specs.declared.nesting.Kind.TheVariants.{Subprogram, Inlined, Other}
+use Rattle.addr2line_lines.specs.Details.{CallSite, InlinedAttributes, is_inlined, no_inlined_attributes, or_with_inlined_attribute, with_inlined_attribute}
+use Rattle.addr2line_lines.specs.Functions.{is_subprogram}
+use Rattle.addr2line_lines.specs.Names.{is_linkage_name, is_origin, or_with_name, with_name}
 use Rattle.addr2line_lines.specs.References.{Scope}
 
 -- a call
@@ -66,3 +70,48 @@ abbrev pub inlined_attributes_after : Scope → UnitRecord → Result InlinedAtt
     → Reading (List NamedValue) → Result InlinedAttributes Error
 inlined_attributes_after scope u x read =
     read >>= λ y. fold (or_with_inlined_attribute scope u) x y.0
+
+-- one more attribute of a function, if it was wanted
+abbrev pub with_read_name : Scope → UnitRecord → Option Section → Option NamedValue
+    → Result (Option Section) Error
+with_read_name scope u name None = Ok name
+with_read_name scope u name (Some a) = with_name scope u name a
+
+-- the name by attributes that are read, after those that were read before
+abbrev pub name_after : Scope → UnitRecord → Result (Option Section) Error
+    → Reading (List NamedValue) → Result (Option Section) Error
+name_after scope u name read = read >>= λ y. fold (or_with_name scope u) name y.0
+
+-- what an open entry is to the function around it
+abbrev pub kind_of : Abbrev → Kind
+kind_of a = if is_subprogram a then Subprogram else if is_inlined a then Inlined else Other
+
+abbrev pub is_subprogram_kind : Kind → Bool
+is_subprogram_kind Subprogram = true
+is_subprogram_kind _ = false
+
+abbrev pub is_inlined_kind : Kind → Bool
+is_inlined_kind Inlined = true
+is_inlined_kind _ = false
+
+-- how many of open entries are such
+abbrev pub kinds_such : (Kind → Bool) → List Kind → ℕ
+kinds_such such around = length (filter such around)
+
+-- whether an entry of a kind is an inlined one in no nested subprogram
+abbrev pub is_listed : Kind → List Kind → Bool
+is_listed kind around = is_inlined_kind kind && kinds_such is_subprogram_kind around == 0
+
+-- the kinds that are open after a closing entry
+abbrev pub closed_once : List Kind → List Kind
+closed_once [] = []
+closed_once (kind ∷ around) = around
+
+-- those after an entry
+abbrev pub opened : Kind → Bool → List Kind → List Kind
+opened kind has_children around = if has_children then kind ∷ around else around
+
+-- how many of the open entries are inlined ones, and how many nested subprograms
+pub record AreCounted (around : List Kind) (inlined subprograms : ℕ) : Type 0 where
+  pub inlined_is : inlined ≡ kinds_such is_inlined_kind around
+  pub subprograms_is : subprograms ≡ kinds_such is_subprogram_kind around

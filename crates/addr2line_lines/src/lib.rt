@@ -11,6 +11,7 @@ mod laws;
 mod line;
 mod location;
 mod name;
+mod nesting;
 mod packed;
 mod path;
 mod range;

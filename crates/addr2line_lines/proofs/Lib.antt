@@ -24,3 +24,4 @@ pub mod SegmentSearch
 pub mod FunctionLemmas
 pub mod FunctionOrder
 pub mod DetailLemmas
+pub mod NestingLemmas

@@ -1,21 +1,32 @@
 -- The details of functions as they are found, as the private functions see them.
-use Rattle.std.specs.Prelude.{◌≡◌, ◌≢◌, ℕ, ◌+◌, ◌==◌, ◌||◌, ◌&&◌, Bool, true, false, List, [], ◌∷◌, ◌++◌, filter, fold, map, length, Option, Some, None, option_map, Result, Ok, Err, if◌then◌else◌}
+use Rattle.std.specs.Prelude.{◌≡◌, ◌≢◌, ℕ, ◌+◌, ◌==◌, ◌||◌, ◌&&◌, Bool, true, false, List, [], ◌∷◌, ◌++◌, count_by, filter, fold, map, length, Option, Some, None, option_map, Result, Ok, Err, pos, if◌then◌else◌}
 use Rattle.gimli_read.specs.declared.constants.DwAt.{DwAt}
 use Rattle.gimli_read.specs.declared.constants.TheConstants.DwAt.{DW_AT_call_column, DW_AT_call_file, DW_AT_call_line, DW_AT_high_pc, DW_AT_low_pc, DW_AT_name, DW_AT_ranges}
 use Rattle.gimli_read.specs.declared.error.Error.{Error}
-use Rattle.gimli_read.specs.declared.error.Error.TheVariants.{OutOfMemory}
+use Rattle.gimli_read.specs.declared.error.Error.TheVariants.{OutOfMemory, UnexpectedEof}
+use Rattle.gimli_read.specs.declared.range.Range.{Range}
 use Rattle.gimli_read.specs.Abbreviations.{Abbrev}
 use Rattle.gimli_read.specs.Form.{NamedValue, rest_of}
 use Rattle.gimli_read.specs.Reading.{Reading, ◌>>=◌, ExactlyUnlessOomIf}
 use Rattle.gimli_read.specs.Section.{Section}
+use Rattle.gimli_read.specs.Run.{fold_of}
+use Rattle.gimli.specs.Entry.{EntryCursor, EntryUnit, attributes_at}
+use Rattle.gimli.specs.Items.{Entry, Item, items_from, items_inside, next_item_at}
+use Rattle.gimli.specs.Ranges.{ranges_at}
+use Rattle.gimli.specs.Sections.{Sections}
 use Rattle.gimli.specs.Unit.{UnitRecord}
+use Rattle.addr2line_lines.specs.declared.detail.InlinedLists.{InlinedLists}
+use Rattle.addr2line_lines.specs.declared.function.RangeAttributes.{RangeAttributes}
+use Rattle.addr2line_lines.specs.declared.inlined.InlinedFunction.{InlinedFunction}
+use Rattle.addr2line_lines.specs.declared.inlined.InlinedFunctionAddress.{InlinedFunctionAddress}
 use Rattle.addr2line_lines.specs.declared.inlined.CallSite as declared_call
 use Rattle.addr2line_lines.specs.declared.inlined.InlinedAttributes as declared_attributes
 use Rattle.addr2line_lines.specs.declared.nesting.Kind.{Kind}
 use Rattle.addr2line_lines.specs.declared.nesting.Kind.TheVariants.{Subprogram, Inlined, Other}
-use Rattle.addr2line_lines.specs.Details.{CallSite, InlinedAttributes, is_inlined, no_inlined_attributes, or_with_inlined_attribute, with_inlined_attribute}
+use Rattle.addr2line_lines.specs.Details.{CallSite, InlinedAttributes, InlinedEntry, inlined_attributes_of, inlined_entry, is_inlined, no_inlined_attributes, or_with_inlined_attribute, with_inlined_attribute}
 use Rattle.addr2line_lines.specs.Functions.{is_subprogram}
 use Rattle.addr2line_lines.specs.Names.{is_linkage_name, is_origin, or_with_name, with_name}
+use Rattle.addr2line_lines.specs.RangeAttributes.{all_ranges, attribute_ranges}
 use Rattle.addr2line_lines.specs.References.{Scope}
 
 -- a call
@@ -96,7 +107,7 @@ is_inlined_kind _ = false
 
 -- how many of open entries are such
 abbrev pub kinds_such : (Kind → Bool) → List Kind → ℕ
-kinds_such such around = length (filter such around)
+kinds_such such around = count_by such around
 
 -- whether an entry of a kind is an inlined one in no nested subprogram
 abbrev pub is_listed : Kind → List Kind → Bool
@@ -115,3 +126,103 @@ opened kind has_children around = if has_children then kind ∷ around else arou
 pub record AreCounted (around : List Kind) (inlined subprograms : ℕ) : Type 0 where
   pub inlined_is : inlined ≡ kinds_such is_inlined_kind around
   pub subprograms_is : subprograms ≡ kinds_such is_subprogram_kind around
+
+-- inlined entries, and the ranges by their places
+pub record FoundInlined : Type 0 where
+  pub entries : List InlinedEntry
+  pub ranges : List InlinedFunctionAddress
+
+-- an inlined entry
+abbrev pub seen_inlined : {R : Type 0} → (R → Section) → InlinedFunction R → InlinedEntry
+seen_inlined see f = record {
+  offset = f.dw_die_offset.0;
+  name = option_map see f.name;
+  call = record { file = f.call_file; line = f.call_line; column = f.call_column };
+}
+
+-- what was found
+abbrev pub seen_lists : {R : Type 0} → (R → Section) → InlinedLists R → FoundInlined
+seen_lists see l =
+    record { entries = map (seen_inlined see) l.functions.items; ranges = l.ranges.items }
+
+-- a range of the inlined entry of a place
+abbrev pub inlined_address : ℕ → ℕ → Range → InlinedFunctionAddress
+inlined_address depth function range =
+    record { depth = depth; range = range; function = function }
+
+-- the ranges of a range list after others
+abbrev pub with_inlined_list : Sections → UnitRecord → ℕ → ℕ → ℕ → List InlinedFunctionAddress
+    → Result (List InlinedFunctionAddress) Error
+with_inlined_list d u offset depth function found = all_ranges (ranges_at d u offset) >>= λ ranges.
+    Ok (found ++ map (inlined_address depth function) ranges)
+
+-- the ranges of range attributes after others
+abbrev pub with_inlined_ranges : Sections → UnitRecord → RangeAttributes → ℕ → ℕ
+    → List InlinedFunctionAddress → Result (List InlinedFunctionAddress) Error
+with_inlined_ranges d u attributes depth function found =
+    attribute_ranges d u attributes >>= λ ranges.
+    Ok (found ++ map (inlined_address depth function) ranges)
+
+-- one more inlined entry, if it has a range
+abbrev pub inlined_more : FoundInlined → InlinedEntry → ℕ → List Range → FoundInlined
+inlined_more found entry depth [] = found
+inlined_more found entry depth (r ∷ ranges) = record {
+  entries = found.entries ++ entry ∷ [];
+  ranges = found.ranges ++ map (inlined_address depth (length found.entries)) (r ∷ ranges);
+}
+
+-- the inlined entry of attributes, if they give a range
+abbrev pub with_inlined_found : Sections → UnitRecord → ℕ → ℕ → FoundInlined → InlinedAttributes
+    → Result FoundInlined Error
+with_inlined_found d u offset depth found x = attribute_ranges d u x.ranges >>= λ ranges.
+    Ok (inlined_more found (inlined_entry offset x) depth ranges)
+
+-- that of an entry around which others are open
+abbrev pub with_entry_found : Scope → UnitRecord → List Kind → ℕ → FoundInlined → Entry
+    → Result FoundInlined Error
+with_entry_found scope u around offset found e =
+    if is_listed (kind_of e.abbreviation) around
+    then (inlined_attributes_of scope u e.attributes >>= λ x. with_inlined_found
+    scope.file.sections u offset (kinds_such is_inlined_kind around) found x)
+    else Ok found
+
+-- that of an entry whose attributes follow, and what is left after these
+abbrev pub entry_found_at : Scope → UnitRecord → List Kind → ℕ → Abbrev → Section → FoundInlined
+    → Result (FoundInlined × Section) Error
+entry_found_at scope u around offset a left found =
+    attributes_at u.header.encoding a.attributes left >>= λ x.
+    with_entry_found scope u around offset found (record { abbreviation = a; attributes = x.0 })
+    >>= λ more. Ok (more, x.1)
+
+-- what was found, and the kinds of the open entries
+pub record FoundAround : Type 0 where
+  pub found : FoundInlined
+  pub around : List Kind
+
+-- after one more item
+abbrev pub with_item_found : Scope → UnitRecord → FoundAround → Item → Result FoundAround Error
+with_item_found scope u state x = elim x.entry [
+  | None ↦ Ok (record { found = state.found; around = closed_once state.around })
+  | Some e ↦ with_entry_found scope u state.around x.offset state.found e >>= λ more.
+      Ok (record {
+        found = more;
+        around =
+            opened (kind_of e.abbreviation) e.abbreviation.has_children state.around;
+      })
+]
+
+-- after the next item, and where it ends
+abbrev pub item_found_at : Scope → UnitRecord → EntryUnit → EntryCursor → FoundAround
+    → Result (FoundAround × EntryCursor) Error
+item_found_at scope u unit cursor state = next_item_at unit cursor >>= λ x. elim x.0 [
+  | None ↦ Err UnexpectedEof
+  | Some item ↦ with_item_found scope u state item >>= λ more. Ok (more, x.1)
+]
+
+-- after the items that are left of a function
+abbrev pub inside_found : Scope → UnitRecord → EntryUnit → EntryCursor → FoundAround
+    → Result FoundInlined Error
+inside_found scope u unit cursor state =
+    let items = items_from unit cursor in
+    let inside = items_inside (pos 0) cursor.depth items.items items.end in
+    fold_of (with_item_found scope u) state inside >>= λ more. Ok more.0.found

@@ -13,7 +13,7 @@ ghost use Rattle.addr2line_lines.specs.SeenScope.{seen_scope};
 use crate::function::RangeAttributes;
 use crate::name::take_name;
 use crate::references::Scope;
-use gimli::read::{Attribute, AttributeSpecification, DwAt, Error, Reader, UnitOffset};
+use gimli::read::{Attribute, AttributeSpecification, DwAt, Error, Range, Reader, UnitOffset};
 use gimli::{EntriesRaw, Unit, UnitRef};
 
 /// Where a function was called that is inlined.
@@ -25,6 +25,32 @@ pub struct CallSite {
     pub line: u32,
     /// The low 32 bits of the column; 0 where there is none.
     pub column: u32,
+}
+
+/// An inlined entry: an entry of a function that is inlined in another one.
+#[derive(Drop)]
+pub struct InlinedFunction<R: Reader> {
+    /// Where the entry begins, in bytes from the start of the unit's length.
+    pub dw_die_offset: UnitOffset,
+    /// The name, where there is one that can be read.
+    pub name: Option<R>,
+    /// The index of the file of the call, if there is one that counts.
+    pub call_file: Option<u64>,
+    /// The low 32 bits of the line of the call; 0 where there is none.
+    pub call_line: u32,
+    /// The low 32 bits of the column of the call; 0 where there is none.
+    pub call_column: u32,
+}
+
+/// A range of addresses of an inlined entry.
+#[derive(Clone, Copy, Debug, PartialEq, Eq)]
+pub struct InlinedFunctionAddress {
+    /// How many inlined entries are around this one.
+    pub depth: usize,
+    /// The range.
+    pub range: Range,
+    /// The place of the inlined entry in its list.
+    pub function: usize,
 }
 
 // The index of a file, if it counts in a version.

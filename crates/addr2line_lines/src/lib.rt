@@ -3,6 +3,7 @@
 
 mod columns;
 mod count;
+mod detail;
 mod files;
 mod function;
 mod functions;

@@ -74,7 +74,10 @@ impl Nesting {
     pub(crate) fn lists(&self, kind: Kind) -> bool
         ensures gives { result ≡ is_listed kind self.now }
     {
-        matches!(kind, Kind::Inlined) && self.subprograms == 0
+        match kind {
+            Kind::Inlined => self.subprograms == 0,
+            _ => false,
+        }
     }
 
     // Opens an entry, if it has children.

@@ -5,19 +5,22 @@ use Rattle.std.proofs.lemmas.List.{at_drop_more, at_drop_all}
 use Rattle.gimli_read.specs.declared.constants.DwAt.{DwAt}
 use Rattle.gimli_read.specs.declared.constants.TheConstants.DwAt.{DW_AT_abstract_origin, DW_AT_call_column, DW_AT_call_file, DW_AT_call_line, DW_AT_high_pc, DW_AT_linkage_name, DW_AT_low_pc, DW_AT_MIPS_linkage_name, DW_AT_name, DW_AT_ranges, DW_AT_specification}
 use Rattle.gimli_read.specs.declared.error.Error.{Error}
+use Rattle.gimli_read.specs.declared.error.Error.TheVariants.{UnexpectedEof}
 use Rattle.gimli_read.specs.declared.endian.Encoding.{Encoding}
-use Rattle.gimli_read.specs.Abbreviations.{Specification}
+use Rattle.gimli_read.specs.Abbreviations.{Abbrev, Specification}
+use Rattle.gimli_read.specs.Leb128.{uleb128_at, uleb128_in}
 use Rattle.gimli_read.specs.declared.value.AttributeValue.{AttributeValue}
 use Rattle.gimli_read.specs.declared.constants.TheConstants.DwForm.{DW_FORM_implicit_const}
 use Rattle.gimli_read.specs.Form.{NamedValue, attribute_at, implicit_of, named_value, rest_of, value_at}
-use Rattle.gimli_read.specs.Reading.{Reading, ◌>>=◌, ExactlyUnlessOomIf}
+use Rattle.gimli_read.specs.Reading.{Reading, ◌>>=◌, Exactly, ExactlyUnlessOom, ExactlyUnlessOomIf}
 use Rattle.gimli_read.specs.Section.{Section}
 use Rattle.gimli.specs.Entry.{attributes_at}
 use Rattle.gimli.specs.Sections.{Sections}
 use Rattle.gimli.specs.Unit.{UnitRecord}
 use Rattle.addr2line_lines.specs.declared.function.RangeAttributes.{RangeAttributes}
-use Rattle.addr2line_lines.specs.Details.{CallSite, InlinedAttributes, or_with_inlined_attribute, with_call, with_inlined_attribute}
-use Rattle.addr2line_lines.specs.FoundDetails.{IsReadIf, IsTakenIn, is_call, is_name, is_range_name, is_wanted, with_read_attribute, with_read_name}
+use Rattle.addr2line_lines.specs.declared.nesting.Kind.{Kind}
+use Rattle.addr2line_lines.specs.Details.{CallSite, InlinedAttributes, inlined_attributes_of, no_inlined_attributes, or_with_inlined_attribute, with_call, with_inlined_attribute}
+use Rattle.addr2line_lines.specs.FoundDetails.{FoundInlined, IsReadIf, IsTakenIn, entry_found_at, inlined_attributes_after, is_call, is_inlined_kind, is_listed, is_name, is_range_name, is_wanted, kind_of, kinds_such, with_entry_found, with_inlined_found, with_read_attribute, with_read_name}
 use Rattle.addr2line_lines.specs.Names.{is_linkage_name, is_origin, or_with_name, with_name}
 use Rattle.addr2line_lines.specs.RangeAttributes.{with_range_attribute}
 use Rattle.addr2line_lines.specs.References.{Scope}
@@ -211,3 +214,64 @@ name_said scope u x given left name o wanted p w = elim p.said [
     same : (r : Result (Option Section) Error) → is_name p.attribute.name ≡ false → or_with_name scope u r p.attribute ≡ (r >>= λ y. Ok y)
     same (Ok y) h = nameless scope u y p.attribute h
     same (Err f) h = refl
+
+-- an entry whose attributes follow
+module _ (scope : Scope) (u : UnitRecord) (around : List Kind) (offset : ℕ) (a : Abbrev) (left : Section) (found : FoundInlined) where
+  abbrev entry_read : Reading (List NamedValue) → Result (FoundInlined × Section) Error
+  entry_read read = read >>= λ x. with_entry_found scope u around offset found (record { abbreviation = a; attributes = x.0 }) >>= λ more. Ok (more, x.1)
+
+  abbrev listed_read : Reading (List NamedValue) → Result (FoundInlined × Section) Error
+  listed_read read = read >>= λ x. (inlined_attributes_of scope u x.0 >>= λ y. with_inlined_found scope.file.sections u offset (kinds_such is_inlined_kind around) found y) >>= λ more. Ok (more, x.1)
+
+  listed_is : is_listed (kind_of a) around ≡ true → (read : Reading (List NamedValue)) → entry_read read ≡ listed_read read
+  listed_is h (Err f) = refl
+  listed_is h (Ok x) = ap (λ b. ◌>>=◌ {B = FoundInlined × Section} (cond b (inlined_attributes_of scope u x.0 >>= λ y. with_inlined_found scope.file.sections u offset (kinds_such is_inlined_kind around) found y) (Ok found)) (λ more. Ok (more, x.1))) h
+
+  pub entry-fault : (f : Error) → is_listed (kind_of a) around ≡ true → inlined_attributes_after scope u (Ok no_inlined_attributes) (attributes_at u.header.encoding a.attributes left) ≡ Err f
+      → entry_found_at scope u around offset a left found ≡ Err f
+  entry-fault f h k = listed_is h (attributes_at u.header.encoding a.attributes left) ∙ by_read (attributes_at u.header.encoding a.attributes left) k
+    where
+      by_read : (read : Reading (List NamedValue)) → inlined_attributes_after scope u (Ok no_inlined_attributes) read ≡ Err f → listed_read read ≡ Err f
+      by_read (Ok x) k = ap (λ r. ◌>>=◌ {B = FoundInlined × Section} (r >>= λ y. with_inlined_found scope.file.sections u offset (kinds_such is_inlined_kind around) found y) (λ more. Ok (more, x.1))) k
+      by_read (Err g) k = let same : g ≡ f = cc in ap Err same
+
+  pub entry-listed : (x : InlinedAttributes) (rest : Section) → is_listed (kind_of a) around ≡ true → inlined_attributes_after scope u (Ok no_inlined_attributes) (attributes_at u.header.encoding a.attributes left) ≡ Ok x
+      → rest_of (attributes_at u.header.encoding a.attributes left) ≡ Ok rest
+      → entry_found_at scope u around offset a left found ≡ (with_inlined_found scope.file.sections u offset (kinds_such is_inlined_kind around) found x >>= λ more. Ok (more, rest))
+  entry-listed x rest h k l = listed_is h (attributes_at u.header.encoding a.attributes left) ∙ by_read (attributes_at u.header.encoding a.attributes left) k l
+    where
+      by_read : (read : Reading (List NamedValue)) → inlined_attributes_after scope u (Ok no_inlined_attributes) read ≡ Ok x → rest_of read ≡ Ok rest
+          → listed_read read ≡ (with_inlined_found scope.file.sections u offset (kinds_such is_inlined_kind around) found x >>= λ more. Ok (more, rest))
+      by_read (Ok y) k l =
+          ap (λ r. ◌>>=◌ {B = FoundInlined × Section} (r >>= λ z. with_inlined_found scope.file.sections u offset (kinds_such is_inlined_kind around) found z) (λ more. Ok (more, y.1))) k
+          ∙ ap (λ (s : Section). ◌>>=◌ {B = FoundInlined × Section} (with_inlined_found scope.file.sections u offset (kinds_such is_inlined_kind around) found x) (λ more. Ok (more, s))) (let same : y.1 ≡ rest = cc in same)
+      by_read (Err g) k l = absurd cc
+
+  pub entry-other : (rest : Section) (r : Result (Unit {0}) Error) → is_listed (kind_of a) around ≡ false → Exactly (λ _. rest) r (rest_of (attributes_at u.header.encoding a.attributes left))
+      → ExactlyUnlessOom (λ _. (found, rest)) r (entry_found_at scope u around offset a left found)
+  entry-other rest r h k = by_answer r k
+    where
+      other_is : (read : Reading (List NamedValue)) → entry_read read ≡ (rest_of read >>= λ s. Ok (found, s))
+      other_is (Err f) = refl
+      other_is (Ok x) = ap (λ b. ◌>>=◌ {B = FoundInlined × Section} (cond b (inlined_attributes_of scope u x.0 >>= λ y. with_inlined_found scope.file.sections u offset (kinds_such is_inlined_kind around) found y) (Ok found)) (λ more. Ok (more, x.1))) h
+
+      by_answer : (r : Result (Unit {0}) Error) → Exactly (λ _. rest) r (rest_of (attributes_at u.header.encoding a.attributes left)) → ExactlyUnlessOom (λ _. (found, rest)) r (entry_found_at scope u around offset a left found)
+      by_answer (Ok z) k = other_is (attributes_at u.header.encoding a.attributes left) ∙ ap (λ v. ◌>>=◌ {B = FoundInlined × Section} v (λ s. Ok (found, s))) k
+      by_answer (Err f) k = λ _. other_is (attributes_at u.header.encoding a.attributes left) ∙ ap (λ v. ◌>>=◌ {B = FoundInlined × Section} v (λ s. Ok (found, s))) k
+
+  -- what is left after an entry is what its attributes leave
+  pub entry-rest : (more : FoundInlined) (rest : Section) → entry_found_at scope u around offset a left found ≡ Ok (more, rest) → rest_of (attributes_at u.header.encoding a.attributes left) ≡ Ok rest
+  entry-rest more rest h = by_read (attributes_at u.header.encoding a.attributes left) h
+    where
+      by_found : (r : Result FoundInlined Error) (s : Section) → ◌>>=◌ {B = FoundInlined × Section} r (λ m. Ok (m, s)) ≡ Ok (more, rest) → s ≡ rest
+      by_found (Ok m) s h = let p : ◌≡◌ {A = FoundInlined × Section} (m, s) (more, rest) = cc in ap (λ x. x.1) p
+      by_found (Err f) s h = absurd cc
+
+      by_read : (read : Reading (List NamedValue)) → entry_read read ≡ Ok (more, rest) → rest_of read ≡ Ok rest
+      by_read (Ok x) h = ap Ok (by_found (with_entry_found scope u around offset found (record { abbreviation = a; attributes = x.0 })) x.1 h)
+      by_read (Err f) h = absurd cc
+
+-- the code of no bytes
+empty_code : (s : Section) → s.bytes ≡ [] → uleb128_at s ≡ Err UnexpectedEof
+unfolding uleb128_in
+empty_code s h = ap (λ (b : List ℕ). ◌>>=◌ {B = ℕ × Section} (uleb128_in b) (λ x. Ok (x.0, record s { bytes = x.1 }))) h

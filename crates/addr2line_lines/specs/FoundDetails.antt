@@ -199,6 +199,9 @@ pub record FoundAround : Type 0 where
   pub found : FoundInlined
   pub around : List Kind
 
+abbrev pub seen_around : {R : Type 0} → (R → Section) → InlinedLists R → List Kind → FoundAround
+seen_around see lists around = record { found = seen_lists see lists; around = around }
+
 -- after one more item
 abbrev pub with_item_found : Scope → UnitRecord → FoundAround → Item → Result FoundAround Error
 with_item_found scope u state x = elim x.entry [

@@ -1,10 +1,10 @@
 //! The details of functions.
 
-ghost use Rattle.std.specs.Prelude.{◌≡◌, ◌<◌, Ok, OnOk, int_lt, length, option_map, pos};
+ghost use Rattle.std.specs.Prelude.{◌≡◌, ◌<◌, [], None, Ok, OnOk, int_lt, length, option_map, pos};
 ghost use Rattle.gimli_read.specs.Form.{rest_of};
 ghost use Rattle.gimli_read.specs.Reading.{ExactlyUnlessOom, ExactlyUnlessOomIf};
 ghost use Rattle.gimli.specs.Entry.{attributes_at};
-ghost use Rattle.addr2line_lines.specs.FoundDetails.{FoundAround, IsTakenIn, entry_found_at, inside_found, item_found_at, name_after, seen_attributes, seen_lists, with_inlined_found, with_inlined_list, with_inlined_ranges, with_read_name};
+ghost use Rattle.addr2line_lines.specs.FoundDetails.{IsTakenIn, entry_found_at, inside_found, item_found_at, name_after, seen_around, seen_attributes, seen_lists, with_inlined_found, with_inlined_list, with_inlined_ranges, with_read_name};
 ghost use Rattle.addr2line_lines.specs.References.{IsScope};
 ghost use Rattle.addr2line_lines.specs.SeenScope.{seen_scope};
 
@@ -152,4 +152,92 @@ impl<R: Reader> InlinedLists<R> {
         }
         Ok(())
     }
+}
+
+// Adds the inlined entry whose attributes follow, if it is in no nested subprogram; passes over
+// the attributes of any other entry.
+fn read_entry<R: Reader>(
+    scope: Scope<'_, R>,
+    unit: &Unit<R>,
+    entries: &mut EntriesRaw<'_, R>,
+    offset: UnitOffset,
+    abbreviation: &Abbreviation,
+    nesting: &Nesting,
+    found: &mut InlinedLists<R>,
+) -> Result<(), Error>
+    requires in_order { IsScope (seen_scope scope) }
+    requires encoding { entries.old.unit.encoding ≡ unit.now.header.encoding }
+    ensures gives { ExactlyUnlessOom
+        (λ _. (seen_lists R.section found.new, entries.new.cursor.left)) result
+        (entry_found_at (seen_scope scope.entry) unit.now nesting.now offset.0 abbreviation.now
+        entries.old.cursor.left (seen_lists R.section found.old)) }
+    ensures unit { entries.new.unit ≡ entries.old.unit }
+    ensures depth { entries.new.cursor.depth ≡ entries.old.cursor.depth }
+{
+    if nesting.lists(kind_of(abbreviation)) {
+        let attributes = read_inlined_attributes(scope, unit, entries, abbreviation.attributes())?;
+        let unit = UnitRef::new(scope.file.dwarf, unit);
+        found.add(unit, offset, nesting.depth(), attributes)
+    } else {
+        entries.skip_attributes_of(abbreviation)
+    }
+}
+
+// Reads the next item inside a function, and adds its inlined entry, if it is one.
+fn read_item<R: Reader>(
+    scope: Scope<'_, R>,
+    unit: &Unit<R>,
+    entries: &mut EntriesRaw<'_, R>,
+    nesting: &mut Nesting,
+    found: &mut InlinedLists<R>,
+) -> Result<(), Error>
+    requires in_order { IsScope (seen_scope scope) }
+    requires encoding { entries.old.unit.encoding ≡ unit.now.header.encoding }
+    ensures gives { ExactlyUnlessOom
+        (λ _. (seen_around R.section found.new nesting.new, entries.new.cursor)) result
+        (item_found_at (seen_scope scope.entry) unit.now entries.old.unit entries.old.cursor
+        (seen_around R.section found.old nesting.old)) }
+    ensures unit { entries.new.unit ≡ entries.old.unit }
+    ensures shorter { OnOk result
+        (length entries.new.cursor.left.bytes < length entries.old.cursor.left.bytes) }
+{
+    let offset = entries.next_offset();
+    match entries.read_abbreviation()? {
+        None => {
+            nesting.close();
+            Ok(())
+        }
+        Some(abbreviation) => {
+            read_entry(scope, unit, entries, offset, abbreviation, nesting, found)?;
+            nesting.enter(kind_of(abbreviation), abbreviation.has_children())
+        }
+    }
+}
+
+// Whether the next item is inside the function with which the reading began.
+fn is_inside<R: Reader>(entries: &EntriesRaw<'_, R>) -> bool
+    ensures gives { result ≡ int_lt (pos 0) entries.now.cursor.depth }
+{
+    entries.next_depth() > 0
+}
+
+// Adds the inlined entries inside a function, whose own entry was the first that was read.
+fn read_inside<R: Reader>(
+    alloc: Global,
+    scope: Scope<'_, R>,
+    unit: &Unit<R>,
+    entries: &mut EntriesRaw<'_, R>,
+    found: &mut InlinedLists<R>,
+) -> Result<(), Error>
+    requires in_order { IsScope (seen_scope scope) }
+    requires encoding { entries.old.unit.encoding ≡ unit.now.header.encoding }
+    ensures gives { ExactlyUnlessOom (λ _. seen_lists R.section found.new) result
+        (inside_found (seen_scope scope.entry) unit.now entries.old.unit entries.old.cursor
+        (seen_around R.section found.old [])) }
+{
+    let mut nesting = Nesting::new(alloc);
+    while is_inside(entries) {
+        read_item(scope, unit, entries, &mut nesting, found)?;
+    }
+    Ok(())
 }

@@ -215,6 +215,13 @@ name_said scope u x given left name o wanted p w = elim p.said [
     same (Ok y) h = nameless scope u y p.attribute h
     same (Err f) h = refl
 
+-- what is found, and what is left
+abbrev pub listed_before : Section → Result FoundInlined Error → Result (FoundInlined × Section) Error
+listed_before rest r = r >>= λ more. Ok (more, rest)
+
+pub same_added : (d e : Sections) (u v : UnitRecord) (m n : ℕ) (offset : ℕ) (found : FoundInlined) (x : InlinedAttributes) → d ≡ e → u ≡ v → m ≡ n → with_inlined_found d u offset m found x ≡ with_inlined_found e v offset n found x
+same_added d e u v m n offset found x a b c = ap (λ y. with_inlined_found y u offset m found x) a ∙ ap (λ y. with_inlined_found e y offset m found x) b ∙ ap (λ y. with_inlined_found e v offset y found x) c
+
 -- an entry whose attributes follow
 module _ (scope : Scope) (u : UnitRecord) (around : List Kind) (offset : ℕ) (a : Abbrev) (left : Section) (found : FoundInlined) where
   abbrev entry_read : Reading (List NamedValue) → Result (FoundInlined × Section) Error
@@ -272,6 +279,6 @@ module _ (scope : Scope) (u : UnitRecord) (around : List Kind) (offset : ℕ) (a
       by_read (Err f) h = absurd cc
 
 -- the code of no bytes
-empty_code : (s : Section) → s.bytes ≡ [] → uleb128_at s ≡ Err UnexpectedEof
+pub empty_code : (s : Section) → s.bytes ≡ [] → uleb128_at s ≡ Err UnexpectedEof
 unfolding uleb128_in
 empty_code s h = ap (λ (b : List ℕ). ◌>>=◌ {B = ℕ × Section} (uleb128_in b) (λ x. Ok (x.0, record s { bytes = x.1 }))) h

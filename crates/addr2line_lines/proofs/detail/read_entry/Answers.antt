@@ -1,9 +1,9 @@
 use Rattle.std.proofs.Common.{ap, sym, ◌∙◌}
 use Rattle.std.proofs.lemmas.Result.{err_from_is_err_and}
-use Rattle.addr2line_lines.specs.FoundDetails.{is_listed, seen_lists}
+use Rattle.addr2line_lines.specs.FoundDetails.{is_listed, seen_attributes, seen_lists}
 use Rattle.addr2line_lines.specs.SeenScope.{seen_scope}
 use Rattle.addr2line_lines.proofs.FunctionLemmas.{beside}
-use Rattle.addr2line_lines.proofs.DetailLemmas.{entry-fault, entry-listed, entry-other}
+use Rattle.addr2line_lines.proofs.DetailLemmas.{entry-fault, entry-listed, entry-other, listed_before, same_added}
 use Rattle.addr2line_lines.proofs.detail.read_entry.Goals as goal
 
 pub returns-in_err-attributes-clause-gives : goal.returns-in_err-attributes-clause-gives
@@ -30,8 +30,8 @@ returns-in_ok-attributes-clause-gives g c =
     let listed = ap (λ k. is_listed k c.args.nesting.now) (sym c.kind_of.ensures.gives) ∙ sym c.if-lists.ensures.gives in
     let gives = rw c.attributes.ensures.gives at c.in_ok-attributes.ensures.gives in
     let rest = rw c.attributes.ensures.gives at c.in_ok-attributes.ensures.left in
-    let added = rw (c.new-unit.ensures.dwarf, c.new-unit.ensures.unit, c.depth.ensures.gives) at c.add.ensures.gives in
-    beside c.add.result _ _ _ _ (entry-listed scope u around c.args.offset.0 a left found _ _ listed gives rest) added
+    let same = same_added _ _ _ _ _ _ c.args.offset.0 found (seen_attributes g.R.Reader.section c.in_ok-attributes.attributes) c.new-unit.ensures.dwarf c.new-unit.ensures.unit c.depth.ensures.gives in
+    beside c.add.result _ _ _ _ (entry-listed scope u around c.args.offset.0 a left found _ _ listed gives rest ∙ ap (listed_before c.read_inlined_attributes.new.entries.cursor.left) (sym same)) c.add.ensures.gives
 
 pub returns-else-lists-clause-gives : goal.returns-else-lists-clause-gives
 returns-else-lists-clause-gives g c =

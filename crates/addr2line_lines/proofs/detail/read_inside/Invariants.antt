@@ -1,0 +1,16 @@
+use Rattle.std.proofs.Common.{◌≡◌, [], length}
+use Rattle.addr2line_lines.specs.FoundDetails.{inside_found, seen_around}
+use Rattle.addr2line_lines.specs.SeenScope.{seen_scope}
+use Rattle.addr2line_lines.proofs.detail.read_inside.Given as goal
+
+abbrev pub invariant-loop-is_inside : goal.invariant-loop-is_inside
+invariant-loop-is_inside g l =
+    let scope = seen_scope l.fn.scope in
+    let u = l.unit in
+    record {
+      gives : inside_found scope u l.entries.unit l.entries.cursor (seen_around g.R.Reader.section l.found l.nesting) ≡ inside_found scope u l.fn.entries.unit l.fn.entries.cursor (seen_around g.R.Reader.section l.fn.found []);
+      unit : l.entries.unit.encoding ≡ u.header.encoding;
+    }
+
+abbrev pub decreases-loop-is_inside : goal.decreases-loop-is_inside
+decreases-loop-is_inside g l = length l.entries.cursor.left.bytes

@@ -3,8 +3,8 @@ use Rattle.addr2line_lines.specs.FoundDetails.{inside_found, seen_around}
 use Rattle.addr2line_lines.specs.SeenScope.{seen_scope}
 use Rattle.addr2line_lines.proofs.detail.read_inside.Given as goal
 
-abbrev pub invariant-loop-is_inside : goal.invariant-loop-is_inside
-invariant-loop-is_inside g l =
+abbrev pub invariant-loop-scope : goal.invariant-loop-scope
+invariant-loop-scope g l =
     let scope = seen_scope l.fn.scope in
     let u = l.unit in
     record {
@@ -12,5 +12,5 @@ invariant-loop-is_inside g l =
       unit : l.entries.unit.encoding ≡ u.header.encoding;
     }
 
-abbrev pub decreases-loop-is_inside : goal.decreases-loop-is_inside
-decreases-loop-is_inside g l = length l.entries.cursor.left.bytes
+abbrev pub decreases-loop-scope : goal.decreases-loop-scope
+decreases-loop-scope g l = length l.entries.cursor.left.bytes

@@ -25,3 +25,4 @@ pub mod FunctionLemmas
 pub mod FunctionOrder
 pub mod DetailLemmas
 pub mod NestingLemmas
+pub mod DetailOrder

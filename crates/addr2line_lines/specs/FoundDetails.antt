@@ -1,16 +1,17 @@
 -- The details of functions as they are found, as the private functions see them.
-use Rattle.std.specs.Prelude.{◌≡◌, ◌≢◌, ℕ, ◌+◌, ◌==◌, ◌||◌, ◌&&◌, Bool, true, false, List, [], ◌∷◌, ◌++◌, count_by, filter, fold, map, length, Option, Some, None, option_map, Result, Ok, Err, pos, if◌then◌else◌}
+use Rattle.std.specs.Prelude.{◌≡◌, ◌≢◌, ℕ, ◌+◌, ◌<◌, ◌==◌, ◌||◌, ◌&&◌, Bool, true, false, List, [], ◌∷◌, ◌++◌, count_by, drop, fold, map, length, slice_index_or, Option, Some, None, option_map, Result, Ok, Err, pos, if◌then◌else◌}
 use Rattle.gimli_read.specs.declared.constants.DwAt.{DwAt}
 use Rattle.gimli_read.specs.declared.constants.TheConstants.DwAt.{DW_AT_call_column, DW_AT_call_file, DW_AT_call_line, DW_AT_high_pc, DW_AT_low_pc, DW_AT_name, DW_AT_ranges}
 use Rattle.gimli_read.specs.declared.error.Error.{Error}
-use Rattle.gimli_read.specs.declared.error.Error.TheVariants.{OutOfMemory, UnexpectedEof}
+use Rattle.gimli_read.specs.declared.error.Error.TheVariants.{NoEntryAtGivenOffset, OutOfMemory, UnexpectedEof}
 use Rattle.gimli_read.specs.declared.range.Range.{Range}
 use Rattle.gimli_read.specs.Abbreviations.{Abbrev}
 use Rattle.gimli_read.specs.Form.{NamedValue, rest_of}
 use Rattle.gimli_read.specs.Reading.{Reading, ◌>>=◌, ExactlyUnlessOomIf}
 use Rattle.gimli_read.specs.Section.{Section}
 use Rattle.gimli_read.specs.Run.{fold_of}
-use Rattle.gimli.specs.Entry.{EntryCursor, EntryUnit, attributes_at}
+use Rattle.gimli.specs.Entries.{entries_from}
+use Rattle.gimli.specs.Entry.{EntryCursor, EntryUnit, attributes_at, entry_abbreviation_at}
 use Rattle.gimli.specs.Items.{Entry, Item, items_from, items_inside, next_item_at}
 use Rattle.gimli.specs.Ranges.{ranges_at}
 use Rattle.gimli.specs.Sections.{Sections}
@@ -23,7 +24,7 @@ use Rattle.addr2line_lines.specs.declared.inlined.CallSite as declared_call
 use Rattle.addr2line_lines.specs.declared.inlined.InlinedAttributes as declared_attributes
 use Rattle.addr2line_lines.specs.declared.nesting.Kind.{Kind}
 use Rattle.addr2line_lines.specs.declared.nesting.Kind.TheVariants.{Subprogram, Inlined, Other}
-use Rattle.addr2line_lines.specs.Details.{CallSite, InlinedAttributes, InlinedEntry, inlined_attributes_of, inlined_entry, is_inlined, no_inlined_attributes, or_with_inlined_attribute, with_inlined_attribute}
+use Rattle.addr2line_lines.specs.Details.{CallSite, InlinedAttributes, InlinedEntry, InlinedRange, inlined_attributes_of, inlined_entry, is_inlined, no_call, no_inlined_attributes, or_with_inlined_attribute, with_inlined_attribute}
 use Rattle.addr2line_lines.specs.Functions.{is_subprogram}
 use Rattle.addr2line_lines.specs.Names.{is_linkage_name, is_origin, or_with_name, with_name}
 use Rattle.addr2line_lines.specs.RangeAttributes.{all_ranges, attribute_ranges}
@@ -229,3 +230,46 @@ inside_found scope u unit cursor state =
     let items = items_from unit cursor in
     let inside = items_inside (pos 0) cursor.depth items.items items.end in
     fold_of (with_item_found scope u) state inside >>= λ more. Ok more.0.found
+
+-- the abbreviation of a function's entry, which a closing entry hasn't
+abbrev pub abbreviation_of : ℕ → Option Abbrev → Result Abbrev Error
+abbreviation_of offset None = Err (NoEntryAtGivenOffset offset)
+abbreviation_of offset (Some a) = Ok a
+
+-- the name of a function whose attributes follow, and what was found after it
+abbrev pub function_found_at : Scope → UnitRecord → EntryUnit → EntryCursor → FoundInlined → Abbrev
+    → Result (Option Section × FoundInlined) Error
+function_found_at scope u unit cursor found a =
+    name_after scope u (Ok None) (attributes_at u.header.encoding a.attributes cursor.left)
+    >>= λ name. rest_of (attributes_at u.header.encoding a.attributes cursor.left) >>= λ rest.
+    inside_found scope u unit (record { left = rest; depth = cursor.depth })
+    (record { found = found; around = [] }) >>= λ more. Ok (name, more)
+
+-- the name of the function whose entry begins at an offset, and what was found after it
+unfoldable pub detail_found_at : Scope → UnitRecord → ℕ → FoundInlined
+    → Result (Option Section × FoundInlined) Error
+detail_found_at scope u offset found = do
+  left ← entries_from u (Some offset)
+  code ← entry_abbreviation_at left.unit.abbreviations left.cursor
+  a ← abbreviation_of offset code.0
+  function_found_at scope u left.unit code.1 found a
+
+-- no inlined entry
+abbrev pub no_inlined : InlinedEntry
+no_inlined = record { offset = 0; name = None; call = no_call }
+
+-- a range, by its inlined entry
+abbrev pub inlined_range_of : List InlinedEntry → InlinedFunctionAddress → InlinedRange
+inlined_range_of entries a = record {
+  depth = a.depth;
+  range = a.range;
+  entry = slice_index_or entries a.function no_inlined;
+}
+
+-- a place is that of an inlined entry
+abbrev pub IsPlaceAmong : List InlinedEntry → InlinedFunctionAddress → Type 0
+IsPlaceAmong entries a = a.function < length entries
+
+-- the ranges from a place on, by their inlined entries
+abbrev pub ranges_from : ℕ → FoundInlined → List InlinedRange
+ranges_from n found = map (inlined_range_of found.entries) (drop n found.ranges)

@@ -4,7 +4,7 @@ ghost use Rattle.std.specs.Prelude.{◌≡◌, ◌<◌, [], None, Ok, OnOk, int_
 ghost use Rattle.gimli_read.specs.Form.{rest_of};
 ghost use Rattle.gimli_read.specs.Reading.{ExactlyUnlessOom, ExactlyUnlessOomIf};
 ghost use Rattle.gimli.specs.Entry.{attributes_at};
-ghost use Rattle.addr2line_lines.specs.FoundDetails.{IsTakenIn, entry_found_at, inside_found, item_found_at, name_after, seen_around, seen_attributes, seen_lists, with_inlined_found, with_inlined_list, with_inlined_ranges, with_read_name};
+ghost use Rattle.addr2line_lines.specs.FoundDetails.{IsTakenIn, detail_found_at, entry_found_at, function_found_at, inside_found, item_found_at, name_after, seen_around, seen_attributes, seen_lists, with_inlined_found, with_inlined_list, with_inlined_ranges, with_read_name};
 ghost use Rattle.addr2line_lines.specs.References.{IsScope};
 ghost use Rattle.addr2line_lines.specs.SeenScope.{seen_scope};
 
@@ -240,4 +240,49 @@ fn read_inside<R: Reader>(
         read_item(scope, unit, entries, &mut nesting, found)?;
     }
     Ok(())
+}
+
+// Reads the name of the function whose attributes follow, and adds its inlined entries.
+fn read_function<R: Reader>(
+    alloc: Global,
+    scope: Scope<'_, R>,
+    unit: &Unit<R>,
+    entries: &mut EntriesRaw<'_, R>,
+    abbreviation: &Abbreviation,
+    found: &mut InlinedLists<R>,
+) -> Result<Option<R>, Error>
+    requires in_order { IsScope (seen_scope scope) }
+    requires encoding { entries.old.unit.encoding ≡ unit.now.header.encoding }
+    ensures gives { ExactlyUnlessOom
+        (λ name. (option_map R.section name, seen_lists R.section found.new)) result
+        (function_found_at (seen_scope scope.entry) unit.now entries.old.unit entries.old.cursor
+        (seen_lists R.section found.old) abbreviation.now) }
+{
+    let name = read_name(scope, unit, entries, abbreviation.attributes())?;
+    read_inside(alloc, scope, unit, entries, found)?;
+    Ok(name)
+}
+
+// Reads the name of the function whose entry begins at an offset, and adds its inlined entries.
+#[tactic(auto, unfolding(crate::specs::FoundDetails::detail_found_at))]
+fn read_detail<R: Reader>(
+    alloc: Global,
+    scope: Scope<'_, R>,
+    unit: &Unit<R>,
+    offset: UnitOffset,
+    found: &mut InlinedLists<R>,
+) -> Result<Option<R>, Error>
+    requires in_order { IsScope (seen_scope scope) }
+    ensures gives { ExactlyUnlessOom
+        (λ name. (option_map R.section name, seen_lists R.section found.new)) result
+        (detail_found_at (seen_scope scope.entry) unit.now offset.0
+        (seen_lists R.section found.old)) }
+{
+    let mut entries = UnitRef::new(scope.file.dwarf, unit).entries_raw(Some(offset))?;
+    match entries.read_abbreviation()? {
+        Some(abbreviation) => {
+            read_function(alloc, scope, unit, &mut entries, abbreviation, found)
+        }
+        None => Err(Error::NoEntryAtGivenOffset(offset.0)),
+    }
 }

@@ -7,18 +7,19 @@ use Rattle.std.proofs.lemmas.List.{reverse-append}
 use Rattle.gimli_read.specs.declared.error.Error.{Error}
 use Rattle.gimli_read.specs.declared.error.Error.TheVariants.{OutOfMemory, UnexpectedEof}
 use Rattle.gimli_read.specs.Abbreviations.{Abbrev, with_code}
-use Rattle.gimli_read.specs.Form.{NamedValue}
+use Rattle.gimli_read.specs.Form.{NamedValue, rest_of}
 use Rattle.gimli_read.specs.Reading.{Reading, ◌>>=◌, ExactlyUnlessOom}
 use Rattle.gimli_read.specs.Run.{Run, cons, fold_of, fold_run}
 use Rattle.gimli_read.specs.Section.{Section}
-use Rattle.gimli.specs.Entry.{EntryCursor, EntryUnit, attributes_at, depth_after_closing, entry_abbreviation_at, opening_entry}
+use Rattle.gimli.specs.Entries.{entries_from}
+use Rattle.gimli.specs.Entry.{EntriesLeft, EntryCursor, EntryUnit, attributes_at, depth_after_closing, entry_abbreviation_at, opening_entry}
 use Rattle.gimli.specs.Items.{Item, depth_after, item_at, item_from, items_from, items_inside, next_item_at, next_offset_of}
 use Rattle.gimli.specs.Unit.{UnitRecord}
 use Rattle.gimli.proofs.EntryLemmas.{abbreviation_takes}
 use Rattle.gimli.proofs.ItemLemmas.{next_is}
 use Rattle.gimli.proofs.ItemReads.{items_end, items_fault, items_more}
 use Rattle.addr2line_lines.specs.declared.nesting.Kind.{Kind}
-use Rattle.addr2line_lines.specs.FoundDetails.{FoundAround, FoundInlined, closed_once, entry_found_at, inside_found, item_found_at, kind_of, opened, with_entry_found, with_item_found}
+use Rattle.addr2line_lines.specs.FoundDetails.{FoundAround, FoundInlined, abbreviation_of, closed_once, detail_found_at, entry_found_at, function_found_at, inside_found, item_found_at, kind_of, name_after, opened, with_entry_found, with_item_found}
 use Rattle.addr2line_lines.specs.References.{Scope}
 use Rattle.addr2line_lines.proofs.DetailLemmas.{empty_code, entry-rest}
 use Rattle.addr2line_lines.proofs.FunctionLemmas.{closing_shorter, entry_shorter}
@@ -172,3 +173,34 @@ module _ (scope : Scope) (u : UnitRecord) (unit : EntryUnit) where
       by_cases (Err f) q k = let same : f ≡ e = cc in ap (inside_of state c.depth) (items_fault unit c f q) ∙ ap (folded state) (no_more c.depth (Err f) h) ∙ ap Err same
       by_cases (Ok (None, t)) q k = let same : UnexpectedEof ≡ e = cc in ap (inside_of state c.depth) (items_end unit c t q) ∙ ap (folded state) (no_more c.depth (Ok t) h) ∙ ap Err same
       by_cases (Ok (Some x, t)) q k = at_item c t state x h q ∙ ap (λ r. r >>= λ v. inside_found scope u unit t v) (none_found (with_item_found scope u state x) t e k)
+
+  -- a function whose attributes follow
+  pub function-fault : (c : EntryCursor) (found : FoundInlined) (a : Abbrev) (f : Error) → name_after scope u (Ok None) (attributes_at u.header.encoding a.attributes c.left) ≡ Err f → function_found_at scope u unit c found a ≡ Err f
+  function-fault c found a f h =
+      ap (λ r. r >>= λ name. rest_of (attributes_at u.header.encoding a.attributes c.left) >>= λ rest. inside_found scope u unit (record { left = rest; depth = c.depth }) (record { found = found; around = [] }) >>= λ more. (let made : Result (Option Section × FoundInlined) Error = Ok (name, more) in made)) h
+
+  abbrev pub named_found : Option Section → Result FoundInlined Error → Result (Option Section × FoundInlined) Error
+  named_found name r = r >>= λ more. Ok (name, more)
+
+  pub function-found : (c s : EntryCursor) (v : EntryUnit) (found : FoundInlined) (a : Abbrev) (name : Option Section) → name_after scope u (Ok None) (attributes_at u.header.encoding a.attributes c.left) ≡ Ok name
+      → rest_of (attributes_at u.header.encoding a.attributes c.left) ≡ Ok s.left → s.depth ≡ c.depth → v ≡ unit
+      → function_found_at scope u unit c found a ≡ named_found name (inside_found scope u v s (record { found = found; around = [] }))
+  function-found c s v found a name h k d e =
+      ap after_name h ∙ ap (after_rest name) k
+      ∙ ap (λ z. named_found name (inside_found scope u unit (record { left = s.left; depth = z }) start)) (sym d)
+      ∙ ap (λ w. named_found name (inside_found scope u w s start)) (sym e)
+    where
+      start : FoundAround
+      start = record { found = found; around = [] }
+
+      after_rest : Option Section → Result Section Error → Result (Option Section × FoundInlined) Error
+      after_rest n r = r >>= λ rest. named_found n (inside_found scope u unit (record { left = rest; depth = c.depth }) start)
+
+      after_name : Result (Option Section) Error → Result (Option Section × FoundInlined) Error
+      after_name r = r >>= λ n. after_rest n (rest_of (attributes_at u.header.encoding a.attributes c.left))
+
+-- a function whose entry's unit can't be read there
+pub detail-fault : (scope : Scope) (u : UnitRecord) (offset : ℕ) (found : FoundInlined) (f : Error) → entries_from u (Some offset) ≡ Err f → detail_found_at scope u offset found ≡ Err f
+unfolding detail_found_at
+detail-fault scope u offset found f h =
+    ap (λ (r : Result EntriesLeft Error). r >>= λ left. entry_abbreviation_at left.unit.abbreviations left.cursor >>= λ code. abbreviation_of offset code.0 >>= λ a. function_found_at scope u left.unit code.1 found a) h

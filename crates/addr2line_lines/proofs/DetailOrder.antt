@@ -1,7 +1,8 @@
 -- The details of a function are what is found of it (on specs/FoundDetails.antt).
-use Rattle.std.proofs.Common.{◌≡◌, ℕ, ◌+◌, ◌<◌, ◌≤◌, ◌==◌, ◌&&◌, Bool, true, false, cond, List, [], ◌∷◌, ◌++◌, count_by, drop, filter, map, length, slice_index_or, Option, Some, None, Result, Ok, Err, refl, ap, sym, subst, ◌∙◌, arith, length-append, append-nil, zero, suc, ℤ, pos}
+use Rattle.std.proofs.Common.{◌≡◌, ℕ, ◌+◌, ◌-◌, ◌<◌, nat_lt, ◌≤◌, ◌==◌, ◌&&◌, Bool, true, false, cond, List, [], ◌∷◌, ◌++◌, count_by, drop, filter, map, length, slice_index_or, Option, Some, None, Result, Ok, Err, refl, ap, sym, subst, ◌∙◌, arith, length-append, length-drop, append-nil, zero, suc, ℤ, pos}
 use Rattle.std.specs.List.{All}
-use Rattle.std.proofs.lemmas.Bool.{eqb-true}
+use Rattle.std.proofs.lemmas.Bool.{eqb-true, ne_eqb}
+use Rattle.std.proofs.lemmas.Bool.Decides.{nat_tests}
 use Rattle.std.proofs.lemmas.Grind.{common_steps}
 use Rattle.std.proofs.lemmas.List.{drop-append-le, map-append}
 use Rattle.std.proofs.lemmas.List.Elements.{All-append, All-head, All-map, All-tail, All-weaker}
@@ -9,22 +10,30 @@ use Rattle.std.proofs.lemmas.List.Sums.{length-filter}
 use Rattle.std.proofs.Math.Seq.{drop-append_seam}
 use Rattle.gimli_read.specs.declared.constants.TheConstants.DwTag.{DW_TAG_inlined_subroutine, DW_TAG_subprogram}
 use Rattle.gimli_read.specs.declared.error.Error.{Error}
+use Rattle.gimli_read.specs.declared.error.Error.TheVariants.{OffsetOutOfBounds}
 use Rattle.gimli_read.specs.declared.range.Range.{Range}
 use Rattle.gimli_read.specs.Abbreviations.{Abbrev}
-use Rattle.gimli_read.specs.Reading.{◌>>=◌}
+use Rattle.gimli_read.specs.Form.{NamedValue, rest_of}
+use Rattle.gimli_read.specs.Reading.{Reading, ◌>>=◌}
 use Rattle.gimli_read.specs.Run.{Run, fold_of, fold_run}
-use Rattle.gimli.specs.Entry.{EntryCursor, EntryUnit}
-use Rattle.gimli.specs.Items.{Entry, Item, items_from, items_inside}
+use Rattle.gimli_read.specs.Section.{Section, after}
+use Rattle.gimli.specs.Entries.{entries_at, entries_from, entry_bytes_from, unit_length}
+use Rattle.gimli.specs.Entry.{EntriesLeft, EntryCursor, EntryUnit, attributes_at, entry_abbreviation_at}
+use Rattle.gimli.specs.Header.{UnitHeaderFields}
+use Rattle.gimli.specs.Items.{Entry, Item, depth_after, item_at, item_from, items_from, items_inside, next_item_at}
 use Rattle.gimli.specs.Sections.{Sections}
 use Rattle.gimli.specs.Unit.{UnitRecord}
+use Rattle.gimli.proofs.ItemLemmas.{next_is}
 use Rattle.addr2line_lines.specs.declared.inlined.InlinedFunctionAddress.{InlinedFunctionAddress}
 use Rattle.addr2line_lines.specs.declared.nesting.Kind.{Kind}
 use Rattle.addr2line_lines.specs.declared.nesting.Kind.TheVariants.{Inlined, Other, Subprogram}
-use Rattle.addr2line_lines.specs.Details.{InlinedAttributes, InlinedEntry, InlinedRange, PlacedItem, inlined_attributes_of, inlined_entry, inlined_ranges, is_in_function, is_inlined, number_of, open_after, placed, with_inlined}
-use Rattle.addr2line_lines.specs.FoundDetails.{FoundAround, FoundInlined, IsPlaceAmong, closed_once, inlined_address, inlined_more, inlined_range_of, inside_found, is_inlined_kind, is_listed, is_subprogram_kind, kind_of, kinds_such, no_inlined, opened, ranges_from, with_entry_found, with_inlined_found, with_item_found}
+use Rattle.addr2line_lines.specs.Details.{Detail, InlinedAttributes, InlinedEntry, InlinedRange, PlacedItem, detail_at, entry_of, inlined_attributes_of, inlined_entry, inlined_in, inlined_ranges, is_in_function, is_inlined, number_of, open_after, placed, with_inlined}
+use Rattle.addr2line_lines.specs.FoundDetails.{FoundAround, FoundInlined, IsPlaceAmong, abbreviation_of, closed_once, detail_found_at, function_found_at, inlined_address, inlined_more, inlined_range_of, inside_found, is_inlined_kind, is_listed, is_subprogram_kind, kind_of, kinds_such, name_after, no_inlined, opened, ranges_from, with_entry_found, with_inlined_found, with_item_found}
 use Rattle.addr2line_lines.specs.Functions.{is_subprogram}
+use Rattle.addr2line_lines.specs.Names.{name_of}
 use Rattle.addr2line_lines.specs.RangeAttributes.{attribute_ranges}
 use Rattle.addr2line_lines.specs.References.{Scope}
+use Rattle.addr2line_lines.proofs.NestingLemmas.{coded}
 
 -- what the kinds of open entries tell
 abbrev kind_at : ℕ → Kind
@@ -172,3 +181,148 @@ module _ (scope : Scope) (u : UnitRecord) (n : ℕ) where
       by_test : (b : Bool) → Agrees n (wanted b (number_of is_inlined up)) (given b (number_of is_inlined up))
       by_test true = by_read read
       by_test false = (refl, all)
+
+  -- one more item
+  item_agrees : (up : List Abbrev) (offset : ℕ) (depth : ℤ) (o : Option Entry) (found : FoundInlined) → AreFrom n found
+      → AgreesAround n (open_after up (record { offset = offset; depth = depth; entry = o })) (with_inlined scope u (ranges_from n found) (record { item = record { offset = offset; depth = depth; entry = o }; around = up }))
+      (with_item_found scope u (record { found = found; around = map kind_of up }) (record { offset = offset; depth = depth; entry = o }))
+  item_agrees up offset depth None found all = (refl, all, closed_is up (record { offset = offset; depth = depth; entry = None }) refl)
+  item_agrees up offset depth (Some e) found all = by_entry _ _ (entry_agrees up (record { offset = offset; depth = depth; entry = Some e }) e found all)
+    where
+      by_entry : (w : Result (List InlinedRange) Error) (m : Result FoundInlined Error) → Agrees n w m
+          → AgreesAround n (cond e.abbreviation.has_children (e.abbreviation ∷ up) up) w (◌>>=◌ {B = FoundAround} m (λ more. Ok (record { found = more; around = opened (kind_of e.abbreviation) e.abbreviation.has_children (map kind_of up) })))
+      by_entry w (Ok more) h = (h.0, h.1, opened_is up e.abbreviation)
+      by_entry w (Err f) h = h
+
+  abbrev AgreesEnd : Result (List InlinedRange × Unit {0}) Error → Result (FoundAround × Unit {0}) Error → Type 0
+  AgreesEnd w (Ok m) = (w ≡ Ok (ranges_from n m.0.found, m.1)) × AreFrom n m.0.found
+  AgreesEnd w (Err e) = w ≡ Err e
+
+  fold_agrees : (items : List Item) (end : Result (Unit {0}) Error) (up : List Abbrev) (found : FoundInlined) → AreFrom n found
+      → AgreesEnd (fold_run (with_inlined scope u) (ranges_from n found) (placed up items) end) (fold_run (with_item_found scope u) (record { found = found; around = map kind_of up }) items end)
+  unfolding fold_run
+  fold_agrees [] (Ok z) up found all = (refl, all)
+  fold_agrees [] (Err e) up found all = refl
+  fold_agrees (x ∷ xs) end up found all = by_step _ _ (item_agrees up x.offset x.depth x.entry found all) (λ more. fold_agrees xs end (open_after up x) more)
+    where
+      by_step : (w : Result (List InlinedRange) Error) (m : Result FoundAround Error) → AgreesAround n (open_after up x) w m
+          → ((more : FoundInlined) → AreFrom n more → AgreesEnd (fold_run (with_inlined scope u) (ranges_from n more) (placed (open_after up x) xs) end) (fold_run (with_item_found scope u) (record { found = more; around = map kind_of (open_after up x) }) xs end))
+          → AgreesEnd (w >>= λ b. fold_run (with_inlined scope u) b (placed (open_after up x) xs) end) (m >>= λ b. fold_run (with_item_found scope u) b xs end)
+      by_step w (Ok more) h rest =
+          subst (λ v. AgreesEnd (v >>= λ b. fold_run (with_inlined scope u) b (placed (open_after up x) xs) end) (fold_run (with_item_found scope u) more xs end)) (sym h.0)
+          (subst (λ k. AgreesEnd (fold_run (with_inlined scope u) (ranges_from n more.found) (placed (open_after up x) xs) end) (fold_run (with_item_found scope u) (record { found = more.found; around = k }) xs end)) (sym h.2) (rest more.found h.1))
+      by_step w (Err e) h rest = ap (λ v. v >>= λ b. fold_run (with_inlined scope u) b (placed (open_after up x) xs) end) h
+
+  abbrev inlined_run : FoundInlined → Run Item (Unit {0}) → Result (List InlinedRange) Error
+  inlined_run found inside = fold_run (with_inlined scope u) (ranges_from n found) (placed [] inside.items) inside.end >>= λ f. Ok f.0
+
+  inside_agrees : (unit : EntryUnit) (c : EntryCursor) (found : FoundInlined) → AreFrom n found
+      → Agrees n (inlined_run found (items_inside (pos 0) c.depth (items_from unit c).items (items_from unit c).end)) (inside_found scope u unit c (record { found = found; around = [] }))
+  inside_agrees unit c found all =
+      let inside = items_inside (pos 0) c.depth (items_from unit c).items (items_from unit c).end in
+      last _ _ (fold_agrees inside.items inside.end [] found all)
+    where
+      last : (w : Result (List InlinedRange × Unit {0}) Error) (m : Result (FoundAround × Unit {0}) Error) → AgreesEnd w m → Agrees n (w >>= λ f. Ok f.0) (m >>= λ more. Ok more.0.found)
+      last w (Ok m) h = (ap (λ r. r >>= λ f. Ok f.0) h.0, h.1)
+      last w (Err e) h = ap (λ r. r >>= λ f. Ok f.0) h
+
+none_left : {X : Type 0} (xs : List X) → drop (length xs) xs ≡ []
+none_left [] = refl
+none_left (x ∷ xs) = none_left xs
+
+none_from : (found : FoundInlined) → AreFrom (length found.ranges) found
+none_from found = record {
+  within = omega arith;
+  places = subst (All (IsPlaceAmong found.entries)) (sym (none_left found.ranges)) (λ k d l. absurd (omega arith));
+}
+
+-- a unit's offset is below its end
+some_left : (header : UnitHeaderFields) (offset : ℕ) (s : Section) → entry_bytes_from header (Some offset) ≡ Ok s → (length s.bytes == 0) ≡ false
+some_left header offset s h = by_start (nat_lt offset header.header_length) refl (nat_lt offset (unit_length header)) refl h
+  where
+    by_start : (b : Bool) → nat_lt offset header.header_length ≡ b → (c : Bool) → nat_lt offset (unit_length header) ≡ c
+        → cond {A = Result Section Error} b (Err OffsetOutOfBounds) (cond c (Ok (after (offset - header.header_length) header.entries)) (Err OffsetOutOfBounds)) ≡ Ok s → (length s.bytes == 0) ≡ false
+    by_start true e c f h = absurd cc
+    by_start false e false f h = absurd cc
+    by_start false e true f h =
+        let same : after (offset - header.header_length) header.entries ≡ s = cc in
+        let long : length s.bytes ≡ length header.entries.bytes - (offset - header.header_length) = ap (λ (t : Section). length t.bytes) (sym same) ∙ length-drop (offset - header.header_length) header.entries.bytes in
+        let low : offset < unit_length header = grind (arith, nat_tests) in
+        let high : header.header_length ≤ offset = grind (arith, nat_tests) in
+        ne_eqb (length s.bytes) 0 (λ z. absurd (omega arith))
+
+module _ (scope : Scope) (u : UnitRecord) (offset : ℕ) (found : FoundInlined) where
+  -- the details are those of what was found; or both are faulty
+  abbrev pub AgreesDetail : Result Detail Error → Result (Option Section × FoundInlined) Error → Type 0
+  AgreesDetail w (Ok m) = (w ≡ Ok (record { name = m.0; inlined = ranges_from (length found.ranges) m.1 })) × AreFrom (length found.ranges) m.1
+  AgreesDetail w (Err e) = w ≡ Err e
+
+  abbrev n : ℕ
+  n = length found.ranges
+
+  abbrev detailed : Option Section → Result (List InlinedRange) Error → Result Detail Error
+  detailed name r = r >>= λ inlined. Ok (record { name = name; inlined = inlined })
+
+  by_inside : (name : Option Section) (w : Result (List InlinedRange) Error) (m : Result FoundInlined Error) → Agrees n w m → AgreesDetail (detailed name w) (◌>>=◌ {B = Option Section × FoundInlined} m (λ more. Ok (name, more)))
+  by_inside name w (Ok more) h = (ap (detailed name) h.0, h.1)
+  by_inside name w (Err f) h = ap (detailed name) h
+
+  -- what stands inside a function whose entry was read
+  inlined_agrees : (unit : EntryUnit) (x : Item) (c : EntryCursor) → x.depth ≡ pos 0 → c.depth ≡ depth_after x → Agrees n (inlined_in scope u (record { unit = unit; cursor = c }) x) (inside_found scope u unit c (record { found = found; around = [] }))
+  inlined_agrees unit x c d e =
+      let items = items_from unit c in
+      subst (λ z. Agrees n (inlined_of [] z (depth_after x)) (inside_found scope u unit c (record { found = found; around = [] }))) (sym d)
+      (subst (λ z. Agrees n (inlined_of [] (pos 0) z) (inside_found scope u unit c (record { found = found; around = [] }))) e
+      (subst (λ xs. Agrees n (inlined_of xs (pos 0) c.depth) (inside_found scope u unit c (record { found = found; around = [] }))) (ap (λ xs. map (inlined_range_of found.entries) xs) (none_left found.ranges))
+      (inside_agrees scope u n unit c found (none_from found))))
+    where
+      inlined_of : List InlinedRange → ℤ → ℤ → Result (List InlinedRange) Error
+      inlined_of xs d now =
+          let inside = items_inside d now (items_from unit c).items (items_from unit c).end in
+          fold_run (with_inlined scope u) xs (placed [] inside.items) inside.end >>= λ f. Ok f.0
+
+  abbrev detail_of : EntriesLeft → Result (Option Item × EntryCursor) Error → Result Detail Error
+  detail_of left r = r >>= λ next. entry_of offset next.0 >>= λ function. name_of scope u function.1.attributes >>= λ name. detailed name (inlined_in scope u (record { unit = left.unit; cursor = next.1 }) function.0)
+
+  abbrev found_of : EntriesLeft → Result (Option Abbrev × EntryCursor) Error → Result (Option Section × FoundInlined) Error
+  found_of left r = r >>= λ code. abbreviation_of offset code.0 >>= λ a. function_found_at scope u left.unit code.1 found a
+
+  left_agrees : (s : Section) → (length s.bytes == 0) ≡ false → let left = entries_at u.header u.abbreviations s in AgreesDetail (detail_of left (next_item_at left.unit left.cursor)) (found_of left (entry_abbreviation_at left.unit.abbreviations left.cursor))
+  left_agrees s some =
+      subst (λ r. AgreesDetail (detail_of left r) (found_of left (entry_abbreviation_at left.unit.abbreviations left.cursor))) (sym (coded scope u left.unit left.cursor some))
+      (by_code (entry_abbreviation_at left.unit.abbreviations left.cursor) refl)
+    where
+      left : EntriesLeft
+      left = entries_at u.header u.abbreviations s
+
+      named_item : (x : Item) (c : EntryCursor) → x.depth ≡ pos 0 → c.depth ≡ depth_after x → (r : Result (Option Section) Error)
+          → AgreesDetail (r >>= λ name. detailed name (inlined_in scope u (record { unit = left.unit; cursor = c }) x)) (◌>>=◌ {B = Option Section × FoundInlined} r (λ name. inside_found scope u left.unit c (record { found = found; around = [] }) >>= λ more. Ok (name, more)))
+      named_item x c d e (Err f) = refl
+      named_item x c d e (Ok name) = by_inside name _ _ (inlined_agrees left.unit x c d e)
+
+      by_read : (a : Abbrev) (t : EntryCursor) → entry_abbreviation_at left.unit.abbreviations left.cursor ≡ Ok (Some a, t) → (r : Reading (List NamedValue)) → attributes_at u.header.encoding a.attributes t.left ≡ r
+          → AgreesDetail (detail_of left (◌>>=◌ {B = Option Item × EntryCursor} r (λ x. Ok (Some (item_at left.unit left.cursor (Some (record { abbreviation = a; attributes = x.0 }))), record { left = x.1; depth = t.depth }))))
+          (name_after scope u (Ok None) r >>= λ name. rest_of r >>= λ rest. ◌>>=◌ {B = Option Section × FoundInlined} (inside_found scope u left.unit (record { left = rest; depth = t.depth }) (record { found = found; around = [] })) (λ more. Ok (name, more)))
+      by_read a t q (Err f) k = refl
+      by_read a t q (Ok x) k =
+          let item = item_at left.unit left.cursor (Some (record { abbreviation = a; attributes = x.0 })) in
+          let end : EntryCursor = record { left = x.1; depth = t.depth } in
+          let is : next_item_at left.unit left.cursor ≡ Ok (Some item, end) = coded scope u left.unit left.cursor some ∙ ap (λ r. r >>= λ y. item_from left.unit left.cursor y) q
+              ∙ ap (λ (r : Reading (List NamedValue)). ◌>>=◌ {B = Option Item × EntryCursor} r (λ y. Ok (Some (item_at left.unit left.cursor (Some (record { abbreviation = a; attributes = y.0 }))), record { left = y.1; depth = t.depth }))) k in
+          let next = next_is left.unit left.cursor end item is in
+          named_item item end refl next.after (name_of scope u x.0)
+
+      by_code : (r : Result (Option Abbrev × EntryCursor) Error) → entry_abbreviation_at left.unit.abbreviations left.cursor ≡ r → AgreesDetail (detail_of left (r >>= λ y. item_from left.unit left.cursor y)) (found_of left r)
+      by_code (Err f) q = refl
+      by_code (Ok (None, t)) q = refl
+      by_code (Ok (Some a, t)) q = by_read a t q (attributes_at u.header.encoding a.attributes t.left) refl
+
+  -- the details of a function are what is found of it
+  pub detail_agrees : AgreesDetail (detail_at scope u offset) (detail_found_at scope u offset found)
+  unfolding detail_at detail_found_at
+  detail_agrees = by_bytes (entry_bytes_from u.header (Some offset)) refl
+    where
+      by_bytes : (r : Result Section Error) → entry_bytes_from u.header (Some offset) ≡ r
+          → AgreesDetail ((r >>= λ s. Ok (entries_at u.header u.abbreviations s)) >>= λ left. detail_of left (next_item_at left.unit left.cursor)) ((r >>= λ s. Ok (entries_at u.header u.abbreviations s)) >>= λ left. found_of left (entry_abbreviation_at left.unit.abbreviations left.cursor))
+      by_bytes (Err f) q = refl
+      by_bytes (Ok s) q = left_agrees s (some_left u.header offset s q)

@@ -54,7 +54,7 @@ module _ (scope : Scope) (u : UnitRecord) (unit : EntryUnit) where
   abbrev item_read : FoundAround → Result (Option Item × EntryCursor) Error → Result (FoundAround × EntryCursor) Error
   item_read state r = r >>= λ x. elim x.0 [ None ↦ Err UnexpectedEof | Some item ↦ with_item_found scope u state item >>= λ more. Ok (more, x.1) ]
 
-  coded : (c : EntryCursor) → (length c.left.bytes == 0) ≡ false → next_item_at unit c ≡ (entry_abbreviation_at unit.abbreviations c >>= λ x. item_from unit c x)
+  pub coded : (c : EntryCursor) → (length c.left.bytes == 0) ≡ false → next_item_at unit c ≡ (entry_abbreviation_at unit.abbreviations c >>= λ x. item_from unit c x)
   unfolding next_item_at
   coded c h = ap (λ b. cond b (Ok (None, c)) (entry_abbreviation_at unit.abbreviations c >>= λ x. item_from unit c x)) h
 

@@ -1,5 +1,5 @@
 -- The entries that are open, one at a time (on specs/FoundDetails.antt).
-use Rattle.std.proofs.Common.{◌≡◌, ℕ, ◌+◌, ◌<◌, ◌≤◌, ◌==◌, Bool, true, false, cond, List, [], ◌∷◌, ◌++◌, count_by, length, reverse, Option, Some, None, Result, Ok, Err, OnErr, OnOk, refl, ap, sym, subst, arith, ◌∙◌, ℤ, pos}
+use Rattle.std.proofs.Common.{◌≡◌, ℕ, ◌+◌, ◌<◌, ◌≤◌, ◌==◌, Bool, true, false, cond, List, [], ◌∷◌, ◌++◌, count_by, length, reverse, Option, Some, None, Result, Ok, Err, OnErr, OnOk, refl, ap, sym, subst, arith, ◌∙◌, append-nil, append_assoc, ℤ, pos}
 use Rattle.std.specs.Prelude.{int_lt}
 use Rattle.std.proofs.lemmas.Bool.{eqb-true, ne_eqb}
 use Rattle.std.proofs.lemmas.Grind.{common_steps}
@@ -19,7 +19,7 @@ use Rattle.gimli.proofs.EntryLemmas.{abbreviation_takes}
 use Rattle.gimli.proofs.ItemLemmas.{next_is}
 use Rattle.gimli.proofs.ItemReads.{items_end, items_fault, items_more}
 use Rattle.addr2line_lines.specs.declared.nesting.Kind.{Kind}
-use Rattle.addr2line_lines.specs.FoundDetails.{FoundAround, FoundInlined, abbreviation_of, closed_once, detail_found_at, entry_found_at, function_found_at, inside_found, item_found_at, kind_of, name_after, opened, with_entry_found, with_item_found}
+use Rattle.addr2line_lines.specs.FoundDetails.{FoundAround, FoundInlined, IsFoundMore, IsGrown, abbreviation_of, closed_once, detail_found_at, entry_found_at, function_found_at, inside_found, item_found_at, kind_of, name_after, opened, with_entry_found, with_item_found}
 use Rattle.addr2line_lines.specs.References.{Scope}
 use Rattle.addr2line_lines.proofs.DetailLemmas.{empty_code, entry-rest}
 use Rattle.addr2line_lines.proofs.FunctionLemmas.{closing_shorter, entry_shorter}
@@ -204,3 +204,19 @@ pub detail-fault : (scope : Scope) (u : UnitRecord) (offset : ℕ) (found : Foun
 unfolding detail_found_at
 detail-fault scope u offset found f h =
     ap (λ (r : Result EntriesLeft Error). r >>= λ left. entry_abbreviation_at left.unit.abbreviations left.cursor >>= λ code. abbreviation_of offset code.0 >>= λ a. function_found_at scope u left.unit code.1 found a) h
+
+-- lists that grow at their end
+pub grown_not : {X : Type 0} (xs : List X) → IsGrown xs xs
+grown_not xs = record { more = []; is = sym (append-nil xs) }
+
+pub grown_by : {X : Type 0} (xs ys more : List X) → ys ≡ xs ++ more → IsGrown xs ys
+grown_by xs ys more h = record { more = more; is = h }
+
+pub grown_on : {X : Type 0} (xs ys zs : List X) → IsGrown xs ys → IsGrown ys zs → IsGrown xs zs
+grown_on xs ys zs a b = record { more = a.more ++ b.more; is = b.is ∙ ap (λ v. v ++ b.more) a.is ∙ append_assoc xs a.more b.more }
+
+pub found_same : (found : FoundInlined) → IsFoundMore found found
+found_same found = record { entries = grown_not found.entries; ranges = grown_not found.ranges }
+
+pub found_on : (a b c : FoundInlined) → IsFoundMore a b → IsFoundMore b c → IsFoundMore a c
+found_on a b c h k = record { entries = grown_on _ _ _ h.entries k.entries; ranges = grown_on _ _ _ h.ranges k.ranges }

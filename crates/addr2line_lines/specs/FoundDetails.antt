@@ -273,3 +273,13 @@ IsPlaceAmong entries a = a.function < length entries
 -- the ranges from a place on, by their inlined entries
 abbrev pub ranges_from : ℕ → FoundInlined → List InlinedRange
 ranges_from n found = map (inlined_range_of found.entries) (drop n found.ranges)
+
+-- a list, and the same with more at its end
+pub record IsGrown {X : Type 0} (xs ys : List X) : Type 0 where
+  pub more : List X
+  pub is : ys ≡ xs ++ more
+
+-- what was found before stays, with more at its end
+pub record IsFoundMore (found more : FoundInlined) : Type 0 where
+  pub entries : IsGrown found.entries more.entries
+  pub ranges : IsGrown found.ranges more.ranges

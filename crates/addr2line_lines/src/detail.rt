@@ -4,7 +4,7 @@ ghost use Rattle.std.specs.Prelude.{◌≡◌, ◌<◌, [], None, Ok, OnOk, int_
 ghost use Rattle.gimli_read.specs.Form.{rest_of};
 ghost use Rattle.gimli_read.specs.Reading.{ExactlyUnlessOom, ExactlyUnlessOomIf};
 ghost use Rattle.gimli.specs.Entry.{attributes_at};
-ghost use Rattle.addr2line_lines.specs.FoundDetails.{IsTakenIn, detail_found_at, entry_found_at, function_found_at, inside_found, item_found_at, name_after, seen_around, seen_attributes, seen_lists, with_inlined_found, with_inlined_list, with_inlined_ranges, with_read_name};
+ghost use Rattle.addr2line_lines.specs.FoundDetails.{IsFoundMore, IsGrown, IsTakenIn, detail_found_at, entry_found_at, function_found_at, inside_found, item_found_at, name_after, seen_around, seen_attributes, seen_lists, with_inlined_found, with_inlined_list, with_inlined_ranges, with_read_name};
 ghost use Rattle.addr2line_lines.specs.References.{IsScope};
 ghost use Rattle.addr2line_lines.specs.SeenScope.{seen_scope};
 
@@ -85,6 +85,7 @@ fn push_range_list<R: Reader>(
     ensures gives { ExactlyUnlessOom (λ _. ranges.new.items) result
         (with_inlined_list unit.entry.dwarf.now unit.entry.unit.now offset depth function
         ranges.old.items) }
+    ensures kept { IsGrown ranges.old.items ranges.new.items }
 {
     let mut list = unit.ranges(offset)?;
     while let Some(range) = list.next()? {
@@ -98,6 +99,7 @@ fn push_range_list<R: Reader>(
 }
 
 // Adds the ranges of the range attributes of an inlined entry.
+#[tactic(auto, using(crate::proofs::NestingLemmas::grown_not, crate::proofs::NestingLemmas::grown_by, crate::proofs::NestingLemmas::grown_on))]
 fn push_ranges<R: Reader>(
     unit: UnitRef<'_, R>,
     attributes: &RangeAttributes,
@@ -108,6 +110,7 @@ fn push_ranges<R: Reader>(
     ensures gives { ExactlyUnlessOom (λ _. ranges.new.items) result
         (with_inlined_ranges unit.entry.dwarf.now unit.entry.unit.now attributes.now depth function
         ranges.old.items) }
+    ensures kept { IsGrown ranges.old.items ranges.new.items }
 {
     match attributes.ranges_offset {
         Some(offset) => push_range_list(unit, offset, depth, function, ranges),
@@ -136,6 +139,8 @@ impl<R: Reader> InlinedLists<R> {
         ensures gives { ExactlyUnlessOom (λ _. seen_lists R.section self.new) result
             (with_inlined_found unit.entry.dwarf.now unit.entry.unit.now offset.0 depth
             (seen_lists R.section self.old) (seen_attributes R.section attributes)) }
+        ensures kept { IsFoundMore (seen_lists R.section self.old)
+            (seen_lists R.section self.new) }
     {
         let InlinedAttributes { ranges, name, call } = attributes;
         let before = self.ranges.len();
@@ -156,6 +161,7 @@ impl<R: Reader> InlinedLists<R> {
 
 // Adds the inlined entry whose attributes follow, if it is in no nested subprogram; passes over
 // the attributes of any other entry.
+#[tactic(auto, using(crate::proofs::NestingLemmas::found_same, crate::proofs::NestingLemmas::found_on))]
 fn read_entry<R: Reader>(
     scope: Scope<'_, R>,
     unit: &Unit<R>,
@@ -171,6 +177,7 @@ fn read_entry<R: Reader>(
         (λ _. (seen_lists R.section found.new, entries.new.cursor.left)) result
         (entry_found_at (seen_scope scope.entry) unit.now nesting.now offset.0 abbreviation.now
         entries.old.cursor.left (seen_lists R.section found.old)) }
+    ensures kept { IsFoundMore (seen_lists R.section found.old) (seen_lists R.section found.new) }
     ensures unit { entries.new.unit ≡ entries.old.unit }
     ensures depth { entries.new.cursor.depth ≡ entries.old.cursor.depth }
 {
@@ -184,6 +191,7 @@ fn read_entry<R: Reader>(
 }
 
 // Reads the next item inside a function, and adds its inlined entry, if it is one.
+#[tactic(auto, using(crate::proofs::NestingLemmas::found_same, crate::proofs::NestingLemmas::found_on))]
 fn read_item<R: Reader>(
     scope: Scope<'_, R>,
     unit: &Unit<R>,
@@ -197,6 +205,7 @@ fn read_item<R: Reader>(
         (λ _. (seen_around R.section found.new nesting.new, entries.new.cursor)) result
         (item_found_at (seen_scope scope.entry) unit.now entries.old.unit entries.old.cursor
         (seen_around R.section found.old nesting.old)) }
+    ensures kept { IsFoundMore (seen_lists R.section found.old) (seen_lists R.section found.new) }
     ensures unit { entries.new.unit ≡ entries.old.unit }
     ensures shorter { OnOk result
         (length entries.new.cursor.left.bytes < length entries.old.cursor.left.bytes) }
@@ -234,6 +243,7 @@ fn read_inside<R: Reader>(
     ensures gives { ExactlyUnlessOom (λ _. seen_lists R.section found.new) result
         (inside_found (seen_scope scope.entry) unit.now entries.old.unit entries.old.cursor
         (seen_around R.section found.old [])) }
+    ensures kept { IsFoundMore (seen_lists R.section found.old) (seen_lists R.section found.new) }
 {
     let mut nesting = Nesting::new(alloc);
     while is_inside(entries) {
@@ -243,6 +253,7 @@ fn read_inside<R: Reader>(
 }
 
 // Reads the name of the function whose attributes follow, and adds its inlined entries.
+#[tactic(auto, using(crate::proofs::NestingLemmas::found_same, crate::proofs::NestingLemmas::found_on))]
 fn read_function<R: Reader>(
     alloc: Global,
     scope: Scope<'_, R>,
@@ -257,6 +268,7 @@ fn read_function<R: Reader>(
         (λ name. (option_map R.section name, seen_lists R.section found.new)) result
         (function_found_at (seen_scope scope.entry) unit.now entries.old.unit entries.old.cursor
         (seen_lists R.section found.old) abbreviation.now) }
+    ensures kept { IsFoundMore (seen_lists R.section found.old) (seen_lists R.section found.new) }
 {
     let name = read_name(scope, unit, entries, abbreviation.attributes())?;
     read_inside(alloc, scope, unit, entries, found)?;
@@ -264,7 +276,7 @@ fn read_function<R: Reader>(
 }
 
 // Reads the name of the function whose entry begins at an offset, and adds its inlined entries.
-#[tactic(auto, unfolding(crate::specs::FoundDetails::detail_found_at))]
+#[tactic(auto, unfolding(crate::specs::FoundDetails::detail_found_at), using(crate::proofs::NestingLemmas::found_same, crate::proofs::NestingLemmas::found_on))]
 fn read_detail<R: Reader>(
     alloc: Global,
     scope: Scope<'_, R>,
@@ -277,6 +289,7 @@ fn read_detail<R: Reader>(
         (λ name. (option_map R.section name, seen_lists R.section found.new)) result
         (detail_found_at (seen_scope scope.entry) unit.now offset.0
         (seen_lists R.section found.old)) }
+    ensures kept { IsFoundMore (seen_lists R.section found.old) (seen_lists R.section found.new) }
 {
     let mut entries = UnitRef::new(scope.file.dwarf, unit).entries_raw(Some(offset))?;
     match entries.read_abbreviation()? {

@@ -8,6 +8,7 @@ use Rattle.addr2line_lines.specs.FoundDetails.{inlined_address}
 use Rattle.addr2line_lines.specs.Rows.{result_map, read_all}
 use Rattle.addr2line_lines.specs.RangeAttributes.{all_ranges}
 use Rattle.addr2line_lines.proofs.FunctionLemmas.{one_added, one_read}
+use Rattle.addr2line_lines.proofs.NestingLemmas.{grown_by}
 use Rattle.addr2line_lines.proofs.RangeLemmas.{fault_left, none_left, one_left, read_after}
 use Rattle.addr2line_lines.proofs.detail.push_range_list.Goals as goal
 
@@ -25,7 +26,7 @@ returns-in_err-range g c =
     let p = err_from_is_err_and c.from_residual-in_err-range.result c.from_residual-in_err-range.ensures.1 in
     let i = c.loop-range.invariant in
     let read = ap all_ranges i.list ∙ read_after i.read c.loop-range.list in
-    record { gives = rw (p.1, p.2) (λ _. ap (added c.args.ranges.now.items c.args.depth c.args.function) (read ∙ ap (with_front i.read) (fault_left _ _ _ c.in_err-range.ensures.gives))) }
+    record { gives = rw (p.1, p.2) (λ _. ap (added c.args.ranges.now.items c.args.depth c.args.function) (read ∙ ap (with_front i.read) (fault_left _ _ _ c.in_err-range.ensures.gives))); kept = grown_by _ _ _ i.added }
 
 pub loop-range-preserved : goal.loop-range-preserved
 loop-range-preserved g c =
@@ -44,4 +45,4 @@ returns g c =
     let none = rw c.in_default.is at c.in_ok-range.ensures.gives in
     let read = ap all_ranges i.list ∙ read_after i.read c.loop-range.list in
     let end = ap (λ rest. with_front i.read (read_all rest)) (none_left _ _ none) in
-    record { gives = ap (added c.args.ranges.now.items c.args.depth c.args.function) (read ∙ end ∙ ap Ok (append-nil i.read)) ∙ ap Ok (sym i.added) }
+    record { gives = ap (added c.args.ranges.now.items c.args.depth c.args.function) (read ∙ end ∙ ap Ok (append-nil i.read)) ∙ ap Ok (sym i.added); kept = grown_by _ _ _ i.added }

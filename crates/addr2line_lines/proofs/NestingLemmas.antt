@@ -1,5 +1,5 @@
 -- The entries that are open, one at a time (on specs/FoundDetails.antt).
-use Rattle.std.proofs.Common.{◌≡◌, ℕ, ◌+◌, ◌<◌, ◌≤◌, ◌==◌, Bool, true, false, cond, List, [], ◌∷◌, ◌++◌, count_by, length, reverse, Option, Some, None, Result, Ok, Err, OnErr, OnOk, refl, ap, sym, subst, arith, ◌∙◌, append-nil, append_assoc, ℤ, pos}
+use Rattle.std.proofs.Common.{◌≡◌, ℕ, ◌+◌, ◌<◌, ◌≤◌, ◌==◌, Bool, true, false, cond, List, [], ◌∷◌, ◌++◌, count_by, length, length-append, map, reverse, Option, Some, None, Result, Ok, Err, OnErr, OnOk, refl, ap, sym, subst, arith, ◌∙◌, append-nil, append_assoc, ℤ, pos}
 use Rattle.std.specs.Prelude.{int_lt}
 use Rattle.std.proofs.lemmas.Bool.{eqb-true, ne_eqb}
 use Rattle.std.proofs.lemmas.Grind.{common_steps}
@@ -19,7 +19,12 @@ use Rattle.gimli.proofs.EntryLemmas.{abbreviation_takes}
 use Rattle.gimli.proofs.ItemLemmas.{next_is}
 use Rattle.gimli.proofs.ItemReads.{items_end, items_fault, items_more}
 use Rattle.addr2line_lines.specs.declared.nesting.Kind.{Kind}
-use Rattle.addr2line_lines.specs.FoundDetails.{FoundAround, FoundInlined, IsFoundMore, IsGrown, abbreviation_of, closed_once, detail_found_at, entry_found_at, function_found_at, inside_found, item_found_at, kind_of, name_after, opened, with_entry_found, with_item_found}
+use Rattle.addr2line_lines.specs.FoundDetails.{FoundAround, FoundInlined, IsFoundMore, IsGrown, abbreviation_of, closed_once, detail_found_at, entry_found_at, function_found_at, inlined_address, inlined_more, inside_found, item_found_at, kind_of, name_after, opened, with_entry_found, with_inlined_found, with_inlined_ranges, with_item_found}
+use Rattle.addr2line_lines.specs.Details.{InlinedAttributes, inlined_entry}
+use Rattle.addr2line_lines.specs.RangeAttributes.{attribute_ranges}
+use Rattle.gimli_read.specs.declared.range.Range.{Range}
+use Rattle.gimli.specs.Sections.{Sections}
+use Rattle.addr2line_lines.specs.declared.inlined.InlinedFunctionAddress.{InlinedFunctionAddress}
 use Rattle.addr2line_lines.specs.References.{Scope}
 use Rattle.addr2line_lines.proofs.DetailLemmas.{empty_code, entry-rest}
 use Rattle.addr2line_lines.proofs.FunctionLemmas.{closing_shorter, entry_shorter}
@@ -220,3 +225,20 @@ found_same found = record { entries = grown_not found.entries; ranges = grown_no
 
 pub found_on : (a b c : FoundInlined) → IsFoundMore a b → IsFoundMore b c → IsFoundMore a c
 found_on a b c h k = record { entries = grown_on _ _ _ h.entries k.entries; ranges = grown_on _ _ _ h.ranges k.ranges }
+
+-- no range was added
+pub none_added : (d : Sections) (u : UnitRecord) (offset depth function : ℕ) (found : FoundInlined) (x : InlinedAttributes) (ranges : List InlinedFunctionAddress) → with_inlined_ranges d u x.ranges depth function found.ranges ≡ Ok ranges → length ranges ≤ length found.ranges
+    → with_inlined_found d u offset depth found x ≡ Ok (record { entries = found.entries; ranges = ranges })
+none_added d u offset depth function found x ranges h l = by_ranges (attribute_ranges d u x.ranges) h
+  where
+    by_ranges : (r : Result (List Range) Error) → ◌>>=◌ {B = List InlinedFunctionAddress} r (λ rs. Ok (found.ranges ++ map (inlined_address depth function) rs)) ≡ Ok ranges
+        → ◌>>=◌ {B = FoundInlined} r (λ rs. Ok (inlined_more found (inlined_entry offset x) depth rs)) ≡ Ok (record { entries = found.entries; ranges = ranges })
+    by_ranges (Err e) h = absurd cc
+    by_ranges (Ok []) h =
+        let same : found.ranges ++ [] ≡ ranges = cc in
+        ap (λ (v : List InlinedFunctionAddress). Ok (record { entries = found.entries; ranges = v })) (sym (append-nil found.ranges) ∙ same)
+    by_ranges (Ok (r ∷ rs)) h =
+        let same : found.ranges ++ map (inlined_address depth function) (r ∷ rs) ≡ ranges = cc in
+        let long : length ranges ≡ length (found.ranges ++ map (inlined_address depth function) (r ∷ rs)) = ap (λ (v : List InlinedFunctionAddress). length v) (sym same) in
+        let sum = length-append found.ranges (map (inlined_address depth function) (r ∷ rs)) in
+        absurd (omega arith)

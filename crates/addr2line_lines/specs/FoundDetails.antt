@@ -1,5 +1,5 @@
 -- The details of functions as they are found, as the private functions see them.
-use Rattle.std.specs.Prelude.{◌≡◌, ◌≢◌, ℕ, ◌+◌, ◌<◌, ◌==◌, ◌||◌, ◌&&◌, Bool, true, false, List, [], ◌∷◌, ◌++◌, count_by, drop, fold, map, length, slice_index_or, Option, Some, None, option_map, Result, Ok, Err, pos, if◌then◌else◌}
+use Rattle.std.specs.Prelude.{◌≡◌, ◌≢◌, ℕ, ◌+◌, ◌-◌, ◌<◌, ◌==◌, ◌||◌, ◌&&◌, Bool, true, false, List, [], ◌∷◌, ◌++◌, count_by, drop, fold, map, length, slice_index_or, take, Option, Some, None, option_map, Result, Ok, Err, pos, if◌then◌else◌}
 use Rattle.gimli_read.specs.declared.constants.DwAt.{DwAt}
 use Rattle.gimli_read.specs.declared.constants.TheConstants.DwAt.{DW_AT_call_column, DW_AT_call_file, DW_AT_call_line, DW_AT_high_pc, DW_AT_low_pc, DW_AT_name, DW_AT_ranges}
 use Rattle.gimli_read.specs.declared.error.Error.{Error}
@@ -17,6 +17,8 @@ use Rattle.gimli.specs.Ranges.{ranges_at}
 use Rattle.gimli.specs.Sections.{Sections}
 use Rattle.gimli.specs.Unit.{UnitRecord}
 use Rattle.addr2line_lines.specs.declared.detail.InlinedLists.{InlinedLists}
+use Rattle.addr2line_lines.specs.declared.details.Details.{Details}
+use Rattle.addr2line_lines.specs.declared.details.FunctionDetail.{FunctionDetail}
 use Rattle.addr2line_lines.specs.declared.function.RangeAttributes.{RangeAttributes}
 use Rattle.addr2line_lines.specs.declared.inlined.InlinedFunction.{InlinedFunction}
 use Rattle.addr2line_lines.specs.declared.inlined.InlinedFunctionAddress.{InlinedFunctionAddress}
@@ -24,7 +26,7 @@ use Rattle.addr2line_lines.specs.declared.inlined.CallSite as declared_call
 use Rattle.addr2line_lines.specs.declared.inlined.InlinedAttributes as declared_attributes
 use Rattle.addr2line_lines.specs.declared.nesting.Kind.{Kind}
 use Rattle.addr2line_lines.specs.declared.nesting.Kind.TheVariants.{Subprogram, Inlined, Other}
-use Rattle.addr2line_lines.specs.Details.{CallSite, InlinedAttributes, InlinedEntry, InlinedRange, inlined_attributes_of, inlined_entry, is_inlined, no_call, no_inlined_attributes, or_with_inlined_attribute, with_inlined_attribute}
+use Rattle.addr2line_lines.specs.Details.{CallSite, Detail, InlinedAttributes, InlinedEntry, InlinedRange, inlined_attributes_of, inlined_entry, is_inlined, no_call, no_inlined_attributes, or_with_inlined_attribute, with_inlined_attribute}
 use Rattle.addr2line_lines.specs.Functions.{is_subprogram}
 use Rattle.addr2line_lines.specs.Names.{is_linkage_name, is_origin, or_with_name, with_name}
 use Rattle.addr2line_lines.specs.RangeAttributes.{all_ranges, attribute_ranges}
@@ -283,3 +285,35 @@ pub record IsGrown {X : Type 0} (xs ys : List X) : Type 0 where
 pub record IsFoundMore (found more : FoundInlined) : Type 0 where
   pub entries : IsGrown found.entries more.entries
   pub ranges : IsGrown found.ranges more.ranges
+
+-- neither entries nor ranges
+abbrev pub none_inlined : FoundInlined
+none_inlined = record { entries = []; ranges = [] }
+
+-- the first inlined entries, and the first ranges
+abbrev pub first_found : ℕ → ℕ → FoundInlined → FoundInlined
+first_found functions ranges found =
+    record { entries = take functions found.entries; ranges = take ranges found.ranges }
+
+-- the details of functions, one after another: their names, and their inlined entries and ranges
+pub record KeptDetails : Type 0 where
+  pub names : List (Option Section)
+  pub found : FoundInlined
+
+-- what is kept
+abbrev pub seen_details : {R : Type 0} → (R → Section) → Details R → KeptDetails
+seen_details see d =
+    record { names = map (option_map see) d.names.items; found = seen_lists see d.inlined }
+
+-- the details of a place
+abbrev pub detail_of : KeptDetails → FunctionDetail → Detail
+detail_of d p = record {
+  name = slice_index_or d.names p.name None;
+  inlined = map (inlined_range_of d.found.entries)
+      (take (p.ranges_end - p.ranges_begin) (drop p.ranges_begin d.found.ranges));
+}
+
+-- what was kept before stays, with more at its end
+pub record AreDetailsMore (kept more : KeptDetails) : Type 0 where
+  pub names : IsGrown kept.names more.names
+  pub found : IsFoundMore kept.found more.found

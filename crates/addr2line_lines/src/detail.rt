@@ -4,7 +4,7 @@ ghost use Rattle.std.specs.Prelude.{◌≡◌, ◌<◌, [], None, Ok, OnOk, int_
 ghost use Rattle.gimli_read.specs.Form.{rest_of};
 ghost use Rattle.gimli_read.specs.Reading.{ExactlyUnlessOom, ExactlyUnlessOomIf};
 ghost use Rattle.gimli.specs.Entry.{attributes_at};
-ghost use Rattle.addr2line_lines.specs.FoundDetails.{IsFoundMore, IsGrown, IsTakenIn, detail_found_at, entry_found_at, function_found_at, inside_found, item_found_at, name_after, seen_around, seen_attributes, seen_lists, with_inlined_found, with_inlined_list, with_inlined_ranges, with_read_name};
+ghost use Rattle.addr2line_lines.specs.FoundDetails.{IsFoundMore, IsGrown, IsTakenIn, detail_found_at, entry_found_at, first_found, function_found_at, inside_found, item_found_at, name_after, none_inlined, seen_around, seen_attributes, seen_lists, with_inlined_found, with_inlined_list, with_inlined_ranges, with_read_name};
 ghost use Rattle.addr2line_lines.specs.References.{IsScope};
 ghost use Rattle.addr2line_lines.specs.SeenScope.{seen_scope};
 
@@ -128,6 +128,25 @@ fn push_ranges<R: Reader>(
 }
 
 impl<R: Reader> InlinedLists<R> {
+    // None of either.
+    pub(crate) fn new(alloc: Global) -> InlinedLists<R>
+        ensures gives { seen_lists R.section result ≡ none_inlined }
+    {
+        InlinedLists {
+            functions: Vec::new(alloc),
+            ranges: Vec::new(alloc),
+        }
+    }
+
+    // Keeps the first inlined entries, and the first ranges.
+    pub(crate) fn truncate(&mut self, functions: usize, ranges: usize)
+        ensures gives { seen_lists R.section self.new ≡
+            first_found functions ranges (seen_lists R.section self.old) }
+    {
+        self.functions.truncate(functions);
+        self.ranges.truncate(ranges);
+    }
+
     // Adds the inlined entry of attributes, if they give a range.
     fn add(
         &mut self,
@@ -277,7 +296,7 @@ fn read_function<R: Reader>(
 
 // Reads the name of the function whose entry begins at an offset, and adds its inlined entries.
 #[tactic(auto, unfolding(crate::specs::FoundDetails::detail_found_at), using(crate::proofs::NestingLemmas::found_same, crate::proofs::NestingLemmas::found_on))]
-fn read_detail<R: Reader>(
+pub(crate) fn read_detail<R: Reader>(
     alloc: Global,
     scope: Scope<'_, R>,
     unit: &Unit<R>,

@@ -4,6 +4,7 @@
 mod columns;
 mod count;
 mod detail;
+mod details;
 mod files;
 mod function;
 mod functions;
@@ -23,8 +24,10 @@ mod segments;
 mod sequence;
 
 pub use crate::count::Count;
+pub use crate::details::{Details, FunctionDetail};
 pub use crate::function::{RangeAttributes, read_ranges, read_root_ranges};
 pub use crate::functions::Functions;
+pub use crate::inlined::{CallSite, InlinedFunction, InlinedFunctionAddress};
 pub use crate::laws::{
     each_address_has_a_row, lone_is_picked, lone_is_shortest, none_is_shorter, order_is_free,
     sequences_rise,

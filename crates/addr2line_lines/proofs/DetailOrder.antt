@@ -1,5 +1,5 @@
 -- The details of a function are what is found of it (on specs/FoundDetails.antt).
-use Rattle.std.proofs.Common.{◌≡◌, ℕ, ◌+◌, ◌-◌, ◌<◌, nat_lt, ◌≤◌, ◌==◌, ◌&&◌, Bool, true, false, cond, List, [], ◌∷◌, ◌++◌, count_by, drop, filter, map, length, slice_index_or, Option, Some, None, Result, Ok, Err, refl, ap, sym, subst, ◌∙◌, arith, length-append, length-drop, append-nil, zero, suc, ℤ, pos}
+use Rattle.std.proofs.Common.{◌≡◌, ℕ, ◌+◌, ◌-◌, ◌<◌, nat_lt, ◌≤◌, ◌==◌, ◌&&◌, Bool, true, false, cond, List, [], ◌∷◌, ◌++◌, count_by, drop, filter, map, length, slice_index_or, take, Option, Some, None, Result, Ok, Err, refl, ap, sym, subst, ◌∙◌, arith, length-append, length-drop, append-nil, zero, suc, ℤ, pos}
 use Rattle.std.specs.List.{All}
 use Rattle.std.proofs.lemmas.Bool.{eqb-true, ne_eqb}
 use Rattle.std.proofs.lemmas.Bool.Decides.{nat_tests}
@@ -7,7 +7,7 @@ use Rattle.std.proofs.lemmas.Grind.{common_steps}
 use Rattle.std.proofs.lemmas.List.{drop-append-le, map-append}
 use Rattle.std.proofs.lemmas.List.Elements.{All-append, All-head, All-map, All-tail, All-weaker}
 use Rattle.std.proofs.lemmas.List.Sums.{length-filter}
-use Rattle.std.proofs.Math.Seq.{drop-append_seam}
+use Rattle.std.proofs.Math.Seq.{drop-append_seam, take-append_seam}
 use Rattle.gimli_read.specs.declared.constants.TheConstants.DwTag.{DW_TAG_inlined_subroutine, DW_TAG_subprogram}
 use Rattle.gimli_read.specs.declared.error.Error.{Error}
 use Rattle.gimli_read.specs.declared.error.Error.TheVariants.{OffsetOutOfBounds}
@@ -24,16 +24,17 @@ use Rattle.gimli.specs.Items.{Entry, Item, depth_after, item_at, item_from, item
 use Rattle.gimli.specs.Sections.{Sections}
 use Rattle.gimli.specs.Unit.{UnitRecord}
 use Rattle.gimli.proofs.ItemLemmas.{next_is}
+use Rattle.addr2line_lines.specs.declared.details.FunctionDetail.{FunctionDetail}
 use Rattle.addr2line_lines.specs.declared.inlined.InlinedFunctionAddress.{InlinedFunctionAddress}
 use Rattle.addr2line_lines.specs.declared.nesting.Kind.{Kind}
 use Rattle.addr2line_lines.specs.declared.nesting.Kind.TheVariants.{Inlined, Other, Subprogram}
 use Rattle.addr2line_lines.specs.Details.{Detail, InlinedAttributes, InlinedEntry, InlinedRange, PlacedItem, detail_at, entry_of, inlined_attributes_of, inlined_entry, inlined_in, inlined_ranges, is_in_function, is_inlined, number_of, open_after, placed, with_inlined}
-use Rattle.addr2line_lines.specs.FoundDetails.{FoundAround, FoundInlined, IsPlaceAmong, abbreviation_of, closed_once, detail_found_at, function_found_at, inlined_address, inlined_more, inlined_range_of, inside_found, is_inlined_kind, is_listed, is_subprogram_kind, kind_of, kinds_such, name_after, no_inlined, opened, ranges_from, with_entry_found, with_inlined_found, with_item_found}
+use Rattle.addr2line_lines.specs.FoundDetails.{AreDetailsMore, FoundAround, FoundInlined, IsFoundMore, IsGrown, IsPlaceAmong, KeptDetails, detail_of, first_found, abbreviation_of, closed_once, detail_found_at, function_found_at, inlined_address, inlined_more, inlined_range_of, inside_found, is_inlined_kind, is_listed, is_subprogram_kind, kind_of, kinds_such, name_after, no_inlined, opened, ranges_from, with_entry_found, with_inlined_found, with_item_found}
 use Rattle.addr2line_lines.specs.Functions.{is_subprogram}
 use Rattle.addr2line_lines.specs.Names.{name_of}
 use Rattle.addr2line_lines.specs.RangeAttributes.{attribute_ranges}
 use Rattle.addr2line_lines.specs.References.{Scope}
-use Rattle.addr2line_lines.proofs.NestingLemmas.{coded}
+use Rattle.addr2line_lines.proofs.NestingLemmas.{coded, found_same, grown_not}
 
 -- what the kinds of open entries tell
 abbrev kind_at : ℕ → Kind
@@ -281,15 +282,15 @@ module _ (scope : Scope) (u : UnitRecord) (offset : ℕ) (found : FoundInlined) 
           let inside = items_inside d now (items_from unit c).items (items_from unit c).end in
           fold_run (with_inlined scope u) xs (placed [] inside.items) inside.end >>= λ f. Ok f.0
 
-  abbrev detail_of : EntriesLeft → Result (Option Item × EntryCursor) Error → Result Detail Error
-  detail_of left r = r >>= λ next. entry_of offset next.0 >>= λ function. name_of scope u function.1.attributes >>= λ name. detailed name (inlined_in scope u (record { unit = left.unit; cursor = next.1 }) function.0)
+  abbrev detail_read : EntriesLeft → Result (Option Item × EntryCursor) Error → Result Detail Error
+  detail_read left r = r >>= λ next. entry_of offset next.0 >>= λ function. name_of scope u function.1.attributes >>= λ name. detailed name (inlined_in scope u (record { unit = left.unit; cursor = next.1 }) function.0)
 
   abbrev found_of : EntriesLeft → Result (Option Abbrev × EntryCursor) Error → Result (Option Section × FoundInlined) Error
   found_of left r = r >>= λ code. abbreviation_of offset code.0 >>= λ a. function_found_at scope u left.unit code.1 found a
 
-  left_agrees : (s : Section) → (length s.bytes == 0) ≡ false → let left = entries_at u.header u.abbreviations s in AgreesDetail (detail_of left (next_item_at left.unit left.cursor)) (found_of left (entry_abbreviation_at left.unit.abbreviations left.cursor))
+  left_agrees : (s : Section) → (length s.bytes == 0) ≡ false → let left = entries_at u.header u.abbreviations s in AgreesDetail (detail_read left (next_item_at left.unit left.cursor)) (found_of left (entry_abbreviation_at left.unit.abbreviations left.cursor))
   left_agrees s some =
-      subst (λ r. AgreesDetail (detail_of left r) (found_of left (entry_abbreviation_at left.unit.abbreviations left.cursor))) (sym (coded scope u left.unit left.cursor some))
+      subst (λ r. AgreesDetail (detail_read left r) (found_of left (entry_abbreviation_at left.unit.abbreviations left.cursor))) (sym (coded scope u left.unit left.cursor some))
       (by_code (entry_abbreviation_at left.unit.abbreviations left.cursor) refl)
     where
       left : EntriesLeft
@@ -301,7 +302,7 @@ module _ (scope : Scope) (u : UnitRecord) (offset : ℕ) (found : FoundInlined) 
       named_item x c d e (Ok name) = by_inside name _ _ (inlined_agrees left.unit x c d e)
 
       by_read : (a : Abbrev) (t : EntryCursor) → entry_abbreviation_at left.unit.abbreviations left.cursor ≡ Ok (Some a, t) → (r : Reading (List NamedValue)) → attributes_at u.header.encoding a.attributes t.left ≡ r
-          → AgreesDetail (detail_of left (◌>>=◌ {B = Option Item × EntryCursor} r (λ x. Ok (Some (item_at left.unit left.cursor (Some (record { abbreviation = a; attributes = x.0 }))), record { left = x.1; depth = t.depth }))))
+          → AgreesDetail (detail_read left (◌>>=◌ {B = Option Item × EntryCursor} r (λ x. Ok (Some (item_at left.unit left.cursor (Some (record { abbreviation = a; attributes = x.0 }))), record { left = x.1; depth = t.depth }))))
           (name_after scope u (Ok None) r >>= λ name. rest_of r >>= λ rest. ◌>>=◌ {B = Option Section × FoundInlined} (inside_found scope u left.unit (record { left = rest; depth = t.depth }) (record { found = found; around = [] })) (λ more. Ok (name, more)))
       by_read a t q (Err f) k = refl
       by_read a t q (Ok x) k =
@@ -312,7 +313,7 @@ module _ (scope : Scope) (u : UnitRecord) (offset : ℕ) (found : FoundInlined) 
           let next = next_is left.unit left.cursor end item is in
           named_item item end refl next.after (name_of scope u x.0)
 
-      by_code : (r : Result (Option Abbrev × EntryCursor) Error) → entry_abbreviation_at left.unit.abbreviations left.cursor ≡ r → AgreesDetail (detail_of left (r >>= λ y. item_from left.unit left.cursor y)) (found_of left r)
+      by_code : (r : Result (Option Abbrev × EntryCursor) Error) → entry_abbreviation_at left.unit.abbreviations left.cursor ≡ r → AgreesDetail (detail_read left (r >>= λ y. item_from left.unit left.cursor y)) (found_of left r)
       by_code (Err f) q = refl
       by_code (Ok (None, t)) q = refl
       by_code (Ok (Some a, t)) q = by_read a t q (attributes_at u.header.encoding a.attributes t.left) refl
@@ -323,6 +324,47 @@ module _ (scope : Scope) (u : UnitRecord) (offset : ℕ) (found : FoundInlined) 
   detail_agrees = by_bytes (entry_bytes_from u.header (Some offset)) refl
     where
       by_bytes : (r : Result Section Error) → entry_bytes_from u.header (Some offset) ≡ r
-          → AgreesDetail ((r >>= λ s. Ok (entries_at u.header u.abbreviations s)) >>= λ left. detail_of left (next_item_at left.unit left.cursor)) ((r >>= λ s. Ok (entries_at u.header u.abbreviations s)) >>= λ left. found_of left (entry_abbreviation_at left.unit.abbreviations left.cursor))
+          → AgreesDetail ((r >>= λ s. Ok (entries_at u.header u.abbreviations s)) >>= λ left. detail_read left (next_item_at left.unit left.cursor)) ((r >>= λ s. Ok (entries_at u.header u.abbreviations s)) >>= λ left. found_of left (entry_abbreviation_at left.unit.abbreviations left.cursor))
       by_bytes (Err f) q = refl
       by_bytes (Ok s) q = left_agrees s (some_left u.header offset s q)
+
+-- lists of details
+pub map_take : {X Y : Type 0} (f : X → Y) (n : ℕ) (xs : List X) → map f (take n xs) ≡ take n (map f xs)
+map_take f zero xs = refl
+map_take f (suc n) [] = refl
+map_take f (suc n) (x ∷ xs) = ap (λ ys. f x ∷ ys) (map_take f n xs)
+
+taken_all : {X : Type 0} (xs : List X) → take (length xs) xs ≡ xs
+taken_all [] = refl
+taken_all (x ∷ xs) = ap (λ ys. x ∷ ys) (taken_all xs)
+
+taken_from : {X : Type 0} (n m : ℕ) (xs : List X) → m ≡ length xs → take (m - n) (drop n xs) ≡ drop n xs
+taken_from n m xs h = ap (λ k. take (k - n) (drop n xs)) h ∙ ap (λ k. take k (drop n xs)) (sym (length-drop n xs)) ∙ taken_all (drop n xs)
+
+pub last_name : {X Y : Type 0} (f : X → Y) (xs : List X) (x : X) (d : Y) → slice_index_or (map f (xs ++ x ∷ [])) (length xs) d ≡ f x
+last_name f [] x d = refl
+last_name f (y ∷ xs) x d = last_name f xs x d
+
+pub detail_refused : (scope : Scope) (u : UnitRecord) (offset : ℕ) (found : FoundInlined) (e : Error) → detail_found_at scope u offset found ≡ Err e → detail_at scope u offset ≡ Err e
+detail_refused scope u offset found e h = subst (AgreesDetail scope u offset found (detail_at scope u offset)) h (detail_agrees scope u offset found)
+
+pub detail_kept : (scope : Scope) (u : UnitRecord) (offset : ℕ) (found : FoundInlined) (d : KeptDetails) (p : FunctionDetail) (name : Option Section) → detail_found_at scope u offset found ≡ Ok (name, d.found)
+    → slice_index_or d.names p.name None ≡ name → p.ranges_begin ≡ length found.ranges → p.ranges_end ≡ length d.found.ranges → detail_at scope u offset ≡ Ok (detail_of d p)
+detail_kept scope u offset found d p name h k b e =
+    let a = subst (AgreesDetail scope u offset found (detail_at scope u offset)) h (detail_agrees scope u offset found) in
+    let made : Option Section → List InlinedFunctionAddress → Detail = λ n xs. record { name = n; inlined = map (inlined_range_of d.found.entries) xs } in
+    a.0 ∙ ap (λ n. Ok (made n (drop (length found.ranges) d.found.ranges))) (sym k)
+    ∙ ap (λ m. Ok (made (slice_index_or d.names p.name None) (drop m d.found.ranges))) (sym b)
+    ∙ ap (λ xs. Ok (made (slice_index_or d.names p.name None) xs)) (sym (taken_from p.ranges_begin p.ranges_end d.found.ranges e))
+
+first_of : {X : Type 0} (n : ℕ) (xs ys : List X) → IsGrown xs ys → n ≡ length xs → take n ys ≡ xs
+first_of n xs ys h e = ap (λ m. take m ys) e ∙ ap (λ v. take (length xs) v) h.is ∙ take-append_seam xs h.more
+
+pub first_is : (functions ranges : ℕ) (found more : FoundInlined) → IsFoundMore found more → functions ≡ length found.entries → ranges ≡ length found.ranges → first_found functions ranges more ≡ found
+first_is functions ranges found more h a b =
+    let made : List InlinedEntry → List InlinedFunctionAddress → FoundInlined = λ xs ys. record { entries = xs; ranges = ys } in
+    ap (λ xs. made xs (take ranges more.ranges)) (first_of functions found.entries more.entries h.entries a) ∙ ap (λ ys. made found.entries ys) (first_of ranges found.ranges more.ranges h.ranges b)
+
+-- what is kept stays where nothing changes
+pub details_same : (kept more : KeptDetails) → more ≡ kept → AreDetailsMore kept more
+details_same kept more h = subst (AreDetailsMore kept) (sym h) (record { names = grown_not kept.names; found = found_same kept.found })

@@ -1,0 +1,32 @@
+use Rattle.std.proofs.Common.{◌≡◌, ◌++◌, ◌∷◌, [], None, length, map, option_map, slice_index_or, ap, ◌∙◌}
+use Rattle.std.proofs.lemmas.List.{map-append}
+use Rattle.std.proofs.lemmas.Result.{err_from_is_err_and}
+use Rattle.addr2line_lines.specs.FoundDetails.{seen_details, seen_lists}
+use Rattle.addr2line_lines.specs.SeenScope.{seen_scope}
+use Rattle.addr2line_lines.proofs.DetailOrder.{detail_kept, detail_refused, last_name}
+use Rattle.addr2line_lines.proofs.NestingLemmas.{grown_by}
+use Rattle.addr2line_lines.proofs.details.Details.add.Goals as goal
+
+pub returns-in_err-read-clause-gives : goal.returns-in_err-read-clause-gives
+returns-in_err-read-clause-gives g c =
+    let p = err_from_is_err_and c.from_residual.result c.from_residual.ensures.1 in
+    rw (p.1, p.2) (λ ne. detail_refused (seen_scope c.args.scope) c.args.unit.now c.args.offset.0 (seen_lists g.R.Reader.section c.args.self.now.inlined) _ (c.in_err-read.ensures.gives ne))
+
+pub returns-clause-gives : goal.returns-clause-gives
+returns-clause-gives g c =
+    let see = option_map g.R.Reader.section in
+    let old = c.args.self.now.names.items in
+    let name : slice_index_or (map see c.push.new.self.items) c.len-name.result None ≡ see c.in_ok-read.read =
+        ap (λ xs. slice_index_or (map see xs) c.len-name.result None) c.in_ok-push.ensures.items
+        ∙ ap (λ n. slice_index_or (map see (old ++ c.in_ok-read.read ∷ [])) n None) (c.len-name.ensures ∙ c.args.self.now.names.ok.0)
+        ∙ last_name see old c.in_ok-read.read None in
+    detail_kept (seen_scope c.args.scope) c.args.unit.now c.args.offset.0 (seen_lists g.R.Reader.section c.args.self.now.inlined) _ _ _ c.in_ok-read.ensures.gives name (c.len-ranges_begin.ensures ∙ c.args.self.now.inlined.ranges.ok.0) (c.len-2.ensures ∙ c.read_detail.new.found.ranges.ok.0)
+
+pub returns-clause-kept : goal.returns-clause-kept
+returns-clause-kept g c =
+    let see = option_map g.R.Reader.section in
+    let old = c.args.self.now.names.items in
+    record {
+      names = grown_by _ _ _ (ap (λ xs. map see xs) c.in_ok-push.ensures.items ∙ map-append see old (c.in_ok-read.read ∷ []));
+      found = c.in_ok-read.ensures.kept;
+    }

@@ -309,7 +309,7 @@ module _ (scope : Scope) (u : UnitRecord) (offset : ℕ) (found : FoundInlined) 
           let item = item_at left.unit left.cursor (Some (record { abbreviation = a; attributes = x.0 })) in
           let end : EntryCursor = record { left = x.1; depth = t.depth } in
           let is : next_item_at left.unit left.cursor ≡ Ok (Some item, end) = coded scope u left.unit left.cursor some ∙ ap (λ r. r >>= λ y. item_from left.unit left.cursor y) q
-              ∙ ap (λ (r : Reading (List NamedValue)). ◌>>=◌ {B = Option Item × EntryCursor} r (λ y. Ok (Some (item_at left.unit left.cursor (Some (record { abbreviation = a; attributes = y.0 }))), record { left = y.1; depth = t.depth }))) k in
+          ∙ ap (λ (r : Reading (List NamedValue)). ◌>>=◌ {B = Option Item × EntryCursor} r (λ y. Ok (Some (item_at left.unit left.cursor (Some (record { abbreviation = a; attributes = y.0 }))), record { left = y.1; depth = t.depth }))) k in
           let next = next_is left.unit left.cursor end item is in
           named_item item end refl next.after (name_of scope u x.0)
 

@@ -18,11 +18,13 @@ use std::alloc::Global;
 pub struct FunctionDetail {
     /// The place of its name.
     pub name: usize,
-    /// Where its inlined entries begin, and where they end.
+    /// Where its inlined entries begin.
     pub inlined_begin: usize,
+    /// Where they end.
     pub inlined_end: usize,
-    /// Where its ranges begin, and where they end.
+    /// Where its ranges begin.
     pub ranges_begin: usize,
+    /// Where they end.
     pub ranges_end: usize,
 }
 

@@ -29,7 +29,7 @@ use Rattle.addr2line_lines.specs.declared.inlined.InlinedFunctionAddress.{Inline
 use Rattle.addr2line_lines.specs.declared.nesting.Kind.{Kind}
 use Rattle.addr2line_lines.specs.declared.nesting.Kind.TheVariants.{Inlined, Other, Subprogram}
 use Rattle.addr2line_lines.specs.Details.{Detail, InlinedAttributes, InlinedEntry, InlinedRange, PlacedItem, detail_at, entry_of, inlined_attributes_of, inlined_entry, inlined_in, inlined_ranges, is_in_function, is_inlined, number_of, open_after, placed, with_inlined}
-use Rattle.addr2line_lines.specs.FoundDetails.{AreDetailsMore, FoundAround, FoundInlined, IsFoundMore, IsGrown, IsPlaceAmong, KeptDetails, detail_of, first_found, abbreviation_of, closed_once, detail_found_at, function_found_at, inlined_address, inlined_more, inlined_range_of, inside_found, is_inlined_kind, is_listed, is_subprogram_kind, kind_of, kinds_such, name_after, no_inlined, opened, ranges_from, with_entry_found, with_inlined_found, with_item_found}
+use Rattle.addr2line_lines.specs.FoundDetails.{AreDetailsMore, IsDetailPlace, FoundAround, FoundInlined, IsFoundMore, IsGrown, IsPlaceAmong, KeptDetails, detail_of, first_found, abbreviation_of, closed_once, detail_found_at, function_found_at, inlined_address, inlined_more, inlined_range_of, inside_found, is_inlined_kind, is_listed, is_subprogram_kind, kind_of, kinds_such, name_after, no_inlined, opened, ranges_from, with_entry_found, with_inlined_found, with_item_found}
 use Rattle.addr2line_lines.specs.Functions.{is_subprogram}
 use Rattle.addr2line_lines.specs.Names.{name_of}
 use Rattle.addr2line_lines.specs.RangeAttributes.{attribute_ranges}
@@ -368,3 +368,81 @@ first_is functions ranges found more h a b =
 -- what is kept stays where nothing changes
 pub details_same : (kept more : KeptDetails) → more ≡ kept → AreDetailsMore kept more
 details_same kept more h = subst (AreDetailsMore kept) (sym h) (record { names = grown_not kept.names; found = found_same kept.found })
+
+-- a place of details that were just kept
+pub place_kept : (scope : Scope) (u : UnitRecord) (offset : ℕ) (found : FoundInlined) (d : KeptDetails) (p : FunctionDetail) (name : Option Section) → detail_found_at scope u offset found ≡ Ok (name, d.found) → p.name < length d.names
+    → p.ranges_begin ≡ length found.ranges → p.ranges_end ≡ length d.found.ranges → IsDetailPlace d p
+place_kept scope u offset found d p name h k b e =
+    let a = subst (AgreesDetail scope u offset found (detail_at scope u offset)) h (detail_agrees scope u offset found) in
+    let w = a.1.within in
+    record {
+      name = k;
+      begin = omega arith;
+      end = omega arith;
+      places = subst (All (IsPlaceAmong d.found.entries)) (ap (λ m. drop m d.found.ranges) (sym b) ∙ sym (taken_from p.ranges_begin p.ranges_end d.found.ranges e)) a.1.places;
+    }
+
+before_more : {X : Type 0} (xs more : List X) (k : ℕ) (d : X) → k < length xs → slice_index_or (xs ++ more) k d ≡ slice_index_or xs k d
+before_more [] more k d l = absurd (omega arith)
+before_more (x ∷ xs) more zero d l = refl
+before_more (x ∷ xs) more (suc k) d l = before_more xs more k d (omega arith)
+
+taken_before : {X : Type 0} (n : ℕ) (xs more : List X) → n ≤ length xs → take n (xs ++ more) ≡ take n xs
+taken_before zero xs more l = refl
+taken_before (suc n) [] more l = absurd (omega arith)
+taken_before (suc n) (x ∷ xs) more l = ap (λ ys. x ∷ ys) (taken_before n xs more (omega arith))
+
+ranges_stay : (entries more : List InlinedEntry) (xs : List InlinedFunctionAddress) → All (IsPlaceAmong entries) xs → map (inlined_range_of (entries ++ more)) xs ≡ map (inlined_range_of entries) xs
+ranges_stay entries more [] all = refl
+ranges_stay entries more (a ∷ xs) all =
+    let one : inlined_range_of (entries ++ more) a ≡ inlined_range_of entries a = ap (λ (y : InlinedEntry). of_entry a.depth y a.range) (before_more entries more a.function no_inlined (All-head (IsPlaceAmong entries) a xs all)) in
+    ap (λ (y : InlinedRange). y ∷ map (inlined_range_of (entries ++ more)) xs) one
+    ∙ ap (λ ys. inlined_range_of entries a ∷ ys) (ranges_stay entries more xs (All-tail (IsPlaceAmong entries) a xs all))
+
+-- what is added changes nothing of the details that are kept, and their places are places still
+pub detail_stays : (kept more : KeptDetails) (p : FunctionDetail) → AreDetailsMore kept more → IsDetailPlace kept p → (detail_of more p ≡ detail_of kept p) × IsDetailPlace more p
+detail_stays kept more p h place = (same, still)
+  where
+    made : Option Section → List InlinedRange → Detail
+    made n xs = record { name = n; inlined = xs }
+
+    count : ℕ
+    count = p.ranges_end - p.ranges_begin
+
+    run : List InlinedFunctionAddress
+    run = take count (drop p.ranges_begin kept.found.ranges)
+
+    run_is : take count (drop p.ranges_begin more.found.ranges) ≡ run
+    run_is =
+        let b = place.begin in
+        let e = place.end in
+        let long = length-drop p.ranges_begin kept.found.ranges in
+        ap (λ xs. take count (drop p.ranges_begin xs)) h.found.ranges.is
+        ∙ ap (λ xs. take count xs) (drop-append-le p.ranges_begin kept.found.ranges h.found.ranges.more (omega arith))
+        ∙ taken_before count (drop p.ranges_begin kept.found.ranges) h.found.ranges.more (omega arith)
+
+    ranges_are : map (inlined_range_of more.found.entries) (take count (drop p.ranges_begin more.found.ranges)) ≡ map (inlined_range_of kept.found.entries) run
+    ranges_are = ap (λ xs. map (inlined_range_of more.found.entries) xs) run_is ∙ ap (λ es. map (inlined_range_of es) run) h.found.entries.is ∙ ranges_stay kept.found.entries h.found.entries.more run place.places
+
+    name_is : slice_index_or more.names p.name None ≡ slice_index_or kept.names p.name None
+    name_is = ap (λ xs. slice_index_or xs p.name None) h.names.is ∙ before_more kept.names h.names.more p.name None place.name
+
+    same : detail_of more p ≡ detail_of kept p
+    same = ap (λ n. made n (map (inlined_range_of more.found.entries) (take count (drop p.ranges_begin more.found.ranges)))) name_is ∙ ap (λ xs. made (slice_index_or kept.names p.name None) xs) ranges_are
+
+    longer : {X : Type 0} (xs ys : List X) → IsGrown xs ys → length xs ≤ length ys
+    longer xs ys g = let a : length ys ≡ length (xs ++ g.more) = ap (λ v. length v) g.is in let b = length-append xs g.more in omega arith
+
+    still : IsDetailPlace more p
+    still =
+        let n = longer kept.names more.names h.names in
+        let r = longer kept.found.ranges more.found.ranges h.found.ranges in
+        let e = longer kept.found.entries more.found.entries h.found.entries in
+        let a = place.name in
+        let b = place.end in
+        record {
+          name = omega arith;
+          begin = place.begin;
+          end = omega arith;
+          places = subst (All (IsPlaceAmong more.found.entries)) (sym run_is) (All-weaker (IsPlaceAmong kept.found.entries) (IsPlaceAmong more.found.entries) (λ x l. omega arith) run place.places);
+        }

@@ -1,5 +1,6 @@
 -- The details of functions as they are found, as the private functions see them.
-use Rattle.std.specs.Prelude.{◌≡◌, ◌≢◌, ℕ, ◌+◌, ◌-◌, ◌<◌, ◌==◌, ◌||◌, ◌&&◌, Bool, true, false, List, [], ◌∷◌, ◌++◌, count_by, drop, fold, map, length, slice_index_or, take, Option, Some, None, option_map, Result, Ok, Err, pos, if◌then◌else◌}
+use Rattle.std.specs.Prelude.{◌≡◌, ◌≢◌, ℕ, ◌+◌, ◌-◌, ◌<◌, ◌≤◌, ◌==◌, ◌||◌, ◌&&◌, Bool, true, false, List, [], ◌∷◌, ◌++◌, count_by, drop, fold, map, length, slice_index_or, take, Option, Some, None, option_map, Result, Ok, Err, pos, if◌then◌else◌}
+use Rattle.std.specs.List.{All}
 use Rattle.gimli_read.specs.declared.constants.DwAt.{DwAt}
 use Rattle.gimli_read.specs.declared.constants.TheConstants.DwAt.{DW_AT_call_column, DW_AT_call_file, DW_AT_call_line, DW_AT_high_pc, DW_AT_low_pc, DW_AT_name, DW_AT_ranges}
 use Rattle.gimli_read.specs.declared.error.Error.{Error}
@@ -317,3 +318,11 @@ detail_of d p = record {
 pub record AreDetailsMore (kept more : KeptDetails) : Type 0 where
   pub names : IsGrown kept.names more.names
   pub found : IsFoundMore kept.found more.found
+
+-- a place of details that are kept
+pub record IsDetailPlace (d : KeptDetails) (p : FunctionDetail) : Type 0 where
+  pub name : p.name < length d.names
+  pub begin : p.ranges_begin ≤ p.ranges_end
+  pub end : p.ranges_end ≤ length d.found.ranges
+  pub places : All (IsPlaceAmong d.found.entries)
+      (take (p.ranges_end - p.ranges_begin) (drop p.ranges_begin d.found.ranges))

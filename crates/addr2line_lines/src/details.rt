@@ -1,9 +1,9 @@
 //! The details of the functions of a view, kept one after another.
 
-ghost use Rattle.std.specs.Prelude.{◌≡◌, [], OnErr, map, option_map};
+ghost use Rattle.std.specs.Prelude.{◌≡◌, [], IfOk, OnErr, map, option_map};
 ghost use Rattle.gimli_read.specs.Reading.{ExactlyUnlessOom};
 ghost use Rattle.addr2line_lines.specs.Details.{detail_at};
-ghost use Rattle.addr2line_lines.specs.FoundDetails.{AreDetailsMore, detail_of, none_inlined, seen_details};
+ghost use Rattle.addr2line_lines.specs.FoundDetails.{AreDetailsMore, IsDetailPlace, detail_of, none_inlined, seen_details};
 ghost use Rattle.addr2line_lines.specs.References.{IsScope};
 ghost use Rattle.addr2line_lines.specs.SeenScope.{seen_scope};
 
@@ -60,6 +60,7 @@ impl<R: Reader> Details<R> {
             (detail_at (seen_scope scope.entry) unit.now offset.0) }
         ensures kept { AreDetailsMore (seen_details R.section self.old)
             (seen_details R.section self.new) }
+        ensures place { IfOk result (IsDetailPlace (seen_details R.section self.new)) }
         ensures names { OnErr result (map (option_map R.section) self.new.names.items ≡
             map (option_map R.section) self.old.names.items) }
     {
@@ -98,6 +99,7 @@ impl<R: Reader> Details<R> {
             (detail_at (seen_scope scope.entry) unit.now offset.0) }
         ensures kept { AreDetailsMore (seen_details R.section self.old)
             (seen_details R.section self.new) }
+        ensures place { IfOk result (IsDetailPlace (seen_details R.section self.new)) }
         ensures refused { OnErr result
             (seen_details R.section self.new ≡ seen_details R.section self.old) }
     {

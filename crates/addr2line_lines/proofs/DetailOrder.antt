@@ -4,7 +4,7 @@ use Rattle.std.specs.List.{All}
 use Rattle.std.proofs.lemmas.Bool.{eqb-true, ne_eqb}
 use Rattle.std.proofs.lemmas.Bool.Decides.{nat_tests}
 use Rattle.std.proofs.lemmas.Grind.{common_steps}
-use Rattle.std.proofs.lemmas.List.{drop-append-le, map-append}
+use Rattle.std.proofs.lemmas.List.{drop-append-le, map-append, take-append-le}
 use Rattle.std.proofs.lemmas.List.Elements.{All-append, All-head, All-map, All-tail, All-weaker}
 use Rattle.std.proofs.lemmas.List.Sums.{length-filter}
 use Rattle.std.proofs.Math.Seq.{drop-append_seam, take-append_seam}
@@ -387,11 +387,6 @@ before_more [] more k d l = absurd (omega arith)
 before_more (x ∷ xs) more zero d l = refl
 before_more (x ∷ xs) more (suc k) d l = before_more xs more k d (omega arith)
 
-taken_before : {X : Type 0} (n : ℕ) (xs more : List X) → n ≤ length xs → take n (xs ++ more) ≡ take n xs
-taken_before zero xs more l = refl
-taken_before (suc n) [] more l = absurd (omega arith)
-taken_before (suc n) (x ∷ xs) more l = ap (λ ys. x ∷ ys) (taken_before n xs more (omega arith))
-
 ranges_stay : (entries more : List InlinedEntry) (xs : List InlinedFunctionAddress) → All (IsPlaceAmong entries) xs → map (inlined_range_of (entries ++ more)) xs ≡ map (inlined_range_of entries) xs
 ranges_stay entries more [] all = refl
 ranges_stay entries more (a ∷ xs) all =
@@ -419,7 +414,7 @@ detail_stays kept more p h place = (same, still)
         let long = length-drop p.ranges_begin kept.found.ranges in
         ap (λ xs. take count (drop p.ranges_begin xs)) h.found.ranges.is
         ∙ ap (λ xs. take count xs) (drop-append-le p.ranges_begin kept.found.ranges h.found.ranges.more (omega arith))
-        ∙ taken_before count (drop p.ranges_begin kept.found.ranges) h.found.ranges.more (omega arith)
+        ∙ take-append-le count (drop p.ranges_begin kept.found.ranges) h.found.ranges.more (omega arith)
 
     ranges_are : map (inlined_range_of more.found.entries) (take count (drop p.ranges_begin more.found.ranges)) ≡ map (inlined_range_of kept.found.entries) run
     ranges_are = ap (λ xs. map (inlined_range_of more.found.entries) xs) run_is ∙ ap (λ es. map (inlined_range_of es) run) h.found.entries.is ∙ ranges_stay kept.found.entries h.found.entries.more run place.places

@@ -17,7 +17,7 @@ use Rattle.gimli.specs.Items.{Entry, Item, items_from, items_inside, next_item_a
 use Rattle.gimli.specs.Ranges.{ranges_at}
 use Rattle.gimli.specs.Sections.{Sections}
 use Rattle.gimli.specs.Unit.{UnitRecord}
-use Rattle.addr2line_lines.specs.declared.detail.InlinedLists.{InlinedLists}
+use Rattle.addr2line_lines.specs.declared.inlined_lists.InlinedLists.{InlinedLists}
 use Rattle.addr2line_lines.specs.declared.details.Details.{Details}
 use Rattle.addr2line_lines.specs.declared.details.FunctionDetail.{FunctionDetail}
 use Rattle.addr2line_lines.specs.declared.function.RangeAttributes.{RangeAttributes}

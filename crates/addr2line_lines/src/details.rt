@@ -7,7 +7,8 @@ ghost use Rattle.addr2line_lines.specs.FoundDetails.{AreDetailsMore, IsDetailPla
 ghost use Rattle.addr2line_lines.specs.References.{IsScope};
 ghost use Rattle.addr2line_lines.specs.SeenScope.{seen_scope};
 
-use crate::detail::{InlinedLists, read_detail};
+use crate::detail::read_detail;
+use crate::inlined_lists::InlinedLists;
 use crate::references::Scope;
 use gimli::Unit;
 use gimli::read::{Error, Reader, UnitOffset};

@@ -9,6 +9,7 @@ mod files;
 mod function;
 mod functions;
 mod inlined;
+mod inlined_lists;
 mod laws;
 mod line;
 mod location;

@@ -10,7 +10,7 @@ use Rattle.addr2line_lines.specs.RangeAttributes.{all_ranges}
 use Rattle.addr2line_lines.proofs.FunctionLemmas.{one_added, one_read}
 use Rattle.addr2line_lines.proofs.NestingLemmas.{grown_by}
 use Rattle.addr2line_lines.proofs.RangeLemmas.{fault_left, none_left, one_left, read_after}
-use Rattle.addr2line_lines.proofs.detail.push_range_list.Goals as goal
+use Rattle.addr2line_lines.proofs.inlined_lists.push_range_list.Goals as goal
 
 abbrev with_front : List Range → Result (List Range) Fault → Result (List Range) Fault
 with_front items = result_map (λ rest. items ++ rest)

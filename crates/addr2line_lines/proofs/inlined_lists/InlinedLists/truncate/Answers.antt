@@ -3,7 +3,7 @@ use Rattle.addr2line_lines.specs.declared.inlined.InlinedFunctionAddress.{Inline
 use Rattle.addr2line_lines.specs.Details.{InlinedEntry}
 use Rattle.addr2line_lines.specs.FoundDetails.{FoundInlined, seen_inlined}
 use Rattle.addr2line_lines.proofs.DetailOrder.{map_take}
-use Rattle.addr2line_lines.proofs.detail.InlinedLists.truncate.Goals as goal
+use Rattle.addr2line_lines.proofs.inlined_lists.InlinedLists.truncate.Goals as goal
 
 pub returns : goal.returns
 returns g c =

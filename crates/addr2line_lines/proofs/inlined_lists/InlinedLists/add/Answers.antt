@@ -2,7 +2,7 @@ use Rattle.std.proofs.Common.{arith, ◌≤◌, length}
 use Rattle.std.proofs.lemmas.Bool.Decides.{nat_tests}
 use Rattle.addr2line_lines.specs.FoundDetails.{seen_attributes, seen_lists}
 use Rattle.addr2line_lines.proofs.NestingLemmas.{none_added}
-use Rattle.addr2line_lines.proofs.detail.InlinedLists.add.Goals as goal
+use Rattle.addr2line_lines.proofs.inlined_lists.InlinedLists.add.Goals as goal
 
 pub returns-else-len-before-clause-gives : goal.returns-else-len-before-clause-gives
 returns-else-len-before-clause-gives g c =

@@ -30,3 +30,6 @@ pub mod ReferenceLemmas
 pub mod NameLemmas
 pub mod UnitOrder
 pub mod NameChains
+pub mod DetailLemmas
+pub mod NestingLemmas
+pub mod DetailOrder

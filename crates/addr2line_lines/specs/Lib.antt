@@ -32,3 +32,4 @@ pub mod InlinedOrder
 pub mod NestedInlined
 pub mod FoundNames
 pub mod NameChains
+pub mod FoundDetails

@@ -3,13 +3,18 @@
 
 mod columns;
 mod count;
+mod detail;
+mod details;
 mod files;
 mod function;
 mod functions;
+mod inlined;
+mod inlined_lists;
 mod laws;
 mod line;
 mod location;
 mod name;
+mod nesting;
 mod packed;
 mod path;
 mod picks;
@@ -22,14 +27,17 @@ mod sequence;
 mod spans;
 
 pub use crate::count::Count;
+pub use crate::details::{Details, FunctionDetail};
 pub use crate::function::{RangeAttributes, read_ranges};
 pub use crate::functions::Functions;
+pub use crate::inlined::{CallSite, InlinedFunction};
 pub use crate::laws::{
     each_address_has_a_row, inlined_are_nested, inlined_chain_is_whole, lone_is_picked,
     lone_is_shortest, none_is_shorter, order_is_free, sequences_rise,
 };
 pub use crate::line::Lines;
 pub use crate::location::Location;
+pub use crate::picks::InlinedFunctionAddress;
 pub use crate::range::{LineLocationRangeIter, LineRanges};
 pub use crate::references::{FileUnits, Scope};
 pub use crate::row::Row;

@@ -1,0 +1,285 @@
+-- The attributes of inlined entries and functions, one at a time (on specs/FoundDetails.antt).
+use Rattle.std.proofs.Common.{◌≡◌, ℕ, ◌+◌, ◌<◌, ◌≤◌, ◌⊎◌, ◌==◌, ◌||◌, Bool, true, false, cond, List, [], ◌∷◌, drop, fold, get_or, inl, inr, length, Option, Some, None, Result, Ok, Err, refl, ap, subst, sym, ◌∙◌}
+use Rattle.std.proofs.lemmas.Bool.{eqb-true}
+use Rattle.std.proofs.lemmas.List.{at_drop_more, at_drop_all}
+use Rattle.gimli_read.specs.declared.constants.DwAt.{DwAt}
+use Rattle.gimli_read.specs.declared.constants.TheConstants.DwAt.{DW_AT_abstract_origin, DW_AT_call_column, DW_AT_call_file, DW_AT_call_line, DW_AT_high_pc, DW_AT_linkage_name, DW_AT_low_pc, DW_AT_MIPS_linkage_name, DW_AT_name, DW_AT_ranges, DW_AT_specification}
+use Rattle.gimli_read.specs.declared.error.Error.{Error}
+use Rattle.gimli_read.specs.declared.error.Error.TheVariants.{UnexpectedEof}
+use Rattle.gimli_read.specs.declared.endian.Encoding.{Encoding}
+use Rattle.gimli_read.specs.Abbreviations.{Abbrev, Specification}
+use Rattle.gimli_read.specs.Leb128.{uleb128_at, uleb128_in}
+use Rattle.gimli_read.specs.declared.value.AttributeValue.{AttributeValue}
+use Rattle.gimli_read.specs.declared.constants.TheConstants.DwForm.{DW_FORM_implicit_const}
+use Rattle.gimli_read.specs.Form.{NamedValue, attribute_at, implicit_of, named_value, rest_of, value_at}
+use Rattle.gimli_read.specs.Reading.{Reading, ◌>>=◌, Exactly, ExactlyUnlessOom, ExactlyUnlessOomIf}
+use Rattle.gimli_read.specs.Section.{Section}
+use Rattle.gimli.specs.Entry.{attributes_at}
+use Rattle.gimli.specs.Sections.{Sections}
+use Rattle.gimli.specs.Unit.{UnitRecord}
+use Rattle.addr2line_lines.specs.declared.function.RangeAttributes.{RangeAttributes}
+use Rattle.addr2line_lines.specs.declared.nesting.Kind.{Kind}
+use Rattle.addr2line_lines.specs.Details.{CallSite, InlinedAttributes, inlined_attributes_of, no_inlined_attributes, or_with_inlined_attribute, with_call, with_inlined_attribute}
+use Rattle.addr2line_lines.specs.FoundDetails.{FoundInlined, IsReadIf, IsTakenIn, entry_found_at, inlined_attributes_after, is_call, is_inlined_kind, is_listed, is_range_name, is_wanted, kind_of, kinds_such, with_entry_found, with_inlined_found, with_read_attribute, with_read_name}
+use Rattle.addr2line_lines.specs.FoundNames.{is_name_attribute}
+use Rattle.addr2line_lines.specs.Names.{is_linkage_name, is_origin, or_with_name, with_name}
+use Rattle.addr2line_lines.specs.RangeAttributes.{with_range_attribute}
+use Rattle.addr2line_lines.specs.References.{Scope}
+
+-- none of two tests
+neither : (b c : Bool) → (b || c) ≡ false → (b ≡ false) × (c ≡ false)
+neither true c h = absurd cc
+neither false c h = (refl, h)
+
+-- where no test holds, what stands last counts
+second : {A : Type 0} (b : Bool) (x y : A) → b ≡ false → cond b x y ≡ y
+second b x y h = ap (λ c. cond c x y) h
+
+-- what holds of the names of ranges holds of each of them
+by_range_name : (P : DwAt → Type 0) → P DW_AT_low_pc → P DW_AT_high_pc → P DW_AT_ranges → (name : DwAt) → is_range_name name ≡ true → P name
+by_range_name P low high ranges name h = by_low (name.0 == DW_AT_low_pc.0) refl h
+  where
+    same : (other : DwAt) → (name.0 == other.0) ≡ true → P other → P name
+    same other e p = subst (λ (n : ℕ). P (record { 0 = n })) (let s : name.0 ≡ other.0 = eqb-true name.0 other.0 e in cc) p
+
+    by_high : (b : Bool) → (name.0 == DW_AT_high_pc.0) ≡ b → (b || name.0 == DW_AT_ranges.0) ≡ true → P name
+    by_high true e h = same DW_AT_high_pc e high
+    by_high false e h = same DW_AT_ranges h ranges
+
+    by_low : (b : Bool) → (name.0 == DW_AT_low_pc.0) ≡ b → (b || name.0 == DW_AT_high_pc.0 || name.0 == DW_AT_ranges.0) ≡ true → P name
+    by_low true e h = same DW_AT_low_pc e low
+    by_low false e h = by_high (name.0 == DW_AT_high_pc.0) refl h
+
+module _ (scope : Scope) (u : UnitRecord) where
+  -- an attribute of the ranges says nothing of the name
+  range_nameless : (name : Option Section) (a : NamedValue) → is_range_name a.name ≡ true → with_name scope u name a ≡ Ok name
+  unfolding with_name
+  range_nameless name a h = by_range_name (λ n. with_name scope u name (record { name = n; value = a.value }) ≡ Ok name) refl refl refl a.name h
+
+  -- an attribute that says nothing of the name
+  pub nameless : (name : Option Section) (a : NamedValue) → is_name_attribute a.name ≡ false → with_name scope u name a ≡ Ok name
+  unfolding with_name
+  nameless name a h =
+      let p = neither (is_linkage_name a.name || a.name.0 == DW_AT_name.0) (is_origin a.name) h in
+      let q = neither (is_linkage_name a.name) (a.name.0 == DW_AT_name.0) p.0 in
+      second _ _ _ q.0 ∙ second _ _ _ q.1 ∙ second _ _ _ p.1
+
+  -- an attribute that says nothing of the ranges
+  pub rangeless : (d : Sections) (r : RangeAttributes) (a : NamedValue) → is_range_name a.name ≡ false → with_range_attribute d u r a ≡ Ok r
+  unfolding with_range_attribute
+  rangeless d r a h =
+      let p = neither (a.name.0 == DW_AT_low_pc.0 || a.name.0 == DW_AT_high_pc.0) (a.name.0 == DW_AT_ranges.0) h in
+      let q = neither (a.name.0 == DW_AT_low_pc.0) (a.name.0 == DW_AT_high_pc.0) p.0 in
+      second _ _ _ q.0 ∙ second _ _ _ q.1 ∙ second _ _ _ p.1
+
+  -- an attribute that says nothing of the call
+  callless : (version : ℕ) (call : CallSite) (a : NamedValue) → is_call a.name ≡ false → with_call version call a ≡ call
+  callless version call a h =
+      let p = neither (a.name.0 == DW_AT_call_file.0 || a.name.0 == DW_AT_call_line.0) (a.name.0 == DW_AT_call_column.0) h in
+      let q = neither (a.name.0 == DW_AT_call_file.0) (a.name.0 == DW_AT_call_line.0) p.0 in
+      second _ _ _ q.0 ∙ second _ _ _ q.1 ∙ second _ _ _ p.1
+
+  abbrev with_call_of : InlinedAttributes → CallSite → Result InlinedAttributes Error
+  with_call_of x call = Ok (record { ranges = x.ranges; name = x.name; call = call })
+
+  abbrev pub with_name_of : InlinedAttributes → NamedValue → RangeAttributes → Result (Option Section) Error → Result InlinedAttributes Error
+  with_name_of x a ranges r = r >>= λ name. Ok (record { ranges = ranges; name = name; call = with_call u.header.encoding.version x.call a })
+
+  abbrev pub with_ranges_of : InlinedAttributes → NamedValue → Result RangeAttributes Error → Result InlinedAttributes Error
+  with_ranges_of x a r = r >>= λ ranges. Ok (record { ranges = ranges; name = x.name; call = with_call u.header.encoding.version x.call a })
+
+  -- an attribute of the ranges
+  pub range_attribute : (x : InlinedAttributes) (a : NamedValue) → is_range_name a.name ≡ true → with_inlined_attribute scope u x a ≡ with_ranges_of x a (with_range_attribute scope.file.sections u x.ranges a)
+  unfolding with_inlined_attribute
+  range_attribute x a h = by_ranges (with_range_attribute scope.file.sections u x.ranges a)
+    where
+      by_ranges : (r : Result RangeAttributes Error) → (r >>= λ ranges. with_name_of x a ranges (with_name scope u x.name a)) ≡ with_ranges_of x a r
+      by_ranges (Ok ranges) = ap (with_name_of x a ranges) (range_nameless x.name a h)
+      by_ranges (Err e) = refl
+
+  -- an attribute that says nothing of the ranges
+  pub other_attribute : (x : InlinedAttributes) (a : NamedValue) → is_range_name a.name ≡ false → with_inlined_attribute scope u x a ≡ with_name_of x a x.ranges (with_name scope u x.name a)
+  unfolding with_inlined_attribute
+  other_attribute x a h = ap (λ r. r >>= λ ranges. with_name_of x a ranges (with_name scope u x.name a)) (rangeless scope.file.sections x.ranges a h)
+
+  -- an attribute that says nothing of an inlined entry
+  pub unwanted : (x : InlinedAttributes) (a : NamedValue) → is_wanted a.name ≡ false → with_inlined_attribute scope u x a ≡ Ok x
+  unwanted x a h =
+      let p = neither (is_range_name a.name || is_name_attribute a.name) (is_call a.name) h in
+      let q = neither (is_range_name a.name) (is_name_attribute a.name) p.0 in
+      other_attribute x a q.0 ∙ ap (with_name_of x a x.ranges) (nameless x.name a q.1) ∙ ap (with_call_of x) (callless u.header.encoding.version x.call a p.1)
+
+-- what attributes say that are read, one at a time
+module _ {A : Type 0} (f : Result A Error → NamedValue → Result A Error) (e : Encoding) (x : Result A Error) (xs : List Specification) (i : ℕ) where
+  abbrev after : Result A Error → Reading (List NamedValue) → Result A Error
+  after y read = read >>= λ z. fold f y z.0
+
+  abbrev next : Reading NamedValue → Result A Error
+  next read = after x (read >>= λ a. attributes_at e (drop (i + 1) xs) a.1 >>= λ more. Ok (a.0 ∷ more.0, more.1))
+
+  pub fold-more : (s : Specification) (left t : Section) (a : NamedValue) → i < length xs → attribute_at e (get_or xs i s) left ≡ Ok (a, t)
+      → after x (attributes_at e (drop i xs) left) ≡ after (f x a) (attributes_at e (drop (i + 1) xs) t)
+  unfolding attributes_at
+  fold-more s left t a h k =
+      at_drop_more (λ ys. after x (attributes_at e ys left)) xs i s h ∙ ap next k ∙ front (attributes_at e (drop (i + 1) xs) t)
+    where
+      front : (read : Reading (List NamedValue)) → after x (read >>= λ more. Ok (a ∷ more.0, more.1)) ≡ after (f x a) read
+      front (Ok y) = refl
+      front (Err y) = refl
+
+  pub fold-fault : (s : Specification) (left : Section) (g : Error) → i < length xs → attribute_at e (get_or xs i s) left ≡ Err g
+      → after x (attributes_at e (drop i xs) left) ≡ Err g
+  unfolding attributes_at
+  fold-fault s left g h k = at_drop_more (λ ys. after x (attributes_at e ys left)) xs i s h ∙ ap next k
+
+  pub fold-end : (left : Section) → length xs ≤ i → after x (attributes_at e (drop i xs) left) ≡ x
+  unfolding attributes_at
+  fold-end left h = at_drop_all (λ ys. after x (attributes_at e ys left)) xs i h
+
+-- an answer after one more attribute
+pub taken : {X Y : Type 0} (may : Bool) (view : X → Y) (more : Y → Result Y Error) (found next : Result X Error) (given : Result Y Error) → ExactlyUnlessOomIf may view found given → IsTakenIn may view more found next → ExactlyUnlessOomIf may view next (given >>= more)
+taken may view more (Ok x) next given h t = subst (λ g. ExactlyUnlessOomIf may view next (g >>= more)) (sym h) t
+taken may view more (Err e) next given h t = subst (λ r. ExactlyUnlessOomIf may view r (given >>= more)) (sym t) (λ k. ap (λ g. g >>= more) (h k))
+
+-- an attribute that was read or passed over, and what it says
+pub record Passed (given : Reading NamedValue) (left : Section) (name : DwAt) (o : Option NamedValue) (wanted : Bool) : Type 0 where
+  pub attribute : NamedValue
+  pub is : given ≡ Ok (attribute, left)
+  pub said : (o ≡ Some attribute) ⊎ ((o ≡ None) × (attribute.name ≡ name) × (wanted ≡ false))
+
+named : (e : Encoding) (x : Specification) (s t : Section) (a : NamedValue) → attribute_at e x s ≡ Ok (a, t) → a.name ≡ x.name
+unfolding attribute_at
+named e x s t a h = by_form (x.form.0 == DW_FORM_implicit_const.0) h
+  where
+    same : (v : AttributeValue Section) (r : Section) → ◌≡◌ {A = Reading NamedValue} (Ok (named_value x v, r)) (Ok (a, t)) → a.name ≡ x.name
+    same v r k = let p : ◌≡◌ {A = NamedValue × Section} (named_value x v, r) (a, t) = cc in ap (λ (y : NamedValue × Section). y.0.name) (sym p)
+
+    by_constant : (r : Result (AttributeValue Section) Error) → ◌>>=◌ {B = NamedValue × Section} r (λ v. Ok (named_value x v, s)) ≡ Ok (a, t) → a.name ≡ x.name
+    by_constant (Ok v) k = same v s k
+    by_constant (Err f) k = absurd cc
+
+    by_value : (r : Reading (AttributeValue Section)) → ◌>>=◌ {B = NamedValue × Section} r (λ v. Ok (named_value x v.0, v.1)) ≡ Ok (a, t) → a.name ≡ x.name
+    by_value (Ok v) k = same v.0 v.1 k
+    by_value (Err f) k = absurd cc
+
+    by_form : (b : Bool) → cond b (◌>>=◌ {B = NamedValue × Section} (implicit_of x.constant) (λ v. Ok (named_value x v, s))) (◌>>=◌ {B = NamedValue × Section} (value_at e x.form.0 s) (λ v. Ok (named_value x v.0, v.1))) ≡ Ok (a, t) → a.name ≡ x.name
+    by_form true k = by_constant (implicit_of x.constant) k
+    by_form false k = by_value (value_at e x.form.0 s) k
+
+pub passed : (may wanted : Bool) (e : Encoding) (x : Specification) (s left : Section) (o : Option NamedValue) → IsReadIf may wanted left (Ok o) (attribute_at e x s) → Passed (attribute_at e x s) left x.name o wanted
+passed may wanted e x s left (Some a) h = record { attribute = a; is = h; said = inl refl }
+passed may wanted e x s left None h = by_read (attribute_at e x s) refl h.0
+  where
+    by_read : (r : Reading NamedValue) → attribute_at e x s ≡ r → rest_of r ≡ Ok left → Passed (attribute_at e x s) left x.name None wanted
+    by_read (Ok a) k l = let is : attribute_at e x s ≡ Ok (a.0, left) = k ∙ ap (λ r. Ok (a.0, r)) (let same : a.1 ≡ left = cc in same) in record { attribute = a.0; is = is; said = inr (refl, named e x s left a.0 is, h.1) }
+    by_read (Err f) k l = absurd cc
+
+-- passing over one attribute
+pub one_rest : (e : Encoding) (x : Specification) (s : Section) → rest_of (attribute_at e x s) ≡ rest_of (attributes_at e (x ∷ []) s)
+unfolding attributes_at
+one_rest e x s = by_read (attribute_at e x s)
+  where
+    by_read : (r : Reading NamedValue) → rest_of r ≡ rest_of (r >>= λ a. attributes_at e [] a.1 >>= λ more. Ok (a.0 ∷ more.0, more.1))
+    by_read (Ok a) = refl
+    by_read (Err f) = refl
+
+pub no_rest : {A : Type 0} (r : Reading A) (f : Error) → rest_of r ≡ Err f → r ≡ Err f
+no_rest (Ok a) f h = absurd cc
+no_rest (Err g) f h = let same : g ≡ f = cc in ap Err same
+
+-- an attribute that says nothing of an inlined entry changes nothing
+pub still : (scope : Scope) (u : UnitRecord) (x : Result InlinedAttributes Error) (a : NamedValue) → is_wanted a.name ≡ false → or_with_inlined_attribute scope u x a ≡ x
+still scope u (Ok x) a h = unwanted scope u x a h
+still scope u (Err f) a h = refl
+
+-- an attribute that was passed over says nothing of an inlined entry
+pub said : (scope : Scope) (u : UnitRecord) (x : Result InlinedAttributes Error) (given : Reading NamedValue) (left : Section) (name : DwAt) (o : Option NamedValue) (wanted : Bool) → (p : Passed given left name o wanted) → wanted ≡ is_wanted name
+    → or_with_inlined_attribute scope u x p.attribute ≡ (x >>= λ y. with_read_attribute scope u y o)
+said scope u x given left name o wanted p w = elim p.said [
+  | inl e ↦ ap (λ v. x >>= λ y. with_read_attribute scope u y v) (sym e)
+  | inr h ↦ still scope u x p.attribute (ap is_wanted h.1 ∙ sym w ∙ h.2) ∙ whole x ∙ ap (λ v. x >>= λ y. with_read_attribute scope u y v) (sym h.0)
+]
+  where
+    whole : (r : Result InlinedAttributes Error) → r ≡ (r >>= λ y. Ok y)
+    whole (Ok y) = refl
+    whole (Err f) = refl
+
+-- an attribute that was passed over says nothing of a name
+pub name_said : (scope : Scope) (u : UnitRecord) (x : Result (Option Section) Error) (given : Reading NamedValue) (left : Section) (name : DwAt) (o : Option NamedValue) (wanted : Bool) → (p : Passed given left name o wanted) → wanted ≡ is_name_attribute name
+    → or_with_name scope u x p.attribute ≡ (x >>= λ y. with_read_name scope u y o)
+name_said scope u x given left name o wanted p w = elim p.said [
+  | inl e ↦ ap (λ v. x >>= λ y. with_read_name scope u y v) (sym e)
+  | inr h ↦ same x (ap is_name_attribute h.1 ∙ sym w ∙ h.2) ∙ ap (λ v. x >>= λ y. with_read_name scope u y v) (sym h.0)
+]
+  where
+    same : (r : Result (Option Section) Error) → is_name_attribute p.attribute.name ≡ false → or_with_name scope u r p.attribute ≡ (r >>= λ y. Ok y)
+    same (Ok y) h = nameless scope u y p.attribute h
+    same (Err f) h = refl
+
+-- what is found, and what is left
+abbrev pub listed_before : Section → Result FoundInlined Error → Result (FoundInlined × Section) Error
+listed_before rest r = r >>= λ more. Ok (more, rest)
+
+pub same_added : (d e : Sections) (u v : UnitRecord) (m n : ℕ) (offset : ℕ) (found : FoundInlined) (x : InlinedAttributes) → d ≡ e → u ≡ v → m ≡ n → with_inlined_found d u offset m found x ≡ with_inlined_found e v offset n found x
+same_added d e u v m n offset found x a b c = ap (λ y. with_inlined_found y u offset m found x) a ∙ ap (λ y. with_inlined_found e y offset m found x) b ∙ ap (λ y. with_inlined_found e v offset y found x) c
+
+-- an entry whose attributes follow
+module _ (scope : Scope) (u : UnitRecord) (around : List Kind) (offset : ℕ) (a : Abbrev) (left : Section) (found : FoundInlined) where
+  abbrev entry_read : Reading (List NamedValue) → Result (FoundInlined × Section) Error
+  entry_read read = read >>= λ x. with_entry_found scope u around offset found (record { abbreviation = a; attributes = x.0 }) >>= λ more. Ok (more, x.1)
+
+  abbrev listed_read : Reading (List NamedValue) → Result (FoundInlined × Section) Error
+  listed_read read = read >>= λ x. (inlined_attributes_of scope u x.0 >>= λ y. with_inlined_found scope.file.sections u offset (kinds_such is_inlined_kind around) found y) >>= λ more. Ok (more, x.1)
+
+  listed_is : is_listed (kind_of a) around ≡ true → (read : Reading (List NamedValue)) → entry_read read ≡ listed_read read
+  listed_is h (Err f) = refl
+  listed_is h (Ok x) = ap (λ b. ◌>>=◌ {B = FoundInlined × Section} (cond b (inlined_attributes_of scope u x.0 >>= λ y. with_inlined_found scope.file.sections u offset (kinds_such is_inlined_kind around) found y) (Ok found)) (λ more. Ok (more, x.1))) h
+
+  pub entry-fault : (f : Error) → is_listed (kind_of a) around ≡ true → inlined_attributes_after scope u (Ok no_inlined_attributes) (attributes_at u.header.encoding a.attributes left) ≡ Err f
+      → entry_found_at scope u around offset a left found ≡ Err f
+  entry-fault f h k = listed_is h (attributes_at u.header.encoding a.attributes left) ∙ by_read (attributes_at u.header.encoding a.attributes left) k
+    where
+      by_read : (read : Reading (List NamedValue)) → inlined_attributes_after scope u (Ok no_inlined_attributes) read ≡ Err f → listed_read read ≡ Err f
+      by_read (Ok x) k = ap (λ r. ◌>>=◌ {B = FoundInlined × Section} (r >>= λ y. with_inlined_found scope.file.sections u offset (kinds_such is_inlined_kind around) found y) (λ more. Ok (more, x.1))) k
+      by_read (Err g) k = let same : g ≡ f = cc in ap Err same
+
+  pub entry-listed : (x : InlinedAttributes) (rest : Section) → is_listed (kind_of a) around ≡ true → inlined_attributes_after scope u (Ok no_inlined_attributes) (attributes_at u.header.encoding a.attributes left) ≡ Ok x
+      → rest_of (attributes_at u.header.encoding a.attributes left) ≡ Ok rest
+      → entry_found_at scope u around offset a left found ≡ (with_inlined_found scope.file.sections u offset (kinds_such is_inlined_kind around) found x >>= λ more. Ok (more, rest))
+  entry-listed x rest h k l = listed_is h (attributes_at u.header.encoding a.attributes left) ∙ by_read (attributes_at u.header.encoding a.attributes left) k l
+    where
+      by_read : (read : Reading (List NamedValue)) → inlined_attributes_after scope u (Ok no_inlined_attributes) read ≡ Ok x → rest_of read ≡ Ok rest
+          → listed_read read ≡ (with_inlined_found scope.file.sections u offset (kinds_such is_inlined_kind around) found x >>= λ more. Ok (more, rest))
+      by_read (Ok y) k l =
+          ap (λ r. ◌>>=◌ {B = FoundInlined × Section} (r >>= λ z. with_inlined_found scope.file.sections u offset (kinds_such is_inlined_kind around) found z) (λ more. Ok (more, y.1))) k
+          ∙ ap (λ (s : Section). ◌>>=◌ {B = FoundInlined × Section} (with_inlined_found scope.file.sections u offset (kinds_such is_inlined_kind around) found x) (λ more. Ok (more, s))) (let same : y.1 ≡ rest = cc in same)
+      by_read (Err g) k l = absurd cc
+
+  pub entry-other : (rest : Section) (r : Result (Unit {0}) Error) → is_listed (kind_of a) around ≡ false → Exactly (λ _. rest) r (rest_of (attributes_at u.header.encoding a.attributes left))
+      → ExactlyUnlessOom (λ _. (found, rest)) r (entry_found_at scope u around offset a left found)
+  entry-other rest r h k = by_answer r k
+    where
+      other_is : (read : Reading (List NamedValue)) → entry_read read ≡ (rest_of read >>= λ s. Ok (found, s))
+      other_is (Err f) = refl
+      other_is (Ok x) = ap (λ b. ◌>>=◌ {B = FoundInlined × Section} (cond b (inlined_attributes_of scope u x.0 >>= λ y. with_inlined_found scope.file.sections u offset (kinds_such is_inlined_kind around) found y) (Ok found)) (λ more. Ok (more, x.1))) h
+
+      by_answer : (r : Result (Unit {0}) Error) → Exactly (λ _. rest) r (rest_of (attributes_at u.header.encoding a.attributes left)) → ExactlyUnlessOom (λ _. (found, rest)) r (entry_found_at scope u around offset a left found)
+      by_answer (Ok z) k = other_is (attributes_at u.header.encoding a.attributes left) ∙ ap (λ v. ◌>>=◌ {B = FoundInlined × Section} v (λ s. Ok (found, s))) k
+      by_answer (Err f) k = λ _. other_is (attributes_at u.header.encoding a.attributes left) ∙ ap (λ v. ◌>>=◌ {B = FoundInlined × Section} v (λ s. Ok (found, s))) k
+
+  -- what is left after an entry is what its attributes leave
+  pub entry-rest : (more : FoundInlined) (rest : Section) → entry_found_at scope u around offset a left found ≡ Ok (more, rest) → rest_of (attributes_at u.header.encoding a.attributes left) ≡ Ok rest
+  entry-rest more rest h = by_read (attributes_at u.header.encoding a.attributes left) h
+    where
+      by_found : (r : Result FoundInlined Error) (s : Section) → ◌>>=◌ {B = FoundInlined × Section} r (λ m. Ok (m, s)) ≡ Ok (more, rest) → s ≡ rest
+      by_found (Ok m) s h = let p : ◌≡◌ {A = FoundInlined × Section} (m, s) (more, rest) = cc in ap (λ x. x.1) p
+      by_found (Err f) s h = absurd cc
+
+      by_read : (read : Reading (List NamedValue)) → entry_read read ≡ Ok (more, rest) → rest_of read ≡ Ok rest
+      by_read (Ok x) h = ap Ok (by_found (with_entry_found scope u around offset found (record { abbreviation = a; attributes = x.0 })) x.1 h)
+      by_read (Err f) h = absurd cc
+
+-- the code of no bytes
+pub empty_code : (s : Section) → s.bytes ≡ [] → uleb128_at s ≡ Err UnexpectedEof
+unfolding uleb128_in
+empty_code s h = ap (λ (b : List ℕ). ◌>>=◌ {B = ℕ × Section} (uleb128_in b) (λ x. Ok (x.0, record s { bytes = x.1 }))) h

@@ -1,0 +1,443 @@
+-- The details of a function are what is found of it (on specs/FoundDetails.antt).
+use Rattle.std.proofs.Common.{◌≡◌, ℕ, ◌+◌, ◌-◌, ◌<◌, nat_lt, ◌≤◌, ◌==◌, ◌&&◌, Bool, true, false, cond, List, [], ◌∷◌, ◌++◌, count_by, drop, filter, map, length, slice_index_or, take, Option, Some, None, Result, Ok, Err, refl, ap, sym, subst, ◌∙◌, arith, length-append, length-drop, append-nil, zero, suc, ℤ, pos}
+use Rattle.std.specs.List.{All}
+use Rattle.std.proofs.lemmas.Bool.{eqb-true, ne_eqb}
+use Rattle.std.proofs.lemmas.Bool.Decides.{nat_tests}
+use Rattle.std.proofs.lemmas.Grind.{common_steps}
+use Rattle.std.proofs.lemmas.List.{drop-append-le, map-append, take-append-le}
+use Rattle.std.proofs.lemmas.List.Elements.{All-append, All-head, All-map, All-tail, All-weaker}
+use Rattle.std.proofs.lemmas.List.Sums.{length-filter}
+use Rattle.std.proofs.Math.Seq.{drop-append_seam, take-append_seam}
+use Rattle.gimli_read.specs.declared.constants.TheConstants.DwTag.{DW_TAG_inlined_subroutine, DW_TAG_subprogram}
+use Rattle.gimli_read.specs.declared.error.Error.{Error}
+use Rattle.gimli_read.specs.declared.error.Error.TheVariants.{OffsetOutOfBounds}
+use Rattle.gimli_read.specs.declared.range.Range.{Range}
+use Rattle.gimli_read.specs.Abbreviations.{Abbrev}
+use Rattle.gimli_read.specs.Form.{NamedValue, rest_of}
+use Rattle.gimli_read.specs.Reading.{Reading, ◌>>=◌}
+use Rattle.gimli_read.specs.Run.{Run, fold_of, fold_run}
+use Rattle.gimli_read.specs.Section.{Section, after}
+use Rattle.gimli.specs.Entries.{entries_at, entries_from, entry_bytes_from, unit_length}
+use Rattle.gimli.specs.Entry.{EntriesLeft, EntryCursor, EntryUnit, attributes_at, entry_abbreviation_at}
+use Rattle.gimli.specs.Header.{UnitHeaderFields}
+use Rattle.gimli.specs.Items.{Entry, Item, depth_after, item_at, item_from, items_from, items_inside, next_item_at}
+use Rattle.gimli.specs.Sections.{Sections}
+use Rattle.gimli.specs.Unit.{UnitRecord}
+use Rattle.gimli.proofs.ItemLemmas.{next_is}
+use Rattle.addr2line_lines.specs.declared.details.FunctionDetail.{FunctionDetail}
+use Rattle.addr2line_lines.specs.declared.picks.InlinedFunctionAddress.{InlinedFunctionAddress}
+use Rattle.addr2line_lines.specs.declared.nesting.Kind.{Kind}
+use Rattle.addr2line_lines.specs.declared.nesting.Kind.TheVariants.{Inlined, Other, Subprogram}
+use Rattle.addr2line_lines.specs.Details.{Detail, InlinedAttributes, InlinedEntry, InlinedRange, PlacedItem, detail_at, entry_of, inlined_attributes_of, inlined_entry, inlined_in, inlined_ranges, is_in_function, is_inlined, number_of, open_after, placed, with_inlined}
+use Rattle.addr2line_lines.specs.FoundDetails.{AreDetailsMore, IsDetailPlace, FoundAround, FoundInlined, IsFoundMore, IsGrown, IsPlaceAmong, KeptDetails, detail_of, first_found, abbreviation_of, closed_once, detail_found_at, function_found_at, inlined_address, inlined_more, range_among, inside_found, is_inlined_kind, is_listed, is_subprogram_kind, kind_of, kinds_such, name_after, no_inlined, opened, ranges_from, with_entry_found, with_inlined_found, with_item_found}
+use Rattle.addr2line_lines.specs.Functions.{is_subprogram}
+use Rattle.addr2line_lines.specs.Names.{name_of}
+use Rattle.addr2line_lines.specs.RangeAttributes.{attribute_ranges}
+use Rattle.addr2line_lines.specs.References.{Scope}
+use Rattle.addr2line_lines.proofs.NestingLemmas.{coded, found_same, grown_not}
+
+-- what the kinds of open entries tell
+abbrev kind_at : ℕ → Kind
+kind_at n = cond (n == DW_TAG_subprogram.0) Subprogram (cond (n == DW_TAG_inlined_subroutine.0) Inlined Other)
+
+inlined_at : (n : ℕ) → is_inlined_kind (kind_at n) ≡ (n == DW_TAG_inlined_subroutine.0)
+inlined_at n = by_tag (n == DW_TAG_subprogram.0) refl
+  where
+    by_inlined : (b : Bool) → is_inlined_kind (cond b Inlined Other) ≡ b
+    by_inlined true = refl
+    by_inlined false = refl
+
+    by_tag : (b : Bool) → (n == DW_TAG_subprogram.0) ≡ b → is_inlined_kind (kind_at n) ≡ (n == DW_TAG_inlined_subroutine.0)
+    by_tag true e = subst (λ m. is_inlined_kind (kind_at m) ≡ (m == DW_TAG_inlined_subroutine.0)) (sym (eqb-true n DW_TAG_subprogram.0 e)) refl
+    by_tag false e = ap (λ b. is_inlined_kind (cond b Subprogram (cond (n == DW_TAG_inlined_subroutine.0) Inlined Other))) e ∙ by_inlined (n == DW_TAG_inlined_subroutine.0)
+
+subprogram_at : (n : ℕ) → is_subprogram_kind (kind_at n) ≡ (n == DW_TAG_subprogram.0)
+subprogram_at n = by_tag (n == DW_TAG_subprogram.0) (n == DW_TAG_inlined_subroutine.0)
+  where
+    by_tag : (b c : Bool) → is_subprogram_kind (cond b Subprogram (cond c Inlined Other)) ≡ b
+    by_tag true c = refl
+    by_tag false true = refl
+    by_tag false false = refl
+
+counted : (such : Abbrev → Bool) (kind : Kind → Bool) → ((a : Abbrev) → kind (kind_of a) ≡ such a) → (up : List Abbrev) → count_by kind (map kind_of up) ≡ number_of such up
+counted such kind h [] = refl
+counted such kind h (a ∷ up) = one (such a) (h a) (counted such kind h up)
+  where
+    one : (b : Bool) → kind (kind_of a) ≡ b → count_by kind (map kind_of up) ≡ number_of such up → count_by kind (kind_of a ∷ map kind_of up) ≡ length (cond b (a ∷ filter such up) (filter such up))
+    one true e k = grind (arith, common_steps, e, k)
+    one false e k = grind (arith, common_steps, e, k)
+
+listed_is : (a : Abbrev) (x : Item) (up : List Abbrev) → is_listed (kind_of a) (map kind_of up) ≡ (is_inlined a && is_in_function (record { item = x; around = up }))
+listed_is a x up =
+    ap (λ b. b && (count_by is_subprogram_kind (map kind_of up) == 0)) (inlined_at a.tag.0)
+    ∙ ap (λ n. is_inlined a && (n == 0)) (counted is_subprogram is_subprogram_kind (λ b. subprogram_at b.tag.0) up)
+
+-- one more inlined entry changes nothing of those before
+same_entry : (entries : List InlinedEntry) (e d : InlinedEntry) (k : ℕ) → k < length entries → slice_index_or (entries ++ e ∷ []) k d ≡ slice_index_or entries k d
+same_entry [] e d k l = absurd (omega arith)
+same_entry (x ∷ entries) e d zero l = refl
+same_entry (x ∷ entries) e d (suc k) l = same_entry entries e d k (omega arith)
+
+last_entry : (entries : List InlinedEntry) (e d : InlinedEntry) → slice_index_or (entries ++ e ∷ []) (length entries) d ≡ e
+last_entry [] e d = refl
+last_entry (x ∷ entries) e d = last_entry entries e d
+
+-- a range of an inlined entry
+abbrev of_entry : ℕ → InlinedEntry → Range → InlinedRange
+of_entry depth e r = record { depth = depth; range = r; entry = e }
+
+same_ranges : (entries : List InlinedEntry) (e : InlinedEntry) (xs : List InlinedFunctionAddress) → All (IsPlaceAmong entries) xs → map (range_among (entries ++ e ∷ [])) xs ≡ map (range_among entries) xs
+same_ranges entries e [] all = refl
+same_ranges entries e (a ∷ xs) all =
+    let one : range_among (entries ++ e ∷ []) a ≡ range_among entries a = ap (λ (y : InlinedEntry). of_entry a.depth y a.range) (same_entry entries e no_inlined a.function (All-head (IsPlaceAmong entries) a xs all)) in
+    ap (λ (y : InlinedRange). y ∷ map (range_among (entries ++ e ∷ [])) xs) one
+    ∙ ap (λ ys. range_among entries a ∷ ys) (same_ranges entries e xs (All-tail (IsPlaceAmong entries) a xs all))
+
+new_ranges : (entries : List InlinedEntry) (e : InlinedEntry) (depth : ℕ) (ranges : List Range) → map (range_among (entries ++ e ∷ [])) (map (inlined_address depth (length entries)) ranges) ≡ map (of_entry depth e) ranges
+new_ranges entries e depth [] = refl
+new_ranges entries e depth (r ∷ ranges) =
+    let one : range_among (entries ++ e ∷ []) (inlined_address depth (length entries) r) ≡ of_entry depth e r = ap (λ (y : InlinedEntry). of_entry depth y r) (last_entry entries e no_inlined) in
+    ap (λ (y : InlinedRange). y ∷ map (range_among (entries ++ e ∷ [])) (map (inlined_address depth (length entries)) ranges)) one
+    ∙ ap (λ ys. of_entry depth e r ∷ ys) (new_ranges entries e depth ranges)
+
+-- the ranges from a place on are by places of inlined entries
+pub record AreFrom (n : ℕ) (found : FoundInlined) : Type 0 where
+  pub within : n ≤ length found.ranges
+  pub places : All (IsPlaceAmong found.entries) (drop n found.ranges)
+
+more_ranges : (n : ℕ) (found : FoundInlined) (e : InlinedEntry) (depth : ℕ) (ranges : List Range) → AreFrom n found → ranges_from n (inlined_more found e depth ranges) ≡ ranges_from n found ++ map (of_entry depth e) ranges
+more_ranges n found e depth [] all = sym (append-nil (ranges_from n found))
+more_ranges n found e depth (r ∷ ranges) all =
+    let added = map (inlined_address depth (length found.entries)) (r ∷ ranges) in
+    ap (λ xs. map (range_among (found.entries ++ e ∷ [])) xs) (drop-append-le n found.ranges added all.within)
+    ∙ map-append (range_among (found.entries ++ e ∷ [])) (drop n found.ranges) added
+    ∙ ap (λ xs. xs ++ map (range_among (found.entries ++ e ∷ [])) added) (same_ranges found.entries e (drop n found.ranges) all.places)
+    ∙ ap (λ xs. ranges_from n found ++ xs) (new_ranges found.entries e depth (r ∷ ranges))
+
+more_places : (n : ℕ) (found : FoundInlined) (e : InlinedEntry) (depth : ℕ) (ranges : List Range) → AreFrom n found → AreFrom n (inlined_more found e depth ranges)
+more_places n found e depth [] all = all
+more_places n found e depth (r ∷ ranges) all =
+    let added = map (inlined_address depth (length found.entries)) (r ∷ ranges) in
+    let m : length (found.entries ++ e ∷ []) ≡ length found.entries + 1 = length-append found.entries (e ∷ []) in
+    let l = length-append found.ranges added in
+    let w = all.within in
+    record {
+      within = omega arith;
+      places = subst (All (IsPlaceAmong (found.entries ++ e ∷ []))) (sym (drop-append-le n found.ranges added all.within))
+          (All-append (IsPlaceAmong (found.entries ++ e ∷ [])) (drop n found.ranges) added
+          (All-weaker (IsPlaceAmong found.entries) (IsPlaceAmong (found.entries ++ e ∷ [])) (λ a k. omega arith) (drop n found.ranges) all.places)
+          (All-map (IsPlaceAmong (found.entries ++ e ∷ [])) (inlined_address depth (length found.entries)) (r ∷ ranges) (λ k d j. omega arith)));
+    }
+
+-- the ranges are those of what was found from a place on; or both are faulty
+abbrev pub Agrees : ℕ → Result (List InlinedRange) Error → Result FoundInlined Error → Type 0
+Agrees n w (Ok more) = (w ≡ Ok (ranges_from n more)) × AreFrom n more
+Agrees n w (Err e) = w ≡ Err e
+
+abbrev AgreesAround : ℕ → List Abbrev → Result (List InlinedRange) Error → Result FoundAround Error → Type 0
+AgreesAround n up w (Ok more) = (w ≡ Ok (ranges_from n more.found)) × AreFrom n more.found × (more.around ≡ map kind_of up)
+AgreesAround n up w (Err e) = w ≡ Err e
+
+closed_is : (up : List Abbrev) (x : Item) → x.entry ≡ None → closed_once (map kind_of up) ≡ map kind_of (open_after up x)
+closed_is [] x h = ap (λ o. map kind_of (elim o [ None ↦ [] | Some e ↦ cond e.abbreviation.has_children (e.abbreviation ∷ []) [] ])) (sym h)
+closed_is (a ∷ up) x h = ap (λ o. map kind_of (elim o [ None ↦ up | Some e ↦ cond e.abbreviation.has_children (e.abbreviation ∷ a ∷ up) (a ∷ up) ])) (sym h)
+
+opened_is : (up : List Abbrev) (a : Abbrev) → opened (kind_of a) a.has_children (map kind_of up) ≡ map kind_of (cond a.has_children (a ∷ up) up)
+opened_is up a = by_children a.has_children
+  where
+    by_children : (b : Bool) → cond b (kind_of a ∷ map kind_of up) (map kind_of up) ≡ map kind_of (cond b (a ∷ up) up)
+    by_children true = refl
+    by_children false = refl
+
+module _ (scope : Scope) (u : UnitRecord) (n : ℕ) where
+  -- one more entry
+  entry_agrees : (up : List Abbrev) (x : Item) (e : Entry) (found : FoundInlined) → AreFrom n found
+      → Agrees n (cond (is_inlined e.abbreviation && is_in_function (record { item = x; around = up })) (inlined_attributes_of scope u e.attributes >>= λ a. attribute_ranges scope.file.sections u a.ranges >>= λ ranges. Ok (ranges_from n found ++ inlined_ranges (number_of is_inlined up) x.offset a ranges)) (Ok (ranges_from n found)))
+      (with_entry_found scope u (map kind_of up) x.offset found e)
+  entry_agrees up x e found all =
+      subst (λ m. Agrees n (wanted (is_inlined e.abbreviation && is_in_function (record { item = x; around = up })) (number_of is_inlined up)) (given (is_listed (kind_of e.abbreviation) (map kind_of up)) m)) (sym depth)
+      (subst (λ b. Agrees n (wanted (is_inlined e.abbreviation && is_in_function (record { item = x; around = up })) (number_of is_inlined up)) (given b (number_of is_inlined up))) (sym (listed_is e.abbreviation x up))
+      (by_test (is_inlined e.abbreviation && is_in_function (record { item = x; around = up }))))
+    where
+      depth : kinds_such is_inlined_kind (map kind_of up) ≡ number_of is_inlined up
+      depth = counted is_inlined is_inlined_kind (λ b. inlined_at b.tag.0) up
+
+      read : Result InlinedAttributes Error
+      read = inlined_attributes_of scope u e.attributes
+
+      wanted : Bool → ℕ → Result (List InlinedRange) Error
+      wanted b m = cond b (read >>= λ a. attribute_ranges scope.file.sections u a.ranges >>= λ ranges. Ok (ranges_from n found ++ inlined_ranges m x.offset a ranges)) (Ok (ranges_from n found))
+
+      given : Bool → ℕ → Result FoundInlined Error
+      given b m = cond b (read >>= λ y. with_inlined_found scope.file.sections u x.offset m found y) (Ok found)
+
+      by_ranges : (a : InlinedAttributes) (r : Result (List Range) Error) → Agrees n (r >>= λ ranges. Ok (ranges_from n found ++ inlined_ranges (number_of is_inlined up) x.offset a ranges)) (r >>= λ ranges. Ok (inlined_more found (inlined_entry x.offset a) (number_of is_inlined up) ranges))
+      by_ranges a (Ok ranges) = (ap Ok (sym (more_ranges n found (inlined_entry x.offset a) (number_of is_inlined up) ranges all)), more_places n found (inlined_entry x.offset a) (number_of is_inlined up) ranges all)
+      by_ranges a (Err f) = refl
+
+      by_read : (r : Result InlinedAttributes Error) → Agrees n (r >>= λ a. attribute_ranges scope.file.sections u a.ranges >>= λ ranges. Ok (ranges_from n found ++ inlined_ranges (number_of is_inlined up) x.offset a ranges)) (r >>= λ y. with_inlined_found scope.file.sections u x.offset (number_of is_inlined up) found y)
+      by_read (Ok a) = by_ranges a (attribute_ranges scope.file.sections u a.ranges)
+      by_read (Err f) = refl
+
+      by_test : (b : Bool) → Agrees n (wanted b (number_of is_inlined up)) (given b (number_of is_inlined up))
+      by_test true = by_read read
+      by_test false = (refl, all)
+
+  -- one more item
+  item_agrees : (up : List Abbrev) (offset : ℕ) (depth : ℤ) (o : Option Entry) (found : FoundInlined) → AreFrom n found
+      → AgreesAround n (open_after up (record { offset = offset; depth = depth; entry = o })) (with_inlined scope u (ranges_from n found) (record { item = record { offset = offset; depth = depth; entry = o }; around = up }))
+      (with_item_found scope u (record { found = found; around = map kind_of up }) (record { offset = offset; depth = depth; entry = o }))
+  item_agrees up offset depth None found all = (refl, all, closed_is up (record { offset = offset; depth = depth; entry = None }) refl)
+  item_agrees up offset depth (Some e) found all = by_entry _ _ (entry_agrees up (record { offset = offset; depth = depth; entry = Some e }) e found all)
+    where
+      by_entry : (w : Result (List InlinedRange) Error) (m : Result FoundInlined Error) → Agrees n w m
+          → AgreesAround n (cond e.abbreviation.has_children (e.abbreviation ∷ up) up) w (◌>>=◌ {B = FoundAround} m (λ more. Ok (record { found = more; around = opened (kind_of e.abbreviation) e.abbreviation.has_children (map kind_of up) })))
+      by_entry w (Ok more) h = (h.0, h.1, opened_is up e.abbreviation)
+      by_entry w (Err f) h = h
+
+  abbrev AgreesEnd : Result (List InlinedRange × Unit {0}) Error → Result (FoundAround × Unit {0}) Error → Type 0
+  AgreesEnd w (Ok m) = (w ≡ Ok (ranges_from n m.0.found, m.1)) × AreFrom n m.0.found
+  AgreesEnd w (Err e) = w ≡ Err e
+
+  fold_agrees : (items : List Item) (end : Result (Unit {0}) Error) (up : List Abbrev) (found : FoundInlined) → AreFrom n found
+      → AgreesEnd (fold_run (with_inlined scope u) (ranges_from n found) (placed up items) end) (fold_run (with_item_found scope u) (record { found = found; around = map kind_of up }) items end)
+  unfolding fold_run
+  fold_agrees [] (Ok z) up found all = (refl, all)
+  fold_agrees [] (Err e) up found all = refl
+  fold_agrees (x ∷ xs) end up found all = by_step _ _ (item_agrees up x.offset x.depth x.entry found all) (λ more. fold_agrees xs end (open_after up x) more)
+    where
+      by_step : (w : Result (List InlinedRange) Error) (m : Result FoundAround Error) → AgreesAround n (open_after up x) w m
+          → ((more : FoundInlined) → AreFrom n more → AgreesEnd (fold_run (with_inlined scope u) (ranges_from n more) (placed (open_after up x) xs) end) (fold_run (with_item_found scope u) (record { found = more; around = map kind_of (open_after up x) }) xs end))
+          → AgreesEnd (w >>= λ b. fold_run (with_inlined scope u) b (placed (open_after up x) xs) end) (m >>= λ b. fold_run (with_item_found scope u) b xs end)
+      by_step w (Ok more) h rest =
+          subst (λ v. AgreesEnd (v >>= λ b. fold_run (with_inlined scope u) b (placed (open_after up x) xs) end) (fold_run (with_item_found scope u) more xs end)) (sym h.0)
+          (subst (λ k. AgreesEnd (fold_run (with_inlined scope u) (ranges_from n more.found) (placed (open_after up x) xs) end) (fold_run (with_item_found scope u) (record { found = more.found; around = k }) xs end)) (sym h.2) (rest more.found h.1))
+      by_step w (Err e) h rest = ap (λ v. v >>= λ b. fold_run (with_inlined scope u) b (placed (open_after up x) xs) end) h
+
+  abbrev inlined_run : FoundInlined → Run Item (Unit {0}) → Result (List InlinedRange) Error
+  inlined_run found inside = fold_run (with_inlined scope u) (ranges_from n found) (placed [] inside.items) inside.end >>= λ f. Ok f.0
+
+  inside_agrees : (unit : EntryUnit) (c : EntryCursor) (found : FoundInlined) → AreFrom n found
+      → Agrees n (inlined_run found (items_inside (pos 0) c.depth (items_from unit c).items (items_from unit c).end)) (inside_found scope u unit c (record { found = found; around = [] }))
+  inside_agrees unit c found all =
+      let inside = items_inside (pos 0) c.depth (items_from unit c).items (items_from unit c).end in
+      last _ _ (fold_agrees inside.items inside.end [] found all)
+    where
+      last : (w : Result (List InlinedRange × Unit {0}) Error) (m : Result (FoundAround × Unit {0}) Error) → AgreesEnd w m → Agrees n (w >>= λ f. Ok f.0) (m >>= λ more. Ok more.0.found)
+      last w (Ok m) h = (ap (λ r. r >>= λ f. Ok f.0) h.0, h.1)
+      last w (Err e) h = ap (λ r. r >>= λ f. Ok f.0) h
+
+none_left : {X : Type 0} (xs : List X) → drop (length xs) xs ≡ []
+none_left [] = refl
+none_left (x ∷ xs) = none_left xs
+
+none_from : (found : FoundInlined) → AreFrom (length found.ranges) found
+none_from found = record {
+  within = omega arith;
+  places = subst (All (IsPlaceAmong found.entries)) (sym (none_left found.ranges)) (λ k d l. absurd (omega arith));
+}
+
+-- a unit's offset is below its end
+some_left : (header : UnitHeaderFields) (offset : ℕ) (s : Section) → entry_bytes_from header (Some offset) ≡ Ok s → (length s.bytes == 0) ≡ false
+some_left header offset s h = by_start (nat_lt offset header.header_length) refl (nat_lt offset (unit_length header)) refl h
+  where
+    by_start : (b : Bool) → nat_lt offset header.header_length ≡ b → (c : Bool) → nat_lt offset (unit_length header) ≡ c
+        → cond {A = Result Section Error} b (Err OffsetOutOfBounds) (cond c (Ok (after (offset - header.header_length) header.entries)) (Err OffsetOutOfBounds)) ≡ Ok s → (length s.bytes == 0) ≡ false
+    by_start true e c f h = absurd cc
+    by_start false e false f h = absurd cc
+    by_start false e true f h =
+        let same : after (offset - header.header_length) header.entries ≡ s = cc in
+        let long : length s.bytes ≡ length header.entries.bytes - (offset - header.header_length) = ap (λ (t : Section). length t.bytes) (sym same) ∙ length-drop (offset - header.header_length) header.entries.bytes in
+        let low : offset < unit_length header = grind (arith, nat_tests) in
+        let high : header.header_length ≤ offset = grind (arith, nat_tests) in
+        ne_eqb (length s.bytes) 0 (λ z. absurd (omega arith))
+
+module _ (scope : Scope) (u : UnitRecord) (offset : ℕ) (found : FoundInlined) where
+  -- the details are those of what was found; or both are faulty
+  abbrev pub AgreesDetail : Result Detail Error → Result (Option Section × FoundInlined) Error → Type 0
+  AgreesDetail w (Ok m) = (w ≡ Ok (record { name = m.0; inlined = ranges_from (length found.ranges) m.1 })) × AreFrom (length found.ranges) m.1
+  AgreesDetail w (Err e) = w ≡ Err e
+
+  abbrev n : ℕ
+  n = length found.ranges
+
+  abbrev detailed : Option Section → Result (List InlinedRange) Error → Result Detail Error
+  detailed name r = r >>= λ inlined. Ok (record { name = name; inlined = inlined })
+
+  by_inside : (name : Option Section) (w : Result (List InlinedRange) Error) (m : Result FoundInlined Error) → Agrees n w m → AgreesDetail (detailed name w) (◌>>=◌ {B = Option Section × FoundInlined} m (λ more. Ok (name, more)))
+  by_inside name w (Ok more) h = (ap (detailed name) h.0, h.1)
+  by_inside name w (Err f) h = ap (detailed name) h
+
+  -- what stands inside a function whose entry was read
+  inlined_agrees : (unit : EntryUnit) (x : Item) (c : EntryCursor) → x.depth ≡ pos 0 → c.depth ≡ depth_after x → Agrees n (inlined_in scope u (record { unit = unit; cursor = c }) x) (inside_found scope u unit c (record { found = found; around = [] }))
+  inlined_agrees unit x c d e =
+      let items = items_from unit c in
+      subst (λ z. Agrees n (inlined_of [] z (depth_after x)) (inside_found scope u unit c (record { found = found; around = [] }))) (sym d)
+      (subst (λ z. Agrees n (inlined_of [] (pos 0) z) (inside_found scope u unit c (record { found = found; around = [] }))) e
+      (subst (λ xs. Agrees n (inlined_of xs (pos 0) c.depth) (inside_found scope u unit c (record { found = found; around = [] }))) (ap (λ xs. map (range_among found.entries) xs) (none_left found.ranges))
+      (inside_agrees scope u n unit c found (none_from found))))
+    where
+      inlined_of : List InlinedRange → ℤ → ℤ → Result (List InlinedRange) Error
+      inlined_of xs d now =
+          let inside = items_inside d now (items_from unit c).items (items_from unit c).end in
+          fold_run (with_inlined scope u) xs (placed [] inside.items) inside.end >>= λ f. Ok f.0
+
+  abbrev detail_read : EntriesLeft → Result (Option Item × EntryCursor) Error → Result Detail Error
+  detail_read left r = r >>= λ next. entry_of offset next.0 >>= λ function. name_of scope u function.1.attributes >>= λ name. detailed name (inlined_in scope u (record { unit = left.unit; cursor = next.1 }) function.0)
+
+  abbrev found_of : EntriesLeft → Result (Option Abbrev × EntryCursor) Error → Result (Option Section × FoundInlined) Error
+  found_of left r = r >>= λ code. abbreviation_of offset code.0 >>= λ a. function_found_at scope u left.unit code.1 found a
+
+  left_agrees : (s : Section) → (length s.bytes == 0) ≡ false → let left = entries_at u.header u.abbreviations s in AgreesDetail (detail_read left (next_item_at left.unit left.cursor)) (found_of left (entry_abbreviation_at left.unit.abbreviations left.cursor))
+  left_agrees s some =
+      subst (λ r. AgreesDetail (detail_read left r) (found_of left (entry_abbreviation_at left.unit.abbreviations left.cursor))) (sym (coded scope u left.unit left.cursor some))
+      (by_code (entry_abbreviation_at left.unit.abbreviations left.cursor) refl)
+    where
+      left : EntriesLeft
+      left = entries_at u.header u.abbreviations s
+
+      named_item : (x : Item) (c : EntryCursor) → x.depth ≡ pos 0 → c.depth ≡ depth_after x → (r : Result (Option Section) Error)
+          → AgreesDetail (r >>= λ name. detailed name (inlined_in scope u (record { unit = left.unit; cursor = c }) x)) (◌>>=◌ {B = Option Section × FoundInlined} r (λ name. inside_found scope u left.unit c (record { found = found; around = [] }) >>= λ more. Ok (name, more)))
+      named_item x c d e (Err f) = refl
+      named_item x c d e (Ok name) = by_inside name _ _ (inlined_agrees left.unit x c d e)
+
+      by_read : (a : Abbrev) (t : EntryCursor) → entry_abbreviation_at left.unit.abbreviations left.cursor ≡ Ok (Some a, t) → (r : Reading (List NamedValue)) → attributes_at u.header.encoding a.attributes t.left ≡ r
+          → AgreesDetail (detail_read left (◌>>=◌ {B = Option Item × EntryCursor} r (λ x. Ok (Some (item_at left.unit left.cursor (Some (record { abbreviation = a; attributes = x.0 }))), record { left = x.1; depth = t.depth }))))
+          (name_after scope u (Ok None) r >>= λ name. rest_of r >>= λ rest. ◌>>=◌ {B = Option Section × FoundInlined} (inside_found scope u left.unit (record { left = rest; depth = t.depth }) (record { found = found; around = [] })) (λ more. Ok (name, more)))
+      by_read a t q (Err f) k = refl
+      by_read a t q (Ok x) k =
+          let item = item_at left.unit left.cursor (Some (record { abbreviation = a; attributes = x.0 })) in
+          let end : EntryCursor = record { left = x.1; depth = t.depth } in
+          let is : next_item_at left.unit left.cursor ≡ Ok (Some item, end) = coded scope u left.unit left.cursor some ∙ ap (λ r. r >>= λ y. item_from left.unit left.cursor y) q
+          ∙ ap (λ (r : Reading (List NamedValue)). ◌>>=◌ {B = Option Item × EntryCursor} r (λ y. Ok (Some (item_at left.unit left.cursor (Some (record { abbreviation = a; attributes = y.0 }))), record { left = y.1; depth = t.depth }))) k in
+          let next = next_is left.unit left.cursor end item is in
+          named_item item end refl next.after (name_of scope u x.0)
+
+      by_code : (r : Result (Option Abbrev × EntryCursor) Error) → entry_abbreviation_at left.unit.abbreviations left.cursor ≡ r → AgreesDetail (detail_read left (r >>= λ y. item_from left.unit left.cursor y)) (found_of left r)
+      by_code (Err f) q = refl
+      by_code (Ok (None, t)) q = refl
+      by_code (Ok (Some a, t)) q = by_read a t q (attributes_at u.header.encoding a.attributes t.left) refl
+
+  -- the details of a function are what is found of it
+  pub detail_agrees : AgreesDetail (detail_at scope u offset) (detail_found_at scope u offset found)
+  unfolding detail_at detail_found_at
+  detail_agrees = by_bytes (entry_bytes_from u.header (Some offset)) refl
+    where
+      by_bytes : (r : Result Section Error) → entry_bytes_from u.header (Some offset) ≡ r
+          → AgreesDetail ((r >>= λ s. Ok (entries_at u.header u.abbreviations s)) >>= λ left. detail_read left (next_item_at left.unit left.cursor)) ((r >>= λ s. Ok (entries_at u.header u.abbreviations s)) >>= λ left. found_of left (entry_abbreviation_at left.unit.abbreviations left.cursor))
+      by_bytes (Err f) q = refl
+      by_bytes (Ok s) q = left_agrees s (some_left u.header offset s q)
+
+-- lists of details
+pub map_take : {X Y : Type 0} (f : X → Y) (n : ℕ) (xs : List X) → map f (take n xs) ≡ take n (map f xs)
+map_take f zero xs = refl
+map_take f (suc n) [] = refl
+map_take f (suc n) (x ∷ xs) = ap (λ ys. f x ∷ ys) (map_take f n xs)
+
+taken_all : {X : Type 0} (xs : List X) → take (length xs) xs ≡ xs
+taken_all [] = refl
+taken_all (x ∷ xs) = ap (λ ys. x ∷ ys) (taken_all xs)
+
+taken_from : {X : Type 0} (n m : ℕ) (xs : List X) → m ≡ length xs → take (m - n) (drop n xs) ≡ drop n xs
+taken_from n m xs h = ap (λ k. take (k - n) (drop n xs)) h ∙ ap (λ k. take k (drop n xs)) (sym (length-drop n xs)) ∙ taken_all (drop n xs)
+
+pub last_name : {X Y : Type 0} (f : X → Y) (xs : List X) (x : X) (d : Y) → slice_index_or (map f (xs ++ x ∷ [])) (length xs) d ≡ f x
+last_name f [] x d = refl
+last_name f (y ∷ xs) x d = last_name f xs x d
+
+pub detail_refused : (scope : Scope) (u : UnitRecord) (offset : ℕ) (found : FoundInlined) (e : Error) → detail_found_at scope u offset found ≡ Err e → detail_at scope u offset ≡ Err e
+detail_refused scope u offset found e h = subst (AgreesDetail scope u offset found (detail_at scope u offset)) h (detail_agrees scope u offset found)
+
+pub detail_kept : (scope : Scope) (u : UnitRecord) (offset : ℕ) (found : FoundInlined) (d : KeptDetails) (p : FunctionDetail) (name : Option Section) → detail_found_at scope u offset found ≡ Ok (name, d.found)
+    → slice_index_or d.names p.name None ≡ name → p.ranges_begin ≡ length found.ranges → p.ranges_end ≡ length d.found.ranges → detail_at scope u offset ≡ Ok (detail_of d p)
+detail_kept scope u offset found d p name h k b e =
+    let a = subst (AgreesDetail scope u offset found (detail_at scope u offset)) h (detail_agrees scope u offset found) in
+    let made : Option Section → List InlinedFunctionAddress → Detail = λ n xs. record { name = n; inlined = map (range_among d.found.entries) xs } in
+    a.0 ∙ ap (λ n. Ok (made n (drop (length found.ranges) d.found.ranges))) (sym k)
+    ∙ ap (λ m. Ok (made (slice_index_or d.names p.name None) (drop m d.found.ranges))) (sym b)
+    ∙ ap (λ xs. Ok (made (slice_index_or d.names p.name None) xs)) (sym (taken_from p.ranges_begin p.ranges_end d.found.ranges e))
+
+first_of : {X : Type 0} (n : ℕ) (xs ys : List X) → IsGrown xs ys → n ≡ length xs → take n ys ≡ xs
+first_of n xs ys h e = ap (λ m. take m ys) e ∙ ap (λ v. take (length xs) v) h.is ∙ take-append_seam xs h.more
+
+pub first_is : (functions ranges : ℕ) (found more : FoundInlined) → IsFoundMore found more → functions ≡ length found.entries → ranges ≡ length found.ranges → first_found functions ranges more ≡ found
+first_is functions ranges found more h a b =
+    let made : List InlinedEntry → List InlinedFunctionAddress → FoundInlined = λ xs ys. record { entries = xs; ranges = ys } in
+    ap (λ xs. made xs (take ranges more.ranges)) (first_of functions found.entries more.entries h.entries a) ∙ ap (λ ys. made found.entries ys) (first_of ranges found.ranges more.ranges h.ranges b)
+
+-- what is kept stays where nothing changes
+pub details_same : (kept more : KeptDetails) → more ≡ kept → AreDetailsMore kept more
+details_same kept more h = subst (AreDetailsMore kept) (sym h) (record { names = grown_not kept.names; found = found_same kept.found })
+
+-- a place of details that were just kept
+pub place_kept : (scope : Scope) (u : UnitRecord) (offset : ℕ) (found : FoundInlined) (d : KeptDetails) (p : FunctionDetail) (name : Option Section) → detail_found_at scope u offset found ≡ Ok (name, d.found) → p.name < length d.names
+    → p.ranges_begin ≡ length found.ranges → p.ranges_end ≡ length d.found.ranges → IsDetailPlace d p
+place_kept scope u offset found d p name h k b e =
+    let a = subst (AgreesDetail scope u offset found (detail_at scope u offset)) h (detail_agrees scope u offset found) in
+    let w = a.1.within in
+    record {
+      name = k;
+      begin = omega arith;
+      end = omega arith;
+      places = subst (All (IsPlaceAmong d.found.entries)) (ap (λ m. drop m d.found.ranges) (sym b) ∙ sym (taken_from p.ranges_begin p.ranges_end d.found.ranges e)) a.1.places;
+    }
+
+before_more : {X : Type 0} (xs more : List X) (k : ℕ) (d : X) → k < length xs → slice_index_or (xs ++ more) k d ≡ slice_index_or xs k d
+before_more [] more k d l = absurd (omega arith)
+before_more (x ∷ xs) more zero d l = refl
+before_more (x ∷ xs) more (suc k) d l = before_more xs more k d (omega arith)
+
+ranges_stay : (entries more : List InlinedEntry) (xs : List InlinedFunctionAddress) → All (IsPlaceAmong entries) xs → map (range_among (entries ++ more)) xs ≡ map (range_among entries) xs
+ranges_stay entries more [] all = refl
+ranges_stay entries more (a ∷ xs) all =
+    let one : range_among (entries ++ more) a ≡ range_among entries a = ap (λ (y : InlinedEntry). of_entry a.depth y a.range) (before_more entries more a.function no_inlined (All-head (IsPlaceAmong entries) a xs all)) in
+    ap (λ (y : InlinedRange). y ∷ map (range_among (entries ++ more)) xs) one
+    ∙ ap (λ ys. range_among entries a ∷ ys) (ranges_stay entries more xs (All-tail (IsPlaceAmong entries) a xs all))
+
+-- what is added changes nothing of the details that are kept, and their places are places still
+pub detail_stays : (kept more : KeptDetails) (p : FunctionDetail) → AreDetailsMore kept more → IsDetailPlace kept p → (detail_of more p ≡ detail_of kept p) × IsDetailPlace more p
+detail_stays kept more p h place = (same, still)
+  where
+    made : Option Section → List InlinedRange → Detail
+    made n xs = record { name = n; inlined = xs }
+
+    count : ℕ
+    count = p.ranges_end - p.ranges_begin
+
+    run : List InlinedFunctionAddress
+    run = take count (drop p.ranges_begin kept.found.ranges)
+
+    run_is : take count (drop p.ranges_begin more.found.ranges) ≡ run
+    run_is =
+        let b = place.begin in
+        let e = place.end in
+        let long = length-drop p.ranges_begin kept.found.ranges in
+        ap (λ xs. take count (drop p.ranges_begin xs)) h.found.ranges.is
+        ∙ ap (λ xs. take count xs) (drop-append-le p.ranges_begin kept.found.ranges h.found.ranges.more (omega arith))
+        ∙ take-append-le count (drop p.ranges_begin kept.found.ranges) h.found.ranges.more (omega arith)
+
+    ranges_are : map (range_among more.found.entries) (take count (drop p.ranges_begin more.found.ranges)) ≡ map (range_among kept.found.entries) run
+    ranges_are = ap (λ xs. map (range_among more.found.entries) xs) run_is ∙ ap (λ es. map (range_among es) run) h.found.entries.is ∙ ranges_stay kept.found.entries h.found.entries.more run place.places
+
+    name_is : slice_index_or more.names p.name None ≡ slice_index_or kept.names p.name None
+    name_is = ap (λ xs. slice_index_or xs p.name None) h.names.is ∙ before_more kept.names h.names.more p.name None place.name
+
+    same : detail_of more p ≡ detail_of kept p
+    same = ap (λ n. made n (map (range_among more.found.entries) (take count (drop p.ranges_begin more.found.ranges)))) name_is ∙ ap (λ xs. made (slice_index_or kept.names p.name None) xs) ranges_are
+
+    longer : {X : Type 0} (xs ys : List X) → IsGrown xs ys → length xs ≤ length ys
+    longer xs ys g = let a : length ys ≡ length (xs ++ g.more) = ap (λ v. length v) g.is in let b = length-append xs g.more in omega arith
+
+    still : IsDetailPlace more p
+    still =
+        let n = longer kept.names more.names h.names in
+        let r = longer kept.found.ranges more.found.ranges h.found.ranges in
+        let e = longer kept.found.entries more.found.entries h.found.entries in
+        let a = place.name in
+        let b = place.end in
+        record {
+          name = omega arith;
+          begin = place.begin;
+          end = omega arith;
+          places = subst (All (IsPlaceAmong more.found.entries)) (sym run_is) (All-weaker (IsPlaceAmong kept.found.entries) (IsPlaceAmong more.found.entries) (λ x l. omega arith) run place.places);
+        }

@@ -1,0 +1,244 @@
+-- The entries that are open, one at a time (on specs/FoundDetails.antt).
+use Rattle.std.proofs.Common.{◌≡◌, ℕ, ◌+◌, ◌<◌, ◌≤◌, ◌==◌, Bool, true, false, cond, List, [], ◌∷◌, ◌++◌, count_by, length, length-append, map, reverse, Option, Some, None, Result, Ok, Err, OnErr, OnOk, refl, ap, sym, subst, arith, ◌∙◌, append-nil, append_assoc, ℤ, pos}
+use Rattle.std.specs.Prelude.{int_lt}
+use Rattle.std.proofs.lemmas.Bool.{eqb-true, ne_eqb}
+use Rattle.std.proofs.lemmas.Grind.{common_steps}
+use Rattle.std.proofs.lemmas.List.{reverse-append}
+use Rattle.gimli_read.specs.declared.error.Error.{Error}
+use Rattle.gimli_read.specs.declared.error.Error.TheVariants.{OutOfMemory, UnexpectedEof}
+use Rattle.gimli_read.specs.Abbreviations.{Abbrev, with_code}
+use Rattle.gimli_read.specs.Form.{NamedValue, rest_of}
+use Rattle.gimli_read.specs.Reading.{Reading, ◌>>=◌, ExactlyUnlessOom}
+use Rattle.gimli_read.specs.Run.{Run, cons, fold_of, fold_run}
+use Rattle.gimli_read.specs.Section.{Section}
+use Rattle.gimli.specs.Entries.{entries_from}
+use Rattle.gimli.specs.Entry.{EntriesLeft, EntryCursor, EntryUnit, attributes_at, depth_after_closing, entry_abbreviation_at, opening_entry}
+use Rattle.gimli.specs.Items.{Item, depth_after, item_at, item_from, items_from, items_inside, next_item_at, next_offset_of}
+use Rattle.gimli.specs.Unit.{UnitRecord}
+use Rattle.gimli.proofs.EntryLemmas.{abbreviation_takes}
+use Rattle.gimli.proofs.ItemLemmas.{next_is}
+use Rattle.gimli.proofs.ItemReads.{items_end, items_fault, items_more}
+use Rattle.addr2line_lines.specs.declared.nesting.Kind.{Kind}
+use Rattle.addr2line_lines.specs.FoundDetails.{FoundAround, FoundInlined, IsFoundMore, IsGrown, abbreviation_of, closed_once, detail_found_at, entry_found_at, function_found_at, inlined_address, inlined_more, inside_found, item_found_at, kind_of, name_after, opened, with_entry_found, with_inlined_found, with_inlined_ranges, with_item_found}
+use Rattle.addr2line_lines.specs.Details.{InlinedAttributes, inlined_entry}
+use Rattle.addr2line_lines.specs.RangeAttributes.{attribute_ranges}
+use Rattle.gimli_read.specs.declared.range.Range.{Range}
+use Rattle.gimli.specs.Sections.{Sections}
+use Rattle.addr2line_lines.specs.declared.picks.InlinedFunctionAddress.{InlinedFunctionAddress}
+use Rattle.addr2line_lines.specs.References.{Scope}
+use Rattle.addr2line_lines.proofs.DetailLemmas.{empty_code, entry-rest}
+use Rattle.addr2line_lines.proofs.FunctionLemmas.{closing_shorter, entry_shorter}
+
+counted_last : {X : Type 0} (p : X → Bool) (xs : List X) (x : X) → count_by p (reverse xs) ≡ count_by p xs → count_by p (reverse xs ++ x ∷ []) ≡ count_by p (x ∷ xs)
+counted_last p xs x h = grind (arith, common_steps, h)
+
+pub count_reverse : {X : Type 0} (p : X → Bool) (xs : List X) → count_by p (reverse xs) ≡ count_by p xs
+count_reverse p [] = refl
+count_reverse p (x ∷ xs) = ap (λ ys. count_by p ys) (reverse-append (x ∷ []) xs) ∙ counted_last p xs x (count_reverse p xs)
+
+no_bytes : (xs : List ℕ) → (length xs == 0) ≡ true → xs ≡ []
+no_bytes [] h = refl
+no_bytes (x ∷ xs) h = let l = eqb-true (length (x ∷ xs)) 0 h in absurd (omega arith)
+
+-- a code takes a byte
+some_bytes : (table : List Abbrev) (c t : EntryCursor) (o : Option Abbrev) → entry_abbreviation_at table c ≡ Ok (o, t) → (length c.left.bytes == 0) ≡ false
+some_bytes table c t o h = let l = abbreviation_takes table c t o h in ne_eqb (length c.left.bytes) 0 (λ e. absurd (omega arith))
+
+no_code : (table : List Abbrev) (c : EntryCursor) → c.left.bytes ≡ [] → entry_abbreviation_at table c ≡ Err UnexpectedEof
+unfolding entry_abbreviation_at
+no_code table c h =
+    ap (λ (r : Reading ℕ). ◌>>=◌ {B = Option Abbrev × EntryCursor} r (λ code. cond (code.0 == 0) (Ok (None, record { left = code.1; depth = depth_after_closing c.depth })) (opening_entry (with_code code.0 table) (record { left = code.1; depth = c.depth })))) (empty_code c.left h)
+
+-- an answer of a call that takes memory, beside what it left
+pub entered : {X Y : Type 0} (r : Result (Unit {0}) Error) (f : X → Y) (x y : X) (whole : Result Y Error) → whole ≡ Ok (f y) → OnOk r (x ≡ y) → OnErr r (r ≡ Err OutOfMemory) → ExactlyUnlessOom (λ _. f x) r whole
+entered (Ok z) f x y whole h k m = h ∙ ap (λ v. Ok (f v)) (sym k)
+entered (Err e) f x y whole h k m = λ ne. absurd (ne (let same : ◌≡◌ {A = Result (Unit {0}) Error} (Err e) (Err OutOfMemory) = m in cc))
+
+-- the items inside a function, one at a time
+module _ (scope : Scope) (u : UnitRecord) (unit : EntryUnit) where
+  abbrev item_read : FoundAround → Result (Option Item × EntryCursor) Error → Result (FoundAround × EntryCursor) Error
+  item_read state r = r >>= λ x. elim x.0 [ None ↦ Err UnexpectedEof | Some item ↦ with_item_found scope u state item >>= λ more. Ok (more, x.1) ]
+
+  pub coded : (c : EntryCursor) → (length c.left.bytes == 0) ≡ false → next_item_at unit c ≡ (entry_abbreviation_at unit.abbreviations c >>= λ x. item_from unit c x)
+  unfolding next_item_at
+  coded c h = ap (λ b. cond b (Ok (None, c)) (entry_abbreviation_at unit.abbreviations c >>= λ x. item_from unit c x)) h
+
+  ended : (c : EntryCursor) → (length c.left.bytes == 0) ≡ true → next_item_at unit c ≡ Ok (None, c)
+  unfolding next_item_at
+  ended c h = ap (λ b. cond b (Ok (None, c)) (entry_abbreviation_at unit.abbreviations c >>= λ x. item_from unit c x)) h
+
+  at_code : (c : EntryCursor) (state : FoundAround) (r : Result (Option Abbrev × EntryCursor) Error) → (length c.left.bytes == 0) ≡ false → entry_abbreviation_at unit.abbreviations c ≡ r → item_found_at scope u unit c state ≡ item_read state (r >>= λ x. item_from unit c x)
+  at_code c state r h k = ap (item_read state) (coded c h ∙ ap (λ s. s >>= λ x. item_from unit c x) k)
+
+  pub code-fault : (c : EntryCursor) (state : FoundAround) (e : Error) → entry_abbreviation_at unit.abbreviations c ≡ Err e → item_found_at scope u unit c state ≡ Err e
+  code-fault c state e h = by_bytes (length c.left.bytes == 0) refl
+    where
+      by_bytes : (b : Bool) → (length c.left.bytes == 0) ≡ b → item_found_at scope u unit c state ≡ Err e
+      by_bytes true k =
+          let same : ◌≡◌ {A = Result (Option Abbrev × EntryCursor) Error} (Err UnexpectedEof) (Err e) = sym (no_code unit.abbreviations c (no_bytes c.left.bytes k)) ∙ h in
+          ap (item_read state) (ended c k) ∙ ap Err (let fault : UnexpectedEof ≡ e = cc in fault)
+      by_bytes false k = at_code c state (Err e) k h
+
+  pub item-closing : (c t : EntryCursor) (state : FoundAround) → entry_abbreviation_at unit.abbreviations c ≡ Ok (None, t) → item_found_at scope u unit c state ≡ Ok (record { found = state.found; around = closed_once state.around }, t)
+  item-closing c t state h = at_code c state (Ok (None, t)) (some_bytes unit.abbreviations c t None h) h
+
+  -- what is found and open after an entry
+  abbrev pub after_entry : FoundAround → Abbrev → EntryCursor → FoundInlined × Section → FoundAround × EntryCursor
+  after_entry state a t m = (record { found = m.0; around = opened (kind_of a) a.has_children state.around }, record { left = m.1; depth = t.depth })
+
+  pub item-entry : (c t : EntryCursor) (state : FoundAround) (a : Abbrev) → u.header.encoding ≡ unit.encoding → entry_abbreviation_at unit.abbreviations c ≡ Ok (Some a, t)
+      → item_found_at scope u unit c state ≡ (entry_found_at scope u state.around (next_offset_of unit c) a t.left state.found >>= λ m. Ok (after_entry state a t m))
+  item-entry c t state a e h =
+      at_code c state (Ok (Some a, t)) (some_bytes unit.abbreviations c t (Some a) h) h
+      ∙ by_read (attributes_at unit.encoding a.attributes t.left)
+      ∙ ap (λ v. whole (attributes_at v a.attributes t.left)) (sym e)
+    where
+      whole : Reading (List NamedValue) → Result (FoundAround × EntryCursor) Error
+      whole read = ◌>>=◌ {B = FoundAround × EntryCursor} (read >>= λ x. ◌>>=◌ {B = FoundInlined × Section} (with_entry_found scope u state.around (next_offset_of unit c) state.found (record { abbreviation = a; attributes = x.0 })) (λ more. Ok (more, x.1))) (λ m. Ok (after_entry state a t m))
+
+      nested : (x : List NamedValue × Section) (r : Result FoundInlined Error)
+          → ◌>>=◌ {B = FoundAround × EntryCursor} (◌>>=◌ {B = FoundAround} r (λ more. Ok (record { found = more; around = opened (kind_of a) a.has_children state.around }))) (λ more. Ok (more, record { left = x.1; depth = t.depth }))
+          ≡ ◌>>=◌ {B = FoundAround × EntryCursor} (◌>>=◌ {B = FoundInlined × Section} r (λ more. Ok (more, x.1))) (λ m. Ok (after_entry state a t m))
+      nested x (Ok m) = refl
+      nested x (Err f) = refl
+
+      by_read : (read : Reading (List NamedValue)) → item_read state (◌>>=◌ {B = Option Item × EntryCursor} read (λ x. Ok (Some (item_at unit c (Some (record { abbreviation = a; attributes = x.0 }))), record { left = x.1; depth = t.depth }))) ≡ whole read
+      by_read (Ok x) = nested x (with_entry_found scope u state.around (next_offset_of unit c) state.found (record { abbreviation = a; attributes = x.0 }))
+      by_read (Err f) = refl
+
+  -- a call leaves less
+  pub entry-shorter : (c t : EntryCursor) (a : Abbrev) (rest : Section) (around : List Kind) (offset : ℕ) (found more : FoundInlined) → entry_abbreviation_at unit.abbreviations c ≡ Ok (Some a, t)
+      → entry_found_at scope u around offset a t.left found ≡ Ok (more, rest) → length rest.bytes < length c.left.bytes
+  entry-shorter c t a rest around offset found more h k =
+      entry_shorter scope.file.sections u unit c t rest a u.header.encoding h (entry-rest scope u around offset a t.left found more rest k)
+
+  pub item-shorter : (c t : EntryCursor) → entry_abbreviation_at unit.abbreviations c ≡ Ok (None, t) → length t.left.bytes < length c.left.bytes
+  item-shorter c t h = closing_shorter scope.file.sections u unit c t h
+
+  -- what is found of a run of items
+  abbrev folded : FoundAround → Run Item (Unit {0}) → Result FoundInlined Error
+  folded state r = fold_of (with_item_found scope u) state r >>= λ more. Ok more.0.found
+
+  abbrev inside_of : FoundAround → ℤ → Run Item EntryCursor → Result FoundInlined Error
+  inside_of state now r = folded state (items_inside (pos 0) now r.items r.end)
+
+  none_inside : (now : ℤ) (items : List Item) (end : Result EntryCursor Error) → int_lt (pos 0) now ≡ false → items_inside (pos 0) now items end ≡ record { items = []; end = Ok tt }
+  none_inside now [] end h = ap (λ b. cond {A = Run Item (Unit {0})} b (record { items = []; end = end >>= λ z. Err UnexpectedEof }) (record { items = []; end = Ok tt })) h
+  none_inside now (x ∷ items) end h = ap (λ b. cond {A = Run Item (Unit {0})} b (cons x (items_inside (pos 0) (depth_after x) items end)) (record { items = []; end = Ok tt })) h
+
+  no_more : (now : ℤ) (end : Result EntryCursor Error) → int_lt (pos 0) now ≡ true → items_inside (pos 0) now [] end ≡ record { items = []; end = end >>= λ z. Err UnexpectedEof }
+  no_more now end h = ap (λ b. cond {A = Run Item (Unit {0})} b (record { items = []; end = end >>= λ z. Err UnexpectedEof }) (record { items = []; end = Ok tt })) h
+
+  one_inside : (now : ℤ) (x : Item) (r : Run Item EntryCursor) → int_lt (pos 0) now ≡ true → items_inside (pos 0) now (x ∷ r.items) r.end ≡ cons x (items_inside (pos 0) (depth_after x) r.items r.end)
+  one_inside now x r h = ap (λ b. cond {A = Run Item (Unit {0})} b (cons x (items_inside (pos 0) (depth_after x) r.items r.end)) (record { items = []; end = Ok tt })) h
+
+  pub inside-end : (c : EntryCursor) (state : FoundAround) → int_lt (pos 0) c.depth ≡ false → inside_found scope u unit c state ≡ Ok state.found
+  unfolding fold_run
+  inside-end c state h = ap (folded state) (none_inside c.depth (items_from unit c).items (items_from unit c).end h)
+
+  folded_with : (state : FoundAround) (x : Item) (r : Run Item (Unit {0})) → folded state (cons x r) ≡ (with_item_found scope u state x >>= λ more. folded more r)
+  unfolding fold_run
+  folded_with state x r = nested (with_item_found scope u state x)
+    where
+      nested : (v : Result FoundAround Error) → ((v >>= λ b. fold_run (with_item_found scope u) b r.items r.end) >>= λ more. Ok more.0.found) ≡ (v >>= λ more. folded more r)
+      nested (Ok b) = refl
+      nested (Err e) = refl
+
+  at_item : (c t : EntryCursor) (state : FoundAround) (x : Item) → int_lt (pos 0) c.depth ≡ true → next_item_at unit c ≡ Ok (Some x, t) → inside_found scope u unit c state ≡ (with_item_found scope u state x >>= λ more. inside_found scope u unit t more)
+  at_item c t state x h q =
+      let next = next_is unit c t x q in
+      ap (inside_of state c.depth) (items_more unit c t x q)
+      ∙ ap (folded state) (one_inside c.depth x (items_from unit t) h)
+      ∙ folded_with state x (items_inside (pos 0) (depth_after x) (items_from unit t).items (items_from unit t).end)
+      ∙ ap (λ z. with_item_found scope u state x >>= λ more. inside_of more z (items_from unit t)) (sym next.after)
+
+  one_found : (r : Result FoundAround Error) (more : FoundAround) (s t : EntryCursor) → ◌>>=◌ {B = FoundAround × EntryCursor} r (λ v. Ok (v, t)) ≡ Ok (more, s) → (r ≡ Ok more) × (t ≡ s)
+  one_found (Ok v) more s t e = let p : ◌≡◌ {A = FoundAround × EntryCursor} (v, t) (more, s) = cc in (ap Ok (ap (λ x. x.0) p), ap (λ x. x.1) p)
+  one_found (Err f) more s t e = absurd cc
+
+  none_found : (r : Result FoundAround Error) (t : EntryCursor) (e : Error) → ◌>>=◌ {B = FoundAround × EntryCursor} r (λ v. Ok (v, t)) ≡ Err e → r ≡ Err e
+  none_found (Ok v) t e h = absurd cc
+  none_found (Err f) t e h = let same : f ≡ e = cc in ap Err same
+
+  pub inside-step : (c s : EntryCursor) (state more : FoundAround) → int_lt (pos 0) c.depth ≡ true → item_found_at scope u unit c state ≡ Ok (more, s) → inside_found scope u unit c state ≡ inside_found scope u unit s more
+  inside-step c s state more h k = by_cases (next_item_at unit c) refl k
+    where
+      by_cases : (r : Result (Option Item × EntryCursor) Error) → next_item_at unit c ≡ r → item_read state r ≡ Ok (more, s) → inside_found scope u unit c state ≡ inside_found scope u unit s more
+      by_cases (Err e) q k = absurd cc
+      by_cases (Ok (None, t)) q k = absurd cc
+      by_cases (Ok (Some x, t)) q k =
+          let one = one_found (with_item_found scope u state x) more s t k in
+          at_item c t state x h q ∙ ap (λ r. r >>= λ v. inside_found scope u unit t v) one.0 ∙ ap (λ v. inside_found scope u unit v more) one.1
+
+  pub inside-fault : (c : EntryCursor) (state : FoundAround) (e : Error) → int_lt (pos 0) c.depth ≡ true → item_found_at scope u unit c state ≡ Err e → inside_found scope u unit c state ≡ Err e
+  unfolding fold_run
+  inside-fault c state e h k = by_cases (next_item_at unit c) refl k
+    where
+      by_cases : (r : Result (Option Item × EntryCursor) Error) → next_item_at unit c ≡ r → item_read state r ≡ Err e → inside_found scope u unit c state ≡ Err e
+      by_cases (Err f) q k = let same : f ≡ e = cc in ap (inside_of state c.depth) (items_fault unit c f q) ∙ ap (folded state) (no_more c.depth (Err f) h) ∙ ap Err same
+      by_cases (Ok (None, t)) q k = let same : UnexpectedEof ≡ e = cc in ap (inside_of state c.depth) (items_end unit c t q) ∙ ap (folded state) (no_more c.depth (Ok t) h) ∙ ap Err same
+      by_cases (Ok (Some x, t)) q k = at_item c t state x h q ∙ ap (λ r. r >>= λ v. inside_found scope u unit t v) (none_found (with_item_found scope u state x) t e k)
+
+  -- a function whose attributes follow
+  pub function-fault : (c : EntryCursor) (found : FoundInlined) (a : Abbrev) (f : Error) → name_after scope u (Ok None) (attributes_at u.header.encoding a.attributes c.left) ≡ Err f → function_found_at scope u unit c found a ≡ Err f
+  function-fault c found a f h =
+      ap (λ r. r >>= λ name. rest_of (attributes_at u.header.encoding a.attributes c.left) >>= λ rest. inside_found scope u unit (record { left = rest; depth = c.depth }) (record { found = found; around = [] }) >>= λ more. (let made : Result (Option Section × FoundInlined) Error = Ok (name, more) in made)) h
+
+  abbrev pub named_found : Option Section → Result FoundInlined Error → Result (Option Section × FoundInlined) Error
+  named_found name r = r >>= λ more. Ok (name, more)
+
+  pub function-found : (c s : EntryCursor) (v : EntryUnit) (found : FoundInlined) (a : Abbrev) (name : Option Section) → name_after scope u (Ok None) (attributes_at u.header.encoding a.attributes c.left) ≡ Ok name
+      → rest_of (attributes_at u.header.encoding a.attributes c.left) ≡ Ok s.left → s.depth ≡ c.depth → v ≡ unit
+      → function_found_at scope u unit c found a ≡ named_found name (inside_found scope u v s (record { found = found; around = [] }))
+  function-found c s v found a name h k d e =
+      ap after_name h ∙ ap (after_rest name) k
+      ∙ ap (λ z. named_found name (inside_found scope u unit (record { left = s.left; depth = z }) start)) (sym d)
+      ∙ ap (λ w. named_found name (inside_found scope u w s start)) (sym e)
+    where
+      start : FoundAround
+      start = record { found = found; around = [] }
+
+      after_rest : Option Section → Result Section Error → Result (Option Section × FoundInlined) Error
+      after_rest n r = r >>= λ rest. named_found n (inside_found scope u unit (record { left = rest; depth = c.depth }) start)
+
+      after_name : Result (Option Section) Error → Result (Option Section × FoundInlined) Error
+      after_name r = r >>= λ n. after_rest n (rest_of (attributes_at u.header.encoding a.attributes c.left))
+
+-- a function whose entry's unit can't be read there
+pub detail-fault : (scope : Scope) (u : UnitRecord) (offset : ℕ) (found : FoundInlined) (f : Error) → entries_from u (Some offset) ≡ Err f → detail_found_at scope u offset found ≡ Err f
+unfolding detail_found_at
+detail-fault scope u offset found f h =
+    ap (λ (r : Result EntriesLeft Error). r >>= λ left. entry_abbreviation_at left.unit.abbreviations left.cursor >>= λ code. abbreviation_of offset code.0 >>= λ a. function_found_at scope u left.unit code.1 found a) h
+
+-- lists that grow at their end
+pub grown_not : {X : Type 0} (xs : List X) → IsGrown xs xs
+grown_not xs = record { more = []; is = sym (append-nil xs) }
+
+pub grown_by : {X : Type 0} (xs ys more : List X) → ys ≡ xs ++ more → IsGrown xs ys
+grown_by xs ys more h = record { more = more; is = h }
+
+pub grown_on : {X : Type 0} (xs ys zs : List X) → IsGrown xs ys → IsGrown ys zs → IsGrown xs zs
+grown_on xs ys zs a b = record { more = a.more ++ b.more; is = b.is ∙ ap (λ v. v ++ b.more) a.is ∙ append_assoc xs a.more b.more }
+
+pub found_same : (found : FoundInlined) → IsFoundMore found found
+found_same found = record { entries = grown_not found.entries; ranges = grown_not found.ranges }
+
+pub found_on : (a b c : FoundInlined) → IsFoundMore a b → IsFoundMore b c → IsFoundMore a c
+found_on a b c h k = record { entries = grown_on _ _ _ h.entries k.entries; ranges = grown_on _ _ _ h.ranges k.ranges }
+
+-- no range was added
+pub none_added : (d : Sections) (u : UnitRecord) (offset depth function : ℕ) (found : FoundInlined) (x : InlinedAttributes) (ranges : List InlinedFunctionAddress) → with_inlined_ranges d u x.ranges depth function found.ranges ≡ Ok ranges → length ranges ≤ length found.ranges
+    → with_inlined_found d u offset depth found x ≡ Ok (record { entries = found.entries; ranges = ranges })
+none_added d u offset depth function found x ranges h l = by_ranges (attribute_ranges d u x.ranges) h
+  where
+    by_ranges : (r : Result (List Range) Error) → ◌>>=◌ {B = List InlinedFunctionAddress} r (λ rs. Ok (found.ranges ++ map (inlined_address depth function) rs)) ≡ Ok ranges
+        → ◌>>=◌ {B = FoundInlined} r (λ rs. Ok (inlined_more found (inlined_entry offset x) depth rs)) ≡ Ok (record { entries = found.entries; ranges = ranges })
+    by_ranges (Err e) h = absurd cc
+    by_ranges (Ok []) h =
+        let same : found.ranges ++ [] ≡ ranges = cc in
+        ap (λ (v : List InlinedFunctionAddress). Ok (record { entries = found.entries; ranges = v })) (sym (append-nil found.ranges) ∙ same)
+    by_ranges (Ok (r ∷ rs)) h =
+        let same : found.ranges ++ map (inlined_address depth function) (r ∷ rs) ≡ ranges = cc in
+        let long : length ranges ≡ length (found.ranges ++ map (inlined_address depth function) (r ∷ rs)) = ap (λ (v : List InlinedFunctionAddress). length v) (sym same) in
+        let sum = length-append found.ranges (map (inlined_address depth function) (r ∷ rs)) in
+        absurd (omega arith)

@@ -1,0 +1,40 @@
+use Rattle.std.proofs.Common.{[], List, sym, ap, ◌∙◌}
+use Rattle.std.proofs.lemmas.Result.{err_from_is_err_and}
+use Rattle.addr2line_lines.specs.declared.nesting.Kind.{Kind}
+use Rattle.addr2line_lines.specs.FoundDetails.{inside_found, seen_around}
+use Rattle.addr2line_lines.specs.SeenScope.{seen_scope}
+use Rattle.addr2line_lines.proofs.NestingLemmas.{found_on, found_same, inside-end, inside-fault, inside-step}
+use Rattle.addr2line_lines.proofs.detail.read_inside.Goals as goal
+
+pub loop-scope-init : goal.loop-scope-init
+loop-scope-init g c =
+    let scope = seen_scope c.args.scope in
+    record {
+      gives = ap (λ (k : List Kind). inside_found scope c.args.unit.now c.args.entries.now.unit c.args.entries.now.cursor (seen_around g.R.Reader.section c.args.found.now k)) c.new-nesting.ensures.gives;
+      kept = found_same _;
+      unit = c.requires.encoding;
+    }
+
+pub loop-scope-preserved : goal.loop-scope-preserved
+loop-scope-preserved g c =
+    let scope = seen_scope c.args.scope in
+    let u = c.args.unit.now in
+    let i = c.loop-scope.invariant in
+    let now = c.read_item.new in
+    record {
+      gives = ap (λ v. inside_found scope u v now.entries.cursor (seen_around g.R.Reader.section now.found now.nesting)) c.in_ok-read_item.ensures.unit
+          ∙ sym (inside-step scope u _ _ _ _ _ (sym c.loop-scope-test.ensures.gives) c.in_ok-read_item.ensures.gives) ∙ i.gives;
+      kept = found_on _ _ _ i.kept c.in_ok-read_item.ensures.kept;
+      unit = ap (λ v. v.encoding) c.in_ok-read_item.ensures.unit ∙ i.unit;
+    }
+
+pub returns-in_err-read_item : goal.returns-in_err-read_item
+returns-in_err-read_item g c =
+    let p = err_from_is_err_and c.from_residual.result c.from_residual.ensures.1 in
+    let i = c.loop-scope.invariant in
+    record { gives = rw (p.1, p.2) (λ ne. sym i.gives ∙ inside-fault (seen_scope c.args.scope) c.args.unit.now _ _ _ _ (sym c.loop-scope-test.ensures.gives) (c.in_err-read_item.ensures.gives ne)); kept = found_on _ _ _ i.kept c.in_err-read_item.ensures.kept }
+
+pub returns : goal.returns
+returns g c =
+    let i = c.loop-scope.invariant in
+    record { gives = sym i.gives ∙ inside-end (seen_scope c.args.scope) c.args.unit.now _ _ _ (sym c.loop-scope-test.ensures.gives); kept = i.kept }

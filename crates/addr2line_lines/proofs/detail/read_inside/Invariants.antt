@@ -1,0 +1,17 @@
+use Rattle.std.proofs.Common.{◌≡◌, [], length}
+use Rattle.addr2line_lines.specs.FoundDetails.{IsFoundMore, inside_found, seen_around, seen_lists}
+use Rattle.addr2line_lines.specs.SeenScope.{seen_scope}
+use Rattle.addr2line_lines.proofs.detail.read_inside.Given as goal
+
+abbrev pub invariant-loop-scope : goal.invariant-loop-scope
+invariant-loop-scope g l =
+    let scope = seen_scope l.fn.scope in
+    let u = l.unit in
+    record {
+      gives : inside_found scope u l.entries.unit l.entries.cursor (seen_around g.R.Reader.section l.found l.nesting) ≡ inside_found scope u l.fn.entries.unit l.fn.entries.cursor (seen_around g.R.Reader.section l.fn.found []);
+      kept : IsFoundMore (seen_lists g.R.Reader.section l.fn.found) (seen_lists g.R.Reader.section l.found);
+      unit : l.entries.unit.encoding ≡ u.header.encoding;
+    }
+
+abbrev pub decreases-loop-scope : goal.decreases-loop-scope
+decreases-loop-scope g l = length l.entries.cursor.left.bytes

@@ -1,0 +1,93 @@
+use Rattle.std.proofs.Common.{◌≡◌, ℕ, ℤ, Bool, List, Ok, Result, sym, ap, ◌∙◌}
+use Rattle.std.proofs.lemmas.Result.{err_from_is_err_and}
+use Rattle.gimli_read.specs.declared.error.Error.{Error as Fault}
+use Rattle.gimli_read.specs.Reading.{◌>>=◌}
+use Rattle.gimli_read.specs.Section.{Section}
+use Rattle.gimli.specs.Entry.{EntryCursor}
+use Rattle.addr2line_lines.specs.declared.nesting.Kind.{Kind}
+use Rattle.addr2line_lines.specs.SeenScope.{seen_scope}
+use Rattle.addr2line_lines.specs.FoundDetails.{FoundAround, FoundInlined, entry_found_at, kind_of, opened, seen_around, seen_lists}
+use Rattle.addr2line_lines.proofs.NestingLemmas.{after_entry, code-fault, entered, entry-shorter, item-closing, item-entry, item-shorter}
+use Rattle.addr2line_lines.proofs.RangeLemmas.{on_ok}
+use Rattle.addr2line_lines.proofs.detail.read_item.Goals as goal
+
+pub returns-in_err-read_abbreviation-clause-gives : goal.returns-in_err-read_abbreviation-clause-gives
+returns-in_err-read_abbreviation-clause-gives g c =
+    let p = err_from_is_err_and c.from_residual.result c.from_residual.ensures.1 in
+    let scope = seen_scope c.args.scope in
+    let state = seen_around g.R.Reader.section c.args.found.now c.args.nesting.now in
+    rw (p.1, p.2) (λ _. code-fault scope c.args.unit.now c.args.entries.now.unit c.args.entries.now.cursor state _ c.in_err-read_abbreviation.ensures.gives)
+
+pub returns-in_err-read_entry-in-Some-clause-gives : goal.returns-in_err-read_entry-in-Some-clause-gives
+returns-in_err-read_entry-in-Some-clause-gives g c =
+    let p = err_from_is_err_and c.from_residual-in_err-read_entry-in-Some.result c.from_residual-in_err-read_entry-in-Some.ensures.1 in
+    let scope = seen_scope c.args.scope in
+    let u = c.args.unit.now in
+    let unit = c.args.entries.now.unit in
+    let start = c.args.entries.now.cursor in
+    let lists = seen_lists g.R.Reader.section c.args.found.now in
+    let around = c.args.nesting.now in
+    let state = seen_around g.R.Reader.section c.args.found.now around in
+    let a = c.in-Some.abbreviation.now in
+    let t = c.read_abbreviation.new.self.cursor in
+    let code = rw c.in-Some.is at c.in_ok-read_abbreviation.ensures.gives in
+    let place : ℕ → Result (FoundInlined × Section) Fault = λ o. entry_found_at scope u around o a t.left lists in
+    let finish : Result (FoundInlined × Section) Fault → Result (FoundAround × EntryCursor) Fault = λ r. r >>= λ m. Ok (after_entry scope u unit state a t m) in
+    let entry = item-entry scope u unit start t state a (sym c.requires.encoding) code in
+    rw (p.1, p.2) (λ ne. entry ∙ ap finish (ap place (sym c.next_offset-offset.ensures.gives) ∙ c.in_err-read_entry-in-Some.ensures.gives ne))
+
+pub returns-in-None-clause-gives : goal.returns-in-None-clause-gives
+returns-in-None-clause-gives g c =
+    let scope = seen_scope c.args.scope in
+    let u = c.args.unit.now in
+    let unit = c.args.entries.now.unit in
+    let start = c.args.entries.now.cursor in
+    let lists = seen_lists g.R.Reader.section c.args.found.now in
+    let around = c.args.nesting.now in
+    let state = seen_around g.R.Reader.section c.args.found.now around in
+    let t = c.read_abbreviation.new.self.cursor in
+    let made : List Kind → FoundAround × EntryCursor = λ k. (record { found = lists; around = k }, t) in
+    item-closing scope u unit start t state (rw c.in-None.is at c.in_ok-read_abbreviation.ensures.gives) ∙ ap (λ k. Ok (made k)) (sym c.close.ensures.gives)
+
+pub returns-in-None-clause-shorter : goal.returns-in-None-clause-shorter
+returns-in-None-clause-shorter g c = item-shorter (seen_scope c.args.scope) c.args.unit.now c.args.entries.now.unit _ _ (rw c.in-None.is at c.in_ok-read_abbreviation.ensures.gives)
+
+pub returns-in_ok-read_entry-in-Some-clause-gives : goal.returns-in_ok-read_entry-in-Some-clause-gives
+returns-in_ok-read_entry-in-Some-clause-gives g c =
+    let scope = seen_scope c.args.scope in
+    let u = c.args.unit.now in
+    let unit = c.args.entries.now.unit in
+    let start = c.args.entries.now.cursor in
+    let lists = seen_lists g.R.Reader.section c.args.found.now in
+    let around = c.args.nesting.now in
+    let state = seen_around g.R.Reader.section c.args.found.now around in
+    let a = c.in-Some.abbreviation.now in
+    let t = c.read_abbreviation.new.self.cursor in
+    let code = rw c.in-Some.is at c.in_ok-read_abbreviation.ensures.gives in
+    let place : ℕ → Result (FoundInlined × Section) Fault = λ o. entry_found_at scope u around o a t.left lists in
+    let finish : Result (FoundInlined × Section) Fault → Result (FoundAround × EntryCursor) Fault = λ r. r >>= λ m. Ok (after_entry scope u unit state a t m) in
+    let entry = item-entry scope u unit start t state a (sym c.requires.encoding) code in
+    let more = seen_lists g.R.Reader.section c.read_entry.new.found in
+    let end = c.read_entry.new.entries.cursor in
+    let at : List Kind → ℤ → FoundAround × EntryCursor = λ k z. (record { found = more; around = k }, record { left = end.left; depth = z }) in
+    let made : List Kind → FoundAround × EntryCursor = λ k. (record { found = more; around = k }, end) in
+    entered c.enter.result made c.enter.new.self (opened c.kind_of.result c.has_children.result around) _
+    (entry ∙ ap finish (ap place (sym c.next_offset-offset.ensures.gives) ∙ c.in_ok-read_entry-in-Some.ensures.gives)
+    ∙ ap (λ z. Ok (at (opened (kind_of a) a.has_children around) z)) (sym c.in_ok-read_entry-in-Some.ensures.depth)
+    ∙ ap (λ k. Ok (made (opened k a.has_children around))) (sym c.kind_of.ensures.gives)
+    ∙ ap (λ b. Ok (made (opened c.kind_of.result b around))) (sym c.has_children.ensures.gives))
+    c.enter.ensures.gives c.enter.ensures.memory
+
+pub returns-in_ok-read_entry-in-Some-clause-shorter : goal.returns-in_ok-read_entry-in-Some-clause-shorter
+returns-in_ok-read_entry-in-Some-clause-shorter g c =
+    let scope = seen_scope c.args.scope in
+    let u = c.args.unit.now in
+    let unit = c.args.entries.now.unit in
+    let start = c.args.entries.now.cursor in
+    let lists = seen_lists g.R.Reader.section c.args.found.now in
+    let around = c.args.nesting.now in
+    let state = seen_around g.R.Reader.section c.args.found.now around in
+    let a = c.in-Some.abbreviation.now in
+    let t = c.read_abbreviation.new.self.cursor in
+    let code = rw c.in-Some.is at c.in_ok-read_abbreviation.ensures.gives in
+    on_ok _ c.enter.result (entry-shorter scope u unit start t a _ around c.next_offset-offset.result.0 lists _ code c.in_ok-read_entry-in-Some.ensures.gives)

@@ -1,0 +1,48 @@
+use Rattle.std.proofs.Common.{ℕ, List, [], ◌∷◌, map, ◌++◌, Result, Ok, ap, sym, ◌∙◌, append-nil}
+use Rattle.std.proofs.lemmas.Result.{err_from_is_err_and}
+use Rattle.gimli_read.specs.Reading.{◌>>=◌}
+use Rattle.gimli_read.specs.declared.error.Error.{Error as Fault}
+use Rattle.gimli_read.specs.declared.range.Range.{Range}
+use Rattle.addr2line_lines.specs.declared.picks.InlinedFunctionAddress.{InlinedFunctionAddress}
+use Rattle.addr2line_lines.specs.FoundDetails.{inlined_address}
+use Rattle.addr2line_lines.specs.Rows.{result_map, read_all}
+use Rattle.addr2line_lines.specs.RangeAttributes.{all_ranges}
+use Rattle.addr2line_lines.proofs.FunctionLemmas.{one_added, one_read}
+use Rattle.addr2line_lines.proofs.NestingLemmas.{grown_by}
+use Rattle.addr2line_lines.proofs.RangeLemmas.{fault_left, none_left, one_left, read_after}
+use Rattle.addr2line_lines.proofs.inlined_lists.push_range_list.Goals as goal
+
+abbrev with_front : List Range → Result (List Range) Fault → Result (List Range) Fault
+with_front items = result_map (λ rest. items ++ rest)
+
+abbrev after : List Range → List (Result Range Fault) → Result (List (Result Range Fault)) Fault
+after items left = Ok (map Ok items ++ left)
+
+abbrev added : (List InlinedFunctionAddress) → ℕ → ℕ → Result (List Range) Fault → Result (List InlinedFunctionAddress) Fault
+added old depth function read = read >>= λ ranges. Ok (old ++ map (inlined_address depth function) ranges)
+
+pub returns-in_err-range : goal.returns-in_err-range
+returns-in_err-range g c =
+    let p = err_from_is_err_and c.from_residual-in_err-range.result c.from_residual-in_err-range.ensures.1 in
+    let i = c.loop-range.invariant in
+    let read = ap all_ranges i.list ∙ read_after i.read c.loop-range.list in
+    record { gives = rw (p.1, p.2) (λ _. ap (added c.args.ranges.now.items c.args.depth c.args.function) (read ∙ ap (with_front i.read) (fault_left _ _ _ c.in_err-range.ensures.gives))); kept = grown_by _ _ _ i.added }
+
+pub loop-range-preserved : goal.loop-range-preserved
+loop-range-preserved g c =
+    let i = c.loop-range.invariant in
+    let range = c.in-Some.range in
+    let one = rw c.in-Some.is at c.in_ok-range.ensures.gives in
+    record {
+      read = i.read ++ range ∷ [];
+      list = i.list ∙ ap (after i.read) (one_left _ _ _ one) ∙ ap Ok (one_read Ok i.read range c.next.new.self);
+      added = c.in_ok-push.ensures.items ∙ ap (λ xs. xs ++ inlined_address c.args.depth c.args.function range ∷ []) i.added ∙ one_added (inlined_address c.args.depth c.args.function) c.args.ranges.now.items i.read range;
+    }
+
+pub returns : goal.returns
+returns g c =
+    let i = c.loop-range.invariant in
+    let none = rw c.in_default.is at c.in_ok-range.ensures.gives in
+    let read = ap all_ranges i.list ∙ read_after i.read c.loop-range.list in
+    let end = ap (λ rest. with_front i.read (read_all rest)) (none_left _ _ none) in
+    record { gives = ap (added c.args.ranges.now.items c.args.depth c.args.function) (read ∙ end ∙ ap Ok (append-nil i.read)) ∙ ap Ok (sym i.added); kept = grown_by _ _ _ i.added }

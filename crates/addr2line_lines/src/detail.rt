@@ -1,0 +1,206 @@
+//! The details of functions.
+
+ghost use Rattle.std.specs.Prelude.{◌≡◌, ◌<◌, [], None, Ok, OnOk, int_lt, length, option_map, pos};
+ghost use Rattle.gimli_read.specs.Form.{rest_of};
+ghost use Rattle.gimli_read.specs.Reading.{ExactlyUnlessOom, ExactlyUnlessOomIf};
+ghost use Rattle.gimli.specs.Entry.{attributes_at};
+ghost use Rattle.addr2line_lines.specs.FoundDetails.{IsFoundMore, IsTakenIn, detail_found_at, entry_found_at, function_found_at, inside_found, item_found_at, name_after, seen_around, seen_lists, with_read_name};
+ghost use Rattle.addr2line_lines.specs.References.{IsScope};
+ghost use Rattle.addr2line_lines.specs.SeenScope.{seen_scope};
+
+use crate::inlined::{read_attribute_if, read_inlined_attributes};
+use crate::inlined_lists::InlinedLists;
+use crate::name::{is_name_attribute, take_name};
+use crate::nesting::{Nesting, kind_of};
+use crate::references::Scope;
+use gimli::read::{Abbreviation, Attribute, AttributeSpecification, Error, Reader, UnitOffset};
+use gimli::{EntriesRaw, Unit, UnitRef};
+use std::alloc::Global;
+
+// Takes one more attribute of a function in, if it is wanted and none before it has a fault.
+fn with_attribute<R: Reader>(
+    scope: Scope<'_, R>,
+    unit: &Unit<R>,
+    name: Result<Option<R>, Error>,
+    attribute: Option<Attribute<R>>,
+) -> Result<Option<R>, Error>
+    requires in_order { IsScope (seen_scope scope) }
+    ensures gives { IsTakenIn R.shares (option_map R.section)
+        (λ x. with_read_name (seen_scope scope.entry) unit.now x attribute) name result }
+{
+    match name {
+        Ok(name) => match attribute {
+            Some(attribute) => take_name(scope, unit, name, attribute),
+            None => Ok(name),
+        },
+        Err(error) => Err(error),
+    }
+}
+
+// The name by the attributes of specifications. A value that can't be read is a fault before that
+// of a reference, so the first of these waits until all are read.
+fn read_name<R: Reader>(
+    scope: Scope<'_, R>,
+    unit: &Unit<R>,
+    entries: &mut EntriesRaw<'_, R>,
+    specifications: &[AttributeSpecification],
+) -> Result<Option<R>, Error>
+    requires in_order { IsScope (seen_scope scope) }
+    requires encoding { entries.old.unit.encoding ≡ unit.now.header.encoding }
+    ensures gives { ExactlyUnlessOomIf R.shares (option_map R.section) result
+        (name_after (seen_scope scope.entry) unit.now (Ok None)
+        (attributes_at unit.now.header.encoding specifications.now entries.old.cursor.left)) }
+    ensures left { OnOk result (rest_of (attributes_at unit.now.header.encoding
+        specifications.now entries.old.cursor.left) ≡ Ok entries.new.cursor.left) }
+    ensures unit { entries.new.unit ≡ entries.old.unit }
+    ensures depth { entries.new.cursor.depth ≡ entries.old.cursor.depth }
+{
+    let mut name = Ok(None);
+    for specification in specifications {
+        let wanted = is_name_attribute(specification.name());
+        let attribute = read_attribute_if(entries, *specification, wanted)?;
+        name = with_attribute(scope, unit, name, attribute);
+    }
+    name
+}
+
+// Adds the inlined entry whose attributes follow, if it is in no nested subprogram; passes over
+// the attributes of any other entry.
+#[tactic(auto, using(crate::proofs::NestingLemmas::found_same, crate::proofs::NestingLemmas::found_on))]
+fn read_entry<R: Reader>(
+    scope: Scope<'_, R>,
+    unit: &Unit<R>,
+    entries: &mut EntriesRaw<'_, R>,
+    offset: UnitOffset,
+    abbreviation: &Abbreviation,
+    nesting: &Nesting,
+    found: &mut InlinedLists<R>,
+) -> Result<(), Error>
+    requires in_order { IsScope (seen_scope scope) }
+    requires encoding { entries.old.unit.encoding ≡ unit.now.header.encoding }
+    ensures gives { ExactlyUnlessOom
+        (λ _. (seen_lists R.section found.new, entries.new.cursor.left)) result
+        (entry_found_at (seen_scope scope.entry) unit.now nesting.now offset.0 abbreviation.now
+        entries.old.cursor.left (seen_lists R.section found.old)) }
+    ensures kept { IsFoundMore (seen_lists R.section found.old) (seen_lists R.section found.new) }
+    ensures unit { entries.new.unit ≡ entries.old.unit }
+    ensures depth { entries.new.cursor.depth ≡ entries.old.cursor.depth }
+{
+    if nesting.lists(kind_of(abbreviation)) {
+        let attributes = read_inlined_attributes(scope, unit, entries, abbreviation.attributes())?;
+        let unit = UnitRef::new(scope.file.dwarf, unit);
+        found.add(unit, offset, nesting.depth(), attributes)
+    } else {
+        entries.skip_attributes_of(abbreviation)
+    }
+}
+
+// Reads the next item inside a function, and adds its inlined entry, if it is one.
+#[tactic(auto, using(crate::proofs::NestingLemmas::found_same, crate::proofs::NestingLemmas::found_on))]
+fn read_item<R: Reader>(
+    scope: Scope<'_, R>,
+    unit: &Unit<R>,
+    entries: &mut EntriesRaw<'_, R>,
+    nesting: &mut Nesting,
+    found: &mut InlinedLists<R>,
+) -> Result<(), Error>
+    requires in_order { IsScope (seen_scope scope) }
+    requires encoding { entries.old.unit.encoding ≡ unit.now.header.encoding }
+    ensures gives { ExactlyUnlessOom
+        (λ _. (seen_around R.section found.new nesting.new, entries.new.cursor)) result
+        (item_found_at (seen_scope scope.entry) unit.now entries.old.unit entries.old.cursor
+        (seen_around R.section found.old nesting.old)) }
+    ensures kept { IsFoundMore (seen_lists R.section found.old) (seen_lists R.section found.new) }
+    ensures unit { entries.new.unit ≡ entries.old.unit }
+    ensures shorter { OnOk result
+        (length entries.new.cursor.left.bytes < length entries.old.cursor.left.bytes) }
+{
+    let offset = entries.next_offset();
+    match entries.read_abbreviation()? {
+        None => {
+            nesting.close();
+            Ok(())
+        }
+        Some(abbreviation) => {
+            read_entry(scope, unit, entries, offset, abbreviation, nesting, found)?;
+            nesting.enter(kind_of(abbreviation), abbreviation.has_children())
+        }
+    }
+}
+
+// Whether the next item is inside the function with which the reading began.
+fn is_inside<R: Reader>(entries: &EntriesRaw<'_, R>) -> bool
+    ensures gives { result ≡ int_lt (pos 0) entries.now.cursor.depth }
+{
+    entries.next_depth() > 0
+}
+
+// Adds the inlined entries inside a function, whose own entry was the first that was read.
+fn read_inside<R: Reader>(
+    alloc: Global,
+    scope: Scope<'_, R>,
+    unit: &Unit<R>,
+    entries: &mut EntriesRaw<'_, R>,
+    found: &mut InlinedLists<R>,
+) -> Result<(), Error>
+    requires in_order { IsScope (seen_scope scope) }
+    requires encoding { entries.old.unit.encoding ≡ unit.now.header.encoding }
+    ensures gives { ExactlyUnlessOom (λ _. seen_lists R.section found.new) result
+        (inside_found (seen_scope scope.entry) unit.now entries.old.unit entries.old.cursor
+        (seen_around R.section found.old [])) }
+    ensures kept { IsFoundMore (seen_lists R.section found.old) (seen_lists R.section found.new) }
+{
+    let mut nesting = Nesting::new(alloc);
+    while is_inside(entries) {
+        read_item(scope, unit, entries, &mut nesting, found)?;
+    }
+    Ok(())
+}
+
+// Reads the name of the function whose attributes follow, and adds its inlined entries.
+#[tactic(auto, using(crate::proofs::NestingLemmas::found_same, crate::proofs::NestingLemmas::found_on))]
+fn read_function<R: Reader>(
+    alloc: Global,
+    scope: Scope<'_, R>,
+    unit: &Unit<R>,
+    entries: &mut EntriesRaw<'_, R>,
+    abbreviation: &Abbreviation,
+    found: &mut InlinedLists<R>,
+) -> Result<Option<R>, Error>
+    requires in_order { IsScope (seen_scope scope) }
+    requires encoding { entries.old.unit.encoding ≡ unit.now.header.encoding }
+    ensures gives { ExactlyUnlessOom
+        (λ name. (option_map R.section name, seen_lists R.section found.new)) result
+        (function_found_at (seen_scope scope.entry) unit.now entries.old.unit entries.old.cursor
+        (seen_lists R.section found.old) abbreviation.now) }
+    ensures kept { IsFoundMore (seen_lists R.section found.old) (seen_lists R.section found.new) }
+{
+    let name = read_name(scope, unit, entries, abbreviation.attributes())?;
+    read_inside(alloc, scope, unit, entries, found)?;
+    Ok(name)
+}
+
+// Reads the name of the function whose entry begins at an offset, and adds its inlined entries.
+#[tactic(auto, unfolding(crate::specs::FoundDetails::detail_found_at), using(crate::proofs::NestingLemmas::found_same, crate::proofs::NestingLemmas::found_on))]
+pub(crate) fn read_detail<R: Reader>(
+    alloc: Global,
+    scope: Scope<'_, R>,
+    unit: &Unit<R>,
+    offset: UnitOffset,
+    found: &mut InlinedLists<R>,
+) -> Result<Option<R>, Error>
+    requires in_order { IsScope (seen_scope scope) }
+    ensures gives { ExactlyUnlessOom
+        (λ name. (option_map R.section name, seen_lists R.section found.new)) result
+        (detail_found_at (seen_scope scope.entry) unit.now offset.0
+        (seen_lists R.section found.old)) }
+    ensures kept { IsFoundMore (seen_lists R.section found.old) (seen_lists R.section found.new) }
+{
+    let mut entries = UnitRef::new(scope.file.dwarf, unit).entries_raw(Some(offset))?;
+    match entries.read_abbreviation()? {
+        Some(abbreviation) => {
+            read_function(alloc, scope, unit, &mut entries, abbreviation, found)
+        }
+        None => Err(Error::NoEntryAtGivenOffset(offset.0)),
+    }
+}

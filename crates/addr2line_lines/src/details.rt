@@ -1,0 +1,117 @@
+//! The details of the functions of a view, kept one after another.
+
+ghost use Rattle.std.specs.Prelude.{◌≡◌, [], IfOk, OnErr, map, option_map};
+ghost use Rattle.gimli_read.specs.Reading.{ExactlyUnlessOom};
+ghost use Rattle.addr2line_lines.specs.Details.{detail_at};
+ghost use Rattle.addr2line_lines.specs.FoundDetails.{AreDetailsMore, IsDetailPlace, detail_of, none_inlined, seen_details};
+ghost use Rattle.addr2line_lines.specs.References.{IsScope};
+ghost use Rattle.addr2line_lines.specs.SeenScope.{seen_scope};
+
+use crate::detail::read_detail;
+use crate::inlined_lists::InlinedLists;
+use crate::references::Scope;
+use gimli::Unit;
+use gimli::read::{Error, Reader, UnitOffset};
+use std::alloc::Global;
+
+/// Where the details of a function stand among those that are kept.
+#[derive(Clone, Copy, Debug, PartialEq, Eq)]
+pub struct FunctionDetail {
+    /// The place of its name.
+    pub name: usize,
+    /// Where its inlined entries begin.
+    pub inlined_begin: usize,
+    /// Where they end.
+    pub inlined_end: usize,
+    /// Where its ranges begin.
+    pub ranges_begin: usize,
+    /// Where they end.
+    pub ranges_end: usize,
+}
+
+/// The details of functions: their names, and their inlined entries and the ranges of these, those
+/// of each function one after another.
+#[derive(Drop)]
+pub struct Details<R: Reader> {
+    names: Vec<Option<R>>,
+    inlined: InlinedLists<R>,
+}
+
+impl<R: Reader> Details<R> {
+    /// Those of no function. Takes no memory.
+    pub fn new(alloc: Global) -> Details<R>
+        ensures gives { seen_details R.section result ≡ record { names = []; found = none_inlined } }
+    {
+        Details {
+            names: Vec::new(alloc),
+            inlined: InlinedLists::new(alloc),
+        }
+    }
+
+    // Adds the details of a function. A refused one may leave some of its inlined entries.
+    fn add(
+        &mut self,
+        alloc: Global,
+        scope: Scope<'_, R>,
+        unit: &Unit<R>,
+        offset: UnitOffset,
+    ) -> Result<FunctionDetail, Error>
+        requires in_order { IsScope (seen_scope scope) }
+        ensures gives { ExactlyUnlessOom (detail_of (seen_details R.section self.new)) result
+            (detail_at (seen_scope scope.entry) unit.now offset.0) }
+        ensures kept { AreDetailsMore (seen_details R.section self.old)
+            (seen_details R.section self.new) }
+        ensures place { IfOk result (IsDetailPlace (seen_details R.section self.new)) }
+        ensures names { OnErr result (map (option_map R.section) self.new.names.items ≡
+            map (option_map R.section) self.old.names.items) }
+    {
+        let name = self.names.len();
+        let inlined_begin = self.inlined.functions.len();
+        let ranges_begin = self.inlined.ranges.len();
+        let read = read_detail(alloc, scope, unit, offset, &mut self.inlined)?;
+        self.names.push(read)?;
+        Ok(FunctionDetail {
+            name,
+            inlined_begin,
+            inlined_end: self.inlined.functions.len(),
+            ranges_begin,
+            ranges_end: self.inlined.ranges.len(),
+        })
+    }
+
+    /// Adds the details of the function whose entry begins at an offset of a unit, in bytes from
+    /// the start of the unit's length: its name, and the inlined entries inside it that have a
+    /// range, without those of nested subprograms.
+    ///
+    /// Refused `OffsetOutOfBounds` where no entry of the unit can begin there,
+    /// `NoEntryAtGivenOffset` at a closing entry, and by the first fault of an entry up to the end
+    /// of the function, of a reference that a name follows, of range attributes or of a range list;
+    /// `UnexpectedEof` where closing entries are missing. May fail with `OutOfMemory` instead.
+    /// After a refusal what is kept is what was kept before. Source: DWARF 5, section 3.3.8.
+    pub fn read(
+        &mut self,
+        alloc: Global,
+        scope: Scope<'_, R>,
+        unit: &Unit<R>,
+        offset: UnitOffset,
+    ) -> Result<FunctionDetail, Error>
+        requires in_order { IsScope (seen_scope scope) }
+        ensures gives { ExactlyUnlessOom (detail_of (seen_details R.section self.new)) result
+            (detail_at (seen_scope scope.entry) unit.now offset.0) }
+        ensures kept { AreDetailsMore (seen_details R.section self.old)
+            (seen_details R.section self.new) }
+        ensures place { IfOk result (IsDetailPlace (seen_details R.section self.new)) }
+        ensures refused { OnErr result
+            (seen_details R.section self.new ≡ seen_details R.section self.old) }
+    {
+        let functions = self.inlined.functions.len();
+        let ranges = self.inlined.ranges.len();
+        match self.add(alloc, scope, unit, offset) {
+            Ok(detail) => Ok(detail),
+            Err(error) => {
+                self.inlined.truncate(functions, ranges);
+                Err(error)
+            }
+        }
+    }
+}

@@ -1,0 +1,248 @@
+//! Inlined entries: what their attributes say.
+
+ghost use Rattle.std.specs.Prelude.{◌≡◌, Ok, OnOk, option_and_then};
+ghost use Rattle.std.specs.Option.{option_or};
+ghost use Rattle.gimli_read.specs.Form.{attribute_at, constant_of, rest_of};
+ghost use Rattle.gimli_read.specs.Reading.{ExactlyUnlessOomIf};
+ghost use Rattle.gimli.specs.Entry.{attributes_at};
+ghost use Rattle.addr2line_lines.specs.Details.{counted_file, low_bits, no_call, no_inlined_attributes, with_call, with_inlined_attribute};
+ghost use Rattle.addr2line_lines.specs.FoundDetails.{IsReadIf, IsTakenIn, inlined_attributes_after, is_call, is_range_name, is_wanted, seen_attributes, seen_call, with_read_attribute};
+ghost use Rattle.addr2line_lines.specs.References.{IsScope};
+ghost use Rattle.addr2line_lines.specs.SeenScope.{seen_scope};
+
+use crate::function::RangeAttributes;
+use crate::name::{is_name_attribute, take_name};
+use crate::references::Scope;
+use gimli::read::{Attribute, AttributeSpecification, DwAt, Error, Reader, UnitOffset};
+use gimli::{EntriesRaw, Unit, UnitRef};
+
+/// Where a function was called that is inlined.
+#[derive(Clone, Copy, Debug, PartialEq, Eq)]
+pub struct CallSite {
+    /// The index of the file, if there is one that counts.
+    pub file: Option<u64>,
+    /// The low 32 bits of the line; 0 where there is none.
+    pub line: u32,
+    /// The low 32 bits of the column; 0 where there is none.
+    pub column: u32,
+}
+
+/// An inlined entry: an entry of a function that is inlined in another one.
+#[derive(Drop)]
+pub struct InlinedFunction<R: Reader> {
+    /// Where the entry begins, in bytes from the start of the unit's length.
+    pub dw_die_offset: UnitOffset,
+    /// The name, where there is one that can be read.
+    pub name: Option<R>,
+    /// The index of the file of the call, if there is one that counts.
+    pub call_file: Option<u64>,
+    /// The low 32 bits of the line of the call; 0 where there is none.
+    pub call_line: u32,
+    /// The low 32 bits of the column of the call; 0 where there is none.
+    pub call_column: u32,
+}
+
+// The index of a file, if it counts in a version.
+fn counted_file(version: u16, index: u64) -> Option<u64>
+    ensures gives { result ≡ counted_file version index }
+{
+    if index > 0 || version == 5 {
+        Some(index)
+    } else {
+        None
+    }
+}
+
+// The low 32 bits of a constant, 0 of another value.
+fn low_bits(constant: Option<u64>) -> u32
+    ensures gives { result ≡ low_bits constant }
+{
+    (constant.unwrap_or(0) % (1 << 32)) as u32
+}
+
+impl CallSite {
+    // Before the first attribute.
+    fn new() -> CallSite
+        ensures gives { seen_call result ≡ no_call }
+    {
+        CallSite {
+            file: None,
+            line: 0,
+            column: 0,
+        }
+    }
+
+    // The index of the file by one more attribute.
+    fn file_after(self, version: u16, constant: Option<u64>) -> Option<u64>
+        ensures gives { result ≡ option_or
+            (option_and_then (counted_file version) constant) self.file }
+    {
+        match constant {
+            Some(index) => counted_file(version, index).or(self.file),
+            None => self.file,
+        }
+    }
+
+    // Takes one more attribute in.
+    fn take<R: Reader>(self, version: u16, attribute: &Attribute<R>) -> CallSite
+        ensures gives { seen_call result ≡ with_call version (seen_call self) attribute.now }
+    {
+        let constant = attribute.udata_value();
+        match attribute.name() {
+            DwAt::DW_AT_call_file => CallSite {
+                file: self.file_after(version, constant),
+                line: self.line,
+                column: self.column,
+            },
+            DwAt::DW_AT_call_line => CallSite {
+                file: self.file,
+                line: low_bits(constant),
+                column: self.column,
+            },
+            DwAt::DW_AT_call_column => CallSite {
+                file: self.file,
+                line: self.line,
+                column: low_bits(constant),
+            },
+            _ => self,
+        }
+    }
+}
+
+// What attributes of an inlined entry say.
+#[derive(Drop)]
+pub(crate) struct InlinedAttributes<R: Reader> {
+    pub(crate) ranges: RangeAttributes,
+    pub(crate) name: Option<R>,
+    pub(crate) call: CallSite,
+}
+
+// Whether an attribute says of an entry's ranges.
+fn is_range_name(name: DwAt) -> bool
+    ensures gives { result ≡ is_range_name name }
+{
+    matches!(
+        name,
+        DwAt::DW_AT_low_pc | DwAt::DW_AT_high_pc | DwAt::DW_AT_ranges
+    )
+}
+
+// Whether an attribute says of a call.
+fn is_call(name: DwAt) -> bool
+    ensures gives { result ≡ is_call name }
+{
+    matches!(
+        name,
+        DwAt::DW_AT_call_file | DwAt::DW_AT_call_line | DwAt::DW_AT_call_column
+    )
+}
+
+impl<R: Reader> InlinedAttributes<R> {
+    // Before the first attribute.
+    fn new() -> InlinedAttributes<R>
+        ensures gives { seen_attributes R.section result ≡ no_inlined_attributes }
+    {
+        InlinedAttributes {
+            ranges: RangeAttributes::new(),
+            name: None,
+            call: CallSite::new(),
+        }
+    }
+
+    // Takes one more attribute in.
+    #[tactic(auto, using(crate::proofs::DetailLemmas::range_attribute, crate::proofs::DetailLemmas::other_attribute))]
+    fn take(
+        self,
+        scope: Scope<'_, R>,
+        unit: &Unit<R>,
+        attribute: Attribute<R>,
+    ) -> Result<InlinedAttributes<R>, Error>
+        requires in_order { IsScope (seen_scope scope) }
+        ensures gives { ExactlyUnlessOomIf R.shares (seen_attributes R.section) result
+            (with_inlined_attribute (seen_scope scope.entry) unit.now
+            (seen_attributes R.section self) attribute) }
+    {
+        let InlinedAttributes { ranges, name, call } = self;
+        let call = call.take(unit.header.version(), &attribute);
+        if is_range_name(attribute.name()) {
+            let ranges = ranges.take(UnitRef::new(scope.file.dwarf, unit), attribute)?;
+            Ok(InlinedAttributes { ranges, name, call })
+        } else {
+            let name = take_name(scope, unit, name, attribute)?;
+            Ok(InlinedAttributes { ranges, name, call })
+        }
+    }
+}
+
+// Whether an attribute says something of an inlined entry.
+fn is_wanted(name: DwAt) -> bool
+    ensures gives { result ≡ is_wanted name }
+{
+    is_range_name(name) || is_name_attribute(name) || is_call(name)
+}
+
+// Reads the next attribute, if it is wanted; else passes over it.
+pub(crate) fn read_attribute_if<R: Reader>(
+    entries: &mut EntriesRaw<'_, R>,
+    specification: AttributeSpecification,
+    wanted: bool,
+) -> Result<Option<Attribute<R>>, Error>
+    ensures gives { IsReadIf R.shares wanted entries.new.cursor.left result (attribute_at
+        entries.old.unit.encoding specification entries.old.cursor.left) }
+    ensures unit { entries.new.unit ≡ entries.old.unit }
+    ensures depth { entries.new.cursor.depth ≡ entries.old.cursor.depth }
+{
+    if wanted {
+        Ok(Some(entries.read_attribute(specification)?))
+    } else {
+        entries.skip_attributes(&[specification])?;
+        Ok(None)
+    }
+}
+
+// Takes one more attribute in, if it is wanted and none before it has a fault.
+fn with_attribute<R: Reader>(
+    scope: Scope<'_, R>,
+    unit: &Unit<R>,
+    found: Result<InlinedAttributes<R>, Error>,
+    attribute: Option<Attribute<R>>,
+) -> Result<InlinedAttributes<R>, Error>
+    requires in_order { IsScope (seen_scope scope) }
+    ensures gives { IsTakenIn R.shares (seen_attributes R.section)
+        (λ x. with_read_attribute (seen_scope scope.entry) unit.now x attribute) found result }
+{
+    match found {
+        Ok(found) => match attribute {
+            Some(attribute) => found.take(scope, unit, attribute),
+            None => Ok(found),
+        },
+        Err(error) => Err(error),
+    }
+}
+
+// What the attributes of specifications say of an inlined entry. A value that can't be read is a
+// fault before that of an index or a reference, so the first of these waits until all are read.
+pub(crate) fn read_inlined_attributes<R: Reader>(
+    scope: Scope<'_, R>,
+    unit: &Unit<R>,
+    entries: &mut EntriesRaw<'_, R>,
+    specifications: &[AttributeSpecification],
+) -> Result<InlinedAttributes<R>, Error>
+    requires in_order { IsScope (seen_scope scope) }
+    requires encoding { entries.old.unit.encoding ≡ unit.now.header.encoding }
+    ensures gives { ExactlyUnlessOomIf R.shares (seen_attributes R.section) result
+        (inlined_attributes_after (seen_scope scope.entry) unit.now (Ok no_inlined_attributes)
+        (attributes_at unit.now.header.encoding specifications.now entries.old.cursor.left)) }
+    ensures left { OnOk result (rest_of (attributes_at unit.now.header.encoding
+        specifications.now entries.old.cursor.left) ≡ Ok entries.new.cursor.left) }
+    ensures unit { entries.new.unit ≡ entries.old.unit }
+    ensures depth { entries.new.cursor.depth ≡ entries.old.cursor.depth }
+{
+    let mut found = Ok(InlinedAttributes::new());
+    for specification in specifications {
+        let wanted = is_wanted(specification.name());
+        let attribute = read_attribute_if(entries, *specification, wanted)?;
+        found = with_attribute(scope, unit, found, attribute);
+    }
+    found
+}

@@ -1,0 +1,123 @@
+//! Inlined entries and their ranges, as they are found.
+
+ghost use Rattle.std.specs.Prelude.{◌≡◌};
+ghost use Rattle.gimli_read.specs.Reading.{ExactlyUnlessOom};
+ghost use Rattle.addr2line_lines.specs.FoundDetails.{IsFoundMore, IsGrown, first_found, none_inlined, seen_attributes, seen_lists, with_inlined_found, with_inlined_list, with_inlined_ranges};
+
+use crate::function::RangeAttributes;
+use crate::inlined::{InlinedAttributes, InlinedFunction};
+use crate::picks::InlinedFunctionAddress;
+use gimli::UnitRef;
+use gimli::read::{Error, Reader, UnitOffset};
+use std::alloc::Global;
+
+// Inlined entries, and their ranges.
+#[derive(Drop)]
+pub(crate) struct InlinedLists<R: Reader> {
+    pub(crate) functions: Vec<InlinedFunction<R>>,
+    pub(crate) ranges: Vec<InlinedFunctionAddress>,
+}
+
+// Adds the ranges of a range list.
+fn push_range_list<R: Reader>(
+    unit: UnitRef<'_, R>,
+    offset: u64,
+    depth: usize,
+    function: usize,
+    ranges: &mut Vec<InlinedFunctionAddress>,
+) -> Result<(), Error>
+    ensures gives { ExactlyUnlessOom (λ _. ranges.new.items) result
+        (with_inlined_list unit.entry.dwarf.now unit.entry.unit.now offset depth function
+        ranges.old.items) }
+    ensures kept { IsGrown ranges.old.items ranges.new.items }
+{
+    let mut list = unit.ranges(offset)?;
+    while let Some(range) = list.next()? {
+        ranges.push(InlinedFunctionAddress {
+            depth,
+            range,
+            function,
+        })?;
+    }
+    Ok(())
+}
+
+// Adds the ranges of the range attributes of an inlined entry.
+#[tactic(auto, using(crate::proofs::NestingLemmas::grown_not, crate::proofs::NestingLemmas::grown_by, crate::proofs::NestingLemmas::grown_on))]
+fn push_ranges<R: Reader>(
+    unit: UnitRef<'_, R>,
+    attributes: &RangeAttributes,
+    depth: usize,
+    function: usize,
+    ranges: &mut Vec<InlinedFunctionAddress>,
+) -> Result<(), Error>
+    ensures gives { ExactlyUnlessOom (λ _. ranges.new.items) result
+        (with_inlined_ranges unit.entry.dwarf.now unit.entry.unit.now attributes.now depth function
+        ranges.old.items) }
+    ensures kept { IsGrown ranges.old.items ranges.new.items }
+{
+    match attributes.ranges_offset {
+        Some(offset) => push_range_list(unit, offset, depth, function, ranges),
+        None => {
+            if let Some(range) = attributes.range() {
+                ranges.push(InlinedFunctionAddress {
+                    depth,
+                    range,
+                    function,
+                })?;
+            }
+            Ok(())
+        }
+    }
+}
+
+impl<R: Reader> InlinedLists<R> {
+    // None of either.
+    pub(crate) fn new(alloc: Global) -> InlinedLists<R>
+        ensures gives { seen_lists R.section result ≡ none_inlined }
+    {
+        InlinedLists {
+            functions: Vec::new(alloc),
+            ranges: Vec::new(alloc),
+        }
+    }
+
+    // Keeps the first inlined entries, and the first ranges.
+    pub(crate) fn truncate(&mut self, functions: usize, ranges: usize)
+        ensures gives { seen_lists R.section self.new ≡
+            first_found functions ranges (seen_lists R.section self.old) }
+    {
+        self.functions.truncate(functions);
+        self.ranges.truncate(ranges);
+    }
+
+    // Adds the inlined entry of attributes, if they give a range.
+    pub(crate) fn add(
+        &mut self,
+        unit: UnitRef<'_, R>,
+        offset: UnitOffset,
+        depth: usize,
+        attributes: InlinedAttributes<R>,
+    ) -> Result<(), Error>
+        ensures gives { ExactlyUnlessOom (λ _. seen_lists R.section self.new) result
+            (with_inlined_found unit.entry.dwarf.now unit.entry.unit.now offset.0 depth
+            (seen_lists R.section self.old) (seen_attributes R.section attributes)) }
+        ensures kept { IsFoundMore (seen_lists R.section self.old)
+            (seen_lists R.section self.new) }
+    {
+        let InlinedAttributes { ranges, name, call } = attributes;
+        let before = self.ranges.len();
+        let function = self.functions.len();
+        push_ranges(unit, &ranges, depth, function, &mut self.ranges)?;
+        if self.ranges.len() > before {
+            self.functions.push(InlinedFunction {
+                dw_die_offset: offset,
+                name,
+                call_file: call.file,
+                call_line: call.line,
+                call_column: call.column,
+            })?;
+        }
+        Ok(())
+    }
+}

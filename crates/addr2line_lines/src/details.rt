@@ -1,14 +1,14 @@
 //! The details of the functions of a view, kept one after another.
 
-ghost use Rattle.std.specs.Prelude.{◌≡◌, [], IfOk, OnErr, map, option_map};
+ghost use Rattle.std.specs.Prelude.{◌≡◌, ◌<◌, [], IfOk, OnErr, length, map, option_map, slice_index_or};
 ghost use Rattle.gimli_read.specs.Reading.{ExactlyUnlessOom};
 ghost use Rattle.addr2line_lines.specs.Details.{detail_at};
-ghost use Rattle.addr2line_lines.specs.FoundDetails.{AreDetailsMore, IsDetailPlace, detail_of, inlined_range_of, none_inlined, seen_details};
+ghost use Rattle.addr2line_lines.specs.FoundDetails.{AreDetailsMore, IsDetailPlace, detail_of, inlined_range_of, no_inlined, none_inlined, seen_details, seen_inlined};
 ghost use Rattle.addr2line_lines.specs.References.{IsScope};
 ghost use Rattle.addr2line_lines.specs.SeenScope.{seen_scope};
 
 use crate::detail::read_detail;
-use crate::inlined::InlinedFunctionAddress;
+use crate::inlined::{InlinedFunction, InlinedFunctionAddress};
 use crate::inlined_lists::InlinedLists;
 use crate::references::Scope;
 use gimli::Unit;
@@ -131,5 +131,13 @@ impl<R: Reader> Details<R> {
             result.now ≡ (detail_of (seen_details R.section self.now) detail).inlined }
     {
         &self.inlined.ranges[detail.ranges_begin..detail.ranges_end]
+    }
+    /// The inlined entry of a place that a range names. Takes no memory.
+    pub fn inlined(&self, function: usize) -> &InlinedFunction<R>
+        requires there { function < length (seen_details R.section self.now).found.entries }
+        ensures gives { seen_inlined R.section result.now ≡
+            slice_index_or (seen_details R.section self.now).found.entries function no_inlined }
+    {
+        &self.inlined.functions[function]
     }
 }

@@ -115,6 +115,7 @@ impl<R: Reader> Details<R> {
             }
         }
     }
+
     /// The name of a function, where there is one that can be read. Takes no memory.
     pub fn name(&self, detail: FunctionDetail) -> Option<&R>
         requires place { IsDetailPlace (seen_details R.section self.now) detail }
@@ -132,6 +133,7 @@ impl<R: Reader> Details<R> {
     {
         &self.inlined.ranges[detail.ranges_begin..detail.ranges_end]
     }
+
     /// The inlined entry of a place that a range names. Takes no memory.
     pub fn inlined(&self, function: usize) -> &InlinedFunction<R>
         requires there { function < length (seen_details R.section self.now).found.entries }

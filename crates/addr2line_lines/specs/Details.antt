@@ -4,7 +4,7 @@
 -- Own: of call_file a constant counts that is above 0, or any in version 5; call_line and
 -- call_column keep their low 32 bits, and are 0 where they are no constant. The last of each
 -- counts.
-use Rattle.std.specs.Prelude.{ℕ, ◌+◌, ◌==◌, ◌||◌, ◌&&◌, ◌%◌, ◌^◌, nat_lt, zero, suc, not, Bool, false, List, [], ◌∷◌, ◌++◌, filter, fold, length, map, Option, Some, None, option_and_then, unwrap_or, Result, Ok, Err, if◌then◌else◌}
+use Rattle.std.specs.Prelude.{ℕ, ◌+◌, ◌==◌, ◌||◌, ◌&&◌, ◌%◌, ◌^◌, nat_lt, zero, suc, Bool, List, [], ◌∷◌, ◌++◌, filter, fold, length, map, Option, Some, None, option_and_then, unwrap_or, Result, Ok, Err, if◌then◌else◌}
 use Rattle.std.specs.Option.{option_or}
 use Rattle.gimli_read.specs.declared.constants.TheConstants.DwAt.{DW_AT_call_column, DW_AT_call_file, DW_AT_call_line}
 use Rattle.gimli_read.specs.declared.constants.TheConstants.DwTag.{DW_TAG_inlined_subroutine}
@@ -17,9 +17,8 @@ use Rattle.gimli_read.specs.Reading.{◌>>=◌}
 use Rattle.gimli_read.specs.Run.{fold_run}
 use Rattle.gimli_read.specs.Section.{Section}
 use Rattle.gimli.specs.Entries.{entries_from}
-use Rattle.gimli.specs.Entry.{EntryCursor, EntriesLeft}
+use Rattle.gimli.specs.Entry.{EntriesLeft}
 use Rattle.gimli.specs.Items.{Entry, Item, items_from, next_item_at, subtree_of}
-use Rattle.gimli.specs.Sections.{Sections}
 use Rattle.gimli.specs.Unit.{UnitRecord}
 use Rattle.addr2line_lines.specs.declared.function.RangeAttributes.{RangeAttributes}
 use Rattle.addr2line_lines.specs.Functions.{is_subprogram}

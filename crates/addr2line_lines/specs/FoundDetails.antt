@@ -1,5 +1,5 @@
 -- The details of functions as they are found, as the private functions see them.
-use Rattle.std.specs.Prelude.{◌≡◌, ◌≢◌, ℕ, ◌+◌, ◌-◌, ◌<◌, ◌≤◌, ◌==◌, ◌||◌, ◌&&◌, Bool, true, false, List, [], ◌∷◌, ◌++◌, count_by, drop, fold, map, length, slice_index_or, take, Option, Some, None, option_map, Result, Ok, Err, pos, if◌then◌else◌}
+use Rattle.std.specs.Prelude.{◌≡◌, ◌≢◌, ℕ, ◌-◌, ◌<◌, ◌≤◌, ◌==◌, ◌||◌, ◌&&◌, Bool, true, false, List, [], ◌∷◌, ◌++◌, count_by, drop, fold, map, length, slice_index_or, take, Option, Some, None, option_map, Result, Ok, Err, pos, if◌then◌else◌}
 use Rattle.std.specs.List.{All}
 use Rattle.gimli_read.specs.declared.constants.DwAt.{DwAt}
 use Rattle.gimli_read.specs.declared.constants.TheConstants.DwAt.{DW_AT_call_column, DW_AT_call_file, DW_AT_call_line, DW_AT_high_pc, DW_AT_low_pc, DW_AT_name, DW_AT_ranges}
@@ -27,7 +27,7 @@ use Rattle.addr2line_lines.specs.declared.inlined.CallSite as declared_call
 use Rattle.addr2line_lines.specs.declared.inlined.InlinedAttributes as declared_attributes
 use Rattle.addr2line_lines.specs.declared.nesting.Kind.{Kind}
 use Rattle.addr2line_lines.specs.declared.nesting.Kind.TheVariants.{Subprogram, Inlined, Other}
-use Rattle.addr2line_lines.specs.Details.{CallSite, Detail, InlinedAttributes, InlinedEntry, InlinedRange, inlined_attributes_of, inlined_entry, is_inlined, no_call, no_inlined_attributes, or_with_inlined_attribute, with_inlined_attribute}
+use Rattle.addr2line_lines.specs.Details.{CallSite, Detail, InlinedAttributes, InlinedEntry, InlinedRange, inlined_attributes_of, inlined_entry, is_inlined, no_call, or_with_inlined_attribute, with_inlined_attribute}
 use Rattle.addr2line_lines.specs.FoundNames.{is_name_attribute}
 use Rattle.addr2line_lines.specs.Functions.{is_subprogram}
 use Rattle.addr2line_lines.specs.InlinedOrder.{inlined_range_of}
@@ -99,10 +99,12 @@ name_after scope u name read = read >>= λ y. fold (or_with_name scope u) name y
 abbrev pub kind_of : Abbrev → Kind
 kind_of a = if is_subprogram a then Subprogram else if is_inlined a then Inlined else Other
 
+-- whether a kind is that of nested subprograms
 abbrev pub is_subprogram_kind : Kind → Bool
 is_subprogram_kind Subprogram = true
 is_subprogram_kind _ = false
 
+-- whether a kind is that of inlined entries
 abbrev pub is_inlined_kind : Kind → Bool
 is_inlined_kind Inlined = true
 is_inlined_kind _ = false
@@ -201,6 +203,7 @@ pub record FoundAround : Type 0 where
   pub found : FoundInlined
   pub around : List Kind
 
+-- the same, of the lists and the kinds
 abbrev pub seen_around : {R : Type 0} → (R → Section) → InlinedLists R → List Kind → FoundAround
 seen_around see lists around = record { found = seen_lists see lists; around = around }
 

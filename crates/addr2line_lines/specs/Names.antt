@@ -3,14 +3,13 @@
 -- else the first attribute that gives a name, by itself or by the entry that it refers to.
 -- Own: of an entry that is referred to, the first linkage name counts and ends its reading, else
 -- the last name, else the entry that its last reference names; at most 16 such entries are visited.
-use Rattle.std.specs.Prelude.{ℕ, zero, suc, ◌==◌, ◌||◌, Bool, List, [], ◌∷◌, fold, Option, Some, None, is_some, Result, Ok, Err, if◌then◌else◌}
+use Rattle.std.specs.Prelude.{ℕ, zero, suc, ◌==◌, ◌||◌, Bool, List, [], ◌∷◌, fold, Option, Some, None, Result, Ok, Err, if◌then◌else◌}
 use Rattle.std.specs.Option.{option_or}
 use Rattle.std.specs.Result.{result_ok}
 use Rattle.gimli_read.specs.declared.constants.DwAt.{DwAt}
 use Rattle.gimli_read.specs.declared.constants.TheConstants.DwAt.{DW_AT_name, DW_AT_linkage_name, DW_AT_MIPS_linkage_name, DW_AT_abstract_origin, DW_AT_specification}
 use Rattle.gimli_read.specs.declared.error.Error.{Error}
 use Rattle.gimli_read.specs.declared.error.Error.TheVariants.{NoEntryAtGivenOffset}
-use Rattle.gimli_read.specs.declared.endian.Encoding.{Encoding}
 use Rattle.gimli_read.specs.declared.value.AttributeValue.{AttributeValue}
 use Rattle.gimli_read.specs.Abbreviations.{Abbrev, Specification}
 use Rattle.gimli_read.specs.Form.{NamedValue, attribute_at}
@@ -18,7 +17,6 @@ use Rattle.gimli_read.specs.Reading.{◌>>=◌}
 use Rattle.gimli_read.specs.Section.{Section}
 use Rattle.gimli.specs.Entries.{entries_from}
 use Rattle.gimli.specs.Entry.{entry_abbreviation_at}
-use Rattle.gimli.specs.Sections.{Sections}
 use Rattle.gimli.specs.Unit.{UnitRecord, attr_string_of}
 use Rattle.addr2line_lines.specs.References.{EntryPlace, Scope, referred}
 

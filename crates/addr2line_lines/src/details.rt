@@ -1,13 +1,14 @@
 //! The details of the functions of a view, kept one after another.
 
-ghost use Rattle.std.specs.Prelude.{◌≡◌, [], IfOk, OnErr, map, option_map};
+ghost use Rattle.std.specs.Prelude.{◌≡◌, ◌<◌, [], IfOk, OnErr, length, map, option_map, slice_index_or};
 ghost use Rattle.gimli_read.specs.Reading.{ExactlyUnlessOom};
 ghost use Rattle.addr2line_lines.specs.Details.{detail_at};
-ghost use Rattle.addr2line_lines.specs.FoundDetails.{AreDetailsMore, IsDetailPlace, detail_of, none_inlined, seen_details};
+ghost use Rattle.addr2line_lines.specs.FoundDetails.{AreDetailsMore, IsDetailPlace, detail_of, inlined_range_of, no_inlined, none_inlined, seen_details, seen_inlined};
 ghost use Rattle.addr2line_lines.specs.References.{IsScope};
 ghost use Rattle.addr2line_lines.specs.SeenScope.{seen_scope};
 
 use crate::detail::read_detail;
+use crate::inlined::{InlinedFunction, InlinedFunctionAddress};
 use crate::inlined_lists::InlinedLists;
 use crate::references::Scope;
 use gimli::Unit;
@@ -113,5 +114,32 @@ impl<R: Reader> Details<R> {
                 Err(error)
             }
         }
+    }
+
+    /// The name of a function, where there is one that can be read. Takes no memory.
+    pub fn name(&self, detail: FunctionDetail) -> Option<&R>
+        requires place { IsDetailPlace (seen_details R.section self.now) detail }
+        ensures gives { option_map (λ r. R.section r.now) result ≡
+            (detail_of (seen_details R.section self.now) detail).name }
+    {
+        self.names[detail.name].as_ref()
+    }
+
+    /// The ranges of the inlined entries of a function, by the places of these. Takes no memory.
+    pub fn ranges(&self, detail: FunctionDetail) -> &[InlinedFunctionAddress]
+        requires place { IsDetailPlace (seen_details R.section self.now) detail }
+        ensures gives { map (inlined_range_of (seen_details R.section self.now).found.entries)
+            result.now ≡ (detail_of (seen_details R.section self.now) detail).inlined }
+    {
+        &self.inlined.ranges[detail.ranges_begin..detail.ranges_end]
+    }
+
+    /// The inlined entry of a place that a range names. Takes no memory.
+    pub fn inlined(&self, function: usize) -> &InlinedFunction<R>
+        requires there { function < length (seen_details R.section self.now).found.entries }
+        ensures gives { seen_inlined R.section result.now ≡
+            slice_index_or (seen_details R.section self.now).found.entries function no_inlined }
+    {
+        &self.inlined.functions[function]
     }
 }

@@ -1,4 +1,5 @@
-//! Laws of sequences, of functions, of inlined entries and of the choice among them, with no code.
+//! Laws of sequences, of functions, of names, of inlined entries and of the choice among them, with
+//! no code.
 
 ghost use Rattle.addr2line_lines.specs.Sequences.{start_of, end_of};
 ghost use Rattle.addr2line_lines.specs.Rises.{SequencesRise};
@@ -6,6 +7,7 @@ ghost use Rattle.addr2line_lines.specs.InOrder.{OrderIsFree};
 ghost use Rattle.addr2line_lines.specs.Pick.{LoneIsPicked};
 ghost use Rattle.addr2line_lines.specs.Functions.{function_begin, function_end, function_offset};
 ghost use Rattle.addr2line_lines.specs.Shortest.{LoneIsShortest, NoneIsShorter};
+ghost use Rattle.addr2line_lines.specs.NameChains.{ChainGivesName, LongChainGivesNone};
 ghost use Rattle.addr2line_lines.specs.NestedInlined.{ChainIsWhole, NestedChain};
 ghost use Rattle.addr2line_lines.specs.Spans.{EachAddressHasRow};
 
@@ -39,6 +41,13 @@ pub fn none_is_shorter()
 /// disjoint from it.
 pub fn lone_is_shortest()
     ensures law { LoneIsShortest function_begin function_end function_offset }
+{}
+
+/// The name that a reference gives is that of the first entry of its chain that has one, where fewer
+/// than 16 come before it; 16 entries without a name give none, where they stand in a circle too.
+pub fn name_chains()
+    ensures gives { ChainGivesName }
+    ensures long { LongChainGivesNone }
 {}
 
 /// The chain of inlined entries at an address is not cut short: it ends at the first depth of which

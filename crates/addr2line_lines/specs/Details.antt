@@ -80,14 +80,14 @@ low_bits n = unwrap_or n 0 % 2 ^ 32
 abbrev pub with_call : ℕ → CallSite → NamedValue → CallSite
 with_call version call a =
     if a.name.0 == DW_AT_call_file.0
-        then record call {
-          file = option_or (option_and_then (counted_file version) (constant_of a.value)) call.file;
-        }
-        else if a.name.0 == DW_AT_call_line.0
-        then record call { line = low_bits (constant_of a.value) }
-        else if a.name.0 == DW_AT_call_column.0
-        then record call { column = low_bits (constant_of a.value) }
-        else call
+    then record call {
+      file = option_or (option_and_then (counted_file version) (constant_of a.value)) call.file;
+    }
+    else if a.name.0 == DW_AT_call_line.0
+    then record call { line = low_bits (constant_of a.value) }
+    else if a.name.0 == DW_AT_call_column.0
+    then record call { column = low_bits (constant_of a.value) }
+    else call
 
 -- one more attribute of an inlined entry
 unfoldable pub with_inlined_attribute : Scope → UnitRecord → InlinedAttributes → NamedValue

@@ -45,9 +45,9 @@ no_name = record { name = None; origin = None }
 abbrev pub with_name_or_origin : Scope → UnitRecord → NameOrOrigin → NamedValue → NameOrOrigin
 with_name_or_origin scope u found a =
     if a.name.0 == DW_AT_name.0
-        then record found { name = option_or (readable scope u a.value) found.name }
-        else if is_origin a.name then record found { origin = Some a.value }
-        else found
+    then record found { name = option_or (readable scope u a.value) found.name }
+    else if is_origin a.name then record found { origin = Some a.value }
+    else found
 
 -- the linkage name that an attribute gives
 abbrev pub linkage_name_of : Scope → UnitRecord → NamedValue → Option Section
@@ -87,12 +87,12 @@ name_within zero scope u value = Ok None
 name_within (suc n) scope u value = referred scope u value >>= λ entry. elim entry [
   | None ↦ Ok None
   | Some place ↦ visited place >>= λ found. elim found.name [
-      | Some name ↦ Ok (Some name)
-      | None ↦ elim found.origin [
-          | None ↦ Ok None
-          | Some next ↦ name_within n place.scope place.unit next
-        ]
+    | Some name ↦ Ok (Some name)
+    | None ↦ elim found.origin [
+      | None ↦ Ok None
+      | Some next ↦ name_within n place.scope place.unit next
     ]
+  ]
 ]
 
 -- the name by the entry that a value refers to

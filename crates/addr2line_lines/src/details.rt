@@ -3,13 +3,14 @@
 ghost use Rattle.std.specs.Prelude.{◌≡◌, ◌<◌, [], IfOk, OnErr, length, map, option_map, slice_index_or};
 ghost use Rattle.gimli_read.specs.Reading.{ExactlyUnlessOom};
 ghost use Rattle.addr2line_lines.specs.Details.{detail_at};
-ghost use Rattle.addr2line_lines.specs.FoundDetails.{AreDetailsMore, IsDetailPlace, detail_of, inlined_range_of, no_inlined, none_inlined, seen_details, seen_inlined};
+ghost use Rattle.addr2line_lines.specs.FoundDetails.{AreDetailsMore, IsDetailPlace, detail_of, range_among, no_inlined, none_inlined, seen_details, seen_inlined};
 ghost use Rattle.addr2line_lines.specs.References.{IsScope};
 ghost use Rattle.addr2line_lines.specs.SeenScope.{seen_scope};
 
 use crate::detail::read_detail;
-use crate::inlined::{InlinedFunction, InlinedFunctionAddress};
+use crate::inlined::InlinedFunction;
 use crate::inlined_lists::InlinedLists;
+use crate::picks::InlinedFunctionAddress;
 use crate::references::Scope;
 use gimli::Unit;
 use gimli::read::{Error, Reader, UnitOffset};
@@ -128,7 +129,7 @@ impl<R: Reader> Details<R> {
     /// The ranges of the inlined entries of a function, by the places of these. Takes no memory.
     pub fn ranges(&self, detail: FunctionDetail) -> &[InlinedFunctionAddress]
         requires place { IsDetailPlace (seen_details R.section self.now) detail }
-        ensures gives { map (inlined_range_of (seen_details R.section self.now).found.entries)
+        ensures gives { map (range_among (seen_details R.section self.now).found.entries)
             result.now ≡ (detail_of (seen_details R.section self.now) detail).inlined }
     {
         &self.inlined.ranges[detail.ranges_begin..detail.ranges_end]

@@ -6,8 +6,7 @@ use Rattle.std.proofs.lemmas.Bool.Decides.{nat_tests}
 use Rattle.std.proofs.lemmas.Grind.{common_steps}
 use Rattle.std.proofs.lemmas.List.{drop-append-le, map-append, take-append-le}
 use Rattle.std.proofs.lemmas.List.Elements.{All-append, All-head, All-map, All-tail, All-weaker}
-use Rattle.std.proofs.lemmas.List.Sums.{length-filter}
-use Rattle.std.proofs.Math.Seq.{drop-append_seam, take-append_seam}
+use Rattle.std.proofs.Math.Seq.{take-append_seam}
 use Rattle.gimli_read.specs.declared.constants.TheConstants.DwTag.{DW_TAG_inlined_subroutine, DW_TAG_subprogram}
 use Rattle.gimli_read.specs.declared.error.Error.{Error}
 use Rattle.gimli_read.specs.declared.error.Error.TheVariants.{OffsetOutOfBounds}
@@ -15,20 +14,19 @@ use Rattle.gimli_read.specs.declared.range.Range.{Range}
 use Rattle.gimli_read.specs.Abbreviations.{Abbrev}
 use Rattle.gimli_read.specs.Form.{NamedValue, rest_of}
 use Rattle.gimli_read.specs.Reading.{Reading, ◌>>=◌}
-use Rattle.gimli_read.specs.Run.{Run, fold_of, fold_run}
+use Rattle.gimli_read.specs.Run.{Run, fold_run}
 use Rattle.gimli_read.specs.Section.{Section, after}
-use Rattle.gimli.specs.Entries.{entries_at, entries_from, entry_bytes_from, unit_length}
+use Rattle.gimli.specs.Entries.{entries_at, entry_bytes_from, unit_length}
 use Rattle.gimli.specs.Entry.{EntriesLeft, EntryCursor, EntryUnit, attributes_at, entry_abbreviation_at}
 use Rattle.gimli.specs.Header.{UnitHeaderFields}
 use Rattle.gimli.specs.Items.{Entry, Item, depth_after, item_at, item_from, items_from, items_inside, next_item_at}
-use Rattle.gimli.specs.Sections.{Sections}
 use Rattle.gimli.specs.Unit.{UnitRecord}
 use Rattle.gimli.proofs.ItemLemmas.{next_is}
 use Rattle.addr2line_lines.specs.declared.details.FunctionDetail.{FunctionDetail}
 use Rattle.addr2line_lines.specs.declared.picks.InlinedFunctionAddress.{InlinedFunctionAddress}
 use Rattle.addr2line_lines.specs.declared.nesting.Kind.{Kind}
 use Rattle.addr2line_lines.specs.declared.nesting.Kind.TheVariants.{Inlined, Other, Subprogram}
-use Rattle.addr2line_lines.specs.Details.{Detail, InlinedAttributes, InlinedEntry, InlinedRange, PlacedItem, detail_at, entry_of, inlined_attributes_of, inlined_entry, inlined_in, inlined_ranges, is_in_function, is_inlined, number_of, open_after, placed, with_inlined}
+use Rattle.addr2line_lines.specs.Details.{Detail, InlinedAttributes, InlinedEntry, InlinedRange, detail_at, entry_of, inlined_attributes_of, inlined_entry, inlined_in, inlined_ranges, is_in_function, is_inlined, number_of, open_after, placed, with_inlined}
 use Rattle.addr2line_lines.specs.FoundDetails.{AreDetailsMore, IsDetailPlace, FoundAround, FoundInlined, IsFoundMore, IsGrown, IsPlaceAmong, KeptDetails, detail_of, first_found, abbreviation_of, closed_once, detail_found_at, function_found_at, inlined_address, inlined_more, range_among, inside_found, is_inlined_kind, is_listed, is_subprogram_kind, kind_of, kinds_such, name_after, no_inlined, opened, ranges_from, with_entry_found, with_inlined_found, with_item_found}
 use Rattle.addr2line_lines.specs.Functions.{is_subprogram}
 use Rattle.addr2line_lines.specs.Names.{name_of}

@@ -1,5 +1,5 @@
 -- The search among the ranges of inlined entries in order (on specs/InlinedOrder.antt).
-use Rattle.std.proofs.Common.{ℕ, ◌≡◌, ◌+◌, ◌-◌, ◌<◌, ◌≤◌, ◌&&◌, ◌||◌, ◌==◌, Bool, true, false, cond, nat_cmp, nat_le, nat_lt, leb, List, [], ◌∷◌, length, get_or, Option, Some, None, arith, zero, suc, inl, inr, ◌∙◌, ap, sym, subst, refl}
+use Rattle.std.proofs.Common.{ℕ, ◌≡◌, ◌+◌, ◌-◌, ◌<◌, ◌≤◌, ◌&&◌, ◌||◌, ◌==◌, Bool, true, false, cond, nat_cmp, nat_le, nat_lt, leb, List, [], ◌∷◌, length, get_or, Option, Some, None, arith, zero, suc, ◌∙◌, ap, sym, subst, refl}
 use Rattle.std.specs.List.{AllByRecursion, AllWithin, filter}
 use Rattle.std.specs.List.Sorted.{IsPartitionPoint, IsPartitionedBy}
 use Rattle.std.specs.Option.{option_and_then, option_map}
@@ -11,7 +11,7 @@ use Rattle.gimli_read.specs.Topmost.{last}
 use Rattle.addr2line_lines.specs.declared.picks.InlinedFunctionAddress.{InlinedFunctionAddress}
 use Rattle.addr2line_lines.specs.InOrder.{IsInOrder, begins_sooner}
 use Rattle.addr2line_lines.specs.InlinedOrder.{inlined_sooner, place, place_at, place_begin, place_end, places_of_depth, places_within}
-use Rattle.addr2line_lines.specs.Pick.{at_or_below, candidate, if_past}
+use Rattle.addr2line_lines.specs.Pick.{candidate, if_past}
 use Rattle.addr2line_lines.proofs.OrderPick.{candidate_ordered}
 use Rattle.addr2line_lines.proofs.PickLemmas.{filter-filter}
 use Rattle.addr2line_lines.proofs.SearchLemmas.{last_is_at, last_none}

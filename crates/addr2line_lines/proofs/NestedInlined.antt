@@ -1,13 +1,13 @@
 -- The chain of nested inlined entries (on specs/NestedInlined.antt).
-use Rattle.std.proofs.Common.{ℕ, ◌≡◌, ◌+◌, ◌-◌, ◌<◌, ◌≤◌, ◌⊎◌, ◌&&◌, ◌==◌, Bool, true, false, cond, max, nat_le, nat_lt, List, [], ◌∷◌, length, slice_index_or, Option, Some, None, zero, suc, arith, inl, inr, ◌∙◌, ap, subst, sym, refl}
+use Rattle.std.proofs.Common.{ℕ, ◌≡◌, ◌+◌, ◌-◌, ◌<◌, ◌≤◌, ◌⊎◌, ◌&&◌, ◌==◌, Bool, true, false, cond, max, nat_le, nat_lt, List, [], ◌∷◌, length, slice_index_or, Option, Some, None, zero, suc, arith, inl, inr, ◌∙◌, ap, sym, refl}
 use Rattle.std.specs.List.{All, Contains, filter, slice_get}
 use Rattle.std.specs.Option.{option_and_then}
 use Rattle.std.proofs.lemmas.Bool.{cases_lt}
 use Rattle.std.proofs.lemmas.Bool.Decides.{nat_tests}
 use Rattle.std.proofs.lemmas.List.Elements.{All-contains, All-contains_itself}
-use Rattle.gimli_read.specs.Topmost.{greatest, last, topmost}
-use Rattle.addr2line_lines.specs.Details.{InlinedEntry, InlinedRange, inlined_at, inlined_begin, inlined_chain, inlined_end, inlined_within, of_depth}
-use Rattle.addr2line_lines.specs.NestedInlined.{ChainIsWhole, AreInEachOther, AreNested, IsAlone, IsHeldAround, IsNestedChain, IsWithinNearest, NestedChain, inlined_holds}
+use Rattle.gimli_read.specs.Topmost.{greatest, topmost}
+use Rattle.addr2line_lines.specs.Details.{InlinedEntry, InlinedRange, inlined_at, inlined_begin, inlined_end, inlined_within, of_depth}
+use Rattle.addr2line_lines.specs.NestedInlined.{ChainIsWhole, AreInEachOther, AreNested, IsAlone, IsHeldAround, IsWithinNearest, NestedChain, inlined_holds}
 use Rattle.addr2line_lines.specs.Pick.{IsDisjoint, at_or_below, candidate, if_past, pick}
 use Rattle.addr2line_lines.proofs.LonePick.{from_contains, lone_is_picked}
 use Rattle.addr2line_lines.proofs.PickLemmas.{In, In-filter, In-last, In-passes, All-passing}

@@ -1,5 +1,5 @@
 -- The entries that are open, one at a time (on specs/FoundDetails.antt).
-use Rattle.std.proofs.Common.{◌≡◌, ℕ, ◌+◌, ◌<◌, ◌≤◌, ◌==◌, Bool, true, false, cond, List, [], ◌∷◌, ◌++◌, count_by, length, length-append, map, reverse, Option, Some, None, Result, Ok, Err, OnErr, OnOk, refl, ap, sym, subst, arith, ◌∙◌, append-nil, append_assoc, ℤ, pos}
+use Rattle.std.proofs.Common.{◌≡◌, ℕ, ◌<◌, ◌≤◌, ◌==◌, Bool, true, false, cond, List, [], ◌∷◌, ◌++◌, count_by, length, length-append, map, reverse, Option, Some, None, Result, Ok, Err, OnErr, OnOk, refl, ap, sym, arith, ◌∙◌, append-nil, append_assoc, ℤ, pos}
 use Rattle.std.specs.Prelude.{int_lt}
 use Rattle.std.proofs.lemmas.Bool.{eqb-true, ne_eqb}
 use Rattle.std.proofs.lemmas.Grind.{common_steps}

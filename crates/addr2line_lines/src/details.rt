@@ -1,9 +1,9 @@
 //! The details of the functions of a view, kept one after another.
 
-ghost use Rattle.std.specs.Prelude.{◌≡◌, ◌<◌, [], IfOk, OnErr, length, map, option_map, slice_index_or};
+ghost use Rattle.std.specs.Prelude.{◌≡◌, [], IfOk, OnErr, map, option_map, slice_get};
 ghost use Rattle.gimli_read.specs.Reading.{ExactlyUnlessOom};
 ghost use Rattle.addr2line_lines.specs.Details.{detail_at};
-ghost use Rattle.addr2line_lines.specs.FoundDetails.{AreDetailsMore, IsDetailPlace, detail_of, range_among, no_inlined, none_inlined, seen_details, seen_inlined};
+ghost use Rattle.addr2line_lines.specs.FoundDetails.{AreDetailsMore, IsDetailPlace, detail_of, range_among, none_inlined, seen_details, seen_inlined};
 ghost use Rattle.addr2line_lines.specs.References.{IsScope};
 ghost use Rattle.addr2line_lines.specs.SeenScope.{seen_scope};
 
@@ -135,12 +135,11 @@ impl<R: Reader> Details<R> {
         &self.inlined.ranges[detail.ranges_begin..detail.ranges_end]
     }
 
-    /// The inlined entry of a place that a range names. Takes no memory.
-    pub fn inlined(&self, function: usize) -> &InlinedFunction<R>
-        requires there { function < length (seen_details R.section self.now).found.entries }
-        ensures gives { seen_inlined R.section result.now ≡
-            slice_index_or (seen_details R.section self.now).found.entries function no_inlined }
+    /// The inlined entry of a place, as a range names it; none past the last one. Takes no memory.
+    pub fn inlined(&self, function: usize) -> Option<&InlinedFunction<R>>
+        ensures gives { option_map (λ r. seen_inlined R.section r.now) result ≡
+            slice_get (seen_details R.section self.now).found.entries function }
     {
-        &self.inlined.functions[function]
+        self.inlined.functions.get(function)
     }
 }

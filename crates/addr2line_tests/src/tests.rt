@@ -1,6 +1,7 @@
 //! Worked cases, by what they show.
 
 mod context;
+mod details;
 mod example;
 mod functions;
 mod line_ranges;

@@ -9,12 +9,14 @@ use std::test::Fail;
 
 // A unit's root entry, a function with a name and children, an inlined function, and a function
 // with a name alone.
-const NAMED: &[u8] = b"\x01\x11\x01\x10\x17\x1b\x08\x11\x01\x12\x06\0\0\x02\x2e\x01\x03\x08\x11\x01\
+pub const NAMED: &[u8] =
+    b"\x01\x11\x01\x10\x17\x1b\x08\x11\x01\x12\x06\0\0\x02\x2e\x01\x03\x08\x11\x01\
     \x12\x06\0\0\x03\x1d\0\x31\x13\x11\x01\x12\x06\x58\x0b\x59\x0b\x57\x0b\0\0\x04\x2e\0\x03\x08\0\
     \0\0";
 
 // The function "g" without ranges at 0x1f, and "f" [0x10, 0x30) at 0x22.
-const NAMED_INFO: &[u8] = b"\x43\0\0\0\x04\0\0\0\0\0\x08\x01\0\0\0\0\x2f\x77\0\x10\0\0\0\0\0\0\0\
+pub const NAMED_INFO: &[u8; 71] =
+    b"\x43\0\0\0\x04\0\0\0\0\0\x08\x01\0\0\0\0\x2f\x77\0\x10\0\0\0\0\0\0\0\
     \x20\0\0\0\x04\x67\0\x02\x66\0\x10\0\0\0\0\0\0\0\x20\0\0\0\x03\x1f\0\0\0\x20\0\0\0\0\0\0\0\x08\0\
     \0\0\x01\x07\0\0\0";
 

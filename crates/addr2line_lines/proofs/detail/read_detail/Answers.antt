@@ -2,7 +2,6 @@ use Rattle.std.proofs.lemmas.Result.{err_from_is_err_and}
 use Rattle.addr2line_lines.specs.FoundDetails.{seen_lists}
 use Rattle.addr2line_lines.specs.SeenScope.{seen_scope}
 use Rattle.addr2line_lines.proofs.NestingLemmas.{detail-fault, found_same}
-use Rattle.addr2line_lines.proofs.DetailOrder.{Agrees}
 use Rattle.addr2line_lines.proofs.detail.read_detail.Goals as goal
 
 pub returns-in_err-entries : goal.returns-in_err-entries

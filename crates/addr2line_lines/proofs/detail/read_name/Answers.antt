@@ -6,7 +6,7 @@ use Rattle.addr2line_lines.specs.Names.{or_with_name}
 use Rattle.addr2line_lines.specs.FoundDetails.{with_read_name}
 use Rattle.addr2line_lines.specs.FoundNames.{is_name_attribute}
 use Rattle.addr2line_lines.specs.SeenScope.{seen_scope}
-use Rattle.addr2line_lines.proofs.RangeLemmas.{on_err, on_ok, rest-more, rest-end}
+use Rattle.addr2line_lines.proofs.RangeLemmas.{on_ok, rest-more, rest-end}
 use Rattle.addr2line_lines.proofs.DetailLemmas.{fold-end, fold-fault, fold-more, name_said, passed, taken}
 use Rattle.addr2line_lines.proofs.detail.read_name.Goals as goal
 

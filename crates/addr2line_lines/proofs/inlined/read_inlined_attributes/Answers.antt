@@ -5,7 +5,7 @@ use Rattle.gimli_read.specs.Reading.{ExactlyUnlessOomIf}
 use Rattle.addr2line_lines.specs.Details.{no_inlined_attributes, or_with_inlined_attribute}
 use Rattle.addr2line_lines.specs.FoundDetails.{is_wanted, seen_attributes, with_read_attribute}
 use Rattle.addr2line_lines.specs.SeenScope.{seen_scope}
-use Rattle.addr2line_lines.proofs.RangeLemmas.{on_err, on_ok, rest-more, rest-end}
+use Rattle.addr2line_lines.proofs.RangeLemmas.{on_ok, rest-more, rest-end}
 use Rattle.addr2line_lines.proofs.DetailLemmas.{fold-end, fold-fault, fold-more, passed, said, taken}
 use Rattle.addr2line_lines.proofs.inlined.read_inlined_attributes.Goals as goal
 

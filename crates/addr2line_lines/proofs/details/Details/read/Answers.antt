@@ -1,4 +1,4 @@
-use Rattle.std.proofs.Common.{◌≡◌, List, Option, length, map, ap, sym, ◌∙◌}
+use Rattle.std.proofs.Common.{◌≡◌, List, Option, length, ap, sym, ◌∙◌}
 use Rattle.std.proofs.lemmas.List.{length-map}
 use Rattle.gimli_read.specs.Section.{Section}
 use Rattle.addr2line_lines.specs.FoundDetails.{FoundInlined, KeptDetails, seen_details, seen_inlined, seen_lists}

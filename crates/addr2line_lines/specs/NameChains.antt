@@ -22,7 +22,8 @@ LeadsTo from place found =
 abbrev pub IsChain : Reference → List EntryPlace → Reference → Type 0
 IsChain from [] to = from ≡ to
 IsChain from (place ∷ places) to =
-    (next : AttributeValue Section) × LeadsTo from place (record { name = None; origin = Some next })
+    (next : AttributeValue Section)
+    × LeadsTo from place (record { name = None; origin = Some next })
     × IsChain (record { scope = place.scope; unit = place.unit; value = next }) places to
 
 -- the name that a reference gives is that of the first entry of its chain that has one, where fewer

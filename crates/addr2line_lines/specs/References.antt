@@ -1,5 +1,5 @@
--- References to entries (DWARF 5, section 2.7 and 7.5.5.9: in the same unit, in .debug_info, in that
--- of the supplementary file).
+-- References to entries (DWARF 5, sections 7.3.6 and 7.5.5: in the same unit, in .debug_info, in
+-- that of the supplementary file).
 -- Own: a section offset leads to the unit among whose entries it lies. In a split file none does,
 -- and in the supplementary file those of this file. Without a supplementary file, and from it on, a
 -- reference to one leads nowhere; so does a value that is no reference.

@@ -42,7 +42,8 @@ pub struct Details<R: Reader> {
 impl<R: Reader> Details<R> {
     /// Those of no function. Takes no memory.
     pub fn new(alloc: Global) -> Details<R>
-        ensures gives { seen_details R.section result ≡ record { names = []; found = none_inlined } }
+        ensures gives { seen_details R.section result
+            ≡ record { names = []; found = none_inlined } }
     {
         Details {
             names: Vec::new(alloc),

@@ -126,7 +126,8 @@ impl<'a> LineLocationRangeIter<'a> {
         low: u64,
         high: u64,
     ) -> LineLocationRangeIter<'a>
-        ensures gives { rows_left result ≡ flat_map (located_in (map string_bytes files.now) low high)
+        ensures gives { rows_left result
+            ≡ flat_map (located_in (map string_bytes files.now) low high)
             (map (unpacked packed.now.rows) packed.now.sequences) }
     {
         LineLocationRangeIter {

@@ -108,7 +108,8 @@ impl UnitRanges {
 
     // The ranges that end past `low` and begin at or below `last`, in order.
     fn find_between(&self, low: u64, last: u64) -> UnitRangeIter<'_>
-        ensures gives { ranges_left result ≡ filter (is_between low last) (in_order ends_sooner self.now) }
+        ensures gives { ranges_left result
+            ≡ filter (is_between low last) (in_order ends_sooner self.now) }
         ensures last { low ≡ 2 ^ 64 - 1 → ranges_left result ≡ [] }
     {
         let first = self

@@ -116,8 +116,10 @@ pub(crate) fn cache_lines_along<R: Reader>(
     mut ranges: UnitRangeIter<'_>,
 ) -> Result<(), Error>
     requires read { HaveLinesOf dwarf.now units.old.items }
-    ensures exact { AreParsed (parsed_units units.old.items) (ranges_left ranges.entry) → result ≡ Ok tt }
-    ensures parsed { OnOk result (AreParsed (parsed_units units.new.items) (ranges_left ranges.entry)) }
+    ensures exact { AreParsed (parsed_units units.old.items) (ranges_left ranges.entry)
+        → result ≡ Ok tt }
+    ensures parsed { OnOk result
+        (AreParsed (parsed_units units.new.items) (ranges_left ranges.entry)) }
     ensures refused { IfErr result (λ e. e ≡ OutOfMemory) }
     ensures stay { StayUnits units.old.items units.new.items }
     ensures read { HaveLinesOf dwarf.now units.new.items }

@@ -34,7 +34,8 @@ fn rows_of<'ctx>(
     low: u64,
     high: u64,
 ) -> Result<Option<LineLocationRangeIter<'ctx>>, Error>
-    ensures gives { rows_or_fault (result_map (option_map rows_left) result) ≡ cached_spans range low high lines.now }
+    ensures gives { rows_or_fault (result_map (option_map rows_left) result)
+        ≡ cached_spans range low high lines.now }
 {
     match lines {
         LazyLines::Unread => Ok(None),
@@ -85,8 +86,8 @@ impl<'ctx, R: Reader> LocationRangeIter<'ctx, R> {
     /// Refused by the fault of a unit's lines, in the place of its rows; a later call goes on with
     /// the next unit range. Source: DWARF 5, section 6.2.2.
     pub fn next_loc(&mut self) -> Result<Option<(u64, u64, Location<'ctx>)>, Error>
-        ensures gives { YieldsOn (locations_left self.old) (result_map (option_map seen_span) result)
-            (locations_left self.new) }
+        ensures gives { YieldsOn (locations_left self.old)
+            (result_map (option_map seen_span) result) (locations_left self.new) }
     {
         loop {
             if let Some(rows) = &mut self.rows {

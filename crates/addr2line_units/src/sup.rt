@@ -87,8 +87,8 @@ fn push_sup_unit<R: Reader>(
 
 // The units of a supplementary file whose record can be read.
 fn read_sup_units<R: Reader>(alloc: Global, dwarf: &Dwarf<R>) -> Result<Vec<Unit<R>>, Error>
-    ensures gives { ExactlyUnlessOomIf (sup_units_take_memory R.shares dwarf.now) (λ v. v.items) result
-        (units_of (sup_unit_of_header dwarf.now) (all_headers dwarf.now.debug_info)) }
+    ensures gives { ExactlyUnlessOomIf (sup_units_take_memory R.shares dwarf.now) (λ v. v.items)
+        result (units_of (sup_unit_of_header dwarf.now) (all_headers dwarf.now.debug_info)) }
 {
     let mut headers = dwarf.units()?;
     let mut abbreviations = AbbreviationsCache::new(alloc, dwarf);
@@ -113,7 +113,7 @@ impl<R: Reader> SupUnits<R> {
     /// The units of the supplementary file, if there is one, whose record can be read.
     ///
     /// Refused by the first fault of a unit's header; may fail with `OutOfMemory` instead, where
-    /// the first can be read or bytes are shared. Source: DWARF 5, sections 3.1 and 7.3.6.
+    /// that of a unit with abbreviations can be read or bytes are shared. Source: DWARF 5, sections 3.1 and 7.3.6.
     pub fn parse(alloc: Global, dwarf: &Dwarf<R>) -> Result<SupUnits<R>, Error>
         ensures gives { ExactlyUnlessOomIf (sup_takes_memory R.shares dwarf.now.sup)
             (λ s. s.units.items) result (sup_units dwarf.now.sup) }

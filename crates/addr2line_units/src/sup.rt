@@ -1,6 +1,6 @@
 //! The units of a supplementary file.
 
-ghost use Rattle.std.specs.Prelude.{◌≡◌, ◌++◌, [], true, IfErr, Ok, OnOk};
+ghost use Rattle.std.specs.Prelude.{◌≡◌, ◌++◌, [], true, IfErr, IfOk, None, Ok, OnOk, option_map};
 ghost use Rattle.std.specs.Option.{option_to_list};
 ghost use Rattle.std.specs.Result.{result_ok};
 ghost use Rattle.gimli_read.specs.declared.error.Error.TheVariants.{OutOfMemory};
@@ -103,6 +103,7 @@ impl<R: Reader> SupUnits<R> {
     /// No units. Takes no memory.
     pub fn new(alloc: Global) -> SupUnits<R>
         ensures gives { result.units.items ≡ [] }
+        ensures dwarf { result.dwarf ≡ None }
     {
         SupUnits {
             dwarf: None,
@@ -117,6 +118,7 @@ impl<R: Reader> SupUnits<R> {
     pub fn parse(alloc: Global, dwarf: &Dwarf<R>) -> Result<SupUnits<R>, Error>
         ensures gives { ExactlyUnlessOomIf (sup_takes_memory R.shares dwarf.now.sup)
             (λ s. s.units.items) result (sup_units dwarf.now.sup) }
+        ensures dwarf { IfOk result (λ s. s.dwarf ≡ option_map sup_sections dwarf.now.sup) }
     {
         let Some(sup) = &dwarf.sup else {
             return Ok(SupUnits::new(alloc));

@@ -1,12 +1,12 @@
 //! A unit of a context, and its lines.
 
-ghost use Rattle.std.specs.Prelude.{◌≡◌, ◌≢◌, ◌+◌, ◌++◌, ◌<◌, ◌≤◌, [], true, false, not, map, Ok, Err, OnOk, OnErr, IfOk, IfErr, IfSome, is_some, option_map};
-ghost use Rattle.gimli_read.specs.Reading.{ExactlyUnlessOom, Exactly};
+ghost use Rattle.std.specs.Prelude.{◌≡◌, ◌≢◌, ◌+◌, ◌++◌, ◌<◌, ◌≤◌, [], true, false, not, map, Ok, Err, OnOk, OnErr, IfOk, IfErr, IfSome, IsOk, is_some, length, nat_lt, option_map};
+ghost use Rattle.gimli_read.specs.Reading.{Exactly, ExactlyUnlessOom, ExactlyUnlessOomIf};
 ghost use Rattle.gimli_read.specs.declared.error.Error.TheVariants.{OutOfMemory};
 ghost use Rattle.gimli.specs.Sections.{Sections};
 ghost use Rattle.addr2line_lines.specs.Location.{location_of_row};
 ghost use Rattle.addr2line_lines.specs.SeenLocation.{seen_location};
-ghost use Rattle.addr2line_units.specs.Made.{is_partial, is_type_unit, given_at, given_ranges, has_lines, ranged_unit, unit_ranges};
+ghost use Rattle.addr2line_units.specs.Made.{is_partial, is_type_unit, given_at, given_ranges, has_lines, asks_lines, ranged_unit, unit_ranges};
 ghost use Rattle.addr2line_units.specs.Located.{is_found, location_in, looks_in};
 ghost use Rattle.addr2line_units.specs.UnitAranges.{range_in};
 ghost use Rattle.addr2line_units.specs.CachedLines.{AreLinesOf, IsUnparsed, StaysCached, CachesAnswer, StaysUnit, cached_answer, cached_files, cached_looks, cached_ranges, cached_row, indexed_unit, lines_answer, cached_lines, is_parsed, is_uncached};
@@ -57,7 +57,8 @@ fn is_partial(unit_type: UnitType) -> bool
 
 // The ranges that are listed for a unit. Refused `OutOfMemory` alone.
 fn copy_ranges(alloc: Global, listed: &[UnitArange]) -> Result<Vec<Range>, Error>
-    ensures gives { ExactlyUnlessOom (λ v. v.items) result (Ok (map range_in listed.now)) }
+    ensures gives { ExactlyUnlessOomIf (nat_lt 0 (length listed.now)) (λ v. v.items) result
+        (Ok (map range_in listed.now)) }
 {
     let mut ranges = Vec::with_capacity(alloc, listed.len())?;
     for arange in listed {
@@ -93,8 +94,8 @@ fn read_given<R: Reader>(
     unit: UnitRef<'_, R>,
     aranges: &UnitAranges,
 ) -> Result<(Option<DwLang>, Vec<Range>), Error>
-    ensures gives { ExactlyUnlessOom (λ x. (x.0, x.1.items)) result
-        (given_at unit.entry.dwarf.now aranges.now unit.entry.unit.now) }
+    ensures gives { ExactlyUnlessOomIf (not (is_partial unit.entry.unit.now.header.unit_type))
+        (λ x. (x.0, x.1.items)) result (given_at unit.entry.dwarf.now aranges.now unit.entry.unit.now) }
 {
     let record = unit.unit;
     if is_partial(record.header.type_()) {
@@ -178,7 +179,8 @@ fn is_uncached(lines: &LazyLines) -> bool
 
 // The ranges of the sequences of cached lines. Refused `OutOfMemory` alone.
 fn sequence_ranges(alloc: Global, lines: &LazyLines) -> Result<Vec<Range>, Error>
-    ensures gives { ExactlyUnlessOom (λ v. v.items) result (Ok (cached_ranges lines.now)) }
+    ensures gives { ExactlyUnlessOomIf (nat_lt 0 (length (cached_ranges lines.now)))
+        (λ v. v.items) result (Ok (cached_ranges lines.now)) }
     ensures refused { IfErr result (λ e. e ≡ OutOfMemory) }
 {
     let mut ranges = Vec::new(alloc);
@@ -263,6 +265,7 @@ impl<R: Reader> ResUnit<R> {
         ensures gives { ExactlyUnlessOom (λ v. v.items) result (Ok (unit_ranges dwarf.now
             (ranged_seen self.old given.items))) }
         ensures refused { IfErr result (λ e. e ≡ OutOfMemory) }
+        ensures exact { asks_lines (ranged_seen self.old given.items) ≡ false → IsOk result }
         ensures parsed { OnOk result (is_parsed self.new ≡ has_lines
             (ranged_seen self.old given.items)) }
         ensures unit { indexed_unit self.new ≡ indexed_unit self.old }

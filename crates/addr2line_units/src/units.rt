@@ -1,6 +1,6 @@
 //! The units of a context, and the ranges that lead to them.
 
-ghost use Rattle.std.specs.Prelude.{◌≡◌, ◌+◌, ◌++◌, ◌-◌, ◌^◌, ◌<◌, ◌≤◌, [], None, IfErr, IfOk, IfSome, Ok, OnOk, map, option_map, true};
+ghost use Rattle.std.specs.Prelude.{◌≡◌, ◌+◌, ◌++◌, ◌-◌, ◌^◌, ◌<◌, ◌≤◌, [], None, IfErr, IfOk, IfSome, IsOk, Ok, OnOk, map, option_map, true};
 ghost use Rattle.gimli_read.specs.declared.error.Error.TheVariants.{OutOfMemory};
 ghost use Rattle.gimli_read.specs.Reading.{Exactly, ExactlyUnlessOom, ExactlyUnlessOomIf};
 ghost use Rattle.addr2line_units.specs.Made.{range_of_unit, unit_of_header};
@@ -82,6 +82,7 @@ fn push_ranges(unit_ranges: &mut Vec<UnitRange>, unit: usize, ranges: &[Range]) 
     ensures gives { OnOk result (unit_ranges.new.items
         ≡ unit_ranges.old.items ++ map (range_of_unit unit) ranges.now) }
     ensures refused { IfErr result (λ e. e ≡ OutOfMemory) }
+    ensures exact { ranges.now ≡ [] → IsOk result }
 {
     for range in ranges {
         unit_ranges.push(UnitRange {

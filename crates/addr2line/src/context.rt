@@ -78,8 +78,8 @@ impl<R: Reader> Context<R> {
 
     /// A context of the sections of a file that others may hold too.
     ///
-    /// Refused as `from_dwarf` is; takes no memory where no header of a set of `.debug_aranges` can
-    /// be read, nor that of a unit whose abbreviations begin in their section and that is no type
+    /// Refused as `from_dwarf` is; takes no memory where no set of `.debug_aranges` lists a range, no
+    /// header can be read of a unit whose abbreviations begin in their section and that is no type
     /// unit, of a supplementary file's neither, and no bytes are shared.
     pub fn from_arc_dwarf(alloc: Global, dwarf: Rc<Dwarf<R>>) -> Result<Context<R>, Error>
         ensures gives { ExactlyUnlessOomIf (context_takes_memory R.shares dwarf.value) (λ c. c)

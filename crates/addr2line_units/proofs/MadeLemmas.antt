@@ -10,7 +10,7 @@ use Rattle.gimli_read.specs.Abbrev.{table_at}
 use Rattle.gimli_read.specs.Section.{Section, after}
 use Rattle.gimli_read.specs.Reading.{◌>>=◌}
 use Rattle.gimli_read.specs.Yields.{next_given}
-use Rattle.gimli.specs.Aranges.{ArangeSet}
+use Rattle.gimli.specs.Aranges.{ArangeSet, arange_sets_of}
 use Rattle.gimli.specs.Header.{UnitHeaderFields}
 use Rattle.gimli.specs.Sections.{Sections}
 use Rattle.gimli.specs.CachedTables.{CachedTables, cached_unit_takes_memory, entry_takes_memory, is_cached}
@@ -23,7 +23,7 @@ use Rattle.addr2line_units.specs.declared.aranges.UnitArange.{UnitArange}
 use Rattle.addr2line_units.specs.declared.index.UnitRange.{UnitRange}
 use Rattle.addr2line_units.specs.Indexed.{IndexState, appended, has_abbreviations, index_of, index_takes_memory, indexed, indexed_with, or_with_ranged, some_take_memory, unit_takes_memory, with_header, with_ranged}
 use Rattle.addr2line_units.specs.Made.{IndexedUnit, RangedUnit, has_lines, indexed_of, is_type_unit, range_of_unit, ranged_unit, ranges_from, sup_unit_of_header, unit_of_header, unit_ranges, units_of, unless_faulty}
-use Rattle.addr2line_units.specs.UnitAranges.{aranges_in, has_sets, set_aranges}
+use Rattle.addr2line_units.specs.UnitAranges.{aranges_in, lists_aranges, set_aranges, some_lists}
 
 -- what was left, by what a call gave of it
 module _ {X : Type 0} where
@@ -109,6 +109,58 @@ sets_more items set rest = more (read_all rest)
     more : (r : Result (List ArangeSet) Error) → (r >>= λ sets. Ok ((items ++ set_aranges set) ++ flat_map set_aranges sets)) ≡ (result_map (λ sets. set ∷ sets) r >>= λ sets. Ok (items ++ flat_map set_aranges sets))
     more (Ok sets) = ap Ok (append_assoc items (set_aranges set) (flat_map set_aranges sets))
     more (Err e) = refl
+
+-- where no set lists a range there is none
+no_range : (xs : List UnitArange) → nat_lt 0 (length xs) ≡ false → xs ≡ []
+no_range [] e = refl
+no_range (x ∷ xs) e = absurd (true_false (sym (of_number (length xs)) ∙ e))
+  where
+    of_number : (n : ℕ) → nat_lt 0 (suc n) ≡ true
+    of_number n = grind (arith, nat_tests)
+
+    true_false : true ≡ false → ⊥
+    true_false k = cc
+
+no_aranges : (sets : List (Result ArangeSet Error)) → some_lists sets ≡ false → (items : List UnitArange) → (read_all sets >>= λ ss. Ok (flat_map set_aranges ss)) ≡ Ok items → items ≡ []
+no_aranges [] e items k = sym (ok_is [] items k)
+  where
+    ok_is : (a b : List UnitArange) → ◌≡◌ {A = Result (List UnitArange) Error} (Ok a) (Ok b) → a ≡ b
+    ok_is a b l = cc
+no_aranges (Err x ∷ sets) e items k = absurd (err_ok k)
+  where
+    err_ok : ◌≡◌ {A = Result (List UnitArange) Error} (Err x) (Ok items) → ⊥
+    err_ok l = cc
+no_aranges (Ok s ∷ sets) e items k =
+    let both = or_false (nat_lt 0 (length (set_aranges s))) (some_lists sets) e in
+    of_rest (read_all sets) (no_range (set_aranges s) both.0) (λ rest h. no_aranges sets both.1 rest h) refl k
+  where
+    or_false : (a b : Bool) → (a || b) ≡ false → (a ≡ false) × (b ≡ false)
+    or_false true b l = absurd (true_false l)
+      where
+        true_false : true ≡ false → ⊥
+        true_false m = cc
+    or_false false b l = (refl, l)
+
+    ok_is : (a b : List UnitArange) → ◌≡◌ {A = Result (List UnitArange) Error} (Ok a) (Ok b) → a ≡ b
+    ok_is a b l = cc
+
+    of_rest : (r : Result (List ArangeSet) Error) → set_aranges s ≡ [] → ((rest : List UnitArange) → (read_all sets >>= λ ss. Ok (flat_map set_aranges ss)) ≡ Ok rest → rest ≡ []) → read_all sets ≡ r
+        → (result_map (λ ss. s ∷ ss) r >>= λ ss. Ok (flat_map set_aranges ss)) ≡ Ok items → items ≡ []
+    of_rest (Ok ss) none later same is =
+        sym (ok_is (set_aranges s ++ flat_map set_aranges ss) items is)
+        ∙ ap (λ xs. xs ++ flat_map set_aranges ss) none
+        ∙ later (flat_map set_aranges ss) (ap (λ r. r >>= λ xs. Ok (flat_map set_aranges xs)) same)
+    of_rest (Err x) none later same is = absurd (err_ok is)
+      where
+        err_ok : ◌≡◌ {A = Result (List UnitArange) Error} (Err x) (Ok items) → ⊥
+        err_ok l = cc
+
+pub some_listed : (s : Section) (items : List UnitArange) → aranges_in s ≡ Ok items → (items ≡ [] → ⊥) → lists_aranges s ≡ true
+some_listed s items e some = of_bool (some_lists (arange_sets_of s)) refl
+  where
+    of_bool : (b : Bool) → some_lists (arange_sets_of s) ≡ b → some_lists (arange_sets_of s) ≡ true
+    of_bool true same = same
+    of_bool false same = absurd (some (no_aranges (arange_sets_of s) same items e))
 
 -- what is left after one more is less
 pub shorter : {X : Type 0} (left rest : List (Result X Error)) (x : X) → left ≡ Ok x ∷ rest → length rest < length left
@@ -330,8 +382,8 @@ module _ (d : Sections) (aranges : List UnitArange) where
       or_true false true = refl
       or_true false false = refl
 
-      of_bool : (b : Bool) → some_take_memory (unit_takes_memory d) (all_headers d.debug_info) ≡ b → (has_sets d.debug_aranges || (shares || some_take_memory (unit_takes_memory d) (all_headers d.debug_info))) ≡ true
-      of_bool true same = ap (λ x. has_sets d.debug_aranges || (shares || x)) same ∙ or_true (has_sets d.debug_aranges) shares
+      of_bool : (b : Bool) → some_take_memory (unit_takes_memory d) (all_headers d.debug_info) ≡ b → (lists_aranges d.debug_aranges || (shares || some_take_memory (unit_takes_memory d) (all_headers d.debug_info))) ≡ true
+      of_bool true same = ap (λ x. lists_aranges d.debug_aranges || (shares || x)) same ∙ or_true (lists_aranges d.debug_aranges) shares
       of_bool false same = absurd (false_true (ap (λ (rs : List UnitRange). nat_lt 0 (length rs)) (sym (no_ranges (all_headers d.debug_info) same i k)) ∙ some))
         where
           false_true : nat_lt 0 0 ≡ true → ⊥

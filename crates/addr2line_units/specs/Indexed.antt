@@ -15,7 +15,7 @@ use Rattle.addr2line_units.specs.declared.units.Index.{Index}
 use Rattle.addr2line_units.specs.declared.units.ResUnits.{ResUnits}
 use Rattle.addr2line_units.specs.CachedLines.{indexed_unit, indexed_units, parsed_units}
 use Rattle.addr2line_units.specs.Made.{IndexedUnit, RangedUnit, has_lines, indexed_of, is_type_unit, range_of_unit, ranged_units, ranges_from, sup_sections, unit_of_header, unit_ranges, units_of}
-use Rattle.addr2line_units.specs.UnitAranges.{has_sets}
+use Rattle.addr2line_units.specs.UnitAranges.{lists_aranges}
 
 -- units, the ranges that lead to them, and of which units the lines are parsed
 pub record IndexState : Type 0 where
@@ -93,7 +93,7 @@ units_take_memory shares d =
 
 -- whether memory may be taken for units and their ranges
 abbrev pub index_takes_memory : Bool → Sections → Bool
-index_takes_memory shares d = has_sets d.debug_aranges || units_take_memory shares d
+index_takes_memory shares d = lists_aranges d.debug_aranges || units_take_memory shares d
 
 -- what was read so far
 abbrev pub index_seen : {R : Type 0} → Index R → IndexState

@@ -1,5 +1,5 @@
 -- The ranges that `.debug_aranges` lists for units (DWARF 5, section 6.1.2).
-use Rattle.std.specs.Prelude.{ℕ, ◌==◌, Bool, List, filter, flat_map, map, Result, Ok}
+use Rattle.std.specs.Prelude.{ℕ, ◌==◌, ◌||◌, Bool, false, List, [], ◌∷◌, filter, flat_map, length, map, nat_lt, Result, Ok, Err}
 use Rattle.std.specs.Ordering.{is_lt, nat_cmp}
 use Rattle.gimli_read.specs.declared.error.Error.{Error}
 use Rattle.gimli_read.specs.declared.range.Range.{Range}
@@ -7,7 +7,6 @@ use Rattle.gimli_read.specs.declared.value.DebugInfoOffset.{DebugInfoOffset}
 use Rattle.gimli_read.specs.Section.{Section}
 use Rattle.gimli_read.specs.Reading.{◌>>=◌}
 use Rattle.gimli.specs.Aranges.{ArangeSet, arange_sets_of, aranges_of}
-use Rattle.addr2line_lines.specs.RangeAttributes.{begins_well}
 use Rattle.addr2line_lines.specs.Rows.{read_all}
 use Rattle.addr2line_units.specs.declared.aranges.UnitArange.{UnitArange}
 
@@ -23,9 +22,15 @@ set_aranges s = map (unit_arange s.debug_info_offset) (aranges_of s.address_size
 abbrev pub aranges_in : Section → Result (List UnitArange) Error
 aranges_in s = read_all (arange_sets_of s) >>= λ sets. Ok (flat_map set_aranges sets)
 
--- whether the header of a set can be read
-abbrev pub has_sets : Section → Bool
-has_sets s = begins_well {E = Error} (Ok (arange_sets_of s))
+-- whether a set lists a range, up to the first fault of a set's header
+abbrev pub some_lists : List (Result ArangeSet Error) → Bool
+some_lists [] = false
+some_lists (Ok s ∷ sets) = nat_lt 0 (length (set_aranges s)) || some_lists sets
+some_lists (Err e ∷ sets) = false
+
+-- whether a set of the section lists a range
+abbrev pub lists_aranges : Section → Bool
+lists_aranges s = some_lists (arange_sets_of s)
 
 -- whether a range belongs to the unit at an offset
 abbrev pub is_arange_of : ℕ → UnitArange → Bool

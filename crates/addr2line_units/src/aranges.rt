@@ -1,10 +1,10 @@
 //! The ranges that `.debug_aranges` lists for units.
 
-ghost use Rattle.std.specs.Prelude.{◌≡◌, ◌++◌, [], IfErr, IsOk, OnOk, filter};
+ghost use Rattle.std.specs.Prelude.{◌≡◌, ◌++◌, [], true, IfErr, IsOk, OnOk, filter, length, nat_lt};
 ghost use Rattle.gimli_read.specs.declared.error.Error.TheVariants.{OutOfMemory};
 ghost use Rattle.gimli_read.specs.Reading.{ExactlyUnlessOomIf};
 ghost use Rattle.addr2line_lines.specs.InOrder.{in_order};
-ghost use Rattle.addr2line_units.specs.UnitAranges.{aranges_in, has_sets, is_arange_of, offset_sooner, set_aranges};
+ghost use Rattle.addr2line_units.specs.UnitAranges.{aranges_in, lists_aranges, is_arange_of, offset_sooner, set_aranges};
 
 use gimli::read::{DebugInfoOffset, EndianSlice, Error, Range, Reader};
 use gimli::{ArangeHeader, DebugAranges};
@@ -46,7 +46,8 @@ impl Model for UnitAranges {
 // Adds the ranges of a set. Refused `OutOfMemory` alone.
 fn push_set(aranges: &mut Vec<UnitArange>, set: &ArangeHeader<EndianSlice<'_>>) -> Result<(), Error>
     ensures gives { OnOk result (aranges.new.items ≡ aranges.old.items ++ set_aranges set.now) }
-    ensures refused { IfErr result (λ e. e ≡ OutOfMemory) }
+    ensures refused { IfErr result (λ e. (e ≡ OutOfMemory)
+        × (nat_lt 0 (length (set_aranges set.now)) ≡ true)) }
 {
     let unit_offset = set.debug_info_offset();
     let mut ranges = set.entries();
@@ -58,7 +59,7 @@ fn push_set(aranges: &mut Vec<UnitArange>, set: &ArangeHeader<EndianSlice<'_>>) 
 
 // The ranges of all sets, in their order.
 fn read_sets<R: Reader>(alloc: Global, section: &DebugAranges<R>) -> Result<Vec<UnitArange>, Error>
-    ensures gives { ExactlyUnlessOomIf (has_sets (R.section section.now.section)) (λ a. a.items)
+    ensures gives { ExactlyUnlessOomIf (lists_aranges (R.section section.now.section)) (λ a. a.items)
         result (aranges_in (R.section section.now.section)) }
 {
     let mut aranges = Vec::new(alloc);
@@ -81,10 +82,10 @@ impl UnitAranges {
     /// The ranges of all sets of `.debug_aranges`.
     ///
     /// Refused by the first fault of a set's header (`UnknownReservedLength`, `UnexpectedEof`,
-    /// `UnknownVersion`, `UnsupportedAddressSize`, `UnsupportedSegmentSize`); where the first can
-    /// be read it may fail with `OutOfMemory` instead. Source: DWARF 5, section 6.1.2.
+    /// `UnknownVersion`, `UnsupportedAddressSize`, `UnsupportedSegmentSize`); where a set before it
+    /// lists a range it may fail with `OutOfMemory` instead. Source: DWARF 5, section 6.1.2.
     pub fn parse<R: Reader>(alloc: Global, section: &DebugAranges<R>) -> Result<UnitAranges, Error>
-        ensures gives { ExactlyUnlessOomIf (has_sets (R.section section.now.section)) (λ a. a)
+        ensures gives { ExactlyUnlessOomIf (lists_aranges (R.section section.now.section)) (λ a. a)
             result (aranges_in (R.section section.now.section)) }
     {
         let mut aranges = read_sets(alloc, section)?;

@@ -16,10 +16,10 @@ use Rattle.addr2line_units.specs.declared.unit.ResUnit.{ResUnit}
 use Rattle.addr2line_units.specs.CachedLines.{AreLinesOf, HaveLinesOf, StayUnits, cached_spans, indexed_units, is_uncached, lines_at, parsed_units}
 use Rattle.addr2line_units.specs.Indexed.{IndexState, context_takes_memory, index_of, index_takes_memory, sup_takes_memory}
 use Rattle.addr2line_units.specs.Located.{along, all_lines, is_found, lines_fault, lines_of_unit, location_in, location_of, or_along, spans_in, spans_or_fault, looks_along, spans_along, spans_of}
-use Rattle.addr2line_units.specs.Made.{IndexedUnit, Made, RangedUnit, has_lines, indexed_of, made, ranged_units, ranges_from, sup_units}
+use Rattle.addr2line_units.specs.UnitIndex.{IndexedUnit, UnitIndex, RangedUnit, has_lines, indexed_of, index_units, ranged_units, ranges_from, sup_units}
 use Rattle.addr2line_units.specs.Parsed.{AreAllParsed, AreParsed, IsNotOom, has_parsed, ready_along}
 use Rattle.addr2line_units.specs.RangeLookup.{cached_along}
-use Rattle.addr2line_units.specs.UnitIndex.{cover, cover_range}
+use Rattle.addr2line_units.specs.Cover.{cover, cover_range}
 use Rattle.addr2line_units.proofs.UnitsLemmas.{ready_both, stay_indexed, stay_parsed}
 use Rattle.addr2line.specs.Context.{AfterLookup, AfterRangeLookup, ContextState, IsContext, IsReady, IsReadyForRange, Stays, lines_of_all, new_context}
 
@@ -45,10 +45,10 @@ context_made d i sup e f = of_units (ranged_units d) e
         err_ok k = cc
 
 pub what_is_made : (d : Sections) (i : IndexState) (sup : List UnitRecord) → (ranged_units d >>= λ units. Ok (index_of d units)) ≡ Ok i → sup_units d.sup ≡ Ok sup
-    → made d ≡ Ok (record { units = i.units; ranges = i.ranges; sup_units = sup })
+    → index_units d ≡ Ok (record { units = i.units; ranges = i.ranges; sup_units = sup })
 what_is_made d i sup e f = of_units (ranged_units d) e
   where
-    all : List IndexedUnit → List UnitRange → List UnitRecord → Result Made Error
+    all : List IndexedUnit → List UnitRange → List UnitRecord → Result UnitIndex Error
     all units ranges s = Ok (record { units = units; ranges = ranges; sup_units = s })
 
     of_units : (r : Result (List RangedUnit) Error) → (r >>= λ units. Ok (index_of d units)) ≡ Ok i
@@ -105,19 +105,19 @@ sup_memory shares d e = ap (λ b. index_takes_memory shares d || b) e ∙ or_tru
     or_true false = refl
 
 module _ {R : Type 0} (d : Sections) (old : List (ResUnit R)) (ranges : List UnitRange) (sup : List UnitRecord)
-    (made_is : made d ≡ Ok (record { units = indexed_units old; ranges = ranges; sup_units = sup })) where
+    (made_is : index_units d ≡ Ok (record { units = indexed_units old; ranges = ranges; sup_units = sup })) where
   -- the answers of a context by its parts
   pub location_is : (probe : ℕ) → location_of d probe ≡ along d (indexed_units old) probe (cover probe ranges)
-  location_is probe = ap (λ r. r >>= λ (m : Made). along d m.units probe (cover probe m.ranges)) made_is
+  location_is probe = ap (λ r. r >>= λ (m : UnitIndex). along d m.units probe (cover probe m.ranges)) made_is
 
   pub spans_are : (low high : ℕ) → spans_of d low high ≡ Ok (spans_along d (indexed_units old) low high (cover_range low high ranges))
-  spans_are low high = ap (λ r. r >>= λ (m : Made). Ok (spans_along d m.units low high (cover_range low high m.ranges))) made_is
+  spans_are low high = ap (λ r. r >>= λ (m : UnitIndex). Ok (spans_along d m.units low high (cover_range low high m.ranges))) made_is
 
   pub lines_are : lines_of_all d ≡ lines_fault (all_lines d (indexed_units old))
-  lines_are = ap (λ r. r >>= λ (m : Made). lines_fault (all_lines d m.units)) made_is
+  lines_are = ap (λ r. r >>= λ (m : UnitIndex). lines_fault (all_lines d m.units)) made_is
 
   -- what holds of all that may be made holds of what is made
-  of_made : (P : Made → Type 0) → P (record { units = indexed_units old; ranges = ranges; sup_units = sup }) → (m : Made) → made d ≡ Ok m → P m
+  of_made : (P : UnitIndex → Type 0) → P (record { units = indexed_units old; ranges = ranges; sup_units = sup }) → (m : UnitIndex) → index_units d ≡ Ok m → P m
   of_made P h m e = subst P (ok_is _ _ (sym made_is ∙ e)) h
 
   module _ (new : List (ResUnit R)) (stay : StayUnits old new) (looks now : ℕ) where
@@ -144,7 +144,7 @@ module _ {R : Type 0} (d : Sections) (old : List (ResUnit R)) (ranges : List Uni
   }
 
 -- what a context has after a call is still what its sections give
-pub still_a_context : {R : Type 0} (d : Sections) (old : List (ResUnit R)) (ranges : List UnitRange) (sup : List UnitRecord) → made d ≡ Ok (record { units = indexed_units old; ranges = ranges; sup_units = sup })
+pub still_a_context : {R : Type 0} (d : Sections) (old : List (ResUnit R)) (ranges : List UnitRange) (sup : List UnitRecord) → index_units d ≡ Ok (record { units = indexed_units old; ranges = ranges; sup_units = sup })
     → (new : List (ResUnit R)) → StayUnits old new → (now : List UnitRange) → now ≡ ranges → HaveLinesOf d new → IsContext d new now sup
 still_a_context d old ranges sup made_is new stay now same lines = record {
   made_is = made_is ∙ ap (λ us. Ok (record { units = us; ranges = ranges; sup_units = sup })) (sym (stay_indexed old new stay)) ∙ ap (λ rs. Ok (record { units = indexed_units new; ranges = rs; sup_units = sup })) (sym same);
@@ -198,7 +198,7 @@ when_ok (Err x) given e f = tt
 -- where the lines of all units are parsed after an answer, each lookup is ready then
 pub ready_if_ok : (result : Result (Unit {0}) Error) (d : Sections) (p : List Bool) (looks : ℕ) → OnOk result (AreAllParsed p)
     → OnOk result ((probe : ℕ) → IsReady (record { sections = d; answers = []; parsed = p; looks = looks }) probe)
-ready_if_ok (Ok tt) d p looks all = λ probe m made. all_ready d m.units p all probe (cover probe m.ranges)
+ready_if_ok (Ok tt) d p looks all = λ probe m is. all_ready d m.units p all probe (cover probe m.ranges)
 ready_if_ok (Err e) d p looks all = tt
 
 all_parsed_along : (p : List Bool) → AreAllParsed p → (rs : List UnitRange) → AreParsed p rs
@@ -207,7 +207,7 @@ all_parsed_along p all (r ∷ rs) = (all r.unit, all_parsed_along p all rs)
 
 pub range_ready_if_ok : (result : Result (Unit {0}) Error) (d : Sections) (p : List Bool) (looks : ℕ) → OnOk result (AreAllParsed p)
     → OnOk result ((low high : ℕ) → IsReadyForRange (record { sections = d; answers = []; parsed = p; looks = looks }) low high)
-range_ready_if_ok (Ok tt) d p looks all = λ low high m made. all_parsed_along p all (cover_range low high m.ranges)
+range_ready_if_ok (Ok tt) d p looks all = λ low high m is. all_parsed_along p all (cover_range low high m.ranges)
 range_ready_if_ok (Err e) d p looks all = tt
 
 pub err_is_not_ok : {X : Type 0} (e : Error) (x : X) → ◌≡◌ {A = Result X Error} (Err e) (Ok x) → ⊥

@@ -14,9 +14,9 @@ use Rattle.addr2line_units.specs.declared.index.UnitRange.{UnitRange}
 use Rattle.addr2line_units.specs.declared.unit.ResUnit.{ResUnit}
 use Rattle.addr2line_units.specs.CachedLines.{HaveLinesOf, indexed_units}
 use Rattle.addr2line_units.specs.Located.{all_lines, along, is_found, lines_fault, looks_along}
-use Rattle.addr2line_units.specs.Made.{Made, has_lines, made, ranged_units, sup_units}
+use Rattle.addr2line_units.specs.UnitIndex.{UnitIndex, has_lines, index_units, ranged_units, sup_units}
 use Rattle.addr2line_units.specs.Parsed.{AreParsed, IsNotOom, StaysParsed, ready_along}
-use Rattle.addr2line_units.specs.UnitIndex.{cover, cover_range}
+use Rattle.addr2line_units.specs.Cover.{cover, cover_range}
 
 -- the first answer to the load of a unit: the sections of a split file, or none
 pub record FirstAnswer : Type 0 where
@@ -40,17 +40,17 @@ new_context d = do
 
 -- a lookup of the probe parses nothing: no unit covers it, or the lines that it asks for are parsed
 abbrev pub IsReady : ContextState → ℕ → Type 0
-IsReady c probe = (m : Made) → made c.sections ≡ Ok m
+IsReady c probe = (m : UnitIndex) → index_units c.sections ≡ Ok m
     → ready_along c.sections m.units c.parsed probe (cover probe m.ranges) ≡ true
 
 -- a lookup of a range parses nothing
 abbrev pub IsReadyForRange : ContextState → ℕ → ℕ → Type 0
-IsReadyForRange c low high = (m : Made) → made c.sections ≡ Ok m
+IsReadyForRange c low high = (m : UnitIndex) → index_units c.sections ≡ Ok m
     → AreParsed c.parsed (cover_range low high m.ranges)
 
 -- the most looks of a lookup of the probe
 abbrev pub LooksWithin : ℕ → ContextState → ContextState → Type 0
-LooksWithin probe old new = (m : Made) → made old.sections ≡ Ok m
+LooksWithin probe old new = (m : UnitIndex) → index_units old.sections ≡ Ok m
     → new.looks ≤ old.looks + looks_along old.sections m.units (cover probe m.ranges)
 
 -- the sections and the first answers are the same, and what was parsed stays parsed
@@ -77,11 +77,11 @@ pub record AfterRangeLookup {X : Type 0} (low high : ℕ) (result : Result X Err
 
 -- whether the lines of all units can be read, or the first fault
 abbrev pub lines_of_all : Sections → Result (Unit {0}) Error
-lines_of_all d = made d >>= λ m. lines_fault (all_lines d m.units)
+lines_of_all d = index_units d >>= λ m. lines_fault (all_lines d m.units)
 
 -- what a context has is what its sections give
 pub record IsContext {R : Type 0} (d : Sections) (units : List (ResUnit R))
     (ranges : List UnitRange) (sup : List UnitRecord) : Type 0 where
-  pub made_is : made d
+  pub made_is : index_units d
       ≡ Ok (record { units = indexed_units units; ranges = ranges; sup_units = sup })
   pub lines : HaveLinesOf d units

@@ -13,7 +13,7 @@ use Rattle.std.proofs.lemmas.List.Sums.{length-filter}
 use Rattle.addr2line_lines.specs.InOrder.{in_order, IsInOrder}
 use Rattle.addr2line_lines.proofs.OrderLemmas.{in_order_ordered, in_order_ties, one_order, sorted_is}
 use Rattle.addr2line_units.specs.declared.index.UnitRange.{UnitRange}
-use Rattle.addr2line_units.specs.UnitIndex.{cover, cover_range, ends_sooner, range_covers, range_overlaps}
+use Rattle.addr2line_units.specs.Cover.{cover, cover_range, ends_sooner, range_covers, range_overlaps}
 use Rattle.addr2line_units.specs.LeastBegins.{is_between}
 
 -- what passes a test, in order, is what of the ordered list passes it

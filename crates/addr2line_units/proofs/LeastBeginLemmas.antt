@@ -11,7 +11,7 @@ use Rattle.addr2line_lines.proofs.OrderLemmas.{in_order_ordered}
 use Rattle.addr2line_lines.proofs.SeekLemmas.{Up, non_decreasing}
 use Rattle.addr2line_units.specs.declared.index.IndexedRange.{IndexedRange}
 use Rattle.addr2line_units.specs.declared.index.UnitRange.{UnitRange}
-use Rattle.addr2line_units.specs.UnitIndex.{ends_sooner}
+use Rattle.addr2line_units.specs.Cover.{ends_sooner}
 use Rattle.addr2line_units.specs.LeastBegins.{AreIndexed, AreLeastBegins, EndFits, begins_by, is_between, least_begin, unit_range_of, with_least_begins}
 use Rattle.addr2line_units.proofs.IndexLemmas.{ends_order}
 

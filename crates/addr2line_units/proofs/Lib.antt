@@ -5,7 +5,7 @@ pub mod LegacyPlain
 pub mod LegacyProofs
 pub mod AttributeLemmas
 pub mod ArangeLemmas
-pub mod MadeLemmas
+pub mod UnitIndexLemmas
 pub mod UnitsLemmas
 pub mod UnitLemmas
 pub mod IndexLemmas

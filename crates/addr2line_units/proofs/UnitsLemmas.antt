@@ -16,7 +16,7 @@ use Rattle.addr2line_lines.specs.UnitLines.{unit_lines}
 use Rattle.addr2line_units.specs.declared.unit.LazyLines.{LazyLines}
 use Rattle.addr2line_units.specs.declared.unit.ResUnit.{ResUnit}
 use Rattle.addr2line_units.specs.declared.index.UnitRange.{UnitRange}
-use Rattle.addr2line_units.specs.Made.{IndexedUnit}
+use Rattle.addr2line_units.specs.UnitIndex.{IndexedUnit}
 use Rattle.addr2line_units.specs.Located.{all_lines, along, lines_fault, lines_of_unit, location_in, looks_along, looks_in, or_along}
 use Rattle.addr2line_units.specs.Parsed.{IsNotOom, StaysParsed, decides, has_parsed, ready_along}
 use Rattle.addr2line_units.specs.CachedLines.{AreLinesOf, CachesAnswer, HaveLinesOf, StayUnits, StaysCached, StaysUnit, cached_files, indexed_unit, indexed_units, is_parsed, is_uncached, lines_answer, lines_answer_at, lines_at, location_at_place, parsed_units, place_of_row}

@@ -19,7 +19,7 @@ use Rattle.addr2line_units.specs.declared.place.Place.{Place}
 use Rattle.addr2line_units.specs.declared.unit.LazyLines.{LazyLines}
 use Rattle.addr2line_units.specs.declared.unit.LazyLines.TheVariants.{Unread, Read, Faulty}
 use Rattle.addr2line_units.specs.declared.unit.ResUnit.{ResUnit}
-use Rattle.addr2line_units.specs.Made.{IndexedUnit}
+use Rattle.addr2line_units.specs.UnitIndex.{IndexedUnit}
 use Rattle.addr2line_units.specs.Located.{all_read, lines_fault}
 
 -- the cached lines are those that the unit's bytes give

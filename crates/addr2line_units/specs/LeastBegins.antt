@@ -4,7 +4,7 @@ use Rattle.std.specs.List.{AllByRecursion}
 use Rattle.addr2line_lines.specs.InOrder.{IsInOrder, in_order}
 use Rattle.addr2line_units.specs.declared.index.IndexedRange.{IndexedRange}
 use Rattle.addr2line_units.specs.declared.index.UnitRange.{UnitRange}
-use Rattle.addr2line_units.specs.UnitIndex.{ends_sooner}
+use Rattle.addr2line_units.specs.Cover.{ends_sooner}
 
 -- the least begin of ranges, the greatest address where there is none
 abbrev pub least_begin : List UnitRange → ℕ

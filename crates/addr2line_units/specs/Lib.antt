@@ -3,9 +3,9 @@ pub mod LegacyText
 pub mod LegacyLaws
 pub mod UnitAranges
 pub mod UnitAttributes
-pub mod UnitIndex
+pub mod Cover
 pub mod LeastBegins
-pub mod Made
+pub mod UnitIndex
 pub mod Located
 pub mod Parsed
 pub mod CachedLines

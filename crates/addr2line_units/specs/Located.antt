@@ -15,8 +15,8 @@ use Rattle.addr2line_lines.specs.RangeLocations.{LocatedSpan, locations_in_range
 use Rattle.addr2line_lines.specs.Rows.{read_all}
 use Rattle.addr2line_lines.specs.UnitLines.{unit_lines}
 use Rattle.addr2line_units.specs.declared.index.UnitRange.{UnitRange}
-use Rattle.addr2line_units.specs.Made.{IndexedUnit, made}
-use Rattle.addr2line_units.specs.UnitIndex.{cover, cover_range}
+use Rattle.addr2line_units.specs.UnitIndex.{IndexedUnit, index_units}
+use Rattle.addr2line_units.specs.Cover.{cover, cover_range}
 
 -- the lines of a unit, or their fault
 abbrev pub lines_of_unit : Sections → IndexedUnit → Result LineTable Error
@@ -49,7 +49,7 @@ along d units probe (r ∷ ranges) =
 
 -- the location of an address, or the fault
 abbrev pub location_of : Sections → ℕ → Result (Option Location) Error
-location_of d probe = made d >>= λ m. along d m.units probe (cover probe m.ranges)
+location_of d probe = index_units d >>= λ m. along d m.units probe (cover probe m.ranges)
 
 -- each of them as one that was read
 abbrev pub all_read : {X : Type 0} → List X → List (Result X Error)
@@ -76,7 +76,7 @@ spans_along d units low high ranges =
 -- the rows that a range of addresses meets, with the faults of units in their places
 abbrev pub spans_of : Sections → ℕ → ℕ → Result (List (Result LocatedSpan Error)) Error
 spans_of d low high =
-    made d >>= λ m. Ok (spans_along d m.units low high (cover_range low high m.ranges))
+    index_units d >>= λ m. Ok (spans_along d m.units low high (cover_range low high m.ranges))
 
 -- the lines of all units, or the first fault
 abbrev pub all_lines : Sections → List IndexedUnit → Result (List LineTable) Error

@@ -8,7 +8,7 @@ use Rattle.gimli_read.specs.declared.error.Error.TheVariants.{OutOfMemory}
 use Rattle.gimli.specs.Sections.{Sections}
 use Rattle.addr2line_lines.specs.Location.{Location}
 use Rattle.addr2line_units.specs.declared.index.UnitRange.{UnitRange}
-use Rattle.addr2line_units.specs.Made.{IndexedUnit}
+use Rattle.addr2line_units.specs.UnitIndex.{IndexedUnit}
 use Rattle.addr2line_units.specs.Located.{location_in}
 
 -- whether the lines of a unit are parsed, by what is so of each unit; a number of no unit asks for

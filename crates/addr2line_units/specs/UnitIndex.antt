@@ -1,28 +1,188 @@
--- Which units hold an address: the ranges that lead to them, as they are listed, and those of them
--- that hold an address or meet a range (DWARF 5, sections 2.17 and 6.1.2).
--- Own: by end, then by unit, then by begin. A unit is met once for each such range.
-use Rattle.std.specs.Prelude.{ℕ, nat_lt, nat_le, Bool, ◌&&◌, List, filter}
-use Rattle.std.specs.Ordering.{is_lt, nat_cmp, ordering_then}
-use Rattle.addr2line_lines.specs.InOrder.{in_order}
+-- What a context is made of (DWARF 5, sections 2.17, 3.1 and 6.1.2): its units with their
+-- languages, the ranges of addresses that lead to each, and the units of the supplementary file.
+-- Own: the first fault refuses the context: of a set's header of .debug_aranges; then, in the order
+-- of the units, of a unit's header, of an index of its range attributes and of its range list; then
+-- of a header of the supplementary file.
+-- Own: a type unit is passed over, and so is a unit whose record is faulty. A partial unit of
+-- version 5 has no range and no language. In the supplementary file every unit whose record can be
+-- read counts.
+-- Own: a unit without a range list has the ranges that .debug_aranges lists for its offset. One
+-- with a range list, or without such ranges, has those of its attributes; where these give none, an
+-- empty list too, those of its line sequences. Lines that can't be read give no ranges.
+use Rattle.std.specs.Prelude.{ℕ, ◌+◌, Bool, true, false, ◌&&◌, ◌||◌, not, List, [], ◌∷◌, ◌++◌, map, filter_map, is_some, Option, Some, None, Result, Ok, Err, if◌then◌else◌}
+use Rattle.std.specs.Result.{result_ok}
+use Rattle.gimli_read.specs.declared.error.Error.{Error}
+use Rattle.gimli_read.specs.declared.constants.DwLang.{DwLang}
+use Rattle.gimli_read.specs.declared.range.Range.{Range}
+use Rattle.gimli_read.specs.Reading.{◌>>=◌}
+use Rattle.gimli.specs.declared.dwarf.DwarfFileType.TheVariants.{Main}
+use Rattle.gimli.specs.declared.unit.UnitType.{UnitType}
+use Rattle.gimli.specs.declared.unit.UnitType.TheVariants.{TypeUnit, Partial, SplitType}
+use Rattle.gimli.specs.Header.{UnitHeaderFields}
+use Rattle.gimli.specs.Sections.{Sections, SupSections}
+use Rattle.gimli.specs.Unit.{UnitRecord, unit_record_of}
+use Rattle.gimli.specs.UnitsLeft.{all_headers}
+use Rattle.addr2line_lines.specs.declared.function.RangeAttributes.{RangeAttributes}
+use Rattle.addr2line_lines.specs.Location.{LineTable}
+use Rattle.addr2line_lines.specs.RangeAttributes.{attribute_ranges}
+use Rattle.addr2line_lines.specs.RangeLocations.{sequence_ranges}
+use Rattle.addr2line_lines.specs.Rows.{read_all}
+use Rattle.addr2line_lines.specs.UnitLines.{unit_lines}
+use Rattle.addr2line_units.specs.declared.aranges.UnitArange.{UnitArange}
 use Rattle.addr2line_units.specs.declared.index.UnitRange.{UnitRange}
+use Rattle.addr2line_units.specs.UnitAranges.{aranges_at, aranges_in}
+use Rattle.addr2line_units.specs.UnitAttributes.{unit_attributes}
 
--- by end, then by unit, then by begin
-abbrev pub ends_sooner : UnitRange → UnitRange → Bool
-ends_sooner a b = is_lt (ordering_then (nat_cmp a.range.end b.range.end)
-    (ordering_then (nat_cmp a.unit b.unit) (nat_cmp a.range.begin b.range.begin)))
+-- a unit and its language
+pub record IndexedUnit : Type 0 where
+  pub unit : UnitRecord
+  pub language : Option DwLang
 
--- the range holds the probe
-abbrev pub range_covers : ℕ → UnitRange → Bool
-range_covers probe r = nat_le r.range.begin probe && nat_lt probe r.range.end
+-- a unit with the ranges that .debug_aranges or its attributes give
+pub record RangedUnit : Type 0 where
+  pub indexed : IndexedUnit
+  pub given : List Range
 
--- the ranges that hold the probe, in order
-abbrev pub cover : ℕ → List UnitRange → List UnitRange
-cover probe ranges = in_order ends_sooner (filter (range_covers probe) ranges)
+-- what a context is made of
+pub record UnitIndex : Type 0 where
+  pub units : List IndexedUnit
+  pub ranges : List UnitRange
+  pub sup_units : List UnitRecord
 
--- the range ends past low and begins below high
-abbrev pub range_overlaps : ℕ → ℕ → UnitRange → Bool
-range_overlaps low high r = nat_lt low r.range.end && nat_lt r.range.begin high
+-- whether a unit describes types alone
+abbrev pub is_type_unit : UnitType → Bool
+is_type_unit TypeUnit = true
+is_type_unit SplitType = true
+is_type_unit _ = false
 
--- the ranges that end past low and begin below high, in order; low may be above high
-abbrev pub cover_range : ℕ → ℕ → List UnitRange → List UnitRange
-cover_range low high ranges = in_order ends_sooner (filter (range_overlaps low high) ranges)
+-- whether a unit is one that others import
+abbrev pub is_partial : UnitType → Bool
+is_partial Partial = true
+is_partial _ = false
+
+-- the ranges that are listed, where there are some, else those of the attributes
+abbrev pub or_attribute_ranges : Sections → UnitRecord → RangeAttributes → List Range
+    → Result (List Range) Error
+or_attribute_ranges d u a [] = attribute_ranges d u a
+or_attribute_ranges d u a (r ∷ listed) = Ok (r ∷ listed)
+
+-- the ranges that .debug_aranges or the attributes of a unit give
+abbrev pub given_ranges : Sections → List UnitArange → UnitRecord → RangeAttributes
+    → Result (List Range) Error
+given_ranges d aranges u a =
+    if is_some a.ranges_offset then attribute_ranges d u a
+    else or_attribute_ranges d u a (aranges_at u.header.offset.0 aranges)
+
+-- the language of a unit and its given ranges; a partial unit has none
+unfoldable pub given_at : Sections → List UnitArange → UnitRecord
+    → Result (Option DwLang × List Range) Error
+given_at d aranges u =
+    if is_partial u.header.unit_type then Ok (None, [])
+    else do
+      attributes ← unit_attributes d u
+      given ← given_ranges d aranges u attributes.ranges
+      Ok (attributes.language, given)
+
+-- a unit whose record can be read
+abbrev pub ranged_unit : Sections → List UnitArange → UnitRecord → Result RangedUnit Error
+ranged_unit d aranges u =
+    given_at d aranges u
+    >>= λ x. Ok (record { indexed = record { unit = u; language = x.0 }; given = x.1 })
+
+-- a unit that is passed over, or whose record can be read
+abbrev pub unless_faulty : Sections → List UnitArange → Result UnitRecord Error
+    → Result (Option RangedUnit) Error
+unless_faulty d aranges (Err e) = Ok None
+unless_faulty d aranges (Ok u) = ranged_unit d aranges u >>= λ x. Ok (Some x)
+
+-- the unit of a header, none where it is passed over
+unfoldable pub unit_of_header : Sections → List UnitArange → UnitHeaderFields
+    → Result (Option RangedUnit) Error
+unit_of_header d aranges h =
+    if is_type_unit h.unit_type then Ok None else unless_faulty d aranges (unit_record_of d h)
+
+-- the unit of a header of the supplementary file, none where its record is faulty
+abbrev pub sup_unit_of_header : Sections → UnitHeaderFields → Result (Option UnitRecord) Error
+sup_unit_of_header d h = Ok (result_ok (unit_record_of d h))
+
+-- the units of headers, each whole before the next header, or the first fault
+abbrev pub units_of : {U : Type 0} → (UnitHeaderFields → Result (Option U) Error)
+    → List (Result UnitHeaderFields Error) → Result (List U) Error
+units_of read headers =
+    read_all (map (λ h. h >>= read) headers) >>= λ units. Ok (filter_map (λ u. u) units)
+
+-- whether the line sequences of a unit give its ranges
+abbrev pub asks_lines : RangedUnit → Bool
+asks_lines u = is_empty u.given && not (is_partial u.indexed.unit.header.unit_type)
+  where
+    is_empty : List Range → Bool
+    is_empty [] = true
+    is_empty (r ∷ ranges) = false
+
+-- whether the lines of a unit are parsed when a context is made: where they give its ranges, and
+-- where there is no line program
+abbrev pub has_lines : RangedUnit → Bool
+has_lines u = asks_lines u || not (is_some u.indexed.unit.line_program)
+
+-- the ranges of line sequences, none where the lines can't be read
+abbrev pub line_ranges : Result LineTable Error → List Range
+line_ranges (Ok table) = sequence_ranges table
+line_ranges (Err e) = []
+
+-- the ranges that lead to a unit
+abbrev pub unit_ranges : Sections → RangedUnit → List Range
+unit_ranges d u = if asks_lines u then line_ranges (unit_lines d u.indexed.unit) else u.given
+
+-- a range with the number of its unit
+abbrev pub range_of_unit : ℕ → Range → UnitRange
+range_of_unit n r = record { unit = n; range = r }
+
+-- those of units from a number on
+abbrev pub ranges_from : Sections → ℕ → List RangedUnit → List UnitRange
+ranges_from d n [] = []
+ranges_from d n (u ∷ units) =
+    map (range_of_unit n) (unit_ranges d u) ++ ranges_from d (n + 1) units
+
+-- the unit without its ranges
+abbrev pub indexed_of : RangedUnit → IndexedUnit
+indexed_of u = u.indexed
+
+-- the units of the sections that can be read, or the first fault
+abbrev pub ranged_units : Sections → Result (List RangedUnit) Error
+ranged_units d = do
+  aranges ← aranges_in d.debug_aranges
+  units_of (unit_of_header d aranges) (all_headers d.debug_info)
+
+-- the sections of a supplementary file as those of a file of its own
+abbrev pub sup_sections : SupSections → Sections
+sup_sections s = record {
+  debug_abbrev = s.debug_abbrev;
+  debug_addr = s.debug_addr;
+  debug_aranges = s.debug_aranges;
+  debug_info = s.debug_info;
+  debug_line = s.debug_line;
+  debug_line_str = s.debug_line_str;
+  debug_ranges = s.debug_ranges;
+  debug_rnglists = s.debug_rnglists;
+  debug_str = s.debug_str;
+  debug_str_offsets = s.debug_str_offsets;
+  file_type = Main;
+  sup = None;
+}
+
+-- the units of the supplementary file, or the first fault
+abbrev pub sup_units : Option SupSections → Result (List UnitRecord) Error
+sup_units None = Ok []
+sup_units (Some s) =
+    units_of (sup_unit_of_header (sup_sections s)) (all_headers s.debug_info)
+
+-- what a context of the sections is made of, or why it is refused
+abbrev pub index_units : Sections → Result UnitIndex Error
+index_units d = do
+  units ← ranged_units d
+  sup ← sup_units d.sup
+  Ok (record {
+    units = map indexed_of units;
+    ranges = ranges_from d 0 units;
+    sup_units = sup;
+  })

@@ -6,7 +6,7 @@ ghost use Rattle.std.specs.Iterator.{YieldsFirst, item_count};
 ghost use Rattle.gimli_read.specs.Reading.{ExactlyUnlessOomIf};
 ghost use Rattle.addr2line_lines.specs.InOrder.{in_order};
 ghost use Rattle.addr2line_units.specs.LeastBegins.{EndFits, is_between, with_least_begins};
-ghost use Rattle.addr2line_units.specs.UnitIndex.{cover, cover_range, ends_sooner};
+ghost use Rattle.addr2line_units.specs.Cover.{cover, cover_range, ends_sooner};
 ghost use Rattle.addr2line_units.specs.UnitRangesLeft.{ranges_left};
 
 use crate::range_iter::UnitRangeIter;

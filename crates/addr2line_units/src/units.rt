@@ -3,14 +3,14 @@
 ghost use Rattle.std.specs.Prelude.{◌≡◌, ◌+◌, ◌++◌, ◌-◌, ◌^◌, ◌<◌, ◌≤◌, [], None, IfErr, IfOk, IfSome, IsOk, Ok, OnOk, map, option_map, true};
 ghost use Rattle.gimli_read.specs.declared.error.Error.TheVariants.{OutOfMemory};
 ghost use Rattle.gimli_read.specs.Reading.{Exactly, ExactlyUnlessOom, ExactlyUnlessOomIf};
-ghost use Rattle.addr2line_units.specs.Made.{range_of_unit, unit_of_header};
+ghost use Rattle.addr2line_units.specs.UnitIndex.{range_of_unit, unit_of_header};
 ghost use Rattle.addr2line_units.specs.Indexed.{index_seen, index_takes_memory, indexed, indexed_with, no_index, ranged_seen, unit_takes_memory, units_seen, units_take_memory, with_header, with_ranged};
 ghost use Rattle.addr2line_units.specs.CachedLines.{HaveLinesOf, IsUnparsed, StayUnits, cached_files, indexed_units, location_at_place, parsed_units};
 ghost use Rattle.addr2line_units.specs.LocationsLeft.{locations_left};
 ghost use Rattle.addr2line_units.specs.Located.{all_lines, along, is_found, lines_fault, looks_along};
 ghost use Rattle.addr2line_units.specs.Parsed.{AreAllParsed, AreParsed, IsNotOom, ready_along};
 ghost use Rattle.addr2line_units.specs.RangeLookup.{cached_along};
-ghost use Rattle.addr2line_units.specs.UnitIndex.{cover, cover_range};
+ghost use Rattle.addr2line_units.specs.Cover.{cover, cover_range};
 ghost use Rattle.addr2line_lines.specs.Location.{location_of_row};
 ghost use Rattle.addr2line_lines.specs.SeenLocation.{seen_location};
 
@@ -52,7 +52,7 @@ fn location_of(lines: &LazyLines, row: Row) -> Location<'_>
 }
 
 // The unit of a header, none where it is passed over.
-#[tactic(auto, unfolding(crate::specs::Made::unit_of_header))]
+#[tactic(auto, unfolding(crate::specs::UnitIndex::unit_of_header))]
 fn read_unit<R: Reader>(
     alloc: Global,
     dwarf: &Dwarf<R>,

@@ -1,6 +1,6 @@
 use Rattle.std.proofs.Common.{refl}
 use Rattle.std.proofs.lemmas.Result.{err_from_is_err_and}
-use Rattle.addr2line_units.proofs.MadeLemmas.{where_found}
+use Rattle.addr2line_units.proofs.UnitIndexLemmas.{where_found}
 use Rattle.addr2line_units.proofs.sup.push_sup_unit.Goals as goal
 
 pub returns-in_err-push-clause-refused : goal.returns-in_err-push-clause-refused

@@ -1,8 +1,8 @@
 use Rattle.std.proofs.Common.{◌≡◌, false, refl, rules, subst, true}
 use Rattle.std.proofs.lemmas.Result.{err_from_is_err_and}
 use Rattle.addr2line_units.specs.Indexed.{has_abbreviations}
-use Rattle.addr2line_units.specs.Made.{is_type_unit}
-use Rattle.addr2line_units.proofs.MadeLemmas.{kept_fault, takes_unit, where_read, where_taken}
+use Rattle.addr2line_units.specs.UnitIndex.{is_type_unit}
+use Rattle.addr2line_units.proofs.UnitIndexLemmas.{kept_fault, takes_unit, where_read, where_taken}
 use Rattle.addr2line_units.proofs.units.read_unit.Goals as goal
 
 pub returns-in_err-read_ranged_unit-in-Ok-clause-gives :

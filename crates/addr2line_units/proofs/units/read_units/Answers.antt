@@ -4,8 +4,8 @@ use Rattle.gimli_read.specs.Reading.{◌>>=◌}
 use Rattle.gimli.specs.UnitsLeft.{all_headers}
 use Rattle.addr2line_units.specs.CachedLines.{HaveLinesOf}
 use Rattle.addr2line_units.specs.Indexed.{appended, index_of, index_seen, some_take_memory, unit_takes_memory}
-use Rattle.addr2line_units.specs.Made.{unit_of_header, units_of}
-use Rattle.addr2line_units.proofs.MadeLemmas.{given_fault, given_some, index_fault, index_more, shared_headers, shorter, some_headers, takes_first, takes_rest}
+use Rattle.addr2line_units.specs.UnitIndex.{unit_of_header, units_of}
+use Rattle.addr2line_units.proofs.UnitIndexLemmas.{given_fault, given_some, index_fault, index_more, shared_headers, shorter, some_headers, takes_first, takes_rest}
 use Rattle.addr2line_units.proofs.units.read_units.Goals as goal
 
 pub loop-index-init : goal.loop-index-init

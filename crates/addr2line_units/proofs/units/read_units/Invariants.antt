@@ -2,7 +2,7 @@ use Rattle.std.proofs.Common.{◌≡◌, Ok, length, nat_lt, true}
 use Rattle.gimli_read.specs.Reading.{◌>>=◌}
 use Rattle.addr2line_units.specs.CachedLines.{HaveLinesOf}
 use Rattle.addr2line_units.specs.Indexed.{appended, index_seen, indexed_with, some_take_memory, unit_takes_memory, units_take_memory}
-use Rattle.addr2line_units.specs.Made.{unit_of_header, units_of}
+use Rattle.addr2line_units.specs.UnitIndex.{unit_of_header, units_of}
 use Rattle.addr2line_units.proofs.units.read_units.Given as goal
 
 abbrev pub invariant-loop-index : goal.invariant-loop-index

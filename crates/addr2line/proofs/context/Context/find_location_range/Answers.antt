@@ -3,7 +3,7 @@ use Rattle.std.proofs.lemmas.Result.{err_from_is_err_and}
 use Rattle.addr2line_units.specs.CachedLines.{HaveLinesOf}
 use Rattle.addr2line_units.specs.Located.{spans_along}
 use Rattle.addr2line_units.specs.RangeLookup.{cached_along}
-use Rattle.addr2line_units.specs.UnitIndex.{cover_range}
+use Rattle.addr2line_units.specs.Cover.{cover_range}
 use Rattle.addr2line_units.proofs.UnitsLemmas.{stay_indexed}
 use Rattle.addr2line.proofs.ContextLemmas.{after_range_lookup, err_is_not_ok, spans_are, spans_cached, still_a_context}
 use Rattle.addr2line.proofs.context.Context.find_location_range.Goals as goal

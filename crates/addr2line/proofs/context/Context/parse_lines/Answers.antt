@@ -2,7 +2,7 @@ use Rattle.std.proofs.Common.{ap, subst, sym, ◌∙◌}
 use Rattle.std.specs.Prelude.{is_ok}
 use Rattle.gimli_read.specs.Reading.{Exactly}
 use Rattle.addr2line_units.specs.CachedLines.{HaveLinesOf}
-use Rattle.addr2line_units.specs.UnitIndex.{cover}
+use Rattle.addr2line_units.specs.Cover.{cover}
 use Rattle.addr2line.proofs.ContextLemmas.{all_stays, along_ok, lines_are, location_is, range_ready_if_ok, ready_if_ok, still_a_context, when_ok}
 use Rattle.addr2line.proofs.context.Context.parse_lines.Goals as goal
 

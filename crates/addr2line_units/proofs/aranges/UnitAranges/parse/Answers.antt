@@ -1,6 +1,6 @@
 use Rattle.std.proofs.Common.{◌≡◌, false, refl, true}
 use Rattle.std.proofs.lemmas.Result.{err_from_is_err_and}
-use Rattle.addr2line_units.proofs.MadeLemmas.{some_listed}
+use Rattle.addr2line_units.proofs.UnitIndexLemmas.{some_listed}
 use Rattle.addr2line_units.proofs.aranges.UnitAranges.parse.Goals as goal
 
 false_true : false ≡ true → ⊥

@@ -4,7 +4,7 @@ use Rattle.std.proofs.lemmas.List.Sorted.{IsPartitionPoint-from_clause, IsPartit
 use Rattle.addr2line_units.specs.declared.index.IndexedRange.{IndexedRange}
 use Rattle.addr2line_lines.specs.InOrder.{in_order}
 use Rattle.addr2line_units.specs.LeastBegins.{AreLeastBegins, EndFits, is_between}
-use Rattle.addr2line_units.specs.UnitIndex.{ends_sooner}
+use Rattle.addr2line_units.specs.Cover.{ends_sooner}
 use Rattle.addr2line_units.proofs.LeastBeginLemmas.{EndsRise, dropped_least, ends_by, ends_rise, found_from, none_past_greatest, rest_is}
 use Rattle.addr2line_units.proofs.index.UnitRanges.find_between.Goals as goal
 

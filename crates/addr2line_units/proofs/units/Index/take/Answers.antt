@@ -1,5 +1,5 @@
 use Rattle.std.proofs.lemmas.Result.{err_from_is_err_and}
-use Rattle.addr2line_units.proofs.MadeLemmas.{where_kept}
+use Rattle.addr2line_units.proofs.UnitIndexLemmas.{where_kept}
 use Rattle.addr2line_units.proofs.units.Index.take.Goals as goal
 
 pub returns-in_err-push-clause-gives : goal.returns-in_err-push-clause-gives

@@ -6,7 +6,7 @@ use Rattle.addr2line_units.specs.declared.index.UnitRange.{UnitRange}
 use Rattle.addr2line_units.specs.CachedLines.{indexed_units, parsed_units}
 use Rattle.addr2line_units.specs.Indexed.{IndexState}
 use Rattle.addr2line_units.specs.UnitAranges.{aranges_in}
-use Rattle.addr2line_units.proofs.MadeLemmas.{indexed_by, ranges_take}
+use Rattle.addr2line_units.proofs.UnitIndexLemmas.{indexed_by, ranges_take}
 use Rattle.addr2line_units.proofs.units.ResUnits.parse.Goals as goal
 
 ok_is : (a b : List UnitRange) → ◌≡◌ {A = Result (List UnitRange) Error} (Ok a) (Ok b) → a ≡ b

@@ -1,4 +1,4 @@
--- The units of a context as they are read (on specs/Made.antt and specs/Indexed.antt).
+-- The units of a context as they are read (on specs/UnitIndex.antt and specs/Indexed.antt).
 use Rattle.std.proofs.Common.{◌≡◌, ◌≢◌, ◌&&◌, not, ℕ, suc, ◌+◌, Bool, true, false, ◌||◌, is_ok, if◌then◌else◌, ◌<◌, subst, arith, List, [], ◌∷◌, ◌++◌, length, map, drop, filter_map, flat_map, Option, Some, None, Result, Ok, Err, refl, sym, ap, ◌∙◌, nat_lt}
 use Rattle.std.specs.Option.{option_to_list}
 use Rattle.std.specs.Result.{result_ok}
@@ -22,7 +22,7 @@ use Rattle.addr2line_lines.specs.Rows.{read_all, result_map}
 use Rattle.addr2line_units.specs.declared.aranges.UnitArange.{UnitArange}
 use Rattle.addr2line_units.specs.declared.index.UnitRange.{UnitRange}
 use Rattle.addr2line_units.specs.Indexed.{IndexState, appended, has_abbreviations, index_of, index_takes_memory, indexed, indexed_with, or_with_ranged, some_take_memory, unit_takes_memory, with_header, with_ranged}
-use Rattle.addr2line_units.specs.Made.{IndexedUnit, RangedUnit, has_lines, indexed_of, is_type_unit, range_of_unit, ranged_unit, ranges_from, sup_unit_of_header, unit_of_header, unit_ranges, units_of, unless_faulty}
+use Rattle.addr2line_units.specs.UnitIndex.{IndexedUnit, RangedUnit, has_lines, indexed_of, is_type_unit, range_of_unit, ranged_unit, ranges_from, sup_unit_of_header, unit_of_header, unit_ranges, units_of, unless_faulty}
 use Rattle.addr2line_units.specs.UnitAranges.{aranges_in, lists_aranges, set_aranges, some_lists}
 
 -- what was left, by what a call gave of it

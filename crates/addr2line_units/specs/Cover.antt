@@ -1,0 +1,28 @@
+-- Which units hold an address: the ranges that lead to them, as they are listed, and those of them
+-- that hold an address or meet a range (DWARF 5, sections 2.17 and 6.1.2).
+-- Own: by end, then by unit, then by begin. A unit is met once for each such range.
+use Rattle.std.specs.Prelude.{ℕ, nat_lt, nat_le, Bool, ◌&&◌, List, filter}
+use Rattle.std.specs.Ordering.{is_lt, nat_cmp, ordering_then}
+use Rattle.addr2line_lines.specs.InOrder.{in_order}
+use Rattle.addr2line_units.specs.declared.index.UnitRange.{UnitRange}
+
+-- by end, then by unit, then by begin
+abbrev pub ends_sooner : UnitRange → UnitRange → Bool
+ends_sooner a b = is_lt (ordering_then (nat_cmp a.range.end b.range.end)
+    (ordering_then (nat_cmp a.unit b.unit) (nat_cmp a.range.begin b.range.begin)))
+
+-- the range holds the probe
+abbrev pub range_covers : ℕ → UnitRange → Bool
+range_covers probe r = nat_le r.range.begin probe && nat_lt probe r.range.end
+
+-- the ranges that hold the probe, in order
+abbrev pub cover : ℕ → List UnitRange → List UnitRange
+cover probe ranges = in_order ends_sooner (filter (range_covers probe) ranges)
+
+-- the range ends past low and begins below high
+abbrev pub range_overlaps : ℕ → ℕ → UnitRange → Bool
+range_overlaps low high r = nat_lt low r.range.end && nat_lt r.range.begin high
+
+-- the ranges that end past low and begin below high, in order; low may be above high
+abbrev pub cover_range : ℕ → ℕ → List UnitRange → List UnitRange
+cover_range low high ranges = in_order ends_sooner (filter (range_overlaps low high) ranges)

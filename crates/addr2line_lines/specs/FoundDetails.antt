@@ -262,9 +262,13 @@ detail_found_at scope u offset found = do
 abbrev pub no_inlined : InlinedEntry
 no_inlined = record { offset = 0; name = None; call = no_call }
 
+-- the inlined entry of a place
+abbrev pub entry_among : List InlinedEntry → ℕ → InlinedEntry
+entry_among entries n = slice_index_or entries n no_inlined
+
 -- a range, by its inlined entry
 abbrev pub range_among : List InlinedEntry → InlinedFunctionAddress → InlinedRange
-range_among entries a = inlined_range_of (λ n. slice_index_or entries n no_inlined) a
+range_among entries a = inlined_range_of (entry_among entries) a
 
 -- a place is that of an inlined entry
 abbrev pub IsPlaceAmong : List InlinedEntry → InlinedFunctionAddress → Type 0
@@ -292,34 +296,3 @@ none_inlined = record { entries = []; ranges = [] }
 abbrev pub first_found : ℕ → ℕ → FoundInlined → FoundInlined
 first_found functions ranges found =
     record { entries = take functions found.entries; ranges = take ranges found.ranges }
-
--- the details of functions, one after another: their names, and their inlined entries and ranges
-pub record KeptDetails : Type 0 where
-  pub names : List (Option Section)
-  pub found : FoundInlined
-
--- what is kept
-abbrev pub seen_details : {R : Type 0} → (R → Section) → Details R → KeptDetails
-seen_details see d =
-    record { names = map (option_map see) d.names.items; found = seen_lists see d.inlined }
-
--- the details of a place
-abbrev pub detail_of : KeptDetails → FunctionDetail → Detail
-detail_of d p = record {
-  name = slice_index_or d.names p.name None;
-  inlined = map (range_among d.found.entries)
-      (take (p.ranges_end - p.ranges_begin) (drop p.ranges_begin d.found.ranges));
-}
-
--- what was kept before stays, with more at its end
-pub record AreDetailsMore (kept more : KeptDetails) : Type 0 where
-  pub names : IsGrown kept.names more.names
-  pub found : IsFoundMore kept.found more.found
-
--- a place of details that are kept
-pub record IsDetailPlace (d : KeptDetails) (p : FunctionDetail) : Type 0 where
-  pub name : p.name < length d.names
-  pub begin : p.ranges_begin ≤ p.ranges_end
-  pub end : p.ranges_end ≤ length d.found.ranges
-  pub places : All (IsPlaceAmong d.found.entries)
-      (take (p.ranges_end - p.ranges_begin) (drop p.ranges_begin d.found.ranges))

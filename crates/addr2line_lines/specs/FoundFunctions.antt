@@ -13,6 +13,7 @@ use Rattle.gimli.specs.Sections.{Sections}
 use Rattle.gimli.specs.Unit.{UnitRecord}
 use Rattle.addr2line_lines.specs.declared.function.RangeAttributes.{RangeAttributes}
 use Rattle.addr2line_lines.specs.declared.functions.Found.{Found}
+use Rattle.addr2line_lines.specs.declared.functions.LazyFunction.{LazyFunction}
 use Rattle.addr2line_lines.specs.declared.segments.FunctionAddress.{FunctionAddress}
 use Rattle.addr2line_lines.specs.Functions.{FunctionRange, is_subprogram}
 use Rattle.addr2line_lines.specs.RangeAttributes.{all_ranges, attribute_ranges, range_attributes_of}
@@ -85,9 +86,14 @@ found_from d u unit cursor found =
 abbrev pub found_in : Sections → UnitRecord → Result FoundFunctions Error
 found_in d u = fold_of (with_found d u) none_found (items_of u) >>= λ more. Ok more.0
 
+-- where the entries of functions begin
+abbrev pub function_offsets : List LazyFunction → List UnitOffset
+function_offsets functions = map (λ (f : LazyFunction). f.dw_die_offset) functions
+
 -- what was found
 abbrev pub seen_found : Found → FoundFunctions
-seen_found f = record { offsets = f.functions.items; addresses = f.addresses.items }
+seen_found f =
+    record { offsets = function_offsets f.functions.items; addresses = f.addresses.items }
 
 -- a range, by where the entry of its function begins
 abbrev pub function_range_of : List UnitOffset → FunctionAddress → FunctionRange

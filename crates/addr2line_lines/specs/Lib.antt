@@ -33,3 +33,6 @@ pub mod NestedInlined
 pub mod FoundNames
 pub mod NameChains
 pub mod FoundDetails
+pub mod KeptDetails
+pub mod FunctionTable
+pub mod FunctionCache

@@ -1,47 +1,54 @@
 //! The details of the functions of a view, kept one after another.
 
-ghost use Rattle.std.specs.Prelude.{◌≡◌, [], IfOk, OnErr, map, option_map, slice_get};
-ghost use Rattle.gimli_read.specs.Reading.{ExactlyUnlessOom};
-ghost use Rattle.addr2line_lines.specs.Details.{detail_at};
-ghost use Rattle.addr2line_lines.specs.FoundDetails.{AreDetailsMore, IsDetailPlace, detail_of, range_among, none_inlined, seen_details, seen_inlined};
+ghost use Rattle.std.specs.List.{AllByRecursion};
+ghost use Rattle.std.specs.Prelude.{◌≡◌, ◌<◌, [], IfOk, OnErr, Ok, length, map, nat_lt, option_map, slice_get};
+ghost use Rattle.gimli_read.specs.Reading.{ExactlyUnlessOom, ExactlyUnlessOomIf};
+ghost use Rattle.addr2line_lines.specs.Details.{detail_at, inlined_chain};
+ghost use Rattle.addr2line_lines.specs.FoundDetails.{entry_among, none_inlined, seen_inlined};
+ghost use Rattle.addr2line_lines.specs.KeptDetails.{AreDetailsMore, IsDetailPlace, IsNextPlace, detail_of, seen_details};
 ghost use Rattle.addr2line_lines.specs.References.{IsScope};
 ghost use Rattle.addr2line_lines.specs.SeenScope.{seen_scope};
 
 use crate::detail::read_detail;
 use crate::inlined::InlinedFunction;
 use crate::inlined_lists::InlinedLists;
-use crate::picks::InlinedFunctionAddress;
+use crate::picks::{InlinedFunctionAddress, find_chain, sort_inlined_from};
 use crate::references::Scope;
 use gimli::Unit;
 use gimli::read::{Error, Reader, UnitOffset};
+use smallvec::SmallVec;
 use std::alloc::Global;
+use std::snapshot::Snapshot;
 
 /// Where the details of a function stand among those that are kept.
-#[derive(Clone, Copy, Debug, PartialEq, Eq)]
-pub struct FunctionDetail {
+#[derive(Drop)]
+pub(crate) struct FunctionDetail {
     /// The place of its name.
-    pub name: usize,
+    pub(crate) name: usize,
     /// Where its inlined entries begin.
-    pub inlined_begin: usize,
+    pub(crate) inlined_begin: usize,
     /// Where they end.
-    pub inlined_end: usize,
+    pub(crate) inlined_end: usize,
     /// Where its ranges begin.
-    pub ranges_begin: usize,
+    pub(crate) ranges_begin: usize,
     /// Where they end.
-    pub ranges_end: usize,
+    pub(crate) ranges_end: usize,
+    /// All ranges before those of this function were put in order, for contracts alone: it has no
+    /// bytes.
+    pub(crate) listed: Snapshot<Vec<InlinedFunctionAddress>>,
 }
 
 /// The details of functions: their names, and their inlined entries and the ranges of these, those
 /// of each function one after another.
 #[derive(Drop)]
-pub struct Details<R: Reader> {
+pub(crate) struct Details<R: Reader> {
     names: Vec<Option<R>>,
     inlined: InlinedLists<R>,
 }
 
 impl<R: Reader> Details<R> {
     /// Those of no function. Takes no memory.
-    pub fn new(alloc: Global) -> Details<R>
+    pub(crate) fn new(alloc: Global) -> Details<R>
         ensures gives { seen_details R.section result
             ≡ record { names = []; found = none_inlined } }
     {
@@ -65,6 +72,8 @@ impl<R: Reader> Details<R> {
         ensures kept { AreDetailsMore (seen_details R.section self.old)
             (seen_details R.section self.new) }
         ensures place { IfOk result (IsDetailPlace (seen_details R.section self.new)) }
+        ensures next { IfOk result (IsNextPlace (seen_details R.section self.old)
+            (seen_details R.section self.new)) }
         ensures names { OnErr result (map (option_map R.section) self.new.names.items ≡
             map (option_map R.section) self.old.names.items) }
     {
@@ -73,12 +82,15 @@ impl<R: Reader> Details<R> {
         let ranges_begin = self.inlined.ranges.len();
         let read = read_detail(alloc, scope, unit, offset, &mut self.inlined)?;
         self.names.push(read)?;
+        let listed = Snapshot::of(&self.inlined.ranges);
+        sort_inlined_from(&mut self.inlined.ranges, ranges_begin);
         Ok(FunctionDetail {
             name,
             inlined_begin,
             inlined_end: self.inlined.functions.len(),
             ranges_begin,
             ranges_end: self.inlined.ranges.len(),
+            listed,
         })
     }
 
@@ -91,7 +103,7 @@ impl<R: Reader> Details<R> {
     /// of the function, of a reference that a name follows, of range attributes or of a range list;
     /// `UnexpectedEof` where closing entries are missing. May fail with `OutOfMemory` instead.
     /// After a refusal what is kept is what was kept before. Source: DWARF 5, section 3.3.8.
-    pub fn read(
+    pub(crate) fn read(
         &mut self,
         alloc: Global,
         scope: Scope<'_, R>,
@@ -104,6 +116,8 @@ impl<R: Reader> Details<R> {
         ensures kept { AreDetailsMore (seen_details R.section self.old)
             (seen_details R.section self.new) }
         ensures place { IfOk result (IsDetailPlace (seen_details R.section self.new)) }
+        ensures next { IfOk result (IsNextPlace (seen_details R.section self.old)
+            (seen_details R.section self.new)) }
         ensures refused { OnErr result
             (seen_details R.section self.new ≡ seen_details R.section self.old) }
     {
@@ -119,25 +133,39 @@ impl<R: Reader> Details<R> {
     }
 
     /// The name of a function, where there is one that can be read. Takes no memory.
-    pub fn name(&self, detail: FunctionDetail) -> Option<&R>
-        requires place { IsDetailPlace (seen_details R.section self.now) detail }
+    pub(crate) fn name(&self, detail: &FunctionDetail) -> Option<&R>
+        requires place { IsDetailPlace (seen_details R.section self.now) detail.now }
         ensures gives { option_map (λ r. R.section r.now) result ≡
-            (detail_of (seen_details R.section self.now) detail).name }
+            (detail_of (seen_details R.section self.now) detail.now).name }
     {
         self.names[detail.name].as_ref()
     }
 
-    /// The ranges of the inlined entries of a function, by the places of these. Takes no memory.
-    pub fn ranges(&self, detail: FunctionDetail) -> &[InlinedFunctionAddress]
-        requires place { IsDetailPlace (seen_details R.section self.now) detail }
-        ensures gives { map (range_among (seen_details R.section self.now).found.entries)
-            result.now ≡ (detail_of (seen_details R.section self.now) detail).inlined }
+    /// The places of the inlined functions of a function at `probe`, from the outside in: of those of
+    /// depth 0, 1 and so on, up to the first depth without one.
+    ///
+    /// Refused `OutOfMemory` alone, and only where there are more than 16. Source: Own.
+    pub(crate) fn find_inlined_functions(
+        &self,
+        alloc: Global,
+        detail: &FunctionDetail,
+        probe: u64,
+    ) -> Result<SmallVec<usize, 16>, Error>
+        requires place { IsDetailPlace (seen_details R.section self.now) detail.now }
+        ensures gives { ExactlyUnlessOomIf (nat_lt 16 (length (inlined_chain probe
+            (detail_of (seen_details R.section self.now) detail.now).inlined)))
+            (λ chain. map (entry_among (seen_details R.section self.now).found.entries) chain.items)
+            result (Ok (inlined_chain probe
+            (detail_of (seen_details R.section self.now) detail.now).inlined)) }
+        ensures there { IfOk result (λ chain. AllByRecursion
+            (λ n. n < length (seen_details R.section self.now).found.entries) chain.items) }
     {
-        &self.inlined.ranges[detail.ranges_begin..detail.ranges_end]
+        let ranges = &self.inlined.ranges[detail.ranges_begin..detail.ranges_end];
+        find_chain(alloc, ranges, probe)
     }
 
-    /// The inlined entry of a place, as a range names it; none past the last one. Takes no memory.
-    pub fn inlined(&self, function: usize) -> Option<&InlinedFunction<R>>
+    /// The inlined function of a place; none past the last one. Takes no memory.
+    pub(crate) fn inlined(&self, function: usize) -> Option<&InlinedFunction<R>>
         ensures gives { option_map (λ r. seen_inlined R.section r.now) result ≡
             slice_get (seen_details R.section self.now).found.entries function }
     {

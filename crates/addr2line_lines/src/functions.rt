@@ -1,22 +1,48 @@
 //! The functions of a unit.
 
-ghost use Rattle.std.specs.Prelude.{◌≡◌, ◌<◌, ◌==◌, false, length, option_map, OnOk};
-ghost use Rattle.gimli_read.specs.Reading.{ExactlyUnlessOom};
+ghost use Rattle.std.specs.List.{AllByRecursion};
+ghost use Rattle.std.specs.Prelude.{◌≡◌, ◌<◌, ◌==◌, false, length, map, nat_lt, option_and_then, option_map, slice_get, IfOk, IfSome, None, Ok, OnOk, Some};
+ghost use Rattle.gimli_read.specs.Reading.{ExactlyUnlessOom, ExactlyUnlessOomIf};
+ghost use Rattle.addr2line_lines.specs.Details.{inlined_chain};
+ghost use Rattle.addr2line_lines.specs.FoundDetails.{entry_among, seen_inlined};
+ghost use Rattle.addr2line_lines.specs.FunctionTable.{AreUnread, IsReadAt, cached_inlined, cached_name, offset_at};
 ghost use Rattle.addr2line_lines.specs.Functions.{function_offset_at, functions_of, is_subprogram};
+ghost use Rattle.addr2line_lines.specs.References.{IsScope};
+ghost use Rattle.addr2line_lines.specs.SeenScope.{seen_scope};
 ghost use Rattle.addr2line_lines.specs.FoundFunctions.{found_at, found_in, none_found, seen_found, with_attributes, with_range_list, with_ranges};
 
+use crate::details::{Details, FunctionDetail};
 use crate::function::{RangeAttributes, read_range_attributes};
+use crate::inlined::InlinedFunction;
+use crate::references::Scope;
 use crate::segments::{FunctionAddress, Segments};
 use gimli::read::{Abbreviation, DwTag, Error, Reader, UnitOffset};
-use gimli::{EntriesRaw, UnitRef};
+use gimli::{EntriesRaw, Unit, UnitRef};
+use smallvec::SmallVec;
 use std::alloc::Global;
 use std::marker::Model;
+
+// What is cached of the detail of a function.
+#[derive(Drop)]
+enum LazyDetail {
+    Unread,
+    Read(FunctionDetail),
+    // The fault of what could not be read.
+    Faulty(Error),
+}
+
+// A function.
+#[derive(Drop)]
+struct LazyFunction {
+    // Where its entry begins, in bytes from the start of the unit's length.
+    dw_die_offset: UnitOffset,
+    detail: LazyDetail,
+}
 
 // What is found of a unit's functions.
 #[derive(Drop)]
 struct Found {
-    // Where the entries of functions begin.
-    functions: Vec<UnitOffset>,
+    functions: Vec<LazyFunction>,
     addresses: Vec<FunctionAddress>,
 }
 
@@ -85,7 +111,10 @@ impl Found {
         let function = self.functions.len();
         push_ranges(unit, attributes, function, &mut self.addresses)?;
         if self.addresses.len() > before {
-            self.functions.push(offset)?;
+            self.functions.push(LazyFunction {
+                dw_die_offset: offset,
+                detail: LazyDetail::Unread,
+            })?;
         }
         Ok(())
     }
@@ -140,36 +169,46 @@ fn read_functions<R: Reader>(alloc: Global, unit: UnitRef<'_, R>) -> Result<Foun
     Ok(found)
 }
 
-/// The functions of a unit, and the search for that of an address.
+/// The functions of a view, the search for that of an address, and their details, each read when it
+/// is first asked for and cached then, its fault too.
 #[derive(Drop)]
-pub struct Functions {
-    // Where their entries begin, in their order.
-    functions: Vec<UnitOffset>,
+pub struct Functions<R: Reader> {
+    // In the order of their entries.
+    functions: Vec<LazyFunction>,
     addresses: Segments,
+    details: Details<R>,
 }
 
-impl Model for Functions {
-    ghost use Rattle.std.specs.Prelude.{List, map};
-    ghost use Rattle.addr2line_lines.specs.FoundFunctions.{AreFunctions, function_range_of};
-    ghost use Rattle.addr2line_lines.specs.Functions.{FunctionRange};
+impl<R: Reader> Model for Functions<R> {
+    ghost use Rattle.std.specs.Prelude.{map};
+    ghost use Rattle.addr2line_lines.specs.FoundFunctions.{function_offsets, function_range_of};
+    ghost use Rattle.addr2line_lines.specs.FunctionCache.{AreCachedFunctions, seen_function};
+    ghost use Rattle.addr2line_lines.specs.FunctionTable.{FunctionTable};
+    ghost use Rattle.addr2line_lines.specs.KeptDetails.{seen_details};
 
-    ghost Value = { List FunctionRange };
+    ghost Value = { FunctionTable };
 
-    ghost view = { λ f. map (function_range_of f.functions.items) f.addresses };
+    ghost view = { λ f. record {
+      ranges = map (function_range_of (function_offsets f.functions.items)) f.addresses;
+      functions = map (seen_function (seen_details R.section f.details)) f.functions.items;
+      inlined = (seen_details R.section f.details).found.entries;
+    } };
 
-    ghost invariant = { λ f. AreFunctions f.functions.items f.addresses };
+    ghost invariant = { λ f. AreCachedFunctions f.functions.items f.addresses
+        (seen_details R.section f.details) };
 }
 
-impl Functions {
+impl<R: Reader> Functions<R> {
     /// The functions of a unit: its subprogram entries, at any depth, whose range attributes give a
-    /// range.
+    /// range. No detail is read.
     ///
     /// All entries of the unit are read. Refused by the first fault of an entry, of its range
     /// attributes or of its range list; may fail with `OutOfMemory` instead. Source: DWARF 5,
     /// sections 2.17 and 3.3.
-    pub fn parse<R: Reader>(alloc: Global, unit: UnitRef<'_, R>) -> Result<Functions, Error>
-        ensures gives { ExactlyUnlessOom (λ f. f) result
+    pub fn parse(alloc: Global, unit: UnitRef<'_, R>) -> Result<Functions<R>, Error>
+        ensures gives { ExactlyUnlessOom (λ f. f.ranges) result
             (functions_of unit.entry.dwarf.now unit.entry.unit.now) }
+        ensures unread { IfOk result AreUnread }
     {
         let Found {
             functions,
@@ -179,16 +218,134 @@ impl Functions {
         Ok(Functions {
             functions,
             addresses,
+            details: Details::new(alloc),
         })
     }
 
-    /// Where the entry begins of the function at an address, in bytes from the start of the unit's
-    /// length: of the function with the shortest range that holds `probe`, of equal lengths of the
-    /// first; none where no range holds it. Takes no memory.
-    pub fn find(&self, probe: u64) -> Option<UnitOffset>
-        ensures found { option_map (λ o. o.0) result ≡ function_offset_at probe self.now }
+    /// The place of the function at an address: of the function with the shortest range that holds
+    /// `probe`, of equal lengths of the first; none where no range holds it. Takes no memory.
+    pub fn find(&self, probe: u64) -> Option<usize>
+        ensures found { option_and_then (offset_at self.now) result
+            ≡ function_offset_at probe self.now.ranges }
+        ensures there { IfSome result (λ n. n < length self.now.functions) }
     {
-        let function = self.addresses.find(probe)?;
-        Some(self.functions[function])
+        self.addresses.find(probe)
+    }
+
+    /// Where the entry begins of the function of a place, in bytes from the start of the unit's
+    /// length; none past the last function. Takes no memory.
+    pub fn offset(&self, place: usize) -> Option<UnitOffset>
+        ensures gives { option_map (λ o. o.0) result ≡ offset_at self.now place }
+    {
+        let function = self.functions.get(place)?;
+        Some(function.dw_die_offset)
+    }
+
+    /// Reads the detail of the function of a place, unless it is cached: its name, and the inlined
+    /// functions inside it, without those of nested subprograms. It is cached then, its fault too.
+    ///
+    /// `unit` is the unit of the functions, and `scope` says where its references lead. Refused as
+    /// the first fault of an entry up to the end of the function, of a reference that a name
+    /// follows, of range attributes or of a range list; `UnexpectedEof` where closing entries are
+    /// missing. May fail with `OutOfMemory` instead, which is not cached. Past the last function
+    /// nothing is read. Takes no memory where the detail or its fault is cached. Source: DWARF 5,
+    /// section 3.3.8.
+    pub fn read(
+        &mut self,
+        alloc: Global,
+        scope: Scope<'_, R>,
+        unit: &Unit<R>,
+        place: usize,
+    ) -> Result<(), Error>
+        requires in_order { IsScope (seen_scope scope) }
+        ensures gives { IsReadAt (seen_scope scope.entry) unit.now place self.old result self.new }
+    {
+        let Some(function) = self.functions.get(place) else {
+            return Ok(());
+        };
+        match &function.detail {
+            LazyDetail::Read(_) => Ok(()),
+            LazyDetail::Faulty(error) => Err(*error),
+            LazyDetail::Unread => {
+                let offset = function.dw_die_offset;
+                self.read_unread(alloc, scope, unit, offset, place)
+            }
+        }
+    }
+
+    // Reads the detail of a function of which nothing is cached.
+    fn read_unread(
+        &mut self,
+        alloc: Global,
+        scope: Scope<'_, R>,
+        unit: &Unit<R>,
+        offset: UnitOffset,
+        place: usize,
+    ) -> Result<(), Error>
+        requires in_order { IsScope (seen_scope scope) }
+        requires unread { slice_get self.old.functions place
+            ≡ Some (record { offset = offset.0; detail = None }) }
+        ensures gives { IsReadAt (seen_scope scope.entry) unit.now place self.old result self.new }
+    {
+        match self.details.read(alloc, scope, unit, offset) {
+            Ok(detail) => {
+                self.functions[place].detail = LazyDetail::Read(detail);
+                Ok(())
+            }
+            Err(Error::OutOfMemory) => Err(Error::OutOfMemory),
+            Err(error) => {
+                self.functions[place].detail = LazyDetail::Faulty(error);
+                Err(error)
+            }
+        }
+    }
+
+    // The detail of the function of a place, if it was read.
+    fn detail(&self, place: usize) -> Option<&FunctionDetail> {
+        match &self.functions.get(place)?.detail {
+            LazyDetail::Read(detail) => Some(detail),
+            LazyDetail::Faulty(_) | LazyDetail::Unread => None,
+        }
+    }
+
+    /// The cached name of the function of a place; none where there is none, its detail has a fault
+    /// or isn't read. Takes no memory.
+    pub fn name(&self, place: usize) -> Option<&R>
+        ensures gives { option_map (λ r. R.section r.now) result ≡ cached_name self.now place }
+    {
+        self.details.name(self.detail(place)?)
+    }
+
+    /// The places of the inlined functions at `probe` of the function of a place, from the outside
+    /// in: of those of depth 0, 1 and so on, up to the first depth without one. None where the
+    /// detail has a fault or isn't read.
+    ///
+    /// Refused `OutOfMemory` alone, and only where there are more than 16. Source: Own.
+    pub fn find_inlined_functions(
+        &self,
+        alloc: Global,
+        place: usize,
+        probe: u64,
+    ) -> Result<SmallVec<usize, 16>, Error>
+        ensures gives { ExactlyUnlessOomIf
+            (nat_lt 16 (length (inlined_chain probe (cached_inlined self.now place))))
+            (λ chain. map (entry_among self.now.inlined) chain.items) result
+            (Ok (inlined_chain probe (cached_inlined self.now place))) }
+        ensures there { IfOk result (λ chain. AllByRecursion
+            (λ n. n < length self.now.inlined) chain.items) }
+    {
+        match self.detail(place) {
+            Some(detail) => self.details.find_inlined_functions(alloc, detail, probe),
+            None => Ok(SmallVec::new(alloc)),
+        }
+    }
+
+    /// The inlined function of a place, as `find_inlined_functions` gives it; none past the last
+    /// one. Takes no memory.
+    pub fn inlined(&self, function: usize) -> Option<&InlinedFunction<R>>
+        ensures gives { option_map (λ r. seen_inlined R.section r.now) result
+            ≡ slice_get self.now.inlined function }
+    {
+        self.details.inlined(function)
     }
 }

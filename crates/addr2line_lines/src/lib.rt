@@ -27,7 +27,6 @@ mod sequence;
 mod spans;
 
 pub use crate::count::Count;
-pub use crate::details::{Details, FunctionDetail};
 pub use crate::function::{RangeAttributes, read_ranges};
 pub use crate::functions::Functions;
 pub use crate::inlined::{CallSite, InlinedFunction};
@@ -37,7 +36,6 @@ pub use crate::laws::{
 };
 pub use crate::line::Lines;
 pub use crate::location::Location;
-pub use crate::picks::InlinedFunctionAddress;
 pub use crate::range::{LineLocationRangeIter, LineRanges};
 pub use crate::references::{FileUnits, Scope};
 pub use crate::row::Row;

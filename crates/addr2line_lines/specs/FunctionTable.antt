@@ -1,0 +1,110 @@
+-- The functions of a view, and what is cached of their details (DWARF 5, section 3.3).
+-- Own: the detail of a function is read when it is first asked for, and cached then, its fault too.
+-- OutOfMemory is never cached.
+use Rattle.std.specs.Prelude.{◌≡◌, ◌≢◌, ℕ, Bool, List, [], slice_get, slice_set, Option, Some, None, is_some, option_and_then, option_map, Result, Ok, Err}
+use Rattle.std.specs.List.{AllByRecursion}
+use Rattle.gimli_read.specs.declared.error.Error.{Error}
+use Rattle.gimli_read.specs.declared.error.Error.TheVariants.{OutOfMemory}
+use Rattle.gimli_read.specs.Reading.{◌>>=◌}
+use Rattle.gimli_read.specs.Section.{Section}
+use Rattle.gimli.specs.Unit.{UnitRecord}
+use Rattle.addr2line_lines.specs.Details.{Detail, InlinedEntry, InlinedRange, detail_at}
+use Rattle.addr2line_lines.specs.FoundDetails.{IsGrown}
+use Rattle.addr2line_lines.specs.Functions.{FunctionRange}
+use Rattle.addr2line_lines.specs.References.{Scope}
+
+-- a function: where its entry begins, in bytes from the start of the unit's length, and its detail
+-- or the fault of that, none before it is read
+pub record CachedFunction : Type 0 where
+  pub offset : ℕ
+  pub detail : Option (Result Detail Error)
+
+-- the ranges of functions, the functions that have a range in the order of their entries, and the
+-- inlined entries of the details that are cached
+pub record FunctionTable : Type 0 where
+  pub ranges : List FunctionRange
+  pub functions : List CachedFunction
+  pub inlined : List InlinedEntry
+
+-- where the entry of a function begins, by its place
+abbrev pub offset_at : FunctionTable → ℕ → Option ℕ
+offset_at t n = option_map (λ (f : CachedFunction). f.offset) (slice_get t.functions n)
+
+-- what is cached of a function, by its place
+abbrev pub cached_detail : FunctionTable → ℕ → Option (Result Detail Error)
+cached_detail t n =
+    option_and_then (λ (f : CachedFunction). f.detail) (slice_get t.functions n)
+
+-- the name of a detail, none of a fault
+abbrev pub name_of_detail : Result Detail Error → Option Section
+name_of_detail (Ok d) = d.name
+name_of_detail (Err e) = None
+
+-- the inlined ranges of a detail, none of a fault
+abbrev pub inlined_of_detail : Result Detail Error → List InlinedRange
+inlined_of_detail (Ok d) = d.inlined
+inlined_of_detail (Err e) = []
+
+-- the cached name of a function, by its place
+abbrev pub cached_name : FunctionTable → ℕ → Option Section
+cached_name t n = option_and_then name_of_detail (cached_detail t n)
+
+-- the cached inlined ranges of a function, by its place
+abbrev pub cached_inlined : FunctionTable → ℕ → List InlinedRange
+cached_inlined t n = elim (cached_detail t n) [ None ↦ [] | Some d ↦ inlined_of_detail d ]
+
+-- whether a detail can be read
+abbrev pub detail_fault : Result Detail Error → Result (Unit {0}) Error
+detail_fault detail = detail >>= λ _. Ok tt
+
+-- the detail of the function of a place is cached too, and nothing else changes, but that more
+-- inlined entries stand after those before
+pub record IsWithDetail (n : ℕ) (f : CachedFunction) (detail : Result Detail Error)
+    (old new : FunctionTable) : Type 0 where
+  pub ranges : new.ranges ≡ old.ranges
+  pub functions : new.functions ≡
+      slice_set old.functions n (record { offset = f.offset; detail = Some detail })
+  pub inlined : IsGrown old.inlined new.inlined
+
+-- an answer, and the table then: that of the detail, which is cached, its fault too; or
+-- OutOfMemory, and the table as before
+abbrev pub IsCachedThen : ℕ → CachedFunction → Result Detail Error → FunctionTable
+    → Result (Unit {0}) Error → FunctionTable → Type 0
+IsCachedThen n f detail old (Ok x) new =
+    (detail_fault detail ≡ Ok x) × IsWithDetail n f detail old new
+IsCachedThen n f detail old (Err e) new =
+    (e ≢ OutOfMemory → (detail_fault detail ≡ Err e) × IsWithDetail n f detail old new)
+    × (e ≡ OutOfMemory → new ≡ old)
+
+-- an answer, and the table then, by what is cached of the function: a cached detail, or its fault,
+-- is the answer, and nothing changes
+abbrev pub IsReadOnce : Scope → UnitRecord → ℕ → CachedFunction → Option (Result Detail Error)
+    → FunctionTable → Result (Unit {0}) Error → FunctionTable → Type 0
+IsReadOnce scope u n f (Some detail) old result new = (result ≡ detail_fault detail) × (new ≡ old)
+IsReadOnce scope u n f None old result new =
+    IsCachedThen n f (detail_at scope u f.offset) old result new
+
+-- the same of the function of a place, by the function; past the last one nothing is read
+abbrev pub IsReadOf : Scope → UnitRecord → ℕ → Option CachedFunction → FunctionTable
+    → Result (Unit {0}) Error → FunctionTable → Type 0
+IsReadOf scope u n None old result new = (result ≡ Ok tt) × (new ≡ old)
+IsReadOf scope u n (Some f) old result new = IsReadOnce scope u n f f.detail old result new
+
+-- the same of the function of a place
+abbrev pub IsReadAt : Scope → UnitRecord → ℕ → FunctionTable → Result (Unit {0}) Error
+    → FunctionTable → Type 0
+IsReadAt scope u n old result new =
+    IsReadOf scope u n (slice_get old.functions n) old result new
+
+-- no detail is cached
+abbrev pub AreUnread : FunctionTable → Type 0
+AreUnread t = AllByRecursion (λ (f : CachedFunction). f.detail ≡ None) t.functions
+
+-- what is cached of a function is its detail, or the fault of that
+abbrev pub IsDetailOf : Scope → UnitRecord → CachedFunction → Type 0
+IsDetailOf scope u f =
+    (detail : Result Detail Error) → f.detail ≡ Some detail → detail_at scope u f.offset ≡ detail
+
+-- what is cached of each function is so
+abbrev pub AreDetailsOf : Scope → UnitRecord → FunctionTable → Type 0
+AreDetailsOf scope u t = AllByRecursion (IsDetailOf scope u) t.functions

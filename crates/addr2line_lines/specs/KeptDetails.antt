@@ -1,0 +1,70 @@
+-- The details of functions as they are kept, as the private functions see them.
+-- Own: three lists, of names, of inlined entries and of ranges; those of each function stand one
+-- after another, its ranges by depth, then by begin, then by end, then by place of the entry.
+use Rattle.std.specs.Prelude.{◌≡◌, ℕ, ◌+◌, ◌-◌, ◌<◌, ◌≤◌, List, drop, length, map, slice_index_or, take, Option, None, option_map}
+use Rattle.std.specs.List.{All}
+use Rattle.std.specs.List.Sorted.{IsNonDecreasingBy}
+use Rattle.gimli_read.specs.Section.{Section}
+use Rattle.addr2line_lines.specs.declared.details.Details.{Details}
+use Rattle.addr2line_lines.specs.declared.details.FunctionDetail.{FunctionDetail}
+use Rattle.addr2line_lines.specs.declared.picks.InlinedFunctionAddress.{InlinedFunctionAddress}
+use Rattle.addr2line_lines.specs.Details.{Detail}
+use Rattle.addr2line_lines.specs.FoundDetails.{FoundInlined, IsFoundMore, IsGrown, range_among, seen_lists}
+use Rattle.addr2line_lines.specs.InOrder.{in_order}
+use Rattle.addr2line_lines.specs.InlinedOrder.{inlined_sooner, place}
+
+-- names, inlined entries and ranges
+pub record KeptDetails : Type 0 where
+  pub names : List (Option Section)
+  pub found : FoundInlined
+
+-- what is kept
+abbrev pub seen_details : {R : Type 0} → (R → Section) → Details R → KeptDetails
+seen_details see d =
+    record { names = map (option_map see) d.names.items; found = seen_lists see d.inlined }
+
+-- the ranges of a place, in the order of their entries
+abbrev pub listed_ranges : FunctionDetail → List InlinedFunctionAddress
+listed_ranges p = drop p.ranges_begin p.listed.value.items
+
+-- the elements from a place up to another
+abbrev pub between : {X : Type 0} → ℕ → ℕ → List X → List X
+between begin end xs = take (end - begin) (drop begin xs)
+
+-- the details of a place
+abbrev pub detail_of : KeptDetails → FunctionDetail → Detail
+detail_of d p = record {
+  name = slice_index_or d.names p.name None;
+  inlined = map (range_among d.found.entries) (listed_ranges p);
+}
+
+-- what was kept before stays, with more at its end
+pub record AreDetailsMore (kept more : KeptDetails) : Type 0 where
+  pub names : IsGrown kept.names more.names
+  pub found : IsFoundMore kept.found more.found
+
+-- a range is of an inlined entry from a place up to another
+abbrev pub IsOfEntryBetween : ℕ → ℕ → InlinedFunctionAddress → Type 0
+IsOfEntryBetween begin end a = (begin ≤ a.function) × (a.function < end)
+
+-- a place of details that are kept: its ranges are in order, and of its entries alone
+pub record IsDetailPlace (d : KeptDetails) (p : FunctionDetail) : Type 0 where
+  pub name : p.name < length d.names
+  pub inlined_begin : p.inlined_begin ≤ p.inlined_end
+  pub inlined_end : p.inlined_end ≤ length d.found.entries
+  pub ranges_begin : p.ranges_begin ≤ p.ranges_end
+  pub ranges_end : p.ranges_end ≤ length d.found.ranges
+  pub places : All (IsOfEntryBetween p.inlined_begin p.inlined_end) (listed_ranges p)
+  pub rising : IsNonDecreasingBy place (listed_ranges p)
+  pub ordered : between p.ranges_begin p.ranges_end d.found.ranges
+      ≡ in_order inlined_sooner (listed_ranges p)
+
+-- a place is the one after what is kept: the next name, and what follows in the other lists, up to
+-- the end of the lists with it
+pub record IsNextPlace (kept more : KeptDetails) (p : FunctionDetail) : Type 0 where
+  pub name : p.name ≡ length kept.names
+  pub names : length more.names ≡ length kept.names + 1
+  pub inlined_begin : p.inlined_begin ≡ length kept.found.entries
+  pub inlined_end : p.inlined_end ≡ length more.found.entries
+  pub ranges_begin : p.ranges_begin ≡ length kept.found.ranges
+  pub ranges_end : p.ranges_end ≡ length more.found.ranges

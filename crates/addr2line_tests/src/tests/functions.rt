@@ -1,8 +1,8 @@
 //! Worked cases: the functions of a unit, and which of them counts at an address.
 
-use super::sections::{LINE, dwarf_of};
-use addr2line::gimli::UnitRef;
-use addr2line::gimli::read::Error;
+use super::sections::{LINE, dwarf_of, little};
+use addr2line::gimli::read::{EndianSlice, Error};
+use addr2line::gimli::{DebugRanges, UnitRef};
 use addr2line_lines::Functions;
 use std::alloc::Global;
 use std::test::Fail;
@@ -36,6 +36,24 @@ const NESTED_INFO: &[u8] = b"\x23\0\0\0\x04\0\0\0\0\0\x08\x01\x02\x10\0\0\0\0\0\
 const EQUAL_INFO: &[u8] = b"\x23\0\0\0\x04\0\0\0\0\0\x08\x01\x02\x10\0\0\0\0\0\0\0\x10\0\0\0\
     \x02\x10\0\0\0\0\0\0\0\x10\0\0\0\0";
 
+// A root entry without attributes, a function with DW_AT_ranges, and one with DW_AT_low_pc and
+// DW_AT_high_pc.
+const LISTED: &[u8] = b"\x01\x11\x01\0\0\x02\x2e\0\x55\x17\0\0\x03\x2e\0\x11\x01\x12\x0b\0\0\0";
+
+// The ranges of a list at 0xc, and [45, 60) at 0x11.
+const LISTED_INFO: &[u8] = b"\x12\0\0\0\x04\0\0\0\0\0\x02\x01\x02\0\0\0\0\x03\x2d\0\x0f\0";
+
+// [0, 100) and [40, 50).
+const LIST: [u8; 12] = [0, 0, 100, 0, 40, 0, 50, 0, 0, 0, 0, 0];
+
+// Where the function at an address begins, 0 where there is none.
+fn offset_at(functions: &Functions<EndianSlice<'_>>, probe: u64) -> u64 {
+    match functions.find(probe) {
+        Some(place) => functions.offset(place).map_or(0, |offset| offset.0),
+        None => 0,
+    }
+}
+
 // Where the functions at three addresses begin, 0 where there is none.
 fn functions_at(
     alloc: Global,
@@ -43,13 +61,14 @@ fn functions_at(
     info: &[u8],
     probes: [u64; 3],
 ) -> Result<[u64; 3], Error> {
-    let dwarf = dwarf_of(abbrev, info, &LINE);
+    let mut dwarf = dwarf_of(abbrev, info, &LINE);
+    dwarf.debug_ranges = DebugRanges::from(little(&LIST));
     let Some(header) = dwarf.units()?.next()? else {
         return Err(Error::MissingUnitDie);
     };
     let unit = dwarf.unit(alloc, header)?;
     let functions = Functions::parse(alloc, UnitRef::new(&dwarf, &unit))?;
-    Ok(probes.map(|probe| functions.find(probe).map_or(0, |offset| offset.0)))
+    Ok(probes.map(|probe| offset_at(&functions, probe)))
 }
 
 // The same, and for a refusal its number.
@@ -63,13 +82,14 @@ fn told(alloc: Global, abbrev: &[u8], info: &[u8], probes: [u64; 3]) -> [u64; 3]
 
 #[test]
 fn the_function_of_an_address_is_found(rt: HostRuntime) -> Result<(), Fail> {
-    let cases: [(&[u8], &[u8], [u64; 3], [u64; 3]); 5] = [
+    let cases: [(&[u8], &[u8], [u64; 3], [u64; 3]); 6] = [
         (NAMED, NAMED_INFO, [0xf, 0x24, 0x30], [0, 0x22, 0]),
         (NAMED, WRAPPED_INFO, [0xf, 0x24, u64::MAX], [0; 3]),
         // The table lacks the code of the first entry.
         (&NAMED[..24], NAMED_INFO, [0xf, 0x24, 0x30], [1, 0, 1]),
         (PLAIN, NESTED_INFO, [0x24, 0x2a, 0x30], [0x19, 0xc, 0]),
         (PLAIN, EQUAL_INFO, [0x10, 0x1f, 0x20], [0xc, 0xc, 0]),
+        (LISTED, LISTED_INFO, [47, 52, 60], [0xc, 0x11, 0xc]),
     ];
     for (abbrev, info, probes, want) in cases {
         assert_eq!(rt; told(rt.alloc(), abbrev, info, probes), want);

@@ -78,9 +78,9 @@ impl<R: Reader> Context<R> {
 
     /// A context of the sections of a file that others may hold too.
     ///
-    /// Refused as `from_dwarf` is; takes no memory where no set of `.debug_aranges` lists a range, no
-    /// header can be read of a unit whose abbreviations begin in their section and that is no type
-    /// unit, of a supplementary file's neither, and no bytes are shared.
+    /// Refused as `from_dwarf` is; takes no memory where no set of `.debug_aranges` lists a range,
+    /// no header can be read of a unit whose abbreviations begin in their section and that is no
+    /// type unit, of a supplementary file's neither, and no bytes are shared.
     pub fn from_arc_dwarf(alloc: Global, dwarf: Rc<Dwarf<R>>) -> Result<Context<R>, Error>
         ensures gives { ExactlyUnlessOomIf (context_takes_memory R.shares dwarf.value) (λ c. c)
             result (new_context dwarf.value) }

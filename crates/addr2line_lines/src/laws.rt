@@ -44,7 +44,8 @@ pub fn lone_is_shortest()
 {}
 
 /// The name that a reference gives is that of the first entry of its chain that has one, where
-/// fewer than 16 come before it; 16 entries without a name give none, where they stand in a circle too.
+/// fewer than 16 come before it; 16 entries without a name give none, where they stand in a circle
+/// too.
 pub fn name_chains()
     ensures gives { ChainGivesName }
     ensures long { LongChainGivesNone }

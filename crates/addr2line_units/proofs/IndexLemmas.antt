@@ -2,16 +2,14 @@
 use Rattle.std.proofs.Common.{ℕ, ◌≡◌, ◌+◌, ◌≤◌, Ordering, Less, Equal, Greater, Bool, true, false, cond, not, ◌&&◌, nat_le, nat_lt, nat_cmp, List, [], ◌∷◌, length, get_or, arith, ◌∙◌, ap, sym, refl, zero, suc}
 use Rattle.std.specs.Cmp.{IsStrictWeakOrder}
 use Rattle.std.specs.List.{filter, AllByRecursion}
-use Rattle.std.specs.List.Sorted.{IsPermutation, IsSortedBy, IsSortedByKey, ties}
+use Rattle.std.specs.List.Sorted.{IsSortedBy, IsSortedByKey, ties}
 use Rattle.std.specs.Ordering.{is_lt, ordering_then}
-use Rattle.std.proofs.Math.ListN.{replicate}
 use Rattle.std.proofs.lemmas.Bool.Decides.{nat_tests}
 use Rattle.std.proofs.lemmas.Cmp.{on_total, then_total, nat_cmp_total}
-use Rattle.std.proofs.lemmas.List.Sorted.{ranks_by, sum_by-IsPermutation}
+use Rattle.std.proofs.lemmas.List.Sorted.{ranks_by}
 use Rattle.std.proofs.lemmas.List.Elements.{filter_agree}
-use Rattle.std.proofs.lemmas.List.Sums.{length-filter}
 use Rattle.addr2line_lines.specs.InOrder.{in_order, IsInOrder}
-use Rattle.addr2line_lines.proofs.OrderLemmas.{in_order_ordered, in_order_ties, one_order, sorted_is}
+use Rattle.addr2line_lines.proofs.OrderLemmas.{in_order_ordered, in_order_ties, one_order}
 use Rattle.addr2line_units.specs.declared.index.UnitRange.{UnitRange}
 use Rattle.addr2line_units.specs.Cover.{cover, cover_range, ends_sooner, range_covers, range_overlaps}
 use Rattle.addr2line_units.specs.LeastBegins.{is_between}
@@ -48,23 +46,6 @@ module _ {X : Type 0} (lt : X → X → Bool) (o : IsStrictWeakOrder lt) (p : X 
   filter_in_order xs =
       one_order lt o _ _ (in_order_ordered lt o (filter p xs)) (filter_ordered (in_order lt xs) (in_order_ordered lt o xs))
       (λ z. in_order_ties lt o z (filter p xs) ∙ filter_swap (ties lt z) xs ∙ sym (ap (filter p) (in_order_ties lt o z xs)) ∙ sym (filter_swap (ties lt z) (in_order lt xs)))
-
--- a list in order is one where elements that tie are the same
-module _ {X : Type 0} (lt : X → X → Bool) (o : IsStrictWeakOrder lt) (one : (x y : X) → ties lt x y ≡ true → y ≡ x) where
-  copies : (x : X) (xs : List X) → filter (ties lt x) xs ≡ replicate (length (filter (ties lt x) xs)) x
-  copies x [] = refl
-  copies x (y ∷ ys) = by_cases (ties lt x y) refl (copies x ys)
-    where
-      by_cases : (b : Bool) → ties lt x y ≡ b → filter (ties lt x) ys ≡ replicate (length (filter (ties lt x) ys)) x
-          → cond b (y ∷ filter (ties lt x) ys) (filter (ties lt x) ys) ≡ replicate (length (cond b (y ∷ filter (ties lt x) ys) (filter (ties lt x) ys))) x
-      by_cases true e rest = ap (λ z. z ∷ filter (ties lt x) ys) (one x y e) ∙ ap (λ zs. x ∷ zs) rest
-      by_cases false e rest = rest
-
-  pub permuted_is : (xs ys : List X) → IsPermutation xs ys → IsSortedBy lt ys → ys ≡ in_order lt xs
-  permuted_is xs ys moved up =
-      sorted_is lt o xs ys up (λ x.
-      let count : length (filter (ties lt x) ys) ≡ length (filter (ties lt x) xs) = length-filter (ties lt x) ys ∙ sum_by-IsPermutation (λ y. cond (ties lt x y) 1 0) xs ys moved ∙ sym (length-filter (ties lt x) xs) in
-      copies x ys ∙ ap (λ n. replicate n x) count ∙ sym (copies x xs))
 
 -- by end, then by unit, then by begin is an order
 pub ends_order : IsStrictWeakOrder ends_sooner

@@ -179,8 +179,8 @@ impl<R: Reader> ResUnits<R> {
     ///
     /// Refused by the first fault of a set's header, of a unit's header, or of the range attributes
     /// of a unit whose record can be read; may fail with `OutOfMemory` instead, where the header of
-    /// a unit with abbreviations can be read, a set lists a range, or bytes are shared. Source: DWARF
-    /// 5, sections 2.17, 3.1 and 6.1.2.
+    /// a unit with abbreviations can be read, a set lists a range, or bytes are shared. Source:
+    /// DWARF 5, sections 2.17, 3.1 and 6.1.2.
     pub fn parse(alloc: Global, dwarf: &Dwarf<R>) -> Result<ResUnits<R>, Error>
         ensures gives { ExactlyUnlessOomIf (index_takes_memory R.shares dwarf.now) units_seen result
             (indexed dwarf.now) }

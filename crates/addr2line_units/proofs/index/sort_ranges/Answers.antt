@@ -2,7 +2,8 @@ use Rattle.std.proofs.Common.{rules, ℕ}
 use Rattle.std.proofs.lemmas.List.Sorted.{answers_always}
 use Rattle.addr2line_units.specs.declared.index.UnitRange.{UnitRange}
 use Rattle.addr2line_units.specs.Cover.{ends_sooner}
-use Rattle.addr2line_units.proofs.IndexLemmas.{by_tuple, ends_order, one_range, permuted_is}
+use Rattle.addr2line_lines.proofs.InlinedOrder.{permuted_is}
+use Rattle.addr2line_units.proofs.IndexLemmas.{by_tuple, ends_order, one_range}
 use Rattle.addr2line_units.proofs.index.sort_ranges.Goals as goal
 
 pub returns-clause-gives : goal.returns-clause-gives

@@ -1,12 +1,12 @@
 -- The details of a function are what is found of it (on specs/FoundDetails.antt).
-use Rattle.std.proofs.Common.{◌≡◌, ℕ, ◌+◌, ◌-◌, ◌<◌, nat_lt, ◌≤◌, ◌==◌, ◌&&◌, Bool, true, false, cond, List, [], ◌∷◌, ◌++◌, count_by, drop, filter, map, length, slice_index_or, take, Option, Some, None, Result, Ok, Err, refl, ap, sym, subst, ◌∙◌, arith, length-append, length-drop, append-nil, zero, suc, ℤ, pos}
-use Rattle.std.specs.List.{All}
+use Rattle.std.proofs.Common.{◌≡◌, ℕ, ◌+◌, ◌-◌, ◌<◌, nat_lt, ◌≤◌, ◌==◌, ◌&&◌, Bool, true, false, cond, List, [], ◌∷◌, ◌++◌, count_by, drop, filter, map, length, slice_index_or, Option, Some, None, Result, Ok, Err, refl, ap, sym, subst, ◌∙◌, arith, length-append, length-drop, append-nil, zero, suc, ℤ, pos}
+use Rattle.std.specs.List.{All, AllByRecursion}
 use Rattle.std.proofs.lemmas.Bool.{eqb-true, ne_eqb}
 use Rattle.std.proofs.lemmas.Bool.Decides.{nat_tests}
 use Rattle.std.proofs.lemmas.Grind.{common_steps}
-use Rattle.std.proofs.lemmas.List.{drop-append-le, map-append, take-append-le}
-use Rattle.std.proofs.lemmas.List.Elements.{All-append, All-head, All-map, All-tail, All-weaker}
-use Rattle.std.proofs.Math.Seq.{take-append_seam}
+use Rattle.std.proofs.lemmas.List.{drop-append-le, map-append}
+use Rattle.std.proofs.lemmas.List.Elements.{All-append, All-head, All-map, All-tail, All-weaker, recursion_from_All}
+use Rattle.std.proofs.Math.Seq.{drop-length}
 use Rattle.gimli_read.specs.declared.constants.TheConstants.DwTag.{DW_TAG_inlined_subroutine, DW_TAG_subprogram}
 use Rattle.gimli_read.specs.declared.error.Error.{Error}
 use Rattle.gimli_read.specs.declared.error.Error.TheVariants.{OffsetOutOfBounds}
@@ -22,17 +22,19 @@ use Rattle.gimli.specs.Header.{UnitHeaderFields}
 use Rattle.gimli.specs.Items.{Entry, Item, depth_after, item_at, item_from, items_from, items_inside, next_item_at}
 use Rattle.gimli.specs.Unit.{UnitRecord}
 use Rattle.gimli.proofs.ItemLemmas.{next_is}
-use Rattle.addr2line_lines.specs.declared.details.FunctionDetail.{FunctionDetail}
 use Rattle.addr2line_lines.specs.declared.picks.InlinedFunctionAddress.{InlinedFunctionAddress}
 use Rattle.addr2line_lines.specs.declared.nesting.Kind.{Kind}
 use Rattle.addr2line_lines.specs.declared.nesting.Kind.TheVariants.{Inlined, Other, Subprogram}
 use Rattle.addr2line_lines.specs.Details.{Detail, InlinedAttributes, InlinedEntry, InlinedRange, detail_at, entry_of, inlined_attributes_of, inlined_entry, inlined_in, inlined_ranges, is_in_function, is_inlined, number_of, open_after, placed, with_inlined}
-use Rattle.addr2line_lines.specs.FoundDetails.{AreDetailsMore, IsDetailPlace, FoundAround, FoundInlined, IsFoundMore, IsGrown, IsPlaceAmong, KeptDetails, detail_of, first_found, abbreviation_of, closed_once, detail_found_at, function_found_at, inlined_address, inlined_more, range_among, inside_found, is_inlined_kind, is_listed, is_subprogram_kind, kind_of, kinds_such, name_after, no_inlined, opened, ranges_from, with_entry_found, with_inlined_found, with_item_found}
+use Rattle.addr2line_lines.specs.FoundDetails.{FoundAround, FoundInlined, IsPlaceAmong, abbreviation_of, closed_once, detail_found_at, function_found_at, inlined_address, inlined_more, range_among, inside_found, is_inlined_kind, is_listed, is_subprogram_kind, kind_of, kinds_such, name_after, no_inlined, opened, ranges_from, with_entry_found, with_inlined_found, with_item_found}
 use Rattle.addr2line_lines.specs.Functions.{is_subprogram}
+use Rattle.addr2line_lines.specs.InlinedOrder.{place}
+use Rattle.addr2line_lines.specs.KeptDetails.{IsOfEntryBetween}
 use Rattle.addr2line_lines.specs.Names.{name_of}
 use Rattle.addr2line_lines.specs.RangeAttributes.{attribute_ranges}
 use Rattle.addr2line_lines.specs.References.{Scope}
-use Rattle.addr2line_lines.proofs.NestingLemmas.{coded, found_same, grown_not}
+use Rattle.addr2line_lines.proofs.NestingLemmas.{coded}
+use Rattle.addr2line_lines.proofs.SeekLemmas.{Up}
 
 -- what the kinds of open entries tell
 abbrev kind_at : ℕ → Kind
@@ -81,7 +83,7 @@ last_entry [] e d = refl
 last_entry (x ∷ entries) e d = last_entry entries e d
 
 -- a range of an inlined entry
-abbrev of_entry : ℕ → InlinedEntry → Range → InlinedRange
+abbrev pub of_entry : ℕ → InlinedEntry → Range → InlinedRange
 of_entry depth e r = record { depth = depth; range = r; entry = e }
 
 same_ranges : (entries : List InlinedEntry) (e : InlinedEntry) (xs : List InlinedFunctionAddress) → All (IsPlaceAmong entries) xs → map (range_among (entries ++ e ∷ [])) xs ≡ map (range_among entries) xs
@@ -98,43 +100,76 @@ new_ranges entries e depth (r ∷ ranges) =
     ap (λ (y : InlinedRange). y ∷ map (range_among (entries ++ e ∷ [])) (map (inlined_address depth (length entries)) ranges)) one
     ∙ ap (λ ys. of_entry depth e r ∷ ys) (new_ranges entries e depth ranges)
 
--- the ranges from a place on are by places of inlined entries
-pub record AreFrom (n : ℕ) (found : FoundInlined) : Type 0 where
+-- the ranges from a place on are by places of inlined entries that stand past others, and these
+-- places do not fall
+pub record AreFrom (before n : ℕ) (found : FoundInlined) : Type 0 where
   pub within : n ≤ length found.ranges
-  pub places : All (IsPlaceAmong found.entries) (drop n found.ranges)
+  pub past : before ≤ length found.entries
+  pub places : All (IsOfEntryBetween before (length found.entries)) (drop n found.ranges)
+  pub rising : Up place (drop n found.ranges)
 
-more_ranges : (n : ℕ) (found : FoundInlined) (e : InlinedEntry) (depth : ℕ) (ranges : List Range) → AreFrom n found → ranges_from n (inlined_more found e depth ranges) ≡ ranges_from n found ++ map (of_entry depth e) ranges
-more_ranges n found e depth [] all = sym (append-nil (ranges_from n found))
-more_ranges n found e depth (r ∷ ranges) all =
+pub among : (begin end : ℕ) (entries : List InlinedEntry) (xs : List InlinedFunctionAddress) → end ≤ length entries → All (IsOfEntryBetween begin end) xs → All (IsPlaceAmong entries) xs
+among begin end entries xs l all = All-weaker (IsOfEntryBetween begin end) (IsPlaceAmong entries) (λ a k. let h = k.1 in omega arith) xs all
+
+-- ranges of a place after ranges of places that are not above it
+module _ (m depth : ℕ) where
+  new_after : (x : InlinedFunctionAddress) (ranges : List Range) → place x ≤ m → AllByRecursion (λ y. place x ≤ place y) (map (inlined_address depth m) ranges)
+  new_after x [] l = tt
+  new_after x (r ∷ ranges) l = (l, new_after x ranges l)
+
+  all_after : (x : InlinedFunctionAddress) (xs : List InlinedFunctionAddress) (ranges : List Range) → place x ≤ m → AllByRecursion (λ y. place x ≤ place y) xs → AllByRecursion (λ y. place x ≤ place y) (xs ++ map (inlined_address depth m) ranges)
+  all_after x [] ranges l all = new_after x ranges l
+  all_after x (y ∷ xs) ranges l all = (all.0, all_after x xs ranges l all.1)
+
+  new_up : (ranges : List Range) → Up place (map (inlined_address depth m) ranges)
+  new_up [] = tt
+  new_up (r ∷ ranges) = (new_after (inlined_address depth m r) ranges (omega arith), new_up ranges)
+
+  up_after : (xs : List InlinedFunctionAddress) (ranges : List Range) → AllByRecursion (λ x. place x ≤ m) xs → Up place xs → Up place (xs ++ map (inlined_address depth m) ranges)
+  up_after [] ranges all up = new_up ranges
+  up_after (x ∷ xs) ranges all up = (all_after x xs ranges all.0 up.0, up_after xs ranges all.1 up.1)
+
+more_ranges : (before n : ℕ) (found : FoundInlined) (e : InlinedEntry) (depth : ℕ) (ranges : List Range) → AreFrom before n found → ranges_from n (inlined_more found e depth ranges) ≡ ranges_from n found ++ map (of_entry depth e) ranges
+more_ranges before n found e depth [] all = sym (append-nil (ranges_from n found))
+more_ranges before n found e depth (r ∷ ranges) all =
     let added = map (inlined_address depth (length found.entries)) (r ∷ ranges) in
     ap (λ xs. map (range_among (found.entries ++ e ∷ [])) xs) (drop-append-le n found.ranges added all.within)
     ∙ map-append (range_among (found.entries ++ e ∷ [])) (drop n found.ranges) added
-    ∙ ap (λ xs. xs ++ map (range_among (found.entries ++ e ∷ [])) added) (same_ranges found.entries e (drop n found.ranges) all.places)
+    ∙ ap (λ xs. xs ++ map (range_among (found.entries ++ e ∷ [])) added) (same_ranges found.entries e (drop n found.ranges) (among before (length found.entries) found.entries (drop n found.ranges) (omega arith) all.places))
     ∙ ap (λ xs. ranges_from n found ++ xs) (new_ranges found.entries e depth (r ∷ ranges))
 
-more_places : (n : ℕ) (found : FoundInlined) (e : InlinedEntry) (depth : ℕ) (ranges : List Range) → AreFrom n found → AreFrom n (inlined_more found e depth ranges)
-more_places n found e depth [] all = all
-more_places n found e depth (r ∷ ranges) all =
-    let added = map (inlined_address depth (length found.entries)) (r ∷ ranges) in
-    let m : length (found.entries ++ e ∷ []) ≡ length found.entries + 1 = length-append found.entries (e ∷ []) in
+more_places : (before n : ℕ) (found : FoundInlined) (e : InlinedEntry) (depth : ℕ) (ranges : List Range) → AreFrom before n found → AreFrom before n (inlined_more found e depth ranges)
+more_places before n found e depth [] all = all
+more_places before n found e depth (r ∷ ranges) all =
+    let m = length found.entries in
+    let added = map (inlined_address depth m) (r ∷ ranges) in
+    let next : length (found.entries ++ e ∷ []) ≡ length found.entries + 1 = length-append found.entries (e ∷ []) in
     let l = length-append found.ranges added in
     let w = all.within in
+    let p = all.past in
+    let is : drop n (found.ranges ++ added) ≡ drop n found.ranges ++ added = drop-append-le n found.ranges added all.within in
+    let Between : InlinedFunctionAddress → Type 0 = IsOfEntryBetween before (length (found.entries ++ e ∷ [])) in
     record {
       within = omega arith;
-      places = subst (All (IsPlaceAmong (found.entries ++ e ∷ []))) (sym (drop-append-le n found.ranges added all.within))
-          (All-append (IsPlaceAmong (found.entries ++ e ∷ [])) (drop n found.ranges) added
-          (All-weaker (IsPlaceAmong found.entries) (IsPlaceAmong (found.entries ++ e ∷ [])) (λ a k. omega arith) (drop n found.ranges) all.places)
-          (All-map (IsPlaceAmong (found.entries ++ e ∷ [])) (inlined_address depth (length found.entries)) (r ∷ ranges) (λ k d j. omega arith)));
+      past = omega arith;
+      places = subst (All Between) (sym is)
+          (All-append Between (drop n found.ranges) added
+          (All-weaker (IsOfEntryBetween before m) Between (λ a k. let h = k.1 in (k.0, omega arith)) (drop n found.ranges) all.places)
+          (All-map Between (inlined_address depth m) (r ∷ ranges) (λ k d j. (p, omega arith))));
+      rising = subst (Up place) (sym is)
+          (up_after m depth (drop n found.ranges) (r ∷ ranges)
+          (recursion_from_All (λ x. place x ≤ m) (drop n found.ranges) (All-weaker (IsOfEntryBetween before m) (λ x. place x ≤ m) (λ a k. let h = k.1 in omega arith) (drop n found.ranges) all.places))
+          all.rising);
     }
 
 -- the ranges are those of what was found from a place on; or both are faulty
-abbrev pub Agrees : ℕ → Result (List InlinedRange) Error → Result FoundInlined Error → Type 0
-Agrees n w (Ok more) = (w ≡ Ok (ranges_from n more)) × AreFrom n more
-Agrees n w (Err e) = w ≡ Err e
+abbrev pub Agrees : ℕ → ℕ → Result (List InlinedRange) Error → Result FoundInlined Error → Type 0
+Agrees before n w (Ok more) = (w ≡ Ok (ranges_from n more)) × AreFrom before n more
+Agrees before n w (Err e) = w ≡ Err e
 
-abbrev AgreesAround : ℕ → List Abbrev → Result (List InlinedRange) Error → Result FoundAround Error → Type 0
-AgreesAround n up w (Ok more) = (w ≡ Ok (ranges_from n more.found)) × AreFrom n more.found × (more.around ≡ map kind_of up)
-AgreesAround n up w (Err e) = w ≡ Err e
+abbrev AgreesAround : ℕ → ℕ → List Abbrev → Result (List InlinedRange) Error → Result FoundAround Error → Type 0
+AgreesAround before n up w (Ok more) = (w ≡ Ok (ranges_from n more.found)) × AreFrom before n more.found × (more.around ≡ map kind_of up)
+AgreesAround before n up w (Err e) = w ≡ Err e
 
 closed_is : (up : List Abbrev) (x : Item) → x.entry ≡ None → closed_once (map kind_of up) ≡ map kind_of (open_after up x)
 closed_is [] x h = ap (λ o. map kind_of (elim o [ None ↦ [] | Some e ↦ cond e.abbreviation.has_children (e.abbreviation ∷ []) [] ])) (sym h)
@@ -147,14 +182,14 @@ opened_is up a = by_children a.has_children
     by_children true = refl
     by_children false = refl
 
-module _ (scope : Scope) (u : UnitRecord) (n : ℕ) where
+module _ (scope : Scope) (u : UnitRecord) (before n : ℕ) where
   -- one more entry
-  entry_agrees : (up : List Abbrev) (x : Item) (e : Entry) (found : FoundInlined) → AreFrom n found
-      → Agrees n (cond (is_inlined e.abbreviation && is_in_function (record { item = x; around = up })) (inlined_attributes_of scope u e.attributes >>= λ a. attribute_ranges scope.file.sections u a.ranges >>= λ ranges. Ok (ranges_from n found ++ inlined_ranges (number_of is_inlined up) x.offset a ranges)) (Ok (ranges_from n found)))
+  entry_agrees : (up : List Abbrev) (x : Item) (e : Entry) (found : FoundInlined) → AreFrom before n found
+      → Agrees before n (cond (is_inlined e.abbreviation && is_in_function (record { item = x; around = up })) (inlined_attributes_of scope u e.attributes >>= λ a. attribute_ranges scope.file.sections u a.ranges >>= λ ranges. Ok (ranges_from n found ++ inlined_ranges (number_of is_inlined up) x.offset a ranges)) (Ok (ranges_from n found)))
       (with_entry_found scope u (map kind_of up) x.offset found e)
   entry_agrees up x e found all =
-      subst (λ m. Agrees n (wanted (is_inlined e.abbreviation && is_in_function (record { item = x; around = up })) (number_of is_inlined up)) (given (is_listed (kind_of e.abbreviation) (map kind_of up)) m)) (sym depth)
-      (subst (λ b. Agrees n (wanted (is_inlined e.abbreviation && is_in_function (record { item = x; around = up })) (number_of is_inlined up)) (given b (number_of is_inlined up))) (sym (listed_is e.abbreviation x up))
+      subst (λ m. Agrees before n (wanted (is_inlined e.abbreviation && is_in_function (record { item = x; around = up })) (number_of is_inlined up)) (given (is_listed (kind_of e.abbreviation) (map kind_of up)) m)) (sym depth)
+      (subst (λ b. Agrees before n (wanted (is_inlined e.abbreviation && is_in_function (record { item = x; around = up })) (number_of is_inlined up)) (given b (number_of is_inlined up))) (sym (listed_is e.abbreviation x up))
       (by_test (is_inlined e.abbreviation && is_in_function (record { item = x; around = up }))))
     where
       depth : kinds_such is_inlined_kind (map kind_of up) ≡ number_of is_inlined up
@@ -169,43 +204,43 @@ module _ (scope : Scope) (u : UnitRecord) (n : ℕ) where
       given : Bool → ℕ → Result FoundInlined Error
       given b m = cond b (read >>= λ y. with_inlined_found scope.file.sections u x.offset m found y) (Ok found)
 
-      by_ranges : (a : InlinedAttributes) (r : Result (List Range) Error) → Agrees n (r >>= λ ranges. Ok (ranges_from n found ++ inlined_ranges (number_of is_inlined up) x.offset a ranges)) (r >>= λ ranges. Ok (inlined_more found (inlined_entry x.offset a) (number_of is_inlined up) ranges))
-      by_ranges a (Ok ranges) = (ap Ok (sym (more_ranges n found (inlined_entry x.offset a) (number_of is_inlined up) ranges all)), more_places n found (inlined_entry x.offset a) (number_of is_inlined up) ranges all)
+      by_ranges : (a : InlinedAttributes) (r : Result (List Range) Error) → Agrees before n (r >>= λ ranges. Ok (ranges_from n found ++ inlined_ranges (number_of is_inlined up) x.offset a ranges)) (r >>= λ ranges. Ok (inlined_more found (inlined_entry x.offset a) (number_of is_inlined up) ranges))
+      by_ranges a (Ok ranges) = (ap Ok (sym (more_ranges before n found (inlined_entry x.offset a) (number_of is_inlined up) ranges all)), more_places before n found (inlined_entry x.offset a) (number_of is_inlined up) ranges all)
       by_ranges a (Err f) = refl
 
-      by_read : (r : Result InlinedAttributes Error) → Agrees n (r >>= λ a. attribute_ranges scope.file.sections u a.ranges >>= λ ranges. Ok (ranges_from n found ++ inlined_ranges (number_of is_inlined up) x.offset a ranges)) (r >>= λ y. with_inlined_found scope.file.sections u x.offset (number_of is_inlined up) found y)
+      by_read : (r : Result InlinedAttributes Error) → Agrees before n (r >>= λ a. attribute_ranges scope.file.sections u a.ranges >>= λ ranges. Ok (ranges_from n found ++ inlined_ranges (number_of is_inlined up) x.offset a ranges)) (r >>= λ y. with_inlined_found scope.file.sections u x.offset (number_of is_inlined up) found y)
       by_read (Ok a) = by_ranges a (attribute_ranges scope.file.sections u a.ranges)
       by_read (Err f) = refl
 
-      by_test : (b : Bool) → Agrees n (wanted b (number_of is_inlined up)) (given b (number_of is_inlined up))
+      by_test : (b : Bool) → Agrees before n (wanted b (number_of is_inlined up)) (given b (number_of is_inlined up))
       by_test true = by_read read
       by_test false = (refl, all)
 
   -- one more item
-  item_agrees : (up : List Abbrev) (offset : ℕ) (depth : ℤ) (o : Option Entry) (found : FoundInlined) → AreFrom n found
-      → AgreesAround n (open_after up (record { offset = offset; depth = depth; entry = o })) (with_inlined scope u (ranges_from n found) (record { item = record { offset = offset; depth = depth; entry = o }; around = up }))
+  item_agrees : (up : List Abbrev) (offset : ℕ) (depth : ℤ) (o : Option Entry) (found : FoundInlined) → AreFrom before n found
+      → AgreesAround before n (open_after up (record { offset = offset; depth = depth; entry = o })) (with_inlined scope u (ranges_from n found) (record { item = record { offset = offset; depth = depth; entry = o }; around = up }))
       (with_item_found scope u (record { found = found; around = map kind_of up }) (record { offset = offset; depth = depth; entry = o }))
   item_agrees up offset depth None found all = (refl, all, closed_is up (record { offset = offset; depth = depth; entry = None }) refl)
   item_agrees up offset depth (Some e) found all = by_entry _ _ (entry_agrees up (record { offset = offset; depth = depth; entry = Some e }) e found all)
     where
-      by_entry : (w : Result (List InlinedRange) Error) (m : Result FoundInlined Error) → Agrees n w m
-          → AgreesAround n (cond e.abbreviation.has_children (e.abbreviation ∷ up) up) w (◌>>=◌ {B = FoundAround} m (λ more. Ok (record { found = more; around = opened (kind_of e.abbreviation) e.abbreviation.has_children (map kind_of up) })))
+      by_entry : (w : Result (List InlinedRange) Error) (m : Result FoundInlined Error) → Agrees before n w m
+          → AgreesAround before n (cond e.abbreviation.has_children (e.abbreviation ∷ up) up) w (◌>>=◌ {B = FoundAround} m (λ more. Ok (record { found = more; around = opened (kind_of e.abbreviation) e.abbreviation.has_children (map kind_of up) })))
       by_entry w (Ok more) h = (h.0, h.1, opened_is up e.abbreviation)
       by_entry w (Err f) h = h
 
   abbrev AgreesEnd : Result (List InlinedRange × Unit {0}) Error → Result (FoundAround × Unit {0}) Error → Type 0
-  AgreesEnd w (Ok m) = (w ≡ Ok (ranges_from n m.0.found, m.1)) × AreFrom n m.0.found
+  AgreesEnd w (Ok m) = (w ≡ Ok (ranges_from n m.0.found, m.1)) × AreFrom before n m.0.found
   AgreesEnd w (Err e) = w ≡ Err e
 
-  fold_agrees : (items : List Item) (end : Result (Unit {0}) Error) (up : List Abbrev) (found : FoundInlined) → AreFrom n found
+  fold_agrees : (items : List Item) (end : Result (Unit {0}) Error) (up : List Abbrev) (found : FoundInlined) → AreFrom before n found
       → AgreesEnd (fold_run (with_inlined scope u) (ranges_from n found) (placed up items) end) (fold_run (with_item_found scope u) (record { found = found; around = map kind_of up }) items end)
   unfolding fold_run
   fold_agrees [] (Ok z) up found all = (refl, all)
   fold_agrees [] (Err e) up found all = refl
   fold_agrees (x ∷ xs) end up found all = by_step _ _ (item_agrees up x.offset x.depth x.entry found all) (λ more. fold_agrees xs end (open_after up x) more)
     where
-      by_step : (w : Result (List InlinedRange) Error) (m : Result FoundAround Error) → AgreesAround n (open_after up x) w m
-          → ((more : FoundInlined) → AreFrom n more → AgreesEnd (fold_run (with_inlined scope u) (ranges_from n more) (placed (open_after up x) xs) end) (fold_run (with_item_found scope u) (record { found = more; around = map kind_of (open_after up x) }) xs end))
+      by_step : (w : Result (List InlinedRange) Error) (m : Result FoundAround Error) → AgreesAround before n (open_after up x) w m
+          → ((more : FoundInlined) → AreFrom before n more → AgreesEnd (fold_run (with_inlined scope u) (ranges_from n more) (placed (open_after up x) xs) end) (fold_run (with_item_found scope u) (record { found = more; around = map kind_of (open_after up x) }) xs end))
           → AgreesEnd (w >>= λ b. fold_run (with_inlined scope u) b (placed (open_after up x) xs) end) (m >>= λ b. fold_run (with_item_found scope u) b xs end)
       by_step w (Ok more) h rest =
           subst (λ v. AgreesEnd (v >>= λ b. fold_run (with_inlined scope u) b (placed (open_after up x) xs) end) (fold_run (with_item_found scope u) more xs end)) (sym h.0)
@@ -215,24 +250,22 @@ module _ (scope : Scope) (u : UnitRecord) (n : ℕ) where
   abbrev inlined_run : FoundInlined → Run Item (Unit {0}) → Result (List InlinedRange) Error
   inlined_run found inside = fold_run (with_inlined scope u) (ranges_from n found) (placed [] inside.items) inside.end >>= λ f. Ok f.0
 
-  inside_agrees : (unit : EntryUnit) (c : EntryCursor) (found : FoundInlined) → AreFrom n found
-      → Agrees n (inlined_run found (items_inside (pos 0) c.depth (items_from unit c).items (items_from unit c).end)) (inside_found scope u unit c (record { found = found; around = [] }))
+  inside_agrees : (unit : EntryUnit) (c : EntryCursor) (found : FoundInlined) → AreFrom before n found
+      → Agrees before n (inlined_run found (items_inside (pos 0) c.depth (items_from unit c).items (items_from unit c).end)) (inside_found scope u unit c (record { found = found; around = [] }))
   inside_agrees unit c found all =
       let inside = items_inside (pos 0) c.depth (items_from unit c).items (items_from unit c).end in
       last _ _ (fold_agrees inside.items inside.end [] found all)
     where
-      last : (w : Result (List InlinedRange × Unit {0}) Error) (m : Result (FoundAround × Unit {0}) Error) → AgreesEnd w m → Agrees n (w >>= λ f. Ok f.0) (m >>= λ more. Ok more.0.found)
+      last : (w : Result (List InlinedRange × Unit {0}) Error) (m : Result (FoundAround × Unit {0}) Error) → AgreesEnd w m → Agrees before n (w >>= λ f. Ok f.0) (m >>= λ more. Ok more.0.found)
       last w (Ok m) h = (ap (λ r. r >>= λ f. Ok f.0) h.0, h.1)
       last w (Err e) h = ap (λ r. r >>= λ f. Ok f.0) h
 
-none_left : {X : Type 0} (xs : List X) → drop (length xs) xs ≡ []
-none_left [] = refl
-none_left (x ∷ xs) = none_left xs
-
-none_from : (found : FoundInlined) → AreFrom (length found.ranges) found
+none_from : (found : FoundInlined) → AreFrom (length found.entries) (length found.ranges) found
 none_from found = record {
   within = omega arith;
-  places = subst (All (IsPlaceAmong found.entries)) (sym (none_left found.ranges)) (λ k d l. absurd (omega arith));
+  past = omega arith;
+  places = subst (All (IsOfEntryBetween (length found.entries) (length found.entries))) (sym (drop-length found.ranges)) (λ k d l. absurd (omega arith));
+  rising = subst (Up place) (sym (drop-length found.ranges)) tt;
 }
 
 -- a unit's offset is below its end
@@ -253,27 +286,30 @@ some_left header offset s h = by_start (nat_lt offset header.header_length) refl
 module _ (scope : Scope) (u : UnitRecord) (offset : ℕ) (found : FoundInlined) where
   -- the details are those of what was found; or both are faulty
   abbrev pub AgreesDetail : Result Detail Error → Result (Option Section × FoundInlined) Error → Type 0
-  AgreesDetail w (Ok m) = (w ≡ Ok (record { name = m.0; inlined = ranges_from (length found.ranges) m.1 })) × AreFrom (length found.ranges) m.1
+  AgreesDetail w (Ok m) = (w ≡ Ok (record { name = m.0; inlined = ranges_from (length found.ranges) m.1 })) × AreFrom (length found.entries) (length found.ranges) m.1
   AgreesDetail w (Err e) = w ≡ Err e
 
   abbrev n : ℕ
   n = length found.ranges
 
+  abbrev before : ℕ
+  before = length found.entries
+
   abbrev detailed : Option Section → Result (List InlinedRange) Error → Result Detail Error
   detailed name r = r >>= λ inlined. Ok (record { name = name; inlined = inlined })
 
-  by_inside : (name : Option Section) (w : Result (List InlinedRange) Error) (m : Result FoundInlined Error) → Agrees n w m → AgreesDetail (detailed name w) (◌>>=◌ {B = Option Section × FoundInlined} m (λ more. Ok (name, more)))
+  by_inside : (name : Option Section) (w : Result (List InlinedRange) Error) (m : Result FoundInlined Error) → Agrees before n w m → AgreesDetail (detailed name w) (◌>>=◌ {B = Option Section × FoundInlined} m (λ more. Ok (name, more)))
   by_inside name w (Ok more) h = (ap (detailed name) h.0, h.1)
   by_inside name w (Err f) h = ap (detailed name) h
 
   -- what stands inside a function whose entry was read
-  inlined_agrees : (unit : EntryUnit) (x : Item) (c : EntryCursor) → x.depth ≡ pos 0 → c.depth ≡ depth_after x → Agrees n (inlined_in scope u (record { unit = unit; cursor = c }) x) (inside_found scope u unit c (record { found = found; around = [] }))
+  inlined_agrees : (unit : EntryUnit) (x : Item) (c : EntryCursor) → x.depth ≡ pos 0 → c.depth ≡ depth_after x → Agrees before n (inlined_in scope u (record { unit = unit; cursor = c }) x) (inside_found scope u unit c (record { found = found; around = [] }))
   inlined_agrees unit x c d e =
       let items = items_from unit c in
-      subst (λ z. Agrees n (inlined_of [] z (depth_after x)) (inside_found scope u unit c (record { found = found; around = [] }))) (sym d)
-      (subst (λ z. Agrees n (inlined_of [] (pos 0) z) (inside_found scope u unit c (record { found = found; around = [] }))) e
-      (subst (λ xs. Agrees n (inlined_of xs (pos 0) c.depth) (inside_found scope u unit c (record { found = found; around = [] }))) (ap (λ xs. map (range_among found.entries) xs) (none_left found.ranges))
-      (inside_agrees scope u n unit c found (none_from found))))
+      subst (λ z. Agrees before n (inlined_of [] z (depth_after x)) (inside_found scope u unit c (record { found = found; around = [] }))) (sym d)
+      (subst (λ z. Agrees before n (inlined_of [] (pos 0) z) (inside_found scope u unit c (record { found = found; around = [] }))) e
+      (subst (λ xs. Agrees before n (inlined_of xs (pos 0) c.depth) (inside_found scope u unit c (record { found = found; around = [] }))) (ap (λ xs. map (range_among found.entries) xs) (drop-length found.ranges))
+      (inside_agrees scope u before n unit c found (none_from found))))
     where
       inlined_of : List InlinedRange → ℤ → ℤ → Result (List InlinedRange) Error
       inlined_of xs d now =
@@ -326,116 +362,5 @@ module _ (scope : Scope) (u : UnitRecord) (offset : ℕ) (found : FoundInlined) 
       by_bytes (Err f) q = refl
       by_bytes (Ok s) q = left_agrees s (some_left u.header offset s q)
 
--- lists of details
-pub map_take : {X Y : Type 0} (f : X → Y) (n : ℕ) (xs : List X) → map f (take n xs) ≡ take n (map f xs)
-map_take f zero xs = refl
-map_take f (suc n) [] = refl
-map_take f (suc n) (x ∷ xs) = ap (λ ys. f x ∷ ys) (map_take f n xs)
-
-taken_all : {X : Type 0} (xs : List X) → take (length xs) xs ≡ xs
-taken_all [] = refl
-taken_all (x ∷ xs) = ap (λ ys. x ∷ ys) (taken_all xs)
-
-taken_from : {X : Type 0} (n m : ℕ) (xs : List X) → m ≡ length xs → take (m - n) (drop n xs) ≡ drop n xs
-taken_from n m xs h = ap (λ k. take (k - n) (drop n xs)) h ∙ ap (λ k. take k (drop n xs)) (sym (length-drop n xs)) ∙ taken_all (drop n xs)
-
-pub last_name : {X Y : Type 0} (f : X → Y) (xs : List X) (x : X) (d : Y) → slice_index_or (map f (xs ++ x ∷ [])) (length xs) d ≡ f x
-last_name f [] x d = refl
-last_name f (y ∷ xs) x d = last_name f xs x d
-
 pub detail_refused : (scope : Scope) (u : UnitRecord) (offset : ℕ) (found : FoundInlined) (e : Error) → detail_found_at scope u offset found ≡ Err e → detail_at scope u offset ≡ Err e
 detail_refused scope u offset found e h = subst (AgreesDetail scope u offset found (detail_at scope u offset)) h (detail_agrees scope u offset found)
-
-pub detail_kept : (scope : Scope) (u : UnitRecord) (offset : ℕ) (found : FoundInlined) (d : KeptDetails) (p : FunctionDetail) (name : Option Section) → detail_found_at scope u offset found ≡ Ok (name, d.found)
-    → slice_index_or d.names p.name None ≡ name → p.ranges_begin ≡ length found.ranges → p.ranges_end ≡ length d.found.ranges → detail_at scope u offset ≡ Ok (detail_of d p)
-detail_kept scope u offset found d p name h k b e =
-    let a = subst (AgreesDetail scope u offset found (detail_at scope u offset)) h (detail_agrees scope u offset found) in
-    let made : Option Section → List InlinedFunctionAddress → Detail = λ n xs. record { name = n; inlined = map (range_among d.found.entries) xs } in
-    a.0 ∙ ap (λ n. Ok (made n (drop (length found.ranges) d.found.ranges))) (sym k)
-    ∙ ap (λ m. Ok (made (slice_index_or d.names p.name None) (drop m d.found.ranges))) (sym b)
-    ∙ ap (λ xs. Ok (made (slice_index_or d.names p.name None) xs)) (sym (taken_from p.ranges_begin p.ranges_end d.found.ranges e))
-
-first_of : {X : Type 0} (n : ℕ) (xs ys : List X) → IsGrown xs ys → n ≡ length xs → take n ys ≡ xs
-first_of n xs ys h e = ap (λ m. take m ys) e ∙ ap (λ v. take (length xs) v) h.is ∙ take-append_seam xs h.more
-
-pub first_is : (functions ranges : ℕ) (found more : FoundInlined) → IsFoundMore found more → functions ≡ length found.entries → ranges ≡ length found.ranges → first_found functions ranges more ≡ found
-first_is functions ranges found more h a b =
-    let made : List InlinedEntry → List InlinedFunctionAddress → FoundInlined = λ xs ys. record { entries = xs; ranges = ys } in
-    ap (λ xs. made xs (take ranges more.ranges)) (first_of functions found.entries more.entries h.entries a) ∙ ap (λ ys. made found.entries ys) (first_of ranges found.ranges more.ranges h.ranges b)
-
--- what is kept stays where nothing changes
-pub details_same : (kept more : KeptDetails) → more ≡ kept → AreDetailsMore kept more
-details_same kept more h = subst (AreDetailsMore kept) (sym h) (record { names = grown_not kept.names; found = found_same kept.found })
-
--- a place of details that were just kept
-pub place_kept : (scope : Scope) (u : UnitRecord) (offset : ℕ) (found : FoundInlined) (d : KeptDetails) (p : FunctionDetail) (name : Option Section) → detail_found_at scope u offset found ≡ Ok (name, d.found) → p.name < length d.names
-    → p.ranges_begin ≡ length found.ranges → p.ranges_end ≡ length d.found.ranges → IsDetailPlace d p
-place_kept scope u offset found d p name h k b e =
-    let a = subst (AgreesDetail scope u offset found (detail_at scope u offset)) h (detail_agrees scope u offset found) in
-    let w = a.1.within in
-    record {
-      name = k;
-      begin = omega arith;
-      end = omega arith;
-      places = subst (All (IsPlaceAmong d.found.entries)) (ap (λ m. drop m d.found.ranges) (sym b) ∙ sym (taken_from p.ranges_begin p.ranges_end d.found.ranges e)) a.1.places;
-    }
-
-before_more : {X : Type 0} (xs more : List X) (k : ℕ) (d : X) → k < length xs → slice_index_or (xs ++ more) k d ≡ slice_index_or xs k d
-before_more [] more k d l = absurd (omega arith)
-before_more (x ∷ xs) more zero d l = refl
-before_more (x ∷ xs) more (suc k) d l = before_more xs more k d (omega arith)
-
-ranges_stay : (entries more : List InlinedEntry) (xs : List InlinedFunctionAddress) → All (IsPlaceAmong entries) xs → map (range_among (entries ++ more)) xs ≡ map (range_among entries) xs
-ranges_stay entries more [] all = refl
-ranges_stay entries more (a ∷ xs) all =
-    let one : range_among (entries ++ more) a ≡ range_among entries a = ap (λ (y : InlinedEntry). of_entry a.depth y a.range) (before_more entries more a.function no_inlined (All-head (IsPlaceAmong entries) a xs all)) in
-    ap (λ (y : InlinedRange). y ∷ map (range_among (entries ++ more)) xs) one
-    ∙ ap (λ ys. range_among entries a ∷ ys) (ranges_stay entries more xs (All-tail (IsPlaceAmong entries) a xs all))
-
--- what is added changes nothing of the details that are kept, and their places are places still
-pub detail_stays : (kept more : KeptDetails) (p : FunctionDetail) → AreDetailsMore kept more → IsDetailPlace kept p → (detail_of more p ≡ detail_of kept p) × IsDetailPlace more p
-detail_stays kept more p h place = (same, still)
-  where
-    made : Option Section → List InlinedRange → Detail
-    made n xs = record { name = n; inlined = xs }
-
-    count : ℕ
-    count = p.ranges_end - p.ranges_begin
-
-    run : List InlinedFunctionAddress
-    run = take count (drop p.ranges_begin kept.found.ranges)
-
-    run_is : take count (drop p.ranges_begin more.found.ranges) ≡ run
-    run_is =
-        let b = place.begin in
-        let e = place.end in
-        let long = length-drop p.ranges_begin kept.found.ranges in
-        ap (λ xs. take count (drop p.ranges_begin xs)) h.found.ranges.is
-        ∙ ap (λ xs. take count xs) (drop-append-le p.ranges_begin kept.found.ranges h.found.ranges.more (omega arith))
-        ∙ take-append-le count (drop p.ranges_begin kept.found.ranges) h.found.ranges.more (omega arith)
-
-    ranges_are : map (range_among more.found.entries) (take count (drop p.ranges_begin more.found.ranges)) ≡ map (range_among kept.found.entries) run
-    ranges_are = ap (λ xs. map (range_among more.found.entries) xs) run_is ∙ ap (λ es. map (range_among es) run) h.found.entries.is ∙ ranges_stay kept.found.entries h.found.entries.more run place.places
-
-    name_is : slice_index_or more.names p.name None ≡ slice_index_or kept.names p.name None
-    name_is = ap (λ xs. slice_index_or xs p.name None) h.names.is ∙ before_more kept.names h.names.more p.name None place.name
-
-    same : detail_of more p ≡ detail_of kept p
-    same = ap (λ n. made n (map (range_among more.found.entries) (take count (drop p.ranges_begin more.found.ranges)))) name_is ∙ ap (λ xs. made (slice_index_or kept.names p.name None) xs) ranges_are
-
-    longer : {X : Type 0} (xs ys : List X) → IsGrown xs ys → length xs ≤ length ys
-    longer xs ys g = let a : length ys ≡ length (xs ++ g.more) = ap (λ v. length v) g.is in let b = length-append xs g.more in omega arith
-
-    still : IsDetailPlace more p
-    still =
-        let n = longer kept.names more.names h.names in
-        let r = longer kept.found.ranges more.found.ranges h.found.ranges in
-        let e = longer kept.found.entries more.found.entries h.found.entries in
-        let a = place.name in
-        let b = place.end in
-        record {
-          name = omega arith;
-          begin = place.begin;
-          end = omega arith;
-          places = subst (All (IsPlaceAmong more.found.entries)) (sym run_is) (All-weaker (IsPlaceAmong kept.found.entries) (IsPlaceAmong more.found.entries) (λ x l. omega arith) run place.places);
-        }

@@ -82,7 +82,7 @@ one_range x y h =
     of_parts : (u v b c e f n m : ℕ) → v ≡ u → c ≡ b → f ≡ e → m ≡ n → ◌≡◌ {A = InlinedFunctionAddress} (record { depth = v; range = record { begin = c; end = f }; function = m }) (record { depth = u; range = record { begin = b; end = e }; function = n })
     of_parts u v b c e f n m g h k l = cc
 
-length_in_order : {X : Type 0} (lt : X → X → Bool) (xs : List X) → length (in_order lt xs) ≡ length xs
+pub length_in_order : {X : Type 0} (lt : X → X → Bool) (xs : List X) → length (in_order lt xs) ≡ length xs
 length_in_order lt [] = refl
 length_in_order lt (x ∷ xs) = length_put x (in_order lt xs) ∙ ap suc (length_in_order lt xs)
   where

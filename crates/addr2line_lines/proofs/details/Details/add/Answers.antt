@@ -1,11 +1,14 @@
-use Rattle.std.proofs.Common.{◌≡◌, ◌++◌, ◌∷◌, [], None, length, map, option_map, slice_index_or, ap, arith, length-append, ◌+◌, ◌∙◌}
+use Rattle.std.proofs.Common.{◌≡◌, refl, ◌++◌, ◌∷◌, [], ◌+◌, None, length, map, option_map, slice_index_or, ap, arith, length-append, ◌∙◌, subst, sym}
 use Rattle.std.proofs.lemmas.List.{length-map, map-append}
 use Rattle.std.proofs.lemmas.Result.{err_from_is_err_and}
 use Rattle.addr2line_lines.specs.declared.details.FunctionDetail.{FunctionDetail}
-use Rattle.addr2line_lines.specs.FoundDetails.{KeptDetails, seen_lists}
+use Rattle.addr2line_lines.specs.FoundDetails.{FoundInlined, IsGrown, seen_inlined, seen_lists}
+use Rattle.addr2line_lines.specs.KeptDetails.{KeptDetails, seen_details}
 use Rattle.addr2line_lines.specs.SeenScope.{seen_scope}
-use Rattle.addr2line_lines.proofs.DetailOrder.{detail_kept, detail_refused, last_name, place_kept}
+use Rattle.addr2line_lines.proofs.DetailOrder.{detail_refused}
+use Rattle.addr2line_lines.proofs.DetailPlaces.{AreKeptAt, detail_kept, last_name, place_kept, sorted_more}
 use Rattle.addr2line_lines.proofs.NestingLemmas.{grown_by}
+use Rattle.addr2line_lines.proofs.details.Details.add.Given.{Over}
 use Rattle.addr2line_lines.proofs.details.Details.add.Goals as goal
 
 pub returns-in_err-read-clause-gives : goal.returns-in_err-read-clause-gives
@@ -13,34 +16,88 @@ returns-in_err-read-clause-gives g c =
     let p = err_from_is_err_and c.from_residual.result c.from_residual.ensures.1 in
     rw (p.1, p.2) (λ ne. detail_refused (seen_scope c.args.scope) c.args.unit.now c.args.offset.0 (seen_lists g.R.Reader.section c.args.self.now.inlined) _ (c.in_err-read.ensures.gives ne))
 
+module _ (g : Over) (c : goal.After-len-2 g) where
+  abbrev old : KeptDetails
+  old = seen_details g.R.Reader.section c.args.self.now
+
+  abbrev listed : FoundInlined
+  listed = seen_lists g.R.Reader.section c.read_detail.new.found
+
+  abbrev more : KeptDetails
+  more = record {
+    names = map (option_map g.R.Reader.section) c.push.new.self.items;
+    found = record { entries = listed.entries; ranges = c.sort_inlined_from.new.ranges.items };
+  }
+
+  abbrev made : FunctionDetail
+  made = record {
+    name = c.len-name.result;
+    inlined_begin = c.len-inlined_begin.result;
+    inlined_end = c.len.result;
+    ranges_begin = c.len-ranges_begin.result;
+    ranges_end = c.len-2.result;
+    listed = c.of-listed.result;
+  }
+
+  -- the names that were kept, and one more
+  longer : length more.names ≡ length old.names + 1
+  longer =
+      let see = option_map g.R.Reader.section in
+      let names = c.args.self.now.names.items in
+      let a : length more.names ≡ length names + 1 = length-map c.push.new.self.items see ∙ ap (λ xs. length xs) c.in_ok-push.ensures.items ∙ length-append names (c.in_ok-read.read ∷ []) in
+      let b : length old.names ≡ length names = length-map names see in
+      omega arith
+
+  place : made.name ≡ length old.names
+  place = c.len-name.ensures ∙ c.args.self.now.names.ok.0 ∙ sym (length-map c.args.self.now.names.items (option_map g.R.Reader.section))
+
+  -- where what was found is kept
+  at : AreKeptAt (option_map g.R.Reader.section c.in_ok-read.read) old.found listed more made
+  at =
+      let see = option_map g.R.Reader.section in
+      let names = c.args.self.now.names.items in
+      let n = place in
+      let l = longer in
+      record {
+        name_is = ap (λ xs. slice_index_or (map see xs) made.name None) c.in_ok-push.ensures.items
+            ∙ ap (λ n. slice_index_or (map see (names ++ c.in_ok-read.read ∷ [])) n None) (c.len-name.ensures ∙ c.args.self.now.names.ok.0)
+            ∙ last_name see names c.in_ok-read.read None;
+        name_there = omega arith;
+        inlined_begin = c.len-inlined_begin.ensures ∙ c.args.self.now.inlined.functions.ok.0 ∙ sym (length-map c.args.self.now.inlined.functions.items (seen_inlined g.R.Reader.section));
+        inlined_end = c.len.ensures ∙ c.read_detail.new.found.functions.ok.0 ∙ sym (length-map c.read_detail.new.found.functions.items (seen_inlined g.R.Reader.section));
+        ranges_begin = c.len-ranges_begin.ensures ∙ c.args.self.now.inlined.ranges.ok.0;
+        ranges_end = c.len-2.ensures ∙ c.sort_inlined_from.new.ranges.ok.0;
+        entries = refl;
+        listed_is = ap (λ v. v.items) c.of-listed.ensures;
+        ranges = c.sort_inlined_from.ensures.gives;
+      }
+
 pub returns-clause-gives : goal.returns-clause-gives
-returns-clause-gives g c =
-    let see = option_map g.R.Reader.section in
-    let old = c.args.self.now.names.items in
-    let name : slice_index_or (map see c.push.new.self.items) c.len-name.result None ≡ see c.in_ok-read.read =
-    ap (λ xs. slice_index_or (map see xs) c.len-name.result None) c.in_ok-push.ensures.items
-    ∙ ap (λ n. slice_index_or (map see (old ++ c.in_ok-read.read ∷ [])) n None) (c.len-name.ensures ∙ c.args.self.now.names.ok.0)
-    ∙ last_name see old c.in_ok-read.read None in
-    let d : KeptDetails = record { names = map see c.push.new.self.items; found = seen_lists g.R.Reader.section c.read_detail.new.found } in
-    let p : FunctionDetail = record { name = c.len-name.result; inlined_begin = c.len-inlined_begin.result; inlined_end = c.len.result; ranges_begin = c.len-ranges_begin.result; ranges_end = c.len-2.result } in
-    detail_kept (seen_scope c.args.scope) c.args.unit.now c.args.offset.0 (seen_lists g.R.Reader.section c.args.self.now.inlined) d p _ c.in_ok-read.ensures.gives name (c.len-ranges_begin.ensures ∙ c.args.self.now.inlined.ranges.ok.0) (c.len-2.ensures ∙ c.read_detail.new.found.ranges.ok.0)
+returns-clause-gives g c = detail_kept (seen_scope c.args.scope) c.args.unit.now c.args.offset.0 _ (old g c).found (listed g c) c.in_ok-read.ensures.gives (more g c) (made g c) (at g c)
 
 pub returns-clause-kept : goal.returns-clause-kept
 returns-clause-kept g c =
     let see = option_map g.R.Reader.section in
-    let old = c.args.self.now.names.items in
+    let names = c.args.self.now.names.items in
     record {
-      names = grown_by _ _ _ (ap (λ xs. map see xs) c.in_ok-push.ensures.items ∙ map-append see old (c.in_ok-read.read ∷ []));
-      found = c.in_ok-read.ensures.kept;
+      names = grown_by _ _ _ (ap (λ xs. map see xs) c.in_ok-push.ensures.items ∙ map-append see names (c.in_ok-read.read ∷ []));
+      found = record {
+        entries = c.in_ok-read.ensures.kept.entries;
+        ranges = subst (IsGrown (old g c).found.ranges) (sym c.sort_inlined_from.ensures.gives) (sorted_more (made g c).ranges_begin (old g c).found.ranges (listed g c).ranges (at g c).ranges_begin c.in_ok-read.ensures.kept.ranges);
+      };
     }
 
 pub returns-clause-place : goal.returns-clause-place
-returns-clause-place g c =
-    let see = option_map g.R.Reader.section in
-    let old = c.args.self.now.names.items in
-    let d : KeptDetails = record { names = map see c.push.new.self.items; found = seen_lists g.R.Reader.section c.read_detail.new.found } in
-    let p : FunctionDetail = record { name = c.len-name.result; inlined_begin = c.len-inlined_begin.result; inlined_end = c.len.result; ranges_begin = c.len-ranges_begin.result; ranges_end = c.len-2.result } in
-    let long : length d.names ≡ length old + 1 = length-map c.push.new.self.items see ∙ ap (λ xs. length xs) c.in_ok-push.ensures.items ∙ length-append old (c.in_ok-read.read ∷ []) in
-    let name : c.len-name.result ≡ length old = c.len-name.ensures ∙ c.args.self.now.names.ok.0 in
-    place_kept (seen_scope c.args.scope) c.args.unit.now c.args.offset.0 (seen_lists g.R.Reader.section c.args.self.now.inlined) d p _ c.in_ok-read.ensures.gives (omega arith)
-    (c.len-ranges_begin.ensures ∙ c.args.self.now.inlined.ranges.ok.0) (c.len-2.ensures ∙ c.read_detail.new.found.ranges.ok.0)
+returns-clause-place g c = place_kept (seen_scope c.args.scope) c.args.unit.now c.args.offset.0 _ (old g c).found (listed g c) c.in_ok-read.ensures.gives (more g c) (made g c) (at g c)
+
+pub returns-clause-next : goal.returns-clause-next
+returns-clause-next g c =
+    let a = at g c in
+    record {
+      name = place g c;
+      names = longer g c;
+      inlined_begin = a.inlined_begin;
+      inlined_end = a.inlined_end;
+      ranges_begin = a.ranges_begin;
+      ranges_end = a.ranges_end;
+    }

@@ -1,8 +1,9 @@
 use Rattle.std.proofs.Common.{◌≡◌, List, Option, length, ap, sym, ◌∙◌}
 use Rattle.std.proofs.lemmas.List.{length-map}
 use Rattle.gimli_read.specs.Section.{Section}
-use Rattle.addr2line_lines.specs.FoundDetails.{FoundInlined, KeptDetails, seen_details, seen_inlined, seen_lists}
-use Rattle.addr2line_lines.proofs.DetailOrder.{details_same, first_is}
+use Rattle.addr2line_lines.specs.FoundDetails.{FoundInlined, seen_inlined, seen_lists}
+use Rattle.addr2line_lines.specs.KeptDetails.{KeptDetails, seen_details}
+use Rattle.addr2line_lines.proofs.DetailPlaces.{details_same, first_is}
 use Rattle.addr2line_lines.proofs.details.Details.read.Goals as goal
 
 pub returns-in-Err-clause-refused : goal.returns-in-Err-clause-refused

@@ -24,7 +24,7 @@ use Rattle.addr2line_lines.specs.Functions.{FunctionRange, function_offset_at}
 use Rattle.addr2line_lines.specs.KeptDetails.{AreDetailsMore, IsDetailPlace, IsNextPlace, KeptDetails, detail_of}
 use Rattle.addr2line_lines.specs.References.{Scope}
 use Rattle.addr2line_lines.specs.Segments.{function_at}
-use Rattle.addr2line_lines.proofs.DetailOrder.{detail_stays}
+use Rattle.addr2line_lines.proofs.DetailPlaces.{detail_stays}
 use Rattle.addr2line_lines.proofs.FunctionOrder.{found_is, place_found}
 
 -- what holds of all holds at a place

@@ -23,6 +23,7 @@ pub mod SweepLemmas
 pub mod SegmentSearch
 pub mod FunctionLemmas
 pub mod FunctionOrder
+pub mod FunctionCacheLemmas
 pub mod InlinedOrder
 pub mod InlinedPick
 pub mod NestedInlined

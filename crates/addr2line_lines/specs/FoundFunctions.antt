@@ -1,6 +1,6 @@
 -- The functions of a unit as they are found, as the private functions see them.
-use Rattle.std.specs.Prelude.{ℕ, ◌<◌, List, [], ◌∷◌, ◌++◌, map, length, slice_index_or, Some, None, Result, Ok, if◌then◌else◌}
-use Rattle.std.specs.List.{All}
+use Rattle.std.specs.Prelude.{◌≡◌, ℕ, ◌<◌, List, [], ◌∷◌, ◌++◌, map, length, slice_index_or, Some, None, Result, Ok, if◌then◌else◌}
+use Rattle.std.specs.List.{All, AllByRecursion}
 use Rattle.gimli_read.specs.declared.error.Error.{Error}
 use Rattle.gimli_read.specs.declared.range.Range.{Range}
 use Rattle.gimli_read.specs.declared.value.UnitOffset.{UnitOffset}
@@ -13,6 +13,7 @@ use Rattle.gimli.specs.Sections.{Sections}
 use Rattle.gimli.specs.Unit.{UnitRecord}
 use Rattle.addr2line_lines.specs.declared.function.RangeAttributes.{RangeAttributes}
 use Rattle.addr2line_lines.specs.declared.functions.Found.{Found}
+use Rattle.addr2line_lines.specs.declared.functions.LazyDetail.TheVariants.{Unread}
 use Rattle.addr2line_lines.specs.declared.functions.LazyFunction.{LazyFunction}
 use Rattle.addr2line_lines.specs.declared.segments.FunctionAddress.{FunctionAddress}
 use Rattle.addr2line_lines.specs.Functions.{FunctionRange, is_subprogram}
@@ -94,6 +95,14 @@ function_offsets functions = map (λ (f : LazyFunction). f.dw_die_offset) functi
 abbrev pub seen_found : Found → FoundFunctions
 seen_found f =
     record { offsets = function_offsets f.functions.items; addresses = f.addresses.items }
+
+-- the detail of a function isn't read
+abbrev pub IsUnread : LazyFunction → Type 0
+IsUnread f = f.detail ≡ Unread
+
+-- the detail of no function that was found is read
+abbrev pub AreFoundUnread : Found → Type 0
+AreFoundUnread f = AllByRecursion IsUnread f.functions.items
 
 -- a range, by where the entry of its function begins
 abbrev pub function_range_of : List UnitOffset → FunctionAddress → FunctionRange

@@ -1,7 +1,7 @@
 -- The functions of a view as they are cached, as the private functions see them.
 -- Own: the names, inlined entries and ranges of the details stand in three lists, each function's
 -- apart from those of the others, and nothing else stands there.
-use Rattle.std.specs.Prelude.{◌≡◌, ℕ, ◌+◌, ◌-◌, ◌≤◌, ◌≢◌, ◌⊎◌, List, [], ◌∷◌, length, map, slice_get, sum_by, Option, Some, None, Result, Ok, Err}
+use Rattle.std.specs.Prelude.{◌≡◌, ℕ, ◌+◌, ◌-◌, ◌≤◌, ◌≢◌, ◌⊎◌, List, [], ◌∷◌, length, map, slice_get, sum_by, Option, Some, None, option_and_then, Result, Ok, Err}
 use Rattle.std.specs.List.{AllByRecursion}
 use Rattle.gimli_read.specs.declared.error.Error.{Error}
 use Rattle.addr2line_lines.specs.declared.segments.FunctionAddress.{FunctionAddress}
@@ -24,6 +24,17 @@ seen_lazy d (Faulty e) = Some (Err e)
 abbrev pub seen_function : KeptDetails → LazyFunction → CachedFunction
 seen_function d f =
     record { offset = f.dw_die_offset.0; detail = seen_lazy d f.detail }
+
+-- the place of a detail, if it was read
+abbrev pub place_read : LazyDetail → Option FunctionDetail
+place_read Unread = None
+place_read (Read p) = Some p
+place_read (Faulty e) = None
+
+-- the place of the detail of a function, by the function's place, if it was read
+abbrev pub read_at : List LazyFunction → ℕ → Option FunctionDetail
+read_at functions n =
+    option_and_then (λ (f : LazyFunction). place_read f.detail) (slice_get functions n)
 
 -- a place of a detail that was read is one in the lists
 abbrev pub HasPlace : KeptDetails → LazyFunction → Type 0

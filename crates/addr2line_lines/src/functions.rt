@@ -5,11 +5,12 @@ ghost use Rattle.std.specs.Prelude.{◌≡◌, ◌<◌, ◌==◌, false, length,
 ghost use Rattle.gimli_read.specs.Reading.{ExactlyUnlessOom, ExactlyUnlessOomIf};
 ghost use Rattle.addr2line_lines.specs.Details.{inlined_chain};
 ghost use Rattle.addr2line_lines.specs.FoundDetails.{entry_among, seen_inlined};
+ghost use Rattle.addr2line_lines.specs.FunctionCache.{read_at};
 ghost use Rattle.addr2line_lines.specs.FunctionTable.{AreUnread, IsReadAt, cached_inlined, cached_name, offset_at};
 ghost use Rattle.addr2line_lines.specs.Functions.{function_offset_at, functions_of, is_subprogram};
 ghost use Rattle.addr2line_lines.specs.References.{IsScope};
 ghost use Rattle.addr2line_lines.specs.SeenScope.{seen_scope};
-ghost use Rattle.addr2line_lines.specs.FoundFunctions.{found_at, found_in, none_found, seen_found, with_attributes, with_range_list, with_ranges};
+ghost use Rattle.addr2line_lines.specs.FoundFunctions.{AreFoundUnread, found_at, found_in, none_found, seen_found, with_attributes, with_range_list, with_ranges};
 
 use crate::details::{Details, FunctionDetail};
 use crate::function::{RangeAttributes, read_range_attributes};
@@ -89,6 +90,7 @@ fn push_ranges<R: Reader>(
 impl Found {
     fn new(alloc: Global) -> Found
         ensures gives { seen_found result ≡ none_found }
+        ensures unread { AreFoundUnread result }
     {
         Found {
             functions: Vec::new(alloc),
@@ -106,6 +108,7 @@ impl Found {
         ensures gives { ExactlyUnlessOom (λ _. seen_found self.new) result
             (with_attributes unit.entry.dwarf.now unit.entry.unit.now attributes.now offset.0
             (seen_found self.old)) }
+        ensures unread { AreFoundUnread self.old → AreFoundUnread self.new }
     {
         let before = self.addresses.len();
         let function = self.functions.len();
@@ -138,6 +141,7 @@ fn read_item<R: Reader>(
     ensures gives { ExactlyUnlessOom (λ _. (seen_found found.new, entries.new.cursor)) result
         (found_at unit.entry.dwarf.now unit.entry.unit.now entries.old.unit entries.old.cursor
         (seen_found found.old)) }
+    ensures unread { AreFoundUnread found.old → AreFoundUnread found.new }
     ensures unit { entries.new.unit ≡ entries.old.unit }
     ensures shorter { OnOk result
         (length entries.new.cursor.left.bytes < length entries.old.cursor.left.bytes) }
@@ -160,6 +164,7 @@ fn read_item<R: Reader>(
 fn read_functions<R: Reader>(alloc: Global, unit: UnitRef<'_, R>) -> Result<Found, Error>
     ensures gives { ExactlyUnlessOom seen_found result
         (found_in unit.entry.dwarf.now unit.entry.unit.now) }
+    ensures unread { IfOk result AreFoundUnread }
 {
     let mut entries = unit.entries_raw(None)?;
     let mut found = Found::new(alloc);
@@ -167,6 +172,16 @@ fn read_functions<R: Reader>(alloc: Global, unit: UnitRef<'_, R>) -> Result<Foun
         read_item(unit, &mut entries, &mut found)?;
     }
     Ok(found)
+}
+
+// The detail of the function of a place, if it was read.
+fn read_detail_of(functions: &[LazyFunction], place: usize) -> Option<&FunctionDetail>
+    ensures gives { option_map (λ p. p.now) result ≡ read_at functions.now place }
+{
+    match &functions.get(place)?.detail {
+        LazyDetail::Read(detail) => Some(detail),
+        LazyDetail::Faulty(_) | LazyDetail::Unread => None,
+    }
 }
 
 /// The functions of a view, the search for that of an address, and their details, each read when it
@@ -183,7 +198,8 @@ impl<R: Reader> Model for Functions<R> {
     ghost use Rattle.std.specs.Prelude.{map};
     ghost use Rattle.addr2line_lines.specs.FoundFunctions.{function_offsets, function_range_of};
     ghost use Rattle.addr2line_lines.specs.FunctionCache.{AreCachedFunctions, seen_function};
-    ghost use Rattle.addr2line_lines.specs.FunctionTable.{FunctionTable};
+    ghost use Rattle.addr2line_lines.specs.FunctionCache.{read_at};
+ghost use Rattle.addr2line_lines.specs.FunctionTable.{FunctionTable};
     ghost use Rattle.addr2line_lines.specs.KeptDetails.{seen_details};
 
     ghost Value = { FunctionTable };
@@ -292,19 +308,13 @@ impl<R: Reader> Functions<R> {
                 self.functions[place].detail = LazyDetail::Read(detail);
                 Ok(())
             }
-            Err(Error::OutOfMemory) => Err(Error::OutOfMemory),
-            Err(error) => {
-                self.functions[place].detail = LazyDetail::Faulty(error);
-                Err(error)
-            }
-        }
-    }
-
-    // The detail of the function of a place, if it was read.
-    fn detail(&self, place: usize) -> Option<&FunctionDetail> {
-        match &self.functions.get(place)?.detail {
-            LazyDetail::Read(detail) => Some(detail),
-            LazyDetail::Faulty(_) | LazyDetail::Unread => None,
+            Err(error) => match error {
+                Error::OutOfMemory => Err(error),
+                _ => {
+                    self.functions[place].detail = LazyDetail::Faulty(error);
+                    Err(error)
+                }
+            },
         }
     }
 
@@ -313,7 +323,7 @@ impl<R: Reader> Functions<R> {
     pub fn name(&self, place: usize) -> Option<&R>
         ensures gives { option_map (λ r. R.section r.now) result ≡ cached_name self.now place }
     {
-        self.details.name(self.detail(place)?)
+        self.details.name(read_detail_of(&self.functions, place)?)
     }
 
     /// The places of the inlined functions at `probe` of the function of a place, from the outside
@@ -334,7 +344,7 @@ impl<R: Reader> Functions<R> {
         ensures there { IfOk result (λ chain. AllByRecursion
             (λ n. n < length self.now.inlined) chain.items) }
     {
-        match self.detail(place) {
+        match read_detail_of(&self.functions, place) {
             Some(detail) => self.details.find_inlined_functions(alloc, detail, probe),
             None => Ok(SmallVec::new(alloc)),
         }

@@ -14,15 +14,22 @@ loop-unit-preserved g c =
       gives = ap (λ v. found_from d u v now.entries.cursor (seen_found now.found)) c.in_ok-read_item.ensures.unit
           ∙ sym (found_step d u _ _ _ _ _ (sym c.loop-unit-test.ensures.gives) c.in_ok-read_item.ensures.gives) ∙ i.gives;
       unit = ap (λ v. v.encoding) c.in_ok-read_item.ensures.unit ∙ i.unit;
+      unread = c.in_ok-read_item.ensures.unread i.unread;
     }
 
 pub returns-in_err-read_item : goal.returns-in_err-read_item
 returns-in_err-read_item g c =
     let p = err_from_is_err_and c.from_residual-in_err-read_item.result c.from_residual-in_err-read_item.ensures.1 in
     let i = c.loop-unit.invariant in
-    record { gives = rw (p.1, p.2) (λ ne. sym i.gives ∙ found_fault c.args.unit.dwarf.now c.args.unit.unit.now _ _ _ _ (sym c.loop-unit-test.ensures.gives) (c.in_err-read_item.ensures.gives ne)) }
+    record {
+      gives = rw (p.1, p.2) (λ ne. sym i.gives ∙ found_fault c.args.unit.dwarf.now c.args.unit.unit.now _ _ _ _ (sym c.loop-unit-test.ensures.gives) (c.in_err-read_item.ensures.gives ne));
+      unread = rw p.1 tt;
+    }
 
 pub returns : goal.returns
 returns g c =
     let i = c.loop-unit.invariant in
-    record { gives = sym i.gives ∙ found_end c.args.unit.dwarf.now c.args.unit.unit.now _ _ _ (sym c.loop-unit-test.ensures.gives) }
+    record {
+      gives = sym i.gives ∙ found_end c.args.unit.dwarf.now c.args.unit.unit.now _ _ _ (sym c.loop-unit-test.ensures.gives);
+      unread = i.unread;
+    }

@@ -1,5 +1,5 @@
 use Rattle.std.proofs.Common.{◌≡◌, length}
-use Rattle.addr2line_lines.specs.FoundFunctions.{found_from, found_in, seen_found}
+use Rattle.addr2line_lines.specs.FoundFunctions.{AreFoundUnread, found_from, found_in, seen_found}
 use Rattle.addr2line_lines.proofs.functions.read_functions.Given as goal
 
 abbrev pub invariant-loop-unit : goal.invariant-loop-unit
@@ -9,6 +9,7 @@ invariant-loop-unit g l =
     record {
       gives : found_from d u l.entries.unit l.entries.cursor (seen_found l.found) ≡ found_in d u;
       unit : l.entries.unit.encoding ≡ u.header.encoding;
+      unread : AreFoundUnread l.found;
     }
 
 abbrev pub decreases-loop-unit : goal.decreases-loop-unit

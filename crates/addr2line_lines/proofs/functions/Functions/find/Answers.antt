@@ -1,34 +1,30 @@
-use Rattle.std.proofs.Common.{◌≡◌, option_map, Some, ap, sym, arith, ◌∙◌}
-use Rattle.std.proofs.lemmas.List.{get_or_default}
-use Rattle.gimli_read.specs.declared.value.UnitOffset.{UnitOffset}
+use Rattle.std.proofs.Common.{◌≡◌, ◌<◌, ℕ, List, Option, Some, None, IfSome, length, option_and_then, ap, sym, subst, ◌∙◌}
+use Rattle.addr2line_lines.specs.declared.functions.LazyFunction.{LazyFunction}
+use Rattle.addr2line_lines.specs.declared.segments.FunctionAddress.{FunctionAddress}
 use Rattle.addr2line_lines.specs.Functions.{function_offset_at}
-use Rattle.addr2line_lines.proofs.FunctionOrder.{found_is, offset_at, place_found}
+use Rattle.addr2line_lines.specs.FoundFunctions.{AreFunctions, function_offsets}
+use Rattle.addr2line_lines.specs.FunctionTable.{FunctionTable, offset_at}
+use Rattle.addr2line_lines.specs.KeptDetails.{KeptDetails, seen_details}
+use Rattle.addr2line_lines.specs.Segments.{function_at}
+use Rattle.addr2line_lines.proofs.FunctionCacheLemmas.{entry_found, place_seen, table_of}
 use Rattle.addr2line_lines.proofs.functions.Functions.find.Goals as goal
 
-pub returns-in_err-function : goal.returns-in_err-function
-returns-in_err-function c =
-    let offsets = c.self.inside.functions.items in
-    let addresses = c.self.inside.addresses in
-    let h = c.self.invariant in
-    let probe = c.args.probe in
-    record { found = ap (option_map (λ (o : UnitOffset). o.0)) c.from_residual.ensures ∙ ap (option_map (offset_at offsets addresses h)) c.in_err-function.ensures.found ∙ sym (found_is offsets addresses h probe) ∙ ap (function_offset_at probe) c.self.view_is }
+there : (d : KeptDetails) (fs : List LazyFunction) (addresses : List FunctionAddress) (probe : ℕ) (found : Option ℕ) → AreFunctions (function_offsets fs) addresses → found ≡ function_at probe addresses → IfSome found (λ n. n < length (table_of fs addresses d).functions)
+there d fs addresses probe None h e = tt
+there d fs addresses probe (Some n) h e = place_seen d fs addresses probe n h (sym e)
 
-pub index-requires : goal.index-requires
-index-requires c =
-    let offsets = c.self.inside.functions.items in
-    let addresses = c.self.inside.addresses in
-    let l = place_found offsets addresses c.self.invariant c.args.probe c.in_ok-function.function (sym c.in_ok-function.ensures.found) in
-    let n = c.self.inside.functions.ok.0 in
-    omega arith
-
-pub returns : goal.returns
-returns c =
-    let offsets = c.self.inside.functions.items in
-    let addresses = c.self.inside.addresses in
-    let h = c.self.invariant in
+pub returns-clause-found : goal.returns-clause-found
+returns-clause-found g c =
     let probe = c.args.probe in
-    let i = c.in_ok-function.function in
-    let o = c.index.result.now in
-    let l = place_found offsets addresses h probe i (sym c.in_ok-function.ensures.found) in
-    let is : o ≡ _ = c.index.ensures ∙ get_or_default offsets i o (record { 0 = 0 }) l in
-    record { found = ap (λ (x : UnitOffset). Some x.0) is ∙ ap (option_map (offset_at offsets addresses h)) c.in_ok-function.ensures.found ∙ sym (found_is offsets addresses h probe) ∙ ap (function_offset_at probe) c.self.view_is }
+    let fs = c.self.inside.functions.items in
+    let addresses = c.self.inside.addresses in
+    let d = seen_details g.R.Reader.section c.self.inside.details in
+    subst (λ (t : FunctionTable). option_and_then (offset_at t) c.find.result ≡ function_offset_at probe t.ranges) c.self.view_is
+    (ap (option_and_then (offset_at (table_of fs addresses d))) c.find.ensures.found ∙ entry_found d fs addresses probe c.self.invariant.in_order)
+
+pub returns-clause-there : goal.returns-clause-there
+returns-clause-there g c =
+    let fs = c.self.inside.functions.items in
+    let addresses = c.self.inside.addresses in
+    let d = seen_details g.R.Reader.section c.self.inside.details in
+    subst (λ (t : FunctionTable). IfSome c.find.result (λ n. n < length t.functions)) c.self.view_is (there d fs addresses c.args.probe c.find.result c.self.invariant.in_order c.find.ensures.found)

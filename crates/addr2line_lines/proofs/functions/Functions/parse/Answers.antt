@@ -4,6 +4,8 @@ use Rattle.gimli_read.specs.declared.error.Error.{Error as Fault}
 use Rattle.addr2line_lines.specs.declared.segments.FunctionAddress.{FunctionAddress}
 use Rattle.addr2line_lines.specs.Functions.{functions_of}
 use Rattle.addr2line_lines.specs.FoundFunctions.{AreFunctions, function_range_of, seen_found}
+use Rattle.addr2line_lines.specs.KeptDetails.{seen_details}
+use Rattle.addr2line_lines.proofs.FunctionCacheLemmas.{runs_unread, seen_unread}
 use Rattle.addr2line_lines.proofs.FunctionOrder.{Agrees, are_functions, functions_agree}
 use Rattle.addr2line_lines.proofs.functions.Functions.parse.Goals as goal
 
@@ -15,13 +17,19 @@ returns-in_err-functions g c =
     let p = err_from_is_err_and c.from_residual.result c.from_residual.ensures.1 in
     let d = c.args.unit.dwarf.now in
     let u = c.args.unit.unit.now in
-    record { gives = rw (p.1, p.2) (λ ne. subst (Agrees (functions_of d u)) (c.in_err-functions.ensures.gives ne) (functions_agree d u)) }
+    record {
+      gives = rw (p.1, p.2) (λ ne. subst (Agrees (functions_of d u)) (c.in_err-functions.ensures.gives ne) (functions_agree d u));
+      unread = rw p.1 tt;
+    }
 
 pub invariant_of-result : goal.invariant_of-result
 invariant_of-result g c =
     let found = seen_found c.in_ok-functions.field-0 in
     let listed = ok_is _ _ c.in_ok-addresses.ensures.gives in
-    subst (AreFunctions found.offsets) listed (are_functions c.args.unit.dwarf.now c.args.unit.unit.now found c.in_ok-functions.ensures.gives)
+    record {
+      in_order = subst (AreFunctions found.offsets) listed (are_functions c.args.unit.dwarf.now c.args.unit.unit.now found c.in_ok-functions.ensures.gives);
+      runs = runs_unread _ _ c.in_ok-functions.ensures.unread c.new-2.ensures.gives;
+    }
 
 pub returns : goal.returns
 returns g c =
@@ -30,4 +38,7 @@ returns g c =
     let found = seen_found c.in_ok-functions.field-0 in
     let listed = ok_is _ _ c.in_ok-addresses.ensures.gives in
     let a = subst (Agrees (functions_of d u)) c.in_ok-functions.ensures.gives (functions_agree d u) in
-    record { gives = a.0 ∙ ap (λ xs. Ok (map (function_range_of found.offsets) xs)) listed }
+    record {
+      gives = a.0 ∙ ap (λ xs. Ok (map (function_range_of found.offsets) xs)) listed;
+      unread = seen_unread (seen_details g.R.Reader.section c.new-2.result) _ c.in_ok-functions.ensures.unread;
+    }

@@ -1,0 +1,367 @@
+-- What is cached of functions, as more is read (on specs/FunctionCache.antt).
+use Rattle.std.proofs.Common.{◌≡◌, ℕ, ◌+◌, ◌-◌, ◌<◌, ◌≤◌, ◌≢◌, ◌⊎◌, List, [], ◌∷◌, ◌++◌, get_or, length, map, slice_get, slice_index_or, slice_set, sum_by, Option, Some, None, Result, Ok, Err, option_and_then, refl, ap, sym, subst, ◌∙◌, arith, inl, inr, zero, suc, length-append, append-nil}
+use Rattle.std.specs.List.{AllByRecursion}
+use Rattle.std.specs.Option.{option_map}
+use Rattle.std.proofs.lemmas.Bool.{cases_eq}
+use Rattle.std.proofs.lemmas.List.{map-set}
+use Rattle.std.proofs.lemmas.List.Sums.{sum_by-cons, sum_by-set}
+use Rattle.std.proofs.lemmas.Option.{get_or_from_slice_get, slice_get-map, slice_get_within}
+use Rattle.std.proofs.Math.Seq.{map-set_same}
+use Rattle.gimli_read.specs.declared.error.Error.{Error}
+use Rattle.gimli_read.specs.declared.value.UnitOffset.{UnitOffset}
+use Rattle.gimli.specs.Unit.{UnitRecord}
+use Rattle.addr2line_lines.specs.declared.details.FunctionDetail.{FunctionDetail}
+use Rattle.addr2line_lines.specs.declared.functions.LazyDetail.{LazyDetail}
+use Rattle.addr2line_lines.specs.declared.functions.LazyDetail.TheVariants.{Unread, Read, Faulty}
+use Rattle.addr2line_lines.specs.declared.functions.LazyFunction.{LazyFunction}
+use Rattle.addr2line_lines.specs.declared.segments.FunctionAddress.{FunctionAddress}
+use Rattle.addr2line_lines.specs.Details.{Detail, InlinedRange, detail_at}
+use Rattle.addr2line_lines.specs.FoundDetails.{FoundInlined, IsFoundMore, IsGrown, none_inlined}
+use Rattle.addr2line_lines.specs.FoundFunctions.{AreFunctions, IsUnread, function_offsets, function_range_of}
+use Rattle.addr2line_lines.specs.FunctionCache.{AreApart, AreCachedFunctions, AreDetailsApart, AreRuns, HasPlace, inlined_size, name_size, ranges_size, place_read, read_at, seen_function, seen_lazy, size_of}
+use Rattle.addr2line_lines.specs.FunctionTable.{CachedFunction, FunctionTable, IsCachedThen, IsReadAt, IsReadOf, IsWithDetail, inlined_of_detail, name_of_detail}
+use Rattle.addr2line_lines.specs.Functions.{FunctionRange, function_offset_at}
+use Rattle.addr2line_lines.specs.KeptDetails.{AreDetailsMore, IsDetailPlace, IsNextPlace, KeptDetails, detail_of}
+use Rattle.addr2line_lines.specs.References.{Scope}
+use Rattle.addr2line_lines.specs.Segments.{function_at}
+use Rattle.addr2line_lines.proofs.DetailPlaces.{detail_stays}
+use Rattle.addr2line_lines.proofs.FunctionOrder.{found_is, place_found}
+
+-- what holds of all holds at a place
+pub all_at : {X : Type 0} (P : X → Type 0) (xs : List X) (n : ℕ) (x : X) → AllByRecursion P xs → slice_get xs n ≡ Some x → P x
+all_at P [] n x all e = absurd cc
+all_at P (y ∷ xs) zero x all e = let same : y ≡ x = cc in subst P same all.0
+all_at P (y ∷ xs) (suc n) x all e = all_at P xs n x all.1 e
+
+pub all_set : {X : Type 0} (P : X → Type 0) (xs : List X) (n : ℕ) (x : X) → AllByRecursion P xs → P x → AllByRecursion P (slice_set xs n x)
+all_set P [] n x all p = tt
+all_set P (y ∷ xs) zero x all p = (p, all.1)
+all_set P (y ∷ xs) (suc n) x all p = (all.0, all_set P xs n x all.1 p)
+
+pub all_weaker : {X : Type 0} (P Q : X → Type 0) → ((x : X) → P x → Q x) → (xs : List X) → AllByRecursion P xs → AllByRecursion Q xs
+all_weaker P Q h [] all = tt
+all_weaker P Q h (x ∷ xs) all = (h x all.0, all_weaker P Q h xs all.1)
+
+pub all_map : {X Y : Type 0} (P : Y → Type 0) (f : X → Y) (xs : List X) → AllByRecursion (λ x. P (f x)) xs → AllByRecursion P (map f xs)
+all_map P f [] all = tt
+all_map P f (x ∷ xs) all = (all.0, all_map P f xs all.1)
+
+pub get_set_same : {X : Type 0} (xs : List X) (n : ℕ) (x : X) → n < length xs → slice_get (slice_set xs n x) n ≡ Some x
+get_set_same [] n x l = absurd (omega arith)
+get_set_same (y ∷ xs) zero x l = refl
+get_set_same (y ∷ xs) (suc n) x l = get_set_same xs n x (omega arith)
+
+pub get_set_other : {X : Type 0} (xs : List X) (n i : ℕ) (x : X) → (i ≡ n → ⊥) → slice_get (slice_set xs n x) i ≡ slice_get xs i
+get_set_other [] n i x ne = refl
+get_set_other (y ∷ xs) zero zero x ne = absurd (ne refl)
+get_set_other (y ∷ xs) zero (suc i) x ne = refl
+get_set_other (y ∷ xs) (suc n) zero x ne = refl
+get_set_other (y ∷ xs) (suc n) (suc i) x ne = get_set_other xs n i x (λ e. ne (ap suc e))
+
+-- what stands at a place of a list of which one element was replaced
+at_set : {X : Type 0} (xs : List X) (n i : ℕ) (y g : X) → n < length xs → slice_get (slice_set xs n y) i ≡ Some g → ((i ≡ n) × (y ≡ g)) ⊎ (slice_get xs i ≡ Some g)
+at_set {X} xs n i y g l e = elim (cases_eq i n) [
+  | inl s ↦ (let at : Some y ≡ Some g = sym (get_set_same xs n y l) ∙ ap (λ k. slice_get (slice_set xs n y) k) (sym s) ∙ e in let same : y ≡ g = cc in inl (s, same))
+  | inr ne ↦ inr (sym (get_set_other xs n i y ne) ∙ e)
+]
+
+-- nothing grows
+pub no_more : {X : Type 0} (xs : List X) → IsGrown xs xs
+no_more xs = record { more = []; is = sym (append-nil xs) }
+
+longer : {X : Type 0} (xs ys : List X) → IsGrown xs ys → length xs ≤ length ys
+longer xs ys g = let a : length ys ≡ length (xs ++ g.more) = ap (λ v. length v) g.is in let b = length-append xs g.more in omega arith
+
+pub details_stay : (kept : KeptDetails) → AreDetailsMore kept kept
+details_stay kept = record { names = no_more kept.names; found = record { entries = no_more kept.found.entries; ranges = no_more kept.found.ranges } }
+
+-- a detail that is read is as before where more is read
+lazy_stays : (kept more : KeptDetails) → AreDetailsMore kept more → (x : LazyDetail) → ((p : FunctionDetail) → x ≡ Read p → IsDetailPlace kept p) → seen_lazy more x ≡ seen_lazy kept x
+lazy_stays kept more grown Unread h = refl
+lazy_stays kept more grown (Read p) h = ap (λ (d : Detail). Some (Ok d)) (detail_stays kept more p grown (h p refl)).0
+lazy_stays kept more grown (Faulty e) h = refl
+
+seen_stays : (kept more : KeptDetails) → AreDetailsMore kept more → (f : LazyFunction) → HasPlace kept f → seen_function more f ≡ seen_function kept f
+seen_stays kept more grown f h = ap made (lazy_stays kept more grown f.detail h)
+  where
+    made : Option (Result Detail Error) → CachedFunction
+    made x = record { offset = f.dw_die_offset.0; detail = x }
+
+all_seen_stay : (kept more : KeptDetails) → AreDetailsMore kept more → (fs : List LazyFunction) → AllByRecursion (HasPlace kept) fs → map (seen_function more) fs ≡ map (seen_function kept) fs
+all_seen_stay kept more grown [] all = refl
+all_seen_stay kept more grown (f ∷ fs) all =
+    ap (λ (x : CachedFunction). x ∷ map (seen_function more) fs) (seen_stays kept more grown f all.0)
+    ∙ ap (λ xs. seen_function kept f ∷ xs) (all_seen_stay kept more grown fs all.1)
+
+place_stays : (kept more : KeptDetails) → AreDetailsMore kept more → (f : LazyFunction) → HasPlace kept f → HasPlace more f
+place_stays kept more grown f h = λ p e. (detail_stays kept more p grown (h p e)).1
+
+pub size_unread : (size : FunctionDetail → ℕ) (f : LazyFunction) → f.detail ≡ Unread → size_of size f ≡ 0
+size_unread size f e = ap (λ (x : LazyDetail). elim x [ Unread ↦ 0 | Read p ↦ size p | Faulty e ↦ 0 ]) e
+
+sum_unread : (size : FunctionDetail → ℕ) (fs : List LazyFunction) → AllByRecursion IsUnread fs → sum_by (size_of size) fs ≡ 0
+sum_unread size [] all = refl
+sum_unread size (f ∷ fs) all =
+    let a = sum_by-cons (size_of size) f fs in
+    let b = size_unread size f all.0 in
+    let c = sum_unread size fs all.1 in
+    omega arith
+
+not_read : (f : LazyFunction) (p : FunctionDetail) → f.detail ≡ Unread → f.detail ≡ Read p → ⊥
+not_read f p a b = let no : Unread ≡ Read p = sym a ∙ b in absurd cc
+
+-- before a detail is read
+pub runs_unread : (fs : List LazyFunction) (d : KeptDetails) → AllByRecursion IsUnread fs → d ≡ record { names = []; found = none_inlined } → AreRuns fs d
+runs_unread fs d all e =
+    subst (AreRuns fs) (sym e) (record {
+      places = all_weaker IsUnread (HasPlace (record { names = []; found = none_inlined })) (λ f u. λ p r. absurd (not_read f p u r)) fs all;
+      apart = λ i j f g p q ne a b r s. absurd (not_read f p (all_at IsUnread fs i f all a) r);
+      names = sum_unread name_size fs all;
+      inlined = sum_unread inlined_size fs all;
+      ranges = sum_unread ranges_size fs all;
+    })
+
+pub seen_unread : (d : KeptDetails) (fs : List LazyFunction) → AllByRecursion IsUnread fs → AllByRecursion (λ (f : CachedFunction). f.detail ≡ None) (map (seen_function d) fs)
+seen_unread d [] all = tt
+seen_unread d (f ∷ fs) all = (ap (seen_lazy d) all.0, seen_unread d fs all.1)
+
+-- a function of which nothing is cached isn't read
+unread_lazy : (d : KeptDetails) (x : LazyDetail) → seen_lazy d x ≡ None → x ≡ Unread
+unread_lazy d Unread e = refl
+unread_lazy d (Read p) e = absurd cc
+unread_lazy d (Faulty f) e = absurd cc
+
+pub unread_at : (d : KeptDetails) (fs : List LazyFunction) (n offset : ℕ) → slice_get (map (seen_function d) fs) n ≡ Some (record { offset = offset; detail = None }) → (f : LazyFunction) × (slice_get fs n ≡ Some f) × (f.dw_die_offset.0 ≡ offset) × (f.detail ≡ Unread)
+unread_at d fs n offset e = by_cases (slice_get fs n) refl (sym (slice_get-map (seen_function d) fs n) ∙ e)
+  where
+    by_cases : (o : Option LazyFunction) → slice_get fs n ≡ o → option_map (seen_function d) o ≡ Some (record { offset = offset; detail = None }) → (f : LazyFunction) × (slice_get fs n ≡ Some f) × (f.dw_die_offset.0 ≡ offset) × (f.detail ≡ Unread)
+    by_cases None q h = absurd cc
+    by_cases (Some f) q h =
+        let same : seen_function d f ≡ record { offset = offset; detail = None } = cc in
+        (f, q, ap (λ (x : CachedFunction). x.offset) same, unread_lazy d f.detail (ap (λ (x : CachedFunction). x.detail) same))
+
+-- a cached detail, by the place of its function
+abbrev pub cached_at : List CachedFunction → ℕ → Option (Result Detail Error)
+cached_at fs n = option_and_then (λ (f : CachedFunction). f.detail) (slice_get fs n)
+
+seen_at : (d : KeptDetails) (fs : List LazyFunction) (n : ℕ) → cached_at (map (seen_function d) fs) n ≡ option_and_then (λ (f : LazyFunction). seen_lazy d f.detail) (slice_get fs n)
+seen_at d fs n = ap (option_and_then (λ (f : CachedFunction). f.detail)) (slice_get-map (seen_function d) fs n) ∙ by_cases (slice_get fs n)
+  where
+    by_cases : (o : Option LazyFunction) → option_and_then (λ (f : CachedFunction). f.detail) (option_map (seen_function d) o) ≡ option_and_then (λ (f : LazyFunction). seen_lazy d f.detail) o
+    by_cases None = refl
+    by_cases (Some f) = refl
+
+-- the detail of a function, where its place is known
+pub read_is : (d : KeptDetails) (fs : List LazyFunction) (n : ℕ) (p : FunctionDetail) → read_at fs n ≡ Some p → cached_at (map (seen_function d) fs) n ≡ Some (Ok (detail_of d p))
+read_is d fs n p e = seen_at d fs n ∙ by_cases (slice_get fs n) e
+  where
+    by_lazy : (x : LazyDetail) → place_read x ≡ Some p → seen_lazy d x ≡ Some (Ok (detail_of d p))
+    by_lazy Unread h = absurd cc
+    by_lazy (Read q) h = let same : q ≡ p = cc in ap (λ r. Some (Ok (detail_of d r))) same
+    by_lazy (Faulty f) h = absurd cc
+
+    by_cases : (o : Option LazyFunction) → option_and_then (λ (f : LazyFunction). place_read f.detail) o ≡ Some p → option_and_then (λ (f : LazyFunction). seen_lazy d f.detail) o ≡ Some (Ok (detail_of d p))
+    by_cases None h = absurd cc
+    by_cases (Some f) h = by_lazy f.detail h
+
+-- the inlined ranges of a cached detail
+abbrev pub inlined_cached : Option (Result Detail Error) → List InlinedRange
+inlined_cached v = elim v [ None ↦ [] | Some x ↦ inlined_of_detail x ]
+
+-- neither a name nor inlined ranges
+abbrev pub HasNone : Option (Result Detail Error) → Type 0
+HasNone v = (option_and_then name_of_detail v ≡ None) × (inlined_cached v ≡ [])
+
+-- where the detail of a function isn't read it has no name and no inlined ranges
+pub none_read : (d : KeptDetails) (fs : List LazyFunction) (n : ℕ) → read_at fs n ≡ None
+    → HasNone (cached_at (map (seen_function d) fs) n)
+none_read d fs n e = subst HasNone (sym (seen_at d fs n)) (by_cases (slice_get fs n) e)
+  where
+    by_lazy : (x : LazyDetail) → place_read x ≡ None → HasNone (seen_lazy d x)
+    by_lazy Unread h = (refl, refl)
+    by_lazy (Read q) h = absurd cc
+    by_lazy (Faulty f) h = (refl, refl)
+
+    by_cases : (o : Option LazyFunction) → option_and_then (λ (f : LazyFunction). place_read f.detail) o ≡ None → HasNone (option_and_then (λ (f : LazyFunction). seen_lazy d f.detail) o)
+    by_cases None h = (refl, refl)
+    by_cases (Some f) h = by_lazy f.detail h
+
+-- the place of a detail that was read is one in the lists
+pub place_kept : (d : KeptDetails) (fs : List LazyFunction) (n : ℕ) (p : FunctionDetail) → AllByRecursion (HasPlace d) fs → read_at fs n ≡ Some p → IsDetailPlace d p
+place_kept d fs n p all e = by_cases (slice_get fs n) refl e
+  where
+    by_lazy : (x : LazyDetail) → place_read x ≡ Some p → x ≡ Read p
+    by_lazy Unread h = absurd cc
+    by_lazy (Read q) h = let same : q ≡ p = cc in ap Read same
+    by_lazy (Faulty f) h = absurd cc
+
+    by_cases : (o : Option LazyFunction) → slice_get fs n ≡ o → option_and_then (λ (f : LazyFunction). place_read f.detail) o ≡ Some p → IsDetailPlace d p
+    by_cases None q h = absurd cc
+    by_cases (Some f) q h = all_at (HasPlace d) fs n f all q p (by_lazy f.detail h)
+
+-- the functions as callers see them
+abbrev pub table_of : List LazyFunction → List FunctionAddress → KeptDetails → FunctionTable
+table_of fs addresses d = record {
+  ranges = map (function_range_of (function_offsets fs)) addresses;
+  functions = map (seen_function d) fs;
+  inlined = d.found.entries;
+}
+
+-- a function of which nothing is cached
+abbrev pub unread_function : ℕ → CachedFunction
+unread_function offset = record { offset = offset; detail = None }
+
+pub reads : (scope : Scope) (u : UnitRecord) (n offset : ℕ) (old new : FunctionTable) (result : Result (Unit {0}) Error) → slice_get old.functions n ≡ Some (unread_function offset) → IsCachedThen n (unread_function offset) (detail_at scope u offset) old result new → IsReadAt scope u n old result new
+reads scope u n offset old new result e h = subst (λ o. IsReadOf scope u n o old result new) (sym e) h
+
+-- one function is replaced by one whose entry is the same
+module _ (fs : List LazyFunction) (n : ℕ) (f y : LazyFunction) (at : slice_get fs n ≡ Some f) (entry : y.dw_die_offset ≡ f.dw_die_offset) where
+  pub offsets_stay : function_offsets (slice_set fs n y) ≡ function_offsets fs
+  offsets_stay =
+      map-set_same (λ (x : LazyFunction). x.dw_die_offset) fs n y y (entry ∙ ap (λ (x : LazyFunction). x.dw_die_offset) (sym (get_or_from_slice_get fs n f y at)))
+
+  pub ranges_stay : (addresses : List FunctionAddress) → map (function_range_of (function_offsets (slice_set fs n y))) addresses ≡ map (function_range_of (function_offsets fs)) addresses
+  ranges_stay addresses = ap (λ os. map (function_range_of os) addresses) offsets_stay
+
+  -- one more detail, or a fault, is cached
+  module _ (addresses : List FunctionAddress) (kept more : KeptDetails) (h : AreCachedFunctions fs addresses kept) (unread : f.detail ≡ Unread) (grown : AreDetailsMore kept more) where
+    pub seen_set : map (seen_function more) (slice_set fs n y) ≡ slice_set (map (seen_function kept) fs) n (seen_function more y)
+    seen_set = map-set (seen_function more) fs n y ∙ ap (λ xs. slice_set xs n (seen_function more y)) (all_seen_stay kept more grown fs h.runs.places)
+
+    added : (size : FunctionDetail → ℕ) → sum_by (size_of size) (slice_set fs n y) ≡ sum_by (size_of size) fs + size_of size y
+    added size =
+        let a = sum_by-set (size_of size) fs n y f (slice_get_within fs n f at) in
+        let b : size_of size (get_or fs n f) ≡ size_of size f = ap (size_of size) (get_or_from_slice_get fs n f f at) in
+        let c = size_unread size f unread in
+        omega arith
+
+    old_place : (i : ℕ) (g : LazyFunction) (q : FunctionDetail) → slice_get fs i ≡ Some g → g.detail ≡ Read q → IsDetailPlace kept q
+    old_place i g q e r = all_at (HasPlace kept) fs i g h.runs.places e q r
+
+    seen_as : (offset : ℕ) (detail : Option (Result Detail Error)) → y.dw_die_offset.0 ≡ offset → seen_lazy more y.detail ≡ detail → seen_function more y ≡ record { offset = offset; detail = detail }
+    seen_as offset detail o d = ap (λ m. made m (seen_lazy more y.detail)) o ∙ ap (made offset) d
+      where
+        made : ℕ → Option (Result Detail Error) → CachedFunction
+        made m x = record { offset = m; detail = x }
+
+    -- a detail that was read
+    module _ (p : FunctionDetail) (is : y.detail ≡ Read p) (place : IsDetailPlace more p) (next : IsNextPlace kept more p) where
+      one_read : (q : FunctionDetail) (g : LazyFunction) → y ≡ g → g.detail ≡ Read q → p ≡ q
+      one_read q g s r = let e : Read p ≡ Read q = sym is ∙ ap (λ (x : LazyFunction). x.detail) s ∙ r in cc
+
+      new_apart : (q : FunctionDetail) → IsDetailPlace kept q → AreDetailsApart p q × AreDetailsApart q p
+      new_apart q old =
+          let a = old.name in
+          let b = old.inlined_end in
+          let c = old.ranges_end in
+          let d = next.name in
+          let e = next.inlined_begin in
+          let r = next.ranges_begin in
+          (record { name = λ s. omega arith; inlined = inr (omega arith); ranges = inr (omega arith) },
+          record { name = λ s. omega arith; inlined = inl (omega arith); ranges = inl (omega arith) })
+
+      still_apart : (i j : ℕ) → (g k : LazyFunction) → (q r : FunctionDetail) → i ≢ j → slice_get (slice_set fs n y) i ≡ Some g → slice_get (slice_set fs n y) j ≡ Some k → g.detail ≡ Read q → k.detail ≡ Read r → AreDetailsApart q r
+      still_apart i j g k q r ne a b s t =
+          let l = slice_get_within fs n f at in
+          elim (at_set fs n i y g l a) [
+            | inl x ↦ elim (at_set fs n j y k l b) [
+              | inl z ↦ absurd (ne (x.0 ∙ sym z.0))
+              | inr z ↦ subst (λ v. AreDetailsApart v r) (one_read q g x.1 s) (new_apart r (old_place j k r z t)).0
+            ]
+            | inr x ↦ elim (at_set fs n j y k l b) [
+              | inl z ↦ subst (λ v. AreDetailsApart q v) (one_read r k z.1 t) (new_apart q (old_place i g q x s)).1
+              | inr z ↦ h.runs.apart i j g k q r ne x z s t
+            ]
+          ]
+
+      size_read : (size : FunctionDetail → ℕ) → size_of size y ≡ size p
+      size_read size = ap (λ (x : LazyDetail). elim x [ Unread ↦ 0 | Read p ↦ size p | Faulty e ↦ 0 ]) is
+
+      -- a detail was read
+      pub read_cached : AreCachedFunctions (slice_set fs n y) addresses more
+      read_cached = record {
+        in_order = subst (λ os. AreFunctions os addresses) (sym offsets_stay) h.in_order;
+        runs = record {
+          places = all_set (HasPlace more) fs n y (all_weaker (HasPlace kept) (HasPlace more) (place_stays kept more grown) fs h.runs.places) (λ q r. subst (IsDetailPlace more) (one_read q y refl r) place);
+          apart = still_apart;
+          names = added name_size ∙ ap (λ k. sum_by (size_of name_size) fs + k) (size_read name_size) ∙ (let a = h.runs.names in let b = next.names in omega arith);
+          inlined = added inlined_size ∙ ap (λ k. sum_by (size_of inlined_size) fs + k) (size_read inlined_size)
+              ∙ (let a = h.runs.inlined in let b = next.inlined_begin in let c = next.inlined_end in let d = longer kept.found.entries more.found.entries grown.found.entries in omega arith);
+          ranges = added ranges_size ∙ ap (λ k. sum_by (size_of ranges_size) fs + k) (size_read ranges_size)
+              ∙ (let a = h.runs.ranges in let b = next.ranges_begin in let c = next.ranges_end in let d = longer kept.found.ranges more.found.ranges grown.found.ranges in omega arith);
+        };
+      }
+
+      pub table_read : (offset : ℕ) (detail : Result Detail Error) → f.dw_die_offset.0 ≡ offset → detail ≡ Ok (detail_of more p) → IsWithDetail n (unread_function offset) detail (table_of fs addresses kept) (table_of (slice_set fs n y) addresses more)
+      table_read offset detail o d = record {
+        ranges = ranges_stay addresses;
+        functions = seen_set ∙ ap (λ x. slice_set (map (seen_function kept) fs) n x) (seen_as offset (Some detail) (ap (λ (v : UnitOffset). v.0) entry ∙ o) (ap (seen_lazy more) is ∙ ap Some (sym d)));
+        inlined = grown.found.entries;
+      }
+
+    -- a fault that was cached
+    module _ (e : Error) (is : y.detail ≡ Faulty e) (same : more ≡ kept) where
+      no_read : (q : FunctionDetail) (g : LazyFunction) → y ≡ g → g.detail ≡ Read q → ⊥
+      no_read q g s r = let no : Faulty e ≡ Read q = sym is ∙ ap (λ (x : LazyFunction). x.detail) s ∙ r in absurd cc
+
+      size_none : (size : FunctionDetail → ℕ) → sum_by (size_of size) (slice_set fs n y) ≡ sum_by (size_of size) fs
+      size_none size =
+          let a = added size in
+          let b : size_of size y ≡ 0 = ap (λ (x : LazyDetail). elim x [ Unread ↦ 0 | Read p ↦ size p | Faulty e ↦ 0 ]) is in
+          omega arith
+
+      faults_apart : (i j : ℕ) → (g k : LazyFunction) → (q r : FunctionDetail) → i ≢ j → slice_get (slice_set fs n y) i ≡ Some g → slice_get (slice_set fs n y) j ≡ Some k → g.detail ≡ Read q → k.detail ≡ Read r → AreDetailsApart q r
+      faults_apart i j g k q r ne a b s t =
+          let l = slice_get_within fs n f at in
+          elim (at_set fs n i y g l a) [
+            | inl x ↦ absurd (no_read q g x.1 s)
+            | inr x ↦ elim (at_set fs n j y k l b) [
+              | inl z ↦ absurd (no_read r k z.1 t)
+              | inr z ↦ h.runs.apart i j g k q r ne x z s t
+            ]
+          ]
+
+      -- a fault is cached
+      pub fault_cached : AreCachedFunctions (slice_set fs n y) addresses more
+      fault_cached = subst (AreCachedFunctions (slice_set fs n y) addresses) (sym same) (record {
+        in_order = subst (λ os. AreFunctions os addresses) (sym offsets_stay) h.in_order;
+        runs = record {
+          places = all_set (HasPlace kept) fs n y h.runs.places (λ q r. absurd (no_read q y refl r));
+          apart = faults_apart;
+          names = size_none name_size ∙ h.runs.names;
+          inlined = size_none inlined_size ∙ h.runs.inlined;
+          ranges = size_none ranges_size ∙ h.runs.ranges;
+        };
+      })
+
+      pub table_fault : (offset : ℕ) (detail : Result Detail Error) → f.dw_die_offset.0 ≡ offset → detail ≡ Err e → IsWithDetail n (unread_function offset) detail (table_of fs addresses kept) (table_of (slice_set fs n y) addresses more)
+      table_fault offset detail o d = record {
+        ranges = ranges_stay addresses;
+        functions = seen_set ∙ ap (λ x. slice_set (map (seen_function kept) fs) n x) (seen_as offset (Some detail) (ap (λ (v : UnitOffset). v.0) entry ∙ o) (ap (seen_lazy more) is ∙ ap Some (sym d)));
+        inlined = grown.found.entries;
+      }
+
+-- where the entry of a function begins, by its place
+pub entry_at : (d : KeptDetails) (fs : List LazyFunction) (n : ℕ) → n < length (function_offsets fs) → option_map (λ (f : CachedFunction). f.offset) (slice_get (map (seen_function d) fs) n) ≡ Some (slice_index_or (function_offsets fs) n (record { 0 = 0 })).0
+entry_at d [] n l = absurd (omega arith)
+entry_at d (f ∷ fs) zero l = refl
+entry_at d (f ∷ fs) (suc n) l = entry_at d fs n (omega arith)
+
+-- the function at an address, by its place and by its entry
+pub entry_found : (d : KeptDetails) (fs : List LazyFunction) (addresses : List FunctionAddress) (probe : ℕ) → AreFunctions (function_offsets fs) addresses
+    → option_and_then (λ n. option_map (λ (f : CachedFunction). f.offset) (slice_get (map (seen_function d) fs) n)) (function_at probe addresses) ≡ function_offset_at probe (map (function_range_of (function_offsets fs)) addresses)
+entry_found d fs addresses probe h = by_cases (function_at probe addresses) refl
+  where
+    by_cases : (o : Option ℕ) → function_at probe addresses ≡ o → option_and_then (λ n. option_map (λ (f : CachedFunction). f.offset) (slice_get (map (seen_function d) fs) n)) (function_at probe addresses) ≡ function_offset_at probe (map (function_range_of (function_offsets fs)) addresses)
+    by_cases None e = ap (option_and_then (λ n. option_map (λ (f : CachedFunction). f.offset) (slice_get (map (seen_function d) fs) n))) e ∙ sym (found_is (function_offsets fs) addresses h probe ∙ ap (option_map (λ i. (slice_index_or (function_offsets fs) i (record { 0 = 0 })).0)) e)
+    by_cases (Some i) e = ap (option_and_then (λ n. option_map (λ (f : CachedFunction). f.offset) (slice_get (map (seen_function d) fs) n))) e ∙ entry_at d fs i (place_found (function_offsets fs) addresses h probe i e) ∙ sym (found_is (function_offsets fs) addresses h probe ∙ ap (option_map (λ i. (slice_index_or (function_offsets fs) i (record { 0 = 0 })).0)) e)
+
+pub place_seen : (d : KeptDetails) (fs : List LazyFunction) (addresses : List FunctionAddress) (probe i : ℕ) → AreFunctions (function_offsets fs) addresses → function_at probe addresses ≡ Some i → i < length (map (seen_function d) fs)
+place_seen d fs addresses probe i h e =
+    let l = place_found (function_offsets fs) addresses h probe i e in
+    let a : length (function_offsets fs) ≡ length (map (seen_function d) fs) = same_length fs in
+    omega arith
+  where
+    same_length : (xs : List LazyFunction) → length (function_offsets xs) ≡ length (map (seen_function d) xs)
+    same_length [] = refl
+    same_length (x ∷ xs) = ap suc (same_length xs)

@@ -1,0 +1,40 @@
+use Rattle.std.proofs.Common.{◌≡◌, ◌<◌, List, [], Ok, IfOk, length, map, nat_lt, ap, sym, subst, ◌∙◌}
+use Rattle.std.specs.List.{AllByRecursion}
+use Rattle.gimli_read.specs.Reading.{ExactlyUnlessOomIf}
+use Rattle.addr2line_lines.specs.Details.{InlinedRange, inlined_chain}
+use Rattle.addr2line_lines.specs.FoundDetails.{entry_among}
+use Rattle.addr2line_lines.specs.FunctionCache.{read_at}
+use Rattle.addr2line_lines.specs.FunctionTable.{FunctionTable, cached_inlined}
+use Rattle.addr2line_lines.specs.KeptDetails.{seen_details}
+use Rattle.addr2line_lines.proofs.FunctionCacheLemmas.{inlined_cached, none_read, place_kept, read_is, table_of}
+use Rattle.addr2line_lines.proofs.functions.Functions.find_inlined_functions.Goals as goal
+
+pub find_inlined_functions-requires : goal.find_inlined_functions-requires
+find_inlined_functions-requires g c =
+    let fs = c.self.inside.functions.items in
+    let d = seen_details g.R.Reader.section c.self.inside.details in
+    let at = ap (λ fs. read_at fs c.args.place) (sym c.deref.ensures.value) ∙ sym (rw c.in-Some.is at c.read_detail_of.ensures.gives) in
+    record { place = place_kept d fs c.args.place c.in-Some.detail.now c.self.invariant.runs.places at }
+
+pub returns-in-Some-clause-gives : goal.returns-in-Some-clause-gives
+returns-in-Some-clause-gives g c =
+    let fs = c.self.inside.functions.items in
+    let d = seen_details g.R.Reader.section c.self.inside.details in
+    let at = ap (λ fs. read_at fs c.args.place) (sym c.deref.ensures.value) ∙ sym (rw c.in-Some.is at c.read_detail_of.ensures.gives) in
+    let probe = c.args.probe in
+    let result = c.find_inlined_functions.result in
+    subst (λ (t : FunctionTable). ExactlyUnlessOomIf (nat_lt 16 (length (inlined_chain probe (cached_inlined t c.args.place)))) (λ chain. map (entry_among t.inlined) chain.items) result (Ok (inlined_chain probe (cached_inlined t c.args.place)))) c.self.view_is
+    (subst (λ (xs : List InlinedRange). ExactlyUnlessOomIf (nat_lt 16 (length (inlined_chain probe xs))) (λ chain. map (entry_among d.found.entries) chain.items) result (Ok (inlined_chain probe xs)))
+    (sym (ap inlined_cached (read_is d fs c.args.place c.in-Some.detail.now at))) c.find_inlined_functions.ensures.gives)
+
+pub returns-in-Some-clause-there : goal.returns-in-Some-clause-there
+returns-in-Some-clause-there g c =
+    subst (λ (t : FunctionTable). IfOk c.find_inlined_functions.result (λ chain. AllByRecursion (λ n. n < length t.inlined) chain.items)) c.self.view_is c.find_inlined_functions.ensures.there
+
+pub returns-in-None-clause-gives : goal.returns-in-None-clause-gives
+returns-in-None-clause-gives g c =
+    let fs = c.self.inside.functions.items in
+    let d = seen_details g.R.Reader.section c.self.inside.details in
+    let at = ap (λ fs. read_at fs c.args.place) (sym c.deref.ensures.value) ∙ sym (rw c.in-None.is at c.read_detail_of.ensures.gives) in
+    let none : cached_inlined c.args.self.now c.args.place ≡ [] = sym (ap (λ t. cached_inlined t c.args.place) c.self.view_is) ∙ (none_read d fs c.args.place at).1 in
+    ap (λ xs. Ok (inlined_chain c.args.probe xs)) none ∙ ap (λ xs. Ok (map (entry_among c.args.self.now.inlined) xs)) (sym c.new.ensures.items)

@@ -1,0 +1,80 @@
+use Rattle.std.proofs.Common.{◌≡◌, ◌<◌, ℕ, List, Option, Some, None, Result, Ok, Err, length, slice_get, slice_set, ap, sym, subst, refl, ◌∙◌, arith}
+use Rattle.std.proofs.lemmas.Option.{get_or_from_slice_get, slice_get_within}
+use Rattle.addr2line_lines.specs.declared.functions.LazyDetail.TheVariants.{Read, Faulty}
+use Rattle.addr2line_lines.specs.declared.functions.LazyFunction.{LazyFunction}
+use Rattle.addr2line_lines.specs.Details.{detail_at}
+use Rattle.addr2line_lines.specs.FunctionTable.{FunctionTable, IsReadAt, detail_fault}
+use Rattle.addr2line_lines.specs.KeptDetails.{seen_details}
+use Rattle.addr2line_lines.specs.SeenScope.{seen_scope}
+use Rattle.addr2line_lines.proofs.FunctionCacheLemmas.{fault_cached, read_cached, reads, table_fault, table_of, table_read, unread_at}
+use Rattle.addr2line_lines.proofs.functions.Functions.read_unread.Goals as goal
+
+pub invariant_of-self : goal.invariant_of-self
+invariant_of-self g c =
+    let fs = c.self.inside.functions.items in
+    let kept = seen_details g.R.Reader.section c.self.inside.details in
+    let more = seen_details g.R.Reader.section c.read.new.self in
+    let n = c.args.place in
+    let at = unread_at kept fs n c.args.offset.0 (ap (λ (t : FunctionTable). slice_get t.functions n) c.self.view_is ∙ c.requires.unread) in
+    let y : LazyFunction = record { dw_die_offset = c.index_mut.result.now.dw_die_offset; detail = Read c.in-Ok.detail } in
+    let entry = ap (λ (x : LazyFunction). x.dw_die_offset) (c.index_mut.ensures.value ∙ get_or_from_slice_get fs n at.0 c.index_mut.result.now at.1) in
+    read_cached fs n at.0 y at.1 entry c.self.inside.addresses kept more c.self.invariant at.3 c.read.ensures.kept c.in-Ok.detail refl c.in-Ok.ensures.place c.in-Ok.ensures.next
+
+pub index_mut-requires-in_default : goal.index_mut-requires-in_default
+index_mut-requires-in_default g c =
+    let fs = c.self.inside.functions.items in
+    let kept = seen_details g.R.Reader.section c.self.inside.details in
+    let n = c.args.place in
+    let at = unread_at kept fs n c.args.offset.0 (ap (λ (t : FunctionTable). slice_get t.functions n) c.self.view_is ∙ c.requires.unread) in
+    let l = slice_get_within fs n at.0 at.1 in
+    let m = c.self.inside.functions.ok.0 in
+    omega arith
+
+pub invariant_of-self-in_default : goal.invariant_of-self-in_default
+invariant_of-self-in_default g c =
+    let fs = c.self.inside.functions.items in
+    let kept = seen_details g.R.Reader.section c.self.inside.details in
+    let more = seen_details g.R.Reader.section c.read.new.self in
+    let n = c.args.place in
+    let at = unread_at kept fs n c.args.offset.0 (ap (λ (t : FunctionTable). slice_get t.functions n) c.self.view_is ∙ c.requires.unread) in
+    let y : LazyFunction = record { dw_die_offset = c.index_mut-in_default.result.now.dw_die_offset; detail = Faulty c.in-Err.error } in
+    let entry = ap (λ (x : LazyFunction). x.dw_die_offset) (c.index_mut-in_default.ensures.value ∙ get_or_from_slice_get fs n at.0 c.index_mut-in_default.result.now at.1) in
+    fault_cached fs n at.0 y at.1 entry c.self.inside.addresses kept more c.self.invariant at.3 c.read.ensures.kept c.in-Err.error refl c.in-Err.ensures.refused
+
+pub returns-in-Ok : goal.returns-in-Ok
+returns-in-Ok g c =
+    let fs = c.self.inside.functions.items in
+    let addresses = c.self.inside.addresses in
+    let kept = seen_details g.R.Reader.section c.self.inside.details in
+    let more = seen_details g.R.Reader.section c.read.new.self in
+    let n = c.args.place in
+    let scope = seen_scope c.args.scope in
+    let u = c.args.unit.now in
+    let unread = ap (λ (t : FunctionTable). slice_get t.functions n) c.self.view_is ∙ c.requires.unread in
+    let at = unread_at kept fs n c.args.offset.0 unread in
+    let y : LazyFunction = record { dw_die_offset = c.index_mut.result.now.dw_die_offset; detail = Read c.in-Ok.detail } in
+    let entry = ap (λ (x : LazyFunction). x.dw_die_offset) (c.index_mut.ensures.value ∙ get_or_from_slice_get fs n at.0 c.index_mut.result.now at.1) in
+    let new = table_of (slice_set fs n y) addresses more in
+    let with_detail = table_read fs n at.0 y at.1 entry addresses kept more c.self.invariant at.3 c.read.ensures.kept c.in-Ok.detail refl c.in-Ok.ensures.place c.in-Ok.ensures.next c.args.offset.0 (detail_at scope u c.args.offset.0) at.2 c.in-Ok.ensures.gives in
+    record { gives = subst (λ (t : FunctionTable). IsReadAt scope u n t (Ok tt) new) c.self.view_is
+        (reads scope u n c.args.offset.0 (table_of fs addresses kept) new (Ok tt) unread (ap detail_fault c.in-Ok.ensures.gives, with_detail)) }
+
+pub returns-in_default : goal.returns-in_default
+returns-in_default g c =
+    let fs = c.self.inside.functions.items in
+    let addresses = c.self.inside.addresses in
+    let kept = seen_details g.R.Reader.section c.self.inside.details in
+    let more = seen_details g.R.Reader.section c.read.new.self in
+    let n = c.args.place in
+    let scope = seen_scope c.args.scope in
+    let u = c.args.unit.now in
+    let e = c.in-Err.error in
+    let unread = ap (λ (t : FunctionTable). slice_get t.functions n) c.self.view_is ∙ c.requires.unread in
+    let at = unread_at kept fs n c.args.offset.0 unread in
+    let y : LazyFunction = record { dw_die_offset = c.index_mut-in_default.result.now.dw_die_offset; detail = Faulty e } in
+    let entry = ap (λ (x : LazyFunction). x.dw_die_offset) (c.index_mut-in_default.ensures.value ∙ get_or_from_slice_get fs n at.0 c.index_mut-in_default.result.now at.1) in
+    let faulty = c.in-Err.ensures.gives c.in_default.not-OutOfMemory in
+    let with_fault = table_fault fs n at.0 y at.1 entry addresses kept more c.self.invariant at.3 c.read.ensures.kept e refl c.in-Err.ensures.refused c.args.offset.0 (detail_at scope u c.args.offset.0) at.2 faulty in
+    record { gives = subst (λ (t : FunctionTable). IsReadAt scope u n t (Err e) (table_of (slice_set fs n y) addresses more)) c.self.view_is
+        (reads scope u n c.args.offset.0 (table_of fs addresses kept) (table_of (slice_set fs n y) addresses more) (Err e) unread
+        (λ ne. (ap detail_fault faulty, with_fault), λ oom. absurd (c.in_default.not-OutOfMemory oom))) }

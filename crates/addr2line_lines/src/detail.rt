@@ -15,7 +15,6 @@ use crate::nesting::{Nesting, kind_of};
 use crate::references::Scope;
 use gimli::read::{Abbreviation, Attribute, AttributeSpecification, Error, Reader, UnitOffset};
 use gimli::{EntriesRaw, Unit, UnitRef};
-use std::alloc::Global;
 
 // Takes one more attribute of a function in, if it is wanted and none before it has a fault.
 fn with_attribute<R: Reader>(
@@ -137,10 +136,10 @@ fn is_inside<R: Reader>(entries: &EntriesRaw<'_, R>) -> bool
 
 // Adds the inlined entries inside a function, whose own entry was the first that was read.
 fn read_inside<R: Reader>(
-    alloc: Global,
     scope: Scope<'_, R>,
     unit: &Unit<R>,
     entries: &mut EntriesRaw<'_, R>,
+    nesting: &mut Nesting,
     found: &mut InlinedLists<R>,
 ) -> Result<(), Error>
     requires in_order { IsScope (seen_scope scope) }
@@ -150,9 +149,9 @@ fn read_inside<R: Reader>(
         (seen_around R.section found.old [])) }
     ensures kept { IsFoundMore (seen_lists R.section found.old) (seen_lists R.section found.new) }
 {
-    let mut nesting = Nesting::new(alloc);
+    nesting.clear();
     while is_inside(entries) {
-        read_item(scope, unit, entries, &mut nesting, found)?;
+        read_item(scope, unit, entries, nesting, found)?;
     }
     Ok(())
 }
@@ -160,11 +159,11 @@ fn read_inside<R: Reader>(
 // Reads the name of the function whose attributes follow, and adds its inlined entries.
 #[tactic(auto, using(crate::proofs::NestingLemmas::found_same, crate::proofs::NestingLemmas::found_on))]
 fn read_function<R: Reader>(
-    alloc: Global,
     scope: Scope<'_, R>,
     unit: &Unit<R>,
     entries: &mut EntriesRaw<'_, R>,
     abbreviation: &Abbreviation,
+    nesting: &mut Nesting,
     found: &mut InlinedLists<R>,
 ) -> Result<Option<R>, Error>
     requires in_order { IsScope (seen_scope scope) }
@@ -176,17 +175,17 @@ fn read_function<R: Reader>(
     ensures kept { IsFoundMore (seen_lists R.section found.old) (seen_lists R.section found.new) }
 {
     let name = read_name(scope, unit, entries, abbreviation.attributes())?;
-    read_inside(alloc, scope, unit, entries, found)?;
+    read_inside(scope, unit, entries, nesting, found)?;
     Ok(name)
 }
 
 // Reads the name of the function whose entry begins at an offset, and adds its inlined entries.
 #[tactic(auto, unfolding(crate::specs::FoundDetails::detail_found_at), using(crate::proofs::NestingLemmas::found_same, crate::proofs::NestingLemmas::found_on))]
 pub(crate) fn read_detail<R: Reader>(
-    alloc: Global,
     scope: Scope<'_, R>,
     unit: &Unit<R>,
     offset: UnitOffset,
+    nesting: &mut Nesting,
     found: &mut InlinedLists<R>,
 ) -> Result<Option<R>, Error>
     requires in_order { IsScope (seen_scope scope) }
@@ -199,7 +198,7 @@ pub(crate) fn read_detail<R: Reader>(
     let mut entries = UnitRef::new(scope.file.dwarf, unit).entries_raw(Some(offset))?;
     match entries.read_abbreviation()? {
         Some(abbreviation) => {
-            read_function(alloc, scope, unit, &mut entries, abbreviation, found)
+            read_function(scope, unit, &mut entries, abbreviation, nesting, found)
         }
         None => Err(Error::NoEntryAtGivenOffset(offset.0)),
     }

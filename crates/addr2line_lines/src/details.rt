@@ -12,6 +12,7 @@ ghost use Rattle.addr2line_lines.specs.SeenScope.{seen_scope};
 use crate::detail::read_detail;
 use crate::inlined::InlinedFunction;
 use crate::inlined_lists::InlinedLists;
+use crate::nesting::Nesting;
 use crate::picks::{InlinedFunctionAddress, find_chain, sort_inlined_from};
 use crate::references::Scope;
 use gimli::Unit;
@@ -44,6 +45,8 @@ pub(crate) struct FunctionDetail {
 pub(crate) struct Details<R: Reader> {
     names: Vec<Option<R>>,
     inlined: InlinedLists<R>,
+    // The entries that are open while details are read, here for its memory alone.
+    nesting: Nesting,
 }
 
 impl<R: Reader> Details<R> {
@@ -55,13 +58,13 @@ impl<R: Reader> Details<R> {
         Details {
             names: Vec::new(alloc),
             inlined: InlinedLists::new(alloc),
+            nesting: Nesting::new(alloc),
         }
     }
 
     // Adds the details of a function. A refused one may leave some of its inlined entries.
     fn add(
         &mut self,
-        alloc: Global,
         scope: Scope<'_, R>,
         unit: &Unit<R>,
         offset: UnitOffset,
@@ -80,7 +83,7 @@ impl<R: Reader> Details<R> {
         let name = self.names.len();
         let inlined_begin = self.inlined.functions.len();
         let ranges_begin = self.inlined.ranges.len();
-        let read = read_detail(alloc, scope, unit, offset, &mut self.inlined)?;
+        let read = read_detail(scope, unit, offset, &mut self.nesting, &mut self.inlined)?;
         self.names.push(read)?;
         let listed = Snapshot::of(&self.inlined.ranges);
         sort_inlined_from(&mut self.inlined.ranges, ranges_begin);
@@ -105,7 +108,7 @@ impl<R: Reader> Details<R> {
     /// After a refusal what is kept is what was kept before. Source: DWARF 5, section 3.3.8.
     pub(crate) fn read(
         &mut self,
-        alloc: Global,
+        _alloc: Global,
         scope: Scope<'_, R>,
         unit: &Unit<R>,
         offset: UnitOffset,
@@ -123,7 +126,7 @@ impl<R: Reader> Details<R> {
     {
         let functions = self.inlined.functions.len();
         let ranges = self.inlined.ranges.len();
-        match self.add(alloc, scope, unit, offset) {
+        match self.add(scope, unit, offset) {
             Ok(detail) => Ok(detail),
             Err(error) => {
                 self.inlined.truncate(functions, ranges);

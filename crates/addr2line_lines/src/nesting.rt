@@ -63,6 +63,15 @@ impl Nesting {
         }
     }
 
+    // Closes all. Keeps the memory.
+    pub(crate) fn clear(&mut self)
+        ensures gives { self.new ≡ [] }
+    {
+        self.kinds.clear();
+        self.inlined = 0;
+        self.subprograms = 0;
+    }
+
     // How many inlined entries are open.
     pub(crate) fn depth(&self) -> usize
         ensures gives { result ≡ kinds_such is_inlined_kind self.now }

@@ -10,7 +10,7 @@ pub loop-scope-init : goal.loop-scope-init
 loop-scope-init g c =
     let scope = seen_scope c.args.scope in
     record {
-      gives = ap (λ (k : List Kind). inside_found scope c.args.unit.now c.args.entries.now.unit c.args.entries.now.cursor (seen_around g.R.Reader.section c.args.found.now k)) c.new-nesting.ensures.gives;
+      gives = ap (λ (k : List Kind). inside_found scope c.args.unit.now c.args.entries.now.unit c.args.entries.now.cursor (seen_around g.R.Reader.section c.args.found.now k)) c.clear.ensures.gives;
       kept = found_same _;
       unit = c.requires.encoding;
     }

@@ -13,3 +13,4 @@ pub mod Indexed
 pub mod RangeLookup
 pub mod UnitRangesLeft
 pub mod LocationsLeft
+pub mod Frames

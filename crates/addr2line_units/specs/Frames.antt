@@ -1,0 +1,82 @@
+-- The functions that stand at an address, each with its location (DWARF 5, section 3.3.8).
+-- Own: the innermost inlined function comes first, the function itself last. The first has the
+-- location of the address, each next one the call of the one before; of a call line 0 is no line and
+-- column 0 no column. Where no function holds the address, its location alone is a frame. The first
+-- fault counts of the functions, the detail of the function, and the lines of the main unit.
+use Rattle.std.specs.Prelude.{ℕ, ◌==◌, List, [], ◌∷◌, reverse, slice_get, Option, Some, None, option_and_then, option_map, Result, Ok, if◌then◌else◌}
+use Rattle.gimli_read.specs.declared.constants.DwLang.{DwLang}
+use Rattle.gimli_read.specs.declared.error.Error.{Error}
+use Rattle.gimli_read.specs.Reading.{◌>>=◌}
+use Rattle.gimli_read.specs.Section.{Section}
+use Rattle.gimli.specs.Sections.{Sections}
+use Rattle.gimli.specs.Unit.{UnitRecord}
+use Rattle.addr2line_lines.specs.Details.{CallSite, Detail, InlinedEntry, detail_at, inlined_chain}
+use Rattle.addr2line_lines.specs.Functions.{function_offset_at, functions_of}
+use Rattle.addr2line_lines.specs.Location.{LineTable, Location, location_at}
+use Rattle.addr2line_lines.specs.References.{Scope}
+use Rattle.addr2line_lines.specs.UnitLines.{unit_lines}
+
+-- the name of a function, and the language of the main unit
+pub record NameRecord : Type 0 where
+  pub name : Section
+  pub language : Option DwLang
+
+-- a function at an address: where its entry begins, in bytes from the start of the length of its
+-- unit, its name and its location; or a location without a function
+pub record FrameRecord : Type 0 where
+  pub offset : Option ℕ
+  pub function : Option NameRecord
+  pub location : Option Location
+
+-- a number that counts, none of 0
+abbrev pub if_counted : ℕ → Option ℕ
+if_counted n = if n == 0 then None else Some n
+
+-- where a function was called that is inlined, by the files of the main unit
+abbrev pub call_location : List (List ℕ) → CallSite → Location
+call_location files c = record {
+  file = option_and_then (slice_get files) c.file;
+  line = if_counted c.line;
+  column = if_counted c.column;
+}
+
+-- a function with its location
+abbrev pub function_frame : Option DwLang → ℕ → Option Section → Option Location → FrameRecord
+function_frame language offset name location = record {
+  offset = Some offset;
+  function = option_map (λ n. record { name = n; language = language }) name;
+  location = location;
+}
+
+-- the function, and before it inlined entries from the inside out, the first at a location
+abbrev pub frames_from : List (List ℕ) → Option DwLang → ℕ → Option Section → List InlinedEntry
+    → Option Location → List FrameRecord
+frames_from files language offset name [] location =
+    function_frame language offset name location ∷ []
+frames_from files language offset name (e ∷ entries) location =
+    function_frame language e.offset e.name location
+    ∷ frames_from files language offset name entries (Some (call_location files e.call))
+
+-- a location alone
+abbrev pub location_frames : Option Location → List FrameRecord
+location_frames None = []
+location_frames (Some l) = record { offset = None; function = None; location = Some l } ∷ []
+
+-- those at the probe of the function whose entry begins at an offset
+abbrev pub detail_frames : LineTable → Option DwLang → ℕ → ℕ → Detail → List FrameRecord
+detail_frames lines language probe offset detail =
+    frames_from lines.files language offset detail.name
+    (reverse (inlined_chain probe detail.inlined)) (location_at probe lines)
+
+-- the frames at the probe in a unit's view, whose references lead where the scope says; or the first
+-- fault of its functions, of the detail of the function, and of the lines of the main unit
+unfoldable pub frames_at : Sections → UnitRecord → Option DwLang → Scope → UnitRecord → ℕ
+    → Result (List FrameRecord) Error
+frames_at d main language scope view probe = do
+  functions ← functions_of scope.file.sections view
+  elim (function_offset_at probe functions) [
+    | None ↦ unit_lines d main >>= λ lines. Ok (location_frames (location_at probe lines))
+    | Some offset ↦ detail_at scope view offset >>= λ detail.
+        unit_lines d main >>= λ lines.
+        Ok (detail_frames lines language probe offset detail)
+  ]

@@ -24,6 +24,7 @@ pub mod SegmentSearch
 pub mod FunctionLemmas
 pub mod FunctionOrder
 pub mod FunctionCacheLemmas
+pub mod ReadLemmas
 pub mod InlinedOrder
 pub mod InlinedPick
 pub mod NestedInlined

@@ -1,8 +1,8 @@
 -- The functions of a view, and what is cached of their details (DWARF 5, section 3.3).
 -- Own: the detail of a function is read when it is first asked for, and cached then, its fault too.
 -- OutOfMemory is never cached.
-use Rattle.std.specs.Prelude.{◌≡◌, ◌≢◌, ℕ, Bool, List, [], slice_get, slice_set, Option, Some, None, is_some, option_and_then, option_map, Result, Ok, Err}
-use Rattle.std.specs.List.{AllByRecursion}
+use Rattle.std.specs.Prelude.{◌≡◌, ◌≢◌, ℕ, Bool, true, false, List, [], ◌∷◌, slice_get, slice_set, Option, Some, None, option_and_then, option_map, Result, Ok, Err}
+use Rattle.std.specs.List.{AllByRecursion, AllZip}
 use Rattle.gimli_read.specs.declared.error.Error.{Error}
 use Rattle.gimli_read.specs.declared.error.Error.TheVariants.{OutOfMemory}
 use Rattle.gimli_read.specs.Reading.{◌>>=◌}
@@ -108,3 +108,46 @@ IsDetailOf scope u f =
 -- what is cached of each function is so
 abbrev pub AreDetailsOf : Scope → UnitRecord → FunctionTable → Type 0
 AreDetailsOf scope u t = AllByRecursion (IsDetailOf scope u) t.functions
+
+-- where no detail is cached, what is cached is right for any unit
+abbrev pub UnreadAreDetails : Type 0
+UnreadAreDetails = (scope : Scope) (u : UnitRecord) (t : FunctionTable) → AreUnread t
+    → AreDetailsOf scope u t
+
+-- what is cached stays right where one more detail is read
+abbrev pub ReadKeepsDetails : Type 0
+ReadKeepsDetails = (scope : Scope) (u : UnitRecord) (n : ℕ) (old new : FunctionTable)
+    (result : Result (Unit {0}) Error) → AreDetailsOf scope u old
+    → IsReadAt scope u n old result new → AreDetailsOf scope u new
+
+-- the first fault among the details of functions, in their order
+abbrev pub details_fault : Scope → UnitRecord → List CachedFunction → Result (Unit {0}) Error
+details_fault scope u [] = Ok tt
+details_fault scope u (f ∷ functions) =
+    detail_fault (detail_at scope u f.offset) >>= λ _. details_fault scope u functions
+
+-- whether a detail is read, by what is cached of one function, and whether one is read after it
+abbrev pub asks_after : Option (Result Detail Error) → Bool → Bool
+asks_after None rest = true
+asks_after (Some (Ok d)) rest = rest
+asks_after (Some (Err e)) rest = false
+
+-- whether a detail is read: nothing is cached of a function, and no fault of one before it
+abbrev pub asks_detail : List CachedFunction → Bool
+asks_detail [] = false
+asks_detail (f ∷ functions) = asks_after f.detail (asks_detail functions)
+
+-- the detail of a function is cached, and has no fault
+abbrev pub HasDetail : CachedFunction → Type 0
+HasDetail f = (d : Detail) × (f.detail ≡ Some (Ok d))
+
+-- a function is the same, and what was cached of it is
+pub record IsFunctionMore (f g : CachedFunction) : Type 0 where
+  pub offset : g.offset ≡ f.offset
+  pub detail : (detail : Result Detail Error) → f.detail ≡ Some detail → g.detail ≡ Some detail
+
+-- what was cached stays cached, and nothing else changes, but that more may be cached
+pub record IsTableMore (old new : FunctionTable) : Type 0 where
+  pub ranges : new.ranges ≡ old.ranges
+  pub functions : AllZip IsFunctionMore old.functions new.functions
+  pub inlined : IsGrown old.inlined new.inlined

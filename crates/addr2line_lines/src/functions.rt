@@ -6,7 +6,7 @@ ghost use Rattle.gimli_read.specs.Reading.{ExactlyUnlessOom, ExactlyUnlessOomIf}
 ghost use Rattle.addr2line_lines.specs.Details.{inlined_chain};
 ghost use Rattle.addr2line_lines.specs.FoundDetails.{entry_among, seen_inlined};
 ghost use Rattle.addr2line_lines.specs.FunctionCache.{read_at};
-ghost use Rattle.addr2line_lines.specs.FunctionTable.{AreUnread, IsReadAt, cached_inlined, cached_name, offset_at};
+ghost use Rattle.addr2line_lines.specs.FunctionTable.{AreDetailsOf, AreUnread, HasDetail, IsReadAt, IsTableMore, asks_detail, cached_inlined, cached_name, details_fault, offset_at};
 ghost use Rattle.addr2line_lines.specs.Functions.{function_offset_at, functions_of, is_subprogram};
 ghost use Rattle.addr2line_lines.specs.References.{IsScope};
 ghost use Rattle.addr2line_lines.specs.SeenScope.{seen_scope};
@@ -287,6 +287,34 @@ impl<R: Reader> Functions<R> {
                 self.read_unread(alloc, scope, unit, offset, place)
             }
         }
+    }
+
+    /// Reads the details of all functions, in the order of their entries, as `read` does, up to the
+    /// first fault. What was cached stays cached; where none is refused all are cached then.
+    ///
+    /// `unit` is the unit of the functions, and `scope` says where its references lead. Refused by
+    /// the first fault of a detail; may fail with `OutOfMemory` instead, only where nothing is
+    /// cached of a function, and no fault of one before it. Source: DWARF 5, section 3.3.8.
+    pub fn read_all(
+        &mut self,
+        alloc: Global,
+        scope: Scope<'_, R>,
+        unit: &Unit<R>,
+    ) -> Result<(), Error>
+        requires in_order { IsScope (seen_scope scope) }
+        ensures gives { AreDetailsOf (seen_scope scope.entry) unit.now self.old
+            → ExactlyUnlessOomIf (asks_detail self.old.functions) (λ x. x) result
+            (details_fault (seen_scope scope.entry) unit.now self.old.functions) }
+        ensures kept { IsTableMore self.old self.new }
+        ensures right { AreDetailsOf (seen_scope scope.entry) unit.now self.old
+            → AreDetailsOf (seen_scope scope.entry) unit.now self.new }
+        ensures cached { OnOk result (AllByRecursion HasDetail self.new.functions) }
+    {
+        let count = self.functions.len();
+        for place in 0..count {
+            self.read(alloc, scope, unit, place)?;
+        }
+        Ok(())
     }
 
     // Reads the detail of a function of which nothing is cached.

@@ -6,6 +6,7 @@ ghost use Rattle.addr2line_lines.specs.Rises.{SequencesRise};
 ghost use Rattle.addr2line_lines.specs.InOrder.{OrderIsFree};
 ghost use Rattle.addr2line_lines.specs.Pick.{LoneIsPicked};
 ghost use Rattle.addr2line_lines.specs.Functions.{function_begin, function_end, function_offset};
+ghost use Rattle.addr2line_lines.specs.FunctionTable.{ReadKeepsDetails, UnreadAreDetails};
 ghost use Rattle.addr2line_lines.specs.Shortest.{LoneIsShortest, NoneIsShorter};
 ghost use Rattle.addr2line_lines.specs.NameChains.{ChainGivesName, LongChainGivesNone};
 ghost use Rattle.addr2line_lines.specs.NestedInlined.{ChainIsWhole, NestedChain};
@@ -62,4 +63,11 @@ pub fn inlined_chain_is_whole()
 /// around the next. Where no range is empty either, none that holds the address is left out.
 pub fn inlined_are_nested()
     ensures law { NestedChain }
+{}
+
+/// What is cached of functions is right for any unit where no detail is cached, and stays right for
+/// the unit of which details are read.
+pub fn cached_details_stay()
+    ensures unread { UnreadAreDetails }
+    ensures read { ReadKeepsDetails }
 {}

@@ -1,0 +1,63 @@
+use Rattle.std.proofs.Common.{◌≡◌, List, [], ◌∷◌, length, map, suc, refl, ap, arith}
+use Rattle.std.proofs.lemmas.Result.{err_from_is_err_and}
+use Rattle.addr2line_lines.specs.FunctionTable.{FunctionTable}
+use Rattle.addr2line_lines.specs.FunctionCache.{seen_function}
+use Rattle.addr2line_lines.specs.KeptDetails.{seen_details}
+use Rattle.addr2line_lines.specs.SeenScope.{seen_scope}
+use Rattle.addr2line_lines.proofs.ReadLemmas.{all_read, fault_kept, fault_read, none_read, one_read}
+use Rattle.addr2line_lines.proofs.functions.Functions.read_all.Goals as goal
+
+long : {X Y : Type 0} (f : X → Y) (xs : List X) → length (map f xs) ≡ length xs
+long f [] = refl
+long f (x ∷ xs) = ap suc (long f xs)
+
+pub loop-place-init : goal.loop-place-init
+loop-place-init g c =
+    let m = c.self.inside.functions.ok.0 in
+    let d = seen_details g.R.Reader.section c.self.inside.details in
+    let same : length (map (seen_function d) c.self.inside.functions.items) ≡ length c.args.self.now.functions = ap (λ (t : FunctionTable). length t.functions) c.self.view_is in
+    let l = long (seen_function d) c.self.inside.functions.items in
+    let k = c.len-count.ensures in
+    record { count = omega arith; read = none_read (seen_scope c.args.scope) c.args.unit.now c.args.self.now }
+
+pub returns-in_err-read-clause-gives : goal.returns-in_err-read-clause-gives
+returns-in_err-read-clause-gives g c =
+    let p = err_from_is_err_and c.from_residual.result c.from_residual.ensures.1 in
+    let i = c.loop-place.invariant in
+    let l = c.loop-place-test.true in
+    rw (p.1, p.2) (fault_read (seen_scope c.args.scope) c.args.unit.now c.args.self.now c.loop-place.self c.read.new.self c.loop-place.place c.in_err-read.field-0.0 i.read (let m = i.count in omega arith) c.in_err-read.ensures.gives)
+
+pub returns-in_err-read-clause-kept : goal.returns-in_err-read-clause-kept
+returns-in_err-read-clause-kept g c =
+    (fault_kept (seen_scope c.args.scope) c.args.unit.now c.args.self.now c.loop-place.self c.read.new.self c.loop-place.place c.read.result c.loop-place.invariant.read c.read.ensures.gives).0
+
+pub returns-in_err-read-clause-right : goal.returns-in_err-read-clause-right
+returns-in_err-read-clause-right g c =
+    (fault_kept (seen_scope c.args.scope) c.args.unit.now c.args.self.now c.loop-place.self c.read.new.self c.loop-place.place c.read.result c.loop-place.invariant.read c.read.ensures.gives).1
+
+pub loop-place-preserved : goal.loop-place-preserved
+loop-place-preserved g c =
+    let i = c.loop-place.invariant in
+    let l = c.loop-place-test.true in
+    record {
+      count = i.count;
+      read = one_read (seen_scope c.args.scope) c.args.unit.now c.args.self.now c.loop-place.self c.read.new.self c.loop-place.place i.read (let m = i.count in omega arith) c.in_ok-read.ensures.gives;
+    }
+
+pub returns-clause-gives : goal.returns-clause-gives
+returns-clause-gives g c =
+    let i = c.loop-place.invariant in
+    let l = c.loop-place-test.false in
+    (all_read (seen_scope c.args.scope) c.args.unit.now c.args.self.now c.loop-place.self c.loop-place.place i.read (let m = i.count in omega arith)).0
+
+pub returns-clause-kept : goal.returns-clause-kept
+returns-clause-kept g c = c.loop-place.invariant.read.kept
+
+pub returns-clause-right : goal.returns-clause-right
+returns-clause-right g c = c.loop-place.invariant.read.right
+
+pub returns-clause-cached : goal.returns-clause-cached
+returns-clause-cached g c =
+    let i = c.loop-place.invariant in
+    let l = c.loop-place-test.false in
+    (all_read (seen_scope c.args.scope) c.args.unit.now c.args.self.now c.loop-place.self c.loop-place.place i.read (let m = i.count in omega arith)).1

@@ -34,3 +34,4 @@ pub mod DetailLemmas
 pub mod NestingLemmas
 pub mod DetailOrder
 pub mod DetailPlaces
+pub mod NamedDetails

@@ -269,7 +269,7 @@ none_from found = record {
 }
 
 -- a unit's offset is below its end
-some_left : (header : UnitHeaderFields) (offset : ℕ) (s : Section) → entry_bytes_from header (Some offset) ≡ Ok s → (length s.bytes == 0) ≡ false
+pub some_left : (header : UnitHeaderFields) (offset : ℕ) (s : Section) → entry_bytes_from header (Some offset) ≡ Ok s → (length s.bytes == 0) ≡ false
 some_left header offset s h = by_start (nat_lt offset header.header_length) refl (nat_lt offset (unit_length header)) refl h
   where
     by_start : (b : Bool) → nat_lt offset header.header_length ≡ b → (c : Bool) → nat_lt offset (unit_length header) ≡ c

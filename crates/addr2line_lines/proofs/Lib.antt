@@ -36,3 +36,4 @@ pub mod DetailLemmas
 pub mod NestingLemmas
 pub mod DetailOrder
 pub mod DetailPlaces
+pub mod NamedDetails

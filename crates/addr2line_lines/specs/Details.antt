@@ -4,7 +4,7 @@
 -- Own: of call_file a constant counts that is above 0, or any in version 5; call_line and
 -- call_column keep their low 32 bits, and are 0 where they are no constant. The last of each
 -- counts.
-use Rattle.std.specs.Prelude.{ℕ, ◌+◌, ◌==◌, ◌||◌, ◌&&◌, ◌%◌, ◌^◌, nat_lt, zero, suc, Bool, List, [], ◌∷◌, ◌++◌, filter, fold, length, map, Option, Some, None, option_and_then, unwrap_or, Result, Ok, Err, if◌then◌else◌}
+use Rattle.std.specs.Prelude.{ℕ, ◌+◌, ◌==◌, ◌||◌, ◌&&◌, ◌%◌, ◌^◌, nat_lt, zero, suc, Bool, List, [], ◌∷◌, ◌++◌, filter, fold, length, map, Option, Some, None, option_and_then, unwrap_or, Result, Ok, Err, is_ok, if◌then◌else◌}
 use Rattle.std.specs.Option.{option_or}
 use Rattle.gimli_read.specs.declared.constants.TheConstants.DwAt.{DW_AT_call_column, DW_AT_call_file, DW_AT_call_line}
 use Rattle.gimli_read.specs.declared.constants.TheConstants.DwTag.{DW_TAG_inlined_subroutine}
@@ -191,6 +191,19 @@ detail_at scope u offset = do
   name ← name_of scope u function.1.attributes
   inlined ← inlined_in scope u (record left { cursor = next.1 }) function.0
   Ok (record { name = name; inlined = inlined })
+
+-- the name of the function whose entry begins at an offset of its unit, or the first fault up to
+-- the end of that entry
+unfoldable pub function_name_at : Scope → UnitRecord → ℕ → Result (Option Section) Error
+function_name_at scope u offset = do
+  left ← entries_from u (Some offset)
+  next ← next_item_at left.unit left.cursor
+  function ← entry_of offset next.0
+  name_of scope u function.1.attributes
+
+-- whether there is no such fault
+abbrev pub can_be_named : Scope → UnitRecord → ℕ → Bool
+can_be_named scope u offset = is_ok (function_name_at scope u offset)
 
 -- the ranges of a depth
 abbrev pub of_depth : ℕ → List InlinedRange → List InlinedRange

@@ -237,6 +237,12 @@ abbrev pub abbreviation_of : ℕ → Option Abbrev → Result Abbrev Error
 abbreviation_of offset None = Err (NoEntryAtGivenOffset offset)
 abbreviation_of offset (Some a) = Ok a
 
+-- the name of a function whose attributes follow
+abbrev pub name_found_from : Scope → UnitRecord → EntryCursor → Abbrev
+    → Result (Option Section) Error
+name_found_from scope u cursor a =
+    name_after scope u (Ok None) (attributes_at u.header.encoding a.attributes cursor.left)
+
 -- the name of a function whose attributes follow, and what was found after it
 abbrev pub function_found_at : Scope → UnitRecord → EntryUnit → EntryCursor → FoundInlined → Abbrev
     → Result (Option Section × FoundInlined) Error
@@ -254,6 +260,14 @@ detail_found_at scope u offset found = do
   code ← entry_abbreviation_at left.unit.abbreviations left.cursor
   a ← abbreviation_of offset code.0
   function_found_at scope u left.unit code.1 found a
+
+-- the name alone
+unfoldable pub name_found_at : Scope → UnitRecord → ℕ → Result (Option Section) Error
+name_found_at scope u offset = do
+  left ← entries_from u (Some offset)
+  code ← entry_abbreviation_at left.unit.abbreviations left.cursor
+  a ← abbreviation_of offset code.0
+  name_found_from scope u code.1 a
 
 -- no inlined entry
 abbrev pub no_inlined : InlinedEntry

@@ -1,10 +1,10 @@
 //! The details of functions.
 
-ghost use Rattle.std.specs.Prelude.{◌≡◌, ◌<◌, [], None, Ok, OnOk, int_lt, length, option_map, pos};
+ghost use Rattle.std.specs.Prelude.{◌≡◌, ◌<◌, ◌||◌, [], None, Ok, OnOk, int_lt, is_ok, length, option_map, pos};
 ghost use Rattle.gimli_read.specs.Form.{rest_of};
 ghost use Rattle.gimli_read.specs.Reading.{ExactlyUnlessOom, ExactlyUnlessOomIf};
 ghost use Rattle.gimli.specs.Entry.{attributes_at};
-ghost use Rattle.addr2line_lines.specs.FoundDetails.{IsFoundMore, IsTakenIn, detail_found_at, entry_found_at, function_found_at, inside_found, item_found_at, name_after, seen_around, seen_lists, with_read_name};
+ghost use Rattle.addr2line_lines.specs.FoundDetails.{IsFoundMore, IsTakenIn, detail_found_at, entry_found_at, function_found_at, inside_found, item_found_at, name_after, name_found_at, name_found_from, seen_around, seen_lists, with_read_name};
 ghost use Rattle.addr2line_lines.specs.References.{IsScope};
 ghost use Rattle.addr2line_lines.specs.SeenScope.{seen_scope};
 
@@ -168,7 +168,8 @@ fn read_function<R: Reader>(
 ) -> Result<Option<R>, Error>
     requires in_order { IsScope (seen_scope scope) }
     requires encoding { entries.old.unit.encoding ≡ unit.now.header.encoding }
-    ensures gives { ExactlyUnlessOom
+    ensures gives { ExactlyUnlessOomIf (R.shares || is_ok (name_found_from
+        (seen_scope scope.entry) unit.now entries.old.cursor abbreviation.now))
         (λ name. (option_map R.section name, seen_lists R.section found.new)) result
         (function_found_at (seen_scope scope.entry) unit.now entries.old.unit entries.old.cursor
         (seen_lists R.section found.old) abbreviation.now) }
@@ -180,7 +181,7 @@ fn read_function<R: Reader>(
 }
 
 // Reads the name of the function whose entry begins at an offset, and adds its inlined entries.
-#[tactic(auto, unfolding(crate::specs::FoundDetails::detail_found_at), using(crate::proofs::NestingLemmas::found_same, crate::proofs::NestingLemmas::found_on))]
+#[tactic(auto, unfolding(crate::specs::FoundDetails::detail_found_at, crate::specs::FoundDetails::name_found_at), using(crate::proofs::NestingLemmas::found_same, crate::proofs::NestingLemmas::found_on))]
 pub(crate) fn read_detail<R: Reader>(
     scope: Scope<'_, R>,
     unit: &Unit<R>,
@@ -189,7 +190,8 @@ pub(crate) fn read_detail<R: Reader>(
     found: &mut InlinedLists<R>,
 ) -> Result<Option<R>, Error>
     requires in_order { IsScope (seen_scope scope) }
-    ensures gives { ExactlyUnlessOom
+    ensures gives { ExactlyUnlessOomIf
+        (R.shares || is_ok (name_found_at (seen_scope scope.entry) unit.now offset.0))
         (λ name. (option_map R.section name, seen_lists R.section found.new)) result
         (detail_found_at (seen_scope scope.entry) unit.now offset.0
         (seen_lists R.section found.old)) }

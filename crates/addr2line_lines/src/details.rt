@@ -1,9 +1,9 @@
 //! The details of the functions of a view, kept one after another.
 
 ghost use Rattle.std.specs.List.{AllByRecursion};
-ghost use Rattle.std.specs.Prelude.{◌≡◌, ◌<◌, [], IfOk, OnErr, Ok, length, map, nat_lt, option_map, slice_get};
-ghost use Rattle.gimli_read.specs.Reading.{ExactlyUnlessOom, ExactlyUnlessOomIf};
-ghost use Rattle.addr2line_lines.specs.Details.{detail_at, inlined_chain};
+ghost use Rattle.std.specs.Prelude.{◌≡◌, ◌<◌, ◌||◌, [], IfOk, OnErr, Ok, length, map, nat_lt, option_map, slice_get};
+ghost use Rattle.gimli_read.specs.Reading.{ExactlyUnlessOomIf};
+ghost use Rattle.addr2line_lines.specs.Details.{can_be_named, detail_at, inlined_chain};
 ghost use Rattle.addr2line_lines.specs.FoundDetails.{entry_among, none_inlined, seen_inlined};
 ghost use Rattle.addr2line_lines.specs.KeptDetails.{AreDetailsMore, IsDetailPlace, IsNextPlace, detail_of, seen_details};
 ghost use Rattle.addr2line_lines.specs.References.{IsScope};
@@ -70,7 +70,9 @@ impl<R: Reader> Details<R> {
         offset: UnitOffset,
     ) -> Result<FunctionDetail, Error>
         requires in_order { IsScope (seen_scope scope) }
-        ensures gives { ExactlyUnlessOom (detail_of (seen_details R.section self.new)) result
+        ensures gives { ExactlyUnlessOomIf
+            (R.shares || can_be_named (seen_scope scope.entry) unit.now offset.0)
+            (detail_of (seen_details R.section self.new)) result
             (detail_at (seen_scope scope.entry) unit.now offset.0) }
         ensures kept { AreDetailsMore (seen_details R.section self.old)
             (seen_details R.section self.new) }
@@ -104,7 +106,8 @@ impl<R: Reader> Details<R> {
     /// Refused `OffsetOutOfBounds` where no entry of the unit can begin there,
     /// `NoEntryAtGivenOffset` at a closing entry, and by the first fault of an entry up to the end
     /// of the function, of a reference that a name follows, of range attributes or of a range list;
-    /// `UnexpectedEof` where closing entries are missing. May fail with `OutOfMemory` instead.
+    /// `UnexpectedEof` where closing entries are missing. May fail with `OutOfMemory` instead, but
+    /// with a reader that doesn't share its bytes only where the function's own entry has no fault.
     /// After a refusal what is kept is what was kept before. Source: DWARF 5, section 3.3.8.
     pub(crate) fn read(
         &mut self,
@@ -114,7 +117,9 @@ impl<R: Reader> Details<R> {
         offset: UnitOffset,
     ) -> Result<FunctionDetail, Error>
         requires in_order { IsScope (seen_scope scope) }
-        ensures gives { ExactlyUnlessOom (detail_of (seen_details R.section self.new)) result
+        ensures gives { ExactlyUnlessOomIf
+            (R.shares || can_be_named (seen_scope scope.entry) unit.now offset.0)
+            (detail_of (seen_details R.section self.new)) result
             (detail_at (seen_scope scope.entry) unit.now offset.0) }
         ensures kept { AreDetailsMore (seen_details R.section self.old)
             (seen_details R.section self.new) }

@@ -1,14 +1,14 @@
 -- The functions of a view, and what is cached of their details (DWARF 5, section 3.3).
 -- Own: the detail of a function is read when it is first asked for, and cached then, its fault too.
 -- OutOfMemory is never cached.
-use Rattle.std.specs.Prelude.{◌≡◌, ◌≢◌, ℕ, Bool, true, false, List, [], ◌∷◌, slice_get, slice_set, Option, Some, None, option_and_then, option_map, Result, Ok, Err}
+use Rattle.std.specs.Prelude.{◌≡◌, ◌≢◌, ℕ, ◌&&◌, ◌||◌, Bool, true, false, not, is_some, List, [], ◌∷◌, slice_get, slice_set, Option, Some, None, option_and_then, option_map, Result, Ok, Err}
 use Rattle.std.specs.List.{AllByRecursion, AllZip}
 use Rattle.gimli_read.specs.declared.error.Error.{Error}
 use Rattle.gimli_read.specs.declared.error.Error.TheVariants.{OutOfMemory}
 use Rattle.gimli_read.specs.Reading.{◌>>=◌}
 use Rattle.gimli_read.specs.Section.{Section}
 use Rattle.gimli.specs.Unit.{UnitRecord}
-use Rattle.addr2line_lines.specs.Details.{Detail, InlinedEntry, InlinedRange, detail_at}
+use Rattle.addr2line_lines.specs.Details.{Detail, InlinedEntry, InlinedRange, can_be_named, detail_at}
 use Rattle.addr2line_lines.specs.FoundDetails.{IsGrown}
 use Rattle.addr2line_lines.specs.Functions.{FunctionRange}
 use Rattle.addr2line_lines.specs.References.{Scope}
@@ -83,6 +83,19 @@ abbrev pub IsReadOnce : Scope → UnitRecord → ℕ → CachedFunction → Opti
 IsReadOnce scope u n f (Some detail) old result new = (result ≡ detail_fault detail) × (new ≡ old)
 IsReadOnce scope u n f None old result new =
     IsCachedThen n f (detail_at scope u f.offset) old result new
+
+-- whether memory may be taken for the detail of a function: nothing is cached of the function, and its own entry has no fault,
+-- or readers share their bytes
+abbrev pub takes_memory : Bool → Scope → UnitRecord → Option CachedFunction → Bool
+takes_memory shares scope u None = false
+takes_memory shares scope u (Some f) =
+    not (is_some f.detail) && (shares || can_be_named scope u f.offset)
+
+-- whether the detail of a function can be read, by what is cached of it or by its entries
+abbrev pub read_fault : Scope → UnitRecord → Option CachedFunction → Result (Unit {0}) Error
+read_fault scope u None = Ok tt
+read_fault scope u (Some f) =
+    elim f.detail [ None ↦ detail_fault (detail_at scope u f.offset) | Some d ↦ detail_fault d ]
 
 -- the same of the function of a place, by the function; past the last one nothing is read
 abbrev pub IsReadOf : Scope → UnitRecord → ℕ → Option CachedFunction → FunctionTable

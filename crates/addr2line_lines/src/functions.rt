@@ -6,7 +6,7 @@ ghost use Rattle.gimli_read.specs.Reading.{ExactlyUnlessOom, ExactlyUnlessOomIf}
 ghost use Rattle.addr2line_lines.specs.Details.{inlined_chain};
 ghost use Rattle.addr2line_lines.specs.FoundDetails.{entry_among, seen_inlined};
 ghost use Rattle.addr2line_lines.specs.FunctionCache.{read_at};
-ghost use Rattle.addr2line_lines.specs.FunctionTable.{AreDetailsOf, AreUnread, HasDetail, IsReadAt, IsTableMore, asks_detail, cached_inlined, cached_name, details_fault, offset_at};
+ghost use Rattle.addr2line_lines.specs.FunctionTable.{AreDetailsOf, AreUnread, HasDetail, IsReadAt, IsTableMore, asks_detail, cached_inlined, cached_name, details_fault, offset_at, read_fault, takes_memory};
 ghost use Rattle.addr2line_lines.specs.Functions.{function_offset_at, functions_of, is_subprogram};
 ghost use Rattle.addr2line_lines.specs.References.{IsScope};
 ghost use Rattle.addr2line_lines.specs.SeenScope.{seen_scope};
@@ -275,6 +275,9 @@ impl<R: Reader> Functions<R> {
     ) -> Result<(), Error>
         requires in_order { IsScope (seen_scope scope) }
         ensures gives { IsReadAt (seen_scope scope.entry) unit.now place self.old result self.new }
+        ensures exact { ExactlyUnlessOomIf (takes_memory R.shares (seen_scope scope.entry) unit.now
+            (slice_get self.old.functions place)) (λ x. x) result
+            (read_fault (seen_scope scope.entry) unit.now (slice_get self.old.functions place)) }
     {
         let Some(function) = self.functions.get(place) else {
             return Ok(());
@@ -330,6 +333,9 @@ impl<R: Reader> Functions<R> {
         requires unread { slice_get self.old.functions place
             ≡ Some (record { offset = offset.0; detail = None }) }
         ensures gives { IsReadAt (seen_scope scope.entry) unit.now place self.old result self.new }
+        ensures exact { ExactlyUnlessOomIf (takes_memory R.shares (seen_scope scope.entry) unit.now
+            (slice_get self.old.functions place)) (λ x. x) result
+            (read_fault (seen_scope scope.entry) unit.now (slice_get self.old.functions place)) }
     {
         match self.details.read(alloc, scope, unit, offset) {
             Ok(detail) => {

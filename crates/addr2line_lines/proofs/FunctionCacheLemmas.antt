@@ -256,9 +256,10 @@ module _ (fs : List LazyFunction) (n : ℕ) (f y : LazyFunction) (at : slice_get
           let c = old.ranges_end in
           let d = next.name in
           let e = next.inlined_begin in
-          let r = next.ranges_begin in
-          (record { name = λ s. omega arith; inlined = inr (omega arith); ranges = inr (omega arith) },
-          record { name = λ s. omega arith; inlined = inl (omega arith); ranges = inl (omega arith) })
+          let r = next.ranges_begin in (
+            record { name = λ s. omega arith; inlined = inr (omega arith); ranges = inr (omega arith) },
+            record { name = λ s. omega arith; inlined = inl (omega arith); ranges = inl (omega arith) },
+          )
 
       still_apart : (i j : ℕ) → (g k : LazyFunction) → (q r : FunctionDetail) → i ≢ j → slice_get (slice_set fs n y) i ≡ Some g → slice_get (slice_set fs n y) j ≡ Some k → g.detail ≡ Read q → k.detail ≡ Read r → AreDetailsApart q r
       still_apart i j g k q r ne a b s t =

@@ -56,8 +56,10 @@ returns-in-Ok g c =
     let entry = ap (λ (x : LazyFunction). x.dw_die_offset) (c.index_mut.ensures.value ∙ get_or_from_slice_get fs n at.0 c.index_mut.result.now at.1) in
     let new = table_of (slice_set fs n y) addresses more in
     let with_detail = table_read fs n at.0 y at.1 entry addresses kept more c.self.invariant at.3 c.read.ensures.kept c.in-Ok.detail refl c.in-Ok.ensures.place c.in-Ok.ensures.next c.args.offset.0 (detail_at scope u c.args.offset.0) at.2 c.in-Ok.ensures.gives in
-    record { gives = subst (λ (t : FunctionTable). IsReadAt scope u n t (Ok tt) new) c.self.view_is
-        (reads scope u n c.args.offset.0 (table_of fs addresses kept) new (Ok tt) unread (ap detail_fault c.in-Ok.ensures.gives, with_detail)) }
+    record {
+      gives = subst (λ (t : FunctionTable). IsReadAt scope u n t (Ok tt) new) c.self.view_is
+          (reads scope u n c.args.offset.0 (table_of fs addresses kept) new (Ok tt) unread (ap detail_fault c.in-Ok.ensures.gives, with_detail));
+    }
 
 pub returns-in_default : goal.returns-in_default
 returns-in_default g c =
@@ -75,6 +77,8 @@ returns-in_default g c =
     let entry = ap (λ (x : LazyFunction). x.dw_die_offset) (c.index_mut-in_default.ensures.value ∙ get_or_from_slice_get fs n at.0 c.index_mut-in_default.result.now at.1) in
     let faulty = c.in-Err.ensures.gives c.in_default.not-OutOfMemory in
     let with_fault = table_fault fs n at.0 y at.1 entry addresses kept more c.self.invariant at.3 c.read.ensures.kept e refl c.in-Err.ensures.refused c.args.offset.0 (detail_at scope u c.args.offset.0) at.2 faulty in
-    record { gives = subst (λ (t : FunctionTable). IsReadAt scope u n t (Err e) (table_of (slice_set fs n y) addresses more)) c.self.view_is
-        (reads scope u n c.args.offset.0 (table_of fs addresses kept) (table_of (slice_set fs n y) addresses more) (Err e) unread
-        (λ ne. (ap detail_fault faulty, with_fault), λ oom. absurd (c.in_default.not-OutOfMemory oom))) }
+    record {
+      gives = subst (λ (t : FunctionTable). IsReadAt scope u n t (Err e) (table_of (slice_set fs n y) addresses more)) c.self.view_is
+          (reads scope u n c.args.offset.0 (table_of fs addresses kept) (table_of (slice_set fs n y) addresses more) (Err e) unread
+          (λ ne. (ap detail_fault faulty, with_fault), λ oom. absurd (c.in_default.not-OutOfMemory oom)));
+    }

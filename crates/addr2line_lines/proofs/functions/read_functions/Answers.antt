@@ -3,7 +3,8 @@ use Rattle.std.proofs.lemmas.Result.{err_from_is_err_and}
 use Rattle.gimli.specs.Items.{items_from}
 use Rattle.addr2line_lines.specs.Functions.{have_function}
 use Rattle.addr2line_lines.specs.FoundFunctions.{found_from, seen_found}
-use Rattle.addr2line_lines.proofs.FunctionLemmas.{found_end, found_fault, found_step, have_next, have_step, or_more}
+use Rattle.addr2line_lines.proofs.FunctionLemmas.{found_end, found_fault, found_step, or_more}
+use Rattle.addr2line_lines.proofs.FunctionMemory.{have_next, have_step}
 use Rattle.addr2line_lines.proofs.functions.read_functions.Goals as goal
 
 pub loop-unit-preserved : goal.loop-unit-preserved

@@ -1,6 +1,6 @@
 use Rattle.std.proofs.Common.{arith, refl}
 use Rattle.std.proofs.lemmas.Result.{err_from_is_err_and}
-use Rattle.addr2line_lines.proofs.FunctionLemmas.{pushed_well}
+use Rattle.addr2line_lines.proofs.FunctionMemory.{pushed_well}
 use Rattle.addr2line_lines.proofs.functions.Found.add.Goals as goal
 
 pub returns-in_err-push-clause-gives : goal.returns-in_err-push-clause-gives

@@ -7,7 +7,8 @@ use Rattle.addr2line_lines.specs.Functions.{functions_of, have_function}
 use Rattle.addr2line_lines.specs.FoundFunctions.{AreFunctions, function_range_of, seen_found}
 use Rattle.addr2line_lines.specs.KeptDetails.{seen_details}
 use Rattle.addr2line_lines.proofs.FunctionCacheLemmas.{runs_unread, seen_unread}
-use Rattle.addr2line_lines.proofs.FunctionLemmas.{found_has, or_second}
+use Rattle.addr2line_lines.proofs.FunctionLemmas.{or_second}
+use Rattle.addr2line_lines.proofs.FunctionMemory.{found_has}
 use Rattle.addr2line_lines.proofs.FunctionOrder.{Agrees, are_functions, functions_agree}
 use Rattle.addr2line_lines.proofs.functions.Functions.parse.Goals as goal
 

@@ -1,8 +1,7 @@
 -- What is cached of functions, as more is read (on specs/FunctionCache.antt).
-use Rattle.std.proofs.Common.{◌≡◌, ℕ, ◌+◌, ◌-◌, ◌<◌, ◌≤◌, ◌≢◌, ◌⊎◌, List, [], ◌∷◌, ◌++◌, get_or, length, map, slice_get, slice_index_or, slice_set, sum_by, Option, Some, None, Result, Ok, Err, option_and_then, refl, ap, sym, subst, ◌∙◌, arith, inl, inr, zero, suc, length-append, append-nil}
+use Rattle.std.proofs.Common.{◌≡◌, ℕ, ◌+◌, ◌-◌, ◌<◌, ◌≤◌, ◌≢◌, List, [], ◌∷◌, ◌++◌, get_or, length, map, slice_get, slice_index_or, slice_set, sum_by, Option, Some, None, Result, Ok, Err, option_and_then, refl, ap, sym, subst, ◌∙◌, arith, inl, inr, zero, suc, length-append, append-nil}
 use Rattle.std.specs.List.{AllByRecursion}
 use Rattle.std.specs.Option.{option_map}
-use Rattle.std.proofs.lemmas.Bool.{cases_eq}
 use Rattle.std.proofs.lemmas.List.{map-set}
 use Rattle.std.proofs.lemmas.List.Sums.{sum_by-cons, sum_by-set}
 use Rattle.std.proofs.lemmas.Option.{get_or_from_slice_get, slice_get-map, slice_get_within}
@@ -16,54 +15,17 @@ use Rattle.addr2line_lines.specs.declared.functions.LazyDetail.TheVariants.{Unre
 use Rattle.addr2line_lines.specs.declared.functions.LazyFunction.{LazyFunction}
 use Rattle.addr2line_lines.specs.declared.segments.FunctionAddress.{FunctionAddress}
 use Rattle.addr2line_lines.specs.Details.{Detail, InlinedRange, detail_at}
-use Rattle.addr2line_lines.specs.FoundDetails.{FoundInlined, IsFoundMore, IsGrown, none_inlined}
+use Rattle.addr2line_lines.specs.FoundDetails.{IsGrown, none_inlined}
 use Rattle.addr2line_lines.specs.FoundFunctions.{AreFunctions, IsUnread, function_offsets, function_range_of}
-use Rattle.addr2line_lines.specs.FunctionCache.{AreApart, AreCachedFunctions, AreDetailsApart, AreRuns, HasPlace, inlined_size, name_size, ranges_size, place_read, read_at, seen_function, seen_lazy, size_of}
+use Rattle.addr2line_lines.specs.FunctionCache.{AreCachedFunctions, AreDetailsApart, AreRuns, HasPlace, inlined_size, name_size, ranges_size, place_read, read_at, seen_function, seen_lazy, size_of}
 use Rattle.addr2line_lines.specs.FunctionTable.{CachedFunction, FunctionTable, IsCachedThen, IsReadAt, IsReadOf, IsWithDetail, inlined_of_detail, name_of_detail}
-use Rattle.addr2line_lines.specs.Functions.{FunctionRange, function_offset_at}
+use Rattle.addr2line_lines.specs.Functions.{function_offset_at}
 use Rattle.addr2line_lines.specs.KeptDetails.{AreDetailsMore, IsDetailPlace, IsNextPlace, KeptDetails, detail_of}
 use Rattle.addr2line_lines.specs.References.{Scope}
 use Rattle.addr2line_lines.specs.Segments.{function_at}
 use Rattle.addr2line_lines.proofs.DetailPlaces.{detail_stays}
 use Rattle.addr2line_lines.proofs.FunctionOrder.{found_is, place_found}
-
--- what holds of all holds at a place
-pub all_at : {X : Type 0} (P : X → Type 0) (xs : List X) (n : ℕ) (x : X) → AllByRecursion P xs → slice_get xs n ≡ Some x → P x
-all_at P [] n x all e = absurd cc
-all_at P (y ∷ xs) zero x all e = let same : y ≡ x = cc in subst P same all.0
-all_at P (y ∷ xs) (suc n) x all e = all_at P xs n x all.1 e
-
-pub all_set : {X : Type 0} (P : X → Type 0) (xs : List X) (n : ℕ) (x : X) → AllByRecursion P xs → P x → AllByRecursion P (slice_set xs n x)
-all_set P [] n x all p = tt
-all_set P (y ∷ xs) zero x all p = (p, all.1)
-all_set P (y ∷ xs) (suc n) x all p = (all.0, all_set P xs n x all.1 p)
-
-pub all_weaker : {X : Type 0} (P Q : X → Type 0) → ((x : X) → P x → Q x) → (xs : List X) → AllByRecursion P xs → AllByRecursion Q xs
-all_weaker P Q h [] all = tt
-all_weaker P Q h (x ∷ xs) all = (h x all.0, all_weaker P Q h xs all.1)
-
-pub all_map : {X Y : Type 0} (P : Y → Type 0) (f : X → Y) (xs : List X) → AllByRecursion (λ x. P (f x)) xs → AllByRecursion P (map f xs)
-all_map P f [] all = tt
-all_map P f (x ∷ xs) all = (all.0, all_map P f xs all.1)
-
-pub get_set_same : {X : Type 0} (xs : List X) (n : ℕ) (x : X) → n < length xs → slice_get (slice_set xs n x) n ≡ Some x
-get_set_same [] n x l = absurd (omega arith)
-get_set_same (y ∷ xs) zero x l = refl
-get_set_same (y ∷ xs) (suc n) x l = get_set_same xs n x (omega arith)
-
-pub get_set_other : {X : Type 0} (xs : List X) (n i : ℕ) (x : X) → (i ≡ n → ⊥) → slice_get (slice_set xs n x) i ≡ slice_get xs i
-get_set_other [] n i x ne = refl
-get_set_other (y ∷ xs) zero zero x ne = absurd (ne refl)
-get_set_other (y ∷ xs) zero (suc i) x ne = refl
-get_set_other (y ∷ xs) (suc n) zero x ne = refl
-get_set_other (y ∷ xs) (suc n) (suc i) x ne = get_set_other xs n i x (λ e. ne (ap suc e))
-
--- what stands at a place of a list of which one element was replaced
-at_set : {X : Type 0} (xs : List X) (n i : ℕ) (y g : X) → n < length xs → slice_get (slice_set xs n y) i ≡ Some g → ((i ≡ n) × (y ≡ g)) ⊎ (slice_get xs i ≡ Some g)
-at_set {X} xs n i y g l e = elim (cases_eq i n) [
-  | inl s ↦ (let at : Some y ≡ Some g = sym (get_set_same xs n y l) ∙ ap (λ k. slice_get (slice_set xs n y) k) (sym s) ∙ e in let same : y ≡ g = cc in inl (s, same))
-  | inr ne ↦ inr (sym (get_set_other xs n i y ne) ∙ e)
-]
+use Rattle.addr2line_lines.proofs.PlaceLemmas.{all_at, all_set, all_weaker, at_set}
 
 -- nothing grows
 pub no_more : {X : Type 0} (xs : List X) → IsGrown xs xs
@@ -256,9 +218,10 @@ module _ (fs : List LazyFunction) (n : ℕ) (f y : LazyFunction) (at : slice_get
           let c = old.ranges_end in
           let d = next.name in
           let e = next.inlined_begin in
-          let r = next.ranges_begin in
-          (record { name = λ s. omega arith; inlined = inr (omega arith); ranges = inr (omega arith) },
-          record { name = λ s. omega arith; inlined = inl (omega arith); ranges = inl (omega arith) })
+          let r = next.ranges_begin in (
+            record { name = λ s. omega arith; inlined = inr (omega arith); ranges = inr (omega arith) },
+            record { name = λ s. omega arith; inlined = inl (omega arith); ranges = inl (omega arith) },
+          )
 
       still_apart : (i j : ℕ) → (g k : LazyFunction) → (q r : FunctionDetail) → i ≢ j → slice_get (slice_set fs n y) i ≡ Some g → slice_get (slice_set fs n y) j ≡ Some k → g.detail ≡ Read q → k.detail ≡ Read r → AreDetailsApart q r
       still_apart i j g k q r ne a b s t =

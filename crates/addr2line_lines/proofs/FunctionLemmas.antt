@@ -1,10 +1,10 @@
 -- The functions of a unit, one item at a time (on specs/FoundFunctions.antt).
-use Rattle.std.proofs.Common.{◌≡◌, ℕ, ◌<◌, ◌==◌, Bool, true, false, cond, List, [], ◌∷◌, ◌++◌, map, length, Option, Some, None, Result, Ok, Err, OnOk, refl, ap, sym, ◌∙◌, arith, append-nil, append_assoc}
+use Rattle.std.proofs.Common.{◌≡◌, ℕ, ◌<◌, ◌==◌, ◌&&◌, ◌||◌, Bool, true, false, cond, List, [], ◌∷◌, ◌++◌, map, length, Option, Some, None, Result, Ok, Err, OnOk, refl, ap, sym, ◌∙◌, arith, append-nil, append_assoc}
 use Rattle.gimli_read.specs.declared.error.Error.{Error}
 use Rattle.gimli_read.specs.declared.endian.Encoding.{Encoding}
 use Rattle.gimli_read.specs.Abbreviations.{Abbrev}
 use Rattle.gimli_read.specs.Section.{Section}
-use Rattle.gimli_read.specs.Reading.{Reading, ◌>>=◌, Exactly, ExactlyUnlessOom}
+use Rattle.gimli_read.specs.Reading.{Reading, ◌>>=◌, Exactly, ExactlyUnlessOom, ExactlyUnlessOomIf}
 use Rattle.gimli_read.specs.Form.{NamedValue, rest_of}
 use Rattle.gimli_read.specs.Run.{Run, cons, fold_of, fold_run}
 use Rattle.gimli_read.proofs.SkipLemmas.{attributes_leave}
@@ -15,9 +15,9 @@ use Rattle.gimli.specs.Unit.{UnitRecord}
 use Rattle.gimli.proofs.EntryLemmas.{abbreviation_takes}
 use Rattle.gimli.proofs.ItemReads.{items_end, items_fault, items_more}
 use Rattle.addr2line_lines.specs.declared.function.RangeAttributes.{RangeAttributes}
-use Rattle.addr2line_lines.specs.RangeAttributes.{no_range_attributes, range_attributes_after, range_attributes_of}
+use Rattle.addr2line_lines.specs.RangeAttributes.{gives_a_range, no_range_attributes, range_attributes_after, range_attributes_of}
 use Rattle.addr2line_lines.specs.Functions.{is_subprogram}
-use Rattle.addr2line_lines.specs.FoundFunctions.{FoundFunctions, found_at, found_from, with_attributes, with_found}
+use Rattle.addr2line_lines.specs.FoundFunctions.{FoundFunctions, found_at, found_from, item_has_function, with_attributes, with_found}
 
 -- lists with one more element
 pub one_read : {X Y : Type 0} (f : X → Y) (read : List X) (x : X) (rest : List Y) → map f read ++ f x ∷ rest ≡ map f (read ++ x ∷ []) ++ rest
@@ -32,6 +32,24 @@ pub beside : {X Y Z : Type 0} (r : Result Z Error) (x : X) (y : Y) (given : Resu
 beside (Ok z) x y given whole h k = h ∙ ap (λ g. g >>= λ v. Ok (v, y)) k
 beside (Err e) x y given whole h k = λ ne. h ∙ ap (λ g. g >>= λ v. Ok (v, y)) (k ne)
 
+-- the same; memory may be taken for the part only if it may for the whole
+pub beside_if : {X Y Z : Type 0} (part may : Bool) (r : Result Z Error) (x : X) (y : Y) (given : Result X Error) (whole : Result (X × Y) Error) → (part ≡ true → may ≡ true) → whole ≡ (given >>= λ v. Ok (v, y)) → ExactlyUnlessOomIf part (λ _. x) r given → ExactlyUnlessOomIf may (λ _. (x, y)) r whole
+beside_if part may (Ok z) x y given whole m h k = h ∙ ap (λ g. g >>= λ v. Ok (v, y)) k
+beside_if part may (Err e) x y given whole m h k = λ ne. h ∙ ap (λ g. g >>= λ v. Ok (v, y)) (k (λ p. ne (m p)))
+
+-- one of two tests
+pub or_first : (a b : Bool) → a ≡ true → (a || b) ≡ true
+or_first true b e = refl
+or_first false b e = absurd cc
+
+pub or_second : (a b : Bool) → b ≡ true → (a || b) ≡ true
+or_second true b e = refl
+or_second false b e = e
+
+pub or_more : (a b c : Bool) → (b ≡ true → c ≡ true) → (a || b) ≡ true → (a || c) ≡ true
+or_more true b c h e = refl
+or_more false b c h e = h e
+
 -- what is found, and where the entry ends
 abbrev pub ending : EntryCursor → Result FoundFunctions Error → Result (FoundFunctions × EntryCursor) Error
 ending s r = r >>= λ more. Ok (more, s)
@@ -44,7 +62,7 @@ gives_item (Err e) = false
 
 module _ (d : Sections) (u : UnitRecord) (unit : EntryUnit) where
   -- what is found at an item that is read
-  abbrev found_after : FoundFunctions → Result (Option Item × EntryCursor) Error → Result (FoundFunctions × EntryCursor) Error
+  abbrev pub found_after : FoundFunctions → Result (Option Item × EntryCursor) Error → Result (FoundFunctions × EntryCursor) Error
   found_after found r = r >>= λ x. elim x.0 [ None ↦ Ok (found, x.1) | Some item ↦ with_found d u found item >>= λ more. Ok (more, x.1) ]
 
   coded : (c : EntryCursor) → (length c.left.bytes == 0) ≡ false → next_item_at unit c ≡ (entry_abbreviation_at unit.abbreviations c >>= λ x. item_from unit c x)
@@ -73,13 +91,13 @@ module _ (d : Sections) (u : UnitRecord) (unit : EntryUnit) where
   not_function c t found a h (Ok x) =
       ap (λ b. ending (record { left = x.1; depth = t.depth }) (cond {A = Result FoundFunctions Error} b (range_attributes_of d u x.0 >>= λ r. with_attributes d u r (next_offset_of unit c) found) (Ok found))) h
 
-  pub other_found : (c t s : EntryCursor) (found : FoundFunctions) (a : Abbrev) (e : Encoding) (r : Result (Unit {0}) Error) → (length c.left.bytes == 0) ≡ false → entry_abbreviation_at unit.abbreviations c ≡ Ok (Some a, t) → e ≡ unit.encoding → is_subprogram a ≡ false
-      → s.depth ≡ t.depth → Exactly (λ _. s.left) r (rest_of (attributes_at e a.attributes t.left)) → ExactlyUnlessOom (λ _. (found, s)) r (found_at d u unit c found)
-  other_found c t s found a e (Ok z) h k q n m g =
+  pub other_found : (may : Bool) (c t s : EntryCursor) (found : FoundFunctions) (a : Abbrev) (e : Encoding) (r : Result (Unit {0}) Error) → (length c.left.bytes == 0) ≡ false → entry_abbreviation_at unit.abbreviations c ≡ Ok (Some a, t) → e ≡ unit.encoding → is_subprogram a ≡ false
+      → s.depth ≡ t.depth → Exactly (λ _. s.left) r (rest_of (attributes_at e a.attributes t.left)) → ExactlyUnlessOomIf may (λ _. (found, s)) r (found_at d u unit c found)
+  other_found may c t s found a e (Ok z) h k q n m g =
       at_entry c t found a e h k q ∙ not_function c t found a n (attributes_at e a.attributes t.left)
       ∙ ap (λ v. v >>= λ s'. Ok (found, record { left = s'; depth = t.depth })) g
       ∙ ap (λ v. Ok (found, record { left = s.left; depth = v })) (sym m)
-  other_found c t s found a e (Err f) h k q n m g = λ ne.
+  other_found may c t s found a e (Err f) h k q n m g = λ ne.
       at_entry c t found a e h k q ∙ not_function c t found a n (attributes_at e a.attributes t.left)
       ∙ ap (λ v. v >>= λ s'. Ok (found, record { left = s'; depth = t.depth })) g
 
@@ -119,6 +137,22 @@ module _ (d : Sections) (u : UnitRecord) (unit : EntryUnit) where
           ∙ ap (λ v. ending (record { left = s.left; depth = v }) (with_attributes d u r (next_offset_of unit c) found)) (sym z)
           ∙ ap (λ v. ending s (with_attributes d u r v found)) (sym o)
 
+  -- where the range attributes of a function's entry give a range, the next item does
+  pub function_takes : (c t : EntryCursor) (a : Abbrev) (e : Encoding) (r : RangeAttributes) → (length c.left.bytes == 0) ≡ false → entry_abbreviation_at unit.abbreviations c ≡ Ok (Some a, t) → e ≡ unit.encoding → is_subprogram a ≡ true
+      → range_attributes_after d u (Ok no_range_attributes) (attributes_at e a.attributes t.left) ≡ Ok r → gives_a_range d u r ≡ true → item_has_function d u (next_item_at unit c) ≡ true
+  function_takes c t a e r h k q n m w =
+      ap (item_has_function d u) (coded c h ∙ ap (λ s. s >>= λ x. item_from unit c x) k ∙ ap (λ f. entry_item (attributes_at f a.attributes t.left)) (sym q)) ∙ whole (attributes_at e a.attributes t.left) m
+    where
+      entry_item : Reading (List NamedValue) → Result (Option Item × EntryCursor) Error
+      entry_item read = read >>= λ x. Ok (Some (item_at unit c (Some (record { abbreviation = a; attributes = x.0 }))), record { left = x.1; depth = t.depth })
+
+      given : Result RangeAttributes Error → Bool
+      given v = elim v [ Ok x ↦ gives_a_range d u x | Err f ↦ false ]
+
+      whole : (read : Reading (List NamedValue)) → range_attributes_after d u (Ok no_range_attributes) read ≡ Ok r → item_has_function d u (entry_item read) ≡ true
+      whole (Err g) v = absurd cc
+      whole (Ok x) v = ap (λ b. b && given (range_attributes_of d u x.0)) n ∙ ap given v ∙ w
+
   pub entry_shorter : (c t : EntryCursor) (left : Section) (a : Abbrev) (e : Encoding) → entry_abbreviation_at unit.abbreviations c ≡ Ok (Some a, t) → rest_of (attributes_at e a.attributes t.left) ≡ Ok left → length left.bytes < length c.left.bytes
   entry_shorter c t left a e k l =
       let code = abbreviation_takes unit.abbreviations c t (Some a) k in
@@ -134,7 +168,7 @@ module _ (d : Sections) (u : UnitRecord) (unit : EntryUnit) where
   closing_shorter c t k = abbreviation_takes unit.abbreviations c t None k
 
   -- there is an item where there are bytes
-  some_item : (c t : EntryCursor) → (length c.left.bytes == 0) ≡ false → next_item_at unit c ≡ Ok (None, t) → ⊥
+  pub some_item : (c t : EntryCursor) → (length c.left.bytes == 0) ≡ false → next_item_at unit c ≡ Ok (None, t) → ⊥
   some_item c t h k = by_code (entry_abbreviation_at unit.abbreviations c) (sym (coded c h) ∙ k)
     where
       by_values : (r : Reading (List NamedValue)) (a : Abbrev) (z : EntryCursor) → ◌≡◌ {A = Result (Option Item × EntryCursor) Error} (r >>= λ x. Ok (Some (item_at unit c (Some (record { abbreviation = a; attributes = x.0 }))), record { left = x.1; depth = z.depth })) (Ok (None, t)) → ⊥
@@ -154,7 +188,7 @@ module _ (d : Sections) (u : UnitRecord) (unit : EntryUnit) where
   unfolding next_item_at fold_run
   found_end c found h = ap (found_run found) (items_end unit c c (ap (λ b. cond b (Ok (None, c)) (entry_abbreviation_at unit.abbreviations c >>= λ x. item_from unit c x)) h))
 
-  one_found : (r : Result FoundFunctions Error) (items : Run Item EntryCursor) (more : FoundFunctions) (s t : EntryCursor) → ending t r ≡ Ok (more, s) → (r ≡ Ok more) × (t ≡ s)
+  pub one_found : (r : Result FoundFunctions Error) (items : Run Item EntryCursor) (more : FoundFunctions) (s t : EntryCursor) → ending t r ≡ Ok (more, s) → (r ≡ Ok more) × (t ≡ s)
   one_found (Ok v) items more s t e = let p : ◌≡◌ {A = FoundFunctions × EntryCursor} (v, t) (more, s) = cc in (ap Ok (ap (λ x. x.0) p), ap (λ x. x.1) p)
   one_found (Err f) items more s t e = absurd cc
 

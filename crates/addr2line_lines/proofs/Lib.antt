@@ -22,7 +22,9 @@ pub mod SegmentLemmas
 pub mod SweepLemmas
 pub mod SegmentSearch
 pub mod FunctionLemmas
+pub mod FunctionMemory
 pub mod FunctionOrder
+pub mod PlaceLemmas
 pub mod FunctionCacheLemmas
 pub mod ReadLemmas
 pub mod InlinedOrder

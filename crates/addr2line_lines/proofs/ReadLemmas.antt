@@ -1,58 +1,22 @@
 -- Details that are read one after another (on specs/FunctionTable.antt).
-use Rattle.std.proofs.Common.{◌≡◌, ◌≢◌, ℕ, ◌+◌, ◌<◌, ◌≤◌, ◌⊎◌, Bool, true, false, List, [], ◌∷◌, ◌++◌, append_assoc, drop, length, slice_get, slice_set, take, Option, Some, None, Result, Ok, Err, refl, ap, sym, subst, ◌∙◌, arith, inl, inr, zero, suc}
+use Rattle.std.proofs.Common.{◌≡◌, ◌≢◌, ℕ, ◌+◌, ◌<◌, ◌≤◌, ◌⊎◌, Bool, true, List, [], ◌∷◌, ◌++◌, append_assoc, drop, length, slice_get, slice_set, take, Option, Some, None, Result, Ok, Err, refl, ap, sym, subst, ◌∙◌, arith, inl, inr, zero, suc}
 use Rattle.std.specs.List.{AllByRecursion, AllZip}
 use Rattle.std.proofs.lemmas.List.Elements.{length_all_zip}
 use Rattle.gimli_read.specs.declared.error.Error.{Error}
 use Rattle.gimli_read.specs.declared.error.Error.TheVariants.{OutOfMemory}
-use Rattle.gimli_read.specs.Reading.{◌>>=◌, ExactlyUnlessOomIf}
+use Rattle.gimli_read.specs.Reading.{◌>>=◌}
 use Rattle.gimli.specs.Unit.{UnitRecord}
 use Rattle.addr2line_lines.specs.Details.{Detail, detail_at}
 use Rattle.addr2line_lines.specs.FoundDetails.{IsGrown}
 use Rattle.addr2line_lines.specs.FunctionTable.{AreDetailsOf, AreUnread, CachedFunction, FunctionTable, HasDetail, IsDetailOf, IsFunctionMore, IsReadAt, IsReadOf, IsReadOnce, IsTableMore, IsWithDetail, asks_after, asks_detail, detail_fault, details_fault}
 use Rattle.addr2line_lines.specs.References.{Scope}
-use Rattle.addr2line_lines.proofs.FunctionCacheLemmas.{all_at, all_set, all_weaker, no_more}
+use Rattle.addr2line_lines.proofs.FunctionCacheLemmas.{no_more}
+use Rattle.addr2line_lines.proofs.PlaceLemmas.{all_at, all_set, all_weaker, drop_at, drop_set, drop_whole, set_same, some_at, take_set, take_whole}
 
 -- whether an error is that of memory
 memory_or_not : (e : Error) → (e ≡ OutOfMemory) ⊎ (e ≡ OutOfMemory → ⊥)
 memory_or_not OutOfMemory = inl refl
 memory_or_not _ = inr (λ h. absurd cc)
-
--- lists of which one element is replaced
-set_same : {X : Type 0} (xs : List X) (n : ℕ) (x : X) → slice_get xs n ≡ Some x → slice_set xs n x ≡ xs
-set_same [] n x e = absurd cc
-set_same (y ∷ xs) zero x e = let same : y ≡ x = cc in ap (λ z. z ∷ xs) (sym same)
-set_same (y ∷ xs) (suc n) x e = ap (λ ys. y ∷ ys) (set_same xs n x e)
-
-some_at : {X : Type 0} (xs : List X) (n : ℕ) → n < length xs → (x : X) × (slice_get xs n ≡ Some x)
-some_at [] n l = absurd (omega arith)
-some_at (x ∷ xs) zero l = (x, refl)
-some_at (x ∷ xs) (suc n) l = some_at xs n (omega arith)
-
-drop_at : {X : Type 0} (xs : List X) (n : ℕ) (x : X) → slice_get xs n ≡ Some x → drop n xs ≡ x ∷ drop (suc n) xs
-drop_at [] n x e = absurd cc
-drop_at (y ∷ xs) zero x e = let same : y ≡ x = cc in ap (λ z. z ∷ xs) same
-drop_at (y ∷ xs) (suc n) x e = drop_at xs n x e
-
-drop_set : {X : Type 0} (xs : List X) (n : ℕ) (x : X) → drop (suc n) (slice_set xs n x) ≡ drop (suc n) xs
-drop_set [] n x = refl
-drop_set (y ∷ xs) zero x = refl
-drop_set (y ∷ xs) (suc n) x = drop_set xs n x
-
-take_set : {X : Type 0} (P : X → Type 0) (xs : List X) (n : ℕ) (x : X) → AllByRecursion P (take n xs) → P x → AllByRecursion P (take (suc n) (slice_set xs n x))
-take_set P [] n x all p = tt
-take_set P (y ∷ xs) zero x all p = (p, tt)
-take_set P (y ∷ xs) (suc n) x all p = (all.0, take_set P xs n x all.1 p)
-
-take_whole : {X : Type 0} (P : X → Type 0) (xs : List X) (n : ℕ) → length xs ≤ n → AllByRecursion P (take n xs) → AllByRecursion P xs
-take_whole P [] n l all = tt
-take_whole P (y ∷ xs) zero l all = absurd (omega arith)
-take_whole P (y ∷ xs) (suc n) l all = (all.0, take_whole P xs n (omega arith) all.1)
-
-drop_whole : {X : Type 0} (xs : List X) (n : ℕ) → length xs ≤ n → drop n xs ≡ []
-drop_whole [] zero l = refl
-drop_whole [] (suc n) l = refl
-drop_whole (y ∷ xs) zero l = absurd (omega arith)
-drop_whole (y ∷ xs) (suc n) l = drop_whole xs n (omega arith)
 
 -- what grows twice
 grown_twice : {X : Type 0} (xs ys zs : List X) → IsGrown xs ys → IsGrown ys zs → IsGrown xs zs

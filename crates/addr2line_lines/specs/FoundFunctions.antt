@@ -1,5 +1,5 @@
 -- The functions of a unit as they are found, as the private functions see them.
-use Rattle.std.specs.Prelude.{◌≡◌, ℕ, ◌<◌, List, [], ◌∷◌, ◌++◌, map, length, slice_index_or, Some, None, Result, Ok, if◌then◌else◌}
+use Rattle.std.specs.Prelude.{◌≡◌, ℕ, ◌<◌, ◌||◌, Bool, false, List, [], ◌∷◌, ◌++◌, map, length, slice_index_or, Option, Some, None, Result, Ok, if◌then◌else◌}
 use Rattle.std.specs.List.{All, AllByRecursion}
 use Rattle.gimli_read.specs.declared.error.Error.{Error}
 use Rattle.gimli_read.specs.declared.range.Range.{Range}
@@ -16,7 +16,7 @@ use Rattle.addr2line_lines.specs.declared.functions.Found.{Found}
 use Rattle.addr2line_lines.specs.declared.functions.LazyDetail.TheVariants.{Unread}
 use Rattle.addr2line_lines.specs.declared.functions.LazyFunction.{LazyFunction}
 use Rattle.addr2line_lines.specs.declared.segments.FunctionAddress.{FunctionAddress}
-use Rattle.addr2line_lines.specs.Functions.{FunctionRange, is_subprogram}
+use Rattle.addr2line_lines.specs.Functions.{FunctionRange, has_function, is_subprogram}
 use Rattle.addr2line_lines.specs.RangeAttributes.{all_ranges, attribute_ranges, range_attributes_of}
 
 -- where the entries of functions begin, and the ranges by the places of functions
@@ -76,6 +76,17 @@ found_at d u unit cursor found = next_item_at unit cursor >>= λ x. elim x.0 [
   | None ↦ Ok (found, x.1)
   | Some item ↦ with_found d u found item >>= λ more. Ok (more, x.1)
 ]
+
+-- whether the item that was read is the entry of a function that has a range before any fault
+abbrev pub item_has_function : Sections → UnitRecord → Result (Option Item × EntryCursor) Error
+    → Bool
+item_has_function d u (Ok (Some x, cursor)) = has_function d u x
+item_has_function d u _ = false
+
+-- whether memory is taken for the next item
+abbrev pub item_takes_memory : Bool → Sections → UnitRecord → EntryUnit → EntryCursor → Bool
+item_takes_memory shares d u unit cursor =
+    shares || item_has_function d u (next_item_at unit cursor)
 
 -- those of the items from a place on, after what was found
 abbrev pub found_from : Sections → UnitRecord → EntryUnit → EntryCursor → FoundFunctions

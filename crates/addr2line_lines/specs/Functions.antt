@@ -1,7 +1,7 @@
 -- The functions of a unit (DWARF 5, section 3.3).
 -- Own: all subprogram entries, at any depth, whose range attributes give a range; the entries are
 -- read to the unit's end, and the first fault is that of all functions.
-use Rattle.std.specs.Prelude.{ℕ, ◌==◌, Bool, List, [], ◌++◌, map, Option, Some, None, Result, Ok, if◌then◌else◌}
+use Rattle.std.specs.Prelude.{ℕ, ◌==◌, ◌&&◌, ◌||◌, Bool, false, is_ok, List, [], ◌∷◌, ◌++◌, map, Option, Some, None, Result, Ok, Err, if◌then◌else◌}
 use Rattle.std.specs.Option.{option_map}
 use Rattle.gimli_read.specs.declared.error.Error.{Error}
 use Rattle.gimli_read.specs.declared.range.Range.{Range}
@@ -12,7 +12,7 @@ use Rattle.gimli_read.specs.Run.{fold_of}
 use Rattle.gimli.specs.Items.{Entry, Item, items_of}
 use Rattle.gimli.specs.Sections.{Sections}
 use Rattle.gimli.specs.Unit.{UnitRecord}
-use Rattle.addr2line_lines.specs.RangeAttributes.{attribute_ranges, range_attributes_of}
+use Rattle.addr2line_lines.specs.RangeAttributes.{attribute_ranges, gives_a_range, range_attributes_of}
 use Rattle.addr2line_lines.specs.Shortest.{shortest}
 
 -- a range of a function, and where its entry begins, in bytes from the start of the unit's length
@@ -54,6 +54,31 @@ with_function d u found x = elim x.entry [
 -- the ranges of the functions of a unit, in the order of their entries, or the first fault
 abbrev pub functions_of : Sections → UnitRecord → Result (List FunctionRange) Error
 functions_of d u = fold_of (with_function d u) [] (items_of u) >>= λ found. Ok found.0
+
+-- whether the range attributes of an entry give a range before any fault
+abbrev pub entry_gives_a_range : Sections → UnitRecord → Entry → Bool
+entry_gives_a_range d u e = elim (range_attributes_of d u e.attributes) [
+  | Ok r ↦ gives_a_range d u r
+  | Err f ↦ false
+]
+
+-- whether an item is the entry of a function that has a range before any fault
+abbrev pub has_function : Sections → UnitRecord → Item → Bool
+has_function d u x = elim x.entry [
+  | None ↦ false
+  | Some e ↦ is_subprogram e.abbreviation && entry_gives_a_range d u e
+]
+
+-- whether one of items is, with no fault of a function before it
+abbrev pub have_function : Sections → UnitRecord → List Item → Bool
+have_function d u [] = false
+have_function d u (x ∷ items) =
+    has_function d u x || is_ok (with_function d u [] x) && have_function d u items
+
+-- whether memory is taken for the functions of a unit: for those that have a range, and for each
+-- value where a reader's parts share its bytes
+abbrev pub functions_take_memory : Bool → Sections → UnitRecord → Bool
+functions_take_memory shares d u = shares || have_function d u (items_of u).items
 
 -- the function with the shortest range that holds the probe, by where its entry begins
 abbrev pub function_offset_at : ℕ → List FunctionRange → Option ℕ

@@ -2,15 +2,17 @@
 
 ghost use Rattle.std.specs.List.{AllByRecursion};
 ghost use Rattle.std.specs.Prelude.{◌≡◌, ◌<◌, ◌==◌, false, length, map, nat_lt, option_and_then, option_map, slice_get, IfOk, IfSome, None, Ok, OnOk, Some};
-ghost use Rattle.gimli_read.specs.Reading.{ExactlyUnlessOom, ExactlyUnlessOomIf};
+ghost use Rattle.gimli_read.specs.Reading.{ExactlyUnlessOomIf};
 ghost use Rattle.addr2line_lines.specs.Details.{inlined_chain};
 ghost use Rattle.addr2line_lines.specs.FoundDetails.{entry_among, seen_inlined};
 ghost use Rattle.addr2line_lines.specs.FunctionCache.{read_at};
 ghost use Rattle.addr2line_lines.specs.FunctionTable.{AreDetailsOf, AreUnread, HasDetail, IsReadAt, IsTableMore, asks_detail, cached_inlined, cached_name, details_fault, offset_at, read_fault, takes_memory};
-ghost use Rattle.addr2line_lines.specs.Functions.{function_offset_at, functions_of, is_subprogram};
+ghost use Rattle.addr2line_lines.specs.Functions.{function_offset_at, functions_of, functions_take_memory, is_subprogram};
+ghost use Rattle.gimli.specs.Ranges.{ranges_at};
+ghost use Rattle.addr2line_lines.specs.RangeAttributes.{begins_well, gives_a_range};
 ghost use Rattle.addr2line_lines.specs.References.{IsScope};
 ghost use Rattle.addr2line_lines.specs.SeenScope.{seen_scope};
-ghost use Rattle.addr2line_lines.specs.FoundFunctions.{AreFoundUnread, found_at, found_in, none_found, seen_found, with_attributes, with_range_list, with_ranges};
+ghost use Rattle.addr2line_lines.specs.FoundFunctions.{AreFoundUnread, found_at, found_in, item_takes_memory, none_found, seen_found, with_attributes, with_range_list, with_ranges};
 
 use crate::details::{Details, FunctionDetail};
 use crate::function::{RangeAttributes, read_range_attributes};
@@ -54,9 +56,10 @@ fn push_range_list<R: Reader>(
     function: usize,
     addresses: &mut Vec<FunctionAddress>,
 ) -> Result<(), Error>
-    ensures gives { ExactlyUnlessOom (λ _. addresses.new.items) result
-        (with_range_list unit.entry.dwarf.now unit.entry.unit.now offset function
-        addresses.old.items) }
+    ensures gives { ExactlyUnlessOomIf
+        (begins_well (ranges_at unit.entry.dwarf.now unit.entry.unit.now offset))
+        (λ _. addresses.new.items) result (with_range_list unit.entry.dwarf.now
+        unit.entry.unit.now offset function addresses.old.items) }
 {
     let mut list = unit.ranges(offset)?;
     while let Some(range) = list.next()? {
@@ -72,9 +75,10 @@ fn push_ranges<R: Reader>(
     function: usize,
     addresses: &mut Vec<FunctionAddress>,
 ) -> Result<(), Error>
-    ensures gives { ExactlyUnlessOom (λ _. addresses.new.items) result
-        (with_ranges unit.entry.dwarf.now unit.entry.unit.now attributes.now function
-        addresses.old.items) }
+    ensures gives { ExactlyUnlessOomIf
+        (gives_a_range unit.entry.dwarf.now unit.entry.unit.now attributes.now)
+        (λ _. addresses.new.items) result (with_ranges unit.entry.dwarf.now unit.entry.unit.now
+        attributes.now function addresses.old.items) }
 {
     match attributes.ranges_offset {
         Some(offset) => push_range_list(unit, offset, function, addresses),
@@ -105,9 +109,10 @@ impl Found {
         offset: UnitOffset,
         attributes: &RangeAttributes,
     ) -> Result<(), Error>
-        ensures gives { ExactlyUnlessOom (λ _. seen_found self.new) result
-            (with_attributes unit.entry.dwarf.now unit.entry.unit.now attributes.now offset.0
-            (seen_found self.old)) }
+        ensures gives { ExactlyUnlessOomIf
+            (gives_a_range unit.entry.dwarf.now unit.entry.unit.now attributes.now)
+            (λ _. seen_found self.new) result (with_attributes unit.entry.dwarf.now
+            unit.entry.unit.now attributes.now offset.0 (seen_found self.old)) }
         ensures unread { AreFoundUnread self.old → AreFoundUnread self.new }
     {
         let before = self.addresses.len();
@@ -138,7 +143,9 @@ fn read_item<R: Reader>(
 ) -> Result<(), Error>
     requires encoding { entries.old.unit.encoding ≡ unit.unit.now.header.encoding }
     requires some { (length entries.old.cursor.left.bytes == 0) ≡ false }
-    ensures gives { ExactlyUnlessOom (λ _. (seen_found found.new, entries.new.cursor)) result
+    ensures gives { ExactlyUnlessOomIf (item_takes_memory R.shares unit.entry.dwarf.now
+        unit.entry.unit.now entries.old.unit entries.old.cursor)
+        (λ _. (seen_found found.new, entries.new.cursor)) result
         (found_at unit.entry.dwarf.now unit.entry.unit.now entries.old.unit entries.old.cursor
         (seen_found found.old)) }
     ensures unread { AreFoundUnread found.old → AreFoundUnread found.new }
@@ -162,7 +169,8 @@ fn read_item<R: Reader>(
 
 // What is found of the functions of a unit, up to its end.
 fn read_functions<R: Reader>(alloc: Global, unit: UnitRef<'_, R>) -> Result<Found, Error>
-    ensures gives { ExactlyUnlessOom seen_found result
+    ensures gives { ExactlyUnlessOomIf (functions_take_memory R.shares unit.entry.dwarf.now
+        unit.entry.unit.now) seen_found result
         (found_in unit.entry.dwarf.now unit.entry.unit.now) }
     ensures unread { IfOk result AreFoundUnread }
 {
@@ -199,7 +207,7 @@ impl<R: Reader> Model for Functions<R> {
     ghost use Rattle.addr2line_lines.specs.FoundFunctions.{function_offsets, function_range_of};
     ghost use Rattle.addr2line_lines.specs.FunctionCache.{AreCachedFunctions, seen_function};
     ghost use Rattle.addr2line_lines.specs.FunctionCache.{read_at};
-ghost use Rattle.addr2line_lines.specs.FunctionTable.{FunctionTable};
+    ghost use Rattle.addr2line_lines.specs.FunctionTable.{FunctionTable};
     ghost use Rattle.addr2line_lines.specs.KeptDetails.{seen_details};
 
     ghost Value = { FunctionTable };
@@ -219,10 +227,12 @@ impl<R: Reader> Functions<R> {
     /// range. No detail is read.
     ///
     /// All entries of the unit are read. Refused by the first fault of an entry, of its range
-    /// attributes or of its range list; may fail with `OutOfMemory` instead. Source: DWARF 5,
+    /// attributes or of its range list; may fail with `OutOfMemory` instead, only where a function
+    /// has a range before any fault, or where a reader's parts share its bytes. Source: DWARF 5,
     /// sections 2.17 and 3.3.
     pub fn parse(alloc: Global, unit: UnitRef<'_, R>) -> Result<Functions<R>, Error>
-        ensures gives { ExactlyUnlessOom (λ f. f.ranges) result
+        ensures gives { ExactlyUnlessOomIf (functions_take_memory R.shares unit.entry.dwarf.now
+            unit.entry.unit.now) (λ f. f.ranges) result
             (functions_of unit.entry.dwarf.now unit.entry.unit.now) }
         ensures unread { IfOk result AreUnread }
     {

@@ -1,7 +1,10 @@
 use Rattle.std.proofs.Common.{sym, ap, ◌∙◌}
 use Rattle.std.proofs.lemmas.Result.{err_from_is_err_and}
+use Rattle.gimli.specs.Items.{items_from}
+use Rattle.addr2line_lines.specs.Functions.{have_function}
 use Rattle.addr2line_lines.specs.FoundFunctions.{found_from, seen_found}
-use Rattle.addr2line_lines.proofs.FunctionLemmas.{found_end, found_fault, found_step}
+use Rattle.addr2line_lines.proofs.FunctionLemmas.{found_end, found_fault, found_step, or_more}
+use Rattle.addr2line_lines.proofs.FunctionMemory.{have_next, have_step}
 use Rattle.addr2line_lines.proofs.functions.read_functions.Goals as goal
 
 pub loop-unit-preserved : goal.loop-unit-preserved
@@ -14,6 +17,7 @@ loop-unit-preserved g c =
       gives = ap (λ v. found_from d u v now.entries.cursor (seen_found now.found)) c.in_ok-read_item.ensures.unit
           ∙ sym (found_step d u _ _ _ _ _ (sym c.loop-unit-test.ensures.gives) c.in_ok-read_item.ensures.gives) ∙ i.gives;
       unit = ap (λ v. v.encoding) c.in_ok-read_item.ensures.unit ∙ i.unit;
+      has = λ e. i.has (have_step d u _ _ _ _ _ (sym c.loop-unit-test.ensures.gives) c.in_ok-read_item.ensures.gives (ap (λ v. have_function d u (items_from v now.entries.cursor).items) (sym c.in_ok-read_item.ensures.unit) ∙ e));
       unread = c.in_ok-read_item.ensures.unread i.unread;
     }
 
@@ -22,7 +26,7 @@ returns-in_err-read_item g c =
     let p = err_from_is_err_and c.from_residual-in_err-read_item.result c.from_residual-in_err-read_item.ensures.1 in
     let i = c.loop-unit.invariant in
     record {
-      gives = rw (p.1, p.2) (λ ne. sym i.gives ∙ found_fault c.args.unit.dwarf.now c.args.unit.unit.now _ _ _ _ (sym c.loop-unit-test.ensures.gives) (c.in_err-read_item.ensures.gives ne));
+      gives = rw (p.1, p.2) (λ ne. sym i.gives ∙ found_fault c.args.unit.dwarf.now c.args.unit.unit.now _ _ _ _ (sym c.loop-unit-test.ensures.gives) (c.in_err-read_item.ensures.gives (λ takes. ne (or_more g.R.Reader.shares _ _ i.has (have_next c.args.unit.dwarf.now c.args.unit.unit.now _ g.R.Reader.shares _ takes)))));
       unread = rw p.1 tt;
     }
 

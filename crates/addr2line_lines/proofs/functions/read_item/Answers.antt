@@ -1,7 +1,7 @@
 use Rattle.std.proofs.Common.{sym, ap}
 use Rattle.std.proofs.lemmas.Result.{err_from_is_err_and}
 use Rattle.addr2line_lines.proofs.RangeLemmas.{on_ok}
-use Rattle.addr2line_lines.proofs.FunctionLemmas.{beside, closing_found, closing_shorter, code_fault, entry_shorter, function_fault, function_found, other_found, skipped_shorter}
+use Rattle.addr2line_lines.proofs.FunctionLemmas.{beside_if, closing_found, closing_shorter, code_fault, entry_shorter, function_fault, function_found, function_takes, or_first, or_second, other_found, skipped_shorter}
 use Rattle.addr2line_lines.proofs.functions.read_item.Goals as goal
 
 pub returns-in_err-read_abbreviation-clause-gives : goal.returns-in_err-read_abbreviation-clause-gives
@@ -14,7 +14,7 @@ returns-in_err-attributes-in-Some-clause-gives g c =
     let p = err_from_is_err_and c.from_residual-in_err-attributes-in-Some.result c.from_residual-in_err-attributes-in-Some.ensures.1 in
     let code = rw c.in-Some.is at c.in_ok-read_abbreviation.ensures.gives in
     let fault = rw c.attributes.ensures.gives at c.in_err-attributes-in-Some.ensures.gives in
-    rw (p.1, p.2) (λ ne. function_fault _ _ _ _ _ _ _ _ _ c.requires.some code (sym c.requires.encoding) (sym c.if-is_subprogram.ensures.gives) (fault (λ _. ne)))
+    rw (p.1, p.2) (λ ne. function_fault _ _ _ _ _ _ _ _ _ c.requires.some code (sym c.requires.encoding) (sym c.if-is_subprogram.ensures.gives) (fault (λ shares. ne (or_first _ _ shares))))
 
 pub returns-in-None-clause-gives : goal.returns-in-None-clause-gives
 returns-in-None-clause-gives g c = closing_found _ _ _ _ _ _ c.requires.some (rw c.in-None.is at c.in_ok-read_abbreviation.ensures.gives)
@@ -27,7 +27,8 @@ returns-in_ok-attributes-in-Some-clause-gives g c =
     let code = rw c.in-Some.is at c.in_ok-read_abbreviation.ensures.gives in
     let gives = rw c.attributes.ensures.gives at c.in_ok-attributes-in-Some.ensures.gives in
     let left = rw c.attributes.ensures.gives at c.in_ok-attributes-in-Some.ensures.left in
-    beside c.add.result _ _ _ _
+    beside_if _ _ c.add.result _ _ _ _
+    (λ well. or_second g.R.Reader.shares _ (function_takes c.args.unit.dwarf.now c.args.unit.unit.now c.args.entries.now.unit _ _ _ _ _ c.requires.some code (sym c.requires.encoding) (sym c.if-is_subprogram.ensures.gives) gives well))
     (function_found _ _ _ _ _ _ _ _ _ _ _ c.requires.some code (sym c.requires.encoding) (sym c.if-is_subprogram.ensures.gives) gives left c.in_ok-attributes-in-Some.ensures.depth c.next_offset-offset.ensures.gives)
     c.add.ensures.gives
 
@@ -40,7 +41,7 @@ returns-in_ok-attributes-in-Some-clause-shorter g c =
 pub returns-else-is_subprogram-clause-gives : goal.returns-else-is_subprogram-clause-gives
 returns-else-is_subprogram-clause-gives g c =
     let code = rw c.in-Some.is at c.in_ok-read_abbreviation.ensures.gives in
-    other_found _ _ _ _ _ _ _ _ _ c.skip_attributes_of.result c.requires.some code (ap (λ v. v.encoding) c.read_abbreviation.ensures.unit) (sym c.if-is_subprogram.ensures.gives) c.skip_attributes_of.ensures.depth c.skip_attributes_of.ensures.gives
+    other_found _ _ _ _ _ _ _ _ _ _ c.skip_attributes_of.result c.requires.some code (ap (λ v. v.encoding) c.read_abbreviation.ensures.unit) (sym c.if-is_subprogram.ensures.gives) c.skip_attributes_of.ensures.depth c.skip_attributes_of.ensures.gives
 
 pub returns-else-is_subprogram-clause-shorter : goal.returns-else-is_subprogram-clause-shorter
 returns-else-is_subprogram-clause-shorter g c =

@@ -1,11 +1,14 @@
 use Rattle.std.proofs.Common.{◌≡◌, List, map, Ok, Result, ap, subst, ◌∙◌}
 use Rattle.std.proofs.lemmas.Result.{err_from_is_err_and}
 use Rattle.gimli_read.specs.declared.error.Error.{Error as Fault}
+use Rattle.gimli.specs.Items.{items_of}
 use Rattle.addr2line_lines.specs.declared.segments.FunctionAddress.{FunctionAddress}
-use Rattle.addr2line_lines.specs.Functions.{functions_of}
+use Rattle.addr2line_lines.specs.Functions.{functions_of, have_function}
 use Rattle.addr2line_lines.specs.FoundFunctions.{AreFunctions, function_range_of, seen_found}
 use Rattle.addr2line_lines.specs.KeptDetails.{seen_details}
 use Rattle.addr2line_lines.proofs.FunctionCacheLemmas.{runs_unread, seen_unread}
+use Rattle.addr2line_lines.proofs.FunctionLemmas.{or_second}
+use Rattle.addr2line_lines.proofs.FunctionMemory.{found_has}
 use Rattle.addr2line_lines.proofs.FunctionOrder.{Agrees, are_functions, functions_agree}
 use Rattle.addr2line_lines.proofs.functions.Functions.parse.Goals as goal
 
@@ -21,6 +24,14 @@ returns-in_err-functions g c =
       gives = rw (p.1, p.2) (λ ne. subst (Agrees (functions_of d u)) (c.in_err-functions.ensures.gives ne) (functions_agree d u));
       unread = rw p.1 tt;
     }
+
+pub returns-in_err-addresses-clause-gives : goal.returns-in_err-addresses-clause-gives
+returns-in_err-addresses-clause-gives g c =
+    let p = err_from_is_err_and c.from_residual-in_err-addresses.result c.from_residual-in_err-addresses.ensures.1 in
+    let d = c.args.unit.dwarf.now in
+    let u = c.args.unit.unit.now in
+    let found = seen_found c.in_ok-functions.field-0 in
+    rw (p.1, p.2) (λ ne. (let no = c.in_err-addresses.ensures.gives (λ some. ne (or_second g.R.Reader.shares (have_function d u (items_of u).items) (found_has d u found c.in_ok-functions.ensures.gives some))) in absurd cc))
 
 pub invariant_of-result : goal.invariant_of-result
 invariant_of-result g c =

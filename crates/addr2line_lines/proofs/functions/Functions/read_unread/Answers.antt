@@ -3,7 +3,7 @@ use Rattle.std.proofs.lemmas.Option.{get_or_from_slice_get, slice_get_within}
 use Rattle.addr2line_lines.specs.declared.functions.LazyDetail.TheVariants.{Read, Faulty}
 use Rattle.addr2line_lines.specs.declared.functions.LazyFunction.{LazyFunction}
 use Rattle.addr2line_lines.specs.Details.{detail_at}
-use Rattle.addr2line_lines.specs.FunctionTable.{FunctionTable, IsReadAt, detail_fault}
+use Rattle.addr2line_lines.specs.FunctionTable.{FunctionTable, IsReadAt, detail_fault, read_fault, takes_memory}
 use Rattle.addr2line_lines.specs.KeptDetails.{seen_details}
 use Rattle.addr2line_lines.specs.SeenScope.{seen_scope}
 use Rattle.addr2line_lines.proofs.FunctionCacheLemmas.{fault_cached, read_cached, reads, table_fault, table_of, table_read, unread_at}
@@ -56,8 +56,10 @@ returns-in-Ok g c =
     let entry = ap (λ (x : LazyFunction). x.dw_die_offset) (c.index_mut.ensures.value ∙ get_or_from_slice_get fs n at.0 c.index_mut.result.now at.1) in
     let new = table_of (slice_set fs n y) addresses more in
     let with_detail = table_read fs n at.0 y at.1 entry addresses kept more c.self.invariant at.3 c.read.ensures.kept c.in-Ok.detail refl c.in-Ok.ensures.place c.in-Ok.ensures.next c.args.offset.0 (detail_at scope u c.args.offset.0) at.2 c.in-Ok.ensures.gives in
-    record { gives = subst (λ (t : FunctionTable). IsReadAt scope u n t (Ok tt) new) c.self.view_is
-        (reads scope u n c.args.offset.0 (table_of fs addresses kept) new (Ok tt) unread (ap detail_fault c.in-Ok.ensures.gives, with_detail)) }
+    record {
+      gives = subst (λ (t : FunctionTable). IsReadAt scope u n t (Ok tt) new) c.self.view_is
+          (reads scope u n c.args.offset.0 (table_of fs addresses kept) new (Ok tt) unread (ap detail_fault c.in-Ok.ensures.gives, with_detail));
+    }
 
 pub returns-in_default : goal.returns-in_default
 returns-in_default g c =
@@ -73,8 +75,16 @@ returns-in_default g c =
     let at = unread_at kept fs n c.args.offset.0 unread in
     let y : LazyFunction = record { dw_die_offset = c.index_mut-in_default.result.now.dw_die_offset; detail = Faulty e } in
     let entry = ap (λ (x : LazyFunction). x.dw_die_offset) (c.index_mut-in_default.ensures.value ∙ get_or_from_slice_get fs n at.0 c.index_mut-in_default.result.now at.1) in
-    let faulty = c.in-Err.ensures.gives c.in_default.not-OutOfMemory in
+    let faulty = c.in-Err.ensures.gives (λ t. c.in_default.not-OutOfMemory) in
     let with_fault = table_fault fs n at.0 y at.1 entry addresses kept more c.self.invariant at.3 c.read.ensures.kept e refl c.in-Err.ensures.refused c.args.offset.0 (detail_at scope u c.args.offset.0) at.2 faulty in
-    record { gives = subst (λ (t : FunctionTable). IsReadAt scope u n t (Err e) (table_of (slice_set fs n y) addresses more)) c.self.view_is
-        (reads scope u n c.args.offset.0 (table_of fs addresses kept) (table_of (slice_set fs n y) addresses more) (Err e) unread
-        (λ ne. (ap detail_fault faulty, with_fault), λ oom. absurd (c.in_default.not-OutOfMemory oom))) }
+    record {
+      gives = subst (λ (t : FunctionTable). IsReadAt scope u n t (Err e) (table_of (slice_set fs n y) addresses more)) c.self.view_is
+          (reads scope u n c.args.offset.0 (table_of fs addresses kept) (table_of (slice_set fs n y) addresses more) (Err e) unread
+          (λ ne. (ap detail_fault faulty, with_fault), λ oom. absurd (c.in_default.not-OutOfMemory oom)));
+    }
+
+pub returns-in-OutOfMemory-clause-exact : goal.returns-in-OutOfMemory-clause-exact
+returns-in-OutOfMemory-clause-exact g c =
+    let scope = seen_scope c.args.scope in
+    let u = c.args.unit.now in
+    λ h. ap (read_fault scope u) c.requires.unread ∙ ap detail_fault (c.in-Err.ensures.gives (λ t. h (ap (takes_memory g.R.Reader.shares scope u) c.requires.unread ∙ t)))

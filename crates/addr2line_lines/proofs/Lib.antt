@@ -36,6 +36,7 @@ pub mod UnitOrder
 pub mod NameChains
 pub mod DetailLemmas
 pub mod NestingLemmas
+pub mod DetailRanges
 pub mod DetailOrder
 pub mod DetailPlaces
 pub mod NamedDetails

@@ -149,8 +149,8 @@ impl<R: Reader> Details<R> {
         self.names[detail.name].as_ref()
     }
 
-    /// The places of the inlined functions of a function at `probe`, from the outside in: of those of
-    /// depth 0, 1 and so on, up to the first depth without one.
+    /// The places of the inlined functions of a function at `probe`, from the outside in: of those
+    /// of depth 0, 1 and so on, up to the first depth without one.
     ///
     /// Refused `OutOfMemory` alone, and only where there are more than 16. Source: Own.
     pub(crate) fn find_inlined_functions(

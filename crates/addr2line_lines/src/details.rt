@@ -111,7 +111,6 @@ impl<R: Reader> Details<R> {
     /// After a refusal what is kept is what was kept before. Source: DWARF 5, section 3.3.8.
     pub(crate) fn read(
         &mut self,
-        _alloc: Global,
         scope: Scope<'_, R>,
         unit: &Unit<R>,
         offset: UnitOffset,

@@ -1,4 +1,4 @@
-use Rattle.std.proofs.Common.{◌≡◌, Option, Some, None, option_map, option_and_then, ap, sym, ◌∙◌}
+use Rattle.std.proofs.Common.{option_map, option_and_then, ap, sym, ◌∙◌}
 use Rattle.addr2line_lines.specs.FunctionTable.{cached_name, name_of_detail}
 use Rattle.addr2line_lines.specs.FunctionCache.{read_at}
 use Rattle.addr2line_lines.specs.KeptDetails.{seen_details}

@@ -26,6 +26,7 @@ pub mod FunctionMemory
 pub mod FunctionOrder
 pub mod PlaceLemmas
 pub mod FunctionCacheLemmas
+pub mod CachedPlaces
 pub mod ReadLemmas
 pub mod InlinedOrder
 pub mod InlinedPick

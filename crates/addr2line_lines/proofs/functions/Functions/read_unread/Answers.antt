@@ -1,4 +1,4 @@
-use Rattle.std.proofs.Common.{◌≡◌, ◌<◌, ℕ, List, Option, Some, None, Result, Ok, Err, length, slice_get, slice_set, ap, sym, subst, refl, ◌∙◌, arith}
+use Rattle.std.proofs.Common.{Ok, Err, slice_get, slice_set, ap, subst, refl, ◌∙◌, arith}
 use Rattle.std.proofs.lemmas.Option.{get_or_from_slice_get, slice_get_within}
 use Rattle.addr2line_lines.specs.declared.functions.LazyDetail.TheVariants.{Read, Faulty}
 use Rattle.addr2line_lines.specs.declared.functions.LazyFunction.{LazyFunction}

@@ -28,6 +28,7 @@ pub mod PlaceLemmas
 pub mod FunctionCacheLemmas
 pub mod CachedPlaces
 pub mod ReadLemmas
+pub mod ReadPlaces
 pub mod InlinedOrder
 pub mod InlinedPick
 pub mod NestedInlined

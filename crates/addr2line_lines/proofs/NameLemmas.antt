@@ -74,7 +74,7 @@ split_at xs n x h is =
     fails k d b = (position-Some is_name_specification xs n d h).2 k b
 
 -- an attribute has the name of its specification
-attribute_name : (e : Encoding) (x : Specification) (s t : Section) (a : NamedValue) → attribute_at e x s ≡ Ok (a, t) → a.name ≡ x.name
+pub attribute_name : (e : Encoding) (x : Specification) (s t : Section) (a : NamedValue) → attribute_at e x s ≡ Ok (a, t) → a.name ≡ x.name
 unfolding attribute_at
 attribute_name e x s t a h = by_form (x.form.0 == DW_FORM_implicit_const.0) h
   where
@@ -91,7 +91,7 @@ attribute_name e x s t a h = by_form (x.form.0 == DW_FORM_implicit_const.0) h
     by_form false h = valued (value_at e x.form.0 s) h
 
 -- none of three
-none_of : (a b c : Bool) → (a || b || c) ≡ false → (a ≡ false) × (b ≡ false) × (c ≡ false)
+pub none_of : (a b c : Bool) → (a || b || c) ≡ false → (a ≡ false) × (b ≡ false) × (c ≡ false)
 none_of true b c h = absurd cc
 none_of false true c h = absurd cc
 none_of false false true h = absurd cc

@@ -1,11 +1,14 @@
 //! The addresses of entries.
 
-ghost use Rattle.std.specs.Prelude.{◌≡◌, [], ◌∷◌, Ok, OnOk};
+ghost use Rattle.std.specs.Prelude.{◌≡◌, ◌<◌, [], ◌∷◌, None, Ok, IfSome, OnOk, length};
+ghost use Rattle.std.specs.List.{list_any, position};
 ghost use Rattle.std.specs.Option.{option_to_list};
 ghost use Rattle.gimli_read.specs.Reading.{Exactly, ExactlyUnlessOomIf};
 ghost use Rattle.gimli_read.specs.Form.{rest_of, seen_value};
 ghost use Rattle.gimli.specs.Entry.{attributes_at};
 ghost use Rattle.gimli.specs.Ranges.{ranges_at};
+ghost use Rattle.addr2line_lines.specs.FoundDetails.{is_range_name};
+ghost use Rattle.addr2line_lines.specs.FoundRanges.{is_range_specification};
 ghost use Rattle.addr2line_lines.specs.RangeAttributes.{attr_address, no_range_attributes, with_range_attribute, or_with_range_attribute, range_attributes_after, range_between, range_to, ranges_of, all_ranges, attribute_ranges, begins_well, gives_a_range};
 
 use gimli::read::{Attribute, AttributeSpecification, AttributeValue, DwAt, Error, Range, Reader};
@@ -120,6 +123,23 @@ impl RangeAttributes {
             (None, None) => None,
         }
     }
+}
+
+/// Whether an attribute says of its entry's ranges. Takes no memory. Source: DWARF 5, section 2.17.
+pub(crate) fn is_range_name(name: DwAt) -> bool
+    ensures gives { result ≡ is_range_name name }
+{
+    name == DwAt::DW_AT_low_pc || name == DwAt::DW_AT_high_pc || name == DwAt::DW_AT_ranges
+}
+
+/// Whether any of these attributes says of its entry's ranges. Takes no memory. Source: DWARF 5,
+/// section 2.17.
+pub(crate) fn has_range_attribute(specifications: &[AttributeSpecification]) -> bool
+    ensures gives { result ≡ list_any is_range_specification specifications.now }
+{
+    specifications
+        .iter()
+        .any(|specification| is_range_name(specification.name()))
 }
 
 // Takes one more attribute in, where none before it has a fault.

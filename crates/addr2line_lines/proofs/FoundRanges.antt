@@ -15,7 +15,7 @@ use Rattle.gimli.specs.Unit.{UnitRecord}
 use Rattle.addr2line_lines.specs.declared.function.RangeAttributes.{RangeAttributes}
 use Rattle.addr2line_lines.specs.FoundDetails.{is_range_name}
 use Rattle.addr2line_lines.specs.FoundFunctions.{FoundFunctions, found_at}
-use Rattle.addr2line_lines.specs.FoundRanges.{HasNoRange, is_function, is_range_specification}
+use Rattle.addr2line_lines.specs.FoundRanges.{HasNoRange, IsSplitAtRange, is_function, is_range_specification}
 use Rattle.addr2line_lines.specs.Functions.{is_subprogram}
 use Rattle.addr2line_lines.specs.RangeAttributes.{no_range_attributes, or_with_range_attribute, range_attributes_after, with_range_attribute}
 use Rattle.addr2line_lines.proofs.FunctionLemmas.{function_fault, function_found, other_found}
@@ -85,6 +85,58 @@ module _ (d : Sections) (u : UnitRecord) (e : Encoding) where
   pub ranges_end : (r : Result RangeAttributes Error) (xs : List Specification) (left : Section) → HasNoRange xs → range_attributes_after d u r (attributes_at e xs left) ≡ (rest_of (attributes_at e xs left) >>= λ t. r)
   unfolding attributes_at
   ranges_end r xs left h = ap (λ ys. range_attributes_after d u r (attributes_at e ys left)) (sym (append-nil xs)) ∙ ranges_over r xs [] left h
+
+  -- up to the next attribute of ranges the others are passed over
+  pub ranges_passed : (r : Result RangeAttributes Error) (all before : List Specification) (x : Specification) (after : List Specification) (left : Section) (t : Result Section Error) → IsSplitAtRange all before x after → rest_of (attributes_at e before left) ≡ t
+      → range_attributes_after d u r (attributes_at e all left) ≡ (t >>= λ z. range_attributes_after d u r (attributes_at e (x ∷ after) z))
+  ranges_passed r all before x after left t h k =
+      ap (λ xs. range_attributes_after d u r (attributes_at e xs left)) h.0 ∙ ranges_over r before (x ∷ after) left h.1
+      ∙ ap (λ (v : Result Section Error). v >>= λ z. range_attributes_after d u r (attributes_at e (x ∷ after) z)) k
+
+  -- the next attribute of ranges
+  pub ranges_next : (r : Result RangeAttributes Error) (all before : List Specification) (x : Specification) (after : List Specification) (left t s : Section) (a : NamedValue) → IsSplitAtRange all before x after → rest_of (attributes_at e before left) ≡ Ok t → attribute_at e x t ≡ Ok (a, s)
+      → range_attributes_after d u r (attributes_at e all left) ≡ range_attributes_after d u (or_with_range_attribute d u r a) (attributes_at e after s)
+  unfolding attributes_at
+  ranges_next r all before x after left t s a h k n =
+      ranges_passed r all before x after left (Ok t) h k
+      ∙ ap (λ (v : Reading NamedValue). range_attributes_after d u r (v >>= λ y. before_more y.0 (attributes_at e after y.1))) n
+      ∙ front r a (attributes_at e after s)
+
+  -- where it can't be read
+  pub ranges_fault : (r : Result RangeAttributes Error) (all before : List Specification) (x : Specification) (after : List Specification) (left t : Section) (f : Error) → IsSplitAtRange all before x after → rest_of (attributes_at e before left) ≡ Ok t → attribute_at e x t ≡ Err f
+      → range_attributes_after d u r (attributes_at e all left) ≡ Err f
+  unfolding attributes_at
+  ranges_fault r all before x after left t f h k n =
+      ranges_passed r all before x after left (Ok t) h k
+      ∙ ap (λ (v : Reading NamedValue). range_attributes_after d u r (v >>= λ y. before_more y.0 (attributes_at e after y.1))) n
+
+-- what is left after attributes
+module _ (e : Encoding) where
+  rest_more : (a : NamedValue) (read : Reading (List NamedValue)) → rest_of (before_more a read) ≡ rest_of read
+  rest_more a (Ok x) = refl
+  rest_more a (Err f) = refl
+
+  -- after those of two lists
+  rest_over : (xs ys : List Specification) (left : Section) → rest_of (attributes_at e (xs ++ ys) left) ≡ (rest_of (attributes_at e xs left) >>= λ t. rest_of (attributes_at e ys t))
+  unfolding attributes_at
+  rest_over [] ys left = refl
+  rest_over (x ∷ xs) ys left = at (λ t. rest_over xs ys t) (attribute_at e x left)
+    where
+      at : ((t : Section) → rest_of (attributes_at e (xs ++ ys) t) ≡ (rest_of (attributes_at e xs t) >>= λ z. rest_of (attributes_at e ys z))) → (q : Reading NamedValue) → rest_of (q >>= λ a. before_more a.0 (attributes_at e (xs ++ ys) a.1)) ≡ (rest_of (q >>= λ a. before_more a.0 (attributes_at e xs a.1)) >>= λ t. rest_of (attributes_at e ys t))
+      at more (Err f) = refl
+      at more (Ok a) =
+          rest_more a.0 (attributes_at e (xs ++ ys) a.1) ∙ more a.1
+          ∙ ap (λ (v : Result Section Error). v >>= λ t. rest_of (attributes_at e ys t)) (sym (rest_more a.0 (attributes_at e xs a.1)))
+
+  -- after the next attribute of ranges
+  pub rest_next : (all before : List Specification) (x : Specification) (after : List Specification) (left t s : Section) (a : NamedValue) → IsSplitAtRange all before x after → rest_of (attributes_at e before left) ≡ Ok t → attribute_at e x t ≡ Ok (a, s)
+      → rest_of (attributes_at e all left) ≡ rest_of (attributes_at e after s)
+  unfolding attributes_at
+  rest_next all before x after left t s a h k n =
+      ap (λ xs. rest_of (attributes_at e xs left)) h.0 ∙ rest_over before (x ∷ after) left
+      ∙ ap (λ (v : Result Section Error). v >>= λ z. rest_of (attributes_at e (x ∷ after) z)) k
+      ∙ ap (λ (v : Reading NamedValue). rest_of (v >>= λ y. before_more y.0 (attributes_at e after y.1))) n
+      ∙ rest_more a (attributes_at e after s)
 
 -- an entry whose abbreviation isn't that of functions with ranges is passed over
 module _ (d : Sections) (u : UnitRecord) (unit : EntryUnit) where

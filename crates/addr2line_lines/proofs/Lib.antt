@@ -37,6 +37,7 @@ pub mod NameLemmas
 pub mod UnitOrder
 pub mod NameChains
 pub mod DetailLemmas
+pub mod FoundRanges
 pub mod NestingLemmas
 pub mod DetailRanges
 pub mod DetailOrder

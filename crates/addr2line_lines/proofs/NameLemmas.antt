@@ -1,6 +1,6 @@
 -- What attributes say of names (on specs/Names.antt).
 use Rattle.std.proofs.Common.{ℕ, zero, suc, ◌+◌, ◌-◌, ◌<◌, ◌≤◌, ◌≡◌, ◌≢◌, ◌==◌, ◌||◌, Bool, true, false, cond, nat_lt, List, [], ◌∷◌, ◌++◌, length, take, drop, slice_index_or, Option, Some, None, is_some, option_map, Result, Ok, Err, add-one, arith, refl, ap, sym, ◌∙◌, append-nil, length-append, length-drop, length-take}
-use Rattle.std.specs.List.{position, position_or_len}
+use Rattle.std.specs.List.{All, position, position_or_len}
 use Rattle.std.specs.Option.{option_or}
 use Rattle.std.specs.Result.{result_ok}
 use Rattle.std.proofs.lemmas.Bool.Decides.{nat_tests}
@@ -51,30 +51,30 @@ linkage_taken see may s u found a (Ok x) h k =
     ∙ ap (λ f. Ok (taken (option_map see x) f)) (linkage_alone s u found a h)
 linkage_taken see may s u found a (Err e) h k = λ m. absurd (let q = k m in cc)
 
--- where no place is the first no attribute may give a name
-pub none_split : (xs : List Specification) → position is_name_specification xs ≡ None → HasNoName xs
-none_split xs h k d l = at (nat_lt (position_or_len is_name_specification xs) (length xs)) refl h
+-- where no place is the first of a test the test fails everywhere
+pub none_split : (p : Specification → Bool) (xs : List Specification) → position p xs ≡ None → All (λ x. p x ≡ false) xs
+none_split p xs h k d l = at (nat_lt (position_or_len p xs) (length xs)) refl h
   where
-    at : (b : Bool) → nat_lt (position_or_len is_name_specification xs) (length xs) ≡ b → ◌≡◌ {A = Option ℕ} (cond b (Some (position_or_len is_name_specification xs)) None) None → is_name_specification (slice_index_or xs k d) ≡ false
+    at : (b : Bool) → nat_lt (position_or_len p xs) (length xs) ≡ b → ◌≡◌ {A = Option ℕ} (cond b (Some (position_or_len p xs)) None) None → p (slice_index_or xs k d) ≡ false
     at true e h = absurd cc
-    at false e h = fails_before_first is_name_specification xs k d (let m : length xs ≤ position_or_len is_name_specification xs = grind (arith, nat_tests) in omega arith)
+    at false e h = fails_before_first p xs k d (let m : length xs ≤ position_or_len p xs = grind (arith, nat_tests) in omega arith)
 
 -- a list is what comes before a place, what stands there, and what comes after it
-pub split_at : (xs : List Specification) (n : ℕ) (x : Specification) → position is_name_specification xs ≡ Some n → x ≡ slice_index_or xs n x → IsSplitAtName xs (take n xs) x (take (length xs - (n + 1)) (drop (n + 1) xs))
-split_at xs n x h is =
-    let p = position-Some is_name_specification xs n x h in
+pub split_at : (p : Specification → Bool) (xs : List Specification) (n : ℕ) (x : Specification) → position p xs ≡ Some n → x ≡ slice_index_or xs n x → (xs ≡ take n xs ++ x ∷ take (length xs - (n + 1)) (drop (n + 1) xs)) × All (λ y. p y ≡ false) (take n xs)
+split_at p xs n x h is =
+    let q = position-Some p xs n x h in
     let l = length-take n xs in
     let m = length-drop (n + 1) xs in (
       sym (take-append-drop n xs)
-          ∙ ap (λ ys. take n xs ++ ys) (drop_more xs n x p.0 ∙ ap (λ y. y ∷ drop (n + 1) xs) (sym is) ∙ ap (λ ys. x ∷ ys) (sym (take_all (length xs - (n + 1)) (drop (n + 1) xs) (omega arith)))),
-      λ k d b. ap is_name_specification (get_or-take n xs k d (omega arith)) ∙ fails k d (omega arith),
+          ∙ ap (λ ys. take n xs ++ ys) (drop_more xs n x q.0 ∙ ap (λ y. y ∷ drop (n + 1) xs) (sym is) ∙ ap (λ ys. x ∷ ys) (sym (take_all (length xs - (n + 1)) (drop (n + 1) xs) (omega arith)))),
+      λ k d b. ap p (get_or-take n xs k d (omega arith)) ∙ fails k d (omega arith),
     )
   where
-    fails : (k : ℕ) (d : Specification) → k < n → is_name_specification (slice_index_or xs k d) ≡ false
-    fails k d b = (position-Some is_name_specification xs n d h).2 k b
+    fails : (k : ℕ) (d : Specification) → k < n → p (slice_index_or xs k d) ≡ false
+    fails k d b = (position-Some p xs n d h).2 k b
 
 -- an attribute has the name of its specification
-attribute_name : (e : Encoding) (x : Specification) (s t : Section) (a : NamedValue) → attribute_at e x s ≡ Ok (a, t) → a.name ≡ x.name
+pub attribute_name : (e : Encoding) (x : Specification) (s t : Section) (a : NamedValue) → attribute_at e x s ≡ Ok (a, t) → a.name ≡ x.name
 unfolding attribute_at
 attribute_name e x s t a h = by_form (x.form.0 == DW_FORM_implicit_const.0) h
   where
@@ -91,7 +91,7 @@ attribute_name e x s t a h = by_form (x.form.0 == DW_FORM_implicit_const.0) h
     by_form false h = valued (value_at e x.form.0 s) h
 
 -- none of three
-none_of : (a b c : Bool) → (a || b || c) ≡ false → (a ≡ false) × (b ≡ false) × (c ≡ false)
+pub none_of : (a b c : Bool) → (a || b || c) ≡ false → (a ≡ false) × (b ≡ false) × (c ≡ false)
 none_of true b c h = absurd cc
 none_of false true c h = absurd cc
 none_of false false true h = absurd cc

@@ -33,6 +33,7 @@ pub mod NestedInlined
 pub mod FoundNames
 pub mod NameChains
 pub mod FoundDetails
+pub mod FoundRanges
 pub mod KeptDetails
 pub mod FunctionTable
 pub mod FunctionCache

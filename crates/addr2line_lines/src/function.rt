@@ -1,11 +1,14 @@
 //! The addresses of entries.
 
-ghost use Rattle.std.specs.Prelude.{◌≡◌, [], ◌∷◌, Ok, OnOk};
+ghost use Rattle.std.specs.Prelude.{◌≡◌, ◌<◌, [], ◌∷◌, None, Ok, IfSome, OnOk, length};
+ghost use Rattle.std.specs.List.{list_any, position};
 ghost use Rattle.std.specs.Option.{option_to_list};
 ghost use Rattle.gimli_read.specs.Reading.{Exactly, ExactlyUnlessOomIf};
 ghost use Rattle.gimli_read.specs.Form.{rest_of, seen_value};
 ghost use Rattle.gimli.specs.Entry.{attributes_at};
 ghost use Rattle.gimli.specs.Ranges.{ranges_at};
+ghost use Rattle.addr2line_lines.specs.FoundDetails.{is_range_name};
+ghost use Rattle.addr2line_lines.specs.FoundRanges.{HasNoRange, IsSplitAtRange, is_range_specification};
 ghost use Rattle.addr2line_lines.specs.RangeAttributes.{attr_address, no_range_attributes, with_range_attribute, or_with_range_attribute, range_attributes_after, range_between, range_to, ranges_of, all_ranges, attribute_ranges, begins_well, gives_a_range};
 
 use gimli::read::{Attribute, AttributeSpecification, AttributeValue, DwAt, Error, Range, Reader};
@@ -122,6 +125,55 @@ impl RangeAttributes {
     }
 }
 
+/// Whether an attribute says of its entry's ranges. Takes no memory. Source: DWARF 5, section 2.17.
+pub(crate) fn is_range_name(name: DwAt) -> bool
+    ensures gives { result ≡ is_range_name name }
+{
+    name == DwAt::DW_AT_low_pc || name == DwAt::DW_AT_high_pc || name == DwAt::DW_AT_ranges
+}
+
+/// Whether any of these attributes says of its entry's ranges. Takes no memory. Source: DWARF 5,
+/// section 2.17.
+pub(crate) fn has_range_attribute(specifications: &[AttributeSpecification]) -> bool
+    ensures gives { result ≡ list_any is_range_specification specifications.now }
+{
+    specifications
+        .iter()
+        .any(|specification| is_range_name(specification.name()))
+}
+
+// The place of the first attribute of ranges.
+fn first_range_attribute(specifications: &[AttributeSpecification]) -> Option<usize>
+    ensures gives { result ≡ position is_range_specification specifications.now }
+    ensures within { IfSome result (λ k. k < length specifications.now) }
+{
+    specifications
+        .iter()
+        .position(|specification| is_range_name(specification.name()))
+}
+
+// The first attribute of ranges, among others.
+#[derive(Clone, Copy)]
+struct AtRange<'a> {
+    before: &'a [AttributeSpecification],
+    specification: AttributeSpecification,
+    after: &'a [AttributeSpecification],
+}
+
+// Attributes, split at the first of ranges.
+fn split_at_range(all: &[AttributeSpecification]) -> Option<AtRange<'_>>
+    ensures split { IfSome result (λ x.
+        IsSplitAtRange all.now x.before.now x.specification x.after.now) }
+    ensures none { result ≡ None → HasNoRange all.now }
+{
+    let place = first_range_attribute(all)?;
+    Some(AtRange {
+        before: &all[..place],
+        specification: all[place],
+        after: &all[place + 1..],
+    })
+}
+
 // Takes one more attribute in, where none before it has a fault.
 fn with_attribute<R: Reader>(
     unit: UnitRef<'_, R>,
@@ -155,10 +207,14 @@ pub(crate) fn read_range_attributes<R: Reader>(
     ensures depth { entries.new.cursor.depth ≡ entries.old.cursor.depth }
 {
     let mut ranges = Ok(RangeAttributes::new());
-    for specification in specifications {
-        let attribute = entries.read_attribute(*specification)?;
+    let mut rest = specifications;
+    while let Some(next) = split_at_range(rest) {
+        entries.skip_attributes(next.before)?;
+        let attribute = entries.read_attribute(next.specification)?;
         ranges = with_attribute(unit, ranges, attribute);
+        rest = next.after;
     }
+    entries.skip_attributes(rest)?;
     ranges
 }
 

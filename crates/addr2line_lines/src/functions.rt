@@ -5,6 +5,7 @@ ghost use Rattle.std.specs.Prelude.{◌≡◌, ◌<◌, ◌==◌, false, length,
 ghost use Rattle.gimli_read.specs.Reading.{ExactlyUnlessOomIf};
 ghost use Rattle.addr2line_lines.specs.Details.{inlined_chain};
 ghost use Rattle.addr2line_lines.specs.FoundDetails.{entry_among, seen_inlined};
+ghost use Rattle.addr2line_lines.specs.FoundRanges.{is_function};
 ghost use Rattle.addr2line_lines.specs.FunctionCache.{read_at};
 ghost use Rattle.addr2line_lines.specs.FunctionTable.{AreDetailsOf, AreUnread, HasDetail, IsReadAt, IsTableMore, asks_detail, cached_inlined, cached_name, details_fault, offset_at, read_fault, takes_memory};
 ghost use Rattle.addr2line_lines.specs.Functions.{function_offset_at, functions_of, functions_take_memory, is_subprogram};
@@ -15,7 +16,7 @@ ghost use Rattle.addr2line_lines.specs.SeenScope.{seen_scope};
 ghost use Rattle.addr2line_lines.specs.FoundFunctions.{AreFoundUnread, found_at, found_in, item_takes_memory, none_found, seen_found, with_attributes, with_range_list, with_ranges};
 
 use crate::details::{Details, FunctionDetail};
-use crate::function::{RangeAttributes, read_range_attributes};
+use crate::function::{RangeAttributes, has_range_attribute, read_range_attributes};
 use crate::inlined::InlinedFunction;
 use crate::references::Scope;
 use crate::segments::{FunctionAddress, Segments};
@@ -135,6 +136,13 @@ fn is_subprogram(abbreviation: &Abbreviation) -> bool
     abbreviation.tag() == DwTag::DW_TAG_subprogram
 }
 
+// Whether an abbreviation is that of functions' entries, which may have ranges.
+fn is_function(abbreviation: &Abbreviation) -> bool
+    ensures gives { result ≡ is_function abbreviation.now }
+{
+    is_subprogram(abbreviation) && has_range_attribute(abbreviation.attributes())
+}
+
 // Reads the next item, and adds its function, if it is a function's entry.
 fn read_item<R: Reader>(
     unit: UnitRef<'_, R>,
@@ -157,7 +165,7 @@ fn read_item<R: Reader>(
     match entries.read_abbreviation()? {
         None => Ok(()),
         Some(abbreviation) => {
-            if is_subprogram(abbreviation) {
+            if is_function(abbreviation) {
                 let attributes = read_range_attributes(unit, entries, abbreviation.attributes())?;
                 found.add(unit, offset, &attributes)
             } else {

@@ -1,38 +1,80 @@
-use Rattle.std.proofs.Common.{sym, ap, ◌∙◌}
+use Rattle.std.proofs.Common.{Ok, ap, refl, sym, ◌∙◌}
 use Rattle.std.proofs.lemmas.Result.{err_from_is_err_and}
-use Rattle.addr2line_lines.proofs.RangeLemmas.{range_attributes-more, range_attributes-fault, range_attributes-end, is_unless_oom, on_err, on_ok, rest-more, rest-end}
+use Rattle.gimli_read.specs.Reading.{◌>>=◌}
+use Rattle.addr2line_lines.proofs.FoundRanges.{ranges_end, ranges_fault, ranges_next, ranges_passed, rest_next}
+use Rattle.addr2line_lines.proofs.RangeLemmas.{is_unless_oom, on_err, on_ok}
 use Rattle.addr2line_lines.proofs.function.read_range_attributes.Goals as goal
+
+pub returns-in_err-skip_attributes : goal.returns-in_err-skip_attributes
+returns-in_err-skip_attributes g c =
+    let p = err_from_is_err_and c.from_residual.result c.from_residual.ensures.1 in
+    let i = c.loop-next.invariant in
+    let d = c.args.unit.dwarf.now in
+    let u = c.args.unit.unit.now in
+    let fault = rw i.same at c.in_err-skip_attributes.ensures.gives in
+    record {
+      gives = rw (p.1, p.2) (λ _. sym i.gives ∙ ranges_passed d u _ _ _ _ _ _ _ _ c.in-Some.ensures.split fault);
+      left = on_err _ _ _ p.1;
+      unit = c.in_err-skip_attributes.ensures.unit ∙ i.unit;
+      depth = c.in_err-skip_attributes.ensures.depth ∙ i.depth;
+    }
 
 pub returns-in_err-attribute : goal.returns-in_err-attribute
 returns-in_err-attribute g c =
-    let p = err_from_is_err_and c.from_residual.result c.from_residual.ensures.1 in
-    let i = c.loop-specification.invariant in
-    let fault = rw (i.same, c.specification-item.is) at c.in_err-attribute.ensures.gives in
+    let p = err_from_is_err_and c.from_residual-in_err-attribute.result c.from_residual-in_err-attribute.ensures.1 in
+    let i = c.loop-next.invariant in
+    let d = c.args.unit.dwarf.now in
+    let u = c.args.unit.unit.now in
+    let skipped = rw i.same at c.in_ok-skip_attributes.ensures.gives in
+    let encoding = ap (λ v. v.encoding) c.in_ok-skip_attributes.ensures.unit ∙ i.same in
+    let fault = rw encoding at c.in_err-attribute.ensures.gives in
     record {
-      gives = rw (p.1, p.2) (λ ne. sym i.gives ∙ range_attributes-fault _ _ _ _ _ _ _ _ _ c.loop-specification-test.true (fault (λ shares _. ne shares)));
+      gives = rw (p.1, p.2) (λ ne. sym i.gives ∙ ranges_fault d u _ _ _ _ _ _ _ _ _ c.in-Some.ensures.split skipped (fault (λ shares _. ne shares)));
       left = on_err _ _ _ p.1;
-      unit = c.in_err-attribute.ensures.unit ∙ i.unit;
-      depth = c.in_err-attribute.ensures.depth ∙ i.depth;
+      unit = c.in_err-attribute.ensures.unit ∙ c.in_ok-skip_attributes.ensures.unit ∙ i.unit;
+      depth = c.in_err-attribute.ensures.depth ∙ c.in_ok-skip_attributes.ensures.depth ∙ i.depth;
     }
 
-pub loop-specification-preserved : goal.loop-specification-preserved
-loop-specification-preserved g c =
-    let i = c.loop-specification.invariant in
-    let given = rw (i.same, c.specification-item.is) at c.in_ok-attribute.ensures.gives in
+pub loop-next-preserved : goal.loop-next-preserved
+loop-next-preserved g c =
+    let i = c.loop-next.invariant in
+    let d = c.args.unit.dwarf.now in
+    let u = c.args.unit.unit.now in
+    let split = c.in-Some.ensures.split in
+    let skipped = rw i.same at c.in_ok-skip_attributes.ensures.gives in
+    let encoding = ap (λ v. v.encoding) c.in_ok-skip_attributes.ensures.unit ∙ i.same in
+    let given = rw encoding at c.in_ok-attribute.ensures.gives in
     record {
-      gives = rw (c.with_attribute-ranges.ensures.gives) (sym (range_attributes-more _ _ _ _ _ _ _ _ _ _ c.loop-specification-test.true given) ∙ i.gives);
-      same = ap (λ u. u.encoding) c.in_ok-attribute.ensures.unit ∙ i.same;
-      left = sym (rest-more _ _ _ _ _ _ _ c.loop-specification-test.true given) ∙ i.left;
-      unit = c.in_ok-attribute.ensures.unit ∙ i.unit;
-      depth = c.in_ok-attribute.ensures.depth ∙ i.depth;
+      gives = rw (c.with_attribute-ranges.ensures.gives) (sym (ranges_next d u _ _ _ _ _ _ _ _ _ _ split skipped given) ∙ i.gives);
+      same = ap (λ v. v.encoding) c.in_ok-attribute.ensures.unit ∙ encoding;
+      left = sym (rest_next _ _ _ _ _ _ _ _ _ split skipped given) ∙ i.left;
+      unit = c.in_ok-attribute.ensures.unit ∙ c.in_ok-skip_attributes.ensures.unit ∙ i.unit;
+      depth = c.in_ok-attribute.ensures.depth ∙ c.in_ok-skip_attributes.ensures.depth ∙ i.depth;
+    }
+
+pub returns-in_err-skip_attributes-2 : goal.returns-in_err-skip_attributes-2
+returns-in_err-skip_attributes-2 g c =
+    let p = err_from_is_err_and c.from_residual-in_err-skip_attributes-2.result c.from_residual-in_err-skip_attributes-2.ensures.1 in
+    let i = c.loop-next.invariant in
+    let d = c.args.unit.dwarf.now in
+    let u = c.args.unit.unit.now in
+    let fault = rw i.same at c.in_err-skip_attributes-2.ensures.gives in
+    record {
+      gives = rw (p.1, p.2) (λ _. sym i.gives ∙ ranges_end d u _ _ _ _ (c.in_default.ensures.none refl) ∙ ap (λ r. r >>= λ t. c.loop-next.ranges) fault);
+      left = on_err _ _ _ p.1;
+      unit = c.in_err-skip_attributes-2.ensures.unit ∙ i.unit;
+      depth = c.in_err-skip_attributes-2.ensures.depth ∙ i.depth;
     }
 
 pub returns : goal.returns
 returns g c =
-    let i = c.loop-specification.invariant in
+    let i = c.loop-next.invariant in
+    let d = c.args.unit.dwarf.now in
+    let u = c.args.unit.unit.now in
+    let skipped = rw i.same at c.in_ok-skip_attributes-2.ensures.gives in
     record {
-      gives = is_unless_oom _ _ _ (sym i.gives ∙ range_attributes-end _ _ _ _ _ _ _ c.loop-specification-test.false);
-      left = on_ok _ _ (sym i.left ∙ rest-end _ _ _ _ c.loop-specification-test.false);
-      unit = i.unit;
-      depth = i.depth;
+      gives = is_unless_oom _ _ _ (sym i.gives ∙ ranges_end d u _ _ _ _ (c.in_default.ensures.none refl) ∙ ap (λ r. r >>= λ t. c.loop-next.ranges) skipped);
+      left = on_ok _ _ (sym i.left ∙ skipped);
+      unit = c.in_ok-skip_attributes-2.ensures.unit ∙ i.unit;
+      depth = c.in_ok-skip_attributes-2.ensures.depth ∙ i.depth;
     }

@@ -1,5 +1,5 @@
 -- Frames by the places of inlined entries (on specs/FramesLeft.antt).
-use Rattle.std.proofs.Common.{ℕ, ◌≡◌, ◌+◌, ◌<◌, List, [], ◌∷◌, ◌++◌, map, length, reverse, arith, ◌∙◌, ap, sym, subst, refl, suc}
+use Rattle.std.proofs.Common.{ℕ, ◌≡◌, ◌+◌, ◌<◌, List, [], ◌∷◌, ◌++◌, map, length, reverse, arith, ◌∙◌, ap, sym, subst, refl}
 use Rattle.std.specs.Prelude.{Option, Some, None, option_map, slice_get, IfSome}
 use Rattle.std.specs.List.{AllByRecursion}
 use Rattle.std.proofs.lemmas.List.{length-reverse, map-append, reverse-append}
@@ -9,7 +9,7 @@ use Rattle.addr2line_lines.specs.Details.{InlinedEntry}
 use Rattle.addr2line_lines.specs.FoundDetails.{entry_among, no_inlined}
 use Rattle.addr2line_lines.specs.FunctionTable.{FunctionTable, cached_name, offset_at}
 use Rattle.addr2line_lines.specs.Location.{Location}
-use Rattle.addr2line_units.specs.Frames.{FrameRecord, call_location, frames_from, function_frame}
+use Rattle.addr2line_units.specs.Frames.{call_location, frames_from, function_frame}
 use Rattle.addr2line_units.specs.FramesLeft.{entry_frame, frames_inside}
 
 -- a mapped list from its end is the list from its end, mapped

@@ -26,10 +26,13 @@ seen_frame see f = record {
 abbrev pub raw_text : NameRecord → List ℕ
 raw_text n = lossy_text n.name.bytes
 
+-- its text in its language, if there is one
+abbrev pub language_text : NameRecord → Option (List ℕ)
+language_text n = demangled_auto (option_map (λ l. l.0) n.language) (raw_text n)
+
 -- its text in its language, and that of the file where there is none
 abbrev pub name_text : NameRecord → List ℕ
-name_text n =
-    unwrap_or (demangled_auto (option_map (λ l. l.0) n.language) (raw_text n)) (raw_text n)
+name_text n = unwrap_or (language_text n) (raw_text n)
 
 -- the call gave the first frame that was left, and the others are left; or none, at the end; it
 -- isn't refused

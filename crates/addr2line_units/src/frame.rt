@@ -15,7 +15,7 @@ ghost use Rattle.addr2line_lines.specs.SeenLocation.{seen_location};
 ghost use Rattle.addr2line_units.specs.Frames.{call_location, frames_from, if_counted, location_frames};
 ghost use Rattle.addr2line_units.specs.FramesLeft.{entry_frame, frames_left, place_frame};
 ghost use Rattle.addr2line_units.specs.LegacyText.{demangled, demangled_auto};
-ghost use Rattle.addr2line_units.specs.SeenFrame.{YieldsFrame, name_text, raw_text, seen_frame, seen_name};
+ghost use Rattle.addr2line_units.specs.SeenFrame.{YieldsFrame, language_text, name_text, raw_text, seen_frame, seen_name};
 
 use crate::legacy::LegacyName;
 use addr2line_lines::{Functions, InlinedFunction, Lines, Location};
@@ -107,11 +107,14 @@ impl<'ctx, R: Reader> FunctionName<'ctx, R> {
 
     /// The text of the name in its language, as `demangle_auto` gives it.
     ///
-    /// Refused `OutOfMemory` alone. Source: own.
+    /// Refused `OutOfMemory` alone, and never where the name is UTF-8 and has no text in its
+    /// language. Source: own.
     pub fn demangle(&self, alloc: Global) -> Result<CowStr<'ctx>, Error>
         ensures gives { IfOk result (λ text. cow_str_bytes text
             ≡ name_text (seen_name R.section self.now)) }
         ensures refused { IsOkUnless result OutOfMemory }
+        ensures none { IsUtf8 (R.section self.now.name.now).bytes
+            → language_text (seen_name R.section self.now) ≡ None → IsOk result }
     {
         let name = self.raw_name(alloc)?;
         demangle_auto(alloc, name, self.language)

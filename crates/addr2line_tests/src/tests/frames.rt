@@ -51,10 +51,10 @@ fn codes_of(alloc: Global, frames: FrameIter<'_, EndianSlice<'_>>) -> [FrameCode
 }
 
 // The frames at an address of a unit without a language.
-fn frames_in<'a>(
+fn frames_in<'a, 'u>(
     alloc: Global,
-    dwarf: &Dwarf<EndianSlice<'a>>,
-    unit: &Unit<EndianSlice<'a>>,
+    dwarf: &'u Dwarf<EndianSlice<'a>>,
+    unit: &'u Unit<EndianSlice<'a>>,
     probe: u64,
 ) -> Result<[FrameCode; 3], Error> {
     let lines = Lines::parse(alloc, dwarf, unit)?;

@@ -95,7 +95,8 @@ fn read_given<R: Reader>(
     aranges: &UnitAranges,
 ) -> Result<(Option<DwLang>, Vec<Range>), Error>
     ensures gives { ExactlyUnlessOomIf (not (is_partial unit.entry.unit.now.header.unit_type))
-        (λ x. (x.0, x.1.items)) result (given_at unit.entry.dwarf.now aranges.now unit.entry.unit.now) }
+        (λ x. (x.0, x.1.items)) result
+        (given_at unit.entry.dwarf.now aranges.now unit.entry.unit.now) }
 {
     let record = unit.unit;
     if is_partial(record.header.type_()) {

@@ -174,13 +174,15 @@ impl<R: Reader> ResUnits<R> {
     ///
     /// All sets of `.debug_aranges` are read first. A unit is read whole before the next header: a
     /// type unit and a unit whose record is faulty are passed over; a partial unit of version 5 has
-    /// no range and no language. The line program of a unit is run here only where neither
-    /// `.debug_aranges` nor the unit's attributes give it a range.
+    /// no range and no language. The line program of a unit is run here only where no range is
+    /// given for it: by its range list if it has one, else by `.debug_aranges`, else by its other
+    /// attributes.
     ///
     /// Refused by the first fault of a set's header, of a unit's header, or of the range attributes
-    /// of a unit whose record can be read; may fail with `OutOfMemory` instead, where the header of
-    /// a unit with abbreviations can be read, a set lists a range, or bytes are shared. Source: DWARF
-    /// 5, sections 2.17, 3.1 and 6.1.2.
+    /// of a unit whose record can be read. May fail with `OutOfMemory` instead where a set lists a
+    /// range, up to the first fault of a set's header; and, where there is none, where bytes are
+    /// shared or the header can be read of a unit that is no type unit and has abbreviations.
+    /// Source: DWARF 5, sections 2.17, 3.1 and 6.1.2.
     pub fn parse(alloc: Global, dwarf: &Dwarf<R>) -> Result<ResUnits<R>, Error>
         ensures gives { ExactlyUnlessOomIf (index_takes_memory R.shares dwarf.now) units_seen result
             (indexed dwarf.now) }

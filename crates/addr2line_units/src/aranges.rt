@@ -59,8 +59,8 @@ fn push_set(aranges: &mut Vec<UnitArange>, set: &ArangeHeader<EndianSlice<'_>>) 
 
 // The ranges of all sets, in their order.
 fn read_sets<R: Reader>(alloc: Global, section: &DebugAranges<R>) -> Result<Vec<UnitArange>, Error>
-    ensures gives { ExactlyUnlessOomIf (lists_aranges (R.section section.now.section)) (λ a. a.items)
-        result (aranges_in (R.section section.now.section)) }
+    ensures gives { ExactlyUnlessOomIf (lists_aranges (R.section section.now.section))
+        (λ a. a.items) result (aranges_in (R.section section.now.section)) }
 {
     let mut aranges = Vec::new(alloc);
     let mut sets = section.headers();

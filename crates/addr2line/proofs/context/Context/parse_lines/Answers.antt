@@ -42,7 +42,7 @@ returns-clause-kept g c =
     let d = c.self.inside.dwarf.value in
     let old = c.self.inside.units.units.items in
     let e = rw c.deref.ensures at c.parse_lines.ensures in
-    rw (sym c.self.view_is) (λ answered. ready_after_parse d old c.self.inside.units.ranges _ i.made_is c.parse_lines.new.self.units.items e.stay c.self.inside.looks c.self.inside.looks (e.ready answered))
+    λ answered. ready_after_parse d old c.self.inside.units.ranges _ i.made_is c.parse_lines.new.self.units.items e.stay c.self.inside.looks c.self.inside.looks (e.ready answered)
 
 pub returns-clause-only : goal.returns-clause-only
 returns-clause-only g c =

@@ -156,8 +156,8 @@ impl<R: Reader> Context<R> {
     ///
     /// `probe` is an address as the file has it. Of the ranges that hold it, by end, then unit,
     /// then begin, the first whose unit has a location gives it. The lines of each unit up to it
-    /// are parsed at the first such lookup, and stay parsed, their fault too; those of no other
-    /// unit are.
+    /// are parsed at the first such lookup, and stay parsed, their fault too; no other lines are
+    /// parsed.
     ///
     /// Refused by the first such fault; may fail with `OutOfMemory` instead, which is never cached.
     /// Takes no memory where the lines that it asks for are parsed, nor where no unit covers
@@ -186,8 +186,8 @@ impl<R: Reader> Context<R> {
     /// of its span, and its location: unit range after unit range, by end, then unit, then begin.
     ///
     /// Addresses are as the file has them; `low` may be above `high`. The lines of each unit that
-    /// is met are parsed, unless they are, and stay parsed, their fault too; those of no other unit
-    /// are. A fault is given in the place of the unit's rows.
+    /// is met are parsed, unless they are, and stay parsed, their fault too; no other lines are
+    /// parsed. A fault is given in the place of the unit's rows.
     ///
     /// Refused `OutOfMemory` alone, which is never cached; takes no memory where the lines are
     /// parsed.
@@ -222,7 +222,7 @@ impl<R: Reader> Context<R> {
             → Exactly (λ x. x) result (lines_of_all self.old.sections) }
         ensures stays { Stays self.old self.new }
         ensures looks { self.new.looks ≡ self.old.looks }
-        ensures kept { IsNotOom result → IsReadyForAll self.new }
+        ensures ready_for_all { IsNotOom result → IsReadyForAll self.new }
         ensures only { ParsesToFault self.old self.new }
         ensures same { IsReadyForAll self.old → self.new.parsed ≡ self.old.parsed }
         ensures parsed { OnOk result (AreAllParsed self.new.parsed) }

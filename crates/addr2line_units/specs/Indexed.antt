@@ -1,6 +1,6 @@
 -- The units of a context and their ranges as they are read, one after another, as the private
 -- functions see them.
-use Rattle.std.specs.Prelude.{ℕ, ◌&&◌, ◌||◌, Bool, false, not, is_ok, List, [], ◌∷◌, ◌++◌, length, map, Option, Some, None, Result, Ok, Err}
+use Rattle.std.specs.Prelude.{◌&&◌, ◌||◌, Bool, false, not, is_ok, List, [], ◌∷◌, ◌++◌, length, map, Option, Some, None, Result, Ok, Err}
 use Rattle.gimli_read.specs.declared.error.Error.{Error}
 use Rattle.gimli_read.specs.declared.range.Range.{Range}
 use Rattle.gimli_read.specs.Reading.{◌>>=◌}

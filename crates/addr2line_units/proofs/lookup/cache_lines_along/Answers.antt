@@ -1,5 +1,4 @@
-use Rattle.std.proofs.Common.{inl, inr, refl, rules, subst, sym, true}
-use Rattle.std.proofs.lemmas.Result.{err_from_is_err_and}
+use Rattle.std.proofs.Common.{inl, inr, refl, rules, subst, sym}
 use Rattle.addr2line_units.specs.CachedLines.{parsed_units}
 use Rattle.addr2line_units.specs.Parsed.{AreParsed, LeadTo}
 use Rattle.addr2line_units.specs.UnitRangesLeft.{ranges_left}

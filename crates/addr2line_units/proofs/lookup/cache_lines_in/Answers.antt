@@ -1,5 +1,5 @@
 use Rattle.std.proofs.Common.{inl, rules}
-use Rattle.addr2line_units.proofs.UnitsLemmas.{only_set, parsed_at, parsed_set, stay_all, stay_set, stays_by, parsed_if_ok}
+use Rattle.addr2line_units.proofs.UnitsLemmas.{only_set, parsed_at, stay_all, stay_set, stays_by, parsed_if_ok}
 use Rattle.addr2line_units.proofs.lookup.cache_lines_in.Goals as goal
 
 pub returns-then-number-len-clause-stay : goal.returns-then-number-len-clause-stay

@@ -1,4 +1,4 @@
-use Rattle.std.proofs.Common.{inl, ap, rules, subst, sym, ◌+◌, ◌≤◌}
+use Rattle.std.proofs.Common.{inl, rules, subst, sym, ◌+◌, ◌≤◌}
 use Rattle.addr2line_units.specs.Located.{looks_in}
 use Rattle.addr2line_units.proofs.UnitsLemmas.{only_set, answer_cached, parsed_at, parsed_set, row_found, row_found_exactly, stay_all, stay_set, unit_at}
 use Rattle.addr2line_units.proofs.lookup.find_row_in.Goals as goal

@@ -1,9 +1,9 @@
-use Rattle.std.proofs.Common.{inl, ℕ, ◌≡◌, ◌<◌, ◌≤◌, ap, arith, rules, refl, sym, subst, true, length, ◌∙◌}
+use Rattle.std.proofs.Common.{inl, ◌≡◌, ◌<◌, ◌≤◌, arith, rules, refl, sym, subst, length, ◌∙◌}
 use Rattle.std.proofs.lemmas.List.{length-map}
 use Rattle.std.proofs.lemmas.Result.{err_from_is_err_and}
-use Rattle.addr2line_units.specs.CachedLines.{indexed_unit, indexed_units, parsed_units}
-use Rattle.addr2line_units.specs.Parsed.{AllAskFor, has_parsed}
-use Rattle.addr2line_units.proofs.UnitsLemmas.{asks_more, only_more, readable, ready_at_fault, lines_end, lines_more, lines_stop, parsed_below, no_parsed, stay_all, stay_indexed, stay_over, stay_parsed, all_parsed}
+use Rattle.addr2line_units.specs.CachedLines.{indexed_unit, indexed_units}
+use Rattle.addr2line_units.specs.Parsed.{AllAskFor}
+use Rattle.addr2line_units.proofs.UnitsLemmas.{asks_more, only_more, readable, ready_at_fault, lines_more, lines_stop, parsed_below, stay_all, stay_indexed, stay_over, stay_parsed, all_parsed}
 use Rattle.addr2line_units.proofs.lookup.read_all_lines.Goals as goal
 
 pub loop-number-init : goal.loop-number-init

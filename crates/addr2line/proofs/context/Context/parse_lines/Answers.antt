@@ -36,8 +36,8 @@ returns-clause-exact g c =
 pub returns-clause-ready_for_range : goal.returns-clause-ready_for_range
 returns-clause-ready_for_range g c = range_ready_if_ok _ c.self.inside.dwarf.value _ c.self.inside.looks c.parse_lines.ensures.parsed
 
-pub returns-clause-kept : goal.returns-clause-kept
-returns-clause-kept g c =
+pub returns-clause-ready_for_all : goal.returns-clause-ready_for_all
+returns-clause-ready_for_all g c =
     let i = c.self.invariant in
     let d = c.self.inside.dwarf.value in
     let old = c.self.inside.units.units.items in

@@ -1,4 +1,4 @@
-use Rattle.std.proofs.Common.{Ok, Err, Result, List, ◌≡◌, ap, sym, subst, ◌∙◌}
+use Rattle.std.proofs.Common.{Ok, Err, Result, List, ◌≡◌, ap, sym, ◌∙◌}
 use Rattle.std.proofs.lemmas.Result.{err_from_is_err_and}
 use Rattle.gimli_read.specs.declared.error.Error.{Error}
 use Rattle.gimli.specs.Sections.{Sections}

@@ -5,7 +5,7 @@
 -- parsed; a context that is made has parsed them only where they give a unit its ranges, and a unit
 -- without a line program has its lines, which are none.
 -- limit: no unit is loaded yet, so there is no answer
-use Rattle.std.specs.Prelude.{◌≡◌, ℕ, ◌+◌, ◌<◌, ◌≤◌, Bool, true, List, [], map, Option, option_map, Result, Ok, Err}
+use Rattle.std.specs.Prelude.{◌≡◌, ℕ, ◌+◌, ◌<◌, ◌≤◌, Bool, true, List, [], map, Option, option_map, Result, Ok}
 use Rattle.gimli_read.specs.declared.error.Error.{Error}
 use Rattle.gimli_read.specs.Reading.{◌>>=◌}
 use Rattle.gimli.specs.Sections.{Sections}
@@ -13,7 +13,7 @@ use Rattle.gimli.specs.Unit.{UnitRecord}
 use Rattle.addr2line_units.specs.declared.index.UnitRange.{UnitRange}
 use Rattle.addr2line_units.specs.declared.unit.ResUnit.{ResUnit}
 use Rattle.addr2line_units.specs.CachedLines.{HaveLinesOf, indexed_units}
-use Rattle.addr2line_units.specs.Located.{all_lines, along, is_found, lines_fault, looks_along}
+use Rattle.addr2line_units.specs.Located.{all_lines, is_found, lines_fault, looks_along}
 use Rattle.addr2line_units.specs.UnitIndex.{UnitIndex, has_lines, index_units, ranged_units, sup_sections, sup_units}
 use Rattle.addr2line_units.specs.Parsed.{AllAskFor, AreParsed, AreReadyForAll, AsksFor, IsNotOom, LeadTo, ParsesOnly, StaysParsed, ready_along}
 use Rattle.addr2line_units.specs.Cover.{cover, cover_range}

@@ -51,25 +51,6 @@ fn codes_of(alloc: Global, frames: FrameIter<'_, EndianSlice<'_>>) -> [FrameCode
 }
 
 // The frames at an address of a unit without a language.
-fn frames_at<'a, 'u>(
-    alloc: Global,
-    functions: &'u mut Functions<EndianSlice<'a>>,
-    scope: Scope<'_, EndianSlice<'a>>,
-    unit: &Unit<EndianSlice<'a>>,
-    lines: &'u Lines,
-    probe: u64,
-) -> Result<[FrameCode; 3], Error> {
-    let location = lines.find_location(probe);
-    let Some(place) = functions.find(probe) else {
-        return Ok(codes_of(alloc, FrameIter::new_location(location)));
-    };
-    functions.read(alloc, scope, unit, place)?;
-    let inlined = functions.find_inlined_functions(alloc, place, probe)?;
-    let frames = FrameIter::new_function(functions, place, inlined, lines, None, location);
-    Ok(codes_of(alloc, frames))
-}
-
-// The same, by what is read of the unit.
 fn frames_in<'a, 'u>(
     alloc: Global,
     dwarf: &'u Dwarf<EndianSlice<'a>>,
@@ -77,10 +58,16 @@ fn frames_in<'a, 'u>(
     probe: u64,
 ) -> Result<[FrameCode; 3], Error> {
     let lines = Lines::parse(alloc, dwarf, unit)?;
+    let location = lines.find_location(probe);
     let mut functions = Functions::parse(alloc, UnitRef::new(dwarf, unit))?;
+    let Some(place) = functions.find(probe) else {
+        return Ok(codes_of(alloc, FrameIter::new_location(location)));
+    };
     let file = FileUnits { dwarf, units: &[] };
-    let scope = Scope { file, sup: None };
-    frames_at(alloc, &mut functions, scope, unit, &lines, probe)
+    functions.read(alloc, Scope { file, sup: None }, unit, place)?;
+    let inlined = functions.find_inlined_functions(alloc, place, probe)?;
+    let frames = FrameIter::new_function(&functions, place, inlined, &lines, None, location);
+    Ok(codes_of(alloc, frames))
 }
 
 // The same of the first unit.

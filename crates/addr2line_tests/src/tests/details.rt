@@ -70,14 +70,15 @@ fn inlined_code(functions: &Functions<EndianSlice<'_>>, place: Option<usize>) ->
 fn answer<'a>(
     alloc: Global,
     functions: &mut Functions<EndianSlice<'a>>,
-    scope: Scope<'_, EndianSlice<'a>>,
+    dwarf: &Dwarf<EndianSlice<'a>>,
     unit: &Unit<EndianSlice<'a>>,
     probe: u64,
 ) -> Result<[u64; 5], Error> {
     let Some(place) = functions.find(probe) else {
         return Ok([0; 5]);
     };
-    functions.read(scope, unit, place)?;
+    let file = FileUnits { dwarf, units: &[] };
+    functions.read(Scope { file, sup: None }, unit, place)?;
     let chain = functions.find_inlined_functions(alloc, place, probe)?;
     let [a, b, c] = inlined_code(functions, chain.last().copied());
     Ok([letter(functions.name(place)), chain.len() as u64, a, b, c])
@@ -87,11 +88,11 @@ fn answer<'a>(
 fn told<'a>(
     alloc: Global,
     functions: &mut Functions<EndianSlice<'a>>,
-    scope: Scope<'_, EndianSlice<'a>>,
+    dwarf: &Dwarf<EndianSlice<'a>>,
     unit: &Unit<EndianSlice<'a>>,
     probe: u64,
 ) -> [u64; 5] {
-    match answer(alloc, functions, scope, unit, probe) {
+    match answer(alloc, functions, dwarf, unit, probe) {
         Ok(answer) => answer,
         Err(Error::NoEntryAtGivenOffset(offset)) => [1, offset, 0, 0, 0],
         Err(Error::OffsetOutOfBounds) => [2, 0, 0, 0, 0],
@@ -110,12 +111,10 @@ fn answers_in<const N: usize>(
         return Err(Error::MissingUnitDie);
     };
     let unit = dwarf.unit(alloc, header)?;
-    let file = FileUnits { dwarf, units: &[] };
-    let scope = Scope { file, sup: None };
     let mut functions = Functions::parse(alloc, UnitRef::new(dwarf, &unit))?;
     let mut answers = [[0; 5]; N];
     for i in 0..N {
-        answers[i] = told(alloc, &mut functions, scope, &unit, probes[i]);
+        answers[i] = told(alloc, &mut functions, dwarf, &unit, probes[i]);
     }
     Ok(answers)
 }

@@ -107,7 +107,7 @@ fn deep_unit<'a>(
 fn deep_answer<'a>(
     alloc: Global,
     functions: &mut Functions<EndianSlice<'a>>,
-    scope: Scope<'_, EndianSlice<'a>>,
+    dwarf: &Dwarf<EndianSlice<'a>>,
     unit: &Unit<EndianSlice<'a>>,
     call: usize,
 ) -> u64 {
@@ -118,7 +118,10 @@ fn deep_answer<'a>(
         let chain = functions.find_inlined_functions(alloc, place, 0x18);
         chain.map(|chain| chain.len() as u64)
     } else {
-        functions.read(scope, unit, place).map(|()| 1)
+        let file = FileUnits { dwarf, units: &[] };
+        functions
+            .read(Scope { file, sup: None }, unit, place)
+            .map(|()| 1)
     };
     answer.unwrap_or_else(|error| u64::from(fault_code(error)))
 }
@@ -133,14 +136,12 @@ fn deep_answers<'a>(
 ) -> ([u64; 3], u64) {
     let mut functions = functions;
     let mut refused = refused;
-    let file = FileUnits { dwarf, units: &[] };
-    let scope = Scope { file, sup: None };
     let mut codes = [0; 3];
     for (call, code) in codes.iter_mut().enumerate() {
-        *code = deep_answer(alloc, &mut functions, scope, unit, call);
+        *code = deep_answer(alloc, &mut functions, dwarf, unit, call);
         if *code == u64::from(fault_code(Error::OutOfMemory)) {
             refused = refused.wrapping_add(1);
-            *code = deep_answer(alloc, &mut functions, scope, unit, call);
+            *code = deep_answer(alloc, &mut functions, dwarf, unit, call);
         }
     }
     (codes, refused)

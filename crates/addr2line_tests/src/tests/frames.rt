@@ -64,7 +64,7 @@ fn frames_in<'a, 'u>(
         return Ok(codes_of(alloc, FrameIter::new_location(location)));
     };
     let file = FileUnits { dwarf, units: &[] };
-    functions.read(alloc, Scope { file, sup: None }, unit, place)?;
+    functions.read(Scope { file, sup: None }, unit, place)?;
     let inlined = functions.find_inlined_functions(alloc, place, probe)?;
     let frames = FrameIter::new_function(&functions, place, inlined, &lines, None, location);
     Ok(codes_of(alloc, frames))

@@ -1,5 +1,5 @@
 -- What a context has and what its sections give (on specs/Context.antt).
-use Rattle.std.proofs.Common.{◌≡◌, ℕ, zero, suc, ◌+◌, ◌<◌, ◌≤◌, ◌||◌, Bool, true, false, List, [], ◌∷◌, ◌++◌, not, map, slice_get, Option, Some, None, Result, Ok, Err, refl, sym, ap, subst, ◌∙◌}
+use Rattle.std.proofs.Common.{◌≡◌, ℕ, zero, suc, ◌+◌, ◌<◌, ◌≤◌, ◌&&◌, ◌||◌, inl, inr, Bool, true, false, List, [], ◌∷◌, ◌++◌, not, map, slice_get, Option, Some, None, option_map, Result, Ok, Err, refl, sym, ap, subst, ◌∙◌}
 use Rattle.std.specs.Prelude.{OnOk, is_ok}
 use Rattle.gimli_read.specs.declared.error.Error.{Error}
 use Rattle.gimli_read.specs.declared.range.Range.{Range}
@@ -13,15 +13,15 @@ use Rattle.addr2line_units.specs.declared.index.UnitRange.{UnitRange}
 use Rattle.addr2line_units.specs.declared.unit.LazyLines.{LazyLines}
 use Rattle.addr2line_units.specs.declared.unit.LazyLines.TheVariants.{Faulty, Read, Unread}
 use Rattle.addr2line_units.specs.declared.unit.ResUnit.{ResUnit}
-use Rattle.addr2line_units.specs.CachedLines.{AreLinesOf, HaveLinesOf, StayUnits, cached_spans, indexed_units, is_uncached, lines_at, parsed_units}
+use Rattle.addr2line_units.specs.CachedLines.{AreLinesOf, HaveLinesOf, StayUnits, cached_spans, indexed_units, is_parsed, is_uncached, lines_at, parsed_units}
 use Rattle.addr2line_units.specs.Indexed.{IndexState, context_takes_memory, index_of, index_takes_memory, sup_takes_memory}
 use Rattle.addr2line_units.specs.Located.{along, all_lines, is_found, lines_fault, lines_of_unit, location_in, location_of, or_along, spans_in, spans_or_fault, looks_along, spans_along, spans_of}
-use Rattle.addr2line_units.specs.UnitIndex.{IndexedUnit, UnitIndex, RangedUnit, has_lines, indexed_of, index_units, ranged_units, ranges_from, sup_units}
-use Rattle.addr2line_units.specs.Parsed.{AreAllParsed, AreParsed, IsNotOom, has_parsed, ready_along}
+use Rattle.addr2line_units.specs.UnitIndex.{IndexedUnit, UnitIndex, RangedUnit, has_lines, indexed_of, index_units, ranged_units, ranges_from, sup_sections, sup_units}
+use Rattle.addr2line_units.specs.Parsed.{AllAskFor, AreAllParsed, AreParsed, AreReadyForAll, AsksFor, IsNotOom, LeadTo, ParsesOnly, StaysParsed, decides, has_parsed, ready_along}
 use Rattle.addr2line_units.specs.RangeLookup.{cached_along}
 use Rattle.addr2line_units.specs.Cover.{cover, cover_range}
-use Rattle.addr2line_units.proofs.UnitsLemmas.{ready_both, stay_indexed, stay_parsed}
-use Rattle.addr2line.specs.Context.{AfterLookup, AfterRangeLookup, ContextState, IsContext, IsReady, IsReadyForRange, Stays, lines_of_all, new_context}
+use Rattle.addr2line_units.proofs.UnitsLemmas.{ready_both, ready_first, stay_indexed, stay_parsed}
+use Rattle.addr2line.specs.Context.{AfterLookup, AfterRangeLookup, ContextState, IsContext, IsReady, IsReadyForAll, IsReadyForRange, ParsesToFault, Stays, lines_of_all, new_context}
 
 ok_is : {X : Type 0} (x y : X) → ◌≡◌ {A = Result X Error} (Ok x) (Ok y) → x ≡ y
 ok_is x y e = cc
@@ -94,15 +94,57 @@ units_fault d f e = of_units (ranged_units d) e
 
 -- memory may be taken for a context where it may be for its units
 pub units_memory : (shares : Bool) (d : Sections) → index_takes_memory shares d ≡ true → context_takes_memory shares d ≡ true
-units_memory shares d e = ap (λ b. b || sup_takes_memory shares d.sup) e
+units_memory shares d e = ap (λ b. b || (is_ok (ranged_units d) && sup_takes_memory shares d.sup)) e
 
 -- memory may be taken for a context where it may be for its supplementary file
-pub sup_memory : (shares : Bool) (d : Sections) → sup_takes_memory shares d.sup ≡ true → context_takes_memory shares d ≡ true
-sup_memory shares d e = ap (λ b. index_takes_memory shares d || b) e ∙ or_true (index_takes_memory shares d)
+pub sup_memory : (shares : Bool) (d : Sections) (i : IndexState) → (ranged_units d >>= λ units. Ok (index_of d units)) ≡ Ok i → sup_takes_memory shares d.sup ≡ true → context_takes_memory shares d ≡ true
+sup_memory shares d i made e = ap (λ b. index_takes_memory shares d || (b && sup_takes_memory shares d.sup)) (of_units (ranged_units d) made) ∙ ap (λ b. index_takes_memory shares d || b) e ∙ or_true (index_takes_memory shares d)
   where
+    of_units : (r : Result (List RangedUnit) Error) → (r >>= λ units. Ok (index_of d units)) ≡ Ok i → is_ok r ≡ true
+    of_units (Ok units) h = refl
+    of_units (Err x) h = absurd (err_ok h)
+      where
+        err_ok : ◌≡◌ {A = Result IndexState Error} (Err x) (Ok i) → ⊥
+        err_ok k = cc
+
     or_true : (b : Bool) → (b || true) ≡ true
     or_true true = refl
     or_true false = refl
+
+-- where nothing is parsed that wasn't, the same is parsed
+parsed_both : (a b : Bool) → (a ≡ true → b ≡ true) → (b ≡ true → a ≡ true) → b ≡ a
+parsed_both true b f h = f refl
+parsed_both false true f h = sym (h refl)
+parsed_both false false f h = refl
+
+same_parsed : {R : Type 0} (us vs : List (ResUnit R)) → StayUnits us vs → StaysParsed (parsed_units us) (parsed_units vs) → StaysParsed (parsed_units vs) (parsed_units us) → parsed_units vs ≡ parsed_units us
+same_parsed [] [] a f h = refl
+same_parsed [] (v ∷ vs) a f h = absurd a
+same_parsed (u ∷ us) [] a f h = absurd a
+same_parsed (u ∷ us) (v ∷ vs) a f h = ap (λ b. b ∷ parsed_units vs) (parsed_both (is_parsed u) (is_parsed v) (f 0) (h 0)) ∙ ap (λ bs. is_parsed u ∷ bs) (same_parsed us vs a.1 (λ n. f (suc n)) (λ n. h (suc n)))
+
+same_if_asked : {R : Type 0} (us vs : List (ResUnit R)) → StayUnits us vs → (IsAsked : ℕ → Type 0) → ParsesOnly IsAsked (parsed_units us) (parsed_units vs) → ((n : ℕ) → IsAsked n → has_parsed (parsed_units us) n ≡ true) → parsed_units vs ≡ parsed_units us
+same_if_asked us vs stay IsAsked only ready = same_parsed us vs stay (stay_parsed us vs stay) (λ n e. elim (only n e) [ inl p ↦ p | inr asked ↦ ready n asked ])
+
+-- a lookup that is ready asks for lines that are parsed
+asked_ready : (d : Sections) (us : List IndexedUnit) (p : List Bool) (probe : ℕ) (ranges : List UnitRange) → ready_along d us p probe ranges ≡ true → (n : ℕ) → AsksFor d us probe ranges n → has_parsed p n ≡ true
+asked_ready d us p probe [] ready n asked = absurd asked
+asked_ready d us p probe (r ∷ ranges) ready n asked = elim asked [ inl e ↦ ap (has_parsed p) e ∙ ready_first d us probe r ranges p ready | inr more ↦ asked_ready d us p probe ranges (rest (has_parsed p r.unit) (decides (location_in d probe (slice_get us r.unit))) (ready_along d us p probe ranges) more.0 ready) n more.1 ]
+  where
+    rest : (a b c : Bool) → b ≡ false → (a && (b || c)) ≡ true → c ≡ true
+    rest true false c e k = k
+    rest true true c e k = absurd (true_false e)
+      where
+        true_false : true ≡ false → ⊥
+        true_false h = cc
+    rest false b c e k = absurd (false_true k)
+      where
+        false_true : false ≡ true → ⊥
+        false_true h = cc
+
+led_ready : (p : List Bool) (ranges : List UnitRange) → AreParsed p ranges → (n : ℕ) → LeadTo ranges n → has_parsed p n ≡ true
+led_ready p [] ready n led = absurd led
+led_ready p (r ∷ ranges) ready n led = elim led [ inl e ↦ ap (has_parsed p) e ∙ ready.0 | inr more ↦ led_ready p ranges ready.1 n more ]
 
 module _ {R : Type 0} (d : Sections) (old : List (ResUnit R)) (ranges : List UnitRange) (sup : List UnitRecord)
     (made_is : index_units d ≡ Ok (record { units = indexed_units old; ranges = ranges; sup_units = sup })) where
@@ -125,30 +167,46 @@ module _ {R : Type 0} (d : Sections) (old : List (ResUnit R)) (ranges : List Uni
     all_stays = record { sections = refl; answers = refl; parsed = stay_parsed old new stay }
 
     pub after_lookup : {X : Type 0} (probe : ℕ) (result : Result (Option X) Error)
-        → (IsNotOom result → ready_along d (indexed_units old) (parsed_units new) probe (cover probe ranges) ≡ true) → looks ≤ now → (is_found result ≡ true → looks < now) → now ≤ looks + looks_along d (indexed_units old) (cover probe ranges)
+        → (IsNotOom result → ready_along d (indexed_units old) (parsed_units new) probe (cover probe ranges) ≡ true) → ParsesOnly (AsksFor d (indexed_units old) probe (cover probe ranges)) (parsed_units old) (parsed_units new) → looks ≤ now → (is_found result ≡ true → looks < now) → now ≤ looks + looks_along d (indexed_units old) (cover probe ranges)
         → AfterLookup probe result (record { sections = d; answers = []; parsed = parsed_units old; looks = looks }) (record { sections = d; answers = []; parsed = parsed_units new; looks = now })
-    after_lookup probe result ready raised counted cost = record {
+    after_lookup probe result ready only raised counted cost = record {
       stays = all_stays;
       ready = λ answered. of_made (λ m. ready_along d m.units (parsed_units new) probe (cover probe m.ranges) ≡ true) (ready answered);
+      only = of_made (λ m. ParsesOnly (AsksFor d m.units probe (cover probe m.ranges)) (parsed_units old) (parsed_units new)) only;
+      same = λ before. same_if_asked old new stay _ only (asked_ready d (indexed_units old) (parsed_units old) probe (cover probe ranges) (before _ made_is));
       raised = raised;
       counted = counted;
       cost = of_made (λ m. now ≤ looks + looks_along d m.units (cover probe m.ranges)) cost;
     }
 
-  pub after_range_lookup : (new : List (ResUnit R)) → StayUnits old new → (looks : ℕ) → {X : Type 0} (low high : ℕ) (result : Result X Error) → (IsNotOom result → AreParsed (parsed_units new) (cover_range low high ranges))
+    pub after_parse : ParsesOnly (AllAskFor d (indexed_units old)) (parsed_units old) (parsed_units new)
+        → ParsesToFault (record { sections = d; answers = []; parsed = parsed_units old; looks = looks }) (record { sections = d; answers = []; parsed = parsed_units new; looks = now })
+    after_parse only = of_made (λ m. ParsesOnly (AllAskFor d m.units) (parsed_units old) (parsed_units new)) only
+
+    pub same_after_parse : ParsesOnly (AllAskFor d (indexed_units old)) (parsed_units old) (parsed_units new)
+        → IsReadyForAll (record { sections = d; answers = []; parsed = parsed_units old; looks = looks }) → parsed_units new ≡ parsed_units old
+    same_after_parse only before = same_if_asked old new stay _ only (before _ made_is)
+
+    pub ready_after_parse : AreReadyForAll d (indexed_units old) (parsed_units new) → IsReadyForAll (record { sections = d; answers = []; parsed = parsed_units new; looks = now })
+    ready_after_parse ready = of_made (λ m. AreReadyForAll d m.units (parsed_units new)) ready
+
+  pub after_range_lookup : (new : List (ResUnit R)) → StayUnits old new → (looks : ℕ) → {X : Type 0} (low high : ℕ) (result : Result X Error) → (IsNotOom result → AreParsed (parsed_units new) (cover_range low high ranges)) → ParsesOnly (LeadTo (cover_range low high ranges)) (parsed_units old) (parsed_units new)
       → AfterRangeLookup low high result (record { sections = d; answers = []; parsed = parsed_units old; looks = looks }) (record { sections = d; answers = []; parsed = parsed_units new; looks = looks })
-  after_range_lookup new stay looks low high result ready = record {
+  after_range_lookup new stay looks low high result ready only = record {
     stays = all_stays new stay looks looks;
     ready = λ answered. of_made (λ m. AreParsed (parsed_units new) (cover_range low high m.ranges)) (ready answered);
+    only = of_made (λ m. ParsesOnly (LeadTo (cover_range low high m.ranges)) (parsed_units old) (parsed_units new)) only;
+    same = λ before. same_if_asked old new stay _ only (led_ready (parsed_units old) (cover_range low high ranges) (before _ made_is));
     looks = refl;
   }
 
 -- what a context has after a call is still what its sections give
 pub still_a_context : {R : Type 0} (d : Sections) (old : List (ResUnit R)) (ranges : List UnitRange) (sup : List UnitRecord) → index_units d ≡ Ok (record { units = indexed_units old; ranges = ranges; sup_units = sup })
-    → (new : List (ResUnit R)) → StayUnits old new → (now : List UnitRange) → now ≡ ranges → HaveLinesOf d new → IsContext d new now sup
-still_a_context d old ranges sup made_is new stay now same lines = record {
+    → (new : List (ResUnit R)) → StayUnits old new → (now : List UnitRange) → now ≡ ranges → HaveLinesOf d new → (sup_dwarf : Option Sections) → sup_dwarf ≡ option_map sup_sections d.sup → IsContext d new now sup sup_dwarf
+still_a_context d old ranges sup made_is new stay now same lines sup_dwarf sup_is = record {
   made_is = made_is ∙ ap (λ us. Ok (record { units = us; ranges = ranges; sup_units = sup })) (sym (stay_indexed old new stay)) ∙ ap (λ rs. Ok (record { units = indexed_units new; ranges = rs; sup_units = sup })) (sym same);
   lines = lines;
+  sup_dwarf_is = sup_is;
 }
 
 -- whether lines can be read, of each unit and along ranges

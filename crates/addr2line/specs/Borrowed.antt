@@ -1,5 +1,5 @@
 -- What holds of a context once the location that a lookup lent from it is dropped.
-use Rattle.std.specs.Prelude.{Bool, ℕ}
+use Rattle.std.specs.Prelude.{Bool}
 use Rattle.std.specs.Borrow.{Fml, RattleType, MutBor}
 use Rattle.std.specs.Io.BufRead.{Rests}
 use Rattle.gimli_read.specs.Section.{Section}

@@ -5,7 +5,7 @@
 -- parsed; a context that is made has parsed them only where they give a unit its ranges, and a unit
 -- without a line program has its lines, which are none.
 -- limit: no unit is loaded yet, so there is no answer
-use Rattle.std.specs.Prelude.{◌≡◌, ℕ, ◌+◌, ◌<◌, ◌≤◌, Bool, true, List, [], map, Option, Result, Ok, Err}
+use Rattle.std.specs.Prelude.{◌≡◌, ℕ, ◌+◌, ◌<◌, ◌≤◌, Bool, true, List, [], map, Option, option_map, Result, Ok}
 use Rattle.gimli_read.specs.declared.error.Error.{Error}
 use Rattle.gimli_read.specs.Reading.{◌>>=◌}
 use Rattle.gimli.specs.Sections.{Sections}
@@ -13,9 +13,9 @@ use Rattle.gimli.specs.Unit.{UnitRecord}
 use Rattle.addr2line_units.specs.declared.index.UnitRange.{UnitRange}
 use Rattle.addr2line_units.specs.declared.unit.ResUnit.{ResUnit}
 use Rattle.addr2line_units.specs.CachedLines.{HaveLinesOf, indexed_units}
-use Rattle.addr2line_units.specs.Located.{all_lines, along, is_found, lines_fault, looks_along}
-use Rattle.addr2line_units.specs.UnitIndex.{UnitIndex, has_lines, index_units, ranged_units, sup_units}
-use Rattle.addr2line_units.specs.Parsed.{AreParsed, IsNotOom, StaysParsed, ready_along}
+use Rattle.addr2line_units.specs.Located.{all_lines, is_found, lines_fault, looks_along}
+use Rattle.addr2line_units.specs.UnitIndex.{UnitIndex, has_lines, index_units, ranged_units, sup_sections, sup_units}
+use Rattle.addr2line_units.specs.Parsed.{AllAskFor, AreParsed, AreReadyForAll, AsksFor, IsNotOom, LeadTo, ParsesOnly, StaysParsed, ready_along}
 use Rattle.addr2line_units.specs.Cover.{cover, cover_range}
 
 -- the first answer to the load of a unit: the sections of a split file, or none
@@ -48,6 +48,26 @@ abbrev pub IsReadyForRange : ContextState → ℕ → ℕ → Type 0
 IsReadyForRange c low high = (m : UnitIndex) → index_units c.sections ≡ Ok m
     → AreParsed c.parsed (cover_range low high m.ranges)
 
+-- a parse of all lines parses nothing: they are parsed, up to the first fault
+abbrev pub IsReadyForAll : ContextState → Type 0
+IsReadyForAll c = (m : UnitIndex) → index_units c.sections ≡ Ok m
+    → AreReadyForAll c.sections m.units c.parsed
+
+-- no lines are parsed but those of the units that the lookup asks for
+abbrev pub LookupParses : ℕ → ContextState → ContextState → Type 0
+LookupParses probe old new = (m : UnitIndex) → index_units old.sections ≡ Ok m
+    → ParsesOnly (AsksFor old.sections m.units probe (cover probe m.ranges)) old.parsed new.parsed
+
+-- no lines are parsed but those of the units that the range meets
+abbrev pub RangeLookupParses : ℕ → ℕ → ContextState → ContextState → Type 0
+RangeLookupParses low high old new = (m : UnitIndex) → index_units old.sections ≡ Ok m
+    → ParsesOnly (LeadTo (cover_range low high m.ranges)) old.parsed new.parsed
+
+-- no lines are parsed behind the first fault
+abbrev pub ParsesToFault : ContextState → ContextState → Type 0
+ParsesToFault old new = (m : UnitIndex) → index_units old.sections ≡ Ok m
+    → ParsesOnly (AllAskFor old.sections m.units) old.parsed new.parsed
+
 -- the most looks of a lookup of the probe
 abbrev pub LooksWithin : ℕ → ContextState → ContextState → Type 0
 LooksWithin probe old new = (m : UnitIndex) → index_units old.sections ≡ Ok m
@@ -59,20 +79,26 @@ pub record Stays (old new : ContextState) : Type 0 where
   pub answers : new.answers ≡ old.answers
   pub parsed : StaysParsed old.parsed new.parsed
 
--- after a lookup of the probe the same lookup parses nothing more
+-- after a lookup of the probe the same lookup parses nothing more; where it was ready, nothing was
+-- parsed by it
 pub record AfterLookup {X : Type 0} (probe : ℕ) (result : Result (Option X) Error)
     (old new : ContextState) : Type 0 where
   pub stays : Stays old new
   pub ready : IsNotOom result → IsReady new probe
+  pub only : LookupParses probe old new
+  pub same : IsReady old probe → new.parsed ≡ old.parsed
   pub raised : old.looks ≤ new.looks
   pub counted : is_found result ≡ true → old.looks < new.looks
   pub cost : LooksWithin probe old new
 
--- after a lookup of a range the same lookup parses nothing more
+-- after a lookup of a range the same lookup parses nothing more; where it was ready, nothing was
+-- parsed by it
 pub record AfterRangeLookup {X : Type 0} (low high : ℕ) (result : Result X Error)
     (old new : ContextState) : Type 0 where
   pub stays : Stays old new
   pub ready : IsNotOom result → IsReadyForRange new low high
+  pub only : RangeLookupParses low high old new
+  pub same : IsReadyForRange old low high → new.parsed ≡ old.parsed
   pub looks : new.looks ≡ old.looks
 
 -- whether the lines of all units can be read, or the first fault
@@ -81,7 +107,8 @@ lines_of_all d = index_units d >>= λ m. lines_fault (all_lines d m.units)
 
 -- what a context has is what its sections give
 pub record IsContext {R : Type 0} (d : Sections) (units : List (ResUnit R))
-    (ranges : List UnitRange) (sup : List UnitRecord) : Type 0 where
+    (ranges : List UnitRange) (sup : List UnitRecord) (sup_dwarf : Option Sections) : Type 0 where
   pub made_is : index_units d
       ≡ Ok (record { units = indexed_units units; ranges = ranges; sup_units = sup })
   pub lines : HaveLinesOf d units
+  pub sup_dwarf_is : sup_dwarf ≡ option_map sup_sections d.sup

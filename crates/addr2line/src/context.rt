@@ -9,8 +9,8 @@ ghost use Rattle.addr2line_lines.specs.SeenLocation.{seen_location};
 ghost use Rattle.addr2line_units.specs.Indexed.{context_takes_memory};
 ghost use Rattle.addr2line_units.specs.Located.{location_of, spans_of};
 ghost use Rattle.addr2line_units.specs.LocationsLeft.{locations_left};
-ghost use Rattle.addr2line_units.specs.Parsed.{AreAllParsed};
-ghost use Rattle.addr2line.specs.Context.{new_context, lines_of_all, AfterLookup, AfterRangeLookup, IsReady, IsReadyForRange, Stays};
+ghost use Rattle.addr2line_units.specs.Parsed.{AreAllParsed, IsNotOom};
+ghost use Rattle.addr2line.specs.Context.{new_context, lines_of_all, AfterLookup, AfterRangeLookup, IsReady, IsReadyForAll, IsReadyForRange, ParsesToFault, Stays};
 
 use addr2line_lines::{Count, Location};
 use addr2line_units::range::LocationRangeIter;
@@ -52,7 +52,7 @@ impl<R: Reader> Model for Context<R> {
     } };
 
     ghost invariant = { λ c. IsContext c.dwarf.value c.units.units.items c.units.ranges
-        c.sup_units.units.items };
+        c.sup_units.units.items c.sup_units.dwarf };
 }
 
 impl<R: Reader> Context<R> {
@@ -62,7 +62,8 @@ impl<R: Reader> Context<R> {
     ///
     /// The sets of `.debug_aranges` are read, then the headers, records and range attributes of all
     /// units, then the headers and records of the supplementary file. The line program of a unit is
-    /// run here only where neither `.debug_aranges` nor the unit's attributes give it a range.
+    /// run here only where no range is given for it: by its range list if it has one,
+    /// else by `.debug_aranges`, else by its other attributes.
     ///
     /// Refused by the first fault of a set's header, of a unit's header, or of the range attributes
     /// or range list of a unit whose record can be read, each unit whole before the next header;
@@ -78,9 +79,11 @@ impl<R: Reader> Context<R> {
 
     /// A context of the sections of a file that others may hold too.
     ///
-    /// Refused as `from_dwarf` is; takes no memory where no set of `.debug_aranges` lists a range,
-    /// no header can be read of a unit whose abbreviations begin in their section and that is no
-    /// type unit, of a supplementary file's neither, and no bytes are shared.
+    /// Refused as `from_dwarf` is; each step takes memory only if those before it have no fault.
+    /// The sets of `.debug_aranges` take memory where one lists a range, up to their first fault.
+    /// The units take memory where bytes are shared, or where the header can be read of a unit that
+    /// is no type unit and whose abbreviations begin in their section. The supplementary file takes
+    /// memory where bytes are shared, or where it has such a unit, a type unit too.
     pub fn from_arc_dwarf(alloc: Global, dwarf: Rc<Dwarf<R>>) -> Result<Context<R>, Error>
         ensures gives { ExactlyUnlessOomIf (context_takes_memory R.shares dwarf.value) (λ c. c)
             result (new_context dwarf.value) }
@@ -153,7 +156,8 @@ impl<R: Reader> Context<R> {
     ///
     /// `probe` is an address as the file has it. Of the ranges that hold it, by end, then unit,
     /// then begin, the first whose unit has a location gives it. The lines of each unit up to it
-    /// are parsed at the first such lookup, and stay parsed, their fault too.
+    /// are parsed at the first such lookup, and stay parsed, their fault too; no other lines are
+    /// parsed.
     ///
     /// Refused by the first such fault; may fail with `OutOfMemory` instead, which is never cached.
     /// Takes no memory where the lines that it asks for are parsed, nor where no unit covers
@@ -182,8 +186,8 @@ impl<R: Reader> Context<R> {
     /// of its span, and its location: unit range after unit range, by end, then unit, then begin.
     ///
     /// Addresses are as the file has them; `low` may be above `high`. The lines of each unit that
-    /// is met are parsed, unless they are, and stay parsed, their fault too; a fault is given in
-    /// the place of the unit's rows.
+    /// is met are parsed, unless they are, and stay parsed, their fault too; no other lines are
+    /// parsed. A fault is given in the place of the unit's rows.
     ///
     /// Refused `OutOfMemory` alone, which is never cached; takes no memory where the lines are
     /// parsed.
@@ -205,17 +209,22 @@ impl<R: Reader> Context<R> {
         Ok(self.units.find_location_range(low, high))
     }
 
-    /// Parses the lines of all units in their order, unless they are parsed; they stay parsed,
-    /// their fault too.
+    /// Parses the lines of all units in their order, unless they are parsed, up to the first fault;
+    /// they stay parsed, and that fault is kept too. The lines of the units behind it are left as
+    /// they are.
     ///
-    /// Refused by the first fault; may fail with `OutOfMemory` instead, which is never cached. Once
-    /// it isn't refused, `find_location` takes no memory and finds no fault.
+    /// Refused by the first fault; may fail with `OutOfMemory` instead, which is never kept. Takes
+    /// no memory where the lines up to the first fault are parsed. Once it isn't refused,
+    /// `find_location` takes no memory and finds no fault.
     pub fn parse_lines(&mut self) -> Result<(), Error>
         ensures gives { ExactlyUnlessOom (λ x. x) result (lines_of_all self.old.sections) }
-        ensures exact { AreAllParsed self.old.parsed
+        ensures exact { IsReadyForAll self.old
             → Exactly (λ x. x) result (lines_of_all self.old.sections) }
         ensures stays { Stays self.old self.new }
         ensures looks { self.new.looks ≡ self.old.looks }
+        ensures ready_for_all { IsNotOom result → IsReadyForAll self.new }
+        ensures only { ParsesToFault self.old self.new }
+        ensures same { IsReadyForAll self.old → self.new.parsed ≡ self.old.parsed }
         ensures parsed { OnOk result (AreAllParsed self.new.parsed) }
         ensures ready { OnOk result ((probe : ℕ) → IsReady self.new probe) }
         ensures ready_for_range { OnOk result ((low high : ℕ)

@@ -35,20 +35,28 @@ neither false c h = (refl, h)
 second : {A : Type 0} (b : Bool) (x y : A) → b ≡ false → cond b x y ≡ y
 second b x y h = ap (λ c. cond c x y) h
 
--- what holds of the names of ranges holds of each of them
-by_range_name : (P : DwAt → Type 0) → P DW_AT_low_pc → P DW_AT_high_pc → P DW_AT_ranges → (name : DwAt) → is_range_name name ≡ true → P name
-by_range_name P low high ranges name h = by_low (name.0 == DW_AT_low_pc.0) refl h
+-- what holds of three names holds of each that is one of them
+by_one_of : (x y z : DwAt) (P : DwAt → Type 0) → P x → P y → P z → (name : DwAt) → (name.0 == x.0 || name.0 == y.0 || name.0 == z.0) ≡ true → P name
+by_one_of x y z P at_x at_y at_z name h = by_x (name.0 == x.0) refl h
   where
     same : (other : DwAt) → (name.0 == other.0) ≡ true → P other → P name
     same other e p = subst (λ (n : ℕ). P (record { 0 = n })) (let s : name.0 ≡ other.0 = eqb-true name.0 other.0 e in cc) p
 
-    by_high : (b : Bool) → (name.0 == DW_AT_high_pc.0) ≡ b → (b || name.0 == DW_AT_ranges.0) ≡ true → P name
-    by_high true e h = same DW_AT_high_pc e high
-    by_high false e h = same DW_AT_ranges h ranges
+    by_y : (b : Bool) → (name.0 == y.0) ≡ b → (b || name.0 == z.0) ≡ true → P name
+    by_y true e h = same y e at_y
+    by_y false e h = same z h at_z
 
-    by_low : (b : Bool) → (name.0 == DW_AT_low_pc.0) ≡ b → (b || name.0 == DW_AT_high_pc.0 || name.0 == DW_AT_ranges.0) ≡ true → P name
-    by_low true e h = same DW_AT_low_pc e low
-    by_low false e h = by_high (name.0 == DW_AT_high_pc.0) refl h
+    by_x : (b : Bool) → (name.0 == x.0) ≡ b → (b || name.0 == y.0 || name.0 == z.0) ≡ true → P name
+    by_x true e h = same x e at_x
+    by_x false e h = by_y (name.0 == y.0) refl h
+
+-- what holds of the names of ranges holds of each of them
+by_range_name : (P : DwAt → Type 0) → P DW_AT_low_pc → P DW_AT_high_pc → P DW_AT_ranges → (name : DwAt) → is_range_name name ≡ true → P name
+by_range_name P low high ranges name h = by_one_of DW_AT_low_pc DW_AT_high_pc DW_AT_ranges P low high ranges name h
+
+-- what holds of the names of calls holds of each of them
+by_call_name : (P : DwAt → Type 0) → P DW_AT_call_file → P DW_AT_call_line → P DW_AT_call_column → (name : DwAt) → is_call name ≡ true → P name
+by_call_name P file line column name h = by_one_of DW_AT_call_file DW_AT_call_line DW_AT_call_column P file line column name h
 
 module _ (scope : Scope) (u : UnitRecord) where
   -- an attribute of the ranges says nothing of the name
@@ -101,6 +109,25 @@ module _ (scope : Scope) (u : UnitRecord) where
   pub other_attribute : (x : InlinedAttributes) (a : NamedValue) → is_range_name a.name ≡ false → with_inlined_attribute scope u x a ≡ with_name_of x a x.ranges (with_name scope u x.name a)
   unfolding with_inlined_attribute
   other_attribute x a h = ap (λ r. r >>= λ ranges. with_name_of x a ranges (with_name scope u x.name a)) (rangeless scope.file.sections x.ranges a h)
+
+  -- an attribute of the call, which alone changes
+  pub call_taken : (x : InlinedAttributes) (a : NamedValue) → is_call a.name ≡ true
+      → with_inlined_attribute scope u x a ≡ Ok (record { ranges = x.ranges; name = x.name; call = with_call u.header.encoding.version x.call a })
+  call_taken x a h =
+      other_attribute x a (by_call_name (λ n. is_range_name n ≡ false) refl refl refl a.name h)
+      ∙ ap (with_name_of x a x.ranges) (nameless x.name a (by_call_name (λ n. is_name_attribute n ≡ false) refl refl refl a.name h))
+
+  -- an attribute of the ranges, which alone change
+  pub ranges_taken : (x : InlinedAttributes) (a : NamedValue) → is_call a.name ≡ false → is_range_name a.name ≡ true
+      → with_inlined_attribute scope u x a ≡ (with_range_attribute scope.file.sections u x.ranges a >>= λ ranges. Ok (record { ranges = ranges; name = x.name; call = x.call }))
+  ranges_taken x a c h =
+      range_attribute x a h ∙ ap (λ (call : CallSite). with_range_attribute scope.file.sections u x.ranges a >>= λ ranges. Ok (record { ranges = ranges; name = x.name; call = call })) (callless u.header.encoding.version x.call a c)
+
+  -- another attribute: the name alone changes
+  pub name_taken : (x : InlinedAttributes) (a : NamedValue) → is_call a.name ≡ false → is_range_name a.name ≡ false
+      → with_inlined_attribute scope u x a ≡ (with_name scope u x.name a >>= λ name. Ok (record { ranges = x.ranges; name = name; call = x.call }))
+  name_taken x a c h =
+      other_attribute x a h ∙ ap (λ (call : CallSite). with_name scope u x.name a >>= λ name. Ok (record { ranges = x.ranges; name = name; call = call })) (callless u.header.encoding.version x.call a c)
 
   -- an attribute that says nothing of an inlined entry
   pub unwanted : (x : InlinedAttributes) (a : NamedValue) → is_wanted a.name ≡ false → with_inlined_attribute scope u x a ≡ Ok x

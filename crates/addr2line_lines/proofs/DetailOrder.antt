@@ -1,11 +1,8 @@
 -- The details of a function are what is found of it (on specs/FoundDetails.antt).
-use Rattle.std.proofs.Common.{◌≡◌, ℕ, ◌+◌, ◌-◌, ◌<◌, nat_lt, ◌≤◌, ◌==◌, ◌&&◌, Bool, true, false, cond, List, [], ◌∷◌, ◌++◌, count_by, drop, filter, map, length, slice_index_or, Option, Some, None, Result, Ok, Err, refl, ap, sym, subst, ◌∙◌, arith, length-append, length-drop, append-nil, zero, suc, ℤ, pos}
-use Rattle.std.specs.List.{All, AllByRecursion}
+use Rattle.std.proofs.Common.{◌≡◌, ℕ, ◌-◌, ◌<◌, nat_lt, ◌≤◌, ◌==◌, ◌&&◌, Bool, true, false, cond, List, [], ◌∷◌, ◌++◌, count_by, filter, map, length, Option, Some, None, Result, Ok, Err, refl, ap, sym, subst, ◌∙◌, arith, length-drop, ℤ, pos}
 use Rattle.std.proofs.lemmas.Bool.{eqb-true, ne_eqb}
 use Rattle.std.proofs.lemmas.Bool.Decides.{nat_tests}
 use Rattle.std.proofs.lemmas.Grind.{common_steps}
-use Rattle.std.proofs.lemmas.List.{drop-append-le, map-append}
-use Rattle.std.proofs.lemmas.List.Elements.{All-append, All-head, All-map, All-tail, All-weaker, recursion_from_All}
 use Rattle.std.proofs.Math.Seq.{drop-length}
 use Rattle.gimli_read.specs.declared.constants.TheConstants.DwTag.{DW_TAG_inlined_subroutine, DW_TAG_subprogram}
 use Rattle.gimli_read.specs.declared.error.Error.{Error}
@@ -22,19 +19,16 @@ use Rattle.gimli.specs.Header.{UnitHeaderFields}
 use Rattle.gimli.specs.Items.{Entry, Item, depth_after, item_at, item_from, items_from, items_inside, next_item_at}
 use Rattle.gimli.specs.Unit.{UnitRecord}
 use Rattle.gimli.proofs.ItemLemmas.{next_is}
-use Rattle.addr2line_lines.specs.declared.picks.InlinedFunctionAddress.{InlinedFunctionAddress}
 use Rattle.addr2line_lines.specs.declared.nesting.Kind.{Kind}
 use Rattle.addr2line_lines.specs.declared.nesting.Kind.TheVariants.{Inlined, Other, Subprogram}
-use Rattle.addr2line_lines.specs.Details.{Detail, InlinedAttributes, InlinedEntry, InlinedRange, detail_at, entry_of, inlined_attributes_of, inlined_entry, inlined_in, inlined_ranges, is_in_function, is_inlined, number_of, open_after, placed, with_inlined}
-use Rattle.addr2line_lines.specs.FoundDetails.{FoundAround, FoundInlined, IsPlaceAmong, abbreviation_of, closed_once, detail_found_at, function_found_at, inlined_address, inlined_more, range_among, inside_found, is_inlined_kind, is_listed, is_subprogram_kind, kind_of, kinds_such, name_after, no_inlined, opened, ranges_from, with_entry_found, with_inlined_found, with_item_found}
+use Rattle.addr2line_lines.specs.Details.{Detail, InlinedAttributes, InlinedRange, detail_at, entry_of, inlined_attributes_of, inlined_entry, inlined_in, inlined_ranges, is_in_function, is_inlined, number_of, open_after, placed, with_inlined}
+use Rattle.addr2line_lines.specs.FoundDetails.{FoundAround, FoundInlined, abbreviation_of, closed_once, detail_found_at, function_found_at, inlined_more, range_among, inside_found, is_inlined_kind, is_listed, is_subprogram_kind, kind_of, kinds_such, name_after, opened, ranges_from, with_entry_found, with_inlined_found, with_item_found}
 use Rattle.addr2line_lines.specs.Functions.{is_subprogram}
-use Rattle.addr2line_lines.specs.InlinedOrder.{place}
-use Rattle.addr2line_lines.specs.KeptDetails.{IsOfEntryBetween}
 use Rattle.addr2line_lines.specs.Names.{name_of}
 use Rattle.addr2line_lines.specs.RangeAttributes.{attribute_ranges}
 use Rattle.addr2line_lines.specs.References.{Scope}
+use Rattle.addr2line_lines.proofs.DetailRanges.{AreFrom, more_places, more_ranges, none_from}
 use Rattle.addr2line_lines.proofs.NestingLemmas.{coded}
-use Rattle.addr2line_lines.proofs.SeekLemmas.{Up}
 
 -- what the kinds of open entries tell
 abbrev kind_at : ℕ → Kind
@@ -71,96 +65,6 @@ listed_is : (a : Abbrev) (x : Item) (up : List Abbrev) → is_listed (kind_of a)
 listed_is a x up =
     ap (λ b. b && (count_by is_subprogram_kind (map kind_of up) == 0)) (inlined_at a.tag.0)
     ∙ ap (λ n. is_inlined a && (n == 0)) (counted is_subprogram is_subprogram_kind (λ b. subprogram_at b.tag.0) up)
-
--- one more inlined entry changes nothing of those before
-same_entry : (entries : List InlinedEntry) (e d : InlinedEntry) (k : ℕ) → k < length entries → slice_index_or (entries ++ e ∷ []) k d ≡ slice_index_or entries k d
-same_entry [] e d k l = absurd (omega arith)
-same_entry (x ∷ entries) e d zero l = refl
-same_entry (x ∷ entries) e d (suc k) l = same_entry entries e d k (omega arith)
-
-last_entry : (entries : List InlinedEntry) (e d : InlinedEntry) → slice_index_or (entries ++ e ∷ []) (length entries) d ≡ e
-last_entry [] e d = refl
-last_entry (x ∷ entries) e d = last_entry entries e d
-
--- a range of an inlined entry
-abbrev pub of_entry : ℕ → InlinedEntry → Range → InlinedRange
-of_entry depth e r = record { depth = depth; range = r; entry = e }
-
-same_ranges : (entries : List InlinedEntry) (e : InlinedEntry) (xs : List InlinedFunctionAddress) → All (IsPlaceAmong entries) xs → map (range_among (entries ++ e ∷ [])) xs ≡ map (range_among entries) xs
-same_ranges entries e [] all = refl
-same_ranges entries e (a ∷ xs) all =
-    let one : range_among (entries ++ e ∷ []) a ≡ range_among entries a = ap (λ (y : InlinedEntry). of_entry a.depth y a.range) (same_entry entries e no_inlined a.function (All-head (IsPlaceAmong entries) a xs all)) in
-    ap (λ (y : InlinedRange). y ∷ map (range_among (entries ++ e ∷ [])) xs) one
-    ∙ ap (λ ys. range_among entries a ∷ ys) (same_ranges entries e xs (All-tail (IsPlaceAmong entries) a xs all))
-
-new_ranges : (entries : List InlinedEntry) (e : InlinedEntry) (depth : ℕ) (ranges : List Range) → map (range_among (entries ++ e ∷ [])) (map (inlined_address depth (length entries)) ranges) ≡ map (of_entry depth e) ranges
-new_ranges entries e depth [] = refl
-new_ranges entries e depth (r ∷ ranges) =
-    let one : range_among (entries ++ e ∷ []) (inlined_address depth (length entries) r) ≡ of_entry depth e r = ap (λ (y : InlinedEntry). of_entry depth y r) (last_entry entries e no_inlined) in
-    ap (λ (y : InlinedRange). y ∷ map (range_among (entries ++ e ∷ [])) (map (inlined_address depth (length entries)) ranges)) one
-    ∙ ap (λ ys. of_entry depth e r ∷ ys) (new_ranges entries e depth ranges)
-
--- the ranges from a place on are by places of inlined entries that stand past others, and these
--- places do not fall
-pub record AreFrom (before n : ℕ) (found : FoundInlined) : Type 0 where
-  pub within : n ≤ length found.ranges
-  pub past : before ≤ length found.entries
-  pub places : All (IsOfEntryBetween before (length found.entries)) (drop n found.ranges)
-  pub rising : Up place (drop n found.ranges)
-
-pub among : (begin end : ℕ) (entries : List InlinedEntry) (xs : List InlinedFunctionAddress) → end ≤ length entries → All (IsOfEntryBetween begin end) xs → All (IsPlaceAmong entries) xs
-among begin end entries xs l all = All-weaker (IsOfEntryBetween begin end) (IsPlaceAmong entries) (λ a k. let h = k.1 in omega arith) xs all
-
--- ranges of a place after ranges of places that are not above it
-module _ (m depth : ℕ) where
-  new_after : (x : InlinedFunctionAddress) (ranges : List Range) → place x ≤ m → AllByRecursion (λ y. place x ≤ place y) (map (inlined_address depth m) ranges)
-  new_after x [] l = tt
-  new_after x (r ∷ ranges) l = (l, new_after x ranges l)
-
-  all_after : (x : InlinedFunctionAddress) (xs : List InlinedFunctionAddress) (ranges : List Range) → place x ≤ m → AllByRecursion (λ y. place x ≤ place y) xs → AllByRecursion (λ y. place x ≤ place y) (xs ++ map (inlined_address depth m) ranges)
-  all_after x [] ranges l all = new_after x ranges l
-  all_after x (y ∷ xs) ranges l all = (all.0, all_after x xs ranges l all.1)
-
-  new_up : (ranges : List Range) → Up place (map (inlined_address depth m) ranges)
-  new_up [] = tt
-  new_up (r ∷ ranges) = (new_after (inlined_address depth m r) ranges (omega arith), new_up ranges)
-
-  up_after : (xs : List InlinedFunctionAddress) (ranges : List Range) → AllByRecursion (λ x. place x ≤ m) xs → Up place xs → Up place (xs ++ map (inlined_address depth m) ranges)
-  up_after [] ranges all up = new_up ranges
-  up_after (x ∷ xs) ranges all up = (all_after x xs ranges all.0 up.0, up_after xs ranges all.1 up.1)
-
-more_ranges : (before n : ℕ) (found : FoundInlined) (e : InlinedEntry) (depth : ℕ) (ranges : List Range) → AreFrom before n found → ranges_from n (inlined_more found e depth ranges) ≡ ranges_from n found ++ map (of_entry depth e) ranges
-more_ranges before n found e depth [] all = sym (append-nil (ranges_from n found))
-more_ranges before n found e depth (r ∷ ranges) all =
-    let added = map (inlined_address depth (length found.entries)) (r ∷ ranges) in
-    ap (λ xs. map (range_among (found.entries ++ e ∷ [])) xs) (drop-append-le n found.ranges added all.within)
-    ∙ map-append (range_among (found.entries ++ e ∷ [])) (drop n found.ranges) added
-    ∙ ap (λ xs. xs ++ map (range_among (found.entries ++ e ∷ [])) added) (same_ranges found.entries e (drop n found.ranges) (among before (length found.entries) found.entries (drop n found.ranges) (omega arith) all.places))
-    ∙ ap (λ xs. ranges_from n found ++ xs) (new_ranges found.entries e depth (r ∷ ranges))
-
-more_places : (before n : ℕ) (found : FoundInlined) (e : InlinedEntry) (depth : ℕ) (ranges : List Range) → AreFrom before n found → AreFrom before n (inlined_more found e depth ranges)
-more_places before n found e depth [] all = all
-more_places before n found e depth (r ∷ ranges) all =
-    let m = length found.entries in
-    let added = map (inlined_address depth m) (r ∷ ranges) in
-    let next : length (found.entries ++ e ∷ []) ≡ length found.entries + 1 = length-append found.entries (e ∷ []) in
-    let l = length-append found.ranges added in
-    let w = all.within in
-    let p = all.past in
-    let is : drop n (found.ranges ++ added) ≡ drop n found.ranges ++ added = drop-append-le n found.ranges added all.within in
-    let Between : InlinedFunctionAddress → Type 0 = IsOfEntryBetween before (length (found.entries ++ e ∷ [])) in
-    record {
-      within = omega arith;
-      past = omega arith;
-      places = subst (All Between) (sym is)
-          (All-append Between (drop n found.ranges) added
-          (All-weaker (IsOfEntryBetween before m) Between (λ a k. let h = k.1 in (k.0, omega arith)) (drop n found.ranges) all.places)
-          (All-map Between (inlined_address depth m) (r ∷ ranges) (λ k d j. (p, omega arith))));
-      rising = subst (Up place) (sym is)
-          (up_after m depth (drop n found.ranges) (r ∷ ranges)
-          (recursion_from_All (λ x. place x ≤ m) (drop n found.ranges) (All-weaker (IsOfEntryBetween before m) (λ x. place x ≤ m) (λ a k. let h = k.1 in omega arith) (drop n found.ranges) all.places))
-          all.rising);
-    }
 
 -- the ranges are those of what was found from a place on; or both are faulty
 abbrev pub Agrees : ℕ → ℕ → Result (List InlinedRange) Error → Result FoundInlined Error → Type 0
@@ -259,14 +163,6 @@ module _ (scope : Scope) (u : UnitRecord) (before n : ℕ) where
       last : (w : Result (List InlinedRange × Unit {0}) Error) (m : Result (FoundAround × Unit {0}) Error) → AgreesEnd w m → Agrees before n (w >>= λ f. Ok f.0) (m >>= λ more. Ok more.0.found)
       last w (Ok m) h = (ap (λ r. r >>= λ f. Ok f.0) h.0, h.1)
       last w (Err e) h = ap (λ r. r >>= λ f. Ok f.0) h
-
-none_from : (found : FoundInlined) → AreFrom (length found.entries) (length found.ranges) found
-none_from found = record {
-  within = omega arith;
-  past = omega arith;
-  places = subst (All (IsOfEntryBetween (length found.entries) (length found.entries))) (sym (drop-length found.ranges)) (λ k d l. absurd (omega arith));
-  rising = subst (Up place) (sym (drop-length found.ranges)) tt;
-}
 
 -- a unit's offset is below its end
 pub some_left : (header : UnitHeaderFields) (offset : ℕ) (s : Section) → entry_bytes_from header (Some offset) ≡ Ok s → (length s.bytes == 0) ≡ false

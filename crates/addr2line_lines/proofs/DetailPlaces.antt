@@ -3,7 +3,7 @@ use Rattle.std.proofs.Common.{◌≡◌, ℕ, ◌+◌, ◌-◌, ◌<◌, ◌≤�
 use Rattle.std.specs.List.{All, AllByRecursion}
 use Rattle.std.specs.List.Sorted.{IsNonDecreasingBy}
 use Rattle.std.proofs.lemmas.List.{drop-append-le, length-map, length-take-le, take-append-le}
-use Rattle.std.proofs.lemmas.List.Elements.{All-head, All-tail, All-weaker, recursion_from_All}
+use Rattle.std.proofs.lemmas.List.Elements.{All-weaker, recursion_from_All}
 use Rattle.std.proofs.Math.Seq.{drop-append_seam, take-append_seam, take-length}
 use Rattle.gimli_read.specs.declared.error.Error.{Error}
 use Rattle.gimli_read.specs.Reading.{ExactlyUnlessOomIf}
@@ -13,13 +13,14 @@ use Rattle.gimli.specs.Unit.{UnitRecord}
 use Rattle.addr2line_lines.specs.declared.details.FunctionDetail.{FunctionDetail}
 use Rattle.addr2line_lines.specs.declared.picks.InlinedFunctionAddress.{InlinedFunctionAddress}
 use Rattle.addr2line_lines.specs.Details.{Detail, InlinedEntry, InlinedRange, detail_at, inlined_chain}
-use Rattle.addr2line_lines.specs.FoundDetails.{FoundInlined, IsFoundMore, IsGrown, IsPlaceAmong, detail_found_at, entry_among, first_found, no_inlined, range_among}
+use Rattle.addr2line_lines.specs.FoundDetails.{FoundInlined, IsFoundMore, IsGrown, detail_found_at, entry_among, first_found, range_among}
 use Rattle.addr2line_lines.specs.InlinedOrder.{inlined_sooner, place, place_begin, place_end, places_chain, places_of_depth, places_within}
 use Rattle.addr2line_lines.specs.InOrder.{IsInOrder, in_order}
 use Rattle.addr2line_lines.specs.KeptDetails.{AreDetailsMore, IsDetailPlace, IsOfEntryBetween, KeptDetails, between, detail_of, listed_ranges}
 use Rattle.addr2line_lines.specs.Pick.{at_or_below, candidate, if_past, pick}
 use Rattle.addr2line_lines.specs.References.{Scope}
-use Rattle.addr2line_lines.proofs.DetailOrder.{AgreesDetail, among, detail_agrees, of_entry}
+use Rattle.addr2line_lines.proofs.DetailOrder.{AgreesDetail, detail_agrees}
+use Rattle.addr2line_lines.proofs.DetailRanges.{among, before_more, ranges_stay}
 use Rattle.addr2line_lines.proofs.InlinedOrder.{inlined_order, length_in_order, listed_chain}
 use Rattle.addr2line_lines.proofs.NestingLemmas.{found_same, grown_not}
 use Rattle.addr2line_lines.proofs.OrderLemmas.{All-in, in_order_all, in_order_ordered}
@@ -128,18 +129,6 @@ sorted_more start xs listed e h = record { more = in_order inlined_sooner (drop 
 -- what is kept stays where nothing changes
 pub details_same : (kept more : KeptDetails) → more ≡ kept → AreDetailsMore kept more
 details_same kept more h = subst (AreDetailsMore kept) (sym h) (record { names = grown_not kept.names; found = found_same kept.found })
-
-before_more : {X : Type 0} (xs more : List X) (k : ℕ) (d : X) → k < length xs → slice_index_or (xs ++ more) k d ≡ slice_index_or xs k d
-before_more [] more k d l = absurd (omega arith)
-before_more (x ∷ xs) more zero d l = refl
-before_more (x ∷ xs) more (suc k) d l = before_more xs more k d (omega arith)
-
-ranges_stay : (entries more : List InlinedEntry) (xs : List InlinedFunctionAddress) → All (IsPlaceAmong entries) xs → map (range_among (entries ++ more)) xs ≡ map (range_among entries) xs
-ranges_stay entries more [] all = refl
-ranges_stay entries more (a ∷ xs) all =
-    let one : range_among (entries ++ more) a ≡ range_among entries a = ap (λ (y : InlinedEntry). of_entry a.depth y a.range) (before_more entries more a.function no_inlined (All-head (IsPlaceAmong entries) a xs all)) in
-    ap (λ (y : InlinedRange). y ∷ map (range_among (entries ++ more)) xs) one
-    ∙ ap (λ ys. range_among entries a ∷ ys) (ranges_stay entries more xs (All-tail (IsPlaceAmong entries) a xs all))
 
 -- what is added changes nothing of the details that are kept, and their places are places still
 pub detail_stays : (kept more : KeptDetails) (p : FunctionDetail) → AreDetailsMore kept more → IsDetailPlace kept p → (detail_of more p ≡ detail_of kept p) × IsDetailPlace more p

@@ -1,5 +1,5 @@
 -- What is cached of functions, as more is read (on specs/FunctionCache.antt).
-use Rattle.std.proofs.Common.{◌≡◌, ℕ, ◌+◌, ◌-◌, ◌<◌, ◌≤◌, ◌≢◌, List, [], ◌∷◌, ◌++◌, get_or, length, map, slice_get, slice_index_or, slice_set, sum_by, Option, Some, None, Result, Ok, Err, option_and_then, refl, ap, sym, subst, ◌∙◌, arith, inl, inr, zero, suc, length-append, append-nil}
+use Rattle.std.proofs.Common.{◌≡◌, ℕ, ◌+◌, ◌≤◌, ◌≢◌, List, [], ◌∷◌, ◌++◌, get_or, length, map, slice_get, slice_set, sum_by, Option, Some, None, Result, Ok, Err, refl, ap, sym, subst, ◌∙◌, arith, inl, inr, length-append, append-nil}
 use Rattle.std.specs.List.{AllByRecursion}
 use Rattle.std.specs.Option.{option_map}
 use Rattle.std.proofs.lemmas.List.{map-set}
@@ -14,17 +14,14 @@ use Rattle.addr2line_lines.specs.declared.functions.LazyDetail.{LazyDetail}
 use Rattle.addr2line_lines.specs.declared.functions.LazyDetail.TheVariants.{Unread, Read, Faulty}
 use Rattle.addr2line_lines.specs.declared.functions.LazyFunction.{LazyFunction}
 use Rattle.addr2line_lines.specs.declared.segments.FunctionAddress.{FunctionAddress}
-use Rattle.addr2line_lines.specs.Details.{Detail, InlinedRange, detail_at}
+use Rattle.addr2line_lines.specs.Details.{Detail, detail_at}
 use Rattle.addr2line_lines.specs.FoundDetails.{IsGrown, none_inlined}
 use Rattle.addr2line_lines.specs.FoundFunctions.{AreFunctions, IsUnread, function_offsets, function_range_of}
-use Rattle.addr2line_lines.specs.FunctionCache.{AreCachedFunctions, AreDetailsApart, AreRuns, HasPlace, inlined_size, name_size, ranges_size, place_read, read_at, seen_function, seen_lazy, size_of}
-use Rattle.addr2line_lines.specs.FunctionTable.{CachedFunction, FunctionTable, IsCachedThen, IsReadAt, IsReadOf, IsWithDetail, inlined_of_detail, name_of_detail}
-use Rattle.addr2line_lines.specs.Functions.{function_offset_at}
+use Rattle.addr2line_lines.specs.FunctionCache.{AreCachedFunctions, AreDetailsApart, AreRuns, HasPlace, inlined_size, name_size, ranges_size, seen_function, seen_lazy, size_of}
+use Rattle.addr2line_lines.specs.FunctionTable.{CachedFunction, FunctionTable, IsCachedThen, IsReadAt, IsReadOf, IsWithDetail}
 use Rattle.addr2line_lines.specs.KeptDetails.{AreDetailsMore, IsDetailPlace, IsNextPlace, KeptDetails, detail_of}
 use Rattle.addr2line_lines.specs.References.{Scope}
-use Rattle.addr2line_lines.specs.Segments.{function_at}
 use Rattle.addr2line_lines.proofs.DetailPlaces.{detail_stays}
-use Rattle.addr2line_lines.proofs.FunctionOrder.{found_is, place_found}
 use Rattle.addr2line_lines.proofs.PlaceLemmas.{all_at, all_set, all_weaker, at_set}
 
 -- nothing grows
@@ -101,65 +98,6 @@ unread_at d fs n offset e = by_cases (slice_get fs n) refl (sym (slice_get-map (
     by_cases (Some f) q h =
         let same : seen_function d f ≡ record { offset = offset; detail = None } = cc in
         (f, q, ap (λ (x : CachedFunction). x.offset) same, unread_lazy d f.detail (ap (λ (x : CachedFunction). x.detail) same))
-
--- a cached detail, by the place of its function
-abbrev pub cached_at : List CachedFunction → ℕ → Option (Result Detail Error)
-cached_at fs n = option_and_then (λ (f : CachedFunction). f.detail) (slice_get fs n)
-
-seen_at : (d : KeptDetails) (fs : List LazyFunction) (n : ℕ) → cached_at (map (seen_function d) fs) n ≡ option_and_then (λ (f : LazyFunction). seen_lazy d f.detail) (slice_get fs n)
-seen_at d fs n = ap (option_and_then (λ (f : CachedFunction). f.detail)) (slice_get-map (seen_function d) fs n) ∙ by_cases (slice_get fs n)
-  where
-    by_cases : (o : Option LazyFunction) → option_and_then (λ (f : CachedFunction). f.detail) (option_map (seen_function d) o) ≡ option_and_then (λ (f : LazyFunction). seen_lazy d f.detail) o
-    by_cases None = refl
-    by_cases (Some f) = refl
-
--- the detail of a function, where its place is known
-pub read_is : (d : KeptDetails) (fs : List LazyFunction) (n : ℕ) (p : FunctionDetail) → read_at fs n ≡ Some p → cached_at (map (seen_function d) fs) n ≡ Some (Ok (detail_of d p))
-read_is d fs n p e = seen_at d fs n ∙ by_cases (slice_get fs n) e
-  where
-    by_lazy : (x : LazyDetail) → place_read x ≡ Some p → seen_lazy d x ≡ Some (Ok (detail_of d p))
-    by_lazy Unread h = absurd cc
-    by_lazy (Read q) h = let same : q ≡ p = cc in ap (λ r. Some (Ok (detail_of d r))) same
-    by_lazy (Faulty f) h = absurd cc
-
-    by_cases : (o : Option LazyFunction) → option_and_then (λ (f : LazyFunction). place_read f.detail) o ≡ Some p → option_and_then (λ (f : LazyFunction). seen_lazy d f.detail) o ≡ Some (Ok (detail_of d p))
-    by_cases None h = absurd cc
-    by_cases (Some f) h = by_lazy f.detail h
-
--- the inlined ranges of a cached detail
-abbrev pub inlined_cached : Option (Result Detail Error) → List InlinedRange
-inlined_cached v = elim v [ None ↦ [] | Some x ↦ inlined_of_detail x ]
-
--- neither a name nor inlined ranges
-abbrev pub HasNone : Option (Result Detail Error) → Type 0
-HasNone v = (option_and_then name_of_detail v ≡ None) × (inlined_cached v ≡ [])
-
--- where the detail of a function isn't read it has no name and no inlined ranges
-pub none_read : (d : KeptDetails) (fs : List LazyFunction) (n : ℕ) → read_at fs n ≡ None
-    → HasNone (cached_at (map (seen_function d) fs) n)
-none_read d fs n e = subst HasNone (sym (seen_at d fs n)) (by_cases (slice_get fs n) e)
-  where
-    by_lazy : (x : LazyDetail) → place_read x ≡ None → HasNone (seen_lazy d x)
-    by_lazy Unread h = (refl, refl)
-    by_lazy (Read q) h = absurd cc
-    by_lazy (Faulty f) h = (refl, refl)
-
-    by_cases : (o : Option LazyFunction) → option_and_then (λ (f : LazyFunction). place_read f.detail) o ≡ None → HasNone (option_and_then (λ (f : LazyFunction). seen_lazy d f.detail) o)
-    by_cases None h = (refl, refl)
-    by_cases (Some f) h = by_lazy f.detail h
-
--- the place of a detail that was read is one in the lists
-pub place_kept : (d : KeptDetails) (fs : List LazyFunction) (n : ℕ) (p : FunctionDetail) → AllByRecursion (HasPlace d) fs → read_at fs n ≡ Some p → IsDetailPlace d p
-place_kept d fs n p all e = by_cases (slice_get fs n) refl e
-  where
-    by_lazy : (x : LazyDetail) → place_read x ≡ Some p → x ≡ Read p
-    by_lazy Unread h = absurd cc
-    by_lazy (Read q) h = let same : q ≡ p = cc in ap Read same
-    by_lazy (Faulty f) h = absurd cc
-
-    by_cases : (o : Option LazyFunction) → slice_get fs n ≡ o → option_and_then (λ (f : LazyFunction). place_read f.detail) o ≡ Some p → IsDetailPlace d p
-    by_cases None q h = absurd cc
-    by_cases (Some f) q h = all_at (HasPlace d) fs n f all q p (by_lazy f.detail h)
 
 -- the functions as callers see them
 abbrev pub table_of : List LazyFunction → List FunctionAddress → KeptDetails → FunctionTable
@@ -303,28 +241,3 @@ module _ (fs : List LazyFunction) (n : ℕ) (f y : LazyFunction) (at : slice_get
         functions = seen_set ∙ ap (λ x. slice_set (map (seen_function kept) fs) n x) (seen_as offset (Some detail) (ap (λ (v : UnitOffset). v.0) entry ∙ o) (ap (seen_lazy more) is ∙ ap Some (sym d)));
         inlined = grown.found.entries;
       }
-
--- where the entry of a function begins, by its place
-pub entry_at : (d : KeptDetails) (fs : List LazyFunction) (n : ℕ) → n < length (function_offsets fs) → option_map (λ (f : CachedFunction). f.offset) (slice_get (map (seen_function d) fs) n) ≡ Some (slice_index_or (function_offsets fs) n (record { 0 = 0 })).0
-entry_at d [] n l = absurd (omega arith)
-entry_at d (f ∷ fs) zero l = refl
-entry_at d (f ∷ fs) (suc n) l = entry_at d fs n (omega arith)
-
--- the function at an address, by its place and by its entry
-pub entry_found : (d : KeptDetails) (fs : List LazyFunction) (addresses : List FunctionAddress) (probe : ℕ) → AreFunctions (function_offsets fs) addresses
-    → option_and_then (λ n. option_map (λ (f : CachedFunction). f.offset) (slice_get (map (seen_function d) fs) n)) (function_at probe addresses) ≡ function_offset_at probe (map (function_range_of (function_offsets fs)) addresses)
-entry_found d fs addresses probe h = by_cases (function_at probe addresses) refl
-  where
-    by_cases : (o : Option ℕ) → function_at probe addresses ≡ o → option_and_then (λ n. option_map (λ (f : CachedFunction). f.offset) (slice_get (map (seen_function d) fs) n)) (function_at probe addresses) ≡ function_offset_at probe (map (function_range_of (function_offsets fs)) addresses)
-    by_cases None e = ap (option_and_then (λ n. option_map (λ (f : CachedFunction). f.offset) (slice_get (map (seen_function d) fs) n))) e ∙ sym (found_is (function_offsets fs) addresses h probe ∙ ap (option_map (λ i. (slice_index_or (function_offsets fs) i (record { 0 = 0 })).0)) e)
-    by_cases (Some i) e = ap (option_and_then (λ n. option_map (λ (f : CachedFunction). f.offset) (slice_get (map (seen_function d) fs) n))) e ∙ entry_at d fs i (place_found (function_offsets fs) addresses h probe i e) ∙ sym (found_is (function_offsets fs) addresses h probe ∙ ap (option_map (λ i. (slice_index_or (function_offsets fs) i (record { 0 = 0 })).0)) e)
-
-pub place_seen : (d : KeptDetails) (fs : List LazyFunction) (addresses : List FunctionAddress) (probe i : ℕ) → AreFunctions (function_offsets fs) addresses → function_at probe addresses ≡ Some i → i < length (map (seen_function d) fs)
-place_seen d fs addresses probe i h e =
-    let l = place_found (function_offsets fs) addresses h probe i e in
-    let a : length (function_offsets fs) ≡ length (map (seen_function d) fs) = same_length fs in
-    omega arith
-  where
-    same_length : (xs : List LazyFunction) → length (function_offsets xs) ≡ length (map (seen_function d) xs)
-    same_length [] = refl
-    same_length (x ∷ xs) = ap suc (same_length xs)

@@ -26,7 +26,9 @@ pub mod FunctionMemory
 pub mod FunctionOrder
 pub mod PlaceLemmas
 pub mod FunctionCacheLemmas
+pub mod CachedPlaces
 pub mod ReadLemmas
+pub mod ReadPlaces
 pub mod InlinedOrder
 pub mod InlinedPick
 pub mod NestedInlined
@@ -37,6 +39,7 @@ pub mod NameChains
 pub mod DetailLemmas
 pub mod FoundRanges
 pub mod NestingLemmas
+pub mod DetailRanges
 pub mod DetailOrder
 pub mod DetailPlaces
 pub mod NamedDetails

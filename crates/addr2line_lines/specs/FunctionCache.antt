@@ -1,7 +1,7 @@
 -- The functions of a view as they are cached, as the private functions see them.
 -- Own: the names, inlined entries and ranges of the details stand in three lists, each function's
 -- apart from those of the others, and nothing else stands there.
-use Rattle.std.specs.Prelude.{◌≡◌, ℕ, ◌+◌, ◌-◌, ◌≤◌, ◌≢◌, ◌⊎◌, List, [], ◌∷◌, length, map, slice_get, sum_by, Option, Some, None, option_and_then, Result, Ok, Err}
+use Rattle.std.specs.Prelude.{◌≡◌, ℕ, ◌-◌, ◌≤◌, ◌≢◌, ◌⊎◌, List, length, slice_get, sum_by, Option, Some, None, option_and_then, Result, Ok, Err}
 use Rattle.std.specs.List.{AllByRecursion}
 use Rattle.gimli_read.specs.declared.error.Error.{Error}
 use Rattle.addr2line_lines.specs.declared.segments.FunctionAddress.{FunctionAddress}

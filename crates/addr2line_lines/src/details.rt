@@ -111,7 +111,6 @@ impl<R: Reader> Details<R> {
     /// After a refusal what is kept is what was kept before. Source: DWARF 5, section 3.3.8.
     pub(crate) fn read(
         &mut self,
-        _alloc: Global,
         scope: Scope<'_, R>,
         unit: &Unit<R>,
         offset: UnitOffset,
@@ -149,8 +148,8 @@ impl<R: Reader> Details<R> {
         self.names[detail.name].as_ref()
     }
 
-    /// The places of the inlined functions of a function at `probe`, from the outside in: of those of
-    /// depth 0, 1 and so on, up to the first depth without one.
+    /// The places of the inlined functions of a function at `probe`, from the outside in: of those
+    /// of depth 0, 1 and so on, up to the first depth without one.
     ///
     /// Refused `OutOfMemory` alone, and only where there are more than 16. Source: Own.
     pub(crate) fn find_inlined_functions(

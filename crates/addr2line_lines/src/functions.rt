@@ -284,13 +284,7 @@ impl<R: Reader> Functions<R> {
     /// missing. May fail with `OutOfMemory` instead, which is not cached. Past the last function
     /// nothing is read. Takes no memory where the detail or its fault is cached. Source: DWARF 5,
     /// section 3.3.8.
-    pub fn read(
-        &mut self,
-        alloc: Global,
-        scope: Scope<'_, R>,
-        unit: &Unit<R>,
-        place: usize,
-    ) -> Result<(), Error>
+    pub fn read(&mut self, scope: Scope<'_, R>, unit: &Unit<R>, place: usize) -> Result<(), Error>
         requires in_order { IsScope (seen_scope scope) }
         ensures gives { IsReadAt (seen_scope scope.entry) unit.now place self.old result self.new }
         ensures exact { ExactlyUnlessOomIf (takes_memory R.shares (seen_scope scope.entry) unit.now
@@ -305,7 +299,7 @@ impl<R: Reader> Functions<R> {
             LazyDetail::Faulty(error) => Err(*error),
             LazyDetail::Unread => {
                 let offset = function.dw_die_offset;
-                self.read_unread(alloc, scope, unit, offset, place)
+                self.read_unread(scope, unit, offset, place)
             }
         }
     }
@@ -316,12 +310,7 @@ impl<R: Reader> Functions<R> {
     /// `unit` is the unit of the functions, and `scope` says where its references lead. Refused by
     /// the first fault of a detail; may fail with `OutOfMemory` instead, only where nothing is
     /// cached of a function, and no fault of one before it. Source: DWARF 5, section 3.3.8.
-    pub fn read_all(
-        &mut self,
-        alloc: Global,
-        scope: Scope<'_, R>,
-        unit: &Unit<R>,
-    ) -> Result<(), Error>
+    pub fn read_all(&mut self, scope: Scope<'_, R>, unit: &Unit<R>) -> Result<(), Error>
         requires in_order { IsScope (seen_scope scope) }
         ensures gives { AreDetailsOf (seen_scope scope.entry) unit.now self.old
             → ExactlyUnlessOomIf (asks_detail self.old.functions) (λ x. x) result
@@ -333,7 +322,7 @@ impl<R: Reader> Functions<R> {
     {
         let count = self.functions.len();
         for place in 0..count {
-            self.read(alloc, scope, unit, place)?;
+            self.read(scope, unit, place)?;
         }
         Ok(())
     }
@@ -341,7 +330,6 @@ impl<R: Reader> Functions<R> {
     // Reads the detail of a function of which nothing is cached.
     fn read_unread(
         &mut self,
-        alloc: Global,
         scope: Scope<'_, R>,
         unit: &Unit<R>,
         offset: UnitOffset,
@@ -355,7 +343,7 @@ impl<R: Reader> Functions<R> {
             (slice_get self.old.functions place)) (λ x. x) result
             (read_fault (seen_scope scope.entry) unit.now (slice_get self.old.functions place)) }
     {
-        match self.details.read(alloc, scope, unit, offset) {
+        match self.details.read(scope, unit, offset) {
             Ok(detail) => {
                 self.functions[place].detail = LazyDetail::Read(detail);
                 Ok(())

@@ -150,27 +150,29 @@ impl<R: Reader> InlinedAttributes<R> {
     }
 
     // Takes one more attribute in.
-    #[tactic(auto, using(crate::proofs::DetailLemmas::range_attribute, crate::proofs::DetailLemmas::other_attribute))]
+    #[tactic(auto, using(crate::proofs::DetailLemmas::call_taken, crate::proofs::DetailLemmas::ranges_taken, crate::proofs::DetailLemmas::name_taken))]
     fn take(
-        self,
+        &mut self,
         scope: Scope<'_, R>,
         unit: &Unit<R>,
         attribute: Attribute<R>,
-    ) -> Result<InlinedAttributes<R>, Error>
+    ) -> Result<(), Error>
         requires in_order { IsScope (seen_scope scope) }
-        ensures gives { ExactlyUnlessOomIf R.shares (seen_attributes R.section) result
+        ensures gives { ExactlyUnlessOomIf R.shares (λ _. seen_attributes R.section self.new) result
             (with_inlined_attribute (seen_scope scope.entry) unit.now
-            (seen_attributes R.section self) attribute) }
+            (seen_attributes R.section self.old) attribute) }
     {
-        let InlinedAttributes { ranges, name, call } = self;
-        let call = call.take(unit.header.version(), &attribute);
-        if is_range_name(attribute.name()) {
-            let ranges = ranges.take(UnitRef::new(scope.file.dwarf, unit), attribute)?;
-            Ok(InlinedAttributes { ranges, name, call })
+        let name = attribute.name();
+        if is_call(name) {
+            self.call = self.call.take(unit.header.version(), &attribute);
+        } else if is_range_name(name) {
+            let unit = UnitRef::new(scope.file.dwarf, unit);
+            self.ranges = self.ranges.take(unit, attribute)?;
         } else {
-            let name = take_name(scope, unit, name, attribute)?;
-            Ok(InlinedAttributes { ranges, name, call })
+            let before = self.name.take();
+            self.name = take_name(scope, unit, before, attribute)?;
         }
+        Ok(())
     }
 }
 
@@ -212,8 +214,11 @@ fn with_attribute<R: Reader>(
         (λ x. with_read_attribute (seen_scope scope.entry) unit.now x attribute) found result }
 {
     match found {
-        Ok(found) => match attribute {
-            Some(attribute) => found.take(scope, unit, attribute),
+        Ok(mut found) => match attribute {
+            Some(attribute) => {
+                found.take(scope, unit, attribute)?;
+                Ok(found)
+            }
             None => Ok(found),
         },
         Err(error) => Err(error),

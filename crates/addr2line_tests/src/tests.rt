@@ -3,6 +3,7 @@
 mod context;
 mod details;
 mod example;
+mod frames;
 mod functions;
 mod line_ranges;
 mod lines;

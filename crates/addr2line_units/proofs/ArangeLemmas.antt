@@ -1,5 +1,5 @@
 -- The ranges that `.debug_aranges` lists, in order (on specs/UnitAranges.antt).
-use Rattle.std.proofs.Common.{ℕ, ◌≡◌, ◌+◌, ◌≤◌, ◌<◌, Bool, true, false, cond, not, ◌&&◌, ◌==◌, nat_cmp, leb, ltb, zero, suc, List, [], ◌∷◌, length, take, drop, arith, ◌∙◌, ap, sym, refl, filter}
+use Rattle.std.proofs.Common.{ℕ, ◌≡◌, ◌≤◌, Bool, true, false, cond, not, ◌&&◌, ◌==◌, nat_cmp, leb, ltb, zero, suc, List, [], ◌∷◌, length, take, drop, arith, ◌∙◌, ap, sym, refl, filter}
 use Rattle.std.specs.Cmp.{IsStrictWeakOrder}
 use Rattle.std.specs.List.{AllByRecursion}
 use Rattle.std.specs.List.Sorted.{IsPartitionPoint, ties}

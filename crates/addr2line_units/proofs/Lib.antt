@@ -10,3 +10,4 @@ pub mod UnitsLemmas
 pub mod UnitLemmas
 pub mod IndexLemmas
 pub mod LeastBeginLemmas
+pub mod FrameLemmas

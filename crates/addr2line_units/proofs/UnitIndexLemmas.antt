@@ -1,5 +1,5 @@
 -- The units of a context as they are read (on specs/UnitIndex.antt and specs/Indexed.antt).
-use Rattle.std.proofs.Common.{◌≡◌, ◌≢◌, ◌&&◌, not, ℕ, suc, ◌+◌, Bool, true, false, ◌||◌, is_ok, if◌then◌else◌, ◌<◌, subst, arith, List, [], ◌∷◌, ◌++◌, length, map, drop, filter_map, flat_map, Option, Some, None, Result, Ok, Err, refl, sym, ap, ◌∙◌, nat_lt}
+use Rattle.std.proofs.Common.{◌≡◌, ◌≢◌, ◌&&◌, not, ℕ, suc, Bool, true, false, ◌||◌, is_ok, if◌then◌else◌, ◌<◌, subst, arith, List, [], ◌∷◌, ◌++◌, length, map, drop, filter_map, flat_map, Option, Some, None, Result, Ok, Err, refl, sym, ap, ◌∙◌, nat_lt}
 use Rattle.std.specs.Option.{option_to_list}
 use Rattle.std.specs.Result.{result_ok}
 use Rattle.std.proofs.lemmas.Bool.Decides.{nat_tests}
@@ -21,7 +21,7 @@ use Rattle.addr2line_lines.specs.RangeAttributes.{begins_well}
 use Rattle.addr2line_lines.specs.Rows.{read_all, result_map}
 use Rattle.addr2line_units.specs.declared.aranges.UnitArange.{UnitArange}
 use Rattle.addr2line_units.specs.declared.index.UnitRange.{UnitRange}
-use Rattle.addr2line_units.specs.Indexed.{IndexState, appended, has_abbreviations, index_of, index_takes_memory, indexed, indexed_with, or_with_ranged, some_take_memory, unit_takes_memory, with_header, with_ranged}
+use Rattle.addr2line_units.specs.Indexed.{IndexState, appended, has_abbreviations, index_of, index_takes_memory, indexed, indexed_with, or_with_ranged, some_take_memory, unit_takes_memory, units_take_memory, with_header, with_ranged}
 use Rattle.addr2line_units.specs.UnitIndex.{IndexedUnit, RangedUnit, has_lines, indexed_of, is_type_unit, range_of_unit, ranged_unit, ranges_from, sup_unit_of_header, unit_of_header, unit_ranges, units_of, unless_faulty}
 use Rattle.addr2line_units.specs.UnitAranges.{aranges_in, lists_aranges, set_aranges, some_lists}
 
@@ -374,16 +374,23 @@ module _ (d : Sections) (aranges : List UnitArange) where
           err_ok l = cc
       of_units (Ok us) same is = sym (ap (λ (s : IndexState). s.ranges) (ok_is (index_of d us) i is)) ∙ ap (ranges_from d 0) (no_units headers e us same)
 
-  pub ranges_take : (shares : Bool) (i : IndexState) → indexed_with d aranges ≡ Ok i → nat_lt 0 (length i.ranges) ≡ true → index_takes_memory shares d ≡ true
-  ranges_take shares i k some = of_bool (some_take_memory (unit_takes_memory d) (all_headers d.debug_info)) refl
+  -- where the sets have no fault, memory may be taken where it may be for units
+  pub units_take : (shares : Bool) → aranges_in d.debug_aranges ≡ Ok aranges → units_take_memory shares d ≡ true → index_takes_memory shares d ≡ true
+  units_take shares e takes = ap (λ r. lists_aranges d.debug_aranges || (is_ok r && units_take_memory shares d)) e ∙ ap (λ b. lists_aranges d.debug_aranges || b) takes ∙ or_true (lists_aranges d.debug_aranges)
     where
-      or_true : (a b : Bool) → (a || (b || true)) ≡ true
-      or_true true b = refl
-      or_true false true = refl
-      or_true false false = refl
+      or_true : (a : Bool) → (a || true) ≡ true
+      or_true true = refl
+      or_true false = refl
 
-      of_bool : (b : Bool) → some_take_memory (unit_takes_memory d) (all_headers d.debug_info) ≡ b → (lists_aranges d.debug_aranges || (shares || some_take_memory (unit_takes_memory d) (all_headers d.debug_info))) ≡ true
-      of_bool true same = ap (λ x. lists_aranges d.debug_aranges || (shares || x)) same ∙ or_true (lists_aranges d.debug_aranges) shares
+  pub ranges_take : (shares : Bool) (i : IndexState) → aranges_in d.debug_aranges ≡ Ok aranges → indexed_with d aranges ≡ Ok i → nat_lt 0 (length i.ranges) ≡ true → index_takes_memory shares d ≡ true
+  ranges_take shares i read k some = units_take shares read (of_bool (some_take_memory (unit_takes_memory d) (all_headers d.debug_info)) refl)
+    where
+      or_true : (b : Bool) → (b || true) ≡ true
+      or_true true = refl
+      or_true false = refl
+
+      of_bool : (b : Bool) → some_take_memory (unit_takes_memory d) (all_headers d.debug_info) ≡ b → (shares || some_take_memory (unit_takes_memory d) (all_headers d.debug_info)) ≡ true
+      of_bool true same = ap (λ x. shares || x) same ∙ or_true shares
       of_bool false same = absurd (false_true (ap (λ (rs : List UnitRange). nat_lt 0 (length rs)) (sym (no_ranges (all_headers d.debug_info) same i k)) ∙ some))
         where
           false_true : nat_lt 0 0 ≡ true → ⊥

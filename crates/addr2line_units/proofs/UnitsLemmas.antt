@@ -1,6 +1,6 @@
 -- The units of a context whose lines are cached one after another (on specs/CachedLines.antt and
 -- specs/Parsed.antt).
-use Rattle.std.proofs.Common.{◌≡◌, ℕ, zero, suc, ◌+◌, ◌-◌, ◌≤◌, ◌<◌, Bool, true, false, not, ◌&&◌, ◌||◌, List, [], ◌∷◌, length, map, drop, add-one, get_or, Option, Some, None, option_map, slice_get, Result, Ok, Err, refl, sym, ap, subst, arith, ◌∙◌, ◌⊎◌, inl, inr}
+use Rattle.std.proofs.Common.{◌≡◌, ℕ, zero, suc, ◌+◌, ◌-◌, ◌≤◌, ◌<◌, Bool, true, false, not, ◌&&◌, ◌||◌, List, [], ◌∷◌, length, map, drop, add-one, get_or, Option, Some, None, option_map, slice_get, Result, Ok, Err, is_ok, refl, sym, ap, subst, arith, ◌∙◌, ◌⊎◌, inl, inr}
 use Rattle.std.proofs.Math.ListN.{drop_of_length-le, set}
 use Rattle.std.specs.Prelude.{OnOk}
 use Rattle.std.proofs.lemmas.List.{length-map}
@@ -18,7 +18,7 @@ use Rattle.addr2line_units.specs.declared.unit.ResUnit.{ResUnit}
 use Rattle.addr2line_units.specs.declared.index.UnitRange.{UnitRange}
 use Rattle.addr2line_units.specs.UnitIndex.{IndexedUnit}
 use Rattle.addr2line_units.specs.Located.{all_lines, along, lines_fault, lines_of_unit, location_in, looks_along, looks_in, or_along}
-use Rattle.addr2line_units.specs.Parsed.{IsNotOom, StaysParsed, decides, has_parsed, ready_along}
+use Rattle.addr2line_units.specs.Parsed.{AllAskFor, AreReadyForAll, IsNotOom, ParsesOnly, StaysParsed, can_be_read, decides, has_parsed, ready_along}
 use Rattle.addr2line_units.specs.CachedLines.{AreLinesOf, CachesAnswer, HaveLinesOf, StayUnits, StaysCached, StaysUnit, cached_files, indexed_unit, indexed_units, is_parsed, is_uncached, lines_answer, lines_answer_at, lines_at, location_at_place, parsed_units, place_of_row}
 
 -- what is cached is no longer uncached
@@ -106,6 +106,14 @@ module _ {R : Type 0} where
   pub parsed_if_ok : {X : Type 0} (us : List (ResUnit R)) (n : ℕ) (v : ResUnit R) (result : Result X Error) → n < length us → OnOk result (is_uncached v.lines ≡ false) → OnOk result (has_parsed (parsed_units (set us n v)) n ≡ true)
   parsed_if_ok us n v (Ok x) h e = parsed_set us n v h e
   parsed_if_ok us n v (Err x) h e = tt
+
+  -- no lines are cached but those of the unit of a number
+  pub only_set : (us : List (ResUnit R)) (k : ℕ) (v : ResUnit R) → ParsesOnly (λ n. n ≡ k) (parsed_units us) (parsed_units (set us k v))
+  only_set [] k v n e = inl e
+  only_set (x ∷ us) zero v zero e = inr refl
+  only_set (x ∷ us) zero v (suc n) e = inl e
+  only_set (x ∷ us) (suc k) v zero e = inl e
+  only_set (x ∷ us) (suc k) v (suc n) e = elim (only_set us k v n e) [ inl p ↦ inl p | inr q ↦ inr (ap suc q) ]
 
   pub lines_set : (us : List (ResUnit R)) (n : ℕ) (v : ResUnit R) → n < length us → lines_at (set us n v) n ≡ v.lines
   lines_set [] n v h = absurd (omega arith)
@@ -225,6 +233,15 @@ looks_within a b c m n t h k e = omega arith
 pub looks_of_step : (b c n : ℕ) → b + n ≤ c → b ≤ c
 looks_of_step b c n h = omega arith
 
+three : (n k : ℕ) → (n < k) ⊎ ((n ≡ k) ⊎ (k < n))
+three zero zero = inr (inl refl)
+three zero (suc k) = inl (omega arith)
+three (suc n) zero = inr (inr (omega arith))
+three (suc n) (suc k) = elim (three n k) [ inl l ↦ inl (omega arith) | inr m ↦ elim m [ inl e ↦ inr (inl (ap suc e)) | inr l ↦ inr (inr (omega arith)) ] ]
+
+below_or_at : (n k : ℕ) → n < k + 1 → (n < k) ⊎ (n ≡ k)
+below_or_at n k h = elim (three n k) [ inl l ↦ inl l | inr m ↦ elim m [ inl e ↦ inr e | inr l ↦ absurd (omega arith) ] ]
+
 -- the lines of units, one unit after another
 module _ (d : Sections) where
   first_read : (u : Result LineTable Error) (rest : List (Result LineTable Error)) → lines_fault u ≡ Ok tt → lines_fault (read_all (u ∷ rest)) ≡ lines_fault (read_all rest)
@@ -261,6 +278,43 @@ module _ (d : Sections) where
   pub lines_end : (us : List IndexedUnit) (n : ℕ) → length us ≤ n → lines_fault (all_lines d (drop n us)) ≡ Ok tt
   lines_end us n h = ap (λ xs. lines_fault (all_lines d xs)) (drop_of_length-le us h)
 
+  -- whether the lines of a unit can be read, by the answer that they give
+  pub readable : (u : Option IndexedUnit) → lines_answer_at d u ≡ Ok tt → can_be_read d u ≡ true
+  readable None e = refl
+  readable (Some u) e = of_lines (lines_of_unit d u) e
+    where
+      of_lines : (l : Result LineTable Error) → lines_fault l ≡ Ok tt → is_ok l ≡ true
+      of_lines (Ok x) h = refl
+      of_lines (Err x) h = absurd (err_ok h)
+        where
+          err_ok : ◌≡◌ {A = Result (Unit {0}) Error} (Err x) (Ok tt) → ⊥
+          err_ok k = cc
+
+  pub unreadable : (u : Option IndexedUnit) (f : Error) → lines_answer_at d u ≡ Err f → can_be_read d u ≡ true → ⊥
+  unreadable None f e h = ok_err e
+    where
+      ok_err : ◌≡◌ {A = Result (Unit {0}) Error} (Ok tt) (Err f) → ⊥
+      ok_err k = cc
+  unreadable (Some u) f e h = of_lines (lines_of_unit d u) e h
+    where
+      of_lines : (l : Result LineTable Error) → lines_fault l ≡ Err f → is_ok l ≡ true → ⊥
+      of_lines (Ok x) h k = ok_err h
+        where
+          ok_err : ◌≡◌ {A = Result (Unit {0}) Error} (Ok tt) (Err f) → ⊥
+          ok_err k = cc
+      of_lines (Err x) h k = false_true k
+        where
+          false_true : false ≡ true → ⊥
+          false_true q = cc
+
+  -- a parse of all lines that comes to one more unit
+  pub asks_more : (us : List IndexedUnit) (k : ℕ) → AllAskFor d us k → can_be_read d (slice_get us k) ≡ true → AllAskFor d us (k + 1)
+  asks_more us k before at n h = elim (below_or_at n k h) [ inl l ↦ before n l | inr e ↦ ap (λ m. can_be_read d (slice_get us m)) e ∙ at ]
+
+  -- where the lines are parsed up to one with a fault, those of all units are ready
+  pub ready_at_fault : (us : List IndexedUnit) (p : List Bool) (k : ℕ) (f : Error) → ((n : ℕ) → n < k → has_parsed p n ≡ true) → has_parsed p k ≡ true → lines_answer_at d (slice_get us k) ≡ Err f → AreReadyForAll d us p
+  ready_at_fault us p k f before at fault n asked = elim (three n k) [ inl l ↦ before n l | inr m ↦ elim m [ inl e ↦ ap (has_parsed p) e ∙ at | inr l ↦ absurd (unreadable (slice_get us k) f fault (asked k l)) ] ]
+
 -- the lines of the units before a number are parsed
 pub parsed_below : (p : List Bool) (k : ℕ) → ((n : ℕ) → n < k → has_parsed p n ≡ true) → has_parsed p k ≡ true → (n : ℕ) → n < k + 1 → has_parsed p n ≡ true
 parsed_below p k before at n h = elim (le_cases n k (omega arith)) [ inl e ↦ ap (has_parsed p) e ∙ at | inr l ↦ before n l ]
@@ -284,6 +338,10 @@ all_parsed us vs k stay le below n = of_list (parsed_units vs) k (subst (λ m. m
 
 pub looks_raised : (a b c : ℕ) → a ≤ b → b ≤ c → a ≤ c
 looks_raised a b c h k = omega arith
+
+-- what is parsed by one more step is parsed by all of them
+pub only_more : (Asked : ℕ → Type 0) (first mid now : List Bool) (k : ℕ) → ParsesOnly Asked first mid → ParsesOnly (λ n. n ≡ k) mid now → Asked k → ParsesOnly Asked first now
+only_more Asked first mid now k before step asked n e = elim (step n e) [ inl p ↦ before n p | inr q ↦ inr (subst Asked (sym q) asked) ]
 
 -- a list with a first element has one
 pub none_first : (r : UnitRange) (rest : List UnitRange) → ◌≡◌ {A = List UnitRange} [] (r ∷ rest) → ⊥

@@ -1,6 +1,6 @@
 -- The units of a context and their ranges as they are read, one after another, as the private
 -- functions see them.
-use Rattle.std.specs.Prelude.{ℕ, ◌&&◌, ◌||◌, Bool, false, not, is_ok, List, [], ◌∷◌, ◌++◌, length, map, Option, Some, None, Result, Ok, Err}
+use Rattle.std.specs.Prelude.{◌&&◌, ◌||◌, Bool, false, not, is_ok, List, [], ◌∷◌, ◌++◌, length, map, Option, Some, None, Result, Ok, Err}
 use Rattle.gimli_read.specs.declared.error.Error.{Error}
 use Rattle.gimli_read.specs.declared.range.Range.{Range}
 use Rattle.gimli_read.specs.Reading.{◌>>=◌}
@@ -15,7 +15,7 @@ use Rattle.addr2line_units.specs.declared.units.Index.{Index}
 use Rattle.addr2line_units.specs.declared.units.ResUnits.{ResUnits}
 use Rattle.addr2line_units.specs.CachedLines.{indexed_unit, indexed_units, parsed_units}
 use Rattle.addr2line_units.specs.UnitIndex.{IndexedUnit, RangedUnit, has_lines, indexed_of, is_type_unit, range_of_unit, ranged_units, ranges_from, sup_sections, unit_of_header, unit_ranges, units_of}
-use Rattle.addr2line_units.specs.UnitAranges.{lists_aranges}
+use Rattle.addr2line_units.specs.UnitAranges.{aranges_in, lists_aranges}
 
 -- units, the ranges that lead to them, and of which units the lines are parsed
 pub record IndexState : Type 0 where
@@ -91,9 +91,12 @@ abbrev pub units_take_memory : Bool → Sections → Bool
 units_take_memory shares d =
     shares || some_take_memory (unit_takes_memory d) (all_headers d.debug_info)
 
--- whether memory may be taken for units and their ranges
+-- whether memory may be taken for units and their ranges: for those of .debug_aranges, or for units
+-- where no set of it has a fault
 abbrev pub index_takes_memory : Bool → Sections → Bool
-index_takes_memory shares d = lists_aranges d.debug_aranges || units_take_memory shares d
+index_takes_memory shares d =
+    lists_aranges d.debug_aranges
+    || (is_ok (aranges_in d.debug_aranges) && units_take_memory shares d)
 
 -- what was read so far
 abbrev pub index_seen : {R : Type 0} → Index R → IndexState
@@ -125,6 +128,8 @@ abbrev pub sup_takes_memory : Bool → Option SupSections → Bool
 sup_takes_memory shares None = false
 sup_takes_memory shares (Some s) = sup_units_take_memory shares (sup_sections s)
 
--- whether memory may be taken for all that a context has
+-- whether memory may be taken for all that a context has: for the supplementary file where the
+-- units have no fault
 abbrev pub context_takes_memory : Bool → Sections → Bool
-context_takes_memory shares d = index_takes_memory shares d || sup_takes_memory shares d.sup
+context_takes_memory shares d =
+    index_takes_memory shares d || (is_ok (ranged_units d) && sup_takes_memory shares d.sup)

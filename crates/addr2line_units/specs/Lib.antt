@@ -14,3 +14,5 @@ pub mod RangeLookup
 pub mod UnitRangesLeft
 pub mod LocationsLeft
 pub mod Frames
+pub mod SeenFrame
+pub mod FramesLeft

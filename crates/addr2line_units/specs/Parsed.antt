@@ -1,7 +1,8 @@
 -- Of which units the lines are parsed, and which lookups parse nothing then.
 -- Own: a lookup asks for the lines of the units that cover its address one after another, up to the
--- first that has a location or a fault.
-use Rattle.std.specs.Prelude.{ℕ, ◌≡◌, ◌≢◌, Bool, true, false, ◌&&◌, ◌||◌, List, [], ◌∷◌, slice_get, Option, Some, None, unwrap_or, Result, Ok, Err}
+-- first that has a location or a fault; a parse of all lines asks for those of the units in their
+-- order, up to the first that has a fault.
+use Rattle.std.specs.Prelude.{ℕ, ◌≡◌, ◌≢◌, ◌<◌, ◌⊎◌, Bool, true, false, ◌&&◌, ◌||◌, List, [], ◌∷◌, slice_get, Option, Some, None, unwrap_or, Result, Ok, Err, is_ok}
 use Rattle.std.specs.List.{AllByRecursion}
 use Rattle.gimli_read.specs.declared.error.Error.{Error}
 use Rattle.gimli_read.specs.declared.error.Error.TheVariants.{OutOfMemory}
@@ -9,7 +10,7 @@ use Rattle.gimli.specs.Sections.{Sections}
 use Rattle.addr2line_lines.specs.Location.{Location}
 use Rattle.addr2line_units.specs.declared.index.UnitRange.{UnitRange}
 use Rattle.addr2line_units.specs.UnitIndex.{IndexedUnit}
-use Rattle.addr2line_units.specs.Located.{location_in}
+use Rattle.addr2line_units.specs.Located.{lines_of_unit, location_in}
 
 -- whether the lines of a unit are parsed, by what is so of each unit; a number of no unit asks for
 -- none
@@ -37,6 +38,37 @@ AreParsed parsed ranges = AllByRecursion (λ (r : UnitRange). has_parsed parsed 
 -- the lines of all units are parsed
 abbrev pub AreAllParsed : List Bool → Type 0
 AreAllParsed parsed = (n : ℕ) → has_parsed parsed n ≡ true
+
+-- whether the lines of a unit can be read; without a unit there is nothing to read
+abbrev pub can_be_read : Sections → Option IndexedUnit → Bool
+can_be_read d None = true
+can_be_read d (Some u) = is_ok (lines_of_unit d u)
+
+-- a parse of all lines asks for those of a unit: those of each unit before it can be read
+abbrev pub AllAskFor : Sections → List IndexedUnit → ℕ → Type 0
+AllAskFor d units n = (m : ℕ) → m < n → can_be_read d (slice_get units m) ≡ true
+
+-- the lines of all units are parsed, up to the first that has a fault
+abbrev pub AreReadyForAll : Sections → List IndexedUnit → List Bool → Type 0
+AreReadyForAll d units parsed = (n : ℕ) → AllAskFor d units n → has_parsed parsed n ≡ true
+
+-- a lookup asks for the lines of a unit: a range leads to it, and no unit before it decides
+abbrev pub AsksFor : Sections → List IndexedUnit → ℕ → List UnitRange → ℕ → Type 0
+AsksFor d units probe [] n = ⊥
+AsksFor d units probe (r ∷ ranges) n =
+    (n ≡ r.unit)
+    ⊎ ((decides (location_in d probe (slice_get units r.unit)) ≡ false)
+    × AsksFor d units probe ranges n)
+
+-- one of these ranges leads to a unit
+abbrev pub LeadTo : List UnitRange → ℕ → Type 0
+LeadTo [] n = ⊥
+LeadTo (r ∷ ranges) n = (n ≡ r.unit) ⊎ LeadTo ranges n
+
+-- no lines are parsed but those that are asked for
+abbrev pub ParsesOnly : (ℕ → Type 0) → List Bool → List Bool → Type 0
+ParsesOnly IsAsked old new =
+    (n : ℕ) → has_parsed new n ≡ true → (has_parsed old n ≡ true) ⊎ IsAsked n
 
 -- any answer but OutOfMemory
 abbrev pub IsNotOom : {X : Type 0} → Result X Error → Type 0

@@ -1,11 +1,10 @@
 -- What one call gives of the rows and faults that a range lookup has left.
 -- Own: a fault ends nothing: the next call goes on after it. As an iterator the lookup gives none
 -- in the place of a fault.
-use Rattle.std.specs.Prelude.{◌≡◌, ℕ, List, [], ◌∷◌, ◌++◌, flat_map, Option, Some, None, option_map, Result, Ok, Err}
+use Rattle.std.specs.Prelude.{◌≡◌, ℕ, List, [], ◌∷◌, flat_map, Option, Some, None, Result, Ok, Err}
 use Rattle.gimli_read.specs.declared.error.Error.{Error}
 use Rattle.addr2line_lines.specs.declared.location.Location.{Location as SourceLocation}
 use Rattle.addr2line_lines.specs.RangeLocations.{LocatedSpan}
-use Rattle.addr2line_lines.specs.Rows.{result_map}
 use Rattle.addr2line_lines.specs.SeenLocation.{seen_location}
 use Rattle.addr2line_units.specs.declared.index.UnitRange.{UnitRange}
 use Rattle.addr2line_units.specs.declared.unit.ResUnit.{ResUnit}

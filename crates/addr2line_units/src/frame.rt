@@ -1,15 +1,29 @@
-//! Names of functions.
+//! Frames, and names of functions.
 
-ghost use Rattle.std.specs.Prelude.{◌≡◌, ◌≢◌, IfOk, IfSome, IsOkUnless, option_map, unwrap_or, string_bytes};
+ghost use Rattle.std.specs.Prelude.{◌≡◌, ◌≢◌, ◌+◌, ◌<◌, IfOk, IfSome, IsOk, IsOkUnless, [], length, map, option_and_then, option_map, reverse, slice_get, unwrap_or, string_bytes};
 ghost use Rattle.std.specs.Cow.{cow_str_bytes};
+ghost use Rattle.std.specs.Iterator.{YieldsFirst};
+ghost use Rattle.std.specs.List.{AllByRecursion};
+ghost use Rattle.std.specs.Option.{option_copied};
+ghost use Rattle.std.specs.Str.{IsUtf8};
 ghost use Rattle.gimli_read.specs.declared.constants.TheConstants.DwLang.{DW_LANG_Rust};
 ghost use Rattle.gimli_read.specs.declared.error.Error.TheVariants.{OutOfMemory};
+ghost use Rattle.addr2line_lines.specs.FoundDetails.{entry_among, seen_inlined};
+ghost use Rattle.addr2line_lines.specs.FunctionTable.{cached_name, offset_at};
+ghost use Rattle.addr2line_lines.specs.Rows.{result_map};
+ghost use Rattle.addr2line_lines.specs.SeenLocation.{seen_location};
+ghost use Rattle.addr2line_units.specs.Frames.{call_location, frames_from, if_counted, location_frames};
+ghost use Rattle.addr2line_units.specs.FramesLeft.{entry_frame, frames_left, place_frame};
 ghost use Rattle.addr2line_units.specs.LegacyText.{demangled, demangled_auto};
+ghost use Rattle.addr2line_units.specs.SeenFrame.{YieldsFrame, language_text, name_text, raw_text, seen_frame, seen_name};
 
 use crate::legacy::LegacyName;
-use gimli_read::{DwLang, Error};
+use addr2line_lines::{Functions, InlinedFunction, Lines, Location};
+use gimli_read::{DwLang, Error, Reader, UnitOffset};
+use smallvec::SmallVec;
 use std::alloc::Global;
 use std::borrow::CowStr;
+use std::mem;
 
 /// The text of a legacy name of Rust, and `None` for any other name and in any other language.
 ///
@@ -64,5 +78,263 @@ pub fn demangle_auto<'a>(
     )? {
         Some(text) => Ok(CowStr::Owned(text)),
         None => Ok(name),
+    }
+}
+
+/// The name of a function, and the language of the main unit.
+// It has no `Model`, so that what a lookup lends is seen to hold nothing but references.
+#[derive(Drop)]
+pub struct FunctionName<'ctx, R: Reader> {
+    /// The bytes of the name, as the file has them.
+    pub name: &'ctx R,
+    /// The language of the main unit, if it says one.
+    pub language: Option<DwLang>,
+}
+
+impl<'ctx, R: Reader> FunctionName<'ctx, R> {
+    /// The name as the file has it, with U+FFFD for each piece that is no UTF-8.
+    ///
+    /// Refused `OutOfMemory` alone, and never where the name is UTF-8. Source: own.
+    pub fn raw_name(&self, alloc: Global) -> Result<CowStr<'ctx>, Error>
+        ensures gives { IfOk result (λ text. cow_str_bytes text
+            ≡ raw_text (seen_name R.section self.now)) }
+        ensures borrowed { IsUtf8 (R.section self.now.name.now).bytes → IsOk result }
+        ensures refused { IsOkUnless result OutOfMemory }
+    {
+        let name = self.name;
+        name.to_string_lossy(alloc)
+    }
+
+    /// The text of the name in its language, as `demangle_auto` gives it.
+    ///
+    /// Refused `OutOfMemory` alone, and never where the name is UTF-8 and has no text in its
+    /// language. Source: own.
+    pub fn demangle(&self, alloc: Global) -> Result<CowStr<'ctx>, Error>
+        ensures gives { IfOk result (λ text. cow_str_bytes text
+            ≡ name_text (seen_name R.section self.now)) }
+        ensures refused { IsOkUnless result OutOfMemory }
+        ensures none { IsUtf8 (R.section self.now.name.now).bytes
+            → language_text (seen_name R.section self.now) ≡ None → IsOk result }
+    {
+        let name = self.raw_name(alloc)?;
+        demangle_auto(alloc, name, self.language)
+    }
+}
+
+/// A function at an address with its location there, or a location without a function.
+#[derive(Drop)]
+pub struct Frame<'ctx, R: Reader> {
+    /// Where the entry of the function begins, in bytes from the start of the unit's length; none
+    /// without a function.
+    pub dw_die_offset: Option<UnitOffset>,
+    /// The name of the function, if it has one that can be read.
+    pub function: Option<FunctionName<'ctx, R>>,
+    /// The location of the address, or that of the call of the frame before.
+    pub location: Option<Location<'ctx>>,
+}
+
+// A number that counts, none of 0.
+fn if_counted(number: u32) -> Option<u32>
+    ensures gives { result ≡ if_counted number }
+{
+    if number == 0 { None } else { Some(number) }
+}
+
+// The text of the file of a call, if there is one.
+fn call_file<'ctx>(lines: &'ctx Lines, index: Option<u64>) -> Option<&'ctx str>
+    ensures gives { option_copied result ≡ option_and_then (slice_get lines.now.files) index }
+{
+    lines.file(index?)
+}
+
+// Where an inlined function was called.
+fn call_location<'ctx, R: Reader>(lines: &'ctx Lines, entry: &InlinedFunction<R>) -> Location<'ctx>
+    ensures gives { seen_location result
+        ≡ call_location lines.now.files (seen_inlined R.section entry.now).call }
+{
+    Location {
+        file: call_file(lines, entry.call_file),
+        line: if_counted(entry.call_line),
+        column: if_counted(entry.call_column),
+    }
+}
+
+// The place of the innermost of inlined functions, which isn't among them then.
+fn take_innermost(inlined: &mut SmallVec<usize, 16>) -> Option<usize>
+    ensures gives { YieldsFirst (λ s. reverse s.items) inlined.old result inlined.new }
+{
+    inlined.pop()
+}
+
+// The frames of a function that are left.
+#[derive(Drop)]
+struct FunctionFrames<'ctx, R: Reader> {
+    functions: &'ctx Functions<R>,
+    // The place of the function.
+    place: usize,
+    // The places of its inlined functions that are left, from the outside in.
+    inlined: SmallVec<usize, 16>,
+    // The lines of the main unit, whose files those of calls are.
+    lines: &'ctx Lines,
+    language: Option<DwLang>,
+    // The location of the next frame.
+    location: Option<Location<'ctx>>,
+}
+
+impl<'ctx, R: Reader> FunctionFrames<'ctx, R> {
+    // The name of a function.
+    fn function_name(&self, name: Option<&'ctx R>) -> Option<FunctionName<'ctx, R>>
+        ensures gives { option_map (seen_name R.section) result ≡ option_map
+            (λ n. record { name = R.section n.now; language = self.now.language }) name.entry }
+    {
+        Some(FunctionName {
+            name: name?,
+            language: self.language,
+        })
+    }
+
+    // The frame of an inlined function; without one a frame with neither offset nor function.
+    fn inlined_frame(&self, entry: Option<&'ctx InlinedFunction<R>>) -> Frame<'ctx, R>
+        ensures gives { seen_frame R.section result ≡ entry_frame self.now.language
+            (option_map (λ e. seen_inlined R.section e.now) entry.entry)
+            (option_map seen_location self.now.location) }
+    {
+        match entry {
+            Some(entry) => Frame {
+                dw_die_offset: Some(entry.dw_die_offset),
+                function: self.function_name(entry.name.as_ref()),
+                location: self.location,
+            },
+            None => Frame {
+                dw_die_offset: None,
+                function: None,
+                location: self.location,
+            },
+        }
+    }
+
+    // Where an inlined function was called.
+    fn call_of(&self, entry: Option<&'ctx InlinedFunction<R>>) -> Option<Location<'ctx>>
+        ensures gives { option_map seen_location result ≡ option_map
+            (λ e. call_location self.now.lines.now.files (seen_inlined R.section e.now).call)
+            entry.entry }
+    {
+        Some(call_location(self.lines, entry?))
+    }
+
+    // The frame of the function itself.
+    fn own_frame(&self) -> Frame<'ctx, R>
+        ensures gives { seen_frame R.section result ≡ place_frame self.now.language
+            self.now.functions.now self.now.place (option_map seen_location self.now.location) }
+    {
+        let functions = self.functions;
+        Frame {
+            dw_die_offset: functions.offset(self.place),
+            function: self.function_name(functions.name(self.place)),
+            location: self.location,
+        }
+    }
+}
+
+// What frames are left of.
+#[derive(Drop)]
+enum FrameState<'ctx, R: Reader> {
+    Empty,
+    Located(Option<Location<'ctx>>),
+    Function(FunctionFrames<'ctx, R>),
+}
+
+/// The frames of an address.
+// It has no `Model`, so that what a lookup lends is seen to hold nothing but references.
+#[derive(Drop)]
+pub struct FrameIter<'ctx, R: Reader> {
+    state: FrameState<'ctx, R>,
+}
+
+impl<'ctx, R: Reader> FrameIter<'ctx, R> {
+    /// No frames. Takes no memory.
+    pub fn new_empty() -> FrameIter<'ctx, R>
+        ensures gives { frames_left result ≡ [] }
+    {
+        FrameIter {
+            state: FrameState::Empty,
+        }
+    }
+
+    /// The frame of a location without a function; none without a location. Takes no memory.
+    pub fn new_location(location: Option<Location<'ctx>>) -> FrameIter<'ctx, R>
+        ensures gives { frames_left result
+            ≡ location_frames (option_map seen_location location.entry) }
+    {
+        FrameIter {
+            state: FrameState::Located(location),
+        }
+    }
+
+    /// The frames of the function of a place and of the functions that are inlined in it. Takes no
+    /// memory.
+    ///
+    /// `inlined` has the places of these from the outside in, as
+    /// `Functions::find_inlined_functions` gives them; `lines` and `language` are those of the
+    /// main unit, and `location` is that of the address. Source: DWARF 5, section 3.3.8. Own: the
+    /// order of `next`.
+    #[tactic(auto, using(crate::proofs::FrameLemmas::function_frames, crate::proofs::FrameLemmas::function_frames_count))]
+    pub fn new_function(
+        functions: &'ctx Functions<R>,
+        place: usize,
+        inlined: SmallVec<usize, 16>,
+        lines: &'ctx Lines,
+        language: Option<DwLang>,
+        location: Option<Location<'ctx>>,
+    ) -> FrameIter<'ctx, R>
+        requires there { AllByRecursion (λ n. n < length functions.now.inlined) inlined.items }
+        ensures gives { IfSome (offset_at functions.now place) (λ offset. frames_left result
+            ≡ frames_from lines.now.files language offset (cached_name functions.now place)
+            (reverse (map (entry_among functions.now.inlined) inlined.items))
+            (option_map seen_location location.entry)) }
+        ensures count { length (frames_left result) ≡ length inlined.items + 1 }
+    {
+        FrameIter {
+            state: FrameState::Function(FunctionFrames {
+                functions,
+                place,
+                inlined,
+                lines,
+                language,
+                location,
+            }),
+        }
+    }
+
+    /// The next frame, the innermost inlined function's first; none at the end, and from then on.
+    /// Takes no memory.
+    ///
+    /// The first frame has the location of the address, each next one that of the call of the frame
+    /// before. Never refused. Source: DWARF 5, section 3.3.8. Own: the order, that of a call line 0
+    /// is no line and column 0 no column, and that a file past the files of the main unit is none.
+    pub fn next(&mut self) -> Result<Option<Frame<'ctx, R>>, Error>
+        ensures gives { YieldsFrame (frames_left self.old)
+            (result_map (option_map (seen_frame R.section)) result) (frames_left self.new) }
+    {
+        match mem::replace(&mut self.state, FrameState::Empty) {
+            FrameState::Empty | FrameState::Located(None) => Ok(None),
+            FrameState::Located(Some(location)) => Ok(Some(Frame {
+                dw_die_offset: None,
+                function: None,
+                location: Some(location),
+            })),
+            FrameState::Function(frames) => {
+                let mut frames = frames;
+                let Some(inlined) = take_innermost(&mut frames.inlined) else {
+                    return Ok(Some(frames.own_frame()));
+                };
+                let functions = frames.functions;
+                let entry = functions.inlined(inlined);
+                let frame = frames.inlined_frame(entry);
+                frames.location = frames.call_of(entry);
+                self.state = FrameState::Function(frames);
+                Ok(Some(frame))
+            }
+        }
     }
 }

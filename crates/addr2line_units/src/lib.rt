@@ -15,4 +15,5 @@ pub mod sup;
 pub mod unit;
 pub mod units;
 
+pub use crate::frame::{Frame, FrameIter, FunctionName};
 pub use crate::laws::legacy_name_laws;

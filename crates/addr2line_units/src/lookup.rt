@@ -4,7 +4,7 @@ ghost use Rattle.std.specs.Prelude.{◌≡◌, ◌+◌, ◌<◌, ◌≤◌, [], 
 ghost use Rattle.gimli_read.specs.declared.error.Error.TheVariants.{OutOfMemory};
 ghost use Rattle.gimli_read.specs.Reading.{Exactly, ExactlyUnlessOom};
 ghost use Rattle.addr2line_units.specs.Located.{all_lines, along, is_found, lines_fault, location_in, looks_along, looks_in};
-ghost use Rattle.addr2line_units.specs.Parsed.{AreAllParsed, AreParsed, IsNotOom, has_parsed, ready_along};
+ghost use Rattle.addr2line_units.specs.Parsed.{AllAskFor, AreAllParsed, AreParsed, AreReadyForAll, AsksFor, IsNotOom, LeadTo, ParsesOnly, has_parsed, ready_along};
 ghost use Rattle.addr2line_units.specs.UnitRangesLeft.{ranges_left};
 ghost use Rattle.addr2line_units.specs.CachedLines.{HaveLinesOf, StayUnits, indexed_units, lines_answer_at, location_at_place, parsed_units, place_of_row};
 
@@ -34,6 +34,8 @@ fn find_row_in<R: Reader>(
         (option_map (λ row. location_at_place units.new.items (place_of_row number row))) result
         (location_in dwarf.now probe (slice_get (indexed_units units.old.items) number)) }
     ensures parsed { IsNotOom result → has_parsed (parsed_units units.new.items) number ≡ true }
+    ensures only { ParsesOnly (λ n. n ≡ number)
+        (parsed_units units.old.items) (parsed_units units.new.items) }
     ensures stay { StayUnits units.old.items units.new.items }
     ensures read { HaveLinesOf dwarf.now units.new.items }
     ensures cost { looks.new ≤ looks.old + looks_in dwarf.now
@@ -49,7 +51,7 @@ fn find_row_in<R: Reader>(
 }
 
 // The place of an address in the first unit along ranges that has one. The lines of each unit up
-// to it are cached then, or their fault, which ends the search.
+// to it are cached then, or their fault, which ends the search, and no others.
 pub(crate) fn find_place_along<R: Reader>(
     alloc: Global,
     dwarf: &Dwarf<R>,
@@ -67,6 +69,9 @@ pub(crate) fn find_place_along<R: Reader>(
         (along dwarf.now (indexed_units units.old.items) probe (ranges_left ranges.entry)) }
     ensures ready { IsNotOom result → ready_along dwarf.now (indexed_units units.old.items)
         (parsed_units units.new.items) probe (ranges_left ranges.entry) ≡ true }
+    ensures only { ParsesOnly
+        (AsksFor dwarf.now (indexed_units units.old.items) probe (ranges_left ranges.entry))
+        (parsed_units units.old.items) (parsed_units units.new.items) }
     ensures stay { StayUnits units.old.items units.new.items }
     ensures read { HaveLinesOf dwarf.now units.new.items }
     ensures cost { looks.new ≤ looks.old + looks_along dwarf.now
@@ -97,6 +102,8 @@ fn cache_lines_in<R: Reader>(
     requires read { HaveLinesOf dwarf.now units.old.items }
     ensures exact { has_parsed (parsed_units units.old.items) number ≡ true → result ≡ Ok tt }
     ensures parsed { OnOk result (has_parsed (parsed_units units.new.items) number ≡ true) }
+    ensures only { ParsesOnly (λ n. n ≡ number)
+        (parsed_units units.old.items) (parsed_units units.new.items) }
     ensures refused { IfErr result (λ e. e ≡ OutOfMemory) }
     ensures stay { StayUnits units.old.items units.new.items }
     ensures read { HaveLinesOf dwarf.now units.new.items }
@@ -108,7 +115,8 @@ fn cache_lines_in<R: Reader>(
     unit.cache_lines(alloc, dwarf)
 }
 
-// Caches the lines of the units that ranges lead to, or their faults. Refused `OutOfMemory` alone.
+// Caches the lines of the units that ranges lead to, or their faults, and no others. Refused
+// `OutOfMemory` alone.
 pub(crate) fn cache_lines_along<R: Reader>(
     alloc: Global,
     dwarf: &Dwarf<R>,
@@ -120,6 +128,8 @@ pub(crate) fn cache_lines_along<R: Reader>(
         → result ≡ Ok tt }
     ensures parsed { OnOk result
         (AreParsed (parsed_units units.new.items) (ranges_left ranges.entry)) }
+    ensures only { ParsesOnly (LeadTo (ranges_left ranges.entry))
+        (parsed_units units.old.items) (parsed_units units.new.items) }
     ensures refused { IfErr result (λ e. e ≡ OutOfMemory) }
     ensures stay { StayUnits units.old.items units.new.items }
     ensures read { HaveLinesOf dwarf.now units.new.items }
@@ -143,6 +153,8 @@ fn read_lines_in<R: Reader>(
     ensures exact { has_parsed (parsed_units units.old.items) number ≡ true → Exactly (λ x. x)
         result (lines_answer_at dwarf.now (slice_get (indexed_units units.old.items) number)) }
     ensures parsed { IsNotOom result → has_parsed (parsed_units units.new.items) number ≡ true }
+    ensures only { ParsesOnly (λ n. n ≡ number)
+        (parsed_units units.old.items) (parsed_units units.new.items) }
     ensures stay { StayUnits units.old.items units.new.items }
     ensures read { HaveLinesOf dwarf.now units.new.items }
 {
@@ -154,7 +166,7 @@ fn read_lines_in<R: Reader>(
 }
 
 // Reads the lines of all units in their order, unless they are cached, and caches them; the first
-// fault ends it.
+// fault is cached too, and ends it.
 pub(crate) fn read_all_lines<R: Reader>(
     alloc: Global,
     dwarf: &Dwarf<R>,
@@ -163,9 +175,14 @@ pub(crate) fn read_all_lines<R: Reader>(
     requires read { HaveLinesOf dwarf.now units.old.items }
     ensures gives { ExactlyUnlessOom (λ x. x) result
         (lines_fault (all_lines dwarf.now (indexed_units units.old.items))) }
-    ensures exact { AreAllParsed (parsed_units units.old.items) → Exactly (λ x. x) result
+    ensures exact { AreReadyForAll dwarf.now (indexed_units units.old.items)
+        (parsed_units units.old.items) → Exactly (λ x. x) result
         (lines_fault (all_lines dwarf.now (indexed_units units.old.items))) }
+    ensures ready { IsNotOom result → AreReadyForAll dwarf.now (indexed_units units.old.items)
+        (parsed_units units.new.items) }
     ensures parsed { OnOk result (AreAllParsed (parsed_units units.new.items)) }
+    ensures only { ParsesOnly (AllAskFor dwarf.now (indexed_units units.old.items))
+        (parsed_units units.old.items) (parsed_units units.new.items) }
     ensures stay { StayUnits units.old.items units.new.items }
     ensures read { HaveLinesOf dwarf.now units.new.items }
 {

@@ -8,7 +8,7 @@ ghost use Rattle.addr2line_units.specs.Indexed.{index_seen, index_takes_memory, 
 ghost use Rattle.addr2line_units.specs.CachedLines.{HaveLinesOf, IsUnparsed, StayUnits, cached_files, indexed_units, location_at_place, parsed_units};
 ghost use Rattle.addr2line_units.specs.LocationsLeft.{locations_left};
 ghost use Rattle.addr2line_units.specs.Located.{all_lines, along, is_found, lines_fault, looks_along};
-ghost use Rattle.addr2line_units.specs.Parsed.{AreAllParsed, AreParsed, IsNotOom, ready_along};
+ghost use Rattle.addr2line_units.specs.Parsed.{AllAskFor, AreAllParsed, AreParsed, AreReadyForAll, AsksFor, IsNotOom, LeadTo, ParsesOnly, ready_along};
 ghost use Rattle.addr2line_units.specs.RangeLookup.{cached_along};
 ghost use Rattle.addr2line_units.specs.Cover.{cover, cover_range};
 ghost use Rattle.addr2line_lines.specs.Location.{location_of_row};
@@ -174,13 +174,15 @@ impl<R: Reader> ResUnits<R> {
     ///
     /// All sets of `.debug_aranges` are read first. A unit is read whole before the next header: a
     /// type unit and a unit whose record is faulty are passed over; a partial unit of version 5 has
-    /// no range and no language. The line program of a unit is run here only where neither
-    /// `.debug_aranges` nor the unit's attributes give it a range.
+    /// no range and no language. The line program of a unit is run here only where no range is
+    /// given for it: by its range list if it has one, else by `.debug_aranges`, else by its other
+    /// attributes.
     ///
     /// Refused by the first fault of a set's header, of a unit's header, or of the range attributes
-    /// of a unit whose record can be read; may fail with `OutOfMemory` instead, where the header of
-    /// a unit with abbreviations can be read, a set lists a range, or bytes are shared. Source:
-    /// DWARF 5, sections 2.17, 3.1 and 6.1.2.
+    /// of a unit whose record can be read. May fail with `OutOfMemory` instead where a set lists a
+    /// range, up to the first fault of a set's header; and, where there is none, where bytes are
+    /// shared or the header can be read of a unit that is no type unit and has abbreviations.
+    /// Source: DWARF 5, sections 2.17, 3.1 and 6.1.2.
     pub fn parse(alloc: Global, dwarf: &Dwarf<R>) -> Result<ResUnits<R>, Error>
         ensures gives { ExactlyUnlessOomIf (index_takes_memory R.shares dwarf.now) units_seen result
             (indexed dwarf.now) }
@@ -195,8 +197,8 @@ impl<R: Reader> ResUnits<R> {
 
 impl<R: Reader> ResUnits<R> {
     /// The row of an address in the first unit among those that cover it which has one. The lines
-    /// of each unit up to it are cached then, or their fault. `looks` is raised by one with each
-    /// look at them.
+    /// of each unit up to it are cached then, or their fault, and those of no other unit. `looks`
+    /// is raised by one with each look at them.
     ///
     /// Refused by the first such fault; may fail with `OutOfMemory` instead, which is never cached.
     /// Takes no memory where the lines that it asks for are cached, nor where no unit covers the
@@ -220,6 +222,9 @@ impl<R: Reader> ResUnits<R> {
         ensures ready { IsNotOom result → ready_along dwarf.now
             (indexed_units self.old.units.items) (parsed_units self.new.units.items) probe
             (cover probe self.old.ranges) ≡ true }
+        ensures only { ParsesOnly (AsksFor dwarf.now (indexed_units self.old.units.items) probe
+            (cover probe self.old.ranges))
+            (parsed_units self.old.units.items) (parsed_units self.new.units.items) }
         ensures last { probe ≡ 2 ^ 64 - 1 → result ≡ Ok None }
         ensures stay { StayUnits self.old.units.items self.new.units.items }
         ensures ranges { self.new.ranges ≡ self.old.ranges }
@@ -249,7 +254,8 @@ impl<R: Reader> ResUnits<R> {
         }
     }
 
-    /// Caches the lines of the units that a range of addresses meets, or their faults.
+    /// Caches the lines of the units that a range of addresses meets, or their faults, and those
+    /// of no other unit.
     ///
     /// Refused `OutOfMemory` alone, which is never cached; takes no memory where they are cached.
     pub fn cache_lines(
@@ -264,6 +270,8 @@ impl<R: Reader> ResUnits<R> {
             (cover_range low high self.old.ranges) → result ≡ Ok tt }
         ensures parsed { OnOk result (AreParsed (parsed_units self.new.units.items)
             (cover_range low high self.old.ranges)) }
+        ensures only { ParsesOnly (LeadTo (cover_range low high self.old.ranges))
+            (parsed_units self.old.units.items) (parsed_units self.new.units.items) }
         ensures refused { IfErr result (λ e. e ≡ OutOfMemory) }
         ensures stay { StayUnits self.old.units.items self.new.units.items }
         ensures ranges { self.new.ranges ≡ self.old.ranges }
@@ -286,16 +294,22 @@ impl<R: Reader> ResUnits<R> {
     }
 
     /// Reads the lines of all units in their order, unless they are cached, and caches them, or
-    /// their fault.
+    /// their fault; those of the units behind the first fault are left as they are.
     ///
     /// Refused by the first fault; may fail with `OutOfMemory` instead, which is never cached.
+    /// Takes no memory where all lines are cached, up to the first fault.
     pub fn parse_lines(&mut self, alloc: Global, dwarf: &Dwarf<R>) -> Result<(), Error>
         requires read { HaveLinesOf dwarf.now self.old.units.items }
         ensures gives { ExactlyUnlessOom (λ x. x) result
             (lines_fault (all_lines dwarf.now (indexed_units self.old.units.items))) }
-        ensures exact { AreAllParsed (parsed_units self.old.units.items) → Exactly (λ x. x) result
+        ensures exact { AreReadyForAll dwarf.now (indexed_units self.old.units.items)
+            (parsed_units self.old.units.items) → Exactly (λ x. x) result
             (lines_fault (all_lines dwarf.now (indexed_units self.old.units.items))) }
+        ensures ready { IsNotOom result → AreReadyForAll dwarf.now
+            (indexed_units self.old.units.items) (parsed_units self.new.units.items) }
         ensures parsed { OnOk result (AreAllParsed (parsed_units self.new.units.items)) }
+        ensures only { ParsesOnly (AllAskFor dwarf.now (indexed_units self.old.units.items))
+            (parsed_units self.old.units.items) (parsed_units self.new.units.items) }
         ensures stay { StayUnits self.old.units.items self.new.units.items }
         ensures ranges { self.new.ranges ≡ self.old.ranges }
         ensures read { HaveLinesOf dwarf.now self.new.units.items }

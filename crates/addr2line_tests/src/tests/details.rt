@@ -77,7 +77,7 @@ fn answer<'a>(
     let Some(place) = functions.find(probe) else {
         return Ok([0; 5]);
     };
-    functions.read(alloc, scope, unit, place)?;
+    functions.read(scope, unit, place)?;
     let chain = functions.find_inlined_functions(alloc, place, probe)?;
     let [a, b, c] = inlined_code(functions, chain.last().copied());
     Ok([letter(functions.name(place)), chain.len() as u64, a, b, c])

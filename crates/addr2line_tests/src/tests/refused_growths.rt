@@ -118,7 +118,7 @@ fn deep_answer<'a>(
         let chain = functions.find_inlined_functions(alloc, place, 0x18);
         chain.map(|chain| chain.len() as u64)
     } else {
-        functions.read(alloc, scope, unit, place).map(|()| 1)
+        functions.read(scope, unit, place).map(|()| 1)
     };
     answer.unwrap_or_else(|error| u64::from(fault_code(error)))
 }

@@ -1,5 +1,4 @@
 use Rattle.std.proofs.Common.{◌≡◌, ◌++◌, length, map, nat_lt, true}
-use Rattle.gimli_read.specs.declared.range.Range.{Range}
 use Rattle.addr2line_units.specs.UnitAranges.{set_aranges, unit_arange}
 use Rattle.addr2line_units.proofs.aranges.push_set.Given as goal
 

@@ -1,8 +1,8 @@
-use Rattle.std.proofs.Common.{rules, subst, sym, true}
-use Rattle.std.proofs.lemmas.Result.{err_from_is_err_and}
+use Rattle.std.proofs.Common.{inl, inr, refl, rules, subst, sym}
 use Rattle.addr2line_units.specs.CachedLines.{parsed_units}
-use Rattle.addr2line_units.specs.Parsed.{AreParsed}
-use Rattle.addr2line_units.proofs.UnitsLemmas.{stay_all, stay_over, stay_parsed}
+use Rattle.addr2line_units.specs.Parsed.{AreParsed, LeadTo}
+use Rattle.addr2line_units.specs.UnitRangesLeft.{ranges_left}
+use Rattle.addr2line_units.proofs.UnitsLemmas.{only_more, stay_all, stay_over, stay_parsed}
 use Rattle.addr2line_units.proofs.lookup.cache_lines_along.Goals as goal
 
 pub loop-range-init : goal.loop-range-init
@@ -11,6 +11,8 @@ loop-range-init g c = record {
   read = c.requires.read;
   exact = λ ready. ready;
   parsed = λ p stays ready. ready;
+  leads = λ n asked. asked;
+  only = λ n e. inl e;
 }
 
 pub returns-in_err-cache_lines_in-clause-exact : goal.returns-in_err-cache_lines_in-clause-exact
@@ -24,6 +26,11 @@ returns-in_err-cache_lines_in-clause-exact g c = λ ready.
 pub returns-in_err-cache_lines_in-clause-stay : goal.returns-in_err-cache_lines_in-clause-stay
 returns-in_err-cache_lines_in-clause-stay g c = stay_over c.args.units.now.items c.loop-range.units.items c.cache_lines_in.new.units.items c.loop-range.invariant.stay c.in_err-cache_lines_in.ensures.stay
 
+pub returns-in_err-cache_lines_in-clause-only : goal.returns-in_err-cache_lines_in-clause-only
+returns-in_err-cache_lines_in-clause-only g c =
+    let i = c.loop-range.invariant in
+    only_more (LeadTo (ranges_left c.args.ranges)) _ _ _ c.in-Some.range.unit i.only c.in_err-cache_lines_in.ensures.only (i.leads c.in-Some.range.unit (subst (λ rs. LeadTo rs c.in-Some.range.unit) (sym c.in-Some.ensures.steps) (inl refl)))
+
 pub loop-range-preserved : goal.loop-range-preserved
 loop-range-preserved g c =
     let i = c.loop-range.invariant in
@@ -35,6 +42,8 @@ loop-range-preserved g c =
       read = c.in_ok-cache_lines_in.ensures.read;
       exact = λ ready. (subst (AreParsed (parsed_units us)) c.in-Some.ensures.steps (i.exact ready)).1;
       parsed = λ p stays ready. i.parsed p (λ n parsed. stays n (stay_parsed mid now c.in_ok-cache_lines_in.ensures.stay n parsed)) (subst (AreParsed p) (sym c.in-Some.ensures.steps) (stays c.in-Some.range.unit c.in_ok-cache_lines_in.ensures.parsed, ready));
+      leads = λ n led. i.leads n (subst (λ rs. LeadTo rs n) (sym c.in-Some.ensures.steps) (inr led));
+      only = only_more (LeadTo (ranges_left c.args.ranges)) _ _ _ c.in-Some.range.unit i.only c.in_ok-cache_lines_in.ensures.only (i.leads c.in-Some.range.unit (subst (λ rs. LeadTo rs c.in-Some.range.unit) (sym c.in-Some.ensures.steps) (inl refl)));
     }
 
 pub returns-clause-parsed : goal.returns-clause-parsed

@@ -1,6 +1,6 @@
-use Rattle.std.proofs.Common.{List, Bool, length}
+use Rattle.std.proofs.Common.{ℕ, List, Bool, length}
 use Rattle.addr2line_units.specs.CachedLines.{HaveLinesOf, StayUnits, parsed_units}
-use Rattle.addr2line_units.specs.Parsed.{AreParsed, StaysParsed}
+use Rattle.addr2line_units.specs.Parsed.{AreParsed, LeadTo, ParsesOnly, StaysParsed}
 use Rattle.addr2line_units.specs.UnitRangesLeft.{ranges_left}
 use Rattle.addr2line_units.proofs.lookup.cache_lines_along.Given as goal
 
@@ -12,6 +12,8 @@ invariant-loop-range g l =
       read : HaveLinesOf l.dwarf l.units.items;
       exact : AreParsed first (ranges_left l.fn.ranges) → AreParsed first (ranges_left l.ranges);
       parsed : (p : List Bool) → StaysParsed (parsed_units l.units.items) p → AreParsed p (ranges_left l.ranges) → AreParsed p (ranges_left l.fn.ranges);
+      leads : (n : ℕ) → LeadTo (ranges_left l.ranges) n → LeadTo (ranges_left l.fn.ranges) n;
+      only : ParsesOnly (LeadTo (ranges_left l.fn.ranges)) first (parsed_units l.units.items);
     }
 
 abbrev pub decreases-loop-range : goal.decreases-loop-range

@@ -1,5 +1,5 @@
-use Rattle.std.proofs.Common.{rules}
-use Rattle.addr2line_units.proofs.UnitsLemmas.{parsed_at, parsed_set, stay_all, stay_set, stays_by, parsed_if_ok}
+use Rattle.std.proofs.Common.{inl, rules}
+use Rattle.addr2line_units.proofs.UnitsLemmas.{only_set, parsed_at, stay_all, stay_set, stays_by, parsed_if_ok}
 use Rattle.addr2line_units.proofs.lookup.cache_lines_in.Goals as goal
 
 pub returns-then-number-len-clause-stay : goal.returns-then-number-len-clause-stay
@@ -13,3 +13,9 @@ returns-clause-parsed g c = parsed_if_ok c.args.units.now.items c.args.number c.
 
 pub returns-clause-stay : goal.returns-clause-stay
 returns-clause-stay g c = stay_set c.args.units.now.items c.args.number c.index_mut-unit.result.now c.cache_lines.new.self (search rules) c.index_mut-unit.ensures.value (stays_by _ _ c.cache_lines.ensures.unit c.cache_lines.ensures.lang c.cache_lines.ensures.stays)
+
+pub returns-clause-only : goal.returns-clause-only
+returns-clause-only g c = only_set c.args.units.now.items c.args.number c.cache_lines.new.self
+
+pub returns-then-number-len-clause-only : goal.returns-then-number-len-clause-only
+returns-then-number-len-clause-only g c = λ n e. inl e

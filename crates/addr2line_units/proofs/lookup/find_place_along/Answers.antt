@@ -1,10 +1,10 @@
-use Rattle.std.proofs.Common.{ap, arith, refl, subst, sym, ◌∙◌, ◌≡◌, true}
+use Rattle.std.proofs.Common.{ap, arith, inl, inr, refl, subst, sym, ◌∙◌, ◌≡◌, true}
 use Rattle.std.proofs.lemmas.Result.{err_from_is_err_and}
 use Rattle.addr2line_units.specs.CachedLines.{indexed_units, parsed_units}
 use Rattle.addr2line_units.specs.Located.{along, looks_along}
-use Rattle.addr2line_units.specs.Parsed.{decides, ready_along}
+use Rattle.addr2line_units.specs.Parsed.{AsksFor, decides, ready_along}
 use Rattle.addr2line_units.specs.UnitRangesLeft.{ranges_left}
-use Rattle.addr2line_units.proofs.UnitsLemmas.{along_fault, along_none, along_some, looks_first, looks_of_step, looks_raised, looks_within, none_first, ready_both, ready_decided, ready_first, ready_rest, stay_all, stay_indexed, stay_over, stay_parsed}
+use Rattle.addr2line_units.proofs.UnitsLemmas.{along_fault, along_none, along_some, looks_first, looks_of_step, looks_raised, looks_within, none_first, only_more, ready_both, ready_decided, ready_first, ready_rest, stay_all, stay_indexed, stay_over, stay_parsed}
 use Rattle.addr2line_units.proofs.lookup.find_place_along.Goals as goal
 
 pub loop-range-init : goal.loop-range-init
@@ -14,6 +14,8 @@ loop-range-init g c = record {
   rest = refl;
   exact = λ ready. ready;
   ready = λ p stays ready. ready;
+  only = λ n asked. asked;
+  parsed = λ n e. inl e;
   cost = omega arith;
   raised = omega arith;
   none = λ e. e;
@@ -91,6 +93,20 @@ returns-in-Some-2-clause-cost g c =
     let cost = rw (stay_indexed c.args.units.now.items c.loop-range.units.items i.stay) at c.in_ok-row.ensures.cost in
     looks_of_step _ _ _ (looks_within _ _ _ _ (looks_along c.args.dwarf.now units (ranges_left c.next.new.self)) _ cost i.cost (ap (looks_along c.args.dwarf.now units) c.in-Some.ensures.steps ∙ looks_first c.args.dwarf.now units c.in-Some.range (ranges_left c.next.new.self)))
 
+pub returns-in_err-row-clause-only : goal.returns-in_err-row-clause-only
+returns-in_err-row-clause-only g c =
+    let i = c.loop-range.invariant in
+    let units = indexed_units c.args.units.now.items in
+    let asked = i.only c.in-Some.range.unit (subst (λ rs. AsksFor c.args.dwarf.now units c.args.probe rs c.in-Some.range.unit) (sym c.in-Some.ensures.steps) (inl refl)) in
+    only_more (AsksFor c.args.dwarf.now units c.args.probe (ranges_left c.args.ranges)) _ _ _ c.in-Some.range.unit i.parsed c.in_err-row.ensures.only asked
+
+pub returns-in-Some-2-clause-only : goal.returns-in-Some-2-clause-only
+returns-in-Some-2-clause-only g c =
+    let i = c.loop-range.invariant in
+    let units = indexed_units c.args.units.now.items in
+    let asked = i.only c.in-Some.range.unit (subst (λ rs. AsksFor c.args.dwarf.now units c.args.probe rs c.in-Some.range.unit) (sym c.in-Some.ensures.steps) (inl refl)) in
+    only_more (AsksFor c.args.dwarf.now units c.args.probe (ranges_left c.args.ranges)) _ _ _ c.in-Some.range.unit i.parsed c.in_ok-row.ensures.only asked
+
 pub loop-range-preserved : goal.loop-range-preserved
 loop-range-preserved g c =
     let i = c.loop-range.invariant in
@@ -112,6 +128,8 @@ loop-range-preserved g c =
       ready = λ p stays ready.
           let both = ready_both d units c.args.probe r rest p (stays r.unit (c.in_ok-row.ensures.parsed tt)) ready in
           i.ready p (λ n parsed. stays n (stay_parsed mid now c.in_ok-row.ensures.stay n parsed)) (subst (λ rs. ready_along d units p c.args.probe rs ≡ true) (sym c.in-Some.ensures.steps) both);
+      only = λ n asked. i.only n (subst (λ rs. AsksFor d units c.args.probe rs n) (sym c.in-Some.ensures.steps) (inr (ap decides none, asked)));
+      parsed = only_more (AsksFor d units c.args.probe (ranges_left c.args.ranges)) _ _ _ r.unit i.parsed c.in_ok-row.ensures.only (i.only r.unit (subst (λ rs. AsksFor d units c.args.probe rs r.unit) (sym c.in-Some.ensures.steps) (inl refl)));
       cost = looks_within _ _ _ _ (looks_along d units rest) _ cost i.cost (ap (looks_along d units) c.in-Some.ensures.steps ∙ looks_first d units r rest);
       raised = looks_raised _ _ _ i.raised c.in_ok-row.ensures.raised;
       none = λ e. absurd (none_first r rest (sym (i.none e) ∙ c.in-Some.ensures.steps));

@@ -1,7 +1,7 @@
-use Rattle.std.proofs.Common.{List, [], Bool, true, ◌≡◌, ◌+◌, ◌≤◌, length}
+use Rattle.std.proofs.Common.{ℕ, List, [], Bool, true, ◌≡◌, ◌+◌, ◌≤◌, length}
 use Rattle.addr2line_units.specs.CachedLines.{HaveLinesOf, StayUnits, indexed_units, parsed_units}
 use Rattle.addr2line_units.specs.Located.{along, looks_along}
-use Rattle.addr2line_units.specs.Parsed.{StaysParsed, ready_along}
+use Rattle.addr2line_units.specs.Parsed.{AsksFor, ParsesOnly, StaysParsed, ready_along}
 use Rattle.addr2line_units.specs.UnitRangesLeft.{ranges_left}
 use Rattle.addr2line_units.proofs.lookup.find_place_along.Given as goal
 
@@ -16,6 +16,8 @@ invariant-loop-range g l =
       rest : along d units l.probe (ranges_left l.ranges) ≡ along d units l.probe (ranges_left l.fn.ranges);
       exact : ready_along d units first l.probe (ranges_left l.fn.ranges) ≡ true → ready_along d units first l.probe (ranges_left l.ranges) ≡ true;
       ready : (p : List Bool) → StaysParsed (parsed_units l.units.items) p → ready_along d units p l.probe (ranges_left l.ranges) ≡ true → ready_along d units p l.probe (ranges_left l.fn.ranges) ≡ true;
+      only : (n : ℕ) → AsksFor d units l.probe (ranges_left l.ranges) n → AsksFor d units l.probe (ranges_left l.fn.ranges) n;
+      parsed : ParsesOnly (AsksFor d units l.probe (ranges_left l.fn.ranges)) first (parsed_units l.units.items);
       cost : l.looks + looks_along d units (ranges_left l.ranges) ≤ l.fn.looks + looks_along d units (ranges_left l.fn.ranges);
       raised : l.fn.looks ≤ l.looks;
       none : ranges_left l.fn.ranges ≡ [] → ranges_left l.ranges ≡ [];

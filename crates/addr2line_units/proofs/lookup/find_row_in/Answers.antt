@@ -1,6 +1,6 @@
-use Rattle.std.proofs.Common.{ap, rules, subst, sym, ◌+◌, ◌≤◌}
+use Rattle.std.proofs.Common.{inl, rules, subst, sym, ◌+◌, ◌≤◌}
 use Rattle.addr2line_units.specs.Located.{looks_in}
-use Rattle.addr2line_units.proofs.UnitsLemmas.{answer_cached, parsed_at, parsed_set, row_found, row_found_exactly, stay_all, stay_set, unit_at}
+use Rattle.addr2line_units.proofs.UnitsLemmas.{only_set, answer_cached, parsed_at, parsed_set, row_found, row_found_exactly, stay_all, stay_set, unit_at}
 use Rattle.addr2line_units.proofs.lookup.find_row_in.Goals as goal
 
 pub returns-then-number-len-clause-stay : goal.returns-then-number-len-clause-stay
@@ -26,3 +26,9 @@ pub returns-clause-cost : goal.returns-clause-cost
 returns-clause-cost g c =
     let same = unit_at c.args.units.now.items c.args.number c.index_mut-unit.result.now (search rules) c.index_mut-unit.ensures.value in
     subst (λ o. c.find_row.new.looks ≤ c.args.looks.now + looks_in c.args.dwarf.now o) (sym same) c.find_row.ensures.cost
+
+pub returns-clause-only : goal.returns-clause-only
+returns-clause-only g c = only_set c.args.units.now.items c.args.number c.find_row.new.self
+
+pub returns-then-number-len-clause-only : goal.returns-then-number-len-clause-only
+returns-then-number-len-clause-only g c = λ n e. inl e

@@ -1,9 +1,9 @@
-use Rattle.std.proofs.Common.{ℕ, ◌≡◌, ◌<◌, ◌≤◌, ap, arith, rules, refl, sym, subst, true, length, ◌∙◌}
+use Rattle.std.proofs.Common.{inl, ◌≡◌, ◌<◌, ◌≤◌, arith, rules, refl, sym, subst, length, ◌∙◌}
 use Rattle.std.proofs.lemmas.List.{length-map}
 use Rattle.std.proofs.lemmas.Result.{err_from_is_err_and}
-use Rattle.addr2line_units.specs.CachedLines.{indexed_unit, indexed_units, parsed_units}
-use Rattle.addr2line_units.specs.Parsed.{has_parsed}
-use Rattle.addr2line_units.proofs.UnitsLemmas.{lines_end, lines_more, lines_stop, parsed_below, no_parsed, stay_all, stay_indexed, stay_over, stay_parsed, all_parsed}
+use Rattle.addr2line_units.specs.CachedLines.{indexed_unit, indexed_units}
+use Rattle.addr2line_units.specs.Parsed.{AllAskFor}
+use Rattle.addr2line_units.proofs.UnitsLemmas.{asks_more, only_more, readable, ready_at_fault, lines_more, lines_stop, parsed_below, stay_all, stay_indexed, stay_over, stay_parsed, all_parsed}
 use Rattle.addr2line_units.proofs.lookup.read_all_lines.Goals as goal
 
 pub loop-number-init : goal.loop-number-init
@@ -15,6 +15,8 @@ loop-number-init g c =
       count = count ∙ sym (length-map c.args.units.now.items indexed_unit);
       rest = refl;
       parsed = λ n below. absurd (omega arith);
+      before = λ n below. absurd (omega arith);
+      only = λ n e. inl e;
     }
 
 pub returns-in_err-read_lines_in-clause-gives : goal.returns-in_err-read_lines_in-clause-gives
@@ -34,10 +36,24 @@ returns-in_err-read_lines_in-clause-exact g c =
     let units = indexed_units us in
     let fault = rw (stay_indexed us c.loop-number.units.items i.stay) at c.in_err-read_lines_in.ensures.exact in
     let within = subst (λ n. c.loop-number.number < n) i.count c.loop-number-test.true in
-    rw (p.1, p.2) (λ all. sym i.rest ∙ lines_stop c.args.dwarf.now units c.loop-number.number _ within (fault (stay_parsed us c.loop-number.units.items i.stay c.loop-number.number (all c.loop-number.number))))
+    rw (p.1, p.2) (λ ready. sym i.rest ∙ lines_stop c.args.dwarf.now units c.loop-number.number _ within (fault (stay_parsed us c.loop-number.units.items i.stay c.loop-number.number (ready c.loop-number.number i.before))))
 
 pub returns-in_err-read_lines_in-clause-stay : goal.returns-in_err-read_lines_in-clause-stay
 returns-in_err-read_lines_in-clause-stay g c = stay_over c.args.units.now.items c.loop-number.units.items c.read_lines_in.new.units.items c.loop-number.invariant.stay c.in_err-read_lines_in.ensures.stay
+
+pub returns-in_err-read_lines_in-clause-ready : goal.returns-in_err-read_lines_in-clause-ready
+returns-in_err-read_lines_in-clause-ready g c =
+    let p = err_from_is_err_and c.from_residual.result c.from_residual.ensures.1 in
+    let i = c.loop-number.invariant in
+    let us = c.args.units.now.items in
+    let fault = rw (stay_indexed us c.loop-number.units.items i.stay) at c.in_err-read_lines_in.ensures.gives in
+    let stays = stay_parsed c.loop-number.units.items c.read_lines_in.new.units.items c.in_err-read_lines_in.ensures.stay in
+    rw (p.1, p.2) (λ ne. ready_at_fault c.args.dwarf.now (indexed_units us) _ c.loop-number.number _ (λ n below. stays n (i.parsed n below)) (c.in_err-read_lines_in.ensures.parsed ne) (fault ne))
+
+pub returns-in_err-read_lines_in-clause-only : goal.returns-in_err-read_lines_in-clause-only
+returns-in_err-read_lines_in-clause-only g c =
+    let i = c.loop-number.invariant in
+    only_more (AllAskFor c.args.dwarf.now (indexed_units c.args.units.now.items)) _ _ _ c.loop-number.number i.only c.in_err-read_lines_in.ensures.only i.before
 
 pub loop-number-preserved : goal.loop-number-preserved
 loop-number-preserved g c =
@@ -53,9 +69,14 @@ loop-number-preserved g c =
       count = i.count;
       rest = sym (lines_more c.args.dwarf.now units c.loop-number.number within read) ∙ i.rest;
       parsed = parsed_below _ c.loop-number.number (λ n below. stays n (i.parsed n below)) (c.in_ok-read_lines_in.ensures.parsed tt);
+      before = asks_more c.args.dwarf.now units c.loop-number.number i.before (readable c.args.dwarf.now _ read);
+      only = only_more (AllAskFor c.args.dwarf.now units) _ _ _ c.loop-number.number i.only c.in_ok-read_lines_in.ensures.only i.before;
     }
 
 pub returns-clause-parsed : goal.returns-clause-parsed
 returns-clause-parsed g c =
     let i = c.loop-number.invariant in
     all_parsed c.args.units.now.items c.loop-number.units.items c.loop-number.number i.stay (subst (λ n. n ≤ c.loop-number.number) i.count c.loop-number-test.false) i.parsed
+
+pub returns-clause-ready : goal.returns-clause-ready
+returns-clause-ready g c = λ answered n asked. returns-clause-parsed g c n

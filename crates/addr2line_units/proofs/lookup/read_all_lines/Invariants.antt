@@ -1,7 +1,7 @@
 use Rattle.std.proofs.Common.{ℕ, ◌≡◌, ◌<◌, drop, length, true}
 use Rattle.addr2line_units.specs.CachedLines.{HaveLinesOf, StayUnits, indexed_units, parsed_units}
 use Rattle.addr2line_units.specs.Located.{all_lines, lines_fault}
-use Rattle.addr2line_units.specs.Parsed.{has_parsed}
+use Rattle.addr2line_units.specs.Parsed.{AllAskFor, ParsesOnly, has_parsed}
 use Rattle.addr2line_units.proofs.lookup.read_all_lines.Given as goal
 
 abbrev pub invariant-loop-number : goal.invariant-loop-number
@@ -13,4 +13,6 @@ invariant-loop-number g l =
       count : l.count ≡ length units;
       rest : lines_fault (all_lines l.dwarf (drop l.number units)) ≡ lines_fault (all_lines l.dwarf units);
       parsed : (n : ℕ) → n < l.number → has_parsed (parsed_units l.units.items) n ≡ true;
+      before : AllAskFor l.dwarf units l.number;
+      only : ParsesOnly (AllAskFor l.dwarf units) (parsed_units l.fn.units.items) (parsed_units l.units.items);
     }

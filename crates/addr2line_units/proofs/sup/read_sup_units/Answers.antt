@@ -1,4 +1,4 @@
-use Rattle.std.proofs.Common.{List, Ok, ap, length, nat_lt, rules, subst, sym, ◌++◌, ◌∙◌, ◌≡◌, true}
+use Rattle.std.proofs.Common.{List, Ok, ap, rules, subst, sym, ◌++◌, ◌∙◌, ◌≡◌, true}
 use Rattle.std.proofs.lemmas.Result.{err_from_is_err_and}
 use Rattle.gimli_read.specs.Reading.{◌>>=◌}
 use Rattle.gimli.specs.Unit.{UnitRecord}

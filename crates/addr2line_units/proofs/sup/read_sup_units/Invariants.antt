@@ -1,4 +1,4 @@
-use Rattle.std.proofs.Common.{◌≡◌, ◌++◌, Ok, length, nat_lt, true}
+use Rattle.std.proofs.Common.{◌≡◌, ◌++◌, Ok, length, true}
 use Rattle.gimli_read.specs.Reading.{◌>>=◌}
 use Rattle.gimli.specs.UnitsLeft.{all_headers}
 use Rattle.addr2line_units.specs.Indexed.{has_abbreviations, some_take_memory, sup_units_take_memory}

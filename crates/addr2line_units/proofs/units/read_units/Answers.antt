@@ -1,4 +1,4 @@
-use Rattle.std.proofs.Common.{Ok, ap, arith, length, refl, rules, sym, true, nat_lt, ◌∙◌, ◌≡◌, ◌<◌, subst}
+use Rattle.std.proofs.Common.{Ok, ap, rules, sym, ◌∙◌, ◌≡◌, subst}
 use Rattle.std.proofs.lemmas.Result.{err_from_is_err_and}
 use Rattle.gimli_read.specs.Reading.{◌>>=◌}
 use Rattle.gimli.specs.UnitsLeft.{all_headers}

@@ -1,4 +1,4 @@
-use Rattle.std.proofs.Common.{◌≡◌, Ok, length, nat_lt, true}
+use Rattle.std.proofs.Common.{◌≡◌, Ok, length, true}
 use Rattle.gimli_read.specs.Reading.{◌>>=◌}
 use Rattle.addr2line_units.specs.CachedLines.{HaveLinesOf}
 use Rattle.addr2line_units.specs.Indexed.{appended, index_seen, indexed_with, some_take_memory, unit_takes_memory, units_take_memory}

@@ -10,11 +10,11 @@ use Rattle.addr2line.proofs.context.Context.find_location_range.Goals as goal
 
 pub invariant_of-self : goal.invariant_of-self
 invariant_of-self g c =
-    still_a_context c.self.inside.dwarf.value c.self.inside.units.units.items c.self.inside.units.ranges _ c.self.invariant.made_is _ c.cache_lines.ensures.stay _ c.cache_lines.ensures.ranges (subst (λ d. HaveLinesOf d c.cache_lines.new.self.units.items) c.deref.ensures c.cache_lines.ensures.read)
+    still_a_context c.self.inside.dwarf.value c.self.inside.units.units.items c.self.inside.units.ranges _ c.self.invariant.made_is _ c.cache_lines.ensures.stay _ c.cache_lines.ensures.ranges (subst (λ d. HaveLinesOf d c.cache_lines.new.self.units.items) c.deref.ensures c.cache_lines.ensures.read) _ c.self.invariant.sup_dwarf_is
 
 pub invariant_of-self-2 : goal.invariant_of-self-2
 invariant_of-self-2 g c =
-    still_a_context c.self.inside.dwarf.value c.self.inside.units.units.items c.self.inside.units.ranges _ c.self.invariant.made_is _ c.cache_lines.ensures.stay _ c.cache_lines.ensures.ranges (subst (λ d. HaveLinesOf d c.cache_lines.new.self.units.items) c.deref.ensures c.cache_lines.ensures.read)
+    still_a_context c.self.inside.dwarf.value c.self.inside.units.units.items c.self.inside.units.ranges _ c.self.invariant.made_is _ c.cache_lines.ensures.stay _ c.cache_lines.ensures.ranges (subst (λ d. HaveLinesOf d c.cache_lines.new.self.units.items) c.deref.ensures c.cache_lines.ensures.read) _ c.self.invariant.sup_dwarf_is
 
 pub returns-in_err-cache_lines : goal.returns-in_err-cache_lines
 returns-in_err-cache_lines g c =
@@ -26,7 +26,7 @@ returns-in_err-cache_lines g c =
     let e = c.in_err-cache_lines.ensures in
     let p = err_from_is_err_and c.from_residual.result c.from_residual.ensures.1 in
     rw (p.1, p.2, sym c.self.view_is) (
-      (refl, (λ _. tt), after_range_lookup d old ranges sup i.made_is c.cache_lines.new.self.units.items e.stay c.self.inside.looks c.args.low c.args.high _ (λ answered. absurd (answered e.refused))),
+      (refl, (λ _. tt), after_range_lookup d old ranges sup i.made_is c.cache_lines.new.self.units.items e.stay c.self.inside.looks c.args.low c.args.high _ (λ answered. absurd (answered e.refused)) e.only),
       record {
         gives = tt;
         refused = e.refused;
@@ -48,7 +48,7 @@ returns g c =
     let lines = subst (λ s. HaveLinesOf s new) c.deref.ensures c.cache_lines.ensures.read in
     let cached = spans_cached d c.args.low c.args.high new rows lines e.parsed in
     rw (sym c.self.view_is) (
-      (refl, (λ _. tt), after_range_lookup d old ranges sup i.made_is new e.stay c.self.inside.looks c.args.low c.args.high _ (λ answered. e.parsed)),
+      (refl, (λ _. tt), after_range_lookup d old ranges sup i.made_is new e.stay c.self.inside.looks c.args.low c.args.high _ (λ answered. e.parsed) e.only),
       record {
         gives = spans_are d old ranges sup i.made_is c.args.low c.args.high
             ∙ ap (λ us. Ok (spans_along d us c.args.low c.args.high rows)) (sym (stay_indexed old new e.stay))

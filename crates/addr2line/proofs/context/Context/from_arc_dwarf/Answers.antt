@@ -17,7 +17,7 @@ returns-in_err-sup_units g c =
     let d = c.args.dwarf.value in
     let units = rw c.deref.ensures at c.in_ok-units.ensures.gives in
     let sup = rw c.deref-2.ensures at c.in_err-sup_units.ensures.gives in
-    record { gives = rw (p.1, p.2) (λ may. context_fault d _ _ units (sup (λ takes. may (sup_memory g.R.Reader.shares d takes)))) }
+    record { gives = rw (p.1, p.2) (λ may. context_fault d _ _ units (sup (λ takes. may (sup_memory g.R.Reader.shares d _ units takes)))) }
 
 pub invariant_of-result : goal.invariant_of-result
 invariant_of-result g c =
@@ -26,6 +26,7 @@ invariant_of-result g c =
     record {
       made_is = what_is_made c.args.dwarf.value _ _ units sup;
       lines = subst (λ d. HaveLinesOf d c.in_ok-units.units.units.items) c.deref.ensures c.in_ok-units.ensures.read;
+      sup_dwarf_is = rw c.deref-2.ensures at c.in_ok-sup_units.ensures.dwarf;
     }
 
 pub returns : goal.returns

@@ -3,13 +3,13 @@ use Rattle.std.specs.Prelude.{is_ok}
 use Rattle.gimli_read.specs.Reading.{Exactly}
 use Rattle.addr2line_units.specs.CachedLines.{HaveLinesOf}
 use Rattle.addr2line_units.specs.Cover.{cover}
-use Rattle.addr2line.proofs.ContextLemmas.{all_stays, along_ok, lines_are, location_is, range_ready_if_ok, ready_if_ok, still_a_context, when_ok}
+use Rattle.addr2line.proofs.ContextLemmas.{after_parse, all_stays, along_ok, lines_are, location_is, range_ready_if_ok, ready_after_parse, ready_if_ok, same_after_parse, still_a_context, when_ok}
 use Rattle.addr2line.proofs.context.Context.parse_lines.Goals as goal
 
 pub invariant_of-self : goal.invariant_of-self
 invariant_of-self g c =
     let i = c.self.invariant in
-    still_a_context c.self.inside.dwarf.value c.self.inside.units.units.items c.self.inside.units.ranges _ i.made_is _ c.parse_lines.ensures.stay _ c.parse_lines.ensures.ranges (subst (λ d. HaveLinesOf d c.parse_lines.new.self.units.items) c.deref.ensures c.parse_lines.ensures.read)
+    still_a_context c.self.inside.dwarf.value c.self.inside.units.units.items c.self.inside.units.ranges _ i.made_is _ c.parse_lines.ensures.stay _ c.parse_lines.ensures.ranges (subst (λ d. HaveLinesOf d c.parse_lines.new.self.units.items) c.deref.ensures c.parse_lines.ensures.read) _ c.self.invariant.sup_dwarf_is
 
 pub returns-clause-stays : goal.returns-clause-stays
 returns-clause-stays g c =
@@ -31,7 +31,31 @@ pub returns-clause-exact : goal.returns-clause-exact
 returns-clause-exact g c =
     let i = c.self.invariant in
     let e = rw c.deref.ensures at c.parse_lines.ensures.exact in
-    rw (sym c.self.view_is) (λ parsed. subst (Exactly (λ x. x) c.parse_lines.result) (sym (lines_are c.self.inside.dwarf.value c.self.inside.units.units.items c.self.inside.units.ranges _ i.made_is)) (e parsed))
+    rw (sym c.self.view_is) (λ ready. subst (Exactly (λ x. x) c.parse_lines.result) (sym (lines_are c.self.inside.dwarf.value c.self.inside.units.units.items c.self.inside.units.ranges _ i.made_is)) (e (ready _ i.made_is)))
 
 pub returns-clause-ready_for_range : goal.returns-clause-ready_for_range
 returns-clause-ready_for_range g c = range_ready_if_ok _ c.self.inside.dwarf.value _ c.self.inside.looks c.parse_lines.ensures.parsed
+
+pub returns-clause-ready_for_all : goal.returns-clause-ready_for_all
+returns-clause-ready_for_all g c =
+    let i = c.self.invariant in
+    let d = c.self.inside.dwarf.value in
+    let old = c.self.inside.units.units.items in
+    let e = rw c.deref.ensures at c.parse_lines.ensures in
+    λ answered. ready_after_parse d old c.self.inside.units.ranges _ i.made_is c.parse_lines.new.self.units.items e.stay c.self.inside.looks c.self.inside.looks (e.ready answered)
+
+pub returns-clause-only : goal.returns-clause-only
+returns-clause-only g c =
+    let i = c.self.invariant in
+    let d = c.self.inside.dwarf.value in
+    let old = c.self.inside.units.units.items in
+    let e = rw c.deref.ensures at c.parse_lines.ensures in
+    rw (sym c.self.view_is) (after_parse d old c.self.inside.units.ranges _ i.made_is c.parse_lines.new.self.units.items e.stay c.self.inside.looks c.self.inside.looks e.only)
+
+pub returns-clause-same : goal.returns-clause-same
+returns-clause-same g c =
+    let i = c.self.invariant in
+    let d = c.self.inside.dwarf.value in
+    let old = c.self.inside.units.units.items in
+    let e = rw c.deref.ensures at c.parse_lines.ensures in
+    rw (sym c.self.view_is) (same_after_parse d old c.self.inside.units.ranges _ i.made_is c.parse_lines.new.self.units.items e.stay c.self.inside.looks c.self.inside.looks e.only)

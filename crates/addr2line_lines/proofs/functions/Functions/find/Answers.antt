@@ -6,7 +6,8 @@ use Rattle.addr2line_lines.specs.FoundFunctions.{AreFunctions, function_offsets}
 use Rattle.addr2line_lines.specs.FunctionTable.{FunctionTable, offset_at}
 use Rattle.addr2line_lines.specs.KeptDetails.{KeptDetails, seen_details}
 use Rattle.addr2line_lines.specs.Segments.{function_at}
-use Rattle.addr2line_lines.proofs.FunctionCacheLemmas.{entry_found, place_seen, table_of}
+use Rattle.addr2line_lines.proofs.CachedPlaces.{entry_found, place_seen}
+use Rattle.addr2line_lines.proofs.FunctionCacheLemmas.{table_of}
 use Rattle.addr2line_lines.proofs.functions.Functions.find.Goals as goal
 
 there : (d : KeptDetails) (fs : List LazyFunction) (addresses : List FunctionAddress) (probe : ℕ) (found : Option ℕ) → AreFunctions (function_offsets fs) addresses → found ≡ function_at probe addresses → IfSome found (λ n. n < length (table_of fs addresses d).functions)

@@ -6,7 +6,7 @@ use Rattle.addr2line_lines.specs.FoundDetails.{entry_among}
 use Rattle.addr2line_lines.specs.FunctionCache.{read_at}
 use Rattle.addr2line_lines.specs.FunctionTable.{FunctionTable, cached_inlined}
 use Rattle.addr2line_lines.specs.KeptDetails.{seen_details}
-use Rattle.addr2line_lines.proofs.FunctionCacheLemmas.{inlined_cached, none_read, place_kept, read_is, table_of}
+use Rattle.addr2line_lines.proofs.CachedPlaces.{inlined_cached, none_read, place_kept, read_is}
 use Rattle.addr2line_lines.proofs.functions.Functions.find_inlined_functions.Goals as goal
 
 pub find_inlined_functions-requires : goal.find_inlined_functions-requires

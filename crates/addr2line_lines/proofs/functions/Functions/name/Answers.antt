@@ -1,8 +1,8 @@
-use Rattle.std.proofs.Common.{◌≡◌, Option, Some, None, option_map, option_and_then, ap, sym, ◌∙◌}
+use Rattle.std.proofs.Common.{option_map, option_and_then, ap, sym, ◌∙◌}
 use Rattle.addr2line_lines.specs.FunctionTable.{cached_name, name_of_detail}
 use Rattle.addr2line_lines.specs.FunctionCache.{read_at}
 use Rattle.addr2line_lines.specs.KeptDetails.{seen_details}
-use Rattle.addr2line_lines.proofs.FunctionCacheLemmas.{none_read, place_kept, read_is}
+use Rattle.addr2line_lines.proofs.CachedPlaces.{none_read, place_kept, read_is}
 use Rattle.addr2line_lines.proofs.functions.Functions.name.Goals as goal
 
 pub returns-in_err-read_detail_of : goal.returns-in_err-read_detail_of

@@ -1,4 +1,4 @@
-use Rattle.std.proofs.Common.{◌≡◌, ◌<◌, ℕ, List, Option, Some, None, Result, Ok, Err, length, slice_get, slice_set, ap, sym, subst, refl, ◌∙◌, arith}
+use Rattle.std.proofs.Common.{Ok, Err, slice_get, slice_set, ap, subst, refl, ◌∙◌, arith}
 use Rattle.std.proofs.lemmas.Option.{get_or_from_slice_get, slice_get_within}
 use Rattle.addr2line_lines.specs.declared.functions.LazyDetail.TheVariants.{Read, Faulty}
 use Rattle.addr2line_lines.specs.declared.functions.LazyFunction.{LazyFunction}
@@ -59,6 +59,7 @@ returns-in-Ok g c =
     record {
       gives = subst (λ (t : FunctionTable). IsReadAt scope u n t (Ok tt) new) c.self.view_is
           (reads scope u n c.args.offset.0 (table_of fs addresses kept) new (Ok tt) unread (ap detail_fault c.in-Ok.ensures.gives, with_detail));
+      exact = ap (read_fault scope u) c.requires.unread ∙ ap detail_fault c.in-Ok.ensures.gives;
     }
 
 pub returns-in_default : goal.returns-in_default
@@ -81,6 +82,7 @@ returns-in_default g c =
       gives = subst (λ (t : FunctionTable). IsReadAt scope u n t (Err e) (table_of (slice_set fs n y) addresses more)) c.self.view_is
           (reads scope u n c.args.offset.0 (table_of fs addresses kept) (table_of (slice_set fs n y) addresses more) (Err e) unread
           (λ ne. (ap detail_fault faulty, with_fault), λ oom. absurd (c.in_default.not-OutOfMemory oom)));
+      exact = λ t. ap (read_fault scope u) c.requires.unread ∙ ap detail_fault faulty;
     }
 
 pub returns-in-OutOfMemory-clause-exact : goal.returns-in-OutOfMemory-clause-exact

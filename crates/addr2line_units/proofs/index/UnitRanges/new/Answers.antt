@@ -1,4 +1,3 @@
-use Rattle.std.proofs.Common.{rules}
 use Rattle.addr2line_units.proofs.LeastBeginLemmas.{indexed_is}
 use Rattle.addr2line_units.proofs.index.UnitRanges.new.Goals as goal
 

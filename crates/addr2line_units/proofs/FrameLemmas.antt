@@ -1,0 +1,65 @@
+-- Frames by the places of inlined entries (on specs/FramesLeft.antt).
+use Rattle.std.proofs.Common.{ℕ, ◌≡◌, ◌+◌, ◌<◌, List, [], ◌∷◌, ◌++◌, map, length, reverse, arith, ◌∙◌, ap, sym, subst, refl}
+use Rattle.std.specs.Prelude.{Option, Some, None, option_map, slice_get, IfSome}
+use Rattle.std.specs.List.{AllByRecursion}
+use Rattle.std.proofs.lemmas.List.{length-reverse, map-append, reverse-append}
+use Rattle.std.proofs.lemmas.Option.{slice_get-get_or}
+use Rattle.gimli_read.specs.declared.constants.DwLang.{DwLang}
+use Rattle.addr2line_lines.specs.Details.{InlinedEntry}
+use Rattle.addr2line_lines.specs.FoundDetails.{entry_among, no_inlined}
+use Rattle.addr2line_lines.specs.FunctionTable.{FunctionTable, cached_name, offset_at}
+use Rattle.addr2line_lines.specs.Location.{Location}
+use Rattle.addr2line_units.specs.Frames.{call_location, frames_from, function_frame}
+use Rattle.addr2line_units.specs.FramesLeft.{entry_frame, frames_inside}
+
+-- a mapped list from its end is the list from its end, mapped
+map_reverse : {X Y : Type 0} (f : X → Y) (xs : List X) → map f (reverse xs) ≡ reverse (map f xs)
+map_reverse f [] = refl
+map_reverse f (x ∷ xs) =
+    ap (map f) (reverse-append (x ∷ []) xs) ∙ map-append f (reverse xs) (x ∷ [])
+    ∙ ap (λ ys. ys ++ f x ∷ []) (map_reverse f xs) ∙ sym (reverse-append (f x ∷ []) (map f xs))
+
+module _ {X : Type 0} (P : X → Type 0) where
+  all_snoc : (xs : List X) (x : X) → AllByRecursion P xs → P x → AllByRecursion P (xs ++ x ∷ [])
+  all_snoc [] x all h = (h, tt)
+  all_snoc (y ∷ xs) x all h = (all.0, all_snoc xs x all.1 h)
+
+  -- what holds of each holds of each from the end
+  all_reverse : (xs : List X) → AllByRecursion P xs → AllByRecursion P (reverse xs)
+  all_reverse [] all = tt
+  all_reverse (x ∷ xs) all =
+      subst (AllByRecursion P) (sym (reverse-append (x ∷ []) xs)) (all_snoc (reverse xs) x (all_reverse xs all.1) all.0)
+
+module _ (files : List (List ℕ)) (language : Option DwLang) (t : FunctionTable) (place : ℕ) where
+  -- one frame more than places
+  frames_count : (ns : List ℕ) (location : Option Location) → length (frames_inside files language t place ns location) ≡ length ns + 1
+  frames_count [] location = refl
+  frames_count (n ∷ ns) location =
+      let rest = frames_count ns (option_map (λ (x : InlinedEntry). call_location files x.call) (slice_get t.inlined n)) in
+      omega arith
+
+  -- places that stand in the list are those of their entries
+  frames_by_entries : (offset : ℕ) → offset_at t place ≡ Some offset → (ns : List ℕ) → AllByRecursion (λ n. n < length t.inlined) ns → (location : Option Location)
+      → frames_inside files language t place ns location ≡ frames_from files language offset (cached_name t place) (map (entry_among t.inlined) ns) location
+  frames_by_entries offset at [] all location =
+      ap (λ o. record { offset = o; function = option_map (λ n. record { name = n; language = language }) (cached_name t place); location = location } ∷ []) at
+  frames_by_entries offset at (n ∷ ns) all location =
+      ap (λ (e : Option InlinedEntry). entry_frame language e location ∷ frames_inside files language t place ns (option_map (λ (x : InlinedEntry). call_location files x.call) e)) (slice_get-get_or t.inlined n no_inlined all.0)
+      ∙ ap (λ rest. function_frame language (entry_among t.inlined n).offset (entry_among t.inlined n).name location ∷ rest) (frames_by_entries offset at ns all.1 _)
+
+  -- the same from the inside out, of the function of a place
+  pub function_frames : (ns : List ℕ) → AllByRecursion (λ n. n < length t.inlined) ns → (location : Option Location)
+      → IfSome (offset_at t place) (λ offset. frames_inside files language t place (reverse ns) location
+      ≡ frames_from files language offset (cached_name t place) (reverse (map (entry_among t.inlined) ns)) location)
+  function_frames ns all location = of_offset (offset_at t place) refl
+    where
+      of_offset : (o : Option ℕ) → offset_at t place ≡ o → IfSome o (λ offset. frames_inside files language t place (reverse ns) location
+          ≡ frames_from files language offset (cached_name t place) (reverse (map (entry_among t.inlined) ns)) location)
+      of_offset None at = tt
+      of_offset (Some offset) at =
+          frames_by_entries offset at (reverse ns) (all_reverse _ ns all) location
+          ∙ ap (λ es. frames_from files language offset (cached_name t place) es location) (map_reverse (entry_among t.inlined) ns)
+
+  -- one frame more than the inlined functions
+  pub function_frames_count : (ns : List ℕ) (location : Option Location) → length (frames_inside files language t place (reverse ns) location) ≡ length ns + 1
+  function_frames_count ns location = frames_count (reverse ns) location ∙ ap (λ k. k + 1) (length-reverse ns)

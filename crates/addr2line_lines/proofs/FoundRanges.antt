@@ -1,5 +1,5 @@
 -- The attributes of ranges among others (on specs/FoundRanges.antt).
-use Rattle.std.proofs.Common.{◌≡◌, ℕ, zero, suc, ◌==◌, ◌&&◌, ◌||◌, Bool, true, false, cond, List, [], ◌∷◌, ◌++◌, length, Option, Some, Result, Ok, Err, refl, ap, sym, ◌∙◌, arith, append-nil}
+use Rattle.std.proofs.Common.{◌≡◌, zero, suc, ◌==◌, ◌&&◌, ◌||◌, Bool, true, false, cond, List, [], ◌∷◌, ◌++◌, length, Some, Result, Ok, Err, refl, ap, sym, ◌∙◌, arith, append-nil}
 use Rattle.std.specs.List.{All, list_any}
 use Rattle.gimli_read.specs.declared.constants.TheConstants.DwAt.{DW_AT_high_pc, DW_AT_low_pc, DW_AT_ranges}
 use Rattle.gimli_read.specs.declared.error.Error.{Error}

@@ -1,4 +1,4 @@
-use Rattle.std.proofs.Common.{Ok, ap, refl, sym, ◌∙◌}
+use Rattle.std.proofs.Common.{ap, refl, sym, ◌∙◌}
 use Rattle.std.proofs.lemmas.Result.{err_from_is_err_and}
 use Rattle.gimli_read.specs.Reading.{◌>>=◌}
 use Rattle.addr2line_lines.proofs.FoundRanges.{ranges_end, ranges_fault, ranges_next, ranges_passed, rest_next}

@@ -174,7 +174,8 @@ pub record Passed (given : Reading NamedValue) (left : Section) (name : DwAt) (o
   pub is : given ≡ Ok (attribute, left)
   pub said : (o ≡ Some attribute) ⊎ ((o ≡ None) × (attribute.name ≡ name) × (wanted ≡ false))
 
-named : (e : Encoding) (x : Specification) (s t : Section) (a : NamedValue) → attribute_at e x s ≡ Ok (a, t) → a.name ≡ x.name
+-- an attribute has the name of its specification
+pub named : (e : Encoding) (x : Specification) (s t : Section) (a : NamedValue) → attribute_at e x s ≡ Ok (a, t) → a.name ≡ x.name
 unfolding attribute_at
 named e x s t a h = by_form (x.form.0 == DW_FORM_implicit_const.0) h
   where

@@ -35,6 +35,7 @@ pub mod NameLemmas
 pub mod UnitOrder
 pub mod NameChains
 pub mod DetailLemmas
+pub mod WantedLemmas
 pub mod NestingLemmas
 pub mod DetailOrder
 pub mod DetailPlaces

@@ -1,8 +1,9 @@
 -- What attributes say of names (on specs/Names.antt).
 use Rattle.std.proofs.Common.{ℕ, zero, suc, ◌+◌, ◌-◌, ◌<◌, ◌≤◌, ◌≡◌, ◌≢◌, ◌==◌, ◌||◌, Bool, true, false, cond, nat_lt, List, [], ◌∷◌, ◌++◌, length, take, drop, slice_index_or, Option, Some, None, is_some, option_map, Result, Ok, Err, add-one, arith, refl, ap, sym, ◌∙◌, append-nil, length-append, length-drop, length-take}
-use Rattle.std.specs.List.{position, position_or_len}
+use Rattle.std.specs.List.{All, position, position_or_len}
 use Rattle.std.specs.Option.{option_or}
 use Rattle.std.specs.Result.{result_ok}
+use Rattle.std.proofs.lemmas.Bool.{eqb-true}
 use Rattle.std.proofs.lemmas.Bool.Decides.{nat_tests}
 use Rattle.std.proofs.lemmas.List.{drop_more, get_or-take, take-append-drop, take_all}
 use Rattle.std.proofs.lemmas.List.Quantifiers.{position-Some}
@@ -51,27 +52,28 @@ linkage_taken see may s u found a (Ok x) h k =
     ∙ ap (λ f. Ok (taken (option_map see x) f)) (linkage_alone s u found a h)
 linkage_taken see may s u found a (Err e) h k = λ m. absurd (let q = k m in cc)
 
--- where no place is the first no attribute may give a name
-pub none_split : (xs : List Specification) → position is_name_specification xs ≡ None → HasNoName xs
-none_split xs h k d l = at (nat_lt (position_or_len is_name_specification xs) (length xs)) refl h
+-- where no place is the first no attribute is such
+pub none_split : (such : Specification → Bool) (xs : List Specification) → position such xs ≡ None → All (λ x. such x ≡ false) xs
+none_split such xs h k d l = at (nat_lt (position_or_len such xs) (length xs)) refl h
   where
-    at : (b : Bool) → nat_lt (position_or_len is_name_specification xs) (length xs) ≡ b → ◌≡◌ {A = Option ℕ} (cond b (Some (position_or_len is_name_specification xs)) None) None → is_name_specification (slice_index_or xs k d) ≡ false
+    at : (b : Bool) → nat_lt (position_or_len such xs) (length xs) ≡ b → ◌≡◌ {A = Option ℕ} (cond b (Some (position_or_len such xs)) None) None → such (slice_index_or xs k d) ≡ false
     at true e h = absurd cc
-    at false e h = fails_before_first is_name_specification xs k d (let m : length xs ≤ position_or_len is_name_specification xs = grind (arith, nat_tests) in omega arith)
+    at false e h = fails_before_first such xs k d (let m : length xs ≤ position_or_len such xs = grind (arith, nat_tests) in omega arith)
 
--- a list is what comes before a place, what stands there, and what comes after it
-pub split_at : (xs : List Specification) (n : ℕ) (x : Specification) → position is_name_specification xs ≡ Some n → x ≡ slice_index_or xs n x → IsSplitAtName xs (take n xs) x (take (length xs - (n + 1)) (drop (n + 1) xs))
-split_at xs n x h is =
-    let p = position-Some is_name_specification xs n x h in
+-- a list is what comes before the first that is such, what stands there, and what comes after it
+pub split_at : (such : Specification → Bool) (xs : List Specification) (n : ℕ) (x : Specification) → position such xs ≡ Some n → x ≡ slice_index_or xs n x
+    → (xs ≡ take n xs ++ x ∷ take (length xs - (n + 1)) (drop (n + 1) xs)) × All (λ y. such y ≡ false) (take n xs)
+split_at such xs n x h is =
+    let p = position-Some such xs n x h in
     let l = length-take n xs in
     let m = length-drop (n + 1) xs in (
       sym (take-append-drop n xs)
           ∙ ap (λ ys. take n xs ++ ys) (drop_more xs n x p.0 ∙ ap (λ y. y ∷ drop (n + 1) xs) (sym is) ∙ ap (λ ys. x ∷ ys) (sym (take_all (length xs - (n + 1)) (drop (n + 1) xs) (omega arith)))),
-      λ k d b. ap is_name_specification (get_or-take n xs k d (omega arith)) ∙ fails k d (omega arith),
+      λ k d b. ap such (get_or-take n xs k d (omega arith)) ∙ fails k d (omega arith),
     )
   where
-    fails : (k : ℕ) (d : Specification) → k < n → is_name_specification (slice_index_or xs k d) ≡ false
-    fails k d b = (position-Some is_name_specification xs n d h).2 k b
+    fails : (k : ℕ) (d : Specification) → k < n → such (slice_index_or xs k d) ≡ false
+    fails k d b = (position-Some such xs n d h).2 k b
 
 -- an attribute has the name of its specification
 attribute_name : (e : Encoding) (x : Specification) (s t : Section) (a : NamedValue) → attribute_at e x s ≡ Ok (a, t) → a.name ≡ x.name
@@ -177,6 +179,12 @@ named_linkage s u after found more a t name h = ap (by_linkage s u after found t
 pub named_other : (s : Scope) (u : UnitRecord) (after : List Specification) (found more : NameOrOrigin) (a : NamedValue) (t : Section) → ◌≡◌ {A = Result (Option Section × NameOrOrigin) Error} (Ok (taken (linkage_name_of s u a) (with_name_or_origin s u found a))) (Ok (taken None more))
     → named_after s u after found (a, t) ≡ named_at s u after t more
 named_other s u after found more a t h = let p = gives s u found more a None h in ap (by_linkage s u after found t a) p.0 ∙ ap (named_at s u after t) p.1
+
+-- after no attributes all is left
+pub none_passed : (e : Encoding) (xs : List Specification) (left : Section) → (length xs == 0) ≡ true → rest_of (attributes_at e xs left) ≡ Ok left
+unfolding attributes_at
+none_passed e [] left h = refl
+none_passed e (x ∷ xs) left h = let none : length (x ∷ xs) ≡ 0 = eqb-true (length (x ∷ xs)) 0 h in absurd (omega arith)
 
 -- fewer attributes are left
 pub fewer_left : (all before : List Specification) (x : Specification) (after : List Specification) → IsSplitAtName all before x after → length after < length all

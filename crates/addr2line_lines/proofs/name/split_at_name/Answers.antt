@@ -1,9 +1,10 @@
 use Rattle.std.proofs.Common.{sym}
+use Rattle.addr2line_lines.specs.FoundNames.{is_name_specification}
 use Rattle.addr2line_lines.proofs.NameLemmas.{none_split, split_at}
 use Rattle.addr2line_lines.proofs.name.split_at_name.Goals as goal
 
 pub returns-in_err-place-clause-none : goal.returns-in_err-place-clause-none
-returns-in_err-place-clause-none c = λ none. none_split c.args.all.now (sym c.in_err-place.ensures.gives)
+returns-in_err-place-clause-none c = λ none. none_split is_name_specification c.args.all.now (sym c.in_err-place.ensures.gives)
 
 pub returns-clause-split : goal.returns-clause-split
-returns-clause-split c = split_at c.args.all.now c.in_ok-place.place c.index-all-place.result (sym c.in_ok-place.ensures.gives) c.index-all-place.is
+returns-clause-split c = split_at is_name_specification c.args.all.now c.in_ok-place.place c.index-all-place.result (sym c.in_ok-place.ensures.gives) c.index-all-place.is

@@ -25,7 +25,7 @@ use Rattle.addr2line_lines.specs.declared.inlined.CallSite as declared_call
 use Rattle.addr2line_lines.specs.declared.inlined.InlinedAttributes as declared_attributes
 use Rattle.addr2line_lines.specs.declared.nesting.Kind.{Kind}
 use Rattle.addr2line_lines.specs.declared.nesting.Kind.TheVariants.{Subprogram, Inlined, Other}
-use Rattle.addr2line_lines.specs.Details.{CallSite, InlinedAttributes, InlinedEntry, InlinedRange, inlined_attributes_of, inlined_entry, is_inlined, no_call, or_with_inlined_attribute, with_inlined_attribute}
+use Rattle.addr2line_lines.specs.Details.{CallSite, InlinedAttributes, InlinedEntry, InlinedRange, inlined_attributes_of, inlined_entry, is_inlined, no_call, or_with_inlined_attribute}
 use Rattle.addr2line_lines.specs.FoundNames.{is_name_attribute}
 use Rattle.addr2line_lines.specs.Functions.{is_subprogram}
 use Rattle.addr2line_lines.specs.InlinedOrder.{inlined_range_of}
@@ -88,12 +88,6 @@ abbrev pub IsReadIf : Bool → Bool → Section → Result (Option NamedValue) E
 IsReadIf may wanted left (Ok (Some a)) given = given ≡ Ok (a, left)
 IsReadIf may wanted left (Ok None) given = (rest_of given ≡ Ok left) × (wanted ≡ false)
 IsReadIf may wanted left (Err e) given = (may ≡ true → e ≢ OutOfMemory) → given ≡ Err e
-
--- one more attribute, if it was wanted
-abbrev pub with_read_attribute : Scope → UnitRecord → InlinedAttributes → Option NamedValue
-    → Result InlinedAttributes Error
-with_read_attribute scope u x None = Ok x
-with_read_attribute scope u x (Some a) = with_inlined_attribute scope u x a
 
 -- what attributes that are read say, after those that were read before
 abbrev pub inlined_attributes_after : Scope → UnitRecord → Result InlinedAttributes Error

@@ -1,6 +1,6 @@
-use Rattle.std.proofs.Common.{Ok, refl, sym, ap, subst, ◌∙◌}
+use Rattle.std.proofs.Common.{Ok, refl, sym, ap, ◌∙◌}
 use Rattle.std.proofs.lemmas.Result.{err_from_is_err_and}
-use Rattle.gimli_read.specs.Reading.{◌>>=◌, ExactlyUnlessOomIf}
+use Rattle.gimli_read.specs.Reading.{◌>>=◌}
 use Rattle.addr2line_lines.specs.Details.{no_inlined_attributes, or_with_inlined_attribute, with_inlined_attribute}
 use Rattle.addr2line_lines.specs.FoundDetails.{or_fault, seen_attributes}
 use Rattle.addr2line_lines.specs.SeenScope.{seen_scope}

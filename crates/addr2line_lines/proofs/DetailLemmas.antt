@@ -20,7 +20,7 @@ use Rattle.gimli.specs.Unit.{UnitRecord}
 use Rattle.addr2line_lines.specs.declared.function.RangeAttributes.{RangeAttributes}
 use Rattle.addr2line_lines.specs.declared.nesting.Kind.{Kind}
 use Rattle.addr2line_lines.specs.Details.{CallSite, InlinedAttributes, inlined_attributes_of, no_inlined_attributes, or_with_inlined_attribute, with_call, with_inlined_attribute}
-use Rattle.addr2line_lines.specs.FoundDetails.{FoundInlined, IsReadIf, IsTakenIn, entry_found_at, inlined_attributes_after, is_call, is_inlined_kind, is_listed, is_range_name, is_wanted, kind_of, kinds_such, with_entry_found, with_inlined_found, with_read_attribute, with_read_name}
+use Rattle.addr2line_lines.specs.FoundDetails.{FoundInlined, IsReadIf, IsTakenIn, entry_found_at, inlined_attributes_after, is_call, is_inlined_kind, is_listed, is_range_name, is_wanted, kind_of, kinds_such, with_entry_found, with_inlined_found, with_read_name}
 use Rattle.addr2line_lines.specs.FoundNames.{is_name_attribute}
 use Rattle.addr2line_lines.specs.Names.{is_linkage_name, is_origin, or_with_name, with_name}
 use Rattle.addr2line_lines.specs.RangeAttributes.{with_range_attribute}
@@ -90,14 +90,14 @@ module _ (scope : Scope) (u : UnitRecord) where
   abbrev with_call_of : InlinedAttributes → CallSite → Result InlinedAttributes Error
   with_call_of x call = Ok (record { ranges = x.ranges; name = x.name; call = call })
 
-  abbrev pub with_name_of : InlinedAttributes → NamedValue → RangeAttributes → Result (Option Section) Error → Result InlinedAttributes Error
+  abbrev with_name_of : InlinedAttributes → NamedValue → RangeAttributes → Result (Option Section) Error → Result InlinedAttributes Error
   with_name_of x a ranges r = r >>= λ name. Ok (record { ranges = ranges; name = name; call = with_call u.header.encoding.version x.call a })
 
-  abbrev pub with_ranges_of : InlinedAttributes → NamedValue → Result RangeAttributes Error → Result InlinedAttributes Error
+  abbrev with_ranges_of : InlinedAttributes → NamedValue → Result RangeAttributes Error → Result InlinedAttributes Error
   with_ranges_of x a r = r >>= λ ranges. Ok (record { ranges = ranges; name = x.name; call = with_call u.header.encoding.version x.call a })
 
   -- an attribute of the ranges
-  pub range_attribute : (x : InlinedAttributes) (a : NamedValue) → is_range_name a.name ≡ true → with_inlined_attribute scope u x a ≡ with_ranges_of x a (with_range_attribute scope.file.sections u x.ranges a)
+  range_attribute : (x : InlinedAttributes) (a : NamedValue) → is_range_name a.name ≡ true → with_inlined_attribute scope u x a ≡ with_ranges_of x a (with_range_attribute scope.file.sections u x.ranges a)
   unfolding with_inlined_attribute
   range_attribute x a h = by_ranges (with_range_attribute scope.file.sections u x.ranges a)
     where
@@ -106,7 +106,7 @@ module _ (scope : Scope) (u : UnitRecord) where
       by_ranges (Err e) = refl
 
   -- an attribute that says nothing of the ranges
-  pub other_attribute : (x : InlinedAttributes) (a : NamedValue) → is_range_name a.name ≡ false → with_inlined_attribute scope u x a ≡ with_name_of x a x.ranges (with_name scope u x.name a)
+  other_attribute : (x : InlinedAttributes) (a : NamedValue) → is_range_name a.name ≡ false → with_inlined_attribute scope u x a ≡ with_name_of x a x.ranges (with_name scope u x.name a)
   unfolding with_inlined_attribute
   other_attribute x a h = ap (λ r. r >>= λ ranges. with_name_of x a ranges (with_name scope u x.name a)) (rangeless scope.file.sections x.ranges a h)
 
@@ -130,7 +130,7 @@ module _ (scope : Scope) (u : UnitRecord) where
       other_attribute x a h ∙ ap (λ (call : CallSite). with_name scope u x.name a >>= λ name. Ok (record { ranges = x.ranges; name = name; call = call })) (callless u.header.encoding.version x.call a c)
 
   -- an attribute that says nothing of an inlined entry
-  pub unwanted : (x : InlinedAttributes) (a : NamedValue) → is_wanted a.name ≡ false → with_inlined_attribute scope u x a ≡ Ok x
+  unwanted : (x : InlinedAttributes) (a : NamedValue) → is_wanted a.name ≡ false → with_inlined_attribute scope u x a ≡ Ok x
   unwanted x a h =
       let p = neither (is_range_name a.name || is_name_attribute a.name) (is_call a.name) h in
       let q = neither (is_range_name a.name) (is_name_attribute a.name) p.0 in
@@ -174,7 +174,8 @@ pub record Passed (given : Reading NamedValue) (left : Section) (name : DwAt) (o
   pub is : given ≡ Ok (attribute, left)
   pub said : (o ≡ Some attribute) ⊎ ((o ≡ None) × (attribute.name ≡ name) × (wanted ≡ false))
 
-named : (e : Encoding) (x : Specification) (s t : Section) (a : NamedValue) → attribute_at e x s ≡ Ok (a, t) → a.name ≡ x.name
+-- an attribute has the name of its specification
+pub named : (e : Encoding) (x : Specification) (s t : Section) (a : NamedValue) → attribute_at e x s ≡ Ok (a, t) → a.name ≡ x.name
 unfolding attribute_at
 named e x s t a h = by_form (x.form.0 == DW_FORM_implicit_const.0) h
   where
@@ -218,18 +219,6 @@ no_rest (Err g) f h = let same : g ≡ f = cc in ap Err same
 pub still : (scope : Scope) (u : UnitRecord) (x : Result InlinedAttributes Error) (a : NamedValue) → is_wanted a.name ≡ false → or_with_inlined_attribute scope u x a ≡ x
 still scope u (Ok x) a h = unwanted scope u x a h
 still scope u (Err f) a h = refl
-
--- an attribute that was passed over says nothing of an inlined entry
-pub said : (scope : Scope) (u : UnitRecord) (x : Result InlinedAttributes Error) (given : Reading NamedValue) (left : Section) (name : DwAt) (o : Option NamedValue) (wanted : Bool) → (p : Passed given left name o wanted) → wanted ≡ is_wanted name
-    → or_with_inlined_attribute scope u x p.attribute ≡ (x >>= λ y. with_read_attribute scope u y o)
-said scope u x given left name o wanted p w = elim p.said [
-  | inl e ↦ ap (λ v. x >>= λ y. with_read_attribute scope u y v) (sym e)
-  | inr h ↦ still scope u x p.attribute (ap is_wanted h.1 ∙ sym w ∙ h.2) ∙ whole x ∙ ap (λ v. x >>= λ y. with_read_attribute scope u y v) (sym h.0)
-]
-  where
-    whole : (r : Result InlinedAttributes Error) → r ≡ (r >>= λ y. Ok y)
-    whole (Ok y) = refl
-    whole (Err f) = refl
 
 -- an attribute that was passed over says nothing of a name
 pub name_said : (scope : Scope) (u : UnitRecord) (x : Result (Option Section) Error) (given : Reading NamedValue) (left : Section) (name : DwAt) (o : Option NamedValue) (wanted : Bool) → (p : Passed given left name o wanted) → wanted ≡ is_name_attribute name

@@ -38,6 +38,7 @@ pub mod UnitOrder
 pub mod NameChains
 pub mod DetailLemmas
 pub mod FoundRanges
+pub mod WantedLemmas
 pub mod NestingLemmas
 pub mod DetailRanges
 pub mod DetailOrder

@@ -3,6 +3,7 @@ use Rattle.std.proofs.Common.{ℕ, zero, suc, ◌+◌, ◌-◌, ◌<◌, ◌≤�
 use Rattle.std.specs.List.{All, position, position_or_len}
 use Rattle.std.specs.Option.{option_or}
 use Rattle.std.specs.Result.{result_ok}
+use Rattle.std.proofs.lemmas.Bool.{eqb-true}
 use Rattle.std.proofs.lemmas.Bool.Decides.{nat_tests}
 use Rattle.std.proofs.lemmas.List.{drop_more, get_or-take, take-append-drop, take_all}
 use Rattle.std.proofs.lemmas.List.Quantifiers.{position-Some}
@@ -177,6 +178,12 @@ named_linkage s u after found more a t name h = ap (by_linkage s u after found t
 pub named_other : (s : Scope) (u : UnitRecord) (after : List Specification) (found more : NameOrOrigin) (a : NamedValue) (t : Section) → ◌≡◌ {A = Result (Option Section × NameOrOrigin) Error} (Ok (taken (linkage_name_of s u a) (with_name_or_origin s u found a))) (Ok (taken None more))
     → named_after s u after found (a, t) ≡ named_at s u after t more
 named_other s u after found more a t h = let p = gives s u found more a None h in ap (by_linkage s u after found t a) p.0 ∙ ap (named_at s u after t) p.1
+
+-- after no attributes all is left
+pub none_passed : (e : Encoding) (xs : List Specification) (left : Section) → (length xs == 0) ≡ true → rest_of (attributes_at e xs left) ≡ Ok left
+unfolding attributes_at
+none_passed e [] left h = refl
+none_passed e (x ∷ xs) left h = let none : length (x ∷ xs) ≡ 0 = eqb-true (length (x ∷ xs)) 0 h in absurd (omega arith)
 
 -- fewer attributes are left
 pub fewer_left : (all before : List Specification) (x : Specification) (after : List Specification) → IsSplitAtName all before x after → length after < length all

@@ -1,11 +1,12 @@
 -- The details of functions as they are found, as the private functions see them.
 use Rattle.std.specs.Prelude.{◌≡◌, ◌≢◌, ℕ, ◌<◌, ◌==◌, ◌||◌, ◌&&◌, Bool, true, false, List, [], ◌∷◌, ◌++◌, count_by, drop, fold, map, length, slice_index_or, take, Option, Some, None, option_map, Result, Ok, Err, pos, if◌then◌else◌}
+use Rattle.std.specs.List.{All}
 use Rattle.gimli_read.specs.declared.constants.DwAt.{DwAt}
 use Rattle.gimli_read.specs.declared.constants.TheConstants.DwAt.{DW_AT_call_column, DW_AT_call_file, DW_AT_call_line, DW_AT_high_pc, DW_AT_low_pc, DW_AT_ranges}
 use Rattle.gimli_read.specs.declared.error.Error.{Error}
 use Rattle.gimli_read.specs.declared.error.Error.TheVariants.{NoEntryAtGivenOffset, OutOfMemory, UnexpectedEof}
 use Rattle.gimli_read.specs.declared.range.Range.{Range}
-use Rattle.gimli_read.specs.Abbreviations.{Abbrev}
+use Rattle.gimli_read.specs.Abbreviations.{Abbrev, Specification}
 use Rattle.gimli_read.specs.Form.{NamedValue, rest_of}
 use Rattle.gimli_read.specs.Reading.{Reading, ◌>>=◌, ExactlyUnlessOomIf}
 use Rattle.gimli_read.specs.Section.{Section}
@@ -24,7 +25,7 @@ use Rattle.addr2line_lines.specs.declared.inlined.CallSite as declared_call
 use Rattle.addr2line_lines.specs.declared.inlined.InlinedAttributes as declared_attributes
 use Rattle.addr2line_lines.specs.declared.nesting.Kind.{Kind}
 use Rattle.addr2line_lines.specs.declared.nesting.Kind.TheVariants.{Subprogram, Inlined, Other}
-use Rattle.addr2line_lines.specs.Details.{CallSite, InlinedAttributes, InlinedEntry, InlinedRange, inlined_attributes_of, inlined_entry, is_inlined, no_call, or_with_inlined_attribute, with_inlined_attribute}
+use Rattle.addr2line_lines.specs.Details.{CallSite, InlinedAttributes, InlinedEntry, InlinedRange, inlined_attributes_of, inlined_entry, is_inlined, no_call, or_with_inlined_attribute}
 use Rattle.addr2line_lines.specs.FoundNames.{is_name_attribute}
 use Rattle.addr2line_lines.specs.Functions.{is_subprogram}
 use Rattle.addr2line_lines.specs.InlinedOrder.{inlined_range_of}
@@ -56,6 +57,25 @@ is_call name =
 abbrev pub is_wanted : DwAt → Bool
 is_wanted name = is_range_name name || is_name_attribute name || is_call name
 
+-- the same of a specification
+abbrev pub is_wanted_specification : Specification → Bool
+is_wanted_specification x = is_wanted x.name
+
+-- no attribute says anything of an inlined entry
+abbrev pub HasNoWanted : List Specification → Type 0
+HasNoWanted specifications = All (λ x. is_wanted_specification x ≡ false) specifications
+
+-- what comes before an attribute, where no other says anything of an inlined entry, and what comes
+-- after it
+abbrev pub IsSplitAtWanted : List Specification → List Specification → Specification
+    → List Specification → Type 0
+IsSplitAtWanted all before x after = (all ≡ before ++ x ∷ after) × HasNoWanted before
+
+-- what was found, unless there was a fault before
+abbrev pub or_fault : {X : Type 0} → X → Option Error → Result X Error
+or_fault found None = Ok found
+or_fault found (Some e) = Err e
+
 -- an answer is a fault that was there, or what is given with one more attribute
 abbrev pub IsTakenIn : {X Y : Type 0} → Bool → (X → Y) → (Y → Result Y Error) → Result X Error
     → Result X Error → Type 0
@@ -68,12 +88,6 @@ abbrev pub IsReadIf : Bool → Bool → Section → Result (Option NamedValue) E
 IsReadIf may wanted left (Ok (Some a)) given = given ≡ Ok (a, left)
 IsReadIf may wanted left (Ok None) given = (rest_of given ≡ Ok left) × (wanted ≡ false)
 IsReadIf may wanted left (Err e) given = (may ≡ true → e ≢ OutOfMemory) → given ≡ Err e
-
--- one more attribute, if it was wanted
-abbrev pub with_read_attribute : Scope → UnitRecord → InlinedAttributes → Option NamedValue
-    → Result InlinedAttributes Error
-with_read_attribute scope u x None = Ok x
-with_read_attribute scope u x (Some a) = with_inlined_attribute scope u x a
 
 -- what attributes that are read say, after those that were read before
 abbrev pub inlined_attributes_after : Scope → UnitRecord → Result InlinedAttributes Error

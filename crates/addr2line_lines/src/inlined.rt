@@ -1,17 +1,18 @@
 //! Inlined entries: what their attributes say.
 
-ghost use Rattle.std.specs.Prelude.{◌≡◌, Ok, OnOk, option_and_then};
+ghost use Rattle.std.specs.Prelude.{◌≡◌, ◌<◌, None, Ok, IfSome, OnOk, length, option_and_then};
+ghost use Rattle.std.specs.List.{position};
 ghost use Rattle.std.specs.Option.{option_or};
 ghost use Rattle.gimli_read.specs.Form.{attribute_at, constant_of, rest_of};
 ghost use Rattle.gimli_read.specs.Reading.{ExactlyUnlessOomIf};
 ghost use Rattle.gimli.specs.Entry.{attributes_at};
 ghost use Rattle.addr2line_lines.specs.Details.{counted_file, low_bits, no_call, no_inlined_attributes, with_call, with_inlined_attribute};
-ghost use Rattle.addr2line_lines.specs.FoundDetails.{IsReadIf, IsTakenIn, inlined_attributes_after, is_call, is_range_name, is_wanted, seen_attributes, seen_call, with_read_attribute};
+ghost use Rattle.addr2line_lines.specs.FoundDetails.{HasNoWanted, IsReadIf, IsSplitAtWanted, IsTakenIn, inlined_attributes_after, is_call, is_range_name, is_wanted, is_wanted_specification, or_fault, seen_attributes, seen_call};
 ghost use Rattle.addr2line_lines.specs.References.{IsScope};
 ghost use Rattle.addr2line_lines.specs.SeenScope.{seen_scope};
 
 use crate::function::RangeAttributes;
-use crate::name::{is_name_attribute, take_name};
+use crate::name::{is_name_attribute, pass_over, take_name};
 use crate::references::Scope;
 use gimli::read::{Attribute, AttributeSpecification, DwAt, Error, Reader, UnitOffset};
 use gimli::{EntriesRaw, Unit, UnitRef};
@@ -174,6 +175,28 @@ impl<R: Reader> InlinedAttributes<R> {
         }
         Ok(())
     }
+
+    // Takes one more attribute in, unless there is a fault, and answers the fault that there is.
+    fn take_unless(
+        &mut self,
+        scope: Scope<'_, R>,
+        unit: &Unit<R>,
+        fault: Option<Error>,
+        attribute: Attribute<R>,
+    ) -> Option<Error>
+        requires in_order { IsScope (seen_scope scope) }
+        ensures gives { IsTakenIn R.shares (seen_attributes R.section)
+            (λ x. with_inlined_attribute (seen_scope scope.entry) unit.now x attribute)
+            (or_fault self.old fault) (or_fault self.new result) }
+    {
+        match fault {
+            Some(error) => Some(error),
+            None => match self.take(scope, unit, attribute) {
+                Ok(()) => None,
+                Err(error) => Some(error),
+            },
+        }
+    }
 }
 
 // Whether an attribute says something of an inlined entry.
@@ -202,27 +225,36 @@ pub(crate) fn read_attribute_if<R: Reader>(
     }
 }
 
-// Takes one more attribute in, if it is wanted and none before it has a fault.
-fn with_attribute<R: Reader>(
-    scope: Scope<'_, R>,
-    unit: &Unit<R>,
-    found: Result<InlinedAttributes<R>, Error>,
-    attribute: Option<Attribute<R>>,
-) -> Result<InlinedAttributes<R>, Error>
-    requires in_order { IsScope (seen_scope scope) }
-    ensures gives { IsTakenIn R.shares (seen_attributes R.section)
-        (λ x. with_read_attribute (seen_scope scope.entry) unit.now x attribute) found result }
+// The place of the first attribute that is wanted.
+fn first_wanted_attribute(specifications: &[AttributeSpecification]) -> Option<usize>
+    ensures gives { result ≡ position is_wanted_specification specifications.now }
+    ensures within { IfSome result (λ k. k < length specifications.now) }
 {
-    match found {
-        Ok(mut found) => match attribute {
-            Some(attribute) => {
-                found.take(scope, unit, attribute)?;
-                Ok(found)
-            }
-            None => Ok(found),
-        },
-        Err(error) => Err(error),
-    }
+    specifications
+        .iter()
+        .position(|specification| is_wanted(specification.name()))
+}
+
+// The first attribute that is wanted, among others.
+#[derive(Clone, Copy)]
+struct AtWanted<'a> {
+    before: &'a [AttributeSpecification],
+    specification: AttributeSpecification,
+    after: &'a [AttributeSpecification],
+}
+
+// Attributes, split at the first that is wanted.
+fn split_at_wanted(all: &[AttributeSpecification]) -> Option<AtWanted<'_>>
+    ensures split { IfSome result (λ x.
+        IsSplitAtWanted all.now x.before.now x.specification x.after.now) }
+    ensures none { result ≡ None → HasNoWanted all.now }
+{
+    let place = first_wanted_attribute(all)?;
+    Some(AtWanted {
+        before: &all[..place],
+        specification: all[place],
+        after: &all[place + 1..],
+    })
 }
 
 // What the attributes of specifications say of an inlined entry. A value that can't be read is a
@@ -243,11 +275,18 @@ pub(crate) fn read_inlined_attributes<R: Reader>(
     ensures unit { entries.new.unit ≡ entries.old.unit }
     ensures depth { entries.new.cursor.depth ≡ entries.old.cursor.depth }
 {
-    let mut found = Ok(InlinedAttributes::new());
-    for specification in specifications {
-        let wanted = is_wanted(specification.name());
-        let attribute = read_attribute_if(entries, *specification, wanted)?;
-        found = with_attribute(scope, unit, found, attribute);
+    let mut found = InlinedAttributes::new();
+    let mut fault = None;
+    let mut rest = specifications;
+    while let Some(next) = split_at_wanted(rest) {
+        pass_over(entries, next.before)?;
+        let attribute = entries.read_attribute(next.specification)?;
+        fault = found.take_unless(scope, unit, fault, attribute);
+        rest = next.after;
     }
-    found
+    pass_over(entries, rest)?;
+    match fault {
+        Some(error) => Err(error),
+        None => Ok(found),
+    }
 }

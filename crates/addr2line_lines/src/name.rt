@@ -2,8 +2,9 @@
 
 ghost use Rattle.std.specs.Prelude.{◌≡◌, ◌<◌, None, Ok, IfSome, length, option_map};
 ghost use Rattle.std.specs.List.{position};
-ghost use Rattle.gimli_read.specs.Form.{seen_value};
-ghost use Rattle.gimli_read.specs.Reading.{ExactlyUnlessOomIf};
+ghost use Rattle.gimli_read.specs.Form.{rest_of, seen_value};
+ghost use Rattle.gimli_read.specs.Reading.{Exactly, ExactlyUnlessOomIf};
+ghost use Rattle.gimli.specs.Entry.{attributes_at};
 ghost use Rattle.addr2line_lines.specs.FoundNames.{HasNoName, IsSplitAtName, is_name_attribute, is_name_specification, seen_name, seen_place, taken, with_origin, with_string};
 ghost use Rattle.addr2line_lines.specs.Names.{is_linkage_name, is_origin, linkage_name_of, named_at, no_name, readable, referred_name, visited, with_name, with_name_or_origin};
 ghost use Rattle.addr2line_lines.specs.References.{IsScope};
@@ -155,6 +156,24 @@ impl<R: Reader> NameOrOrigin<R> {
     }
 }
 
+/// Passes over attributes, if there are any. Refused as `EntriesRaw::skip_attributes` is. Takes no
+/// memory.
+pub(crate) fn pass_over<R: Reader>(
+    entries: &mut EntriesRaw<'_, R>,
+    specifications: &[AttributeSpecification],
+) -> Result<(), Error>
+    ensures gives { Exactly (λ _. entries.new.cursor.left) result (rest_of (attributes_at
+        entries.old.unit.encoding specifications.now entries.old.cursor.left)) }
+    ensures unit { entries.new.unit ≡ entries.old.unit }
+    ensures depth { entries.new.cursor.depth ≡ entries.old.cursor.depth }
+{
+    if specifications.is_empty() {
+        Ok(())
+    } else {
+        entries.skip_attributes(specifications)
+    }
+}
+
 // What an entry says of its name, by its attributes up to the first linkage name.
 fn read_names<R: Reader>(
     place: EntryPlace<'_, R>,
@@ -169,7 +188,7 @@ fn read_names<R: Reader>(
     let mut found = NameOrOrigin::new();
     let mut rest = specifications;
     while let Some(next) = split_at_name(rest) {
-        entries.skip_attributes(next.before)?;
+        pass_over(entries, next.before)?;
         let attribute = entries.read_attribute(next.specification)?;
         if let Some(name) = found.take(place.scope, place.unit, attribute)? {
             return Ok(NameOrOrigin {
@@ -179,7 +198,7 @@ fn read_names<R: Reader>(
         }
         rest = next.after;
     }
-    entries.skip_attributes(rest)?;
+    pass_over(entries, rest)?;
     Ok(found)
 }
 

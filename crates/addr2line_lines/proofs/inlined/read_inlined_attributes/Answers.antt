@@ -1,18 +1,17 @@
-use Rattle.std.proofs.Common.{Ok, refl, sym, ap, subst, ◌∙◌}
+use Rattle.std.proofs.Common.{Ok, refl, sym, ap, ◌∙◌}
 use Rattle.std.proofs.lemmas.Result.{err_from_is_err_and}
-use Rattle.gimli_read.specs.Abbreviations.{Specification}
-use Rattle.gimli_read.specs.Reading.{ExactlyUnlessOomIf}
-use Rattle.addr2line_lines.specs.Details.{no_inlined_attributes, or_with_inlined_attribute}
-use Rattle.addr2line_lines.specs.FoundDetails.{is_wanted, seen_attributes, with_read_attribute}
+use Rattle.gimli_read.specs.Reading.{◌>>=◌}
+use Rattle.addr2line_lines.specs.Details.{no_inlined_attributes, or_with_inlined_attribute, with_inlined_attribute}
+use Rattle.addr2line_lines.specs.FoundDetails.{or_fault, seen_attributes}
 use Rattle.addr2line_lines.specs.SeenScope.{seen_scope}
-use Rattle.addr2line_lines.proofs.RangeLemmas.{on_ok, rest-more, rest-end}
-use Rattle.addr2line_lines.proofs.DetailLemmas.{fold-end, fold-fault, fold-more, passed, said, taken}
+use Rattle.addr2line_lines.proofs.DetailLemmas.{taken}
+use Rattle.addr2line_lines.proofs.WantedLemmas.{passed_fault, rest_wanted, wanted_end, wanted_fault, wanted_next}
 use Rattle.addr2line_lines.proofs.inlined.read_inlined_attributes.Goals as goal
 
-pub loop-specification-init : goal.loop-specification-init
-loop-specification-init g c = record {
+pub loop-next-init : goal.loop-next-init
+loop-next-init g c = record {
   given = Ok no_inlined_attributes;
-  is = ap Ok (sym c.new.ensures.gives);
+  is = ap Ok (sym c.new-found.ensures.gives);
   gives = refl;
   same = c.requires.encoding;
   left = refl;
@@ -20,38 +19,64 @@ loop-specification-init g c = record {
   depth = refl;
 }
 
+pub returns-in_err-pass_over-clause-gives : goal.returns-in_err-pass_over-clause-gives
+returns-in_err-pass_over-clause-gives g c =
+    let p = err_from_is_err_and c.from_residual.result c.from_residual.ensures.1 in
+    let i = c.loop-next.invariant in
+    let split = c.in-Some.ensures.split in
+    let fault = rw i.same at c.in_err-pass_over.ensures.gives in
+    rw (p.1, p.2) (λ _. sym i.gives ∙ passed_fault (seen_scope c.args.scope) c.args.unit.now _ _ _ _ _ _ i.given split fault)
+
 pub returns-in_err-attribute-clause-gives : goal.returns-in_err-attribute-clause-gives
 returns-in_err-attribute-clause-gives g c =
-    let p = err_from_is_err_and c.from_residual.result c.from_residual.ensures.1 in
-    let i = c.loop-specification.invariant in
-    let fault = rw (i.same, c.specification-item.is) at c.in_err-attribute.ensures.gives in
-    rw (p.1, p.2) (λ ne. sym i.gives ∙ fold-fault (or_with_inlined_attribute (seen_scope c.args.scope) c.args.unit.now) _ _ _ _ _ _ _ c.loop-specification-test.true (fault ne))
+    let p = err_from_is_err_and c.from_residual-in_err-attribute.result c.from_residual-in_err-attribute.ensures.1 in
+    let i = c.loop-next.invariant in
+    let split = c.in-Some.ensures.split in
+    let skipped = rw i.same at c.in_ok-pass_over.ensures.gives in
+    let same = ap (λ v. v.encoding) c.in_ok-pass_over.ensures.unit ∙ i.same in
+    let fault = rw same at c.in_err-attribute.ensures.gives in
+    rw (p.1, p.2) (λ ne. sym i.gives ∙ wanted_fault (seen_scope c.args.scope) c.args.unit.now _ _ _ _ _ _ _ i.given split skipped (fault (λ shares _. ne shares)))
 
-pub loop-specification-preserved : goal.loop-specification-preserved
-loop-specification-preserved g c =
-    let i = c.loop-specification.invariant in
+pub loop-next-preserved : goal.loop-next-preserved
+loop-next-preserved g c =
+    let i = c.loop-next.invariant in
     let scope = seen_scope c.args.scope in
     let u = c.args.unit.now in
-    let given = rw (i.same, c.specification-item.is) at c.in_ok-attribute.ensures.gives in
-    let a = passed g.R.Reader.shares _ _ _ _ _ _ given in
-    let wanted = c.is_wanted-wanted.ensures.gives ∙ ap is_wanted c.name.ensures.gives ∙ ap (λ (s : Specification). is_wanted s.name) c.specification-item.is in
-    let after = taken g.R.Reader.shares (seen_attributes g.R.Reader.section) (λ x. with_read_attribute scope u x c.in_ok-attribute.attribute) c.loop-specification.found c.with_attribute-found.result i.given i.is c.with_attribute-found.ensures.gives in
+    let split = c.in-Some.ensures.split in
+    let skipped = rw i.same at c.in_ok-pass_over.ensures.gives in
+    let same = ap (λ v. v.encoding) c.in_ok-pass_over.ensures.unit ∙ i.same in
+    let read = rw same at c.in_ok-attribute.ensures.gives in
+    let a = c.in_ok-attribute.attribute in
     record {
-      given = or_with_inlined_attribute scope u i.given a.attribute;
-      is = subst (ExactlyUnlessOomIf g.R.Reader.shares (seen_attributes g.R.Reader.section) c.with_attribute-found.result) (sym (said scope u i.given _ _ _ _ _ a wanted)) after;
-      gives = sym (fold-more (or_with_inlined_attribute scope u) _ _ _ _ _ _ _ _ c.loop-specification-test.true a.is) ∙ i.gives;
-      same = ap (λ v. v.encoding) c.in_ok-attribute.ensures.unit ∙ i.same;
-      left = sym (rest-more _ _ _ _ _ _ _ c.loop-specification-test.true a.is) ∙ i.left;
-      unit = c.in_ok-attribute.ensures.unit ∙ i.unit;
-      depth = c.in_ok-attribute.ensures.depth ∙ i.depth;
+      given = or_with_inlined_attribute scope u i.given a;
+      is = taken g.R.Reader.shares (seen_attributes g.R.Reader.section) (λ x. with_inlined_attribute scope u x a) (or_fault c.loop-next.found c.loop-next.fault) (or_fault c.take_unless-fault.new.self c.take_unless-fault.result) i.given i.is c.take_unless-fault.ensures.gives;
+      gives = sym (wanted_next scope u _ _ _ _ _ _ _ a i.given split skipped read) ∙ i.gives;
+      same = ap (λ v. v.encoding) c.in_ok-attribute.ensures.unit ∙ same;
+      left = sym (rest_wanted u.header.encoding _ _ _ _ _ _ _ a split skipped read) ∙ i.left;
+      unit = c.in_ok-attribute.ensures.unit ∙ c.in_ok-pass_over.ensures.unit ∙ i.unit;
+      depth = c.in_ok-attribute.ensures.depth ∙ c.in_ok-pass_over.ensures.depth ∙ i.depth;
     }
 
-pub returns-clause-gives : goal.returns-clause-gives
-returns-clause-gives g c =
-    let i = c.loop-specification.invariant in
-    subst (ExactlyUnlessOomIf g.R.Reader.shares (seen_attributes g.R.Reader.section) c.loop-specification.found) (sym (fold-end (or_with_inlined_attribute (seen_scope c.args.scope) c.args.unit.now) _ _ _ _ _ c.loop-specification-test.false) ∙ i.gives) i.is
+pub returns-in_err-pass_over-2-clause-gives : goal.returns-in_err-pass_over-2-clause-gives
+returns-in_err-pass_over-2-clause-gives g c =
+    let p = err_from_is_err_and c.from_residual-in_err-pass_over-2.result c.from_residual-in_err-pass_over-2.ensures.1 in
+    let i = c.loop-next.invariant in
+    let none = c.in_default.ensures.none refl in
+    let fault = rw i.same at c.in_err-pass_over-2.ensures.gives in
+    rw (p.1, p.2) (λ _. sym i.gives ∙ wanted_end (seen_scope c.args.scope) c.args.unit.now _ _ i.given none ∙ ap (λ r. r >>= λ t. i.given) fault)
 
-pub returns-clause-left : goal.returns-clause-left
-returns-clause-left g c =
-    let i = c.loop-specification.invariant in
-    on_ok _ _ (sym i.left ∙ rest-end _ _ _ _ c.loop-specification-test.false)
+pub returns-in-Some-fault-clause-gives : goal.returns-in-Some-fault-clause-gives
+returns-in-Some-fault-clause-gives g c =
+    let i = c.loop-next.invariant in
+    let none = c.in_default.ensures.none refl in
+    let passed = rw i.same at c.in_ok-pass_over-2.ensures.gives in
+    let is = rw c.in-Some-fault.is at i.is in
+    λ ne. sym i.gives ∙ wanted_end (seen_scope c.args.scope) c.args.unit.now _ _ i.given none ∙ ap (λ r. r >>= λ t. i.given) passed ∙ is ne
+
+pub returns-in-None-clause-gives : goal.returns-in-None-clause-gives
+returns-in-None-clause-gives g c =
+    let i = c.loop-next.invariant in
+    let none = c.in_default.ensures.none refl in
+    let passed = rw i.same at c.in_ok-pass_over-2.ensures.gives in
+    let is = rw c.in-None.is at i.is in
+    sym i.gives ∙ wanted_end (seen_scope c.args.scope) c.args.unit.now _ _ i.given none ∙ ap (λ r. r >>= λ t. i.given) passed ∙ is

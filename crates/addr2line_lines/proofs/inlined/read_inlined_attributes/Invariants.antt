@@ -1,24 +1,27 @@
-use Rattle.std.proofs.Common.{◌≡◌, drop, Ok, Result}
+use Rattle.std.proofs.Common.{◌≡◌, length, Ok, Result}
 use Rattle.gimli_read.specs.declared.error.Error.{Error as Fault}
 use Rattle.gimli_read.specs.Form.{rest_of}
 use Rattle.gimli_read.specs.Reading.{ExactlyUnlessOomIf}
 use Rattle.gimli.specs.Entry.{attributes_at}
 use Rattle.addr2line_lines.specs.Details.{InlinedAttributes, no_inlined_attributes}
-use Rattle.addr2line_lines.specs.FoundDetails.{inlined_attributes_after, seen_attributes}
+use Rattle.addr2line_lines.specs.FoundDetails.{inlined_attributes_after, or_fault, seen_attributes}
 use Rattle.addr2line_lines.specs.SeenScope.{seen_scope}
 use Rattle.addr2line_lines.proofs.inlined.read_inlined_attributes.Given as goal
 
-abbrev pub invariant-loop-specification : goal.invariant-loop-specification
-invariant-loop-specification g l =
+abbrev pub invariant-loop-next : goal.invariant-loop-next
+invariant-loop-next g l =
     let scope = seen_scope l.fn.scope in
     let u = l.unit in
     let encoding = l.unit.header.encoding in
     record {
       given : Result InlinedAttributes Fault;
-      is : ExactlyUnlessOomIf g.R.Reader.shares (seen_attributes g.R.Reader.section) l.found given;
-      gives : inlined_attributes_after scope u given (attributes_at encoding (drop l.specification-index l.specifications) l.entries.cursor.left) ≡ inlined_attributes_after scope u (Ok no_inlined_attributes) (attributes_at encoding l.specifications l.fn.entries.cursor.left);
+      is : ExactlyUnlessOomIf g.R.Reader.shares (seen_attributes g.R.Reader.section) (or_fault l.found l.fault) given;
+      gives : inlined_attributes_after scope u given (attributes_at encoding l.rest l.entries.cursor.left) ≡ inlined_attributes_after scope u (Ok no_inlined_attributes) (attributes_at encoding l.fn.specifications l.fn.entries.cursor.left);
       same : l.entries.unit.encoding ≡ encoding;
-      left : rest_of (attributes_at encoding (drop l.specification-index l.specifications) l.entries.cursor.left) ≡ rest_of (attributes_at encoding l.specifications l.fn.entries.cursor.left);
+      left : rest_of (attributes_at encoding l.rest l.entries.cursor.left) ≡ rest_of (attributes_at encoding l.fn.specifications l.fn.entries.cursor.left);
       unit : l.entries.unit ≡ l.fn.entries.unit;
       depth : l.entries.cursor.depth ≡ l.fn.entries.cursor.depth;
     }
+
+abbrev pub decreases-loop-next : goal.decreases-loop-next
+decreases-loop-next g l = length l.rest

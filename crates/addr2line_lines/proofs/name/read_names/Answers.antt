@@ -6,14 +6,14 @@ use Rattle.addr2line_lines.specs.SeenScope.{seen_scope}
 use Rattle.addr2line_lines.proofs.NameLemmas.{named_after, named_end, named_linkage, named_other, passed, passed_fault}
 use Rattle.addr2line_lines.proofs.name.read_names.Goals as goal
 
-pub returns-in_err-skip_attributes : goal.returns-in_err-skip_attributes
-returns-in_err-skip_attributes g c =
+pub returns-in_err-pass_over : goal.returns-in_err-pass_over
+returns-in_err-pass_over g c =
     let p = err_from_is_err_and c.from_residual.result c.from_residual.ensures.1 in
     let i = c.loop-next.invariant in
     let s = seen_scope c.args.place.scope in
     let u = c.args.place.unit.now in
     let split = c.in-Some.ensures.split in
-    let fault = rw i.encoding at c.in_err-skip_attributes.ensures.gives in
+    let fault = rw i.encoding at c.in_err-pass_over.ensures.gives in
     record { gives = rw (p.1, p.2) (λ _. sym i.gives ∙ passed_fault s u _ _ _ _ _ _ _ split fault) }
 
 pub returns-in_err-attribute : goal.returns-in_err-attribute
@@ -23,8 +23,8 @@ returns-in_err-attribute g c =
     let s = seen_scope c.args.place.scope in
     let u = c.args.place.unit.now in
     let split = c.in-Some.ensures.split in
-    let skipped = rw i.encoding at c.in_ok-skip_attributes.ensures.gives in
-    let encoding = ap (λ v. v.encoding) c.in_ok-skip_attributes.ensures.unit ∙ i.encoding in
+    let skipped = rw i.encoding at c.in_ok-pass_over.ensures.gives in
+    let encoding = ap (λ v. v.encoding) c.in_ok-pass_over.ensures.unit ∙ i.encoding in
     let fault = rw encoding at c.in_err-attribute.ensures.gives in
     record { gives = rw (p.1, p.2) (λ ne. sym i.gives ∙ passed s u _ _ _ _ _ _ _ split skipped ∙ ap (λ r. r >>= λ a. named_after s u c.in-Some.next.after.now (seen_name g.R.Reader.section c.loop-next.found) a) (fault (λ shares _. ne shares))) }
 
@@ -40,8 +40,8 @@ returns-in-Some-2 g c =
     let u = c.args.place.unit.now in
     let found = seen_name g.R.Reader.section c.loop-next.found in
     let split = c.in-Some.ensures.split in
-    let skipped = rw i.encoding at c.in_ok-skip_attributes.ensures.gives in
-    let encoding = ap (λ v. v.encoding) c.in_ok-skip_attributes.ensures.unit ∙ i.encoding in
+    let skipped = rw i.encoding at c.in_ok-pass_over.ensures.gives in
+    let encoding = ap (λ v. v.encoding) c.in_ok-pass_over.ensures.unit ∙ i.encoding in
     let read = rw encoding at c.in_ok-attribute.ensures.gives in
     let linkage = rw c.in-Some-2.is at c.in_ok-name.ensures.gives in
     record { gives = sym i.gives ∙ passed s u _ _ _ _ _ _ _ split skipped ∙ ap (λ r. r >>= λ a. named_after s u c.in-Some.next.after.now found a) read ∙ named_linkage s u c.in-Some.next.after.now found (seen_name g.R.Reader.section c.take.new.self) c.in_ok-attribute.attribute c.read_attribute.new.self.cursor.left _ linkage }
@@ -53,8 +53,8 @@ loop-next-preserved g c =
     let u = c.args.place.unit.now in
     let found = seen_name g.R.Reader.section c.loop-next.found in
     let split = c.in-Some.ensures.split in
-    let skipped = rw i.encoding at c.in_ok-skip_attributes.ensures.gives in
-    let encoding = ap (λ v. v.encoding) c.in_ok-skip_attributes.ensures.unit ∙ i.encoding in
+    let skipped = rw i.encoding at c.in_ok-pass_over.ensures.gives in
+    let encoding = ap (λ v. v.encoding) c.in_ok-pass_over.ensures.unit ∙ i.encoding in
     let read = rw encoding at c.in_ok-attribute.ensures.gives in
     let other = rw c.in_default-2.is at c.in_ok-name.ensures.gives in
     record {
@@ -62,15 +62,15 @@ loop-next-preserved g c =
       encoding = ap (λ v. v.encoding) c.in_ok-attribute.ensures.unit ∙ encoding;
     }
 
-pub returns-in_err-skip_attributes-2 : goal.returns-in_err-skip_attributes-2
-returns-in_err-skip_attributes-2 g c =
-    let p = err_from_is_err_and c.from_residual-in_err-skip_attributes-2.result c.from_residual-in_err-skip_attributes-2.ensures.1 in
+pub returns-in_err-pass_over-2 : goal.returns-in_err-pass_over-2
+returns-in_err-pass_over-2 g c =
+    let p = err_from_is_err_and c.from_residual-in_err-pass_over-2.result c.from_residual-in_err-pass_over-2.ensures.1 in
     let i = c.loop-next.invariant in
     let s = seen_scope c.args.place.scope in
     let u = c.args.place.unit.now in
     let found = seen_name g.R.Reader.section c.loop-next.found in
     let none = c.in_default.ensures.none refl in
-    let fault = rw i.encoding at c.in_err-skip_attributes-2.ensures.gives in
+    let fault = rw i.encoding at c.in_err-pass_over-2.ensures.gives in
     record { gives = rw (p.1, p.2) (λ _. sym i.gives ∙ named_end s u _ _ _ none ∙ ap (λ r. r >>= λ t. Ok found) fault) }
 
 pub returns : goal.returns
@@ -80,5 +80,5 @@ returns g c =
     let u = c.args.place.unit.now in
     let found = seen_name g.R.Reader.section c.loop-next.found in
     let none = c.in_default.ensures.none refl in
-    let skipped = rw i.encoding at c.in_ok-skip_attributes-2.ensures.gives in
+    let skipped = rw i.encoding at c.in_ok-pass_over-2.ensures.gives in
     record { gives = sym i.gives ∙ named_end s u _ _ _ none ∙ ap (λ r. r >>= λ t. Ok found) skipped }

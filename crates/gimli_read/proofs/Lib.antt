@@ -1,4 +1,5 @@
 pub mod Steps
+pub mod FirstByte
 pub mod Leb128Lemmas
 pub mod Leb128Texts
 pub mod ShortLeb128

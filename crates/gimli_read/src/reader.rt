@@ -265,5 +265,5 @@ pub fn read_initial_length<R: Reader>(input: &mut R) -> Result<(u64, Format), Er
 pub(crate) fn zero_of(bytes: &[u8]) -> Option<usize>
     ensures found { result ≡ position (λ b. b == 0) bytes.now }
 {
-    bytes.iter().position(|byte| *byte == 0)
+    bytes.find_byte(0)
 }

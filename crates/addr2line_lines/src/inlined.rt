@@ -11,7 +11,7 @@ ghost use Rattle.addr2line_lines.specs.FoundDetails.{HasNoWanted, IsReadIf, IsSp
 ghost use Rattle.addr2line_lines.specs.References.{IsScope};
 ghost use Rattle.addr2line_lines.specs.SeenScope.{seen_scope};
 
-use crate::function::RangeAttributes;
+use crate::function::{RangeAttributes, is_range_name};
 use crate::name::{is_name_attribute, pass_over, take_name};
 use crate::references::Scope;
 use gimli::read::{Attribute, AttributeSpecification, DwAt, Error, Reader, UnitOffset};
@@ -116,16 +116,6 @@ pub(crate) struct InlinedAttributes<R: Reader> {
     pub(crate) ranges: RangeAttributes,
     pub(crate) name: Option<R>,
     pub(crate) call: CallSite,
-}
-
-// Whether an attribute says of an entry's ranges.
-fn is_range_name(name: DwAt) -> bool
-    ensures gives { result ≡ is_range_name name }
-{
-    matches!(
-        name,
-        DwAt::DW_AT_low_pc | DwAt::DW_AT_high_pc | DwAt::DW_AT_ranges
-    )
 }
 
 // Whether an attribute says of a call.

@@ -3,7 +3,6 @@ use Rattle.std.proofs.Common.{◌≡◌, ◌<◌, List, [], ◌∷◌, ◌++◌,
 use Rattle.std.specs.Prelude.{filter_map}
 use Rattle.gimli_read.specs.declared.error.Error.{Error}
 use Rattle.gimli_read.specs.Reading.{◌>>=◌}
-use Rattle.gimli_read.specs.Section.{Section}
 use Rattle.gimli_read.specs.Yields.{next_given}
 use Rattle.gimli.specs.Header.{UnitHeaderFields}
 use Rattle.gimli.specs.HeaderOrder.{AreHeadersInOrder}
@@ -62,9 +61,6 @@ pub none_read : (d : Sections) (all left : Headers) (units : List UnitRecord) �
 none_read d all left units none same =
     subst (λ (us : List UnitRecord). AreReadUpTo d all us left) (sym none)
     (subst (λ (hs : Headers). AreReadUpTo d all [] hs) (same_headers all left same) (λ us e. e))
-
-kept : List (Option UnitRecord) → Result (List UnitRecord) Error
-kept units = Ok (filter_map (λ u. u) units)
 
 same_units : (us vs : List UnitRecord) → ◌≡◌ {A = Result (List UnitRecord) Error} (Ok us) (Ok vs) → us ≡ vs
 same_units us vs e = cc

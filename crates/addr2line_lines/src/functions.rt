@@ -398,20 +398,4 @@ impl<R: Reader> Functions<R> {
     {
         self.details.inlined(function)
     }
-
-    /// How many functions there are. Takes no memory.
-    pub fn len(&self) -> usize {
-        self.functions.len()
-    }
-
-    /// Where the entry of the function of a place begins, in bytes from the start of the unit's
-    /// length. Takes no memory.
-    pub fn offset(&self, place: usize) -> Option<UnitOffset> {
-        self.functions.get(place).copied()
-    }
-
-    /// The ranges of functions, cut into disjoint segments, in order of begin. Takes no memory.
-    pub fn segments(&self) -> &[FunctionAddress] {
-        self.addresses.as_slice()
-    }
 }

@@ -211,11 +211,4 @@ impl Segments {
             None
         }
     }
-
-    /// The segments, in order of begin. Takes no memory.
-    pub fn as_slice(&self) -> &[FunctionAddress]
-        ensures gives { AreSegments self.now result.now }
-    {
-        self.segments.as_slice()
-    }
 }

@@ -2,8 +2,9 @@
 //! with addresses of 8 bytes.
 //!
 //! Arguments: a mode and a file, as there. `nothing` only reads the file. `units` reads abbreviations and root entries.
-//! `functions` keeps the functions of all units, cut into segments, and `details` their names and inlined entries too.
-//! `count` prints how many functions, inlined entries and ranges of these there are.
+//! `functions` keeps the functions of all units, cut into segments, and looks up addresses; `details` keeps their names
+//! and inlined entries too, and looks these up. `count` prints how many functions, segments, inlined entries and ranges
+//! of these there are.
 
 use std::cmp::Reverse;
 use std::collections::{BTreeMap, BinaryHeap};
@@ -122,6 +123,8 @@ struct Sections<'a> {
     rnglists: &'a [u8],
     str: &'a [u8],
     str_offsets: &'a [u8],
+    // Past all code.
+    limit: u64,
 }
 
 impl<'a> Sections<'a> {
@@ -133,7 +136,9 @@ impl<'a> Sections<'a> {
         };
         let (abbrev, addr, info, _line) = (next()?, next()?, next()?, next()?);
         let (line_str, ranges, rnglists) = (next()?, next()?, next()?);
-        Some(Sections { abbrev, addr, info, line_str, ranges, rnglists, str: next()?, str_offsets: next()? })
+        let (str, str_offsets) = (next()?, next()?);
+        let limit = input.u64()?;
+        Some(Sections { abbrev, addr, info, line_str, ranges, rnglists, str, str_offsets, limit })
     }
 }
 
@@ -878,33 +883,64 @@ fn name_length(name: Option<&[u8]>) -> u64 {
     name.map_or(0, |name| name.len() as u64 + 1)
 }
 
+// How many addresses are looked up in the functions of a unit.
+const LOOKUPS: usize = 512;
+
+// Addresses below a limit that look like chance.
+fn probes(limit: u64) -> impl Iterator<Item = u64> {
+    let mut state = 0u64;
+    (0..LOOKUPS).map(move |_| {
+        state = state.wrapping_mul(6_364_136_223_846_793_005).wrapping_add(1_442_695_040_888_963_407);
+        (state >> 32).wrapping_mul(limit) >> 32
+    })
+}
+
 impl Functions<'_> {
-    fn add_segments(&self, sum: u64) -> u64 {
-        self.segments.iter().fold(sum, |sum, segment| {
-            let fields = (self.offsets[segment.function] as u64)
-                .wrapping_add(segment.begin.wrapping_mul(3))
-                .wrapping_add(segment.end.wrapping_mul(5));
+    // The function with the shortest range that holds an address.
+    fn find(&self, probe: u64) -> Option<usize> {
+        let past = self.segments.partition_point(|segment| segment.begin <= probe);
+        let segment = &self.segments[past.checked_sub(1)?];
+        (probe < segment.end).then_some(segment.function)
+    }
+
+    // The inlined entry of a depth whose range begins last at or below an address, of these the one that ends last, of
+    // these the last one, where it holds the address.
+    fn find_inlined(&self, detail: &Detail, depth: usize, probe: u64) -> Option<usize> {
+        let ranges = &self.ranges[detail.first_range..detail.last_range];
+        let past = ranges.partition_point(|range| (range.depth, range.begin) <= (depth, probe));
+        let range = &ranges[past.checked_sub(1)?];
+        (range.depth == depth && probe < range.end).then_some(range.inlined)
+    }
+
+    fn add_functions(&self, sum: u64, limit: u64) -> u64 {
+        let sum = self.offsets.iter().fold(sum, |sum, offset| mixed(sum, *offset as u64));
+        probes(limit).fold(sum, |sum, probe| mixed(sum, self.find(probe).map_or(0, |place| place as u64 + 1)))
+    }
+
+    fn add_inlined(&self, sum: u64) -> u64 {
+        self.inlined.iter().fold(sum, |sum, inlined| {
+            let fields = u64::from(inlined.call_line)
+                .wrapping_mul(3)
+                .wrapping_add(u64::from(inlined.call_column).wrapping_mul(5))
+                .wrapping_add(inlined.call_file.unwrap_or(0).wrapping_mul(7))
+                .wrapping_add((inlined.offset as u64).wrapping_mul(11))
+                .wrapping_add(name_length(inlined.name).wrapping_mul(13));
             mixed(sum, fields)
         })
     }
 
-    fn add_detail(&self, sum: u64, detail: &Detail) -> u64 {
-        let mut weights = 0u64;
-        for range in &self.ranges[detail.first_range..detail.last_range] {
-            let inlined = &self.inlined[range.inlined];
-            let fields = (range.depth as u64)
-                .wrapping_mul(3)
-                .wrapping_add(range.begin.wrapping_mul(5))
-                .wrapping_add(range.end.wrapping_mul(7))
-                .wrapping_add(u64::from(inlined.call_line).wrapping_mul(11))
-                .wrapping_add(u64::from(inlined.call_column).wrapping_mul(13))
-                .wrapping_add(inlined.call_file.unwrap_or(0).wrapping_mul(17))
-                .wrapping_add((inlined.offset as u64).wrapping_mul(19))
-                .wrapping_add(name_length(inlined.name).wrapping_mul(23))
-                .wrapping_mul(0x9e37_79b9_7f4a_7c15);
-            weights = weights.wrapping_add(fields ^ (fields >> 29));
-        }
-        mixed(mixed(sum, name_length(detail.name)), weights)
+    fn add_chain(&self, sum: u64, probe: u64) -> u64 {
+        let Some(place) = self.find(probe) else {
+            return sum;
+        };
+        let chain: Vec<usize> = (0..).map_while(|depth| self.find_inlined(&self.details[place], depth, probe)).collect();
+        let last = chain.last().map_or(0, |inlined| self.inlined[*inlined].offset as u64);
+        mixed(mixed(sum, chain.len() as u64), last)
+    }
+
+    fn add_details(&self, sum: u64, limit: u64) -> u64 {
+        let sum = self.details.iter().fold(sum, |sum, detail| mixed(sum, name_length(detail.name)));
+        probes(limit).fold(self.add_inlined(sum), |sum, probe| self.add_chain(sum, probe))
     }
 }
 
@@ -912,15 +948,16 @@ fn all_functions<'a>(file: &File<'a>, details: bool) -> Option<(u64, Vec<Functio
     let mut all = Vec::new();
     let mut open = Vec::new();
     let mut sum = 0;
+    let limit = file.sections.limit;
     for unit in &file.units {
         let mut functions = read_functions(file, unit)?;
-        sum = functions.add_segments(sum);
+        sum = functions.add_functions(sum, limit);
         if details {
             for function in 0..functions.offsets.len() {
                 let offset = functions.offsets[function];
                 read_detail(file, unit, &mut functions, offset, &mut open)?;
-                sum = functions.add_detail(sum, functions.details.last()?);
             }
+            sum = functions.add_details(sum, limit);
         }
         all.push(functions);
     }

@@ -1,9 +1,9 @@
 //! The program `function_speed`: a checksum of the functions of all units, or of their details.
 //!
-//! Arguments: a mode and a file of nine sections, each after its length in eight bytes. The mode
-//! `nothing` only reads the file, `units` reads the units, `functions` keeps the functions of all
-//! units, and `details` the details of each of them too. It is timed from outside, by
-//! tools/function_speed.
+//! Arguments: a mode and a file of nine sections, each after its length in eight bytes, and after
+//! them an address past all code. The mode `nothing` only reads the file, `units` reads the units,
+//! `functions` keeps the functions of all units and looks up addresses, and `details` the details
+//! of each of them too. It is timed from outside, by tools/function_speed.
 #![tactic(auto)]
 
 mod functions;
@@ -11,7 +11,7 @@ mod sections;
 
 use crate::functions::functions_checksum;
 use crate::sections::{read_sections, read_units};
-use gimli::{EndianSlice, Error, RunTimeEndian};
+use gimli::{EndianSlice, Error, Reader, RunTimeEndian};
 use std::alloc::Global;
 use std::process::ExitCode;
 use std::{env, fs, io};
@@ -43,11 +43,12 @@ fn mode_of(name: &str) -> Option<Mode> {
 fn sum_of(alloc: Global, mode: Mode, bytes: &[u8]) -> Result<u64, Error> {
     let mut input = EndianSlice::new(bytes, RunTimeEndian::Little);
     let dwarf = read_sections(&mut input)?;
+    let limit = input.read_u64()?;
     let units = read_units(alloc, &dwarf)?;
     match mode {
         Mode::Units => Ok(units.len() as u64),
-        Mode::Functions => functions_checksum(alloc, &dwarf, &units, false),
-        Mode::Details => functions_checksum(alloc, &dwarf, &units, true),
+        Mode::Functions => functions_checksum(alloc, &dwarf, &units, limit, false),
+        Mode::Details => functions_checksum(alloc, &dwarf, &units, limit, true),
     }
 }
 

@@ -933,7 +933,8 @@ impl Functions<'_> {
         let Some(place) = self.find(probe) else {
             return sum;
         };
-        let chain: Vec<usize> = (0..).map_while(|depth| self.find_inlined(&self.details[place], depth, probe)).collect();
+        let detail = &self.details[place];
+        let chain: Vec<usize> = (0..).map_while(|depth| self.find_inlined(detail, depth, probe)).collect();
         let last = chain.last().map_or(0, |inlined| self.inlined[*inlined].offset as u64);
         mixed(mixed(sum, chain.len() as u64), last)
     }

@@ -26,7 +26,7 @@ use Rattle.addr2line_lines.specs.Functions.{FunctionRange, entries_of, entry_ran
 use Rattle.addr2line_lines.specs.FoundFunctions.{FoundFunctions, AreFunctions, IsPlaceIn, address_of, found_in, found_more, function_range_of, none_found, with_attributes, with_found}
 use Rattle.addr2line_lines.specs.Segments.{address_begin, address_end, address_function, function_at}
 use Rattle.addr2line_lines.specs.Shortest.{shortest, holds, IsNoLonger}
-use Rattle.addr2line_lines.proofs.ListedFunctions.{entries_more, range_at, ranges_below}
+use Rattle.addr2line_lines.proofs.ListedFunctions.{entries_more, ranges_below}
 use Rattle.addr2line_lines.proofs.OrderLemmas.{All-in}
 use Rattle.addr2line_lines.proofs.PickLemmas.{In}
 use Rattle.addr2line_lines.proofs.ShortestLemmas.{shortest_holds, shortest_is, shortest_least, some_shortest}

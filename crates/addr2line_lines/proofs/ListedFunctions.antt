@@ -1,5 +1,5 @@
 -- The functions are the entries that have a range, each once (on specs/FunctionTable.antt).
-use Rattle.std.proofs.Common.{◌≡◌, ℕ, ◌<◌, ◌==◌, Bool, true, false, cond, List, [], ◌∷◌, ◌++◌, length, map, slice_index_or, Result, refl, ap, sym, ◌∙◌, arith}
+use Rattle.std.proofs.Common.{◌≡◌, ℕ, ◌<◌, ◌==◌, Bool, true, false, cond, List, [], ◌∷◌, ◌++◌, map, Result, refl, ap, sym, ◌∙◌, arith}
 use Rattle.std.specs.List.{All, AllByRecursion, AllZip}
 use Rattle.std.proofs.lemmas.Bool.Decides.{nat_tests}
 use Rattle.std.proofs.lemmas.List.Elements.{All-head, All-tail}
@@ -15,7 +15,7 @@ use Rattle.addr2line_lines.specs.References.{Scope}
 use Rattle.addr2line_lines.proofs.ReadLemmas.{read_more}
 
 -- a range of an entry
-abbrev pub range_at : ℕ → Range → FunctionRange
+abbrev range_at : ℕ → Range → FunctionRange
 range_at offset r = record { offset = offset; range = r }
 
 -- an offset before others, and one more after them

@@ -22,10 +22,11 @@ use Rattle.gimli.proofs.ItemTexts.{items_cover}
 use Rattle.addr2line_lines.specs.declared.function.RangeAttributes.{RangeAttributes}
 use Rattle.addr2line_lines.specs.declared.segments.FunctionAddress.{FunctionAddress}
 use Rattle.addr2line_lines.specs.RangeAttributes.{attribute_ranges, range_attributes_of}
-use Rattle.addr2line_lines.specs.Functions.{FunctionRange, entry_ranges, function_begin, function_end, function_offset, function_offset_at, functions_of, is_subprogram, with_function}
+use Rattle.addr2line_lines.specs.Functions.{FunctionRange, entries_of, entry_ranges, function_begin, function_end, function_offset, function_offset_at, functions_of, is_subprogram, with_function}
 use Rattle.addr2line_lines.specs.FoundFunctions.{FoundFunctions, AreFunctions, IsPlaceIn, address_of, found_in, found_more, function_range_of, none_found, with_attributes, with_found}
 use Rattle.addr2line_lines.specs.Segments.{address_begin, address_end, address_function, function_at}
 use Rattle.addr2line_lines.specs.Shortest.{shortest, holds, IsNoLonger}
+use Rattle.addr2line_lines.proofs.ListedFunctions.{entries_more, ranges_below}
 use Rattle.addr2line_lines.proofs.OrderLemmas.{All-in}
 use Rattle.addr2line_lines.proofs.PickLemmas.{In}
 use Rattle.addr2line_lines.proofs.ShortestLemmas.{shortest_holds, shortest_is, shortest_least, some_shortest}
@@ -107,6 +108,27 @@ below_more found offset n (r ∷ ranges) h l =
       rising = rising_more found.offsets o h;
     }
 
+-- what is found is in place, and each function has a range
+record AreFoundBelow (found : FoundFunctions) (n : ℕ) : Type 0 where
+  pub below : IsBelow found.offsets n
+  pub places : AreInPlace found
+  pub listed : map (λ (o : UnitOffset). o.0) found.offsets ≡ entries_of (ranges_found found)
+
+listed_more : (found : FoundFunctions) (offset : ℕ) (ranges : List Range) → AreFoundBelow found offset → map (λ (o : UnitOffset). o.0) (found_more found offset ranges).offsets ≡ entries_of (ranges_found (found_more found offset ranges))
+listed_more found offset [] h = h.listed
+listed_more found offset (r ∷ ranges) h =
+    map-append (λ (o : UnitOffset). o.0) found.offsets (record { 0 = offset } ∷ [])
+    ∙ ap (λ ks. ks ++ offset ∷ []) h.listed
+    ∙ sym (entries_more offset (ranges_found found) r ranges (ranges_below found.offsets offset found.addresses h.below.below h.places))
+    ∙ ap entries_of (sym (more_ranges found offset (r ∷ ranges) h.places))
+
+found_below_more : (found : FoundFunctions) (offset n : ℕ) (ranges : List Range) → AreFoundBelow found offset → offset < n → AreFoundBelow (found_more found offset ranges) n
+found_below_more found offset n ranges h l = record {
+  below = below_more found offset n ranges h.below l;
+  places = more_in_place found offset ranges h.places;
+  listed = listed_more found offset ranges h;
+}
+
 -- the text of an item has a byte at least
 text_some : (unit : EntryUnit) (order : RunTimeEndian) (o : Option Entry) (text : List ℕ) → IsEntryText unit order o text → 0 < length text
 text_some unit order None text h = h.0.some
@@ -169,37 +191,37 @@ module _ (d : Sections) (u : UnitRecord) where
       last_agrees (fold_run (with_function d u) [] (items_of u).items (items_of u).end) (fold_run (with_found d u) none_found (items_of u).items (items_of u).end)
       (fold_agrees (items_of u).items (items_of u).end none_found (λ k e l. absurd (omega arith)))
 
-  below_with : (found more : FoundFunctions) (offset n : ℕ) (o : Option Entry) → found_with found offset o ≡ Ok more → IsBelow found.offsets offset → offset < n → IsBelow more.offsets n
-  below_with found more offset n None e h l = let same : found ≡ more = cc in subst (λ (f : FoundFunctions). IsBelow f.offsets n) same (below_more found offset n [] h l)
+  below_with : (found more : FoundFunctions) (offset n : ℕ) (o : Option Entry) → found_with found offset o ≡ Ok more → AreFoundBelow found offset → offset < n → AreFoundBelow more n
+  below_with found more offset n None e h l = let same : found ≡ more = cc in subst (λ (f : FoundFunctions). AreFoundBelow f n) same (found_below_more found offset n [] h l)
   below_with found more offset n (Some x) e h l = by_test (is_subprogram x.abbreviation) e
     where
-      by_ranges : (r : Result (List Range) Error) → (r >>= λ ranges. Ok (found_more found offset ranges)) ≡ Ok more → IsBelow more.offsets n
-      by_ranges (Ok ranges) e = let same : found_more found offset ranges ≡ more = cc in subst (λ (f : FoundFunctions). IsBelow f.offsets n) same (below_more found offset n ranges h l)
+      by_ranges : (r : Result (List Range) Error) → (r >>= λ ranges. Ok (found_more found offset ranges)) ≡ Ok more → AreFoundBelow more n
+      by_ranges (Ok ranges) e = let same : found_more found offset ranges ≡ more = cc in subst (λ (f : FoundFunctions). AreFoundBelow f n) same (found_below_more found offset n ranges h l)
       by_ranges (Err f) e = absurd cc
 
-      by_attributes : (r : Result RangeAttributes Error) → (r >>= λ v. with_attributes d u v offset found) ≡ Ok more → IsBelow more.offsets n
+      by_attributes : (r : Result RangeAttributes Error) → (r >>= λ v. with_attributes d u v offset found) ≡ Ok more → AreFoundBelow more n
       by_attributes (Ok v) e = by_ranges (attribute_ranges d u v) e
       by_attributes (Err f) e = absurd cc
 
-      by_test : (b : Bool) → cond b (range_attributes_of d u x.attributes >>= λ r. with_attributes d u r offset found) (Ok found) ≡ Ok more → IsBelow more.offsets n
+      by_test : (b : Bool) → cond b (range_attributes_of d u x.attributes >>= λ r. with_attributes d u r offset found) (Ok found) ≡ Ok more → AreFoundBelow more n
       by_test true e = by_attributes (range_attributes_of d u x.attributes) e
-      by_test false e = let same : found ≡ more = cc in subst (λ (f : FoundFunctions). IsBelow f.offsets n) same (below_more found offset n [] h l)
+      by_test false e = let same : found ≡ more = cc in subst (λ (f : FoundFunctions). AreFoundBelow f n) same (found_below_more found offset n [] h l)
 
-  below_fold : (unit : EntryUnit) (order : RunTimeEndian) (offset : ℕ) (depth : ℤ) (items : List Item) (bytes : List ℕ) (end : Result EntryCursor Error) (found : FoundFunctions) → AreItems unit order offset depth items bytes → IsBelow found.offsets offset
-      → (m : FoundFunctions) (z : EntryCursor) → fold_run (with_found d u) found items end ≡ Ok (m, z) → (n : ℕ) × IsBelow m.offsets n
+  below_fold : (unit : EntryUnit) (order : RunTimeEndian) (offset : ℕ) (depth : ℤ) (items : List Item) (bytes : List ℕ) (end : Result EntryCursor Error) (found : FoundFunctions) → AreItems unit order offset depth items bytes → AreFoundBelow found offset
+      → (m : FoundFunctions) (z : EntryCursor) → fold_run (with_found d u) found items end ≡ Ok (m, z) → (n : ℕ) × AreFoundBelow m n
   unfolding fold_run
   below_fold unit order offset depth [] bytes (Ok y) found h b m z e =
       let p : ◌≡◌ {A = FoundFunctions × EntryCursor} (found, y) (m, z) = cc in
-      (offset, subst (λ (f : FoundFunctions). IsBelow f.offsets offset) (ap (λ x. x.0) p) b)
+      (offset, subst (λ (f : FoundFunctions). AreFoundBelow f offset) (ap (λ x. x.0) p) b)
   below_fold unit order offset depth [] bytes (Err f) found h b m z e = absurd cc
   below_fold unit order offset depth (x ∷ xs) bytes end found h b m z e = by_step (with_found d u found x) refl e (λ more c. below_fold unit order (offset + length h.0) (depth_after x) xs h.1 end more h.6 c m z)
     where
       by_step : (r : Result FoundFunctions Error) → with_found d u found x ≡ r → (r >>= λ v. fold_run (with_found d u) v xs end) ≡ Ok (m, z)
-          → ((more : FoundFunctions) → IsBelow more.offsets (offset + length h.0) → fold_run (with_found d u) more xs end ≡ Ok (m, z) → (n : ℕ) × IsBelow m.offsets n) → (n : ℕ) × IsBelow m.offsets n
+          → ((more : FoundFunctions) → AreFoundBelow more (offset + length h.0) → fold_run (with_found d u) more xs end ≡ Ok (m, z) → (n : ℕ) × AreFoundBelow m n) → (n : ℕ) × AreFoundBelow m n
       by_step (Ok more) q e rest =
           let some = text_some unit order x.entry h.0 h.3 in
           let at : x.offset ≡ offset = h.4 in
-          let c = below_with found more x.offset (offset + length h.0) x.entry q (subst (λ n. IsBelow found.offsets n) (sym at) b) (omega arith) in
+          let c = below_with found more x.offset (offset + length h.0) x.entry q (subst (λ n. AreFoundBelow found n) (sym at) b) (omega arith) in
           rest more c e
       by_step (Err f) q e rest = absurd cc
 
@@ -223,9 +245,9 @@ module _ (d : Sections) (u : UnitRecord) where
           let left = entries_at u.header u.abbreviations u.header.entries in
           let cover = items_cover left.unit left.cursor p.1 (omega arith) (fold_end (items_of u).items (items_of u).end none_found p.0 p.1 q) in
           let b = below_fold left.unit left.cursor.left.endian (next_offset_of left.unit left.cursor) left.cursor.depth (items_of u).items left.cursor.left.bytes (items_of u).end none_found cover
-          (record { below = λ k o l. absurd (omega arith); rising = λ i j o l m. absurd (omega arith) }) p.0 p.1 q in
-          let a = subst (Agrees (functions_of d u)) e functions_agree in
-          record { places = a.1; rising = subst (λ (f : FoundFunctions). (i j : ℕ) (o : UnitOffset) → i < j → j < length f.offsets → (slice_index_or f.offsets i o).0 < (slice_index_or f.offsets j o).0) same b.1.rising }
+          (record { below = record { below = λ k o l. absurd (omega arith); rising = λ i j o l m. absurd (omega arith) }; places = λ k a l. absurd (omega arith); listed = refl }) p.0 p.1 q in
+          let all = subst (λ (f : FoundFunctions). AreFoundBelow f b.0) same b.1 in
+          record { places = all.places; rising = all.below.rising; listed = all.listed }
       by_fold (Err g) q f = absurd cc
 
 -- the place of a function, and where its entry begins

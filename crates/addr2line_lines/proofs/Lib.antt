@@ -23,11 +23,12 @@ pub mod SweepLemmas
 pub mod SegmentSearch
 pub mod FunctionLemmas
 pub mod FunctionMemory
-pub mod FunctionOrder
 pub mod PlaceLemmas
 pub mod FunctionCacheLemmas
-pub mod CachedPlaces
 pub mod ReadLemmas
+pub mod ListedFunctions
+pub mod FunctionOrder
+pub mod CachedPlaces
 pub mod ReadPlaces
 pub mod InlinedOrder
 pub mod InlinedPick

@@ -94,7 +94,7 @@ module _ (scope : Scope) (u : UnitRecord) (n : ℕ) (old new : FunctionTable) wh
       by_function None q k = stays k.1
       by_function (Some f) q k = by_detail f q f.detail refl k
 
-  read_more : (result : Result (Unit {0}) Error) → IsReadAt scope u n old result new → IsTableMore old new
+  pub read_more : (result : Result (Unit {0}) Error) → IsReadAt scope u n old result new → IsTableMore old new
   read_more = by_read (IsTableMore old) (table_same old) (λ f q none w. with_more f q w none)
 
 -- what is cached stays right

@@ -16,7 +16,7 @@ use Rattle.addr2line_lines.specs.declared.functions.Found.{Found}
 use Rattle.addr2line_lines.specs.declared.functions.LazyDetail.TheVariants.{Unread}
 use Rattle.addr2line_lines.specs.declared.functions.LazyFunction.{LazyFunction}
 use Rattle.addr2line_lines.specs.declared.segments.FunctionAddress.{FunctionAddress}
-use Rattle.addr2line_lines.specs.Functions.{FunctionRange, has_function, is_subprogram}
+use Rattle.addr2line_lines.specs.Functions.{FunctionRange, entries_of, has_function, is_subprogram}
 use Rattle.addr2line_lines.specs.RangeAttributes.{all_ranges, attribute_ranges, range_attributes_of}
 
 -- where the entries of functions begin, and the ranges by the places of functions
@@ -124,9 +124,11 @@ function_range_of offsets a =
 abbrev pub IsPlaceIn : List UnitOffset → FunctionAddress → Type 0
 IsPlaceIn offsets a = a.function < length offsets
 
--- functions in the order of their entries, and ranges by their places
+-- functions in the order of their entries, each with a range, and ranges by their places
 pub record AreFunctions (offsets : List UnitOffset) (addresses : List FunctionAddress)
     : Type 0 where
   pub places : All (IsPlaceIn offsets) addresses
   pub rising : (i j : ℕ) (d : UnitOffset) → i < j → j < length offsets
       → (slice_index_or offsets i d).0 < (slice_index_or offsets j d).0
+  pub listed : map (λ (o : UnitOffset). o.0) offsets
+      ≡ entries_of (map (function_range_of offsets) addresses)

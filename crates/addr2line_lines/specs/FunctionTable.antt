@@ -1,7 +1,7 @@
 -- The functions of a view, and what is cached of their details (DWARF 5, section 3.3).
 -- Own: the detail of a function is read when it is first asked for, and cached then, its fault too.
 -- OutOfMemory is never cached.
-use Rattle.std.specs.Prelude.{◌≡◌, ◌≢◌, ℕ, ◌&&◌, ◌||◌, Bool, true, false, not, is_some, List, [], ◌∷◌, slice_get, slice_set, Option, Some, None, option_and_then, option_map, Result, Ok, Err}
+use Rattle.std.specs.Prelude.{◌≡◌, ◌≢◌, ℕ, ◌&&◌, ◌||◌, Bool, true, false, not, is_some, List, [], ◌∷◌, map, slice_get, slice_set, Option, Some, None, option_and_then, option_map, Result, Ok, Err}
 use Rattle.std.specs.List.{AllByRecursion, AllZip}
 use Rattle.gimli_read.specs.declared.error.Error.{Error}
 use Rattle.gimli_read.specs.declared.error.Error.TheVariants.{OutOfMemory}
@@ -10,7 +10,7 @@ use Rattle.gimli_read.specs.Section.{Section}
 use Rattle.gimli.specs.Unit.{UnitRecord}
 use Rattle.addr2line_lines.specs.Details.{Detail, InlinedEntry, InlinedRange, can_be_named, detail_at}
 use Rattle.addr2line_lines.specs.FoundDetails.{IsGrown}
-use Rattle.addr2line_lines.specs.Functions.{FunctionRange}
+use Rattle.addr2line_lines.specs.Functions.{FunctionRange, entries_of}
 use Rattle.addr2line_lines.specs.References.{Scope}
 
 -- a function: where its entry begins, in bytes from the start of the unit's length, and its detail
@@ -25,6 +25,10 @@ pub record FunctionTable : Type 0 where
   pub ranges : List FunctionRange
   pub functions : List CachedFunction
   pub inlined : List InlinedEntry
+
+-- the functions are the entries that have a range, in the order of their ranges, each once
+abbrev pub AreListed : FunctionTable → Type 0
+AreListed t = map (λ (f : CachedFunction). f.offset) t.functions ≡ entries_of t.ranges
 
 -- where the entry of a function begins, by its place
 abbrev pub offset_at : FunctionTable → ℕ → Option ℕ
@@ -164,3 +168,13 @@ pub record IsTableMore (old new : FunctionTable) : Type 0 where
   pub ranges : new.ranges ≡ old.ranges
   pub functions : AllZip IsFunctionMore old.functions new.functions
   pub inlined : IsGrown old.inlined new.inlined
+
+-- the functions stay those that have a range where more is cached
+abbrev pub MoreKeepsListed : Type 0
+MoreKeepsListed = (old new : FunctionTable) → AreListed old → IsTableMore old new → AreListed new
+
+-- the functions stay those that have a range where one more detail is read
+abbrev pub ReadKeepsListed : Type 0
+ReadKeepsListed = (scope : Scope) (u : UnitRecord) (n : ℕ) (old new : FunctionTable)
+    (result : Result (Unit {0}) Error) → AreListed old → IsReadAt scope u n old result new
+    → AreListed new

@@ -55,6 +55,17 @@ with_function d u found x = elim x.entry [
 abbrev pub functions_of : Sections → UnitRecord → Result (List FunctionRange) Error
 functions_of d u = fold_of (with_function d u) [] (items_of u) >>= λ found. Ok found.0
 
+-- where an entry begins, before others, unless it is the first of them
+abbrev pub once_before : ℕ → List ℕ → List ℕ
+once_before offset [] = offset ∷ []
+once_before offset (next ∷ offsets) =
+    if offset == next then next ∷ offsets else offset ∷ next ∷ offsets
+
+-- where the entries of ranges begin, each once; the ranges of an entry stand side by side
+abbrev pub entries_of : List FunctionRange → List ℕ
+entries_of [] = []
+entries_of (f ∷ ranges) = once_before f.offset (entries_of ranges)
+
 -- whether the range attributes of an entry give a range before any fault
 abbrev pub entry_gives_a_range : Sections → UnitRecord → Entry → Bool
 entry_gives_a_range d u e = elim (range_attributes_of d u e.attributes) [

@@ -7,7 +7,7 @@ ghost use Rattle.addr2line_lines.specs.Details.{inlined_chain};
 ghost use Rattle.addr2line_lines.specs.FoundDetails.{entry_among, seen_inlined};
 ghost use Rattle.addr2line_lines.specs.FoundRanges.{is_function};
 ghost use Rattle.addr2line_lines.specs.FunctionCache.{read_at};
-ghost use Rattle.addr2line_lines.specs.FunctionTable.{AreDetailsOf, AreUnread, HasDetail, IsReadAt, IsTableMore, asks_detail, cached_inlined, cached_name, details_fault, offset_at, read_fault, takes_memory};
+ghost use Rattle.addr2line_lines.specs.FunctionTable.{AreDetailsOf, AreListed, AreUnread, HasDetail, IsReadAt, IsTableMore, asks_detail, cached_inlined, cached_name, details_fault, offset_at, read_fault, takes_memory};
 ghost use Rattle.addr2line_lines.specs.Functions.{function_offset_at, functions_of, functions_take_memory, is_subprogram};
 ghost use Rattle.gimli.specs.Ranges.{ranges_at};
 ghost use Rattle.addr2line_lines.specs.RangeAttributes.{begins_well, gives_a_range};
@@ -232,7 +232,7 @@ impl<R: Reader> Model for Functions<R> {
 
 impl<R: Reader> Functions<R> {
     /// The functions of a unit: its subprogram entries, at any depth, whose range attributes give a
-    /// range. No detail is read.
+    /// range, each once, in their order. No detail is read.
     ///
     /// All entries of the unit are read. Refused by the first fault of an entry, of its range
     /// attributes or of its range list; may fail with `OutOfMemory` instead, only where a function
@@ -243,6 +243,7 @@ impl<R: Reader> Functions<R> {
             unit.entry.unit.now) (λ f. f.ranges) result
             (functions_of unit.entry.dwarf.now unit.entry.unit.now) }
         ensures unread { IfOk result AreUnread }
+        ensures listed { IfOk result AreListed }
     {
         let Found {
             functions,

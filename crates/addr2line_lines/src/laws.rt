@@ -6,7 +6,7 @@ ghost use Rattle.addr2line_lines.specs.Rises.{SequencesRise};
 ghost use Rattle.addr2line_lines.specs.InOrder.{OrderIsFree};
 ghost use Rattle.addr2line_lines.specs.Pick.{LoneIsPicked};
 ghost use Rattle.addr2line_lines.specs.Functions.{function_begin, function_end, function_offset};
-ghost use Rattle.addr2line_lines.specs.FunctionTable.{ReadKeepsDetails, UnreadAreDetails};
+ghost use Rattle.addr2line_lines.specs.FunctionTable.{MoreKeepsListed, ReadKeepsDetails, ReadKeepsListed, UnreadAreDetails};
 ghost use Rattle.addr2line_lines.specs.Shortest.{LoneIsShortest, NoneIsShorter};
 ghost use Rattle.addr2line_lines.specs.NameChains.{ChainGivesName, LongChainGivesNone};
 ghost use Rattle.addr2line_lines.specs.NestedInlined.{ChainIsWhole, NestedChain};
@@ -70,4 +70,10 @@ pub fn inlined_are_nested()
 pub fn cached_details_stay()
     ensures unread { UnreadAreDetails }
     ensures read { ReadKeepsDetails }
+{}
+
+/// Functions stay those of a unit that have a range, each once, where details are read.
+pub fn listed_functions_stay()
+    ensures read { ReadKeepsListed }
+    ensures more { MoreKeepsListed }
 {}

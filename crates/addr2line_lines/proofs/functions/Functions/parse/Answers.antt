@@ -1,15 +1,19 @@
-use Rattle.std.proofs.Common.{◌≡◌, List, map, Ok, Result, ap, subst, ◌∙◌}
+use Rattle.std.proofs.Common.{◌≡◌, List, map, Ok, Result, refl, ap, subst, ◌∙◌}
 use Rattle.std.proofs.lemmas.Result.{err_from_is_err_and}
 use Rattle.gimli_read.specs.declared.error.Error.{Error as Fault}
 use Rattle.gimli.specs.Items.{items_of}
 use Rattle.addr2line_lines.specs.declared.segments.FunctionAddress.{FunctionAddress}
-use Rattle.addr2line_lines.specs.Functions.{functions_of, have_function}
+use Rattle.addr2line_lines.specs.declared.functions.LazyFunction.{LazyFunction}
+use Rattle.addr2line_lines.specs.Functions.{entries_of, functions_of, have_function}
 use Rattle.addr2line_lines.specs.FoundFunctions.{AreFunctions, function_range_of, seen_found}
+use Rattle.addr2line_lines.specs.FunctionCache.{seen_function}
+use Rattle.addr2line_lines.specs.FunctionTable.{CachedFunction}
 use Rattle.addr2line_lines.specs.KeptDetails.{seen_details}
 use Rattle.addr2line_lines.proofs.FunctionCacheLemmas.{runs_unread, seen_unread}
 use Rattle.addr2line_lines.proofs.FunctionLemmas.{or_second}
 use Rattle.addr2line_lines.proofs.FunctionMemory.{found_has}
 use Rattle.addr2line_lines.proofs.FunctionOrder.{Agrees, are_functions, functions_agree}
+use Rattle.addr2line_lines.proofs.ListedFunctions.{offsets_seen}
 use Rattle.addr2line_lines.proofs.functions.Functions.parse.Goals as goal
 
 ok_is : (xs ys : List FunctionAddress) → ◌≡◌ {A = Result (List FunctionAddress) Fault} (Ok xs) (Ok ys) → xs ≡ ys
@@ -23,6 +27,7 @@ returns-in_err-functions g c =
     record {
       gives = rw (p.1, p.2) (λ ne. subst (Agrees (functions_of d u)) (c.in_err-functions.ensures.gives ne) (functions_agree d u));
       unread = rw p.1 tt;
+      listed = rw p.1 tt;
     }
 
 pub returns-in_err-addresses-clause-gives : goal.returns-in_err-addresses-clause-gives
@@ -52,4 +57,7 @@ returns g c =
     record {
       gives = a.0 ∙ ap (λ xs. Ok (map (function_range_of found.offsets) xs)) listed;
       unread = seen_unread (seen_details g.R.Reader.section c.new-2.result) _ c.in_ok-functions.ensures.unread;
+      listed = offsets_seen (λ (f : LazyFunction). f.dw_die_offset) (seen_function (seen_details g.R.Reader.section c.new-2.result)) (λ (f : CachedFunction). f.offset) (λ x. refl) c.in_ok-functions.field-0.functions.items
+          ∙ (are_functions d u found c.in_ok-functions.ensures.gives).listed
+          ∙ ap (λ xs. entries_of (map (function_range_of found.offsets) xs)) listed;
     }

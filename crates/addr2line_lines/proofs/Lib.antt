@@ -32,6 +32,7 @@ pub mod CachedPlaces
 pub mod ReadPlaces
 pub mod InlinedOrder
 pub mod InlinedPick
+pub mod ItemsAround
 pub mod NestedInlined
 pub mod ReferenceLemmas
 pub mod NameLemmas

@@ -1,5 +1,5 @@
 -- The chain of nested inlined entries (on specs/NestedInlined.antt).
-use Rattle.std.proofs.Common.{ℕ, ◌≡◌, ◌+◌, ◌-◌, ◌<◌, ◌≤◌, ◌⊎◌, ◌&&◌, ◌==◌, Bool, true, false, cond, max, nat_le, nat_lt, List, [], ◌∷◌, length, slice_index_or, Option, Some, None, zero, suc, arith, inl, inr, ◌∙◌, ap, sym, refl}
+use Rattle.std.proofs.Common.{ℕ, ◌≡◌, ◌+◌, ◌-◌, ◌<◌, ◌≤◌, ◌⊎◌, ◌&&◌, ◌==◌, Bool, true, false, cond, max, nat_le, nat_lt, List, [], ◌∷◌, length, slice_index_or, Option, Some, None, zero, suc, arith, inl, inr, ◌∙◌, ap, sym, refl, subst}
 use Rattle.std.specs.List.{All, Contains, filter, slice_get}
 use Rattle.std.specs.Option.{option_and_then}
 use Rattle.std.proofs.lemmas.Bool.{cases_lt}
@@ -7,8 +7,9 @@ use Rattle.std.proofs.lemmas.Bool.Decides.{nat_tests}
 use Rattle.std.proofs.lemmas.List.Elements.{All-contains, All-contains_itself}
 use Rattle.gimli_read.specs.Topmost.{greatest, topmost}
 use Rattle.addr2line_lines.specs.Details.{InlinedEntry, InlinedRange, inlined_at, inlined_begin, inlined_end, inlined_within, of_depth}
-use Rattle.addr2line_lines.specs.NestedInlined.{ChainIsWhole, AreInEachOther, AreNested, IsAlone, IsHeldAround, IsWithinNearest, NestedChain, inlined_holds}
+use Rattle.addr2line_lines.specs.NestedInlined.{ChainIsWhole, AreInEachOther, AreNested, IsAlone, IsHeldAround, IsNearest, IsNestedChain, IsOneAround, IsWithin, NestedChain, NestedInFunction, inlined_holds}
 use Rattle.addr2line_lines.specs.Pick.{IsDisjoint, at_or_below, candidate, if_past, pick}
+use Rattle.addr2line_lines.proofs.ItemsAround.{IsListed, all_listed, nearest_depth}
 use Rattle.addr2line_lines.proofs.LonePick.{from_contains, lone_is_picked}
 use Rattle.addr2line_lines.proofs.PickLemmas.{In, In-filter, In-last, In-passes, All-passing}
 
@@ -71,36 +72,36 @@ chain_ends (suc n) probe depth ranges none = by_cases (inlined_at probe depth ra
         let f = of_all (λ x. x.depth ≡ depth → inlined_holds probe x ≡ false) ranges x none a.0 a.1 in
         absurd (let g = a.2 in cc)
 
-module _ (around : InlinedEntry → Option InlinedEntry) (ranges : List InlinedRange) (probe : ℕ) (nested : AreNested around ranges) where
+module _ (Around : InlinedEntry → InlinedEntry → Type 0) (ranges : List InlinedRange) (probe : ℕ) (nested : AreNested (IsOneAround Around) ranges) where
   -- the range around one that holds the probe
-  outer_of : (x : InlinedRange) → In x ranges → inlined_holds probe x ≡ true → 0 < x.depth → IsHeldAround around ranges x probe
-  outer_of x i h some = of_all (IsWithinNearest around ranges) ranges x nested.within i some probe h
+  outer_of : (x : InlinedRange) → In x ranges → inlined_holds probe x ≡ true → 0 < x.depth → IsHeldAround (IsOneAround Around) ranges x probe
+  outer_of x i h some = of_all (IsWithin (IsOneAround Around) ranges) ranges x nested.within i some probe h
 
   listed_in : (z : InlinedRange) → Contains ranges z → In z ranges
   listed_in z c = from_contains ranges z c.0 c.1 c.2
 
   -- what is picked of a depth is around what is picked of the next
-  picked_around : (depth : ℕ) (x y : InlinedRange) → inlined_at probe depth ranges ≡ Some x → inlined_at probe (depth + 1) ranges ≡ Some y → around y.entry ≡ Some x.entry
+  picked_around : (depth : ℕ) (x y : InlinedRange) → inlined_at probe depth ranges ≡ Some x → inlined_at probe (depth + 1) ranges ≡ Some y → Around y.entry x.entry
   picked_around depth x y e f =
       let a = at_is probe (depth + 1) ranges y f in
       let o = outer_of y a.0 a.2 (let d = a.1 in omega arith) in
       let b = at_is probe depth ranges x e in
-      let same : x.depth ≡ o.outer.depth = (let d = a.1 in let c = o.depth in let f = b.1 in omega arith) in
+      let same : x.depth ≡ o.outer.depth = (let d = a.1 in let c = o.around.1 in let f = b.1 in omega arith) in
       let it = of_all (λ (z : InlinedRange). z.depth ≡ o.outer.depth → (p : ℕ) → inlined_holds p z ≡ true → inlined_holds p o.outer ≡ true → z ≡ o.outer) ranges x (of_all (IsAlone ranges) ranges o.outer nested.apart (listed_in o.outer o.listed)) b.0 same probe b.2 o.holds_it in
-      o.nearest ∙ ap (λ (r : InlinedRange). Some r.entry) (sym it)
+      subst (λ (r : InlinedRange). Around y.entry r.entry) (sym it) o.around.0
 
-  next_within : (n depth : ℕ) → AreInEachOther around (inlined_within n probe depth ranges)
+  next_within : (n depth : ℕ) → AreInEachOther Around (inlined_within n probe depth ranges)
   next_within zero depth = tt
   next_within (suc zero) depth = by_cases (inlined_at probe depth ranges)
     where
-      by_cases : (o : Option InlinedRange) → AreInEachOther around (elim o [ None ↦ [] | Some x ↦ x.entry ∷ [] ])
+      by_cases : (o : Option InlinedRange) → AreInEachOther Around (elim o [ None ↦ [] | Some x ↦ x.entry ∷ [] ])
       by_cases None = tt
       by_cases (Some x) = tt
   next_within (suc (suc n)) depth = by_cases (inlined_at probe depth ranges) (inlined_at probe (depth + 1) ranges) refl refl (next_within (suc n) (depth + 1))
     where
       by_cases : (o p : Option InlinedRange) → inlined_at probe depth ranges ≡ o → inlined_at probe (depth + 1) ranges ≡ p
-          → AreInEachOther around (elim p [ None ↦ [] | Some y ↦ y.entry ∷ inlined_within n probe (depth + 1 + 1) ranges ])
-          → AreInEachOther around (elim o [ None ↦ [] | Some x ↦ x.entry ∷ elim p [ None ↦ [] | Some y ↦ y.entry ∷ inlined_within n probe (depth + 1 + 1) ranges ] ])
+          → AreInEachOther Around (elim p [ None ↦ [] | Some y ↦ y.entry ∷ inlined_within n probe (depth + 1 + 1) ranges ])
+          → AreInEachOther Around (elim o [ None ↦ [] | Some x ↦ x.entry ∷ elim p [ None ↦ [] | Some y ↦ y.entry ∷ inlined_within n probe (depth + 1 + 1) ranges ] ])
       by_cases None p e f rest = tt
       by_cases (Some x) None e f rest = tt
       by_cases (Some x) (Some y) e f rest = (picked_around depth x y e f, rest)
@@ -117,7 +118,7 @@ module _ (around : InlinedEntry → Option InlinedEntry) (ranges : List InlinedR
   held_below zero depth h = record { it = h.it; listed = h.listed; at = (let e = h.at in omega arith); holds_it = h.holds_it }
   held_below (suc k) depth h =
       let o = outer_of h.it h.listed h.holds_it (let e = h.at in omega arith) in
-      held_below k depth (record { it = o.outer; listed = listed_in o.outer o.listed; at = (let e = h.at in let c = o.depth in omega arith); holds_it = o.holds_it })
+      held_below k depth (record { it = o.outer; listed = listed_in o.outer o.listed; at = (let e = h.at in let c = o.around.1 in omega arith); holds_it = o.holds_it })
 
   module _ (some : All (λ x. inlined_begin x < inlined_end x) ranges) where
     some_of : (z : InlinedRange) → In z ranges → inlined_begin z < inlined_end z
@@ -265,16 +266,32 @@ module _ (ranges : List InlinedRange) where
 pub chain_is_whole : ChainIsWhole
 chain_is_whole n probe ranges l = more_steps ranges (n - length ranges) n probe (omega arith)
 
-pub nested_chain : NestedChain
-nested_chain around ranges probe nested = record {
-  next = next_within around ranges probe nested (length ranges) 0;
+-- the chain of nested entries, whatever relation says which one is around another
+nested_by : (Around : InlinedEntry → InlinedEntry → Type 0) (ranges : List InlinedRange) (probe : ℕ) → AreNested (IsOneAround Around) ranges → IsNestedChain Around ranges probe
+nested_by Around ranges probe nested = record {
+  next = next_within Around ranges probe nested (length ranges) 0;
   all = λ some k d l h.
       let x = slice_index_or ranges k d in
-      let i : In x ranges = listed_in around ranges probe nested x (All-contains_itself ranges k d l) in
-      let held : Held around ranges probe nested (0 + x.depth) = record { it = x; listed = i; at = omega arith; holds_it = h } in
+      let i : In x ranges = listed_in Around ranges probe nested x (All-contains_itself ranges k d l) in
+      let held : Held Around ranges probe nested (0 + x.depth) = record { it = x; listed = i; at = omega arith; holds_it = h } in
       let each : Each ranges 0 (x.depth + 1) = λ n low high.
-      (let whole : Held around ranges probe nested (n + (x.depth - n)) = record { it = x; listed = i; at = omega arith; holds_it = h } in
-      let below = held_below around ranges probe nested (x.depth - n) n whole in (below.it, below.listed, below.at)) in
+      (let whole : Held Around ranges probe nested (n + (x.depth - n)) = record { it = x; listed = i; at = omega arith; holds_it = h } in
+      let below = held_below Around ranges probe nested (x.depth - n) n whole in (below.it, below.listed, below.at)) in
       let few = enough ranges (x.depth + 1) each in
-      found_at around ranges probe nested some (length ranges) x.depth 0 held (omega arith);
+      found_at Around ranges probe nested some (length ranges) x.depth 0 held (omega arith);
 }
+
+pub nested_chain : NestedChain
+nested_chain around ranges probe nested = nested_by (λ x y. around x ≡ Some y) ranges probe nested
+
+pub nested_in_function : NestedInFunction
+nested_in_function scope u offset items detail probe e f nested =
+    let all = all_listed scope u offset items detail e f in
+    nested_by (IsNearest items) detail.inlined probe (record {
+      within = λ k d l some p h.
+          let x = slice_index_or detail.inlined k d in
+          let o = nested.within k d l some p h in
+          let deeper = nearest_depth items x o.outer (all k d l) (All-contains (IsListed items) detail.inlined o.outer all o.listed) o.around in
+          record { outer = o.outer; listed = o.listed; around = (o.around, deeper); holds_it = o.holds_it };
+      apart = nested.apart;
+    })

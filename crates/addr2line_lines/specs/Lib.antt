@@ -29,6 +29,7 @@ pub mod Names
 pub mod Details
 pub mod SeenScope
 pub mod InlinedOrder
+pub mod ItemsAround
 pub mod NestedInlined
 pub mod FoundNames
 pub mod NameChains

@@ -2,9 +2,13 @@
 -- Own: its steps are enough; where the ranges are nested as the entries are, it is one of entries
 -- inside each other, and none that holds the address is left out. DWARF 5, section 3.3.8, doesn't
 -- ask for ranges so nested.
-use Rattle.std.specs.Prelude.{ℕ, ◌≡◌, ◌+◌, ◌<◌, ◌≤◌, Bool, true, List, [], ◌∷◌, Option, Some, length, slice_get}
+use Rattle.std.specs.Prelude.{ℕ, ◌≡◌, ◌+◌, ◌<◌, ◌≤◌, Bool, true, List, [], ◌∷◌, Option, Some, Ok, length, slice_get}
 use Rattle.std.specs.List.{All, Contains}
-use Rattle.addr2line_lines.specs.Details.{InlinedEntry, InlinedRange, inlined_begin, inlined_chain, inlined_end, inlined_within}
+use Rattle.gimli.specs.Items.{Item}
+use Rattle.gimli.specs.Unit.{UnitRecord}
+use Rattle.addr2line_lines.specs.Details.{Detail, InlinedEntry, InlinedRange, detail_at, inlined_begin, inlined_chain, inlined_end, inlined_within}
+use Rattle.addr2line_lines.specs.ItemsAround.{items_inside_at, nearest_inlined}
+use Rattle.addr2line_lines.specs.References.{Scope}
 use Rattle.addr2line_lines.specs.Shortest.{holds}
 
 -- more steps than there are ranges give the same chain
@@ -16,50 +20,65 @@ ChainIsWhole = (n probe : ℕ) (ranges : List InlinedRange) → length ranges �
 abbrev pub inlined_holds : ℕ → InlinedRange → Bool
 inlined_holds probe x = holds inlined_begin inlined_end probe x
 
--- the nearest inlined entry around that of x has a listed range that holds the probe, and its depth
--- is one less
-pub record IsHeldAround (around : InlinedEntry → Option InlinedEntry) (ranges : List InlinedRange)
+-- a listed range that holds the probe stands around x in some way
+pub record IsHeldAround (Around : InlinedRange → InlinedRange → Type 0) (ranges : List InlinedRange)
     (x : InlinedRange) (probe : ℕ) : Type 0 where
   pub outer : InlinedRange
   pub listed : Contains ranges outer
-  pub nearest : around x.entry ≡ Some outer.entry
-  pub depth : outer.depth + 1 ≡ x.depth
+  pub around : Around x outer
   pub holds_it : inlined_holds probe outer ≡ true
 
--- each address of a range of an entry inside another is held by the nearest one around
-abbrev pub IsWithinNearest : (InlinedEntry → Option InlinedEntry) → List InlinedRange
-    → InlinedRange → Type 0
-IsWithinNearest around ranges x = 0 < x.depth → (probe : ℕ) → inlined_holds probe x ≡ true
-    → IsHeldAround around ranges x probe
+-- each address of a range of an entry inside another is held by one around
+abbrev pub IsWithin : (InlinedRange → InlinedRange → Type 0) → List InlinedRange → InlinedRange
+    → Type 0
+IsWithin Around ranges x = 0 < x.depth → (probe : ℕ) → inlined_holds probe x ≡ true
+    → IsHeldAround Around ranges x probe
 
 -- no other range of the same depth holds an address of z
 abbrev pub IsAlone : List InlinedRange → InlinedRange → Type 0
 IsAlone ranges z = All (λ x. x.depth ≡ z.depth → (probe : ℕ) → inlined_holds probe x ≡ true
     → inlined_holds probe z ≡ true → x ≡ z) ranges
 
--- the ranges of entries lie within those of the nearest entries around, and those of a depth don't
--- overlap
-pub record AreNested (around : InlinedEntry → Option InlinedEntry) (ranges : List InlinedRange)
+-- the ranges of entries lie within those around, and those of a depth don't overlap
+pub record AreNested (Around : InlinedRange → InlinedRange → Type 0) (ranges : List InlinedRange)
     : Type 0 where
-  pub within : All (IsWithinNearest around ranges) ranges
+  pub within : All (IsWithin Around ranges) ranges
   pub apart : All (IsAlone ranges) ranges
 
--- each entry is the nearest one around the next
-abbrev pub AreInEachOther : (InlinedEntry → Option InlinedEntry) → List InlinedEntry → Type 0
-AreInEachOther around [] = Unit {0}
-AreInEachOther around (x ∷ []) = Unit {0}
-AreInEachOther around (x ∷ y ∷ rest) = (around y ≡ Some x) × AreInEachOther around (y ∷ rest)
+-- each entry is the one around the next
+abbrev pub AreInEachOther : (InlinedEntry → InlinedEntry → Type 0) → List InlinedEntry → Type 0
+AreInEachOther Around [] = Unit {0}
+AreInEachOther Around (x ∷ []) = Unit {0}
+AreInEachOther Around (x ∷ y ∷ rest) = Around y x × AreInEachOther Around (y ∷ rest)
 
--- the chain of nested entries: each is the nearest one around the next, and where no range is
--- empty, each entry that has a range that holds the probe stands at its depth
-pub record IsNestedChain (around : InlinedEntry → Option InlinedEntry) (ranges : List InlinedRange)
-    (probe : ℕ) : Type 0 where
-  pub next : AreInEachOther around (inlined_chain probe ranges)
+-- the chain of nested entries: each is the one around the next, and where no range is empty, each
+-- entry that has a range that holds the probe stands at its depth
+pub record IsNestedChain (Around : InlinedEntry → InlinedEntry → Type 0)
+    (ranges : List InlinedRange) (probe : ℕ) : Type 0 where
+  pub next : AreInEachOther Around (inlined_chain probe ranges)
   pub all : All (λ x. inlined_begin x < inlined_end x) ranges
       → All (λ x. inlined_holds probe x ≡ true
       → slice_get (inlined_chain probe ranges) x.depth ≡ Some x.entry) ranges
 
--- where entries are nested so are those of the chain, whatever says which is the nearest around
+-- the entry of y is around that of x, and its depth is one less
+abbrev pub IsOneAround : (InlinedEntry → InlinedEntry → Type 0) → InlinedRange → InlinedRange → Type 0
+IsOneAround Around x y = Around x.entry y.entry × (y.depth + 1 ≡ x.depth)
+
+-- where entries are nested so are those of the chain, whatever says which one is around another
 abbrev pub NestedChain : Type 0
 NestedChain = (around : InlinedEntry → Option InlinedEntry) (ranges : List InlinedRange)
-    (probe : ℕ) → AreNested around ranges → IsNestedChain around ranges probe
+    (probe : ℕ) → AreNested (IsOneAround (λ x y. around x ≡ Some y)) ranges
+    → IsNestedChain (λ x y. around x ≡ Some y) ranges probe
+
+-- among the items inside a function y is the nearest inlined entry around x
+abbrev pub IsNearest : List Item → InlinedEntry → InlinedEntry → Type 0
+IsNearest items x y = nearest_inlined x.offset items ≡ Some y.offset
+
+-- where the ranges of a function's inlined entries lie within those of the nearest inlined ones
+-- around, each entry of the chain is the nearest inlined one around the next
+abbrev pub NestedInFunction : Type 0
+NestedInFunction =
+    (scope : Scope) (u : UnitRecord) (offset : ℕ) (items : List Item) (detail : Detail) (probe : ℕ)
+    → items_inside_at u offset ≡ Ok items → detail_at scope u offset ≡ Ok detail
+    → AreNested (λ x y. IsNearest items x.entry y.entry) detail.inlined
+    → IsNestedChain (IsNearest items) detail.inlined probe

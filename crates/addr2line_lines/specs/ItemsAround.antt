@@ -1,0 +1,68 @@
+-- The items around an item: those whose subtree has it (DWARF 5, section 2.3). The nearest inlined
+-- one around an inlined entry is the call into which that was inlined (section 3.3.8.2).
+-- Own: items of a unit are told apart by their offsets.
+use Rattle.std.specs.Prelude.{ℕ, ◌≡◌, ◌==◌, Bool, false, List, [], ◌∷◌, ◌++◌, filter, filter_map, find, length, Option, None, Some, option_map, Result, Ok, if◌then◌else◌}
+use Rattle.std.specs.List.{All, list_any}
+use Rattle.gimli_read.specs.declared.error.Error.{Error}
+use Rattle.gimli_read.specs.Abbreviations.{Abbrev}
+use Rattle.gimli_read.specs.Reading.{◌>>=◌}
+use Rattle.gimli.specs.Entries.{entries_from}
+use Rattle.gimli.specs.Items.{Item, items_from, next_item_at, subtree_of}
+use Rattle.gimli.specs.Unit.{UnitRecord}
+use Rattle.addr2line_lines.specs.Details.{Detail, detail_at, entry_of, is_inlined, placed}
+use Rattle.addr2line_lines.specs.References.{Scope}
+
+-- the items inside the entry that begins at an offset of its unit, up to its end or the first fault
+abbrev pub items_inside_at : UnitRecord → ℕ → Result (List Item) Error
+items_inside_at u offset = do
+  left ← entries_from u (Some offset)
+  next ← next_item_at left.unit left.cursor
+  entry ← entry_of offset next.0
+  Ok (subtree_of entry.0 (items_from left.unit next.1)).items
+
+-- the subtree of an item among the items after it
+abbrev pub subtree_among : Item → List Item → List Item
+subtree_among x following =
+    (subtree_of {Z = Unit {0}} x (record { items = following; end = Ok tt })).items
+
+-- whether items have one at an offset
+abbrev pub have_item : ℕ → List Item → Bool
+have_item offset items = list_any (λ (x : Item). x.offset == offset) items
+
+-- the items whose subtree has the one at an offset, from the inside out
+abbrev pub items_around : ℕ → List Item → List Item
+items_around offset [] = []
+items_around offset (x ∷ following) =
+    if have_item offset (subtree_among x following)
+    then items_around offset following ++ x ∷ []
+    else items_around offset following
+
+-- whether an item is an inlined entry
+abbrev pub is_inlined_item : Item → Bool
+is_inlined_item x = elim x.entry [ None ↦ false | Some e ↦ is_inlined e.abbreviation ]
+
+-- how many inlined entries are around the item at an offset
+abbrev pub inlined_depth : ℕ → List Item → ℕ
+inlined_depth offset items = length (filter is_inlined_item (items_around offset items))
+
+-- where the nearest of them begins, if there is one
+abbrev pub nearest_inlined : ℕ → List Item → Option ℕ
+nearest_inlined offset items =
+    option_map (λ (x : Item). x.offset) (find is_inlined_item (items_around offset items))
+
+-- the abbreviations of the entries among items
+abbrev pub abbreviations_of : List Item → List Abbrev
+abbreviations_of items = filter_map (λ (x : Item). option_map (λ e. e.abbreviation) x.entry) items
+
+-- the entries that are open around an item inside an entry are those whose subtree has it
+abbrev pub OpenAreAround : Type 0
+OpenAreAround =
+    (u : UnitRecord) (offset : ℕ) (items : List Item) → items_inside_at u offset ≡ Ok items
+    → All (λ x. x.around ≡ abbreviations_of (items_around x.item.offset items)) (placed [] items)
+
+-- the depth of a range is the number of inlined entries around the entry that it is of
+abbrev pub DepthsAreNumbers : Type 0
+DepthsAreNumbers =
+    (scope : Scope) (u : UnitRecord) (offset : ℕ) (items : List Item) (detail : Detail)
+    → items_inside_at u offset ≡ Ok items → detail_at scope u offset ≡ Ok detail
+    → All (λ x. x.depth ≡ inlined_depth x.entry.offset items) detail.inlined

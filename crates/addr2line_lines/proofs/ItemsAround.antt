@@ -1,5 +1,5 @@
 -- The items around an item (on specs/ItemsAround.antt).
-use Rattle.std.proofs.Common.{◌≡◌, ℕ, zero, suc, ◌+◌, ◌-◌, ◌<◌, ◌≤◌, ◌==◌, ◌||◌, Bool, true, false, cond, drop, filter, List, [], ◌∷◌, ◌++◌, length, Option, Some, None, Result, Ok, Err, refl, sym, ap, subst, ◌∙◌, arith, ℤ, pos, negsuc, append-nil, append_assoc, length-append, length-drop, nat_lt, ◌&&◌}
+use Rattle.std.proofs.Common.{◌≡◌, ℕ, zero, suc, ◌+◌, ◌-◌, ◌<◌, ◌≤◌, ◌==◌, ◌||◌, Bool, true, false, cond, drop, filter, List, [], ◌∷◌, ◌++◌, length, Option, Some, None, Result, Ok, Err, is_ok, refl, sym, ap, subst, ◌∙◌, arith, ℤ, pos, negsuc, append-nil, append_assoc, length-append, length-drop, nat_lt, ◌&&◌}
 use Rattle.std.specs.Prelude.{find, int_lt, ◌+ℤ◌}
 use Rattle.std.specs.List.{All, AllByRecursion, cons_option}
 use Rattle.std.specs.Option.{option_map}
@@ -21,7 +21,7 @@ use Rattle.gimli.specs.Unit.{UnitRecord}
 use Rattle.gimli.proofs.ItemTexts.{text_is}
 use Rattle.gimli.proofs.ItemLemmas.{run}
 use Rattle.addr2line_lines.specs.Details.{Detail, InlinedRange, PlacedItem, detail_at, entry_of, inlined_attributes_of, inlined_entry, inlined_in, inlined_ranges, is_in_function, is_inlined, number_of, open_after, placed, with_inlined, with_inlined_entry}
-use Rattle.addr2line_lines.specs.ItemsAround.{DepthsAreNumbers, OpenAreAround, abbreviations_of, have_item, inlined_depth, is_inlined_item, items_around, items_inside_at, nearest_inlined}
+use Rattle.addr2line_lines.specs.ItemsAround.{DepthsAreNumbers, InsideIsRead, OpenAreAround, abbreviations_of, have_item, inlined_depth, is_inlined_item, items_around, items_inside_at, nearest_inlined}
 use Rattle.addr2line_lines.specs.Names.{name_of}
 use Rattle.addr2line_lines.specs.RangeAttributes.{attribute_ranges}
 use Rattle.addr2line_lines.specs.References.{Scope}
@@ -490,3 +490,35 @@ all_listed scope u offset items detail e f =
 
 pub depths_are_numbers : DepthsAreNumbers
 depths_are_numbers scope u offset items detail e f = λ k d l. (all_listed scope u offset items detail e f k d l).depth
+
+-- a range of depth 0 is of an entry around which no inlined one is
+pub none_nearest : (items : List Item) (x : InlinedRange) → IsListed items x → x.depth ≡ 0 → nearest_inlined x.entry.offset items ≡ None
+none_nearest items x h zero_is = ap (option_map (λ (y : Item). y.offset)) (none_found (items_around x.entry.offset items) (sym h.depth ∙ zero_is))
+  where
+    none_found : (ys : List Item) → length (filter is_inlined_item ys) ≡ 0 → find is_inlined_item ys ≡ None
+    none_found [] e = refl
+    none_found (y ∷ ys) e = by_test (is_inlined_item y) (none_found ys) e
+      where
+        by_test : (b : Bool) → (length (filter is_inlined_item ys) ≡ 0 → find is_inlined_item ys ≡ None) → length (cond b (y ∷ filter is_inlined_item ys) (filter is_inlined_item ys)) ≡ 0
+            → cond b (Some y) (find is_inlined_item ys) ≡ None
+        by_test true rest e = absurd (omega arith)
+        by_test false rest e = rest e
+
+pub inside_is_read : InsideIsRead
+unfolding detail_at
+inside_is_read scope u offset detail e =
+    let a = bind_ok (entries_from u (Some offset)) (λ left. by_next left (next_item_at left.unit left.cursor)) detail e in
+    let b = bind_ok (next_item_at a.0.unit a.0.cursor) (λ next. by_entry a.0 next (entry_of offset next.0)) detail a.2 in
+    let c = bind_ok (entry_of offset b.0.0) (λ function. named a.0 b.0 function) detail b.2 in
+    ap is_ok (ap (λ r. r >>= λ left. next_item_at left.unit left.cursor >>= λ next. entry_of offset next.0 >>= λ entry. Ok (subtree_of entry.0 (items_from left.unit next.1)).items) a.1
+    ∙ ap (λ r. r >>= λ next. entry_of offset next.0 >>= λ entry. Ok (subtree_of entry.0 (items_from a.0.unit next.1)).items) b.1
+    ∙ ap (λ r. r >>= λ entry. Ok (subtree_of entry.0 (items_from a.0.unit b.0.1)).items) c.1)
+  where
+    named : EntriesLeft → Option Item × EntryCursor → Item × Entry → Result Detail Error
+    named left next function = name_of scope u function.1.attributes >>= λ name. inlined_in scope u (record { unit = left.unit; cursor = next.1 }) function.0 >>= λ inlined. Ok (record { name = name; inlined = inlined })
+
+    by_entry : EntriesLeft → Option Item × EntryCursor → Result (Item × Entry) Error → Result Detail Error
+    by_entry left next r = r >>= λ function. named left next function
+
+    by_next : EntriesLeft → Result (Option Item × EntryCursor) Error → Result Detail Error
+    by_next left r = r >>= λ next. by_entry left next (entry_of offset next.0)

@@ -7,9 +7,9 @@ use Rattle.std.proofs.lemmas.Bool.Decides.{nat_tests}
 use Rattle.std.proofs.lemmas.List.Elements.{All-contains, All-contains_itself}
 use Rattle.gimli_read.specs.Topmost.{greatest, topmost}
 use Rattle.addr2line_lines.specs.Details.{InlinedEntry, InlinedRange, inlined_at, inlined_begin, inlined_end, inlined_within, of_depth}
-use Rattle.addr2line_lines.specs.NestedInlined.{ChainIsWhole, AreInEachOther, AreNested, IsAlone, IsHeldAround, IsNearest, IsNestedChain, IsOneAround, IsWithin, NestedChain, NestedInFunction, inlined_holds}
+use Rattle.addr2line_lines.specs.NestedInlined.{ChainBeginsOutermost, ChainIsWhole, AreInEachOther, AreNested, IsAlone, IsFirstOutermost, IsHeldAround, IsNearest, IsNestedChain, IsOneAround, IsWithin, NestedChain, NestedInFunction, inlined_holds}
 use Rattle.addr2line_lines.specs.Pick.{IsDisjoint, at_or_below, candidate, if_past, pick}
-use Rattle.addr2line_lines.proofs.ItemsAround.{IsListed, all_listed, nearest_depth}
+use Rattle.addr2line_lines.proofs.ItemsAround.{IsListed, all_listed, nearest_depth, none_nearest}
 use Rattle.addr2line_lines.proofs.LonePick.{from_contains, lone_is_picked}
 use Rattle.addr2line_lines.proofs.PickLemmas.{In, In-filter, In-last, In-passes, All-passing}
 
@@ -295,3 +295,17 @@ nested_in_function scope u offset items detail probe e f nested =
           record { outer = o.outer; listed = o.listed; around = (o.around, deeper); holds_it = o.holds_it };
       apart = nested.apart;
     })
+
+pub chain_begins_outermost : ChainBeginsOutermost
+chain_begins_outermost scope u offset items detail probe e f = by_steps (length detail.inlined)
+  where
+    all : All (IsListed items) detail.inlined
+    all = all_listed scope u offset items detail e f
+
+    by_pick : (n : ℕ) (o : Option InlinedRange) → inlined_at probe 0 detail.inlined ≡ o → IsFirstOutermost items (elim o [ None ↦ [] | Some x ↦ x.entry ∷ inlined_within n probe 1 detail.inlined ])
+    by_pick n None h = tt
+    by_pick n (Some x) h = let a = at_is probe 0 detail.inlined x h in none_nearest items x (of_all (IsListed items) detail.inlined x all a.0) a.1
+
+    by_steps : (n : ℕ) → IsFirstOutermost items (inlined_within n probe 0 detail.inlined)
+    by_steps zero = tt
+    by_steps (suc n) = by_pick n (inlined_at probe 0 detail.inlined) refl

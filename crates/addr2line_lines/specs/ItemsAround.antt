@@ -1,7 +1,7 @@
 -- The items around an item: those whose subtree has it (DWARF 5, section 2.3). The nearest inlined
--- one around an inlined entry is the call into which that was inlined (section 3.3.8.2).
+-- one around an inlined entry is the inlined call in which that call was made (section 3.3.8).
 -- Own: items of a unit are told apart by their offsets.
-use Rattle.std.specs.Prelude.{ℕ, ◌≡◌, ◌==◌, Bool, false, List, [], ◌∷◌, ◌++◌, filter, filter_map, find, length, Option, None, Some, option_map, Result, Ok, if◌then◌else◌}
+use Rattle.std.specs.Prelude.{ℕ, ◌≡◌, ◌==◌, Bool, false, List, [], ◌∷◌, ◌++◌, filter, filter_map, find, length, Option, None, Some, option_map, Result, Ok, IsOk, if◌then◌else◌}
 use Rattle.std.specs.List.{All, list_any}
 use Rattle.gimli_read.specs.declared.error.Error.{Error}
 use Rattle.gimli_read.specs.Abbreviations.{Abbrev}
@@ -66,3 +66,9 @@ DepthsAreNumbers =
     (scope : Scope) (u : UnitRecord) (offset : ℕ) (items : List Item) (detail : Detail)
     → items_inside_at u offset ≡ Ok items → detail_at scope u offset ≡ Ok detail
     → All (λ x. x.depth ≡ inlined_depth x.entry.offset items) detail.inlined
+
+-- where the details of a function are read so are the items inside its entry
+abbrev pub InsideIsRead : Type 0
+InsideIsRead =
+    (scope : Scope) (u : UnitRecord) (offset : ℕ) (detail : Detail)
+    → detail_at scope u offset ≡ Ok detail → IsOk (items_inside_at u offset)

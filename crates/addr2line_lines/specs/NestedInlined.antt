@@ -1,8 +1,8 @@
--- What holds of the chain of inlined entries.
--- Own: its steps are enough; where the ranges are nested as the entries are, it is one of entries
--- inside each other, and none that holds the address is left out. DWARF 5, section 3.3.8, doesn't
--- ask for ranges so nested.
-use Rattle.std.specs.Prelude.{ℕ, ◌≡◌, ◌+◌, ◌<◌, ◌≤◌, Bool, true, List, [], ◌∷◌, Option, Some, Ok, length, slice_get}
+-- What holds of the chain of inlined entries (DWARF 5, section 3.3.8).
+-- Own: its steps are enough; its first entry has no inlined one around it; where the ranges are
+-- nested as the entries are, each of its entries is the nearest inlined one around the next, and
+-- none that holds the address is left out. The standard doesn't ask for ranges so nested.
+use Rattle.std.specs.Prelude.{ℕ, ◌≡◌, ◌+◌, ◌<◌, ◌≤◌, Bool, true, List, [], ◌∷◌, Option, Some, None, Ok, length, slice_get}
 use Rattle.std.specs.List.{All, Contains}
 use Rattle.gimli.specs.Items.{Item}
 use Rattle.gimli.specs.Unit.{UnitRecord}
@@ -20,7 +20,7 @@ ChainIsWhole = (n probe : ℕ) (ranges : List InlinedRange) → length ranges �
 abbrev pub inlined_holds : ℕ → InlinedRange → Bool
 inlined_holds probe x = holds inlined_begin inlined_end probe x
 
--- a listed range that holds the probe stands around x in some way
+-- some listed range that is around x, as the relation says, holds the probe
 pub record IsHeldAround (Around : InlinedRange → InlinedRange → Type 0) (ranges : List InlinedRange)
     (x : InlinedRange) (probe : ℕ) : Type 0 where
   pub outer : InlinedRange
@@ -28,7 +28,7 @@ pub record IsHeldAround (Around : InlinedRange → InlinedRange → Type 0) (ran
   pub around : Around x outer
   pub holds_it : inlined_holds probe outer ≡ true
 
--- each address of a range of an entry inside another is held by one around
+-- each address of a range whose entry is inside another is held by a listed range around it
 abbrev pub IsWithin : (InlinedRange → InlinedRange → Type 0) → List InlinedRange → InlinedRange
     → Type 0
 IsWithin Around ranges x = 0 < x.depth → (probe : ℕ) → inlined_holds probe x ≡ true
@@ -39,7 +39,7 @@ abbrev pub IsAlone : List InlinedRange → InlinedRange → Type 0
 IsAlone ranges z = All (λ x. x.depth ≡ z.depth → (probe : ℕ) → inlined_holds probe x ≡ true
     → inlined_holds probe z ≡ true → x ≡ z) ranges
 
--- the ranges of entries lie within those around, and those of a depth don't overlap
+-- ranges lie within those that are around them, and those of a depth don't overlap
 pub record AreNested (Around : InlinedRange → InlinedRange → Type 0) (ranges : List InlinedRange)
     : Type 0 where
   pub within : All (IsWithin Around ranges) ranges
@@ -60,25 +60,38 @@ pub record IsNestedChain (Around : InlinedEntry → InlinedEntry → Type 0)
       → All (λ x. inlined_holds probe x ≡ true
       → slice_get (inlined_chain probe ranges) x.depth ≡ Some x.entry) ranges
 
--- the entry of y is around that of x, and its depth is one less
-abbrev pub IsOneAround : (InlinedEntry → InlinedEntry → Type 0) → InlinedRange → InlinedRange → Type 0
+-- the entry of y is the one around that of x, and its depth is one less
+abbrev pub IsOneAround : (InlinedEntry → InlinedEntry → Type 0) → InlinedRange → InlinedRange
+    → Type 0
 IsOneAround Around x y = Around x.entry y.entry × (y.depth + 1 ≡ x.depth)
 
--- where entries are nested so are those of the chain, whatever says which one is around another
+-- where ranges are nested so are the entries of the chain, whatever says which is around another
 abbrev pub NestedChain : Type 0
 NestedChain = (around : InlinedEntry → Option InlinedEntry) (ranges : List InlinedRange)
     (probe : ℕ) → AreNested (IsOneAround (λ x y. around x ≡ Some y)) ranges
     → IsNestedChain (λ x y. around x ≡ Some y) ranges probe
 
--- among the items inside a function y is the nearest inlined entry around x
+-- y is the nearest inlined entry around x, among the items inside their function
 abbrev pub IsNearest : List Item → InlinedEntry → InlinedEntry → Type 0
 IsNearest items x y = nearest_inlined x.offset items ≡ Some y.offset
 
 -- where the ranges of a function's inlined entries lie within those of the nearest inlined ones
--- around, each entry of the chain is the nearest inlined one around the next
+-- around them, each entry of the chain is the nearest inlined one around the next
 abbrev pub NestedInFunction : Type 0
 NestedInFunction =
     (scope : Scope) (u : UnitRecord) (offset : ℕ) (items : List Item) (detail : Detail) (probe : ℕ)
     → items_inside_at u offset ≡ Ok items → detail_at scope u offset ≡ Ok detail
     → AreNested (λ x y. IsNearest items x.entry y.entry) detail.inlined
     → IsNestedChain (IsNearest items) detail.inlined probe
+
+-- no inlined entry is around the first one
+abbrev pub IsFirstOutermost : List Item → List InlinedEntry → Type 0
+IsFirstOutermost items [] = Unit {0}
+IsFirstOutermost items (x ∷ rest) = nearest_inlined x.offset items ≡ None
+
+-- the chain of a function's inlined entries begins with one around which there is none
+abbrev pub ChainBeginsOutermost : Type 0
+ChainBeginsOutermost =
+    (scope : Scope) (u : UnitRecord) (offset : ℕ) (items : List Item) (detail : Detail) (probe : ℕ)
+    → items_inside_at u offset ≡ Ok items → detail_at scope u offset ≡ Ok detail
+    → IsFirstOutermost items (inlined_chain probe detail.inlined)

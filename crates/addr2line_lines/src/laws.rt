@@ -9,8 +9,8 @@ ghost use Rattle.addr2line_lines.specs.Functions.{function_begin, function_end, 
 ghost use Rattle.addr2line_lines.specs.FunctionTable.{MoreKeepsListed, ReadKeepsDetails, ReadKeepsListed, UnreadAreDetails};
 ghost use Rattle.addr2line_lines.specs.Shortest.{LoneIsShortest, NoneIsShorter};
 ghost use Rattle.addr2line_lines.specs.NameChains.{ChainGivesName, LongChainGivesNone};
-ghost use Rattle.addr2line_lines.specs.ItemsAround.{DepthsAreNumbers, OpenAreAround};
-ghost use Rattle.addr2line_lines.specs.NestedInlined.{ChainIsWhole, NestedChain, NestedInFunction};
+ghost use Rattle.addr2line_lines.specs.ItemsAround.{DepthsAreNumbers, InsideIsRead, OpenAreAround};
+ghost use Rattle.addr2line_lines.specs.NestedInlined.{ChainBeginsOutermost, ChainIsWhole, NestedChain, NestedInFunction};
 ghost use Rattle.addr2line_lines.specs.Spans.{EachAddressHasRow};
 
 /// Where addresses don't fall within a sequence, the sequences of the rows rise.
@@ -60,20 +60,24 @@ pub fn inlined_chain_is_whole()
 {}
 
 /// The entries that are open around an item inside an entry are those whose subtree has it, and the
-/// depth of an inlined range is the number of inlined entries among those around its entry.
+/// depth of an inlined range is the number of inlined entries among those around its entry. Where
+/// the details of a function are read so are the items inside it.
 pub fn open_entries_are_around()
     ensures law { OpenAreAround }
     ensures depths { DepthsAreNumbers }
+    ensures inside { InsideIsRead }
 {}
 
 /// Where the ranges of a function's inlined entries lie within those of the nearest inlined entries
 /// around them, and those of a depth don't overlap, each entry of the chain at an address is the
-/// nearest inlined one around the next: of those whose subtree has it the last that begins. Where no
-/// range is empty either, none that holds the address is left out. The same holds of any ranges and
-/// whatever says which entry is around another, if the depth of that is one less.
+/// nearest inlined one around the next: of those whose subtree has it the last that begins. Where
+/// no range is empty either, none that holds the address is left out. Whatever says which entry is
+/// around another, the same holds of ranges so nested, if the depth of the one around is one less.
+/// The first entry of any chain of a function has no inlined one around it.
 pub fn inlined_are_nested()
     ensures law { NestedChain }
     ensures nearest { NestedInFunction }
+    ensures first { ChainBeginsOutermost }
 {}
 
 /// What is cached of functions is right for any unit where no detail is cached, and stays right for

@@ -1,5 +1,5 @@
 -- The attributes of inlined entries and functions, one at a time (on specs/FoundDetails.antt).
-use Rattle.std.proofs.Common.{◌≡◌, ℕ, ◌+◌, ◌<◌, ◌≤◌, ◌⊎◌, ◌==◌, ◌||◌, Bool, true, false, cond, List, [], ◌∷◌, drop, fold, get_or, inl, inr, length, Option, Some, None, Result, Ok, Err, refl, ap, subst, sym, ◌∙◌}
+use Rattle.std.proofs.Common.{◌≡◌, ℕ, ◌+◌, ◌<◌, ◌≤◌, ◌⊎◌, ◌==◌, ◌&&◌, ◌||◌, Bool, true, false, cond, List, [], ◌∷◌, drop, fold, get_or, inl, inr, length, Option, Some, None, Result, Ok, Err, refl, ap, subst, sym, ◌∙◌}
 use Rattle.std.proofs.lemmas.Bool.{eqb-true}
 use Rattle.std.proofs.lemmas.List.{at_drop_more, at_drop_all}
 use Rattle.gimli_read.specs.declared.constants.DwAt.{DwAt}
@@ -12,7 +12,7 @@ use Rattle.gimli_read.specs.Leb128.{uleb128_at, uleb128_in}
 use Rattle.gimli_read.specs.declared.value.AttributeValue.{AttributeValue}
 use Rattle.gimli_read.specs.declared.constants.TheConstants.DwForm.{DW_FORM_implicit_const}
 use Rattle.gimli_read.specs.Form.{NamedValue, attribute_at, implicit_of, named_value, rest_of, value_at}
-use Rattle.gimli_read.specs.Reading.{Reading, ◌>>=◌, Exactly, ExactlyUnlessOom, ExactlyUnlessOomIf}
+use Rattle.gimli_read.specs.Reading.{Reading, ◌>>=◌, Exactly, ExactlyUnlessOomIf}
 use Rattle.gimli_read.specs.Section.{Section}
 use Rattle.gimli.specs.Entry.{attributes_at}
 use Rattle.gimli.specs.Sections.{Sections}
@@ -20,10 +20,10 @@ use Rattle.gimli.specs.Unit.{UnitRecord}
 use Rattle.addr2line_lines.specs.declared.function.RangeAttributes.{RangeAttributes}
 use Rattle.addr2line_lines.specs.declared.nesting.Kind.{Kind}
 use Rattle.addr2line_lines.specs.Details.{CallSite, InlinedAttributes, inlined_attributes_of, no_inlined_attributes, or_with_inlined_attribute, with_call, with_inlined_attribute}
-use Rattle.addr2line_lines.specs.FoundDetails.{FoundInlined, IsReadIf, IsTakenIn, entry_found_at, inlined_attributes_after, is_call, is_inlined_kind, is_listed, is_range_name, is_wanted, kind_of, kinds_such, with_entry_found, with_inlined_found, with_read_name}
+use Rattle.addr2line_lines.specs.FoundDetails.{FoundInlined, IsReadIf, IsTakenIn, entry_found_at, inlined_attributes_after, is_call, is_inlined_kind, is_listed, is_range_name, is_wanted, kind_of, kinds_such, read_lists_a_range, with_entry_found, with_inlined_found, with_read_name}
 use Rattle.addr2line_lines.specs.FoundNames.{is_name_attribute}
 use Rattle.addr2line_lines.specs.Names.{is_linkage_name, is_origin, or_with_name, with_name}
-use Rattle.addr2line_lines.specs.RangeAttributes.{with_range_attribute}
+use Rattle.addr2line_lines.specs.RangeAttributes.{gives_a_range, with_range_attribute}
 use Rattle.addr2line_lines.specs.References.{Scope}
 
 -- none of two tests
@@ -271,17 +271,31 @@ module _ (scope : Scope) (u : UnitRecord) (around : List Kind) (offset : ℕ) (a
           ∙ ap (λ (s : Section). ◌>>=◌ {B = FoundInlined × Section} (with_inlined_found scope.file.sections u offset (kinds_such is_inlined_kind around) found x) (λ more. Ok (more, s))) (let same : y.1 ≡ rest = cc in same)
       by_read (Err g) k l = absurd cc
 
-  pub entry-other : (rest : Section) (r : Result (Unit {0}) Error) → is_listed (kind_of a) around ≡ false → Exactly (λ _. rest) r (rest_of (attributes_at u.header.encoding a.attributes left))
-      → ExactlyUnlessOom (λ _. (found, rest)) r (entry_found_at scope u around offset a left found)
-  entry-other rest r h k = by_answer r k
+  pub entry-other : (may : Bool) (rest : Section) (r : Result (Unit {0}) Error) → is_listed (kind_of a) around ≡ false → Exactly (λ _. rest) r (rest_of (attributes_at u.header.encoding a.attributes left))
+      → ExactlyUnlessOomIf may (λ _. (found, rest)) r (entry_found_at scope u around offset a left found)
+  entry-other may rest r h k = by_answer r k
     where
       other_is : (read : Reading (List NamedValue)) → entry_read read ≡ (rest_of read >>= λ s. Ok (found, s))
       other_is (Err f) = refl
       other_is (Ok x) = ap (λ b. ◌>>=◌ {B = FoundInlined × Section} (cond b (inlined_attributes_of scope u x.0 >>= λ y. with_inlined_found scope.file.sections u offset (kinds_such is_inlined_kind around) found y) (Ok found)) (λ more. Ok (more, x.1))) h
 
-      by_answer : (r : Result (Unit {0}) Error) → Exactly (λ _. rest) r (rest_of (attributes_at u.header.encoding a.attributes left)) → ExactlyUnlessOom (λ _. (found, rest)) r (entry_found_at scope u around offset a left found)
+      by_answer : (r : Result (Unit {0}) Error) → Exactly (λ _. rest) r (rest_of (attributes_at u.header.encoding a.attributes left)) → ExactlyUnlessOomIf may (λ _. (found, rest)) r (entry_found_at scope u around offset a left found)
       by_answer (Ok z) k = other_is (attributes_at u.header.encoding a.attributes left) ∙ ap (λ v. ◌>>=◌ {B = FoundInlined × Section} v (λ s. Ok (found, s))) k
       by_answer (Err f) k = λ _. other_is (attributes_at u.header.encoding a.attributes left) ∙ ap (λ v. ◌>>=◌ {B = FoundInlined × Section} v (λ s. Ok (found, s))) k
+
+  -- where the attributes of a listed entry give a range, it lists one
+  pub entry-takes : (d : Sections) (v : UnitRecord) (x : InlinedAttributes) → d ≡ scope.file.sections → v ≡ u → is_listed (kind_of a) around ≡ true → inlined_attributes_after scope u (Ok no_inlined_attributes) (attributes_at u.header.encoding a.attributes left) ≡ Ok x
+      → gives_a_range d v x.ranges ≡ true → read_lists_a_range scope u around a (attributes_at u.header.encoding a.attributes left) ≡ true
+  entry-takes d v x p q h k g = by_read (attributes_at u.header.encoding a.attributes left) k
+    where
+      given : Result InlinedAttributes Error → Bool
+      given r = elim r [ Ok y ↦ gives_a_range scope.file.sections u y.ranges | Err f ↦ false ]
+
+      by_read : (read : Reading (List NamedValue)) → inlined_attributes_after scope u (Ok no_inlined_attributes) read ≡ Ok x → read_lists_a_range scope u around a read ≡ true
+      by_read (Ok y) k =
+          ap (λ b. b && given (inlined_attributes_of scope u y.0)) h ∙ ap given k
+          ∙ ap (λ (e : Sections). gives_a_range e u x.ranges) (sym p) ∙ ap (λ (w : UnitRecord). gives_a_range d w x.ranges) (sym q) ∙ g
+      by_read (Err f) k = absurd cc
 
   -- what is left after an entry is what its attributes leave
   pub entry-rest : (more : FoundInlined) (rest : Section) → entry_found_at scope u around offset a left found ≡ Ok (more, rest) → rest_of (attributes_at u.header.encoding a.attributes left) ≡ Ok rest

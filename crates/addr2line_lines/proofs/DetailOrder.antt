@@ -61,7 +61,7 @@ counted such kind h (a ∷ up) = one (such a) (h a) (counted such kind h up)
     one true e k = grind (arith, common_steps, e, k)
     one false e k = grind (arith, common_steps, e, k)
 
-listed_is : (a : Abbrev) (x : Item) (up : List Abbrev) → is_listed (kind_of a) (map kind_of up) ≡ (is_inlined a && is_in_function (record { item = x; around = up }))
+pub listed_is : (a : Abbrev) (x : Item) (up : List Abbrev) → is_listed (kind_of a) (map kind_of up) ≡ (is_inlined a && is_in_function (record { item = x; around = up }))
 listed_is a x up =
     ap (λ b. b && (count_by is_subprogram_kind (map kind_of up) == 0)) (inlined_at a.tag.0)
     ∙ ap (λ n. is_inlined a && (n == 0)) (counted is_subprogram is_subprogram_kind (λ b. subprogram_at b.tag.0) up)
@@ -75,11 +75,11 @@ abbrev AgreesAround : ℕ → ℕ → List Abbrev → Result (List InlinedRange)
 AgreesAround before n up w (Ok more) = (w ≡ Ok (ranges_from n more.found)) × AreFrom before n more.found × (more.around ≡ map kind_of up)
 AgreesAround before n up w (Err e) = w ≡ Err e
 
-closed_is : (up : List Abbrev) (x : Item) → x.entry ≡ None → closed_once (map kind_of up) ≡ map kind_of (open_after up x)
+pub closed_is : (up : List Abbrev) (x : Item) → x.entry ≡ None → closed_once (map kind_of up) ≡ map kind_of (open_after up x)
 closed_is [] x h = ap (λ o. map kind_of (elim o [ None ↦ [] | Some e ↦ cond e.abbreviation.has_children (e.abbreviation ∷ []) [] ])) (sym h)
 closed_is (a ∷ up) x h = ap (λ o. map kind_of (elim o [ None ↦ up | Some e ↦ cond e.abbreviation.has_children (e.abbreviation ∷ a ∷ up) (a ∷ up) ])) (sym h)
 
-opened_is : (up : List Abbrev) (a : Abbrev) → opened (kind_of a) a.has_children (map kind_of up) ≡ map kind_of (cond a.has_children (a ∷ up) up)
+pub opened_is : (up : List Abbrev) (a : Abbrev) → opened (kind_of a) a.has_children (map kind_of up) ≡ map kind_of (cond a.has_children (a ∷ up) up)
 opened_is up a = by_children a.has_children
   where
     by_children : (b : Bool) → cond b (kind_of a ∷ map kind_of up) (map kind_of up) ≡ map kind_of (cond b (a ∷ up) up)

@@ -4,7 +4,7 @@ use Rattle.gimli_read.specs.declared.error.Error.{Error}
 use Rattle.gimli_read.specs.declared.endian.Encoding.{Encoding}
 use Rattle.gimli_read.specs.Abbreviations.{Abbrev}
 use Rattle.gimli_read.specs.Section.{Section}
-use Rattle.gimli_read.specs.Reading.{Reading, ◌>>=◌, Exactly, ExactlyUnlessOom, ExactlyUnlessOomIf}
+use Rattle.gimli_read.specs.Reading.{Reading, ◌>>=◌, Exactly, ExactlyUnlessOomIf}
 use Rattle.gimli_read.specs.Form.{NamedValue, rest_of}
 use Rattle.gimli_read.specs.Run.{Run, cons, fold_of, fold_run}
 use Rattle.gimli_read.proofs.SkipLemmas.{attributes_leave}
@@ -27,12 +27,7 @@ one_read f (y ∷ read) x rest = ap (λ ys. f y ∷ ys) (one_read f read x rest)
 pub one_added : {X Y : Type 0} (f : X → Y) (old : List Y) (read : List X) (x : X) → (old ++ map f read) ++ f x ∷ [] ≡ old ++ map f (read ++ x ∷ [])
 one_added f old read x = append_assoc old (map f read) (f x ∷ []) ∙ ap (λ ys. old ++ ys) (one_read f read x [] ∙ append-nil (map f (read ++ x ∷ [])))
 
--- an answer, and a place beside it
-pub beside : {X Y Z : Type 0} (r : Result Z Error) (x : X) (y : Y) (given : Result X Error) (whole : Result (X × Y) Error) → whole ≡ (given >>= λ v. Ok (v, y)) → ExactlyUnlessOom (λ _. x) r given → ExactlyUnlessOom (λ _. (x, y)) r whole
-beside (Ok z) x y given whole h k = h ∙ ap (λ g. g >>= λ v. Ok (v, y)) k
-beside (Err e) x y given whole h k = λ ne. h ∙ ap (λ g. g >>= λ v. Ok (v, y)) (k ne)
-
--- the same; memory may be taken for the part only if it may for the whole
+-- an answer, and a place beside it; memory may be taken for the part only if it may for the whole
 pub beside_if : {X Y Z : Type 0} (part may : Bool) (r : Result Z Error) (x : X) (y : Y) (given : Result X Error) (whole : Result (X × Y) Error) → (part ≡ true → may ≡ true) → whole ≡ (given >>= λ v. Ok (v, y)) → ExactlyUnlessOomIf part (λ _. x) r given → ExactlyUnlessOomIf may (λ _. (x, y)) r whole
 beside_if part may (Ok z) x y given whole m h k = h ∙ ap (λ g. g >>= λ v. Ok (v, y)) k
 beside_if part may (Err e) x y given whole m h k = λ ne. h ∙ ap (λ g. g >>= λ v. Ok (v, y)) (k (λ p. ne (m p)))

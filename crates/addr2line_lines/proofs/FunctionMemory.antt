@@ -80,7 +80,7 @@ module _ (d : Sections) (u : UnitRecord) (unit : EntryUnit) where
 
 -- ranges that are pushed
 module _ (d : Sections) (u : UnitRecord) where
-  listed_well : (a : RangeAttributes) (x : Range) (ranges : List Range) → attribute_ranges d u a ≡ Ok (x ∷ ranges) → gives_a_range d u a ≡ true
+  pub listed_well : (a : RangeAttributes) (x : Range) (ranges : List Range) → attribute_ranges d u a ≡ Ok (x ∷ ranges) → gives_a_range d u a ≡ true
   listed_well a x ranges e = by_list (range_list_of d u a) e
     where
       by_list : (r : Result (List (Result Range Error)) Error) → all_ranges r ≡ Ok (x ∷ ranges) → begins_well r ≡ true

@@ -45,4 +45,4 @@ pub mod NestingLemmas
 pub mod DetailRanges
 pub mod DetailOrder
 pub mod DetailPlaces
-pub mod NamedDetails
+pub mod DetailMemory

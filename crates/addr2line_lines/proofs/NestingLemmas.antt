@@ -8,7 +8,7 @@ use Rattle.gimli_read.specs.declared.error.Error.{Error}
 use Rattle.gimli_read.specs.declared.error.Error.TheVariants.{OutOfMemory, UnexpectedEof}
 use Rattle.gimli_read.specs.Abbreviations.{Abbrev, with_code}
 use Rattle.gimli_read.specs.Form.{NamedValue, rest_of}
-use Rattle.gimli_read.specs.Reading.{Reading, ◌>>=◌, ExactlyUnlessOom}
+use Rattle.gimli_read.specs.Reading.{Reading, ◌>>=◌, ExactlyUnlessOomIf}
 use Rattle.gimli_read.specs.Run.{Run, cons, fold_of, fold_run}
 use Rattle.gimli_read.specs.Section.{Section}
 use Rattle.gimli.specs.Entries.{entries_from}
@@ -41,7 +41,7 @@ no_bytes [] h = refl
 no_bytes (x ∷ xs) h = let l = eqb-true (length (x ∷ xs)) 0 h in absurd (omega arith)
 
 -- a code takes a byte
-some_bytes : (table : List Abbrev) (c t : EntryCursor) (o : Option Abbrev) → entry_abbreviation_at table c ≡ Ok (o, t) → (length c.left.bytes == 0) ≡ false
+pub some_bytes : (table : List Abbrev) (c t : EntryCursor) (o : Option Abbrev) → entry_abbreviation_at table c ≡ Ok (o, t) → (length c.left.bytes == 0) ≡ false
 some_bytes table c t o h = let l = abbreviation_takes table c t o h in ne_eqb (length c.left.bytes) 0 (λ e. absurd (omega arith))
 
 no_code : (table : List Abbrev) (c : EntryCursor) → c.left.bytes ≡ [] → entry_abbreviation_at table c ≡ Err UnexpectedEof
@@ -49,14 +49,14 @@ unfolding entry_abbreviation_at
 no_code table c h =
     ap (λ (r : Reading ℕ). ◌>>=◌ {B = Option Abbrev × EntryCursor} r (λ code. cond (code.0 == 0) (Ok (None, record { left = code.1; depth = depth_after_closing c.depth })) (opening_entry (with_code code.0 table) (record { left = code.1; depth = c.depth })))) (empty_code c.left h)
 
--- an answer of a call that takes memory, beside what it left
-pub entered : {X Y : Type 0} (r : Result (Unit {0}) Error) (f : X → Y) (x y : X) (whole : Result Y Error) → whole ≡ Ok (f y) → OnOk r (x ≡ y) → OnErr r (r ≡ Err OutOfMemory) → ExactlyUnlessOom (λ _. f x) r whole
-entered (Ok z) f x y whole h k m = h ∙ ap (λ v. Ok (f v)) (sym k)
-entered (Err e) f x y whole h k m = λ ne. absurd (ne (let same : ◌≡◌ {A = Result (Unit {0}) Error} (Err e) (Err OutOfMemory) = m in cc))
+-- an answer of a call that takes memory only where an entry opens, beside what it left
+pub entered : {X Y : Type 0} (may opens : Bool) (r : Result (Unit {0}) Error) (f : X → Y) (x y : X) (whole : Result Y Error) → (opens ≡ true → may ≡ true) → whole ≡ Ok (f y) → OnOk r (x ≡ y) → OnErr r ((r ≡ Err OutOfMemory) × (opens ≡ true)) → ExactlyUnlessOomIf may (λ _. f x) r whole
+entered may opens (Ok z) f x y whole t h k m = h ∙ ap (λ v. Ok (f v)) (sym k)
+entered may opens (Err e) f x y whole t h k m = λ ne. absurd (ne (t m.1) (let same : ◌≡◌ {A = Result (Unit {0}) Error} (Err e) (Err OutOfMemory) = m.0 in cc))
 
 -- the items inside a function, one at a time
 module _ (scope : Scope) (u : UnitRecord) (unit : EntryUnit) where
-  abbrev item_read : FoundAround → Result (Option Item × EntryCursor) Error → Result (FoundAround × EntryCursor) Error
+  abbrev pub item_read : FoundAround → Result (Option Item × EntryCursor) Error → Result (FoundAround × EntryCursor) Error
   item_read state r = r >>= λ x. elim x.0 [ None ↦ Err UnexpectedEof | Some item ↦ with_item_found scope u state item >>= λ more. Ok (more, x.1) ]
 
   pub coded : (c : EntryCursor) → (length c.left.bytes == 0) ≡ false → next_item_at unit c ≡ (entry_abbreviation_at unit.abbreviations c >>= λ x. item_from unit c x)
@@ -129,7 +129,7 @@ module _ (scope : Scope) (u : UnitRecord) (unit : EntryUnit) where
   no_more : (now : ℤ) (end : Result EntryCursor Error) → int_lt (pos 0) now ≡ true → items_inside (pos 0) now [] end ≡ record { items = []; end = end >>= λ z. Err UnexpectedEof }
   no_more now end h = ap (λ b. cond {A = Run Item (Unit {0})} b (record { items = []; end = end >>= λ z. Err UnexpectedEof }) (record { items = []; end = Ok tt })) h
 
-  one_inside : (now : ℤ) (x : Item) (r : Run Item EntryCursor) → int_lt (pos 0) now ≡ true → items_inside (pos 0) now (x ∷ r.items) r.end ≡ cons x (items_inside (pos 0) (depth_after x) r.items r.end)
+  pub one_inside : (now : ℤ) (x : Item) (r : Run Item EntryCursor) → int_lt (pos 0) now ≡ true → items_inside (pos 0) now (x ∷ r.items) r.end ≡ cons x (items_inside (pos 0) (depth_after x) r.items r.end)
   one_inside now x r h = ap (λ b. cond {A = Run Item (Unit {0})} b (cons x (items_inside (pos 0) (depth_after x) r.items r.end)) (record { items = []; end = Ok tt })) h
 
   pub inside-end : (c : EntryCursor) (state : FoundAround) → int_lt (pos 0) c.depth ≡ false → inside_found scope u unit c state ≡ Ok state.found
@@ -152,7 +152,7 @@ module _ (scope : Scope) (u : UnitRecord) (unit : EntryUnit) where
       ∙ folded_with state x (items_inside (pos 0) (depth_after x) (items_from unit t).items (items_from unit t).end)
       ∙ ap (λ z. with_item_found scope u state x >>= λ more. inside_of more z (items_from unit t)) (sym next.after)
 
-  one_found : (r : Result FoundAround Error) (more : FoundAround) (s t : EntryCursor) → ◌>>=◌ {B = FoundAround × EntryCursor} r (λ v. Ok (v, t)) ≡ Ok (more, s) → (r ≡ Ok more) × (t ≡ s)
+  pub one_found : (r : Result FoundAround Error) (more : FoundAround) (s t : EntryCursor) → ◌>>=◌ {B = FoundAround × EntryCursor} r (λ v. Ok (v, t)) ≡ Ok (more, s) → (r ≡ Ok more) × (t ≡ s)
   one_found (Ok v) more s t e = let p : ◌≡◌ {A = FoundAround × EntryCursor} (v, t) (more, s) = cc in (ap Ok (ap (λ x. x.0) p), ap (λ x. x.1) p)
   one_found (Err f) more s t e = absurd cc
 

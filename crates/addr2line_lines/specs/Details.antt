@@ -4,7 +4,7 @@
 -- Own: of call_file a constant counts that is above 0, or any in version 5; call_line and
 -- call_column keep their low 32 bits, and are 0 where they are no constant. The last of each
 -- counts.
-use Rattle.std.specs.Prelude.{ℕ, ◌+◌, ◌==◌, ◌||◌, ◌&&◌, ◌%◌, ◌^◌, nat_lt, zero, suc, Bool, List, [], ◌∷◌, ◌++◌, filter, fold, length, map, Option, Some, None, option_and_then, unwrap_or, Result, Ok, Err, is_ok, if◌then◌else◌}
+use Rattle.std.specs.Prelude.{ℕ, ◌+◌, ◌==◌, ◌||◌, ◌&&◌, ◌%◌, ◌^◌, nat_lt, zero, suc, Bool, false, List, [], ◌∷◌, ◌++◌, filter, fold, length, map, Option, Some, None, option_and_then, unwrap_or, Result, Ok, Err, is_ok, if◌then◌else◌}
 use Rattle.std.specs.Option.{option_or}
 use Rattle.gimli_read.specs.declared.constants.TheConstants.DwAt.{DW_AT_call_column, DW_AT_call_file, DW_AT_call_line}
 use Rattle.gimli_read.specs.declared.constants.TheConstants.DwTag.{DW_TAG_inlined_subroutine}
@@ -24,7 +24,7 @@ use Rattle.addr2line_lines.specs.declared.function.RangeAttributes.{RangeAttribu
 use Rattle.addr2line_lines.specs.Functions.{is_subprogram}
 use Rattle.addr2line_lines.specs.Names.{name_of, with_name}
 use Rattle.addr2line_lines.specs.Pick.{pick}
-use Rattle.addr2line_lines.specs.RangeAttributes.{attribute_ranges, no_range_attributes, with_range_attribute}
+use Rattle.addr2line_lines.specs.RangeAttributes.{attribute_ranges, gives_a_range, no_range_attributes, with_range_attribute}
 use Rattle.addr2line_lines.specs.References.{Scope}
 
 -- where a function was called that is inlined: the index of the file, the line and the column
@@ -192,18 +192,48 @@ detail_at scope u offset = do
   inlined ← inlined_in scope u (record left { cursor = next.1 }) function.0
   Ok (record { name = name; inlined = inlined })
 
--- the name of the function whose entry begins at an offset of its unit, or the first fault up to
--- the end of that entry
-unfoldable pub function_name_at : Scope → UnitRecord → ℕ → Result (Option Section) Error
-function_name_at scope u offset = do
+-- the items inside the function whose entry begins at an offset of its unit, with the entries that
+-- are open around each, or the first fault of that entry and its name
+unfoldable pub placed_inside : Scope → UnitRecord → ℕ → Result (List PlacedItem) Error
+placed_inside scope u offset = do
   left ← entries_from u (Some offset)
   next ← next_item_at left.unit left.cursor
   function ← entry_of offset next.0
-  name_of scope u function.1.attributes
+  name ← name_of scope u function.1.attributes
+  Ok (placed [] (subtree_of function.0 (items_from left.unit next.1)).items)
 
--- whether there is no such fault
-abbrev pub can_be_named : Scope → UnitRecord → ℕ → Bool
-can_be_named scope u offset = is_ok (function_name_at scope u offset)
+-- whether the attributes of an inlined entry give a range before any fault
+abbrev pub inlined_gives_a_range : Scope → UnitRecord → Entry → Bool
+inlined_gives_a_range scope u e = elim (inlined_attributes_of scope u e.attributes) [
+  | Ok a ↦ gives_a_range scope.file.sections u a.ranges
+  | Err f ↦ false
+]
+
+-- whether an item is an inlined entry in no nested subprogram that gives a range before any fault
+abbrev pub lists_a_range : Scope → UnitRecord → PlacedItem → Bool
+lists_a_range scope u x = elim x.item.entry [
+  | None ↦ false
+  | Some e ↦ (is_inlined e.abbreviation && is_in_function x) && inlined_gives_a_range scope u e
+]
+
+-- whether an item is an entry with children
+abbrev pub item_has_children : PlacedItem → Bool
+item_has_children x = elim x.item.entry [ None ↦ false | Some e ↦ e.abbreviation.has_children ]
+
+-- whether memory is taken for items: an inlined entry gives a range before any fault, or an entry
+-- has children, with no fault up to its end
+abbrev pub items_take_memory : Scope → UnitRecord → List PlacedItem → Bool
+items_take_memory scope u [] = false
+items_take_memory scope u (x ∷ items) = lists_a_range scope u x
+    || is_ok (with_inlined scope u [] x)
+    && (item_has_children x || items_take_memory scope u items)
+
+-- whether memory is taken for the details of a function: for its name where it has details, and for
+-- the items inside it
+abbrev pub detail_takes_memory : Scope → UnitRecord → ℕ → Bool
+detail_takes_memory scope u offset = is_ok (detail_at scope u offset)
+    || elim (placed_inside scope u offset)
+    [ Ok items ↦ items_take_memory scope u items | Err e ↦ false ]
 
 -- the ranges of a depth
 abbrev pub of_depth : ℕ → List InlinedRange → List InlinedRange

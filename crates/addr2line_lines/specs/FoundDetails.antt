@@ -1,5 +1,5 @@
 -- The details of functions as they are found, as the private functions see them.
-use Rattle.std.specs.Prelude.{◌≡◌, ◌≢◌, ℕ, ◌<◌, ◌==◌, ◌||◌, ◌&&◌, Bool, true, false, List, [], ◌∷◌, ◌++◌, count_by, drop, fold, map, length, slice_index_or, take, Option, Some, None, option_map, Result, Ok, Err, pos, if◌then◌else◌}
+use Rattle.std.specs.Prelude.{◌≡◌, ◌≢◌, ℕ, ◌<◌, ◌==◌, ◌||◌, ◌&&◌, Bool, true, false, List, [], ◌∷◌, ◌++◌, count_by, drop, fold, map, length, slice_index_or, take, Option, Some, None, option_map, Result, Ok, Err, is_ok, pos, if◌then◌else◌}
 use Rattle.std.specs.List.{All}
 use Rattle.gimli_read.specs.declared.constants.DwAt.{DwAt}
 use Rattle.gimli_read.specs.declared.constants.TheConstants.DwAt.{DW_AT_call_column, DW_AT_call_file, DW_AT_call_line, DW_AT_high_pc, DW_AT_low_pc, DW_AT_ranges}
@@ -25,7 +25,7 @@ use Rattle.addr2line_lines.specs.declared.inlined.CallSite as declared_call
 use Rattle.addr2line_lines.specs.declared.inlined.InlinedAttributes as declared_attributes
 use Rattle.addr2line_lines.specs.declared.nesting.Kind.{Kind}
 use Rattle.addr2line_lines.specs.declared.nesting.Kind.TheVariants.{Subprogram, Inlined, Other}
-use Rattle.addr2line_lines.specs.Details.{CallSite, InlinedAttributes, InlinedEntry, InlinedRange, inlined_attributes_of, inlined_entry, is_inlined, no_call, or_with_inlined_attribute}
+use Rattle.addr2line_lines.specs.Details.{CallSite, InlinedAttributes, InlinedEntry, InlinedRange, inlined_attributes_of, inlined_entry, inlined_gives_a_range, is_inlined, no_call, or_with_inlined_attribute}
 use Rattle.addr2line_lines.specs.FoundNames.{is_name_attribute}
 use Rattle.addr2line_lines.specs.Functions.{is_subprogram}
 use Rattle.addr2line_lines.specs.InlinedOrder.{inlined_range_of}
@@ -209,6 +209,18 @@ entry_found_at scope u around offset a left found =
     with_entry_found scope u around offset found (record { abbreviation = a; attributes = x.0 })
     >>= λ more. Ok (more, x.1)
 
+-- whether an entry is an inlined one in no nested subprogram that gives a range before any fault
+abbrev pub entry_lists_a_range : Scope → UnitRecord → List Kind → Entry → Bool
+entry_lists_a_range scope u around e =
+    is_listed (kind_of e.abbreviation) around && inlined_gives_a_range scope u e
+
+-- the same, of an entry whose attributes are read
+abbrev pub read_lists_a_range
+    : Scope → UnitRecord → List Kind → Abbrev → Reading (List NamedValue) → Bool
+read_lists_a_range scope u around a (Ok x) =
+    entry_lists_a_range scope u around (record { abbreviation = a; attributes = x.0 })
+read_lists_a_range scope u around a (Err e) = false
+
 -- what was found, and the kinds of the open entries
 pub record FoundAround : Type 0 where
   pub found : FoundInlined
@@ -246,16 +258,40 @@ inside_found scope u unit cursor state =
     let inside = items_inside (pos 0) cursor.depth items.items items.end in
     fold_of (with_item_found scope u) state inside >>= λ more. Ok more.0.found
 
+-- whether memory is taken for an item: an inlined entry gives a range before any fault, or an entry
+-- without a fault has children
+abbrev pub item_takes_memory : Scope → UnitRecord → FoundAround → Item → Bool
+item_takes_memory scope u state x = elim x.entry [
+  | None ↦ false
+  | Some e ↦ entry_lists_a_range scope u state.around e
+      || is_ok (with_entry_found scope u state.around x.offset state.found e)
+      && e.abbreviation.has_children
+]
+
+-- the same, of an item that is read
+abbrev pub next_takes_memory
+    : Scope → UnitRecord → FoundAround → Result (Option Item × EntryCursor) Error → Bool
+next_takes_memory scope u state (Ok (Some x, cursor)) = item_takes_memory scope u state x
+next_takes_memory scope u state _ = false
+
+-- whether memory is taken for one of items, with no fault before it
+abbrev pub items_left_take_memory : Scope → UnitRecord → FoundAround → List Item → Bool
+items_left_take_memory scope u state [] = false
+items_left_take_memory scope u state (x ∷ items) = item_takes_memory scope u state x
+    || elim (with_item_found scope u state x)
+    [ Ok more ↦ items_left_take_memory scope u more items | Err e ↦ false ]
+
+-- whether memory is taken for the items that are left of a function
+abbrev pub inside_takes_memory : Scope → UnitRecord → EntryUnit → EntryCursor → FoundAround → Bool
+inside_takes_memory scope u unit cursor state =
+    let items = items_from unit cursor in
+    items_left_take_memory scope u state
+    (items_inside (pos 0) cursor.depth items.items items.end).items
+
 -- the abbreviation of a function's entry, which a closing entry hasn't
 abbrev pub abbreviation_of : ℕ → Option Abbrev → Result Abbrev Error
 abbreviation_of offset None = Err (NoEntryAtGivenOffset offset)
 abbreviation_of offset (Some a) = Ok a
-
--- the name of a function whose attributes follow
-abbrev pub name_found_from : Scope → UnitRecord → EntryCursor → Abbrev
-    → Result (Option Section) Error
-name_found_from scope u cursor a =
-    name_after scope u (Ok None) (attributes_at u.header.encoding a.attributes cursor.left)
 
 -- the name of a function whose attributes follow, and what was found after it
 abbrev pub function_found_at : Scope → UnitRecord → EntryUnit → EntryCursor → FoundInlined → Abbrev
@@ -266,6 +302,15 @@ function_found_at scope u unit cursor found a =
     inside_found scope u unit (record { left = rest; depth = cursor.depth })
     (record { found = found; around = [] }) >>= λ more. Ok (name, more)
 
+-- whether memory is taken inside a function whose attributes follow, or the first fault of these
+abbrev pub function_takes_at
+    : Scope → UnitRecord → EntryUnit → EntryCursor → FoundInlined → Abbrev → Result Bool Error
+function_takes_at scope u unit cursor found a =
+    name_after scope u (Ok None) (attributes_at u.header.encoding a.attributes cursor.left)
+    >>= λ name. rest_of (attributes_at u.header.encoding a.attributes cursor.left) >>= λ rest.
+    Ok (inside_takes_memory scope u unit (record { left = rest; depth = cursor.depth })
+    (record { found = found; around = [] }))
+
 -- the name of the function whose entry begins at an offset, and what was found after it
 unfoldable pub detail_found_at : Scope → UnitRecord → ℕ → FoundInlined
     → Result (Option Section × FoundInlined) Error
@@ -275,13 +320,19 @@ detail_found_at scope u offset found = do
   a ← abbreviation_of offset code.0
   function_found_at scope u left.unit code.1 found a
 
--- the name alone
-unfoldable pub name_found_at : Scope → UnitRecord → ℕ → Result (Option Section) Error
-name_found_at scope u offset = do
+-- whether memory is taken inside the function whose entry begins at an offset, or the first fault
+-- of that entry and its name
+unfoldable pub detail_takes_at : Scope → UnitRecord → ℕ → FoundInlined → Result Bool Error
+detail_takes_at scope u offset found = do
   left ← entries_from u (Some offset)
   code ← entry_abbreviation_at left.unit.abbreviations left.cursor
   a ← abbreviation_of offset code.0
-  name_found_from scope u code.1 a
+  function_takes_at scope u left.unit code.1 found a
+
+-- whether it is so, where there is no such fault
+abbrev pub is_taken : Result Bool Error → Bool
+is_taken (Ok takes) = takes
+is_taken (Err e) = false
 
 -- no inlined entry
 abbrev pub no_inlined : InlinedEntry

@@ -8,7 +8,7 @@ use Rattle.gimli_read.specs.declared.error.Error.TheVariants.{OutOfMemory}
 use Rattle.gimli_read.specs.Reading.{◌>>=◌}
 use Rattle.gimli_read.specs.Section.{Section}
 use Rattle.gimli.specs.Unit.{UnitRecord}
-use Rattle.addr2line_lines.specs.Details.{Detail, InlinedEntry, InlinedRange, can_be_named, detail_at}
+use Rattle.addr2line_lines.specs.Details.{Detail, InlinedEntry, InlinedRange, detail_at, detail_takes_memory}
 use Rattle.addr2line_lines.specs.FoundDetails.{IsGrown}
 use Rattle.addr2line_lines.specs.Functions.{FunctionRange, entries_of}
 use Rattle.addr2line_lines.specs.References.{Scope}
@@ -88,12 +88,12 @@ IsReadOnce scope u n f (Some detail) old result new = (result ≡ detail_fault d
 IsReadOnce scope u n f None old result new =
     IsCachedThen n f (detail_at scope u f.offset) old result new
 
--- whether memory may be taken for the detail of a function: nothing is cached of the function, and its own entry has no fault,
--- or readers share their bytes
+-- whether memory may be taken for the detail of a function: nothing is cached of the function, and
+-- readers share their bytes, or memory is taken for what it has
 abbrev pub takes_memory : Bool → Scope → UnitRecord → Option CachedFunction → Bool
 takes_memory shares scope u None = false
 takes_memory shares scope u (Some f) =
-    not (is_some f.detail) && (shares || can_be_named scope u f.offset)
+    not (is_some f.detail) && (shares || detail_takes_memory scope u f.offset)
 
 -- whether the detail of a function can be read, by what is cached of it or by its entries
 abbrev pub read_fault : Scope → UnitRecord → Option CachedFunction → Result (Unit {0}) Error

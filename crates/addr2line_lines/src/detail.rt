@@ -1,10 +1,11 @@
 //! The details of functions.
 
-ghost use Rattle.std.specs.Prelude.{◌≡◌, ◌<◌, ◌||◌, [], None, Ok, OnOk, int_lt, is_ok, length, option_map, pos};
+ghost use Rattle.std.specs.Prelude.{◌≡◌, ◌<◌, ◌||◌, [], None, Ok, OnOk, int_lt, length, option_map, pos};
 ghost use Rattle.gimli_read.specs.Form.{rest_of};
-ghost use Rattle.gimli_read.specs.Reading.{ExactlyUnlessOom, ExactlyUnlessOomIf};
+ghost use Rattle.gimli_read.specs.Reading.{ExactlyUnlessOomIf};
 ghost use Rattle.gimli.specs.Entry.{attributes_at};
-ghost use Rattle.addr2line_lines.specs.FoundDetails.{IsFoundMore, IsTakenIn, detail_found_at, entry_found_at, function_found_at, inside_found, item_found_at, name_after, name_found_at, name_found_from, seen_around, seen_lists, with_read_name};
+ghost use Rattle.gimli.specs.Items.{next_item_at};
+ghost use Rattle.addr2line_lines.specs.FoundDetails.{IsFoundMore, IsTakenIn, detail_found_at, detail_takes_at, entry_found_at, function_found_at, function_takes_at, inside_found, inside_takes_memory, is_taken, item_found_at, name_after, next_takes_memory, read_lists_a_range, seen_around, seen_lists, with_read_name};
 ghost use Rattle.addr2line_lines.specs.References.{IsScope};
 ghost use Rattle.addr2line_lines.specs.SeenScope.{seen_scope};
 
@@ -77,7 +78,9 @@ fn read_entry<R: Reader>(
 ) -> Result<(), Error>
     requires in_order { IsScope (seen_scope scope) }
     requires encoding { entries.old.unit.encoding ≡ unit.now.header.encoding }
-    ensures gives { ExactlyUnlessOom
+    ensures gives { ExactlyUnlessOomIf (R.shares || read_lists_a_range (seen_scope scope.entry)
+        unit.now nesting.now abbreviation.now (attributes_at unit.now.header.encoding
+        abbreviation.now.attributes entries.old.cursor.left))
         (λ _. (seen_lists R.section found.new, entries.new.cursor.left)) result
         (entry_found_at (seen_scope scope.entry) unit.now nesting.now offset.0 abbreviation.now
         entries.old.cursor.left (seen_lists R.section found.old)) }
@@ -105,7 +108,9 @@ fn read_item<R: Reader>(
 ) -> Result<(), Error>
     requires in_order { IsScope (seen_scope scope) }
     requires encoding { entries.old.unit.encoding ≡ unit.now.header.encoding }
-    ensures gives { ExactlyUnlessOom
+    ensures gives { ExactlyUnlessOomIf (R.shares || next_takes_memory (seen_scope scope.entry)
+        unit.now (seen_around R.section found.old nesting.old)
+        (next_item_at entries.old.unit entries.old.cursor))
         (λ _. (seen_around R.section found.new nesting.new, entries.new.cursor)) result
         (item_found_at (seen_scope scope.entry) unit.now entries.old.unit entries.old.cursor
         (seen_around R.section found.old nesting.old)) }
@@ -144,9 +149,10 @@ fn read_inside<R: Reader>(
 ) -> Result<(), Error>
     requires in_order { IsScope (seen_scope scope) }
     requires encoding { entries.old.unit.encoding ≡ unit.now.header.encoding }
-    ensures gives { ExactlyUnlessOom (λ _. seen_lists R.section found.new) result
-        (inside_found (seen_scope scope.entry) unit.now entries.old.unit entries.old.cursor
-        (seen_around R.section found.old [])) }
+    ensures gives { ExactlyUnlessOomIf (R.shares || inside_takes_memory (seen_scope scope.entry)
+        unit.now entries.old.unit entries.old.cursor (seen_around R.section found.old []))
+        (λ _. seen_lists R.section found.new) result (inside_found (seen_scope scope.entry)
+        unit.now entries.old.unit entries.old.cursor (seen_around R.section found.old [])) }
     ensures kept { IsFoundMore (seen_lists R.section found.old) (seen_lists R.section found.new) }
 {
     nesting.clear();
@@ -168,8 +174,9 @@ fn read_function<R: Reader>(
 ) -> Result<Option<R>, Error>
     requires in_order { IsScope (seen_scope scope) }
     requires encoding { entries.old.unit.encoding ≡ unit.now.header.encoding }
-    ensures gives { ExactlyUnlessOomIf (R.shares || is_ok (name_found_from
-        (seen_scope scope.entry) unit.now entries.old.cursor abbreviation.now))
+    ensures gives { ExactlyUnlessOomIf (R.shares || is_taken (function_takes_at
+        (seen_scope scope.entry) unit.now entries.old.unit entries.old.cursor
+        (seen_lists R.section found.old) abbreviation.now))
         (λ name. (option_map R.section name, seen_lists R.section found.new)) result
         (function_found_at (seen_scope scope.entry) unit.now entries.old.unit entries.old.cursor
         (seen_lists R.section found.old) abbreviation.now) }
@@ -181,7 +188,7 @@ fn read_function<R: Reader>(
 }
 
 // Reads the name of the function whose entry begins at an offset, and adds its inlined entries.
-#[tactic(auto, unfolding(crate::specs::FoundDetails::detail_found_at, crate::specs::FoundDetails::name_found_at), using(crate::proofs::NestingLemmas::found_same, crate::proofs::NestingLemmas::found_on))]
+#[tactic(auto, unfolding(crate::specs::FoundDetails::detail_found_at, crate::specs::FoundDetails::detail_takes_at), using(crate::proofs::NestingLemmas::found_same, crate::proofs::NestingLemmas::found_on))]
 pub(crate) fn read_detail<R: Reader>(
     scope: Scope<'_, R>,
     unit: &Unit<R>,
@@ -191,7 +198,8 @@ pub(crate) fn read_detail<R: Reader>(
 ) -> Result<Option<R>, Error>
     requires in_order { IsScope (seen_scope scope) }
     ensures gives { ExactlyUnlessOomIf
-        (R.shares || is_ok (name_found_at (seen_scope scope.entry) unit.now offset.0))
+        (R.shares || is_taken (detail_takes_at (seen_scope scope.entry) unit.now offset.0
+        (seen_lists R.section found.old)))
         (λ name. (option_map R.section name, seen_lists R.section found.new)) result
         (detail_found_at (seen_scope scope.entry) unit.now offset.0
         (seen_lists R.section found.old)) }

@@ -3,7 +3,7 @@
 ghost use Rattle.std.specs.List.{AllByRecursion};
 ghost use Rattle.std.specs.Prelude.{◌≡◌, ◌<◌, ◌||◌, [], IfOk, OnErr, Ok, length, map, nat_lt, option_map, slice_get};
 ghost use Rattle.gimli_read.specs.Reading.{ExactlyUnlessOomIf};
-ghost use Rattle.addr2line_lines.specs.Details.{can_be_named, detail_at, inlined_chain};
+ghost use Rattle.addr2line_lines.specs.Details.{detail_at, detail_takes_memory, inlined_chain};
 ghost use Rattle.addr2line_lines.specs.FoundDetails.{entry_among, none_inlined, seen_inlined};
 ghost use Rattle.addr2line_lines.specs.KeptDetails.{AreDetailsMore, IsDetailPlace, IsNextPlace, detail_of, seen_details};
 ghost use Rattle.addr2line_lines.specs.References.{IsScope};
@@ -71,7 +71,7 @@ impl<R: Reader> Details<R> {
     ) -> Result<FunctionDetail, Error>
         requires in_order { IsScope (seen_scope scope) }
         ensures gives { ExactlyUnlessOomIf
-            (R.shares || can_be_named (seen_scope scope.entry) unit.now offset.0)
+            (R.shares || detail_takes_memory (seen_scope scope.entry) unit.now offset.0)
             (detail_of (seen_details R.section self.new)) result
             (detail_at (seen_scope scope.entry) unit.now offset.0) }
         ensures kept { AreDetailsMore (seen_details R.section self.old)
@@ -107,8 +107,10 @@ impl<R: Reader> Details<R> {
     /// `NoEntryAtGivenOffset` at a closing entry, and by the first fault of an entry up to the end
     /// of the function, of a reference that a name follows, of range attributes or of a range list;
     /// `UnexpectedEof` where closing entries are missing. May fail with `OutOfMemory` instead, but
-    /// with a reader that doesn't share its bytes only where the function's own entry has no fault.
-    /// After a refusal what is kept is what was kept before. Source: DWARF 5, section 3.3.8.
+    /// with a reader that doesn't share its bytes only where nothing is refused, or the function's
+    /// own entry has no fault and, before any fault, an inlined entry gives a range or an entry
+    /// has children. After a refusal what is kept is what was kept before. Source: DWARF 5,
+    /// section 3.3.8.
     pub(crate) fn read(
         &mut self,
         scope: Scope<'_, R>,
@@ -117,7 +119,7 @@ impl<R: Reader> Details<R> {
     ) -> Result<FunctionDetail, Error>
         requires in_order { IsScope (seen_scope scope) }
         ensures gives { ExactlyUnlessOomIf
-            (R.shares || can_be_named (seen_scope scope.entry) unit.now offset.0)
+            (R.shares || detail_takes_memory (seen_scope scope.entry) unit.now offset.0)
             (detail_of (seen_details R.section self.new)) result
             (detail_at (seen_scope scope.entry) unit.now offset.0) }
         ensures kept { AreDetailsMore (seen_details R.section self.old)

@@ -282,9 +282,11 @@ impl<R: Reader> Functions<R> {
     /// `unit` is the unit of the functions, and `scope` says where its references lead. Refused as
     /// the first fault of an entry up to the end of the function, of a reference that a name
     /// follows, of range attributes or of a range list; `UnexpectedEof` where closing entries are
-    /// missing. May fail with `OutOfMemory` instead, which is not cached. Past the last function
-    /// nothing is read. Takes no memory where the detail or its fault is cached. Source: DWARF 5,
-    /// section 3.3.8.
+    /// missing. May fail with `OutOfMemory` instead, which is not cached: where a reader's parts
+    /// share its bytes, where nothing is refused, or where the function's own entry has no fault
+    /// and, before any fault, an inlined entry gives a range or an entry has children. Past the
+    /// last function nothing is read. Takes no memory where the detail or its fault is cached.
+    /// Source: DWARF 5, section 3.3.8.
     pub fn read(&mut self, scope: Scope<'_, R>, unit: &Unit<R>, place: usize) -> Result<(), Error>
         requires in_order { IsScope (seen_scope scope) }
         ensures gives { IsReadAt (seen_scope scope.entry) unit.now place self.old result self.new }

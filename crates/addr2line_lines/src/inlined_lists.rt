@@ -1,8 +1,10 @@
 //! Inlined entries and their ranges, as they are found.
 
 ghost use Rattle.std.specs.Prelude.{◌≡◌};
-ghost use Rattle.gimli_read.specs.Reading.{ExactlyUnlessOom};
+ghost use Rattle.gimli_read.specs.Reading.{ExactlyUnlessOomIf};
+ghost use Rattle.gimli.specs.Ranges.{ranges_at};
 ghost use Rattle.addr2line_lines.specs.FoundDetails.{IsFoundMore, IsGrown, first_found, none_inlined, seen_attributes, seen_lists, with_inlined_found, with_inlined_list, with_inlined_ranges};
+ghost use Rattle.addr2line_lines.specs.RangeAttributes.{begins_well, gives_a_range};
 
 use crate::function::RangeAttributes;
 use crate::inlined::{InlinedAttributes, InlinedFunction};
@@ -26,9 +28,10 @@ fn push_range_list<R: Reader>(
     function: usize,
     ranges: &mut Vec<InlinedFunctionAddress>,
 ) -> Result<(), Error>
-    ensures gives { ExactlyUnlessOom (λ _. ranges.new.items) result
-        (with_inlined_list unit.entry.dwarf.now unit.entry.unit.now offset depth function
-        ranges.old.items) }
+    ensures gives { ExactlyUnlessOomIf
+        (begins_well (ranges_at unit.entry.dwarf.now unit.entry.unit.now offset))
+        (λ _. ranges.new.items) result (with_inlined_list unit.entry.dwarf.now
+        unit.entry.unit.now offset depth function ranges.old.items) }
     ensures kept { IsGrown ranges.old.items ranges.new.items }
 {
     let mut list = unit.ranges(offset)?;
@@ -51,9 +54,10 @@ fn push_ranges<R: Reader>(
     function: usize,
     ranges: &mut Vec<InlinedFunctionAddress>,
 ) -> Result<(), Error>
-    ensures gives { ExactlyUnlessOom (λ _. ranges.new.items) result
-        (with_inlined_ranges unit.entry.dwarf.now unit.entry.unit.now attributes.now depth function
-        ranges.old.items) }
+    ensures gives { ExactlyUnlessOomIf
+        (gives_a_range unit.entry.dwarf.now unit.entry.unit.now attributes.now)
+        (λ _. ranges.new.items) result (with_inlined_ranges unit.entry.dwarf.now
+        unit.entry.unit.now attributes.now depth function ranges.old.items) }
     ensures kept { IsGrown ranges.old.items ranges.new.items }
 {
     match attributes.ranges_offset {
@@ -99,9 +103,11 @@ impl<R: Reader> InlinedLists<R> {
         depth: usize,
         attributes: InlinedAttributes<R>,
     ) -> Result<(), Error>
-        ensures gives { ExactlyUnlessOom (λ _. seen_lists R.section self.new) result
-            (with_inlined_found unit.entry.dwarf.now unit.entry.unit.now offset.0 depth
-            (seen_lists R.section self.old) (seen_attributes R.section attributes)) }
+        ensures gives { ExactlyUnlessOomIf
+            (gives_a_range unit.entry.dwarf.now unit.entry.unit.now attributes.ranges)
+            (λ _. seen_lists R.section self.new) result (with_inlined_found unit.entry.dwarf.now
+            unit.entry.unit.now offset.0 depth (seen_lists R.section self.old)
+            (seen_attributes R.section attributes)) }
         ensures kept { IsFoundMore (seen_lists R.section self.old)
             (seen_lists R.section self.new) }
     {

@@ -1,6 +1,6 @@
 //! The entries that are open around a place in a function.
 
-ghost use Rattle.std.specs.Prelude.{◌≡◌, [], Err, OnErr, OnOk};
+ghost use Rattle.std.specs.Prelude.{◌≡◌, [], Err, OnErr, OnOk, true};
 ghost use Rattle.gimli_read.specs.declared.error.Error.TheVariants.{OutOfMemory};
 ghost use Rattle.addr2line_lines.specs.FoundDetails.{closed_once, is_inlined_kind, is_listed, kind_of, kinds_such, opened};
 
@@ -89,10 +89,10 @@ impl Nesting {
         }
     }
 
-    // Opens an entry, if it has children.
+    // Opens an entry, if it has children; takes memory for no other.
     pub(crate) fn enter(&mut self, kind: Kind, has_children: bool) -> Result<(), Error>
         ensures gives { OnOk result (self.new ≡ opened kind has_children self.old) }
-        ensures memory { OnErr result (result ≡ Err OutOfMemory) }
+        ensures memory { OnErr result ((result ≡ Err OutOfMemory) × (has_children ≡ true)) }
     {
         if !has_children {
             return Ok(());

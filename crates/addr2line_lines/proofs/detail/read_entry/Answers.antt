@@ -2,8 +2,8 @@ use Rattle.std.proofs.Common.{ap, sym, ◌∙◌}
 use Rattle.std.proofs.lemmas.Result.{err_from_is_err_and}
 use Rattle.addr2line_lines.specs.FoundDetails.{is_listed, seen_attributes, seen_lists}
 use Rattle.addr2line_lines.specs.SeenScope.{seen_scope}
-use Rattle.addr2line_lines.proofs.FunctionLemmas.{beside}
-use Rattle.addr2line_lines.proofs.DetailLemmas.{entry-fault, entry-listed, entry-other, listed_before, same_added}
+use Rattle.addr2line_lines.proofs.FunctionLemmas.{beside_if, or_first, or_second}
+use Rattle.addr2line_lines.proofs.DetailLemmas.{entry-fault, entry-listed, entry-other, entry-takes, listed_before, same_added}
 use Rattle.addr2line_lines.proofs.detail.read_entry.Goals as goal
 
 pub returns-in_err-attributes-clause-gives : goal.returns-in_err-attributes-clause-gives
@@ -17,7 +17,7 @@ returns-in_err-attributes-clause-gives g c =
     let found = seen_lists g.R.Reader.section c.args.found.now in
     let listed = ap (λ k. is_listed k c.args.nesting.now) (sym c.kind_of.ensures.gives) ∙ sym c.if-lists.ensures.gives in
     let fault = rw c.attributes.ensures.gives at c.in_err-attributes.ensures.gives in
-    rw (p.1, p.2) (λ ne. entry-fault scope u around c.args.offset.0 a left found _ listed (fault (λ _. ne)))
+    rw (p.1, p.2) (λ ne. entry-fault scope u around c.args.offset.0 a left found _ listed (fault (λ shares. ne (or_first g.R.Reader.shares _ shares))))
 
 pub returns-in_ok-attributes-clause-gives : goal.returns-in_ok-attributes-clause-gives
 returns-in_ok-attributes-clause-gives g c =
@@ -31,7 +31,10 @@ returns-in_ok-attributes-clause-gives g c =
     let gives = rw c.attributes.ensures.gives at c.in_ok-attributes.ensures.gives in
     let rest = rw c.attributes.ensures.gives at c.in_ok-attributes.ensures.left in
     let same = same_added _ _ _ _ _ _ c.args.offset.0 found (seen_attributes g.R.Reader.section c.in_ok-attributes.attributes) c.new-unit.ensures.dwarf c.new-unit.ensures.unit c.depth.ensures.gives in
-    beside c.add.result _ _ _ _ (entry-listed scope u around c.args.offset.0 a left found _ _ listed gives rest ∙ ap (listed_before c.read_inlined_attributes.new.entries.cursor.left) (sym same)) c.add.ensures.gives
+    beside_if _ _ c.add.result _ _ _ _
+    (λ well. or_second g.R.Reader.shares _ (entry-takes scope u around c.args.offset.0 a left found _ _ (seen_attributes g.R.Reader.section c.in_ok-attributes.attributes) c.new-unit.ensures.dwarf c.new-unit.ensures.unit listed gives well))
+    (entry-listed scope u around c.args.offset.0 a left found _ _ listed gives rest ∙ ap (listed_before c.read_inlined_attributes.new.entries.cursor.left) (sym same))
+    c.add.ensures.gives
 
 pub returns-else-lists-clause-gives : goal.returns-else-lists-clause-gives
 returns-else-lists-clause-gives g c =
@@ -43,4 +46,4 @@ returns-else-lists-clause-gives g c =
     let found = seen_lists g.R.Reader.section c.args.found.now in
     let listed = ap (λ k. is_listed k c.args.nesting.now) (sym c.kind_of.ensures.gives) ∙ sym c.if-lists.ensures.gives in
     let rest = rw c.requires.encoding at c.skip_attributes_of.ensures.gives in
-    entry-other scope u around c.args.offset.0 a left found _ c.skip_attributes_of.result listed rest
+    entry-other scope u around c.args.offset.0 a left found _ _ c.skip_attributes_of.result listed rest

@@ -1,8 +1,10 @@
 use Rattle.std.proofs.Common.{List, sym, ap, ◌∙◌}
 use Rattle.std.proofs.lemmas.Result.{err_from_is_err_and}
 use Rattle.addr2line_lines.specs.declared.nesting.Kind.{Kind}
-use Rattle.addr2line_lines.specs.FoundDetails.{inside_found, seen_around}
+use Rattle.addr2line_lines.specs.FoundDetails.{inside_found, inside_takes_memory, seen_around}
 use Rattle.addr2line_lines.specs.SeenScope.{seen_scope}
+use Rattle.addr2line_lines.proofs.DetailMemory.{inside_more, inside_next}
+use Rattle.addr2line_lines.proofs.FunctionLemmas.{or_more}
 use Rattle.addr2line_lines.proofs.NestingLemmas.{found_on, found_same, inside-end, inside-fault, inside-step}
 use Rattle.addr2line_lines.proofs.detail.read_inside.Goals as goal
 
@@ -11,6 +13,7 @@ loop-scope-init g c =
     let scope = seen_scope c.args.scope in
     record {
       gives = ap (λ (k : List Kind). inside_found scope c.args.unit.now c.args.entries.now.unit c.args.entries.now.cursor (seen_around g.R.Reader.section c.args.found.now k)) c.clear.ensures.gives;
+      takes = λ t. ap (λ (k : List Kind). inside_takes_memory scope c.args.unit.now c.args.entries.now.unit c.args.entries.now.cursor (seen_around g.R.Reader.section c.args.found.now k)) (sym c.clear.ensures.gives) ∙ t;
       kept = found_same _;
       unit = c.requires.encoding;
     }
@@ -24,6 +27,7 @@ loop-scope-preserved g c =
     record {
       gives = ap (λ v. inside_found scope u v now.entries.cursor (seen_around g.R.Reader.section now.found now.nesting)) c.in_ok-read_item.ensures.unit
           ∙ sym (inside-step scope u _ _ _ _ _ (sym c.loop-scope-test.ensures.gives) c.in_ok-read_item.ensures.gives) ∙ i.gives;
+      takes = λ t. i.takes (inside_more scope u _ _ _ _ _ (sym c.loop-scope-test.ensures.gives) c.in_ok-read_item.ensures.gives (ap (λ v. inside_takes_memory scope u v now.entries.cursor (seen_around g.R.Reader.section now.found now.nesting)) (sym c.in_ok-read_item.ensures.unit) ∙ t));
       kept = found_on _ _ _ i.kept c.in_ok-read_item.ensures.kept;
       unit = ap (λ v. v.encoding) c.in_ok-read_item.ensures.unit ∙ i.unit;
     }
@@ -32,7 +36,7 @@ pub returns-in_err-read_item : goal.returns-in_err-read_item
 returns-in_err-read_item g c =
     let p = err_from_is_err_and c.from_residual.result c.from_residual.ensures.1 in
     let i = c.loop-scope.invariant in
-    record { gives = rw (p.1, p.2) (λ ne. sym i.gives ∙ inside-fault (seen_scope c.args.scope) c.args.unit.now _ _ _ _ (sym c.loop-scope-test.ensures.gives) (c.in_err-read_item.ensures.gives ne)); kept = found_on _ _ _ i.kept c.in_err-read_item.ensures.kept }
+    record { gives = rw (p.1, p.2) (λ ne. sym i.gives ∙ inside-fault (seen_scope c.args.scope) c.args.unit.now _ _ _ _ (sym c.loop-scope-test.ensures.gives) (c.in_err-read_item.ensures.gives (λ takes. ne (or_more g.R.Reader.shares _ _ (λ t. i.takes (inside_next (seen_scope c.args.scope) c.args.unit.now _ _ _ (sym c.loop-scope-test.ensures.gives) t)) takes)))); kept = found_on _ _ _ i.kept c.in_err-read_item.ensures.kept }
 
 pub returns : goal.returns
 returns g c =

@@ -1,5 +1,5 @@
-use Rattle.std.proofs.Common.{◌≡◌, [], length}
-use Rattle.addr2line_lines.specs.FoundDetails.{IsFoundMore, inside_found, seen_around, seen_lists}
+use Rattle.std.proofs.Common.{◌≡◌, [], length, true}
+use Rattle.addr2line_lines.specs.FoundDetails.{IsFoundMore, inside_found, inside_takes_memory, seen_around, seen_lists}
 use Rattle.addr2line_lines.specs.SeenScope.{seen_scope}
 use Rattle.addr2line_lines.proofs.detail.read_inside.Given as goal
 
@@ -9,6 +9,7 @@ invariant-loop-scope g l =
     let u = l.unit in
     record {
       gives : inside_found scope u l.entries.unit l.entries.cursor (seen_around g.R.Reader.section l.found l.nesting) ≡ inside_found scope u l.fn.entries.unit l.fn.entries.cursor (seen_around g.R.Reader.section l.fn.found []);
+      takes : inside_takes_memory scope u l.entries.unit l.entries.cursor (seen_around g.R.Reader.section l.found l.nesting) ≡ true → inside_takes_memory scope u l.fn.entries.unit l.fn.entries.cursor (seen_around g.R.Reader.section l.fn.found []) ≡ true;
       kept : IsFoundMore (seen_lists g.R.Reader.section l.fn.found) (seen_lists g.R.Reader.section l.found);
       unit : l.entries.unit.encoding ≡ u.header.encoding;
     }

@@ -7,6 +7,8 @@ use Rattle.gimli.specs.Entry.{EntryCursor}
 use Rattle.addr2line_lines.specs.declared.nesting.Kind.{Kind}
 use Rattle.addr2line_lines.specs.SeenScope.{seen_scope}
 use Rattle.addr2line_lines.specs.FoundDetails.{FoundAround, FoundInlined, entry_found_at, kind_of, opened, seen_around, seen_lists}
+use Rattle.addr2line_lines.proofs.DetailMemory.{children_take, listed_takes}
+use Rattle.addr2line_lines.proofs.FunctionLemmas.{or_more, or_second}
 use Rattle.addr2line_lines.proofs.NestingLemmas.{after_entry, code-fault, entered, entry-shorter, item-closing, item-entry, item-shorter}
 use Rattle.addr2line_lines.proofs.RangeLemmas.{on_ok}
 use Rattle.addr2line_lines.proofs.detail.read_item.Goals as goal
@@ -34,7 +36,7 @@ returns-in_err-read_entry-in-Some-clause-gives g c =
     let place : ℕ → Result (FoundInlined × Section) Fault = λ o. entry_found_at scope u around o a t.left lists in
     let finish : Result (FoundInlined × Section) Fault → Result (FoundAround × EntryCursor) Fault = λ r. r >>= λ m. Ok (after_entry scope u unit state a t m) in
     let entry = item-entry scope u unit start t state a (sym c.requires.encoding) code in
-    rw (p.1, p.2) (λ ne. entry ∙ ap finish (ap place (sym c.next_offset-offset.ensures.gives) ∙ c.in_err-read_entry-in-Some.ensures.gives ne))
+    rw (p.1, p.2) (λ ne. entry ∙ ap finish (ap place (sym c.next_offset-offset.ensures.gives) ∙ c.in_err-read_entry-in-Some.ensures.gives (λ takes. ne (or_more g.R.Reader.shares _ _ (listed_takes scope u unit start t state a (sym c.requires.encoding) code) takes))))
 
 pub returns-in-None-clause-gives : goal.returns-in-None-clause-gives
 returns-in-None-clause-gives g c =
@@ -71,8 +73,10 @@ returns-in_ok-read_entry-in-Some-clause-gives g c =
     let end = c.read_entry.new.entries.cursor in
     let at : List Kind → ℤ → FoundAround × EntryCursor = λ k z. (record { found = more; around = k }, record { left = end.left; depth = z }) in
     let made : List Kind → FoundAround × EntryCursor = λ k. (record { found = more; around = k }, end) in
-    entered c.enter.result made c.enter.new.self (opened c.kind_of.result c.has_children.result around) _
-    (entry ∙ ap finish (ap place (sym c.next_offset-offset.ensures.gives) ∙ c.in_ok-read_entry-in-Some.ensures.gives)
+    let found = ap place (sym c.next_offset-offset.ensures.gives) ∙ c.in_ok-read_entry-in-Some.ensures.gives in
+    entered _ c.has_children.result c.enter.result made c.enter.new.self (opened c.kind_of.result c.has_children.result around) _
+    (λ opens. or_second g.R.Reader.shares _ (children_take scope u unit start t state a _ (sym c.requires.encoding) code found (sym c.has_children.ensures.gives ∙ opens)))
+    (entry ∙ ap finish found
     ∙ ap (λ z. Ok (at (opened (kind_of a) a.has_children around) z)) (sym c.in_ok-read_entry-in-Some.ensures.depth)
     ∙ ap (λ k. Ok (made (opened k a.has_children around))) (sym c.kind_of.ensures.gives)
     ∙ ap (λ b. Ok (made (opened c.kind_of.result b around))) (sym c.has_children.ensures.gives))

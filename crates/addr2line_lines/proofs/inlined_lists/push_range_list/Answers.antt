@@ -1,4 +1,4 @@
-use Rattle.std.proofs.Common.{ℕ, List, [], ◌∷◌, map, ◌++◌, Result, Ok, ap, sym, ◌∙◌, append-nil}
+use Rattle.std.proofs.Common.{ℕ, List, [], ◌∷◌, map, ◌++◌, Result, Ok, ap, sym, ◌∙◌, append-nil, refl}
 use Rattle.std.proofs.lemmas.Result.{err_from_is_err_and}
 use Rattle.gimli_read.specs.Reading.{◌>>=◌}
 use Rattle.gimli_read.specs.declared.error.Error.{Error as Fault}
@@ -6,10 +6,10 @@ use Rattle.gimli_read.specs.declared.range.Range.{Range}
 use Rattle.addr2line_lines.specs.declared.picks.InlinedFunctionAddress.{InlinedFunctionAddress}
 use Rattle.addr2line_lines.specs.FoundDetails.{inlined_address}
 use Rattle.addr2line_lines.specs.Rows.{result_map, read_all}
-use Rattle.addr2line_lines.specs.RangeAttributes.{all_ranges}
+use Rattle.addr2line_lines.specs.RangeAttributes.{all_ranges, begins_well}
 use Rattle.addr2line_lines.proofs.FunctionLemmas.{one_added, one_read}
 use Rattle.addr2line_lines.proofs.NestingLemmas.{grown_by}
-use Rattle.addr2line_lines.proofs.RangeLemmas.{fault_left, none_left, one_left, read_after}
+use Rattle.addr2line_lines.proofs.RangeLemmas.{begins_with_one, fault_left, none_left, one_left, read_after}
 use Rattle.addr2line_lines.proofs.inlined_lists.push_range_list.Goals as goal
 
 abbrev with_front : List Range → Result (List Range) Fault → Result (List Range) Fault
@@ -27,6 +27,14 @@ returns-in_err-range g c =
     let i = c.loop-range.invariant in
     let read = ap all_ranges i.list ∙ read_after i.read c.loop-range.list in
     record { gives = rw (p.1, p.2) (λ _. ap (added c.args.ranges.now.items c.args.depth c.args.function) (read ∙ ap (with_front i.read) (fault_left _ _ _ c.in_err-range.ensures.gives))); kept = grown_by _ _ _ i.added }
+
+pub returns-in_err-push-clause-gives : goal.returns-in_err-push-clause-gives
+returns-in_err-push-clause-gives g c =
+    let p = err_from_is_err_and c.from_residual-in_err-push.result c.from_residual-in_err-push.ensures.1 in
+    let i = c.loop-range.invariant in
+    let one = rw c.in-Some.is at c.in_ok-range.ensures.gives in
+    let list = i.list ∙ ap (after i.read) (one_left _ _ _ one) in
+    rw (p.1, p.2) (λ wanted. absurd (wanted (ap begins_well list ∙ begins_with_one i.read _ _) refl))
 
 pub loop-range-preserved : goal.loop-range-preserved
 loop-range-preserved g c =

@@ -1,13 +1,14 @@
-use Rattle.std.proofs.Common.{◌||◌, true, is_ok, ◌≡◌, refl, ◌++◌, ◌∷◌, [], ◌+◌, None, length, map, option_map, slice_index_or, ap, arith, length-append, ◌∙◌, subst, sym}
+use Rattle.std.proofs.Common.{◌≡◌, refl, ◌++◌, ◌∷◌, [], ◌+◌, None, length, map, option_map, slice_index_or, ap, arith, length-append, ◌∙◌, subst, sym}
 use Rattle.std.proofs.lemmas.List.{length-map, map-append}
 use Rattle.std.proofs.lemmas.Result.{err_from_is_err_and}
 use Rattle.addr2line_lines.specs.declared.details.FunctionDetail.{FunctionDetail}
 use Rattle.addr2line_lines.specs.FoundDetails.{FoundInlined, IsGrown, seen_inlined, seen_lists}
 use Rattle.addr2line_lines.specs.KeptDetails.{KeptDetails, seen_details}
 use Rattle.addr2line_lines.specs.SeenScope.{seen_scope}
+use Rattle.addr2line_lines.proofs.DetailMemory.{detail_takes, found_takes}
 use Rattle.addr2line_lines.proofs.DetailOrder.{detail_refused}
 use Rattle.addr2line_lines.proofs.DetailPlaces.{AreKeptAt, detail_kept, last_name, place_kept, sorted_more}
-use Rattle.addr2line_lines.proofs.NamedDetails.{either_right, found_named, named_is}
+use Rattle.addr2line_lines.proofs.FunctionLemmas.{or_more, or_second}
 use Rattle.addr2line_lines.proofs.NestingLemmas.{grown_by}
 use Rattle.addr2line_lines.proofs.details.Details.add.Given.{Over}
 use Rattle.addr2line_lines.proofs.details.Details.add.Goals as goal
@@ -15,14 +16,14 @@ use Rattle.addr2line_lines.proofs.details.Details.add.Goals as goal
 pub returns-in_err-read-clause-gives : goal.returns-in_err-read-clause-gives
 returns-in_err-read-clause-gives g c =
     let p = err_from_is_err_and c.from_residual.result c.from_residual.ensures.1 in
-    rw (p.1, p.2) (λ ne. detail_refused (seen_scope c.args.scope) c.args.unit.now c.args.offset.0 (seen_lists g.R.Reader.section c.args.self.now.inlined) _ (c.in_err-read.ensures.gives (λ t. ne (subst (λ w. (g.R.Reader.shares || is_ok w) ≡ true) (sym (named_is (seen_scope c.args.scope) c.args.unit.now c.args.offset.0)) t))))
+    rw (p.1, p.2) (λ ne. detail_refused (seen_scope c.args.scope) c.args.unit.now c.args.offset.0 (seen_lists g.R.Reader.section c.args.self.now.inlined) _ (c.in_err-read.ensures.gives (λ t. ne (or_more g.R.Reader.shares _ _ (detail_takes (seen_scope c.args.scope) c.args.unit.now c.args.offset.0 (seen_lists g.R.Reader.section c.args.self.now.inlined)) t))))
 
--- memory may be taken, as the name was read
+-- memory may be taken, as the detail was read
 pub returns-in_err-push-clause-gives : goal.returns-in_err-push-clause-gives
 returns-in_err-push-clause-gives g c =
     let p = err_from_is_err_and c.from_residual-in_err-push.result c.from_residual-in_err-push.ensures.1 in
-    let named = found_named (seen_scope c.args.scope) c.args.unit.now c.args.offset.0 (seen_lists g.R.Reader.section c.args.self.now.inlined) _ c.in_ok-read.ensures.gives in
-    rw (p.1, p.2) (λ ne. absurd (ne (either_right g.R.Reader.shares _ named) refl))
+    let whole = found_takes (seen_scope c.args.scope) c.args.unit.now c.args.offset.0 (seen_lists g.R.Reader.section c.args.self.now.inlined) _ c.in_ok-read.ensures.gives in
+    rw (p.1, p.2) (λ ne. absurd (ne (or_second g.R.Reader.shares _ whole) refl))
 
 module _ (g : Over) (c : goal.After-len-2 g) where
   abbrev old : KeptDetails

@@ -176,7 +176,7 @@ parsed_push (y ∷ rs) r = ap (λ bs. is_parsed y ∷ bs) (parsed_push rs r)
 pub pushed : (d : Sections) (us : List UnitRecord) (rs : List ResUnit) (u : UnitRecord) (old new : ResUnit) (given : List Range) (ranges now : List UnitRange) → HaveLinesOf d us rs → new.lang ≡ old.lang → is_parsed new ≡ has_lines (ranged_seen u old given)
     → now ≡ ranges ++ map (range_of_unit (length rs)) (unit_ranges d (ranged_seen u old given))
     → ◌≡◌ {A = IndexState} (record { units = indexed_units (us ++ u ∷ []) (rs ++ new ∷ []); ranges = now; parsed = parsed_units (rs ++ new ∷ []) })
-      (with_ranged d (record { units = indexed_units us rs; ranges = ranges; parsed = parsed_units rs }) (ranged_seen u old given))
+    (with_ranged d (record { units = indexed_units us rs; ranges = ranges; parsed = parsed_units rs }) (ranged_seen u old given))
 pushed d us rs u old new given ranges now own lang parsed more =
     of_parts
     (indexed_push d us rs u new own ∙ ap (λ l. indexed_units us rs ++ record { unit = u; language = l } ∷ []) lang)

@@ -21,7 +21,7 @@ use Rattle.addr2line_units.specs.Indexed.{IndexState, ranged_seen, with_ranged}
 use Rattle.addr2line_units.specs.UnitIndex.{IndexedUnit, has_lines, range_of_unit, unit_ranges}
 use Rattle.addr2line_units.specs.Located.{all_lines, along, lines_fault, lines_of_unit, location_in, looks_along, looks_in, or_along}
 use Rattle.addr2line_units.specs.Parsed.{AllAskFor, AreReadyForAll, IsNotOom, ParsesOnly, StaysParsed, can_be_read, decides, has_parsed, ready_along}
-use Rattle.addr2line_units.specs.CachedLines.{AreLinesOf, CachesAnswer, HaveLinesOf, StayUnits, StaysCached, StaysUnit, cached_files, indexed_unit, indexed_units, is_parsed, is_uncached, lines_answer, lines_answer_at, lines_at, location_at_place, parsed_units, place_of_row}
+use Rattle.addr2line_units.specs.CachedLines.{AreLinesOf, CachesAnswer, HaveLinesOf, StayUnits, StaysUnit, cached_files, indexed_unit, indexed_units, is_parsed, is_uncached, lines_answer, lines_answer_at, lines_at, location_at_place, parsed_units, place_of_row}
 
 -- what is cached is no longer uncached
 parsed_is : (l : LazyLines) → not (is_uncached l) ≡ true → is_uncached l ≡ false

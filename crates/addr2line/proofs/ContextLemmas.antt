@@ -117,13 +117,13 @@ parsed_both true b f h = f refl
 parsed_both false true f h = sym (h refl)
 parsed_both false false f h = refl
 
-same_parsed : {R : Type 0} (us vs : List (ResUnit R)) → StayUnits us vs → StaysParsed (parsed_units us) (parsed_units vs) → StaysParsed (parsed_units vs) (parsed_units us) → parsed_units vs ≡ parsed_units us
+same_parsed : (us vs : List ResUnit) → StayUnits us vs → StaysParsed (parsed_units us) (parsed_units vs) → StaysParsed (parsed_units vs) (parsed_units us) → parsed_units vs ≡ parsed_units us
 same_parsed [] [] a f h = refl
 same_parsed [] (v ∷ vs) a f h = absurd a
 same_parsed (u ∷ us) [] a f h = absurd a
 same_parsed (u ∷ us) (v ∷ vs) a f h = ap (λ b. b ∷ parsed_units vs) (parsed_both (is_parsed u) (is_parsed v) (f 0) (h 0)) ∙ ap (λ bs. is_parsed u ∷ bs) (same_parsed us vs a.1 (λ n. f (suc n)) (λ n. h (suc n)))
 
-same_if_asked : {R : Type 0} (us vs : List (ResUnit R)) → StayUnits us vs → (IsAsked : ℕ → Type 0) → ParsesOnly IsAsked (parsed_units us) (parsed_units vs) → ((n : ℕ) → IsAsked n → has_parsed (parsed_units us) n ≡ true) → parsed_units vs ≡ parsed_units us
+same_if_asked : (us vs : List ResUnit) → StayUnits us vs → (IsAsked : ℕ → Type 0) → ParsesOnly IsAsked (parsed_units us) (parsed_units vs) → ((n : ℕ) → IsAsked n → has_parsed (parsed_units us) n ≡ true) → parsed_units vs ≡ parsed_units us
 same_if_asked us vs stay IsAsked only ready = same_parsed us vs stay (stay_parsed us vs stay) (λ n e. elim (only n e) [ inl p ↦ p | inr asked ↦ ready n asked ])
 
 -- a lookup that is ready asks for lines that are parsed
@@ -146,51 +146,51 @@ led_ready : (p : List Bool) (ranges : List UnitRange) → AreParsed p ranges →
 led_ready p [] ready n led = absurd led
 led_ready p (r ∷ ranges) ready n led = elim led [ inl e ↦ ap (has_parsed p) e ∙ ready.0 | inr more ↦ led_ready p ranges ready.1 n more ]
 
-module _ {R : Type 0} (d : Sections) (old : List (ResUnit R)) (ranges : List UnitRange) (sup : List UnitRecord)
-    (made_is : index_units d ≡ Ok (record { units = indexed_units old; ranges = ranges; sup_units = sup })) where
+module _ (d : Sections) (us : List UnitRecord) (old : List ResUnit) (ranges : List UnitRange) (sup : List UnitRecord)
+    (made_is : index_units d ≡ Ok (record { units = indexed_units us old; ranges = ranges; sup_units = sup })) where
   -- the answers of a context by its parts
-  pub location_is : (probe : ℕ) → location_of d probe ≡ along d (indexed_units old) probe (cover probe ranges)
+  pub location_is : (probe : ℕ) → location_of d probe ≡ along d (indexed_units us old) probe (cover probe ranges)
   location_is probe = ap (λ r. r >>= λ (m : UnitIndex). along d m.units probe (cover probe m.ranges)) made_is
 
-  pub spans_are : (low high : ℕ) → spans_of d low high ≡ Ok (spans_along d (indexed_units old) low high (cover_range low high ranges))
+  pub spans_are : (low high : ℕ) → spans_of d low high ≡ Ok (spans_along d (indexed_units us old) low high (cover_range low high ranges))
   spans_are low high = ap (λ r. r >>= λ (m : UnitIndex). Ok (spans_along d m.units low high (cover_range low high m.ranges))) made_is
 
-  pub lines_are : lines_of_all d ≡ lines_fault (all_lines d (indexed_units old))
+  pub lines_are : lines_of_all d ≡ lines_fault (all_lines d (indexed_units us old))
   lines_are = ap (λ r. r >>= λ (m : UnitIndex). lines_fault (all_lines d m.units)) made_is
 
   -- what holds of all that may be made holds of what is made
-  of_made : (P : UnitIndex → Type 0) → P (record { units = indexed_units old; ranges = ranges; sup_units = sup }) → (m : UnitIndex) → index_units d ≡ Ok m → P m
+  of_made : (P : UnitIndex → Type 0) → P (record { units = indexed_units us old; ranges = ranges; sup_units = sup }) → (m : UnitIndex) → index_units d ≡ Ok m → P m
   of_made P h m e = subst P (ok_is _ _ (sym made_is ∙ e)) h
 
-  module _ (new : List (ResUnit R)) (stay : StayUnits old new) (looks now : ℕ) where
+  module _ (new : List ResUnit) (stay : StayUnits old new) (looks now : ℕ) where
     pub all_stays : Stays (record { sections = d; answers = []; parsed = parsed_units old; looks = looks }) (record { sections = d; answers = []; parsed = parsed_units new; looks = now })
     all_stays = record { sections = refl; answers = refl; parsed = stay_parsed old new stay }
 
     pub after_lookup : {X : Type 0} (probe : ℕ) (result : Result (Option X) Error)
-        → (IsNotOom result → ready_along d (indexed_units old) (parsed_units new) probe (cover probe ranges) ≡ true) → ParsesOnly (AsksFor d (indexed_units old) probe (cover probe ranges)) (parsed_units old) (parsed_units new) → looks ≤ now → (is_found result ≡ true → looks < now) → now ≤ looks + looks_along d (indexed_units old) (cover probe ranges)
+        → (IsNotOom result → ready_along d (indexed_units us old) (parsed_units new) probe (cover probe ranges) ≡ true) → ParsesOnly (AsksFor d (indexed_units us old) probe (cover probe ranges)) (parsed_units old) (parsed_units new) → looks ≤ now → (is_found result ≡ true → looks < now) → now ≤ looks + looks_along d (indexed_units us old) (cover probe ranges)
         → AfterLookup probe result (record { sections = d; answers = []; parsed = parsed_units old; looks = looks }) (record { sections = d; answers = []; parsed = parsed_units new; looks = now })
     after_lookup probe result ready only raised counted cost = record {
       stays = all_stays;
       ready = λ answered. of_made (λ m. ready_along d m.units (parsed_units new) probe (cover probe m.ranges) ≡ true) (ready answered);
       only = of_made (λ m. ParsesOnly (AsksFor d m.units probe (cover probe m.ranges)) (parsed_units old) (parsed_units new)) only;
-      same = λ before. same_if_asked old new stay _ only (asked_ready d (indexed_units old) (parsed_units old) probe (cover probe ranges) (before _ made_is));
+      same = λ before. same_if_asked old new stay _ only (asked_ready d (indexed_units us old) (parsed_units old) probe (cover probe ranges) (before _ made_is));
       raised = raised;
       counted = counted;
       cost = of_made (λ m. now ≤ looks + looks_along d m.units (cover probe m.ranges)) cost;
     }
 
-    pub after_parse : ParsesOnly (AllAskFor d (indexed_units old)) (parsed_units old) (parsed_units new)
+    pub after_parse : ParsesOnly (AllAskFor d (indexed_units us old)) (parsed_units old) (parsed_units new)
         → ParsesToFault (record { sections = d; answers = []; parsed = parsed_units old; looks = looks }) (record { sections = d; answers = []; parsed = parsed_units new; looks = now })
     after_parse only = of_made (λ m. ParsesOnly (AllAskFor d m.units) (parsed_units old) (parsed_units new)) only
 
-    pub same_after_parse : ParsesOnly (AllAskFor d (indexed_units old)) (parsed_units old) (parsed_units new)
+    pub same_after_parse : ParsesOnly (AllAskFor d (indexed_units us old)) (parsed_units old) (parsed_units new)
         → IsReadyForAll (record { sections = d; answers = []; parsed = parsed_units old; looks = looks }) → parsed_units new ≡ parsed_units old
     same_after_parse only before = same_if_asked old new stay _ only (before _ made_is)
 
-    pub ready_after_parse : AreReadyForAll d (indexed_units old) (parsed_units new) → IsReadyForAll (record { sections = d; answers = []; parsed = parsed_units new; looks = now })
+    pub ready_after_parse : AreReadyForAll d (indexed_units us old) (parsed_units new) → IsReadyForAll (record { sections = d; answers = []; parsed = parsed_units new; looks = now })
     ready_after_parse ready = of_made (λ m. AreReadyForAll d m.units (parsed_units new)) ready
 
-  pub after_range_lookup : (new : List (ResUnit R)) → StayUnits old new → (looks : ℕ) → {X : Type 0} (low high : ℕ) (result : Result X Error) → (IsNotOom result → AreParsed (parsed_units new) (cover_range low high ranges)) → ParsesOnly (LeadTo (cover_range low high ranges)) (parsed_units old) (parsed_units new)
+  pub after_range_lookup : (new : List ResUnit) → StayUnits old new → (looks : ℕ) → {X : Type 0} (low high : ℕ) (result : Result X Error) → (IsNotOom result → AreParsed (parsed_units new) (cover_range low high ranges)) → ParsesOnly (LeadTo (cover_range low high ranges)) (parsed_units old) (parsed_units new)
       → AfterRangeLookup low high result (record { sections = d; answers = []; parsed = parsed_units old; looks = looks }) (record { sections = d; answers = []; parsed = parsed_units new; looks = looks })
   after_range_lookup new stay looks low high result ready only = record {
     stays = all_stays new stay looks looks;
@@ -201,10 +201,14 @@ module _ {R : Type 0} (d : Sections) (old : List (ResUnit R)) (ranges : List Uni
   }
 
 -- what a context has after a call is still what its sections give
-pub still_a_context : {R : Type 0} (d : Sections) (old : List (ResUnit R)) (ranges : List UnitRange) (sup : List UnitRecord) → index_units d ≡ Ok (record { units = indexed_units old; ranges = ranges; sup_units = sup })
-    → (new : List (ResUnit R)) → StayUnits old new → (now : List UnitRange) → now ≡ ranges → HaveLinesOf d new → (sup_dwarf : Option Sections) → sup_dwarf ≡ option_map sup_sections d.sup → IsContext d new now sup sup_dwarf
-still_a_context d old ranges sup made_is new stay now same lines sup_dwarf sup_is = record {
-  made_is = made_is ∙ ap (λ us. Ok (record { units = us; ranges = ranges; sup_units = sup })) (sym (stay_indexed old new stay)) ∙ ap (λ rs. Ok (record { units = indexed_units new; ranges = rs; sup_units = sup })) (sym same);
+pub still_a_context : (d : Sections) (us : List UnitRecord) (old : List ResUnit) (ranges : List UnitRange) (sup : List UnitRecord) → index_units d ≡ Ok (record { units = indexed_units us old; ranges = ranges; sup_units = sup })
+    → (vs : List UnitRecord) → vs ≡ us → (new : List ResUnit) → StayUnits old new → (now : List UnitRange) → now ≡ ranges → HaveLinesOf d vs new → (sup_dwarf : Option Sections) → sup_dwarf ≡ option_map sup_sections d.sup → IsContext d vs new now sup sup_dwarf
+still_a_context d us old ranges sup made_is vs whole new stay now same lines sup_dwarf sup_is = record {
+  made_is =
+      made_is
+      ∙ ap (λ is. Ok (record { units = is; ranges = ranges; sup_units = sup })) (sym (stay_indexed us old new stay))
+      ∙ ap (λ (xs : List UnitRecord). Ok (record { units = indexed_units xs new; ranges = ranges; sup_units = sup })) (sym whole)
+      ∙ ap (λ rs. Ok (record { units = indexed_units vs new; ranges = rs; sup_units = sup })) (sym same);
   lines = lines;
   sup_dwarf_is = sup_is;
 }
@@ -272,22 +276,24 @@ pub err_is_not_ok : {X : Type 0} (e : Error) (x : X) → ◌≡◌ {A = Result X
 err_is_not_ok e x k = cc
 
 -- what cached lines have in ranges is what the lines of the units have
-module _ {R : Type 0} (d : Sections) (low high : ℕ) where
-  spans_at : (us : List (ResUnit R)) (n : ℕ) (range : Range) → HaveLinesOf d us → has_parsed (parsed_units us) n ≡ true → spans_in d low high range (slice_get (indexed_units us) n) ≡ cached_spans range low high (lines_at us n)
-  spans_at [] n range own e = refl
-  spans_at (u ∷ us) zero range own e = of_lines u.lines own.0 e
+module _ (d : Sections) (low high : ℕ) where
+  spans_at : (us : List UnitRecord) (rs : List ResUnit) (n : ℕ) (range : Range) → HaveLinesOf d us rs → has_parsed (parsed_units rs) n ≡ true → spans_in d low high range (slice_get (indexed_units us rs) n) ≡ cached_spans range low high (lines_at rs n)
+  spans_at [] [] n range own e = refl
+  spans_at [] (r ∷ rs) n range own e = absurd own
+  spans_at (u ∷ us) [] n range own e = absurd own
+  spans_at (u ∷ us) (r ∷ rs) zero range own e = of_lines r.lines own.0 e
     where
-      of_lines : (l : LazyLines) → AreLinesOf d u.dw_unit l → not (is_uncached l) ≡ true → spans_or_fault range low high (unit_lines d u.dw_unit) ≡ cached_spans range low high l
+      of_lines : (l : LazyLines) → AreLinesOf d u l → not (is_uncached l) ≡ true → spans_or_fault range low high (unit_lines d u) ≡ cached_spans range low high l
       of_lines Unread h k = absurd (false_true k)
         where
           false_true : false ≡ true → ⊥
           false_true q = cc
       of_lines (Read lines) h k = ap (spans_or_fault range low high) h
       of_lines (Faulty f) h k = ap (spans_or_fault range low high) h
-  spans_at (u ∷ us) (suc n) range own e = spans_at us n range own.1 e
+  spans_at (u ∷ us) (r ∷ rs) (suc n) range own e = spans_at us rs n range own.1 e
 
-  pub spans_cached : (us : List (ResUnit R)) (ranges : List UnitRange) → HaveLinesOf d us → AreParsed (parsed_units us) ranges → spans_along d (indexed_units us) low high ranges ≡ cached_along us low high ranges
-  spans_cached us [] own all = refl
-  spans_cached us (r ∷ ranges) own all =
-      ap (λ xs. xs ++ spans_along d (indexed_units us) low high ranges) (spans_at us r.unit r.range own all.0)
-      ∙ ap (λ xs. cached_spans r.range low high (lines_at us r.unit) ++ xs) (spans_cached us ranges own all.1)
+  pub spans_cached : (us : List UnitRecord) (rs : List ResUnit) (ranges : List UnitRange) → HaveLinesOf d us rs → AreParsed (parsed_units rs) ranges → spans_along d (indexed_units us rs) low high ranges ≡ cached_along rs low high ranges
+  spans_cached us rs [] own all = refl
+  spans_cached us rs (r ∷ ranges) own all =
+      ap (λ xs. xs ++ spans_along d (indexed_units us rs) low high ranges) (spans_at us rs r.unit r.range own all.0)
+      ∙ ap (λ xs. cached_spans r.range low high (lines_at rs r.unit) ++ xs) (spans_cached us rs ranges own all.1)

@@ -106,9 +106,9 @@ abbrev pub lines_of_all : Sections → Result (Unit {0}) Error
 lines_of_all d = index_units d >>= λ m. lines_fault (all_lines d m.units)
 
 -- what a context has is what its sections give
-pub record IsContext {R : Type 0} (d : Sections) (units : List (ResUnit R))
+pub record IsContext (d : Sections) (dw_units : List UnitRecord) (units : List ResUnit)
     (ranges : List UnitRange) (sup : List UnitRecord) (sup_dwarf : Option Sections) : Type 0 where
   pub made_is : index_units d
-      ≡ Ok (record { units = indexed_units units; ranges = ranges; sup_units = sup })
-  pub lines : HaveLinesOf d units
+      ≡ Ok (record { units = indexed_units dw_units units; ranges = ranges; sup_units = sup })
+  pub lines : HaveLinesOf d dw_units units
   pub sup_dwarf_is : sup_dwarf ≡ option_map sup_sections d.sup

@@ -51,8 +51,8 @@ impl<R: Reader> Model for Context<R> {
       looks = c.looks;
     } };
 
-    ghost invariant = { λ c. IsContext c.dwarf.value c.units.units.items c.units.ranges
-        c.sup_units.units.items c.sup_units.dwarf };
+    ghost invariant = { λ c. IsContext c.dwarf.value c.units.dw_units.items c.units.units.items
+        c.units.ranges c.sup_units.units.items c.sup_units.dwarf };
 }
 
 impl<R: Reader> Context<R> {

@@ -1,11 +1,12 @@
 -- The units of a context whose lines are cached one after another (on specs/CachedLines.antt and
 -- specs/Parsed.antt).
-use Rattle.std.proofs.Common.{◌≡◌, ℕ, zero, suc, ◌+◌, ◌-◌, ◌≤◌, ◌<◌, Bool, true, false, not, ◌&&◌, ◌||◌, List, [], ◌∷◌, length, map, drop, add-one, get_or, Option, Some, None, option_map, slice_get, Result, Ok, Err, is_ok, refl, sym, ap, subst, arith, ◌∙◌, ◌⊎◌, inl, inr}
+use Rattle.std.proofs.Common.{◌≡◌, ℕ, zero, suc, ◌+◌, ◌-◌, ◌≤◌, ◌<◌, Bool, true, false, not, ◌&&◌, ◌||◌, List, [], ◌∷◌, ◌++◌, length, map, drop, add-one, get_or, Option, Some, None, option_map, slice_get, Result, Ok, Err, is_ok, refl, sym, ap, subst, arith, ◌∙◌, ◌⊎◌, inl, inr}
 use Rattle.std.proofs.Math.ListN.{drop_of_length-le, set}
 use Rattle.std.specs.Prelude.{OnOk}
 use Rattle.std.proofs.lemmas.List.{length-map}
 use Rattle.std.proofs.lemmas.List.Sums.{sum_by-cons}
 use Rattle.gimli_read.specs.declared.error.Error.{Error}
+use Rattle.gimli_read.specs.declared.range.Range.{Range}
 use Rattle.gimli_read.specs.Reading.{◌>>=◌, Exactly, ExactlyUnlessOom}
 use Rattle.gimli.specs.Sections.{Sections}
 use Rattle.gimli.specs.Unit.{UnitRecord}
@@ -16,10 +17,11 @@ use Rattle.addr2line_lines.specs.UnitLines.{unit_lines}
 use Rattle.addr2line_units.specs.declared.unit.LazyLines.{LazyLines}
 use Rattle.addr2line_units.specs.declared.unit.ResUnit.{ResUnit}
 use Rattle.addr2line_units.specs.declared.index.UnitRange.{UnitRange}
-use Rattle.addr2line_units.specs.UnitIndex.{IndexedUnit}
+use Rattle.addr2line_units.specs.Indexed.{IndexState, ranged_seen, with_ranged}
+use Rattle.addr2line_units.specs.UnitIndex.{IndexedUnit, has_lines, range_of_unit, unit_ranges}
 use Rattle.addr2line_units.specs.Located.{all_lines, along, lines_fault, lines_of_unit, location_in, looks_along, looks_in, or_along}
 use Rattle.addr2line_units.specs.Parsed.{AllAskFor, AreReadyForAll, IsNotOom, ParsesOnly, StaysParsed, can_be_read, decides, has_parsed, ready_along}
-use Rattle.addr2line_units.specs.CachedLines.{AreLinesOf, CachesAnswer, HaveLinesOf, StayUnits, StaysCached, StaysUnit, cached_files, indexed_unit, indexed_units, is_parsed, is_uncached, lines_answer, lines_answer_at, lines_at, location_at_place, parsed_units, place_of_row}
+use Rattle.addr2line_units.specs.CachedLines.{AreLinesOf, CachesAnswer, HaveLinesOf, StayUnits, StaysUnit, cached_files, indexed_unit, indexed_units, is_parsed, is_uncached, lines_answer, lines_answer_at, lines_at, location_at_place, parsed_units, place_of_row}
 
 -- what is cached is no longer uncached
 parsed_is : (l : LazyLines) → not (is_uncached l) ≡ true → is_uncached l ≡ false
@@ -29,118 +31,173 @@ parsed_is l e = of_bool (is_uncached l) e
     of_bool true e = cc
     of_bool false e = refl
 
-module _ {R : Type 0} where
-  pub stay_all : (us : List (ResUnit R)) → StayUnits us us
-  stay_all [] = tt
-  stay_all (u ∷ us) = (record { indexed = refl; lines = λ e. refl }, stay_all us)
+pub stay_all : (rs : List ResUnit) → StayUnits rs rs
+stay_all [] = tt
+stay_all (r ∷ rs) = (record { language = refl; lines = λ e. refl }, stay_all rs)
 
-  -- what stays from one state to the next stays over both
-  stays_over : (u v w : ResUnit R) → StaysUnit u v → StaysUnit v w → StaysUnit u w
-  stays_over u v w a b = record {
-    indexed = b.indexed ∙ a.indexed;
-    lines = λ e. b.lines (ap is_uncached (a.lines e) ∙ e) ∙ a.lines e;
-  }
+-- what stays from one state to the next stays over both
+stays_over : (r s t : ResUnit) → StaysUnit r s → StaysUnit s t → StaysUnit r t
+stays_over r s t a b = record {
+  language = b.language ∙ a.language;
+  lines = λ e. b.lines (ap is_uncached (a.lines e) ∙ e) ∙ a.lines e;
+}
 
-  pub stay_over : (us vs ws : List (ResUnit R)) → StayUnits us vs → StayUnits vs ws → StayUnits us ws
-  stay_over [] [] [] a b = tt
-  stay_over [] [] (w ∷ ws) a b = absurd b
-  stay_over [] (v ∷ vs) ws a b = absurd a
-  stay_over (u ∷ us) [] ws a b = absurd a
-  stay_over (u ∷ us) (v ∷ vs) [] a b = absurd b
-  stay_over (u ∷ us) (v ∷ vs) (w ∷ ws) a b = (stays_over u v w a.0 b.0, stay_over us vs ws a.1 b.1)
+pub stay_over : (rs ss ts : List ResUnit) → StayUnits rs ss → StayUnits ss ts → StayUnits rs ts
+stay_over [] [] [] a b = tt
+stay_over [] [] (t ∷ ts) a b = absurd b
+stay_over [] (s ∷ ss) ts a b = absurd a
+stay_over (r ∷ rs) [] ts a b = absurd a
+stay_over (r ∷ rs) (s ∷ ss) [] a b = absurd b
+stay_over (r ∷ rs) (s ∷ ss) (t ∷ ts) a b = (stays_over r s t a.0 b.0, stay_over rs ss ts a.1 b.1)
 
-  -- one unit is another, which stays
-  pub stay_set : (us : List (ResUnit R)) (n : ℕ) (u v : ResUnit R) → n < length us → u ≡ get_or us n u → StaysUnit u v → StayUnits us (set us n v)
-  stay_set [] n u v h e s = absurd (omega arith)
-  stay_set (x ∷ us) zero u v h e s = (subst (λ y. StaysUnit y v) e s, stay_all us)
-  stay_set (x ∷ us) (suc n) u v h e s = (record { indexed = refl; lines = λ e. refl }, stay_set us n u v (omega arith) e s)
+-- one of them is another, which stays
+pub stay_set : (rs : List ResUnit) (n : ℕ) (r s : ResUnit) → n < length rs → r ≡ get_or rs n r → StaysUnit r s → StayUnits rs (set rs n s)
+stay_set [] n r s h e k = absurd (omega arith)
+stay_set (x ∷ rs) zero r s h e k = (subst (λ y. StaysUnit y s) e k, stay_all rs)
+stay_set (x ∷ rs) (suc n) r s h e k = (record { language = refl; lines = λ e. refl }, stay_set rs n r s (omega arith) e k)
 
-  -- a unit stays by its parts
-  pub stays_by : (u v : ResUnit R) → v.dw_unit ≡ u.dw_unit → v.lang ≡ u.lang → StaysCached u.lines v.lines → StaysUnit u v
-  stays_by u v e f h = record {
-    indexed = ap (λ (x : UnitRecord). record { unit = x; language = v.lang }) e ∙ ap (λ l. record { unit = u.dw_unit; language = l }) f;
-    lines = h;
-  }
+-- the units and their languages are the same
+pub stay_indexed : (us : List UnitRecord) (rs ss : List ResUnit) → StayUnits rs ss → indexed_units us ss ≡ indexed_units us rs
+stay_indexed [] rs ss a = refl
+stay_indexed (u ∷ us) [] [] a = refl
+stay_indexed (u ∷ us) [] (s ∷ ss) a = absurd a
+stay_indexed (u ∷ us) (r ∷ rs) [] a = absurd a
+stay_indexed (u ∷ us) (r ∷ rs) (s ∷ ss) a = ap (λ l. record { unit = u; language = l } ∷ indexed_units us ss) a.0.language ∙ ap (λ xs. indexed_unit u r ∷ xs) (stay_indexed us rs ss a.1)
 
-  -- the units are the same
-  pub stay_indexed : (us vs : List (ResUnit R)) → StayUnits us vs → indexed_units vs ≡ indexed_units us
-  stay_indexed [] [] a = refl
-  stay_indexed [] (v ∷ vs) a = absurd a
-  stay_indexed (u ∷ us) [] a = absurd a
-  stay_indexed (u ∷ us) (v ∷ vs) a = ap (λ x. x ∷ indexed_units vs) a.0.indexed ∙ ap (λ xs. indexed_unit u ∷ xs) (stay_indexed us vs a.1)
+-- there are as many
+stay_length : (rs ss : List ResUnit) → StayUnits rs ss → length ss ≡ length rs
+stay_length [] [] a = refl
+stay_length [] (s ∷ ss) a = absurd a
+stay_length (r ∷ rs) [] a = absurd a
+stay_length (r ∷ rs) (s ∷ ss) a = ap suc (stay_length rs ss a.1)
 
-  -- what was parsed stays parsed
-  pub stay_parsed : (us vs : List (ResUnit R)) → StayUnits us vs → StaysParsed (parsed_units us) (parsed_units vs)
-  stay_parsed [] [] a n e = e
-  stay_parsed [] (v ∷ vs) a n e = absurd a
-  stay_parsed (u ∷ us) [] a n e = absurd a
-  stay_parsed (u ∷ us) (v ∷ vs) a zero e = ap (λ l. not (is_uncached l)) (a.0.lines (parsed_is u.lines e)) ∙ e
-  stay_parsed (u ∷ us) (v ∷ vs) a (suc n) e = stay_parsed us vs a.1 n e
+-- what was parsed stays parsed
+pub stay_parsed : (rs ss : List ResUnit) → StayUnits rs ss → StaysParsed (parsed_units rs) (parsed_units ss)
+stay_parsed [] [] a n e = e
+stay_parsed [] (s ∷ ss) a n e = absurd a
+stay_parsed (r ∷ rs) [] a n e = absurd a
+stay_parsed (r ∷ rs) (s ∷ ss) a zero e = ap (λ l. not (is_uncached l)) (a.0.lines (parsed_is r.lines e)) ∙ e
+stay_parsed (r ∷ rs) (s ∷ ss) a (suc n) e = stay_parsed rs ss a.1 n e
 
-  -- the unit of a number
-  pub unit_at : (us : List (ResUnit R)) (n : ℕ) (u : ResUnit R) → n < length us → u ≡ get_or us n u → slice_get (indexed_units us) n ≡ Some (indexed_unit u)
-  unit_at [] n u h e = absurd (omega arith)
-  unit_at (x ∷ us) zero u h e = ap (λ y. Some (indexed_unit y)) (sym e)
-  unit_at (x ∷ us) (suc n) u h e = unit_at us n u (omega arith) e
+-- beside each unit stand lines
+pub as_many : (d : Sections) (us : List UnitRecord) (rs : List ResUnit) → HaveLinesOf d us rs → length us ≡ length rs
+as_many d [] [] own = refl
+as_many d [] (r ∷ rs) own = absurd own
+as_many d (u ∷ us) [] own = absurd own
+as_many d (u ∷ us) (r ∷ rs) own = ap suc (as_many d us rs own.1)
 
-  pub no_unit : (us : List (ResUnit R)) (n : ℕ) → length us ≤ n → slice_get (indexed_units us) n ≡ None
-  no_unit [] n h = refl
-  no_unit (x ∷ us) zero h = absurd (omega arith)
-  no_unit (x ∷ us) (suc n) h = no_unit us n (omega arith)
+pub as_many_indexed : (d : Sections) (us : List UnitRecord) (rs : List ResUnit) → HaveLinesOf d us rs → length (indexed_units us rs) ≡ length rs
+as_many_indexed d [] [] own = refl
+as_many_indexed d [] (r ∷ rs) own = absurd own
+as_many_indexed d (u ∷ us) [] own = absurd own
+as_many_indexed d (u ∷ us) (r ∷ rs) own = ap suc (as_many_indexed d us rs own.1)
 
-  pub no_parsed : (us : List (ResUnit R)) (n : ℕ) → length us ≤ n → has_parsed (parsed_units us) n ≡ true
-  no_parsed [] n h = refl
-  no_parsed (x ∷ us) zero h = absurd (omega arith)
-  no_parsed (x ∷ us) (suc n) h = no_parsed us n (omega arith)
+-- the unit of a number
+pub unit_at : (us : List UnitRecord) (rs : List ResUnit) (n : ℕ) (u : UnitRecord) (r : ResUnit) → n < length us → n < length rs → u ≡ get_or us n u → r ≡ get_or rs n r → slice_get (indexed_units us rs) n ≡ Some (indexed_unit u r)
+unit_at [] rs n u r h k e f = absurd (omega arith)
+unit_at (x ∷ us) [] n u r h k e f = absurd (omega arith)
+unit_at (x ∷ us) (y ∷ rs) zero u r h k e f = ap (λ v. Some (indexed_unit v y)) (sym e) ∙ ap (λ s. Some (indexed_unit u s)) (sym f)
+unit_at (x ∷ us) (y ∷ rs) (suc n) u r h k e f = unit_at us rs n u r (omega arith) (omega arith) e f
 
-  pub parsed_at : (us : List (ResUnit R)) (n : ℕ) (u : ResUnit R) → n < length us → u ≡ get_or us n u → has_parsed (parsed_units us) n ≡ true → is_uncached u.lines ≡ false
-  parsed_at [] n u h e k = absurd (omega arith)
-  parsed_at (x ∷ us) zero u h e k = ap (λ (y : ResUnit R). is_uncached y.lines) e ∙ parsed_is x.lines k
-  parsed_at (x ∷ us) (suc n) u h e k = parsed_at us n u (omega arith) e k
+pub no_unit : (us : List UnitRecord) (rs : List ResUnit) (n : ℕ) → length rs ≤ n → slice_get (indexed_units us rs) n ≡ None
+no_unit [] rs n h = refl
+no_unit (x ∷ us) [] n h = refl
+no_unit (x ∷ us) (y ∷ rs) zero h = absurd (omega arith)
+no_unit (x ∷ us) (y ∷ rs) (suc n) h = no_unit us rs n (omega arith)
 
-  pub parsed_set : (us : List (ResUnit R)) (n : ℕ) (v : ResUnit R) → n < length us → is_uncached v.lines ≡ false → has_parsed (parsed_units (set us n v)) n ≡ true
-  parsed_set [] n v h e = absurd (omega arith)
-  parsed_set (x ∷ us) zero v h e = ap not e
-  parsed_set (x ∷ us) (suc n) v h e = parsed_set us n v (omega arith) e
+pub no_parsed : (rs : List ResUnit) (n : ℕ) → length rs ≤ n → has_parsed (parsed_units rs) n ≡ true
+no_parsed [] n h = refl
+no_parsed (x ∷ rs) zero h = absurd (omega arith)
+no_parsed (x ∷ rs) (suc n) h = no_parsed rs n (omega arith)
 
-  pub parsed_if_ok : {X : Type 0} (us : List (ResUnit R)) (n : ℕ) (v : ResUnit R) (result : Result X Error) → n < length us → OnOk result (is_uncached v.lines ≡ false) → OnOk result (has_parsed (parsed_units (set us n v)) n ≡ true)
-  parsed_if_ok us n v (Ok x) h e = parsed_set us n v h e
-  parsed_if_ok us n v (Err x) h e = tt
+pub parsed_at : (rs : List ResUnit) (n : ℕ) (r : ResUnit) → n < length rs → r ≡ get_or rs n r → has_parsed (parsed_units rs) n ≡ true → is_uncached r.lines ≡ false
+parsed_at [] n r h e k = absurd (omega arith)
+parsed_at (x ∷ rs) zero r h e k = ap (λ (y : ResUnit). is_uncached y.lines) e ∙ parsed_is x.lines k
+parsed_at (x ∷ rs) (suc n) r h e k = parsed_at rs n r (omega arith) e k
 
-  -- no lines are cached but those of the unit of a number
-  pub only_set : (us : List (ResUnit R)) (k : ℕ) (v : ResUnit R) → ParsesOnly (λ n. n ≡ k) (parsed_units us) (parsed_units (set us k v))
-  only_set [] k v n e = inl e
-  only_set (x ∷ us) zero v zero e = inr refl
-  only_set (x ∷ us) zero v (suc n) e = inl e
-  only_set (x ∷ us) (suc k) v zero e = inl e
-  only_set (x ∷ us) (suc k) v (suc n) e = elim (only_set us k v n e) [ inl p ↦ inl p | inr q ↦ inr (ap suc q) ]
+pub parsed_set : (rs : List ResUnit) (n : ℕ) (s : ResUnit) → n < length rs → is_uncached s.lines ≡ false → has_parsed (parsed_units (set rs n s)) n ≡ true
+parsed_set [] n s h e = absurd (omega arith)
+parsed_set (x ∷ rs) zero s h e = ap not e
+parsed_set (x ∷ rs) (suc n) s h e = parsed_set rs n s (omega arith) e
 
-  pub lines_set : (us : List (ResUnit R)) (n : ℕ) (v : ResUnit R) → n < length us → lines_at (set us n v) n ≡ v.lines
-  lines_set [] n v h = absurd (omega arith)
-  lines_set (x ∷ us) zero v h = refl
-  lines_set (x ∷ us) (suc n) v h = lines_set us n v (omega arith)
+pub parsed_if_ok : {X : Type 0} (rs : List ResUnit) (n : ℕ) (s : ResUnit) (result : Result X Error) → n < length rs → OnOk result (is_uncached s.lines ≡ false) → OnOk result (has_parsed (parsed_units (set rs n s)) n ≡ true)
+parsed_if_ok rs n s (Ok x) h e = parsed_set rs n s h e
+parsed_if_ok rs n s (Err x) h e = tt
 
-  -- the cached lines of each unit are its own
-  pub own_at : (d : Sections) (us : List (ResUnit R)) (n : ℕ) (u : ResUnit R) → n < length us → u ≡ get_or us n u → HaveLinesOf d us → AreLinesOf d u.dw_unit u.lines
-  own_at d [] n u h e own = absurd (omega arith)
-  own_at d (x ∷ us) zero u h e own = subst (λ (y : ResUnit R). AreLinesOf d y.dw_unit y.lines) (sym e) own.0
-  own_at d (x ∷ us) (suc n) u h e own = own_at d us n u (omega arith) e own.1
+-- no lines are cached but those of the unit of a number
+pub only_set : (rs : List ResUnit) (k : ℕ) (s : ResUnit) → ParsesOnly (λ n. n ≡ k) (parsed_units rs) (parsed_units (set rs k s))
+only_set [] k s n e = inl e
+only_set (x ∷ rs) zero s zero e = inr refl
+only_set (x ∷ rs) zero s (suc n) e = inl e
+only_set (x ∷ rs) (suc k) s zero e = inl e
+only_set (x ∷ rs) (suc k) s (suc n) e = elim (only_set rs k s n e) [ inl p ↦ inl p | inr q ↦ inr (ap suc q) ]
 
-  pub own_set : (d : Sections) (us : List (ResUnit R)) (n : ℕ) (v : ResUnit R) → HaveLinesOf d us → AreLinesOf d v.dw_unit v.lines → HaveLinesOf d (set us n v)
-  own_set d [] n v own h = tt
-  own_set d (x ∷ us) zero v own h = (h, own.1)
-  own_set d (x ∷ us) (suc n) v own h = (own.0, own_set d us n v own.1 h)
+lines_set : (rs : List ResUnit) (n : ℕ) (s : ResUnit) → n < length rs → lines_at (set rs n s) n ≡ s.lines
+lines_set [] n s h = absurd (omega arith)
+lines_set (x ∷ rs) zero s h = refl
+lines_set (x ∷ rs) (suc n) s h = lines_set rs n s (omega arith)
 
-  -- the row that is found in a unit
-  pub row_found : (d : Sections) (probe : ℕ) (us : List (ResUnit R)) (n : ℕ) (u v : ResUnit R) (result : Result (Option Row) Error) → n < length us → u ≡ get_or us n u
-      → ExactlyUnlessOom (option_map (location_of_row (cached_files v.lines))) result (location_in d probe (Some (indexed_unit u)))
-      → ExactlyUnlessOom (option_map (λ row. location_at_place (set us n v) (place_of_row n row))) result (location_in d probe (slice_get (indexed_units us) n))
-  row_found d probe us n u v result h e k = rw (lines_set us n v h, unit_at us n u h e) k
+-- the cached lines of each unit are its own
+pub own_at : (d : Sections) (us : List UnitRecord) (rs : List ResUnit) (n : ℕ) (u : UnitRecord) (r : ResUnit) → n < length rs → u ≡ get_or us n u → r ≡ get_or rs n r → HaveLinesOf d us rs → AreLinesOf d u r.lines
+own_at d [] [] n u r h e f own = absurd (omega arith)
+own_at d [] (y ∷ rs) n u r h e f own = absurd own
+own_at d (x ∷ us) [] n u r h e f own = absurd own
+own_at d (x ∷ us) (y ∷ rs) zero u r h e f own = subst (λ (v : UnitRecord). AreLinesOf d v r.lines) (sym e) (subst (λ (s : ResUnit). AreLinesOf d x s.lines) (sym f) own.0)
+own_at d (x ∷ us) (y ∷ rs) (suc n) u r h e f own = own_at d us rs n u r (omega arith) e f own.1
 
-  pub row_found_exactly : (d : Sections) (probe : ℕ) (us : List (ResUnit R)) (n : ℕ) (u v : ResUnit R) (result : Result (Option Row) Error) → n < length us → u ≡ get_or us n u
-      → Exactly (option_map (location_of_row (cached_files v.lines))) result (location_in d probe (Some (indexed_unit u)))
-      → Exactly (option_map (λ row. location_at_place (set us n v) (place_of_row n row))) result (location_in d probe (slice_get (indexed_units us) n))
-  row_found_exactly d probe us n u v result h e k = rw (lines_set us n v h, unit_at us n u h e) k
+pub own_set : (d : Sections) (us : List UnitRecord) (rs : List ResUnit) (n : ℕ) (u : UnitRecord) (s : ResUnit) → u ≡ get_or us n u → HaveLinesOf d us rs → AreLinesOf d u s.lines → HaveLinesOf d us (set rs n s)
+own_set d [] [] n u s e own h = tt
+own_set d [] (y ∷ rs) n u s e own h = absurd own
+own_set d (x ∷ us) [] n u s e own h = absurd own
+own_set d (x ∷ us) (y ∷ rs) zero u s e own h = (subst (λ (v : UnitRecord). AreLinesOf d v s.lines) e h, own.1)
+own_set d (x ∷ us) (y ∷ rs) (suc n) u s e own h = (own.0, own_set d us rs n u s e own.1 h)
+
+-- the number of a unit is one of a record
+pub in_units : (d : Sections) (us : List UnitRecord) (rs : List ResUnit) (n : ℕ) → HaveLinesOf d us rs → n < length rs → n < length us
+in_units d us rs n own h = subst (λ k. n < k) (sym (as_many d us rs own)) h
+
+-- one more unit, with its lines
+pub own_push : (d : Sections) (us : List UnitRecord) (rs : List ResUnit) (u : UnitRecord) (r : ResUnit) → HaveLinesOf d us rs → AreLinesOf d u r.lines → HaveLinesOf d (us ++ u ∷ []) (rs ++ r ∷ [])
+own_push d [] [] u r own h = (h, tt)
+own_push d [] (y ∷ rs) u r own h = absurd own
+own_push d (x ∷ us) [] u r own h = absurd own
+own_push d (x ∷ us) (y ∷ rs) u r own h = (own.0, own_push d us rs u r own.1 h)
+
+pub indexed_push : (d : Sections) (us : List UnitRecord) (rs : List ResUnit) (u : UnitRecord) (r : ResUnit) → HaveLinesOf d us rs → indexed_units (us ++ u ∷ []) (rs ++ r ∷ []) ≡ indexed_units us rs ++ indexed_unit u r ∷ []
+indexed_push d [] [] u r own = refl
+indexed_push d [] (y ∷ rs) u r own = absurd own
+indexed_push d (x ∷ us) [] u r own = absurd own
+indexed_push d (x ∷ us) (y ∷ rs) u r own = ap (λ is. indexed_unit x y ∷ is) (indexed_push d us rs u r own.1)
+
+parsed_push : (rs : List ResUnit) (r : ResUnit) → parsed_units (rs ++ r ∷ []) ≡ parsed_units rs ++ is_parsed r ∷ []
+parsed_push [] r = refl
+parsed_push (y ∷ rs) r = ap (λ bs. is_parsed y ∷ bs) (parsed_push rs r)
+
+pub pushed : (d : Sections) (us : List UnitRecord) (rs : List ResUnit) (u : UnitRecord) (old new : ResUnit) (given : List Range) (ranges now : List UnitRange) → HaveLinesOf d us rs → new.lang ≡ old.lang → is_parsed new ≡ has_lines (ranged_seen u old given)
+    → now ≡ ranges ++ map (range_of_unit (length rs)) (unit_ranges d (ranged_seen u old given))
+    → ◌≡◌ {A = IndexState} (record { units = indexed_units (us ++ u ∷ []) (rs ++ new ∷ []); ranges = now; parsed = parsed_units (rs ++ new ∷ []) })
+    (with_ranged d (record { units = indexed_units us rs; ranges = ranges; parsed = parsed_units rs }) (ranged_seen u old given))
+pushed d us rs u old new given ranges now own lang parsed more =
+    of_parts
+    (indexed_push d us rs u new own ∙ ap (λ l. indexed_units us rs ++ record { unit = u; language = l } ∷ []) lang)
+    (more ∙ ap (λ n. ranges ++ map (range_of_unit n) (unit_ranges d (ranged_seen u old given))) (sym (as_many_indexed d us rs own)))
+    (parsed_push rs new ∙ ap (λ b. parsed_units rs ++ b ∷ []) parsed)
+  where
+    of_parts : {a b : List IndexedUnit} {p q : List UnitRange} {v w : List Bool} → a ≡ b → p ≡ q → v ≡ w → ◌≡◌ {A = IndexState} (record { units = a; ranges = p; parsed = v }) (record { units = b; ranges = q; parsed = w })
+    of_parts e f g = cc
+
+-- the row that is found in a unit
+module _ (d : Sections) (probe : ℕ) (us : List UnitRecord) (rs : List ResUnit) (n : ℕ) (u : UnitRecord) (r s : ResUnit) (result : Result (Option Row) Error) (own : HaveLinesOf d us rs) (h : n < length rs) (e : u ≡ get_or us n u) (f : r ≡ get_or rs n r) where
+  in_both : n < length us
+  in_both = subst (λ k. n < k) (sym (as_many d us rs own)) h
+
+  pub row_found : ExactlyUnlessOom (option_map (location_of_row (cached_files s.lines))) result (location_in d probe (Some (indexed_unit u r)))
+      → ExactlyUnlessOom (option_map (λ row. location_at_place (set rs n s) (place_of_row n row))) result (location_in d probe (slice_get (indexed_units us rs) n))
+  row_found k = rw (lines_set rs n s h, unit_at us rs n u r in_both h e f) k
+
+  pub row_found_exactly : Exactly (option_map (location_of_row (cached_files s.lines))) result (location_in d probe (Some (indexed_unit u r)))
+      → Exactly (option_map (λ row. location_at_place (set rs n s) (place_of_row n row))) result (location_in d probe (slice_get (indexed_units us rs) n))
+  row_found_exactly k = rw (lines_set rs n s h, unit_at us rs n u r in_both h e f) k
 
 -- an answer is cached, unless it is OutOfMemory
 pub answer_cached : {X : Type 0} (old : LazyLines) (result : Result X Error) (new : LazyLines) → CachesAnswer old result new → IsNotOom result → is_uncached new ≡ false
@@ -200,27 +257,27 @@ module _ (d : Sections) (units : List IndexedUnit) (probe : ℕ) (r : UnitRange)
       of_bools false b c e k = e
 
 -- the lines of a unit, or their fault
-module _ {R : Type 0} (d : Sections) (us : List (ResUnit R)) (n : ℕ) (u : ResUnit R) (lines : Option LineTable) (result : Result (Unit {0}) Error) (h : n < length us) (value : u ≡ get_or us n u) where
-  same_fault : (r : Result LineTable Error) → lines_fault r ≡ lines_fault (r >>= λ l. Ok (Some l))
+module _ (d : Sections) (us : List UnitRecord) (rs : List ResUnit) (n : ℕ) (u : UnitRecord) (r : ResUnit) (lines : Option LineTable) (result : Result (Unit {0}) Error) (own : HaveLinesOf d us rs) (h : n < length rs) (e : u ≡ get_or us n u) (f : r ≡ get_or rs n r) where
+  same_fault : (a : Result LineTable Error) → lines_fault a ≡ lines_fault (a >>= λ l. Ok (Some l))
   same_fault (Ok l) = refl
-  same_fault (Err e) = refl
+  same_fault (Err x) = refl
 
-  at_unit : lines_answer_at d (slice_get (indexed_units us) n) ≡ lines_fault (lines_answer d u.dw_unit)
-  at_unit = ap (lines_answer_at d) (unit_at us n u h value) ∙ same_fault (unit_lines d u.dw_unit)
+  at_unit : lines_answer_at d (slice_get (indexed_units us rs) n) ≡ lines_fault (lines_answer d u)
+  at_unit = ap (lines_answer_at d) (unit_at us rs n u r (subst (λ k. n < k) (sym (as_many d us rs own)) h) h e f) ∙ same_fault (unit_lines d u)
 
-  pub lines_read : ExactlyUnlessOom (λ _. lines) result (lines_answer d u.dw_unit) → ExactlyUnlessOom (λ x. x) result (lines_answer_at d (slice_get (indexed_units us) n))
-  lines_read k = rw at_unit (given result (lines_answer d u.dw_unit) k)
+  pub lines_read : ExactlyUnlessOom (λ _. lines) result (lines_answer d u) → ExactlyUnlessOom (λ x. x) result (lines_answer_at d (slice_get (indexed_units us rs) n))
+  lines_read k = rw at_unit (given result (lines_answer d u) k)
     where
-      given : (r : Result (Unit {0}) Error) (a : Result (Option LineTable) Error) → ExactlyUnlessOom (λ _. lines) r a → ExactlyUnlessOom (λ x. x) r (lines_fault a)
-      given (Ok tt) a e = ap lines_fault e
-      given (Err f) a e = λ ne. ap lines_fault (e ne)
+      given : (q : Result (Unit {0}) Error) (a : Result (Option LineTable) Error) → ExactlyUnlessOom (λ _. lines) q a → ExactlyUnlessOom (λ x. x) q (lines_fault a)
+      given (Ok tt) a i = ap lines_fault i
+      given (Err x) a i = λ ne. ap lines_fault (i ne)
 
-  pub lines_read_exactly : Exactly (λ _. lines) result (lines_answer d u.dw_unit) → Exactly (λ x. x) result (lines_answer_at d (slice_get (indexed_units us) n))
-  lines_read_exactly k = rw at_unit (given result (lines_answer d u.dw_unit) k)
+  pub lines_read_exactly : Exactly (λ _. lines) result (lines_answer d u) → Exactly (λ x. x) result (lines_answer_at d (slice_get (indexed_units us rs) n))
+  lines_read_exactly k = rw at_unit (given result (lines_answer d u) k)
     where
-      given : (r : Result (Unit {0}) Error) (a : Result (Option LineTable) Error) → Exactly (λ _. lines) r a → Exactly (λ x. x) r (lines_fault a)
-      given (Ok tt) a e = ap lines_fault e
-      given (Err f) a e = ap lines_fault e
+      given : (q : Result (Unit {0}) Error) (a : Result (Option LineTable) Error) → Exactly (λ _. lines) q a → Exactly (λ x. x) q (lines_fault a)
+      given (Ok tt) a i = ap lines_fault i
+      given (Err x) a i = ap lines_fault i
 
 -- the looks along ranges
 pub looks_first : (d : Sections) (units : List IndexedUnit) (r : UnitRange) (rest : List UnitRange) → looks_along d units (r ∷ rest) ≡ looks_in d (slice_get units r.unit) + looks_along d units rest
@@ -325,11 +382,11 @@ parsed_below p k before at n h = elim (le_cases n k (omega arith)) [ inl e ↦ a
     le_cases (suc m) zero h = absurd (omega arith)
     le_cases (suc m) (suc k) h = elim (le_cases m k (omega arith)) [ inl e ↦ inl (ap suc e) | inr l ↦ inr (omega arith) ]
 
-pub all_parsed : {R : Type 0} (us vs : List (ResUnit R)) (k : ℕ) → StayUnits us vs → length (indexed_units us) ≤ k → ((n : ℕ) → n < k → has_parsed (parsed_units vs) n ≡ true) → (n : ℕ) → has_parsed (parsed_units vs) n ≡ true
-all_parsed us vs k stay le below n = of_list (parsed_units vs) k (subst (λ m. m ≤ k) lengths le) below n
+pub all_parsed : (rs ss : List ResUnit) (k : ℕ) → StayUnits rs ss → length rs ≤ k → ((n : ℕ) → n < k → has_parsed (parsed_units ss) n ≡ true) → (n : ℕ) → has_parsed (parsed_units ss) n ≡ true
+all_parsed rs ss k stay le below n = of_list (parsed_units ss) k (subst (λ m. m ≤ k) lengths le) below n
   where
-    lengths : length (indexed_units us) ≡ length (parsed_units vs)
-    lengths = ap length (sym (stay_indexed us vs stay)) ∙ length-map vs indexed_unit ∙ sym (length-map vs is_parsed)
+    lengths : length rs ≡ length (parsed_units ss)
+    lengths = sym (stay_length rs ss stay) ∙ sym (length-map ss is_parsed)
 
     of_list : (p : List Bool) (k : ℕ) → length p ≤ k → ((n : ℕ) → n < k → has_parsed p n ≡ true) → (n : ℕ) → has_parsed p n ≡ true
     of_list [] k le f n = refl

@@ -2,7 +2,6 @@
 -- Own: lines are read when they are first asked for, and cached then, their fault too. OutOfMemory
 -- is never cached.
 use Rattle.std.specs.Prelude.{◌≡◌, ◌≢◌, ℕ, Bool, true, false, not, List, [], ◌∷◌, map, Option, Some, None, is_some, slice_get, Result, Ok, Err}
-use Rattle.std.specs.List.{AllByRecursion}
 use Rattle.gimli_read.specs.declared.error.Error.{Error}
 use Rattle.gimli_read.specs.declared.error.Error.TheVariants.{OutOfMemory}
 use Rattle.gimli_read.specs.declared.range.Range.{Range}
@@ -84,47 +83,51 @@ cached_spans range low high Unread = []
 cached_spans range low high (Read lines) = all_read (locations_in_range lines range low high)
 cached_spans range low high (Faulty e) = Err e ∷ []
 
--- a unit and its language, as the fields have them
-abbrev pub indexed_unit : {R : Type 0} → ResUnit R → IndexedUnit
-indexed_unit u = record { unit = u.dw_unit; language = u.lang }
+-- a unit and its language
+abbrev pub indexed_unit : UnitRecord → ResUnit → IndexedUnit
+indexed_unit dw_unit u = record { unit = dw_unit; language = u.lang }
 
 -- whether the lines of a unit are parsed
-abbrev pub is_parsed : {R : Type 0} → ResUnit R → Bool
+abbrev pub is_parsed : ResUnit → Bool
 is_parsed u = not (is_uncached u.lines)
 
 -- the lines of a unit that was just read are not parsed, unless it has no line program
-pub record IsUnparsed {R : Type 0} (d : Sections) (u : ResUnit R) : Type 0 where
-  pub uncached : is_uncached u.lines ≡ is_some u.dw_unit.line_program
-  pub lines : AreLinesOf d u.dw_unit u.lines
+pub record IsUnparsed (d : Sections) (dw_unit : UnitRecord) (u : ResUnit) : Type 0 where
+  pub uncached : is_uncached u.lines ≡ is_some dw_unit.line_program
+  pub lines : AreLinesOf d dw_unit u.lines
 
--- the units, as the fields have them
-abbrev pub indexed_units : {R : Type 0} → List (ResUnit R) → List IndexedUnit
-indexed_units units = map indexed_unit units
+-- the units and their languages, which stand side by side in two lists
+abbrev pub indexed_units : List UnitRecord → List ResUnit → List IndexedUnit
+indexed_units [] units = []
+indexed_units (d ∷ dw_units) [] = []
+indexed_units (d ∷ dw_units) (u ∷ units) = indexed_unit d u ∷ indexed_units dw_units units
 
 -- of which units the lines are parsed
-abbrev pub parsed_units : {R : Type 0} → List (ResUnit R) → List Bool
+abbrev pub parsed_units : List ResUnit → List Bool
 parsed_units units = map is_parsed units
 
--- the cached lines of each unit are its own
-abbrev pub HaveLinesOf : {R : Type 0} → Sections → List (ResUnit R) → Type 0
-HaveLinesOf d units = AllByRecursion (λ u. AreLinesOf d u.dw_unit u.lines) units
+-- beside each unit stand cached lines, which are its own
+abbrev pub HaveLinesOf : Sections → List UnitRecord → List ResUnit → Type 0
+HaveLinesOf d [] [] = Unit {0}
+HaveLinesOf d (x ∷ dw_units) (u ∷ units) = AreLinesOf d x u.lines × HaveLinesOf d dw_units units
+HaveLinesOf d _ _ = ⊥
 
 -- the lines of a unit, as they are cached
-abbrev pub lines_in_cache : {R : Type 0} → Option (ResUnit R) → LazyLines
+abbrev pub lines_in_cache : Option ResUnit → LazyLines
 lines_in_cache None = Unread
 lines_in_cache (Some u) = u.lines
 
 -- the lines of a unit by its number, as they are cached
-abbrev pub lines_at : {R : Type 0} → List (ResUnit R) → ℕ → LazyLines
+abbrev pub lines_at : List ResUnit → ℕ → LazyLines
 lines_at units n = lines_in_cache (slice_get units n)
 
--- the unit is the same, and so is what is cached of it
-pub record StaysUnit {R : Type 0} (old new : ResUnit R) : Type 0 where
-  pub indexed : indexed_unit new ≡ indexed_unit old
+-- what is kept of a unit stays: its language, and what is cached
+pub record StaysUnit (old new : ResUnit) : Type 0 where
+  pub language : new.lang ≡ old.lang
   pub lines : StaysCached old.lines new.lines
 
--- each unit is the same, and so is what is cached of it
-abbrev pub StayUnits : {R : Type 0} → List (ResUnit R) → List (ResUnit R) → Type 0
+-- what is kept of each unit stays
+abbrev pub StayUnits : List ResUnit → List ResUnit → Type 0
 StayUnits [] [] = Unit {0}
 StayUnits (u ∷ us) (v ∷ vs) = StaysUnit u v × StayUnits us vs
 StayUnits _ _ = ⊥
@@ -139,5 +142,5 @@ abbrev pub place_of_row : ℕ → Row → Place
 place_of_row n row = record { unit = n; row = row }
 
 -- the location of a row in the lines of a unit
-abbrev pub location_at_place : {R : Type 0} → List (ResUnit R) → Place → Location
+abbrev pub location_at_place : List ResUnit → Place → Location
 location_at_place units place = location_of_row (cached_files (lines_at units place.unit)) place.row

@@ -7,6 +7,7 @@ use Rattle.gimli_read.specs.Reading.{◌>>=◌}
 use Rattle.gimli.specs.Header.{UnitHeaderFields}
 use Rattle.gimli.specs.Sections.{Sections, SupSections}
 use Rattle.gimli.specs.Text.{from_offset}
+use Rattle.gimli.specs.Unit.{UnitRecord}
 use Rattle.gimli.specs.UnitsLeft.{all_headers}
 use Rattle.addr2line_units.specs.declared.aranges.UnitArange.{UnitArange}
 use Rattle.addr2line_units.specs.declared.index.UnitRange.{UnitRange}
@@ -101,22 +102,26 @@ index_takes_memory shares d =
 -- what was read so far
 abbrev pub index_seen : {R : Type 0} → Index R → IndexState
 index_seen i = record {
-  units = indexed_units i.units.items;
+  units = indexed_units i.dw_units.items i.units.items;
   ranges = i.ranges.items;
   parsed = parsed_units i.units.items;
 }
 
+-- the units that a context has, and their languages
+abbrev pub units_in : {R : Type 0} → ResUnits R → List IndexedUnit
+units_in u = indexed_units u.dw_units.items u.units.items
+
 -- what a context has
 abbrev pub units_seen : {R : Type 0} → ResUnits R → IndexState
 units_seen u = record {
-  units = indexed_units u.units.items;
+  units = units_in u;
   ranges = u.ranges;
   parsed = parsed_units u.units.items;
 }
 
 -- a unit and the ranges that are given for it
-abbrev pub ranged_seen : {R : Type 0} → ResUnit R → List Range → RangedUnit
-ranged_seen u given = record { indexed = indexed_unit u; given = given }
+abbrev pub ranged_seen : UnitRecord → ResUnit → List Range → RangedUnit
+ranged_seen dw_unit u given = record { indexed = indexed_unit dw_unit u; given = given }
 
 -- whether memory may be taken for units of a supplementary file, type units too
 abbrev pub sup_units_take_memory : Bool → Sections → Bool

@@ -41,7 +41,7 @@ rows_or_fault (Ok rows) = unit_rows_left rows
 rows_or_fault (Err e) = Err e ∷ []
 
 -- what cached lines have in the ranges that are left
-abbrev pub cached_along : {R : Type 0} → List (ResUnit R) → ℕ → ℕ → List UnitRange
+abbrev pub cached_along : List ResUnit → ℕ → ℕ → List UnitRange
     → List (Result LocatedSpan Error)
 cached_along units low high ranges =
     flat_map (λ (r : UnitRange). cached_spans r.range low high (lines_at units r.unit)) ranges

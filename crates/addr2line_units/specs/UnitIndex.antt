@@ -38,6 +38,10 @@ pub record IndexedUnit : Type 0 where
   pub unit : UnitRecord
   pub language : Option DwLang
 
+-- the units without their languages
+abbrev pub unit_records : List IndexedUnit → List UnitRecord
+unit_records units = map (λ (u : IndexedUnit). u.unit) units
+
 -- a unit with the ranges that .debug_aranges or its attributes give
 pub record RangedUnit : Type 0 where
   pub indexed : IndexedUnit

@@ -12,8 +12,8 @@ use crate::place::Place;
 use crate::range_iter::UnitRangeIter;
 use crate::unit::ResUnit;
 use addr2line_lines::{Count, Row};
-use gimli::Dwarf;
 use gimli::read::{Error, Reader};
+use gimli::{Dwarf, Unit};
 use std::alloc::Global;
 
 // The row of an address in the lines of a unit, which are cached then, or their fault; none where
@@ -21,25 +21,27 @@ use std::alloc::Global;
 fn find_row_in<R: Reader>(
     alloc: Global,
     dwarf: &Dwarf<R>,
-    units: &mut Vec<ResUnit<R>>,
+    dw_units: &[Unit<R>],
+    units: &mut Vec<ResUnit>,
     number: usize,
     looks: &mut Count,
     probe: u64,
 ) -> Result<Option<Row>, Error>
-    requires read { HaveLinesOf dwarf.now units.old.items }
+    requires read { HaveLinesOf dwarf.now dw_units.now units.old.items }
     ensures gives { ExactlyUnlessOom (option_map (λ row. location_at_place units.new.items
         (place_of_row number row))) result (location_in dwarf.now probe
-        (slice_get (indexed_units units.old.items) number)) }
+        (slice_get (indexed_units dw_units.now units.old.items) number)) }
     ensures exact { has_parsed (parsed_units units.old.items) number ≡ true → Exactly
         (option_map (λ row. location_at_place units.new.items (place_of_row number row))) result
-        (location_in dwarf.now probe (slice_get (indexed_units units.old.items) number)) }
+        (location_in dwarf.now probe
+        (slice_get (indexed_units dw_units.now units.old.items) number)) }
     ensures parsed { IsNotOom result → has_parsed (parsed_units units.new.items) number ≡ true }
     ensures only { ParsesOnly (λ n. n ≡ number)
         (parsed_units units.old.items) (parsed_units units.new.items) }
     ensures stay { StayUnits units.old.items units.new.items }
-    ensures read { HaveLinesOf dwarf.now units.new.items }
+    ensures read { HaveLinesOf dwarf.now dw_units.now units.new.items }
     ensures cost { looks.new ≤ looks.old + looks_in dwarf.now
-        (slice_get (indexed_units units.old.items) number) }
+        (slice_get (indexed_units dw_units.now units.old.items) number) }
     ensures raised { looks.old ≤ looks.new }
     ensures counted { is_found result ≡ true → looks.old < looks.new }
 {
@@ -47,7 +49,7 @@ fn find_row_in<R: Reader>(
         return Ok(None);
     }
     let unit = &mut units[number];
-    unit.find_row(alloc, dwarf, looks, probe)
+    unit.find_row(alloc, dwarf, &dw_units[number], looks, probe)
 }
 
 // The place of an address in the first unit along ranges that has one. The lines of each unit up
@@ -55,33 +57,37 @@ fn find_row_in<R: Reader>(
 pub(crate) fn find_place_along<R: Reader>(
     alloc: Global,
     dwarf: &Dwarf<R>,
-    units: &mut Vec<ResUnit<R>>,
+    dw_units: &[Unit<R>],
+    units: &mut Vec<ResUnit>,
     mut ranges: UnitRangeIter<'_>,
     looks: &mut Count,
     probe: u64,
 ) -> Result<Option<Place>, Error>
-    requires read { HaveLinesOf dwarf.now units.old.items }
+    requires read { HaveLinesOf dwarf.now dw_units.now units.old.items }
     ensures gives { ExactlyUnlessOom (option_map (location_at_place units.new.items)) result
-        (along dwarf.now (indexed_units units.old.items) probe (ranges_left ranges.entry)) }
-    ensures exact { ready_along dwarf.now (indexed_units units.old.items)
+        (along dwarf.now (indexed_units dw_units.now units.old.items) probe
+        (ranges_left ranges.entry)) }
+    ensures exact { ready_along dwarf.now (indexed_units dw_units.now units.old.items)
         (parsed_units units.old.items) probe (ranges_left ranges.entry) ≡ true → Exactly
         (option_map (location_at_place units.new.items)) result
-        (along dwarf.now (indexed_units units.old.items) probe (ranges_left ranges.entry)) }
-    ensures ready { IsNotOom result → ready_along dwarf.now (indexed_units units.old.items)
-        (parsed_units units.new.items) probe (ranges_left ranges.entry) ≡ true }
-    ensures only { ParsesOnly
-        (AsksFor dwarf.now (indexed_units units.old.items) probe (ranges_left ranges.entry))
+        (along dwarf.now (indexed_units dw_units.now units.old.items) probe
+        (ranges_left ranges.entry)) }
+    ensures ready { IsNotOom result → ready_along dwarf.now
+        (indexed_units dw_units.now units.old.items) (parsed_units units.new.items) probe
+        (ranges_left ranges.entry) ≡ true }
+    ensures only { ParsesOnly (AsksFor dwarf.now (indexed_units dw_units.now units.old.items) probe
+        (ranges_left ranges.entry))
         (parsed_units units.old.items) (parsed_units units.new.items) }
     ensures stay { StayUnits units.old.items units.new.items }
-    ensures read { HaveLinesOf dwarf.now units.new.items }
+    ensures read { HaveLinesOf dwarf.now dw_units.now units.new.items }
     ensures cost { looks.new ≤ looks.old + looks_along dwarf.now
-        (indexed_units units.old.items) (ranges_left ranges.entry) }
+        (indexed_units dw_units.now units.old.items) (ranges_left ranges.entry) }
     ensures raised { looks.old ≤ looks.new }
     ensures counted { is_found result ≡ true → looks.old < looks.new }
     ensures none { ranges_left ranges.entry ≡ [] → result ≡ Ok None }
 {
     while let Some(range) = ranges.next() {
-        if let Some(row) = find_row_in(alloc, dwarf, units, range.unit, looks, probe)? {
+        if let Some(row) = find_row_in(alloc, dwarf, dw_units, units, range.unit, looks, probe)? {
             return Ok(Some(Place {
                 unit: range.unit,
                 row,
@@ -96,23 +102,24 @@ pub(crate) fn find_place_along<R: Reader>(
 fn cache_lines_in<R: Reader>(
     alloc: Global,
     dwarf: &Dwarf<R>,
-    units: &mut Vec<ResUnit<R>>,
+    dw_units: &[Unit<R>],
+    units: &mut Vec<ResUnit>,
     number: usize,
 ) -> Result<(), Error>
-    requires read { HaveLinesOf dwarf.now units.old.items }
+    requires read { HaveLinesOf dwarf.now dw_units.now units.old.items }
     ensures exact { has_parsed (parsed_units units.old.items) number ≡ true → result ≡ Ok tt }
     ensures parsed { OnOk result (has_parsed (parsed_units units.new.items) number ≡ true) }
     ensures only { ParsesOnly (λ n. n ≡ number)
         (parsed_units units.old.items) (parsed_units units.new.items) }
     ensures refused { IfErr result (λ e. e ≡ OutOfMemory) }
     ensures stay { StayUnits units.old.items units.new.items }
-    ensures read { HaveLinesOf dwarf.now units.new.items }
+    ensures read { HaveLinesOf dwarf.now dw_units.now units.new.items }
 {
     if number >= units.len() {
         return Ok(());
     }
     let unit = &mut units[number];
-    unit.cache_lines(alloc, dwarf)
+    unit.cache_lines(alloc, dwarf, &dw_units[number])
 }
 
 // Caches the lines of the units that ranges lead to, or their faults, and no others. Refused
@@ -120,10 +127,11 @@ fn cache_lines_in<R: Reader>(
 pub(crate) fn cache_lines_along<R: Reader>(
     alloc: Global,
     dwarf: &Dwarf<R>,
-    units: &mut Vec<ResUnit<R>>,
+    dw_units: &[Unit<R>],
+    units: &mut Vec<ResUnit>,
     mut ranges: UnitRangeIter<'_>,
 ) -> Result<(), Error>
-    requires read { HaveLinesOf dwarf.now units.old.items }
+    requires read { HaveLinesOf dwarf.now dw_units.now units.old.items }
     ensures exact { AreParsed (parsed_units units.old.items) (ranges_left ranges.entry)
         → result ≡ Ok tt }
     ensures parsed { OnOk result
@@ -132,10 +140,10 @@ pub(crate) fn cache_lines_along<R: Reader>(
         (parsed_units units.old.items) (parsed_units units.new.items) }
     ensures refused { IfErr result (λ e. e ≡ OutOfMemory) }
     ensures stay { StayUnits units.old.items units.new.items }
-    ensures read { HaveLinesOf dwarf.now units.new.items }
+    ensures read { HaveLinesOf dwarf.now dw_units.now units.new.items }
 {
     while let Some(range) = ranges.next() {
-        cache_lines_in(alloc, dwarf, units, range.unit)?;
+        cache_lines_in(alloc, dwarf, dw_units, units, range.unit)?;
     }
     Ok(())
 }
@@ -144,25 +152,28 @@ pub(crate) fn cache_lines_along<R: Reader>(
 fn read_lines_in<R: Reader>(
     alloc: Global,
     dwarf: &Dwarf<R>,
-    units: &mut Vec<ResUnit<R>>,
+    dw_units: &[Unit<R>],
+    units: &mut Vec<ResUnit>,
     number: usize,
 ) -> Result<(), Error>
-    requires read { HaveLinesOf dwarf.now units.old.items }
+    requires read { HaveLinesOf dwarf.now dw_units.now units.old.items }
     ensures gives { ExactlyUnlessOom (λ x. x) result
-        (lines_answer_at dwarf.now (slice_get (indexed_units units.old.items) number)) }
+        (lines_answer_at dwarf.now
+        (slice_get (indexed_units dw_units.now units.old.items) number)) }
     ensures exact { has_parsed (parsed_units units.old.items) number ≡ true → Exactly (λ x. x)
-        result (lines_answer_at dwarf.now (slice_get (indexed_units units.old.items) number)) }
+        result (lines_answer_at dwarf.now
+        (slice_get (indexed_units dw_units.now units.old.items) number)) }
     ensures parsed { IsNotOom result → has_parsed (parsed_units units.new.items) number ≡ true }
     ensures only { ParsesOnly (λ n. n ≡ number)
         (parsed_units units.old.items) (parsed_units units.new.items) }
     ensures stay { StayUnits units.old.items units.new.items }
-    ensures read { HaveLinesOf dwarf.now units.new.items }
+    ensures read { HaveLinesOf dwarf.now dw_units.now units.new.items }
 {
     if number >= units.len() {
         return Ok(());
     }
     let unit = &mut units[number];
-    unit.read_lines(alloc, dwarf)
+    unit.read_lines(alloc, dwarf, &dw_units[number])
 }
 
 // Reads the lines of all units in their order, unless they are cached, and caches them; the first
@@ -170,25 +181,26 @@ fn read_lines_in<R: Reader>(
 pub(crate) fn read_all_lines<R: Reader>(
     alloc: Global,
     dwarf: &Dwarf<R>,
-    units: &mut Vec<ResUnit<R>>,
+    dw_units: &[Unit<R>],
+    units: &mut Vec<ResUnit>,
 ) -> Result<(), Error>
-    requires read { HaveLinesOf dwarf.now units.old.items }
+    requires read { HaveLinesOf dwarf.now dw_units.now units.old.items }
     ensures gives { ExactlyUnlessOom (λ x. x) result
-        (lines_fault (all_lines dwarf.now (indexed_units units.old.items))) }
-    ensures exact { AreReadyForAll dwarf.now (indexed_units units.old.items)
+        (lines_fault (all_lines dwarf.now (indexed_units dw_units.now units.old.items))) }
+    ensures exact { AreReadyForAll dwarf.now (indexed_units dw_units.now units.old.items)
         (parsed_units units.old.items) → Exactly (λ x. x) result
-        (lines_fault (all_lines dwarf.now (indexed_units units.old.items))) }
-    ensures ready { IsNotOom result → AreReadyForAll dwarf.now (indexed_units units.old.items)
-        (parsed_units units.new.items) }
+        (lines_fault (all_lines dwarf.now (indexed_units dw_units.now units.old.items))) }
+    ensures ready { IsNotOom result → AreReadyForAll dwarf.now
+        (indexed_units dw_units.now units.old.items) (parsed_units units.new.items) }
     ensures parsed { OnOk result (AreAllParsed (parsed_units units.new.items)) }
-    ensures only { ParsesOnly (AllAskFor dwarf.now (indexed_units units.old.items))
+    ensures only { ParsesOnly (AllAskFor dwarf.now (indexed_units dw_units.now units.old.items))
         (parsed_units units.old.items) (parsed_units units.new.items) }
     ensures stay { StayUnits units.old.items units.new.items }
-    ensures read { HaveLinesOf dwarf.now units.new.items }
+    ensures read { HaveLinesOf dwarf.now dw_units.now units.new.items }
 {
     let count = units.len();
     for number in 0..count {
-        read_lines_in(alloc, dwarf, units, number)?;
+        read_lines_in(alloc, dwarf, dw_units, units, number)?;
     }
     Ok(())
 }

@@ -13,18 +13,21 @@ use crate::range_iter::UnitRangeIter;
 use crate::unit::{LazyLines, ResUnit};
 use addr2line_lines::{LineLocationRangeIter, Location};
 use gimli::read::{Error, Range, Reader};
+use std::marker::PhantomData;
 
 /// The rows that a range of addresses meets, unit range after unit range.
 // It has no `Model`, so that what a lookup lends is seen to hold nothing but references.
 #[derive(Drop)]
 pub struct LocationRangeIter<'ctx, R: Reader> {
-    units: &'ctx Vec<ResUnit<R>>,
+    units: &'ctx Vec<ResUnit>,
     // The unit ranges that are left.
     ranges: UnitRangeIter<'ctx>,
     low: u64,
     high: u64,
     // What is left of the unit range before them.
     rows: Option<LineLocationRangeIter<'ctx>>,
+    // It walks over cached lines alone, and has no reader.
+    reader: PhantomData<R>,
 }
 
 // What cached lines have in a unit range.
@@ -45,8 +48,8 @@ fn rows_of<'ctx>(
 }
 
 // What the cached lines of the unit of a number have in a range of it.
-fn rows_in<'ctx, R: Reader>(
-    units: &'ctx Vec<ResUnit<R>>,
+fn rows_in<'ctx>(
+    units: &'ctx Vec<ResUnit>,
     range: UnitRange,
     low: u64,
     high: u64,
@@ -63,7 +66,7 @@ fn rows_in<'ctx, R: Reader>(
 impl<'ctx, R: Reader> LocationRangeIter<'ctx, R> {
     // What the cached lines of units have in unit ranges. Takes no memory.
     pub(crate) fn new(
-        units: &'ctx Vec<ResUnit<R>>,
+        units: &'ctx Vec<ResUnit>,
         ranges: UnitRangeIter<'ctx>,
         low: u64,
         high: u64,
@@ -77,6 +80,7 @@ impl<'ctx, R: Reader> LocationRangeIter<'ctx, R> {
             low,
             high,
             rows: None,
+            reader: PhantomData,
         }
     }
 

@@ -30,11 +30,9 @@ pub enum LazyLines {
     Faulty(Error),
 }
 
-/// A unit of a context.
+/// What a context keeps of a unit, beside the unit itself.
 #[derive(Drop)]
-pub struct ResUnit<R: Reader> {
-    /// The unit.
-    pub dw_unit: Unit<R>,
+pub struct ResUnit {
     /// Its language.
     pub lang: Option<DwLang>,
     /// Its lines.
@@ -119,25 +117,20 @@ fn lines_at_first<R: Reader>(alloc: Global, unit: &Unit<R>) -> LazyLines
     }
 }
 
-// A unit whose record was read, and its given ranges.
+// What is kept of a unit whose record was read, and its given ranges.
 pub(crate) fn read_ranged_unit<R: Reader>(
     alloc: Global,
     dwarf: &Dwarf<R>,
     aranges: &UnitAranges,
-    dw_unit: Unit<R>,
-) -> Result<(ResUnit<R>, Vec<Range>), Error>
-    ensures gives { ExactlyUnlessOom (λ x. ranged_seen x.0 x.1.items) result
-        (ranged_unit dwarf.now aranges.now dw_unit) }
-    ensures unparsed { IfOk result (λ x. IsUnparsed dwarf.now x.0) }
+    dw_unit: &Unit<R>,
+) -> Result<(ResUnit, Vec<Range>), Error>
+    ensures gives { ExactlyUnlessOom (λ x. ranged_seen dw_unit.now x.0 x.1.items) result
+        (ranged_unit dwarf.now aranges.now dw_unit.now) }
+    ensures unparsed { IfOk result (λ x. IsUnparsed dwarf.now dw_unit.now x.0) }
 {
-    let (lang, ranges) = read_given(alloc, UnitRef::new(dwarf, &dw_unit), aranges)?;
-    let lines = lines_at_first(alloc, &dw_unit);
-    let unit = ResUnit {
-        dw_unit,
-        lang,
-        lines,
-    };
-    Ok((unit, ranges))
+    let (lang, ranges) = read_given(alloc, UnitRef::new(dwarf, dw_unit), aranges)?;
+    let lines = lines_at_first(alloc, dw_unit);
+    Ok((ResUnit { lang, lines }, ranges))
 }
 
 // The lines of a unit, or their fault, as they are cached. Refused `OutOfMemory` alone.
@@ -208,14 +201,19 @@ fn find_cached_row(lines: &LazyLines, looks: &mut Count, probe: u64) -> Option<R
     }
 }
 
-impl<R: Reader> ResUnit<R> {
-    // Caches the lines, or their fault, unless they are cached. Refused `OutOfMemory` alone.
+impl ResUnit {
+    // Caches the lines of the unit, or their fault, unless they are cached. Refused `OutOfMemory`
+    // alone.
     #[tactic(auto, using(crate::proofs::UnitLemmas::cached_before))]
-    pub(crate) fn cache_lines(&mut self, alloc: Global, dwarf: &Dwarf<R>) -> Result<(), Error>
-        requires read { AreLinesOf dwarf.now self.old.dw_unit
-            self.old.lines }
+    pub(crate) fn cache_lines<R: Reader>(
+        &mut self,
+        alloc: Global,
+        dwarf: &Dwarf<R>,
+        dw_unit: &Unit<R>,
+    ) -> Result<(), Error>
+        requires read { AreLinesOf dwarf.now dw_unit.now self.old.lines }
         ensures gives { OnOk result (cached_answer self.new.lines
-            ≡ lines_answer dwarf.now self.old.dw_unit) }
+            ≡ lines_answer dwarf.now dw_unit.now) }
         ensures exact { is_uncached self.old.lines ≡ false → result ≡ Ok tt }
         ensures cached { OnOk result (is_uncached self.new.lines ≡ false) }
         ensures fault { is_uncached self.old.lines ≡ true → OnOk result
@@ -223,84 +221,89 @@ impl<R: Reader> ResUnit<R> {
         ensures stays { StaysCached self.old.lines self.new.lines }
         ensures refused { IfErr result (λ e. e ≡ OutOfMemory) }
         ensures memory { OnErr result (self.new.lines ≡ self.old.lines) }
-        ensures unit { self.new.dw_unit ≡ self.old.dw_unit }
         ensures lang { self.new.lang ≡ self.old.lang }
-        ensures read { AreLinesOf dwarf.now self.new.dw_unit
-            self.new.lines }
+        ensures read { AreLinesOf dwarf.now dw_unit.now self.new.lines }
     {
         if is_uncached(&self.lines) {
-            self.lines = parse_lines(alloc, dwarf, &self.dw_unit)?;
+            self.lines = parse_lines(alloc, dwarf, dw_unit)?;
         }
         Ok(())
     }
 
-    // Reads the lines, unless they are cached, and caches them, or their fault.
-    pub(crate) fn read_lines(&mut self, alloc: Global, dwarf: &Dwarf<R>) -> Result<(), Error>
-        requires read { AreLinesOf dwarf.now self.old.dw_unit
-            self.old.lines }
+    // Reads the lines of the unit, unless they are cached, and caches them, or their fault.
+    pub(crate) fn read_lines<R: Reader>(
+        &mut self,
+        alloc: Global,
+        dwarf: &Dwarf<R>,
+        dw_unit: &Unit<R>,
+    ) -> Result<(), Error>
+        requires read { AreLinesOf dwarf.now dw_unit.now self.old.lines }
         ensures gives { ExactlyUnlessOom (λ _. cached_lines self.new.lines) result
-            (lines_answer dwarf.now self.old.dw_unit) }
+            (lines_answer dwarf.now dw_unit.now) }
         ensures exact { is_uncached self.old.lines ≡ false →
             Exactly (λ _. cached_lines self.new.lines) result
-            (lines_answer dwarf.now self.old.dw_unit) }
+            (lines_answer dwarf.now dw_unit.now) }
         ensures stays { StaysCached self.old.lines self.new.lines }
         ensures caches { CachesAnswer self.old.lines result self.new.lines }
-        ensures unit { self.new.dw_unit ≡ self.old.dw_unit }
         ensures lang { self.new.lang ≡ self.old.lang }
-        ensures read { AreLinesOf dwarf.now self.new.dw_unit
-            self.new.lines }
+        ensures read { AreLinesOf dwarf.now dw_unit.now self.new.lines }
     {
-        self.cache_lines(alloc, dwarf)?;
+        self.cache_lines(alloc, dwarf, dw_unit)?;
         check_lines(&self.lines)
     }
 
     // The ranges that lead to the unit: those that are given, or where there are none those of its
     // line sequences; its lines are cached then, their fault too. Refused `OutOfMemory` alone.
-    pub(crate) fn or_line_ranges(
+    pub(crate) fn or_line_ranges<R: Reader>(
         &mut self,
         alloc: Global,
         dwarf: &Dwarf<R>,
+        dw_unit: &Unit<R>,
         given: Vec<Range>,
     ) -> Result<Vec<Range>, Error>
-        requires unparsed { IsUnparsed dwarf.now self.old }
+        requires unparsed { IsUnparsed dwarf.now dw_unit.now self.old }
         ensures gives { ExactlyUnlessOom (λ v. v.items) result (Ok (unit_ranges dwarf.now
-            (ranged_seen self.old given.items))) }
+            (ranged_seen dw_unit.now self.old given.items))) }
         ensures refused { IfErr result (λ e. e ≡ OutOfMemory) }
-        ensures exact { asks_lines (ranged_seen self.old given.items) ≡ false → IsOk result }
+        ensures exact { asks_lines (ranged_seen dw_unit.now self.old given.items) ≡ false
+            → IsOk result }
         ensures parsed { OnOk result (is_parsed self.new ≡ has_lines
-            (ranged_seen self.old given.items)) }
-        ensures unit { indexed_unit self.new ≡ indexed_unit self.old }
-        ensures read { AreLinesOf dwarf.now self.new.dw_unit self.new.lines }
+            (ranged_seen dw_unit.now self.old given.items)) }
+        ensures lang { self.new.lang ≡ self.old.lang }
+        ensures read { AreLinesOf dwarf.now dw_unit.now self.new.lines }
     {
-        if !given.is_empty() || is_partial(self.dw_unit.header.type_()) {
+        if !given.is_empty() || is_partial(dw_unit.header.type_()) {
             return Ok(given);
         }
-        self.cache_lines(alloc, dwarf)?;
+        self.cache_lines(alloc, dwarf, dw_unit)?;
         sequence_ranges(alloc, &self.lines)
     }
 
-    // The row of an address, whose lines are read and cached, unless they are.
-    pub(crate) fn find_row(
+    // The row of an address in the unit, whose lines are read and cached, unless they are.
+    pub(crate) fn find_row<R: Reader>(
         &mut self,
         alloc: Global,
         dwarf: &Dwarf<R>,
+        dw_unit: &Unit<R>,
         looks: &mut Count,
         probe: u64,
     ) -> Result<Option<Row>, Error>
-        requires read { AreLinesOf dwarf.now self.old.dw_unit self.old.lines }
+        requires read { AreLinesOf dwarf.now dw_unit.now self.old.lines }
         ensures gives { ExactlyUnlessOom (option_map (location_of_row (cached_files
-            self.new.lines))) result (location_in dwarf.now probe (Some (indexed_unit self.old))) }
+            self.new.lines))) result
+            (location_in dwarf.now probe (Some (indexed_unit dw_unit.now self.old))) }
         ensures exact { is_uncached self.old.lines ≡ false → Exactly (option_map
             (location_of_row (cached_files self.new.lines))) result
-            (location_in dwarf.now probe (Some (indexed_unit self.old))) }
+            (location_in dwarf.now probe (Some (indexed_unit dw_unit.now self.old))) }
         ensures stays { StaysUnit self.old self.new }
         ensures caches { CachesAnswer self.old.lines result self.new.lines }
-        ensures read { AreLinesOf dwarf.now self.new.dw_unit self.new.lines }
-        ensures cost { looks.new ≤ looks.old + looks_in dwarf.now (Some (indexed_unit self.old)) }
+        ensures read { AreLinesOf dwarf.now dw_unit.now self.new.lines }
+        ensures cost { looks.new ≤ looks.old
+            + looks_in dwarf.now (Some (indexed_unit dw_unit.now self.old)) }
         ensures raised { looks.old ≤ looks.new }
         ensures counted { is_found result ≡ true → looks.old < looks.new }
     {
-        self.read_lines(alloc, dwarf)?;
+        self.read_lines(alloc, dwarf, dw_unit)?;
         Ok(find_cached_row(&self.lines, looks, probe))
     }
 }

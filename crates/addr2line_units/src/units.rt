@@ -4,8 +4,8 @@ ghost use Rattle.std.specs.Prelude.{◌≡◌, ◌+◌, ◌++◌, ◌-◌, ◌^�
 ghost use Rattle.gimli_read.specs.declared.error.Error.TheVariants.{OutOfMemory};
 ghost use Rattle.gimli_read.specs.Reading.{Exactly, ExactlyUnlessOom, ExactlyUnlessOomIf};
 ghost use Rattle.addr2line_units.specs.UnitIndex.{range_of_unit, unit_of_header};
-ghost use Rattle.addr2line_units.specs.Indexed.{index_seen, index_takes_memory, indexed, indexed_with, no_index, ranged_seen, unit_takes_memory, units_seen, units_take_memory, with_header, with_ranged};
-ghost use Rattle.addr2line_units.specs.CachedLines.{HaveLinesOf, IsUnparsed, StayUnits, cached_files, indexed_units, location_at_place, parsed_units};
+ghost use Rattle.addr2line_units.specs.Indexed.{index_seen, index_takes_memory, indexed, indexed_with, no_index, ranged_seen, unit_takes_memory, units_in, units_seen, units_take_memory, with_header, with_ranged};
+ghost use Rattle.addr2line_units.specs.CachedLines.{HaveLinesOf, IsUnparsed, StayUnits, cached_files, location_at_place, parsed_units};
 ghost use Rattle.addr2line_units.specs.LocationsLeft.{locations_left};
 ghost use Rattle.addr2line_units.specs.Located.{all_lines, along, is_found, lines_fault, looks_along};
 ghost use Rattle.addr2line_units.specs.Parsed.{AllAskFor, AreAllParsed, AreParsed, AreReadyForAll, AsksFor, IsNotOom, LeadTo, ParsesOnly, ready_along};
@@ -22,22 +22,25 @@ use crate::range::LocationRangeIter;
 use crate::unit::{LazyLines, ResUnit, is_type_unit, read_ranged_unit};
 use addr2line_lines::{Count, Location, Row};
 use gimli::read::{Error, Range, Reader};
-use gimli::{AbbreviationsCache, Dwarf, UnitHeader};
+use gimli::{AbbreviationsCache, Dwarf, Unit, UnitHeader};
 use std::alloc::Global;
 
 /// The units of a context, and the ranges that lead to them.
 #[derive(Drop)]
 pub struct ResUnits<R: Reader> {
     /// The units, in the order of `.debug_info`.
-    pub units: Vec<ResUnit<R>>,
-    /// Their ranges.
+    pub dw_units: Vec<Unit<R>>,
+    /// What is kept of each, in the same order.
+    pub units: Vec<ResUnit>,
+    /// The ranges that lead to them.
     pub ranges: UnitRanges,
 }
 
 // The units and ranges that were read so far.
 #[derive(Drop)]
 struct Index<R: Reader> {
-    units: Vec<ResUnit<R>>,
+    dw_units: Vec<Unit<R>>,
+    units: Vec<ResUnit>,
     ranges: Vec<UnitRange>,
 }
 
@@ -51,7 +54,7 @@ fn location_of(lines: &LazyLines, row: Row) -> Location<'_>
     }
 }
 
-// The unit of a header, none where it is passed over.
+// The unit of a header, what is kept of it, and its given ranges; none where it is passed over.
 #[tactic(auto, unfolding(crate::specs::UnitIndex::unit_of_header))]
 fn read_unit<R: Reader>(
     alloc: Global,
@@ -59,19 +62,22 @@ fn read_unit<R: Reader>(
     abbreviations: &mut AbbreviationsCache<'_, R>,
     aranges: &UnitAranges,
     header: UnitHeader<R>,
-) -> Result<Option<(ResUnit<R>, Vec<Range>)>, Error>
+) -> Result<Option<(Unit<R>, ResUnit, Vec<Range>)>, Error>
     requires same { abbreviations.old.dwarf ≡ dwarf.now }
     ensures same { abbreviations.new.dwarf ≡ dwarf.now }
     ensures gives { ExactlyUnlessOomIf (unit_takes_memory dwarf.now header)
-        (option_map (λ x. ranged_seen x.0 x.1.items)) result
+        (option_map (λ x. ranged_seen x.0 x.1 x.2.items)) result
         (unit_of_header dwarf.now aranges.now header) }
-    ensures unparsed { IfOk result (λ x. IfSome x (λ y. IsUnparsed dwarf.now y.0)) }
+    ensures unparsed { IfOk result (λ x. IfSome x (λ y. IsUnparsed dwarf.now y.0 y.1)) }
 {
     if is_type_unit(header.type_()) {
         return Ok(None);
     }
     match abbreviations.unit(alloc, header) {
-        Ok(unit) => Ok(Some(read_ranged_unit(alloc, dwarf, aranges, unit)?)),
+        Ok(dw_unit) => {
+            let (unit, given) = read_ranged_unit(alloc, dwarf, aranges, &dw_unit)?;
+            Ok(Some((dw_unit, unit, given)))
+        }
         Err(Error::OutOfMemory) => Err(Error::OutOfMemory),
         Err(_) => Ok(None),
     }
@@ -97,9 +103,11 @@ impl<R: Reader> Index<R> {
     // Before the first unit.
     fn new(alloc: Global) -> Index<R>
         ensures none { index_seen result ≡ no_index }
+        ensures dw_units { result.dw_units.items ≡ [] }
         ensures units { result.units.items ≡ [] }
     {
         Index {
+            dw_units: Vec::new(alloc),
             units: Vec::new(alloc),
             ranges: Vec::new(alloc),
         }
@@ -110,18 +118,21 @@ impl<R: Reader> Index<R> {
         &mut self,
         alloc: Global,
         dwarf: &Dwarf<R>,
-        mut unit: ResUnit<R>,
+        dw_unit: Unit<R>,
+        mut unit: ResUnit,
         given: Vec<Range>,
     ) -> Result<(), Error>
-        requires unparsed { IsUnparsed dwarf.now unit }
-        requires read { HaveLinesOf dwarf.now self.old.units.items }
+        requires unparsed { IsUnparsed dwarf.now dw_unit unit }
+        requires read { HaveLinesOf dwarf.now self.old.dw_units.items self.old.units.items }
         ensures gives { OnOk result (index_seen self.new ≡ with_ranged dwarf.now
-            (index_seen self.old) (ranged_seen unit given.items)) }
-        ensures read { OnOk result (HaveLinesOf dwarf.now self.new.units.items) }
+            (index_seen self.old) (ranged_seen dw_unit unit given.items)) }
+        ensures read { OnOk result
+            (HaveLinesOf dwarf.now self.new.dw_units.items self.new.units.items) }
         ensures refused { IfErr result (λ e. e ≡ OutOfMemory) }
     {
-        let ranges = unit.or_line_ranges(alloc, dwarf, given)?;
+        let ranges = unit.or_line_ranges(alloc, dwarf, &dw_unit, given)?;
         push_ranges(&mut self.ranges, self.units.len(), &ranges)?;
+        self.dw_units.push(dw_unit)?;
         self.units.push(unit)?;
         Ok(())
     }
@@ -136,15 +147,17 @@ impl<R: Reader> Index<R> {
         header: UnitHeader<R>,
     ) -> Result<(), Error>
         requires same { abbreviations.old.dwarf ≡ dwarf.now }
-        requires read { HaveLinesOf dwarf.now self.old.units.items }
+        requires read { HaveLinesOf dwarf.now self.old.dw_units.items self.old.units.items }
         ensures gives { ExactlyUnlessOomIf (unit_takes_memory dwarf.now header)
             (λ _. index_seen self.new) result
             (with_header dwarf.now aranges.now (index_seen self.old) header) }
         ensures same { abbreviations.new.dwarf ≡ dwarf.now }
-        ensures read { OnOk result (HaveLinesOf dwarf.now self.new.units.items) }
+        ensures read { OnOk result
+            (HaveLinesOf dwarf.now self.new.dw_units.items self.new.units.items) }
     {
-        if let Some((unit, given)) = read_unit(alloc, dwarf, abbreviations, aranges, header)? {
-            self.push(alloc, dwarf, unit, given)?;
+        let read = read_unit(alloc, dwarf, abbreviations, aranges, header)?;
+        if let Some((dw_unit, unit, given)) = read {
+            self.push(alloc, dwarf, dw_unit, unit, given)?;
         }
         Ok(())
     }
@@ -158,7 +171,7 @@ fn read_units<R: Reader>(
 ) -> Result<Index<R>, Error>
     ensures gives { ExactlyUnlessOomIf (units_take_memory R.shares dwarf.now) index_seen result
         (indexed_with dwarf.now aranges.now) }
-    ensures read { IfOk result (λ i. HaveLinesOf dwarf.now i.units.items) }
+    ensures read { IfOk result (λ i. HaveLinesOf dwarf.now i.dw_units.items i.units.items) }
 {
     let mut headers = dwarf.units()?;
     let mut abbreviations = AbbreviationsCache::new(alloc, dwarf);
@@ -186,12 +199,20 @@ impl<R: Reader> ResUnits<R> {
     pub fn parse(alloc: Global, dwarf: &Dwarf<R>) -> Result<ResUnits<R>, Error>
         ensures gives { ExactlyUnlessOomIf (index_takes_memory R.shares dwarf.now) units_seen result
             (indexed dwarf.now) }
-        ensures read { IfOk result (λ u. HaveLinesOf dwarf.now u.units.items) }
+        ensures read { IfOk result (λ u. HaveLinesOf dwarf.now u.dw_units.items u.units.items) }
     {
         let aranges = UnitAranges::parse(alloc, &dwarf.debug_aranges)?;
-        let Index { units, ranges } = read_units(alloc, dwarf, &aranges)?;
+        let Index {
+            dw_units,
+            units,
+            ranges,
+        } = read_units(alloc, dwarf, &aranges)?;
         let ranges = UnitRanges::new(alloc, ranges)?;
-        Ok(ResUnits { units, ranges })
+        Ok(ResUnits {
+            dw_units,
+            units,
+            ranges,
+        })
     }
 }
 
@@ -210,33 +231,35 @@ impl<R: Reader> ResUnits<R> {
         looks: &mut Count,
         probe: u64,
     ) -> Result<Option<Place>, Error>
-        requires read { HaveLinesOf dwarf.now self.old.units.items }
+        requires read { HaveLinesOf dwarf.now self.old.dw_units.items self.old.units.items }
         ensures gives { ExactlyUnlessOom (option_map (location_at_place self.new.units.items))
-            result (along dwarf.now (indexed_units self.old.units.items) probe
+            result (along dwarf.now (units_in self.old) probe
             (cover probe self.old.ranges)) }
-        ensures exact { ready_along dwarf.now (indexed_units self.old.units.items)
+        ensures exact { ready_along dwarf.now (units_in self.old)
             (parsed_units self.old.units.items) probe (cover probe self.old.ranges) ≡ true
             → Exactly (option_map (location_at_place self.new.units.items)) result
-            (along dwarf.now (indexed_units self.old.units.items) probe
+            (along dwarf.now (units_in self.old) probe
             (cover probe self.old.ranges)) }
         ensures ready { IsNotOom result → ready_along dwarf.now
-            (indexed_units self.old.units.items) (parsed_units self.new.units.items) probe
+            (units_in self.old) (parsed_units self.new.units.items) probe
             (cover probe self.old.ranges) ≡ true }
-        ensures only { ParsesOnly (AsksFor dwarf.now (indexed_units self.old.units.items) probe
+        ensures only { ParsesOnly (AsksFor dwarf.now (units_in self.old) probe
             (cover probe self.old.ranges))
             (parsed_units self.old.units.items) (parsed_units self.new.units.items) }
         ensures last { probe ≡ 2 ^ 64 - 1 → result ≡ Ok None }
         ensures stay { StayUnits self.old.units.items self.new.units.items }
+        ensures dw_units { self.new.dw_units.items ≡ self.old.dw_units.items }
         ensures ranges { self.new.ranges ≡ self.old.ranges }
-        ensures read { HaveLinesOf dwarf.now self.new.units.items }
+        ensures read { HaveLinesOf dwarf.now self.new.dw_units.items self.new.units.items }
         ensures cost { looks.new ≤ looks.old + looks_along dwarf.now
-            (indexed_units self.old.units.items) (cover probe self.old.ranges) }
+            (units_in self.old) (cover probe self.old.ranges) }
         ensures raised { looks.old ≤ looks.new }
         ensures counted { is_found result ≡ true → looks.old < looks.new }
     {
         find_place_along(
             alloc,
             dwarf,
+            &self.dw_units,
             &mut self.units,
             self.ranges.find(probe),
             looks,
@@ -265,7 +288,7 @@ impl<R: Reader> ResUnits<R> {
         low: u64,
         high: u64,
     ) -> Result<(), Error>
-        requires read { HaveLinesOf dwarf.now self.old.units.items }
+        requires read { HaveLinesOf dwarf.now self.old.dw_units.items self.old.units.items }
         ensures exact { AreParsed (parsed_units self.old.units.items)
             (cover_range low high self.old.ranges) → result ≡ Ok tt }
         ensures parsed { OnOk result (AreParsed (parsed_units self.new.units.items)
@@ -274,12 +297,14 @@ impl<R: Reader> ResUnits<R> {
             (parsed_units self.old.units.items) (parsed_units self.new.units.items) }
         ensures refused { IfErr result (λ e. e ≡ OutOfMemory) }
         ensures stay { StayUnits self.old.units.items self.new.units.items }
+        ensures dw_units { self.new.dw_units.items ≡ self.old.dw_units.items }
         ensures ranges { self.new.ranges ≡ self.old.ranges }
-        ensures read { HaveLinesOf dwarf.now self.new.units.items }
+        ensures read { HaveLinesOf dwarf.now self.new.dw_units.items self.new.units.items }
     {
         cache_lines_along(
             alloc,
             dwarf,
+            &self.dw_units,
             &mut self.units,
             self.ranges.find_range(low, high),
         )
@@ -299,21 +324,22 @@ impl<R: Reader> ResUnits<R> {
     /// Refused by the first fault; may fail with `OutOfMemory` instead, which is never cached.
     /// Takes no memory where all lines are cached, up to the first fault.
     pub fn parse_lines(&mut self, alloc: Global, dwarf: &Dwarf<R>) -> Result<(), Error>
-        requires read { HaveLinesOf dwarf.now self.old.units.items }
+        requires read { HaveLinesOf dwarf.now self.old.dw_units.items self.old.units.items }
         ensures gives { ExactlyUnlessOom (λ x. x) result
-            (lines_fault (all_lines dwarf.now (indexed_units self.old.units.items))) }
-        ensures exact { AreReadyForAll dwarf.now (indexed_units self.old.units.items)
+            (lines_fault (all_lines dwarf.now (units_in self.old))) }
+        ensures exact { AreReadyForAll dwarf.now (units_in self.old)
             (parsed_units self.old.units.items) → Exactly (λ x. x) result
-            (lines_fault (all_lines dwarf.now (indexed_units self.old.units.items))) }
+            (lines_fault (all_lines dwarf.now (units_in self.old))) }
         ensures ready { IsNotOom result → AreReadyForAll dwarf.now
-            (indexed_units self.old.units.items) (parsed_units self.new.units.items) }
+            (units_in self.old) (parsed_units self.new.units.items) }
         ensures parsed { OnOk result (AreAllParsed (parsed_units self.new.units.items)) }
-        ensures only { ParsesOnly (AllAskFor dwarf.now (indexed_units self.old.units.items))
+        ensures only { ParsesOnly (AllAskFor dwarf.now (units_in self.old))
             (parsed_units self.old.units.items) (parsed_units self.new.units.items) }
         ensures stay { StayUnits self.old.units.items self.new.units.items }
+        ensures dw_units { self.new.dw_units.items ≡ self.old.dw_units.items }
         ensures ranges { self.new.ranges ≡ self.old.ranges }
-        ensures read { HaveLinesOf dwarf.now self.new.units.items }
+        ensures read { HaveLinesOf dwarf.now self.new.dw_units.items self.new.units.items }
     {
-        read_all_lines(alloc, dwarf, &mut self.units)
+        read_all_lines(alloc, dwarf, &self.dw_units, &mut self.units)
     }
 }

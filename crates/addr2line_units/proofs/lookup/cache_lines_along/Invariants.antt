@@ -9,7 +9,7 @@ invariant-loop-range g l =
     let first = parsed_units l.fn.units.items in
     record {
       stay : StayUnits l.fn.units.items l.units.items;
-      read : HaveLinesOf l.dwarf l.units.items;
+      read : HaveLinesOf l.dwarf l.dw_units l.units.items;
       exact : AreParsed first (ranges_left l.fn.ranges) → AreParsed first (ranges_left l.ranges);
       parsed : (p : List Bool) → StaysParsed (parsed_units l.units.items) p → AreParsed p (ranges_left l.ranges) → AreParsed p (ranges_left l.fn.ranges);
       leads : (n : ℕ) → LeadTo (ranges_left l.ranges) n → LeadTo (ranges_left l.fn.ranges) n;

@@ -1,5 +1,5 @@
-use Rattle.std.proofs.Common.{inl, rules}
-use Rattle.addr2line_units.proofs.UnitsLemmas.{only_set, parsed_at, stay_all, stay_set, stays_by, parsed_if_ok}
+use Rattle.std.proofs.Common.{arith, inl, rules}
+use Rattle.addr2line_units.proofs.UnitsLemmas.{in_units, no_parsed, own_at, own_set, only_set, parsed_at, stay_all, stay_set, parsed_if_ok}
 use Rattle.addr2line_units.proofs.lookup.cache_lines_in.Goals as goal
 
 pub returns-then-number-len-clause-stay : goal.returns-then-number-len-clause-stay
@@ -12,10 +12,27 @@ pub returns-clause-parsed : goal.returns-clause-parsed
 returns-clause-parsed g c = parsed_if_ok c.args.units.now.items c.args.number c.cache_lines.new.self c.cache_lines.result (search rules) c.cache_lines.ensures.cached
 
 pub returns-clause-stay : goal.returns-clause-stay
-returns-clause-stay g c = stay_set c.args.units.now.items c.args.number c.index_mut-unit.result.now c.cache_lines.new.self (search rules) c.index_mut-unit.ensures.value (stays_by _ _ c.cache_lines.ensures.unit c.cache_lines.ensures.lang c.cache_lines.ensures.stays)
+returns-clause-stay g c = stay_set c.args.units.now.items c.args.number c.index_mut-unit.result.now c.cache_lines.new.self (search rules) c.index_mut-unit.ensures.value (record { language = c.cache_lines.ensures.lang; lines = c.cache_lines.ensures.stays })
 
 pub returns-clause-only : goal.returns-clause-only
 returns-clause-only g c = only_set c.args.units.now.items c.args.number c.cache_lines.new.self
 
 pub returns-then-number-len-clause-only : goal.returns-then-number-len-clause-only
 returns-then-number-len-clause-only g c = λ n e. inl e
+
+pub offset_bounds-dw_units-number : goal.offset_bounds-dw_units-number
+offset_bounds-dw_units-number g c =
+    let within = in_units c.args.dwarf.now c.args.dw_units.now c.args.units.now.items c.args.number c.requires.read (search rules) in
+    omega (arith, within)
+
+pub bounds-dw_units-number : goal.bounds-dw_units-number
+bounds-dw_units-number g c = in_units c.args.dwarf.now c.args.dw_units.now c.args.units.now.items c.args.number c.requires.read (search rules)
+
+pub cache_lines-requires : goal.cache_lines-requires
+cache_lines-requires g c = record { read = own_at c.args.dwarf.now c.args.dw_units.now c.args.units.now.items c.args.number c.index-dw_units-number.result c.index_mut-unit.result.now (search rules) c.index-dw_units-number.is c.index_mut-unit.ensures.value c.requires.read }
+
+pub returns-clause-read : goal.returns-clause-read
+returns-clause-read g c = own_set c.args.dwarf.now c.args.dw_units.now c.args.units.now.items c.args.number c.index-dw_units-number.result c.cache_lines.new.self c.index-dw_units-number.is c.requires.read c.cache_lines.ensures.read
+
+pub returns-then-number-len-clause-parsed : goal.returns-then-number-len-clause-parsed
+returns-then-number-len-clause-parsed g c = no_parsed c.args.units.now.items c.args.number (search rules)

@@ -25,8 +25,8 @@ pub returns-in_err-row-clause-gives : goal.returns-in_err-row-clause-gives
 returns-in_err-row-clause-gives g c =
     let p = err_from_is_err_and c.from_residual.result c.from_residual.ensures.1 in
     let i = c.loop-range.invariant in
-    let units = indexed_units c.args.units.now.items in
-    let fault = rw (stay_indexed c.args.units.now.items c.loop-range.units.items i.stay) at c.in_err-row.ensures.gives in
+    let units = indexed_units c.args.dw_units.now c.args.units.now.items in
+    let fault = rw (stay_indexed c.args.dw_units.now c.args.units.now.items c.loop-range.units.items i.stay) at c.in_err-row.ensures.gives in
     rw (p.1, p.2) (λ ne. sym i.rest ∙ ap (along c.args.dwarf.now units c.args.probe) c.in-Some.ensures.steps ∙ along_fault c.args.dwarf.now units c.args.probe c.in-Some.range (ranges_left c.next.new.self) _ (fault ne))
 
 pub returns-in_err-row-clause-exact : goal.returns-in_err-row-clause-exact
@@ -34,8 +34,8 @@ returns-in_err-row-clause-exact g c =
     let p = err_from_is_err_and c.from_residual.result c.from_residual.ensures.1 in
     let i = c.loop-range.invariant in
     let us = c.args.units.now.items in
-    let units = indexed_units us in
-    let fault = rw (stay_indexed us c.loop-range.units.items i.stay) at c.in_err-row.ensures.exact in
+    let units = indexed_units c.args.dw_units.now us in
+    let fault = rw (stay_indexed c.args.dw_units.now us c.loop-range.units.items i.stay) at c.in_err-row.ensures.exact in
     rw (p.1, p.2) (λ ready.
     let at = subst (λ rs. ready_along c.args.dwarf.now units (parsed_units us) c.args.probe rs ≡ true) c.in-Some.ensures.steps (i.exact ready) in
     let parsed = stay_parsed us c.loop-range.units.items i.stay c.in-Some.range.unit (ready_first c.args.dwarf.now units c.args.probe c.in-Some.range (ranges_left c.next.new.self) (parsed_units us) at) in
@@ -46,9 +46,9 @@ returns-in_err-row-clause-ready g c =
     let p = err_from_is_err_and c.from_residual.result c.from_residual.ensures.1 in
     let i = c.loop-range.invariant in
     let us = c.args.units.now.items in
-    let units = indexed_units us in
+    let units = indexed_units c.args.dw_units.now us in
     let now = parsed_units c.find_row_in.new.units.items in
-    let fault = rw (stay_indexed us c.loop-range.units.items i.stay) at c.in_err-row.ensures.gives in
+    let fault = rw (stay_indexed c.args.dw_units.now us c.loop-range.units.items i.stay) at c.in_err-row.ensures.gives in
     rw (p.1, p.2) (λ ne.
     let decided = ready_decided c.args.dwarf.now units c.args.probe c.in-Some.range (ranges_left c.next.new.self) now (c.in_err-row.ensures.parsed ne) (ap decides (fault ne)) in
     i.ready now (stay_parsed c.loop-range.units.items c.find_row_in.new.units.items c.in_err-row.ensures.stay) (subst (λ rs. ready_along c.args.dwarf.now units now c.args.probe rs ≡ true) (sym c.in-Some.ensures.steps) decided))
@@ -59,15 +59,15 @@ returns-in_err-row-clause-stay g c = stay_over c.args.units.now.items c.loop-ran
 pub returns-in_err-row-clause-cost : goal.returns-in_err-row-clause-cost
 returns-in_err-row-clause-cost g c =
     let i = c.loop-range.invariant in
-    let units = indexed_units c.args.units.now.items in
-    let cost = rw (stay_indexed c.args.units.now.items c.loop-range.units.items i.stay) at c.in_err-row.ensures.cost in
+    let units = indexed_units c.args.dw_units.now c.args.units.now.items in
+    let cost = rw (stay_indexed c.args.dw_units.now c.args.units.now.items c.loop-range.units.items i.stay) at c.in_err-row.ensures.cost in
     looks_of_step _ _ _ (looks_within _ _ _ _ (looks_along c.args.dwarf.now units (ranges_left c.next.new.self)) _ cost i.cost (ap (looks_along c.args.dwarf.now units) c.in-Some.ensures.steps ∙ looks_first c.args.dwarf.now units c.in-Some.range (ranges_left c.next.new.self)))
 
 pub returns-in-Some-2-clause-gives : goal.returns-in-Some-2-clause-gives
 returns-in-Some-2-clause-gives g c =
     let i = c.loop-range.invariant in
-    let units = indexed_units c.args.units.now.items in
-    let found = rw (c.in-Some-2.is, stay_indexed c.args.units.now.items c.loop-range.units.items i.stay) at c.in_ok-row.ensures.gives in
+    let units = indexed_units c.args.dw_units.now c.args.units.now.items in
+    let found = rw (c.in-Some-2.is, stay_indexed c.args.dw_units.now c.args.units.now.items c.loop-range.units.items i.stay) at c.in_ok-row.ensures.gives in
     sym i.rest ∙ ap (along c.args.dwarf.now units c.args.probe) c.in-Some.ensures.steps ∙ along_some c.args.dwarf.now units c.args.probe c.in-Some.range (ranges_left c.next.new.self) _ found
 
 pub returns-in-Some-2-clause-exact : goal.returns-in-Some-2-clause-exact
@@ -77,9 +77,9 @@ pub returns-in-Some-2-clause-ready : goal.returns-in-Some-2-clause-ready
 returns-in-Some-2-clause-ready g c = λ answered.
     let i = c.loop-range.invariant in
     let us = c.args.units.now.items in
-    let units = indexed_units us in
+    let units = indexed_units c.args.dw_units.now us in
     let now = parsed_units c.find_row_in.new.units.items in
-    let found = rw (c.in-Some-2.is, stay_indexed us c.loop-range.units.items i.stay) at c.in_ok-row.ensures.gives in
+    let found = rw (c.in-Some-2.is, stay_indexed c.args.dw_units.now us c.loop-range.units.items i.stay) at c.in_ok-row.ensures.gives in
     let decided = ready_decided c.args.dwarf.now units c.args.probe c.in-Some.range (ranges_left c.next.new.self) now (c.in_ok-row.ensures.parsed tt) (ap decides found) in
     i.ready now (stay_parsed c.loop-range.units.items c.find_row_in.new.units.items c.in_ok-row.ensures.stay) (subst (λ rs. ready_along c.args.dwarf.now units now c.args.probe rs ≡ true) (sym c.in-Some.ensures.steps) decided)
 
@@ -89,21 +89,21 @@ returns-in-Some-2-clause-stay g c = stay_over c.args.units.now.items c.loop-rang
 pub returns-in-Some-2-clause-cost : goal.returns-in-Some-2-clause-cost
 returns-in-Some-2-clause-cost g c =
     let i = c.loop-range.invariant in
-    let units = indexed_units c.args.units.now.items in
-    let cost = rw (stay_indexed c.args.units.now.items c.loop-range.units.items i.stay) at c.in_ok-row.ensures.cost in
+    let units = indexed_units c.args.dw_units.now c.args.units.now.items in
+    let cost = rw (stay_indexed c.args.dw_units.now c.args.units.now.items c.loop-range.units.items i.stay) at c.in_ok-row.ensures.cost in
     looks_of_step _ _ _ (looks_within _ _ _ _ (looks_along c.args.dwarf.now units (ranges_left c.next.new.self)) _ cost i.cost (ap (looks_along c.args.dwarf.now units) c.in-Some.ensures.steps ∙ looks_first c.args.dwarf.now units c.in-Some.range (ranges_left c.next.new.self)))
 
 pub returns-in_err-row-clause-only : goal.returns-in_err-row-clause-only
 returns-in_err-row-clause-only g c =
     let i = c.loop-range.invariant in
-    let units = indexed_units c.args.units.now.items in
+    let units = indexed_units c.args.dw_units.now c.args.units.now.items in
     let asked = i.only c.in-Some.range.unit (subst (λ rs. AsksFor c.args.dwarf.now units c.args.probe rs c.in-Some.range.unit) (sym c.in-Some.ensures.steps) (inl refl)) in
     only_more (AsksFor c.args.dwarf.now units c.args.probe (ranges_left c.args.ranges)) _ _ _ c.in-Some.range.unit i.parsed c.in_err-row.ensures.only asked
 
 pub returns-in-Some-2-clause-only : goal.returns-in-Some-2-clause-only
 returns-in-Some-2-clause-only g c =
     let i = c.loop-range.invariant in
-    let units = indexed_units c.args.units.now.items in
+    let units = indexed_units c.args.dw_units.now c.args.units.now.items in
     let asked = i.only c.in-Some.range.unit (subst (λ rs. AsksFor c.args.dwarf.now units c.args.probe rs c.in-Some.range.unit) (sym c.in-Some.ensures.steps) (inl refl)) in
     only_more (AsksFor c.args.dwarf.now units c.args.probe (ranges_left c.args.ranges)) _ _ _ c.in-Some.range.unit i.parsed c.in_ok-row.ensures.only asked
 
@@ -112,12 +112,12 @@ loop-range-preserved g c =
     let i = c.loop-range.invariant in
     let d = c.args.dwarf.now in
     let us = c.args.units.now.items in
-    let units = indexed_units us in
+    let units = indexed_units c.args.dw_units.now us in
     let mid = c.loop-range.units.items in
     let now = c.find_row_in.new.units.items in
     let r = c.in-Some.range in
     let rest = ranges_left c.next.new.self in
-    let same = stay_indexed us mid i.stay in
+    let same = stay_indexed c.args.dw_units.now us mid i.stay in
     let none = rw (c.in_default-2.is, same) at c.in_ok-row.ensures.gives in
     let cost = rw same at c.in_ok-row.ensures.cost in
     record {
@@ -134,3 +134,9 @@ loop-range-preserved g c =
       raised = looks_raised _ _ _ i.raised c.in_ok-row.ensures.raised;
       none = λ e. absurd (none_first r rest (sym (i.none e) ∙ c.in-Some.ensures.steps));
     }
+
+pub returns-clause-ready : goal.returns-clause-ready
+returns-clause-ready g c = λ answered.
+    let units = indexed_units c.args.dw_units.now c.args.units.now.items in
+    let now = parsed_units c.loop-range.units.items in
+    c.loop-range.invariant.ready now (λ n parsed. parsed) (subst (λ rs. ready_along c.args.dwarf.now units now c.args.probe rs ≡ true) (sym c.in_default.ensures.steps.0) refl)

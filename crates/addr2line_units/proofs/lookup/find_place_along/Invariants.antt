@@ -8,11 +8,11 @@ use Rattle.addr2line_units.proofs.lookup.find_place_along.Given as goal
 abbrev pub invariant-loop-range : goal.invariant-loop-range
 invariant-loop-range g l =
     let d = l.dwarf in
-    let units = indexed_units l.fn.units.items in
+    let units = indexed_units l.dw_units l.fn.units.items in
     let first = parsed_units l.fn.units.items in
     record {
       stay : StayUnits l.fn.units.items l.units.items;
-      read : HaveLinesOf d l.units.items;
+      read : HaveLinesOf d l.dw_units l.units.items;
       rest : along d units l.probe (ranges_left l.ranges) ≡ along d units l.probe (ranges_left l.fn.ranges);
       exact : ready_along d units first l.probe (ranges_left l.fn.ranges) ≡ true → ready_along d units first l.probe (ranges_left l.ranges) ≡ true;
       ready : (p : List Bool) → StaysParsed (parsed_units l.units.items) p → ready_along d units p l.probe (ranges_left l.ranges) ≡ true → ready_along d units p l.probe (ranges_left l.fn.ranges) ≡ true;

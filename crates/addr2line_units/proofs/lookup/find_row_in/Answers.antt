@@ -1,20 +1,20 @@
-use Rattle.std.proofs.Common.{inl, rules, subst, sym, ◌+◌, ◌≤◌}
-use Rattle.addr2line_units.specs.Located.{looks_in}
-use Rattle.addr2line_units.proofs.UnitsLemmas.{only_set, answer_cached, parsed_at, parsed_set, row_found, row_found_exactly, stay_all, stay_set, unit_at}
+use Rattle.std.proofs.Common.{ap, arith, inl, rules, subst, sym, ◌+◌, ◌≤◌}
+use Rattle.addr2line_units.specs.Located.{location_in, looks_in}
+use Rattle.addr2line_units.proofs.UnitsLemmas.{no_parsed, no_unit, in_units, own_at, own_set, only_set, answer_cached, parsed_at, parsed_set, row_found, row_found_exactly, stay_all, stay_set, unit_at}
 use Rattle.addr2line_units.proofs.lookup.find_row_in.Goals as goal
 
 pub returns-then-number-len-clause-stay : goal.returns-then-number-len-clause-stay
 returns-then-number-len-clause-stay g c = stay_all c.args.units.now.items
 
 pub returns-clause-gives : goal.returns-clause-gives
-returns-clause-gives g c = row_found _ _ c.args.units.now.items c.args.number c.index_mut-unit.result.now c.find_row.new.self _ (search rules) c.index_mut-unit.ensures.value c.find_row.ensures.gives
+returns-clause-gives g c = row_found _ _ c.args.dw_units.now c.args.units.now.items c.args.number c.index-dw_units-number.result c.index_mut-unit.result.now c.find_row.new.self _ c.requires.read (search rules) c.index-dw_units-number.is c.index_mut-unit.ensures.value c.find_row.ensures.gives
 
 pub returns-clause-exact : goal.returns-clause-exact
 returns-clause-exact g c = λ parsed.
     let us = c.args.units.now.items in
     let u = c.index_mut-unit.result.now in
     let value = c.index_mut-unit.ensures.value in
-    row_found_exactly _ _ us c.args.number u c.find_row.new.self _ (search rules) value (c.find_row.ensures.exact (parsed_at us c.args.number u (search rules) value parsed))
+    row_found_exactly _ _ c.args.dw_units.now us c.args.number c.index-dw_units-number.result u c.find_row.new.self _ c.requires.read (search rules) c.index-dw_units-number.is value (c.find_row.ensures.exact (parsed_at us c.args.number u (search rules) value parsed))
 
 pub returns-clause-parsed : goal.returns-clause-parsed
 returns-clause-parsed g c = λ answered. parsed_set c.args.units.now.items c.args.number c.find_row.new.self (search rules) (answer_cached _ _ _ c.find_row.ensures.caches answered)
@@ -24,7 +24,7 @@ returns-clause-stay g c = stay_set c.args.units.now.items c.args.number c.index_
 
 pub returns-clause-cost : goal.returns-clause-cost
 returns-clause-cost g c =
-    let same = unit_at c.args.units.now.items c.args.number c.index_mut-unit.result.now (search rules) c.index_mut-unit.ensures.value in
+    let same = unit_at c.args.dw_units.now c.args.units.now.items c.args.number c.index-dw_units-number.result c.index_mut-unit.result.now (in_units c.args.dwarf.now c.args.dw_units.now c.args.units.now.items c.args.number c.requires.read (search rules)) (search rules) c.index-dw_units-number.is c.index_mut-unit.ensures.value in
     subst (λ o. c.find_row.new.looks ≤ c.args.looks.now + looks_in c.args.dwarf.now o) (sym same) c.find_row.ensures.cost
 
 pub returns-clause-only : goal.returns-clause-only
@@ -32,3 +32,26 @@ returns-clause-only g c = only_set c.args.units.now.items c.args.number c.find_r
 
 pub returns-then-number-len-clause-only : goal.returns-then-number-len-clause-only
 returns-then-number-len-clause-only g c = λ n e. inl e
+
+pub offset_bounds-dw_units-number : goal.offset_bounds-dw_units-number
+offset_bounds-dw_units-number g c =
+    let within = in_units c.args.dwarf.now c.args.dw_units.now c.args.units.now.items c.args.number c.requires.read (search rules) in
+    omega (arith, within)
+
+pub bounds-dw_units-number : goal.bounds-dw_units-number
+bounds-dw_units-number g c = in_units c.args.dwarf.now c.args.dw_units.now c.args.units.now.items c.args.number c.requires.read (search rules)
+
+pub find_row-requires : goal.find_row-requires
+find_row-requires g c = record { read = own_at c.args.dwarf.now c.args.dw_units.now c.args.units.now.items c.args.number c.index-dw_units-number.result c.index_mut-unit.result.now (search rules) c.index-dw_units-number.is c.index_mut-unit.ensures.value c.requires.read }
+
+pub returns-clause-read : goal.returns-clause-read
+returns-clause-read g c = own_set c.args.dwarf.now c.args.dw_units.now c.args.units.now.items c.args.number c.index-dw_units-number.result c.find_row.new.self c.index-dw_units-number.is c.requires.read c.find_row.ensures.read
+
+pub returns-then-number-len-clause-gives : goal.returns-then-number-len-clause-gives
+returns-then-number-len-clause-gives g c = ap (location_in c.args.dwarf.now c.args.probe) (no_unit c.args.dw_units.now c.args.units.now.items c.args.number (search rules))
+
+pub returns-then-number-len-clause-exact : goal.returns-then-number-len-clause-exact
+returns-then-number-len-clause-exact g c = λ parsed. returns-then-number-len-clause-gives g c
+
+pub returns-then-number-len-clause-parsed : goal.returns-then-number-len-clause-parsed
+returns-then-number-len-clause-parsed g c = λ answered. no_parsed c.args.units.now.items c.args.number (search rules)

@@ -6,11 +6,11 @@ use Rattle.addr2line_units.proofs.lookup.read_all_lines.Given as goal
 
 abbrev pub invariant-loop-number : goal.invariant-loop-number
 invariant-loop-number g l =
-    let units = indexed_units l.fn.units.items in
+    let units = indexed_units l.dw_units l.fn.units.items in
     record {
       stay : StayUnits l.fn.units.items l.units.items;
-      read : HaveLinesOf l.dwarf l.units.items;
-      count : l.count ≡ length units;
+      read : HaveLinesOf l.dwarf l.dw_units l.units.items;
+      count : l.count ≡ length l.fn.units.items;
       rest : lines_fault (all_lines l.dwarf (drop l.number units)) ≡ lines_fault (all_lines l.dwarf units);
       parsed : (n : ℕ) → n < l.number → has_parsed (parsed_units l.units.items) n ≡ true;
       before : AllAskFor l.dwarf units l.number;

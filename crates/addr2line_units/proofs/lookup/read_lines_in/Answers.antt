@@ -1,28 +1,52 @@
-use Rattle.std.proofs.Common.{inl, rules}
-use Rattle.addr2line_units.proofs.UnitsLemmas.{only_set, answer_cached, lines_read, lines_read_exactly, parsed_at, parsed_set, stay_all, stay_set, stays_by}
+use Rattle.std.proofs.Common.{ap, arith, inl, rules}
+use Rattle.addr2line_units.specs.CachedLines.{lines_answer_at}
+use Rattle.addr2line_units.proofs.UnitsLemmas.{no_parsed, no_unit, in_units, own_at, own_set, only_set, answer_cached, lines_read, lines_read_exactly, parsed_at, parsed_set, stay_all, stay_set}
 use Rattle.addr2line_units.proofs.lookup.read_lines_in.Goals as goal
 
 pub returns-then-number-len-clause-stay : goal.returns-then-number-len-clause-stay
 returns-then-number-len-clause-stay g c = stay_all c.args.units.now.items
 
 pub returns-clause-gives : goal.returns-clause-gives
-returns-clause-gives g c = lines_read _ c.args.units.now.items c.args.number c.index_mut-unit.result.now _ _ (search rules) c.index_mut-unit.ensures.value c.read_lines.ensures.gives
+returns-clause-gives g c = lines_read _ c.args.dw_units.now c.args.units.now.items c.args.number c.index-dw_units-number.result c.index_mut-unit.result.now _ _ c.requires.read (search rules) c.index-dw_units-number.is c.index_mut-unit.ensures.value c.read_lines.ensures.gives
 
 pub returns-clause-exact : goal.returns-clause-exact
 returns-clause-exact g c = λ parsed.
     let us = c.args.units.now.items in
     let u = c.index_mut-unit.result.now in
     let value = c.index_mut-unit.ensures.value in
-    lines_read_exactly _ us c.args.number u _ _ (search rules) value (c.read_lines.ensures.exact (parsed_at us c.args.number u (search rules) value parsed))
+    lines_read_exactly _ c.args.dw_units.now us c.args.number c.index-dw_units-number.result u _ _ c.requires.read (search rules) c.index-dw_units-number.is value (c.read_lines.ensures.exact (parsed_at us c.args.number u (search rules) value parsed))
 
 pub returns-clause-parsed : goal.returns-clause-parsed
 returns-clause-parsed g c = λ answered. parsed_set c.args.units.now.items c.args.number c.read_lines.new.self (search rules) (answer_cached _ _ _ c.read_lines.ensures.caches answered)
 
 pub returns-clause-stay : goal.returns-clause-stay
-returns-clause-stay g c = stay_set c.args.units.now.items c.args.number c.index_mut-unit.result.now c.read_lines.new.self (search rules) c.index_mut-unit.ensures.value (stays_by _ _ c.read_lines.ensures.unit c.read_lines.ensures.lang c.read_lines.ensures.stays)
+returns-clause-stay g c = stay_set c.args.units.now.items c.args.number c.index_mut-unit.result.now c.read_lines.new.self (search rules) c.index_mut-unit.ensures.value (record { language = c.read_lines.ensures.lang; lines = c.read_lines.ensures.stays })
 
 pub returns-clause-only : goal.returns-clause-only
 returns-clause-only g c = only_set c.args.units.now.items c.args.number c.read_lines.new.self
 
 pub returns-then-number-len-clause-only : goal.returns-then-number-len-clause-only
 returns-then-number-len-clause-only g c = λ n e. inl e
+
+pub offset_bounds-dw_units-number : goal.offset_bounds-dw_units-number
+offset_bounds-dw_units-number g c =
+    let within = in_units c.args.dwarf.now c.args.dw_units.now c.args.units.now.items c.args.number c.requires.read (search rules) in
+    omega (arith, within)
+
+pub bounds-dw_units-number : goal.bounds-dw_units-number
+bounds-dw_units-number g c = in_units c.args.dwarf.now c.args.dw_units.now c.args.units.now.items c.args.number c.requires.read (search rules)
+
+pub read_lines-requires : goal.read_lines-requires
+read_lines-requires g c = record { read = own_at c.args.dwarf.now c.args.dw_units.now c.args.units.now.items c.args.number c.index-dw_units-number.result c.index_mut-unit.result.now (search rules) c.index-dw_units-number.is c.index_mut-unit.ensures.value c.requires.read }
+
+pub returns-clause-read : goal.returns-clause-read
+returns-clause-read g c = own_set c.args.dwarf.now c.args.dw_units.now c.args.units.now.items c.args.number c.index-dw_units-number.result c.read_lines.new.self c.index-dw_units-number.is c.requires.read c.read_lines.ensures.read
+
+pub returns-then-number-len-clause-gives : goal.returns-then-number-len-clause-gives
+returns-then-number-len-clause-gives g c = ap (lines_answer_at c.args.dwarf.now) (no_unit c.args.dw_units.now c.args.units.now.items c.args.number (search rules))
+
+pub returns-then-number-len-clause-exact : goal.returns-then-number-len-clause-exact
+returns-then-number-len-clause-exact g c = λ parsed. returns-then-number-len-clause-gives g c
+
+pub returns-then-number-len-clause-parsed : goal.returns-then-number-len-clause-parsed
+returns-then-number-len-clause-parsed g c = λ answered. no_parsed c.args.units.now.items c.args.number (search rules)

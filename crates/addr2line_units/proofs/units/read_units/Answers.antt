@@ -1,8 +1,7 @@
-use Rattle.std.proofs.Common.{Ok, ap, rules, sym, ◌∙◌, ◌≡◌, subst}
+use Rattle.std.proofs.Common.{Ok, ap, rules, sym, ◌∙◌, ◌≡◌}
 use Rattle.std.proofs.lemmas.Result.{err_from_is_err_and}
 use Rattle.gimli_read.specs.Reading.{◌>>=◌}
 use Rattle.gimli.specs.UnitsLeft.{all_headers}
-use Rattle.addr2line_units.specs.CachedLines.{HaveLinesOf}
 use Rattle.addr2line_units.specs.Indexed.{appended, index_of, index_seen, some_take_memory, unit_takes_memory}
 use Rattle.addr2line_units.specs.UnitIndex.{unit_of_header, units_of}
 use Rattle.addr2line_units.proofs.UnitIndexLemmas.{given_fault, given_some, index_fault, index_more, shared_headers, shorter, some_headers, takes_first, takes_rest}
@@ -17,7 +16,7 @@ loop-index-init g c =
       gives = ap (λ m. units_of (unit_of_header d aranges) c.in_ok-headers.headers >>= λ units. Ok (appended d m units)) c.new-index.ensures.none ∙ ap (λ headers. units_of (unit_of_header d aranges) headers >>= λ units. Ok (index_of d units)) all;
       some = λ e. some_headers g.R.Reader.shares (unit_takes_memory d) d (ap (some_take_memory (unit_takes_memory d)) (sym all) ∙ e);
       same = search rules;
-      read = subst (HaveLinesOf d) (sym c.new-index.ensures.units) tt;
+      read = rw (c.new-index.ensures.dw_units, c.new-index.ensures.units) tt;
     }
 
 pub loop-index-smaller : goal.loop-index-smaller

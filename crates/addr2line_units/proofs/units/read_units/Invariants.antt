@@ -12,7 +12,7 @@ invariant-loop-index g l =
       gives : (units_of (unit_of_header d l.aranges) l.headers >>= λ units. Ok (appended d (index_seen l.index) units)) ≡ indexed_with d l.aranges;
       some : some_take_memory (unit_takes_memory d) l.headers ≡ true → units_take_memory g.R.Reader.shares d ≡ true;
       same : l.abbreviations.dwarf ≡ d;
-      read : HaveLinesOf d l.index.units.items;
+      read : HaveLinesOf d l.index.dw_units.items l.index.units.items;
     }
 
 abbrev pub decreases-loop-index : goal.decreases-loop-index

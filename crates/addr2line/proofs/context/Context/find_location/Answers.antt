@@ -7,31 +7,32 @@ use Rattle.addr2line.proofs.context.Context.find_location.Goals as goal
 pub invariant_of-self : goal.invariant_of-self
 invariant_of-self g c =
     let i = c.self.invariant in
-    still_a_context c.self.inside.dwarf.value c.self.inside.units.units.items c.self.inside.units.ranges _ i.made_is _ c.find_place.ensures.stay _ c.find_place.ensures.ranges (subst (λ d. HaveLinesOf d c.find_place.new.self.units.items) c.deref.ensures c.find_place.ensures.read) _ c.self.invariant.sup_dwarf_is
+    still_a_context c.self.inside.dwarf.value c.self.inside.units.dw_units.items c.self.inside.units.units.items c.self.inside.units.ranges _ i.made_is _ c.find_place.ensures.dw_units _ c.find_place.ensures.stay _ c.find_place.ensures.ranges (subst (λ d. HaveLinesOf d c.find_place.new.self.dw_units.items c.find_place.new.self.units.items) c.deref.ensures c.find_place.ensures.read) _ c.self.invariant.sup_dwarf_is
 
 pub invariant_of-self-in-Some : goal.invariant_of-self-in-Some
 invariant_of-self-in-Some g c =
     let i = c.self.invariant in
-    still_a_context c.self.inside.dwarf.value c.self.inside.units.units.items c.self.inside.units.ranges _ i.made_is _ c.find_place.ensures.stay _ c.find_place.ensures.ranges (subst (λ d. HaveLinesOf d c.find_place.new.self.units.items) c.deref.ensures c.find_place.ensures.read) _ c.self.invariant.sup_dwarf_is
+    still_a_context c.self.inside.dwarf.value c.self.inside.units.dw_units.items c.self.inside.units.units.items c.self.inside.units.ranges _ i.made_is _ c.find_place.ensures.dw_units _ c.find_place.ensures.stay _ c.find_place.ensures.ranges (subst (λ d. HaveLinesOf d c.find_place.new.self.dw_units.items c.find_place.new.self.units.items) c.deref.ensures c.find_place.ensures.read) _ c.self.invariant.sup_dwarf_is
 
 pub invariant_of-self-in-None : goal.invariant_of-self-in-None
 invariant_of-self-in-None g c =
     let i = c.self.invariant in
-    still_a_context c.self.inside.dwarf.value c.self.inside.units.units.items c.self.inside.units.ranges _ i.made_is _ c.find_place.ensures.stay _ c.find_place.ensures.ranges (subst (λ d. HaveLinesOf d c.find_place.new.self.units.items) c.deref.ensures c.find_place.ensures.read) _ c.self.invariant.sup_dwarf_is
+    still_a_context c.self.inside.dwarf.value c.self.inside.units.dw_units.items c.self.inside.units.units.items c.self.inside.units.ranges _ i.made_is _ c.find_place.ensures.dw_units _ c.find_place.ensures.stay _ c.find_place.ensures.ranges (subst (λ d. HaveLinesOf d c.find_place.new.self.dw_units.items c.find_place.new.self.units.items) c.deref.ensures c.find_place.ensures.read) _ c.self.invariant.sup_dwarf_is
 
 pub returns-in_err-place : goal.returns-in_err-place
 returns-in_err-place g c =
     let i = c.self.invariant in
     let d = c.self.inside.dwarf.value in
+    let us = c.self.inside.units.dw_units.items in
     let old = c.self.inside.units.units.items in
     let new = c.find_place.new.self.units.items in
     let ranges = c.self.inside.units.ranges in
     let sup = c.self.inside.sup_units.units.items in
     let e = rw c.deref.ensures at c.in_err-place.ensures in
     let p = err_from_is_err_and c.from_residual.result c.from_residual.ensures.1 in
-    let is = location_is d old ranges sup i.made_is c.args.probe in
+    let is = location_is d us old ranges sup i.made_is c.args.probe in
     rw (p.1, p.2, sym c.self.view_is) (
-      (refl, (λ _. tt), after_lookup d old ranges sup i.made_is new e.stay c.self.inside.looks c.find_place.new.looks c.args.probe _ e.ready e.only e.raised e.counted e.cost),
+      (refl, (λ _. tt), after_lookup d us old ranges sup i.made_is new e.stay c.self.inside.looks c.find_place.new.looks c.args.probe _ e.ready e.only e.raised e.counted e.cost),
       record {
         gives = λ n. is ∙ e.gives n;
         exact = λ ready. is ∙ e.exact (ready _ i.made_is);
@@ -44,15 +45,16 @@ pub returns-in-Some : goal.returns-in-Some
 returns-in-Some g c =
     let i = c.self.invariant in
     let d = c.self.inside.dwarf.value in
+    let us = c.self.inside.units.dw_units.items in
     let old = c.self.inside.units.units.items in
     let new = c.find_place.new.self.units.items in
     let ranges = c.self.inside.units.ranges in
     let sup = c.self.inside.sup_units.units.items in
     let e = rw (c.deref.ensures, c.in-Some.is) at c.in_ok-place.ensures in
-    let is = location_is d old ranges sup i.made_is c.args.probe in
+    let is = location_is d us old ranges sup i.made_is c.args.probe in
     let found = is ∙ e.gives ∙ ap (λ l. Ok (Some l)) (sym c.location.ensures.gives) in
     rw (sym c.self.view_is) (
-      (refl, (λ _. tt), after_lookup d old ranges sup i.made_is new e.stay c.self.inside.looks c.find_place.new.looks c.args.probe _ e.ready e.only e.raised e.counted e.cost),
+      (refl, (λ _. tt), after_lookup d us old ranges sup i.made_is new e.stay c.self.inside.looks c.find_place.new.looks c.args.probe _ e.ready e.only e.raised e.counted e.cost),
       record {
         gives = found;
         exact = λ ready. found;
@@ -65,14 +67,15 @@ pub returns-in-None : goal.returns-in-None
 returns-in-None g c =
     let i = c.self.invariant in
     let d = c.self.inside.dwarf.value in
+    let us = c.self.inside.units.dw_units.items in
     let old = c.self.inside.units.units.items in
     let new = c.find_place.new.self.units.items in
     let ranges = c.self.inside.units.ranges in
     let sup = c.self.inside.sup_units.units.items in
     let e = rw (c.deref.ensures, c.in-None.is) at c.in_ok-place.ensures in
-    let is = location_is d old ranges sup i.made_is c.args.probe in
+    let is = location_is d us old ranges sup i.made_is c.args.probe in
     rw (sym c.self.view_is) (
-      (refl, (λ _. tt), after_lookup d old ranges sup i.made_is new e.stay c.self.inside.looks c.find_place.new.looks c.args.probe _ e.ready e.only e.raised e.counted e.cost),
+      (refl, (λ _. tt), after_lookup d us old ranges sup i.made_is new e.stay c.self.inside.looks c.find_place.new.looks c.args.probe _ e.ready e.only e.raised e.counted e.cost),
       record {
         gives = is ∙ e.gives;
         exact = λ ready. is ∙ e.gives;

@@ -10,23 +10,24 @@ use Rattle.addr2line.proofs.context.Context.find_location_range.Goals as goal
 
 pub invariant_of-self : goal.invariant_of-self
 invariant_of-self g c =
-    still_a_context c.self.inside.dwarf.value c.self.inside.units.units.items c.self.inside.units.ranges _ c.self.invariant.made_is _ c.cache_lines.ensures.stay _ c.cache_lines.ensures.ranges (subst (λ d. HaveLinesOf d c.cache_lines.new.self.units.items) c.deref.ensures c.cache_lines.ensures.read) _ c.self.invariant.sup_dwarf_is
+    still_a_context c.self.inside.dwarf.value c.self.inside.units.dw_units.items c.self.inside.units.units.items c.self.inside.units.ranges _ c.self.invariant.made_is _ c.cache_lines.ensures.dw_units _ c.cache_lines.ensures.stay _ c.cache_lines.ensures.ranges (subst (λ d. HaveLinesOf d c.cache_lines.new.self.dw_units.items c.cache_lines.new.self.units.items) c.deref.ensures c.cache_lines.ensures.read) _ c.self.invariant.sup_dwarf_is
 
 pub invariant_of-self-2 : goal.invariant_of-self-2
 invariant_of-self-2 g c =
-    still_a_context c.self.inside.dwarf.value c.self.inside.units.units.items c.self.inside.units.ranges _ c.self.invariant.made_is _ c.cache_lines.ensures.stay _ c.cache_lines.ensures.ranges (subst (λ d. HaveLinesOf d c.cache_lines.new.self.units.items) c.deref.ensures c.cache_lines.ensures.read) _ c.self.invariant.sup_dwarf_is
+    still_a_context c.self.inside.dwarf.value c.self.inside.units.dw_units.items c.self.inside.units.units.items c.self.inside.units.ranges _ c.self.invariant.made_is _ c.cache_lines.ensures.dw_units _ c.cache_lines.ensures.stay _ c.cache_lines.ensures.ranges (subst (λ d. HaveLinesOf d c.cache_lines.new.self.dw_units.items c.cache_lines.new.self.units.items) c.deref.ensures c.cache_lines.ensures.read) _ c.self.invariant.sup_dwarf_is
 
 pub returns-in_err-cache_lines : goal.returns-in_err-cache_lines
 returns-in_err-cache_lines g c =
     let i = c.self.invariant in
     let d = c.self.inside.dwarf.value in
+    let us = c.self.inside.units.dw_units.items in
     let old = c.self.inside.units.units.items in
     let ranges = c.self.inside.units.ranges in
     let sup = c.self.inside.sup_units.units.items in
     let e = c.in_err-cache_lines.ensures in
     let p = err_from_is_err_and c.from_residual.result c.from_residual.ensures.1 in
     rw (p.1, p.2, sym c.self.view_is) (
-      (refl, (λ _. tt), after_range_lookup d old ranges sup i.made_is c.cache_lines.new.self.units.items e.stay c.self.inside.looks c.args.low c.args.high _ (λ answered. absurd (answered e.refused)) e.only),
+      (refl, (λ _. tt), after_range_lookup d us old ranges sup i.made_is c.cache_lines.new.self.units.items e.stay c.self.inside.looks c.args.low c.args.high _ (λ answered. absurd (answered e.refused)) e.only),
       record {
         gives = tt;
         refused = e.refused;
@@ -39,19 +40,21 @@ pub returns : goal.returns
 returns g c =
     let i = c.self.invariant in
     let d = c.self.inside.dwarf.value in
+    let us = c.self.inside.units.dw_units.items in
     let old = c.self.inside.units.units.items in
     let new = c.cache_lines.new.self.units.items in
     let ranges = c.self.inside.units.ranges in
     let sup = c.self.inside.sup_units.units.items in
     let rows = cover_range c.args.low c.args.high ranges in
     let e = c.in_ok-cache_lines.ensures in
-    let lines = subst (λ s. HaveLinesOf s new) c.deref.ensures c.cache_lines.ensures.read in
-    let cached = spans_cached d c.args.low c.args.high new rows lines e.parsed in
+    let read = subst (λ s. HaveLinesOf s c.cache_lines.new.self.dw_units.items new) c.deref.ensures c.cache_lines.ensures.read in
+    let lines = subst (λ xs. HaveLinesOf d xs new) c.cache_lines.ensures.dw_units read in
+    let cached = spans_cached d c.args.low c.args.high us new rows lines e.parsed in
     rw (sym c.self.view_is) (
-      (refl, (λ _. tt), after_range_lookup d old ranges sup i.made_is new e.stay c.self.inside.looks c.args.low c.args.high _ (λ answered. e.parsed) e.only),
+      (refl, (λ _. tt), after_range_lookup d us old ranges sup i.made_is new e.stay c.self.inside.looks c.args.low c.args.high _ (λ answered. e.parsed) e.only),
       record {
-        gives = spans_are d old ranges sup i.made_is c.args.low c.args.high
-            ∙ ap (λ us. Ok (spans_along d us c.args.low c.args.high rows)) (sym (stay_indexed old new e.stay))
+        gives = spans_are d us old ranges sup i.made_is c.args.low c.args.high
+            ∙ ap (λ us. Ok (spans_along d us c.args.low c.args.high rows)) (sym (stay_indexed us old new e.stay))
             ∙ ap Ok cached
             ∙ ap (λ rs. Ok (cached_along new c.args.low c.args.high (cover_range c.args.low c.args.high rs))) (sym c.cache_lines.ensures.ranges)
             ∙ ap Ok (sym c.find_location_range.ensures.gives);

@@ -25,7 +25,7 @@ invariant_of-result g c =
     let sup = rw c.deref-2.ensures at c.in_ok-sup_units.ensures.gives in
     record {
       made_is = what_is_made c.args.dwarf.value _ _ units sup;
-      lines = subst (λ d. HaveLinesOf d c.in_ok-units.units.units.items) c.deref.ensures c.in_ok-units.ensures.read;
+      lines = subst (λ d. HaveLinesOf d c.in_ok-units.units.dw_units.items c.in_ok-units.units.units.items) c.deref.ensures c.in_ok-units.ensures.read;
       sup_dwarf_is = rw c.deref-2.ensures at c.in_ok-sup_units.ensures.dwarf;
     }
 

@@ -9,11 +9,11 @@ use Rattle.addr2line.proofs.context.Context.parse_lines.Goals as goal
 pub invariant_of-self : goal.invariant_of-self
 invariant_of-self g c =
     let i = c.self.invariant in
-    still_a_context c.self.inside.dwarf.value c.self.inside.units.units.items c.self.inside.units.ranges _ i.made_is _ c.parse_lines.ensures.stay _ c.parse_lines.ensures.ranges (subst (λ d. HaveLinesOf d c.parse_lines.new.self.units.items) c.deref.ensures c.parse_lines.ensures.read) _ c.self.invariant.sup_dwarf_is
+    still_a_context c.self.inside.dwarf.value c.self.inside.units.dw_units.items c.self.inside.units.units.items c.self.inside.units.ranges _ i.made_is _ c.parse_lines.ensures.dw_units _ c.parse_lines.ensures.stay _ c.parse_lines.ensures.ranges (subst (λ d. HaveLinesOf d c.parse_lines.new.self.dw_units.items c.parse_lines.new.self.units.items) c.deref.ensures c.parse_lines.ensures.read) _ c.self.invariant.sup_dwarf_is
 
 pub returns-clause-stays : goal.returns-clause-stays
 returns-clause-stays g c =
-    rw (sym c.self.view_is) (all_stays c.self.inside.dwarf.value c.self.inside.units.units.items c.self.inside.units.ranges _ c.self.invariant.made_is c.parse_lines.new.self.units.items c.parse_lines.ensures.stay c.self.inside.looks c.self.inside.looks)
+    rw (sym c.self.view_is) (all_stays c.self.inside.dwarf.value c.self.inside.units.dw_units.items c.self.inside.units.units.items c.self.inside.units.ranges _ c.self.invariant.made_is c.parse_lines.new.self.units.items c.parse_lines.ensures.stay c.self.inside.looks c.self.inside.looks)
 
 pub returns-clause-ready : goal.returns-clause-ready
 returns-clause-ready g c = ready_if_ok _ c.self.inside.dwarf.value _ c.self.inside.looks c.parse_lines.ensures.parsed
@@ -22,16 +22,17 @@ pub returns-clause-found : goal.returns-clause-found
 returns-clause-found g c =
     let i = c.self.invariant in
     let d = c.self.inside.dwarf.value in
+    let us = c.self.inside.units.dw_units.items in
     let old = c.self.inside.units.units.items in
     let ranges = c.self.inside.units.ranges in
     let given = rw c.deref.ensures at c.parse_lines.ensures.gives in
-    when_ok _ _ given (λ read probe. ap is_ok (location_is d old ranges _ i.made_is probe) ∙ along_ok d _ probe (cover probe ranges) read)
+    when_ok _ _ given (λ read probe. ap is_ok (location_is d us old ranges _ i.made_is probe) ∙ along_ok d _ probe (cover probe ranges) read)
 
 pub returns-clause-exact : goal.returns-clause-exact
 returns-clause-exact g c =
     let i = c.self.invariant in
     let e = rw c.deref.ensures at c.parse_lines.ensures.exact in
-    rw (sym c.self.view_is) (λ ready. subst (Exactly (λ x. x) c.parse_lines.result) (sym (lines_are c.self.inside.dwarf.value c.self.inside.units.units.items c.self.inside.units.ranges _ i.made_is)) (e (ready _ i.made_is)))
+    rw (sym c.self.view_is) (λ ready. subst (Exactly (λ x. x) c.parse_lines.result) (sym (lines_are c.self.inside.dwarf.value c.self.inside.units.dw_units.items c.self.inside.units.units.items c.self.inside.units.ranges _ i.made_is)) (e (ready _ i.made_is)))
 
 pub returns-clause-ready_for_range : goal.returns-clause-ready_for_range
 returns-clause-ready_for_range g c = range_ready_if_ok _ c.self.inside.dwarf.value _ c.self.inside.looks c.parse_lines.ensures.parsed
@@ -40,22 +41,25 @@ pub returns-clause-ready_for_all : goal.returns-clause-ready_for_all
 returns-clause-ready_for_all g c =
     let i = c.self.invariant in
     let d = c.self.inside.dwarf.value in
+    let us = c.self.inside.units.dw_units.items in
     let old = c.self.inside.units.units.items in
     let e = rw c.deref.ensures at c.parse_lines.ensures in
-    λ answered. ready_after_parse d old c.self.inside.units.ranges _ i.made_is c.parse_lines.new.self.units.items e.stay c.self.inside.looks c.self.inside.looks (e.ready answered)
+    λ answered. ready_after_parse d us old c.self.inside.units.ranges _ i.made_is c.parse_lines.new.self.units.items e.stay c.self.inside.looks c.self.inside.looks (e.ready answered)
 
 pub returns-clause-only : goal.returns-clause-only
 returns-clause-only g c =
     let i = c.self.invariant in
     let d = c.self.inside.dwarf.value in
+    let us = c.self.inside.units.dw_units.items in
     let old = c.self.inside.units.units.items in
     let e = rw c.deref.ensures at c.parse_lines.ensures in
-    rw (sym c.self.view_is) (after_parse d old c.self.inside.units.ranges _ i.made_is c.parse_lines.new.self.units.items e.stay c.self.inside.looks c.self.inside.looks e.only)
+    rw (sym c.self.view_is) (after_parse d us old c.self.inside.units.ranges _ i.made_is c.parse_lines.new.self.units.items e.stay c.self.inside.looks c.self.inside.looks e.only)
 
 pub returns-clause-same : goal.returns-clause-same
 returns-clause-same g c =
     let i = c.self.invariant in
     let d = c.self.inside.dwarf.value in
+    let us = c.self.inside.units.dw_units.items in
     let old = c.self.inside.units.units.items in
     let e = rw c.deref.ensures at c.parse_lines.ensures in
-    rw (sym c.self.view_is) (same_after_parse d old c.self.inside.units.ranges _ i.made_is c.parse_lines.new.self.units.items e.stay c.self.inside.looks c.self.inside.looks e.only)
+    rw (sym c.self.view_is) (same_after_parse d us old c.self.inside.units.ranges _ i.made_is c.parse_lines.new.self.units.items e.stay c.self.inside.looks c.self.inside.looks e.only)

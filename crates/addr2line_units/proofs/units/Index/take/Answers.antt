@@ -5,5 +5,5 @@ use Rattle.addr2line_units.proofs.units.Index.take.Goals as goal
 pub returns-in_err-push-clause-gives : goal.returns-in_err-push-clause-gives
 returns-in_err-push-clause-gives g c =
     let p = err_from_is_err_and c.from_residual-in_err-push.result c.from_residual-in_err-push.ensures.1 in
-    let read = rw c.in-Some.is at c.in_ok-unit.ensures.gives in
+    let read = rw c.in-Some.is at c.in_ok-read.ensures.gives in
     rw (p.1, p.2) (λ may. absurd (may (where_kept c.args.dwarf.now c.args.header c.args.aranges.now _ read) c.in_err-push.ensures.refused))

@@ -1,0 +1,29 @@
+use Rattle.std.proofs.Common.{◌≡◌, ◌++◌, ◌∙◌, List, Ok, Result, ap, length, map, rules, sym}
+use Rattle.gimli_read.specs.declared.error.Error.{Error}
+use Rattle.gimli_read.specs.declared.range.Range.{Range}
+use Rattle.addr2line_units.specs.Indexed.{ranged_seen}
+use Rattle.addr2line_units.specs.UnitIndex.{range_of_unit, unit_ranges}
+use Rattle.addr2line_units.proofs.UnitsLemmas.{own_push, pushed}
+use Rattle.addr2line_units.proofs.units.Index.push.Goals as goal
+
+ok_is : (a b : List Range) → ◌≡◌ {A = Result (List Range) Error} (Ok a) (Ok b) → a ≡ b
+ok_is a b e = cc
+
+pub returns-clause-read : goal.returns-clause-read
+returns-clause-read g c =
+    let own = own_push c.args.dwarf.now c.args.self.now.dw_units.items c.args.self.now.units.items c.args.dw_unit c.or_line_ranges.new.self c.requires.read c.or_line_ranges.ensures.read in
+    rw (c.in_ok-push.ensures.items, c.in_ok-push-2.ensures.items) own
+
+pub returns-clause-gives : goal.returns-clause-gives
+returns-clause-gives g c =
+    let d = c.args.dwarf.now in
+    let before = c.args.self.now.ranges.items in
+    let ranged = ranged_seen c.args.dw_unit c.args.unit c.args.given.items in
+    let count : c.len.result ≡ length c.args.self.now.units.items = search rules in
+    let read = ok_is _ _ c.in_ok-ranges.ensures.gives in
+    let ranges =
+    c.in_ok-push_ranges.ensures.gives
+    ∙ ap (λ rs. before ++ map (range_of_unit c.len.result) rs) (c.deref.ensures.value ∙ sym read)
+    ∙ ap (λ n. before ++ map (range_of_unit n) (unit_ranges d ranged)) count in
+    let more = pushed d c.args.self.now.dw_units.items c.args.self.now.units.items c.args.dw_unit c.args.unit c.or_line_ranges.new.self c.args.given.items before c.push_ranges.new.unit_ranges.items c.requires.read c.in_ok-ranges.ensures.lang c.in_ok-ranges.ensures.parsed ranges in
+    rw (c.in_ok-push.ensures.items, c.in_ok-push-2.ensures.items) more

@@ -127,9 +127,9 @@ first_there d fs addresses h n l =
     let long : length (map (seen_function d) fs) ≡ length fs = map_long (seen_function d) fs in
     let listed : length (function_offsets fs) ≡ length fs = map_long (λ (f : LazyFunction). f.dw_die_offset) fs in
     let is : position_or_len (λ (f : CachedFunction). f.offset == at n) (map (seen_function d) fs) ≡ n =
-          position_or_len_is (λ (f : CachedFunction). f.offset == at n) (map (seen_function d) fs) n none (omega arith)
-          (λ k m. ap (λ o. o == at n) (offset_seen d fs k none (omega arith)) ∙ below (at k) (at n) (h.rising k n (record { 0 = 0 }) m (omega arith)))
-          (λ m. ap (λ o. o == at n) (offset_seen d fs n none l) ∙ itself (at n)) in
+    position_or_len_is (λ (f : CachedFunction). f.offset == at n) (map (seen_function d) fs) n none (omega arith)
+    (λ k m. ap (λ o. o == at n) (offset_seen d fs k none (omega arith)) ∙ below (at k) (at n) (h.rising k n (record { 0 = 0 }) m (omega arith)))
+    (λ m. ap (λ o. o == at n) (offset_seen d fs n none l) ∙ itself (at n)) in
     let some : nat_lt n (length (map (seen_function d) fs)) ≡ true = grind (arith, nat_tests) in
     ap (λ k. cond (nat_lt k (length (map (seen_function d) fs))) (Some k) None) is ∙ ap (λ b. cond b (Some n) None) some
   where

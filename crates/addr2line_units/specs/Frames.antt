@@ -69,19 +69,27 @@ pub record FoundFunction : Type 0 where
   pub name : Option Section
   pub inlined : List InlinedEntry
 
+-- a function by its detail, with the inlined entries at the probe
+abbrev pub found_function : ℕ → ℕ → Detail → FoundFunction
+found_function probe offset detail = record {
+  offset = offset;
+  name = detail.name;
+  inlined = inlined_chain probe detail.inlined;
+}
+
+-- the function whose entry begins at an offset, if there is one, or the fault of its detail
+abbrev pub function_from : Scope → UnitRecord → ℕ → Option ℕ
+    → Result (Option FoundFunction) Error
+function_from scope view probe None = Ok None
+function_from scope view probe (Some offset) =
+    detail_at scope view offset >>= λ detail. Ok (Some (found_function probe offset detail))
+
 -- the function at the probe in a view whose references lead where the scope says, none where no
 -- function holds it; or the first fault of the functions, and of the detail of the function
 unfoldable pub function_at : Scope → UnitRecord → ℕ → Result (Option FoundFunction) Error
 function_at scope view probe = do
   functions ← functions_of scope.file.sections view
-  elim (function_offset_at probe functions) [
-    | None ↦ Ok None
-    | Some offset ↦ detail_at scope view offset >>= λ detail. Ok (Some (record {
-        offset = offset;
-        name = detail.name;
-        inlined = inlined_chain probe detail.inlined;
-      }))
-  ]
+  function_from scope view probe (function_offset_at probe functions)
 
 -- the frames of a function at an address, or of its location alone
 abbrev pub found_frames : List (List ℕ) → Option DwLang → Option FoundFunction → Option Location

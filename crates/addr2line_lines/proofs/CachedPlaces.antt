@@ -1,7 +1,10 @@
 -- What is seen of cached functions, by their places (on specs/FunctionTable.antt).
-use Rattle.std.proofs.Common.{◌≡◌, ℕ, ◌<◌, List, [], ◌∷◌, length, map, slice_get, slice_index_or, Option, Some, None, Result, Ok, option_and_then, refl, ap, sym, subst, ◌∙◌, arith, zero, suc}
-use Rattle.std.specs.List.{AllByRecursion}
+use Rattle.std.proofs.Common.{◌≡◌, ℕ, ◌<◌, ◌==◌, nat_lt, true, false, cond, List, [], ◌∷◌, get_or, length, map, slice_get, slice_index_or, Option, Some, None, Result, Ok, option_and_then, refl, ap, sym, subst, ◌∙◌, arith, zero, suc}
+use Rattle.std.specs.List.{AllByRecursion, position_or_len}
 use Rattle.std.specs.Option.{option_map}
+use Rattle.std.specs.Prelude.{position}
+use Rattle.std.proofs.lemmas.Bool.Decides.{nat_tests}
+use Rattle.std.proofs.lemmas.List.Sums.{position_or_len_is}
 use Rattle.std.proofs.lemmas.Option.{slice_get-map}
 use Rattle.gimli_read.specs.declared.error.Error.{Error}
 use Rattle.addr2line_lines.specs.declared.details.FunctionDetail.{FunctionDetail}
@@ -102,3 +105,54 @@ place_seen d fs addresses probe i h e =
     same_length : (xs : List LazyFunction) → length (function_offsets xs) ≡ length (map (seen_function d) xs)
     same_length [] = refl
     same_length (x ∷ xs) = ap suc (same_length xs)
+
+-- where the entry of a function begins, as it is cached and as it stands among all
+offset_seen : (d : KeptDetails) (fs : List LazyFunction) (n : ℕ) (x : CachedFunction) → n < length fs
+    → (get_or (map (seen_function d) fs) n x).offset ≡ (slice_index_or (function_offsets fs) n (record { 0 = 0 })).0
+offset_seen d [] n x l = absurd (omega arith)
+offset_seen d (f ∷ fs) zero x l = refl
+offset_seen d (f ∷ fs) (suc n) x l = offset_seen d fs n x (omega arith)
+
+-- a length under map
+map_long : {X Y : Type 0} (f : X → Y) (xs : List X) → length (map f xs) ≡ length xs
+map_long f [] = refl
+map_long f (x ∷ xs) = ap suc (map_long f xs)
+
+-- entries begin one after another, so that each is the first one that begins there
+first_there : (d : KeptDetails) (fs : List LazyFunction) (addresses : List FunctionAddress) → AreFunctions (function_offsets fs) addresses → (n : ℕ) → n < length fs
+    → position (λ (f : CachedFunction). f.offset == (slice_index_or (function_offsets fs) n (record { 0 = 0 })).0) (map (seen_function d) fs) ≡ Some n
+first_there d fs addresses h n l =
+    let none : CachedFunction = record { offset = 0; detail = None } in
+    let at : ℕ → ℕ = λ k. (slice_index_or (function_offsets fs) k (record { 0 = 0 })).0 in
+    let long : length (map (seen_function d) fs) ≡ length fs = map_long (seen_function d) fs in
+    let listed : length (function_offsets fs) ≡ length fs = map_long (λ (f : LazyFunction). f.dw_die_offset) fs in
+    let is : position_or_len (λ (f : CachedFunction). f.offset == at n) (map (seen_function d) fs) ≡ n =
+    position_or_len_is (λ (f : CachedFunction). f.offset == at n) (map (seen_function d) fs) n none (omega arith)
+    (λ k m. ap (λ o. o == at n) (offset_seen d fs k none (omega arith)) ∙ below (at k) (at n) (h.rising k n (record { 0 = 0 }) m (omega arith)))
+    (λ m. ap (λ o. o == at n) (offset_seen d fs n none l) ∙ itself (at n)) in
+    let some : nat_lt n (length (map (seen_function d) fs)) ≡ true = grind (arith, nat_tests) in
+    ap (λ k. cond (nat_lt k (length (map (seen_function d) fs))) (Some k) None) is ∙ ap (λ b. cond b (Some n) None) some
+  where
+    below : (a b : ℕ) → a < b → (a == b) ≡ false
+    below a b l = grind (arith, nat_tests)
+
+    itself : (a : ℕ) → (a == a) ≡ true
+    itself a = grind (arith, nat_tests)
+
+-- the place of the function at an address is that of its entry
+pub place_is : (d : KeptDetails) (fs : List LazyFunction) (addresses : List FunctionAddress) (probe : ℕ) → AreFunctions (function_offsets fs) addresses
+    → function_at probe addresses ≡ option_and_then (λ offset. position (λ (f : CachedFunction). f.offset == offset) (map (seen_function d) fs))
+    (function_offset_at probe (map (function_range_of (function_offsets fs)) addresses))
+place_is d fs addresses probe h = by_cases (function_at probe addresses) refl
+  where
+    by_cases : (o : Option ℕ) → function_at probe addresses ≡ o → function_at probe addresses ≡ option_and_then (λ offset. position (λ (f : CachedFunction). f.offset == offset) (map (seen_function d) fs))
+        (function_offset_at probe (map (function_range_of (function_offsets fs)) addresses))
+    by_cases None e =
+        e ∙ sym (ap (option_and_then (λ offset. position (λ (f : CachedFunction). f.offset == offset) (map (seen_function d) fs)))
+        (found_is (function_offsets fs) addresses h probe ∙ ap (option_map (λ i. (slice_index_or (function_offsets fs) i (record { 0 = 0 })).0)) e))
+    by_cases (Some i) e =
+        let l = place_found (function_offsets fs) addresses h probe i e in
+        let listed : length (function_offsets fs) ≡ length fs = map_long (λ (f : LazyFunction). f.dw_die_offset) fs in
+        e ∙ sym (ap (option_and_then (λ offset. position (λ (f : CachedFunction). f.offset == offset) (map (seen_function d) fs)))
+        (found_is (function_offsets fs) addresses h probe ∙ ap (option_map (λ i. (slice_index_or (function_offsets fs) i (record { 0 = 0 })).0)) e)
+        ∙ first_there d fs addresses h i (omega arith))

@@ -1,7 +1,7 @@
 -- The functions of a view, and what is cached of their details (DWARF 5, section 3.3).
 -- Own: the detail of a function is read when it is first asked for, and cached then, its fault too.
 -- OutOfMemory is never cached.
-use Rattle.std.specs.Prelude.{◌≡◌, ◌≢◌, ℕ, ◌&&◌, ◌||◌, Bool, true, false, not, is_some, List, [], ◌∷◌, map, slice_get, slice_set, Option, Some, None, option_and_then, option_map, Result, Ok, Err}
+use Rattle.std.specs.Prelude.{◌≡◌, ◌≢◌, ℕ, ◌==◌, ◌&&◌, ◌||◌, Bool, true, false, not, is_some, List, [], ◌∷◌, map, position, slice_get, slice_set, Option, Some, None, option_and_then, option_map, Result, Ok, Err}
 use Rattle.std.specs.List.{AllByRecursion, AllZip}
 use Rattle.gimli_read.specs.declared.error.Error.{Error}
 use Rattle.gimli_read.specs.declared.error.Error.TheVariants.{OutOfMemory}
@@ -10,7 +10,7 @@ use Rattle.gimli_read.specs.Section.{Section}
 use Rattle.gimli.specs.Unit.{UnitRecord}
 use Rattle.addr2line_lines.specs.Details.{Detail, InlinedEntry, InlinedRange, detail_at, detail_takes_memory}
 use Rattle.addr2line_lines.specs.FoundDetails.{IsGrown}
-use Rattle.addr2line_lines.specs.Functions.{FunctionRange, entries_of}
+use Rattle.addr2line_lines.specs.Functions.{FunctionRange, entries_of, function_offset_at}
 use Rattle.addr2line_lines.specs.References.{Scope}
 
 -- a function: where its entry begins, in bytes from the start of the unit's length, and its detail
@@ -33,6 +33,12 @@ AreListed t = map (λ (f : CachedFunction). f.offset) t.functions ≡ entries_of
 -- where the entry of a function begins, by its place
 abbrev pub offset_at : FunctionTable → ℕ → Option ℕ
 offset_at t n = option_map (λ (f : CachedFunction). f.offset) (slice_get t.functions n)
+
+-- the place of the function at the probe
+abbrev pub function_place_at : ℕ → FunctionTable → Option ℕ
+function_place_at probe t = option_and_then
+    (λ offset. position (λ (f : CachedFunction). f.offset == offset) t.functions)
+    (function_offset_at probe t.ranges)
 
 -- what is cached of a function, by its place
 abbrev pub cached_detail : FunctionTable → ℕ → Option (Result Detail Error)

@@ -7,7 +7,7 @@ ghost use Rattle.addr2line_lines.specs.Details.{inlined_chain};
 ghost use Rattle.addr2line_lines.specs.FoundDetails.{entry_among, seen_inlined};
 ghost use Rattle.addr2line_lines.specs.FoundRanges.{is_function};
 ghost use Rattle.addr2line_lines.specs.FunctionCache.{read_at};
-ghost use Rattle.addr2line_lines.specs.FunctionTable.{AreDetailsOf, AreListed, AreUnread, HasDetail, IsReadAt, IsTableMore, asks_detail, cached_inlined, cached_name, details_fault, offset_at, read_fault, takes_memory};
+ghost use Rattle.addr2line_lines.specs.FunctionTable.{AreDetailsOf, AreListed, AreUnread, HasDetail, IsReadAt, IsTableMore, asks_detail, cached_inlined, cached_name, details_fault, function_place_at, offset_at, read_fault, takes_memory};
 ghost use Rattle.addr2line_lines.specs.Functions.{function_offset_at, functions_of, functions_take_memory, is_subprogram};
 ghost use Rattle.gimli.specs.Ranges.{ranges_at};
 ghost use Rattle.addr2line_lines.specs.RangeAttributes.{begins_well, gives_a_range};
@@ -262,6 +262,7 @@ impl<R: Reader> Functions<R> {
     pub fn find(&self, probe: u64) -> Option<usize>
         ensures found { option_and_then (offset_at self.now) result
             ≡ function_offset_at probe self.now.ranges }
+        ensures place { result ≡ function_place_at probe self.now }
         ensures there { IfSome result (λ n. n < length self.now.functions) }
     {
         self.addresses.find(probe)

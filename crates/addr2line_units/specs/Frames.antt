@@ -62,21 +62,47 @@ abbrev pub location_frames : Option Location → List FrameRecord
 location_frames None = []
 location_frames (Some l) = record { offset = None; function = None; location = Some l } ∷ []
 
--- those at the probe of the function whose entry begins at an offset
-abbrev pub detail_frames : LineTable → Option DwLang → ℕ → ℕ → Detail → List FrameRecord
-detail_frames lines language probe offset detail =
-    frames_from lines.files language offset detail.name
-    (reverse (inlined_chain probe detail.inlined)) (location_at probe lines)
+-- a function at an address: where its entry begins, its name, and the inlined entries at the
+-- address, from the outside in
+pub record FoundFunction : Type 0 where
+  pub offset : ℕ
+  pub name : Option Section
+  pub inlined : List InlinedEntry
+
+-- a function by its detail, with the inlined entries at the probe
+abbrev pub found_function : ℕ → ℕ → Detail → FoundFunction
+found_function probe offset detail = record {
+  offset = offset;
+  name = detail.name;
+  inlined = inlined_chain probe detail.inlined;
+}
+
+-- the function whose entry begins at an offset, if there is one, or the fault of its detail
+abbrev pub function_from : Scope → UnitRecord → ℕ → Option ℕ
+    → Result (Option FoundFunction) Error
+function_from scope view probe None = Ok None
+function_from scope view probe (Some offset) =
+    detail_at scope view offset >>= λ detail. Ok (Some (found_function probe offset detail))
+
+-- the function at the probe in a view whose references lead where the scope says, none where no
+-- function holds it; or the first fault of the functions, and of the detail of the function
+unfoldable pub function_at : Scope → UnitRecord → ℕ → Result (Option FoundFunction) Error
+function_at scope view probe = do
+  functions ← functions_of scope.file.sections view
+  function_from scope view probe (function_offset_at probe functions)
+
+-- the frames of a function at an address, or of its location alone
+abbrev pub found_frames : List (List ℕ) → Option DwLang → Option FoundFunction → Option Location
+    → List FrameRecord
+found_frames files language None location = location_frames location
+found_frames files language (Some f) location =
+    frames_from files language f.offset f.name (reverse f.inlined) location
 
 -- the frames at the probe in a unit's view, whose references lead where the scope says; or the first
 -- fault of its functions, of the detail of the function, and of the lines of the main unit
 unfoldable pub frames_at : Sections → UnitRecord → Option DwLang → Scope → UnitRecord → ℕ
     → Result (List FrameRecord) Error
 frames_at d main language scope view probe = do
-  functions ← functions_of scope.file.sections view
-  elim (function_offset_at probe functions) [
-    | None ↦ unit_lines d main >>= λ lines. Ok (location_frames (location_at probe lines))
-    | Some offset ↦ detail_at scope view offset >>= λ detail.
-        unit_lines d main >>= λ lines.
-        Ok (detail_frames lines language probe offset detail)
-  ]
+  function ← function_at scope view probe
+  lines ← unit_lines d main
+  Ok (found_frames lines.files language function (location_at probe lines))

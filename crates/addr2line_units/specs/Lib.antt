@@ -14,5 +14,6 @@ pub mod RangeLookup
 pub mod UnitRangesLeft
 pub mod LocationsLeft
 pub mod Frames
+pub mod KeptFunctions
 pub mod SeenFrame
 pub mod FramesLeft

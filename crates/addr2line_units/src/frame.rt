@@ -12,11 +12,13 @@ ghost use Rattle.addr2line_lines.specs.FoundDetails.{entry_among, seen_inlined};
 ghost use Rattle.addr2line_lines.specs.FunctionTable.{cached_name, offset_at};
 ghost use Rattle.addr2line_lines.specs.Rows.{result_map};
 ghost use Rattle.addr2line_lines.specs.SeenLocation.{seen_location};
-ghost use Rattle.addr2line_units.specs.Frames.{call_location, frames_from, if_counted, location_frames};
+ghost use Rattle.addr2line_units.specs.Frames.{call_location, found_frames, frames_from, if_counted, location_frames};
 ghost use Rattle.addr2line_units.specs.FramesLeft.{entry_frame, frames_left, place_frame};
+ghost use Rattle.addr2line_units.specs.KeptFunctions.{IsPlaceIn, function_of_place, kept_functions};
 ghost use Rattle.addr2line_units.specs.LegacyText.{demangled, demangled_auto};
 ghost use Rattle.addr2line_units.specs.SeenFrame.{YieldsFrame, language_text, name_text, raw_text, seen_frame, seen_name};
 
+use crate::functions::{FunctionPlace, LazyFunctions};
 use crate::legacy::LegacyName;
 use addr2line_lines::{Functions, InlinedFunction, Lines, Location};
 use gimli_read::{DwLang, Error, Reader, UnitOffset};
@@ -336,5 +338,36 @@ impl<'ctx, R: Reader> FrameIter<'ctx, R> {
                 Ok(Some(frame))
             }
         }
+    }
+}
+
+// The frames of the function of a place among those that are kept, or the frame of a location
+// alone. Takes no memory.
+pub(crate) fn frames_of<'ctx, R: Reader>(
+    functions: &'ctx LazyFunctions<R>,
+    place: Option<FunctionPlace>,
+    lines: &'ctx Lines,
+    language: Option<DwLang>,
+    location: Option<Location<'ctx>>,
+) -> FrameIter<'ctx, R>
+    requires there { IfSome place (IsPlaceIn (kept_functions functions.now)) }
+    ensures gives { frames_left result ≡ found_frames lines.now.files language
+        (option_map (function_of_place (kept_functions functions.now)) place)
+        (option_map seen_location location.entry) }
+{
+    let Some(found) = place else {
+        return FrameIter::new_location(location);
+    };
+    match functions {
+        LazyFunctions::Read(functions) => FrameIter::new_function(
+            functions,
+            found.place,
+            found.inlined,
+            lines,
+            language,
+            location,
+        ),
+        // A place is one among functions that were read.
+        LazyFunctions::Faulty(_) | LazyFunctions::Unread => FrameIter::new_location(location),
     }
 }

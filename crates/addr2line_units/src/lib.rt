@@ -4,6 +4,7 @@
 pub mod aranges;
 pub mod attributes;
 pub mod frame;
+mod functions;
 pub mod index;
 mod laws;
 mod legacy;

@@ -1,0 +1,36 @@
+use Rattle.std.proofs.Common.{◌≡◌, ℕ, Result, subst, sym}
+use Rattle.gimli_read.specs.declared.error.Error.{Error}
+use Rattle.gimli_read.specs.Reading.{ExactlyUnlessOomIf}
+use Rattle.addr2line_lines.specs.FunctionTable.{asks_detail, details_fault}
+use Rattle.addr2line_lines.specs.SeenScope.{seen_scope}
+use Rattle.addr2line_units.specs.KeptFunctions.{AreFunctionsOf, functions_fault, reading_takes_memory}
+use Rattle.addr2line_units.proofs.KeptFunctionLemmas.{all_ready, exactly_weaker, fault_is, on_ok, reading_before, stay_faulty, stay_read, table_more}
+use Rattle.addr2line_units.proofs.functions.LazyFunctions.read_all.Goals as goal
+
+pub returns-in-Read-clause-gives : goal.returns-in-Read-clause-gives
+returns-in-Read-clause-gives g c =
+    let scope = seen_scope c.args.scope in
+    let view = c.args.view.now in
+    let t = c.in-Read.functions in
+    let table = subst (λ x. AreFunctionsOf scope view x) c.in-Read.is c.cache.ensures.right in
+    exactly_weaker (asks_detail t.functions) (reading_takes_memory c.args.self.now) (λ x. x) c.read_all.result (functions_fault scope view)
+    (reading_before c.args.self.now c.cache.new.self (λ read. (c.cache.ensures.kept read).0) t c.in-Read.is)
+    (subst (λ (r : Result (Unit {0}) Error). ExactlyUnlessOomIf (asks_detail t.functions) (λ x. x) c.read_all.result r) (sym (fault_is scope view t table)) (c.read_all.ensures.gives table.details))
+
+pub returns-in-Read-clause-right : goal.returns-in-Read-clause-right
+returns-in-Read-clause-right g c =
+    let scope = seen_scope c.args.scope in
+    let view = c.args.view.now in
+    let table = subst (λ x. AreFunctionsOf scope view x) c.in-Read.is c.cache.ensures.right in
+    table_more scope view c.in-Read.functions c.read_all.new.self table c.read_all.ensures.kept (c.read_all.ensures.right table.details)
+
+pub returns-in-Read-clause-stay : goal.returns-in-Read-clause-stay
+returns-in-Read-clause-stay g c =
+    stay_read c.args.self.now c.cache.new.self (λ read. (c.cache.ensures.kept read).0) c.in-Read.functions c.read_all.new.self c.in-Read.is c.read_all.ensures.kept
+
+pub returns-in-Read-clause-ready : goal.returns-in-Read-clause-ready
+returns-in-Read-clause-ready g c = on_ok c.read_all.result (all_ready c.read_all.new.self) c.read_all.ensures.cached
+
+pub returns-in-Faulty-clause-stay : goal.returns-in-Faulty-clause-stay
+returns-in-Faulty-clause-stay g c =
+    stay_faulty c.args.self.now c.cache.new.self (λ read. (c.cache.ensures.kept read).0) c.in-Faulty.error c.in-Faulty.is

@@ -1,0 +1,114 @@
+-- What is kept of the functions of a view, as the private functions see it.
+-- Own: functions are read when they are first asked for, and kept then, their fault too; so is each
+-- detail. OutOfMemory is never kept.
+use Rattle.std.specs.Prelude.{◌≡◌, ◌≢◌, ◌<◌, ℕ, Bool, true, false, nat_lt, List, [], ◌∷◌, length, map, Option, Some, None, unwrap_or, Result, Ok, Err}
+use Rattle.std.specs.List.{AllByRecursion}
+use Rattle.gimli_read.specs.declared.error.Error.{Error}
+use Rattle.gimli_read.specs.Reading.{◌>>=◌}
+use Rattle.gimli.specs.Unit.{UnitRecord}
+use Rattle.addr2line_lines.specs.Details.{Detail, detail_at, inlined_chain}
+use Rattle.addr2line_lines.specs.FoundDetails.{entry_among}
+use Rattle.addr2line_lines.specs.FunctionTable.{AreDetailsOf, AreListed, FunctionTable, IsTableMore, asks_detail, cached_detail, cached_inlined, cached_name, function_place_at, inlined_of_detail, offset_at}
+use Rattle.addr2line_lines.specs.Functions.{entries_of, functions_of}
+use Rattle.addr2line_lines.specs.References.{Scope}
+use Rattle.addr2line_units.specs.declared.functions.FunctionPlace.{FunctionPlace}
+use Rattle.addr2line_units.specs.declared.functions.LazyFunctions.{LazyFunctions}
+use Rattle.addr2line_units.specs.declared.functions.LazyFunctions.TheVariants as lazy
+use Rattle.addr2line_units.specs.Frames.{FoundFunction}
+
+-- functions are those of a view whose references lead where the scope says, and what is cached of
+-- each is its detail, or the fault of that
+pub record IsTableOf (scope : Scope) (view : UnitRecord) (t : FunctionTable) : Type 0 where
+  pub ranges : functions_of scope.file.sections view ≡ Ok t.ranges
+  pub listed : AreListed t
+  pub details : AreDetailsOf scope view t
+
+-- what is kept is the functions of a view with their details, or their fault
+abbrev pub AreFunctionsOf : {R : Type 0} → Scope → UnitRecord → LazyFunctions R → Type 0
+AreFunctionsOf scope view lazy.Unread = Unit {0}
+AreFunctionsOf scope view (lazy.Read t) = IsTableOf scope view t
+AreFunctionsOf scope view (lazy.Faulty e) = functions_of scope.file.sections view ≡ Err e
+
+-- whether the functions were read
+abbrev pub were_read : {R : Type 0} → LazyFunctions R → Bool
+were_read lazy.Unread = false
+were_read _ = true
+
+-- no functions
+abbrev pub no_functions : FunctionTable
+no_functions = record { ranges = []; functions = []; inlined = [] }
+
+-- the functions that are kept, none before they are read and where they have a fault
+abbrev pub kept_functions : {R : Type 0} → LazyFunctions R → FunctionTable
+kept_functions (lazy.Read t) = t
+kept_functions _ = no_functions
+
+-- what is kept stays, and more details may be
+abbrev pub StayFunctions : {R : Type 0} → LazyFunctions R → LazyFunctions R → Type 0
+StayFunctions lazy.Unread new = Unit {0}
+StayFunctions (lazy.Read t) (lazy.Read more) = IsTableMore t more
+StayFunctions (lazy.Read t) _ = ⊥
+StayFunctions (lazy.Faulty e) new = new ≡ lazy.Faulty e
+
+-- no detail is read but that of the function at the probe
+abbrev pub ReadsNoOther : ℕ → FunctionTable → FunctionTable → Type 0
+ReadsNoOther probe old new =
+    (n : ℕ) → function_place_at probe new ≢ Some n → cached_detail new n ≡ cached_detail old n
+
+-- a place is that of a function, and those of its inlined functions are of inlined entries
+pub record IsPlaceIn (t : FunctionTable) (p : FunctionPlace) : Type 0 where
+  pub function : p.place < length t.functions
+  pub inlined : AllByRecursion (λ n. n < length t.inlined) p.inlined.items
+
+-- the function of a place, and the inlined entries of places
+abbrev pub function_of_place : FunctionTable → FunctionPlace → FoundFunction
+function_of_place t p = record {
+  offset = unwrap_or (offset_at t p.place) 0;
+  name = cached_name t p.place;
+  inlined = map (entry_among t.inlined) p.inlined.items;
+}
+
+-- whether there are more than 16 inlined functions at the probe, as far as details are cached
+abbrev pub are_many : ℕ → FunctionTable → Bool
+are_many probe t = elim (function_place_at probe t) [
+  | None ↦ false
+  | Some n ↦ nat_lt 16 (length (inlined_chain probe (cached_inlined t n)))
+]
+
+-- whether memory may be taken to find a function by what is cached of it: nothing is, or there are
+-- more than 16 inlined functions
+abbrev pub detail_takes_memory : ℕ → Option (Result Detail Error) → Bool
+detail_takes_memory probe None = true
+detail_takes_memory probe (Some d) = nat_lt 16 (length (inlined_chain probe (inlined_of_detail d)))
+
+-- the same of the function of a place; where there is none no memory is taken
+abbrev pub place_takes_memory : ℕ → FunctionTable → Option ℕ → Bool
+place_takes_memory probe t None = false
+place_takes_memory probe t (Some n) = detail_takes_memory probe (cached_detail t n)
+
+-- the same of the function at the probe
+abbrev pub table_takes_memory : ℕ → FunctionTable → Bool
+table_takes_memory probe t = place_takes_memory probe t (function_place_at probe t)
+
+-- the same of what is kept of a view
+abbrev pub find_takes_memory : {R : Type 0} → ℕ → LazyFunctions R → Bool
+find_takes_memory probe lazy.Unread = true
+find_takes_memory probe (lazy.Read t) = table_takes_memory probe t
+find_takes_memory probe (lazy.Faulty e) = false
+
+-- the first fault among the details of functions, by where their entries begin
+abbrev pub details_at : Scope → UnitRecord → List ℕ → Result (Unit {0}) Error
+details_at scope view [] = Ok tt
+details_at scope view (offset ∷ offsets) =
+    detail_at scope view offset >>= λ _. details_at scope view offsets
+
+-- the first fault of the functions of a view, and among the details of these
+abbrev pub functions_fault : Scope → UnitRecord → Result (Unit {0}) Error
+functions_fault scope view = functions_of scope.file.sections view >>= λ ranges.
+    details_at scope view (entries_of ranges)
+
+-- whether memory may be taken to read the functions of a view with all details
+abbrev pub reading_takes_memory : {R : Type 0} → LazyFunctions R → Bool
+reading_takes_memory lazy.Unread = true
+reading_takes_memory (lazy.Read t) = asks_detail t.functions
+reading_takes_memory (lazy.Faulty e) = false

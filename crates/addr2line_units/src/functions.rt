@@ -1,0 +1,176 @@
+//! The functions of a unit's view, as a context keeps them.
+
+ghost use Rattle.std.specs.Prelude.{◌≡◌, ◌≢◌, ◌&&◌, ℕ, Err, IfErr, IfOk, IfSome, Ok, OnOk, false, option_map, true};
+ghost use Rattle.std.specs.List.{AllByRecursion};
+ghost use Rattle.gimli_read.specs.declared.error.Error.TheVariants.{OutOfMemory};
+ghost use Rattle.gimli_read.specs.Reading.{ExactlyUnlessOomIf};
+ghost use Rattle.addr2line_lines.specs.FunctionTable.{AreUnread, HasDetail, IsTableMore};
+ghost use Rattle.addr2line_lines.specs.References.{IsScope};
+ghost use Rattle.addr2line_lines.specs.SeenScope.{seen_scope};
+ghost use Rattle.addr2line_units.specs.Frames.{function_at};
+ghost use Rattle.addr2line_units.specs.KeptFunctions.{AreFunctionsOf, IsPlaceIn, IsTableOf, ReadsNoOther, StayFunctions, are_many, find_takes_memory, function_of_place, functions_fault, kept_functions, reading_takes_memory, table_takes_memory, were_read};
+
+use addr2line_lines::{Functions, Scope};
+use gimli::read::{Error, Reader};
+use gimli::{Unit, UnitRef};
+use smallvec::SmallVec;
+use std::alloc::Global;
+
+// What is kept of the functions of a view.
+#[derive(Drop)]
+pub(crate) enum LazyFunctions<R: Reader> {
+    // Nobody has asked for them yet.
+    Unread,
+    // They were read, with the details that were asked for.
+    Read(Functions<R>),
+    // They can't be read, for this reason.
+    Faulty(Error),
+}
+
+// The place of the function at an address among those of a view, and those of the inlined functions
+// there, from the outside in.
+#[derive(Drop)]
+pub(crate) struct FunctionPlace {
+    pub(crate) place: usize,
+    pub(crate) inlined: SmallVec<usize, 16>,
+}
+
+// The functions of a view, or their fault, as they are kept. Refused `OutOfMemory` alone.
+fn read_functions<R: Reader>(
+    alloc: Global,
+    scope: Scope<'_, R>,
+    view: &Unit<R>,
+) -> Result<LazyFunctions<R>, Error>
+    ensures right { IfOk result (AreFunctionsOf (seen_scope scope.entry) view.now) }
+    ensures read { IfOk result (λ f. were_read f ≡ true) }
+    ensures unread { IfOk result (λ f. AreUnread (kept_functions f)) }
+    ensures refused { IfErr result (λ e. e ≡ OutOfMemory) }
+{
+    match Functions::parse(alloc, UnitRef::new(scope.file.dwarf, view)) {
+        Ok(functions) => Ok(LazyFunctions::Read(functions)),
+        Err(error) => match error {
+            Error::OutOfMemory => Err(error),
+            _ => Ok(LazyFunctions::Faulty(error)),
+        },
+    }
+}
+
+// The function at an address among those of a view. Its detail is read and kept, unless it is, its
+// fault too.
+fn find_place<R: Reader>(
+    alloc: Global,
+    functions: &mut Functions<R>,
+    scope: Scope<'_, R>,
+    view: &Unit<R>,
+    probe: u64,
+) -> Result<Option<FunctionPlace>, Error>
+    requires in_order { IsScope (seen_scope scope) }
+    requires right { IsTableOf (seen_scope scope) view.now functions.old }
+    ensures gives { ExactlyUnlessOomIf
+        (table_takes_memory probe functions.old && table_takes_memory probe functions.new)
+        (option_map (function_of_place functions.new)) result
+        (function_at (seen_scope scope.entry) view.now probe) }
+    ensures there { IfOk result (λ found. IfSome found (IsPlaceIn functions.new)) }
+    ensures right { IsTableOf (seen_scope scope.entry) view.now functions.new }
+    ensures stay { IsTableMore functions.old functions.new }
+    ensures alone { ReadsNoOther probe functions.old functions.new }
+    ensures ready { result ≢ Err OutOfMemory
+        → table_takes_memory probe functions.new ≡ are_many probe functions.new }
+{
+    let Some(place) = functions.find(probe) else {
+        return Ok(None);
+    };
+    functions.read(scope, view, place)?;
+    let inlined = functions.find_inlined_functions(alloc, place, probe)?;
+    Ok(Some(FunctionPlace { place, inlined }))
+}
+
+impl<R: Reader> LazyFunctions<R> {
+    // Whether they were read.
+    fn were_read(&self) -> bool
+        ensures gives { result ≡ were_read self.now }
+    {
+        !matches!(self, LazyFunctions::Unread)
+    }
+
+    // Reads the functions of a view, unless they were read, and keeps them, or their fault. Refused
+    // `OutOfMemory` alone.
+    pub(crate) fn cache(
+        &mut self,
+        alloc: Global,
+        scope: Scope<'_, R>,
+        view: &Unit<R>,
+    ) -> Result<(), Error>
+        requires right { AreFunctionsOf (seen_scope scope) view.now self.old }
+        ensures right { AreFunctionsOf (seen_scope scope.entry) view.now self.new }
+        ensures read { OnOk result (were_read self.new ≡ true) }
+        ensures unread { were_read self.old ≡ false → AreUnread (kept_functions self.new) }
+        ensures kept { were_read self.old ≡ true → (self.new ≡ self.old) × (result ≡ Ok tt) }
+        ensures refused { IfErr result (λ e. (e ≡ OutOfMemory) × (self.new ≡ self.old)) }
+    {
+        if !self.were_read() {
+            *self = read_functions(alloc, scope, view)?;
+        }
+        Ok(())
+    }
+
+    // The function at an address, none where no function holds it. The functions and its detail are
+    // read and kept, unless they are, their faults too.
+    //
+    // Refused by the fault of the functions or of the detail; may fail with `OutOfMemory` instead,
+    // only where functions or detail are not kept, or there are more than 16 inlined functions.
+    pub(crate) fn find(
+        &mut self,
+        alloc: Global,
+        scope: Scope<'_, R>,
+        view: &Unit<R>,
+        probe: u64,
+    ) -> Result<Option<FunctionPlace>, Error>
+        requires in_order { IsScope (seen_scope scope) }
+        requires right { AreFunctionsOf (seen_scope scope) view.now self.old }
+        ensures gives { ExactlyUnlessOomIf
+            (find_takes_memory probe self.old && find_takes_memory probe self.new)
+            (option_map (function_of_place (kept_functions self.new))) result
+            (function_at (seen_scope scope.entry) view.now probe) }
+        ensures there { IfOk result (λ found. IfSome found (IsPlaceIn (kept_functions self.new))) }
+        ensures right { AreFunctionsOf (seen_scope scope.entry) view.now self.new }
+        ensures stay { StayFunctions self.old self.new }
+        ensures alone { ReadsNoOther probe (kept_functions self.old) (kept_functions self.new) }
+        ensures ready { result ≢ Err OutOfMemory
+            → find_takes_memory probe self.new ≡ are_many probe (kept_functions self.new) }
+    {
+        self.cache(alloc, scope, view)?;
+        match self {
+            LazyFunctions::Read(functions) => find_place(alloc, functions, scope, view, probe),
+            LazyFunctions::Faulty(error) => Err(*error),
+            LazyFunctions::Unread => Ok(None),
+        }
+    }
+
+    // Reads the functions of a view and all their details, in the order of their entries, up to the
+    // first fault; what was read is kept, the fault too.
+    pub(crate) fn read_all(
+        &mut self,
+        alloc: Global,
+        scope: Scope<'_, R>,
+        view: &Unit<R>,
+    ) -> Result<(), Error>
+        requires in_order { IsScope (seen_scope scope) }
+        requires right { AreFunctionsOf (seen_scope scope) view.now self.old }
+        ensures gives { ExactlyUnlessOomIf (reading_takes_memory self.old) (λ x. x) result
+            (functions_fault (seen_scope scope.entry) view.now) }
+        ensures right { AreFunctionsOf (seen_scope scope.entry) view.now self.new }
+        ensures stay { StayFunctions self.old self.new }
+        ensures read { OnOk result (were_read self.new ≡ true) }
+        ensures details { OnOk result (AllByRecursion HasDetail (kept_functions self.new).functions) }
+        ensures ready { OnOk result ((probe : ℕ)
+            → find_takes_memory probe self.new ≡ are_many probe (kept_functions self.new)) }
+    {
+        self.cache(alloc, scope, view)?;
+        match self {
+            LazyFunctions::Read(functions) => functions.read_all(scope, view),
+            LazyFunctions::Faulty(error) => Err(*error),
+            LazyFunctions::Unread => Ok(()),
+        }
+    }
+}

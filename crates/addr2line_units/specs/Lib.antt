@@ -14,5 +14,7 @@ pub mod RangeLookup
 pub mod UnitRangesLeft
 pub mod LocationsLeft
 pub mod Frames
+pub mod Views
+pub mod KeptViews
 pub mod SeenFrame
 pub mod FramesLeft

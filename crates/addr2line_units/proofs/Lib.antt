@@ -11,3 +11,4 @@ pub mod UnitLemmas
 pub mod IndexLemmas
 pub mod LeastBeginLemmas
 pub mod FrameLemmas
+pub mod ViewLemmas

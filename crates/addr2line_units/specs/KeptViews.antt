@@ -48,6 +48,10 @@ abbrev pub view_by : Sections → UnitRecord → Option Sections → Option Unit
 view_by d main (Some split) (Some u) = split_view split u
 view_by d main _ _ = main_view d main
 
+-- the view that is kept of an answer, or the fault
+abbrev pub view_in : {R : Type 0} → Sections → UnitRecord → Answer R → Result View Error
+view_in d main a = a.unit >>= λ x. Ok (view_by d main (seen_sections a) x)
+
 -- what is kept of the verdict: whether the unit is open, and else its view or the fault; none
 -- before the unit was looked at
 abbrev pub verdict_in : {R : Type 0} → Sections → UnitRecord → ViewState R
@@ -56,8 +60,7 @@ verdict_in d u states.Undecided = None
 verdict_in d u states.Open = Some None
 verdict_in d u states.Main = Some (Some (Ok (main_view d u)))
 verdict_in d u (states.Unnamed e) = Some (Some (Err e))
-verdict_in d u (states.Answered a) =
-    Some (Some (a.unit >>= λ x. Ok (view_by d u (seen_sections a) x)))
+verdict_in d u (states.Answered a) = Some (Some (view_in d u a))
 
 -- the same of a unit's view
 abbrev pub kept_verdict : {R : Type 0} → Sections → UnitRecord → UnitView R
@@ -89,3 +92,7 @@ pub record IsViewOf {R : Type 0} (d : Sections) (u : UnitRecord) (v : UnitView R
 -- the sections and the unit of a view
 abbrev pub parts_of : View → Sections × UnitRecord
 parts_of v = (v.sections, v.unit)
+
+-- the same, or the fault
+abbrev pub parts_or_fault : Result View Error → Result (Sections × UnitRecord) Error
+parts_or_fault view = view >>= λ v. Ok (parts_of v)

@@ -5,7 +5,7 @@
 -- unit, decide for the main view; else the first unit of the sections counts, its fault too.
 -- Own: the identifier of what is answered isn't compared. Lines and language stay those of the main
 -- unit. References lead to no other unit of a split file.
-use Rattle.std.specs.Prelude.{ℕ, Bool, true, false, List, [], ◌∷◌, Option, Some, None, is_some, option_and_then, option_map, Result, Ok, Err, if◌then◌else◌}
+use Rattle.std.specs.Prelude.{ℕ, Bool, true, false, List, [], ◌∷◌, Option, Some, None, is_none, option_map, Result, Ok, Err, if◌then◌else◌}
 use Rattle.gimli_read.specs.declared.error.Error.{Error}
 use Rattle.gimli_read.specs.declared.value.AttributeValue.{AttributeValue}
 use Rattle.gimli_read.specs.Reading.{◌>>=◌}
@@ -79,18 +79,21 @@ answered_view d main None = Ok (main_view d main)
 answered_view d main (Some split) =
     first_unit split >>= λ u. Ok (first_view d main split u)
 
+-- the load of a unit with this name of its split file and this identifier of its split unit
+abbrev pub load_by : Sections → ℕ → UnitRecord → Result (Option Section) Error → Option DwoId
+    → Result (Option SplitLoad) Error
+load_by d n u name None = Ok None
+load_by d n u name (Some id) = name >>= λ path. Ok (Some (record {
+  unit = n;
+  dwo_id = id;
+  comp_dir = u.comp_dir;
+  path = path;
+  parent = d;
+}))
+
 -- the load of a unit, none where it needs no answer, or the fault of its split name
 unfoldable pub load_of_unit : Sections → ℕ → UnitRecord → Result (Option SplitLoad) Error
-load_of_unit d n u = elim u.dwo_id [
-  | None ↦ Ok None
-  | Some id ↦ split_name_of d u >>= λ path. Ok (Some (record {
-      unit = n;
-      dwo_id = id;
-      comp_dir = u.comp_dir;
-      path = path;
-      parent = d;
-    }))
-]
+load_of_unit d n u = load_by d n u (split_name_of d u) u.dwo_id
 
 -- the view of a unit that has this load and this first answer, or the fault; none where it is open
 abbrev pub verdict_by : Sections → UnitRecord → Result (Option SplitLoad) Error
@@ -105,7 +108,7 @@ verdict d u answer = verdict_by d u (load_of_unit d 0 u) answer
 
 -- whether a unit waits for an answer
 abbrev pub is_open : Sections → UnitRecord → Option (Option Sections) → Bool
-is_open d u answer = elim (verdict d u answer) [ None ↦ true | Some v ↦ false ]
+is_open d u answer = is_none (verdict d u answer)
 
 -- the load of a unit that has no first answer, none where it is decided
 abbrev pub awaited_by : Result (Option SplitLoad) Error → Option (Option Sections)

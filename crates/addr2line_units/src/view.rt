@@ -1,12 +1,14 @@
 //! The views of units: where the entries of a unit are read that say what stands at an address.
 
-ghost use Rattle.std.specs.Prelude.{◌≡◌, ◌&&◌, None, Ok, Some, IfErr, IfOk, IfSome, OnErr, OnOk, false, is_some, not, option_and_then, option_map, true};
+ghost use Rattle.std.specs.Prelude.{◌≡◌, Err, None, Ok, Some, IfErr, IfOk, IfSome, OnErr, OnOk, false, is_some, not, option_and_then, option_map, true};
 ghost use Rattle.gimli_read.specs.declared.error.Error.TheVariants.{OutOfMemory};
-ghost use Rattle.gimli_read.specs.Reading.{◌>>=◌, Exactly, ExactlyUnlessOom, ExactlyUnlessOomIf};
-ghost use Rattle.addr2line_lines.specs.References.{Scope};
+ghost use Rattle.gimli_read.specs.Reading.{Exactly, ExactlyUnlessOom, ExactlyUnlessOomIf};
+ghost use Rattle.gimli.specs.Sections.{Sections};
+ghost use Rattle.gimli.specs.Unit.{UnitRecord};
+ghost use Rattle.addr2line_lines.specs.References.{IsScope};
 ghost use Rattle.addr2line_lines.specs.SeenScope.{seen_scope};
-ghost use Rattle.addr2line_units.specs.KeptViews.{IsViewOf, answer_in, is_decided, kept_verdict, parts_of, seen_answer, seen_load, seen_sections, split_unit, verdict_in, view_by, waits, was_looked_at};
-ghost use Rattle.addr2line_units.specs.Views.{first_unit, is_open, load_of_unit, split_name_of, verdict, view_scope};
+ghost use Rattle.addr2line_units.specs.KeptViews.{IsViewOf, answer_in, is_decided, kept_verdict, parts_of, parts_or_fault, seen_answer, seen_load, seen_sections, split_unit, verdict_in, view_by, view_in, waits, was_looked_at};
+ghost use Rattle.addr2line_units.specs.Views.{answered_view, first_unit, is_open, load_of_unit, split_name_of, verdict, view_scope};
 
 use addr2line_lines::{FileUnits, Scope};
 use gimli::read::{Error, Reader};
@@ -149,8 +151,10 @@ fn first_state<R: Reader>(dwarf: &Dwarf<R>, unit: &Unit<R>) -> Result<ViewState<
     ensures gives { IfOk result (λ s. verdict_in dwarf.now unit.now s
         ≡ Some (verdict dwarf.now unit.now None)) }
     ensures answer { IfOk result (λ s. answer_in s ≡ None) }
-    ensures refused { IfErr result (λ e. (e ≡ OutOfMemory) × (R.shares ≡ true)
+    ensures refused { IfErr result (λ e. (e ≡ OutOfMemory)
         × (is_some unit.now.dwo_id ≡ true)) }
+    ensures memory { R.shares ≡ false → IfErr result (λ e.
+        split_name_of dwarf.now unit.now ≡ Err e) }
 {
     if unit.dwo_id.is_none() {
         return Ok(ViewState::Main);
@@ -170,8 +174,7 @@ impl<R: Reader> Answer<R> {
         dw_unit: &'x Unit<R>,
     ) -> Result<UnitRef<'x, R>, Error>
         ensures gives { Exactly (λ r. (r.dwarf.now, r.unit.now)) result
-            (self.now.unit >>= λ x. Ok (parts_of (view_by dwarf.now dw_unit.now
-            (seen_sections self.now) x))) }
+            (parts_or_fault (view_in dwarf.now dw_unit.now self.now)) }
     {
         match (&self.sections, &self.unit) {
             (_, Err(error)) => Err(*error),
@@ -217,6 +220,25 @@ impl<R: Reader> UnitView<R> {
         matches!(self.state, ViewState::Open)
     }
 
+    // The load of a unit of a number, which waits for an answer. Refused `OutOfMemory` alone.
+    pub(crate) fn load(
+        &self,
+        dwarf: &Rc<Dwarf<R>>,
+        dw_unit: &Unit<R>,
+        number: usize,
+    ) -> Result<SplitDwarfLoad<R>, Error>
+        requires view { IsViewOf dwarf.now.value dw_unit.now self.now }
+        requires waits { waits self.now.state ≡ true }
+        ensures gives { IfOk result (λ l. load_of_unit dwarf.now.value number dw_unit.now
+            ≡ Ok (Some (seen_load R.section l))) }
+        ensures refused { IfErr result (λ e. e ≡ OutOfMemory) }
+    {
+        match read_load(dwarf, number, dw_unit)? {
+            Some(load) => Ok(load),
+            None => unreachable!(),
+        }
+    }
+
     // Decides the unit, which waits for an answer, by one. Refused `OutOfMemory` alone, and only
     // where it has sections; then nothing is changed.
     pub(crate) fn decide(
@@ -227,13 +249,16 @@ impl<R: Reader> UnitView<R> {
         sections: Option<Rc<Dwarf<R>>>,
     ) -> Result<(), Error>
         requires view { IsViewOf dwarf.now dw_unit.now self.old }
-        requires open { waits self.old.state ≡ true }
+        requires waits { waits self.old.state ≡ true }
         ensures view { IsViewOf dwarf.now dw_unit.now self.new }
         ensures answer { OnOk result (seen_answer self.new
             ≡ Some (option_map (λ d. d.value) sections)) }
         ensures decided { OnOk result (is_decided self.new.state ≡ true) }
         ensures refused { IfErr result (λ e. (e ≡ OutOfMemory) × (self.new ≡ self.old)
             × (is_some sections ≡ true)) }
+        ensures verdict { OnOk result (verdict dwarf.now dw_unit.now (seen_answer self.new)
+            ≡ Some (answered_view dwarf.now dw_unit.now
+            (option_map (λ d. d.value) sections))) }
     {
         let unit = match read_split_unit(alloc, dw_unit, &sections) {
             Ok(unit) => Ok(unit),
@@ -267,7 +292,7 @@ impl<R: Reader> UnitView<R> {
         requires decided { is_decided self.now.state ≡ true }
         ensures gives { IfSome (verdict dwarf.now dw_unit.now (seen_answer self.now)) (λ view.
             Exactly (λ r. (r.dwarf.now, r.unit.now)) result
-            (view >>= λ v. Ok (parts_of v))) }
+            (parts_or_fault view)) }
     {
         match &self.state {
             ViewState::Undecided | ViewState::Open | ViewState::Main => {
@@ -275,6 +300,27 @@ impl<R: Reader> UnitView<R> {
             }
             ViewState::Unnamed(error) => Err(*error),
             ViewState::Answered(answer) => answer.unit_ref(dwarf, dw_unit),
+        }
+    }
+    // Where references lead from the view, from the main unit where `scope` says. Takes no memory.
+    pub(crate) fn scope_of<'x>(&'x self, scope: Scope<'x, R>) -> Scope<'x, R>
+        ensures gives { (d : Sections) (u : UnitRecord) → IsViewOf d u self.now
+            → IfSome (verdict d u (seen_answer self.now)) (λ view. IfOk view (λ v.
+            seen_scope result ≡ view_scope (seen_scope scope.entry) v)) }
+        ensures in_order { IsScope (seen_scope scope.entry) → IsScope (seen_scope result) }
+    {
+        match &self.state {
+            ViewState::Answered(Answer {
+                sections: Some(split),
+                unit: Ok(Some(_)),
+            }) => Scope {
+                file: FileUnits {
+                    dwarf: split,
+                    units: &[],
+                },
+                sup: scope.sup,
+            },
+            _ => scope,
         }
     }
 }

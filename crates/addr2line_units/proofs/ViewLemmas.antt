@@ -1,0 +1,120 @@
+-- The views of units (on specs/Views.antt and specs/KeptViews.antt).
+use Rattle.std.proofs.Common.{◌≡◌, ◌≢◌, ◌∙◌, ℕ, ap, sym, refl, not, Bool, true, false, List, [], Option, Some, None, is_some, is_none, option_map, IfSome, Result, Ok, Err, if◌then◌else◌}
+use Rattle.gimli_read.specs.declared.error.Error.{Error}
+use Rattle.gimli_read.specs.Reading.{◌>>=◌}
+use Rattle.gimli_read.specs.Section.{Section}
+use Rattle.gimli.specs.declared.unit.DwoId.{DwoId}
+use Rattle.gimli.specs.Sections.{Sections}
+use Rattle.gimli.specs.Split.{relocated}
+use Rattle.gimli.specs.Unit.{UnitRecord}
+use Rattle.addr2line_lines.specs.References.{IsScope, Scope}
+use Rattle.addr2line_units.specs.declared.view.Answer.{Answer}
+use Rattle.addr2line_units.specs.declared.view.ViewState.{ViewState}
+use Rattle.addr2line_units.specs.declared.view.ViewState.TheVariants as states
+use Rattle.addr2line_units.specs.KeptViews.{IsViewOf, answer_in, seen_sections, split_unit, verdict_in, view_by, waits}
+use Rattle.addr2line_units.specs.Views.{SplitLoad, View, answered_view, first_unit, first_view, is_open, load_by, load_of_unit, main_view, split_name_of, verdict, verdict_by, view_scope}
+
+decided_by : (d : Sections) (u : UnitRecord) (load : Result (Option SplitLoad) Error) (r : Result View Error) (answer : Option (Option Sections)) → verdict_by d u load None ≡ Some r → verdict_by d u load answer ≡ Some r
+decided_by d u (Err e) r answer h = h
+decided_by d u (Ok None) r answer h = h
+decided_by d u (Ok (Some load)) r answer h = cc
+
+-- a unit that is decided without an answer has its verdict with every answer
+pub decided_alone : (d : Sections) (u : UnitRecord) (r : Result View Error) (answer : Option (Option Sections)) → verdict d u None ≡ Some r → verdict d u answer ≡ Some r
+decided_alone d u r answer h = decided_by d u (load_of_unit d 0 u) r answer h
+
+open_by : (d : Sections) (u : UnitRecord) (load : Result (Option SplitLoad) Error) (answer : Option Sections) → verdict_by d u load None ≡ None → verdict_by d u load (Some answer) ≡ Some (answered_view d u answer)
+open_by d u (Err e) answer h = cc
+open_by d u (Ok None) answer h = cc
+open_by d u (Ok (Some load)) answer h = refl
+
+-- the verdict of an open unit after an answer is that of the answer
+pub verdict_of_open : (d : Sections) (u : UnitRecord) (answer : Option Sections) → verdict d u None ≡ None → verdict d u (Some answer) ≡ Some (answered_view d u answer)
+verdict_of_open d u answer h = open_by d u (load_of_unit d 0 u) answer h
+
+alone_by : (d : Sections) (u : UnitRecord) (name : Result (Option Section) Error) (id : Option DwoId) → is_some id ≡ false → verdict_by d u (load_by d 0 u name id) None ≡ Some (Ok (main_view d u))
+alone_by d u name None h = refl
+alone_by d u name (Some id) h = cc
+
+-- a unit without an identifier of a split unit has the main view
+pub verdict_of_main : (d : Sections) (u : UnitRecord) → is_some u.dwo_id ≡ false → verdict d u None ≡ Some (Ok (main_view d u))
+unfolding load_of_unit
+verdict_of_main d u h = alone_by d u (split_name_of d u) u.dwo_id h
+
+named_by : (d : Sections) (u : UnitRecord) (path : Option Section) (id : Option DwoId) → is_some id ≡ true → verdict_by d u (load_by d 0 u (Ok path) id) None ≡ None
+named_by d u path None h = cc
+named_by d u path (Some id) h = refl
+
+-- a unit with such an identifier waits for an answer where its split name can be read
+pub verdict_of_named : (d : Sections) (u : UnitRecord) (path : Option Section) → is_some u.dwo_id ≡ true → split_name_of d u ≡ Ok path → verdict d u None ≡ None
+unfolding load_of_unit
+verdict_of_named d u path h e = ap (λ name. verdict_by d u (load_by d 0 u name u.dwo_id) None) e ∙ named_by d u path u.dwo_id h
+
+unnamed_by : (d : Sections) (u : UnitRecord) (e : Error) (id : Option DwoId) → is_some id ≡ true → verdict_by d u (load_by d 0 u (Err e) id) None ≡ Some (Err e)
+unnamed_by d u e None h = cc
+unnamed_by d u e (Some id) h = refl
+
+-- and has that fault where it can't
+pub verdict_of_unnamed : (d : Sections) (u : UnitRecord) (e : Error) → is_some u.dwo_id ≡ true → split_name_of d u ≡ Err e → verdict d u None ≡ Some (Err e)
+unfolding load_of_unit
+verdict_of_unnamed d u e h k = ap (λ name. verdict_by d u (load_by d 0 u name u.dwo_id) None) k ∙ unnamed_by d u e u.dwo_id h
+
+open_in : {R : Type 0} (d : Sections) (u : UnitRecord) (s : ViewState R) → waits s ≡ true → IfSome (verdict_in d u s) (λ kept. kept ≡ verdict d u (answer_in s)) → verdict d u None ≡ None
+open_in d u states.Undecided h right = cc
+open_in d u states.Open h right = sym right
+open_in d u states.Main h right = cc
+open_in d u (states.Unnamed e) h right = cc
+open_in d u (states.Answered a) h right = cc
+
+-- a unit whose view waits has no verdict without an answer
+pub waiting_is_open : {R : Type 0} (d : Sections) (u : UnitRecord) (s : ViewState R) → waits s ≡ true → IsViewOf d u (record { state = s }) → verdict d u None ≡ None
+waiting_is_open d u s h right = open_in d u s h right.right
+
+first_by : (d main : _) (split : Sections) (first : Result (Option UnitRecord) Error) → ((first >>= λ u. Ok (option_map (λ x. relocated x main) u)) >>= λ x. Ok (view_by d main (Some split) x)) ≡ (first >>= λ u. Ok (first_view d main split u))
+first_by d main split (Err e) = refl
+first_by d main split (Ok None) = refl
+first_by d main split (Ok (Some u)) = refl
+
+-- the view by an answer's split unit is that which the answer decides for
+pub view_by_split_unit : (d : Sections) (main : UnitRecord) (answer : Option Sections) → (split_unit main answer >>= λ x. Ok (view_by d main answer x)) ≡ answered_view d main answer
+view_by_split_unit d main None = refl
+view_by_split_unit d main (Some split) = first_by d main split (first_unit split)
+
+-- an answer with its split unit is the view of a unit that was open
+pub answered_is_right : {R : Type 0} (d : Sections) (u : UnitRecord) (a : Answer R) → verdict d u None ≡ None → a.unit ≡ split_unit u (seen_sections a) → IsViewOf {R = R} d u (record { state = states.Answered a })
+answered_is_right d u a waiting h = record {
+  right = ap Some (ap (λ r. r >>= λ x. Ok (view_by d u (seen_sections a) x)) h ∙ view_by_split_unit d u (seen_sections a)) ∙ sym (verdict_of_open d u (seen_sections a) waiting);
+  waited = λ _. ap is_none waiting;
+}
+
+waited_by : (d : Sections) (n : ℕ) (u : UnitRecord) (name : Result (Option Section) Error) (id : Option DwoId) → verdict_by d u (load_by d 0 u name id) None ≡ None → load_by d n u name id ≢ Ok None
+waited_by d n u name None h e = cc
+waited_by d n u (Ok path) (Some id) h e = cc
+waited_by d n u (Err x) (Some id) h e = cc
+
+-- a unit that waits has a load
+pub open_has_load : (d : Sections) (n : ℕ) (u : UnitRecord) → verdict d u None ≡ None → load_of_unit d n u ≢ Ok None
+unfolding load_of_unit
+open_has_load d n u h = waited_by d n u (split_name_of d u) u.dwo_id h
+
+faultless_by : (d : Sections) (n : ℕ) (u : UnitRecord) (name : Result (Option Section) Error) (id : Option DwoId) (e : Error) → verdict_by d u (load_by d 0 u name id) None ≡ None → load_by d n u name id ≢ Err e
+faultless_by d n u name None e h k = cc
+faultless_by d n u (Ok path) (Some id) e h k = cc
+faultless_by d n u (Err x) (Some id) e h k = cc
+
+-- and no fault
+pub open_has_no_fault : (d : Sections) (n : ℕ) (u : UnitRecord) (e : Error) → verdict d u None ≡ None → load_of_unit d n u ≢ Err e
+unfolding load_of_unit
+open_has_no_fault d n u e h = faultless_by d n u (split_name_of d u) u.dwo_id e h
+
+in_order_by : (scope : Scope) (v : View) (split : Bool) → IsScope scope → IsScope (if split then (record { file = record { sections = v.sections; units = [] }; sup = scope.sup }) else scope)
+in_order_by scope v true h = record { units = tt; sup_units = h.sup_units }
+in_order_by scope v false h = h
+
+-- references lead to units in order from a view too
+pub view_scope_in_order : (scope : Scope) (v : View) → IsScope scope → IsScope (view_scope scope v)
+view_scope_in_order scope v h = in_order_by scope v v.is_split h
+
+-- what isn't absent is there
+pub is_there : {A : Type 0} (id : Option A) (absent : Bool) → absent ≡ false → is_some id ≡ not absent → is_some id ≡ true
+is_there id absent h e = e ∙ ap not h

@@ -1,6 +1,7 @@
 -- The views of units (on specs/Views.antt and specs/KeptViews.antt).
-use Rattle.std.proofs.Common.{◌≡◌, ◌≢◌, ◌∙◌, ℕ, ap, sym, refl, not, Bool, true, false, List, [], Option, Some, None, is_some, is_none, option_map, IfSome, Result, Ok, Err, if◌then◌else◌}
+use Rattle.std.proofs.Common.{◌≡◌, ◌≢◌, ◌∙◌, ℕ, ap, sym, refl, subst, not, ◌⊎◌, inl, inr, ⊎_elim, Bool, true, false, List, [], Option, Some, None, is_some, is_none, option_map, IfSome, IfOk, Result, Ok, Err, if◌then◌else◌}
 use Rattle.gimli_read.specs.declared.error.Error.{Error}
+use Rattle.gimli_read.specs.declared.error.Error.TheVariants.{OutOfMemory}
 use Rattle.gimli_read.specs.Reading.{◌>>=◌}
 use Rattle.gimli_read.specs.Section.{Section}
 use Rattle.gimli.specs.declared.unit.DwoId.{DwoId}
@@ -9,9 +10,10 @@ use Rattle.gimli.specs.Split.{relocated}
 use Rattle.gimli.specs.Unit.{UnitRecord}
 use Rattle.addr2line_lines.specs.References.{IsScope, Scope}
 use Rattle.addr2line_units.specs.declared.view.Answer.{Answer}
+use Rattle.addr2line_units.specs.declared.view.UnitView.{UnitView}
 use Rattle.addr2line_units.specs.declared.view.ViewState.{ViewState}
 use Rattle.addr2line_units.specs.declared.view.ViewState.TheVariants as states
-use Rattle.addr2line_units.specs.KeptViews.{IsViewOf, answer_in, seen_sections, split_unit, verdict_in, view_by, waits}
+use Rattle.addr2line_units.specs.KeptViews.{IsViewOf, answer_in, scope_by, seen_answer, seen_sections, split_file_by, split_file_in, split_unit, verdict_in, view_by, waits}
 use Rattle.addr2line_units.specs.Views.{SplitLoad, View, answered_view, first_unit, first_view, is_open, load_by, load_of_unit, main_view, split_name_of, verdict, verdict_by, view_scope}
 
 decided_by : (d : Sections) (u : UnitRecord) (load : Result (Option SplitLoad) Error) (r : Result View Error) (answer : Option (Option Sections)) → verdict_by d u load None ≡ Some r → verdict_by d u load answer ≡ Some r
@@ -106,6 +108,38 @@ faultless_by d n u (Err x) (Some id) e h k = cc
 pub open_has_no_fault : (d : Sections) (n : ℕ) (u : UnitRecord) (e : Error) → verdict d u None ≡ None → load_of_unit d n u ≢ Err e
 unfolding load_of_unit
 open_has_no_fault d n u e h = faultless_by d n u (split_name_of d u) u.dwo_id e h
+
+unanswered_scope : (scope : Scope) (d : Sections) (u : UnitRecord) (load : Result (Option SplitLoad) Error) → IfSome (verdict_by d u load None) (λ view. IfOk view (λ v. scope ≡ view_scope scope v))
+unanswered_scope scope d u (Err e) = tt
+unanswered_scope scope d u (Ok None) = refl
+unanswered_scope scope d u (Ok (Some load)) = tt
+
+answered_scope : (scope : Scope) (d : Sections) (u : UnitRecord) (answer : Option Sections) (unit : Result (Option UnitRecord) Error) → IfOk (unit >>= λ x. Ok (view_by d u answer x)) (λ v. scope_by scope (split_file_by answer unit) ≡ view_scope scope v)
+answered_scope scope d u None (Err e) = tt
+answered_scope scope d u None (Ok None) = refl
+answered_scope scope d u None (Ok (Some x)) = refl
+answered_scope scope d u (Some split) (Err e) = tt
+answered_scope scope d u (Some split) (Ok None) = refl
+answered_scope scope d u (Some split) (Ok (Some x)) = refl
+
+scope_in : {R : Type 0} (scope : Scope) (d : Sections) (u : UnitRecord) (s : ViewState R) → IfSome (verdict_in d u s) (λ kept. kept ≡ verdict d u (answer_in s)) → IfSome (verdict d u (answer_in s)) (λ view. IfOk view (λ v. scope_by scope (split_file_in s) ≡ view_scope scope v))
+scope_in scope d u states.Undecided h = unanswered_scope scope d u (load_of_unit d 0 u)
+scope_in scope d u states.Open h = unanswered_scope scope d u (load_of_unit d 0 u)
+scope_in scope d u states.Main h = unanswered_scope scope d u (load_of_unit d 0 u)
+scope_in scope d u (states.Unnamed e) h = unanswered_scope scope d u (load_of_unit d 0 u)
+scope_in scope d u (states.Answered a) h = subst (λ w. IfSome w (λ view. IfOk view (λ v. scope_by scope (split_file_by (seen_sections a) a.unit) ≡ view_scope scope v))) h (answered_scope scope d u (seen_sections a) a.unit)
+
+-- references lead from a view as its split file says, if it is in one
+pub scope_of_split : {R : Type 0} (scope : Scope) (split : Option Sections) (v : UnitView R) → split ≡ split_file_in v.state → (d : Sections) (u : UnitRecord) → IsViewOf d u v → IfSome (verdict d u (seen_answer v)) (λ view. IfOk view (λ x. scope_by scope split ≡ view_scope scope x))
+scope_of_split scope split v e d u h = subst (λ p. IfSome (verdict d u (seen_answer v)) (λ view. IfOk view (λ x. scope_by scope p ≡ view_scope scope x))) (sym e) (scope_in scope d u v.state h.right)
+
+memory_or_not : (e : Error) → (e ≡ OutOfMemory) ⊎ (e ≢ OutOfMemory)
+memory_or_not OutOfMemory = inl refl
+memory_or_not _ = inr (λ h. absurd cc)
+
+-- the load of a unit that waits is refused OutOfMemory alone
+pub refused_load : (d : Sections) (n : ℕ) (u : UnitRecord) (may : Bool) (e : Error) → verdict d u None ≡ None → ((may ≡ true → e ≢ OutOfMemory) → load_of_unit d n u ≡ Err e) → e ≡ OutOfMemory
+refused_load d n u may e waiting gives = ⊎_elim (λ p. p) (λ q. absurd (open_has_no_fault d n u e waiting (gives (λ m. q)))) (memory_or_not e)
 
 in_order_by : (scope : Scope) (v : View) (split : Bool) → IsScope scope → IsScope (if split then (record { file = record { sections = v.sections; units = [] }; sup = scope.sup }) else scope)
 in_order_by scope v true h = record { units = tt; sup_units = h.sup_units }

@@ -1,13 +1,14 @@
 -- What is kept of a unit's view, as the private functions see it.
 -- Own: whether a unit needs an answer is kept once it was looked at; its first answer, and what
 -- that decides, since the unit was last forgotten. OutOfMemory is never kept.
-use Rattle.std.specs.Prelude.{◌≡◌, Bool, true, false, is_some, Option, Some, None, option_map, IfSome, Result, Ok, Err}
+use Rattle.std.specs.Prelude.{◌≡◌, Bool, true, false, [], is_some, Option, Some, None, option_map, IfSome, Result, Ok, Err}
 use Rattle.gimli_read.specs.declared.error.Error.{Error}
 use Rattle.gimli_read.specs.Reading.{◌>>=◌}
 use Rattle.gimli_read.specs.Section.{Section}
 use Rattle.gimli.specs.Sections.{Sections}
 use Rattle.gimli.specs.Split.{relocated}
 use Rattle.gimli.specs.Unit.{UnitRecord}
+use Rattle.addr2line_lines.specs.References.{FileRecord, Scope}
 use Rattle.addr2line_units.specs.declared.view.Answer.{Answer}
 use Rattle.addr2line_units.specs.declared.view.SplitDwarfLoad.{SplitDwarfLoad}
 use Rattle.addr2line_units.specs.declared.view.UnitView.{UnitView}
@@ -88,6 +89,22 @@ is_decided _ = true
 pub record IsViewOf {R : Type 0} (d : Sections) (u : UnitRecord) (v : UnitView R) : Type 0 where
   pub right : IfSome (kept_verdict d u v) (λ kept. kept ≡ verdict d u (seen_answer v))
   pub waited : is_some (seen_answer v) ≡ true → is_open d u None ≡ true
+
+-- the sections of the split file that an answer's view is in, if it is in one
+abbrev pub split_file_by : Option Sections → Result (Option UnitRecord) Error → Option Sections
+split_file_by (Some split) (Ok (Some u)) = Some split
+split_file_by _ _ = None
+
+-- the same of what is kept
+abbrev pub split_file_in : {R : Type 0} → ViewState R → Option Sections
+split_file_in (states.Answered a) = split_file_by (seen_sections a) a.unit
+split_file_in _ = None
+
+-- where references lead from a view in a split file, if it is in one
+abbrev pub scope_by : Scope → Option Sections → Scope
+scope_by scope None = scope
+scope_by scope (Some split) =
+    record { file = record { sections = split; units = [] }; sup = scope.sup }
 
 -- the sections and the unit of a view
 abbrev pub parts_of : View → Sections × UnitRecord

@@ -7,7 +7,7 @@ ghost use Rattle.gimli.specs.Sections.{Sections};
 ghost use Rattle.gimli.specs.Unit.{UnitRecord};
 ghost use Rattle.addr2line_lines.specs.References.{IsScope};
 ghost use Rattle.addr2line_lines.specs.SeenScope.{seen_scope};
-ghost use Rattle.addr2line_units.specs.KeptViews.{IsViewOf, answer_in, is_decided, kept_verdict, parts_of, parts_or_fault, seen_answer, seen_load, seen_sections, split_unit, verdict_in, view_by, view_in, waits, was_looked_at};
+ghost use Rattle.addr2line_units.specs.KeptViews.{IsViewOf, answer_in, is_decided, kept_verdict, parts_of, parts_or_fault, seen_answer, seen_load, seen_sections, split_file_by, split_file_in, split_unit, verdict_in, view_by, view_in, waits, was_looked_at};
 ghost use Rattle.addr2line_units.specs.Views.{answered_view, first_unit, is_open, load_of_unit, split_name_of, verdict, view_scope};
 
 use addr2line_lines::{FileUnits, Scope};
@@ -167,6 +167,17 @@ fn first_state<R: Reader>(dwarf: &Dwarf<R>, unit: &Unit<R>) -> Result<ViewState<
 }
 
 impl<R: Reader> Answer<R> {
+    // The sections that the answer has, where they have a unit.
+    fn split_file(&self) -> Option<&Dwarf<R>>
+        ensures gives { option_map (λ d. d.now) result
+            ≡ split_file_by (seen_sections self.now) self.now.unit }
+    {
+        match (&self.sections, &self.unit) {
+            (Some(split), Ok(Some(_))) => Some(split),
+            _ => None,
+        }
+    }
+
     // The sections and the unit of the view that the answer decides for, or the fault.
     fn unit_ref<'x>(
         &'x self,
@@ -302,6 +313,18 @@ impl<R: Reader> UnitView<R> {
             ViewState::Answered(answer) => answer.unit_ref(dwarf, dw_unit),
         }
     }
+    // The sections of the split file that has the unit of the view, if it is in one.
+    fn split_file(&self) -> Option<&Dwarf<R>>
+        ensures gives { option_map (λ d. d.now) result ≡ split_file_in self.now.state }
+    {
+        match &self.state {
+            ViewState::Answered(answer) => answer.split_file(),
+            ViewState::Undecided | ViewState::Open | ViewState::Main | ViewState::Unnamed(_) => {
+                None
+            }
+        }
+    }
+
     // Where references lead from the view, from the main unit where `scope` says. Takes no memory.
     pub(crate) fn scope_of<'x>(&'x self, scope: Scope<'x, R>) -> Scope<'x, R>
         ensures gives { (d : Sections) (u : UnitRecord) → IsViewOf d u self.now
@@ -309,18 +332,12 @@ impl<R: Reader> UnitView<R> {
             seen_scope result ≡ view_scope (seen_scope scope.entry) v)) }
         ensures in_order { IsScope (seen_scope scope.entry) → IsScope (seen_scope result) }
     {
-        match &self.state {
-            ViewState::Answered(Answer {
-                sections: Some(split),
-                unit: Ok(Some(_)),
-            }) => Scope {
-                file: FileUnits {
-                    dwarf: split,
-                    units: &[],
-                },
+        match self.split_file() {
+            Some(dwarf) => Scope {
+                file: FileUnits { dwarf, units: &[] },
                 sup: scope.sup,
             },
-            _ => scope,
+            None => scope,
         }
     }
 }

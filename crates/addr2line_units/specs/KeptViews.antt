@@ -8,7 +8,7 @@ use Rattle.gimli_read.specs.Section.{Section}
 use Rattle.gimli.specs.Sections.{Sections}
 use Rattle.gimli.specs.Split.{relocated}
 use Rattle.gimli.specs.Unit.{UnitRecord}
-use Rattle.addr2line_lines.specs.References.{FileRecord, Scope}
+use Rattle.addr2line_lines.specs.References.{Scope}
 use Rattle.addr2line_units.specs.declared.view.Answer.{Answer}
 use Rattle.addr2line_units.specs.declared.view.SplitDwarfLoad.{SplitDwarfLoad}
 use Rattle.addr2line_units.specs.declared.view.UnitView.{UnitView}

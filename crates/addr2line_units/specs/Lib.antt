@@ -15,6 +15,7 @@ pub mod UnitRangesLeft
 pub mod LocationsLeft
 pub mod Frames
 pub mod Views
+pub mod ViewLaws
 pub mod KeptViews
 pub mod SeenFrame
 pub mod FramesLeft

@@ -16,7 +16,7 @@ use Rattle.gimli.specs.Sections.{Sections}
 use Rattle.gimli.specs.Split.{dwo_name_of, relocated}
 use Rattle.gimli.specs.Unit.{UnitRecord, attr_string_of, unit_record_of}
 use Rattle.gimli.specs.UnitsLeft.{all_headers}
-use Rattle.addr2line_lines.specs.References.{FileRecord, Scope}
+use Rattle.addr2line_lines.specs.References.{Scope}
 
 -- where the entries of a unit are read: its own file, or its split file
 pub record View : Type 0 where

@@ -17,4 +17,4 @@ pub mod units;
 pub mod view;
 
 pub use crate::frame::{Frame, FrameIter, FunctionName};
-pub use crate::laws::legacy_name_laws;
+pub use crate::laws::{legacy_name_laws, view_laws};

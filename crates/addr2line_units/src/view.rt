@@ -1,14 +1,14 @@
 //! The views of units: where the entries of a unit are read that say what stands at an address.
 
-ghost use Rattle.std.specs.Prelude.{◌≡◌, Err, None, Ok, Some, IfErr, IfOk, IfSome, OnErr, OnOk, false, is_some, not, option_and_then, option_map, true};
+ghost use Rattle.std.specs.Prelude.{◌≡◌, Err, None, Ok, Some, IfErr, IfOk, IfSome, OnOk, false, is_some, option_map, true};
 ghost use Rattle.gimli_read.specs.declared.error.Error.TheVariants.{OutOfMemory};
 ghost use Rattle.gimli_read.specs.Reading.{Exactly, ExactlyUnlessOom, ExactlyUnlessOomIf};
 ghost use Rattle.gimli.specs.Sections.{Sections};
 ghost use Rattle.gimli.specs.Unit.{UnitRecord};
 ghost use Rattle.addr2line_lines.specs.References.{IsScope};
 ghost use Rattle.addr2line_lines.specs.SeenScope.{seen_scope};
-ghost use Rattle.addr2line_units.specs.KeptViews.{IsViewOf, answer_in, is_decided, kept_verdict, parts_of, parts_or_fault, seen_answer, seen_load, seen_sections, split_file_by, split_file_in, split_unit, verdict_in, view_by, view_in, waits, was_looked_at};
-ghost use Rattle.addr2line_units.specs.Views.{answered_view, first_unit, is_open, load_of_unit, split_name_of, verdict, view_scope};
+ghost use Rattle.addr2line_units.specs.KeptViews.{IsViewOf, answer_in, is_decided, parts_or_fault, seen_answer, seen_load, seen_sections, split_file_by, split_file_in, split_unit, verdict_in, view_in, waits, was_looked_at};
+ghost use Rattle.addr2line_units.specs.Views.{answered_view, first_unit, load_of_unit, split_name_of, verdict, view_scope};
 
 use addr2line_lines::{FileUnits, Scope};
 use gimli::read::{Error, Reader};

@@ -146,7 +146,7 @@ fn read_split_unit<R: Reader>(
 }
 
 // Whether a unit waits for an answer, its view, or the fault of its split file's name. Refused
-// `OutOfMemory` alone, where bytes are shared.
+// `OutOfMemory` alone, of a unit with the identifier of a split unit.
 fn first_state<R: Reader>(dwarf: &Dwarf<R>, unit: &Unit<R>) -> Result<ViewState<R>, Error>
     ensures gives { IfOk result (λ s. verdict_in dwarf.now unit.now s
         ≡ Some (verdict dwarf.now unit.now None)) }

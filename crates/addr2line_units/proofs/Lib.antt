@@ -12,3 +12,4 @@ pub mod IndexLemmas
 pub mod LeastBeginLemmas
 pub mod FrameLemmas
 pub mod KeptFunctionLemmas
+pub mod ViewLemmas

@@ -15,5 +15,8 @@ pub mod UnitRangesLeft
 pub mod LocationsLeft
 pub mod Frames
 pub mod KeptFunctions
+pub mod Views
+pub mod ViewLaws
+pub mod KeptViews
 pub mod SeenFrame
 pub mod FramesLeft

@@ -15,6 +15,7 @@ pub mod range_iter;
 pub mod sup;
 pub mod unit;
 pub mod units;
+pub mod view;
 
 pub use crate::frame::{Frame, FrameIter, FunctionName};
-pub use crate::laws::legacy_name_laws;
+pub use crate::laws::{legacy_name_laws, view_laws};

@@ -1,0 +1,154 @@
+-- The views of units (on specs/Views.antt and specs/KeptViews.antt).
+use Rattle.std.proofs.Common.{◌≡◌, ◌≢◌, ◌∙◌, ℕ, ap, sym, refl, subst, not, ◌⊎◌, inl, inr, ⊎_elim, Bool, true, false, [], Option, Some, None, is_some, is_none, option_map, IfSome, IfOk, Result, Ok, Err, if◌then◌else◌}
+use Rattle.gimli_read.specs.declared.error.Error.{Error}
+use Rattle.gimli_read.specs.declared.error.Error.TheVariants.{OutOfMemory}
+use Rattle.gimli_read.specs.Reading.{◌>>=◌}
+use Rattle.gimli_read.specs.Section.{Section}
+use Rattle.gimli.specs.declared.unit.DwoId.{DwoId}
+use Rattle.gimli.specs.Sections.{Sections}
+use Rattle.gimli.specs.Split.{relocated}
+use Rattle.gimli.specs.Unit.{UnitRecord}
+use Rattle.addr2line_lines.specs.References.{IsScope, Scope}
+use Rattle.addr2line_units.specs.declared.view.Answer.{Answer}
+use Rattle.addr2line_units.specs.declared.view.UnitView.{UnitView}
+use Rattle.addr2line_units.specs.declared.view.ViewState.{ViewState}
+use Rattle.addr2line_units.specs.declared.view.ViewState.TheVariants as states
+use Rattle.addr2line_units.specs.KeptViews.{IsViewOf, answer_in, scope_by, seen_answer, seen_sections, split_file_by, split_file_in, split_unit, verdict_in, view_by, waits}
+use Rattle.addr2line_units.specs.Views.{SplitLoad, View, answered_view, first_unit, first_view, load_by, load_of_unit, main_view, split_name_of, verdict, verdict_by, view_scope}
+
+decided_by : (d : Sections) (u : UnitRecord) (load : Result (Option SplitLoad) Error) (r : Result View Error) (answer : Option (Option Sections)) → verdict_by d u load None ≡ Some r → verdict_by d u load answer ≡ Some r
+decided_by d u (Err e) r answer h = h
+decided_by d u (Ok None) r answer h = h
+decided_by d u (Ok (Some load)) r answer h = cc
+
+-- a unit that is decided without an answer has its verdict with every answer
+pub decided_alone : (d : Sections) (u : UnitRecord) (r : Result View Error) (answer : Option (Option Sections)) → verdict d u None ≡ Some r → verdict d u answer ≡ Some r
+decided_alone d u r answer h = decided_by d u (load_of_unit d 0 u) r answer h
+
+open_by : (d : Sections) (u : UnitRecord) (load : Result (Option SplitLoad) Error) (answer : Option Sections) → verdict_by d u load None ≡ None → verdict_by d u load (Some answer) ≡ Some (answered_view d u answer)
+open_by d u (Err e) answer h = cc
+open_by d u (Ok None) answer h = cc
+open_by d u (Ok (Some load)) answer h = refl
+
+-- the verdict of an open unit after an answer is that of the answer
+pub verdict_of_open : (d : Sections) (u : UnitRecord) (answer : Option Sections) → verdict d u None ≡ None → verdict d u (Some answer) ≡ Some (answered_view d u answer)
+verdict_of_open d u answer h = open_by d u (load_of_unit d 0 u) answer h
+
+alone_by : (d : Sections) (u : UnitRecord) (name : Result (Option Section) Error) (id : Option DwoId) → is_some id ≡ false → verdict_by d u (load_by d 0 u name id) None ≡ Some (Ok (main_view d u))
+alone_by d u name None h = refl
+alone_by d u name (Some id) h = cc
+
+-- a unit without an identifier of a split unit has the main view
+pub verdict_of_main : (d : Sections) (u : UnitRecord) → is_some u.dwo_id ≡ false → verdict d u None ≡ Some (Ok (main_view d u))
+unfolding load_of_unit
+verdict_of_main d u h = alone_by d u (split_name_of d u) u.dwo_id h
+
+named_by : (d : Sections) (u : UnitRecord) (path : Option Section) (id : Option DwoId) → is_some id ≡ true → verdict_by d u (load_by d 0 u (Ok path) id) None ≡ None
+named_by d u path None h = cc
+named_by d u path (Some id) h = refl
+
+-- a unit with such an identifier waits for an answer where its split name can be read
+pub verdict_of_named : (d : Sections) (u : UnitRecord) (path : Option Section) → is_some u.dwo_id ≡ true → split_name_of d u ≡ Ok path → verdict d u None ≡ None
+unfolding load_of_unit
+verdict_of_named d u path h e = ap (λ name. verdict_by d u (load_by d 0 u name u.dwo_id) None) e ∙ named_by d u path u.dwo_id h
+
+unnamed_by : (d : Sections) (u : UnitRecord) (e : Error) (id : Option DwoId) → is_some id ≡ true → verdict_by d u (load_by d 0 u (Err e) id) None ≡ Some (Err e)
+unnamed_by d u e None h = cc
+unnamed_by d u e (Some id) h = refl
+
+-- and has that fault where it can't
+pub verdict_of_unnamed : (d : Sections) (u : UnitRecord) (e : Error) → is_some u.dwo_id ≡ true → split_name_of d u ≡ Err e → verdict d u None ≡ Some (Err e)
+unfolding load_of_unit
+verdict_of_unnamed d u e h k = ap (λ name. verdict_by d u (load_by d 0 u name u.dwo_id) None) k ∙ unnamed_by d u e u.dwo_id h
+
+open_in : {R : Type 0} (d : Sections) (u : UnitRecord) (s : ViewState R) → waits s ≡ true → IfSome (verdict_in d u s) (λ kept. kept ≡ verdict d u (answer_in s)) → verdict d u None ≡ None
+open_in d u states.Undecided h right = cc
+open_in d u states.Open h right = sym right
+open_in d u states.Main h right = cc
+open_in d u (states.Unnamed e) h right = cc
+open_in d u (states.Answered a) h right = cc
+
+-- a unit whose view waits has no verdict without an answer
+pub waiting_is_open : {R : Type 0} (d : Sections) (u : UnitRecord) (s : ViewState R) → waits s ≡ true → IsViewOf d u (record { state = s }) → verdict d u None ≡ None
+waiting_is_open d u s h right = open_in d u s h right.right
+
+first_by : (d main : _) (split : Sections) (first : Result (Option UnitRecord) Error) → ((first >>= λ u. Ok (option_map (λ x. relocated x main) u)) >>= λ x. Ok (view_by d main (Some split) x)) ≡ (first >>= λ u. Ok (first_view d main split u))
+first_by d main split (Err e) = refl
+first_by d main split (Ok None) = refl
+first_by d main split (Ok (Some u)) = refl
+
+-- the view by an answer's split unit is that which the answer decides for
+pub view_by_split_unit : (d : Sections) (main : UnitRecord) (answer : Option Sections) → (split_unit main answer >>= λ x. Ok (view_by d main answer x)) ≡ answered_view d main answer
+view_by_split_unit d main None = refl
+view_by_split_unit d main (Some split) = first_by d main split (first_unit split)
+
+-- an answer with its split unit is the view of a unit that was open
+pub answered_is_right : {R : Type 0} (d : Sections) (u : UnitRecord) (a : Answer R) → verdict d u None ≡ None → a.unit ≡ split_unit u (seen_sections a) → IsViewOf {R = R} d u (record { state = states.Answered a })
+answered_is_right d u a waiting h = record {
+  right = ap Some (ap (λ r. r >>= λ x. Ok (view_by d u (seen_sections a) x)) h ∙ view_by_split_unit d u (seen_sections a)) ∙ sym (verdict_of_open d u (seen_sections a) waiting);
+  waited = λ _. ap is_none waiting;
+}
+
+waited_by : (d : Sections) (n : ℕ) (u : UnitRecord) (name : Result (Option Section) Error) (id : Option DwoId) → verdict_by d u (load_by d 0 u name id) None ≡ None → load_by d n u name id ≢ Ok None
+waited_by d n u name None h e = cc
+waited_by d n u (Ok path) (Some id) h e = cc
+waited_by d n u (Err x) (Some id) h e = cc
+
+-- a unit that waits has a load
+pub open_has_load : (d : Sections) (n : ℕ) (u : UnitRecord) → verdict d u None ≡ None → load_of_unit d n u ≢ Ok None
+unfolding load_of_unit
+open_has_load d n u h = waited_by d n u (split_name_of d u) u.dwo_id h
+
+faultless_by : (d : Sections) (n : ℕ) (u : UnitRecord) (name : Result (Option Section) Error) (id : Option DwoId) (e : Error) → verdict_by d u (load_by d 0 u name id) None ≡ None → load_by d n u name id ≢ Err e
+faultless_by d n u name None e h k = cc
+faultless_by d n u (Ok path) (Some id) e h k = cc
+faultless_by d n u (Err x) (Some id) e h k = cc
+
+-- and no fault
+pub open_has_no_fault : (d : Sections) (n : ℕ) (u : UnitRecord) (e : Error) → verdict d u None ≡ None → load_of_unit d n u ≢ Err e
+unfolding load_of_unit
+open_has_no_fault d n u e h = faultless_by d n u (split_name_of d u) u.dwo_id e h
+
+unanswered_scope : (scope : Scope) (d : Sections) (u : UnitRecord) (load : Result (Option SplitLoad) Error) → IfSome (verdict_by d u load None) (λ view. IfOk view (λ v. scope ≡ view_scope scope v))
+unanswered_scope scope d u (Err e) = tt
+unanswered_scope scope d u (Ok None) = refl
+unanswered_scope scope d u (Ok (Some load)) = tt
+
+answered_scope : (scope : Scope) (d : Sections) (u : UnitRecord) (answer : Option Sections) (unit : Result (Option UnitRecord) Error) → IfOk (unit >>= λ x. Ok (view_by d u answer x)) (λ v. scope_by scope (split_file_by answer unit) ≡ view_scope scope v)
+answered_scope scope d u None (Err e) = tt
+answered_scope scope d u None (Ok None) = refl
+answered_scope scope d u None (Ok (Some x)) = refl
+answered_scope scope d u (Some split) (Err e) = tt
+answered_scope scope d u (Some split) (Ok None) = refl
+answered_scope scope d u (Some split) (Ok (Some x)) = refl
+
+scope_in : {R : Type 0} (scope : Scope) (d : Sections) (u : UnitRecord) (s : ViewState R) → IfSome (verdict_in d u s) (λ kept. kept ≡ verdict d u (answer_in s)) → IfSome (verdict d u (answer_in s)) (λ view. IfOk view (λ v. scope_by scope (split_file_in s) ≡ view_scope scope v))
+scope_in scope d u states.Undecided h = unanswered_scope scope d u (load_of_unit d 0 u)
+scope_in scope d u states.Open h = unanswered_scope scope d u (load_of_unit d 0 u)
+scope_in scope d u states.Main h = unanswered_scope scope d u (load_of_unit d 0 u)
+scope_in scope d u (states.Unnamed e) h = unanswered_scope scope d u (load_of_unit d 0 u)
+scope_in scope d u (states.Answered a) h = subst (λ w. IfSome w (λ view. IfOk view (λ v. scope_by scope (split_file_by (seen_sections a) a.unit) ≡ view_scope scope v))) h (answered_scope scope d u (seen_sections a) a.unit)
+
+-- references lead from a view as its split file says, if it is in one
+pub scope_of_split : {R : Type 0} (scope : Scope) (split : Option Sections) (v : UnitView R) → split ≡ split_file_in v.state → (d : Sections) (u : UnitRecord) → IsViewOf d u v → IfSome (verdict d u (seen_answer v)) (λ view. IfOk view (λ x. scope_by scope split ≡ view_scope scope x))
+scope_of_split scope split v e d u h = subst (λ p. IfSome (verdict d u (seen_answer v)) (λ view. IfOk view (λ x. scope_by scope p ≡ view_scope scope x))) (sym e) (scope_in scope d u v.state h.right)
+
+memory_or_not : (e : Error) → (e ≡ OutOfMemory) ⊎ (e ≢ OutOfMemory)
+memory_or_not OutOfMemory = inl refl
+memory_or_not _ = inr (λ h. absurd cc)
+
+-- the load of a unit that waits is refused OutOfMemory alone
+pub refused_load : (d : Sections) (n : ℕ) (u : UnitRecord) (may : Bool) (e : Error) → verdict d u None ≡ None → ((may ≡ true → e ≢ OutOfMemory) → load_of_unit d n u ≡ Err e) → e ≡ OutOfMemory
+refused_load d n u may e waiting gives = ⊎_elim (λ p. p) (λ q. absurd (open_has_no_fault d n u e waiting (gives (λ m. q)))) (memory_or_not e)
+
+in_order_by : (scope : Scope) (v : View) (split : Bool) → IsScope scope → IsScope (if split then (record { file = record { sections = v.sections; units = [] }; sup = scope.sup }) else scope)
+in_order_by scope v true h = record { units = tt; sup_units = h.sup_units }
+in_order_by scope v false h = h
+
+-- references lead to units in order from a view too
+pub view_scope_in_order : (scope : Scope) (v : View) → IsScope scope → IsScope (view_scope scope v)
+view_scope_in_order scope v h = in_order_by scope v v.is_split h
+
+-- what isn't absent is there
+pub is_there : {A : Type 0} (id : Option A) (absent : Bool) → absent ≡ false → is_some id ≡ not absent → is_some id ≡ true
+is_there id absent h e = e ∙ ap not h

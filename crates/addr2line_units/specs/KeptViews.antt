@@ -1,0 +1,115 @@
+-- What is kept of a unit's view, as the private functions see it.
+-- Own: whether a unit needs an answer is kept once it was looked at; its first answer, and what
+-- that decides, since the unit was last forgotten. OutOfMemory is never kept.
+use Rattle.std.specs.Prelude.{◌≡◌, Bool, true, false, [], is_some, Option, Some, None, option_map, IfSome, Result, Ok, Err}
+use Rattle.gimli_read.specs.declared.error.Error.{Error}
+use Rattle.gimli_read.specs.Reading.{◌>>=◌}
+use Rattle.gimli_read.specs.Section.{Section}
+use Rattle.gimli.specs.Sections.{Sections}
+use Rattle.gimli.specs.Split.{relocated}
+use Rattle.gimli.specs.Unit.{UnitRecord}
+use Rattle.addr2line_lines.specs.References.{Scope}
+use Rattle.addr2line_units.specs.declared.view.Answer.{Answer}
+use Rattle.addr2line_units.specs.declared.view.SplitDwarfLoad.{SplitDwarfLoad}
+use Rattle.addr2line_units.specs.declared.view.UnitView.{UnitView}
+use Rattle.addr2line_units.specs.declared.view.ViewState.{ViewState}
+use Rattle.addr2line_units.specs.declared.view.ViewState.TheVariants as states
+use Rattle.addr2line_units.specs.Views.{SplitLoad, View, first_unit, is_open, main_view, split_view, verdict}
+
+-- a load
+abbrev pub seen_load : {R : Type 0} → (R → Section) → SplitDwarfLoad R → SplitLoad
+seen_load see l = record {
+  unit = l.unit.number;
+  dwo_id = l.dwo_id;
+  comp_dir = option_map see l.comp_dir;
+  path = option_map see l.path;
+  parent = l.parent.value;
+}
+
+-- an answer
+abbrev pub seen_sections : {R : Type 0} → Answer R → Option Sections
+seen_sections a = option_map (λ d. d.value) a.sections
+
+-- the first answer that is kept
+abbrev pub answer_in : {R : Type 0} → ViewState R → Option (Option Sections)
+answer_in (states.Answered a) = Some (seen_sections a)
+answer_in _ = None
+
+-- the first answer of a unit
+abbrev pub seen_answer : {R : Type 0} → UnitView R → Option (Option Sections)
+seen_answer v = answer_in v.state
+
+-- the split unit of an answer: the first unit, with what its main unit relocates
+abbrev pub split_unit : UnitRecord → Option Sections → Result (Option UnitRecord) Error
+split_unit main None = Ok None
+split_unit main (Some d) = first_unit d >>= λ u. Ok (option_map (λ x. relocated x main) u)
+
+-- the view by an answer and its split unit
+abbrev pub view_by : Sections → UnitRecord → Option Sections → Option UnitRecord → View
+view_by d main (Some split) (Some u) = split_view split u
+view_by d main _ _ = main_view d main
+
+-- the view that is kept of an answer, or the fault
+abbrev pub view_in : {R : Type 0} → Sections → UnitRecord → Answer R → Result View Error
+view_in d main a = a.unit >>= λ x. Ok (view_by d main (seen_sections a) x)
+
+-- what is kept of the verdict: whether the unit is open, and else its view or the fault; none
+-- before the unit was looked at
+abbrev pub verdict_in : {R : Type 0} → Sections → UnitRecord → ViewState R
+    → Option (Option (Result View Error))
+verdict_in d u states.Undecided = None
+verdict_in d u states.Open = Some None
+verdict_in d u states.Main = Some (Some (Ok (main_view d u)))
+verdict_in d u (states.Unnamed e) = Some (Some (Err e))
+verdict_in d u (states.Answered a) = Some (Some (view_in d u a))
+
+-- the same of a unit's view
+abbrev pub kept_verdict : {R : Type 0} → Sections → UnitRecord → UnitView R
+    → Option (Option (Result View Error))
+kept_verdict d u v = verdict_in d u v.state
+
+-- whether the unit was looked at
+abbrev pub was_looked_at : {R : Type 0} → ViewState R → Bool
+was_looked_at states.Undecided = false
+was_looked_at _ = true
+
+-- whether it was looked at, and waits for an answer
+abbrev pub waits : {R : Type 0} → ViewState R → Bool
+waits states.Open = true
+waits _ = false
+
+-- whether its view is known, or the fault
+abbrev pub is_decided : {R : Type 0} → ViewState R → Bool
+is_decided states.Undecided = false
+is_decided states.Open = false
+is_decided _ = true
+
+-- what is kept is what the bytes and the first answer give, and only a unit that waited for it has
+-- a first answer
+pub record IsViewOf {R : Type 0} (d : Sections) (u : UnitRecord) (v : UnitView R) : Type 0 where
+  pub right : IfSome (kept_verdict d u v) (λ kept. kept ≡ verdict d u (seen_answer v))
+  pub waited : is_some (seen_answer v) ≡ true → is_open d u None ≡ true
+
+-- the sections of the split file that an answer's view is in, if it is in one
+abbrev pub split_file_by : Option Sections → Result (Option UnitRecord) Error → Option Sections
+split_file_by (Some split) (Ok (Some u)) = Some split
+split_file_by _ _ = None
+
+-- the same of what is kept
+abbrev pub split_file_in : {R : Type 0} → ViewState R → Option Sections
+split_file_in (states.Answered a) = split_file_by (seen_sections a) a.unit
+split_file_in _ = None
+
+-- where references lead from a view in a split file, if it is in one
+abbrev pub scope_by : Scope → Option Sections → Scope
+scope_by scope None = scope
+scope_by scope (Some split) =
+    record { file = record { sections = split; units = [] }; sup = scope.sup }
+
+-- the sections and the unit of a view
+abbrev pub parts_of : View → Sections × UnitRecord
+parts_of v = (v.sections, v.unit)
+
+-- the same, or the fault
+abbrev pub parts_or_fault : Result View Error → Result (Sections × UnitRecord) Error
+parts_or_fault view = view >>= λ v. Ok (parts_of v)

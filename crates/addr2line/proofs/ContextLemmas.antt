@@ -167,11 +167,12 @@ module _ (d : Sections) (us : List UnitRecord) (old : List ResUnit) (ranges : Li
     all_stays = record { sections = refl; answers = refl; parsed = stay_parsed old new stay }
 
     pub after_lookup : {X : Type 0} (probe : ℕ) (result : Result (Option X) Error)
-        → (IsNotOom result → ready_along d (indexed_units us old) (parsed_units new) probe (cover probe ranges) ≡ true) → ParsesOnly (AsksFor d (indexed_units us old) probe (cover probe ranges)) (parsed_units old) (parsed_units new) → looks ≤ now → (is_found result ≡ true → looks < now) → now ≤ looks + looks_along d (indexed_units us old) (cover probe ranges)
+        → (IsNotOom result → ready_along d (indexed_units us old) (parsed_units new) probe (cover probe ranges) ≡ true) → (ready_along d (indexed_units us old) (parsed_units new) probe (cover probe ranges) ≡ true → IsNotOom result) → ParsesOnly (AsksFor d (indexed_units us old) probe (cover probe ranges)) (parsed_units old) (parsed_units new) → looks ≤ now → (is_found result ≡ true → looks < now) → now ≤ looks + looks_along d (indexed_units us old) (cover probe ranges)
         → AfterLookup probe result (record { sections = d; answers = []; parsed = parsed_units old; looks = looks }) (record { sections = d; answers = []; parsed = parsed_units new; looks = now })
-    after_lookup probe result ready only raised counted cost = record {
+    after_lookup probe result ready memory only raised counted cost = record {
       stays = all_stays;
       ready = λ answered. of_made (λ m. ready_along d m.units (parsed_units new) probe (cover probe m.ranges) ≡ true) (ready answered);
+      memory = λ at_last. memory (at_last _ made_is);
       only = of_made (λ m. ParsesOnly (AsksFor d m.units probe (cover probe m.ranges)) (parsed_units old) (parsed_units new)) only;
       same = λ before. same_if_asked old new stay _ only (asked_ready d (indexed_units us old) (parsed_units old) probe (cover probe ranges) (before _ made_is));
       raised = raised;
@@ -190,11 +191,12 @@ module _ (d : Sections) (us : List UnitRecord) (old : List ResUnit) (ranges : Li
     pub ready_after_parse : AreReadyForAll d (indexed_units us old) (parsed_units new) → IsReadyForAll (record { sections = d; answers = []; parsed = parsed_units new; looks = now })
     ready_after_parse ready = of_made (λ m. AreReadyForAll d m.units (parsed_units new)) ready
 
-  pub after_range_lookup : (new : List ResUnit) → StayUnits old new → (looks : ℕ) → {X : Type 0} (low high : ℕ) (result : Result X Error) → (IsNotOom result → AreParsed (parsed_units new) (cover_range low high ranges)) → ParsesOnly (LeadTo (cover_range low high ranges)) (parsed_units old) (parsed_units new)
+  pub after_range_lookup : (new : List ResUnit) → StayUnits old new → (looks : ℕ) → {X : Type 0} (low high : ℕ) (result : Result X Error) → (IsNotOom result → AreParsed (parsed_units new) (cover_range low high ranges)) → (AreParsed (parsed_units new) (cover_range low high ranges) → IsNotOom result) → ParsesOnly (LeadTo (cover_range low high ranges)) (parsed_units old) (parsed_units new)
       → AfterRangeLookup low high result (record { sections = d; answers = []; parsed = parsed_units old; looks = looks }) (record { sections = d; answers = []; parsed = parsed_units new; looks = looks })
-  after_range_lookup new stay looks low high result ready only = record {
+  after_range_lookup new stay looks low high result ready memory only = record {
     stays = all_stays new stay looks looks;
     ready = λ answered. of_made (λ m. AreParsed (parsed_units new) (cover_range low high m.ranges)) (ready answered);
+    memory = λ at_last. memory (at_last _ made_is);
     only = of_made (λ m. ParsesOnly (LeadTo (cover_range low high m.ranges)) (parsed_units old) (parsed_units new)) only;
     same = λ before. same_if_asked old new stay _ only (led_ready (parsed_units old) (cover_range low high ranges) (before _ made_is));
     looks = refl;
@@ -289,7 +291,7 @@ module _ (d : Sections) (low high : ℕ) where
           false_true : false ≡ true → ⊥
           false_true q = cc
       of_lines (Read lines) h k = ap (spans_or_fault range low high) h
-      of_lines (Faulty f) h k = ap (spans_or_fault range low high) h
+      of_lines (Faulty f) h k = ap (spans_or_fault range low high) h.0
   spans_at (u ∷ us) (r ∷ rs) (suc n) range own e = spans_at us rs n range own.1 e
 
   pub spans_cached : (us : List UnitRecord) (rs : List ResUnit) (ranges : List UnitRange) → HaveLinesOf d us rs → AreParsed (parsed_units rs) ranges → spans_along d (indexed_units us rs) low high ranges ≡ cached_along rs low high ranges

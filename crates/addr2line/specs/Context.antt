@@ -79,24 +79,26 @@ pub record Stays (old new : ContextState) : Type 0 where
   pub answers : new.answers ≡ old.answers
   pub parsed : StaysParsed old.parsed new.parsed
 
--- after a lookup of the probe the same lookup parses nothing more; where it was ready, nothing was
--- parsed by it
+-- after a lookup of the probe the same lookup parses nothing more, but after OutOfMemory, where
+-- something is left to parse; where it was ready, nothing was parsed by it
 pub record AfterLookup {X : Type 0} (probe : ℕ) (result : Result (Option X) Error)
     (old new : ContextState) : Type 0 where
   pub stays : Stays old new
   pub ready : IsNotOom result → IsReady new probe
+  pub memory : IsReady new probe → IsNotOom result
   pub only : LookupParses probe old new
   pub same : IsReady old probe → new.parsed ≡ old.parsed
   pub raised : old.looks ≤ new.looks
   pub counted : is_found result ≡ true → old.looks < new.looks
   pub cost : LooksWithin probe old new
 
--- after a lookup of a range the same lookup parses nothing more; where it was ready, nothing was
--- parsed by it
+-- after a lookup of a range the same lookup parses nothing more, but after OutOfMemory, where
+-- something is left to parse; where it was ready, nothing was parsed by it
 pub record AfterRangeLookup {X : Type 0} (low high : ℕ) (result : Result X Error)
     (old new : ContextState) : Type 0 where
   pub stays : Stays old new
   pub ready : IsNotOom result → IsReadyForRange new low high
+  pub memory : IsReadyForRange new low high → IsNotOom result
   pub only : RangeLookupParses low high old new
   pub same : IsReadyForRange old low high → new.parsed ≡ old.parsed
   pub looks : new.looks ≡ old.looks

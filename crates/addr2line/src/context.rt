@@ -223,6 +223,7 @@ impl<R: Reader> Context<R> {
         ensures stays { Stays self.old self.new }
         ensures looks { self.new.looks ≡ self.old.looks }
         ensures ready_for_all { IsNotOom result → IsReadyForAll self.new }
+        ensures memory { IsReadyForAll self.new → IsNotOom result }
         ensures only { ParsesToFault self.old self.new }
         ensures same { IsReadyForAll self.old → self.new.parsed ≡ self.old.parsed }
         ensures parsed { OnOk result (AreAllParsed self.new.parsed) }

@@ -11,4 +11,4 @@ use Rattle.addr2line_units.specs.CachedLines.{AreLinesOf, cached_answer, is_unca
 pub cached_before : (d : Sections) (u : UnitRecord) (l : LazyLines) → AreLinesOf d u l → is_uncached l ≡ false → cached_answer l ≡ lines_answer d u
 cached_before d u Unread h e = cc
 cached_before d u (Read lines) h e = ap (λ r. r >>= λ x. Ok (Some x)) (sym h)
-cached_before d u (Faulty x) h e = ap (λ r. r >>= λ x. Ok (Some x)) (sym h)
+cached_before d u (Faulty x) h e = ap (λ r. r >>= λ x. Ok (Some x)) (sym h.0)

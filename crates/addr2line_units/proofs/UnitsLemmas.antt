@@ -2,7 +2,7 @@
 -- specs/Parsed.antt).
 use Rattle.std.proofs.Common.{◌≡◌, ℕ, zero, suc, ◌+◌, ◌-◌, ◌≤◌, ◌<◌, Bool, true, false, not, ◌&&◌, ◌||◌, List, [], ◌∷◌, ◌++◌, length, map, drop, add-one, get_or, Option, Some, None, option_map, slice_get, Result, Ok, Err, is_ok, refl, sym, ap, subst, arith, ◌∙◌, ◌⊎◌, inl, inr}
 use Rattle.std.proofs.Math.ListN.{drop_of_length-le, set}
-use Rattle.std.specs.Prelude.{OnOk}
+use Rattle.std.specs.Prelude.{OnErr, OnOk}
 use Rattle.std.proofs.lemmas.List.{length-map}
 use Rattle.std.proofs.lemmas.List.Sums.{sum_by-cons}
 use Rattle.gimli_read.specs.declared.error.Error.{Error}
@@ -119,6 +119,16 @@ pub parsed_set : (rs : List ResUnit) (n : ℕ) (s : ResUnit) → n < length rs �
 parsed_set [] n s h e = absurd (omega arith)
 parsed_set (x ∷ rs) zero s h e = ap not e
 parsed_set (x ∷ rs) (suc n) s h e = parsed_set rs n s (omega arith) e
+
+pub set_parsed : (rs : List ResUnit) (n : ℕ) (s : ResUnit) → n < length rs → has_parsed (parsed_units (set rs n s)) n ≡ true → is_uncached s.lines ≡ false
+set_parsed [] n s h e = absurd (omega arith)
+set_parsed (x ∷ rs) zero s h e = parsed_is s.lines e
+set_parsed (x ∷ rs) (suc n) s h e = set_parsed rs n s (omega arith) e
+
+-- a call that left lines as they were, and takes no memory where they are cached, isn't refused where they are
+pub not_refused : (old new : LazyLines) (result : Result (Unit {0}) Error) → (is_uncached old ≡ false → result ≡ Ok tt) → OnErr result (new ≡ old) → is_uncached new ≡ false → IsNotOom result
+not_refused old new (Ok x) exact same e = tt
+not_refused old new (Err x) exact same e = absurd (let ok = exact (sym (ap is_uncached same) ∙ e) in cc)
 
 pub parsed_if_ok : {X : Type 0} (rs : List ResUnit) (n : ℕ) (s : ResUnit) (result : Result X Error) → n < length rs → OnOk result (is_uncached s.lines ≡ false) → OnOk result (has_parsed (parsed_units (set rs n s)) n ≡ true)
 parsed_if_ok rs n s (Ok x) h e = parsed_set rs n s h e

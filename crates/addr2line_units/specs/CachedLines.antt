@@ -21,11 +21,12 @@ use Rattle.addr2line_units.specs.declared.unit.ResUnit.{ResUnit}
 use Rattle.addr2line_units.specs.UnitIndex.{IndexedUnit}
 use Rattle.addr2line_units.specs.Located.{all_read, lines_fault}
 
--- the cached lines are those that the unit's bytes give
+-- the cached lines are those that the unit's bytes give, or their fault, which is never
+-- OutOfMemory
 abbrev pub AreLinesOf : Sections → UnitRecord → LazyLines → Type 0
 AreLinesOf d u Unread = Unit {0}
 AreLinesOf d u (Read lines) = unit_lines d u ≡ Ok lines
-AreLinesOf d u (Faulty e) = unit_lines d u ≡ Err e
+AreLinesOf d u (Faulty e) = (unit_lines d u ≡ Err e) × (e ≢ OutOfMemory)
 
 -- the cached lines, none before they are read and where they have a fault
 abbrev pub cached_lines : LazyLines → Option Lines

@@ -1,8 +1,8 @@
 -- The functions that stand at an address, each with its location (DWARF 5, section 3.3.8).
 -- Own: the innermost inlined function comes first, the function itself last. The first has the
--- location of the address, each next one the call of the one before; of a call line 0 is no line and
--- column 0 no column. Where no function holds the address, its location alone is a frame. The first
--- fault counts of the functions, the detail of the function, and the lines of the main unit.
+-- location of the address, each next one the call of the one before; of a call line 0 is no line
+-- and column 0 no column. Where no function holds the address, its location alone is a frame. The
+-- first fault counts of the functions, the detail of the function, and the lines of the main unit.
 use Rattle.std.specs.Prelude.{ℕ, ◌==◌, List, [], ◌∷◌, reverse, slice_get, Option, Some, None, option_and_then, option_map, Result, Ok, if◌then◌else◌}
 use Rattle.gimli_read.specs.declared.constants.DwLang.{DwLang}
 use Rattle.gimli_read.specs.declared.error.Error.{Error}
@@ -98,8 +98,8 @@ found_frames files language None location = location_frames location
 found_frames files language (Some f) location =
     frames_from files language f.offset f.name (reverse f.inlined) location
 
--- the frames at the probe in a unit's view, whose references lead where the scope says; or the first
--- fault of its functions, of the detail of the function, and of the lines of the main unit
+-- the frames at the probe in a unit's view, whose references lead where the scope says; or the
+-- first fault of its functions, of the detail of the function, and of the lines of the main unit
 unfoldable pub frames_at : Sections → UnitRecord → Option DwLang → Scope → UnitRecord → ℕ
     → Result (List FrameRecord) Error
 frames_at d main language scope view probe = do

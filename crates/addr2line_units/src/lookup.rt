@@ -36,6 +36,7 @@ fn find_row_in<R: Reader>(
         (location_in dwarf.now probe
         (slice_get (indexed_units dw_units.now units.old.items) number)) }
     ensures parsed { IsNotOom result → has_parsed (parsed_units units.new.items) number ≡ true }
+    ensures memory { has_parsed (parsed_units units.new.items) number ≡ true → IsNotOom result }
     ensures only { ParsesOnly (λ n. n ≡ number)
         (parsed_units units.old.items) (parsed_units units.new.items) }
     ensures stay { StayUnits units.old.items units.new.items }
@@ -75,6 +76,8 @@ pub(crate) fn find_place_along<R: Reader>(
     ensures ready { IsNotOom result → ready_along dwarf.now
         (indexed_units dw_units.now units.old.items) (parsed_units units.new.items) probe
         (ranges_left ranges.entry) ≡ true }
+    ensures memory { ready_along dwarf.now (indexed_units dw_units.now units.old.items)
+        (parsed_units units.new.items) probe (ranges_left ranges.entry) ≡ true → IsNotOom result }
     ensures only { ParsesOnly (AsksFor dwarf.now (indexed_units dw_units.now units.old.items) probe
         (ranges_left ranges.entry))
         (parsed_units units.old.items) (parsed_units units.new.items) }
@@ -109,6 +112,7 @@ fn cache_lines_in<R: Reader>(
     requires read { HaveLinesOf dwarf.now dw_units.now units.old.items }
     ensures exact { has_parsed (parsed_units units.old.items) number ≡ true → result ≡ Ok tt }
     ensures parsed { OnOk result (has_parsed (parsed_units units.new.items) number ≡ true) }
+    ensures memory { has_parsed (parsed_units units.new.items) number ≡ true → IsNotOom result }
     ensures only { ParsesOnly (λ n. n ≡ number)
         (parsed_units units.old.items) (parsed_units units.new.items) }
     ensures refused { IfErr result (λ e. e ≡ OutOfMemory) }
@@ -136,6 +140,8 @@ pub(crate) fn cache_lines_along<R: Reader>(
         → result ≡ Ok tt }
     ensures parsed { OnOk result
         (AreParsed (parsed_units units.new.items) (ranges_left ranges.entry)) }
+    ensures memory { AreParsed (parsed_units units.new.items) (ranges_left ranges.entry)
+        → IsNotOom result }
     ensures only { ParsesOnly (LeadTo (ranges_left ranges.entry))
         (parsed_units units.old.items) (parsed_units units.new.items) }
     ensures refused { IfErr result (λ e. e ≡ OutOfMemory) }
@@ -164,6 +170,7 @@ fn read_lines_in<R: Reader>(
         result (lines_answer_at dwarf.now
         (slice_get (indexed_units dw_units.now units.old.items) number)) }
     ensures parsed { IsNotOom result → has_parsed (parsed_units units.new.items) number ≡ true }
+    ensures memory { has_parsed (parsed_units units.new.items) number ≡ true → IsNotOom result }
     ensures only { ParsesOnly (λ n. n ≡ number)
         (parsed_units units.old.items) (parsed_units units.new.items) }
     ensures stay { StayUnits units.old.items units.new.items }
@@ -192,6 +199,8 @@ pub(crate) fn read_all_lines<R: Reader>(
         (lines_fault (all_lines dwarf.now (indexed_units dw_units.now units.old.items))) }
     ensures ready { IsNotOom result → AreReadyForAll dwarf.now
         (indexed_units dw_units.now units.old.items) (parsed_units units.new.items) }
+    ensures memory { AreReadyForAll dwarf.now (indexed_units dw_units.now units.old.items)
+        (parsed_units units.new.items) → IsNotOom result }
     ensures parsed { OnOk result (AreAllParsed (parsed_units units.new.items)) }
     ensures only { ParsesOnly (AllAskFor dwarf.now (indexed_units dw_units.now units.old.items))
         (parsed_units units.old.items) (parsed_units units.new.items) }

@@ -11,6 +11,7 @@ ghost use Rattle.addr2line_units.specs.Located.{is_found, location_in, looks_in}
 ghost use Rattle.addr2line_units.specs.UnitAranges.{range_in};
 ghost use Rattle.addr2line_units.specs.CachedLines.{AreLinesOf, IsUnparsed, StaysCached, CachesAnswer, StaysUnit, cached_answer, cached_files, cached_looks, cached_ranges, cached_row, indexed_unit, lines_answer, cached_lines, is_parsed, is_uncached};
 ghost use Rattle.addr2line_units.specs.Indexed.{ranged_seen};
+ghost use Rattle.addr2line_units.specs.Parsed.{IsNotOom};
 
 use crate::aranges::{UnitArange, UnitAranges};
 use crate::attributes::read_unit_attributes;
@@ -245,6 +246,7 @@ impl ResUnit {
             (lines_answer dwarf.now dw_unit.now) }
         ensures stays { StaysCached self.old.lines self.new.lines }
         ensures caches { CachesAnswer self.old.lines result self.new.lines }
+        ensures memory { is_uncached self.new.lines ≡ false → IsNotOom result }
         ensures lang { self.new.lang ≡ self.old.lang }
         ensures read { AreLinesOf dwarf.now dw_unit.now self.new.lines }
     {
@@ -297,6 +299,7 @@ impl ResUnit {
             (location_in dwarf.now probe (Some (indexed_unit dw_unit.now self.old))) }
         ensures stays { StaysUnit self.old self.new }
         ensures caches { CachesAnswer self.old.lines result self.new.lines }
+        ensures memory { is_uncached self.new.lines ≡ false → IsNotOom result }
         ensures read { AreLinesOf dwarf.now dw_unit.now self.new.lines }
         ensures cost { looks.new ≤ looks.old
             + looks_in dwarf.now (Some (indexed_unit dw_unit.now self.old)) }

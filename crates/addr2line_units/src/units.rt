@@ -243,6 +243,9 @@ impl<R: Reader> ResUnits<R> {
         ensures ready { IsNotOom result → ready_along dwarf.now
             (units_in self.old) (parsed_units self.new.units.items) probe
             (cover probe self.old.ranges) ≡ true }
+        ensures memory { ready_along dwarf.now (units_in self.old)
+            (parsed_units self.new.units.items) probe (cover probe self.old.ranges) ≡ true
+            → IsNotOom result }
         ensures only { ParsesOnly (AsksFor dwarf.now (units_in self.old) probe
             (cover probe self.old.ranges))
             (parsed_units self.old.units.items) (parsed_units self.new.units.items) }
@@ -293,6 +296,8 @@ impl<R: Reader> ResUnits<R> {
             (cover_range low high self.old.ranges) → result ≡ Ok tt }
         ensures parsed { OnOk result (AreParsed (parsed_units self.new.units.items)
             (cover_range low high self.old.ranges)) }
+        ensures memory { AreParsed (parsed_units self.new.units.items)
+            (cover_range low high self.old.ranges) → IsNotOom result }
         ensures only { ParsesOnly (LeadTo (cover_range low high self.old.ranges))
             (parsed_units self.old.units.items) (parsed_units self.new.units.items) }
         ensures refused { IfErr result (λ e. e ≡ OutOfMemory) }
@@ -332,6 +337,8 @@ impl<R: Reader> ResUnits<R> {
             (lines_fault (all_lines dwarf.now (units_in self.old))) }
         ensures ready { IsNotOom result → AreReadyForAll dwarf.now
             (units_in self.old) (parsed_units self.new.units.items) }
+        ensures memory { AreReadyForAll dwarf.now (units_in self.old)
+            (parsed_units self.new.units.items) → IsNotOom result }
         ensures parsed { OnOk result (AreAllParsed (parsed_units self.new.units.items)) }
         ensures only { ParsesOnly (AllAskFor dwarf.now (units_in self.old))
             (parsed_units self.old.units.items) (parsed_units self.new.units.items) }

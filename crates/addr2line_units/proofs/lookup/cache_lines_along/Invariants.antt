@@ -10,7 +10,7 @@ invariant-loop-range g l =
     record {
       stay : StayUnits l.fn.units.items l.units.items;
       read : HaveLinesOf l.dwarf l.dw_units l.units.items;
-      exact : AreParsed first (ranges_left l.fn.ranges) → AreParsed first (ranges_left l.ranges);
+      exact : (p : List Bool) → AreParsed p (ranges_left l.fn.ranges) → AreParsed p (ranges_left l.ranges);
       parsed : (p : List Bool) → StaysParsed (parsed_units l.units.items) p → AreParsed p (ranges_left l.ranges) → AreParsed p (ranges_left l.fn.ranges);
       leads : (n : ℕ) → LeadTo (ranges_left l.ranges) n → LeadTo (ranges_left l.fn.ranges) n;
       only : ParsesOnly (LeadTo (ranges_left l.fn.ranges)) first (parsed_units l.units.items);

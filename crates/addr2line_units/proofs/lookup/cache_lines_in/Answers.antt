@@ -1,5 +1,5 @@
 use Rattle.std.proofs.Common.{arith, inl, rules}
-use Rattle.addr2line_units.proofs.UnitsLemmas.{in_units, no_parsed, own_at, own_set, only_set, parsed_at, stay_all, stay_set, parsed_if_ok}
+use Rattle.addr2line_units.proofs.UnitsLemmas.{in_units, no_parsed, not_refused, own_at, own_set, only_set, parsed_at, set_parsed, stay_all, stay_set, parsed_if_ok}
 use Rattle.addr2line_units.proofs.lookup.cache_lines_in.Goals as goal
 
 pub returns-then-number-len-clause-stay : goal.returns-then-number-len-clause-stay
@@ -10,6 +10,9 @@ returns-clause-exact g c = λ parsed. c.cache_lines.ensures.exact (parsed_at c.a
 
 pub returns-clause-parsed : goal.returns-clause-parsed
 returns-clause-parsed g c = parsed_if_ok c.args.units.now.items c.args.number c.cache_lines.new.self c.cache_lines.result (search rules) c.cache_lines.ensures.cached
+
+pub returns-clause-memory : goal.returns-clause-memory
+returns-clause-memory g c = λ parsed. not_refused c.index_mut-unit.result.now.lines c.cache_lines.new.self.lines c.cache_lines.result c.cache_lines.ensures.exact c.cache_lines.ensures.memory (set_parsed c.args.units.now.items c.args.number c.cache_lines.new.self (search rules) parsed)
 
 pub returns-clause-stay : goal.returns-clause-stay
 returns-clause-stay g c = stay_set c.args.units.now.items c.args.number c.index_mut-unit.result.now c.cache_lines.new.self (search rules) c.index_mut-unit.ensures.value (record { language = c.cache_lines.ensures.lang; lines = c.cache_lines.ensures.stays })

@@ -12,7 +12,7 @@ loop-range-init g c = record {
   stay = stay_all c.args.units.now.items;
   read = c.requires.read;
   rest = refl;
-  exact = λ ready. ready;
+  exact = λ p ready. ready;
   ready = λ p stays ready. ready;
   only = λ n asked. asked;
   parsed = λ n e. inl e;
@@ -37,7 +37,7 @@ returns-in_err-row-clause-exact g c =
     let units = indexed_units c.args.dw_units.now us in
     let fault = rw (stay_indexed c.args.dw_units.now us c.loop-range.units.items i.stay) at c.in_err-row.ensures.exact in
     rw (p.1, p.2) (λ ready.
-    let at = subst (λ rs. ready_along c.args.dwarf.now units (parsed_units us) c.args.probe rs ≡ true) c.in-Some.ensures.steps (i.exact ready) in
+    let at = subst (λ rs. ready_along c.args.dwarf.now units (parsed_units us) c.args.probe rs ≡ true) c.in-Some.ensures.steps (i.exact (parsed_units us) ready) in
     let parsed = stay_parsed us c.loop-range.units.items i.stay c.in-Some.range.unit (ready_first c.args.dwarf.now units c.args.probe c.in-Some.range (ranges_left c.next.new.self) (parsed_units us) at) in
     sym i.rest ∙ ap (along c.args.dwarf.now units c.args.probe) c.in-Some.ensures.steps ∙ along_fault c.args.dwarf.now units c.args.probe c.in-Some.range (ranges_left c.next.new.self) _ (fault parsed))
 
@@ -52,6 +52,15 @@ returns-in_err-row-clause-ready g c =
     rw (p.1, p.2) (λ ne.
     let decided = ready_decided c.args.dwarf.now units c.args.probe c.in-Some.range (ranges_left c.next.new.self) now (c.in_err-row.ensures.parsed ne) (ap decides (fault ne)) in
     i.ready now (stay_parsed c.loop-range.units.items c.find_row_in.new.units.items c.in_err-row.ensures.stay) (subst (λ rs. ready_along c.args.dwarf.now units now c.args.probe rs ≡ true) (sym c.in-Some.ensures.steps) decided))
+
+pub returns-in_err-row-clause-memory : goal.returns-in_err-row-clause-memory
+returns-in_err-row-clause-memory g c =
+    let p = err_from_is_err_and c.from_residual.result c.from_residual.ensures.1 in
+    let units = indexed_units c.args.dw_units.now c.args.units.now.items in
+    let now = parsed_units c.find_row_in.new.units.items in
+    rw (p.1, p.2) (λ ready.
+    let at = subst (λ rs. ready_along c.args.dwarf.now units now c.args.probe rs ≡ true) c.in-Some.ensures.steps (c.loop-range.invariant.exact now ready) in
+    c.in_err-row.ensures.memory (ready_first c.args.dwarf.now units c.args.probe c.in-Some.range (ranges_left c.next.new.self) now at))
 
 pub returns-in_err-row-clause-stay : goal.returns-in_err-row-clause-stay
 returns-in_err-row-clause-stay g c = stay_over c.args.units.now.items c.loop-range.units.items c.find_row_in.new.units.items c.loop-range.invariant.stay c.in_err-row.ensures.stay
@@ -124,7 +133,7 @@ loop-range-preserved g c =
       stay = stay_over us mid now i.stay c.in_ok-row.ensures.stay;
       read = c.in_ok-row.ensures.read;
       rest = sym (along_none d units c.args.probe r rest none) ∙ sym (ap (along d units c.args.probe) c.in-Some.ensures.steps) ∙ i.rest;
-      exact = λ ready. ready_rest d units c.args.probe r rest (parsed_units us) none (subst (λ rs. ready_along d units (parsed_units us) c.args.probe rs ≡ true) c.in-Some.ensures.steps (i.exact ready));
+      exact = λ p ready. ready_rest d units c.args.probe r rest p none (subst (λ rs. ready_along d units p c.args.probe rs ≡ true) c.in-Some.ensures.steps (i.exact p ready));
       ready = λ p stays ready.
           let both = ready_both d units c.args.probe r rest p (stays r.unit (c.in_ok-row.ensures.parsed tt)) ready in
           i.ready p (λ n parsed. stays n (stay_parsed mid now c.in_ok-row.ensures.stay n parsed)) (subst (λ rs. ready_along d units p c.args.probe rs ≡ true) (sym c.in-Some.ensures.steps) both);

@@ -14,7 +14,7 @@ invariant-loop-range g l =
       stay : StayUnits l.fn.units.items l.units.items;
       read : HaveLinesOf d l.dw_units l.units.items;
       rest : along d units l.probe (ranges_left l.ranges) ≡ along d units l.probe (ranges_left l.fn.ranges);
-      exact : ready_along d units first l.probe (ranges_left l.fn.ranges) ≡ true → ready_along d units first l.probe (ranges_left l.ranges) ≡ true;
+      exact : (p : List Bool) → ready_along d units p l.probe (ranges_left l.fn.ranges) ≡ true → ready_along d units p l.probe (ranges_left l.ranges) ≡ true;
       ready : (p : List Bool) → StaysParsed (parsed_units l.units.items) p → ready_along d units p l.probe (ranges_left l.ranges) ≡ true → ready_along d units p l.probe (ranges_left l.fn.ranges) ≡ true;
       only : (n : ℕ) → AsksFor d units l.probe (ranges_left l.ranges) n → AsksFor d units l.probe (ranges_left l.fn.ranges) n;
       parsed : ParsesOnly (AsksFor d units l.probe (ranges_left l.fn.ranges)) first (parsed_units l.units.items);

@@ -37,6 +37,11 @@ returns-in_err-read_lines_in-clause-exact g c =
     let within = subst (λ n. c.loop-number.number < n) (i.count ∙ sym (as_many_indexed c.args.dwarf.now c.args.dw_units.now c.args.units.now.items c.requires.read)) c.loop-number-test.true in
     rw (p.1, p.2) (λ ready. sym i.rest ∙ lines_stop c.args.dwarf.now units c.loop-number.number _ within (fault (stay_parsed us c.loop-number.units.items i.stay c.loop-number.number (ready c.loop-number.number i.before))))
 
+pub returns-in_err-read_lines_in-clause-memory : goal.returns-in_err-read_lines_in-clause-memory
+returns-in_err-read_lines_in-clause-memory g c =
+    let p = err_from_is_err_and c.from_residual.result c.from_residual.ensures.1 in
+    rw (p.1, p.2) (λ ready. c.in_err-read_lines_in.ensures.memory (ready c.loop-number.number c.loop-number.invariant.before))
+
 pub returns-in_err-read_lines_in-clause-stay : goal.returns-in_err-read_lines_in-clause-stay
 returns-in_err-read_lines_in-clause-stay g c = stay_over c.args.units.now.items c.loop-number.units.items c.read_lines_in.new.units.items c.loop-number.invariant.stay c.in_err-read_lines_in.ensures.stay
 

@@ -1,6 +1,6 @@
 use Rattle.std.proofs.Common.{ap, arith, inl, rules}
 use Rattle.addr2line_units.specs.CachedLines.{lines_answer_at}
-use Rattle.addr2line_units.proofs.UnitsLemmas.{no_parsed, no_unit, in_units, own_at, own_set, only_set, answer_cached, lines_read, lines_read_exactly, parsed_at, parsed_set, stay_all, stay_set}
+use Rattle.addr2line_units.proofs.UnitsLemmas.{no_parsed, no_unit, in_units, own_at, own_set, only_set, answer_cached, lines_read, lines_read_exactly, parsed_at, parsed_set, set_parsed, stay_all, stay_set}
 use Rattle.addr2line_units.proofs.lookup.read_lines_in.Goals as goal
 
 pub returns-then-number-len-clause-stay : goal.returns-then-number-len-clause-stay
@@ -18,6 +18,9 @@ returns-clause-exact g c = λ parsed.
 
 pub returns-clause-parsed : goal.returns-clause-parsed
 returns-clause-parsed g c = λ answered. parsed_set c.args.units.now.items c.args.number c.read_lines.new.self (search rules) (answer_cached _ _ _ c.read_lines.ensures.caches answered)
+
+pub returns-clause-memory : goal.returns-clause-memory
+returns-clause-memory g c = λ parsed. c.read_lines.ensures.memory (set_parsed c.args.units.now.items c.args.number c.read_lines.new.self (search rules) parsed)
 
 pub returns-clause-stay : goal.returns-clause-stay
 returns-clause-stay g c = stay_set c.args.units.now.items c.args.number c.index_mut-unit.result.now c.read_lines.new.self (search rules) c.index_mut-unit.ensures.value (record { language = c.read_lines.ensures.lang; lines = c.read_lines.ensures.stays })

@@ -46,6 +46,11 @@ returns-clause-ready_for_all g c =
     let e = rw c.deref.ensures at c.parse_lines.ensures in
     λ answered. ready_after_parse d us old c.self.inside.units.ranges _ i.made_is c.parse_lines.new.self.units.items e.stay c.self.inside.looks c.self.inside.looks (e.ready answered)
 
+pub returns-clause-memory : goal.returns-clause-memory
+returns-clause-memory g c =
+    let e = rw c.deref.ensures at c.parse_lines.ensures in
+    λ ready. e.memory (ready _ c.self.invariant.made_is)
+
 pub returns-clause-only : goal.returns-clause-only
 returns-clause-only g c =
     let i = c.self.invariant in

@@ -8,3 +8,6 @@ returns-clause-ready g c = rw c.deref.ensures.value at c.read_all_lines.ensures.
 
 pub returns-clause-only : goal.returns-clause-only
 returns-clause-only g c = rw c.deref.ensures.value at c.read_all_lines.ensures.only
+
+pub returns-clause-memory : goal.returns-clause-memory
+returns-clause-memory g c = rw c.deref.ensures.value at c.read_all_lines.ensures.memory

@@ -98,11 +98,3 @@ found_frames files language None location = location_frames location
 found_frames files language (Some f) location =
     frames_from files language f.offset f.name (reverse f.inlined) location
 
--- the frames at the probe in a unit's view, whose references lead where the scope says; or the
--- first fault of its functions, of the detail of the function, and of the lines of the main unit
-unfoldable pub frames_at : Sections → UnitRecord → Option DwLang → Scope → UnitRecord → ℕ
-    → Result (List FrameRecord) Error
-frames_at d main language scope view probe = do
-  function ← function_at scope view probe
-  lines ← unit_lines d main
-  Ok (found_frames lines.files language function (location_at probe lines))

@@ -20,3 +20,7 @@ pub mod ViewLaws
 pub mod KeptViews
 pub mod SeenFrame
 pub mod FramesLeft
+pub mod UnitFrames
+pub mod FramesLookup
+pub mod KeptEntries
+pub mod KeptLookups

@@ -4,6 +4,7 @@
 pub mod aranges;
 pub mod attributes;
 pub mod frame;
+mod frames_lookup;
 mod functions;
 pub mod index;
 mod laws;
@@ -14,6 +15,7 @@ pub mod range;
 pub mod range_iter;
 pub mod sup;
 pub mod unit;
+mod unit_frames;
 pub mod units;
 pub mod view;
 

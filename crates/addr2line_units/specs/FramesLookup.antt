@@ -1,0 +1,97 @@
+-- Lookups of frames along the ranges that hold an address (DWARF 5, sections 2.17 and 3.3).
+-- Own: the units are asked one after another: the first that waits for an answer, that has a fault,
+-- or that has frames ends the lookup. A lookup of a unit passes over each unit with a fault.
+use Rattle.std.specs.Prelude.{◌≡◌, ◌⊎◌, ℕ, Bool, true, false, ◌&&◌, ◌||◌, List, [], ◌∷◌, slice_get, Option, Some, None, option_map, unwrap_or, Result, Ok, Err}
+use Rattle.gimli_read.specs.declared.error.Error.{Error}
+use Rattle.gimli_read.specs.Reading.{◌>>=◌}
+use Rattle.gimli.specs.Sections.{Sections, SupSections}
+use Rattle.addr2line_lines.specs.References.{FileRecord, Scope}
+use Rattle.addr2line_units.specs.declared.index.UnitRange.{UnitRange}
+use Rattle.addr2line_units.specs.declared.frames_lookup.Faults.{Faults}
+use Rattle.addr2line_units.specs.declared.frames_lookup.Faults.TheVariants.{End, PassOver}
+use Rattle.addr2line_units.specs.Frames.{FrameRecord}
+use Rattle.addr2line_units.specs.UnitFrames.{asks_lines_in, frames_in, has_many}
+use Rattle.addr2line_units.specs.UnitIndex.{IndexedUnit, UnitIndex, sup_sections, unit_records}
+
+-- where references lead from a unit of a context
+abbrev pub main_scope : Sections → UnitIndex → Scope
+main_scope d m = record {
+  file = record { sections = d; units = unit_records m.units };
+  sup = option_map (λ s. record { sections = sup_sections s; units = m.sup_units }) d.sup;
+}
+
+-- what a lookup comes to: the unit of this number waits for an answer; that of this number has
+-- these frames; or no unit has any
+pub data Stop : Type 0 where
+  Waits : ℕ → Stop
+  Finds : ℕ → List FrameRecord → Stop
+  FindsNothing : Stop
+
+-- the first answer of the unit of a number, none while it has none
+abbrev pub answer_of : List (Option (Option Sections)) → ℕ → Option (Option Sections)
+answer_of answers n = unwrap_or (slice_get answers n) None
+
+-- the frames at the probe in the unit of a number, none while it is open, or the first fault; where
+-- there is no such unit there are no frames
+abbrev pub frames_of_number : Scope → List IndexedUnit → List (Option (Option Sections)) → ℕ → ℕ
+    → Result (Option (List FrameRecord)) Error
+frames_of_number scope units answers probe n = elim (slice_get units n)
+    [ None ↦ Ok (Some []) | Some u ↦ frames_in scope u (answer_of answers n) probe ]
+
+-- a fault as it is, or no frames in its place where a lookup passes over it
+abbrev pub after_fault : Faults → Result (Option (List FrameRecord)) Error
+    → Result (Option (List FrameRecord)) Error
+after_fault faults (Ok frames) = Ok frames
+after_fault End (Err e) = Err e
+after_fault PassOver (Err e) = Ok (Some [])
+
+-- what a lookup asks the unit of a number for
+abbrev pub asked_frames : Faults → Scope → List IndexedUnit → List (Option (Option Sections)) → ℕ
+    → ℕ → Result (Option (List FrameRecord)) Error
+asked_frames faults scope units answers probe n =
+    after_fault faults (frames_of_number scope units answers probe n)
+
+-- the unit of a number waits, or has frames, else the lookup goes on
+abbrev pub or_stop : ℕ → Result Stop Error → Option (List FrameRecord) → Result Stop Error
+or_stop n rest None = Ok (Waits n)
+or_stop n rest (Some []) = rest
+or_stop n rest (Some (f ∷ frames)) = Ok (Finds n (f ∷ frames))
+
+-- what a lookup comes to along ranges, by what the unit of each number has
+abbrev pub stop_along : (ℕ → Result (Option (List FrameRecord)) Error) → List UnitRange
+    → Result Stop Error
+stop_along frames [] = Ok FindsNothing
+stop_along frames (r ∷ ranges) = frames r.unit >>= or_stop r.unit (stop_along frames ranges)
+
+-- whether what a unit has ends a lookup
+abbrev pub ends_lookup : Result (Option (List FrameRecord)) Error → Bool
+ends_lookup (Ok (Some [])) = false
+ends_lookup (Ok (Some (f ∷ frames))) = true
+ends_lookup (Ok None) = true
+ends_lookup (Err e) = true
+
+-- whether this is so of each unit along ranges, up to the one that ends the lookup
+abbrev pub holds_along : (ℕ → Bool) → (ℕ → Result (Option (List FrameRecord)) Error)
+    → List UnitRange → Bool
+holds_along holds frames [] = true
+holds_along holds frames (r ∷ ranges) =
+    holds r.unit && (ends_lookup (frames r.unit) || holds_along holds frames ranges)
+
+-- a lookup asks a unit: a range leads to it, and no unit before it ends the lookup
+abbrev pub LookupAsks : (ℕ → Result (Option (List FrameRecord)) Error) → List UnitRange → ℕ
+    → Type 0
+LookupAsks frames [] n = ⊥
+LookupAsks frames (r ∷ ranges) n =
+    (n ≡ r.unit)
+    ⊎ ((ends_lookup (frames r.unit) ≡ false) × LookupAsks frames ranges n)
+
+-- whether the lines of the unit of a number are asked for, if the unit is asked
+abbrev pub asks_lines_of : Scope → List IndexedUnit → List (Option (Option Sections)) → ℕ → ℕ
+    → Bool
+asks_lines_of scope units answers probe n = elim (slice_get units n)
+    [ None ↦ false | Some u ↦ asks_lines_in scope u.unit (answer_of answers n) probe ]
+
+-- whether more than 16 inlined functions stand at the probe in the unit of a number
+abbrev pub has_many_of : Scope → List IndexedUnit → List (Option (Option Sections)) → ℕ → ℕ → Bool
+has_many_of scope units answers probe n = elim (slice_get units n)
+    [ None ↦ false | Some u ↦ has_many scope u.unit (answer_of answers n) probe ]

@@ -1,0 +1,97 @@
+-- What is kept of the views of units and of the functions in them, as the private functions see it.
+-- Own: the functions of a view that is known are read when they are first asked for, and kept then,
+-- their fault too, until the unit is forgotten; so is each detail. OutOfMemory is never kept.
+use Rattle.std.specs.Prelude.{◌≡◌, ℕ, Bool, true, false, ◌||◌, is_err, is_some, List, Option, Some, None, IfOk, IfSome, option_map}
+use Rattle.gimli.specs.Sections.{Sections}
+use Rattle.gimli.specs.Unit.{UnitRecord}
+use Rattle.addr2line_lines.specs.FunctionTable.{FunctionTable, cached_detail, function_place_at}
+use Rattle.addr2line_lines.specs.Location.{location_of_row}
+use Rattle.addr2line_lines.specs.References.{Scope}
+use Rattle.addr2line_units.specs.declared.functions.LazyFunctions.{LazyFunctions}
+use Rattle.addr2line_units.specs.declared.functions.LazyFunctions.TheVariants as lazy
+use Rattle.addr2line_units.specs.declared.unit.LazyLines.{LazyLines}
+use Rattle.addr2line_units.specs.declared.unit.LazyLines.TheVariants as lines
+use Rattle.addr2line_units.specs.declared.unit.ResUnit.{ResUnit}
+use Rattle.addr2line_units.specs.declared.unit_frames.UnitEntries.{UnitEntries}
+use Rattle.addr2line_units.specs.declared.unit_frames.UnitFrames.{UnitFrames}
+use Rattle.addr2line_units.specs.declared.unit_frames.UnitFrames.TheVariants as found
+use Rattle.addr2line_units.specs.declared.view.ViewState.{ViewState}
+use Rattle.addr2line_units.specs.declared.view.ViewState.TheVariants as states
+use Rattle.addr2line_units.specs.CachedLines.{cached_files}
+use Rattle.addr2line_units.specs.Frames.{FrameRecord, found_frames}
+use Rattle.addr2line_units.specs.KeptFunctions.{AreFunctionsOf, IsPlaceIn, ReadsNoOther, StayFunctions, function_of_place, kept_functions, were_read}
+use Rattle.addr2line_units.specs.KeptViews.{IsViewOf, is_decided, seen_answer, was_looked_at}
+use Rattle.addr2line_units.specs.Views.{verdict, view_scope}
+
+-- the first answer of a unit
+abbrev pub kept_answer : {R : Type 0} → UnitEntries R → Option (Option Sections)
+kept_answer v = seen_answer v.view
+
+-- what is kept are the view of the unit and the functions of that view, which are read only where
+-- the view is known
+pub record AreEntriesOf {R : Type 0} (scope : Scope) (u : UnitRecord) (v : UnitEntries R)
+    : Type 0 where
+  pub view : IsViewOf scope.file.sections u v.view
+  pub functions : IfSome (verdict scope.file.sections u (kept_answer v)) (λ view. IfOk view (λ x.
+      AreFunctionsOf (view_scope scope x) x.unit v.functions))
+  pub unread : is_decided v.view.state ≡ false → were_read v.functions ≡ false
+
+-- nobody has asked for anything yet
+pub record AreFresh {R : Type 0} (v : UnitEntries R) : Type 0 where
+  pub view : was_looked_at v.view.state ≡ false
+  pub functions : were_read v.functions ≡ false
+
+-- the answer stays, and so does what is kept; more may be
+pub record StayEntries {R : Type 0} (old new : UnitEntries R) : Type 0 where
+  pub answer : kept_answer new ≡ kept_answer old
+  pub view : was_looked_at old.view.state ≡ true → new.view ≡ old.view
+  pub functions : StayFunctions old.functions new.functions
+
+-- whether the function at the probe is found by what is kept: the functions, or their fault, and
+-- its detail, if there is one
+abbrev pub has_place : FunctionTable → Option ℕ → Bool
+has_place t None = true
+has_place t (Some n) = is_some (cached_detail t n)
+
+abbrev pub has_function : {R : Type 0} → ℕ → LazyFunctions R → Bool
+has_function probe lazy.Unread = false
+has_function probe (lazy.Read t) = has_place t (function_place_at probe t)
+has_function probe (lazy.Faulty e) = true
+
+-- the same, or whether the unit is open or its view has a fault, of what is kept of a view
+abbrev pub has_entries_by : {R : Type 0} → ℕ → ViewState R → LazyFunctions R → Bool
+has_entries_by probe states.Undecided functions = false
+has_entries_by probe states.Open functions = true
+has_entries_by probe states.Main functions = has_function probe functions
+has_entries_by probe (states.Unnamed e) functions = true
+has_entries_by probe (states.Answered a) functions = is_err a.unit || has_function probe functions
+
+-- whether what a unit has at the probe is known by what is kept of its entries
+abbrev pub has_entries : {R : Type 0} → ℕ → UnitEntries R → Bool
+has_entries probe v = has_entries_by probe v.view.state v.functions
+
+-- no detail is read but that of the function at the probe, and nothing where all was kept
+pub record ReadsEntriesOf {R : Type 0} (probe : ℕ) (old new : UnitEntries R) : Type 0 where
+  pub alone : ReadsNoOther probe (kept_functions old.functions) (kept_functions new.functions)
+  pub kept : has_entries probe old ≡ true → new ≡ old
+
+-- the frames of the function of a place and the row of an address, by what is kept
+abbrev pub frames_of_place : {R : Type 0} → ResUnit → UnitEntries R → UnitFrames
+    → Option (List FrameRecord)
+frames_of_place u v found.Open = None
+frames_of_place u v (found.Here function row) =
+    Some (found_frames (cached_files u.lines) u.lang
+    (option_map (function_of_place (kept_functions v.functions)) function)
+    (option_map (location_of_row (cached_files u.lines)) row))
+
+-- lines were read, and have no fault
+abbrev pub AreRead : LazyLines → Type 0
+AreRead (lines.Read table) = Unit {0}
+AreRead _ = ⊥
+
+-- the places of a function and its inlined ones are among those that are kept, and the lines are
+-- read
+abbrev pub AreFramesIn : {R : Type 0} → ResUnit → UnitEntries R → UnitFrames → Type 0
+AreFramesIn u v found.Open = Unit {0}
+AreFramesIn u v (found.Here function row) =
+    IfSome function (IsPlaceIn (kept_functions v.functions)) × AreRead u.lines

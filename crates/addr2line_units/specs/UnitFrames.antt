@@ -1,0 +1,60 @@
+-- What stands at an address in one unit (DWARF 5, sections 3.1.2 and 3.3): the function in the view
+-- of the unit, and the frames.
+-- Own: the first fault counts of the view, its functions, the detail of the function, and the lines
+-- of the main unit. A unit that waits for an answer has no frames yet.
+use Rattle.std.specs.Prelude.{ℕ, Bool, false, ◌&&◌, not, nat_lt, length, List, Option, Some, None, Result, Ok, Err, is_ok, if◌then◌else◌}
+use Rattle.gimli_read.specs.declared.error.Error.{Error}
+use Rattle.gimli_read.specs.Reading.{◌>>=◌}
+use Rattle.gimli.specs.Sections.{Sections}
+use Rattle.gimli.specs.Unit.{UnitRecord}
+use Rattle.addr2line_lines.specs.Location.{location_at}
+use Rattle.addr2line_lines.specs.References.{Scope}
+use Rattle.addr2line_lines.specs.UnitLines.{unit_lines}
+use Rattle.addr2line_units.specs.Frames.{FoundFunction, FrameRecord, found_frames, function_at}
+use Rattle.addr2line_units.specs.UnitIndex.{IndexedUnit}
+use Rattle.addr2line_units.specs.Views.{View, is_open, verdict, view_scope}
+
+-- the function at the probe in a view, or the first fault of the view, its functions and the detail
+abbrev pub function_by : Scope → ℕ → Option (Result View Error)
+    → Result (Option FoundFunction) Error
+function_by scope probe None = Ok None
+function_by scope probe (Some view) =
+    view >>= λ v. function_at (view_scope scope v) v.unit probe
+
+-- the same in the view of a unit with this first answer, none while it is open
+abbrev pub function_in : Scope → UnitRecord → Option (Option Sections) → ℕ
+    → Result (Option FoundFunction) Error
+function_in scope u answer probe =
+    function_by scope probe (verdict scope.file.sections u answer)
+
+-- the frames at the probe of a function that was found in the view of a unit, or none was
+abbrev pub frames_by : Scope → IndexedUnit → ℕ → Result (Option FoundFunction) Error
+    → Result (List FrameRecord) Error
+frames_by scope u probe found = do
+  function ← found
+  lines ← unit_lines scope.file.sections u.unit
+  Ok (found_frames lines.files u.language function (location_at probe lines))
+
+-- the frames at the probe in a unit with this first answer, none while it is open; or the first
+-- fault
+unfoldable pub frames_in : Scope → IndexedUnit → Option (Option Sections) → ℕ
+    → Result (Option (List FrameRecord)) Error
+frames_in scope u answer probe =
+    if is_open scope.file.sections u.unit answer then Ok None
+    else frames_by scope u probe (function_in scope u.unit answer probe)
+    >>= λ frames. Ok (Some frames)
+
+-- whether the lines of a unit are asked for: it isn't open, and no fault comes before theirs
+unfoldable pub asks_lines_in : Scope → UnitRecord → Option (Option Sections) → ℕ → Bool
+asks_lines_in scope u answer probe =
+    not (is_open scope.file.sections u answer) && is_ok (function_in scope u answer probe)
+
+-- whether a function has more than 16 inlined functions at the probe
+abbrev pub is_many : Result (Option FoundFunction) Error → Bool
+is_many (Err e) = false
+is_many (Ok None) = false
+is_many (Ok (Some f)) = nat_lt 16 (length f.inlined)
+
+-- the same of the function at the probe in the view of a unit
+unfoldable pub has_many : Scope → UnitRecord → Option (Option Sections) → ℕ → Bool
+has_many scope u answer probe = is_many (function_in scope u answer probe)

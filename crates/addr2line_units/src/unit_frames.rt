@@ -1,0 +1,154 @@
+//! What stands at an address in one unit.
+
+ghost use Rattle.std.specs.Prelude.{◌≡◌, ◌≤◌, IfErr, IfOk, IfSome, None, Ok, OnOk, false, is_some, option_map, true};
+ghost use Rattle.gimli_read.specs.declared.error.Error.TheVariants.{OutOfMemory};
+ghost use Rattle.gimli_read.specs.Reading.{ExactlyUnlessOom};
+ghost use Rattle.addr2line_lines.specs.References.{IsScope};
+ghost use Rattle.addr2line_lines.specs.SeenScope.{seen_scope};
+ghost use Rattle.addr2line_units.specs.CachedLines.{AreLinesOf, StaysUnit, indexed_unit, is_uncached};
+ghost use Rattle.addr2line_units.specs.KeptEntries.{AreEntriesOf, AreFramesIn, AreFresh, ReadsEntriesOf, StayEntries, frames_of_place, has_entries, kept_answer};
+ghost use Rattle.addr2line_units.specs.KeptFunctions.{IsPlaceIn, function_of_place, kept_functions};
+ghost use Rattle.addr2line_units.specs.KeptViews.{waits, was_looked_at};
+ghost use Rattle.addr2line_units.specs.Parsed.{IsNotOom};
+ghost use Rattle.addr2line_units.specs.UnitFrames.{asks_lines_in, frames_in, function_in, has_many};
+ghost use Rattle.addr2line_units.specs.Views.{is_open};
+
+use crate::functions::{FunctionPlace, LazyFunctions};
+use crate::unit::ResUnit;
+use crate::view::UnitView;
+use addr2line_lines::{Count, Row, Scope};
+use gimli::Unit;
+use gimli::read::{Error, Reader};
+use std::alloc::Global;
+
+/// What is kept of the entries of a unit: its view, and the functions in it.
+#[derive(Drop)]
+pub(crate) struct UnitEntries<R: Reader> {
+    pub(crate) view: UnitView<R>,
+    pub(crate) functions: LazyFunctions<R>,
+}
+
+// What a unit has at an address.
+#[derive(Drop)]
+pub(crate) enum UnitFrames {
+    // It waits for an answer.
+    Open,
+    // The function and the row at the address, as far as there are.
+    Here {
+        function: Option<FunctionPlace>,
+        row: Option<Row>,
+    },
+}
+
+impl<R: Reader> UnitEntries<R> {
+    // Before anybody asks for something. Takes no memory.
+    pub(crate) fn new() -> UnitEntries<R>
+        ensures answer { kept_answer result ≡ None }
+        ensures fresh { AreFresh result }
+    {
+        UnitEntries {
+            view: UnitView::new(),
+            functions: LazyFunctions::Unread,
+        }
+    }
+
+    // Looks whether the unit waits for an answer, unless that was done. Refused `OutOfMemory`
+    // alone, and only before it was done.
+    fn look<'x>(&mut self, scope: Scope<'x, R>, dw_unit: &'x Unit<R>) -> Result<(), Error>
+        requires kept { AreEntriesOf (seen_scope scope) dw_unit.now self.old }
+        ensures kept { AreEntriesOf (seen_scope scope.entry) dw_unit.now self.new }
+        ensures looked { OnOk result (was_looked_at self.new.view.state ≡ true) }
+        ensures stay { StayEntries self.old self.new }
+        ensures functions { self.new.functions ≡ self.old.functions }
+        ensures same { was_looked_at self.old.view.state ≡ true
+            → (self.new ≡ self.old) × (result ≡ Ok tt) }
+        ensures refused { IfErr result (λ e. (e ≡ OutOfMemory) × (self.new ≡ self.old)) }
+    {
+        self.view.look(scope.file.dwarf, dw_unit)
+    }
+
+    // The function at an address in the unit's view, none where no function holds it. The functions
+    // and its detail are read and kept, unless they are, their faults too.
+    //
+    // Refused by the first fault of the view, its functions and the detail; may fail with
+    // `OutOfMemory` instead, only where something of these isn't kept, or there are more than 16
+    // inlined functions.
+    fn find_function(
+        &mut self,
+        alloc: Global,
+        scope: Scope<'_, R>,
+        dw_unit: &Unit<R>,
+        probe: u64,
+    ) -> Result<Option<FunctionPlace>, Error>
+        requires in_order { IsScope (seen_scope scope) }
+        requires kept { AreEntriesOf (seen_scope scope) dw_unit.now self.old }
+        requires looked { was_looked_at self.old.view.state ≡ true }
+        requires decided { waits self.old.view.state ≡ false }
+        ensures gives { ExactlyUnlessOom
+            (option_map (function_of_place (kept_functions self.new.functions))) result
+            (function_in (seen_scope scope.entry) dw_unit.now (kept_answer self.old) probe) }
+        ensures there { IfOk result (λ found. IfSome found
+            (IsPlaceIn (kept_functions self.new.functions))) }
+        ensures kept { AreEntriesOf (seen_scope scope.entry) dw_unit.now self.new }
+        ensures stay { StayEntries self.old self.new }
+        ensures only { ReadsEntriesOf probe self.old self.new }
+        ensures ready { IsNotOom result → has_entries probe self.new ≡ true }
+        ensures memory { has_entries probe self.new ≡ true
+            → has_many (seen_scope scope.entry) dw_unit.now (kept_answer self.old) probe ≡ false
+            → IsNotOom result }
+    {
+        let UnitEntries { view, functions } = self;
+        let unit = view.unit_ref(scope.file.dwarf, dw_unit)?;
+        functions.find(alloc, view.scope_of(scope), unit.unit, probe)
+    }
+}
+
+// What a unit has at an address, unless it waits for an answer. Its view is decided if it needs no
+// answer, and what is read is kept: the functions of the view, the detail of the function there,
+// and the lines of the unit, their faults too.
+//
+// Refused by the first fault of the view, its functions, the detail and the lines; may fail with
+// `OutOfMemory` instead, only where something of these isn't kept, or there are more than 16
+// inlined functions.
+pub(crate) fn find_frames_in<R: Reader>(
+    alloc: Global,
+    scope: Scope<'_, R>,
+    dw_unit: &Unit<R>,
+    unit: &mut ResUnit,
+    entries: &mut UnitEntries<R>,
+    looks: &mut Count,
+    probe: u64,
+) -> Result<UnitFrames, Error>
+    requires in_order { IsScope (seen_scope scope) }
+    requires read { AreLinesOf scope.file.dwarf.now dw_unit.now unit.old.lines }
+    requires kept { AreEntriesOf (seen_scope scope) dw_unit.now entries.old }
+    ensures gives { ExactlyUnlessOom (frames_of_place unit.new entries.new) result
+        (frames_in (seen_scope scope.entry) (indexed_unit dw_unit.now unit.old)
+        (kept_answer entries.old) probe) }
+    ensures there { IfOk result (AreFramesIn unit.new entries.new) }
+    ensures read { AreLinesOf scope.entry.file.dwarf.now dw_unit.now unit.new.lines }
+    ensures kept { AreEntriesOf (seen_scope scope.entry) dw_unit.now entries.new }
+    ensures stays { StaysUnit unit.old unit.new }
+    ensures stay { StayEntries entries.old entries.new }
+    ensures only { ReadsEntriesOf probe entries.old entries.new }
+    ensures lines { asks_lines_in (seen_scope scope.entry) dw_unit.now (kept_answer entries.old)
+        probe ≡ false → unit.new ≡ unit.old }
+    ensures ready { IsNotOom result → has_entries probe entries.new ≡ true }
+    ensures parsed { IsNotOom result
+        → asks_lines_in (seen_scope scope.entry) dw_unit.now (kept_answer entries.old) probe ≡ true
+        → is_uncached unit.new.lines ≡ false }
+    ensures memory { has_entries probe entries.new ≡ true
+        → (asks_lines_in (seen_scope scope.entry) dw_unit.now (kept_answer entries.old) probe ≡ true
+        → is_uncached unit.new.lines ≡ false)
+        → has_many (seen_scope scope.entry) dw_unit.now (kept_answer entries.old) probe ≡ false
+        → IsNotOom result }
+    ensures raised { looks.old ≤ looks.new }
+{
+    entries.look(scope, dw_unit)?;
+    if entries.view.is_open() {
+        return Ok(UnitFrames::Open);
+    }
+    let function = entries.find_function(alloc, scope, dw_unit, probe)?;
+    let row = unit.find_row(alloc, scope.file.dwarf, dw_unit, looks, probe)?;
+    Ok(UnitFrames::Here { function, row })
+}

@@ -24,3 +24,4 @@ pub mod UnitFrames
 pub mod FramesLookup
 pub mod KeptEntries
 pub mod KeptLookups
+pub mod Suspended

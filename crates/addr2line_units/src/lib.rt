@@ -1,8 +1,10 @@
 //! Names, locations and frames of units.
 #![tactic(auto)]
 
+mod answers;
 pub mod aranges;
 pub mod attributes;
+pub mod continuation;
 pub mod frame;
 mod frames_lookup;
 mod functions;

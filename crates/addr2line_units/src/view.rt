@@ -231,6 +231,13 @@ impl<R: Reader> UnitView<R> {
         matches!(self.state, ViewState::Open)
     }
 
+    // Whether the unit has an answer.
+    pub(crate) fn is_answered(&self) -> bool
+        ensures gives { result ≡ is_some (seen_answer self.now) }
+    {
+        matches!(self.state, ViewState::Answered(_))
+    }
+
     // The load of a unit of a number, which waits for an answer. Refused `OutOfMemory` alone.
     pub(crate) fn load(
         &self,

@@ -1,0 +1,62 @@
+//! The answers to the loads of units.
+
+ghost use Rattle.std.specs.Prelude.{◌≡◌, IfErr, IfOk, None, OnOk, Ok, Some, is_some, option_map, true};
+ghost use Rattle.gimli_read.specs.declared.error.Error.TheVariants.{OutOfMemory};
+ghost use Rattle.addr2line_lines.specs.SeenScope.{seen_scope};
+ghost use Rattle.addr2line_units.specs.KeptEntries.{AreEntriesOf, kept_answer};
+ghost use Rattle.addr2line_units.specs.KeptViews.{is_decided, seen_load, waits};
+ghost use Rattle.addr2line_units.specs.Views.{load_of_unit};
+
+use crate::functions::LazyFunctions;
+use crate::unit_frames::UnitEntries;
+use crate::view::SplitDwarfLoad;
+use addr2line_lines::Scope;
+use gimli::read::{Error, Reader};
+use gimli::{Dwarf, Unit};
+use std::alloc::Global;
+use std::rc::Rc;
+
+impl<R: Reader> UnitEntries<R> {
+    // Whether the unit waits for an answer, as far as it was looked at.
+    pub(crate) fn is_open(&self) -> bool
+        ensures gives { result ≡ waits self.now.view.state }
+    {
+        self.view.is_open()
+    }
+
+    // Decides the unit, which waits for an answer, by one. Refused `OutOfMemory` alone, and only
+    // where it has sections; then nothing is changed.
+    pub(crate) fn decide(
+        &mut self,
+        alloc: Global,
+        scope: Scope<'_, R>,
+        dw_unit: &Unit<R>,
+        sections: Option<Rc<Dwarf<R>>>,
+    ) -> Result<(), Error>
+        requires kept { AreEntriesOf (seen_scope scope) dw_unit.now self.old }
+        requires waits { waits self.old.view.state ≡ true }
+        ensures kept { AreEntriesOf (seen_scope scope.entry) dw_unit.now self.new }
+        ensures answer { OnOk result (kept_answer self.new
+            ≡ Some (option_map (λ d. d.value) sections)) }
+        ensures decided { OnOk result (is_decided self.new.view.state ≡ true) }
+        ensures refused { IfErr result (λ e. (e ≡ OutOfMemory) × (self.new ≡ self.old)
+            × (is_some sections ≡ true)) }
+    {
+        self.view
+            .decide(alloc, scope.file.dwarf, dw_unit, sections)
+    }
+
+    // Forgets the answer, if there is one, and what was read of its view: the unit waits for one
+    // again. Takes no memory.
+    pub(crate) fn forget(&mut self, scope: Scope<'_, R>, dw_unit: &Unit<R>)
+        requires kept { AreEntriesOf (seen_scope scope) dw_unit.now self.old }
+        ensures kept { AreEntriesOf (seen_scope scope.entry) dw_unit.now self.new }
+        ensures answer { kept_answer self.new ≡ None }
+        ensures same { kept_answer self.old ≡ None → self.new ≡ self.old }
+    {
+        if self.view.is_answered() {
+            self.view.forget(scope.file.dwarf, dw_unit);
+            self.functions = LazyFunctions::Unread;
+        }
+    }
+}

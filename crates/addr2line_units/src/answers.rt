@@ -1,11 +1,11 @@
 //! The answers to the loads of units.
 
-ghost use Rattle.std.specs.Prelude.{◌≡◌, IfErr, IfOk, None, OnOk, Ok, Some, is_some, option_map, true};
+ghost use Rattle.std.specs.Prelude.{◌≡◌, IfErr, IfOk, None, OnOk, Ok, Some, false, is_some, option_map, true};
 ghost use Rattle.gimli_read.specs.declared.error.Error.TheVariants.{OutOfMemory};
 ghost use Rattle.addr2line_lines.specs.SeenScope.{seen_scope};
 ghost use Rattle.addr2line_units.specs.KeptEntries.{AreEntriesOf, kept_answer};
-ghost use Rattle.addr2line_units.specs.KeptViews.{is_decided, seen_load, waits};
-ghost use Rattle.addr2line_units.specs.Views.{load_of_unit};
+ghost use Rattle.addr2line_units.specs.KeptViews.{IsViewOf, is_decided, seen_load, waits};
+ghost use Rattle.addr2line_units.specs.Views.{decided_answer, is_open, load_of_unit};
 
 use crate::functions::LazyFunctions;
 use crate::unit_frames::UnitEntries;
@@ -58,5 +58,50 @@ impl<R: Reader> UnitEntries<R> {
             self.view.forget(scope.file.dwarf, dw_unit);
             self.functions = LazyFunctions::Unread;
         }
+    }
+
+    // The load of the unit of a number, which waits for an answer. Refused `OutOfMemory` alone.
+    pub(crate) fn load(
+        &self,
+        dwarf: &Rc<Dwarf<R>>,
+        dw_unit: &Unit<R>,
+        number: usize,
+    ) -> Result<SplitDwarfLoad<R>, Error>
+        requires view { IsViewOf dwarf.now.value dw_unit.now self.now.view }
+        requires waits { waits self.now.view.state ≡ true }
+        ensures gives { IfOk result (λ l. load_of_unit dwarf.now.value number dw_unit.now
+            ≡ Ok (Some (seen_load R.section l))) }
+        ensures refused { IfErr result (λ e. e ≡ OutOfMemory) }
+    {
+        self.view.load(dwarf, dw_unit, number)
+    }
+
+    // Decides the unit by an answer if it is open, and else leaves it as it is. Refused
+    // `OutOfMemory` alone; then its answer is as before.
+    pub(crate) fn answer(
+        &mut self,
+        alloc: Global,
+        scope: Scope<'_, R>,
+        dw_unit: &Unit<R>,
+        sections: Option<Rc<Dwarf<R>>>,
+    ) -> Result<(), Error>
+        requires kept { AreEntriesOf (seen_scope scope) dw_unit.now self.old }
+        ensures kept { AreEntriesOf (seen_scope scope.entry) dw_unit.now self.new }
+        ensures answer { OnOk result (kept_answer self.new
+            ≡ decided_answer scope.entry.file.dwarf.now dw_unit.now (kept_answer self.old)
+            (option_map (λ d. d.value) sections)) }
+        ensures decided { OnOk result (is_decided self.new.view.state ≡ true) }
+        ensures refused { IfErr result (λ e. (e ≡ OutOfMemory)
+            × (kept_answer self.new ≡ kept_answer self.old)) }
+        ensures functions { is_open scope.entry.file.dwarf.now dw_unit.now (kept_answer self.old)
+            ≡ false → self.new.functions ≡ self.old.functions }
+        ensures same { is_decided self.old.view.state ≡ true
+            → (self.new ≡ self.old) × (result ≡ Ok tt) }
+    {
+        self.look(scope, dw_unit)?;
+        if self.is_open() {
+            self.decide(alloc, scope, dw_unit, sections)?;
+        }
+        Ok(())
     }
 }

@@ -54,7 +54,7 @@ impl<R: Reader> UnitEntries<R> {
 
     // Looks whether the unit waits for an answer, unless that was done. Refused `OutOfMemory`
     // alone, and only before it was done.
-    fn look<'x>(&mut self, scope: Scope<'x, R>, dw_unit: &'x Unit<R>) -> Result<(), Error>
+    pub(crate) fn look(&mut self, scope: Scope<'_, R>, dw_unit: &Unit<R>) -> Result<(), Error>
         requires kept { AreEntriesOf (seen_scope scope) dw_unit.now self.old }
         ensures kept { AreEntriesOf (seen_scope scope.entry) dw_unit.now self.new }
         ensures looked { OnOk result (was_looked_at self.new.view.state ≡ true) }

@@ -1,0 +1,52 @@
+use Rattle.std.proofs.Common.{◌≡◌, ◌∙◌, option_map, refl, sym, true, false, rules}
+use Rattle.addr2line_units.specs.KeptEntries.{kept_answer}
+use Rattle.addr2line_units.specs.Views.{is_open}
+use Rattle.addr2line_units.proofs.AnswerLemmas.{decided_if_not, decided_if_open, decided_was_looked_at, looked_is_decided, never_waits, open_by_look}
+use Rattle.addr2line_units.proofs.unit_frames.UnitEntries.answer.Goals as goal
+
+pub returns-in_err-look-clause-same : goal.returns-in_err-look-clause-same
+returns-in_err-look-clause-same g c h =
+    absurd (let e = (c.in_err-look.ensures.same (decided_was_looked_at c.args.self.now.view.state h)).1 in cc)
+
+pub returns-in_err-decide-clause-same : goal.returns-in_err-decide-clause-same
+returns-in_err-decide-clause-same g c h =
+    absurd (never_waits c.args.self.now c.look.new.self c.is_open.result h (λ l. (c.look.ensures.same l).0) c.is_open.ensures.gives (search rules))
+
+pub returns-in_ok-decide-clause-answer : goal.returns-in_ok-decide-clause-answer
+returns-in_ok-decide-clause-answer g c =
+    let d = c.args.scope.file.dwarf.now in
+    let u = c.args.dw_unit.now in
+    let s = c.args.self.now in
+    let n = c.look.new.self in
+    let was : is_open d u (kept_answer s) ≡ true = open_by_look d u s.view n.view true c.look.ensures.kept.view c.in_ok-look.ensures.looked c.look.ensures.stay.answer (search rules) in
+    c.in_ok-decide.ensures.answer ∙ sym (decided_if_open d u (kept_answer s) (option_map (λ x. x.value) c.args.sections) was)
+
+pub returns-in_ok-decide-clause-functions : goal.returns-in_ok-decide-clause-functions
+returns-in_ok-decide-clause-functions g c h =
+    let d = c.args.scope.file.dwarf.now in
+    let u = c.args.dw_unit.now in
+    let s = c.args.self.now in
+    let n = c.look.new.self in
+    let was : is_open d u (kept_answer s) ≡ true = open_by_look d u s.view n.view true c.look.ensures.kept.view c.in_ok-look.ensures.looked c.look.ensures.stay.answer (search rules) in
+    absurd (let e : true ≡ false = sym was ∙ h in cc)
+
+pub returns-in_ok-decide-clause-same : goal.returns-in_ok-decide-clause-same
+returns-in_ok-decide-clause-same g c h =
+    absurd (never_waits c.args.self.now c.look.new.self c.is_open.result h (λ l. (c.look.ensures.same l).0) c.is_open.ensures.gives (search rules))
+
+pub returns-else-is_open-clause-answer : goal.returns-else-is_open-clause-answer
+returns-else-is_open-clause-answer g c =
+    let d = c.args.scope.file.dwarf.now in
+    let u = c.args.dw_unit.now in
+    let s = c.args.self.now in
+    let n = c.look.new.self in
+    let was : is_open d u (kept_answer s) ≡ false = open_by_look d u s.view n.view false c.look.ensures.kept.view c.in_ok-look.ensures.looked c.look.ensures.stay.answer (search rules) in
+    c.look.ensures.stay.answer ∙ sym (decided_if_not d u (kept_answer s) (option_map (λ x. x.value) c.args.sections) was)
+
+pub returns-else-is_open-clause-decided : goal.returns-else-is_open-clause-decided
+returns-else-is_open-clause-decided g c =
+    looked_is_decided c.look.new.self.view.state c.in_ok-look.ensures.looked (search rules)
+
+pub returns-else-is_open-clause-same : goal.returns-else-is_open-clause-same
+returns-else-is_open-clause-same g c h =
+    ((c.look.ensures.same (decided_was_looked_at c.args.self.now.view.state h)).0, refl)

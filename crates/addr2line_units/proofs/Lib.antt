@@ -13,3 +13,4 @@ pub mod LeastBeginLemmas
 pub mod FrameLemmas
 pub mod KeptFunctionLemmas
 pub mod ViewLemmas
+pub mod ScopeLemmas

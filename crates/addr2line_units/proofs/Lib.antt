@@ -14,3 +14,4 @@ pub mod FrameLemmas
 pub mod KeptFunctionLemmas
 pub mod ViewLemmas
 pub mod AnswerLemmas
+pub mod ScopeLemmas

@@ -6,6 +6,7 @@ pub mod UnitAttributes
 pub mod Cover
 pub mod LeastBegins
 pub mod UnitIndex
+pub mod UnitIndexLaws
 pub mod Located
 pub mod Parsed
 pub mod CachedLines

@@ -1,6 +1,7 @@
-//! Laws of legacy names and of views, with no code.
+//! Laws of legacy names, of the units of a context and of their views, with no code.
 
 ghost use Rattle.addr2line_units.specs.LegacyLaws.{FindsLegacyNames, FindsOnlyLegacyNames, HasOneText};
+ghost use Rattle.addr2line_units.specs.UnitIndexLaws.{SupUnitsInOrder, UnitsInOrder};
 ghost use Rattle.addr2line_units.specs.ViewLaws.{KeepOrder, NeedNoAnswer, TakeAnswers};
 
 /// The names that `demangle` takes are the legacy names and no others, and each has one text.
@@ -8,6 +9,13 @@ pub fn legacy_name_laws()
     ensures found { FindsLegacyNames }
     ensures only { FindsOnlyLegacyNames }
     ensures one { HasOneText }
+{}
+
+/// The units of a context stand one after another, and so do those of the supplementary file: each
+/// ends before a later one begins.
+pub fn units_in_order()
+    ensures units { UnitsInOrder }
+    ensures sup_units { SupUnitsInOrder }
 {}
 
 /// A unit that is decided without an answer has its verdict with every answer, one that is open the

@@ -1,0 +1,15 @@
+-- Laws of what a context is made of (on UnitIndex; DWARF 5, section 7.5: units stand in a section
+-- one after another).
+use Rattle.std.specs.Prelude.{◌≡◌, Ok}
+use Rattle.gimli.specs.Sections.{Sections}
+use Rattle.addr2line_lines.specs.References.{AreInOrder}
+use Rattle.addr2line_units.specs.UnitIndex.{UnitIndex, index_units, unit_records}
+
+-- each unit of a context ends before a later one begins
+abbrev pub UnitsInOrder : Type 0
+UnitsInOrder = (d : Sections) (m : UnitIndex) → index_units d ≡ Ok m
+    → AreInOrder (unit_records m.units)
+
+-- so does each of the supplementary file
+abbrev pub SupUnitsInOrder : Type 0
+SupUnitsInOrder = (d : Sections) (m : UnitIndex) → index_units d ≡ Ok m → AreInOrder m.sup_units

@@ -8,12 +8,13 @@ use Rattle.gimli.specs.Sections.{Sections}
 use Rattle.gimli.specs.Unit.{UnitRecord}
 use Rattle.addr2line_lines.specs.FunctionTable.{FunctionTable}
 use Rattle.addr2line_lines.specs.Location.{location_of_row}
-use Rattle.addr2line_lines.specs.References.{Scope}
+use Rattle.addr2line_lines.specs.References.{FileRecord, Scope}
 use Rattle.addr2line_units.specs.declared.frames_lookup.Faults.{Faults}
 use Rattle.addr2line_units.specs.declared.frames_lookup.Faults.TheVariants.{PassOver}
 use Rattle.addr2line_units.specs.declared.frames_lookup.FramePlace.{FramePlace}
 use Rattle.addr2line_units.specs.declared.frames_lookup.FramesStop.{FramesStop}
 use Rattle.addr2line_units.specs.declared.frames_lookup.FramesStop.TheVariants as stops
+use Rattle.addr2line_units.specs.declared.sup.SupUnits.{SupUnits}
 use Rattle.addr2line_units.specs.declared.unit.ResUnit.{ResUnit}
 use Rattle.addr2line_units.specs.declared.unit_frames.UnitEntries.{UnitEntries}
 use Rattle.addr2line_units.specs.declared.unit_frames.UnitFrames.{UnitFrames}
@@ -133,3 +134,11 @@ stop_of_found n found.Open = Some (stops.Waits n)
 stop_of_found n (found.Here None None) = None
 stop_of_found n (found.Here function row) =
     Some (stops.Finds (record { unit = n; function = function; row = row }))
+
+-- where references to the supplementary file lead, if there is one
+abbrev pub sup_file : {R : Type 0} → SupUnits R → Option FileRecord
+sup_file sup = option_map (λ d. record { sections = d; units = sup.units.items }) sup.dwarf
+
+-- where references lead from the units of a file
+abbrev pub scope_in : {R : Type 0} → Sections → List UnitRecord → SupUnits R → Scope
+scope_in d us sup = record { file = record { sections = d; units = us }; sup = sup_file sup }

@@ -20,14 +20,14 @@ use std::alloc::Global;
 
 // Whether a fault of a unit ends a lookup.
 #[derive(Clone, Copy, Debug, PartialEq, Eq)]
-pub(crate) enum Faults {
+pub enum Faults {
     End,
     PassOver,
 }
 
 // A unit by its number, and the function and the row at an address there, as far as there are.
 #[derive(Drop)]
-pub(crate) struct FramePlace {
+pub struct FramePlace {
     pub(crate) unit: usize,
     pub(crate) function: Option<FunctionPlace>,
     pub(crate) row: Option<Row>,
@@ -35,7 +35,7 @@ pub(crate) struct FramePlace {
 
 // What a lookup comes to.
 #[derive(Drop)]
-pub(crate) enum FramesStop {
+pub enum FramesStop {
     // The unit of this number waits for an answer.
     Waits(usize),
     // A function or a location.

@@ -1,0 +1,123 @@
+//! Lookups of frames over the units of a context, and the answers to their loads.
+
+ghost use Rattle.std.specs.Prelude.{◌≡◌, ◌&&◌, ◌≤◌, IfErr, IfOk, Ok, OnOk, not, option_map, slice_get, true};
+ghost use Rattle.gimli_read.specs.declared.error.Error.TheVariants.{OutOfMemory};
+ghost use Rattle.gimli_read.specs.Reading.{ExactlyUnlessOom};
+ghost use Rattle.addr2line_lines.specs.References.{IsScope};
+ghost use Rattle.addr2line_lines.specs.SeenScope.{seen_file};
+ghost use Rattle.addr2line_units.specs.CachedLines.{HaveLinesOf, StayUnits, parsed_units};
+ghost use Rattle.addr2line_units.specs.Cover.{cover};
+ghost use Rattle.addr2line_units.specs.FramesLeft.{frames_left};
+ghost use Rattle.addr2line_units.specs.FramesLookup.{LookupAsks, asked_frames, asks_lines_of, has_many_of, holds_along, stop_along};
+ghost use Rattle.addr2line_units.specs.Indexed.{units_in};
+ghost use Rattle.addr2line_units.specs.KeptEntries.{AreFramesIn, frames_of_place};
+ghost use Rattle.addr2line_units.specs.KeptLookups.{HaveEntriesOf, IsFramePlaceIn, IsStopIn, ReadsOnly, StayAllEntries, answers_in, frames_at_place, has_frames_at, scope_in, seen_stop, sup_file};
+ghost use Rattle.addr2line_units.specs.Parsed.{IsNotOom, ParsesOnly};
+
+use crate::frame::{FrameIter, frames_of};
+use crate::frames_lookup::{Faults, FramePlace, FramesStop, find_frames_along};
+use crate::functions::FunctionPlace;
+use crate::sup::SupUnits;
+use crate::unit::{LazyLines, ResUnit};
+use crate::unit_frames::UnitEntries;
+use crate::units::ResUnits;
+use addr2line_lines::{Count, FileUnits, Row, Scope};
+use gimli::Dwarf;
+use gimli::read::{Error, Reader};
+use std::alloc::Global;
+
+impl<R: Reader> SupUnits<R> {
+    // Where references to the supplementary file lead, if there is one. Takes no memory.
+    fn file(&self) -> Option<FileUnits<'_, R>>
+        ensures gives { option_map seen_file result ≡ sup_file self.now }
+    {
+        match &self.dwarf {
+            Some(dwarf) => Some(FileUnits {
+                dwarf,
+                units: &self.units,
+            }),
+            None => None,
+        }
+    }
+}
+
+impl<R: Reader> ResUnits<R> {
+    /// What a lookup of frames comes to: the first unit among those that cover an address that
+    /// waits for an answer, that has a fault, unless faults are passed over, or that has a function
+    /// or a location. What is read of the units up to it is kept, their faults too, and nothing is
+    /// read of others.
+    ///
+    /// Refused by that fault; may fail with `OutOfMemory` instead, only where something of what is
+    /// asked for isn't kept, or there are more than 16 inlined functions.
+    pub fn find_frames(
+        &mut self,
+        alloc: Global,
+        dwarf: &Dwarf<R>,
+        sup: &SupUnits<R>,
+        looks: &mut Count,
+        probe: u64,
+        faults: Faults,
+    ) -> Result<FramesStop, Error>
+        requires in_order { IsScope (scope_in dwarf.now self.old.dw_units.items sup.now) }
+        requires read { HaveLinesOf dwarf.now self.old.dw_units.items self.old.units.items }
+        requires kept { HaveEntriesOf (scope_in dwarf.now self.old.dw_units.items sup.now)
+            self.old.dw_units.items self.old.entries.items }
+        ensures gives { ExactlyUnlessOom (seen_stop self.new.units.items self.new.entries.items)
+            result (stop_along (asked_frames faults
+            (scope_in dwarf.now self.old.dw_units.items sup.now) (units_in self.old)
+            (answers_in self.old.entries.items) probe) (cover probe self.old.ranges)) }
+        ensures there { IfOk result (IsStopIn self.new.units.items self.new.entries.items) }
+        ensures read { HaveLinesOf dwarf.now self.new.dw_units.items self.new.units.items }
+        ensures kept { HaveEntriesOf (scope_in dwarf.now self.new.dw_units.items sup.now)
+            self.new.dw_units.items self.new.entries.items }
+        ensures stay_units { StayUnits self.old.units.items self.new.units.items }
+        ensures stay { StayAllEntries self.old.entries.items self.new.entries.items }
+        ensures dw_units { self.new.dw_units.items ≡ self.old.dw_units.items }
+        ensures ranges { self.new.ranges ≡ self.old.ranges }
+        ensures only { ReadsOnly (LookupAsks (asked_frames faults
+            (scope_in dwarf.now self.old.dw_units.items sup.now) (units_in self.old)
+            (answers_in self.old.entries.items) probe) (cover probe self.old.ranges))
+            probe self.old.entries.items self.new.entries.items }
+        ensures lines { ParsesOnly (λ n. LookupAsks (asked_frames faults
+            (scope_in dwarf.now self.old.dw_units.items sup.now) (units_in self.old)
+            (answers_in self.old.entries.items) probe) (cover probe self.old.ranges) n
+            × (asks_lines_of (scope_in dwarf.now self.old.dw_units.items sup.now)
+            (units_in self.old) (answers_in self.old.entries.items) probe n ≡ true))
+            (parsed_units self.old.units.items) (parsed_units self.new.units.items) }
+        ensures ready { IsNotOom result → holds_along
+            (has_frames_at (asks_lines_of (scope_in dwarf.now self.old.dw_units.items sup.now)
+            (units_in self.old) (answers_in self.old.entries.items) probe) probe
+            (parsed_units self.new.units.items) self.new.entries.items)
+            (asked_frames faults (scope_in dwarf.now self.old.dw_units.items sup.now)
+            (units_in self.old) (answers_in self.old.entries.items) probe)
+            (cover probe self.old.ranges) ≡ true }
+        ensures memory { holds_along
+            (λ n. has_frames_at (asks_lines_of (scope_in dwarf.now self.old.dw_units.items sup.now)
+            (units_in self.old) (answers_in self.old.entries.items) probe) probe
+            (parsed_units self.new.units.items) self.new.entries.items n
+            && not (has_many_of (scope_in dwarf.now self.old.dw_units.items sup.now)
+            (units_in self.old) (answers_in self.old.entries.items) probe n))
+            (asked_frames faults (scope_in dwarf.now self.old.dw_units.items sup.now)
+            (units_in self.old) (answers_in self.old.entries.items) probe)
+            (cover probe self.old.ranges) ≡ true → IsNotOom result }
+        ensures raised { looks.old ≤ looks.new }
+    {
+        let scope = Scope {
+            file: FileUnits {
+                dwarf,
+                units: &self.dw_units,
+            },
+            sup: sup.file(),
+        };
+        find_frames_along(
+            alloc,
+            scope,
+            &mut self.units,
+            &mut self.entries,
+            self.ranges.find(probe),
+            looks,
+            probe,
+            faults,
+        )
+    }
+}

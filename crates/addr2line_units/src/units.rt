@@ -6,6 +6,7 @@ ghost use Rattle.gimli_read.specs.Reading.{Exactly, ExactlyUnlessOom, ExactlyUnl
 ghost use Rattle.addr2line_units.specs.UnitIndex.{range_of_unit, unit_of_header};
 ghost use Rattle.addr2line_units.specs.Indexed.{index_seen, index_takes_memory, indexed, indexed_with, no_index, ranged_seen, unit_takes_memory, units_in, units_seen, units_take_memory, with_header, with_ranged};
 ghost use Rattle.addr2line_units.specs.CachedLines.{HaveLinesOf, IsUnparsed, StayUnits, cached_files, location_at_place, parsed_units};
+ghost use Rattle.addr2line_units.specs.KeptLookups.{AreFreshOf};
 ghost use Rattle.addr2line_units.specs.LocationsLeft.{locations_left};
 ghost use Rattle.addr2line_units.specs.Located.{all_lines, along, is_found, lines_fault, looks_along};
 ghost use Rattle.addr2line_units.specs.Parsed.{AllAskFor, AreAllParsed, AreParsed, AreReadyForAll, AsksFor, IsNotOom, LeadTo, ParsesOnly, ready_along};
@@ -20,6 +21,7 @@ use crate::lookup::{cache_lines_along, find_place_along, read_all_lines};
 use crate::place::Place;
 use crate::range::LocationRangeIter;
 use crate::unit::{LazyLines, ResUnit, is_type_unit, read_ranged_unit};
+use crate::unit_frames::UnitEntries;
 use addr2line_lines::{Count, Location, Row};
 use gimli::read::{Error, Range, Reader};
 use gimli::{AbbreviationsCache, Dwarf, Unit, UnitHeader};
@@ -32,6 +34,8 @@ pub struct ResUnits<R: Reader> {
     pub dw_units: Vec<Unit<R>>,
     /// What is kept of each, in the same order.
     pub units: Vec<ResUnit>,
+    // What is kept of the entries of each, in the same order.
+    pub(crate) entries: Vec<UnitEntries<R>>,
     /// The ranges that lead to them.
     pub ranges: UnitRanges,
 }
@@ -41,6 +45,7 @@ pub struct ResUnits<R: Reader> {
 struct Index<R: Reader> {
     dw_units: Vec<Unit<R>>,
     units: Vec<ResUnit>,
+    entries: Vec<UnitEntries<R>>,
     ranges: Vec<UnitRange>,
 }
 
@@ -105,10 +110,12 @@ impl<R: Reader> Index<R> {
         ensures none { index_seen result ≡ no_index }
         ensures dw_units { result.dw_units.items ≡ [] }
         ensures units { result.units.items ≡ [] }
+        ensures fresh { AreFreshOf result.dw_units.items result.entries.items }
     {
         Index {
             dw_units: Vec::new(alloc),
             units: Vec::new(alloc),
+            entries: Vec::new(alloc),
             ranges: Vec::new(alloc),
         }
     }
@@ -124,16 +131,20 @@ impl<R: Reader> Index<R> {
     ) -> Result<(), Error>
         requires unparsed { IsUnparsed dwarf.now dw_unit unit }
         requires read { HaveLinesOf dwarf.now self.old.dw_units.items self.old.units.items }
+        requires fresh { AreFreshOf self.old.dw_units.items self.old.entries.items }
         ensures gives { OnOk result (index_seen self.new ≡ with_ranged dwarf.now
             (index_seen self.old) (ranged_seen dw_unit unit given.items)) }
         ensures read { OnOk result
             (HaveLinesOf dwarf.now self.new.dw_units.items self.new.units.items) }
+        ensures fresh { OnOk result
+            (AreFreshOf self.new.dw_units.items self.new.entries.items) }
         ensures refused { IfErr result (λ e. e ≡ OutOfMemory) }
     {
         let ranges = unit.or_line_ranges(alloc, dwarf, &dw_unit, given)?;
         push_ranges(&mut self.ranges, self.units.len(), &ranges)?;
         self.dw_units.push(dw_unit)?;
         self.units.push(unit)?;
+        self.entries.push(UnitEntries::new())?;
         Ok(())
     }
 
@@ -148,12 +159,15 @@ impl<R: Reader> Index<R> {
     ) -> Result<(), Error>
         requires same { abbreviations.old.dwarf ≡ dwarf.now }
         requires read { HaveLinesOf dwarf.now self.old.dw_units.items self.old.units.items }
+        requires fresh { AreFreshOf self.old.dw_units.items self.old.entries.items }
         ensures gives { ExactlyUnlessOomIf (unit_takes_memory dwarf.now header)
             (λ _. index_seen self.new) result
             (with_header dwarf.now aranges.now (index_seen self.old) header) }
         ensures same { abbreviations.new.dwarf ≡ dwarf.now }
         ensures read { OnOk result
             (HaveLinesOf dwarf.now self.new.dw_units.items self.new.units.items) }
+        ensures fresh { OnOk result
+            (AreFreshOf self.new.dw_units.items self.new.entries.items) }
     {
         let read = read_unit(alloc, dwarf, abbreviations, aranges, header)?;
         if let Some((dw_unit, unit, given)) = read {
@@ -172,6 +186,7 @@ fn read_units<R: Reader>(
     ensures gives { ExactlyUnlessOomIf (units_take_memory R.shares dwarf.now) index_seen result
         (indexed_with dwarf.now aranges.now) }
     ensures read { IfOk result (λ i. HaveLinesOf dwarf.now i.dw_units.items i.units.items) }
+    ensures fresh { IfOk result (λ i. AreFreshOf i.dw_units.items i.entries.items) }
 {
     let mut headers = dwarf.units()?;
     let mut abbreviations = AbbreviationsCache::new(alloc, dwarf);
@@ -200,17 +215,20 @@ impl<R: Reader> ResUnits<R> {
         ensures gives { ExactlyUnlessOomIf (index_takes_memory R.shares dwarf.now) units_seen result
             (indexed dwarf.now) }
         ensures read { IfOk result (λ u. HaveLinesOf dwarf.now u.dw_units.items u.units.items) }
+        ensures fresh { IfOk result (λ u. AreFreshOf u.dw_units.items u.entries.items) }
     {
         let aranges = UnitAranges::parse(alloc, &dwarf.debug_aranges)?;
         let Index {
             dw_units,
             units,
+            entries,
             ranges,
         } = read_units(alloc, dwarf, &aranges)?;
         let ranges = UnitRanges::new(alloc, ranges)?;
         Ok(ResUnits {
             dw_units,
             units,
+            entries,
             ranges,
         })
     }
@@ -252,6 +270,7 @@ impl<R: Reader> ResUnits<R> {
         ensures last { probe ≡ 2 ^ 64 - 1 → result ≡ Ok None }
         ensures stay { StayUnits self.old.units.items self.new.units.items }
         ensures dw_units { self.new.dw_units.items ≡ self.old.dw_units.items }
+        ensures entries { self.new.entries.items ≡ self.old.entries.items }
         ensures ranges { self.new.ranges ≡ self.old.ranges }
         ensures read { HaveLinesOf dwarf.now self.new.dw_units.items self.new.units.items }
         ensures cost { looks.new ≤ looks.old + looks_along dwarf.now
@@ -303,6 +322,7 @@ impl<R: Reader> ResUnits<R> {
         ensures refused { IfErr result (λ e. e ≡ OutOfMemory) }
         ensures stay { StayUnits self.old.units.items self.new.units.items }
         ensures dw_units { self.new.dw_units.items ≡ self.old.dw_units.items }
+        ensures entries { self.new.entries.items ≡ self.old.entries.items }
         ensures ranges { self.new.ranges ≡ self.old.ranges }
         ensures read { HaveLinesOf dwarf.now self.new.dw_units.items self.new.units.items }
     {
@@ -344,6 +364,7 @@ impl<R: Reader> ResUnits<R> {
             (parsed_units self.old.units.items) (parsed_units self.new.units.items) }
         ensures stay { StayUnits self.old.units.items self.new.units.items }
         ensures dw_units { self.new.dw_units.items ≡ self.old.dw_units.items }
+        ensures entries { self.new.entries.items ≡ self.old.entries.items }
         ensures ranges { self.new.ranges ≡ self.old.ranges }
         ensures read { HaveLinesOf dwarf.now self.new.dw_units.items self.new.units.items }
     {

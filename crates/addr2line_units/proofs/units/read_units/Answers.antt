@@ -17,6 +17,7 @@ loop-index-init g c =
       some = λ e. some_headers g.R.Reader.shares (unit_takes_memory d) d (ap (some_take_memory (unit_takes_memory d)) (sym all) ∙ e);
       same = search rules;
       read = rw (c.new-index.ensures.dw_units, c.new-index.ensures.units) tt;
+      fresh = c.new-index.ensures.fresh;
     }
 
 pub loop-index-smaller : goal.loop-index-smaller
@@ -33,6 +34,7 @@ loop-index-preserved g c =
       some = λ e. i.some (takes_rest (unit_takes_memory c.args.dwarf.now) _ _ _ left e);
       same = c.in_ok-take.ensures.same;
       read = c.in_ok-take.ensures.read;
+      fresh = c.in_ok-take.ensures.fresh;
     }
 
 pub returns-in_err-take-clause-gives : goal.returns-in_err-take-clause-gives

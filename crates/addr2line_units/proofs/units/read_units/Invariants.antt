@@ -2,6 +2,7 @@ use Rattle.std.proofs.Common.{◌≡◌, Ok, length, true}
 use Rattle.gimli_read.specs.Reading.{◌>>=◌}
 use Rattle.addr2line_units.specs.CachedLines.{HaveLinesOf}
 use Rattle.addr2line_units.specs.Indexed.{appended, index_seen, indexed_with, some_take_memory, unit_takes_memory, units_take_memory}
+use Rattle.addr2line_units.specs.KeptLookups.{AreFreshOf}
 use Rattle.addr2line_units.specs.UnitIndex.{unit_of_header, units_of}
 use Rattle.addr2line_units.proofs.units.read_units.Given as goal
 
@@ -13,6 +14,7 @@ invariant-loop-index g l =
       some : some_take_memory (unit_takes_memory d) l.headers ≡ true → units_take_memory g.R.Reader.shares d ≡ true;
       same : l.abbreviations.dwarf ≡ d;
       read : HaveLinesOf d l.index.dw_units.items l.index.units.items;
+      fresh : AreFreshOf l.index.dw_units.items l.index.entries.items;
     }
 
 abbrev pub decreases-loop-index : goal.decreases-loop-index

@@ -3,6 +3,7 @@ use Rattle.gimli_read.specs.declared.error.Error.{Error}
 use Rattle.gimli_read.specs.declared.range.Range.{Range}
 use Rattle.addr2line_units.specs.Indexed.{ranged_seen}
 use Rattle.addr2line_units.specs.UnitIndex.{range_of_unit, unit_ranges}
+use Rattle.addr2line_units.proofs.ScopeLemmas.{fresh_push}
 use Rattle.addr2line_units.proofs.UnitsLemmas.{own_push, pushed}
 use Rattle.addr2line_units.proofs.units.Index.push.Goals as goal
 
@@ -27,3 +28,8 @@ returns-clause-gives g c =
     ∙ ap (λ n. before ++ map (range_of_unit n) (unit_ranges d ranged)) count in
     let more = pushed d c.args.self.now.dw_units.items c.args.self.now.units.items c.args.dw_unit c.args.unit c.or_line_ranges.new.self c.args.given.items before c.push_ranges.new.unit_ranges.items c.requires.read c.in_ok-ranges.ensures.lang c.in_ok-ranges.ensures.parsed ranges in
     rw (c.in_ok-push.ensures.items, c.in_ok-push-2.ensures.items) more
+
+pub returns-clause-fresh : goal.returns-clause-fresh
+returns-clause-fresh g c =
+    let fresh = fresh_push c.args.self.now.dw_units.items c.args.self.now.entries.items c.args.dw_unit c.new.result c.requires.fresh c.new.ensures.fresh in
+    rw (c.in_ok-push.ensures.items, c.in_ok-push-3.ensures.items) fresh

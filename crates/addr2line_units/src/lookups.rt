@@ -1,6 +1,6 @@
 //! Lookups of frames over the units of a context, and the answers to their loads.
 
-ghost use Rattle.std.specs.Prelude.{◌≡◌, ◌&&◌, ◌≤◌, IfErr, IfOk, Ok, OnOk, not, option_map, slice_get, true};
+ghost use Rattle.std.specs.Prelude.{◌≡◌, ◌&&◌, ◌≤◌, IfErr, IfOk, IfSome, Ok, OnOk, length, not, option_map, slice_get, true};
 ghost use Rattle.gimli_read.specs.declared.error.Error.TheVariants.{OutOfMemory};
 ghost use Rattle.gimli_read.specs.Reading.{ExactlyUnlessOom};
 ghost use Rattle.addr2line_lines.specs.References.{IsScope};
@@ -10,7 +10,11 @@ ghost use Rattle.addr2line_units.specs.Cover.{cover};
 ghost use Rattle.addr2line_units.specs.FramesLeft.{frames_left};
 ghost use Rattle.addr2line_units.specs.FramesLookup.{LookupAsks, asked_frames, asks_lines_of, has_many_of, holds_along, stop_along};
 ghost use Rattle.addr2line_units.specs.Indexed.{units_in};
-ghost use Rattle.addr2line_units.specs.KeptEntries.{AreFramesIn, frames_of_place};
+ghost use Rattle.addr2line_lines.specs.Location.{location_of_row};
+ghost use Rattle.addr2line_units.specs.CachedLines.{cached_files};
+ghost use Rattle.addr2line_units.specs.Frames.{found_frames};
+ghost use Rattle.addr2line_units.specs.KeptEntries.{AreRead};
+ghost use Rattle.addr2line_units.specs.KeptFunctions.{IsPlaceIn, function_of_place, kept_functions};
 ghost use Rattle.addr2line_units.specs.KeptLookups.{HaveEntriesOf, IsFramePlaceIn, IsStopIn, ReadsOnly, StayAllEntries, answers_in, frames_at_place, has_frames_at, scope_in, seen_stop, sup_file};
 ghost use Rattle.addr2line_units.specs.Parsed.{IsNotOom, ParsesOnly};
 
@@ -38,6 +42,46 @@ impl<R: Reader> SupUnits<R> {
             }),
             None => None,
         }
+    }
+}
+
+// The frames of the function and the row at an address in a unit, by what is kept. Takes no memory.
+fn frames_in_unit<'ctx, R: Reader>(
+    unit: &'ctx ResUnit,
+    entries: &'ctx UnitEntries<R>,
+    function: Option<FunctionPlace>,
+    row: Option<Row>,
+) -> FrameIter<'ctx, R>
+    requires function { IfSome function (IsPlaceIn (kept_functions entries.now.functions)) }
+    requires read { AreRead unit.now.lines }
+    ensures gives { frames_left result ≡ found_frames (cached_files unit.now.lines) unit.now.lang
+        (option_map (function_of_place (kept_functions entries.now.functions)) function)
+        (option_map (location_of_row (cached_files unit.now.lines)) row) }
+{
+    let LazyLines::Read(lines) = &unit.lines else {
+        return FrameIter::new_empty();
+    };
+    let location = match row {
+        Some(row) => Some(lines.location(row)),
+        None => None,
+    };
+    frames_of(&entries.functions, function, lines, unit.lang, location)
+}
+
+impl<R: Reader> ResUnits<R> {
+    /// The frames of a place, by what is kept. Takes no memory.
+    pub fn frames(&self, place: FramePlace) -> FrameIter<'_, R>
+        requires there { IsFramePlaceIn self.now.units.items self.now.entries.items place }
+        requires beside { length self.now.entries.items ≡ length self.now.units.items }
+        ensures gives { frames_left result
+            ≡ frames_at_place self.now.units.items self.now.entries.items place }
+    {
+        let FramePlace {
+            unit,
+            function,
+            row,
+        } = place;
+        frames_in_unit(&self.units[unit], &self.entries[unit], function, row)
     }
 }
 

@@ -1,19 +1,22 @@
 -- Answers to the loads of units, and what is kept of their entries (on specs/KeptEntries.antt).
-use Rattle.std.proofs.Common.{◌≡◌, ℕ, Bool, true, false, Option, Some, None, Result, Ok, Err, ap, refl, sym, ◌∙◌}
-use Rattle.std.specs.Prelude.{IfErr, IfOk, IfSome, is_none, is_some, if◌then◌else◌}
+use Rattle.std.proofs.Common.{◌≡◌, ℕ, zero, suc, ◌<◌, Bool, true, false, List, [], ◌∷◌, length, get_or, map, slice_get, arith, subst, Option, Some, None, Result, Ok, Err, ap, refl, sym, ◌∙◌}
+use Rattle.std.proofs.Math.ListN.{set}
+use Rattle.std.specs.Prelude.{IfErr, IfOk, IfSome, OnOk, is_none, is_some, if◌then◌else◌}
 use Rattle.gimli_read.specs.declared.error.Error.{Error}
 use Rattle.gimli_read.specs.declared.error.Error.TheVariants.{OutOfMemory}
 use Rattle.gimli.specs.Sections.{Sections}
 use Rattle.gimli.specs.Unit.{UnitRecord}
-use Rattle.addr2line_lines.specs.References.{Scope}
+use Rattle.addr2line_lines.specs.References.{FileRecord, Scope}
 use Rattle.addr2line_units.specs.declared.functions.LazyFunctions.{LazyFunctions}
 use Rattle.addr2line_units.specs.declared.functions.LazyFunctions.TheVariants as lazy
 use Rattle.addr2line_units.specs.declared.unit_frames.UnitEntries.{UnitEntries}
 use Rattle.addr2line_units.specs.declared.view.UnitView.{UnitView}
 use Rattle.addr2line_units.specs.declared.view.ViewState.{ViewState}
 use Rattle.addr2line_units.specs.declared.view.ViewState.TheVariants as states
+use Rattle.addr2line_units.specs.FramesLookup.{answer_of, with_answer}
 use Rattle.addr2line_units.specs.KeptEntries.{AreEntriesOf, kept_answer}
 use Rattle.addr2line_units.specs.KeptFunctions.{AreFunctionsOf, were_read}
+use Rattle.addr2line_units.specs.KeptLookups.{HaveEntriesOf, answers_in}
 use Rattle.addr2line_units.specs.KeptViews.{IsViewOf, is_decided, seen_answer, verdict_in, waits, was_looked_at}
 use Rattle.addr2line_units.specs.Views.{View, decided_answer, is_open, verdict, view_scope}
 
@@ -100,3 +103,77 @@ pub never_waits : {R : Type 0} (v w : UnitEntries R) (b : Bool) → is_decided v
 never_waits v w b h same e t =
     let f : waits w.view.state ≡ false = ap (λ x. waits x.view.state) (same (decided_was_looked_at v.view.state h)) ∙ decided_waits_not v.view.state h in
     let k : true ≡ false = sym t ∙ e ∙ f in cc
+
+-- beside each unit stands what is kept of its entries
+pub as_many_entries : {R : Type 0} (scope : Scope) (us : List UnitRecord) (vs : List (UnitEntries R)) → HaveEntriesOf scope us vs → length us ≡ length vs
+as_many_entries scope [] [] h = refl
+as_many_entries scope [] (v ∷ vs) h = absurd h
+as_many_entries scope (u ∷ us) [] h = absurd h
+as_many_entries scope (u ∷ us) (v ∷ vs) h = ap suc (as_many_entries scope us vs h.1)
+
+-- what is kept of the entries of the unit of a number is its own
+pub entries_at : {R : Type 0} (scope : Scope) (us : List UnitRecord) (vs : List (UnitEntries R)) (n : ℕ) (u : UnitRecord) (v : UnitEntries R) → n < length us → u ≡ get_or us n u → v ≡ get_or vs n v
+    → HaveEntriesOf scope us vs → AreEntriesOf scope u v
+entries_at scope [] vs n u v h e f own = absurd (omega arith)
+entries_at scope (x ∷ us) [] n u v h e f own = absurd own
+entries_at {R} scope (x ∷ us) (y ∷ vs) zero u v h e f own = subst (λ w. AreEntriesOf scope u w) (sym f) (subst (λ w. AreEntriesOf {R = R} scope w y) (sym e) own.0)
+entries_at scope (x ∷ us) (y ∷ vs) (suc n) u v h e f own = entries_at scope us vs n u v (omega arith) e f own.1
+
+pub entries_set : {R : Type 0} (scope : Scope) (us : List UnitRecord) (vs : List (UnitEntries R)) (n : ℕ) (u : UnitRecord) (w : UnitEntries R) → u ≡ get_or us n u → HaveEntriesOf scope us vs
+    → AreEntriesOf scope u w → HaveEntriesOf scope us (set vs n w)
+entries_set scope [] [] n u w e own new = tt
+entries_set scope [] (y ∷ vs) n u w e own new = absurd own
+entries_set scope (x ∷ us) [] n u w e own new = absurd own
+entries_set {R} scope (x ∷ us) (y ∷ vs) zero u w e own new = (subst (λ z. AreEntriesOf {R = R} scope z w) e new, own.1)
+entries_set scope (x ∷ us) (y ∷ vs) (suc n) u w e own new = (own.0, entries_set scope us vs n u w e own.1 new)
+
+-- the first answer of the unit of a number
+pub answer_at : {R : Type 0} (vs : List (UnitEntries R)) (n : ℕ) (v : UnitEntries R) → n < length vs → v ≡ get_or vs n v → answer_of (answers_in vs) n ≡ kept_answer v
+answer_at [] n v h e = absurd (omega arith)
+answer_at (y ∷ vs) zero v h e = ap kept_answer (sym e)
+answer_at (y ∷ vs) (suc n) v h e = answer_at vs n v (omega arith) e
+
+pub answers_set : {R : Type 0} (vs : List (UnitEntries R)) (n : ℕ) (w : UnitEntries R) → answers_in (set vs n w) ≡ set (answers_in vs) n (kept_answer w)
+answers_set [] n w = refl
+answers_set (y ∷ vs) zero w = refl
+answers_set (y ∷ vs) (suc n) w = ap (λ xs. kept_answer y ∷ xs) (answers_set vs n w)
+
+-- answers stay where that of one unit is set to what it was
+pub answers_stay : {R : Type 0} (vs : List (UnitEntries R)) (n : ℕ) (v w : UnitEntries R) → n < length vs → v ≡ get_or vs n v → kept_answer w ≡ kept_answer v → answers_in (set vs n w) ≡ answers_in vs
+answers_stay [] n v w h e k = absurd (omega arith)
+answers_stay (y ∷ vs) zero v w h e k = ap (λ x. x ∷ answers_in vs) (k ∙ ap kept_answer e)
+answers_stay (y ∷ vs) (suc n) v w h e k = ap (λ xs. kept_answer y ∷ xs) (answers_stay vs n v w (omega arith) e k)
+
+pub got_unit : (us : List UnitRecord) (n : ℕ) (u : UnitRecord) → n < length us → u ≡ get_or us n u → slice_get us n ≡ Some u
+got_unit [] n u h e = absurd (omega arith)
+got_unit (x ∷ us) zero u h e = ap Some (sym e)
+got_unit (x ∷ us) (suc n) u h e = got_unit us n u (omega arith) e
+
+-- the answers of all units after one more of one unit
+pub answered_all : {R : Type 0} (d : Sections) (us : List UnitRecord) (vs : List (UnitEntries R)) (n : ℕ) (u : UnitRecord) (v w : UnitEntries R) (given : Option Sections) → n < length us → n < length vs
+    → u ≡ get_or us n u → v ≡ get_or vs n v → kept_answer w ≡ decided_answer d u (kept_answer v) given → answers_in (set vs n w) ≡ with_answer d us (answers_in vs) n given
+answered_all d us vs n u v w given h k e f new =
+    answers_set vs n w
+    ∙ ap (λ a. set (answers_in vs) n a) (new ∙ ap (λ a. decided_answer d u a given) (sym (answer_at vs n v k f)))
+    ∙ sym (ap (λ o. answers_by o) (got_unit us n u h e))
+  where
+    answers_by : Option UnitRecord → List (Option (Option Sections))
+    answers_by o = elim o [ None ↦ answers_in vs | Some x ↦ set (answers_in vs) n (decided_answer d x (answer_of (answers_in vs) n) given) ]
+
+-- where references lead is the same by equal lists of units and equal supplementary files
+pub in_same_scope : {R : Type 0} (d : Sections) (us vs : List UnitRecord) (f h : Option FileRecord) (u : UnitRecord) (v : UnitEntries R) → us ≡ vs → f ≡ h
+    → AreEntriesOf (record { file = record { sections = d; units = us }; sup = f }) u v → AreEntriesOf (record { file = record { sections = d; units = vs }; sup = h }) u v
+in_same_scope {R} d us vs f h u v e k own =
+    subst (λ x. AreEntriesOf {R = R} (record { file = record { sections = d; units = vs }; sup = x }) u v) k
+    (subst (λ xs. AreEntriesOf {R = R} (record { file = record { sections = d; units = xs }; sup = f }) u v) e own)
+
+-- the same after a call that may be refused
+pub answered_if_ok : {R : Type 0} (d : Sections) (us : List UnitRecord) (vs : List (UnitEntries R)) (n : ℕ) (u : UnitRecord) (v w : UnitEntries R) (given : Option Sections) (r : Result (Unit {0}) Error)
+    → n < length us → n < length vs → u ≡ get_or us n u → v ≡ get_or vs n v → OnOk r (kept_answer w ≡ decided_answer d u (kept_answer v) given) → OnOk r (answers_in (set vs n w) ≡ with_answer d us (answers_in vs) n given)
+answered_if_ok d us vs n u v w given (Ok x) h k e f new = answered_all d us vs n u v w given h k e f new
+answered_if_ok d us vs n u v w given (Err x) h k e f new = tt
+
+pub answers_if_refused : {R : Type 0} (vs : List (UnitEntries R)) (n : ℕ) (v w : UnitEntries R) (r : Result (Unit {0}) Error) → n < length vs → v ≡ get_or vs n v
+    → IfErr r (λ e. (e ≡ OutOfMemory) × (kept_answer w ≡ kept_answer v)) → IfErr r (λ e. (e ≡ OutOfMemory) × (answers_in (set vs n w) ≡ answers_in vs))
+answers_if_refused vs n v w (Ok x) h e same = tt
+answers_if_refused vs n v w (Err x) h e same = (same.0, answers_stay vs n v w h e same.1)

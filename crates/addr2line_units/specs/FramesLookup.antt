@@ -1,10 +1,11 @@
 -- Lookups of frames along the ranges that hold an address (DWARF 5, sections 2.17 and 3.3).
 -- Own: the units are asked one after another: the first that waits for an answer, that has a fault,
 -- or that has frames ends the lookup. A lookup of a unit passes over each unit with a fault.
-use Rattle.std.specs.Prelude.{◌≡◌, ◌⊎◌, ℕ, Bool, true, false, ◌&&◌, ◌||◌, List, [], ◌∷◌, slice_get, Option, Some, None, option_map, unwrap_or, Result, Ok, Err}
+use Rattle.std.specs.Prelude.{◌≡◌, ◌⊎◌, ℕ, Bool, true, false, ◌&&◌, ◌||◌, List, [], ◌∷◌, set, slice_get, Option, Some, None, option_map, unwrap_or, Result, Ok, Err}
 use Rattle.gimli_read.specs.declared.error.Error.{Error}
 use Rattle.gimli_read.specs.Reading.{◌>>=◌}
 use Rattle.gimli.specs.Sections.{Sections, SupSections}
+use Rattle.gimli.specs.Unit.{UnitRecord}
 use Rattle.addr2line_lines.specs.References.{FileRecord, Scope}
 use Rattle.addr2line_units.specs.declared.index.UnitRange.{UnitRange}
 use Rattle.addr2line_units.specs.declared.frames_lookup.Faults.{Faults}
@@ -12,6 +13,7 @@ use Rattle.addr2line_units.specs.declared.frames_lookup.Faults.TheVariants.{End,
 use Rattle.addr2line_units.specs.Frames.{FrameRecord}
 use Rattle.addr2line_units.specs.UnitFrames.{asks_lines_in, frames_in, has_many}
 use Rattle.addr2line_units.specs.UnitIndex.{IndexedUnit, UnitIndex, sup_sections, unit_records}
+use Rattle.addr2line_units.specs.Views.{decided_answer}
 
 -- where references lead from a unit of a context
 abbrev pub main_scope : Sections → UnitIndex → Scope
@@ -95,3 +97,11 @@ asks_lines_of scope units answers probe n = elim (slice_get units n)
 abbrev pub has_many_of : Scope → List IndexedUnit → List (Option (Option Sections)) → ℕ → ℕ → Bool
 has_many_of scope units answers probe n = elim (slice_get units n)
     [ None ↦ false | Some u ↦ has_many scope u.unit (answer_of answers n) probe ]
+
+-- the first answers with one to the load of the unit of a number, which counts where it is open
+abbrev pub with_answer : Sections → List UnitRecord → List (Option (Option Sections)) → ℕ
+    → Option Sections → List (Option (Option Sections))
+with_answer d us answers n given = elim (slice_get us n) [
+  | None ↦ answers
+  | Some u ↦ set answers n (decided_answer d u (answer_of answers n) given)
+]

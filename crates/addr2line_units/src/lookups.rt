@@ -1,6 +1,6 @@
 //! Lookups of frames over the units of a context, and the answers to their loads.
 
-ghost use Rattle.std.specs.Prelude.{◌≡◌, ◌&&◌, ◌≤◌, IfErr, IfOk, IfSome, Ok, OnOk, length, not, option_map, slice_get, true};
+ghost use Rattle.std.specs.Prelude.{◌≡◌, ◌&&◌, ◌<◌, ◌≤◌, None, set, IfErr, IfOk, IfSome, Ok, OnOk, length, not, option_map, slice_get, true};
 ghost use Rattle.gimli_read.specs.declared.error.Error.TheVariants.{OutOfMemory};
 ghost use Rattle.gimli_read.specs.Reading.{ExactlyUnlessOom};
 ghost use Rattle.addr2line_lines.specs.References.{IsScope};
@@ -8,7 +8,7 @@ ghost use Rattle.addr2line_lines.specs.SeenScope.{seen_file};
 ghost use Rattle.addr2line_units.specs.CachedLines.{HaveLinesOf, StayUnits, parsed_units};
 ghost use Rattle.addr2line_units.specs.Cover.{cover};
 ghost use Rattle.addr2line_units.specs.FramesLeft.{frames_left};
-ghost use Rattle.addr2line_units.specs.FramesLookup.{LookupAsks, asked_frames, asks_lines_of, has_many_of, holds_along, stop_along};
+ghost use Rattle.addr2line_units.specs.FramesLookup.{LookupAsks, asked_frames, asks_lines_of, has_many_of, holds_along, stop_along, with_answer};
 ghost use Rattle.addr2line_units.specs.Indexed.{units_in};
 ghost use Rattle.addr2line_lines.specs.Location.{location_of_row};
 ghost use Rattle.addr2line_units.specs.CachedLines.{cached_files};
@@ -29,6 +29,7 @@ use addr2line_lines::{Count, FileUnits, Row, Scope};
 use gimli::Dwarf;
 use gimli::read::{Error, Reader};
 use std::alloc::Global;
+use std::rc::Rc;
 
 impl<R: Reader> SupUnits<R> {
     // Where references to the supplementary file lead, if there is one. Takes no memory.
@@ -163,5 +164,69 @@ impl<R: Reader> ResUnits<R> {
             probe,
             faults,
         )
+    }
+}
+
+impl<R: Reader> ResUnits<R> {
+    /// Decides the unit of a number by an answer to its load if it is open, and else leaves it as
+    /// it is.
+    ///
+    /// Refused `OutOfMemory` alone; then all first answers are as before.
+    pub fn answer(
+        &mut self,
+        alloc: Global,
+        dwarf: &Dwarf<R>,
+        sup: &SupUnits<R>,
+        number: usize,
+        sections: Option<Rc<Dwarf<R>>>,
+    ) -> Result<(), Error>
+        requires kept { HaveEntriesOf (scope_in dwarf.now self.old.dw_units.items sup.now)
+            self.old.dw_units.items self.old.entries.items }
+        requires there { number < length self.old.dw_units.items }
+        ensures kept { HaveEntriesOf (scope_in dwarf.now self.new.dw_units.items sup.now)
+            self.new.dw_units.items self.new.entries.items }
+        ensures answers { OnOk result (answers_in self.new.entries.items
+            ≡ with_answer dwarf.now self.old.dw_units.items (answers_in self.old.entries.items)
+            number (option_map (λ d. d.value) sections)) }
+        ensures refused { IfErr result (λ e. (e ≡ OutOfMemory)
+            × (answers_in self.new.entries.items ≡ answers_in self.old.entries.items)) }
+        ensures dw_units { self.new.dw_units.items ≡ self.old.dw_units.items }
+        ensures units { self.new.units.items ≡ self.old.units.items }
+        ensures ranges { self.new.ranges ≡ self.old.ranges }
+    {
+        let scope = Scope {
+            file: FileUnits {
+                dwarf,
+                units: &self.dw_units,
+            },
+            sup: sup.file(),
+        };
+        let entries = &mut self.entries[number];
+        entries.answer(alloc, scope, &self.dw_units[number], sections)
+    }
+
+    /// Takes the answer to the load of the unit of a number back, if there is one, with what was
+    /// read of its view; its lines stay. Takes no memory.
+    pub fn forget(&mut self, dwarf: &Dwarf<R>, sup: &SupUnits<R>, number: usize)
+        requires kept { HaveEntriesOf (scope_in dwarf.now self.old.dw_units.items sup.now)
+            self.old.dw_units.items self.old.entries.items }
+        requires there { number < length self.old.dw_units.items }
+        ensures kept { HaveEntriesOf (scope_in dwarf.now self.new.dw_units.items sup.now)
+            self.new.dw_units.items self.new.entries.items }
+        ensures answers { answers_in self.new.entries.items
+            ≡ set (answers_in self.old.entries.items) number None }
+        ensures dw_units { self.new.dw_units.items ≡ self.old.dw_units.items }
+        ensures units { self.new.units.items ≡ self.old.units.items }
+        ensures ranges { self.new.ranges ≡ self.old.ranges }
+    {
+        let scope = Scope {
+            file: FileUnits {
+                dwarf,
+                units: &self.dw_units,
+            },
+            sup: sup.file(),
+        };
+        let entries = &mut self.entries[number];
+        entries.forget(scope, &self.dw_units[number]);
     }
 }

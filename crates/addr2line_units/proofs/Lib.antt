@@ -15,3 +15,4 @@ pub mod KeptFunctionLemmas
 pub mod ViewLemmas
 pub mod AnswerLemmas
 pub mod ScopeLemmas
+pub mod WaitLemmas

@@ -1,6 +1,6 @@
 -- What is kept of all units of a context, and what lookups of frames find in it, as the private
 -- functions see it.
-use Rattle.std.specs.Prelude.{◌≡◌, ◌<◌, ◌⊎◌, ℕ, Bool, true, ◌&&◌, ◌||◌, not, length, List, [], ◌∷◌, map, Option, Some, None, IfSome, option_map, slice_get, unwrap_or, Result, Ok, Err}
+use Rattle.std.specs.Prelude.{◌≡◌, ◌<◌, ◌⊎◌, ℕ, Bool, true, false, ◌&&◌, ◌||◌, not, length, List, [], ◌∷◌, map, Option, Some, None, IfSome, option_map, slice_get, unwrap_or, Result, Ok, Err}
 use Rattle.gimli_read.specs.declared.constants.DwLang.{DwLang}
 use Rattle.gimli_read.specs.declared.error.Error.{Error}
 use Rattle.gimli_read.specs.declared.error.Error.TheVariants.{OutOfMemory}
@@ -23,6 +23,7 @@ use Rattle.addr2line_units.specs.CachedLines.{cached_files, lines_at}
 use Rattle.addr2line_units.specs.Frames.{FrameRecord, found_frames}
 use Rattle.addr2line_units.specs.FramesLookup.{Stop, Waits, Finds, FindsNothing}
 use Rattle.addr2line_units.specs.KeptFunctions.{IsPlaceIn, function_of_place, kept_functions, no_functions}
+use Rattle.addr2line_units.specs.KeptViews.{IsViewOf, waits}
 use Rattle.addr2line_units.specs.Parsed.{has_parsed}
 use Rattle.addr2line_units.specs.KeptEntries.{AreEntriesOf, AreFresh, AreRead, ReadsEntriesOf, StayEntries, has_entries, kept_answer}
 
@@ -31,6 +32,12 @@ abbrev pub HaveEntriesOf : {R : Type 0} → Scope → List UnitRecord → List (
 HaveEntriesOf scope [] [] = Unit {0}
 HaveEntriesOf scope (u ∷ us) (v ∷ vs) = AreEntriesOf scope u v × HaveEntriesOf scope us vs
 HaveEntriesOf scope _ _ = ⊥
+
+-- beside each unit stands what is kept of its view
+abbrev pub HaveViewsOf : {R : Type 0} → Sections → List UnitRecord → List (UnitEntries R) → Type 0
+HaveViewsOf d [] [] = Unit {0}
+HaveViewsOf d (u ∷ us) (v ∷ vs) = IsViewOf d u v.view × HaveViewsOf d us vs
+HaveViewsOf d _ _ = ⊥
 
 -- nobody has asked for any entries yet
 abbrev pub AreFreshOf : {R : Type 0} → List UnitRecord → List (UnitEntries R) → Type 0
@@ -142,3 +149,12 @@ sup_file sup = option_map (λ d. record { sections = d; units = sup.units.items 
 -- where references lead from the units of a file
 abbrev pub scope_in : {R : Type 0} → Sections → List UnitRecord → SupUnits R → Scope
 scope_in d us sup = record { file = record { sections = d; units = us }; sup = sup_file sup }
+
+-- whether the unit of a number was looked at and waits for an answer
+abbrev pub waits_at : {R : Type 0} → List (UnitEntries R) → ℕ → Bool
+waits_at views n = unwrap_or (option_map (λ v. waits v.view.state) (slice_get views n)) false
+
+-- the unit that a lookup waits for does
+abbrev pub WaitsIn : {R : Type 0} → List (UnitEntries R) → FramesStop → Type 0
+WaitsIn views (stops.Waits n) = waits_at views n ≡ true
+WaitsIn views _ = Unit {0}

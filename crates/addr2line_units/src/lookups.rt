@@ -1,6 +1,6 @@
 //! Lookups of frames over the units of a context, and the answers to their loads.
 
-ghost use Rattle.std.specs.Prelude.{◌≡◌, ◌&&◌, ◌<◌, ◌≤◌, None, set, IfErr, IfOk, IfSome, Ok, OnOk, length, not, option_map, slice_get, true};
+ghost use Rattle.std.specs.Prelude.{◌≡◌, ◌&&◌, ◌<◌, ◌≤◌, None, Some, set, IfErr, IfOk, IfSome, Ok, OnOk, length, not, option_map, slice_get, true};
 ghost use Rattle.gimli_read.specs.declared.error.Error.TheVariants.{OutOfMemory};
 ghost use Rattle.gimli_read.specs.Reading.{ExactlyUnlessOom};
 ghost use Rattle.addr2line_lines.specs.References.{IsScope};
@@ -15,7 +15,9 @@ ghost use Rattle.addr2line_units.specs.CachedLines.{cached_files};
 ghost use Rattle.addr2line_units.specs.Frames.{found_frames};
 ghost use Rattle.addr2line_units.specs.KeptEntries.{AreRead};
 ghost use Rattle.addr2line_units.specs.KeptFunctions.{IsPlaceIn, function_of_place, kept_functions};
-ghost use Rattle.addr2line_units.specs.KeptLookups.{HaveEntriesOf, IsFramePlaceIn, IsStopIn, ReadsOnly, StayAllEntries, answers_in, frames_at_place, has_frames_at, scope_in, seen_stop, sup_file};
+ghost use Rattle.addr2line_units.specs.KeptLookups.{HaveEntriesOf, HaveViewsOf, IsFramePlaceIn, IsStopIn, ReadsOnly, StayAllEntries, answers_in, frames_at_place, has_frames_at, scope_in, seen_stop, sup_file, waits_at};
+ghost use Rattle.addr2line_units.specs.KeptViews.{seen_load};
+ghost use Rattle.addr2line_units.specs.Views.{load_of_unit};
 ghost use Rattle.addr2line_units.specs.Parsed.{IsNotOom, ParsesOnly};
 
 use crate::frame::{FrameIter, frames_of};
@@ -25,6 +27,7 @@ use crate::sup::SupUnits;
 use crate::unit::{LazyLines, ResUnit};
 use crate::unit_frames::UnitEntries;
 use crate::units::ResUnits;
+use crate::view::SplitDwarfLoad;
 use addr2line_lines::{Count, FileUnits, Row, Scope};
 use gimli::Dwarf;
 use gimli::read::{Error, Reader};
@@ -168,6 +171,20 @@ impl<R: Reader> ResUnits<R> {
 }
 
 impl<R: Reader> ResUnits<R> {
+    /// The load of the unit of a number, which waits for an answer.
+    ///
+    /// Refused `OutOfMemory` alone.
+    pub fn load(&self, dwarf: &Rc<Dwarf<R>>, number: usize) -> Result<SplitDwarfLoad<R>, Error>
+        requires views { HaveViewsOf dwarf.now.value self.now.dw_units.items
+            self.now.entries.items }
+        requires waits { waits_at self.now.entries.items number ≡ true }
+        ensures gives { IfOk result (λ l. IfSome (slice_get self.now.dw_units.items number) (λ u.
+            load_of_unit dwarf.now.value number u ≡ Ok (Some (seen_load R.section l)))) }
+        ensures refused { IfErr result (λ e. e ≡ OutOfMemory) }
+    {
+        self.entries[number].load(dwarf, &self.dw_units[number], number)
+    }
+
     /// Decides the unit of a number by an answer to its load if it is open, and else leaves it as
     /// it is.
     ///

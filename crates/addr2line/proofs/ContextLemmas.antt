@@ -1,5 +1,5 @@
 -- What a context has and what its sections give (on specs/Context.antt).
-use Rattle.std.proofs.Common.{◌≡◌, ℕ, zero, suc, ◌+◌, ◌<◌, ◌≤◌, ◌&&◌, ◌||◌, inl, inr, Bool, true, false, List, [], ◌∷◌, ◌++◌, not, map, slice_get, Option, Some, None, option_map, Result, Ok, Err, refl, sym, ap, subst, ◌∙◌}
+use Rattle.std.proofs.Common.{◌≡◌, ℕ, zero, suc, ◌+◌, ◌<◌, ◌≤◌, ◌&&◌, ◌||◌, inl, inr, Bool, true, false, List, [], ◌∷◌, ◌++◌, not, map, slice_get, Option, Some, None, Result, Ok, Err, refl, sym, ap, subst, ◌∙◌}
 use Rattle.std.specs.Prelude.{OnOk, is_ok}
 use Rattle.gimli_read.specs.declared.error.Error.{Error}
 use Rattle.gimli_read.specs.declared.range.Range.{Range}
@@ -8,108 +8,24 @@ use Rattle.gimli.specs.Sections.{Sections}
 use Rattle.gimli.specs.Unit.{UnitRecord}
 use Rattle.addr2line_lines.specs.Location.{LineTable, Location, location_at}
 use Rattle.addr2line_lines.specs.UnitLines.{unit_lines}
+use Rattle.addr2line_lines.specs.References.{Scope}
 use Rattle.addr2line_lines.specs.Rows.{read_all, result_map}
 use Rattle.addr2line_units.specs.declared.index.UnitRange.{UnitRange}
 use Rattle.addr2line_units.specs.declared.unit.LazyLines.{LazyLines}
 use Rattle.addr2line_units.specs.declared.unit.LazyLines.TheVariants.{Faulty, Read, Unread}
 use Rattle.addr2line_units.specs.declared.unit.ResUnit.{ResUnit}
+use Rattle.addr2line_units.specs.declared.unit_frames.UnitEntries.{UnitEntries}
 use Rattle.addr2line_units.specs.CachedLines.{AreLinesOf, HaveLinesOf, StayUnits, cached_spans, indexed_units, is_parsed, is_uncached, lines_at, parsed_units}
-use Rattle.addr2line_units.specs.Indexed.{IndexState, context_takes_memory, index_of, index_takes_memory, sup_takes_memory}
+use Rattle.addr2line_units.specs.FramesLookup.{main_scope}
+use Rattle.addr2line_units.specs.KeptLookups.{HaveEntriesOf}
 use Rattle.addr2line_units.specs.Located.{along, all_lines, is_found, lines_fault, lines_of_unit, location_in, location_of, or_along, spans_in, spans_or_fault, looks_along, spans_along, spans_of}
-use Rattle.addr2line_units.specs.UnitIndex.{IndexedUnit, UnitIndex, RangedUnit, has_lines, indexed_of, index_units, ranged_units, ranges_from, sup_sections, sup_units}
+use Rattle.addr2line_units.specs.UnitIndex.{IndexedUnit, UnitIndex, index_units}
 use Rattle.addr2line_units.specs.Parsed.{AllAskFor, AreAllParsed, AreParsed, AreReadyForAll, AsksFor, IsNotOom, LeadTo, ParsesOnly, StaysParsed, decides, has_parsed, ready_along}
 use Rattle.addr2line_units.specs.RangeLookup.{cached_along}
 use Rattle.addr2line_units.specs.Cover.{cover, cover_range}
 use Rattle.addr2line_units.proofs.UnitsLemmas.{ready_both, ready_first, stay_indexed, stay_parsed}
-use Rattle.addr2line.specs.Context.{AfterLookup, AfterRangeLookup, ContextState, IsContext, IsReady, IsReadyForAll, IsReadyForRange, ParsesToFault, Stays, lines_of_all, new_context}
-
-ok_is : {X : Type 0} (x y : X) → ◌≡◌ {A = Result X Error} (Ok x) (Ok y) → x ≡ y
-ok_is x y e = cc
-
--- a context that is made
-pub context_made : (d : Sections) (i : IndexState) (sup : List UnitRecord) → (ranged_units d >>= λ units. Ok (index_of d units)) ≡ Ok i → sup_units d.sup ≡ Ok sup
-    → new_context d ≡ Ok (record { sections = d; answers = []; parsed = i.parsed; looks = 0 })
-context_made d i sup e f = of_units (ranged_units d) e
-  where
-    state : List Bool → Result ContextState Error
-    state parsed = Ok (record { sections = d; answers = []; parsed = parsed; looks = 0 })
-
-    of_units : (r : Result (List RangedUnit) Error) → (r >>= λ units. Ok (index_of d units)) ≡ Ok i
-        → (r >>= λ units. sup_units d.sup >>= λ s. state (map has_lines units)) ≡ state i.parsed
-    of_units (Ok units) h =
-        ap (λ (r : Result (List UnitRecord) Error). r >>= λ s. state (map has_lines units)) f
-        ∙ ap (λ (x : IndexState). state x.parsed) (ok_is (index_of d units) i h)
-    of_units (Err x) h = absurd (err_ok h)
-      where
-        err_ok : ◌≡◌ {A = Result IndexState Error} (Err x) (Ok i) → ⊥
-        err_ok k = cc
-
-pub what_is_made : (d : Sections) (i : IndexState) (sup : List UnitRecord) → (ranged_units d >>= λ units. Ok (index_of d units)) ≡ Ok i → sup_units d.sup ≡ Ok sup
-    → index_units d ≡ Ok (record { units = i.units; ranges = i.ranges; sup_units = sup })
-what_is_made d i sup e f = of_units (ranged_units d) e
-  where
-    all : List IndexedUnit → List UnitRange → List UnitRecord → Result UnitIndex Error
-    all units ranges s = Ok (record { units = units; ranges = ranges; sup_units = s })
-
-    of_units : (r : Result (List RangedUnit) Error) → (r >>= λ units. Ok (index_of d units)) ≡ Ok i
-        → (r >>= λ units. sup_units d.sup >>= λ s. all (map indexed_of units) (ranges_from d 0 units) s) ≡ all i.units i.ranges sup
-    of_units (Ok units) h =
-        ap (λ (r : Result (List UnitRecord) Error). r >>= λ s. all (map indexed_of units) (ranges_from d 0 units) s) f
-        ∙ ap (λ (x : IndexState). all x.units x.ranges sup) (ok_is (index_of d units) i h)
-    of_units (Err x) h = absurd (err_ok h)
-      where
-        err_ok : ◌≡◌ {A = Result IndexState Error} (Err x) (Ok i) → ⊥
-        err_ok k = cc
-
--- a fault of the supplementary file refuses the context
-pub context_fault : (d : Sections) (i : IndexState) (f : Error) → (ranged_units d >>= λ units. Ok (index_of d units)) ≡ Ok i → sup_units d.sup ≡ Err f → new_context d ≡ Err f
-context_fault d i f e h = of_units (ranged_units d) e
-  where
-    state : List Bool → Result ContextState Error
-    state parsed = Ok (record { sections = d; answers = []; parsed = parsed; looks = 0 })
-
-    of_units : (r : Result (List RangedUnit) Error) → (r >>= λ units. Ok (index_of d units)) ≡ Ok i → (r >>= λ units. sup_units d.sup >>= λ s. state (map has_lines units)) ≡ Err f
-    of_units (Ok units) k = ap (λ (r : Result (List UnitRecord) Error). r >>= λ s. state (map has_lines units)) h
-    of_units (Err x) k = absurd (err_ok k)
-      where
-        err_ok : ◌≡◌ {A = Result IndexState Error} (Err x) (Ok i) → ⊥
-        err_ok l = cc
-
--- a fault of the units refuses the context
-pub units_fault : (d : Sections) (f : Error) → (ranged_units d >>= λ units. Ok (index_of d units)) ≡ Err f → new_context d ≡ Err f
-units_fault d f e = of_units (ranged_units d) e
-  where
-    state : List Bool → Result ContextState Error
-    state parsed = Ok (record { sections = d; answers = []; parsed = parsed; looks = 0 })
-
-    of_units : (r : Result (List RangedUnit) Error) → (r >>= λ units. Ok (index_of d units)) ≡ Err f → (r >>= λ units. sup_units d.sup >>= λ s. state (map has_lines units)) ≡ Err f
-    of_units (Ok units) k = absurd (ok_err k)
-      where
-        ok_err : ◌≡◌ {A = Result IndexState Error} (Ok (index_of d units)) (Err f) → ⊥
-        ok_err l = cc
-    of_units (Err x) k = same k
-      where
-        same : ◌≡◌ {A = Result IndexState Error} (Err x) (Err f) → ◌≡◌ {A = Result ContextState Error} (Err x) (Err f)
-        same l = cc
-
--- memory may be taken for a context where it may be for its units
-pub units_memory : (shares : Bool) (d : Sections) → index_takes_memory shares d ≡ true → context_takes_memory shares d ≡ true
-units_memory shares d e = ap (λ b. b || (is_ok (ranged_units d) && sup_takes_memory shares d.sup)) e
-
--- memory may be taken for a context where it may be for its supplementary file
-pub sup_memory : (shares : Bool) (d : Sections) (i : IndexState) → (ranged_units d >>= λ units. Ok (index_of d units)) ≡ Ok i → sup_takes_memory shares d.sup ≡ true → context_takes_memory shares d ≡ true
-sup_memory shares d i made e = ap (λ b. index_takes_memory shares d || (b && sup_takes_memory shares d.sup)) (of_units (ranged_units d) made) ∙ ap (λ b. index_takes_memory shares d || b) e ∙ or_true (index_takes_memory shares d)
-  where
-    of_units : (r : Result (List RangedUnit) Error) → (r >>= λ units. Ok (index_of d units)) ≡ Ok i → is_ok r ≡ true
-    of_units (Ok units) h = refl
-    of_units (Err x) h = absurd (err_ok h)
-      where
-        err_ok : ◌≡◌ {A = Result IndexState Error} (Err x) (Ok i) → ⊥
-        err_ok k = cc
-
-    or_true : (b : Bool) → (b || true) ≡ true
-    or_true true = refl
-    or_true false = refl
+use Rattle.addr2line.proofs.NewContextLemmas.{ok_is}
+use Rattle.addr2line.specs.Context.{AfterLookup, AfterRangeLookup, ContextState, IsContext, IsReady, IsReadyForAll, IsReadyForRange, ParsesToFault, Stays, index_by, lines_of_all}
 
 -- where nothing is parsed that wasn't, the same is parsed
 parsed_both : (a b : Bool) → (a ≡ true → b ≡ true) → (b ≡ true → a ≡ true) → b ≡ a
@@ -162,39 +78,45 @@ module _ (d : Sections) (us : List UnitRecord) (old : List ResUnit) (ranges : Li
   of_made : (P : UnitIndex → Type 0) → P (record { units = indexed_units us old; ranges = ranges; sup_units = sup }) → (m : UnitIndex) → index_units d ≡ Ok m → P m
   of_made P h m e = subst P (ok_is _ _ (sym made_is ∙ e)) h
 
-  module _ (new : List ResUnit) (stay : StayUnits old new) (looks now : ℕ) where
-    pub all_stays : Stays (record { sections = d; answers = []; parsed = parsed_units old; looks = looks }) (record { sections = d; answers = []; parsed = parsed_units new; looks = now })
-    all_stays = record { sections = refl; answers = refl; parsed = stay_parsed old new stay }
+  module _ (new : List ResUnit) (stay : StayUnits old new) (answers then : List (Option (Option Sections))) (same : then ≡ answers) (looks now : ℕ) where
+    abbrev before : ContextState
+    before = record { sections = d; answers = answers; parsed = parsed_units old; looks = looks }
+
+    abbrev after : ContextState
+    after = record { sections = d; answers = then; parsed = parsed_units new; looks = now }
+
+    pub all_stays : Stays before after
+    all_stays = record { sections = refl; answers = same; parsed = stay_parsed old new stay }
 
     pub after_lookup : {X : Type 0} (probe : ℕ) (result : Result (Option X) Error)
         → (IsNotOom result → ready_along d (indexed_units us old) (parsed_units new) probe (cover probe ranges) ≡ true) → (ready_along d (indexed_units us old) (parsed_units new) probe (cover probe ranges) ≡ true → IsNotOom result) → ParsesOnly (AsksFor d (indexed_units us old) probe (cover probe ranges)) (parsed_units old) (parsed_units new) → looks ≤ now → (is_found result ≡ true → looks < now) → now ≤ looks + looks_along d (indexed_units us old) (cover probe ranges)
-        → AfterLookup probe result (record { sections = d; answers = []; parsed = parsed_units old; looks = looks }) (record { sections = d; answers = []; parsed = parsed_units new; looks = now })
+        → AfterLookup probe result before after
     after_lookup probe result ready memory only raised counted cost = record {
       stays = all_stays;
       ready = λ answered. of_made (λ m. ready_along d m.units (parsed_units new) probe (cover probe m.ranges) ≡ true) (ready answered);
       memory = λ at_last. memory (at_last _ made_is);
       only = of_made (λ m. ParsesOnly (AsksFor d m.units probe (cover probe m.ranges)) (parsed_units old) (parsed_units new)) only;
-      same = λ before. same_if_asked old new stay _ only (asked_ready d (indexed_units us old) (parsed_units old) probe (cover probe ranges) (before _ made_is));
+      same = λ ready. same_if_asked old new stay _ only (asked_ready d (indexed_units us old) (parsed_units old) probe (cover probe ranges) (ready _ made_is));
       raised = raised;
       counted = counted;
       cost = of_made (λ m. now ≤ looks + looks_along d m.units (cover probe m.ranges)) cost;
     }
 
     pub after_parse : ParsesOnly (AllAskFor d (indexed_units us old)) (parsed_units old) (parsed_units new)
-        → ParsesToFault (record { sections = d; answers = []; parsed = parsed_units old; looks = looks }) (record { sections = d; answers = []; parsed = parsed_units new; looks = now })
+        → ParsesToFault before after
     after_parse only = of_made (λ m. ParsesOnly (AllAskFor d m.units) (parsed_units old) (parsed_units new)) only
 
     pub same_after_parse : ParsesOnly (AllAskFor d (indexed_units us old)) (parsed_units old) (parsed_units new)
-        → IsReadyForAll (record { sections = d; answers = []; parsed = parsed_units old; looks = looks }) → parsed_units new ≡ parsed_units old
-    same_after_parse only before = same_if_asked old new stay _ only (before _ made_is)
+        → IsReadyForAll before → parsed_units new ≡ parsed_units old
+    same_after_parse only ready = same_if_asked old new stay _ only (ready _ made_is)
 
-    pub ready_after_parse : AreReadyForAll d (indexed_units us old) (parsed_units new) → IsReadyForAll (record { sections = d; answers = []; parsed = parsed_units new; looks = now })
+    pub ready_after_parse : AreReadyForAll d (indexed_units us old) (parsed_units new) → IsReadyForAll after
     ready_after_parse ready = of_made (λ m. AreReadyForAll d m.units (parsed_units new)) ready
 
-  pub after_range_lookup : (new : List ResUnit) → StayUnits old new → (looks : ℕ) → {X : Type 0} (low high : ℕ) (result : Result X Error) → (IsNotOom result → AreParsed (parsed_units new) (cover_range low high ranges)) → (AreParsed (parsed_units new) (cover_range low high ranges) → IsNotOom result) → ParsesOnly (LeadTo (cover_range low high ranges)) (parsed_units old) (parsed_units new)
-      → AfterRangeLookup low high result (record { sections = d; answers = []; parsed = parsed_units old; looks = looks }) (record { sections = d; answers = []; parsed = parsed_units new; looks = looks })
-  after_range_lookup new stay looks low high result ready memory only = record {
-    stays = all_stays new stay looks looks;
+  pub after_range_lookup : (new : List ResUnit) → StayUnits old new → (answers then : List (Option (Option Sections))) → then ≡ answers → (looks : ℕ) → {X : Type 0} (low high : ℕ) (result : Result X Error) → (IsNotOom result → AreParsed (parsed_units new) (cover_range low high ranges)) → (AreParsed (parsed_units new) (cover_range low high ranges) → IsNotOom result) → ParsesOnly (LeadTo (cover_range low high ranges)) (parsed_units old) (parsed_units new)
+      → AfterRangeLookup low high result (record { sections = d; answers = answers; parsed = parsed_units old; looks = looks }) (record { sections = d; answers = then; parsed = parsed_units new; looks = looks })
+  after_range_lookup new stay answers then kept looks low high result ready memory only = record {
+    stays = all_stays new stay answers then kept looks looks;
     ready = λ answered. of_made (λ m. AreParsed (parsed_units new) (cover_range low high m.ranges)) (ready answered);
     memory = λ at_last. memory (at_last _ made_is);
     only = of_made (λ m. ParsesOnly (LeadTo (cover_range low high m.ranges)) (parsed_units old) (parsed_units new)) only;
@@ -203,17 +125,27 @@ module _ (d : Sections) (us : List UnitRecord) (old : List ResUnit) (ranges : Li
   }
 
 -- what a context has after a call is still what its sections give
-pub still_a_context : (d : Sections) (us : List UnitRecord) (old : List ResUnit) (ranges : List UnitRange) (sup : List UnitRecord) → index_units d ≡ Ok (record { units = indexed_units us old; ranges = ranges; sup_units = sup })
-    → (vs : List UnitRecord) → vs ≡ us → (new : List ResUnit) → StayUnits old new → (now : List UnitRange) → now ≡ ranges → HaveLinesOf d vs new → (sup_dwarf : Option Sections) → sup_dwarf ≡ option_map sup_sections d.sup → IsContext d vs new now sup sup_dwarf
-still_a_context d us old ranges sup made_is vs whole new stay now same lines sup_dwarf sup_is = record {
-  made_is =
-      made_is
-      ∙ ap (λ is. Ok (record { units = is; ranges = ranges; sup_units = sup })) (sym (stay_indexed us old new stay))
-      ∙ ap (λ (xs : List UnitRecord). Ok (record { units = indexed_units xs new; ranges = ranges; sup_units = sup })) (sym whole)
-      ∙ ap (λ rs. Ok (record { units = indexed_units vs new; ranges = rs; sup_units = sup })) (sym same);
+pub still_a_context : {R : Type 0} (d : Sections) (us : List UnitRecord) (old : List ResUnit) (held : List (UnitEntries R)) (ranges : List UnitRange) (sup : List UnitRecord) (sup_dwarf : Option Sections) → IsContext d us old held ranges sup sup_dwarf
+    → (vs : List UnitRecord) → vs ≡ us → (new : List ResUnit) → StayUnits old new → (entries : List (UnitEntries R)) → entries ≡ held → (now : List UnitRange) → now ≡ ranges → HaveLinesOf d vs new
+    → IsContext d vs new entries now sup sup_dwarf
+still_a_context {R} d us old held ranges sup sup_dwarf c vs whole new stay entries same_entries now same lines = record {
+  made_is = c.made_is ∙ ap (λ (m : UnitIndex). Ok m) (sym index_stays);
   lines = lines;
-  sup_dwarf_is = sup_is;
+  entries =
+      subst (λ (m : UnitIndex). HaveEntriesOf (main_scope d m) vs entries) (sym index_stays)
+      (subst (λ (xs : List UnitRecord). HaveEntriesOf scope xs entries) (sym whole)
+      (subst (λ (es : List (UnitEntries R)). HaveEntriesOf scope us es) (sym same_entries) c.entries));
+  sup_dwarf_is = c.sup_dwarf_is;
 }
+  where
+    scope : Scope
+    scope = main_scope d (index_by us old ranges sup)
+
+    index_stays : index_by vs new now sup ≡ index_by us old ranges sup
+    index_stays =
+        ap (λ (rs : List UnitRange). index_by vs new rs sup) same
+        ∙ ap (λ (xs : List UnitRecord). index_by xs new ranges sup) whole
+        ∙ ap (λ is. record { units = is; ranges = ranges; sup_units = sup }) (stay_indexed us old new stay)
 
 -- whether lines can be read, of each unit and along ranges
 module _ (d : Sections) where
@@ -260,19 +192,19 @@ when_ok (Ok tt) given e f = f e
 when_ok (Err x) given e f = tt
 
 -- where the lines of all units are parsed after an answer, each lookup is ready then
-pub ready_if_ok : (result : Result (Unit {0}) Error) (d : Sections) (p : List Bool) (looks : ℕ) → OnOk result (AreAllParsed p)
-    → OnOk result ((probe : ℕ) → IsReady (record { sections = d; answers = []; parsed = p; looks = looks }) probe)
-ready_if_ok (Ok tt) d p looks all = λ probe m is. all_ready d m.units p all probe (cover probe m.ranges)
-ready_if_ok (Err e) d p looks all = tt
+pub ready_if_ok : (result : Result (Unit {0}) Error) (d : Sections) (answers : List (Option (Option Sections))) (p : List Bool) (looks : ℕ) → OnOk result (AreAllParsed p)
+    → OnOk result ((probe : ℕ) → IsReady (record { sections = d; answers = answers; parsed = p; looks = looks }) probe)
+ready_if_ok (Ok tt) d answers p looks all = λ probe m is. all_ready d m.units p all probe (cover probe m.ranges)
+ready_if_ok (Err e) d answers p looks all = tt
 
 all_parsed_along : (p : List Bool) → AreAllParsed p → (rs : List UnitRange) → AreParsed p rs
 all_parsed_along p all [] = tt
 all_parsed_along p all (r ∷ rs) = (all r.unit, all_parsed_along p all rs)
 
-pub range_ready_if_ok : (result : Result (Unit {0}) Error) (d : Sections) (p : List Bool) (looks : ℕ) → OnOk result (AreAllParsed p)
-    → OnOk result ((low high : ℕ) → IsReadyForRange (record { sections = d; answers = []; parsed = p; looks = looks }) low high)
-range_ready_if_ok (Ok tt) d p looks all = λ low high m is. all_parsed_along p all (cover_range low high m.ranges)
-range_ready_if_ok (Err e) d p looks all = tt
+pub range_ready_if_ok : (result : Result (Unit {0}) Error) (d : Sections) (answers : List (Option (Option Sections))) (p : List Bool) (looks : ℕ) → OnOk result (AreAllParsed p)
+    → OnOk result ((low high : ℕ) → IsReadyForRange (record { sections = d; answers = answers; parsed = p; looks = looks }) low high)
+range_ready_if_ok (Ok tt) d answers p looks all = λ low high m is. all_parsed_along p all (cover_range low high m.ranges)
+range_ready_if_ok (Err e) d answers p looks all = tt
 
 pub err_is_not_ok : {X : Type 0} (e : Error) (x : X) → ◌≡◌ {A = Result X Error} (Err e) (Ok x) → ⊥
 err_is_not_ok e x k = cc

@@ -4,30 +4,28 @@
 -- Own: the lines of a unit, or their fault, are parsed when a lookup first asks for them, and stay
 -- parsed; a context that is made has parsed them only where they give a unit its ranges, and a unit
 -- without a line program has its lines, which are none.
--- limit: no unit is loaded yet, so there is no answer
-use Rattle.std.specs.Prelude.{◌≡◌, ℕ, ◌+◌, ◌<◌, ◌≤◌, Bool, true, List, [], map, Option, option_map, Result, Ok}
+-- Own: of a unit the first answer to its load counts: the sections of a split file, or none.
+use Rattle.std.specs.Prelude.{◌≡◌, ℕ, ◌+◌, ◌<◌, ◌≤◌, Bool, true, List, map, Option, None, option_map, Result, Ok}
 use Rattle.gimli_read.specs.declared.error.Error.{Error}
 use Rattle.gimli_read.specs.Reading.{◌>>=◌}
 use Rattle.gimli.specs.Sections.{Sections}
 use Rattle.gimli.specs.Unit.{UnitRecord}
 use Rattle.addr2line_units.specs.declared.index.UnitRange.{UnitRange}
 use Rattle.addr2line_units.specs.declared.unit.ResUnit.{ResUnit}
+use Rattle.addr2line_units.specs.declared.unit_frames.UnitEntries.{UnitEntries}
 use Rattle.addr2line_units.specs.CachedLines.{HaveLinesOf, indexed_units}
+use Rattle.addr2line_units.specs.FramesLookup.{main_scope}
+use Rattle.addr2line_units.specs.KeptLookups.{HaveEntriesOf}
 use Rattle.addr2line_units.specs.Located.{all_lines, is_found, lines_fault, looks_along}
 use Rattle.addr2line_units.specs.UnitIndex.{UnitIndex, has_lines, index_units, ranged_units, sup_sections, sup_units}
 use Rattle.addr2line_units.specs.Parsed.{AllAskFor, AreParsed, AreReadyForAll, AsksFor, IsNotOom, LeadTo, ParsesOnly, StaysParsed, ready_along}
 use Rattle.addr2line_units.specs.Cover.{cover, cover_range}
 
--- the first answer to the load of a unit: the sections of a split file, or none
-pub record FirstAnswer : Type 0 where
-  pub unit : ℕ
-  pub sections : Option Sections
-
--- the sections, the first answers, of which units the lines are parsed, and how often they were
--- looked at
+-- the sections, the first answer of each unit, none before it has one, of which units the lines are
+-- parsed, and how often they were looked at
 pub record ContextState : Type 0 where
   pub sections : Sections
-  pub answers : List FirstAnswer
+  pub answers : List (Option (Option Sections))
   pub parsed : List Bool
   pub looks : ℕ
 
@@ -36,7 +34,12 @@ abbrev pub new_context : Sections → Result ContextState Error
 new_context d = do
   units ← ranged_units d
   sup ← sup_units d.sup
-  Ok (record { sections = d; answers = []; parsed = map has_lines units; looks = 0 })
+  Ok (record {
+    sections = d;
+    answers = map (λ _. None) units;
+    parsed = map has_lines units;
+    looks = 0;
+  })
 
 -- a lookup of the probe parses nothing: no unit covers it, or the lines that it asks for are parsed
 abbrev pub IsReady : ContextState → ℕ → Type 0
@@ -107,10 +110,17 @@ pub record AfterRangeLookup {X : Type 0} (low high : ℕ) (result : Result X Err
 abbrev pub lines_of_all : Sections → Result (Unit {0}) Error
 lines_of_all d = index_units d >>= λ m. lines_fault (all_lines d m.units)
 
+-- what a context is made of, by its parts
+abbrev pub index_by : List UnitRecord → List ResUnit → List UnitRange → List UnitRecord
+    → UnitIndex
+index_by dw_units units ranges sup =
+    record { units = indexed_units dw_units units; ranges = ranges; sup_units = sup }
+
 -- what a context has is what its sections give
-pub record IsContext (d : Sections) (dw_units : List UnitRecord) (units : List ResUnit)
-    (ranges : List UnitRange) (sup : List UnitRecord) (sup_dwarf : Option Sections) : Type 0 where
-  pub made_is : index_units d
-      ≡ Ok (record { units = indexed_units dw_units units; ranges = ranges; sup_units = sup })
+pub record IsContext {R : Type 0} (d : Sections) (dw_units : List UnitRecord)
+    (units : List ResUnit) (held : List (UnitEntries R)) (ranges : List UnitRange)
+    (sup : List UnitRecord) (sup_dwarf : Option Sections) : Type 0 where
+  pub made_is : index_units d ≡ Ok (index_by dw_units units ranges sup)
   pub lines : HaveLinesOf d dw_units units
+  pub entries : HaveEntriesOf (main_scope d (index_by dw_units units ranges sup)) dw_units held
   pub sup_dwarf_is : sup_dwarf ≡ option_map sup_sections d.sup

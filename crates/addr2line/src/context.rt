@@ -38,21 +38,21 @@ pub struct Context<R: Reader> {
 }
 
 impl<R: Reader> Model for Context<R> {
-    ghost use Rattle.std.specs.Prelude.{[]};
     ghost use Rattle.addr2line_units.specs.CachedLines.{parsed_units};
+    ghost use Rattle.addr2line_units.specs.KeptLookups.{answers_in};
     ghost use Rattle.addr2line.specs.Context.{ContextState, IsContext};
 
     ghost Value = { ContextState };
 
     ghost view = { λ c. record {
       sections = c.dwarf.value;
-      answers = [];
+      answers = answers_in c.units.entries.items;
       parsed = parsed_units c.units.units.items;
       looks = c.looks;
     } };
 
     ghost invariant = { λ c. IsContext c.dwarf.value c.units.dw_units.items c.units.units.items
-        c.units.ranges c.sup_units.units.items c.sup_units.dwarf };
+        c.units.entries.items c.units.ranges c.sup_units.units.items c.sup_units.dwarf };
 }
 
 impl<R: Reader> Context<R> {

@@ -1,6 +1,7 @@
 use Rattle.std.proofs.Common.{Ok, ap, refl, subst, sym, ◌∙◌}
 use Rattle.std.proofs.lemmas.Result.{err_from_is_err_and}
 use Rattle.addr2line_units.specs.CachedLines.{HaveLinesOf}
+use Rattle.addr2line_units.specs.KeptLookups.{answers_in}
 use Rattle.addr2line_units.specs.Located.{spans_along}
 use Rattle.addr2line_units.specs.RangeLookup.{cached_along}
 use Rattle.addr2line_units.specs.Cover.{cover_range}
@@ -10,11 +11,17 @@ use Rattle.addr2line.proofs.context.Context.find_location_range.Goals as goal
 
 pub invariant_of-self : goal.invariant_of-self
 invariant_of-self g c =
-    still_a_context c.self.inside.dwarf.value c.self.inside.units.dw_units.items c.self.inside.units.units.items c.self.inside.units.ranges _ c.self.invariant.made_is _ c.cache_lines.ensures.dw_units _ c.cache_lines.ensures.stay _ c.cache_lines.ensures.ranges (subst (λ d. HaveLinesOf d c.cache_lines.new.self.dw_units.items c.cache_lines.new.self.units.items) c.deref.ensures c.cache_lines.ensures.read) _ c.self.invariant.sup_dwarf_is
+    let s = c.self.inside in
+    let e = c.cache_lines.ensures in
+    let now = c.cache_lines.new.self in
+    still_a_context s.dwarf.value s.units.dw_units.items s.units.units.items s.units.entries.items s.units.ranges _ _ c.self.invariant _ e.dw_units _ e.stay _ e.entries _ e.ranges (subst (λ d. HaveLinesOf d now.dw_units.items now.units.items) c.deref.ensures e.read)
 
 pub invariant_of-self-2 : goal.invariant_of-self-2
 invariant_of-self-2 g c =
-    still_a_context c.self.inside.dwarf.value c.self.inside.units.dw_units.items c.self.inside.units.units.items c.self.inside.units.ranges _ c.self.invariant.made_is _ c.cache_lines.ensures.dw_units _ c.cache_lines.ensures.stay _ c.cache_lines.ensures.ranges (subst (λ d. HaveLinesOf d c.cache_lines.new.self.dw_units.items c.cache_lines.new.self.units.items) c.deref.ensures c.cache_lines.ensures.read) _ c.self.invariant.sup_dwarf_is
+    let s = c.self.inside in
+    let e = c.cache_lines.ensures in
+    let now = c.cache_lines.new.self in
+    still_a_context s.dwarf.value s.units.dw_units.items s.units.units.items s.units.entries.items s.units.ranges _ _ c.self.invariant _ e.dw_units _ e.stay _ e.entries _ e.ranges (subst (λ d. HaveLinesOf d now.dw_units.items now.units.items) c.deref.ensures e.read)
 
 pub returns-in_err-cache_lines : goal.returns-in_err-cache_lines
 returns-in_err-cache_lines g c =
@@ -27,7 +34,7 @@ returns-in_err-cache_lines g c =
     let e = c.in_err-cache_lines.ensures in
     let p = err_from_is_err_and c.from_residual.result c.from_residual.ensures.1 in
     rw (p.1, p.2, sym c.self.view_is) (
-      (refl, (λ _. tt), after_range_lookup d us old ranges sup i.made_is c.cache_lines.new.self.units.items e.stay c.self.inside.looks c.args.low c.args.high _ (λ answered. absurd (answered e.refused)) e.memory e.only),
+      (refl, (λ _. tt), after_range_lookup d us old ranges sup i.made_is c.cache_lines.new.self.units.items e.stay _ _ (ap answers_in c.cache_lines.ensures.entries) c.self.inside.looks c.args.low c.args.high _ (λ answered. absurd (answered e.refused)) e.memory e.only),
       record {
         gives = tt;
         refused = e.refused;
@@ -51,7 +58,7 @@ returns g c =
     let lines = subst (λ xs. HaveLinesOf d xs new) c.cache_lines.ensures.dw_units read in
     let cached = spans_cached d c.args.low c.args.high us new rows lines e.parsed in
     rw (sym c.self.view_is) (
-      (refl, (λ _. tt), after_range_lookup d us old ranges sup i.made_is new e.stay c.self.inside.looks c.args.low c.args.high _ (λ answered. e.parsed) (λ ready. tt) e.only),
+      (refl, (λ _. tt), after_range_lookup d us old ranges sup i.made_is new e.stay _ _ (ap answers_in c.cache_lines.ensures.entries) c.self.inside.looks c.args.low c.args.high _ (λ answered. e.parsed) (λ ready. tt) e.only),
       record {
         gives = spans_are d us old ranges sup i.made_is c.args.low c.args.high
             ∙ ap (λ us. Ok (spans_along d us c.args.low c.args.high rows)) (sym (stay_indexed us old new e.stay))

@@ -12,4 +12,6 @@ pub mod IndexLemmas
 pub mod LeastBeginLemmas
 pub mod FrameLemmas
 pub mod KeptFunctionLemmas
+pub mod KeptPlaceLemmas
+pub mod EntryLemmas
 pub mod ViewLemmas

@@ -1,8 +1,8 @@
 -- What is kept of the entries of a unit (on specs/KeptEntries.antt and specs/UnitFrames.antt).
-use Rattle.std.proofs.Common.{◌≡◌, ◌≢◌, ◌∙◌, ℕ, ap, sym, refl, subst, Bool, true, false, Option, Some, None, IfErr, IfOk, IfSome, Result, Ok, Err}
+use Rattle.std.proofs.Common.{◌≡◌, ◌≢◌, ◌∙◌, ℕ, ap, sym, refl, subst, Bool, true, false, Option, Some, None, IfErr, IfOk, IfSome, is_none, Result, Ok, Err}
 use Rattle.gimli_read.specs.declared.error.Error.{Error}
 use Rattle.gimli_read.specs.declared.error.Error.TheVariants.{OutOfMemory}
-use Rattle.gimli_read.specs.Reading.{◌>>=◌, Exactly, ExactlyUnlessOom, ExactlyUnlessOomIf}
+use Rattle.gimli_read.specs.Reading.{◌>>=◌, ExactlyUnlessOom, ExactlyUnlessOomIf}
 use Rattle.gimli.specs.Sections.{Sections}
 use Rattle.gimli.specs.Unit.{UnitRecord}
 use Rattle.addr2line_lines.specs.References.{Scope}
@@ -16,12 +16,12 @@ use Rattle.addr2line_units.specs.declared.view.ViewState.TheVariants as states
 use Rattle.addr2line_units.specs.Frames.{function_at}
 use Rattle.addr2line_units.specs.KeptEntries.{AreEntriesOf, StayEntries, has_answered, has_entries_by, kept_answer}
 use Rattle.addr2line_units.specs.KeptFunctions.{AreFunctionsOf, StayFunctions, has_function, is_kept, were_read}
-use Rattle.addr2line_units.specs.KeptViews.{IsViewOf, answer_in, is_decided, parts_or_fault, seen_answer, seen_sections, verdict_in, view_by, waits, was_looked_at}
+use Rattle.addr2line_units.specs.KeptViews.{IsViewOf, answer_in, is_decided, parts_of, parts_or_fault, seen_answer, seen_sections, verdict_in, view_by, waits, was_looked_at}
 use Rattle.addr2line_units.specs.UnitFrames.{function_by, function_in, has_many, is_many}
-use Rattle.addr2line_units.specs.Views.{View, verdict, view_scope}
+use Rattle.addr2line_units.specs.Views.{View, is_open, verdict, view_scope}
 
 -- functions stay what they are
-functions_stay : {R : Type 0} (scope : Scope) (u : UnitRecord) (f : LazyFunctions R) → StayFunctions f f
+pub functions_stay : {R : Type 0} (scope : Scope) (u : UnitRecord) (f : LazyFunctions R) → StayFunctions f f
 functions_stay scope u lazy.Unread = tt
 functions_stay scope u (lazy.Read t) = (none_read scope u t).kept
 functions_stay scope u (lazy.Faulty e) = refl
@@ -90,21 +90,25 @@ module _ {R : Type 0} (scope : Scope) (u : UnitRecord) (probe : ℕ) (old : Unit
     pub unit : view.unit ≡ x
     pub leads : inner ≡ view_scope scope view
 
-  pub view_known : {X : Type 0} (see : X → Sections × UnitRecord) (x : X) (inner : Scope) → IfSome here (λ r. Exactly see (Ok x) (parts_or_fault r)) → IfSome here (λ r. IfOk r (λ v. inner ≡ view_scope scope v)) → IsView inner (see x).1
-  view_known see x inner parts at = by_view view_or_fault.0 view_or_fault.1
-      (subst (λ w. IfSome w (λ r. Exactly see (Ok x) (parts_or_fault r))) view_or_fault.1 parts)
+  pub view_known : (d : Sections) (x : UnitRecord) (inner : Scope) → IfSome here (λ r. parts_or_fault r ≡ Ok (d, x)) → IfSome here (λ r. IfOk r (λ v. inner ≡ view_scope scope v)) → IsView inner x
+  view_known d x inner parts at = by_view view_or_fault.0 view_or_fault.1
+      (subst (λ w. IfSome w (λ r. parts_or_fault r ≡ Ok (d, x))) view_or_fault.1 parts)
       (subst (λ w. IfSome w (λ r. IfOk r (λ v. inner ≡ view_scope scope v))) view_or_fault.1 at)
     where
-      by_view : (r : Result View Error) → here ≡ Some r → Exactly see (Ok x) (parts_or_fault r) → IfOk r (λ v. inner ≡ view_scope scope v) → IsView inner (see x).1
-      by_view (Ok v) e p q = let same : (v.sections, v.unit) ≡ see x = cc in record { view = v; is = e; unit = ap (λ (y : Sections × UnitRecord). y.1) same; leads = q }
+      by_view : (r : Result View Error) → here ≡ Some r → parts_or_fault r ≡ Ok (d, x) → IfOk r (λ v. inner ≡ view_scope scope v) → IsView inner x
+      by_view (Ok v) e p q = let same : parts_of v ≡ (d, x) = cc in record { view = v; is = e; unit = ap (λ (y : Sections × UnitRecord). y.1) same; leads = q }
       by_view (Err y) e p q = absurd cc
 
-  pub fault_known : {X : Type 0} (see : X → Sections × UnitRecord) (x : Error) → IfSome here (λ r. Exactly see (Err x) (parts_or_fault r)) → here ≡ Some (Err x)
-  fault_known see x parts = by_view view_or_fault.0 view_or_fault.1 (subst (λ w. IfSome w (λ r. Exactly see (Err x) (parts_or_fault r))) view_or_fault.1 parts)
+  pub fault_known : (x : Error) → IfSome here (λ r. parts_or_fault r ≡ Err x) → here ≡ Some (Err x)
+  fault_known x parts = by_view view_or_fault.0 view_or_fault.1 (subst (λ w. IfSome w (λ r. parts_or_fault r ≡ Err x)) view_or_fault.1 parts)
     where
-      by_view : (r : Result View Error) → here ≡ Some r → Exactly see (Err x) (parts_or_fault r) → here ≡ Some (Err x)
+      by_view : (r : Result View Error) → here ≡ Some r → parts_or_fault r ≡ Err x → here ≡ Some (Err x)
       by_view (Ok v) e p = absurd cc
       by_view (Err y) e p = let same : y ≡ x = cc in e ∙ ap (λ z. Some (Err z)) same
+
+  -- a unit that is decided isn't open
+  pub not_open : is_open scope.file.sections u (kept_answer old) ≡ false
+  not_open = ap is_none view_or_fault.1
 
   -- the function by the fault of the view
   pub fault_in : (x : Error) → here ≡ Some (Err x) → function_in scope u (kept_answer old) probe ≡ Err x

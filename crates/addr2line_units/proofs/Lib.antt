@@ -14,4 +14,5 @@ pub mod FrameLemmas
 pub mod KeptFunctionLemmas
 pub mod KeptPlaceLemmas
 pub mod EntryLemmas
+pub mod UnitFrameLemmas
 pub mod ViewLemmas

@@ -26,7 +26,7 @@ use Rattle.addr2line_units.specs.Frames.{FrameRecord, found_frames, found_functi
 use Rattle.addr2line_units.specs.KeptFunctions.{IsPlaceIn, IsTableOf, ReadsNoOther, StayFunctions, are_many, detail_takes_memory, details_at, find_takes_memory, function_of_place, functions_fault, kept_functions, place_takes_memory, reading_takes_memory, table_takes_memory, were_read}
 
 -- whether an error is that of memory
-memory_or_not : (e : Error) → (e ≡ OutOfMemory) ⊎ (e ≢ OutOfMemory)
+pub memory_or_not : (e : Error) → (e ≡ OutOfMemory) ⊎ (e ≢ OutOfMemory)
 memory_or_not OutOfMemory = inl refl
 memory_or_not _ = inr (λ h. absurd cc)
 
@@ -157,7 +157,7 @@ module _ (scope : Scope) (view : UnitRecord) (probe n : ℕ) (old new : Function
   cached_is v h = ap (λ (o : Option CachedFunction). option_and_then (λ (g : CachedFunction). g.detail) o) h.there
 
   -- the function at the address, by its detail or the fault of that
-  from_detail : IsTableOf scope view old → offset_at old n ≡ function_offset_at probe old.ranges → (v : Result Detail Error) → detail_at scope view f.offset ≡ v
+  pub from_detail : IsTableOf scope view old → offset_at old n ≡ function_offset_at probe old.ranges → (v : Result Detail Error) → detail_at scope view f.offset ≡ v
       → function_at scope view probe ≡ (v >>= λ detail. Ok (Some (found_function probe f.offset detail)))
   from_detail h at v e =
       let offset : function_offset_at probe old.ranges ≡ Some f.offset = sym at ∙ ap (option_map (λ (g : CachedFunction). g.offset)) q in

@@ -12,6 +12,9 @@ pub mod IndexLemmas
 pub mod LeastBeginLemmas
 pub mod FrameLemmas
 pub mod KeptFunctionLemmas
+pub mod KeptPlaceLemmas
+pub mod EntryLemmas
+pub mod UnitFrameLemmas
 pub mod ViewLemmas
 pub mod AnswerLemmas
 pub mod ScopeLemmas

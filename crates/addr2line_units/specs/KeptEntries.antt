@@ -1,14 +1,13 @@
 -- What is kept of the views of units and of the functions in them, as the private functions see it.
 -- Own: the functions of a view that is known are read when they are first asked for, and kept then,
 -- their fault too, until the unit is forgotten; so is each detail. OutOfMemory is never kept.
-use Rattle.std.specs.Prelude.{◌≡◌, ℕ, Bool, true, false, ◌||◌, is_err, is_some, List, Option, Some, None, IfOk, IfSome, option_map}
+use Rattle.std.specs.Prelude.{◌≡◌, ℕ, Bool, true, false, List, Option, Some, None, Result, Ok, Err, IfOk, IfSome, option_map}
+use Rattle.gimli_read.specs.declared.error.Error.{Error}
 use Rattle.gimli.specs.Sections.{Sections}
 use Rattle.gimli.specs.Unit.{UnitRecord}
-use Rattle.addr2line_lines.specs.FunctionTable.{FunctionTable, cached_detail, function_place_at}
 use Rattle.addr2line_lines.specs.Location.{location_of_row}
 use Rattle.addr2line_lines.specs.References.{Scope}
 use Rattle.addr2line_units.specs.declared.functions.LazyFunctions.{LazyFunctions}
-use Rattle.addr2line_units.specs.declared.functions.LazyFunctions.TheVariants as lazy
 use Rattle.addr2line_units.specs.declared.unit.LazyLines.{LazyLines}
 use Rattle.addr2line_units.specs.declared.unit.LazyLines.TheVariants as lines
 use Rattle.addr2line_units.specs.declared.unit.ResUnit.{ResUnit}
@@ -19,7 +18,7 @@ use Rattle.addr2line_units.specs.declared.view.ViewState.{ViewState}
 use Rattle.addr2line_units.specs.declared.view.ViewState.TheVariants as states
 use Rattle.addr2line_units.specs.CachedLines.{cached_files}
 use Rattle.addr2line_units.specs.Frames.{FrameRecord, found_frames}
-use Rattle.addr2line_units.specs.KeptFunctions.{AreFunctionsOf, IsPlaceIn, ReadsNoOther, StayFunctions, function_of_place, kept_functions, were_read}
+use Rattle.addr2line_units.specs.KeptFunctions.{AreFunctionsOf, IsPlaceIn, ReadsNoOther, StayFunctions, function_of_place, has_function, is_kept, kept_functions, were_read}
 use Rattle.addr2line_units.specs.KeptViews.{IsViewOf, is_decided, seen_answer, was_looked_at}
 use Rattle.addr2line_units.specs.Views.{verdict, view_scope}
 
@@ -47,24 +46,20 @@ pub record StayEntries {R : Type 0} (old new : UnitEntries R) : Type 0 where
   pub view : was_looked_at old.view.state ≡ true → new.view ≡ old.view
   pub functions : StayFunctions old.functions new.functions
 
--- whether the function at the probe is found by what is kept: the functions, or their fault, and
--- its detail, if there is one
-abbrev pub has_place : FunctionTable → Option ℕ → Bool
-has_place t None = true
-has_place t (Some n) = is_some (cached_detail t n)
+-- whether the split unit of an answer has a fault that is kept, or else the function at the probe
+-- is found
+abbrev pub has_answered : {R : Type 0} → {X : Type 0} → ℕ → Result X Error → LazyFunctions R → Bool
+has_answered probe (Ok x) functions = has_function probe functions
+has_answered probe (Err e) functions = is_kept e
 
-abbrev pub has_function : {R : Type 0} → ℕ → LazyFunctions R → Bool
-has_function probe lazy.Unread = false
-has_function probe (lazy.Read t) = has_place t (function_place_at probe t)
-has_function probe (lazy.Faulty e) = true
-
--- the same, or whether the unit is open or its view has a fault, of what is kept of a view
+-- whether what a unit has at the probe is known, by what is kept of its view and its functions: it
+-- waits for an answer, or its view has a fault, or the function at the probe is found
 abbrev pub has_entries_by : {R : Type 0} → ℕ → ViewState R → LazyFunctions R → Bool
 has_entries_by probe states.Undecided functions = false
 has_entries_by probe states.Open functions = true
 has_entries_by probe states.Main functions = has_function probe functions
-has_entries_by probe (states.Unnamed e) functions = true
-has_entries_by probe (states.Answered a) functions = is_err a.unit || has_function probe functions
+has_entries_by probe (states.Unnamed e) functions = is_kept e
+has_entries_by probe (states.Answered a) functions = has_answered probe a.unit functions
 
 -- whether what a unit has at the probe is known by what is kept of its entries
 abbrev pub has_entries : {R : Type 0} → ℕ → UnitEntries R → Bool

@@ -4,6 +4,7 @@
 use Rattle.std.specs.Prelude.{◌≡◌, ◌≢◌, ◌<◌, ℕ, Bool, true, false, nat_lt, List, [], ◌∷◌, length, map, Option, Some, None, unwrap_or, Result, Ok, Err}
 use Rattle.std.specs.List.{AllByRecursion}
 use Rattle.gimli_read.specs.declared.error.Error.{Error}
+use Rattle.gimli_read.specs.declared.error.Error.TheVariants.{OutOfMemory}
 use Rattle.gimli_read.specs.Reading.{◌>>=◌}
 use Rattle.gimli.specs.Unit.{UnitRecord}
 use Rattle.addr2line_lines.specs.Details.{Detail, detail_at, inlined_chain}
@@ -95,6 +96,32 @@ abbrev pub find_takes_memory : {R : Type 0} → ℕ → LazyFunctions R → Bool
 find_takes_memory probe lazy.Unread = true
 find_takes_memory probe (lazy.Read t) = table_takes_memory probe t
 find_takes_memory probe (lazy.Faulty e) = false
+
+-- whether a fault is one that is kept: any but OutOfMemory
+abbrev pub is_kept : Error → Bool
+is_kept OutOfMemory = false
+is_kept _ = true
+
+-- whether what is cached of a function is its detail, or a fault that is kept
+abbrev pub has_detail : Option (Result Detail Error) → Bool
+has_detail None = false
+has_detail (Some (Ok d)) = true
+has_detail (Some (Err e)) = is_kept e
+
+-- the same of the function of a place, if there is one
+abbrev pub has_place : FunctionTable → Option ℕ → Bool
+has_place t None = true
+has_place t (Some n) = has_detail (cached_detail t n)
+
+-- whether the function at the probe is found by what is cached
+abbrev pub has_table : ℕ → FunctionTable → Bool
+has_table probe t = has_place t (function_place_at probe t)
+
+-- the same by what is kept of a view: the functions, or their fault
+abbrev pub has_function : {R : Type 0} → ℕ → LazyFunctions R → Bool
+has_function probe lazy.Unread = false
+has_function probe (lazy.Read t) = has_table probe t
+has_function probe (lazy.Faulty e) = is_kept e
 
 -- the first fault among the details of functions, by where their entries begin
 abbrev pub details_at : Scope → UnitRecord → List ℕ → Result (Unit {0}) Error

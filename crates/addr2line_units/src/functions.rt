@@ -8,7 +8,9 @@ ghost use Rattle.addr2line_lines.specs.FunctionTable.{AreUnread, HasDetail, IsTa
 ghost use Rattle.addr2line_lines.specs.References.{IsScope};
 ghost use Rattle.addr2line_lines.specs.SeenScope.{seen_scope};
 ghost use Rattle.addr2line_units.specs.Frames.{function_at};
-ghost use Rattle.addr2line_units.specs.KeptFunctions.{AreFunctionsOf, IsPlaceIn, IsTableOf, ReadsNoOther, StayFunctions, are_many, find_takes_memory, function_of_place, functions_fault, kept_functions, reading_takes_memory, table_takes_memory, were_read};
+ghost use Rattle.addr2line_units.specs.KeptFunctions.{AreFunctionsOf, IsPlaceIn, IsTableOf, ReadsNoOther, StayFunctions, are_many, find_takes_memory, function_of_place, functions_fault, has_function, has_table, kept_functions, reading_takes_memory, table_takes_memory, were_read};
+ghost use Rattle.addr2line_units.specs.Parsed.{IsNotOom};
+ghost use Rattle.addr2line_units.specs.UnitFrames.{is_many};
 
 use addr2line_lines::{Functions, Scope};
 use gimli::read::{Error, Reader};
@@ -76,6 +78,11 @@ fn find_place<R: Reader>(
     ensures alone { ReadsNoOther probe functions.old functions.new }
     ensures ready { result ≢ Err OutOfMemory
         → table_takes_memory probe functions.new ≡ are_many probe functions.new }
+    ensures kept { has_table probe functions.old ≡ true → functions.new ≡ functions.old }
+    ensures known { IsNotOom result → has_table probe functions.new ≡ true }
+    ensures memory { has_table probe functions.new ≡ true
+        → is_many (function_at (seen_scope scope.entry) view.now probe) ≡ false
+        → IsNotOom result }
 {
     let Some(place) = functions.find(probe) else {
         return Ok(None);
@@ -138,6 +145,11 @@ impl<R: Reader> LazyFunctions<R> {
         ensures alone { ReadsNoOther probe (kept_functions self.old) (kept_functions self.new) }
         ensures ready { result ≢ Err OutOfMemory
             → find_takes_memory probe self.new ≡ are_many probe (kept_functions self.new) }
+        ensures kept { has_function probe self.old ≡ true → self.new ≡ self.old }
+        ensures known { IsNotOom result → has_function probe self.new ≡ true }
+        ensures memory { has_function probe self.new ≡ true
+            → is_many (function_at (seen_scope scope.entry) view.now probe) ≡ false
+            → IsNotOom result }
     {
         self.cache(alloc, scope, view)?;
         match self {

@@ -6,9 +6,9 @@ ghost use Rattle.gimli_read.specs.Reading.{ExactlyUnlessOom};
 ghost use Rattle.addr2line_lines.specs.References.{IsScope};
 ghost use Rattle.addr2line_lines.specs.SeenScope.{seen_scope};
 ghost use Rattle.addr2line_units.specs.CachedLines.{AreLinesOf, StaysUnit, indexed_unit, is_uncached};
-ghost use Rattle.addr2line_units.specs.KeptEntries.{AreEntriesOf, AreFramesIn, AreFresh, ReadsEntriesOf, StayEntries, frames_of_place, has_entries, kept_answer};
-ghost use Rattle.addr2line_units.specs.KeptFunctions.{IsPlaceIn, function_of_place, kept_functions};
-ghost use Rattle.addr2line_units.specs.KeptViews.{waits, was_looked_at};
+ghost use Rattle.addr2line_units.specs.KeptEntries.{AreEntriesOf, AreFramesIn, AreFresh, ReadsEntriesOf, StayEntries, frames_of_place, has_entries, has_entries_by, kept_answer};
+ghost use Rattle.addr2line_units.specs.KeptFunctions.{IsPlaceIn, ReadsNoOther, StayFunctions, function_of_place, kept_functions};
+ghost use Rattle.addr2line_units.specs.KeptViews.{is_decided, seen_answer, waits, was_looked_at};
 ghost use Rattle.addr2line_units.specs.Parsed.{IsNotOom};
 ghost use Rattle.addr2line_units.specs.UnitFrames.{asks_lines_in, frames_in, function_in, has_many};
 ghost use Rattle.addr2line_units.specs.Views.{is_open};
@@ -38,6 +38,41 @@ pub(crate) enum UnitFrames {
         function: Option<FunctionPlace>,
         row: Option<Row>,
     },
+}
+
+// The function at an address in a view, as `UnitEntries::find_function` has it.
+fn find_in_view<'x, R: Reader>(
+    alloc: Global,
+    view: &'x UnitView<R>,
+    functions: &mut LazyFunctions<R>,
+    scope: Scope<'x, R>,
+    dw_unit: &'x Unit<R>,
+    probe: u64,
+) -> Result<Option<FunctionPlace>, Error>
+    requires in_order { IsScope (seen_scope scope) }
+    requires kept { AreEntriesOf (seen_scope scope) dw_unit.now
+        (record { view = view.now; functions = functions.old }) }
+    requires decided { is_decided view.now.state ≡ true }
+    ensures gives { ExactlyUnlessOom
+        (option_map (function_of_place (kept_functions functions.new))) result
+        (function_in (seen_scope scope.entry) dw_unit.now (seen_answer view.now) probe) }
+    ensures there { IfOk result (λ found. IfSome found
+        (IsPlaceIn (kept_functions functions.new))) }
+    ensures kept { AreEntriesOf (seen_scope scope.entry) dw_unit.now
+        (record { view = view.now; functions = functions.new }) }
+    ensures stay { StayFunctions functions.old functions.new }
+    ensures alone { ReadsNoOther probe (kept_functions functions.old)
+        (kept_functions functions.new) }
+    ensures same { has_entries_by probe view.now.state functions.old ≡ true
+        → functions.new ≡ functions.old }
+    ensures ready { IsNotOom result
+        → has_entries_by probe view.now.state functions.new ≡ true }
+    ensures memory { has_entries_by probe view.now.state functions.new ≡ true
+        → has_many (seen_scope scope.entry) dw_unit.now (seen_answer view.now) probe ≡ false
+        → IsNotOom result }
+{
+    let unit = view.unit_ref(scope.file.dwarf, dw_unit)?;
+    functions.find(alloc, view.scope_of(scope), unit.unit, probe)
 }
 
 impl<R: Reader> UnitEntries<R> {
@@ -73,11 +108,11 @@ impl<R: Reader> UnitEntries<R> {
     // Refused by the first fault of the view, its functions and the detail; may fail with
     // `OutOfMemory` instead, only where something of these isn't kept, or there are more than 16
     // inlined functions.
-    fn find_function(
+    fn find_function<'x>(
         &mut self,
         alloc: Global,
-        scope: Scope<'_, R>,
-        dw_unit: &Unit<R>,
+        scope: Scope<'x, R>,
+        dw_unit: &'x Unit<R>,
         probe: u64,
     ) -> Result<Option<FunctionPlace>, Error>
         requires in_order { IsScope (seen_scope scope) }
@@ -98,8 +133,7 @@ impl<R: Reader> UnitEntries<R> {
             → IsNotOom result }
     {
         let UnitEntries { view, functions } = self;
-        let unit = view.unit_ref(scope.file.dwarf, dw_unit)?;
-        functions.find(alloc, view.scope_of(scope), unit.unit, probe)
+        find_in_view(alloc, view, functions, scope, dw_unit, probe)
     }
 }
 
@@ -110,10 +144,10 @@ impl<R: Reader> UnitEntries<R> {
 // Refused by the first fault of the view, its functions, the detail and the lines; may fail with
 // `OutOfMemory` instead, only where something of these isn't kept, or there are more than 16
 // inlined functions.
-pub(crate) fn find_frames_in<R: Reader>(
+pub(crate) fn find_frames_in<'x, R: Reader>(
     alloc: Global,
-    scope: Scope<'_, R>,
-    dw_unit: &Unit<R>,
+    scope: Scope<'x, R>,
+    dw_unit: &'x Unit<R>,
     unit: &mut ResUnit,
     entries: &mut UnitEntries<R>,
     looks: &mut Count,

@@ -4,6 +4,7 @@ use Rattle.addr2line_lines.specs.SeenScope.{seen_scope}
 use Rattle.addr2line_lines.proofs.PlaceLemmas.{some_at}
 use Rattle.addr2line_lines.proofs.ReadLemmas.{none_read, read_more}
 use Rattle.addr2line_units.proofs.KeptFunctionLemmas.{chain_found, chain_ready, none_found, number_stays, reads_one, refused_chain, refused_detail, refused_ready, table_stays}
+use Rattle.addr2line_units.proofs.KeptPlaceLemmas.{chain_fits, chain_known, known_stays, refused_fault, refused_known}
 use Rattle.addr2line_units.proofs.functions.find_place.Goals as goal
 
 pub returns-in_default-clause-gives : goal.returns-in_default-clause-gives
@@ -178,3 +179,81 @@ returns-clause-alone g c =
     let old = c.args.functions.now in
     let new = c.read.new.self in
     reads_one scope view probe n old new c.read.result (sym c.in-Some.ensures.place) c.read.ensures.gives
+
+pub returns-in_err-read-clause-known : goal.returns-in_err-read-clause-known
+returns-in_err-read-clause-known g c =
+    let scope = seen_scope c.args.scope in
+    let view = c.args.view.now in
+    let probe = c.args.probe in
+    let n = c.in-Some.place in
+    let old = c.args.functions.now in
+    let new = c.read.new.self in
+    let at = some_at old.functions n c.in-Some.ensures.there in
+    let p = err_from_is_err_and c.from_residual.result c.from_residual.ensures.1 in
+    rw (p.1, p.2) (λ ne. refused_known scope view probe n old new at.0 at.1 c.requires.right (sym c.in-Some.ensures.place) c.in_err-read.field-0.0 c.in_err-read.ensures.gives ne)
+
+pub returns-in_err-read-clause-memory : goal.returns-in_err-read-clause-memory
+returns-in_err-read-clause-memory g c =
+    let scope = seen_scope c.args.scope in
+    let view = c.args.view.now in
+    let probe = c.args.probe in
+    let n = c.in-Some.place in
+    let old = c.args.functions.now in
+    let new = c.read.new.self in
+    let at = some_at old.functions n c.in-Some.ensures.there in
+    let p = err_from_is_err_and c.from_residual.result c.from_residual.ensures.1 in
+    rw (p.1, p.2) (λ has. λ few. refused_fault scope view probe n old new at.0 at.1 c.requires.right (sym c.in-Some.ensures.place) c.in_err-read.field-0.0 c.in_err-read.ensures.gives has)
+
+pub returns-in_err-inlined-clause-kept : goal.returns-in_err-inlined-clause-kept
+returns-in_err-inlined-clause-kept g c =
+    let scope = seen_scope c.args.scope in
+    let view = c.args.view.now in
+    let probe = c.args.probe in
+    let n = c.in-Some.place in
+    let old = c.args.functions.now in
+    let new = c.read.new.self in
+    known_stays scope view probe n old new c.read.result (sym c.in-Some.ensures.place) c.read.ensures.gives
+
+pub returns-in_err-inlined-clause-known : goal.returns-in_err-inlined-clause-known
+returns-in_err-inlined-clause-known g c =
+    let scope = seen_scope c.args.scope in
+    let view = c.args.view.now in
+    let probe = c.args.probe in
+    let n = c.in-Some.place in
+    let old = c.args.functions.now in
+    let new = c.read.new.self in
+    let at = some_at old.functions n c.in-Some.ensures.there in
+    λ _. chain_known scope view probe n old new at.0 at.1 c.requires.right (sym c.in-Some.ensures.place) c.in_ok-read.ensures.gives
+
+pub returns-in_err-inlined-clause-memory : goal.returns-in_err-inlined-clause-memory
+returns-in_err-inlined-clause-memory g c =
+    let scope = seen_scope c.args.scope in
+    let view = c.args.view.now in
+    let probe = c.args.probe in
+    let n = c.in-Some.place in
+    let old = c.args.functions.now in
+    let new = c.read.new.self in
+    let at = some_at old.functions n c.in-Some.ensures.there in
+    let p = err_from_is_err_and c.from_residual-in_err-inlined.result c.from_residual-in_err-inlined.ensures.1 in
+    rw (p.1, p.2) (λ has. λ few. chain_fits scope view probe n old new at.0 at.1 c.requires.right (sym c.in-Some.ensures.place) c.in-Some.ensures.found c.in_ok-read.ensures.gives c.in_err-inlined.field-0.0 c.in_err-inlined.ensures.gives few)
+
+pub returns-clause-kept : goal.returns-clause-kept
+returns-clause-kept g c =
+    let scope = seen_scope c.args.scope in
+    let view = c.args.view.now in
+    let probe = c.args.probe in
+    let n = c.in-Some.place in
+    let old = c.args.functions.now in
+    let new = c.read.new.self in
+    known_stays scope view probe n old new c.read.result (sym c.in-Some.ensures.place) c.read.ensures.gives
+
+pub returns-clause-known : goal.returns-clause-known
+returns-clause-known g c =
+    let scope = seen_scope c.args.scope in
+    let view = c.args.view.now in
+    let probe = c.args.probe in
+    let n = c.in-Some.place in
+    let old = c.args.functions.now in
+    let new = c.read.new.self in
+    let at = some_at old.functions n c.in-Some.ensures.there in
+    λ _. chain_known scope view probe n old new at.0 at.1 c.requires.right (sym c.in-Some.ensures.place) c.in_ok-read.ensures.gives

@@ -1,8 +1,9 @@
-use Rattle.std.proofs.Common.{Err, ◌&&◌, ◌∙◌, option_map, subst}
+use Rattle.std.proofs.Common.{Err, ◌&&◌, ◌∙◌, option_map, subst, sym}
 use Rattle.addr2line_lines.specs.SeenScope.{seen_scope}
 use Rattle.addr2line_units.specs.Frames.{function_at}
 use Rattle.addr2line_units.specs.KeptFunctions.{AreFunctionsOf, find_takes_memory, function_of_place, table_takes_memory}
 use Rattle.addr2line_units.proofs.KeptFunctionLemmas.{and_weaker, details_before, exactly_weaker, function_is, memory_before, none_before, stay_faulty}
+use Rattle.addr2line_units.proofs.KeptPlaceLemmas.{same_known, table_known}
 use Rattle.addr2line_units.proofs.functions.LazyFunctions.find.Goals as goal
 
 pub returns-in-Read-clause-gives : goal.returns-in-Read-clause-gives
@@ -29,3 +30,11 @@ returns-in-Faulty-clause-stay g c =
 pub returns-in-Faulty-clause-alone : goal.returns-in-Faulty-clause-alone
 returns-in-Faulty-clause-alone g c =
     λ n ne. none_before c.args.self.now c.cache.new.self (λ read. (c.cache.ensures.kept read).0) c.in-Faulty.error c.in-Faulty.is n
+
+pub returns-in-Read-clause-kept : goal.returns-in-Read-clause-kept
+returns-in-Read-clause-kept g c =
+    λ has. table_known c.args.self.now c.cache.new.self (λ read. (c.cache.ensures.kept read).0) c.args.probe has c.in-Read.functions c.find_place.new.functions c.in-Read.is c.find_place.ensures.kept
+
+pub returns-in-Faulty-clause-kept : goal.returns-in-Faulty-clause-kept
+returns-in-Faulty-clause-kept g c =
+    λ has. sym c.in-Faulty.is ∙ same_known c.args.self.now c.cache.new.self (λ read. (c.cache.ensures.kept read).0) c.args.probe has

@@ -71,14 +71,6 @@ decided_if_open d u answer given e = ap (λ b. if b then Some given else answer)
 pub decided_if_not : (d : Sections) (u : UnitRecord) (answer : Option (Option Sections)) (given : Option Sections) → is_open d u answer ≡ false → decided_answer d u answer given ≡ answer
 decided_if_not d u answer given e = ap (λ b. if b then Some given else answer) e
 
--- what was looked at and doesn't wait is decided
-pub looked_is_decided : {R : Type 0} (s : ViewState R) → was_looked_at s ≡ true → waits s ≡ false → is_decided s ≡ true
-looked_is_decided states.Undecided e h = absurd cc
-looked_is_decided states.Open e h = absurd cc
-looked_is_decided states.Main e h = refl
-looked_is_decided (states.Unnamed x) e h = refl
-looked_is_decided (states.Answered a) e h = refl
-
 pub decided_was_looked_at : {R : Type 0} (s : ViewState R) → is_decided s ≡ true → was_looked_at s ≡ true
 decided_was_looked_at states.Undecided e = absurd cc
 decided_was_looked_at states.Open e = absurd cc

@@ -3,7 +3,7 @@
 use Rattle.std.proofs.Common.{◌≡◌, ℕ, zero, suc, ◌<◌, arith, get_or, Bool, true, false, ◌&&◌, ◌||◌, not, List, [], ◌∷◌, length, map, slice_get, Option, Some, None, option_map, Result, Ok, Err, ap, refl, sym, subst, ◌∙◌}
 use Rattle.std.specs.Prelude.{IfOk, IfSome, is_none, unwrap_or, if◌then◌else◌}
 use Rattle.gimli_read.specs.declared.error.Error.{Error}
-use Rattle.gimli_read.specs.Reading.{◌>>=◌}
+use Rattle.gimli_read.specs.Reading.{◌>>=◌, ExactlyUnlessOom}
 use Rattle.gimli.specs.Sections.{Sections}
 use Rattle.gimli.specs.Unit.{UnitRecord}
 use Rattle.addr2line_lines.specs.References.{Scope}
@@ -20,8 +20,9 @@ use Rattle.addr2line_units.specs.CachedLines.{indexed_units}
 use Rattle.addr2line_units.specs.Frames.{FoundFunction, FrameRecord}
 use Rattle.addr2line_units.specs.FramesLookup.{Stop, Waits, Finds, FindsNothing, after_fault, answer_of, asked_frames, ends_lookup, frames_of_number, holds_along, or_stop, stop_along}
 use Rattle.addr2line_units.specs.KeptEntries.{has_entries, kept_answer}
-use Rattle.addr2line_units.specs.KeptLookups.{HaveEntriesOf, HaveViewsOf, answers_in, has_entries_at, has_frames_at, waits_at}
+use Rattle.addr2line_units.specs.KeptLookups.{HaveEntriesOf, HaveViewsOf, answers_in, has_entries_at, WaitsIn, has_frames_at, seen_stop, waits_at}
 use Rattle.addr2line_units.specs.KeptViews.{IsViewOf, was_looked_at, waits}
+use Rattle.addr2line_units.specs.Parsed.{IsNotOom}
 use Rattle.addr2line_units.specs.UnitFrames.{frames_by, frames_in, function_in}
 use Rattle.addr2line_units.specs.UnitIndex.{IndexedUnit}
 use Rattle.addr2line_units.specs.Views.{is_open}
@@ -108,6 +109,21 @@ module _ {R : Type 0} (scope : Scope) (probe : ℕ) where
       let t = told_along (has_frames_at asks_lines probe parsed vs) (asked_frames faults scope (indexed_units us rs) (answers_in vs) probe) n ranges h w in
       waits_there us rs vs n own (told_by_unit faults (frames_of_number scope (indexed_units us rs) (answers_in vs) probe n) t.0)
       (and_first (has_entries_at probe vs n) _ t.1)
+
+  -- the same by what a lookup says of itself
+  pub waits_if_found : (faults : Faults) (us : List UnitRecord) (rs : List ResUnit) (vs : List (UnitEntries R)) (units : List IndexedUnit) (answers : List (Option (Option Sections))) (asks_lines : ℕ → Bool)
+      (parsed : List Bool) (ranges : List UnitRange) (r : Result FramesStop Error) → HaveEntriesOf scope us vs → units ≡ indexed_units us rs → answers ≡ answers_in vs
+      → ExactlyUnlessOom (seen_stop rs vs) r (stop_along (asked_frames faults scope units answers probe) ranges)
+      → (IsNotOom r → holds_along (has_frames_at asks_lines probe parsed vs) (asked_frames faults scope units answers probe) ranges ≡ true) → IfOk r (WaitsIn vs)
+  waits_if_found faults us rs vs units answers asks_lines parsed ranges (Err x) own e f gives ready = tt
+  waits_if_found faults us rs vs units answers asks_lines parsed ranges (Ok (stops.Finds p)) own e f gives ready = tt
+  waits_if_found faults us rs vs units answers asks_lines parsed ranges (Ok stops.FindsNothing) own e f gives ready = tt
+  waits_if_found faults us rs vs units answers asks_lines parsed ranges (Ok (stops.Waits n)) own e f gives ready =
+      waits_where_told faults us rs vs asks_lines parsed ranges n own
+      (subst (λ a. holds_along (has_frames_at asks_lines probe parsed vs) (asked_frames faults scope (indexed_units us rs) a probe) ranges ≡ true) f
+      (subst (λ xs. holds_along (has_frames_at asks_lines probe parsed vs) (asked_frames faults scope xs answers probe) ranges ≡ true) e (ready tt)))
+      (subst (λ a. stop_along (asked_frames faults scope (indexed_units us rs) a probe) ranges ≡ Ok (Waits n)) f
+      (subst (λ xs. stop_along (asked_frames faults scope xs answers probe) ranges ≡ Ok (Waits n)) e gives))
 
 -- beside each unit stands its view
 pub views_of_entries : {R : Type 0} (scope : Scope) (us : List UnitRecord) (vs : List (UnitEntries R)) → HaveEntriesOf scope us vs → HaveViewsOf scope.file.sections us vs

@@ -15,7 +15,7 @@ ghost use Rattle.addr2line_units.specs.CachedLines.{cached_files};
 ghost use Rattle.addr2line_units.specs.Frames.{found_frames};
 ghost use Rattle.addr2line_units.specs.KeptEntries.{AreRead};
 ghost use Rattle.addr2line_units.specs.KeptFunctions.{IsPlaceIn, function_of_place, kept_functions};
-ghost use Rattle.addr2line_units.specs.KeptLookups.{HaveEntriesOf, HaveViewsOf, IsFramePlaceIn, IsStopIn, ReadsOnly, StayAllEntries, answers_in, frames_at_place, has_frames_at, scope_in, seen_stop, sup_file, waits_at};
+ghost use Rattle.addr2line_units.specs.KeptLookups.{HaveEntriesOf, HaveViewsOf, IsFramePlaceIn, IsStopIn, ReadsOnly, StayAllEntries, WaitsIn, answers_in, frames_at_place, has_frames_at, scope_in, seen_stop, sup_file, waits_at};
 ghost use Rattle.addr2line_units.specs.KeptViews.{seen_load};
 ghost use Rattle.addr2line_units.specs.Views.{load_of_unit};
 ghost use Rattle.addr2line_units.specs.Parsed.{IsNotOom, ParsesOnly};
@@ -115,6 +115,7 @@ impl<R: Reader> ResUnits<R> {
             (scope_in dwarf.now self.old.dw_units.items sup.now) (units_in self.old)
             (answers_in self.old.entries.items) probe) (cover probe self.old.ranges)) }
         ensures there { IfOk result (IsStopIn self.new.units.items self.new.entries.items) }
+        ensures waits { IfOk result (WaitsIn self.new.entries.items) }
         ensures read { HaveLinesOf dwarf.now self.new.dw_units.items self.new.units.items }
         ensures kept { HaveEntriesOf (scope_in dwarf.now self.new.dw_units.items sup.now)
             self.new.dw_units.items self.new.entries.items }

@@ -1,7 +1,8 @@
 use Rattle.std.proofs.Common.{◌≡◌, ◌∙◌, option_map, refl, sym, true, false, rules}
 use Rattle.addr2line_units.specs.KeptEntries.{kept_answer}
 use Rattle.addr2line_units.specs.Views.{is_open}
-use Rattle.addr2line_units.proofs.AnswerLemmas.{decided_if_not, decided_if_open, decided_was_looked_at, looked_is_decided, never_waits, open_by_look}
+use Rattle.addr2line_units.proofs.AnswerLemmas.{decided_if_not, decided_if_open, decided_was_looked_at, never_waits, open_by_look}
+use Rattle.addr2line_units.proofs.EntryLemmas.{looked_decides}
 use Rattle.addr2line_units.proofs.unit_frames.UnitEntries.answer.Goals as goal
 
 pub returns-in_err-look-clause-same : goal.returns-in_err-look-clause-same
@@ -45,7 +46,7 @@ returns-else-is_open-clause-answer g c =
 
 pub returns-else-is_open-clause-decided : goal.returns-else-is_open-clause-decided
 returns-else-is_open-clause-decided g c =
-    looked_is_decided c.look.new.self.view.state c.in_ok-look.ensures.looked (search rules)
+    looked_decides c.look.new.self.view.state c.in_ok-look.ensures.looked (search rules)
 
 pub returns-else-is_open-clause-same : goal.returns-else-is_open-clause-same
 returns-else-is_open-clause-same g c h =

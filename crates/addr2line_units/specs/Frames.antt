@@ -97,4 +97,3 @@ abbrev pub found_frames : List (List ℕ) → Option DwLang → Option FoundFunc
 found_frames files language None location = location_frames location
 found_frames files language (Some f) location =
     frames_from files language f.offset f.name (reverse f.inlined) location
-

@@ -173,6 +173,7 @@ fn skip_each(
 ///
 /// Refused as `read_attribute` is at the first that can't be read, but for `OutOfMemory`. After a
 /// refusal the reader stands where it stood.
+#[inline(always)]
 #[tactic(auto, using(crate::proofs::SkipLemmas::attributes_skipped, crate::proofs::SkipLemmas::attributes_leave))]
 pub fn skip_attributes<R: Reader>(
     input: &mut R,

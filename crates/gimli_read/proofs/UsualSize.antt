@@ -1,15 +1,14 @@
 -- Sizes in a usual unit (on specs/ValueSize.antt).
-use Rattle.std.proofs.Common.{◌≡◌, ℕ, ◌+◌, ◌==◌, ◌&&◌, Bool, true, false, cond, nat_lt, Some, refl, sym, ap, ◌∙◌, arith}
+use Rattle.std.proofs.Common.{◌≡◌, ℕ, ◌+◌, ◌==◌, ◌&&◌, Bool, true, false, cond, nat_lt, Some, refl, ap, ◌∙◌, arith}
 use Rattle.std.proofs.lemmas.Bool.{eqb-true, ltb-true}
 use Rattle.std.proofs.lemmas.Grind.{common_steps}
 use Rattle.gimli_read.specs.declared.endian.Encoding.{Encoding}
 use Rattle.gimli_read.specs.declared.size.TheConstants.{USUAL}
-use Rattle.gimli_read.specs.declared.size.CountedSize.{CountedSize}
 use Rattle.gimli_read.specs.declared.size.TotalSize.{TotalSize}
 use Rattle.gimli_read.specs.declared.size.ValueSize.{ValueSize}
 use Rattle.gimli_read.specs.declared.size.ValueSize.TheVariants as sizes
 use Rattle.gimli_read.specs.Number.{is_address_size, offset_size}
-use Rattle.gimli_read.specs.ValueSize.{bytes_of, address_bytes, counted_bytes, is_usual, total_bytes, AddsCounted, AddsSize}
+use Rattle.gimli_read.specs.ValueSize.{bytes_of, counted_bytes, is_usual, AddsCounted, AddsSize}
 
 both : (a b : Bool) → (a && b) ≡ true → (a ≡ true) × (b ≡ true)
 both true true h = (refl, refl)
@@ -41,6 +40,13 @@ usual_bytes e size h = at size
     at sizes.Offset = ap Some four
     at sizes.AddressOrOffset = rw later (ap Some four)
     at sizes.Variable = refl
+
+-- an address of a usual unit has a size that can be read
+pub usual_address : (e : Encoding) → is_usual e ≡ true → is_address_size e.address_size ≡ true
+usual_address e h =
+    let split = both (e.address_size == 8 && nat_lt 2 e.version) (offset_size e.format == 4) h in
+    let eight : e.address_size ≡ 8 = eqb-true _ _ (both (e.address_size == 8) (nat_lt 2 e.version) split.0).0 in
+    rw eight refl
 
 -- a total is another with a value, if its parts are
 pub adds_size : (size : ValueSize) (old new : TotalSize) (n : ℕ) → bytes_of USUAL size ≡ Some n → new.usual ≡ old.usual + n → AddsCounted size old.counted new.counted → AddsSize size old new

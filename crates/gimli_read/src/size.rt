@@ -91,6 +91,7 @@ pub(crate) fn address_bytes(encoding: Encoding) -> Option<u8>
 
 impl ValueSize {
     // The bytes of a value in a unit of this encoding, where its form alone says so.
+    #[inline(always)]
     pub(crate) fn bytes(self, encoding: Encoding) -> Option<u8>
         ensures gives { result ≡ bytes_of encoding self }
     {
@@ -113,7 +114,7 @@ impl ValueSize {
 // Whether values have the sizes that they have in most units: addresses of eight bytes in 32-bit
 // DWARF, past version 2.
 #[inline(always)]
-fn is_usual(encoding: Encoding) -> bool
+pub(crate) fn is_usual(encoding: Encoding) -> bool
     ensures gives { result ≡ is_usual encoding }
 {
     encoding.address_size == 8 && encoding.version > 2 && offset_bytes(encoding.format) == 4

@@ -152,6 +152,7 @@ impl<'a, R: Reader> EntriesRaw<'a, R> {
     /// Refused as `read_attribute` of the section reader is: `UnknownForm`, `UnexpectedEof`,
     /// `BadLeb128`, `UnsupportedAddressSize`, and `OutOfMemory` for a value that holds bytes, at a
     /// reader that shares them. After a refusal nothing is left to read.
+    #[inline(always)]
     #[tactic(auto, using(crate::proofs::EntryLemmas::attribute_leaves, crate::proofs::EntryLemmas::still_in_unit))]
     pub fn read_attribute(
         &mut self,
@@ -178,6 +179,7 @@ impl<'a, R: Reader> EntriesRaw<'a, R> {
     ///
     /// Refused as `read_attribute` is at the first that can't be read, but for `OutOfMemory`. After
     /// a refusal nothing is left to read.
+    #[inline(always)]
     #[tactic(auto, using(gimli_read::proofs::SkipLemmas::attributes_leave, crate::proofs::EntryLemmas::still_in_unit))]
     pub fn skip_attributes(
         &mut self,

@@ -15,6 +15,7 @@ use gimli_read::{AttributeValue, EndianSlice, Error, Format, Reader};
 ///
 /// Refused `OffsetOutOfBounds` where the section ends before, else `OutOfMemory` where bytes are
 /// shared.
+#[inline(always)]
 pub(crate) fn read_from<R: Reader>(section: &R, offset: u64) -> Result<R, Error>
     ensures gives { ExactlyUnlessOomFor R.shares is_ok R.section result
         (from_offset offset (R.section section.now)) }

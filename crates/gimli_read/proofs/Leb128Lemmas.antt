@@ -38,6 +38,15 @@ uleb128_value-bound text = let h : uleb128_value text + 1 ≤ 128 ^ (0 + length 
 pub scale-bound : (i : ℕ) → i < 10 → 128 ^ i ≤ 128 ^ 9
 scale-bound i h = pow-le-pow_right {n = 128} (lit< tt) {i = i} {j = 9} (omega arith)
 
+pub short_scale : (i : ℕ) → i < 9 → 128 ^ i ≤ 128 ^ 8
+short_scale i h = pow-le-pow_right {n = 128} (lit< tt) {i = i} {j = 8} (omega arith)
+
+-- a number of at most nine bytes has 64 bits
+pub short_fits : (text : List ℕ) → length text < 10 → uleb128_value text < 2 ^ 64
+short_fits text h =
+    let g : 128 ^ length text ≤ 128 ^ 9 = pow-le-pow_right {n = 128} (lit< tt) {i = length text} {j = 9} (omega arith) in
+    omega (arith, g, uleb128_value-bound text)
+
 sevens : (n : ℕ) → 2 ^ (7 * n) ≡ 128 ^ n
 sevens zero = refl
 sevens (suc n) =

@@ -10,6 +10,7 @@ pub mod FixedTexts
 pub mod ValueTexts
 pub mod AttributeTexts
 pub mod SizeLemmas
+pub mod UsualSize
 pub mod SkipLemmas
 pub mod AlikeLemmas
 pub mod AbbrevLemmas

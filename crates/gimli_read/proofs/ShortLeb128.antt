@@ -1,5 +1,5 @@
--- Numbers of one byte (on specs/Leb128.antt).
-use Rattle.std.proofs.Common.{◌≡◌, ℕ, ◌*◌, ◌<◌, ◌≤◌, ◌^◌, List, [], ◌∷◌, drop, Some, Ok, true, refl, sym, ap, ◌∙◌, ◌⊎◌, inl, inr, arith, pos, negsuc, ◌-◌, ◌-ℤ◌, w64, to_z, of_z, ◌/◌, rules}
+-- Numbers of one byte and of two (on specs/Leb128.antt).
+use Rattle.std.proofs.Common.{◌≡◌, ℕ, zero, suc, ◌+◌, ◌*◌, ◌%◌, ◌<◌, ◌≤◌, ◌^◌, List, [], ◌∷◌, length, drop, get_or, Some, Ok, true, refl, sym, ap, ◌∙◌, ◌⊎◌, inl, inr, arith, pos, negsuc, ◌-◌, ◌-ℤ◌, w64, to_z, of_z, ◌/◌, rules}
 use Rattle.std.proofs.Math.Facts.{to_z_pos}
 use Rattle.std.proofs.lemmas.Int.{to_z-of_z}
 use Rattle.std.proofs.lemmas.Bool.{lt-ltb, le-ltb, cases_lt}
@@ -26,6 +26,28 @@ unsigned_byte [] b e h = absurd cc
 unsigned_byte (x ∷ rest) b e h =
     let same : x ≡ b = cc in
     ap (λ y. uleb128_in (y ∷ rest)) same ∙ uleb128_reads (b ∷ []) rest b (byte_text b h, byte_value b h, omega arith)
+
+-- a byte from 128 on, and one below it, are the text of a number
+pair_text : (a b : ℕ) → 128 ≤ a → b < 128 → IsLeb128Text (a ∷ b ∷ [])
+pair_text a b h k = record {
+  some = omega arith;
+  at_most_ten = omega arith;
+  continued = first;
+  ended = k;
+}
+  where
+    first : (i : ℕ) → i + 1 < 2 → 128 ≤ get_or (a ∷ b ∷ []) i 0
+    first zero l = h
+    first (suc i) l = absurd (omega arith)
+
+pair_value : (a b : ℕ) → b < 128 → a % 128 + b * 128 ≡ uleb128_value (a ∷ b ∷ [])
+unfolding sum_from
+pair_value a b k = grind (arith, common_steps)
+
+pub unsigned_pair : (bytes : List ℕ) → 2 ≤ length bytes → 128 ≤ get_or bytes 0 0 → get_or bytes 1 0 < 128 → uleb128_in bytes ≡ Ok (get_or bytes 0 0 % 128 + get_or bytes 1 0 * 128, drop 2 bytes)
+unsigned_pair [] l h k = absurd (omega arith)
+unsigned_pair (a ∷ []) l h k = absurd (omega arith)
+unsigned_pair (a ∷ b ∷ rest) l h k = uleb128_reads (a ∷ b ∷ []) rest (a % 128 + b * 128) (pair_text a b h k, pair_value a b k, omega arith)
 
 positive_is : (b : ℕ) → b < 64 → pos b ≡ sleb128_value (b ∷ [])
 positive_is b h = rw (lt-ltb b 64 h) (ap pos (byte_value b (omega arith)))

@@ -1,16 +1,16 @@
 -- Attributes of known sizes, and attributes one after another (on specs/ValueSize.antt and specs/Skip.antt).
-use Rattle.std.proofs.Common.{◌≡◌, ℕ, suc, add-one, ◌+◌, ◌-◌, ◌*◌, ◌<◌, ◌≤◌, ◌==◌, Bool, true, false, cond, ltb, List, [], ◌∷◌, ◌++◌, length, drop, get_or, Option, Some, None, Result, Ok, Err, refl, sym, ap, ◌∙◌, arith, length-drop, drop-drop, ℤ}
+use Rattle.std.proofs.Common.{◌≡◌, ℕ, suc, add-one, ◌+◌, ◌*◌, ◌<◌, ◌≤◌, ◌==◌, Bool, true, false, cond, ltb, List, [], ◌∷◌, ◌++◌, length, drop, get_or, Option, Some, None, Result, Ok, Err, refl, sym, ap, ◌∙◌, arith, length-drop, drop-drop, ℤ}
 use Rattle.std.proofs.lemmas.Bool.{eqb-true, lt-ltb, le-ltb, ltb-false, ltb-true}
-use Rattle.std.proofs.lemmas.List.{at_drop_more, at_drop_all, append_assoc}
-use Rattle.std.proofs.lemmas.Bool.Decides.{nat_tests}
+use Rattle.std.proofs.lemmas.List.{at_drop_more, at_drop_all}
 use Rattle.gimli_read.specs.declared.error.Error.{Error}
-use Rattle.gimli_read.specs.declared.error.Error.TheVariants.{UnexpectedEof, UnknownForm, UnsupportedAddressSize}
+use Rattle.gimli_read.specs.declared.error.Error.TheVariants.{UnexpectedEof, UnsupportedAddressSize}
 use Rattle.gimli_read.specs.declared.endian.Encoding.{Encoding}
 use Rattle.gimli_read.specs.declared.endian.Format.{Format}
 use Rattle.gimli_read.specs.declared.endian.Format.TheVariants.{Dwarf32, Dwarf64}
 use Rattle.gimli_read.specs.declared.constants.TheConstants.DwForm.{DW_FORM_indirect, DW_FORM_implicit_const}
 use Rattle.gimli_read.specs.declared.value.AttributeValue.{AttributeValue}
 use Rattle.gimli_read.specs.declared.size.ValueSize.TheVariants as sizes
+use Rattle.gimli_read.specs.declared.size.CountedSize.{CountedSize}
 use Rattle.gimli_read.specs.declared.size.TotalSize.{TotalSize}
 use Rattle.gimli_read.specs.Abbreviations.{Specification}
 use Rattle.gimli_read.specs.Section.{Section, after}
@@ -18,7 +18,7 @@ use Rattle.gimli_read.specs.Reading.{Reading, ◌>>=◌}
 use Rattle.gimli_read.specs.Number.{number_of, fixed_at, skipped_at, address_at, offset_at, is_address_size, offset_size}
 use Rattle.gimli_read.specs.FormEncoding.{FormEncoding, Fixed, Address, Offset, AddressOrOffset, Unsigned, Signed, Block1, Block2, Block4, Block, Text, Empty, form_encoding_of, as_value, address_or_offset_at, encoded_at}
 use Rattle.gimli_read.specs.Form.{NamedValue, rest_of, direct_at, form_at, value_at, implicit_of, named_value, attribute_at, attributes_at}
-use Rattle.gimli_read.specs.ValueSize.{encoded_size, constant_size, address_bytes, bytes_of, attribute_size, address_or_offset_bytes, total_bytes, LeavesItsSize}
+use Rattle.gimli_read.specs.ValueSize.{encoded_size, constant_size, address_bytes, bytes_of, attribute_size, address_or_offset_bytes, counted_bytes, no_size, is_usual, total_bytes, LeavesItsSize}
 use Rattle.gimli_read.specs.Skip.{rest_after}
 use Rattle.gimli_read.specs.declared.abbrev.SizedRun.{SizedRun}
 use Rattle.gimli_read.specs.SizedRuns.{run_rest, runs_rest, rest_after_runs}
@@ -259,14 +259,18 @@ either_known e v = at (e.version == 2)
 once_more : (a n k : ℕ) → n ≡ a + 1 → n * k ≡ a * k + k
 once_more a n k h = let step : suc a * k ≡ a * k + k = omega arith in ap (λ x. x * k) (h ∙ add-one a) ∙ step
 
-pub more_addresses : (e : Encoding) (t : TotalSize) (n : ℕ) → n ≡ t.addresses + 1 → total_bytes e (record t { addresses = n }) ≡ total_bytes e t + e.address_size
+pub more_addresses : (e : Encoding) (t : CountedSize) (n : ℕ) → n ≡ t.addresses + 1 → counted_bytes e (record t { addresses = n }) ≡ counted_bytes e t + e.address_size
 more_addresses e t n h = let step = once_more t.addresses n e.address_size h in omega (arith, step)
 
-pub more_offsets : (e : Encoding) (t : TotalSize) (n : ℕ) → n ≡ t.offsets + 1 → total_bytes e (record t { offsets = n }) ≡ total_bytes e t + offset_size e.format
+pub more_offsets : (e : Encoding) (t : CountedSize) (n : ℕ) → n ≡ t.offsets + 1 → counted_bytes e (record t { offsets = n }) ≡ counted_bytes e t + offset_size e.format
 more_offsets e t n h = let step = once_more t.offsets n (offset_size e.format) h in omega (arith, step)
 
-pub more_of_either : (e : Encoding) (t : TotalSize) (n : ℕ) → n ≡ t.addresses_or_offsets + 1 → total_bytes e (record t { addresses_or_offsets = n }) ≡ total_bytes e t + address_or_offset_bytes e
+pub more_of_either : (e : Encoding) (t : CountedSize) (n : ℕ) → n ≡ t.addresses_or_offsets + 1 → counted_bytes e (record t { addresses_or_offsets = n }) ≡ counted_bytes e t + address_or_offset_bytes e
 more_of_either e t n h = let step = once_more t.addresses_or_offsets n (address_or_offset_bytes e) h in omega (arith, step)
 
-pub total_zero : (e : Encoding) → total_bytes e (record { bytes = 0; addresses = 0; offsets = 0; addresses_or_offsets = 0 }) ≡ 0
-total_zero e = omega arith
+pub total_zero : (e : Encoding) → total_bytes e no_size ≡ 0
+total_zero e = at (is_usual e)
+  where
+    at : (b : Bool) → cond b 0 (counted_bytes e no_size.counted) ≡ 0
+    at true = refl
+    at false = omega arith

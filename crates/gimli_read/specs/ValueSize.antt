@@ -1,10 +1,11 @@
 -- How many bytes values take whose form alone says so (DWARF 5, sections 7.5.5 and 7.5.6).
 -- Own: an address of a size other than 1, 2, 4 and 8 has none, since no such value is read.
-use Rattle.std.specs.Prelude.{◌≡◌, ℕ, ◌+◌, ◌*◌, ◌==◌, true, Option, Some, None, if◌then◌else◌, ℤ}
+use Rattle.std.specs.Prelude.{◌≡◌, ℕ, ◌+◌, ◌*◌, ◌==◌, ◌&&◌, nat_lt, Bool, true, Option, Some, None, if◌then◌else◌, ℤ}
 use Rattle.gimli_read.specs.declared.constants.TheConstants.DwForm.{DW_FORM_implicit_const}
 use Rattle.gimli_read.specs.declared.endian.Encoding.{Encoding}
 use Rattle.gimli_read.specs.declared.size.ValueSize.{ValueSize}
 use Rattle.gimli_read.specs.declared.size.ValueSize.TheVariants as sizes
+use Rattle.gimli_read.specs.declared.size.CountedSize.{CountedSize}
 use Rattle.gimli_read.specs.declared.size.TotalSize.{TotalSize}
 use Rattle.gimli_read.specs.Section.{Section}
 use Rattle.gimli_read.specs.Abbreviations.{Specification}
@@ -62,11 +63,35 @@ abbrev pub address_or_offset_bytes : Encoding → ℕ
 address_or_offset_bytes encoding =
     if encoding.version == 2 then encoding.address_size else offset_size encoding.format
 
+-- the bytes of so many bytes, addresses and offsets in a unit of an encoding
+abbrev pub counted_bytes : Encoding → CountedSize → ℕ
+counted_bytes encoding t =
+    t.bytes + t.addresses * encoding.address_size + t.offsets * offset_size encoding.format
+    + t.addresses_or_offsets * address_or_offset_bytes encoding
+
+-- whether an encoding is that of a usual unit: addresses of eight bytes, 32-bit DWARF, past version 2
+abbrev pub is_usual : Encoding → Bool
+is_usual encoding =
+    (encoding.address_size == 8) && nat_lt 2 encoding.version && (offset_size encoding.format == 4)
+
 -- the bytes that a total comes to in a unit of an encoding
 abbrev pub total_bytes : Encoding → TotalSize → ℕ
 total_bytes encoding t =
-    t.bytes + t.addresses * encoding.address_size + t.offsets * offset_size encoding.format
-    + t.addresses_or_offsets * address_or_offset_bytes encoding
+    if is_usual encoding then t.usual else counted_bytes encoding t.counted
+
+-- the total of no value
+abbrev pub no_size : TotalSize
+no_size = record {
+  usual = 0;
+  counted = record { bytes = 0; addresses = 0; offsets = 0; addresses_or_offsets = 0 };
+}
+
+-- counts are others with a value of this size, in each encoding whose addresses can be read
+abbrev pub AddsCounted : ValueSize → CountedSize → CountedSize → Type 0
+AddsCounted size old new =
+    (encoding : Encoding) → is_address_size encoding.address_size ≡ true
+    → (n : ℕ) × (bytes_of encoding size ≡ Some n)
+    × (counted_bytes encoding new ≡ counted_bytes encoding old + n)
 
 -- one total is another with a value of this size, in each encoding whose addresses can be read
 abbrev pub AddsSize : ValueSize → TotalSize → TotalSize → Type 0

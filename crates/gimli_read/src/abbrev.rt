@@ -63,6 +63,7 @@ impl AttributeSpecification {
     }
 
     // What says how many bytes the attribute's value has.
+    #[inline(always)]
     fn value_size(&self) -> ValueSize
         ensures gives { result ≡ value_size_of self.now }
     {
@@ -78,6 +79,7 @@ impl AttributeSpecification {
     /// How many bytes the attribute's value has in a unit of this encoding, where its form alone
     /// says so; none for another form, and for an address of a size other than 1, 2, 4 and 8. Takes
     /// no memory. Source: DWARF 5, section 7.5.6.
+    #[inline(always)]
     pub fn size(&self, encoding: Encoding) -> Option<u8>
         ensures gives { result ≡ attribute_size encoding self.now }
     {

@@ -51,19 +51,50 @@ fn sum_of(text: &[u8]) -> u128
     sum
 }
 
+// The sum of the bits of a text, unless it has as many bytes as a text may have.
+#[tactic(auto, using(crate::proofs::Leb128Lemmas::leb128_steps, crate::proofs::Leb128Lemmas::short_scale))]
+fn short_sum_of(text: &[u8]) -> u64
+    requires short { length text.now < MAX_LEB128_LEN }
+    ensures gives { result ≡ uleb128_value text.now }
+    ensures bound { result < 128 ^ length text.now }
+{
+    let mut sum = 0;
+    let mut scale = 1u64;
+    for byte in text {
+        sum += (*byte % 128) as u64 * scale;
+        scale *= 128;
+    }
+    sum
+}
+
 // The unsigned number at the front, and the number of its bytes, of any length.
-#[inline(never)]
-#[tactic(auto, unfolding(crate::specs::Leb128::uleb128_in))]
+#[tactic(auto, unfolding(crate::specs::Leb128::uleb128_in), using(crate::proofs::Leb128Lemmas::short_fits))]
 fn any_unsigned(bytes: &[u8]) -> Result<(u64, usize), Error>
     ensures gives { Exactly (λ x. (x.0, drop x.1 bytes.now)) result (uleb128_in bytes.now) }
     ensures bound { IfOk result (λ x. x.1 ≤ length bytes.now) }
 {
     let text = text_of(bytes)?;
+    if text.len() < MAX_LEB128_LEN {
+        return Ok((short_sum_of(text), text.len()));
+    }
     let sum = sum_of(text);
     if sum > u64::MAX as u128 {
         return Err(Error::BadLeb128);
     }
     Ok((sum as u64, text.len()))
+}
+
+// The unsigned number at the front, and the number of its bytes, two of them at once.
+#[inline(never)]
+#[tactic(auto, using(crate::proofs::ShortLeb128::unsigned_pair))]
+fn long_unsigned(bytes: &[u8]) -> Result<(u64, usize), Error>
+    ensures gives { Exactly (λ x. (x.0, drop x.1 bytes.now)) result (uleb128_in bytes.now) }
+    ensures bound { IfOk result (λ x. x.1 ≤ length bytes.now) }
+{
+    if bytes.len() >= 2 && bytes[0] >= 128 && bytes[1] < 128 {
+        return Ok(((bytes[0] % 128) as u64 + bytes[1] as u64 * 128, 2));
+    }
+    any_unsigned(bytes)
 }
 
 /// The unsigned number at the front, and the number of its bytes.
@@ -76,7 +107,7 @@ pub(crate) fn unsigned(bytes: &[u8]) -> Result<(u64, usize), Error>
     // Most numbers are of one byte.
     match bytes.first() {
         Some(byte) if *byte < 128 => Ok((u64::from(*byte), 1)),
-        _ => any_unsigned(bytes),
+        _ => long_unsigned(bytes),
     }
 }
 

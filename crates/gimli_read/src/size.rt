@@ -3,7 +3,7 @@
 ghost use Rattle.std.specs.Prelude.{◌≡◌, ◌+◌, Some, IfSome, true};
 ghost use Rattle.gimli_read.specs.FormEncoding.{form_encoding_of};
 ghost use Rattle.gimli_read.specs.Number.{is_address_size, offset_size};
-ghost use Rattle.gimli_read.specs.ValueSize.{encoded_size, address_bytes, bytes_of, total_bytes, AddsSize};
+ghost use Rattle.gimli_read.specs.ValueSize.{encoded_size, address_bytes, bytes_of, counted_bytes, no_size, is_usual, total_bytes, AddsCounted, AddsSize};
 
 use crate::constants::DwForm;
 use crate::endian::{Encoding, Format};
@@ -22,6 +22,13 @@ pub enum ValueSize {
     /// The value itself, or nothing where the form has none.
     Variable,
 }
+
+// The encoding of a usual unit.
+const USUAL: Encoding = Encoding {
+    address_size: 8,
+    format: Format::Dwarf32,
+    version: 5,
+};
 
 // What says how many bytes a value of a form has. DW_FORM_implicit_const has none in an entry.
 #[tactic(auto, unfolding(crate::specs::FormEncoding::form_encoding_of))]
@@ -84,6 +91,7 @@ pub(crate) fn address_bytes(encoding: Encoding) -> Option<u8>
 
 impl ValueSize {
     // The bytes of a value in a unit of this encoding, where its form alone says so.
+    #[inline(always)]
     pub(crate) fn bytes(self, encoding: Encoding) -> Option<u8>
         ensures gives { result ≡ bytes_of encoding self }
     {
@@ -103,9 +111,18 @@ impl ValueSize {
     }
 }
 
-/// How many bytes the values of an entry have together, where the forms alone say so.
+// Whether values have the sizes that they have in most units: addresses of eight bytes in 32-bit
+// DWARF, past version 2.
+#[inline(always)]
+pub(crate) fn is_usual(encoding: Encoding) -> bool
+    ensures gives { result ≡ is_usual encoding }
+{
+    encoding.address_size == 8 && encoding.version > 2 && offset_bytes(encoding.format) == 4
+}
+
+// The bytes, addresses and offsets of values.
 #[derive(Clone, Copy, Debug, PartialEq, Eq)]
-pub struct TotalSize {
+struct CountedSize {
     // The bytes of the values that have as many in every unit.
     bytes: u32,
     // How many addresses there are.
@@ -116,27 +133,10 @@ pub struct TotalSize {
     addresses_or_offsets: u32,
 }
 
-impl TotalSize {
-    // Of no value.
-    pub(crate) fn new() -> TotalSize
-        ensures gives { result ≡ record {
-          bytes = 0;
-          addresses = 0;
-          offsets = 0;
-          addresses_or_offsets = 0;
-        } }
-    {
-        TotalSize {
-            bytes: 0,
-            addresses: 0,
-            offsets: 0,
-            addresses_or_offsets: 0,
-        }
-    }
-
+impl CountedSize {
     // With one more value; none where it has no known size, and where a number gets too large.
-    pub(crate) fn with(self, size: ValueSize) -> Option<TotalSize>
-        ensures adds { IfSome result (AddsSize size self) }
+    fn with(self, size: ValueSize) -> Option<CountedSize>
+        ensures adds { IfSome result (AddsCounted size self) }
     {
         let mut total = self;
         match size {
@@ -152,8 +152,8 @@ impl TotalSize {
     }
 
     // The bytes in a unit of this encoding.
-    pub(crate) fn bytes(self, encoding: Encoding) -> u64
-        ensures gives { result ≡ total_bytes encoding self }
+    fn bytes(self, encoding: Encoding) -> u64
+        ensures gives { result ≡ counted_bytes encoding self }
     {
         let address = u64::from(encoding.address_size);
         let offset = u64::from(offset_bytes(encoding.format));
@@ -166,5 +166,54 @@ impl TotalSize {
             + u64::from(self.addresses) * address
             + u64::from(self.offsets) * offset
             + u64::from(self.addresses_or_offsets) * either
+    }
+}
+
+/// How many bytes the values of an entry have together, where the forms alone say so.
+#[derive(Clone, Copy, Debug, PartialEq, Eq)]
+pub struct TotalSize {
+    // In a usual unit, so that nothing has to be counted there.
+    usual: u32,
+    counted: CountedSize,
+}
+
+impl TotalSize {
+    // Of no value.
+    pub(crate) fn new() -> TotalSize
+        ensures gives { result ≡ no_size }
+    {
+        TotalSize {
+            usual: 0,
+            counted: CountedSize {
+                bytes: 0,
+                addresses: 0,
+                offsets: 0,
+                addresses_or_offsets: 0,
+            },
+        }
+    }
+
+    // With one more value; none where it has no known size, and where a number gets too large.
+    #[tactic(auto, using(crate::proofs::UsualSize::adds_size))]
+    pub(crate) fn with(self, size: ValueSize) -> Option<TotalSize>
+        ensures adds { IfSome result (AddsSize size self) }
+    {
+        let more = size.bytes(USUAL)?;
+        Some(TotalSize {
+            usual: self.usual.checked_add(u32::from(more))?,
+            counted: self.counted.with(size)?,
+        })
+    }
+
+    // The bytes in a unit of this encoding.
+    #[inline(always)]
+    pub(crate) fn bytes(self, encoding: Encoding) -> u64
+        ensures gives { result ≡ total_bytes encoding self }
+    {
+        if is_usual(encoding) {
+            u64::from(self.usual)
+        } else {
+            self.counted.bytes(encoding)
+        }
     }
 }

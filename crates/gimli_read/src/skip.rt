@@ -15,7 +15,7 @@ use crate::endian::Encoding;
 use crate::endian_slice::EndianSlice;
 use crate::error::Error;
 use crate::reader::{Reader, zero_of};
-use crate::size::{TotalSize, address_bytes};
+use crate::size::{TotalSize, address_bytes, is_usual};
 use crate::value::read_attribute;
 
 // A reader that borrows what another one has left.
@@ -173,6 +173,7 @@ fn skip_each(
 ///
 /// Refused as `read_attribute` is at the first that can't be read, but for `OutOfMemory`. After a
 /// refusal the reader stands where it stood.
+#[inline(always)]
 #[tactic(auto, using(crate::proofs::SkipLemmas::attributes_skipped, crate::proofs::SkipLemmas::attributes_leave))]
 pub fn skip_attributes<R: Reader>(
     input: &mut R,
@@ -216,9 +217,9 @@ fn skip_runs(
     bytes.skip(last.bytes(encoding))
 }
 
-// Passes over the attributes of an abbreviation.
-#[inline(always)]
-fn skip_all(
+// Passes over the attributes of an abbreviation in a unit that isn't a usual one.
+#[inline(never)]
+fn skip_all_counted(
     bytes: &mut EndianSlice<'_>,
     encoding: Encoding,
     abbreviation: &Abbreviation,
@@ -231,14 +232,30 @@ fn skip_all(
             let (runs, last) = abbreviation.runs();
             skip_runs(bytes, encoding, runs, last)
         }
-        None => {
-            // As in `skip_value`.
-            let mut rest = bytes.duplicate()?;
-            skip_each(&mut rest, encoding, abbreviation.attributes())?;
-            *bytes = rest;
-            Ok(())
-        }
+        None => skip_each(bytes, encoding, abbreviation.attributes()),
     }
+}
+
+// Passes over the attributes of an abbreviation.
+#[inline(always)]
+#[tactic(auto, using(crate::proofs::UsualSize::usual_address))]
+fn skip_all(
+    bytes: &mut EndianSlice<'_>,
+    encoding: Encoding,
+    abbreviation: &Abbreviation,
+) -> Result<(), Error>
+    ensures gives { Exactly (λ _. bytes.new) result
+        (rest_of (attributes_at encoding abbreviation.now.attributes bytes.old)) }
+{
+    if is_usual(encoding) {
+        let (runs, last) = abbreviation.runs();
+        return skip_runs(bytes, encoding, runs, last);
+    }
+    // As in `skip_value`.
+    let mut rest = bytes.duplicate()?;
+    skip_all_counted(&mut rest, encoding, abbreviation)?;
+    *bytes = rest;
+    Ok(())
 }
 
 /// Passes over all attributes of an entry of an abbreviation, as `skip_attributes` does, those of

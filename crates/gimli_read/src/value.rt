@@ -281,6 +281,7 @@ pub(crate) fn read_form<R: Reader>(input: &mut R) -> Result<DwForm, Error>
 /// Refused `UnknownForm` for another form, also after indirections, the refusals of a number of the
 /// form, `UnexpectedEof` where bytes are missing, and `OutOfMemory` for a block, an expression or a
 /// string at a reader that shares its bytes. After a refusal the reader may stand anywhere.
+#[inline(always)]
 #[tactic(auto, unfolding(crate::specs::Form::value_at))]
 pub fn read_value<R: Reader>(
     input: &mut R,
@@ -340,6 +341,7 @@ impl<R: Reader> Attribute<R> {
 /// Refused `UnknownForm` for a form that isn't known, the refusals of a number of the form,
 /// `UnexpectedEof` where bytes are missing, and `OutOfMemory` as `read_value` is. After a refusal
 /// the reader may stand anywhere.
+#[inline(always)]
 #[tactic(auto, unfolding(crate::specs::Form::attribute_at))]
 pub fn read_attribute<R: Reader>(
     input: &mut R,

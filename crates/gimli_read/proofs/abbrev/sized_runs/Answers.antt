@@ -1,8 +1,11 @@
-use Rattle.std.proofs.Common.{◌≡◌, refl, sym, ◌∙◌}
-use Rattle.gimli_read.proofs.SizeLemmas.{so_far_sized, so_far_other, so_far_end, total_zero}
-use Rattle.gimli_read.specs.ValueSize.{total_bytes}
+use Rattle.std.proofs.Common.{◌≡◌, sym, ◌∙◌}
+use Rattle.gimli_read.proofs.SizeLemmas.{so_far_start, so_far_sized, so_far_other, so_far_end, total_zero}
+use Rattle.gimli_read.specs.ValueSize.{no_size, total_bytes}
 use Rattle.gimli_read.proofs.abbrev.sized_runs.Goals as goal
 use Rattle.gimli_read.proofs.abbrev.sized_runs.Goals.{in-Some, in-None+in_ok-push-in-None}
+
+pub loop-attribute-init : goal.loop-attribute-init
+loop-attribute-init c = λ e s v. rw (c.new-runs.ensures.items, c.new-last.ensures.gives) (so_far_start e no_size c.args.attributes.now s (total_zero e))
 
 pub loop-attribute-preserved : goal.loop-attribute-preserved
 loop-attribute-preserved c = λ e s v. elim c.match-with.branch [

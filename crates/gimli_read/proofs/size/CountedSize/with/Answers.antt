@@ -2,7 +2,7 @@ use Rattle.std.proofs.Common.{◌≡◌, ◌+◌, refl, arith}
 use Rattle.gimli_read.specs.Number.{offset_size}
 use Rattle.gimli_read.specs.ValueSize.{address_or_offset_bytes}
 use Rattle.gimli_read.proofs.SizeLemmas.{address_known, either_known, more_addresses, more_offsets, more_of_either}
-use Rattle.gimli_read.proofs.size.TotalSize.with.Goals as goal
+use Rattle.gimli_read.proofs.size.CountedSize.with.Goals as goal
 
 pub returns-in_ok-total-in-Address : goal.returns-in_ok-total-in-Address
 returns-in_ok-total-in-Address c =

@@ -96,29 +96,6 @@ never_waits v w b h same e t =
     let f : waits w.view.state ≡ false = ap (λ x. waits x.view.state) (same (decided_was_looked_at v.view.state h)) ∙ decided_waits_not v.view.state h in
     let k : true ≡ false = sym t ∙ e ∙ f in cc
 
--- beside each unit stands what is kept of its entries
-pub as_many_entries : {R : Type 0} (scope : Scope) (us : List UnitRecord) (vs : List (UnitEntries R)) → HaveEntriesOf scope us vs → length us ≡ length vs
-as_many_entries scope [] [] h = refl
-as_many_entries scope [] (v ∷ vs) h = absurd h
-as_many_entries scope (u ∷ us) [] h = absurd h
-as_many_entries scope (u ∷ us) (v ∷ vs) h = ap suc (as_many_entries scope us vs h.1)
-
--- what is kept of the entries of the unit of a number is its own
-pub entries_at : {R : Type 0} (scope : Scope) (us : List UnitRecord) (vs : List (UnitEntries R)) (n : ℕ) (u : UnitRecord) (v : UnitEntries R) → n < length us → u ≡ get_or us n u → v ≡ get_or vs n v
-    → HaveEntriesOf scope us vs → AreEntriesOf scope u v
-entries_at scope [] vs n u v h e f own = absurd (omega arith)
-entries_at scope (x ∷ us) [] n u v h e f own = absurd own
-entries_at {R} scope (x ∷ us) (y ∷ vs) zero u v h e f own = subst (λ w. AreEntriesOf scope u w) (sym f) (subst (λ w. AreEntriesOf {R = R} scope w y) (sym e) own.0)
-entries_at scope (x ∷ us) (y ∷ vs) (suc n) u v h e f own = entries_at scope us vs n u v (omega arith) e f own.1
-
-pub entries_set : {R : Type 0} (scope : Scope) (us : List UnitRecord) (vs : List (UnitEntries R)) (n : ℕ) (u : UnitRecord) (w : UnitEntries R) → u ≡ get_or us n u → HaveEntriesOf scope us vs
-    → AreEntriesOf scope u w → HaveEntriesOf scope us (set vs n w)
-entries_set scope [] [] n u w e own new = tt
-entries_set scope [] (y ∷ vs) n u w e own new = absurd own
-entries_set scope (x ∷ us) [] n u w e own new = absurd own
-entries_set {R} scope (x ∷ us) (y ∷ vs) zero u w e own new = (subst (λ z. AreEntriesOf {R = R} scope z w) e new, own.1)
-entries_set scope (x ∷ us) (y ∷ vs) (suc n) u w e own new = (own.0, entries_set scope us vs n u w e own.1 new)
-
 -- the first answer of the unit of a number
 pub answer_at : {R : Type 0} (vs : List (UnitEntries R)) (n : ℕ) (v : UnitEntries R) → n < length vs → v ≡ get_or vs n v → answer_of (answers_in vs) n ≡ kept_answer v
 answer_at [] n v h e = absurd (omega arith)

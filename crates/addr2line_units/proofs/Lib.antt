@@ -19,3 +19,7 @@ pub mod ViewLemmas
 pub mod AnswerLemmas
 pub mod ScopeLemmas
 pub mod WaitLemmas
+pub mod KeptLookupLemmas
+pub mod NumberedFrames
+pub mod FramesLookupLemmas
+pub mod WalkLemmas

@@ -42,8 +42,7 @@ impl<R: Reader> UnitEntries<R> {
         ensures refused { IfErr result (λ e. (e ≡ OutOfMemory) × (self.new ≡ self.old)
             × (is_some sections ≡ true)) }
     {
-        self.view
-            .decide(alloc, scope.file.dwarf, dw_unit, sections)
+        self.view.decide(alloc, scope.file.dwarf, dw_unit, sections)
     }
 
     // Forgets the answer, if there is one, and what was read of its view: the unit waits for one

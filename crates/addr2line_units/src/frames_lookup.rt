@@ -1,6 +1,6 @@
 //! Lookups of frames among units.
 
-ghost use Rattle.std.specs.Prelude.{◌≡◌, ◌&&◌, ◌≤◌, IfOk, Ok, not, slice_get, true};
+ghost use Rattle.std.specs.Prelude.{◌≡◌, ◌&&◌, ◌≤◌, IfOk, Ok, false, not, slice_get, true};
 ghost use Rattle.gimli_read.specs.Reading.{ExactlyUnlessOom};
 ghost use Rattle.addr2line_lines.specs.References.{IsScope};
 ghost use Rattle.addr2line_lines.specs.SeenScope.{seen_scope};
@@ -86,23 +86,19 @@ fn find_frames_at<R: Reader>(
         → IsNotOom result }
     ensures raised { looks.old ≤ looks.new }
 {
-    if number >= units.len() {
+    let Some(dw_unit) = scope.file.units.get(number) else {
         return Ok(UnitFrames::Here {
             function: None,
             row: None,
         });
-    }
-    let dw_unit = &scope.file.units[number];
+    };
     let unit = &mut units[number];
     let entries = &mut entries[number];
     find_frames_in(alloc, scope, dw_unit, unit, entries, looks, probe)
 }
 
 // A fault as it is, or nothing in its place where a lookup passes over it.
-fn after_fault(
-    found: Result<UnitFrames, Error>,
-    faults: Faults,
-) -> Result<UnitFrames, Error>
+fn after_fault(found: Result<UnitFrames, Error>, faults: Faults) -> Result<UnitFrames, Error>
     ensures gives { result ≡ found_after_fault faults found }
 {
     match (found, faults) {

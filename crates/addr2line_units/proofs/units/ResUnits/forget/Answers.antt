@@ -2,7 +2,8 @@ use Rattle.std.proofs.Common.{ap, arith, option_map, rules, sym, ◌∙◌}
 use Rattle.std.proofs.Math.ListN.{set}
 use Rattle.addr2line_lines.specs.SeenScope.{seen_file}
 use Rattle.addr2line_units.specs.KeptLookups.{answers_in, scope_in, sup_file}
-use Rattle.addr2line_units.proofs.AnswerLemmas.{answers_set, as_many_entries, entries_at, entries_set, in_same_scope}
+use Rattle.addr2line_units.proofs.AnswerLemmas.{answers_set, in_same_scope}
+use Rattle.addr2line_units.proofs.KeptLookupLemmas.{as_many_entries, entries_at, entries_set}
 use Rattle.addr2line_units.proofs.units.ResUnits.forget.Goals as goal
 
 pub index_mut-entries-requires : goal.index_mut-entries-requires
@@ -15,8 +16,12 @@ index_mut-entries-requires g c =
 pub forget-requires : goal.forget-requires
 forget-requires g c =
     let s = c.args.self.now in
-    record { kept = in_same_scope c.args.dwarf.now s.dw_units.items c.deref.result.now (sup_file c.args.sup.now) (option_map seen_file c.file.result) c.index.result.now c.index_mut-entries.result.now (search rules) (sym c.file.ensures.gives)
-    (entries_at (scope_in c.args.dwarf.now s.dw_units.items c.args.sup.now) s.dw_units.items s.entries.items c.args.number c.index.result.now c.index_mut-entries.result.now c.requires.there (search rules) c.index_mut-entries.ensures.value c.requires.kept) }
+    let many = as_many_entries (scope_in c.args.dwarf.now s.dw_units.items c.args.sup.now) s.dw_units.items s.entries.items c.requires.kept in
+    let there = c.requires.there in
+    record {
+      kept = in_same_scope c.args.dwarf.now s.dw_units.items c.deref.result.now (sup_file c.args.sup.now) (option_map seen_file c.file.result) c.index.result.now c.index_mut-entries.result.now (search rules) (sym c.file.ensures.gives)
+          (entries_at (scope_in c.args.dwarf.now s.dw_units.items c.args.sup.now) s.dw_units.items s.entries.items c.args.number c.index.result.now c.index_mut-entries.result.now (omega (arith, many, there)) (search rules) c.index_mut-entries.ensures.value c.requires.kept);
+    }
 
 pub returns-clause-kept : goal.returns-clause-kept
 returns-clause-kept g c =

@@ -1,0 +1,182 @@
+-- Lookups of frames along ranges (on specs/FramesLookup.antt and specs/KeptLookups.antt).
+use Rattle.std.proofs.Common.{◌≡◌, ◌≢◌, ℕ, suc, zero, ◌<◌, ◌≤◌, ◌⊎◌, inl, inr, Bool, true, false, ◌&&◌, ◌||◌, not, List, [], ◌∷◌, length, get_or, slice_get, Option, Some, None, option_map, Result, Ok, Err, refl, ap, sym, subst, ◌∙◌, arith, reverse}
+use Rattle.std.proofs.Math.ListN.{set}
+use Rattle.std.specs.Prelude.{IfOk, IfSome}
+use Rattle.gimli_read.specs.declared.constants.DwLang.{DwLang}
+use Rattle.gimli_read.specs.declared.error.Error.{Error}
+use Rattle.gimli_read.specs.declared.error.Error.TheVariants.{OutOfMemory}
+use Rattle.gimli_read.specs.Reading.{◌>>=◌, ExactlyUnlessOom}
+use Rattle.gimli_read.specs.Section.{Section}
+use Rattle.gimli.specs.Sections.{Sections}
+use Rattle.gimli.specs.Unit.{UnitRecord}
+use Rattle.addr2line_lines.specs.Details.{InlinedEntry}
+use Rattle.addr2line_lines.specs.Location.{Location}
+use Rattle.addr2line_lines.specs.References.{Scope}
+use Rattle.addr2line_units.specs.declared.frames_lookup.Faults.{Faults}
+use Rattle.addr2line_units.specs.declared.frames_lookup.Faults.TheVariants.{End, PassOver}
+use Rattle.addr2line_units.specs.declared.frames_lookup.FramesStop.{FramesStop}
+use Rattle.addr2line_units.specs.declared.frames_lookup.FramesStop.TheVariants as stops
+use Rattle.addr2line_units.specs.declared.index.UnitRange.{UnitRange}
+use Rattle.addr2line_units.specs.declared.unit.ResUnit.{ResUnit}
+use Rattle.addr2line_units.specs.declared.unit_frames.UnitEntries.{UnitEntries}
+use Rattle.addr2line_units.specs.declared.unit_frames.UnitFrames.{UnitFrames}
+use Rattle.addr2line_units.specs.declared.unit_frames.UnitFrames.TheVariants as found
+use Rattle.addr2line_units.specs.CachedLines.{cached_files, lines_at}
+use Rattle.addr2line_units.specs.Frames.{FrameRecord, found_frames, frames_from}
+use Rattle.addr2line_units.specs.FramesLookup.{Stop, Waits, Finds, FindsNothing, LookupAsks, after_fault, ends_lookup, holds_along, or_stop, stop_along}
+use Rattle.addr2line_units.specs.KeptLookups.{AreFoundAt, IsStopIn, found_after_fault, frames_found_at, has_entries_at, has_frames_at, seen_stop, stop_of_found}
+use Rattle.addr2line_units.specs.Parsed.{IsNotOom, ParsesOnly, StaysParsed, has_parsed}
+
+-- a fault that a lookup passes over
+module _ (faults : Faults) where
+  pub gives_after : (see : UnitFrames → Option (List FrameRecord)) (r : Result UnitFrames Error) (given : Result (Option (List FrameRecord)) Error) → see (found.Here None None) ≡ Some []
+      → ExactlyUnlessOom see r given → ExactlyUnlessOom see (found_after_fault faults r) (after_fault faults given)
+  gives_after see r given nothing h = of_faults faults r h
+    where
+      passed : (e : Error) → ExactlyUnlessOom see (Err e) given → ExactlyUnlessOom see (found_after_fault PassOver (Err e)) (after_fault PassOver given)
+      passed OutOfMemory h = λ ne. absurd (ne refl)
+      passed _ h = ap (after_fault PassOver) (h (λ q. absurd cc)) ∙ ap (λ x. Ok x) (sym nothing)
+
+      of_faults : (f : Faults) (r : Result UnitFrames Error) → ExactlyUnlessOom see r given → ExactlyUnlessOom see (found_after_fault f r) (after_fault f given)
+      of_faults End (Ok x) h = ap (after_fault End) h
+      of_faults End (Err e) h = λ ne. ap (after_fault End) (h ne)
+      of_faults PassOver (Ok x) h = ap (after_fault PassOver) h
+      of_faults PassOver (Err e) h = passed e h
+
+  pub oom_before : (r : Result UnitFrames Error) → IsNotOom (found_after_fault faults r) → IsNotOom r
+  oom_before r h = of_faults faults r h
+    where
+      passed : (e : Error) → IsNotOom (found_after_fault PassOver (Err e)) → e ≢ OutOfMemory
+      passed OutOfMemory h = h
+      passed _ h = λ q. absurd cc
+
+      of_faults : (f : Faults) (r : Result UnitFrames Error) → IsNotOom (found_after_fault f r) → IsNotOom r
+      of_faults End (Ok x) h = tt
+      of_faults End (Err e) h = h
+      of_faults PassOver (Ok x) h = tt
+      of_faults PassOver (Err e) h = passed e h
+
+  pub oom_after : (r : Result UnitFrames Error) → IsNotOom r → IsNotOom (found_after_fault faults r)
+  oom_after r h = of_faults faults r h
+    where
+      passed : (e : Error) → e ≢ OutOfMemory → IsNotOom (found_after_fault PassOver (Err e))
+      passed OutOfMemory h = h
+      passed _ h = tt
+
+      of_faults : (f : Faults) (r : Result UnitFrames Error) → IsNotOom r → IsNotOom (found_after_fault f r)
+      of_faults End (Ok x) h = tt
+      of_faults End (Err e) h = h
+      of_faults PassOver (Ok x) h = tt
+      of_faults PassOver (Err e) h = passed e h
+
+  pub there_after : {R : Type 0} (rs : List ResUnit) (vs : List (UnitEntries R)) (n : ℕ) (r : Result UnitFrames Error) → IfOk r (AreFoundAt rs vs n) → IfOk (found_after_fault faults r) (AreFoundAt rs vs n)
+  there_after rs vs n r h = of_faults faults r h
+    where
+      passed : (e : Error) → IfOk (found_after_fault PassOver (Err e)) (AreFoundAt rs vs n)
+      passed OutOfMemory = tt
+      passed _ = tt
+
+      of_faults : (f : Faults) (r : Result UnitFrames Error) → IfOk r (AreFoundAt rs vs n) → IfOk (found_after_fault f r) (AreFoundAt rs vs n)
+      of_faults End (Ok x) h = h
+      of_faults End (Err e) h = h
+      of_faults PassOver (Ok x) h = h
+      of_faults PassOver (Err e) h = passed e
+
+-- along ranges
+module _ (frames : ℕ → Result (Option (List FrameRecord)) Error) (r : UnitRange) (rest : List UnitRange) where
+  pub goes_on : frames r.unit ≡ Ok (Some []) → stop_along frames (r ∷ rest) ≡ stop_along frames rest
+  goes_on e = ap (λ x. x >>= or_stop r.unit (stop_along frames rest)) e
+
+  pub faults_there : (f : Error) → frames r.unit ≡ Err f → stop_along frames (r ∷ rest) ≡ Err f
+  faults_there f e = ap (λ x. x >>= or_stop r.unit (stop_along frames rest)) e
+
+  pub holds_first : (holds : ℕ → Bool) → holds_along holds frames (r ∷ rest) ≡ true → holds r.unit ≡ true
+  holds_first holds e = of_bools (holds r.unit) _ e
+    where
+      of_bools : (a b : Bool) → (a && b) ≡ true → a ≡ true
+      of_bools true b e = refl
+      of_bools false b e = e
+
+  pub holds_rest : (holds : ℕ → Bool) → ends_lookup (frames r.unit) ≡ false → holds_along holds frames (r ∷ rest) ≡ true → holds_along holds frames rest ≡ true
+  holds_rest holds e k = of_bools (holds r.unit) (ends_lookup (frames r.unit)) (holds_along holds frames rest) e k
+    where
+      of_bools : (a b c : Bool) → b ≡ false → (a && (b || c)) ≡ true → c ≡ true
+      of_bools true false c e k = k
+      of_bools true true c e k = cc
+      of_bools false b c e k = cc
+
+  pub holds_both : (holds : ℕ → Bool) → holds r.unit ≡ true → holds_along holds frames rest ≡ true → holds_along holds frames (r ∷ rest) ≡ true
+  holds_both holds a c = of_bools (holds r.unit) (ends_lookup (frames r.unit)) (holds_along holds frames rest) a c
+    where
+      of_bools : (a b c : Bool) → a ≡ true → c ≡ true → (a && (b || c)) ≡ true
+      of_bools true true c e k = refl
+      of_bools true false c e k = k
+      of_bools false b c e k = e
+
+  pub holds_ended : (holds : ℕ → Bool) → holds r.unit ≡ true → ends_lookup (frames r.unit) ≡ true → holds_along holds frames (r ∷ rest) ≡ true
+  holds_ended holds a b = of_bools (holds r.unit) (ends_lookup (frames r.unit)) (holds_along holds frames rest) a b
+    where
+      of_bools : (a b c : Bool) → a ≡ true → b ≡ true → (a && (b || c)) ≡ true
+      of_bools true true c e k = refl
+      of_bools true false c e k = cc
+      of_bools false b c e k = e
+
+-- a function that is found has frames
+has_frame : (files : List (List ℕ)) (language : Option DwLang) (offset : ℕ) (name : Option Section) (es : List InlinedEntry) (location : Option Location) (n : ℕ) (rest : Result Stop Error)
+    → or_stop n rest (Some (frames_from files language offset name es location)) ≡ Ok (Finds n (frames_from files language offset name es location))
+has_frame files language offset name [] location n rest = refl
+has_frame files language offset name (e ∷ es) location n rest = refl
+
+frame_ends : (files : List (List ℕ)) (language : Option DwLang) (offset : ℕ) (name : Option Section) (es : List InlinedEntry) (location : Option Location)
+    → ends_lookup (Ok (Some (frames_from files language offset name es location))) ≡ true
+frame_ends files language offset name [] location = refl
+frame_ends files language offset name (e ∷ es) location = refl
+
+-- what a lookup comes to in the unit of a number
+module _ {R : Type 0} (rs : List ResUnit) (vs : List (UnitEntries R)) (n : ℕ) where
+  pub stop_there : (f : UnitFrames) (stop : FramesStop) → stop_of_found n f ≡ Some stop → AreFoundAt rs vs n f → IsStopIn rs vs stop
+  stop_there found.Open stop e h = let same : stops.Waits n ≡ stop = cc in subst (IsStopIn rs vs) same tt
+  stop_there (found.Here None None) stop e h = cc
+  stop_there (found.Here None (Some row)) stop e h =
+      let same : stops.Finds (record { unit = n; function = None; row = Some row }) ≡ stop = cc in subst (IsStopIn rs vs) same h
+  stop_there (found.Here (Some p) row) stop e h =
+      let same : stops.Finds (record { unit = n; function = Some p; row = row }) ≡ stop = cc in subst (IsStopIn rs vs) same h
+
+  pub stop_is : (f : UnitFrames) (stop : FramesStop) (rest : Result Stop Error) → stop_of_found n f ≡ Some stop → or_stop n rest (frames_found_at rs vs n f) ≡ Ok (seen_stop rs vs stop)
+  stop_is found.Open stop rest e = let same : stops.Waits n ≡ stop = cc in ap (λ s. Ok (seen_stop rs vs s)) same
+  stop_is (found.Here None None) stop rest e = cc
+  stop_is (found.Here None (Some row)) stop rest e =
+      let same : stops.Finds (record { unit = n; function = None; row = Some row }) ≡ stop = cc in ap (λ s. Ok (seen_stop rs vs s)) same
+  stop_is (found.Here (Some p) row) stop rest e =
+      let same : stops.Finds (record { unit = n; function = Some p; row = row }) ≡ stop = cc in
+      has_frame _ _ _ _ _ _ n rest ∙ ap (λ s. Ok (seen_stop rs vs s)) same
+
+  pub stop_ends : (f : UnitFrames) (stop : FramesStop) → stop_of_found n f ≡ Some stop → ends_lookup (Ok (frames_found_at rs vs n f)) ≡ true
+  stop_ends found.Open stop e = refl
+  stop_ends (found.Here None None) stop e = cc
+  stop_ends (found.Here None (Some row)) stop e = refl
+  stop_ends (found.Here (Some p) row) stop e = frame_ends _ _ _ _ _ _
+
+  -- where the lookup goes on there are no frames
+  pub no_stop : (f : UnitFrames) → stop_of_found n f ≡ None → frames_found_at rs vs n f ≡ Some []
+  no_stop found.Open e = cc
+  no_stop (found.Here None None) e = refl
+  no_stop (found.Here None (Some row)) e = cc
+  no_stop (found.Here (Some p) row) e = cc
+
+-- where more is kept, what was known is known
+pub has_more : {R : Type 0} (asks : ℕ → Bool) (probe : ℕ) (p q : List Bool) (vs ws : List (UnitEntries R)) → StaysParsed p q → ((n : ℕ) → has_entries_at probe vs n ≡ true → has_entries_at probe ws n ≡ true)
+    → (n : ℕ) → has_frames_at asks probe p vs n ≡ true → has_frames_at asks probe q ws n ≡ true
+has_more asks probe p q vs ws lines entries n e = of_bools (has_entries_at probe vs n) (has_entries_at probe ws n) (asks n) (has_parsed p n) (has_parsed q n) (entries n) (lines n) e
+  where
+    of_bools : (a b c d e : Bool) → (a ≡ true → b ≡ true) → (d ≡ true → e ≡ true) → (a && (not c || d)) ≡ true → (b && (not c || e)) ≡ true
+    of_bools true true true true true h k q = refl
+    of_bools true true true true false h k q = k refl
+    of_bools true true true false e h k q = cc
+    of_bools true true false d e h k q = refl
+    of_bools true false c d e h k q = absurd (let no : false ≡ true = h refl in cc)
+    of_bools false b c d e h k q = cc
+
+-- what is parsed by one more step is parsed by all of them
+pub parses_more : (IsAsked IsStep : ℕ → Type 0) (first mid now : List Bool) → ParsesOnly IsAsked first mid → ParsesOnly IsStep mid now → ((n : ℕ) → IsStep n → IsAsked n) → ParsesOnly IsAsked first now
+parses_more IsAsked IsStep first mid now before step asked n e = elim (step n e) [ inl p ↦ before n p | inr q ↦ inr (asked n q) ]

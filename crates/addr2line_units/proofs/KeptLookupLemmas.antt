@@ -1,0 +1,231 @@
+-- What is kept of the entries of all units, one unit after another (on specs/KeptEntries.antt and
+-- specs/KeptLookups.antt).
+use Rattle.std.proofs.Common.{◌≡◌, ◌≢◌, ℕ, zero, suc, ◌≤◌, ◌<◌, ◌⊎◌, inl, inr, Bool, true, false, ◌&&◌, not, List, [], ◌∷◌, length, map, get_or, slice_get, Option, Some, None, option_and_then, option_map, unwrap_or, Result, Ok, Err, refl, ap, sym, subst, ◌∙◌, arith}
+use Rattle.std.proofs.Math.ListN.{set}
+use Rattle.std.specs.Prelude.{IfOk, IfSome}
+use Rattle.std.specs.List.{AllZip}
+use Rattle.gimli_read.specs.declared.error.Error.{Error}
+use Rattle.gimli.specs.Sections.{Sections}
+use Rattle.gimli.specs.Unit.{UnitRecord}
+use Rattle.addr2line_lines.specs.Details.{Detail}
+use Rattle.addr2line_lines.specs.FunctionTable.{CachedFunction, FunctionTable, IsFunctionMore, IsTableMore, cached_detail, function_place_at}
+use Rattle.addr2line_lines.specs.References.{Scope}
+use Rattle.addr2line_lines.proofs.NestingLemmas.{grown_not, grown_on}
+use Rattle.addr2line_units.specs.declared.functions.LazyFunctions.{LazyFunctions}
+use Rattle.addr2line_units.specs.declared.functions.LazyFunctions.TheVariants as lazy
+use Rattle.addr2line_units.specs.declared.unit_frames.UnitEntries.{UnitEntries}
+use Rattle.addr2line_units.specs.declared.view.ViewState.{ViewState}
+use Rattle.addr2line_units.specs.declared.view.ViewState.TheVariants as states
+use Rattle.addr2line_units.specs.KeptEntries.{AreEntriesOf, ReadsEntriesOf, StayEntries, has_answered, has_entries, has_entries_by, kept_answer}
+use Rattle.addr2line_units.specs.KeptFunctions.{ReadsNoOther, StayFunctions, has_detail, has_function, has_place, kept_functions, no_functions}
+use Rattle.addr2line_units.specs.KeptLookups.{HaveEntriesOf, ReadsOnly, StayAllEntries, answers_in, has_entries_at}
+use Rattle.addr2line_units.specs.KeptViews.{was_looked_at}
+use Rattle.addr2line_units.proofs.KeptFunctionLemmas.{place_stays}
+
+-- functions with their cached details stay over both of two steps
+functions_same : (fs : List CachedFunction) → AllZip IsFunctionMore fs fs
+functions_same [] = tt
+functions_same (f ∷ fs) = (record { offset = refl; detail = λ d e. e }, functions_same fs)
+
+functions_over : (xs ys zs : List CachedFunction) → AllZip IsFunctionMore xs ys → AllZip IsFunctionMore ys zs → AllZip IsFunctionMore xs zs
+functions_over [] [] [] a b = tt
+functions_over [] [] (z ∷ zs) a b = absurd b
+functions_over [] (y ∷ ys) zs a b = absurd a
+functions_over (x ∷ xs) [] zs a b = absurd a
+functions_over (x ∷ xs) (y ∷ ys) [] a b = absurd b
+functions_over (x ∷ xs) (y ∷ ys) (z ∷ zs) a b = (record { offset = b.0.offset ∙ a.0.offset; detail = λ d e. b.0.detail d (a.0.detail d e) }, functions_over xs ys zs a.1 b.1)
+
+table_over : (t u v : FunctionTable) → IsTableMore t u → IsTableMore u v → IsTableMore t v
+table_over t u v a b = record {
+  ranges = b.ranges ∙ a.ranges;
+  functions = functions_over t.functions u.functions v.functions a.functions b.functions;
+  inlined = grown_on t.inlined u.inlined v.inlined a.inlined b.inlined;
+}
+
+-- a detail that is cached is cached where more is
+more_detail : (a b : Option (Result Detail Error)) → ((d : Result Detail Error) → a ≡ Some d → b ≡ Some d) → has_detail a ≡ true → has_detail b ≡ true
+more_detail None b h e = cc
+more_detail (Some d) b h e = ap has_detail (h d refl) ∙ e
+
+detail_more : (fs gs : List CachedFunction) → AllZip IsFunctionMore fs gs → (n : ℕ) (d : Result Detail Error)
+    → option_and_then (λ (f : CachedFunction). f.detail) (slice_get fs n) ≡ Some d → option_and_then (λ (f : CachedFunction). f.detail) (slice_get gs n) ≡ Some d
+detail_more [] gs all n d e = cc
+detail_more (f ∷ fs) [] all n d e = absurd all
+detail_more (f ∷ fs) (g ∷ gs) all zero d e = all.0.detail d e
+detail_more (f ∷ fs) (g ∷ gs) all (suc n) d e = detail_more fs gs all.1 n d e
+
+place_more : (t u : FunctionTable) → IsTableMore t u → (p : Option ℕ) → has_place t p ≡ true → has_place u p ≡ true
+place_more t u a None e = refl
+place_more t u a (Some n) e = more_detail (cached_detail t n) (cached_detail u n) (detail_more t.functions u.functions a.functions n) e
+
+-- without functions there is none at an address
+none_at : (probe n : ℕ) → function_place_at probe no_functions ≡ Some n → ⊥
+none_at probe n e = cc
+
+module _ {R : Type 0} where
+  stays_same : (f : LazyFunctions R) → StayFunctions f f
+  stays_same lazy.Unread = tt
+  stays_same (lazy.Read t) = record { ranges = refl; functions = functions_same t.functions; inlined = grown_not t.inlined }
+  stays_same (lazy.Faulty e) = refl
+
+  stays_on : (f g h : LazyFunctions R) → StayFunctions f g → StayFunctions g h → StayFunctions f h
+  stays_on lazy.Unread g h a b = tt
+  stays_on (lazy.Read t) (lazy.Read u) (lazy.Read v) a b = table_over t u v a b
+  stays_on (lazy.Read t) (lazy.Read u) lazy.Unread a b = absurd b
+  stays_on (lazy.Read t) (lazy.Read u) (lazy.Faulty e) a b = absurd b
+  stays_on (lazy.Read t) lazy.Unread h a b = absurd a
+  stays_on (lazy.Read t) (lazy.Faulty e) h a b = absurd a
+  stays_on (lazy.Faulty e) g h a b = subst (λ x. StayFunctions x h) a b ∙ refl
+
+  pub entries_same : (v : UnitEntries R) → StayEntries v v
+  entries_same v = record { answer = refl; view = λ e. refl; functions = stays_same v.functions }
+
+  pub entries_on : (v w x : UnitEntries R) → StayEntries v w → StayEntries w x → StayEntries v x
+  entries_on v w x a b = record {
+    answer = b.answer ∙ a.answer;
+    view = λ e. b.view (ap (λ y. was_looked_at y.state) (a.view e) ∙ e) ∙ a.view e;
+    functions = stays_on v.functions w.functions x.functions a.functions b.functions;
+  }
+
+  pub stay_entries : (vs : List (UnitEntries R)) → StayAllEntries vs vs
+  stay_entries [] = tt
+  stay_entries (v ∷ vs) = (entries_same v, stay_entries vs)
+
+  pub stay_entries_over : (vs ws xs : List (UnitEntries R)) → StayAllEntries vs ws → StayAllEntries ws xs → StayAllEntries vs xs
+  stay_entries_over [] [] [] a b = tt
+  stay_entries_over [] [] (x ∷ xs) a b = absurd b
+  stay_entries_over [] (w ∷ ws) xs a b = absurd a
+  stay_entries_over (v ∷ vs) [] xs a b = absurd a
+  stay_entries_over (v ∷ vs) (w ∷ ws) [] a b = absurd b
+  stay_entries_over (v ∷ vs) (w ∷ ws) (x ∷ xs) a b = (entries_on v w x a.0 b.0, stay_entries_over vs ws xs a.1 b.1)
+
+  -- those of one unit are others, which stay
+  pub stay_entries_set : (vs : List (UnitEntries R)) (n : ℕ) (v w : UnitEntries R) → n < length vs → v ≡ get_or vs n v → StayEntries v w → StayAllEntries vs (set vs n w)
+  stay_entries_set [] n v w h e k = absurd (omega arith)
+  stay_entries_set (x ∷ vs) zero v w h e k = (subst (λ y. StayEntries y w) e k, stay_entries vs)
+  stay_entries_set (x ∷ vs) (suc n) v w h e k = (entries_same x, stay_entries_set vs n v w (omega arith) e k)
+
+  -- the first answers are the same
+  pub same_answers : (vs ws : List (UnitEntries R)) → StayAllEntries vs ws → answers_in ws ≡ answers_in vs
+  same_answers [] [] a = refl
+  same_answers [] (w ∷ ws) a = absurd a
+  same_answers (v ∷ vs) [] a = absurd a
+  same_answers (v ∷ vs) (w ∷ ws) a = ap (λ x. x ∷ answers_in ws) a.0.answer ∙ ap (λ xs. kept_answer v ∷ xs) (same_answers vs ws a.1)
+
+  pub answer_at : (vs : List (UnitEntries R)) (n : ℕ) (v : UnitEntries R) → n < length vs → v ≡ get_or vs n v → slice_get (answers_in vs) n ≡ Some (kept_answer v)
+  answer_at [] n v h e = absurd (omega arith)
+  answer_at (x ∷ vs) zero v h e = ap (λ y. Some (kept_answer y)) (sym e)
+  answer_at (x ∷ vs) (suc n) v h e = answer_at vs n v (omega arith) e
+
+  -- beside each unit stands what is kept of its entries
+  pub as_many_entries : (scope : Scope) (us : List UnitRecord) (vs : List (UnitEntries R)) → HaveEntriesOf scope us vs → length us ≡ length vs
+  as_many_entries scope [] [] own = refl
+  as_many_entries scope [] (v ∷ vs) own = absurd own
+  as_many_entries scope (u ∷ us) [] own = absurd own
+  as_many_entries scope (u ∷ us) (v ∷ vs) own = ap suc (as_many_entries scope us vs own.1)
+
+  pub entries_at : (scope : Scope) (us : List UnitRecord) (vs : List (UnitEntries R)) (n : ℕ) (u : UnitRecord) (v : UnitEntries R) → n < length vs → u ≡ get_or us n u → v ≡ get_or vs n v → HaveEntriesOf scope us vs → AreEntriesOf scope u v
+  entries_at scope [] [] n u v h e f own = absurd (omega arith)
+  entries_at scope [] (y ∷ vs) n u v h e f own = absurd own
+  entries_at scope (x ∷ us) [] n u v h e f own = absurd own
+  entries_at scope (x ∷ us) (y ∷ vs) zero u v h e f own = subst (λ (a : UnitRecord). AreEntriesOf scope a v) (sym e) (subst (λ b. AreEntriesOf scope x b) (sym f) own.0)
+  entries_at scope (x ∷ us) (y ∷ vs) (suc n) u v h e f own = entries_at scope us vs n u v (omega arith) e f own.1
+
+  pub entries_set : (scope : Scope) (us : List UnitRecord) (vs : List (UnitEntries R)) (n : ℕ) (u : UnitRecord) (w : UnitEntries R) → u ≡ get_or us n u → HaveEntriesOf scope us vs → AreEntriesOf scope u w → HaveEntriesOf scope us (set vs n w)
+  entries_set scope [] [] n u w e own h = tt
+  entries_set scope [] (y ∷ vs) n u w e own h = absurd own
+  entries_set scope (x ∷ us) [] n u w e own h = absurd own
+  entries_set scope (x ∷ us) (y ∷ vs) zero u w e own h = (subst (λ (a : UnitRecord). AreEntriesOf scope a w) e h, own.1)
+  entries_set scope (x ∷ us) (y ∷ vs) (suc n) u w e own h = (own.0, entries_set scope us vs n u w e own.1 h)
+
+  -- what is found by what is kept is found by it where more is kept
+  function_more : (probe : ℕ) (f g : LazyFunctions R) → StayFunctions f g → has_function probe f ≡ true → has_function probe g ≡ true
+  function_more probe lazy.Unread g a e = cc
+  function_more probe (lazy.Read t) (lazy.Read u) a e = ap (has_place u) (place_stays probe t u a) ∙ place_more t u a (function_place_at probe t) e
+  function_more probe (lazy.Read t) lazy.Unread a e = absurd a
+  function_more probe (lazy.Read t) (lazy.Faulty x) a e = absurd a
+  function_more probe (lazy.Faulty x) g a e = ap (has_function probe) a ∙ e
+
+  answered_more : {X : Type 0} (probe : ℕ) (r : Result X Error) (f g : LazyFunctions R) → StayFunctions f g → has_answered probe r f ≡ true → has_answered probe r g ≡ true
+  answered_more probe (Ok x) f g a e = function_more probe f g a e
+  answered_more probe (Err x) f g a e = e
+
+  entries_more_by : (probe : ℕ) (s : ViewState R) (f g : LazyFunctions R) → StayFunctions f g → has_entries_by probe s f ≡ true → has_entries_by probe s g ≡ true
+  entries_more_by probe states.Undecided f g a e = e
+  entries_more_by probe states.Open f g a e = refl
+  entries_more_by probe states.Main f g a e = function_more probe f g a e
+  entries_more_by probe (states.Unnamed x) f g a e = e
+  entries_more_by probe (states.Answered x) f g a e = answered_more probe x.unit f g a e
+
+  looked_by : (probe : ℕ) (s : ViewState R) (f : LazyFunctions R) → has_entries_by probe s f ≡ true → was_looked_at s ≡ true
+  looked_by probe states.Undecided f e = e
+  looked_by probe states.Open f e = refl
+  looked_by probe states.Main f e = refl
+  looked_by probe (states.Unnamed x) f e = refl
+  looked_by probe (states.Answered x) f e = refl
+
+  entries_more : (probe : ℕ) (v w : UnitEntries R) → StayEntries v w → has_entries probe v ≡ true → has_entries probe w ≡ true
+  entries_more probe v w a e = ap (λ y. has_entries_by probe y.state w.functions) (a.view (looked_by probe v.view.state v.functions e)) ∙ entries_more_by probe v.view.state v.functions w.functions a.functions e
+
+  pub entries_more_at : (probe : ℕ) (vs ws : List (UnitEntries R)) → StayAllEntries vs ws → (n : ℕ) → has_entries_at probe vs n ≡ true → has_entries_at probe ws n ≡ true
+  entries_more_at probe [] [] a n e = refl
+  entries_more_at probe [] (w ∷ ws) a n e = absurd a
+  entries_more_at probe (v ∷ vs) [] a n e = absurd a
+  entries_more_at probe (v ∷ vs) (w ∷ ws) a zero e = entries_more probe v w a.0 e
+  entries_more_at probe (v ∷ vs) (w ∷ ws) a (suc n) e = entries_more_at probe vs ws a.1 n e
+
+  -- what one step reads and what the next one reads is what both read
+  place_after : (probe : ℕ) (f g : LazyFunctions R) → StayFunctions f g → (n : ℕ) → function_place_at probe (kept_functions g) ≢ Some n → function_place_at probe (kept_functions f) ≢ Some n
+  place_after probe lazy.Unread g a n ne = none_at probe n
+  place_after probe (lazy.Read t) (lazy.Read u) a n ne = λ e. ne (place_stays probe t u a ∙ e)
+  place_after probe (lazy.Read t) lazy.Unread a n ne = absurd a
+  place_after probe (lazy.Read t) (lazy.Faulty x) a n ne = absurd a
+  place_after probe (lazy.Faulty x) g a n ne = none_at probe n
+
+  reads_on : (probe : ℕ) (v w x : UnitEntries R) → StayEntries w x → ReadsEntriesOf probe v w → ReadsEntriesOf probe w x → ReadsEntriesOf probe v x
+  reads_on probe v w x stay a b = record {
+    alone = λ n ne. b.alone n ne ∙ a.alone n (place_after probe w.functions x.functions stay.functions n ne);
+    kept = λ e. b.kept (ap (has_entries probe) (a.kept e) ∙ e) ∙ a.kept e;
+  }
+
+  abbrev StayAt : Option (UnitEntries R) → Option (UnitEntries R) → Type 0
+  StayAt None None = Unit {0}
+  StayAt (Some v) (Some w) = StayEntries v w
+  StayAt _ _ = ⊥
+
+  stay_at : (vs ws : List (UnitEntries R)) → StayAllEntries vs ws → (n : ℕ) → StayAt (slice_get vs n) (slice_get ws n)
+  stay_at [] [] a n = tt
+  stay_at [] (w ∷ ws) a n = absurd a
+  stay_at (v ∷ vs) [] a n = absurd a
+  stay_at (v ∷ vs) (w ∷ ws) a zero = a.0
+  stay_at (v ∷ vs) (w ∷ ws) a (suc n) = stay_at vs ws a.1 n
+
+  reads_both : (probe : ℕ) (a b c : Option (UnitEntries R)) → StayAt b c → IfSome a (λ v. IfSome b (ReadsEntriesOf probe v)) → IfSome b (λ v. IfSome c (ReadsEntriesOf probe v)) → IfSome a (λ v. IfSome c (ReadsEntriesOf probe v))
+  reads_both probe None b c s h k = tt
+  reads_both probe (Some v) None None s h k = tt
+  reads_both probe (Some v) None (Some x) s h k = absurd s
+  reads_both probe (Some v) (Some w) None s h k = absurd s
+  reads_both probe (Some v) (Some w) (Some x) s h k = reads_on probe v w x s h k
+
+  pub reads_more : (IsAsked : ℕ → Type 0) (probe k : ℕ) (vs ws xs : List (UnitEntries R)) → StayAllEntries ws xs → ReadsOnly IsAsked probe vs ws → ReadsOnly (λ n. n ≡ k) probe ws xs → IsAsked k → ReadsOnly IsAsked probe vs xs
+  reads_more IsAsked probe k vs ws xs stay before step asked n = elim (step n) [
+    | inl same ↦ elim (before n) [
+      | inl p ↦ inl (same ∙ p)
+      | inr q ↦ inr (q.0, subst (λ o. IfSome (slice_get vs n) (λ v. IfSome o (ReadsEntriesOf probe v))) (sym same) q.1)
+    ]
+    | inr q ↦ inr (
+      subst IsAsked (sym q.0) asked,
+      elim (before n) [
+        | inl p ↦ subst (λ o. IfSome o (λ v. IfSome (slice_get xs n) (ReadsEntriesOf probe v))) p q.1
+        | inr r ↦ reads_both probe (slice_get vs n) (slice_get ws n) (slice_get xs n) (stay_at ws xs stay n) r.1 q.1
+      ],
+    )
+  ]
+
+  -- nothing is read but of the unit of a number
+  pub reads_set : (probe : ℕ) (vs : List (UnitEntries R)) (k : ℕ) (v w : UnitEntries R) → v ≡ get_or vs k v → ReadsEntriesOf probe v w → ReadsOnly (λ n. n ≡ k) probe vs (set vs k w)
+  reads_set probe [] k v w e r n = inl refl
+  reads_set probe (x ∷ vs) zero v w e r zero = inr (refl, subst (λ y. ReadsEntriesOf probe y w) e r)
+  reads_set probe (x ∷ vs) zero v w e r (suc n) = inl refl
+  reads_set probe (x ∷ vs) (suc k) v w e r zero = inl refl
+  reads_set probe (x ∷ vs) (suc k) v w e r (suc n) = elim (reads_set probe vs k v w e r n) [ inl p ↦ inl p | inr q ↦ inr (ap suc q.0, q.1) ]

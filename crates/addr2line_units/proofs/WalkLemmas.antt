@@ -1,0 +1,49 @@
+-- What a step of a lookup of frames says, by the units and answers at its start (on
+-- specs/FramesLookup.antt and specs/KeptLookups.antt).
+use Rattle.std.proofs.Common.{◌≡◌, ℕ, Bool, true, false, ◌&&◌, not, List, [], ◌∷◌, Option, Result, Ok, Err, ap, refl, sym, subst, ◌∙◌, inl}
+use Rattle.std.specs.Prelude.{IfOk}
+use Rattle.gimli_read.specs.declared.error.Error.{Error}
+use Rattle.gimli_read.specs.Reading.{◌>>=◌, ExactlyUnlessOom}
+use Rattle.gimli.specs.Sections.{Sections}
+use Rattle.gimli.specs.Unit.{UnitRecord}
+use Rattle.addr2line_lines.specs.References.{FileRecord, Scope}
+use Rattle.addr2line_units.specs.declared.index.UnitRange.{UnitRange}
+use Rattle.addr2line_units.specs.declared.unit.ResUnit.{ResUnit}
+use Rattle.addr2line_units.specs.declared.unit_frames.UnitEntries.{UnitEntries}
+use Rattle.addr2line_units.specs.CachedLines.{StayUnits, indexed_units}
+use Rattle.addr2line_units.specs.Frames.{FrameRecord}
+use Rattle.addr2line_units.specs.FramesLookup.{LookupAsks, holds_along, stop_along}
+use Rattle.addr2line_units.specs.KeptLookups.{StayAllEntries, answers_in}
+use Rattle.addr2line_units.specs.UnitIndex.{IndexedUnit}
+use Rattle.addr2line_units.proofs.KeptLookupLemmas.{same_answers}
+use Rattle.addr2line_units.proofs.UnitsLemmas.{stay_indexed}
+
+-- what is said of units and answers that stayed is so of those at the start
+pub at_first : {R : Type 0} (us : List UnitRecord) (rs ss : List ResUnit) (vs ws : List (UnitEntries R)) (P : List IndexedUnit → List (Option (Option Sections)) → Type 0) → StayUnits rs ss → StayAllEntries vs ws
+    → P (indexed_units us ss) (answers_in ws) → P (indexed_units us rs) (answers_in vs)
+at_first us rs ss vs ws P a b h =
+    subst (λ xs. P (indexed_units us rs) xs) (same_answers vs ws b)
+    (subst (λ xs. P xs (answers_in ws)) (stay_indexed us rs ss a) h)
+
+-- the unit of the first range is asked
+pub asked_first : (frames : ℕ → Result (Option (List FrameRecord)) Error) (r : UnitRange) (rest ranges all : List UnitRange) → ranges ≡ r ∷ rest → ((n : ℕ) → LookupAsks frames ranges n → LookupAsks frames all n)
+    → LookupAsks frames all r.unit
+asked_first frames r rest ranges all e asked = asked r.unit (subst (λ xs. LookupAsks frames xs r.unit) (sym e) (inl refl))
+
+pub and_first : (a b : Bool) → (a && b) ≡ true → a ≡ true
+and_first true b e = refl
+and_first false b e = cc
+
+pub and_not : (a b : Bool) → (a && not b) ≡ true → b ≡ false
+and_not true true e = cc
+and_not true false e = refl
+and_not false b e = cc
+
+-- what is said where references lead is so by equal lists of units and ranges, and equal
+-- supplementary files
+pub in_scope : (d : Sections) (us vs : List UnitRecord) (f h : Option FileRecord) (qs rs : List UnitRange) (P : Scope → List UnitRecord → List UnitRange → Type 0) → us ≡ vs → f ≡ h → qs ≡ rs
+    → P (record { file = record { sections = d; units = us }; sup = f }) us qs → P (record { file = record { sections = d; units = vs }; sup = h }) vs rs
+in_scope d us vs f h qs rs P a b e p =
+    subst (λ xs. P (record { file = record { sections = d; units = vs }; sup = h }) vs xs) e
+    (subst (λ x. P (record { file = record { sections = d; units = vs }; sup = x }) vs qs) b
+    (subst (λ xs. P (record { file = record { sections = d; units = xs }; sup = f }) xs qs) a p))

@@ -1,0 +1,70 @@
+use Rattle.std.proofs.Common.{ℕ, ap, option_map, rules, sym, true, ◌&&◌, ◌≡◌, not}
+use Rattle.gimli_read.specs.Reading.{ExactlyUnlessOom}
+use Rattle.addr2line_lines.specs.SeenScope.{seen_file}
+use Rattle.addr2line_units.specs.CachedLines.{indexed_units, parsed_units}
+use Rattle.addr2line_units.specs.Cover.{cover}
+use Rattle.addr2line_units.specs.FramesLookup.{LookupAsks, asked_frames, asks_lines_of, has_many_of, holds_along, stop_along}
+use Rattle.addr2line_units.specs.Indexed.{units_in}
+use Rattle.addr2line_units.specs.KeptLookups.{HaveEntriesOf, ReadsOnly, answers_in, has_frames_at, scope_in, seen_stop, sup_file}
+use Rattle.addr2line_units.specs.Parsed.{IsNotOom, ParsesOnly}
+use Rattle.addr2line_units.specs.UnitRangesLeft.{ranges_left}
+use Rattle.addr2line_units.proofs.KeptLookupLemmas.{same_answers}
+use Rattle.addr2line_units.proofs.UnitsLemmas.{stay_indexed}
+use Rattle.addr2line_units.proofs.WaitLemmas.{waits_if_found}
+use Rattle.addr2line_units.proofs.WalkLemmas.{in_scope}
+use Rattle.addr2line_units.proofs.units.ResUnits.find_frames.Goals as goal
+
+pub returns-clause-only : goal.returns-clause-only
+returns-clause-only g c =
+    let s = c.args.self.now in
+    let along = c.find_frames_along in
+    let faults = c.args.faults in
+    let probe = c.args.probe in
+    let answers = answers_in s.entries.items in
+    let at = in_scope c.args.dwarf.now c.deref.result.now s.dw_units.items (option_map seen_file c.file.result) (sup_file c.args.sup.now) (ranges_left c.find.result) (cover probe s.ranges) in
+    at (λ S us qs. ReadsOnly (LookupAsks (asked_frames faults S (indexed_units us s.units.items) answers probe) qs) probe s.entries.items along.new.entries.items) (search rules) c.file.ensures.gives c.find.ensures.gives along.ensures.only
+
+pub returns-clause-lines : goal.returns-clause-lines
+returns-clause-lines g c =
+    let s = c.args.self.now in
+    let along = c.find_frames_along in
+    let faults = c.args.faults in
+    let probe = c.args.probe in
+    let answers = answers_in s.entries.items in
+    let at = in_scope c.args.dwarf.now c.deref.result.now s.dw_units.items (option_map seen_file c.file.result) (sup_file c.args.sup.now) (ranges_left c.find.result) (cover probe s.ranges) in
+    at (λ S us qs. ParsesOnly (λ n. LookupAsks (asked_frames faults S (indexed_units us s.units.items) answers probe) qs n × ((asks_lines_of S (indexed_units us s.units.items) answers probe) n ≡ true)) (parsed_units s.units.items) (parsed_units along.new.units.items)) (search rules) c.file.ensures.gives c.find.ensures.gives along.ensures.lines
+
+pub returns-clause-ready : goal.returns-clause-ready
+returns-clause-ready g c =
+    let s = c.args.self.now in
+    let along = c.find_frames_along in
+    let faults = c.args.faults in
+    let probe = c.args.probe in
+    let answers = answers_in s.entries.items in
+    let at = in_scope c.args.dwarf.now c.deref.result.now s.dw_units.items (option_map seen_file c.file.result) (sup_file c.args.sup.now) (ranges_left c.find.result) (cover probe s.ranges) in
+    at (λ S us qs. IsNotOom along.result → holds_along (has_frames_at (asks_lines_of S (indexed_units us s.units.items) answers probe) probe (parsed_units along.new.units.items) along.new.entries.items) (asked_frames faults S (indexed_units us s.units.items) answers probe) qs ≡ true) (search rules) c.file.ensures.gives c.find.ensures.gives along.ensures.ready
+
+pub returns-clause-memory : goal.returns-clause-memory
+returns-clause-memory g c =
+    let s = c.args.self.now in
+    let along = c.find_frames_along in
+    let faults = c.args.faults in
+    let probe = c.args.probe in
+    let answers = answers_in s.entries.items in
+    let at = in_scope c.args.dwarf.now c.deref.result.now s.dw_units.items (option_map seen_file c.file.result) (sup_file c.args.sup.now) (ranges_left c.find.result) (cover probe s.ranges) in
+    at (λ S us qs. holds_along (λ n. (has_frames_at (asks_lines_of S (indexed_units us s.units.items) answers probe) probe (parsed_units along.new.units.items) along.new.entries.items) n && not (has_many_of S (indexed_units us s.units.items) answers probe n)) (asked_frames faults S (indexed_units us s.units.items) answers probe) qs ≡ true → IsNotOom along.result) (search rules) c.file.ensures.gives c.find.ensures.gives along.ensures.memory
+
+pub returns-clause-waits : goal.returns-clause-waits
+returns-clause-waits g c =
+    let s = c.args.self.now in
+    let along = c.find_frames_along in
+    let faults = c.args.faults in
+    let probe = c.args.probe in
+    let answers = answers_in s.entries.items in
+    let at = in_scope c.args.dwarf.now c.deref.result.now s.dw_units.items (option_map seen_file c.file.result) (sup_file c.args.sup.now) (ranges_left c.find.result) (cover probe s.ranges) in
+    let us = s.dw_units.items in
+    let S1 = scope_in c.args.dwarf.now us c.args.sup.now in
+    let gives = at (λ S xs qs. ExactlyUnlessOom (seen_stop along.new.units.items along.new.entries.items) along.result (stop_along (asked_frames faults S (indexed_units xs s.units.items) answers probe) qs)) (search rules) c.file.ensures.gives c.find.ensures.gives along.ensures.gives in
+    let kept = at (λ S xs qs. HaveEntriesOf S xs along.new.entries.items) (search rules) c.file.ensures.gives c.find.ensures.gives along.ensures.kept in
+    waits_if_found S1 probe faults us along.new.units.items along.new.entries.items (units_in s) answers (asks_lines_of S1 (units_in s) answers probe) (parsed_units along.new.units.items) (cover probe s.ranges) along.result kept
+    (sym (stay_indexed us s.units.items along.new.units.items along.ensures.stay_units)) (sym (same_answers s.entries.items along.new.entries.items along.ensures.stay)) gives (returns-clause-ready g c)

@@ -188,7 +188,7 @@ fault_read shares scope u old now n e h l exact all ne =
     let rest = drop (suc n) now.functions in
     let left : drop n now.functions ≡ at.0 ∷ rest = drop_at now.functions n at.0 at.1 in
     let takes : takes_memory shares scope u (slice_get now.functions n) ≡ true → details_take_memory shares scope u old.functions ≡ true = λ t. h.takes (ap (details_take_memory shares scope u) left
-        ∙ or_first (takes_memory shares scope u (Some at.0)) (is_ok (read_fault scope u (Some at.0)) && details_take_memory shares scope u rest) (ap (takes_memory shares scope u) (sym at.1) ∙ t)) in
+    ∙ or_first (takes_memory shares scope u (Some at.0)) (is_ok (read_fault scope u (Some at.0)) && details_take_memory shares scope u rest) (ap (takes_memory shares scope u) (sym at.1) ∙ t)) in
     let faulty = sym (fault_is scope u at.0 (all_at (IsDetailOf scope u) now.functions n at.0 (h.right all) at.1)) ∙ ap (read_fault scope u) (sym at.1) ∙ exact (λ t. ne (takes t)) in
     h.fault all ∙ ap (details_fault scope u) left ∙ ap (λ r. r >>= λ _. details_fault scope u rest) faulty
 

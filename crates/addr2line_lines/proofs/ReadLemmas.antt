@@ -1,16 +1,17 @@
 -- Details that are read one after another (on specs/FunctionTable.antt).
-use Rattle.std.proofs.Common.{◌≡◌, ◌≢◌, ℕ, ◌+◌, ◌<◌, ◌≤◌, ◌⊎◌, Bool, true, List, [], ◌∷◌, ◌++◌, append_assoc, drop, length, slice_get, slice_set, take, Option, Some, None, Result, Ok, Err, refl, ap, sym, subst, ◌∙◌, arith, inl, inr, zero, suc}
+use Rattle.std.proofs.Common.{◌≡◌, ◌≢◌, ℕ, ◌+◌, ◌<◌, ◌≤◌, ◌⊎◌, ◌&&◌, Bool, true, is_ok, List, [], ◌∷◌, ◌++◌, append_assoc, drop, length, slice_get, slice_set, take, Option, Some, None, Result, Ok, Err, refl, ap, sym, subst, ◌∙◌, arith, inl, inr, zero, suc}
 use Rattle.std.specs.List.{AllByRecursion, AllZip}
 use Rattle.std.proofs.lemmas.List.Elements.{length_all_zip}
 use Rattle.gimli_read.specs.declared.error.Error.{Error}
 use Rattle.gimli_read.specs.declared.error.Error.TheVariants.{OutOfMemory}
-use Rattle.gimli_read.specs.Reading.{◌>>=◌}
+use Rattle.gimli_read.specs.Reading.{◌>>=◌, ExactlyUnlessOomIf}
 use Rattle.gimli.specs.Unit.{UnitRecord}
 use Rattle.addr2line_lines.specs.Details.{Detail, detail_at}
 use Rattle.addr2line_lines.specs.FoundDetails.{IsGrown}
-use Rattle.addr2line_lines.specs.FunctionTable.{AreDetailsOf, AreUnread, CachedFunction, FunctionTable, HasDetail, IsDetailOf, IsFunctionMore, IsReadAt, IsReadOf, IsReadOnce, IsTableMore, IsWithDetail, asks_after, asks_detail, detail_fault, details_fault}
+use Rattle.addr2line_lines.specs.FunctionTable.{AreDetailsOf, AreUnread, CachedFunction, FunctionTable, HasDetail, IsDetailOf, IsFunctionMore, IsReadAt, IsReadOf, IsReadOnce, IsTableMore, IsWithDetail, detail_fault, details_fault, details_take_memory, read_fault, takes_memory}
 use Rattle.addr2line_lines.specs.References.{Scope}
 use Rattle.addr2line_lines.proofs.FunctionCacheLemmas.{no_more}
+use Rattle.addr2line_lines.proofs.FunctionLemmas.{or_first, or_second}
 use Rattle.addr2line_lines.proofs.PlaceLemmas.{all_at, all_set, all_weaker, drop_at, drop_set, drop_whole, set_same, some_at, take_set, take_whole}
 
 -- whether an error is that of memory
@@ -105,7 +106,6 @@ read_right scope u n old new result all h = by_read scope u n old new (AreDetail
 record IsStep (scope : Scope) (u : UnitRecord) (n : ℕ) (f : CachedFunction) (old new : FunctionTable) : Type 0 where
   pub now : CachedFunction
   pub has : HasDetail now
-  pub asks : (b : Bool) → b ≡ true → asks_after f.detail b ≡ true
   pub functions : new.functions ≡ slice_set old.functions n now
   pub well : IsDetailOf scope u f → detail_fault (detail_at scope u f.offset) ≡ Ok tt
 
@@ -122,73 +122,82 @@ read_step scope u n f old new q h = by_detail f.detail refl (subst (λ o. IsRead
         record {
           now = record { offset = f.offset; detail = Some (detail_at scope u f.offset) };
           has = (d.0, ap Some d.1);
-          asks = λ b t. ap (λ v. asks_after v b) e;
           functions = k.1.functions;
           well = λ right. k.0;
         }
     by_detail (Some (Ok d)) e k = record {
       now = f;
       has = (d, e);
-      asks = λ b t. ap (λ v. asks_after v b) e ∙ t;
       functions = ap (λ (t : FunctionTable). t.functions) k.1 ∙ sym (set_same old.functions n f q);
       well = λ right. ap detail_fault (right (Ok d) e);
     }
     by_detail (Some (Err x)) e k = absurd cc
 
+-- what is cached of a function, where it is right, doesn't change whether its detail can be read
+fault_is : (scope : Scope) (u : UnitRecord) (f : CachedFunction) → IsDetailOf scope u f → read_fault scope u (Some f) ≡ detail_fault (detail_at scope u f.offset)
+fault_is scope u f right = by_detail f.detail refl
+  where
+    by_detail : (d : Option (Result Detail Error)) → f.detail ≡ d → read_fault scope u (Some (record { offset = f.offset; detail = d })) ≡ detail_fault (detail_at scope u f.offset)
+    by_detail None e = refl
+    by_detail (Some d) e = ap detail_fault (sym (right d e))
+
 -- the details of the functions before a place are read
-pub record IsReadTo (scope : Scope) (u : UnitRecord) (old now : FunctionTable) (n : ℕ) : Type 0 where
+pub record IsReadTo (shares : Bool) (scope : Scope) (u : UnitRecord) (old now : FunctionTable) (n : ℕ) : Type 0 where
   pub kept : IsTableMore old now
   pub right : AreDetailsOf scope u old → AreDetailsOf scope u now
   pub fault : AreDetailsOf scope u old → details_fault scope u old.functions ≡ details_fault scope u (drop n now.functions)
-  pub asks : asks_detail (drop n now.functions) ≡ true → asks_detail old.functions ≡ true
+  pub takes : details_take_memory shares scope u (drop n now.functions) ≡ true → details_take_memory shares scope u old.functions ≡ true
   pub cached : AllByRecursion HasDetail (take n now.functions)
 
-pub none_read : (scope : Scope) (u : UnitRecord) (t : FunctionTable) → IsReadTo scope u t t 0
-none_read scope u t = record { kept = table_same t; right = λ all. all; fault = λ all. refl; asks = λ e. e; cached = tt }
+pub none_read : (shares : Bool) (scope : Scope) (u : UnitRecord) (t : FunctionTable) → IsReadTo shares scope u t t 0
+none_read shares scope u t = record { kept = table_same t; right = λ all. all; fault = λ all. refl; takes = λ e. e; cached = tt }
 
-pub same_number : (scope : Scope) (u : UnitRecord) (old now : FunctionTable) (n : ℕ) → IsReadTo scope u old now n → length old.functions ≡ length now.functions
-same_number scope u old now n h = length_all_zip IsFunctionMore old.functions now.functions h.kept.functions
+pub same_number : (shares : Bool) (scope : Scope) (u : UnitRecord) (old now : FunctionTable) (n : ℕ) → IsReadTo shares scope u old now n → length old.functions ≡ length now.functions
+same_number shares scope u old now n h = length_all_zip IsFunctionMore old.functions now.functions h.kept.functions
 
 -- one more detail is read
-pub one_read : (scope : Scope) (u : UnitRecord) (old now next : FunctionTable) (n : ℕ) → IsReadTo scope u old now n → n < length old.functions → IsReadAt scope u n now (Ok tt) next → IsReadTo scope u old next (n + 1)
-one_read scope u old now next n h l k =
-    let same = same_number scope u old now n h in
+pub one_read : (shares : Bool) (scope : Scope) (u : UnitRecord) (old now next : FunctionTable) (n : ℕ) → IsReadTo shares scope u old now n → n < length old.functions → IsReadAt scope u n now (Ok tt) next
+    → read_fault scope u (slice_get now.functions n) ≡ Ok tt → IsReadTo shares scope u old next (n + 1)
+one_read shares scope u old now next n h l k well =
+    let same = same_number shares scope u old now n h in
     let at = some_at now.functions n (omega arith) in
     let step = read_step scope u n at.0 now next at.1 k in
     let left : drop n now.functions ≡ at.0 ∷ drop (suc n) now.functions = drop_at now.functions n at.0 at.1 in
     let next_left : drop (suc n) next.functions ≡ drop (suc n) now.functions = ap (λ fs. drop (suc n) fs) step.functions ∙ drop_set now.functions n step.now in
     let one : suc n ≡ n + 1 = omega arith in
-    subst (IsReadTo scope u old next) one (record {
+    subst (IsReadTo shares scope u old next) one (record {
       kept = table_twice old now next h.kept (read_more scope u n now next (Ok tt) k);
       right = λ all. read_right scope u n now next (Ok tt) (h.right all) k;
       fault = λ all. h.fault all ∙ ap (details_fault scope u) left
           ∙ ap (λ r. r >>= λ _. details_fault scope u (drop (suc n) now.functions)) (step.well (all_at (IsDetailOf scope u) now.functions n at.0 (h.right all) at.1))
           ∙ ap (details_fault scope u) (sym next_left);
-      asks = λ e. h.asks (ap asks_detail left ∙ step.asks (asks_detail (drop (suc n) now.functions)) (ap asks_detail (sym next_left) ∙ e));
+      takes = λ e. h.takes (ap (details_take_memory shares scope u) left
+          ∙ or_second (takes_memory shares scope u (Some at.0)) (is_ok (read_fault scope u (Some at.0)) && details_take_memory shares scope u (drop (suc n) now.functions))
+          (ap (λ o. is_ok (read_fault scope u o) && details_take_memory shares scope u (drop (suc n) now.functions)) (sym at.1)
+          ∙ ap (λ r. is_ok r && details_take_memory shares scope u (drop (suc n) now.functions)) well ∙ ap (details_take_memory shares scope u) (sym next_left) ∙ e));
       cached = subst (λ fs. AllByRecursion HasDetail (take (suc n) fs)) (sym step.functions) (take_set HasDetail now.functions n step.now h.cached step.has);
     })
 
 -- a detail is refused
-pub fault_read : (scope : Scope) (u : UnitRecord) (old now next : FunctionTable) (n : ℕ) (e : Error) → IsReadTo scope u old now n → n < length old.functions → IsReadAt scope u n now (Err e) next → AreDetailsOf scope u old
-    → (asks_detail old.functions ≡ true → e ≢ OutOfMemory) → details_fault scope u old.functions ≡ Err e
-fault_read scope u old now next n e h l k all ne =
-    let same = same_number scope u old now n h in
+pub fault_read : (shares : Bool) (scope : Scope) (u : UnitRecord) (old now : FunctionTable) (n : ℕ) (e : Error) → IsReadTo shares scope u old now n → n < length old.functions
+    → ExactlyUnlessOomIf {X = Unit {0}} (takes_memory shares scope u (slice_get now.functions n)) (λ x. x) (Err e) (read_fault scope u (slice_get now.functions n)) → AreDetailsOf scope u old
+    → (details_take_memory shares scope u old.functions ≡ true → e ≢ OutOfMemory) → details_fault scope u old.functions ≡ Err e
+fault_read shares scope u old now n e h l exact all ne =
+    let same = same_number shares scope u old now n h in
     let at = some_at now.functions n (omega arith) in
-    let left : drop n now.functions ≡ at.0 ∷ drop (suc n) now.functions = drop_at now.functions n at.0 at.1 in
-    let faulty = by_detail at.0 at.0.detail refl (all_at (IsDetailOf scope u) now.functions n at.0 (h.right all) at.1) (subst (λ o. IsReadOf scope u n o now (Err e) next) at.1 k) (λ none. ne (h.asks (ap asks_detail left ∙ ap (λ v. asks_after v (asks_detail (drop (suc n) now.functions))) none))) in
-    h.fault all ∙ ap (details_fault scope u) left ∙ ap (λ r. r >>= λ _. details_fault scope u (drop (suc n) now.functions)) faulty
-  where
-    by_detail : (f : CachedFunction) (d : Option (Result Detail Error)) → f.detail ≡ d → IsDetailOf scope u f → IsReadOnce scope u n f d now (Err e) next → (f.detail ≡ None → e ≢ OutOfMemory) → detail_fault (detail_at scope u f.offset) ≡ Err e
-    by_detail f None q right r m = (r.0 (m q)).0
-    by_detail f (Some (Ok d)) q right r m = absurd cc
-    by_detail f (Some (Err x)) q right r m = ap detail_fault (right (Err x) q) ∙ sym r.0
+    let rest = drop (suc n) now.functions in
+    let left : drop n now.functions ≡ at.0 ∷ rest = drop_at now.functions n at.0 at.1 in
+    let takes : takes_memory shares scope u (slice_get now.functions n) ≡ true → details_take_memory shares scope u old.functions ≡ true = λ t. h.takes (ap (details_take_memory shares scope u) left
+    ∙ or_first (takes_memory shares scope u (Some at.0)) (is_ok (read_fault scope u (Some at.0)) && details_take_memory shares scope u rest) (ap (takes_memory shares scope u) (sym at.1) ∙ t)) in
+    let faulty = sym (fault_is scope u at.0 (all_at (IsDetailOf scope u) now.functions n at.0 (h.right all) at.1)) ∙ ap (read_fault scope u) (sym at.1) ∙ exact (λ t. ne (takes t)) in
+    h.fault all ∙ ap (details_fault scope u) left ∙ ap (λ r. r >>= λ _. details_fault scope u rest) faulty
 
-pub fault_kept : (scope : Scope) (u : UnitRecord) (old now next : FunctionTable) (n : ℕ) (result : Result (Unit {0}) Error) → IsReadTo scope u old now n → IsReadAt scope u n now result next → IsTableMore old next × (AreDetailsOf scope u old → AreDetailsOf scope u next)
-fault_kept scope u old now next n result h k =
+pub fault_kept : (shares : Bool) (scope : Scope) (u : UnitRecord) (old now next : FunctionTable) (n : ℕ) (result : Result (Unit {0}) Error) → IsReadTo shares scope u old now n → IsReadAt scope u n now result next → IsTableMore old next × (AreDetailsOf scope u old → AreDetailsOf scope u next)
+fault_kept shares scope u old now next n result h k =
     (table_twice old now next h.kept (read_more scope u n now next result k), λ all. read_right scope u n now next result (h.right all) k)
 
 -- all are read
-pub all_read : (scope : Scope) (u : UnitRecord) (old now : FunctionTable) (n : ℕ) → IsReadTo scope u old now n → length old.functions ≤ n → (AreDetailsOf scope u old → details_fault scope u old.functions ≡ Ok tt) × AllByRecursion HasDetail now.functions
-all_read scope u old now n h l =
-    let same = same_number scope u old now n h in
+pub all_read : (shares : Bool) (scope : Scope) (u : UnitRecord) (old now : FunctionTable) (n : ℕ) → IsReadTo shares scope u old now n → length old.functions ≤ n → (AreDetailsOf scope u old → details_fault scope u old.functions ≡ Ok tt) × AllByRecursion HasDetail now.functions
+all_read shares scope u old now n h l =
+    let same = same_number shares scope u old now n h in
     (λ all. h.fault all ∙ ap (details_fault scope u) (drop_whole now.functions n (omega arith)), take_whole HasDetail now.functions n (omega arith) h.cached)

@@ -1,7 +1,7 @@
 -- The functions of a view, and what is cached of their details (DWARF 5, section 3.3).
 -- Own: the detail of a function is read when it is first asked for, and cached then, its fault too.
 -- OutOfMemory is never cached.
-use Rattle.std.specs.Prelude.{◌≡◌, ◌≢◌, ℕ, ◌==◌, ◌&&◌, ◌||◌, Bool, true, false, not, is_some, List, [], ◌∷◌, map, position, slice_get, slice_set, Option, Some, None, option_and_then, option_map, Result, Ok, Err}
+use Rattle.std.specs.Prelude.{◌≡◌, ◌≢◌, ℕ, ◌==◌, ◌&&◌, ◌||◌, Bool, false, not, is_ok, is_some, List, [], ◌∷◌, map, position, slice_get, slice_set, Option, Some, None, option_and_then, option_map, Result, Ok, Err}
 use Rattle.std.specs.List.{AllByRecursion, AllZip}
 use Rattle.gimli_read.specs.declared.error.Error.{Error}
 use Rattle.gimli_read.specs.declared.error.Error.TheVariants.{OutOfMemory}
@@ -149,16 +149,12 @@ details_fault scope u [] = Ok tt
 details_fault scope u (f ∷ functions) =
     detail_fault (detail_at scope u f.offset) >>= λ _. details_fault scope u functions
 
--- whether a detail is read, by what is cached of one function, and whether one is read after it
-abbrev pub asks_after : Option (Result Detail Error) → Bool → Bool
-asks_after None rest = true
-asks_after (Some (Ok d)) rest = rest
-asks_after (Some (Err e)) rest = false
-
--- whether a detail is read: nothing is cached of a function, and no fault of one before it
-abbrev pub asks_detail : List CachedFunction → Bool
-asks_detail [] = false
-asks_detail (f ∷ functions) = asks_after f.detail (asks_detail functions)
+-- whether memory may be taken for the details of functions, in their order: for that of the first,
+-- or for those after it where that of the first can be read
+abbrev pub details_take_memory : Bool → Scope → UnitRecord → List CachedFunction → Bool
+details_take_memory shares scope u [] = false
+details_take_memory shares scope u (f ∷ functions) = takes_memory shares scope u (Some f)
+    || is_ok (read_fault scope u (Some f)) && details_take_memory shares scope u functions
 
 -- the detail of a function is cached, and has no fault
 abbrev pub HasDetail : CachedFunction → Type 0

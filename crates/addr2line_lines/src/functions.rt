@@ -7,7 +7,7 @@ ghost use Rattle.addr2line_lines.specs.Details.{inlined_chain};
 ghost use Rattle.addr2line_lines.specs.FoundDetails.{entry_among, seen_inlined};
 ghost use Rattle.addr2line_lines.specs.FoundRanges.{is_function};
 ghost use Rattle.addr2line_lines.specs.FunctionCache.{read_at};
-ghost use Rattle.addr2line_lines.specs.FunctionTable.{AreDetailsOf, AreListed, AreUnread, HasDetail, IsReadAt, IsTableMore, asks_detail, cached_inlined, cached_name, details_fault, function_place_at, offset_at, read_fault, takes_memory};
+ghost use Rattle.addr2line_lines.specs.FunctionTable.{AreDetailsOf, AreListed, AreUnread, HasDetail, IsReadAt, IsTableMore, cached_inlined, cached_name, details_fault, details_take_memory, function_place_at, offset_at, read_fault, takes_memory};
 ghost use Rattle.addr2line_lines.specs.Functions.{function_offset_at, functions_of, functions_take_memory, is_subprogram};
 ghost use Rattle.gimli.specs.Ranges.{ranges_at};
 ghost use Rattle.addr2line_lines.specs.RangeAttributes.{begins_well, gives_a_range};
@@ -312,12 +312,14 @@ impl<R: Reader> Functions<R> {
     /// first fault. What was cached stays cached; where none is refused all are cached then.
     ///
     /// `unit` is the unit of the functions, and `scope` says where its references lead. Refused by
-    /// the first fault of a detail; may fail with `OutOfMemory` instead, only where nothing is
-    /// cached of a function, and no fault of one before it. Source: DWARF 5, section 3.3.8.
+    /// the first fault of a detail; may fail with `OutOfMemory` instead, only where `read` may for
+    /// a function, and no detail of a function before it has a fault. Source: DWARF 5, section
+    /// 3.3.8.
     pub fn read_all(&mut self, scope: Scope<'_, R>, unit: &Unit<R>) -> Result<(), Error>
         requires in_order { IsScope (seen_scope scope) }
         ensures gives { AreDetailsOf (seen_scope scope.entry) unit.now self.old
-            → ExactlyUnlessOomIf (asks_detail self.old.functions) (λ x. x) result
+            → ExactlyUnlessOomIf (details_take_memory R.shares (seen_scope scope.entry) unit.now
+            self.old.functions) (λ x. x) result
             (details_fault (seen_scope scope.entry) unit.now self.old.functions) }
         ensures kept { IsTableMore self.old self.new }
         ensures right { AreDetailsOf (seen_scope scope.entry) unit.now self.old

@@ -13,7 +13,7 @@ use Rattle.gimli.specs.Unit.{UnitRecord}
 use Rattle.addr2line_lines.specs.Details.{Detail, InlinedEntry, InlinedRange, detail_at, inlined_chain}
 use Rattle.addr2line_lines.specs.FoundDetails.{entry_among}
 use Rattle.addr2line_lines.specs.Functions.{FunctionRange, entries_of, function_offset_at, functions_of}
-use Rattle.addr2line_lines.specs.FunctionTable.{AreDetailsOf, AreListed, AreUnread, CachedFunction, FunctionTable, HasDetail, IsDetailOf, IsFunctionMore, IsReadAt, IsReadOf, IsReadOnce, IsTableMore, IsWithDetail, asks_detail, cached_detail, cached_inlined, cached_name, detail_fault, details_fault, function_place_at, inlined_of_detail, name_of_detail, offset_at}
+use Rattle.addr2line_lines.specs.FunctionTable.{AreDetailsOf, AreListed, AreUnread, CachedFunction, FunctionTable, HasDetail, IsDetailOf, IsFunctionMore, IsReadAt, IsReadOf, IsReadOnce, IsTableMore, IsWithDetail, cached_detail, cached_inlined, cached_name, detail_fault, details_fault, details_take_memory, function_place_at, inlined_of_detail, name_of_detail, offset_at}
 use Rattle.addr2line_lines.specs.Location.{Location}
 use Rattle.addr2line_lines.specs.References.{Scope}
 use Rattle.addr2line_lines.proofs.ListedFunctions.{more_listed}
@@ -351,15 +351,15 @@ module _ {R : Type 0} (old mid : LazyFunctions R) (kept : were_read old ≡ true
           ap (table_takes_memory probe) (sym same) ∙ h
       by_old (lazy.Faulty x) q = let is : lazy.Read t ≡ lazy.Faulty x = sym e ∙ kept (ap were_read q) ∙ q in absurd cc
 
-  pub reading_before : (t : FunctionTable) → mid ≡ lazy.Read t → asks_detail t.functions ≡ true → reading_takes_memory old ≡ true
-  reading_before t e h = by_old old refl
+  pub reading_before : (shares : Bool) (scope : Scope) (view : UnitRecord) (t : FunctionTable) → mid ≡ lazy.Read t → details_take_memory shares scope view t.functions ≡ true → reading_takes_memory shares scope view old ≡ true
+  reading_before shares scope view t e h = by_old old refl
     where
-      by_old : (x : LazyFunctions R) → old ≡ x → reading_takes_memory x ≡ true
+      by_old : (x : LazyFunctions R) → old ≡ x → reading_takes_memory shares scope view x ≡ true
       by_old lazy.Unread q = refl
       by_old (lazy.Read s) q =
           let is : lazy.Read t ≡ lazy.Read s = sym e ∙ kept (ap were_read q) ∙ q in
           let same : t ≡ s = cc in
-          ap (λ (u : FunctionTable). asks_detail u.functions) (sym same) ∙ h
+          ap (λ (u : FunctionTable). details_take_memory shares scope view u.functions) (sym same) ∙ h
       by_old (lazy.Faulty x) q = let is : lazy.Read t ≡ lazy.Faulty x = sym e ∙ kept (ap were_read q) ∙ q in absurd cc
 
   pub stay_read : (t new : FunctionTable) → mid ≡ lazy.Read t → IsTableMore t new → StayFunctions old (lazy.Read new)

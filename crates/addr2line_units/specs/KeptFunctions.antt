@@ -9,7 +9,7 @@ use Rattle.gimli_read.specs.Reading.{◌>>=◌}
 use Rattle.gimli.specs.Unit.{UnitRecord}
 use Rattle.addr2line_lines.specs.Details.{Detail, detail_at, inlined_chain}
 use Rattle.addr2line_lines.specs.FoundDetails.{entry_among}
-use Rattle.addr2line_lines.specs.FunctionTable.{AreDetailsOf, AreListed, FunctionTable, IsTableMore, asks_detail, cached_detail, cached_inlined, cached_name, function_place_at, inlined_of_detail, offset_at}
+use Rattle.addr2line_lines.specs.FunctionTable.{AreDetailsOf, AreListed, FunctionTable, IsTableMore, cached_detail, cached_inlined, cached_name, details_take_memory, function_place_at, inlined_of_detail, offset_at}
 use Rattle.addr2line_lines.specs.Functions.{entries_of, functions_of}
 use Rattle.addr2line_lines.specs.References.{Scope}
 use Rattle.addr2line_units.specs.declared.functions.FunctionPlace.{FunctionPlace}
@@ -134,8 +134,10 @@ abbrev pub functions_fault : Scope → UnitRecord → Result (Unit {0}) Error
 functions_fault scope view = functions_of scope.file.sections view >>= λ ranges.
     details_at scope view (entries_of ranges)
 
--- whether memory may be taken to read the functions of a view with all details
-abbrev pub reading_takes_memory : {R : Type 0} → LazyFunctions R → Bool
-reading_takes_memory lazy.Unread = true
-reading_takes_memory (lazy.Read t) = asks_detail t.functions
-reading_takes_memory (lazy.Faulty e) = false
+-- whether memory may be taken to read the functions of a view with all details: they weren't read,
+-- or memory is taken for details of those that are kept
+abbrev pub reading_takes_memory : {R : Type 0} → Bool → Scope → UnitRecord → LazyFunctions R → Bool
+reading_takes_memory shares scope view lazy.Unread = true
+reading_takes_memory shares scope view (lazy.Read t) =
+    details_take_memory shares scope view t.functions
+reading_takes_memory shares scope view (lazy.Faulty e) = false

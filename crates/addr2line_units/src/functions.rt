@@ -160,7 +160,8 @@ impl<R: Reader> LazyFunctions<R> {
     }
 
     // Reads the functions of a view and all their details, in the order of their entries, up to the
-    // first fault; what was read is kept, the fault too.
+    // first fault; what was read is kept, the fault too. May fail with `OutOfMemory` instead, only
+    // where the functions are not kept, or memory is taken for a detail before any fault.
     pub(crate) fn read_all(
         &mut self,
         alloc: Global,
@@ -169,12 +170,14 @@ impl<R: Reader> LazyFunctions<R> {
     ) -> Result<(), Error>
         requires in_order { IsScope (seen_scope scope) }
         requires right { AreFunctionsOf (seen_scope scope) view.now self.old }
-        ensures gives { ExactlyUnlessOomIf (reading_takes_memory self.old) (λ x. x) result
-            (functions_fault (seen_scope scope.entry) view.now) }
+        ensures gives { ExactlyUnlessOomIf
+            (reading_takes_memory R.shares (seen_scope scope.entry) view.now self.old) (λ x. x)
+            result (functions_fault (seen_scope scope.entry) view.now) }
         ensures right { AreFunctionsOf (seen_scope scope.entry) view.now self.new }
         ensures stay { StayFunctions self.old self.new }
         ensures read { OnOk result (were_read self.new ≡ true) }
-        ensures details { OnOk result (AllByRecursion HasDetail (kept_functions self.new).functions) }
+        ensures details { OnOk result
+            (AllByRecursion HasDetail (kept_functions self.new).functions) }
         ensures ready { OnOk result ((probe : ℕ)
             → find_takes_memory probe self.new ≡ are_many probe (kept_functions self.new)) }
     {

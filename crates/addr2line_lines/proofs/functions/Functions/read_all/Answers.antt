@@ -18,22 +18,22 @@ loop-place-init g c =
     let same : length (map (seen_function d) c.self.inside.functions.items) ≡ length c.args.self.now.functions = ap (λ (t : FunctionTable). length t.functions) c.self.view_is in
     let l = long (seen_function d) c.self.inside.functions.items in
     let k = c.len-count.ensures in
-    record { count = omega arith; read = none_read (seen_scope c.args.scope) c.args.unit.now c.args.self.now }
+    record { count = omega arith; read = none_read g.R.Reader.shares (seen_scope c.args.scope) c.args.unit.now c.args.self.now }
 
 pub returns-in_err-read-clause-gives : goal.returns-in_err-read-clause-gives
 returns-in_err-read-clause-gives g c =
     let p = err_from_is_err_and c.from_residual.result c.from_residual.ensures.1 in
     let i = c.loop-place.invariant in
     let l = c.loop-place-test.true in
-    rw (p.1, p.2) (fault_read (seen_scope c.args.scope) c.args.unit.now c.args.self.now c.loop-place.self c.read.new.self c.loop-place.place c.in_err-read.field-0.0 i.read (let m = i.count in omega arith) c.in_err-read.ensures.gives)
+    rw (p.1, p.2) (fault_read g.R.Reader.shares (seen_scope c.args.scope) c.args.unit.now c.args.self.now c.loop-place.self c.loop-place.place c.in_err-read.field-0.0 i.read (let m = i.count in omega arith) c.in_err-read.ensures.exact)
 
 pub returns-in_err-read-clause-kept : goal.returns-in_err-read-clause-kept
 returns-in_err-read-clause-kept g c =
-    (fault_kept (seen_scope c.args.scope) c.args.unit.now c.args.self.now c.loop-place.self c.read.new.self c.loop-place.place c.read.result c.loop-place.invariant.read c.read.ensures.gives).0
+    (fault_kept g.R.Reader.shares (seen_scope c.args.scope) c.args.unit.now c.args.self.now c.loop-place.self c.read.new.self c.loop-place.place c.read.result c.loop-place.invariant.read c.read.ensures.gives).0
 
 pub returns-in_err-read-clause-right : goal.returns-in_err-read-clause-right
 returns-in_err-read-clause-right g c =
-    (fault_kept (seen_scope c.args.scope) c.args.unit.now c.args.self.now c.loop-place.self c.read.new.self c.loop-place.place c.read.result c.loop-place.invariant.read c.read.ensures.gives).1
+    (fault_kept g.R.Reader.shares (seen_scope c.args.scope) c.args.unit.now c.args.self.now c.loop-place.self c.read.new.self c.loop-place.place c.read.result c.loop-place.invariant.read c.read.ensures.gives).1
 
 pub loop-place-preserved : goal.loop-place-preserved
 loop-place-preserved g c =
@@ -41,14 +41,14 @@ loop-place-preserved g c =
     let l = c.loop-place-test.true in
     record {
       count = i.count;
-      read = one_read (seen_scope c.args.scope) c.args.unit.now c.args.self.now c.loop-place.self c.read.new.self c.loop-place.place i.read (let m = i.count in omega arith) c.in_ok-read.ensures.gives;
+      read = one_read g.R.Reader.shares (seen_scope c.args.scope) c.args.unit.now c.args.self.now c.loop-place.self c.read.new.self c.loop-place.place i.read (let m = i.count in omega arith) c.in_ok-read.ensures.gives c.in_ok-read.ensures.exact;
     }
 
 pub returns-clause-gives : goal.returns-clause-gives
 returns-clause-gives g c =
     let i = c.loop-place.invariant in
     let l = c.loop-place-test.false in
-    (all_read (seen_scope c.args.scope) c.args.unit.now c.args.self.now c.loop-place.self c.loop-place.place i.read (let m = i.count in omega arith)).0
+    (all_read g.R.Reader.shares (seen_scope c.args.scope) c.args.unit.now c.args.self.now c.loop-place.self c.loop-place.place i.read (let m = i.count in omega arith)).0
 
 pub returns-clause-kept : goal.returns-clause-kept
 returns-clause-kept g c = c.loop-place.invariant.read.kept
@@ -60,4 +60,4 @@ pub returns-clause-cached : goal.returns-clause-cached
 returns-clause-cached g c =
     let i = c.loop-place.invariant in
     let l = c.loop-place-test.false in
-    (all_read (seen_scope c.args.scope) c.args.unit.now c.args.self.now c.loop-place.self c.loop-place.place i.read (let m = i.count in omega arith)).1
+    (all_read g.R.Reader.shares (seen_scope c.args.scope) c.args.unit.now c.args.self.now c.loop-place.self c.loop-place.place i.read (let m = i.count in omega arith)).1

@@ -6,5 +6,5 @@ use Rattle.addr2line_lines.proofs.functions.Functions.read_all.Given as goal
 abbrev pub invariant-loop-place : goal.invariant-loop-place
 invariant-loop-place g l = record {
   count : l.count ≡ length l.fn.self.functions;
-  read : IsReadTo (seen_scope l.fn.scope) l.fn.unit l.fn.self l.self l.place;
+  read : IsReadTo g.R.Reader.shares (seen_scope l.fn.scope) l.fn.unit l.fn.self l.self l.place;
 }

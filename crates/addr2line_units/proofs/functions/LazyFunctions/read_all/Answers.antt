@@ -1,7 +1,7 @@
-use Rattle.std.proofs.Common.{◌≡◌, ℕ, Result, subst, sym}
+use Rattle.std.proofs.Common.{Result, subst, sym}
 use Rattle.gimli_read.specs.declared.error.Error.{Error}
 use Rattle.gimli_read.specs.Reading.{ExactlyUnlessOomIf}
-use Rattle.addr2line_lines.specs.FunctionTable.{asks_detail, details_fault}
+use Rattle.addr2line_lines.specs.FunctionTable.{details_take_memory}
 use Rattle.addr2line_lines.specs.SeenScope.{seen_scope}
 use Rattle.addr2line_units.specs.KeptFunctions.{AreFunctionsOf, functions_fault, reading_takes_memory}
 use Rattle.addr2line_units.proofs.KeptFunctionLemmas.{all_ready, exactly_weaker, fault_is, on_ok, reading_before, stay_faulty, stay_read, table_more}
@@ -12,10 +12,11 @@ returns-in-Read-clause-gives g c =
     let scope = seen_scope c.args.scope in
     let view = c.args.view.now in
     let t = c.in-Read.functions in
+    let may = details_take_memory g.R.Reader.shares scope view t.functions in
     let table = subst (λ x. AreFunctionsOf scope view x) c.in-Read.is c.cache.ensures.right in
-    exactly_weaker (asks_detail t.functions) (reading_takes_memory c.args.self.now) (λ x. x) c.read_all.result (functions_fault scope view)
-    (reading_before c.args.self.now c.cache.new.self (λ read. (c.cache.ensures.kept read).0) t c.in-Read.is)
-    (subst (λ (r : Result (Unit {0}) Error). ExactlyUnlessOomIf (asks_detail t.functions) (λ x. x) c.read_all.result r) (sym (fault_is scope view t table)) (c.read_all.ensures.gives table.details))
+    exactly_weaker may (reading_takes_memory g.R.Reader.shares scope view c.args.self.now) (λ x. x) c.read_all.result (functions_fault scope view)
+    (reading_before c.args.self.now c.cache.new.self (λ read. (c.cache.ensures.kept read).0) g.R.Reader.shares scope view t c.in-Read.is)
+    (subst (λ (r : Result (Unit {0}) Error). ExactlyUnlessOomIf may (λ x. x) c.read_all.result r) (sym (fault_is scope view t table)) (c.read_all.ensures.gives table.details))
 
 pub returns-in-Read-clause-right : goal.returns-in-Read-clause-right
 returns-in-Read-clause-right g c =

@@ -44,7 +44,7 @@ functions_twice (x ∷ xs) (y ∷ ys) [] a b = absurd b
 functions_twice (x ∷ xs) (y ∷ ys) (z ∷ zs) a b =
     (record { offset = b.0.offset ∙ a.0.offset; detail = λ d e. b.0.detail d (a.0.detail d e) }, functions_twice xs ys zs a.1 b.1)
 
-table_same : (t : FunctionTable) → IsTableMore t t
+pub table_same : (t : FunctionTable) → IsTableMore t t
 table_same t = record { ranges = refl; functions = functions_same t.functions; inlined = no_more t.inlined }
 
 table_twice : (r s t : FunctionTable) → IsTableMore r s → IsTableMore s t → IsTableMore r t

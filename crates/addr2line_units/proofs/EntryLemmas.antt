@@ -6,7 +6,7 @@ use Rattle.gimli_read.specs.Reading.{◌>>=◌, ExactlyUnlessOom, ExactlyUnlessO
 use Rattle.gimli.specs.Sections.{Sections}
 use Rattle.gimli.specs.Unit.{UnitRecord}
 use Rattle.addr2line_lines.specs.References.{Scope}
-use Rattle.addr2line_lines.proofs.ReadLemmas.{none_read}
+use Rattle.addr2line_lines.proofs.ReadLemmas.{table_same}
 use Rattle.addr2line_units.specs.declared.functions.LazyFunctions.{LazyFunctions}
 use Rattle.addr2line_units.specs.declared.functions.LazyFunctions.TheVariants as lazy
 use Rattle.addr2line_units.specs.declared.unit_frames.UnitEntries.{UnitEntries}
@@ -23,7 +23,7 @@ use Rattle.addr2line_units.specs.Views.{View, is_open, verdict, view_scope}
 -- functions stay what they are
 pub functions_stay : {R : Type 0} (scope : Scope) (u : UnitRecord) (f : LazyFunctions R) → StayFunctions f f
 functions_stay scope u lazy.Unread = tt
-functions_stay scope u (lazy.Read t) = (none_read scope u t).kept
+functions_stay scope u (lazy.Read t) = table_same t
 functions_stay scope u (lazy.Faulty e) = refl
 
 undecided : {R : Type 0} (s : ViewState R) → was_looked_at s ≡ false → is_decided s ≡ false

@@ -2,7 +2,7 @@ use Rattle.std.proofs.Common.{Err, ap, arith, refl, sym}
 use Rattle.std.proofs.lemmas.Result.{err_from_is_err_and}
 use Rattle.addr2line_lines.specs.SeenScope.{seen_scope}
 use Rattle.addr2line_lines.proofs.PlaceLemmas.{some_at}
-use Rattle.addr2line_lines.proofs.ReadLemmas.{none_read, read_more}
+use Rattle.addr2line_lines.proofs.ReadLemmas.{read_more, table_same}
 use Rattle.addr2line_units.proofs.KeptFunctionLemmas.{chain_found, chain_ready, none_found, number_stays, reads_one, refused_chain, refused_detail, refused_ready, table_stays}
 use Rattle.addr2line_units.proofs.KeptPlaceLemmas.{chain_fits, chain_known, known_stays, refused_fault, refused_known}
 use Rattle.addr2line_units.proofs.functions.find_place.Goals as goal
@@ -13,7 +13,7 @@ returns-in_default-clause-gives g c =
 
 pub returns-in_default-clause-stay : goal.returns-in_default-clause-stay
 returns-in_default-clause-stay g c =
-    (none_read (seen_scope c.args.scope) c.args.view.now c.args.functions.now).kept
+    table_same c.args.functions.now
 
 pub returns-in_err-read-clause-gives : goal.returns-in_err-read-clause-gives
 returns-in_err-read-clause-gives g c =

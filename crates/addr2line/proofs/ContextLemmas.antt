@@ -17,7 +17,7 @@ use Rattle.addr2line_units.specs.declared.unit.ResUnit.{ResUnit}
 use Rattle.addr2line_units.specs.declared.unit_frames.UnitEntries.{UnitEntries}
 use Rattle.addr2line_units.specs.CachedLines.{AreLinesOf, HaveLinesOf, StayUnits, cached_spans, indexed_units, is_parsed, is_uncached, lines_at, parsed_units}
 use Rattle.addr2line_units.specs.FramesLookup.{main_scope}
-use Rattle.addr2line_units.specs.KeptLookups.{HaveEntriesOf}
+use Rattle.addr2line_units.specs.KeptLookups.{HaveEntriesOf, answers_in, known_in}
 use Rattle.addr2line_units.specs.Located.{along, all_lines, is_found, lines_fault, lines_of_unit, location_in, location_of, or_along, spans_in, spans_or_fault, looks_along, spans_along, spans_of}
 use Rattle.addr2line_units.specs.UnitIndex.{IndexedUnit, UnitIndex, index_units}
 use Rattle.addr2line_units.specs.Parsed.{AllAskFor, AreAllParsed, AreParsed, AreReadyForAll, AsksFor, IsNotOom, LeadTo, ParsesOnly, StaysParsed, decides, has_parsed, ready_along}
@@ -78,15 +78,15 @@ module _ (d : Sections) (us : List UnitRecord) (old : List ResUnit) (ranges : Li
   of_made : (P : UnitIndex → Type 0) → P (record { units = indexed_units us old; ranges = ranges; sup_units = sup }) → (m : UnitIndex) → index_units d ≡ Ok m → P m
   of_made P h m e = subst P (ok_is _ _ (sym made_is ∙ e)) h
 
-  module _ (new : List ResUnit) (stay : StayUnits old new) (answers then : List (Option (Option Sections))) (same : then ≡ answers) (looks now : ℕ) where
+  module _ {R : Type 0} (new : List ResUnit) (stay : StayUnits old new) (held then : List (UnitEntries R)) (same : then ≡ held) (looks now : ℕ) where
     abbrev before : ContextState
-    before = record { sections = d; answers = answers; parsed = parsed_units old; looks = looks }
+    before = record { sections = d; answers = answers_in held; parsed = parsed_units old; known = known_in held; looks = looks }
 
     abbrev after : ContextState
-    after = record { sections = d; answers = then; parsed = parsed_units new; looks = now }
+    after = record { sections = d; answers = answers_in then; parsed = parsed_units new; known = known_in then; looks = now }
 
     pub all_stays : Stays before after
-    all_stays = record { sections = refl; answers = same; parsed = stay_parsed old new stay }
+    all_stays = record { sections = refl; answers = ap answers_in same; known = ap known_in same; parsed = stay_parsed old new stay }
 
     pub after_lookup : {X : Type 0} (probe : ℕ) (result : Result (Option X) Error)
         → (IsNotOom result → ready_along d (indexed_units us old) (parsed_units new) probe (cover probe ranges) ≡ true) → (ready_along d (indexed_units us old) (parsed_units new) probe (cover probe ranges) ≡ true → IsNotOom result) → ParsesOnly (AsksFor d (indexed_units us old) probe (cover probe ranges)) (parsed_units old) (parsed_units new) → looks ≤ now → (is_found result ≡ true → looks < now) → now ≤ looks + looks_along d (indexed_units us old) (cover probe ranges)
@@ -113,10 +113,10 @@ module _ (d : Sections) (us : List UnitRecord) (old : List ResUnit) (ranges : Li
     pub ready_after_parse : AreReadyForAll d (indexed_units us old) (parsed_units new) → IsReadyForAll after
     ready_after_parse ready = of_made (λ m. AreReadyForAll d m.units (parsed_units new)) ready
 
-  pub after_range_lookup : (new : List ResUnit) → StayUnits old new → (answers then : List (Option (Option Sections))) → then ≡ answers → (looks : ℕ) → {X : Type 0} (low high : ℕ) (result : Result X Error) → (IsNotOom result → AreParsed (parsed_units new) (cover_range low high ranges)) → (AreParsed (parsed_units new) (cover_range low high ranges) → IsNotOom result) → ParsesOnly (LeadTo (cover_range low high ranges)) (parsed_units old) (parsed_units new)
-      → AfterRangeLookup low high result (record { sections = d; answers = answers; parsed = parsed_units old; looks = looks }) (record { sections = d; answers = then; parsed = parsed_units new; looks = looks })
-  after_range_lookup new stay answers then kept looks low high result ready memory only = record {
-    stays = all_stays new stay answers then kept looks looks;
+  pub after_range_lookup : {R : Type 0} (new : List ResUnit) → StayUnits old new → (held then : List (UnitEntries R)) → then ≡ held → (looks : ℕ) → {X : Type 0} (low high : ℕ) (result : Result X Error) → (IsNotOom result → AreParsed (parsed_units new) (cover_range low high ranges)) → (AreParsed (parsed_units new) (cover_range low high ranges) → IsNotOom result) → ParsesOnly (LeadTo (cover_range low high ranges)) (parsed_units old) (parsed_units new)
+      → AfterRangeLookup low high result (record { sections = d; answers = answers_in held; parsed = parsed_units old; known = known_in held; looks = looks }) (record { sections = d; answers = answers_in then; parsed = parsed_units new; known = known_in then; looks = looks })
+  after_range_lookup new stay held then kept looks low high result ready memory only = record {
+    stays = all_stays new stay held then kept looks looks;
     ready = λ answered. of_made (λ m. AreParsed (parsed_units new) (cover_range low high m.ranges)) (ready answered);
     memory = λ at_last. memory (at_last _ made_is);
     only = of_made (λ m. ParsesOnly (LeadTo (cover_range low high m.ranges)) (parsed_units old) (parsed_units new)) only;
@@ -192,19 +192,17 @@ when_ok (Ok tt) given e f = f e
 when_ok (Err x) given e f = tt
 
 -- where the lines of all units are parsed after an answer, each lookup is ready then
-pub ready_if_ok : (result : Result (Unit {0}) Error) (d : Sections) (answers : List (Option (Option Sections))) (p : List Bool) (looks : ℕ) → OnOk result (AreAllParsed p)
-    → OnOk result ((probe : ℕ) → IsReady (record { sections = d; answers = answers; parsed = p; looks = looks }) probe)
-ready_if_ok (Ok tt) d answers p looks all = λ probe m is. all_ready d m.units p all probe (cover probe m.ranges)
-ready_if_ok (Err e) d answers p looks all = tt
+pub ready_if_ok : (result : Result (Unit {0}) Error) (c : ContextState) → OnOk result (AreAllParsed c.parsed) → OnOk result ((probe : ℕ) → IsReady c probe)
+ready_if_ok (Ok tt) c all = λ probe m is. all_ready c.sections m.units c.parsed all probe (cover probe m.ranges)
+ready_if_ok (Err e) c all = tt
 
 all_parsed_along : (p : List Bool) → AreAllParsed p → (rs : List UnitRange) → AreParsed p rs
 all_parsed_along p all [] = tt
 all_parsed_along p all (r ∷ rs) = (all r.unit, all_parsed_along p all rs)
 
-pub range_ready_if_ok : (result : Result (Unit {0}) Error) (d : Sections) (answers : List (Option (Option Sections))) (p : List Bool) (looks : ℕ) → OnOk result (AreAllParsed p)
-    → OnOk result ((low high : ℕ) → IsReadyForRange (record { sections = d; answers = answers; parsed = p; looks = looks }) low high)
-range_ready_if_ok (Ok tt) d answers p looks all = λ low high m is. all_parsed_along p all (cover_range low high m.ranges)
-range_ready_if_ok (Err e) d answers p looks all = tt
+pub range_ready_if_ok : (result : Result (Unit {0}) Error) (c : ContextState) → OnOk result (AreAllParsed c.parsed) → OnOk result ((low high : ℕ) → IsReadyForRange c low high)
+range_ready_if_ok (Ok tt) c all = λ low high m is. all_parsed_along c.parsed all (cover_range low high m.ranges)
+range_ready_if_ok (Err e) c all = tt
 
 pub err_is_not_ok : {X : Type 0} (e : Error) (x : X) → ◌≡◌ {A = Result X Error} (Err e) (Ok x) → ⊥
 err_is_not_ok e x k = cc

@@ -1,5 +1,5 @@
 -- What a context has when it is made (on specs/Context.antt).
-use Rattle.std.proofs.Common.{◌≡◌, ◌&&◌, ◌||◌, Bool, true, false, List, [], ◌∷◌, map, Option, None, Result, Ok, Err, refl, sym, ap, ◌∙◌}
+use Rattle.std.proofs.Common.{◌≡◌, ℕ, ◌&&◌, ◌||◌, Bool, true, false, List, [], ◌∷◌, map, Option, None, Result, Ok, Err, refl, sym, ap, ◌∙◌}
 use Rattle.std.specs.Prelude.{is_ok}
 use Rattle.gimli_read.specs.declared.error.Error.{Error}
 use Rattle.gimli_read.specs.Reading.{◌>>=◌}
@@ -10,9 +10,9 @@ use Rattle.addr2line_units.specs.declared.unit.ResUnit.{ResUnit}
 use Rattle.addr2line_units.specs.declared.unit_frames.UnitEntries.{UnitEntries}
 use Rattle.addr2line_units.specs.CachedLines.{HaveLinesOf, indexed_units, parsed_units}
 use Rattle.addr2line_units.specs.Indexed.{IndexState, context_takes_memory, index_of, index_takes_memory, sup_takes_memory}
-use Rattle.addr2line_units.specs.KeptLookups.{AreFreshOf, answers_in}
+use Rattle.addr2line_units.specs.KeptLookups.{AreFreshOf, answers_in, known_in}
 use Rattle.addr2line_units.specs.UnitIndex.{IndexedUnit, UnitIndex, RangedUnit, has_lines, indexed_of, index_units, ranged_units, ranges_from, sup_units, unit_records}
-use Rattle.addr2line_units.proofs.ScopeLemmas.{no_answers, records_beside}
+use Rattle.addr2line_units.proofs.ScopeLemmas.{no_answers, nothing_known, records_beside}
 use Rattle.addr2line.specs.Context.{ContextState, new_context}
 
 pub ok_is : {X : Type 0} (x y : X) → ◌≡◌ {A = Result X Error} (Ok x) (Ok y) → x ≡ y
@@ -26,17 +26,25 @@ no_more_answers : (units : List RangedUnit) → no_answers_of units ≡ no_answe
 no_more_answers [] = refl
 no_more_answers (u ∷ units) = ap (λ (xs : List (Option (Option Sections))). None ∷ xs) (no_more_answers units)
 
+-- what is known of units before anybody asks
+abbrev nothing_known_of : {U : Type 0} → List U → List (ℕ → Bool)
+nothing_known_of units = map (λ _ _. false) units
+
+no_more_known : (units : List RangedUnit) → nothing_known_of units ≡ nothing_known_of (unit_records (map indexed_of units))
+no_more_known [] = refl
+no_more_known (u ∷ units) = ap (λ (xs : List (ℕ → Bool)). (λ _. false) ∷ xs) (no_more_known units)
+
 -- a context that is made
 pub context_made : {R : Type 0} (d : Sections) (us : List UnitRecord) (rs : List ResUnit) (ranges : List UnitRange) (vs : List (UnitEntries R)) (sup : List UnitRecord)
     → (ranged_units d >>= λ units. Ok (index_of d units)) ≡ Ok (record { units = indexed_units us rs; ranges = ranges; parsed = parsed_units rs }) → sup_units d.sup ≡ Ok sup → HaveLinesOf d us rs → AreFreshOf us vs
-    → new_context d ≡ Ok (record { sections = d; answers = answers_in vs; parsed = parsed_units rs; looks = 0 })
-context_made d us rs ranges vs sup e f own fresh = of_units (ranged_units d) e ∙ ap (λ xs. state xs (parsed_units rs)) (sym none)
+    → new_context d ≡ Ok (record { sections = d; answers = answers_in vs; parsed = parsed_units rs; known = known_in vs; looks = 0 })
+context_made d us rs ranges vs sup e f own fresh = of_units (ranged_units d) e ∙ ap (λ xs. state xs (nothing_known_of (unit_records (indexed_units us rs))) (parsed_units rs)) (sym none) ∙ ap (λ xs. state (answers_in vs) xs (parsed_units rs)) (sym not_known)
   where
-    state : List (Option (Option Sections)) → List Bool → Result ContextState Error
-    state answers parsed = Ok (record { sections = d; answers = answers; parsed = parsed; looks = 0 })
+    state : List (Option (Option Sections)) → List (ℕ → Bool) → List Bool → Result ContextState Error
+    state answers known parsed = Ok (record { sections = d; answers = answers; parsed = parsed; known = known; looks = 0 })
 
     of_index : IndexState → Result ContextState Error
-    of_index x = state (no_answers_of (unit_records x.units)) x.parsed
+    of_index x = state (no_answers_of (unit_records x.units)) (nothing_known_of (unit_records x.units)) x.parsed
 
     index : IndexState
     index = record { units = indexed_units us rs; ranges = ranges; parsed = parsed_units rs }
@@ -44,11 +52,15 @@ context_made d us rs ranges vs sup e f own fresh = of_units (ranged_units d) e �
     none : answers_in vs ≡ no_answers_of (unit_records (indexed_units us rs))
     none = no_answers us vs fresh ∙ ap (λ (xs : List UnitRecord). no_answers_of xs) (sym (records_beside d us rs own))
 
+    not_known : known_in vs ≡ nothing_known_of (unit_records (indexed_units us rs))
+    not_known = nothing_known us vs fresh ∙ ap (λ (xs : List UnitRecord). nothing_known_of xs) (sym (records_beside d us rs own))
+
     of_units : (r : Result (List RangedUnit) Error) → (r >>= λ units. Ok (index_of d units)) ≡ Ok index
-        → (r >>= λ units. sup_units d.sup >>= λ s. state (no_answers_of units) (map has_lines units)) ≡ of_index index
+        → (r >>= λ units. sup_units d.sup >>= λ s. state (no_answers_of units) (nothing_known_of units) (map has_lines units)) ≡ of_index index
     of_units (Ok units) h =
-        ap (λ (r : Result (List UnitRecord) Error). r >>= λ s. state (no_answers_of units) (map has_lines units)) f
-        ∙ ap (λ xs. state xs (map has_lines units)) (no_more_answers units)
+        ap (λ (r : Result (List UnitRecord) Error). r >>= λ s. state (no_answers_of units) (nothing_known_of units) (map has_lines units)) f
+        ∙ ap (λ xs. state xs (nothing_known_of units) (map has_lines units)) (no_more_answers units)
+        ∙ ap (λ xs. state (no_answers_of (unit_records (map indexed_of units))) xs (map has_lines units)) (no_more_known units)
         ∙ ap of_index (ok_is (index_of d units) index h)
     of_units (Err x) h = absurd (err_ok h)
       where
@@ -77,7 +89,7 @@ pub context_fault : (d : Sections) (i : IndexState) (f : Error) → (ranged_unit
 context_fault d i f e h = of_units (ranged_units d) e
   where
     state : List RangedUnit → Result ContextState Error
-    state units = Ok (record { sections = d; answers = no_answers_of units; parsed = map has_lines units; looks = 0 })
+    state units = Ok (record { sections = d; answers = no_answers_of units; parsed = map has_lines units; known = nothing_known_of units; looks = 0 })
 
     of_units : (r : Result (List RangedUnit) Error) → (r >>= λ units. Ok (index_of d units)) ≡ Ok i → (r >>= λ units. sup_units d.sup >>= λ s. state units) ≡ Err f
     of_units (Ok units) k = ap (λ (r : Result (List UnitRecord) Error). r >>= λ s. state units) h
@@ -91,7 +103,7 @@ pub units_fault : (d : Sections) (f : Error) → (ranged_units d >>= λ units. O
 units_fault d f e = of_units (ranged_units d) e
   where
     state : List RangedUnit → Result ContextState Error
-    state units = Ok (record { sections = d; answers = no_answers_of units; parsed = map has_lines units; looks = 0 })
+    state units = Ok (record { sections = d; answers = no_answers_of units; parsed = map has_lines units; known = nothing_known_of units; looks = 0 })
 
     of_units : (r : Result (List RangedUnit) Error) → (r >>= λ units. Ok (index_of d units)) ≡ Err f → (r >>= λ units. sup_units d.sup >>= λ s. state units) ≡ Err f
     of_units (Ok units) k = absurd (ok_err k)

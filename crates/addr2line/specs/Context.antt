@@ -1,11 +1,11 @@
 -- A context as callers see it: the sections that it was made from (DWARF 5, section 7.5), the first
--- answers to the loads of its units, of which units it has parsed the lines, and how often it
--- looked at them.
+-- answers to the loads of its units, of which units it has parsed the lines, for which addresses it
+-- has read what a unit's entries have there, and how often it looked at lines.
 -- Own: the lines of a unit, or their fault, are parsed when a lookup first asks for them, and stay
 -- parsed; a context that is made has parsed them only where they give a unit its ranges, and a unit
 -- without a line program has its lines, which are none.
 -- Own: of a unit the first answer to its load counts: the sections of a split file, or none.
-use Rattle.std.specs.Prelude.{◌≡◌, ℕ, ◌+◌, ◌<◌, ◌≤◌, Bool, true, List, map, Option, None, option_map, Result, Ok}
+use Rattle.std.specs.Prelude.{◌≡◌, ℕ, ◌+◌, ◌<◌, ◌≤◌, Bool, true, false, List, map, Option, None, option_map, Result, Ok}
 use Rattle.gimli_read.specs.declared.error.Error.{Error}
 use Rattle.gimli_read.specs.Reading.{◌>>=◌}
 use Rattle.gimli.specs.Sections.{Sections}
@@ -22,11 +22,13 @@ use Rattle.addr2line_units.specs.Parsed.{AllAskFor, AreParsed, AreReadyForAll, A
 use Rattle.addr2line_units.specs.Cover.{cover, cover_range}
 
 -- the sections, the first answer of each unit, none before it has one, of which units the lines are
--- parsed, and how often they were looked at
+-- parsed, for which addresses what each unit's entries have there is known, and how often lines were
+-- looked at
 pub record ContextState : Type 0 where
   pub sections : Sections
   pub answers : List (Option (Option Sections))
   pub parsed : List Bool
+  pub known : List (ℕ → Bool)
   pub looks : ℕ
 
 -- a context of sections as it is made, or the fault that refuses it
@@ -38,6 +40,7 @@ new_context d = do
     sections = d;
     answers = map (λ _. None) units;
     parsed = map has_lines units;
+    known = map (λ _ _. false) units;
     looks = 0;
   })
 
@@ -76,10 +79,12 @@ abbrev pub LooksWithin : ℕ → ContextState → ContextState → Type 0
 LooksWithin probe old new = (m : UnitIndex) → index_units old.sections ≡ Ok m
     → new.looks ≤ old.looks + looks_along old.sections m.units (cover probe m.ranges)
 
--- the sections and the first answers are the same, and what was parsed stays parsed
+-- the sections, the first answers and what is known of entries are the same, and what was parsed
+-- stays parsed
 pub record Stays (old new : ContextState) : Type 0 where
   pub sections : new.sections ≡ old.sections
   pub answers : new.answers ≡ old.answers
+  pub known : new.known ≡ old.known
   pub parsed : StaysParsed old.parsed new.parsed
 
 -- after a lookup of the probe the same lookup parses nothing more, but after OutOfMemory, where

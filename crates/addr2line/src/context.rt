@@ -29,17 +29,17 @@ use std::rc::Rc;
 /// they are parsed.
 #[derive(Drop)]
 pub struct Context<R: Reader> {
-    alloc: Global,
-    dwarf: Rc<Dwarf<R>>,
-    units: ResUnits<R>,
-    sup_units: SupUnits<R>,
+    pub(crate) alloc: Global,
+    pub(crate) dwarf: Rc<Dwarf<R>>,
+    pub(crate) units: ResUnits<R>,
+    pub(crate) sup_units: SupUnits<R>,
     // How often the lines of units were looked at, for contracts alone: it has no bytes.
-    looks: Count,
+    pub(crate) looks: Count,
 }
 
 impl<R: Reader> Model for Context<R> {
     ghost use Rattle.addr2line_units.specs.CachedLines.{parsed_units};
-    ghost use Rattle.addr2line_units.specs.KeptLookups.{answers_in};
+    ghost use Rattle.addr2line_units.specs.KeptLookups.{answers_in, known_in};
     ghost use Rattle.addr2line.specs.Context.{ContextState, IsContext};
 
     ghost Value = { ContextState };
@@ -48,6 +48,7 @@ impl<R: Reader> Model for Context<R> {
       sections = c.dwarf.value;
       answers = answers_in c.units.entries.items;
       parsed = parsed_units c.units.units.items;
+      known = known_in c.units.entries.items;
       looks = c.looks;
     } };
 

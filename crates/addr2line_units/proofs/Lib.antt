@@ -19,6 +19,7 @@ pub mod ViewLemmas
 pub mod AnswerLemmas
 pub mod ScopeLemmas
 pub mod WaitLemmas
+pub mod DecidedLemmas
 pub mod KeptLookupLemmas
 pub mod NumberedFrames
 pub mod FramesLookupLemmas

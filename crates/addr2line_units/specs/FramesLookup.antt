@@ -1,7 +1,7 @@
 -- Lookups of frames along the ranges that hold an address (DWARF 5, sections 2.17 and 3.3).
 -- Own: the units are asked one after another: the first that waits for an answer, that has a fault,
 -- or that has frames ends the lookup. A lookup of a unit passes over each unit with a fault.
-use Rattle.std.specs.Prelude.{◌≡◌, ◌⊎◌, ℕ, Bool, true, false, ◌&&◌, ◌||◌, List, [], ◌∷◌, set, slice_get, Option, Some, None, option_map, unwrap_or, Result, Ok, Err}
+use Rattle.std.specs.Prelude.{◌≡◌, ◌⊎◌, ℕ, Bool, true, false, ◌&&◌, ◌||◌, List, [], ◌∷◌, set, slice_get, Option, Some, None, option_and_then, option_map, unwrap_or, Result, Ok, Err}
 use Rattle.gimli_read.specs.declared.error.Error.{Error}
 use Rattle.gimli_read.specs.Reading.{◌>>=◌}
 use Rattle.gimli.specs.Sections.{Sections, SupSections}
@@ -13,7 +13,7 @@ use Rattle.addr2line_units.specs.declared.frames_lookup.Faults.TheVariants.{End,
 use Rattle.addr2line_units.specs.Frames.{FrameRecord}
 use Rattle.addr2line_units.specs.UnitFrames.{asks_lines_in, frames_in, has_many}
 use Rattle.addr2line_units.specs.UnitIndex.{IndexedUnit, UnitIndex, sup_sections, unit_records}
-use Rattle.addr2line_units.specs.Views.{decided_answer}
+use Rattle.addr2line_units.specs.Views.{View, decided_answer, verdict}
 
 -- where references lead from a unit of a context
 abbrev pub main_scope : Sections → UnitIndex → Scope
@@ -64,6 +64,22 @@ abbrev pub stop_along : (ℕ → Result (Option (List FrameRecord)) Error) → L
     → Result Stop Error
 stop_along frames [] = Ok FindsNothing
 stop_along frames (r ∷ ranges) = frames r.unit >>= or_stop r.unit (stop_along frames ranges)
+
+-- whether a lookup waits for an answer
+abbrev pub is_waiting : Result Stop Error → Bool
+is_waiting (Ok (Waits n)) = true
+is_waiting stop = false
+
+-- the view of the unit of a number, or its fault; none where it is open or there is no such unit
+abbrev pub view_of_number : Sections → List UnitRecord → List (Option (Option Sections)) → ℕ
+    → Option (Result View Error)
+view_of_number d us answers n =
+    option_and_then (λ u. verdict d u (answer_of answers n)) (slice_get us n)
+
+-- a view that has no fault
+abbrev pub readable_view : Option (Result View Error) → Option View
+readable_view (Some (Ok v)) = Some v
+readable_view view = None
 
 -- whether what a unit has ends a lookup
 abbrev pub ends_lookup : Result (Option (List FrameRecord)) Error → Bool

@@ -35,7 +35,7 @@ module _ {L O B : Type 0} where
     held (Output o) = maybe.none
 
     -- a context stays with a lookup that waits, and once an output is dropped it is such
-    abbrev pub rests : (R : RattleType) → MutBor R.Denot → LookupResult L O B → (R.Denot → Type 0)
-        → Fml
+    abbrev pub rests : (R : RattleType) → MutBor R.Denot → LookupResult L O B
+        → (O → R.Denot → Type 0) → Fml
     rests R s r P = follows_so R R s.ghost_name (held r) (λ w n. IfLoad r (λ _. n ≡ w))
-        (λ n. IfOutput r (λ _. P n))
+        (λ n. IfOutput r (λ o. P o n))

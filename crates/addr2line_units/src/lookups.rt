@@ -8,15 +8,15 @@ ghost use Rattle.addr2line_lines.specs.SeenScope.{seen_file};
 ghost use Rattle.addr2line_units.specs.CachedLines.{HaveLinesOf, StayUnits, parsed_units};
 ghost use Rattle.addr2line_units.specs.Cover.{cover};
 ghost use Rattle.addr2line_units.specs.FramesLeft.{frames_left};
-ghost use Rattle.addr2line_units.specs.FramesLookup.{LookupAsks, asked_frames, asks_lines_of, has_many_of, holds_along, stop_along, with_answer};
+ghost use Rattle.addr2line_units.specs.FramesLookup.{LookupAsks, asked_frames, asks_lines_of, has_many_of, holds_along, readable_view, stop_along, view_of_number, with_answer};
 ghost use Rattle.addr2line_units.specs.Indexed.{units_in};
 ghost use Rattle.addr2line_lines.specs.Location.{location_of_row};
 ghost use Rattle.addr2line_units.specs.CachedLines.{cached_files};
 ghost use Rattle.addr2line_units.specs.Frames.{found_frames};
 ghost use Rattle.addr2line_units.specs.KeptEntries.{AreRead};
 ghost use Rattle.addr2line_units.specs.KeptFunctions.{IsPlaceIn, function_of_place, kept_functions};
-ghost use Rattle.addr2line_units.specs.KeptLookups.{HaveEntriesOf, HaveViewsOf, IsFramePlaceIn, IsStopIn, ReadsOnly, StayAllEntries, WaitsIn, answers_in, frames_at_place, has_frames_at, scope_in, seen_stop, sup_file, waits_at};
-ghost use Rattle.addr2line_units.specs.KeptViews.{seen_load};
+ghost use Rattle.addr2line_units.specs.KeptLookups.{HaveEntriesOf, HaveViewsOf, IsFramePlaceIn, IsStopIn, ReadsOnly, StayAllEntries, WaitsIn, answers_in, decided_at, frames_at_place, has_frames_at, scope_in, seen_stop, sup_file, waits_at};
+ghost use Rattle.addr2line_units.specs.KeptViews.{parts_of, seen_load};
 ghost use Rattle.addr2line_units.specs.Views.{load_of_unit};
 ghost use Rattle.addr2line_units.specs.Parsed.{IsNotOom, ParsesOnly};
 
@@ -29,7 +29,7 @@ use crate::unit_frames::UnitEntries;
 use crate::units::ResUnits;
 use crate::view::SplitDwarfLoad;
 use addr2line_lines::{Count, FileUnits, Row, Scope};
-use gimli::Dwarf;
+use gimli::{Dwarf, UnitRef};
 use gimli::read::{Error, Reader};
 use std::alloc::Global;
 use std::rc::Rc;
@@ -184,6 +184,21 @@ impl<R: Reader> ResUnits<R> {
         ensures refused { IfErr result (λ e. e ≡ OutOfMemory) }
     {
         self.entries[number].load(dwarf, &self.dw_units[number], number)
+    }
+
+    /// The sections and the unit of the view of the unit of a number, none where the view has a
+    /// fault. Takes no memory.
+    pub fn unit_ref<'x>(&'x self, dwarf: &'x Dwarf<R>, number: usize) -> Option<UnitRef<'x, R>>
+        requires views { HaveViewsOf dwarf.now self.now.dw_units.items self.now.entries.items }
+        requires decided { decided_at self.now.entries.items number ≡ true }
+        ensures gives { option_map (λ r. (r.dwarf.now, r.unit.now)) result
+            ≡ option_map parts_of (readable_view (view_of_number dwarf.now
+            self.now.dw_units.items (answers_in self.now.entries.items) number)) }
+    {
+        self.entries[number]
+            .view
+            .unit_ref(dwarf, &self.dw_units[number])
+            .ok()
     }
 
     /// Decides the unit of a number by an answer to its load if it is open, and else leaves it as

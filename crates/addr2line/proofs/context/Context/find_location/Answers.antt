@@ -1,7 +1,6 @@
 use Rattle.std.proofs.Common.{refl, sym, ap, subst, ◌∙◌, Ok, Some}
 use Rattle.std.proofs.lemmas.Result.{err_from_is_err_and}
 use Rattle.addr2line_units.specs.CachedLines.{HaveLinesOf}
-use Rattle.addr2line_units.specs.KeptLookups.{answers_in}
 use Rattle.addr2line.proofs.ContextLemmas.{after_lookup, location_is, still_a_context}
 use Rattle.addr2line.proofs.context.Context.find_location.Goals as goal
 
@@ -39,7 +38,7 @@ returns-in_err-place g c =
     let p = err_from_is_err_and c.from_residual.result c.from_residual.ensures.1 in
     let is = location_is d us old ranges sup i.made_is c.args.probe in
     rw (p.1, p.2, sym c.self.view_is) (
-      (refl, (λ _. tt), after_lookup d us old ranges sup i.made_is new e.stay _ _ (ap answers_in e.entries) c.self.inside.looks c.find_place.new.looks c.args.probe _ e.ready e.memory e.only e.raised e.counted e.cost),
+      (refl, (λ _. tt), after_lookup d us old ranges sup i.made_is new e.stay _ _ e.entries c.self.inside.looks c.find_place.new.looks c.args.probe _ e.ready e.memory e.only e.raised e.counted e.cost),
       record {
         gives = λ n. is ∙ e.gives n;
         exact = λ ready. is ∙ e.exact (ready _ i.made_is);
@@ -61,7 +60,7 @@ returns-in-Some g c =
     let is = location_is d us old ranges sup i.made_is c.args.probe in
     let found = is ∙ e.gives ∙ ap (λ l. Ok (Some l)) (sym c.location.ensures.gives) in
     rw (sym c.self.view_is) (
-      (refl, (λ _. tt), after_lookup d us old ranges sup i.made_is new e.stay _ _ (ap answers_in e.entries) c.self.inside.looks c.find_place.new.looks c.args.probe _ e.ready e.memory e.only e.raised e.counted e.cost),
+      (refl, (λ _. tt), after_lookup d us old ranges sup i.made_is new e.stay _ _ e.entries c.self.inside.looks c.find_place.new.looks c.args.probe _ e.ready e.memory e.only e.raised e.counted e.cost),
       record {
         gives = found;
         exact = λ ready. found;
@@ -82,7 +81,7 @@ returns-in-None g c =
     let e = rw (c.deref.ensures, c.in-None.is) at c.in_ok-place.ensures in
     let is = location_is d us old ranges sup i.made_is c.args.probe in
     rw (sym c.self.view_is) (
-      (refl, (λ _. tt), after_lookup d us old ranges sup i.made_is new e.stay _ _ (ap answers_in e.entries) c.self.inside.looks c.find_place.new.looks c.args.probe _ e.ready e.memory e.only e.raised e.counted e.cost),
+      (refl, (λ _. tt), after_lookup d us old ranges sup i.made_is new e.stay _ _ e.entries c.self.inside.looks c.find_place.new.looks c.args.probe _ e.ready e.memory e.only e.raised e.counted e.cost),
       record {
         gives = is ∙ e.gives;
         exact = λ ready. is ∙ e.gives;

@@ -1,7 +1,6 @@
 use Rattle.std.proofs.Common.{Ok, ap, refl, subst, sym, ◌∙◌}
 use Rattle.std.proofs.lemmas.Result.{err_from_is_err_and}
 use Rattle.addr2line_units.specs.CachedLines.{HaveLinesOf}
-use Rattle.addr2line_units.specs.KeptLookups.{answers_in}
 use Rattle.addr2line_units.specs.Located.{spans_along}
 use Rattle.addr2line_units.specs.RangeLookup.{cached_along}
 use Rattle.addr2line_units.specs.Cover.{cover_range}
@@ -34,7 +33,7 @@ returns-in_err-cache_lines g c =
     let e = c.in_err-cache_lines.ensures in
     let p = err_from_is_err_and c.from_residual.result c.from_residual.ensures.1 in
     rw (p.1, p.2, sym c.self.view_is) (
-      (refl, (λ _. tt), after_range_lookup d us old ranges sup i.made_is c.cache_lines.new.self.units.items e.stay _ _ (ap answers_in c.cache_lines.ensures.entries) c.self.inside.looks c.args.low c.args.high _ (λ answered. absurd (answered e.refused)) e.memory e.only),
+      (refl, (λ _. tt), after_range_lookup d us old ranges sup i.made_is c.cache_lines.new.self.units.items e.stay _ _ c.cache_lines.ensures.entries c.self.inside.looks c.args.low c.args.high _ (λ answered. absurd (answered e.refused)) e.memory e.only),
       record {
         gives = tt;
         refused = e.refused;
@@ -58,7 +57,7 @@ returns g c =
     let lines = subst (λ xs. HaveLinesOf d xs new) c.cache_lines.ensures.dw_units read in
     let cached = spans_cached d c.args.low c.args.high us new rows lines e.parsed in
     rw (sym c.self.view_is) (
-      (refl, (λ _. tt), after_range_lookup d us old ranges sup i.made_is new e.stay _ _ (ap answers_in c.cache_lines.ensures.entries) c.self.inside.looks c.args.low c.args.high _ (λ answered. e.parsed) (λ ready. tt) e.only),
+      (refl, (λ _. tt), after_range_lookup d us old ranges sup i.made_is new e.stay _ _ c.cache_lines.ensures.entries c.self.inside.looks c.args.low c.args.high _ (λ answered. e.parsed) (λ ready. tt) e.only),
       record {
         gives = spans_are d us old ranges sup i.made_is c.args.low c.args.high
             ∙ ap (λ us. Ok (spans_along d us c.args.low c.args.high rows)) (sym (stay_indexed us old new e.stay))

@@ -1,2 +1,3 @@
 pub mod ContextLemmas
 pub mod NewContextLemmas
+pub mod LookupLemmas

@@ -1,5 +1,5 @@
 -- What a context has when it is made (on specs/Context.antt).
-use Rattle.std.proofs.Common.{◌≡◌, ℕ, ◌&&◌, ◌||◌, Bool, true, false, List, [], ◌∷◌, map, Option, None, Result, Ok, Err, refl, sym, ap, ◌∙◌}
+use Rattle.std.proofs.Common.{◌≡◌, ◌&&◌, ◌||◌, Bool, true, false, List, [], ◌∷◌, map, Option, None, Result, Ok, Err, refl, sym, ap, ◌∙◌}
 use Rattle.std.specs.Prelude.{is_ok}
 use Rattle.gimli_read.specs.declared.error.Error.{Error}
 use Rattle.gimli_read.specs.Reading.{◌>>=◌}
@@ -10,9 +10,11 @@ use Rattle.addr2line_units.specs.declared.unit.ResUnit.{ResUnit}
 use Rattle.addr2line_units.specs.declared.unit_frames.UnitEntries.{UnitEntries}
 use Rattle.addr2line_units.specs.CachedLines.{HaveLinesOf, indexed_units, parsed_units}
 use Rattle.addr2line_units.specs.Indexed.{IndexState, context_takes_memory, index_of, index_takes_memory, sup_takes_memory}
-use Rattle.addr2line_units.specs.KeptLookups.{AreFreshOf, answers_in, known_in}
+use Rattle.addr2line_units.specs.KeptLookups.{AreFreshOf, answers_in}
+use Rattle.addr2line_units.specs.KnownEntries.{KnownEntries, NothingKnown, known_in}
 use Rattle.addr2line_units.specs.UnitIndex.{IndexedUnit, UnitIndex, RangedUnit, has_lines, indexed_of, index_units, ranged_units, ranges_from, sup_units, unit_records}
-use Rattle.addr2line_units.proofs.ScopeLemmas.{no_answers, nothing_known, records_beside}
+use Rattle.addr2line_units.proofs.KnownLemmas.{nothing_known}
+use Rattle.addr2line_units.proofs.ScopeLemmas.{no_answers, records_beside}
 use Rattle.addr2line.specs.Context.{ContextState, new_context}
 
 pub ok_is : {X : Type 0} (x y : X) → ◌≡◌ {A = Result X Error} (Ok x) (Ok y) → x ≡ y
@@ -27,12 +29,12 @@ no_more_answers [] = refl
 no_more_answers (u ∷ units) = ap (λ (xs : List (Option (Option Sections))). None ∷ xs) (no_more_answers units)
 
 -- what is known of units before anybody asks
-abbrev nothing_known_of : {U : Type 0} → List U → List (ℕ → Bool)
-nothing_known_of units = map (λ _ _. false) units
+abbrev nothing_known_of : {U : Type 0} → List U → List KnownEntries
+nothing_known_of units = map (λ _. NothingKnown) units
 
 no_more_known : (units : List RangedUnit) → nothing_known_of units ≡ nothing_known_of (unit_records (map indexed_of units))
 no_more_known [] = refl
-no_more_known (u ∷ units) = ap (λ (xs : List (ℕ → Bool)). (λ _. false) ∷ xs) (no_more_known units)
+no_more_known (u ∷ units) = ap (λ (xs : List KnownEntries). NothingKnown ∷ xs) (no_more_known units)
 
 -- a context that is made
 pub context_made : {R : Type 0} (d : Sections) (us : List UnitRecord) (rs : List ResUnit) (ranges : List UnitRange) (vs : List (UnitEntries R)) (sup : List UnitRecord)
@@ -40,7 +42,7 @@ pub context_made : {R : Type 0} (d : Sections) (us : List UnitRecord) (rs : List
     → new_context d ≡ Ok (record { sections = d; answers = answers_in vs; parsed = parsed_units rs; known = known_in vs; looks = 0 })
 context_made d us rs ranges vs sup e f own fresh = of_units (ranged_units d) e ∙ ap (λ xs. state xs (nothing_known_of (unit_records (indexed_units us rs))) (parsed_units rs)) (sym none) ∙ ap (λ xs. state (answers_in vs) xs (parsed_units rs)) (sym not_known)
   where
-    state : List (Option (Option Sections)) → List (ℕ → Bool) → List Bool → Result ContextState Error
+    state : List (Option (Option Sections)) → List KnownEntries → List Bool → Result ContextState Error
     state answers known parsed = Ok (record { sections = d; answers = answers; parsed = parsed; known = known; looks = 0 })
 
     of_index : IndexState → Result ContextState Error

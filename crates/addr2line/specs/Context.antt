@@ -1,11 +1,11 @@
 -- A context as callers see it: the sections that it was made from (DWARF 5, section 7.5), the first
--- answers to the loads of its units, of which units it has parsed the lines, for which addresses it
--- has read what a unit's entries have there, and how often it looked at lines.
+-- answers to the loads of its units, of which units it has parsed the lines, what it knows of the
+-- entries of units, and how often it looked at lines.
 -- Own: the lines of a unit, or their fault, are parsed when a lookup first asks for them, and stay
 -- parsed; a context that is made has parsed them only where they give a unit its ranges, and a unit
 -- without a line program has its lines, which are none.
 -- Own: of a unit the first answer to its load counts: the sections of a split file, or none.
-use Rattle.std.specs.Prelude.{◌≡◌, ℕ, ◌+◌, ◌<◌, ◌≤◌, Bool, true, false, List, map, Option, None, option_map, Result, Ok}
+use Rattle.std.specs.Prelude.{◌≡◌, ℕ, ◌+◌, ◌<◌, ◌≤◌, Bool, true, List, map, Option, None, option_map, Result, Ok}
 use Rattle.gimli_read.specs.declared.error.Error.{Error}
 use Rattle.gimli_read.specs.Reading.{◌>>=◌}
 use Rattle.gimli.specs.Sections.{Sections}
@@ -16,19 +16,19 @@ use Rattle.addr2line_units.specs.declared.unit_frames.UnitEntries.{UnitEntries}
 use Rattle.addr2line_units.specs.CachedLines.{HaveLinesOf, indexed_units}
 use Rattle.addr2line_units.specs.FramesLookup.{main_scope}
 use Rattle.addr2line_units.specs.KeptLookups.{HaveEntriesOf}
+use Rattle.addr2line_units.specs.KnownEntries.{KnownEntries, NothingKnown}
 use Rattle.addr2line_units.specs.Located.{all_lines, is_found, lines_fault, looks_along}
 use Rattle.addr2line_units.specs.UnitIndex.{UnitIndex, has_lines, index_units, ranged_units, sup_sections, sup_units}
 use Rattle.addr2line_units.specs.Parsed.{AllAskFor, AreParsed, AreReadyForAll, AsksFor, IsNotOom, LeadTo, ParsesOnly, StaysParsed, ready_along}
 use Rattle.addr2line_units.specs.Cover.{cover, cover_range}
 
 -- the sections, the first answer of each unit, none before it has one, of which units the lines are
--- parsed, for which addresses what each unit's entries have there is known, and how often lines were
--- looked at
+-- parsed, what is known of each unit's entries, and how often lines were looked at
 pub record ContextState : Type 0 where
   pub sections : Sections
   pub answers : List (Option (Option Sections))
   pub parsed : List Bool
-  pub known : List (ℕ → Bool)
+  pub known : List KnownEntries
   pub looks : ℕ
 
 -- a context of sections as it is made, or the fault that refuses it
@@ -40,7 +40,7 @@ new_context d = do
     sections = d;
     answers = map (λ _. None) units;
     parsed = map has_lines units;
-    known = map (λ _ _. false) units;
+    known = map (λ _. NothingKnown) units;
     looks = 0;
   })
 

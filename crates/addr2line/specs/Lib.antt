@@ -1,2 +1,5 @@
 pub mod Context
 pub mod Borrowed
+pub mod Lookups
+pub mod KeptStops
+pub mod Answers

@@ -20,6 +20,7 @@ pub mod AnswerLemmas
 pub mod ScopeLemmas
 pub mod WaitLemmas
 pub mod DecidedLemmas
+pub mod KnownLemmas
 pub mod KeptLookupLemmas
 pub mod NumberedFrames
 pub mod FramesLookupLemmas

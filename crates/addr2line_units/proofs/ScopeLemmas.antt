@@ -1,6 +1,6 @@
 -- The units that references lead to in a context, and what is kept of their entries at first (on
 -- specs/UnitIndexLaws.antt, specs/FramesLookup.antt and specs/KeptLookups.antt).
-use Rattle.std.proofs.Common.{◌≡◌, ℕ, ◌∙◌, ap, sym, refl, subst, Bool, true, false, List, [], ◌∷◌, ◌++◌, map, Option, Some, None, option_map, is_some, IfSome, IfOk, Result, Ok, Err, if◌then◌else◌}
+use Rattle.std.proofs.Common.{◌≡◌, ◌∙◌, ap, sym, refl, subst, Bool, true, false, List, [], ◌∷◌, ◌++◌, map, Option, Some, None, option_map, is_some, IfSome, IfOk, Result, Ok, Err, if◌then◌else◌}
 use Rattle.std.specs.Result.{result_ok}
 use Rattle.gimli_read.specs.declared.constants.DwLang.{DwLang}
 use Rattle.gimli_read.specs.declared.error.Error.{Error}
@@ -22,9 +22,9 @@ use Rattle.addr2line_units.specs.declared.view.ViewState.{ViewState}
 use Rattle.addr2line_units.specs.declared.view.ViewState.TheVariants as states
 use Rattle.addr2line_units.specs.CachedLines.{HaveLinesOf, indexed_units}
 use Rattle.addr2line_units.specs.FramesLookup.{main_scope}
-use Rattle.addr2line_units.specs.KeptEntries.{AreEntriesOf, AreFresh, has_entries_by, kept_answer}
+use Rattle.addr2line_units.specs.KeptEntries.{AreEntriesOf, AreFresh, kept_answer}
 use Rattle.addr2line_units.specs.KeptFunctions.{AreFunctionsOf, were_read}
-use Rattle.addr2line_units.specs.KeptLookups.{AreFreshOf, HaveEntriesOf, answers_in, known_in}
+use Rattle.addr2line_units.specs.KeptLookups.{AreFreshOf, HaveEntriesOf, answers_in}
 use Rattle.addr2line_units.specs.KeptViews.{answer_in, verdict_in, was_looked_at}
 use Rattle.addr2line_units.specs.UnitAranges.{aranges_in}
 use Rattle.addr2line_units.specs.UnitIndex.{RangedUnit, UnitIndex, given_at, index_units, indexed_of, is_type_unit, ranged_units, ranges_from, sup_sections, sup_unit_of_header, sup_units, unit_of_header, unit_records, unless_faulty, units_of}
@@ -187,22 +187,6 @@ no_answers (u ∷ us) [] fresh = absurd fresh
 no_answers (u ∷ us) (v ∷ vs) fresh =
     ap (λ (a : Option (Option Sections)). a ∷ answers_in vs) (no_answer v.view.state fresh.0.view)
     ∙ ap (λ (xs : List (Option (Option Sections))). None ∷ xs) (no_answers us vs fresh.1)
-
--- nothing is known of any unit then
-no_entries : {R : Type 0} (s : ViewState R) (f : LazyFunctions R) → was_looked_at s ≡ false → ◌≡◌ {A = ℕ → Bool} (λ probe. has_entries_by probe s f) (λ probe. false)
-no_entries states.Undecided f e = refl
-no_entries states.Open f e = absurd cc
-no_entries states.Main f e = absurd cc
-no_entries (states.Unnamed x) f e = absurd cc
-no_entries (states.Answered a) f e = absurd cc
-
-pub nothing_known : {R : Type 0} (us : List UnitRecord) (vs : List (UnitEntries R)) → AreFreshOf us vs → known_in vs ≡ map (λ _ _. false) us
-nothing_known [] [] fresh = refl
-nothing_known [] (v ∷ vs) fresh = absurd fresh
-nothing_known (u ∷ us) [] fresh = absurd fresh
-nothing_known (u ∷ us) (v ∷ vs) fresh =
-    ap (λ (k : ℕ → Bool). k ∷ known_in vs) (no_entries v.view.state v.functions fresh.0.view)
-    ∙ ap (λ (ks : List (ℕ → Bool)). (λ _. false) ∷ ks) (nothing_known us vs fresh.1)
 
 -- one more unit of which nobody has asked for anything
 pub fresh_push : {R : Type 0} (us : List UnitRecord) (vs : List (UnitEntries R)) (u : UnitRecord) (v : UnitEntries R) → AreFreshOf us vs → AreFresh v → AreFreshOf (us ++ u ∷ []) (vs ++ v ∷ [])

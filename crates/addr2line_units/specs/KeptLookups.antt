@@ -60,10 +60,6 @@ answers_in views = map kept_answer views
 abbrev pub has_entries_at : {R : Type 0} → ℕ → List (UnitEntries R) → ℕ → Bool
 has_entries_at probe views n = unwrap_or (option_map (has_entries probe) (slice_get views n)) true
 
--- for which addresses what each unit has there is known by what is kept of its entries
-abbrev pub known_in : {R : Type 0} → List (UnitEntries R) → List (ℕ → Bool)
-known_in views = map (λ v probe. has_entries probe v) views
-
 -- of each unit that isn't asked nothing is read, of the others no detail but that of the function
 -- at the probe
 abbrev pub ReadsOnly : {R : Type 0} → (ℕ → Type 0) → ℕ → List (UnitEntries R)

@@ -23,6 +23,8 @@ pub mod SeenFrame
 pub mod FramesLeft
 pub mod UnitFrames
 pub mod FramesLookup
+pub mod Loads
 pub mod KeptEntries
 pub mod KeptLookups
+pub mod KnownEntries
 pub mod Suspended

@@ -1,0 +1,47 @@
+-- What an answer to the load of a unit, and to forget one, makes of a context.
+-- Own: the first answer to a unit's load counts until the unit is forgotten; one to a unit that is
+-- decided changes nothing.
+use Rattle.std.specs.Prelude.{◌≡◌, ◌≢◌, ◌⊎◌, ℕ, slice_get, Option, IfErr, OnOk, Result, Ok, Err}
+use Rattle.gimli_read.specs.declared.error.Error.{Error}
+use Rattle.gimli_read.specs.declared.error.Error.TheVariants.{OutOfMemory}
+use Rattle.gimli.specs.Sections.{Sections}
+use Rattle.addr2line_units.specs.declared.frames_lookup.Faults.{Faults}
+use Rattle.addr2line_units.specs.FramesLookup.{with_answer}
+use Rattle.addr2line_units.specs.UnitIndex.{UnitIndex, index_units, unit_records}
+use Rattle.addr2line.specs.Context.{ContextState}
+use Rattle.addr2line.specs.Lookups.{AfterFrames, FirstAnswers, StaysKnown, Suspends}
+use Rattle.addr2line_units.specs.Views.{SplitLoad}
+
+-- the first answers after one more to the load of the unit of a number, which counts where the unit
+-- is open
+abbrev pub answered : Sections → FirstAnswers → ℕ → Option Sections → FirstAnswers
+answered d answers n given = elim (index_units d)
+    [ Err e ↦ answers | Ok m ↦ with_answer d (unit_records m.units) answers n given ]
+
+-- after an answer to the load of the unit of a number, or after OutOfMemory in its place, nothing
+-- is changed but of that unit; after OutOfMemory all first answers are as before, and what was
+-- known stays known
+pub record AfterAnswer (n : ℕ) (given : Option Sections) (result : Result (Unit {0}) Error)
+    (old new : ContextState) : Type 0 where
+  pub sections : new.sections ≡ old.sections
+  pub parsed : new.parsed ≡ old.parsed
+  pub looks : new.looks ≡ old.looks
+  pub answers : OnOk result (new.answers ≡ answered old.sections old.answers n given)
+  pub refused : IfErr result (λ e. (e ≡ OutOfMemory) × (new.answers ≡ old.answers)
+      × StaysKnown old.known new.known)
+  pub others : (k : ℕ) → k ≢ n → slice_get new.known k ≡ slice_get old.known k
+
+-- after an answer with which a lookup went on, or after OutOfMemory in the answer's place
+abbrev pub AfterResume : {X : Type 0} → Faults → ℕ → ℕ → Option Sections → Result X Error
+    → ContextState → ContextState → Type 0
+AfterResume faults probe n given result old new =
+    ((mid : ContextState) × AfterAnswer n given (Ok tt) old mid
+    × AfterFrames faults probe result mid new)
+    ⊎ ((result ≡ Err OutOfMemory) × AfterAnswer n given (Err OutOfMemory) old new)
+
+-- after an answer the lookup waits for the unit of another number with this load
+abbrev pub SuspendsAgain : Faults → ℕ → ℕ → Option Sections → ℕ → SplitLoad → ContextState
+    → ContextState → Type 0
+SuspendsAgain faults probe n given number load old new =
+    (mid : ContextState) × AfterAnswer n given (Ok tt) old mid
+    × Suspends faults probe number load mid new

@@ -1,6 +1,6 @@
 //! Lookups of frames, which may wait for split files.
 
-ghost use Rattle.std.specs.Prelude.{◌≡◌, ◌<◌, None, IfErr, IfOk, Ok, Result, false, length, option_map, true};
+ghost use Rattle.std.specs.Prelude.{◌≡◌, ◌<◌, None, IfErr, IfOk, Ok, false, length, option_map, true};
 ghost use Rattle.std.specs.Borrow.{sem};
 ghost use Rattle.gimli_read.specs.declared.error.Error.TheVariants.{OutOfMemory};
 ghost use Rattle.gimli_read.specs.Reading.{ExactlyUnlessOom};
@@ -8,10 +8,9 @@ ghost use Rattle.addr2line_units.specs.declared.frames_lookup.Faults.TheVariants
 ghost use Rattle.addr2line_units.specs.FramesLeft.{frames_left};
 ghost use Rattle.addr2line_units.specs.FramesLookup.{Waits, is_waiting};
 ghost use Rattle.addr2line_units.specs.KeptViews.{seen_load};
-ghost use Rattle.addr2line_units.specs.Suspended.{IfLoad, IfOutput, SkipsTo, rests};
-ghost use Rattle.addr2line.specs.contracts.context.Context.{the_row};
+ghost use Rattle.addr2line_units.specs.Suspended.{IfLoad, IfOutput, SkipsTo};
 ghost use Rattle.addr2line.specs.Answers.{AfterResume, SuspendsAgain, answered};
-ghost use Rattle.addr2line.specs.Borrowed.{EndsAs};
+ghost use Rattle.addr2line.specs.Borrowed.{EndsAs, RestsAs};
 ghost use Rattle.addr2line.specs.KeptStops.{waiting_in};
 ghost use Rattle.addr2line.specs.Lookups.{AfterFrames, IsKnown, IsLoadOf, Suspends, frames_of, loads_of, lookup_stop, waiting_unit, waits_for, with_none};
 
@@ -94,16 +93,13 @@ impl<R: Reader> Context<R> {
             probe,
             Faults::End,
         )?;
-        match stop {
-            FramesStop::Finds(place) => Ok(self.units.frames(place)),
-            _ => Ok(FrameIter::new_empty()),
-        }
+        Ok(self.units.stop_frames(stop))
     }
 }
 
 // A lookup of frames from its beginning, by what is kept.
 fn go<R: Reader>(ctx: &mut Context<R>, probe: u64) -> LookupResult<FramesLookup<'_, R>>
-    ensures* ends { sem 𝓛 (rests (λ c. c.ctx.ghost_name) (the_row R.row R.Reader) ctx.entry result
+    ensures* ends { sem 𝓛 (RestsAs (λ c. c.ctx.ghost_name) R.row R.Reader ctx.entry result
         (λ o n. AfterFrames End probe o ctx.old n)) }
     ensures load { IfLoad result (λ c. (c.ctx.ghost_name ≡ ctx.entry.ghost_name)
         × (c.probe ≡ probe)
@@ -137,7 +133,7 @@ fn go_on<R: Reader>(
 ) -> LookupResult<FramesLookup<'_, R>>
     requires stands { waits_for number (lookup_stop End ctx.old.sections ctx.old.answers probe)
         ≡ true }
-    ensures* ends { sem 𝓛 (rests (λ c. c.ctx.ghost_name) (the_row R.row R.Reader) ctx.entry result
+    ensures* ends { sem 𝓛 (RestsAs (λ c. c.ctx.ghost_name) R.row R.Reader ctx.entry result
         (λ o n. AfterResume End probe number (option_map (λ d. d.value) input) o ctx.old n)) }
     ensures load { IfLoad result (λ c. (c.ctx.ghost_name ≡ ctx.entry.ghost_name)
         × (c.probe ≡ probe) × SuspendsAgain End probe number (option_map (λ d. d.value) input)
@@ -171,7 +167,7 @@ impl<'ctx, R: Reader> LookupContinuation for FramesLookup<'ctx, R> {
     }
 
     fn resume(self, input: Option<Rc<Dwarf<R>>>) -> LookupResult<Self>
-        ensures* ends { sem 𝓛 (rests (λ c. c.ctx.ghost_name) (the_row R.row R.Reader)
+        ensures* ends { sem 𝓛 (RestsAs (λ c. c.ctx.ghost_name) R.row R.Reader
             self.entry.ctx result (λ o n. AfterResume End self.entry.probe self.entry.number
             (option_map (λ d. d.value) input) o self.entry.ctx.now n)) }
         ensures load { IfLoad result (λ c. (c.ctx.ghost_name ≡ self.entry.ctx.ghost_name)
@@ -186,7 +182,7 @@ impl<'ctx, R: Reader> LookupContinuation for FramesLookup<'ctx, R> {
             (frames_of self.entry.ctx.now.sections (answered self.entry.ctx.now.sections
             self.entry.ctx.now.answers self.entry.number (option_map (λ d. d.value) input))
             self.entry.probe)) }
-        ensures skips { input ≡ None → (o : Result (FrameIter R.Denot) Error)
+        ensures skips { input ≡ None → (o : _)
             → SkipsTo (λ c p. ExactlyUnlessOom frames_left p
             (frames_of c.ctx.now.sections (with_none c.ctx.now.answers) c.probe)) result o
             → ExactlyUnlessOom frames_left o (frames_of self.entry.ctx.now.sections
@@ -246,7 +242,7 @@ impl<R: Reader> Context<R> {
     /// Source: DWARF 5, sections 2.17, 3.3, 3.1.2 and 7.3.2. Own: which unit counts, and what a
     /// lookup waits for.
     pub fn find_frames(&mut self, probe: u64) -> LookupResult<FramesLookup<'_, R>>
-        ensures* ends { sem 𝓛 (rests (λ c. c.ctx.ghost_name) (the_row R.row R.Reader) self.entry
+        ensures* ends { sem 𝓛 (RestsAs (λ c. c.ctx.ghost_name) R.row R.Reader self.entry
             result (λ o n. AfterFrames End probe o self.old n)) }
         ensures load { IfLoad result (λ c. (c.ctx.ghost_name ≡ self.entry.ghost_name)
             × (c.probe ≡ probe)

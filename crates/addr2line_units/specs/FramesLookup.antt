@@ -65,6 +65,11 @@ abbrev pub stop_along : (ℕ → Result (Option (List FrameRecord)) Error) → L
 stop_along frames [] = Ok FindsNothing
 stop_along frames (r ∷ ranges) = frames r.unit >>= or_stop r.unit (stop_along frames ranges)
 
+-- the frames that a lookup has found
+abbrev pub frames_found : Stop → List FrameRecord
+frames_found (Finds n frames) = frames
+frames_found stop = []
+
 -- whether a lookup waits for an answer
 abbrev pub is_waiting : Result Stop Error → Bool
 is_waiting (Ok (Waits n)) = true

@@ -8,7 +8,7 @@ ghost use Rattle.addr2line_lines.specs.SeenScope.{seen_file};
 ghost use Rattle.addr2line_units.specs.CachedLines.{HaveLinesOf, StayUnits, parsed_units};
 ghost use Rattle.addr2line_units.specs.Cover.{cover};
 ghost use Rattle.addr2line_units.specs.FramesLeft.{frames_left};
-ghost use Rattle.addr2line_units.specs.FramesLookup.{LookupAsks, asked_frames, asks_lines_of, has_many_of, holds_along, readable_view, stop_along, view_of_number, with_answer};
+ghost use Rattle.addr2line_units.specs.FramesLookup.{LookupAsks, asked_frames, asks_lines_of, frames_found, has_many_of, holds_along, readable_view, stop_along, view_of_number, with_answer};
 ghost use Rattle.addr2line_units.specs.Indexed.{units_in};
 ghost use Rattle.addr2line_lines.specs.Location.{location_of_row};
 ghost use Rattle.addr2line_units.specs.CachedLines.{cached_files};
@@ -86,6 +86,20 @@ impl<R: Reader> ResUnits<R> {
             row,
         } = place;
         frames_in_unit(&self.units[unit], &self.entries[unit], function, row)
+    }
+
+    /// The frames that a lookup has found, none where it waits or has found nothing. Takes no
+    /// memory.
+    pub fn stop_frames(&self, stop: FramesStop) -> FrameIter<'_, R>
+        requires there { IsStopIn self.now.units.items self.now.entries.items stop }
+        requires beside { length self.now.entries.items ≡ length self.now.units.items }
+        ensures gives { frames_left result
+            ≡ frames_found (seen_stop self.now.units.items self.now.entries.items stop) }
+    {
+        match stop {
+            FramesStop::Finds(place) => self.frames(place),
+            _ => FrameIter::new_empty(),
+        }
     }
 }
 

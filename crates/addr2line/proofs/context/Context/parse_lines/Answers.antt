@@ -1,7 +1,8 @@
 use Rattle.std.proofs.Common.{ap, subst, sym, ◌∙◌}
 use Rattle.std.specs.Prelude.{is_ok}
 use Rattle.gimli_read.specs.Reading.{Exactly}
-use Rattle.addr2line_units.specs.CachedLines.{HaveLinesOf}
+use Rattle.addr2line_units.specs.CachedLines.{HaveLinesOf, parsed_units}
+use Rattle.addr2line_units.specs.KnownEntries.{known_in}
 use Rattle.addr2line_units.specs.Cover.{cover}
 use Rattle.addr2line.proofs.ContextLemmas.{after_parse, all_stays, along_ok, lines_are, location_is, range_ready_if_ok, ready_after_parse, ready_if_ok, same_after_parse, still_a_context, when_ok}
 use Rattle.addr2line.proofs.context.Context.parse_lines.Goals as goal
@@ -18,7 +19,7 @@ returns-clause-stays g c =
     rw (sym c.self.view_is) (all_stays c.self.inside.dwarf.value c.self.inside.units.dw_units.items c.self.inside.units.units.items c.self.inside.units.ranges _ c.self.invariant.made_is c.parse_lines.new.self.units.items c.parse_lines.ensures.stay _ _ c.parse_lines.ensures.entries c.self.inside.looks c.self.inside.looks)
 
 pub returns-clause-ready : goal.returns-clause-ready
-returns-clause-ready g c = ready_if_ok _ _ c.parse_lines.ensures.parsed
+returns-clause-ready g c = ready_if_ok _ (record { sections = c.self.inside.dwarf.value; answers = answers_in c.parse_lines.new.self.entries.items; parsed = parsed_units c.parse_lines.new.self.units.items; known = known_in c.parse_lines.new.self.entries.items; looks = c.self.inside.looks }) c.parse_lines.ensures.parsed
 
 pub returns-clause-found : goal.returns-clause-found
 returns-clause-found g c =
@@ -37,7 +38,7 @@ returns-clause-exact g c =
     rw (sym c.self.view_is) (λ ready. subst (Exactly (λ x. x) c.parse_lines.result) (sym (lines_are c.self.inside.dwarf.value c.self.inside.units.dw_units.items c.self.inside.units.units.items c.self.inside.units.ranges _ i.made_is)) (e (ready _ i.made_is)))
 
 pub returns-clause-ready_for_range : goal.returns-clause-ready_for_range
-returns-clause-ready_for_range g c = range_ready_if_ok _ _ c.parse_lines.ensures.parsed
+returns-clause-ready_for_range g c = range_ready_if_ok _ (record { sections = c.self.inside.dwarf.value; answers = answers_in c.parse_lines.new.self.entries.items; parsed = parsed_units c.parse_lines.new.self.units.items; known = known_in c.parse_lines.new.self.entries.items; looks = c.self.inside.looks }) c.parse_lines.ensures.parsed
 
 pub returns-clause-ready_for_all : goal.returns-clause-ready_for_all
 returns-clause-ready_for_all g c =

@@ -23,7 +23,7 @@ use Rattle.addr2line_units.specs.CachedLines.{cached_files, lines_at}
 use Rattle.addr2line_units.specs.Frames.{FrameRecord, found_frames}
 use Rattle.addr2line_units.specs.FramesLookup.{Stop, Waits, Finds, FindsNothing}
 use Rattle.addr2line_units.specs.KeptFunctions.{IsPlaceIn, function_of_place, kept_functions, no_functions}
-use Rattle.addr2line_units.specs.KeptViews.{IsViewOf, waits}
+use Rattle.addr2line_units.specs.KeptViews.{IsViewOf, is_decided, waits}
 use Rattle.addr2line_units.specs.Parsed.{has_parsed}
 use Rattle.addr2line_units.specs.KeptEntries.{AreEntriesOf, AreFresh, AreRead, ReadsEntriesOf, StayEntries, has_entries, kept_answer}
 
@@ -153,6 +153,11 @@ scope_in d us sup = record { file = record { sections = d; units = us }; sup = s
 -- whether the unit of a number was looked at and waits for an answer
 abbrev pub waits_at : {R : Type 0} → List (UnitEntries R) → ℕ → Bool
 waits_at views n = unwrap_or (option_map (λ v. waits v.view.state) (slice_get views n)) false
+
+-- whether the view of the unit of a number is known, or its fault
+abbrev pub decided_at : {R : Type 0} → List (UnitEntries R) → ℕ → Bool
+decided_at views n =
+    unwrap_or (option_map (λ v. is_decided v.view.state) (slice_get views n)) false
 
 -- the unit that a lookup waits for does
 abbrev pub WaitsIn : {R : Type 0} → List (UnitEntries R) → FramesStop → Type 0

@@ -25,4 +25,6 @@ pub mod UnitFrames
 pub mod FramesLookup
 pub mod KeptEntries
 pub mod KeptLookups
+pub mod Loads
+pub mod ListedLoads
 pub mod Suspended

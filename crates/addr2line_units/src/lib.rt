@@ -11,6 +11,7 @@ mod functions;
 pub mod index;
 mod laws;
 mod legacy;
+mod loads;
 pub mod lookup;
 mod lookups;
 pub mod place;

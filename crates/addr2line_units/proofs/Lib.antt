@@ -23,3 +23,4 @@ pub mod KeptLookupLemmas
 pub mod NumberedFrames
 pub mod FramesLookupLemmas
 pub mod WalkLemmas
+pub mod LoadLemmas

@@ -167,6 +167,14 @@ decided_there [] n v e h = absurd cc
 decided_there (y ∷ vs) zero v e h = ap (λ x. is_decided x.view.state) e ∙ h
 decided_there (y ∷ vs) (suc n) v e h = decided_there vs n v e h
 
+pub decided_within : {R : Type 0} (vs : List (UnitEntries R)) (n : ℕ) → decided_at vs n ≡ true → n < length vs
+decided_within [] n h = absurd cc
+decided_within (v ∷ vs) zero h = omega arith
+decided_within (v ∷ vs) (suc n) h = let k = decided_within vs n h in omega (arith, k)
+
+pub unit_same : (u v : UnitRecord) → ◌≡◌ {A = Option UnitRecord} (Some u) (Some v) → u ≡ v
+unit_same u v e = cc
+
 decided_set : {R : Type 0} (vs : List (UnitEntries R)) (n : ℕ) (w : UnitEntries R) → n < length vs → is_decided w.view.state ≡ true → decided_at (set vs n w) n ≡ true
 decided_set [] n w h d = absurd (omega arith)
 decided_set (y ∷ vs) zero w h d = d

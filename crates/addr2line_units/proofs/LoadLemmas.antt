@@ -8,7 +8,7 @@ use Rattle.std.specs.Option.{option_to_list}
 use Rattle.std.specs.Prelude.{IfSome, is_none, is_some, if◌then◌else◌}
 use Rattle.gimli_read.specs.declared.error.Error.{Error}
 use Rattle.gimli_read.specs.declared.error.Error.TheVariants.{UnknownToken}
-use Rattle.gimli_read.specs.Reading.{◌>>=◌}
+use Rattle.gimli_read.specs.Reading.{◌>>=◌, ExactlyUnlessOom}
 use Rattle.gimli_read.specs.Section.{Section}
 use Rattle.gimli.specs.declared.unit.DwoId.{DwoId}
 use Rattle.gimli.specs.Sections.{Sections}
@@ -34,16 +34,21 @@ no_view_fault (Some (Err e)) p h = absurd cc
 pub no_unit : (us : List UnitRecord) (n : ℕ) → slice_get us n ≡ None → unit_of_token us n ≡ Err UnknownToken
 no_unit us n e = by (slice_get us n) e
   where
-    by : (o : Option UnitRecord) → o ≡ None → elim o [ None ↦ Err UnknownToken | Some u ↦ Ok u ] ≡ Err UnknownToken
+    by : (o : Option UnitRecord) → o ≡ None → ◌≡◌ {A = Result UnitRecord Error} (elim o [ None ↦ Err UnknownToken | Some u ↦ Ok u ]) (Err UnknownToken)
     by None k = refl
     by (Some u) k = absurd cc
 
 pub this_unit : (us : List UnitRecord) (n : ℕ) (u : UnitRecord) → slice_get us n ≡ Some u → unit_of_token us n ≡ Ok u
 this_unit us n u e = by (slice_get us n) e
   where
-    by : (o : Option UnitRecord) → o ≡ Some u → elim o [ None ↦ Err UnknownToken | Some x ↦ Ok x ] ≡ Ok u
+    by : (o : Option UnitRecord) → o ≡ Some u → ◌≡◌ {A = Result UnitRecord Error} (elim o [ None ↦ Err UnknownToken | Some x ↦ Ok x ]) (Ok u)
     by None k = absurd cc
     by (Some x) k = let same : x ≡ u = cc in ap Ok same
+
+slice_get_none : {X : Type 0} (xs : List X) (n : ℕ) → slice_get xs n ≡ None → length xs ≤ n
+slice_get_none [] n e = omega arith
+slice_get_none (x ∷ xs) zero e = absurd cc
+slice_get_none (x ∷ xs) (suc n) e = let k = slice_get_none xs n e in omega (arith, k)
 
 pub unknown_load : (d : Sections) (us : List UnitRecord) (answers : List (Option (Option Sections))) (n : ℕ) (given : Option Sections) → slice_get us n ≡ None → load_result d us answers n given ≡ Err UnknownToken
 unknown_load d us answers n given e = ap (λ r. r >>= λ u. view_fault (verdict d u (decided_answer d u (answer_of answers n) given))) (no_unit us n e)
@@ -53,6 +58,13 @@ unknown_forget us n e = ap (λ r. r >>= λ _. Ok tt) (no_unit us n e)
 
 pub known_forget : (us : List UnitRecord) (n : ℕ) (u : UnitRecord) → slice_get us n ≡ Some u → forget_result us n ≡ Ok tt
 known_forget us n u e = ap (λ r. r >>= λ _. Ok tt) (this_unit us n u e)
+
+pub known_forget_within : (us : List UnitRecord) (n : ℕ) → n < length us → forget_result us n ≡ Ok tt
+known_forget_within us n h = by (slice_get us n) refl
+  where
+    by : (o : Option UnitRecord) → slice_get us n ≡ o → forget_result us n ≡ Ok tt
+    by None e = absurd (let k = slice_get_none us n e in omega (arith, h, k))
+    by (Some u) e = known_forget us n u e
 
 pub unknown_answer : (d : Sections) (us : List UnitRecord) (answers : List (Option (Option Sections))) (n : ℕ) (given : Option Sections) → slice_get us n ≡ None → with_answer d us answers n given ≡ answers
 unknown_answer d us answers n given e = by (slice_get us n) e
@@ -91,13 +103,28 @@ pub as_many_answers : {R : Type 0} (vs : List (UnitEntries R)) → length (answe
 as_many_answers [] = refl
 as_many_answers (v ∷ vs) = ap suc (as_many_answers vs)
 
+-- the same by a call that gives the fault
+pub load_gives_within : {R : Type 0} (d : Sections) (us later : List UnitRecord) (vs ws : List (UnitEntries R)) (n : ℕ) (given : Option Sections) (r : Result (Unit {0}) Error) → n < length us → length us ≡ length vs → later ≡ us
+    → answers_in ws ≡ with_answer d us (answers_in vs) n given → ((u : UnitRecord) → slice_get later n ≡ Some u → r ≡ view_fault (verdict d u (answer_of (answers_in ws) n))) → r ≡ load_result d us (answers_in vs) n given
+load_gives_within d us later vs ws n given r h many e same gives = by (slice_get us n) refl
+  where
+    by : (o : Option UnitRecord) → slice_get us n ≡ o → r ≡ load_result d us (answers_in vs) n given
+    by None k = absurd (let l = slice_get_none us n k in omega (arith, h, l))
+    by (Some u) k =
+        let m = as_many_answers vs in
+        gives u (ap (λ xs. slice_get xs n) e ∙ k) ∙ sym (load_gives d us (answers_in vs) (answers_in ws) n given u k (omega (arith, h, many, m)) same)
+
+pub exactly_this : {X : Type 0} (r given : Result X Error) → r ≡ given → ExactlyUnlessOom (λ x. x) r given
+exactly_this (Ok x) given e = sym e
+exactly_this (Err x) given e = λ ne. sym e
+
 -- the load that a unit waits for names its number
-unit_in : Option SplitLoad → ℕ
+abbrev unit_in : Option SplitLoad → ℕ
 unit_in None = 0
 unit_in (Some l) = l.unit
 
 pub awaited_unit : (d : Sections) (n : ℕ) (u : UnitRecord) (answer : Option (Option Sections)) (l : SplitLoad) → awaited_load d n u answer ≡ Some l → l.unit ≡ n
-unfolding (load_of_unit, unit_in)
+unfolding load_of_unit
 awaited_unit d n u answer l e = by_id u.dwo_id (split_name_of d u) answer e
   where
     by_id : (id : Option DwoId) (name : Result (Option Section) Error) (a : Option (Option Sections)) → awaited_by (load_by d n u name id) a ≡ Some l → l.unit ≡ n
@@ -176,14 +203,15 @@ next_listed (Some l) old now loads e = by (is_new old l) (filter_twice (is_new o
 
 -- the loads that are listed so far and those that are new make up all
 module _ {L : Type 0} (see : L → SplitLoad) (listed : List L) (o : Option SplitLoad) (old now : List Bool) (loads all : List SplitLoad) where
-  pub listed_none : None ≡ if_new old o → MarksLoad o old now → map see listed ++ filter (is_new old) (before_others o loads) ≡ all → map see listed ++ filter (is_new now) loads ≡ all
-  listed_none f m h = ap (λ z. map see listed ++ z) (sym (next_listed o old now loads m ∙ ap (λ x. option_to_list x ++ filter (is_new now) loads) (sym f))) ∙ h
-
-  pub listed_one : (found : L) → Some (see found) ≡ if_new old o → MarksLoad o old now → map see listed ++ filter (is_new old) (before_others o loads) ≡ all → map see (listed ++ found ∷ []) ++ filter (is_new now) loads ≡ all
-  listed_one found f m h =
-      ap (λ z. z ++ filter (is_new now) loads) (map-append see listed (found ∷ []))
-      ∙ append_assoc (map see listed) (see found ∷ []) (filter (is_new now) loads)
-      ∙ ap (λ z. map see listed ++ z) (sym (next_listed o old now loads m ∙ ap (λ x. option_to_list x ++ filter (is_new now) loads) (sym f))) ∙ h
+  pub listed_more : (found : Option L) → option_map see found ≡ if_new old o → MarksLoad o old now → map see listed ++ filter (is_new old) (before_others o loads) ≡ all → map see (listed ++ option_to_list found) ++ filter (is_new now) loads ≡ all
+  listed_more found f m h =
+      ap (λ z. z ++ filter (is_new now) loads) (map-append see listed (option_to_list found))
+      ∙ append_assoc (map see listed) (map see (option_to_list found)) (filter (is_new now) loads)
+      ∙ ap (λ z. map see listed ++ z) (ap (λ z. z ++ filter (is_new now) loads) (by found ∙ ap option_to_list f) ∙ sym (next_listed o old now loads m)) ∙ h
+    where
+      by : (x : Option L) → map see (option_to_list x) ≡ option_to_list (option_map see x)
+      by None = refl
+      by (Some y) = refl
 
 -- the load of the unit of a number, by what is kept of it
 pub load_there : {R : Type 0} (d : Sections) (us : List UnitRecord) (vs : List (UnitEntries R)) (n : ℕ) (u : UnitRecord) (v : UnitEntries R) → slice_get us n ≡ Some u → n < length vs → v ≡ get_or vs n v
@@ -197,9 +225,23 @@ load_there d us vs n u v e h at = by (slice_get us n) e
 pub no_load : (d : Sections) (us : List UnitRecord) (answers : List (Option (Option Sections))) (n : ℕ) → slice_get us n ≡ None → load_of_number d us answers n ≡ None
 no_load d us answers n e = by (slice_get us n) e
   where
-    by : (o : Option UnitRecord) → o ≡ None → elim o [ None ↦ None | Some x ↦ awaited_load d n x (answer_of answers n) ] ≡ None
+    by : (o : Option UnitRecord) → o ≡ None → ◌≡◌ {A = Option SplitLoad} (elim o [ None ↦ None | Some x ↦ awaited_load d n x (answer_of answers n) ]) None
     by None k = refl
     by (Some x) k = absurd cc
+
+pub found_same : {L : Type 0} (a b : Option L) → ◌≡◌ {A = Result (Option L) Error} (Ok a) (Ok b) → a ≡ b
+found_same a b e = cc
+
+-- one more load along ranges
+pub listed_step : {L : Type 0} (see : L → SplitLoad) (listed : List L) (d : Sections) (us : List UnitRecord) (answers later : List (Option (Option Sections))) (r : UnitRange) (old now : List Bool)
+    (rest ranges : List UnitRange) (all : List SplitLoad) (found : Option L) → later ≡ answers → ranges ≡ r ∷ rest → option_map see found ≡ if_new old (load_of_number d us later r.unit)
+    → MarksLoad (load_of_number d us later r.unit) old now → map see listed ++ filter (is_new old) (loads_along (load_of_number d us answers) ranges) ≡ all
+    → map see (listed ++ option_to_list found) ++ filter (is_new now) (loads_along (load_of_number d us answers) rest) ≡ all
+listed_step see listed d us answers later r old now rest ranges all found e steps f m h =
+    listed_more see listed (load_of_number d us answers r.unit) old now (loads_along (load_of_number d us answers) rest) all found
+    (f ∙ ap (λ a. if_new old (load_of_number d us a r.unit)) e)
+    (subst (λ a. MarksLoad (load_of_number d us a r.unit) old now) e m)
+    (subst (λ rs. map see listed ++ filter (is_new old) (loads_along (load_of_number d us answers) rs) ≡ all) steps h)
 
 -- what was decided is decided where more is kept
 pub decided_stays : {R : Type 0} (vs ws : List (UnitEntries R)) (n : ℕ) → StayAllEntries vs ws → decided_at vs n ≡ true → decided_at ws n ≡ true

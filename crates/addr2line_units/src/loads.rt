@@ -1,7 +1,8 @@
 //! Answers to the loads of units that no lookup waits for, and the loads that an address waits for.
 
-ghost use Rattle.std.specs.Prelude.{◌≡◌, ◌≢◌, ◌<◌, ℕ, IfErr, IfOk, IsOk, None, Ok, OnOk, Some, length, map, not, option_map, slice_get, true};
+ghost use Rattle.std.specs.Prelude.{◌≡◌, ◌≢◌, ◌++◌, ◌<◌, ℕ, IfErr, IfOk, IsOk, None, Ok, OnOk, Some, length, map, not, option_map, slice_get, true};
 ghost use Rattle.std.specs.List.{AllByRecursion};
+ghost use Rattle.std.specs.Option.{option_to_list};
 ghost use Rattle.gimli_read.specs.declared.error.Error.TheVariants.{OutOfMemory};
 ghost use Rattle.gimli_read.specs.Reading.{ExactlyUnlessOom};
 ghost use Rattle.gimli.specs.Unit.{UnitRecord};
@@ -234,6 +235,21 @@ fn new_load_at<R: Reader>(
     entries.new_load(dwarf, scope, dw_unit, marks, number)
 }
 
+// Adds a load, if there is one. Refused `OutOfMemory` alone, and only where there is one.
+fn push_if<R: Reader>(
+    loads: &mut Vec<SplitDwarfLoad<R>>,
+    load: Option<SplitDwarfLoad<R>>,
+) -> Result<(), Error>
+    ensures gives { OnOk result (loads.new.items ≡ loads.old.items ++ option_to_list load) }
+    ensures refused { IfErr result (λ e. e ≡ OutOfMemory) }
+    ensures none { load ≡ None → result ≡ Ok tt }
+{
+    if let Some(load) = load {
+        loads.push(load)?;
+    }
+    Ok(())
+}
+
 // The loads of the open units that ranges lead to, each once, in the order of its first range.
 // Whether a unit is open is looked for, unless that was done.
 //
@@ -262,9 +278,7 @@ fn read_loads<R: Reader>(
     let mut marks = Vec::new(alloc);
     while let Some(range) = ranges.next() {
         let load = new_load_at(dwarf, dw_units, sup, entries, &mut marks, range.unit)?;
-        if let Some(load) = load {
-            loads.push(load)?;
-        }
+        push_if(&mut loads, load)?;
     }
     Ok(loads)
 }

@@ -17,7 +17,7 @@ returns-in_err-look-clause-refused g c =
 
 pub returns-in_err-decide-clause-refused : goal.returns-in_err-decide-clause-refused
 returns-in_err-decide-clause-refused g c =
-    let p = err_from_is_err_and c.from_residual.result c.from_residual.ensures.1 in
+    let p = err_from_is_err_and c.from_residual-in_err-decide.result c.from_residual-in_err-decide.ensures.1 in
     rw (p.1, p.2) (c.in_err-decide.ensures.refused.0, subst (λ x. StayEntries c.args.self.now x) (sym c.in_err-decide.ensures.refused.1) c.look.ensures.stay)
 
 pub returns-in_err-decide-clause-same : goal.returns-in_err-decide-clause-same

@@ -1,4 +1,4 @@
-use Rattle.std.proofs.Common.{◌≡◌, ◌∙◌, ◌++◌, Ok, ap, filter, map, refl, subst, sym, true}
+use Rattle.std.proofs.Common.{◌≡◌, ◌∙◌, ◌++◌, [], ap, filter, map, rules, subst, sym, true}
 use Rattle.std.specs.List.{AllByRecursion}
 use Rattle.std.proofs.lemmas.List.{append-nil}
 use Rattle.std.proofs.lemmas.Result.{err_from_is_err_and}
@@ -13,12 +13,16 @@ use Rattle.addr2line_units.proofs.LoadLemmas.{decided_stays, found_same, listed_
 use Rattle.addr2line_units.proofs.loads.read_loads.Goals as goal
 
 pub loop-range-init : goal.loop-range-init
-loop-range-init g c = record {
-  stay = stay_entries c.args.entries.now.items;
-  kept = c.requires.kept;
-  listed = none_marked (loads_along (load_of_number c.args.dwarf.now.value c.args.dw_units.now (answers_in c.args.entries.now.items)) (ranges_left c.args.ranges));
-  decided = λ h. h;
-}
+loop-range-init g c =
+    let all = loads_along (load_of_number c.args.dwarf.now.value c.args.dw_units.now (answers_in c.args.entries.now.items)) (ranges_left c.args.ranges) in
+    let none : c.new-loads.result.items ≡ [] = search rules in
+    let blank : c.new-marks.result.items ≡ [] = search rules in
+    record {
+      stay = stay_entries c.args.entries.now.items;
+      kept = c.requires.kept;
+      listed = ap (λ ls. map (seen_load g.R.Reader.section) ls ++ filter (is_new c.new-marks.result.items) all) none ∙ ap (λ m. filter (is_new m) all) blank ∙ none_marked all;
+      decided = λ h. h;
+    }
 
 pub returns-in_err-load-clause-memory : goal.returns-in_err-load-clause-memory
 returns-in_err-load-clause-memory g c h =

@@ -24,3 +24,4 @@ pub mod NumberedFrames
 pub mod FramesLookupLemmas
 pub mod WalkLemmas
 pub mod LoadLemmas
+pub mod LoadLawLemmas

@@ -45,7 +45,7 @@ this_unit us n u e = by (slice_get us n) e
     by None k = absurd cc
     by (Some x) k = let same : x ≡ u = cc in ap Ok same
 
-slice_get_none : {X : Type 0} (xs : List X) (n : ℕ) → slice_get xs n ≡ None → length xs ≤ n
+pub slice_get_none : {X : Type 0} (xs : List X) (n : ℕ) → slice_get xs n ≡ None → length xs ≤ n
 slice_get_none [] n e = omega arith
 slice_get_none (x ∷ xs) zero e = absurd cc
 slice_get_none (x ∷ xs) (suc n) e = let k = slice_get_none xs n e in omega (arith, k)
@@ -175,7 +175,7 @@ both_or : (a b : Bool) → not (a || b) ≡ (not a && not b)
 both_or true b = refl
 both_or false b = refl
 
-filter_twice : {X : Type 0} (p r q : X → Bool) → ((x : X) → q x ≡ (r x && p x)) → (xs : List X) → filter p (filter r xs) ≡ filter q xs
+pub filter_twice : {X : Type 0} (p r q : X → Bool) → ((x : X) → q x ≡ (r x && p x)) → (xs : List X) → filter p (filter r xs) ≡ filter q xs
 filter_twice p r q both [] = refl
 filter_twice {X} p r q both (x ∷ xs) = by (r x) (p x) refl (both x) (filter_twice p r q both xs)
   where

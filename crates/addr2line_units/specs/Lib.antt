@@ -27,4 +27,5 @@ pub mod KeptEntries
 pub mod KeptLookups
 pub mod Loads
 pub mod ListedLoads
+pub mod LoadLaws
 pub mod Suspended

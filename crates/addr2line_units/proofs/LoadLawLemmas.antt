@@ -143,6 +143,7 @@ module _ (d : Sections) (us : List UnitRecord) where
       none (Err e) = refl
       none (Ok None) = refl
       none (Ok (Some l)) = refl
+
       by : (b : Bool) → is_open d u answer ≡ b → awaited_load d n u (decided_answer d u answer given) ≡ None
       by true e = ap (awaited_load d n u) (decided_if_open d u answer given e) ∙ none (load_of_unit d n u)
       by false e = ap (awaited_load d n u) (decided_if_not d u answer given e) ∙ no_answer (awaited_load d n u answer) (sym (open_awaits d n u answer) ∙ e)
@@ -211,6 +212,7 @@ open_there scope units answers probe n e = ap open_by (record_at units n) ∙ by
   where
     open_by : Option UnitRecord → Bool
     open_by o = elim o [ None ↦ false | Some u ↦ is_open scope.file.sections u (answer_of answers n) ]
+
     by : (o : Option IndexedUnit) → ◌≡◌ {A = Reading} (elim o [ None ↦ Ok (Some []) | Some u ↦ frames_in scope u (answer_of answers n) probe ]) (Ok None) → open_by (option_map (λ (u : IndexedUnit). u.unit) o) ≡ true
     by None f = absurd cc
     by (Some u) f = open_of_none scope u (answer_of answers n) probe f

@@ -48,7 +48,7 @@ new_load-requires-clause-kept g c =
     let within = subst (λ m. n < m) (as_many_entries scope us vs c.requires.kept) (slice_get_within us n u there) in
     subst (λ x. AreEntriesOf (record { file = record { sections = x; units = us }; sup = option_map seen_file c.file.result }) u v) (sym c.deref.ensures)
     (in_same_scope c.args.dwarf.now.value us us (sup_file c.args.sup.now) (option_map seen_file c.file.result) u v refl (sym c.file.ensures.gives)
-        (entries_at scope us vs n u v within (sym (get_or_from_slice_get us n u u there)) c.index_mut-entries.ensures.value c.requires.kept))
+    (entries_at scope us vs n u v within (sym (get_or_from_slice_get us n u u there)) c.index_mut-entries.ensures.value c.requires.kept))
 
 pub returns-clause-gives : goal.returns-clause-gives
 returns-clause-gives g c =
@@ -88,7 +88,7 @@ returns-clause-kept g c =
     let w = c.new_load.new.self in
     let there : slice_get us n ≡ Some u = slice_get_read us _ n u refl (ltb-true _ _ (sym c.in-Some.ensures.lookup.0)) c.in-Some.ensures.lookup.1 in
     let own = in_same_scope c.args.dwarf.now.value us us (option_map seen_file c.file.result) (sup_file c.args.sup.now) u w refl c.file.ensures.gives
-        (subst (λ x. AreEntriesOf (record { file = record { sections = x; units = us }; sup = option_map seen_file c.file.result }) u w) c.deref.ensures c.new_load.ensures.kept) in
+    (subst (λ x. AreEntriesOf (record { file = record { sections = x; units = us }; sup = option_map seen_file c.file.result }) u w) c.deref.ensures c.new_load.ensures.kept) in
     entries_set (scope_in c.args.dwarf.now.value us c.args.sup.now) us vs n u w (sym (get_or_from_slice_get us n u u there)) c.requires.kept own
 
 pub returns-clause-stay : goal.returns-clause-stay

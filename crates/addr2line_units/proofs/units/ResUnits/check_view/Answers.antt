@@ -26,7 +26,7 @@ check_view-requires-clause-kept g c =
     let s = c.args.self.now in
     let within = decided_within s.entries.items c.args.number c.requires.decided in
     in_same_scope c.args.dwarf.now s.dw_units.items c.deref.result.now (sup_file c.args.sup.now) (option_map seen_file c.file.result) c.index-2.result.now c.index.result.now (search rules) (sym c.file.ensures.gives)
-        (entries_at (scope_in c.args.dwarf.now s.dw_units.items c.args.sup.now) s.dw_units.items s.entries.items c.args.number c.index-2.result.now c.index.result.now within (search rules) (search rules) c.requires.kept)
+    (entries_at (scope_in c.args.dwarf.now s.dw_units.items c.args.sup.now) s.dw_units.items s.entries.items c.args.number c.index-2.result.now c.index.result.now within (search rules) (search rules) c.requires.kept)
 
 pub check_view-requires-clause-decided : goal.check_view-requires-clause-decided
 check_view-requires-clause-decided g c =

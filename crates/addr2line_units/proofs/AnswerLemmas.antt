@@ -1,6 +1,7 @@
 -- Answers to the loads of units, and what is kept of their entries (on specs/KeptEntries.antt).
-use Rattle.std.proofs.Common.{◌≡◌, ℕ, zero, suc, ◌<◌, Bool, true, false, List, [], ◌∷◌, length, get_or, map, slice_get, arith, subst, Option, Some, None, Result, Ok, Err, ap, refl, sym, ◌∙◌}
+use Rattle.std.proofs.Common.{◌≡◌, ◌≢◌, ℕ, zero, suc, ◌<◌, Bool, true, false, List, [], ◌∷◌, length, get_or, map, slice_get, arith, subst, Option, Some, None, Result, Ok, Err, ap, refl, sym, ◌∙◌}
 use Rattle.std.proofs.Math.ListN.{set}
+use Rattle.std.proofs.lemmas.List.{set-get_or}
 use Rattle.std.specs.Prelude.{IfErr, IfOk, IfSome, OnOk, is_none, is_some, if◌then◌else◌}
 use Rattle.gimli_read.specs.declared.error.Error.{Error}
 use Rattle.gimli_read.specs.declared.error.Error.TheVariants.{OutOfMemory}
@@ -14,11 +15,12 @@ use Rattle.addr2line_units.specs.declared.view.UnitView.{UnitView}
 use Rattle.addr2line_units.specs.declared.view.ViewState.{ViewState}
 use Rattle.addr2line_units.specs.declared.view.ViewState.TheVariants as states
 use Rattle.addr2line_units.specs.FramesLookup.{answer_of, with_answer}
-use Rattle.addr2line_units.specs.KeptEntries.{AreEntriesOf, kept_answer}
+use Rattle.addr2line_units.specs.KeptEntries.{AreEntriesOf, StayEntries, kept_answer}
 use Rattle.addr2line_units.specs.KeptFunctions.{AreFunctionsOf, were_read}
-use Rattle.addr2line_units.specs.KeptLookups.{HaveEntriesOf, answers_in}
+use Rattle.addr2line_units.specs.KeptLookups.{HaveEntriesOf, StayAllEntries, answers_in, decided_at}
 use Rattle.addr2line_units.specs.KeptViews.{IsViewOf, is_decided, seen_answer, verdict_in, waits, was_looked_at}
 use Rattle.addr2line_units.specs.Views.{View, decided_answer, is_open, verdict, view_scope}
+use Rattle.addr2line_units.proofs.KeptLookupLemmas.{stay_entries_set}
 
 -- what waits isn't decided
 pub waiting_is_undecided : {R : Type 0} (s : ViewState R) → waits s ≡ true → is_decided s ≡ false
@@ -143,6 +145,41 @@ answered_if_ok d us vs n u v w given (Ok x) h k e f new = answered_all d us vs n
 answered_if_ok d us vs n u v w given (Err x) h k e f new = tt
 
 pub answers_if_refused : {R : Type 0} (vs : List (UnitEntries R)) (n : ℕ) (v w : UnitEntries R) (r : Result (Unit {0}) Error) → n < length vs → v ≡ get_or vs n v
-    → IfErr r (λ e. (e ≡ OutOfMemory) × (kept_answer w ≡ kept_answer v)) → IfErr r (λ e. (e ≡ OutOfMemory) × (answers_in (set vs n w) ≡ answers_in vs))
+    → IfErr r (λ e. (e ≡ OutOfMemory) × StayEntries v w) → IfErr r (λ e. (e ≡ OutOfMemory) × (answers_in (set vs n w) ≡ answers_in vs) × StayAllEntries vs (set vs n w))
 answers_if_refused vs n v w (Ok x) h e same = tt
-answers_if_refused vs n v w (Err x) h e same = (same.0, answers_stay vs n v w h e same.1)
+answers_if_refused vs n v w (Err x) h e same = (same.0, answers_stay vs n v w h e same.1.answer, stay_entries_set vs n v w h e same.1)
+
+-- the entries of other units are the same
+pub others_stay : {X : Type 0} (vs : List X) (n k : ℕ) (w : X) → k ≢ n → slice_get (set vs n w) k ≡ slice_get vs k
+others_stay [] n k w ne = refl
+others_stay (v ∷ vs) zero zero w ne = absurd (ne refl)
+others_stay (v ∷ vs) zero (suc k) w ne = refl
+others_stay (v ∷ vs) (suc n) zero w ne = refl
+others_stay (v ∷ vs) (suc n) (suc k) w ne = others_stay vs n k w (λ e. ne (ap suc e))
+
+-- nothing is new where an element is set to what it was
+pub same_set : {X : Type 0} (vs : List X) (n : ℕ) (v w : X) → v ≡ get_or vs n v → w ≡ v → set vs n w ≡ vs
+same_set vs n v w e same = ap (set vs n) (same ∙ e) ∙ set-get_or vs n v
+
+-- whether the unit of a number is decided, by what is kept of it
+pub decided_there : {R : Type 0} (vs : List (UnitEntries R)) (n : ℕ) (v : UnitEntries R) → v ≡ get_or vs n v → decided_at vs n ≡ true → is_decided v.view.state ≡ true
+decided_there [] n v e h = absurd cc
+decided_there (y ∷ vs) zero v e h = ap (λ x. is_decided x.view.state) e ∙ h
+decided_there (y ∷ vs) (suc n) v e h = decided_there vs n v e h
+
+pub decided_within : {R : Type 0} (vs : List (UnitEntries R)) (n : ℕ) → decided_at vs n ≡ true → n < length vs
+decided_within [] n h = absurd cc
+decided_within (v ∷ vs) zero h = omega arith
+decided_within (v ∷ vs) (suc n) h = let k = decided_within vs n h in omega (arith, k)
+
+pub unit_same : (u v : UnitRecord) → ◌≡◌ {A = Option UnitRecord} (Some u) (Some v) → u ≡ v
+unit_same u v e = cc
+
+decided_set : {R : Type 0} (vs : List (UnitEntries R)) (n : ℕ) (w : UnitEntries R) → n < length vs → is_decided w.view.state ≡ true → decided_at (set vs n w) n ≡ true
+decided_set [] n w h d = absurd (omega arith)
+decided_set (y ∷ vs) zero w h d = d
+decided_set (y ∷ vs) (suc n) w h d = decided_set vs n w (omega arith) d
+
+pub decided_if_ok : {R : Type 0} (vs : List (UnitEntries R)) (n : ℕ) (w : UnitEntries R) (r : Result (Unit {0}) Error) → n < length vs → OnOk r (is_decided w.view.state ≡ true) → OnOk r (decided_at (set vs n w) n ≡ true)
+decided_if_ok vs n w (Ok x) h d = decided_set vs n w h d
+decided_if_ok vs n w (Err x) h d = tt

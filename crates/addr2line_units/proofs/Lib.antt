@@ -25,3 +25,5 @@ pub mod KeptLookupLemmas
 pub mod NumberedFrames
 pub mod FramesLookupLemmas
 pub mod WalkLemmas
+pub mod LoadLemmas
+pub mod LoadLawLemmas

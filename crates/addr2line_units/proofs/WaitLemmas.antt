@@ -36,7 +36,7 @@ number_of (Waits n) d = n
 number_of (Finds n frames) d = d
 number_of FindsNothing d = d
 
-same_number : (n k : ℕ) → ◌≡◌ {A = Result Stop Error} (Ok (Waits n)) (Ok (Waits k)) → n ≡ k
+pub same_number : (n k : ℕ) → ◌≡◌ {A = Result Stop Error} (Ok (Waits n)) (Ok (Waits k)) → n ≡ k
 unfolding number_of
 same_number n k e = let s : ◌≡◌ {A = Stop} (Waits n) (Waits k) = cc in ap (λ x. number_of x 0) s
 
@@ -64,13 +64,13 @@ module _ (holds : ℕ → Bool) (frames : ℕ → Reading) (n : ℕ) where
   told_along (r ∷ ranges) h w =
       told r.unit (stop_along frames ranges) (holds_along holds frames ranges) (frames r.unit) refl h w (λ v m. told_along ranges m v)
 
-told_by_unit : (faults : Faults) (r : Reading) → after_fault faults r ≡ Ok None → r ≡ Ok None
+pub told_by_unit : (faults : Faults) (r : Reading) → after_fault faults r ≡ Ok None → r ≡ Ok None
 told_by_unit faults (Ok x) e = e
 told_by_unit End (Err x) e = absurd cc
 told_by_unit PassOver (Err x) e = absurd cc
 
 -- only a unit that is open has no frames yet
-open_of_none : (scope : Scope) (u : IndexedUnit) (answer : Option (Option Sections)) (probe : ℕ) → frames_in scope u answer probe ≡ Ok None → is_open scope.file.sections u.unit answer ≡ true
+pub open_of_none : (scope : Scope) (u : IndexedUnit) (answer : Option (Option Sections)) (probe : ℕ) → frames_in scope u answer probe ≡ Ok None → is_open scope.file.sections u.unit answer ≡ true
 unfolding frames_in
 open_of_none scope u answer probe e = of_open (is_open scope.file.sections u.unit answer) (frames_by scope u probe (function_in scope u.unit answer probe)) e
   where

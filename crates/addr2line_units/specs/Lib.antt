@@ -23,8 +23,10 @@ pub mod SeenFrame
 pub mod FramesLeft
 pub mod UnitFrames
 pub mod FramesLookup
-pub mod Loads
 pub mod KeptEntries
 pub mod KeptLookups
 pub mod KnownEntries
+pub mod Loads
+pub mod ListedLoads
+pub mod LoadLaws
 pub mod Suspended

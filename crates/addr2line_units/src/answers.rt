@@ -3,7 +3,7 @@
 ghost use Rattle.std.specs.Prelude.{◌≡◌, IfErr, IfOk, None, OnOk, Ok, Some, false, is_some, option_map, true};
 ghost use Rattle.gimli_read.specs.declared.error.Error.TheVariants.{OutOfMemory};
 ghost use Rattle.addr2line_lines.specs.SeenScope.{seen_scope};
-ghost use Rattle.addr2line_units.specs.KeptEntries.{AreEntriesOf, kept_answer};
+ghost use Rattle.addr2line_units.specs.KeptEntries.{AreEntriesOf, StayEntries, kept_answer};
 ghost use Rattle.addr2line_units.specs.KeptViews.{IsViewOf, is_decided, seen_load, waits};
 ghost use Rattle.addr2line_units.specs.Views.{decided_answer, is_open, load_of_unit};
 
@@ -76,7 +76,7 @@ impl<R: Reader> UnitEntries<R> {
     }
 
     // Decides the unit by an answer if it is open, and else leaves it as it is. Refused
-    // `OutOfMemory` alone; then its answer is as before.
+    // `OutOfMemory` alone; then all that is kept stays, and only that it was looked at may be new.
     pub(crate) fn answer(
         &mut self,
         alloc: Global,
@@ -91,7 +91,7 @@ impl<R: Reader> UnitEntries<R> {
             (option_map (λ d. d.value) sections)) }
         ensures decided { OnOk result (is_decided self.new.view.state ≡ true) }
         ensures refused { IfErr result (λ e. (e ≡ OutOfMemory)
-            × (kept_answer self.new ≡ kept_answer self.old)) }
+            × StayEntries self.old self.new) }
         ensures functions { is_open scope.entry.file.dwarf.now dw_unit.now (kept_answer self.old)
             ≡ false → self.new.functions ≡ self.old.functions }
         ensures same { is_decided self.old.view.state ≡ true

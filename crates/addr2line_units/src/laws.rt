@@ -1,6 +1,7 @@
-//! Laws of legacy names, of the units of a context and of their views, with no code.
+//! Laws of legacy names, and of the units of a context, their views and loads, with no code.
 
 ghost use Rattle.addr2line_units.specs.LegacyLaws.{FindsLegacyNames, FindsOnlyLegacyNames, HasOneText};
+ghost use Rattle.addr2line_units.specs.LoadLaws.{LeaveFewer, NeedLoadsToWait, WaitForListed};
 ghost use Rattle.addr2line_units.specs.UnitIndexLaws.{SupUnitsInOrder, UnitsInOrder};
 ghost use Rattle.addr2line_units.specs.ViewLaws.{KeepOrder, NeedNoAnswer, TakeAnswers};
 
@@ -24,4 +25,12 @@ pub fn view_laws()
     ensures alone { NeedNoAnswer }
     ensures answered { TakeAnswers }
     ensures in_order { KeepOrder }
+{}
+
+/// A lookup of frames waits only for open units, whose loads are among those that its address waits
+/// for, and fewer of these are left after an answer to one.
+pub fn load_laws()
+    ensures listed { WaitForListed }
+    ensures none { NeedLoadsToWait }
+    ensures fewer { LeaveFewer }
 {}

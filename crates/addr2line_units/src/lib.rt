@@ -11,6 +11,7 @@ mod functions;
 pub mod index;
 mod laws;
 mod legacy;
+mod loads;
 pub mod lookup;
 mod lookups;
 pub mod place;
@@ -23,4 +24,4 @@ pub mod units;
 pub mod view;
 
 pub use crate::frame::{Frame, FrameIter, FunctionName};
-pub use crate::laws::{legacy_name_laws, units_in_order, view_laws};
+pub use crate::laws::{legacy_name_laws, load_laws, units_in_order, view_laws};

@@ -1,6 +1,6 @@
 //! Lookups of frames over the units of a context, and the answers to their loads.
 
-ghost use Rattle.std.specs.Prelude.{◌≡◌, ◌&&◌, ◌<◌, ◌≤◌, None, Some, set, IfErr, IfOk, IfSome, Ok, OnOk, length, not, option_map, slice_get, true};
+ghost use Rattle.std.specs.Prelude.{◌≡◌, ◌≢◌, ◌&&◌, ◌<◌, ◌≤◌, ℕ, None, Some, set, IfErr, IfOk, IfSome, Ok, OnOk, length, not, option_map, slice_get, true};
 ghost use Rattle.gimli_read.specs.declared.error.Error.TheVariants.{OutOfMemory};
 ghost use Rattle.gimli_read.specs.Reading.{ExactlyUnlessOom};
 ghost use Rattle.addr2line_lines.specs.References.{IsScope};
@@ -8,7 +8,7 @@ ghost use Rattle.addr2line_lines.specs.SeenScope.{seen_file};
 ghost use Rattle.addr2line_units.specs.CachedLines.{HaveLinesOf, StayUnits, parsed_units};
 ghost use Rattle.addr2line_units.specs.Cover.{cover};
 ghost use Rattle.addr2line_units.specs.FramesLeft.{frames_left};
-ghost use Rattle.addr2line_units.specs.FramesLookup.{LookupAsks, asked_frames, asks_lines_of, frames_found, has_many_of, holds_along, readable_view, stop_along, view_of_number, with_answer};
+ghost use Rattle.addr2line_units.specs.FramesLookup.{LookupAsks, answer_of, asked_frames, asks_lines_of, frames_found, has_many_of, holds_along, readable_view, stop_along, view_of_number, with_answer};
 ghost use Rattle.addr2line_units.specs.Indexed.{units_in};
 ghost use Rattle.addr2line_lines.specs.Location.{location_of_row};
 ghost use Rattle.addr2line_units.specs.CachedLines.{cached_files};
@@ -36,7 +36,7 @@ use std::rc::Rc;
 
 impl<R: Reader> SupUnits<R> {
     // Where references to the supplementary file lead, if there is one. Takes no memory.
-    fn file(&self) -> Option<FileUnits<'_, R>>
+    pub(crate) fn file(&self) -> Option<FileUnits<'_, R>>
         ensures gives { option_map seen_file result ≡ sup_file self.now }
     {
         match &self.dwarf {
@@ -218,7 +218,8 @@ impl<R: Reader> ResUnits<R> {
     /// Decides the unit of a number by an answer to its load if it is open, and else leaves it as
     /// it is.
     ///
-    /// Refused `OutOfMemory` alone; then all first answers are as before.
+    /// Refused `OutOfMemory` alone; then all that is kept stays, and only that the unit was looked
+    /// at may be new. Takes no memory for a unit that is known to be decided.
     pub fn answer(
         &mut self,
         alloc: Global,
@@ -235,8 +236,14 @@ impl<R: Reader> ResUnits<R> {
         ensures answers { OnOk result (answers_in self.new.entries.items
             ≡ with_answer dwarf.now self.old.dw_units.items (answers_in self.old.entries.items)
             number (option_map (λ d. d.value) sections)) }
+        ensures decided { OnOk result (decided_at self.new.entries.items number ≡ true) }
+        ensures same { decided_at self.old.entries.items number ≡ true
+            → (self.new.entries.items ≡ self.old.entries.items) × (result ≡ Ok tt) }
+        ensures others { (n : ℕ) → n ≢ number → slice_get self.new.entries.items n
+            ≡ slice_get self.old.entries.items n }
         ensures refused { IfErr result (λ e. (e ≡ OutOfMemory)
-            × (answers_in self.new.entries.items ≡ answers_in self.old.entries.items)) }
+            × (answers_in self.new.entries.items ≡ answers_in self.old.entries.items)
+            × StayAllEntries self.old.entries.items self.new.entries.items) }
         ensures dw_units { self.new.dw_units.items ≡ self.old.dw_units.items }
         ensures units { self.new.units.items ≡ self.old.units.items }
         ensures ranges { self.new.ranges ≡ self.old.ranges }
@@ -262,6 +269,10 @@ impl<R: Reader> ResUnits<R> {
             self.new.dw_units.items self.new.entries.items }
         ensures answers { answers_in self.new.entries.items
             ≡ set (answers_in self.old.entries.items) number None }
+        ensures same { answer_of (answers_in self.old.entries.items) number ≡ None
+            → self.new.entries.items ≡ self.old.entries.items }
+        ensures others { (n : ℕ) → n ≢ number → slice_get self.new.entries.items n
+            ≡ slice_get self.old.entries.items n }
         ensures dw_units { self.new.dw_units.items ≡ self.old.dw_units.items }
         ensures units { self.new.units.items ≡ self.old.units.items }
         ensures ranges { self.new.ranges ≡ self.old.ranges }

@@ -1,5 +1,6 @@
-use Rattle.std.proofs.Common.{◌≡◌, ◌∙◌, option_map, refl, sym, true, false, rules}
-use Rattle.addr2line_units.specs.KeptEntries.{kept_answer}
+use Rattle.std.proofs.Common.{◌≡◌, ◌∙◌, option_map, refl, subst, sym, true, false, rules}
+use Rattle.std.proofs.lemmas.Result.{err_from_is_err_and}
+use Rattle.addr2line_units.specs.KeptEntries.{StayEntries, kept_answer}
 use Rattle.addr2line_units.specs.Views.{is_open}
 use Rattle.addr2line_units.proofs.AnswerLemmas.{decided_if_not, decided_if_open, decided_was_looked_at, never_waits, open_by_look}
 use Rattle.addr2line_units.proofs.EntryLemmas.{looked_decides}
@@ -8,6 +9,16 @@ use Rattle.addr2line_units.proofs.unit_frames.UnitEntries.answer.Goals as goal
 pub returns-in_err-look-clause-same : goal.returns-in_err-look-clause-same
 returns-in_err-look-clause-same g c h =
     absurd (let e = (c.in_err-look.ensures.same (decided_was_looked_at c.args.self.now.view.state h)).1 in cc)
+
+pub returns-in_err-look-clause-refused : goal.returns-in_err-look-clause-refused
+returns-in_err-look-clause-refused g c =
+    let p = err_from_is_err_and c.from_residual.result c.from_residual.ensures.1 in
+    rw (p.1, p.2) (c.in_err-look.ensures.refused.0, c.look.ensures.stay)
+
+pub returns-in_err-decide-clause-refused : goal.returns-in_err-decide-clause-refused
+returns-in_err-decide-clause-refused g c =
+    let p = err_from_is_err_and c.from_residual-in_err-decide.result c.from_residual-in_err-decide.ensures.1 in
+    rw (p.1, p.2) (c.in_err-decide.ensures.refused.0, subst (λ x. StayEntries c.args.self.now x) (sym c.in_err-decide.ensures.refused.1) c.look.ensures.stay)
 
 pub returns-in_err-decide-clause-same : goal.returns-in_err-decide-clause-same
 returns-in_err-decide-clause-same g c h =

@@ -1,7 +1,7 @@
 use Rattle.std.proofs.Common.{ap, arith, option_map, rules, sym, ◌∙◌, ◌<◌, length}
 use Rattle.addr2line_lines.specs.SeenScope.{seen_file}
 use Rattle.addr2line_units.specs.KeptLookups.{answers_in, scope_in, sup_file}
-use Rattle.addr2line_units.proofs.AnswerLemmas.{answered_if_ok, answers_if_refused, in_same_scope}
+use Rattle.addr2line_units.proofs.AnswerLemmas.{answered_if_ok, answers_if_refused, decided_if_ok, decided_there, in_same_scope, others_stay, same_set}
 use Rattle.addr2line_units.proofs.KeptLookupLemmas.{as_many_entries, entries_at, entries_set}
 use Rattle.addr2line_units.proofs.units.ResUnits.answer.Goals as goal
 
@@ -40,3 +40,20 @@ returns-clause-refused g c =
     let many = as_many_entries (scope_in c.args.dwarf.now s.dw_units.items c.args.sup.now) s.dw_units.items s.entries.items c.requires.kept in
     let there = c.requires.there in
     answers_if_refused s.entries.items c.args.number c.index_mut-entries.result.now c.answer.new.self c.answer.result (omega (arith, many, there)) c.index_mut-entries.ensures.value c.answer.ensures.refused
+
+pub returns-clause-decided : goal.returns-clause-decided
+returns-clause-decided g c =
+    let s = c.args.self.now in
+    let many = as_many_entries (scope_in c.args.dwarf.now s.dw_units.items c.args.sup.now) s.dw_units.items s.entries.items c.requires.kept in
+    let there = c.requires.there in
+    decided_if_ok s.entries.items c.args.number c.answer.new.self c.answer.result (omega (arith, many, there)) c.answer.ensures.decided
+
+pub returns-clause-same : goal.returns-clause-same
+returns-clause-same g c h =
+    let s = c.args.self.now in
+    let v = c.index_mut-entries.result.now in
+    let same = c.answer.ensures.same (decided_there s.entries.items c.args.number v c.index_mut-entries.ensures.value h) in
+    (same_set s.entries.items c.args.number v c.answer.new.self c.index_mut-entries.ensures.value same.0, same.1)
+
+pub returns-clause-others : goal.returns-clause-others
+returns-clause-others g c n ne = others_stay c.args.self.now.entries.items c.args.number n c.answer.new.self ne

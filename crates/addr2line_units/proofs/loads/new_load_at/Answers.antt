@@ -1,0 +1,104 @@
+use Rattle.std.proofs.Common.{◌≡◌, ◌∙◌, ◌<◌, None, Ok, Some, ap, arith, get_or, length, ltb-false, ltb-true, option_map, refl, rules, slice_get, subst, sym}
+use Rattle.std.specs.Prelude.{IfOk, OnOk}
+use Rattle.std.proofs.lemmas.Option.{get_or_from_slice_get, slice_get_past, slice_get_read, slice_get_within}
+use Rattle.addr2line_lines.specs.SeenScope.{seen_file}
+use Rattle.addr2line_units.specs.KeptEntries.{AreEntriesOf}
+use Rattle.addr2line_units.specs.KeptLookups.{answers_in, scope_in, sup_file}
+use Rattle.addr2line_units.specs.KeptViews.{seen_load}
+use Rattle.addr2line_units.specs.ListedLoads.{MarksLoad, if_new}
+use Rattle.addr2line_units.specs.Loads.{load_of_number}
+use Rattle.addr2line_units.proofs.AnswerLemmas.{decided_there, in_same_scope}
+use Rattle.addr2line_units.proofs.KeptLookupLemmas.{as_many_entries, entries_at, entries_set, stay_entries, stay_entries_set}
+use Rattle.addr2line_units.proofs.LoadLemmas.{load_there, marks_none, no_load}
+use Rattle.addr2line_units.proofs.loads.new_load_at.Goals as goal
+
+pub returns-in_default-clause-gives : goal.returns-in_default-clause-gives
+returns-in_default-clause-gives g c =
+    let us = c.args.dw_units.now in
+    let none : slice_get us c.args.number ≡ None = slice_get_past us c.args.number (ltb-false _ _ (sym c.in_default.ensures.lookup.0)) in
+    sym (ap (if_new c.args.marks.now.items) (no_load c.args.dwarf.now.value us (answers_in c.args.entries.now.items) c.args.number none))
+
+pub returns-in_default-clause-marked : goal.returns-in_default-clause-marked
+returns-in_default-clause-marked g c =
+    let us = c.args.dw_units.now in
+    let none : slice_get us c.args.number ≡ None = slice_get_past us c.args.number (ltb-false _ _ (sym c.in_default.ensures.lookup.0)) in
+    marks_none c.args.marks.now.items (load_of_number c.args.dwarf.now.value us (answers_in c.args.entries.now.items) c.args.number) (no_load c.args.dwarf.now.value us (answers_in c.args.entries.now.items) c.args.number none)
+
+pub returns-in_default-clause-stay : goal.returns-in_default-clause-stay
+returns-in_default-clause-stay g c = stay_entries c.args.entries.now.items
+
+pub index_mut-entries-requires : goal.index_mut-entries-requires
+index_mut-entries-requires g c =
+    let us = c.args.dw_units.now in
+    let u = c.in-Some.dw_unit.now in
+    let there : slice_get us c.args.number ≡ Some u = slice_get_read us _ c.args.number u refl (ltb-true _ _ (sym c.in-Some.ensures.lookup.0)) c.in-Some.ensures.lookup.1 in
+    let within = slice_get_within us c.args.number u there in
+    let many = as_many_entries (scope_in c.args.dwarf.now.value us c.args.sup.now) us c.args.entries.now.items c.requires.kept in
+    omega (arith, many, within)
+
+pub new_load-requires-clause-kept : goal.new_load-requires-clause-kept
+new_load-requires-clause-kept g c =
+    let us = c.args.dw_units.now in
+    let vs = c.args.entries.now.items in
+    let n = c.args.number in
+    let u = c.in-Some.dw_unit.now in
+    let v = c.index_mut-entries.result.now in
+    let there : slice_get us n ≡ Some u = slice_get_read us _ n u refl (ltb-true _ _ (sym c.in-Some.ensures.lookup.0)) c.in-Some.ensures.lookup.1 in
+    let scope = scope_in c.args.dwarf.now.value us c.args.sup.now in
+    let within = subst (λ m. n < m) (as_many_entries scope us vs c.requires.kept) (slice_get_within us n u there) in
+    subst (λ x. AreEntriesOf (record { file = record { sections = x; units = us }; sup = option_map seen_file c.file.result }) u v) (sym c.deref.ensures)
+    (in_same_scope c.args.dwarf.now.value us us (sup_file c.args.sup.now) (option_map seen_file c.file.result) u v refl (sym c.file.ensures.gives)
+    (entries_at scope us vs n u v within (sym (get_or_from_slice_get us n u u there)) c.index_mut-entries.ensures.value c.requires.kept))
+
+pub returns-clause-gives : goal.returns-clause-gives
+returns-clause-gives g c =
+    let us = c.args.dw_units.now in
+    let vs = c.args.entries.now.items in
+    let n = c.args.number in
+    let u = c.in-Some.dw_unit.now in
+    let v = c.index_mut-entries.result.now in
+    let there : slice_get us n ≡ Some u = slice_get_read us _ n u refl (ltb-true _ _ (sym c.in-Some.ensures.lookup.0)) c.in-Some.ensures.lookup.1 in
+    let scope = scope_in c.args.dwarf.now.value us c.args.sup.now in
+    let within = subst (λ m. n < m) (as_many_entries scope us vs c.requires.kept) (slice_get_within us n u there) in
+    subst (λ o. IfOk c.new_load.result (λ load. option_map (seen_load g.R.Reader.section) load ≡ if_new c.args.marks.now.items o)) (sym (load_there c.args.dwarf.now.value us vs n u v there within c.index_mut-entries.ensures.value)) c.new_load.ensures.gives
+
+pub returns-clause-marked : goal.returns-clause-marked
+returns-clause-marked g c =
+    let us = c.args.dw_units.now in
+    let vs = c.args.entries.now.items in
+    let n = c.args.number in
+    let u = c.in-Some.dw_unit.now in
+    let v = c.index_mut-entries.result.now in
+    let there : slice_get us n ≡ Some u = slice_get_read us _ n u refl (ltb-true _ _ (sym c.in-Some.ensures.lookup.0)) c.in-Some.ensures.lookup.1 in
+    let scope = scope_in c.args.dwarf.now.value us c.args.sup.now in
+    let within = subst (λ m. n < m) (as_many_entries scope us vs c.requires.kept) (slice_get_within us n u there) in
+    subst (λ o. OnOk c.new_load.result (MarksLoad o c.args.marks.now.items c.new_load.new.marks.items)) (sym (load_there c.args.dwarf.now.value us vs n u v there within c.index_mut-entries.ensures.value)) c.new_load.ensures.marked
+
+pub returns-clause-decided : goal.returns-clause-decided
+returns-clause-decided g c h =
+    c.new_load.ensures.decided (decided_there c.args.entries.now.items c.args.number c.index_mut-entries.result.now c.index_mut-entries.ensures.value h)
+
+pub returns-clause-kept : goal.returns-clause-kept
+returns-clause-kept g c =
+    let us = c.args.dw_units.now in
+    let vs = c.args.entries.now.items in
+    let n = c.args.number in
+    let u = c.in-Some.dw_unit.now in
+    let v = c.index_mut-entries.result.now in
+    let w = c.new_load.new.self in
+    let there : slice_get us n ≡ Some u = slice_get_read us _ n u refl (ltb-true _ _ (sym c.in-Some.ensures.lookup.0)) c.in-Some.ensures.lookup.1 in
+    let own = in_same_scope c.args.dwarf.now.value us us (option_map seen_file c.file.result) (sup_file c.args.sup.now) u w refl c.file.ensures.gives
+    (subst (λ x. AreEntriesOf (record { file = record { sections = x; units = us }; sup = option_map seen_file c.file.result }) u w) c.deref.ensures c.new_load.ensures.kept) in
+    entries_set (scope_in c.args.dwarf.now.value us c.args.sup.now) us vs n u w (sym (get_or_from_slice_get us n u u there)) c.requires.kept own
+
+pub returns-clause-stay : goal.returns-clause-stay
+returns-clause-stay g c =
+    let us = c.args.dw_units.now in
+    let vs = c.args.entries.now.items in
+    let n = c.args.number in
+    let u = c.in-Some.dw_unit.now in
+    let v = c.index_mut-entries.result.now in
+    let there : slice_get us n ≡ Some u = slice_get_read us _ n u refl (ltb-true _ _ (sym c.in-Some.ensures.lookup.0)) c.in-Some.ensures.lookup.1 in
+    let scope = scope_in c.args.dwarf.now.value us c.args.sup.now in
+    let within = subst (λ m. n < m) (as_many_entries scope us vs c.requires.kept) (slice_get_within us n u there) in
+    stay_entries_set vs n v c.new_load.new.self within c.index_mut-entries.ensures.value c.new_load.ensures.stay

@@ -1,0 +1,73 @@
+use Rattle.std.proofs.Common.{◌≡◌, ◌∙◌, ◌++◌, [], ap, filter, map, rules, subst, sym, true}
+use Rattle.std.specs.List.{AllByRecursion}
+use Rattle.std.proofs.lemmas.List.{append-nil}
+use Rattle.std.proofs.lemmas.Result.{err_from_is_err_and}
+use Rattle.addr2line_units.specs.declared.index.UnitRange.{UnitRange}
+use Rattle.addr2line_units.specs.KeptLookups.{answers_in, decided_at}
+use Rattle.addr2line_units.specs.KeptViews.{seen_load}
+use Rattle.addr2line_units.specs.ListedLoads.{MarksLoad, if_new, is_new}
+use Rattle.addr2line_units.specs.Loads.{load_of_number, loads_along}
+use Rattle.addr2line_units.specs.UnitRangesLeft.{ranges_left}
+use Rattle.addr2line_units.proofs.KeptLookupLemmas.{same_answers, stay_entries, stay_entries_over}
+use Rattle.addr2line_units.proofs.LoadLemmas.{decided_stays, found_same, listed_step, none_marked}
+use Rattle.addr2line_units.proofs.loads.read_loads.Goals as goal
+
+pub loop-range-init : goal.loop-range-init
+loop-range-init g c =
+    let all = loads_along (load_of_number c.args.dwarf.now.value c.args.dw_units.now (answers_in c.args.entries.now.items)) (ranges_left c.args.ranges) in
+    let none : c.new-loads.result.items ≡ [] = search rules in
+    let blank : c.new-marks.result.items ≡ [] = search rules in
+    record {
+      stay = stay_entries c.args.entries.now.items;
+      kept = c.requires.kept;
+      listed = ap (λ ls. map (seen_load g.R.Reader.section) ls ++ filter (is_new c.new-marks.result.items) all) none ∙ ap (λ m. filter (is_new m) all) blank ∙ none_marked all;
+      decided = λ h. h;
+    }
+
+pub returns-in_err-load-clause-memory : goal.returns-in_err-load-clause-memory
+returns-in_err-load-clause-memory g c h =
+    let i = c.loop-range.invariant in
+    let at = subst (AllByRecursion (λ (r : UnitRange). decided_at c.args.entries.now.items r.unit ≡ true)) c.in-Some.ensures.steps (i.decided h) in
+    absurd (let e = c.in_err-load.ensures.decided (decided_stays c.args.entries.now.items c.loop-range.entries.items c.in-Some.range.unit i.stay at.0) in cc)
+
+pub returns-in_err-load-clause-stay : goal.returns-in_err-load-clause-stay
+returns-in_err-load-clause-stay g c =
+    stay_entries_over c.args.entries.now.items c.loop-range.entries.items c.new_load_at.new.entries.items c.loop-range.invariant.stay c.new_load_at.ensures.stay
+
+pub returns-in_err-push_if-clause-memory : goal.returns-in_err-push_if-clause-memory
+returns-in_err-push_if-clause-memory g c h =
+    let i = c.loop-range.invariant in
+    let at = subst (AllByRecursion (λ (r : UnitRange). decided_at c.args.entries.now.items r.unit ≡ true)) c.in-Some.ensures.steps (i.decided h) in
+    absurd (let e = c.in_ok-load.ensures.decided (decided_stays c.args.entries.now.items c.loop-range.entries.items c.in-Some.range.unit i.stay at.0) in let f = c.in_err-push_if.ensures.none (found_same _ _ e) in cc)
+
+pub returns-in_err-push_if-clause-stay : goal.returns-in_err-push_if-clause-stay
+returns-in_err-push_if-clause-stay g c =
+    stay_entries_over c.args.entries.now.items c.loop-range.entries.items c.new_load_at.new.entries.items c.loop-range.invariant.stay c.new_load_at.ensures.stay
+
+pub loop-range-preserved : goal.loop-range-preserved
+loop-range-preserved g c =
+    let i = c.loop-range.invariant in
+    let d = c.args.dwarf.now.value in
+    let us = c.args.dw_units.now in
+    let vs = c.args.entries.now.items in
+    let ws = c.loop-range.entries.items in
+    let n = c.in-Some.range.unit in
+    let see = seen_load g.R.Reader.section in
+    let old = c.loop-range.marks.items in
+    let now = c.new_load_at.new.marks.items in
+    record {
+      stay = stay_entries_over vs ws c.new_load_at.new.entries.items i.stay c.new_load_at.ensures.stay;
+      kept = c.new_load_at.ensures.kept;
+      listed = ap (λ ls. map see ls ++ filter (is_new now) (loads_along (load_of_number d us (answers_in vs)) (ranges_left c.next.new.self))) c.in_ok-push_if.ensures.gives
+          ∙ listed_step see c.loop-range.loads.items d us (answers_in vs) (answers_in ws) c.in-Some.range old now (ranges_left c.next.new.self) (ranges_left c.loop-range.ranges) (loads_along (load_of_number d us (answers_in vs)) (ranges_left c.args.ranges))
+          c.in_ok-load.load (same_answers vs ws i.stay) c.in-Some.ensures.steps c.in_ok-load.ensures.gives c.in_ok-load.ensures.marked i.listed;
+      decided = λ h. (subst (AllByRecursion (λ (r : UnitRange). decided_at vs r.unit ≡ true)) c.in-Some.ensures.steps (i.decided h)).1;
+    }
+
+pub returns-clause-gives : goal.returns-clause-gives
+returns-clause-gives g c =
+    let load = load_of_number c.args.dwarf.now.value c.args.dw_units.now (answers_in c.args.entries.now.items) in
+    let see = seen_load g.R.Reader.section in
+    sym (append-nil (map see c.loop-range.loads.items))
+    ∙ ap (λ rs. map see c.loop-range.loads.items ++ filter (is_new c.loop-range.marks.items) (loads_along load rs)) (sym c.in_default.ensures.steps.0)
+    ∙ c.loop-range.invariant.listed

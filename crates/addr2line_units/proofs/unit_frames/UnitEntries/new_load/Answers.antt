@@ -1,0 +1,80 @@
+use Rattle.std.proofs.Common.{◌≡◌, ◌∙◌, Bool, None, Some, ap, false, is_some, not, refl, rules, subst, sym, true}
+use Rattle.addr2line_units.specs.KeptEntries.{kept_answer}
+use Rattle.addr2line_units.specs.KeptViews.{seen_load}
+use Rattle.addr2line_units.specs.ListedLoads.{if_new, is_marked}
+use Rattle.addr2line_units.specs.Views.{awaited_load, is_open, load_of_unit}
+use Rattle.addr2line_units.proofs.AnswerLemmas.{decided_was_looked_at, never_waits, no_answer, open_by_look}
+use Rattle.addr2line_units.proofs.LoadLemmas.{awaited_unit, awaits_this, is_new_load, marks_load, marks_none, not_new, open_awaits}
+use Rattle.addr2line_units.proofs.unit_frames.UnitEntries.new_load.Goals as goal
+
+pub returns-then-not-is_open-clause-gives : goal.returns-then-not-is_open-clause-gives
+returns-then-not-is_open-clause-gives g c =
+    let d = c.args.scope.file.dwarf.now in
+    let e = c.args.dwarf.now.value in
+    let u = c.args.dw_unit.now in
+    let s = c.args.self.now in
+    let was : is_open d u (kept_answer s) ≡ false = open_by_look d u s.view c.look.new.self.view false c.look.ensures.kept.view c.in_ok-look.ensures.looked c.look.ensures.stay.answer (search rules) in
+    let none : awaited_load e c.args.number u (kept_answer s) ≡ None = no_answer (awaited_load e c.args.number u (kept_answer s)) (sym (open_awaits e c.args.number u (kept_answer s)) ∙ subst (λ x. is_open x u (kept_answer s) ≡ false) c.requires.same was) in
+    sym (ap (if_new c.args.marks.now.items) none)
+
+pub returns-then-not-is_open-clause-marked : goal.returns-then-not-is_open-clause-marked
+returns-then-not-is_open-clause-marked g c =
+    let d = c.args.scope.file.dwarf.now in
+    let e = c.args.dwarf.now.value in
+    let u = c.args.dw_unit.now in
+    let s = c.args.self.now in
+    let was : is_open d u (kept_answer s) ≡ false = open_by_look d u s.view c.look.new.self.view false c.look.ensures.kept.view c.in_ok-look.ensures.looked c.look.ensures.stay.answer (search rules) in
+    let none : awaited_load e c.args.number u (kept_answer s) ≡ None = no_answer (awaited_load e c.args.number u (kept_answer s)) (sym (open_awaits e c.args.number u (kept_answer s)) ∙ subst (λ x. is_open x u (kept_answer s) ≡ false) c.requires.same was) in
+    marks_none c.args.marks.now.items (awaited_load e c.args.number u (kept_answer s)) none
+
+pub returns-then-not-branch-clause-gives : goal.returns-then-not-branch-clause-gives
+returns-then-not-branch-clause-gives g c =
+    let d = c.args.scope.file.dwarf.now in
+    let e = c.args.dwarf.now.value in
+    let u = c.args.dw_unit.now in
+    let s = c.args.self.now in
+    let n = c.args.number in
+    let was : is_open d u (kept_answer s) ≡ true = open_by_look d u s.view c.look.new.self.view true c.look.ensures.kept.view c.in_ok-look.ensures.looked c.look.ensures.stay.answer (search rules) in
+    let some : is_some (awaited_load e n u (kept_answer s)) ≡ true = sym (open_awaits e n u (kept_answer s)) ∙ subst (λ x. is_open x u (kept_answer s) ≡ true) c.requires.same was in
+    let old : not (is_marked c.args.marks.now.items n) ≡ false = search rules in
+    sym (not_new c.args.marks.now.items n (awaited_load e n u (kept_answer s)) some (awaited_unit e n u (kept_answer s)) old)
+
+pub returns-then-not-branch-clause-marked : goal.returns-then-not-branch-clause-marked
+returns-then-not-branch-clause-marked g c =
+    let d = c.args.scope.file.dwarf.now in
+    let e = c.args.dwarf.now.value in
+    let u = c.args.dw_unit.now in
+    let s = c.args.self.now in
+    let n = c.args.number in
+    let was : is_open d u (kept_answer s) ≡ true = open_by_look d u s.view c.look.new.self.view true c.look.ensures.kept.view c.in_ok-look.ensures.looked c.look.ensures.stay.answer (search rules) in
+    let some : is_some (awaited_load e n u (kept_answer s)) ≡ true = sym (open_awaits e n u (kept_answer s)) ∙ subst (λ x. is_open x u (kept_answer s) ≡ true) c.requires.same was in
+    marks_load c.args.marks.now.items n c.mark_unit.new.marks.items (awaited_load e n u (kept_answer s)) some (awaited_unit e n u (kept_answer s)) c.in_ok-mark_unit.ensures.marked
+
+pub returns-clause-gives : goal.returns-clause-gives
+returns-clause-gives g c =
+    let d = c.args.scope.file.dwarf.now in
+    let e = c.args.dwarf.now.value in
+    let u = c.args.dw_unit.now in
+    let s = c.args.self.now in
+    let n = c.args.number in
+    let l = seen_load g.R.Reader.section c.in_ok-load.field-0 in
+    let was : is_open d u (kept_answer s) ≡ true = open_by_look d u s.view c.look.new.self.view true c.look.ensures.kept.view c.in_ok-look.ensures.looked c.look.ensures.stay.answer (search rules) in
+    let some : is_some (awaited_load e n u (kept_answer s)) ≡ true = sym (open_awaits e n u (kept_answer s)) ∙ subst (λ x. is_open x u (kept_answer s) ≡ true) c.requires.same was in
+    let this : awaited_load e n u (kept_answer s) ≡ Some l = awaits_this e n u (kept_answer s) l c.in_ok-load.ensures.gives some in
+    let fresh : not (is_marked c.args.marks.now.items n) ≡ true = search rules in
+    sym (ap (if_new c.args.marks.now.items) this ∙ is_new_load c.args.marks.now.items n l (awaited_unit e n u (kept_answer s) l this) fresh)
+
+pub returns-clause-marked : goal.returns-clause-marked
+returns-clause-marked g c =
+    let d = c.args.scope.file.dwarf.now in
+    let e = c.args.dwarf.now.value in
+    let u = c.args.dw_unit.now in
+    let s = c.args.self.now in
+    let n = c.args.number in
+    let was : is_open d u (kept_answer s) ≡ true = open_by_look d u s.view c.look.new.self.view true c.look.ensures.kept.view c.in_ok-look.ensures.looked c.look.ensures.stay.answer (search rules) in
+    let some : is_some (awaited_load e n u (kept_answer s)) ≡ true = sym (open_awaits e n u (kept_answer s)) ∙ subst (λ x. is_open x u (kept_answer s) ≡ true) c.requires.same was in
+    marks_load c.args.marks.now.items n c.mark_unit.new.marks.items (awaited_load e n u (kept_answer s)) some (awaited_unit e n u (kept_answer s)) c.in_ok-mark_unit.ensures.marked
+
+pub returns-clause-decided : goal.returns-clause-decided
+returns-clause-decided g c h =
+    absurd (never_waits c.args.self.now c.look.new.self true h (λ l. (c.look.ensures.same l).0) (search rules) refl)

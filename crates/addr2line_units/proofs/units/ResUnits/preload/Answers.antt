@@ -1,0 +1,20 @@
+use Rattle.std.proofs.Common.{◌≡◌, map, subst}
+use Rattle.std.specs.Prelude.{IfOk}
+use Rattle.addr2line_units.specs.Cover.{cover}
+use Rattle.addr2line_units.specs.KeptLookups.{answers_in}
+use Rattle.addr2line_units.specs.KeptViews.{seen_load}
+use Rattle.addr2line_units.specs.Loads.{load_of_number, loads_along}
+use Rattle.addr2line_units.proofs.KeptLookupLemmas.{same_answers}
+use Rattle.addr2line_units.proofs.units.ResUnits.preload.Goals as goal
+
+pub returns-clause-gives : goal.returns-clause-gives
+returns-clause-gives g c =
+    let s = c.args.self.now in
+    let d = c.args.dwarf.now.value in
+    let answers = answers_in s.entries.items in
+    subst (λ us. IfOk c.read_loads.result (λ loads. map (seen_load g.R.Reader.section) loads.items ≡ loads_along (load_of_number d us answers) (cover c.args.probe s.ranges))) c.deref.ensures.value
+    (subst (λ rs. IfOk c.read_loads.result (λ loads. map (seen_load g.R.Reader.section) loads.items ≡ loads_along (load_of_number d c.deref.result.now answers) rs)) c.find.ensures.gives c.read_loads.ensures.gives)
+
+pub returns-clause-answers : goal.returns-clause-answers
+returns-clause-answers g c =
+    same_answers c.args.self.now.entries.items c.read_loads.new.entries.items c.read_loads.ensures.stay

@@ -1,0 +1,50 @@
+-- Laws of the loads that an address waits for, and of lookups that wait (on Loads and
+-- FramesLookup).
+use Rattle.std.specs.Prelude.{◌≡◌, ◌≢◌, ◌⊎◌, ◌<◌, ℕ, Bool, true, false, length, List, [], ◌∷◌, slice_get, Option, Some, None, Ok}
+use Rattle.gimli.specs.Sections.{Sections}
+use Rattle.gimli.specs.Unit.{UnitRecord}
+use Rattle.addr2line_lines.specs.References.{Scope}
+use Rattle.addr2line_units.specs.declared.frames_lookup.Faults.{Faults}
+use Rattle.addr2line_units.specs.declared.index.UnitRange.{UnitRange}
+use Rattle.addr2line_units.specs.FramesLookup.{Waits, answer_of, asked_frames, stop_along, with_answer}
+use Rattle.addr2line_units.specs.Loads.{load_of_number, loads_along}
+use Rattle.addr2line_units.specs.UnitIndex.{IndexedUnit, unit_records}
+use Rattle.addr2line_units.specs.Views.{SplitLoad, is_open}
+
+-- the load of the unit of a number is listed
+abbrev pub IsListed : ℕ → List SplitLoad → Type 0
+IsListed n [] = ⊥
+IsListed n (load ∷ loads) = (load.unit ≡ n) ⊎ IsListed n loads
+
+-- whether there is a unit of a number and it is open
+abbrev pub is_open_at : Sections → List UnitRecord → List (Option (Option Sections)) → ℕ → Bool
+is_open_at d us answers n = elim (slice_get us n)
+    [ None ↦ false | Some u ↦ is_open d u (answer_of answers n) ]
+
+-- the loads of the units along ranges that are open with these first answers
+abbrev pub loads_of : Sections → List UnitRecord → List (Option (Option Sections))
+    → List UnitRange → List SplitLoad
+loads_of d us answers ranges = loads_along (load_of_number d us answers) ranges
+
+-- a lookup that waits for a unit waits for one that is open, and whose load is listed
+abbrev pub WaitForListed : Type 0
+WaitForListed = (faults : Faults) (scope : Scope) (units : List IndexedUnit)
+    (answers : List (Option (Option Sections))) (probe n : ℕ) (ranges : List UnitRange)
+    → stop_along (asked_frames faults scope units answers probe) ranges ≡ Ok (Waits n)
+    → (is_open_at scope.file.sections (unit_records units) answers n ≡ true)
+    × IsListed n (loads_of scope.file.sections (unit_records units) answers ranges)
+
+-- a lookup waits for no unit where no load is listed
+abbrev pub NeedLoadsToWait : Type 0
+NeedLoadsToWait = (faults : Faults) (scope : Scope) (units : List IndexedUnit)
+    (answers : List (Option (Option Sections))) (probe n : ℕ) (ranges : List UnitRange)
+    → loads_of scope.file.sections (unit_records units) answers ranges ≡ []
+    → stop_along (asked_frames faults scope units answers probe) ranges ≢ Ok (Waits n)
+
+-- fewer loads are listed after an answer to one of them
+abbrev pub LeaveFewer : Type 0
+LeaveFewer = (d : Sections) (us : List UnitRecord) (answers : List (Option (Option Sections)))
+    (n : ℕ) (given : Option Sections) (ranges : List UnitRange) → length us ≡ length answers
+    → IsListed n (loads_of d us answers ranges)
+    → length (loads_of d us (with_answer d us answers n given) ranges)
+    < length (loads_of d us answers ranges)

@@ -20,6 +20,8 @@ pub mod AnswerLemmas
 pub mod ScopeLemmas
 pub mod WaitLemmas
 pub mod KeptLookupLemmas
+pub mod ParseLemmas
+pub mod KeptParseLemmas
 pub mod NumberedFrames
 pub mod FramesLookupLemmas
 pub mod WalkLemmas

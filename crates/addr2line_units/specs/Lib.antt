@@ -25,4 +25,7 @@ pub mod UnitFrames
 pub mod FramesLookup
 pub mod KeptEntries
 pub mod KeptLookups
+pub mod FunctionParses
+pub mod KeptParses
+pub mod FunctionParseLaws
 pub mod Suspended

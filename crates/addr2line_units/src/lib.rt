@@ -13,6 +13,7 @@ mod laws;
 mod legacy;
 pub mod lookup;
 mod lookups;
+pub mod parses;
 pub mod place;
 pub mod range;
 pub mod range_iter;

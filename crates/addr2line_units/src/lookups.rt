@@ -36,7 +36,7 @@ use std::rc::Rc;
 
 impl<R: Reader> SupUnits<R> {
     // Where references to the supplementary file lead, if there is one. Takes no memory.
-    fn file(&self) -> Option<FileUnits<'_, R>>
+    pub(crate) fn file(&self) -> Option<FileUnits<'_, R>>
         ensures gives { option_map seen_file result ≡ sup_file self.now }
     {
         match &self.dwarf {

@@ -23,15 +23,16 @@ use Rattle.addr2line_units.specs.declared.unit_frames.UnitEntries.{UnitEntries}
 use Rattle.addr2line_units.specs.declared.view.UnitView.{UnitView}
 use Rattle.addr2line_units.specs.declared.view.ViewState.{ViewState}
 use Rattle.addr2line_units.specs.declared.view.ViewState.TheVariants as states
-use Rattle.addr2line_units.specs.FunctionParses.{AreReadBefore, read_of_functions, read_of_view}
+use Rattle.addr2line_units.specs.FramesLookup.{answer_of}
+use Rattle.addr2line_units.specs.FunctionParses.{AreReadBefore, read_of_functions, read_of_number, read_of_unit, read_of_view}
 use Rattle.addr2line_units.specs.KeptEntries.{AreEntriesOf, StayEntries, has_answered, has_entries, has_entries_by, kept_answer}
 use Rattle.addr2line_units.specs.KeptFunctions.{AreFunctionsOf, IsTableOf, StayFunctions, details_at, functions_fault, has_detail, has_function, has_place, is_kept, kept_functions, reading_takes_memory, were_read}
-use Rattle.addr2line_units.specs.KeptLookups.{has_entries_at}
+use Rattle.addr2line_units.specs.KeptLookups.{HaveEntriesOf, StayAllEntries, answers_in, has_entries_at}
 use Rattle.addr2line_units.specs.KeptParses.{AreDecided, ChangesOnly, HasRead, HaveFunctions, HaveRead, StayDecided, has_view}
 use Rattle.addr2line_units.specs.KeptViews.{is_decided, seen_sections, verdict_in, view_by, was_looked_at}
 use Rattle.addr2line_units.specs.Parsed.{IsNotOom}
 use Rattle.addr2line_units.specs.Views.{View, view_scope}
-use Rattle.addr2line_units.proofs.AnswerLemmas.{decided_was_looked_at}
+use Rattle.addr2line_units.proofs.AnswerLemmas.{answer_at, decided_was_looked_at, got_unit}
 use Rattle.addr2line_units.proofs.EntryLemmas.{functions_stay}
 use Rattle.addr2line_units.proofs.KeptFunctionLemmas.{fault_is}
 use Rattle.addr2line_units.proofs.KeptLookupLemmas.{entries_on, entries_same}
@@ -49,13 +50,10 @@ have_no_fault r lazy.Unread e h k = absurd h
 have_no_fault r (lazy.Read t) e h k = cc
 have_no_fault r (lazy.Faulty x) e h k = absurd h
 
-pub read_have : {R : Type 0} (t : FunctionTable) → HaveFunctions {R} reads.Functions (lazy.Read t)
-read_have t = tt
-
 -- functions that were cached stay
 pub cached_stay : {R : Type 0} (scope : Scope) (u : UnitRecord) (old mid : LazyFunctions R) → (were_read old ≡ true → mid ≡ old) → StayFunctions old mid
 cached_stay scope u lazy.Unread mid kept = tt
-cached_stay {R} scope u (lazy.Read t) mid kept = subst (λ (m : LazyFunctions R). StayFunctions (lazy.Read t) m) (sym (kept refl)) (functions_stay scope u (lazy.Read t))
+cached_stay {R} scope u (lazy.Read t) mid kept = subst (λ (m : LazyFunctions R). StayFunctions (lazy.Read t) m) (sym (kept refl)) (functions_stay {R = R} scope u (lazy.Read t))
 cached_stay scope u (lazy.Faulty e) mid kept = kept refl
 
 -- the first fault of the functions of a view alone
@@ -85,11 +83,11 @@ no_detail_memory : (shares : Bool) (scope : Scope) (view : UnitRecord) (fs : Lis
 no_detail_memory shares scope view [] all = refl
 no_detail_memory shares scope view (f ∷ fs) all =
     ap (λ (o : Option (Result Detail Error)). (not (is_some o) && (shares || takes scope view f.offset)) || (is_ok (read_fault scope view (Some f)) && details_take_memory shares scope view fs)) all.0.1
-    ∙ by_rest (is_ok (read_fault scope view (Some f)))
+    ∙ by_rest (no_detail_memory shares scope view fs all.1) (is_ok (read_fault scope view (Some f)))
   where
-    by_rest : (b : Bool) → (b && details_take_memory shares scope view fs) ≡ false
-    by_rest true = no_detail_memory shares scope view fs all.1
-    by_rest false = refl
+    by_rest : details_take_memory shares scope view fs ≡ false → (b : Bool) → (b && details_take_memory shares scope view fs) ≡ false
+    by_rest rest true = rest
+    by_rest rest false = refl
 
 exactly_ok : (may : Bool) (r given : Result (Unit {0}) Error) → may ≡ false → given ≡ Ok tt → ExactlyUnlessOomIf may (λ x. x) r given → r ≡ Ok tt
 exactly_ok may (Ok x) given m g h = refl
@@ -214,6 +212,12 @@ module _ {R : Type 0} where
   decided_set (x ∷ vs) zero v w h e k = (subst (λ (y : UnitEntries R). is_decided y.view.state ≡ true → StayEntries y w) e k, decided_same vs)
   decided_set (x ∷ vs) (suc n) v w h e k = (λ _. entries_same x, decided_set vs n v w (omega arith) e k)
 
+  pub all_stay : (r : Reads) (vs ws : List (UnitEntries R)) → HaveRead r vs → StayDecided vs ws → StayAllEntries vs ws
+  all_stay r [] [] h a = tt
+  all_stay r [] (w ∷ ws) h a = absurd a
+  all_stay r (v ∷ vs) [] h a = absurd a
+  all_stay r (v ∷ vs) (w ∷ ws) h a = (a.0 (read_decided r v h.0), all_stay r vs ws h.1 a.1)
+
   -- only the unit of a number changes
   pub changes_set : (vs : List (UnitEntries R)) (k : ℕ) (w : UnitEntries R) → ChangesOnly (λ n. n ≡ k) vs (set vs k w)
   changes_set [] k w n = inl refl
@@ -283,3 +287,31 @@ module _ {R : Type 0} where
 -- units before one that can be read can be read
 pub before_less : (r : Reads) (scope : Scope) (us : List UnitRecord) (answers : List (Option (Option Sections))) (k : ℕ) → AreReadBefore r scope us answers k → (n : ℕ) → n ≤ k → AreReadBefore r scope us answers n
 before_less r scope us answers k before n l = λ m h. before m (omega arith)
+
+-- what is read of a view, by its unit and where references lead from it
+pub view_read : (r : Reads) (scope : Scope) (view : View) (inner : Scope) (x : UnitRecord) → view.unit ≡ x → inner ≡ view_scope scope view → read_of_view r scope (Some (Ok view)) ≡ read_of_functions r inner x
+view_read r scope view inner x unit leads = ap (λ (s : Scope). read_of_functions r s view.unit) (sym leads) ∙ ap (read_of_functions r inner) unit
+
+pub read_if_view : {R : Type 0} (r : Reads) (result : Result (Unit {0}) Error) (view : UnitView R) (f : LazyFunctions R) → has_view view.state ≡ true → OnOk result (HaveFunctions r f) → OnOk result (HasRead r (record { view = view; functions = f }))
+read_if_view r (Err e) view f h k = tt
+read_if_view r (Ok x) view f h k = record { view = h; functions = k }
+
+-- entries that were decided stay where functions of their view are read
+pub entries_then : {R : Type 0} (v mid : UnitEntries R) (f : LazyFunctions R) → mid ≡ v → StayFunctions mid.functions f → StayEntries v (record { view = mid.view; functions = f })
+entries_then {R} v mid f same stay =
+    subst (λ (x : UnitEntries R). StayEntries x (record { view = mid.view; functions = f })) same (record { answer = refl; view = λ e. refl; functions = stay })
+
+-- what is read of the unit of a number
+pub number_is : {R : Type 0} (r : Reads) (scope : Scope) (us : List UnitRecord) (vs : List (UnitEntries R)) (n : ℕ) (u : UnitRecord) (v : UnitEntries R) → n < length us → n < length vs → u ≡ get_or us n u → v ≡ get_or vs n v
+    → read_of_number r scope us (answers_in vs) n ≡ read_of_unit r scope u (kept_answer v)
+number_is r scope us vs n u v h k e f =
+    ap (λ (o : Option UnitRecord). by_unit o) (got_unit us n u h e) ∙ ap (read_of_unit r scope u) (answer_at vs n v k f)
+  where
+    by_unit : Option UnitRecord → Result (Unit {0}) Error
+    by_unit o = elim o [ None ↦ Ok tt | Some x ↦ read_of_unit r scope x (answer_of (answers_in vs) n) ]
+
+pub many_answers : {R : Type 0} (scope : Scope) (us : List UnitRecord) (vs : List (UnitEntries R)) → HaveEntriesOf scope us vs → length us ≡ length (answers_in vs)
+many_answers scope [] [] own = refl
+many_answers scope [] (v ∷ vs) own = absurd own
+many_answers scope (u ∷ us) [] own = absurd own
+many_answers scope (u ∷ us) (v ∷ vs) own = ap suc (many_answers scope us vs own.1)

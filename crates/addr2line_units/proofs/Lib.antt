@@ -22,6 +22,7 @@ pub mod WaitLemmas
 pub mod KeptLookupLemmas
 pub mod ParseLemmas
 pub mod KeptParseLemmas
+pub mod ReachedLemmas
 pub mod NumberedFrames
 pub mod FramesLookupLemmas
 pub mod WalkLemmas

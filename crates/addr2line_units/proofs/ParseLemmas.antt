@@ -141,28 +141,28 @@ module _ (reads : Reads) (scope : Scope) where
   pub units_again : (us : List UnitRecord) (answers : List (Option (Option Sections))) → read_of_units reads scope us (answers_after reads scope us answers) ≡ read_of_units reads scope us answers
   units_again [] answers = refl
   units_again (u ∷ us) [] = refl
-  units_again (u ∷ us) (a ∷ answers) = by_unit (read_of_unit reads scope u a) (unit_again u a)
+  units_again (u ∷ us) (a ∷ answers) = by_unit (units_again us answers) (read_of_unit reads scope u a) (unit_again u a)
     where
-      by_unit : (r : Result (Unit {0}) Error) → read_of_unit reads scope u (decided_answer scope.file.sections u a None) ≡ r
+      by_unit : read_of_units reads scope us (answers_after reads scope us answers) ≡ read_of_units reads scope us answers → (r : Result (Unit {0}) Error) → read_of_unit reads scope u (decided_answer scope.file.sections u a None) ≡ r
           → (read_of_unit reads scope u (decided_answer scope.file.sections u a None) >>= λ _. read_of_units reads scope us (unless_fault r (answers_after reads scope us answers) answers)) ≡ (r >>= λ _. read_of_units reads scope us answers)
-      by_unit (Ok x) e = ap (λ (r : Result (Unit {0}) Error). r >>= λ _. read_of_units reads scope us (answers_after reads scope us answers)) e ∙ units_again us answers
-      by_unit (Err x) e = ap (λ (r : Result (Unit {0}) Error). r >>= λ _. read_of_units reads scope us answers) e
+      by_unit again (Ok x) e = ap (λ (r : Result (Unit {0}) Error). r >>= λ _. read_of_units reads scope us (answers_after reads scope us answers)) e ∙ again
+      by_unit again (Err x) e = ap (λ (r : Result (Unit {0}) Error). r >>= λ _. read_of_units reads scope us answers) e
 
   pub answers_again : (us : List UnitRecord) (answers : List (Option (Option Sections))) → answers_after reads scope us (answers_after reads scope us answers) ≡ answers_after reads scope us answers
   answers_again [] answers = refl
   answers_again (u ∷ us) [] = refl
   answers_again (u ∷ us) (a ∷ answers) =
       ap (λ x. x ∷ unless_fault (read_of_unit reads scope u (decided_answer scope.file.sections u a None)) (answers_after reads scope us (rest (read_of_unit reads scope u a))) (rest (read_of_unit reads scope u a))) (decided_again scope.file.sections u a)
-      ∙ ap (λ xs. decided_answer scope.file.sections u a None ∷ xs) (by_unit (read_of_unit reads scope u a) (unit_again u a))
+      ∙ ap (λ xs. decided_answer scope.file.sections u a None ∷ xs) (by_unit (answers_again us answers) (read_of_unit reads scope u a) (unit_again u a))
     where
       rest : Result (Unit {0}) Error → List (Option (Option Sections))
       rest r = unless_fault r (answers_after reads scope us answers) answers
 
-      by_unit : (r : Result (Unit {0}) Error) → read_of_unit reads scope u (decided_answer scope.file.sections u a None) ≡ r
+      by_unit : answers_after reads scope us (answers_after reads scope us answers) ≡ answers_after reads scope us answers → (r : Result (Unit {0}) Error) → read_of_unit reads scope u (decided_answer scope.file.sections u a None) ≡ r
           → unless_fault (read_of_unit reads scope u (decided_answer scope.file.sections u a None)) (answers_after reads scope us (unless_fault r (answers_after reads scope us answers) answers)) (unless_fault r (answers_after reads scope us answers) answers)
           ≡ unless_fault r (answers_after reads scope us answers) answers
-      by_unit (Ok x) e = ap (λ (r : Result (Unit {0}) Error). unless_fault r (answers_after reads scope us (answers_after reads scope us answers)) (answers_after reads scope us answers)) e ∙ answers_again us answers
-      by_unit (Err x) e = ap (λ (r : Result (Unit {0}) Error). unless_fault r (answers_after reads scope us answers) answers) e
+      by_unit again (Ok x) e = ap (λ (r : Result (Unit {0}) Error). unless_fault r (answers_after reads scope us (answers_after reads scope us answers)) (answers_after reads scope us answers)) e ∙ again
+      by_unit again (Err x) e = ap (λ (r : Result (Unit {0}) Error). unless_fault r (answers_after reads scope us answers) answers) e
 
   pub reads_again : (us : List UnitRecord) (answers : List (Option (Option Sections)))
       → (read_of_units reads scope us (answers_after reads scope us answers) ≡ read_of_units reads scope us answers) × (answers_after reads scope us (answers_after reads scope us answers) ≡ answers_after reads scope us answers)

@@ -1,5 +1,7 @@
-//! Laws of legacy names, of the units of a context and of their views, with no code.
+//! Laws of legacy names, of the units of a context, of their views and of parses of all functions,
+//! with no code.
 
+ghost use Rattle.addr2line_units.specs.FunctionParseLaws.{ReachesAll, ReadsAgain};
 ghost use Rattle.addr2line_units.specs.LegacyLaws.{FindsLegacyNames, FindsOnlyLegacyNames, HasOneText};
 ghost use Rattle.addr2line_units.specs.UnitIndexLaws.{SupUnitsInOrder, UnitsInOrder};
 ghost use Rattle.addr2line_units.specs.ViewLaws.{KeepOrder, NeedNoAnswer, TakeAnswers};
@@ -24,4 +26,12 @@ pub fn view_laws()
     ensures alone { NeedNoAnswer }
     ensures answered { TakeAnswers }
     ensures in_order { KeepOrder }
+{}
+
+/// After a parse of all functions and details without a fault, where all lines can be read too, no
+/// lookup waits or has a fault. A parse after a parse has the same first fault, and decides no more
+/// units.
+pub fn function_parse_laws()
+    ensures reached { ReachesAll }
+    ensures again { ReadsAgain }
 {}

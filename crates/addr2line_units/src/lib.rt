@@ -24,4 +24,4 @@ pub mod units;
 pub mod view;
 
 pub use crate::frame::{Frame, FrameIter, FunctionName};
-pub use crate::laws::{legacy_name_laws, units_in_order, view_laws};
+pub use crate::laws::{function_parse_laws, legacy_name_laws, units_in_order, view_laws};

@@ -9,7 +9,7 @@ ghost use Rattle.addr2line_units.specs.FramesLookup.{with_answer};
 ghost use Rattle.addr2line_units.specs.FunctionParses.{AreFirstDecided, AreReadBefore, answers_after, read_of_functions, read_of_number, read_of_unit, read_of_units, read_of_view};
 ghost use Rattle.addr2line_units.specs.KeptEntries.{AreEntriesOf, StayEntries, kept_answer};
 ghost use Rattle.addr2line_units.specs.KeptFunctions.{AreFunctionsOf, StayFunctions};
-ghost use Rattle.addr2line_units.specs.KeptLookups.{HaveEntriesOf, answers_in, has_entries_at, scope_in};
+ghost use Rattle.addr2line_units.specs.KeptLookups.{HaveEntriesOf, StayAllEntries, answers_in, has_entries_at, scope_in};
 ghost use Rattle.addr2line_units.specs.KeptParses.{AreDecided, ChangesOnly, HasRead, HaveFunctions, HaveRead, StayDecided};
 ghost use Rattle.addr2line_units.specs.KeptViews.{is_decided, seen_answer};
 ghost use Rattle.addr2line_units.specs.Parsed.{IsNotOom};
@@ -172,7 +172,9 @@ fn read_functions_in<R: Reader>(
     ensures memory { IfSome (slice_get entries.old.items number) (HasRead reads)
         → result ≡ Ok tt }
 {
-    let dw_unit = &scope.file.units[number];
+    let Some(dw_unit) = scope.file.units.get(number) else {
+        return Ok(());
+    };
     let entries = &mut entries[number];
     entries.read(alloc, scope, dw_unit, reads)
 }
@@ -250,6 +252,8 @@ impl<R: Reader> ResUnits<R> {
         ensures found { reads ≡ Details → OnOk result ((probe n : ℕ)
             → has_entries_at probe self.new.entries.items n ≡ true) }
         ensures memory { HaveRead reads self.old.entries.items → result ≡ Ok tt }
+        ensures same { HaveRead reads self.old.entries.items
+            → StayAllEntries self.old.entries.items self.new.entries.items }
         ensures dw_units { self.new.dw_units.items ≡ self.old.dw_units.items }
         ensures units { self.new.units.items ≡ self.old.units.items }
         ensures ranges { self.new.ranges ≡ self.old.ranges }

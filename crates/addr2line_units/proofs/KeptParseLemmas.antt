@@ -1,19 +1,18 @@
 -- What is kept of the entries of units after a parse of their functions (on
 -- specs/KeptParses.antt).
-use Rattle.std.proofs.Common.{◌≡◌, ◌≢◌, ℕ, zero, suc, ◌≤◌, ◌<◌, ◌⊎◌, inl, inr, Bool, true, false, not, ◌&&◌, ◌||◌, ◌==◌, cond, nat_lt, List, [], ◌∷◌, length, get_or, slice_get, Option, Some, None, option_and_then, option_map, unwrap_or, Result, Ok, Err, is_ok, is_some, refl, ap, sym, subst, ◌∙◌, arith}
+use Rattle.std.proofs.Common.{◌≡◌, ℕ, zero, suc, ◌≤◌, ◌<◌, inl, inr, Bool, true, false, not, ◌&&◌, ◌||◌, ◌==◌, cond, nat_lt, List, [], ◌∷◌, length, get_or, slice_get, Option, Some, None, option_and_then, Result, Ok, Err, is_ok, is_some, refl, ap, sym, subst, ◌∙◌, arith}
 use Rattle.std.proofs.Math.ListN.{set}
 use Rattle.std.specs.Prelude.{IfSome, OnOk, position}
 use Rattle.std.specs.List.{AllByRecursion, position_or_len}
 use Rattle.std.proofs.lemmas.Bool.Decides.{nat_tests}
 use Rattle.gimli_read.specs.declared.error.Error.{Error}
-use Rattle.gimli_read.specs.declared.error.Error.TheVariants.{OutOfMemory}
-use Rattle.gimli_read.specs.Reading.{◌>>=◌, ExactlyUnlessOom, ExactlyUnlessOomIf}
+use Rattle.gimli_read.specs.Reading.{◌>>=◌, ExactlyUnlessOomIf}
 use Rattle.gimli.specs.Sections.{Sections}
 use Rattle.gimli.specs.Unit.{UnitRecord}
-use Rattle.addr2line_lines.specs.Details.{Detail, detail_at, detail_takes_memory as takes}
+use Rattle.addr2line_lines.specs.Details.{Detail, detail_takes_memory as takes}
 use Rattle.addr2line_lines.specs.Functions.{FunctionRange, entries_of, function_offset_at, functions_of}
-use Rattle.addr2line_lines.specs.FunctionTable.{AreDetailsOf, CachedFunction, FunctionTable, HasDetail, IsDetailOf, cached_detail, detail_fault, details_fault, details_take_memory, function_place_at, read_fault, takes_memory}
-use Rattle.addr2line_lines.specs.References.{FileRecord, Scope}
+use Rattle.addr2line_lines.specs.FunctionTable.{CachedFunction, FunctionTable, HasDetail, IsDetailOf, detail_fault, details_fault, details_take_memory, function_place_at, read_fault}
+use Rattle.addr2line_lines.specs.References.{Scope}
 use Rattle.addr2line_lines.proofs.PlaceLemmas.{all_at, some_at}
 use Rattle.addr2line_units.specs.declared.functions.LazyFunctions.{LazyFunctions}
 use Rattle.addr2line_units.specs.declared.functions.LazyFunctions.TheVariants as lazy
@@ -25,12 +24,11 @@ use Rattle.addr2line_units.specs.declared.view.ViewState.{ViewState}
 use Rattle.addr2line_units.specs.declared.view.ViewState.TheVariants as states
 use Rattle.addr2line_units.specs.FramesLookup.{answer_of}
 use Rattle.addr2line_units.specs.FunctionParses.{AreReadBefore, read_of_functions, read_of_number, read_of_unit, read_of_view}
-use Rattle.addr2line_units.specs.KeptEntries.{AreEntriesOf, StayEntries, has_answered, has_entries, has_entries_by, kept_answer}
-use Rattle.addr2line_units.specs.KeptFunctions.{AreFunctionsOf, IsTableOf, StayFunctions, details_at, functions_fault, has_detail, has_function, has_place, is_kept, kept_functions, reading_takes_memory, were_read}
+use Rattle.addr2line_units.specs.KeptEntries.{StayEntries, has_answered, has_entries_by, kept_answer}
+use Rattle.addr2line_units.specs.KeptFunctions.{AreFunctionsOf, StayFunctions, details_at, functions_fault, has_detail, has_function, has_place, kept_functions, reading_takes_memory, were_read}
 use Rattle.addr2line_units.specs.KeptLookups.{HaveEntriesOf, StayAllEntries, answers_in, has_entries_at}
 use Rattle.addr2line_units.specs.KeptParses.{AreDecided, ChangesOnly, HasRead, HaveFunctions, HaveRead, StayDecided, has_view}
-use Rattle.addr2line_units.specs.KeptViews.{is_decided, seen_sections, verdict_in, view_by, was_looked_at}
-use Rattle.addr2line_units.specs.Parsed.{IsNotOom}
+use Rattle.addr2line_units.specs.KeptViews.{is_decided, seen_sections, verdict_in, view_by}
 use Rattle.addr2line_units.specs.Views.{View, view_scope}
 use Rattle.addr2line_units.proofs.AnswerLemmas.{answer_at, decided_was_looked_at, got_unit}
 use Rattle.addr2line_units.proofs.EntryLemmas.{functions_stay}

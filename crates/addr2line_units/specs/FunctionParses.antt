@@ -3,7 +3,7 @@
 -- Own: units are read in their order, up to the first that has a fault; one that waits for an
 -- answer is decided by none first. The first fault counts of the view of a unit, of its functions,
 -- and, where they are asked for, of their details in the order of the entries.
-use Rattle.std.specs.Prelude.{ℕ, zero, suc, ◌≡◌, ◌<◌, List, [], ◌∷◌, slice_get, Option, Some, None, Result, Ok, Err}
+use Rattle.std.specs.Prelude.{ℕ, zero, suc, ◌≡◌, ◌<◌, List, ◌∷◌, slice_get, Option, Some, None, Result, Ok, Err}
 use Rattle.gimli_read.specs.declared.error.Error.{Error}
 use Rattle.gimli_read.specs.Reading.{◌>>=◌}
 use Rattle.gimli.specs.Sections.{Sections}
@@ -65,7 +65,8 @@ abbrev pub answers_after : Reads → Scope → List UnitRecord → List (Option 
     → List (Option (Option Sections))
 answers_after reads scope (u ∷ us) (answer ∷ answers) =
     decided_answer scope.file.sections u answer None
-    ∷ unless_fault (read_of_unit reads scope u answer) (answers_after reads scope us answers) answers
+    ∷ unless_fault (read_of_unit reads scope u answer)
+    (answers_after reads scope us answers) answers
 answers_after reads scope _ answers = answers
 
 -- the first answers where those of the first units that were open, so many, are decided by none

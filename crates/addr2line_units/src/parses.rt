@@ -112,8 +112,8 @@ fn read_in_view<'x, R: Reader>(
 
 impl<R: Reader> UnitEntries<R> {
     // Reads the functions of the unit's view, and their details where these are asked for, unless
-    // they were read, and keeps them, or their faults. A unit that waits for an answer is decided by
-    // none first.
+    // they were read, and keeps them, or their faults. A unit that waits for an answer is decided
+    // by none first.
     //
     // Refused by the first fault of the view, its functions and the details; may fail with
     // `OutOfMemory` instead, only where something of these isn't kept.

@@ -1,4 +1,4 @@
-use Rattle.std.proofs.Common.{OnOk, ◌≡◌, Ok, subst, sym}
+use Rattle.std.proofs.Common.{OnOk, subst, sym}
 use Rattle.gimli_read.specs.Reading.{ExactlyUnlessOom}
 use Rattle.addr2line_lines.specs.SeenScope.{seen_scope}
 use Rattle.addr2line_units.specs.FunctionParses.{read_of_functions}

@@ -95,12 +95,11 @@ module _ (scope : Scope) (probe : ℕ) where
   unit_reached u answer (Ok v) e read table lines =
       let found = function_ok (view_scope scope v) v.unit probe read in
       let function : function_in scope u.unit answer probe ≡ Ok found.0 = ap (function_by scope probe) e ∙ found.1 in
-      let closed : is_open scope.file.sections u.unit answer ≡ false = ap is_none e in
-      (
+      let closed : is_open scope.file.sections u.unit answer ≡ false = ap is_none e in (
         found_frames table.files u.language found.0 (location_at probe table),
         ap (λ (b : Bool). if b then Ok None else (frames_by scope u probe (function_in scope u.unit answer probe) >>= λ frames. Ok (Some frames))) closed
-        ∙ ap (λ (r : Result (Option FoundFunction) Error). frames_by scope u probe r >>= λ frames. Ok (Some frames)) function
-        ∙ ap (λ (r : Result LineTable Error). (r >>= λ t. Ok (found_frames t.files u.language found.0 (location_at probe t))) >>= λ frames. Ok (Some frames)) lines,
+            ∙ ap (λ (r : Result (Option FoundFunction) Error). frames_by scope u probe r >>= λ frames. Ok (Some frames)) function
+            ∙ ap (λ (r : Result LineTable Error). (r >>= λ t. Ok (found_frames t.files u.language found.0 (location_at probe t))) >>= λ frames. Ok (Some frames)) lines,
       )
 
   number_reached : (units : List IndexedUnit) (answers : List (Option (Option Sections))) (n : ℕ) → length units ≡ length answers → read_of_units Details scope (unit_records units) answers ≡ Ok tt → lines_fault (all_lines scope.file.sections units) ≡ Ok tt

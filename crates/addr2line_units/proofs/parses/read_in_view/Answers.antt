@@ -64,4 +64,3 @@ returns-clause-read g c =
     let v = view_known scope u 0 old c.requires.kept c.requires.decided c.in_ok-unit.unit.dwarf.now x inner c.in_ok-unit.ensures.gives (c.scope_of.ensures.gives scope.file.sections u c.requires.kept.view) in
     read_if_view c.args.reads c.read.result c.args.view.now c.read.new.self
     (known_view scope.file.sections u (here scope u 0 old c.requires.kept c.requires.decided) v.view old.view.state c.requires.decided c.requires.kept.view.right v.is) c.read.ensures.read
-

@@ -22,6 +22,9 @@ pub mod WaitLemmas
 pub mod DecidedLemmas
 pub mod KnownLemmas
 pub mod KeptLookupLemmas
+pub mod ParseLemmas
+pub mod KeptParseLemmas
+pub mod ReachedLemmas
 pub mod NumberedFrames
 pub mod FramesLookupLemmas
 pub mod WalkLemmas

@@ -29,4 +29,7 @@ pub mod KnownEntries
 pub mod Loads
 pub mod ListedLoads
 pub mod LoadLaws
+pub mod FunctionParses
+pub mod KeptParses
+pub mod FunctionParseLaws
 pub mod Suspended

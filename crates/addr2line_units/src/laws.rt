@@ -1,5 +1,7 @@
-//! Laws of legacy names, and of the units of a context, their views and loads, with no code.
+//! Laws of legacy names, of the units of a context, of their views and loads, and of parses of all
+//! functions, with no code.
 
+ghost use Rattle.addr2line_units.specs.FunctionParseLaws.{ReachesAll, ReadsAgain};
 ghost use Rattle.addr2line_units.specs.LegacyLaws.{FindsLegacyNames, FindsOnlyLegacyNames, HasOneText};
 ghost use Rattle.addr2line_units.specs.LoadLaws.{LeaveFewer, NeedLoadsToWait, WaitForListed};
 ghost use Rattle.addr2line_units.specs.UnitIndexLaws.{SupUnitsInOrder, UnitsInOrder};
@@ -33,4 +35,12 @@ pub fn load_laws()
     ensures listed { WaitForListed }
     ensures none { NeedLoadsToWait }
     ensures fewer { LeaveFewer }
+{}
+
+/// After a parse of all functions and details without a fault, where all lines can be read too, no
+/// lookup waits or has a fault. A parse after a parse has the same first fault, and decides no more
+/// units.
+pub fn function_parse_laws()
+    ensures reached { ReachesAll }
+    ensures again { ReadsAgain }
 {}

@@ -14,6 +14,7 @@ mod legacy;
 mod loads;
 pub mod lookup;
 mod lookups;
+pub mod parses;
 pub mod place;
 pub mod range;
 pub mod range_iter;
@@ -24,4 +25,6 @@ pub mod units;
 pub mod view;
 
 pub use crate::frame::{Frame, FrameIter, FunctionName};
-pub use crate::laws::{legacy_name_laws, load_laws, units_in_order, view_laws};
+pub use crate::laws::{
+    function_parse_laws, legacy_name_laws, load_laws, units_in_order, view_laws,
+};

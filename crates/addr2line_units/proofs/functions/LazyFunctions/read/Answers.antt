@@ -1,0 +1,32 @@
+use Rattle.std.proofs.Common.{OnOk, subst, sym}
+use Rattle.gimli_read.specs.Reading.{ExactlyUnlessOom}
+use Rattle.addr2line_lines.specs.SeenScope.{seen_scope}
+use Rattle.addr2line_units.specs.FunctionParses.{read_of_functions}
+use Rattle.addr2line_units.specs.KeptParses.{HaveFunctions}
+use Rattle.addr2line_units.specs.KeptFunctions.{functions_fault, reading_takes_memory}
+use Rattle.addr2line_units.proofs.EntryLemmas.{exactly_unless_oom}
+use Rattle.addr2line_units.proofs.KeptParseLemmas.{details_have, details_kept}
+use Rattle.addr2line_units.proofs.functions.LazyFunctions.read.Goals as goal
+
+pub returns-in-Details-clause-gives : goal.returns-in-Details-clause-gives
+returns-in-Details-clause-gives g c =
+    let scope = seen_scope c.args.scope in
+    let view = c.args.view.now in
+    let may = reading_takes_memory g.R.Reader.shares scope view c.args.self.now in
+    subst (λ r. ExactlyUnlessOom (λ y. y) c.read_all.result (read_of_functions r scope view)) (sym c.in-Details.is)
+    (exactly_unless_oom may (λ y. y) c.read_all.result (functions_fault scope view) c.read_all.ensures.gives)
+
+pub returns-in-Details-clause-read : goal.returns-in-Details-clause-read
+returns-in-Details-clause-read g c =
+    let scope = seen_scope c.args.scope in
+    let view = c.args.view.now in
+    let may = reading_takes_memory g.R.Reader.shares scope view c.args.self.now in
+    subst (λ r. OnOk c.read_all.result (HaveFunctions r c.read_all.new.self)) (sym c.in-Details.is)
+    (details_have scope view may c.read_all.new.self c.read_all.result c.read_all.ensures.right c.read_all.ensures.gives c.read_all.ensures.read c.read_all.ensures.details)
+
+pub returns-in-Details-clause-memory : goal.returns-in-Details-clause-memory
+returns-in-Details-clause-memory g c = λ have.
+    details_kept g.R.Reader.shares (seen_scope c.args.scope) c.args.view.now c.args.self.now c.read_all.result c.requires.right (subst (λ r. HaveFunctions r c.args.self.now) c.in-Details.is have) c.read_all.ensures.gives
+
+pub returns-in-Functions-clause-memory : goal.returns-in-Functions-clause-memory
+returns-in-Functions-clause-memory g c = λ have. c.read_alone.ensures.memory (subst (λ r. HaveFunctions r c.args.self.now) c.in-Functions.is have)

@@ -1,0 +1,6 @@
+use Rattle.addr2line_units.proofs.ParseLemmas.{reads_again}
+use Rattle.addr2line_units.proofs.ReachedLemmas.{reached_all}
+use Rattle.addr2line_units.proofs.laws.function_parse_laws.Goals as goal
+
+pub returns : goal.returns
+returns c = record { reached = reached_all; again = reads_again }

@@ -1,0 +1,183 @@
+use Rattle.std.proofs.Common.{ℕ, ◌≡◌, ◌+◌, ◌<◌, ◌≤◌, ◌∙◌, None, suc, ap, arith, inl, inr, length, refl, rules, slice_get, subst, sym}
+use Rattle.std.specs.Prelude.{IfSome}
+use Rattle.std.proofs.lemmas.Result.{err_from_is_err_and}
+use Rattle.addr2line_lines.specs.SeenScope.{seen_scope}
+use Rattle.addr2line_units.specs.FramesLookup.{with_answer}
+use Rattle.addr2line_units.specs.FunctionParses.{AreReadBefore, first_decided, read_of_number}
+use Rattle.addr2line_units.specs.KeptLookups.{answers_in}
+use Rattle.addr2line_units.specs.KeptParses.{HasRead}
+use Rattle.addr2line_units.proofs.KeptLookupLemmas.{as_many_entries}
+use Rattle.addr2line_units.proofs.KeptParseLemmas.{all_read, before_less, behind_more, changes_all, changes_then, decided_over, decided_same, many_answers, read_more, read_number}
+use Rattle.addr2line_units.proofs.ParseLemmas.{after_end, after_stop, before_more, decided_more, number_behind, read_end, read_stop}
+use Rattle.addr2line_units.proofs.parses.read_all_functions.Goals as goal
+
+pub loop-number-init : goal.loop-number-init
+loop-number-init g c =
+    let count : c.len-count.result ≡ length c.args.entries.now.items = search rules in
+    record {
+      count = count;
+      kept = c.requires.kept;
+      answers = refl;
+      before = λ m h. absurd (omega arith);
+      stay = decided_same c.args.entries.now.items;
+      read = λ n h. absurd (omega arith);
+      behind = λ n h. refl;
+    }
+
+pub read_functions_in-requires-clause-there : goal.read_functions_in-requires-clause-there
+read_functions_in-requires-clause-there g c =
+    let i = c.loop-number.invariant in
+    let scope = seen_scope c.args.scope in
+    let us = c.args.scope.file.units.now in
+    let first = as_many_entries scope us c.args.entries.now.items c.requires.kept in
+    let now = as_many_entries scope us c.loop-number.entries.items i.kept in
+    let below = c.loop-number-test.true in
+    let count = i.count in
+    omega (arith, first, now, below, count)
+
+pub returns-in_err-read_functions_in-clause-gives : goal.returns-in_err-read_functions_in-clause-gives
+returns-in_err-read_functions_in-clause-gives g c =
+    let p = err_from_is_err_and c.from_residual.result c.from_residual.ensures.1 in
+    let i = c.loop-number.invariant in
+    let scope = seen_scope c.args.scope in
+    let us = c.args.scope.file.units.now in
+    let vs = c.args.entries.now.items in
+    let k = c.loop-number.number in
+    let many = many_answers scope us vs c.requires.kept in
+    rw (p.1, p.2) (λ ne.
+    let at = sym (number_behind c.args.reads scope us (answers_in vs) k) ∙ ap (λ a. read_of_number c.args.reads scope us a k) (sym i.answers) ∙ c.in_err-read_functions_in.ensures.gives ne in
+    read_stop c.args.reads scope us (answers_in vs) k _ many i.before at)
+
+pub returns-in_err-read_functions_in-clause-answers : goal.returns-in_err-read_functions_in-clause-answers
+returns-in_err-read_functions_in-clause-answers g c =
+    let p = err_from_is_err_and c.from_residual.result c.from_residual.ensures.1 in
+    let i = c.loop-number.invariant in
+    let d = c.args.scope.file.dwarf.now in
+    let scope = seen_scope c.args.scope in
+    let us = c.args.scope.file.units.now in
+    let vs = c.args.entries.now.items in
+    let k = c.loop-number.number in
+    let first = as_many_entries scope us vs c.requires.kept in
+    let below = c.loop-number-test.true in
+    let count = i.count in
+    let h : k < length us = omega (arith, first, below, count) in
+    let many = many_answers scope us vs c.requires.kept in
+    rw (p.1, p.2) (λ ne.
+    let at = sym (number_behind c.args.reads scope us (answers_in vs) k) ∙ ap (λ a. read_of_number c.args.reads scope us a k) (sym i.answers) ∙ c.in_err-read_functions_in.ensures.gives ne in
+    c.in_err-read_functions_in.ensures.answers ne ∙ ap (λ a. with_answer d us a k None) i.answers ∙ decided_more d us (answers_in vs) k h many
+    ∙ sym (after_stop c.args.reads scope us (answers_in vs) k _ many i.before at))
+
+pub returns-in_err-read_functions_in-clause-memory_answers : goal.returns-in_err-read_functions_in-clause-memory_answers
+returns-in_err-read_functions_in-clause-memory_answers g c =
+    let i = c.loop-number.invariant in
+    let d = c.args.scope.file.dwarf.now in
+    let scope = seen_scope c.args.scope in
+    let us = c.args.scope.file.units.now in
+    let vs = c.args.entries.now.items in
+    let k = c.loop-number.number in
+    let first = as_many_entries scope us vs c.requires.kept in
+    let below = c.loop-number-test.true in
+    let count = i.count in
+    let h : k < length us = omega (arith, first, below, count) in
+    let many = many_answers scope us vs c.requires.kept in
+    elim c.in_err-read_functions_in.ensures.memory_answers [
+      | inl e ↦ (k, e ∙ i.answers)
+      | inr e ↦ (suc k, e ∙ ap (λ a. with_answer d us a k None) i.answers ∙ decided_more d us (answers_in vs) k h many)
+    ]
+
+pub returns-in_err-read_functions_in-clause-stay : goal.returns-in_err-read_functions_in-clause-stay
+returns-in_err-read_functions_in-clause-stay g c =
+    decided_over c.args.entries.now.items c.loop-number.entries.items c.read_functions_in.new.entries.items c.loop-number.invariant.stay c.in_err-read_functions_in.ensures.stay
+
+pub returns-in_err-read_functions_in-clause-only : goal.returns-in_err-read_functions_in-clause-only
+returns-in_err-read_functions_in-clause-only g c =
+    let i = c.loop-number.invariant in
+    let scope = seen_scope c.args.scope in
+    let us = c.args.scope.file.units.now in
+    let vs = c.args.entries.now.items in
+    changes_then (AreReadBefore c.args.reads scope us (answers_in vs)) vs c.loop-number.entries.items c.read_functions_in.new.entries.items c.loop-number.number i.behind c.in_err-read_functions_in.ensures.only
+    (before_less c.args.reads scope us (answers_in vs) c.loop-number.number i.before)
+
+pub returns-in_err-read_functions_in-clause-memory : goal.returns-in_err-read_functions_in-clause-memory
+returns-in_err-read_functions_in-clause-memory g c = λ have.
+    let i = c.loop-number.invariant in
+    let vs = c.args.entries.now.items in
+    let k = c.loop-number.number in
+    let at = subst (λ o. IfSome o (HasRead c.args.reads)) (sym (i.behind k (omega arith))) (read_number c.args.reads vs have k) in
+    absurd (let no = c.in_err-read_functions_in.ensures.memory at in cc)
+
+pub loop-number-preserved : goal.loop-number-preserved
+loop-number-preserved g c =
+    let i = c.loop-number.invariant in
+    let d = c.args.scope.file.dwarf.now in
+    let scope = seen_scope c.args.scope in
+    let us = c.args.scope.file.units.now in
+    let vs = c.args.entries.now.items in
+    let mid = c.loop-number.entries.items in
+    let new = c.read_functions_in.new.entries.items in
+    let k = c.loop-number.number in
+    let first = as_many_entries scope us vs c.requires.kept in
+    let below = c.loop-number-test.true in
+    let count = i.count in
+    let h : k < length us = omega (arith, first, below, count) in
+    let many = many_answers scope us vs c.requires.kept in
+    let step = c.in_ok-read_functions_in.ensures in
+    let at = sym (number_behind c.args.reads scope us (answers_in vs) k) ∙ ap (λ a. read_of_number c.args.reads scope us a k) (sym i.answers) ∙ step.gives in
+    let one : suc k ≡ k + 1 = omega arith in
+    record {
+      count = i.count;
+      kept = step.kept;
+      answers = step.answers tt ∙ ap (λ a. with_answer d us a k None) i.answers ∙ decided_more d us (answers_in vs) k h many ∙ ap (λ m. first_decided d m us (answers_in vs)) one;
+      before = subst (AreReadBefore c.args.reads scope us (answers_in vs)) one (before_more c.args.reads scope us (answers_in vs) k i.before at);
+      stay = decided_over vs mid new i.stay step.stay;
+      read = subst (λ m. (n : ℕ) → n < m → IfSome (slice_get new n) (HasRead c.args.reads)) one (read_more c.args.reads mid new k i.read step.only step.read);
+      behind = subst (λ m. (n : ℕ) → m ≤ n → slice_get new n ≡ slice_get vs n) one (behind_more vs mid new k i.behind step.only);
+    }
+
+pub returns-clause-gives : goal.returns-clause-gives
+returns-clause-gives g c =
+    let i = c.loop-number.invariant in
+    let scope = seen_scope c.args.scope in
+    let us = c.args.scope.file.units.now in
+    let vs = c.args.entries.now.items in
+    let first = as_many_entries scope us vs c.requires.kept in
+    let end = c.loop-number-test.false in
+    let count = i.count in
+    let past : length us ≤ c.loop-number.number = omega (arith, first, end, count) in
+    read_end c.args.reads scope us (answers_in vs) c.loop-number.number (many_answers scope us vs c.requires.kept) past i.before
+
+pub returns-clause-answers : goal.returns-clause-answers
+returns-clause-answers g c = λ ne.
+    let i = c.loop-number.invariant in
+    let scope = seen_scope c.args.scope in
+    let us = c.args.scope.file.units.now in
+    let vs = c.args.entries.now.items in
+    let first = as_many_entries scope us vs c.requires.kept in
+    let end = c.loop-number-test.false in
+    let count = i.count in
+    let past : length us ≤ c.loop-number.number = omega (arith, first, end, count) in
+    i.answers ∙ sym (after_end c.args.reads scope us (answers_in vs) c.loop-number.number (many_answers scope us vs c.requires.kept) past i.before)
+
+pub returns-clause-memory_answers : goal.returns-clause-memory_answers
+returns-clause-memory_answers g c = (c.loop-number.number, c.loop-number.invariant.answers)
+
+pub returns-clause-only : goal.returns-clause-only
+returns-clause-only g c =
+    let i = c.loop-number.invariant in
+    let scope = seen_scope c.args.scope in
+    let us = c.args.scope.file.units.now in
+    let vs = c.args.entries.now.items in
+    changes_all (AreReadBefore c.args.reads scope us (answers_in vs)) vs c.loop-number.entries.items c.loop-number.number i.behind (before_less c.args.reads scope us (answers_in vs) c.loop-number.number i.before)
+
+pub returns-clause-read : goal.returns-clause-read
+returns-clause-read g c =
+    let i = c.loop-number.invariant in
+    let scope = seen_scope c.args.scope in
+    let us = c.args.scope.file.units.now in
+    let mid = c.loop-number.entries.items in
+    let first = as_many_entries scope us c.args.entries.now.items c.requires.kept in
+    let now = as_many_entries scope us mid i.kept in
+    let end = c.loop-number-test.false in
+    let count = i.count in
+    let past : length mid ≤ c.loop-number.number = omega (arith, first, now, end, count) in
+    all_read c.args.reads mid c.loop-number.number past i.read

@@ -1,0 +1,118 @@
+use Rattle.std.proofs.Common.{◌≡◌, ◌<◌, None, Some, arith, inl, inr, length, ltb-false, ltb-true, refl, slice_get, subst, sym}
+use Rattle.std.proofs.lemmas.Option.{get_or_from_slice_get, slice_get_past, slice_get_read}
+use Rattle.gimli_read.specs.Reading.{ExactlyUnlessOom}
+use Rattle.addr2line_lines.specs.SeenScope.{seen_scope}
+use Rattle.addr2line_units.proofs.AnswerLemmas.{answered_all, answers_stay}
+use Rattle.addr2line_units.proofs.KeptLookupLemmas.{as_many_entries, entries_at, entries_set}
+use Rattle.addr2line_units.proofs.KeptParseLemmas.{changes_set, decided_same, decided_set, number_is, read_entry, read_set}
+use Rattle.addr2line_units.proofs.NumberedFrames.{none_past}
+use Rattle.addr2line_units.proofs.parses.read_functions_in.Goals as goal
+
+pub read-requires-clause-kept : goal.read-requires-clause-kept
+read-requires-clause-kept g c =
+    let us = c.args.scope.file.units.now in
+    let vs = c.args.entries.now.items in
+    let n = c.args.number in
+    let u = c.in-Some.dw_unit.now in
+    let there : slice_get c.args.scope.file.units.now c.args.number ≡ Some c.in-Some.dw_unit.now = slice_get_read c.args.scope.file.units.now _ c.args.number c.in-Some.dw_unit.now refl (ltb-true _ _ (sym c.in-Some.ensures.lookup.0)) c.in-Some.ensures.lookup.1 in
+    let e = sym (get_or_from_slice_get us n u u there) in
+    entries_at (seen_scope c.args.scope) us vs n u c.index_mut-entries.result.now c.requires.there e c.index_mut-entries.ensures.value c.requires.kept
+
+pub returns-clause-gives : goal.returns-clause-gives
+returns-clause-gives g c =
+    let us = c.args.scope.file.units.now in
+    let vs = c.args.entries.now.items in
+    let n = c.args.number in
+    let u = c.in-Some.dw_unit.now in
+    let there : slice_get c.args.scope.file.units.now c.args.number ≡ Some c.in-Some.dw_unit.now = slice_get_read c.args.scope.file.units.now _ c.args.number c.in-Some.dw_unit.now refl (ltb-true _ _ (sym c.in-Some.ensures.lookup.0)) c.in-Some.ensures.lookup.1 in
+    let e = sym (get_or_from_slice_get us n u u there) in
+    let v = c.index_mut-entries.result.now in
+    let h : n < length us = subst (λ m. n < m) (sym (as_many_entries (seen_scope c.args.scope) us vs c.requires.kept)) c.requires.there in
+    subst (ExactlyUnlessOom (λ y. y) c.read.result) (sym (number_is c.args.reads (seen_scope c.args.scope) us vs n u v h c.requires.there e c.index_mut-entries.ensures.value)) c.read.ensures.gives
+
+pub returns-clause-kept : goal.returns-clause-kept
+returns-clause-kept g c =
+    let us = c.args.scope.file.units.now in
+    let vs = c.args.entries.now.items in
+    let n = c.args.number in
+    let u = c.in-Some.dw_unit.now in
+    let there : slice_get c.args.scope.file.units.now c.args.number ≡ Some c.in-Some.dw_unit.now = slice_get_read c.args.scope.file.units.now _ c.args.number c.in-Some.dw_unit.now refl (ltb-true _ _ (sym c.in-Some.ensures.lookup.0)) c.in-Some.ensures.lookup.1 in
+    let e = sym (get_or_from_slice_get us n u u there) in
+    entries_set (seen_scope c.args.scope) us vs n u c.read.new.self e c.requires.kept c.read.ensures.kept
+
+pub returns-clause-answers : goal.returns-clause-answers
+returns-clause-answers g c = λ ne.
+    let us = c.args.scope.file.units.now in
+    let vs = c.args.entries.now.items in
+    let n = c.args.number in
+    let u = c.in-Some.dw_unit.now in
+    let there : slice_get c.args.scope.file.units.now c.args.number ≡ Some c.in-Some.dw_unit.now = slice_get_read c.args.scope.file.units.now _ c.args.number c.in-Some.dw_unit.now refl (ltb-true _ _ (sym c.in-Some.ensures.lookup.0)) c.in-Some.ensures.lookup.1 in
+    let e = sym (get_or_from_slice_get us n u u there) in
+    let v = c.index_mut-entries.result.now in
+    let h : n < length us = subst (λ m. n < m) (sym (as_many_entries (seen_scope c.args.scope) us vs c.requires.kept)) c.requires.there in
+    answered_all c.args.scope.file.dwarf.now us vs n u v c.read.new.self None h c.requires.there e c.index_mut-entries.ensures.value (c.read.ensures.answer ne)
+
+pub returns-clause-memory_answers : goal.returns-clause-memory_answers
+returns-clause-memory_answers g c =
+    let us = c.args.scope.file.units.now in
+    let vs = c.args.entries.now.items in
+    let n = c.args.number in
+    let u = c.in-Some.dw_unit.now in
+    let there : slice_get c.args.scope.file.units.now c.args.number ≡ Some c.in-Some.dw_unit.now = slice_get_read c.args.scope.file.units.now _ c.args.number c.in-Some.dw_unit.now refl (ltb-true _ _ (sym c.in-Some.ensures.lookup.0)) c.in-Some.ensures.lookup.1 in
+    let e = sym (get_or_from_slice_get us n u u there) in
+    let v = c.index_mut-entries.result.now in
+    let h : n < length us = subst (λ m. n < m) (sym (as_many_entries (seen_scope c.args.scope) us vs c.requires.kept)) c.requires.there in
+    elim c.read.ensures.memory_answer [
+      | inl same ↦ inl (answers_stay vs n v c.read.new.self c.requires.there c.index_mut-entries.ensures.value same)
+      | inr more ↦ inr (answered_all c.args.scope.file.dwarf.now us vs n u v c.read.new.self None h c.requires.there e c.index_mut-entries.ensures.value more)
+    ]
+
+pub returns-clause-stay : goal.returns-clause-stay
+returns-clause-stay g c =
+    decided_set c.args.entries.now.items c.args.number c.index_mut-entries.result.now c.read.new.self c.requires.there c.index_mut-entries.ensures.value c.read.ensures.stay
+
+pub returns-clause-only : goal.returns-clause-only
+returns-clause-only g c = changes_set c.args.entries.now.items c.args.number c.read.new.self
+
+pub returns-clause-read : goal.returns-clause-read
+returns-clause-read g c = read_set c.args.reads c.read.result c.args.entries.now.items c.args.number c.read.new.self c.requires.there c.read.ensures.read
+
+pub returns-clause-memory : goal.returns-clause-memory
+returns-clause-memory g c = λ have.
+    c.read.ensures.memory (read_entry c.args.reads c.args.entries.now.items c.args.number c.index_mut-entries.result.now c.requires.there c.index_mut-entries.ensures.value have)
+
+pub returns-in_default-clause-gives : goal.returns-in_default-clause-gives
+returns-in_default-clause-gives g c =
+    let us = c.args.scope.file.units.now in
+    let none : slice_get c.args.scope.file.units.now c.args.number ≡ None = slice_get_past c.args.scope.file.units.now c.args.number (ltb-false _ _ (sym c.in_default.ensures.lookup.0)) in
+    let past = none_past us c.args.number none in
+    let many = as_many_entries (seen_scope c.args.scope) us c.args.entries.now.items c.requires.kept in
+    let there = c.requires.there in
+    absurd (omega (arith, past, many, there))
+
+pub returns-in_default-clause-answers : goal.returns-in_default-clause-answers
+returns-in_default-clause-answers g c = λ ne.
+    let us = c.args.scope.file.units.now in
+    let none : slice_get c.args.scope.file.units.now c.args.number ≡ None = slice_get_past c.args.scope.file.units.now c.args.number (ltb-false _ _ (sym c.in_default.ensures.lookup.0)) in
+    let past = none_past us c.args.number none in
+    let many = as_many_entries (seen_scope c.args.scope) us c.args.entries.now.items c.requires.kept in
+    let there = c.requires.there in
+    absurd (omega (arith, past, many, there))
+
+pub returns-in_default-clause-memory_answers : goal.returns-in_default-clause-memory_answers
+returns-in_default-clause-memory_answers g c = inl refl
+
+pub returns-in_default-clause-stay : goal.returns-in_default-clause-stay
+returns-in_default-clause-stay g c = decided_same c.args.entries.now.items
+
+pub returns-in_default-clause-only : goal.returns-in_default-clause-only
+returns-in_default-clause-only g c = λ n. inl refl
+
+pub returns-in_default-clause-read : goal.returns-in_default-clause-read
+returns-in_default-clause-read g c =
+    let us = c.args.scope.file.units.now in
+    let none : slice_get c.args.scope.file.units.now c.args.number ≡ None = slice_get_past c.args.scope.file.units.now c.args.number (ltb-false _ _ (sym c.in_default.ensures.lookup.0)) in
+    let past = none_past us c.args.number none in
+    let many = as_many_entries (seen_scope c.args.scope) us c.args.entries.now.items c.requires.kept in
+    let there = c.requires.there in
+    absurd (omega (arith, past, many, there))

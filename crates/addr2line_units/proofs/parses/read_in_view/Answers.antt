@@ -1,0 +1,66 @@
+use Rattle.std.proofs.Common.{ap, subst, sym, ◌∙◌}
+use Rattle.gimli_read.specs.Reading.{ExactlyUnlessOom}
+use Rattle.addr2line_lines.specs.SeenScope.{seen_scope}
+use Rattle.addr2line_units.specs.declared.unit_frames.UnitEntries.{UnitEntries}
+use Rattle.addr2line_units.specs.FunctionParses.{read_of_view}
+use Rattle.addr2line_units.proofs.EntryLemmas.{fault_known, functions_keep, functions_right, functions_stay, here, view_known}
+use Rattle.addr2line_units.proofs.KeptParseLemmas.{known_view, no_view, read_if_view, view_read}
+use Rattle.addr2line_units.proofs.parses.read_in_view.Goals as goal
+
+pub returns-in_err-unit-clause-stay : goal.returns-in_err-unit-clause-stay
+returns-in_err-unit-clause-stay g c =
+    functions_stay (seen_scope c.args.scope) c.args.dw_unit.now c.args.functions.now
+
+pub returns-in_err-unit-clause-memory : goal.returns-in_err-unit-clause-memory
+returns-in_err-unit-clause-memory g c = λ have.
+    let scope = seen_scope c.args.scope in
+    let u = c.args.dw_unit.now in
+    let old : UnitEntries g.row.R.Denot = record { view = c.args.view.now; functions = c.args.functions.now } in
+    let x = c.in_err-unit.field-0.0 in
+    let is = fault_known scope u 0 old c.requires.kept c.requires.decided x c.in_err-unit.ensures.gives in
+    absurd (no_view scope.file.sections u (here scope u 0 old c.requires.kept c.requires.decided) x old.view.state c.requires.kept.view.right is have.view)
+
+pub read-requires-clause-in_order : goal.read-requires-clause-in_order
+read-requires-clause-in_order g c =
+    c.scope_of.ensures.in_order c.requires.in_order
+
+pub read-requires-clause-right : goal.read-requires-clause-right
+read-requires-clause-right g c =
+    let scope = seen_scope c.args.scope in
+    let u = c.args.dw_unit.now in
+    let old : UnitEntries g.row.R.Denot = record { view = c.args.view.now; functions = c.args.functions.now } in
+    let inner = seen_scope c.scope_of.result in
+    let x = c.in_ok-unit.unit.unit.now in
+    let v = view_known scope u 0 old c.requires.kept c.requires.decided c.in_ok-unit.unit.dwarf.now x inner c.in_ok-unit.ensures.gives (c.scope_of.ensures.gives scope.file.sections u c.requires.kept.view) in
+    functions_right scope u 0 old c.requires.kept c.requires.decided inner x v
+
+pub returns-clause-gives : goal.returns-clause-gives
+returns-clause-gives g c =
+    let scope = seen_scope c.args.scope in
+    let u = c.args.dw_unit.now in
+    let old : UnitEntries g.row.R.Denot = record { view = c.args.view.now; functions = c.args.functions.now } in
+    let inner = seen_scope c.scope_of.result in
+    let x = c.in_ok-unit.unit.unit.now in
+    let v = view_known scope u 0 old c.requires.kept c.requires.decided c.in_ok-unit.unit.dwarf.now x inner c.in_ok-unit.ensures.gives (c.scope_of.ensures.gives scope.file.sections u c.requires.kept.view) in
+    subst (ExactlyUnlessOom (λ y. y) c.read.result) (sym (ap (read_of_view c.args.reads scope) v.is ∙ view_read c.args.reads scope v.view inner x v.unit v.leads)) c.read.ensures.gives
+
+pub returns-clause-kept : goal.returns-clause-kept
+returns-clause-kept g c =
+    let scope = seen_scope c.args.scope in
+    let u = c.args.dw_unit.now in
+    let old : UnitEntries g.row.R.Denot = record { view = c.args.view.now; functions = c.args.functions.now } in
+    let inner = seen_scope c.scope_of.result in
+    let x = c.in_ok-unit.unit.unit.now in
+    let v = view_known scope u 0 old c.requires.kept c.requires.decided c.in_ok-unit.unit.dwarf.now x inner c.in_ok-unit.ensures.gives (c.scope_of.ensures.gives scope.file.sections u c.requires.kept.view) in
+    functions_keep scope u 0 old c.requires.kept c.requires.decided inner x v c.read.new.self c.read.ensures.right
+
+pub returns-clause-read : goal.returns-clause-read
+returns-clause-read g c =
+    let scope = seen_scope c.args.scope in
+    let u = c.args.dw_unit.now in
+    let old : UnitEntries g.row.R.Denot = record { view = c.args.view.now; functions = c.args.functions.now } in
+    let inner = seen_scope c.scope_of.result in
+    let x = c.in_ok-unit.unit.unit.now in
+    let v = view_known scope u 0 old c.requires.kept c.requires.decided c.in_ok-unit.unit.dwarf.now x inner c.in_ok-unit.ensures.gives (c.scope_of.ensures.gives scope.file.sections u c.requires.kept.view) in
+    read_if_view c.args.reads c.read.result c.args.view.now c.read.new.self
+    (known_view scope.file.sections u (here scope u 0 old c.requires.kept c.requires.decided) v.view old.view.state c.requires.decided c.requires.kept.view.right v.is) c.read.ensures.read

@@ -1,0 +1,23 @@
+use Rattle.std.proofs.Common.{[], option_map, refl, rules}
+use Rattle.addr2line_lines.specs.SeenScope.{seen_file}
+use Rattle.addr2line_units.specs.FunctionParses.{AreReadBefore}
+use Rattle.addr2line_units.specs.KeptLookups.{answers_in, sup_file}
+use Rattle.addr2line_units.specs.KeptParses.{ChangesOnly}
+use Rattle.addr2line_units.proofs.KeptParseLemmas.{all_stay, decided_if_ok, found_if_ok}
+use Rattle.addr2line_units.proofs.WalkLemmas.{in_scope}
+use Rattle.addr2line_units.proofs.units.ResUnits.read_functions.Goals as goal
+
+pub returns-clause-only : goal.returns-clause-only
+returns-clause-only g c =
+    let s = c.args.self.now in
+    let at = in_scope c.args.dwarf.now c.deref.result.now s.dw_units.items (option_map seen_file c.file.result) (sup_file c.args.sup.now) [] [] in
+    at (λ S us qs. ChangesOnly (AreReadBefore c.args.reads S us (answers_in s.entries.items)) s.entries.items c.read_all_functions.new.entries.items) (search rules) c.file.ensures.gives refl c.read_all_functions.ensures.only
+
+pub returns-clause-decided : goal.returns-clause-decided
+returns-clause-decided g c = decided_if_ok c.args.reads c.read_all_functions.result c.read_all_functions.new.entries.items c.read_all_functions.ensures.read
+
+pub returns-clause-found : goal.returns-clause-found
+returns-clause-found g c = λ is. found_if_ok c.args.reads c.read_all_functions.result c.read_all_functions.new.entries.items is c.read_all_functions.ensures.read
+
+pub returns-clause-same : goal.returns-clause-same
+returns-clause-same g c = λ have. all_stay c.args.reads c.args.self.now.entries.items c.read_all_functions.new.entries.items have c.read_all_functions.ensures.stay

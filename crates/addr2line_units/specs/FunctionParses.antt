@@ -1,0 +1,83 @@
+-- Parses of the functions of all units (DWARF 5, section 3.3: entries of subprograms and of inlined
+-- functions).
+-- Own: units are read in their order, up to the first that has a fault; one that waits for an
+-- answer is decided by none first. The first fault counts of the view of a unit, of its functions,
+-- and, where they are asked for, of their details in the order of the entries.
+use Rattle.std.specs.Prelude.{ℕ, zero, suc, ◌≡◌, ◌<◌, List, ◌∷◌, slice_get, Option, Some, None, Result, Ok, Err}
+use Rattle.gimli_read.specs.declared.error.Error.{Error}
+use Rattle.gimli_read.specs.Reading.{◌>>=◌}
+use Rattle.gimli.specs.Sections.{Sections}
+use Rattle.gimli.specs.Unit.{UnitRecord}
+use Rattle.addr2line_lines.specs.Functions.{functions_of}
+use Rattle.addr2line_lines.specs.References.{Scope}
+use Rattle.addr2line_units.specs.declared.parses.Reads.{Reads}
+use Rattle.addr2line_units.specs.declared.parses.Reads.TheVariants as reads
+use Rattle.addr2line_units.specs.FramesLookup.{answer_of}
+use Rattle.addr2line_units.specs.KeptFunctions.{functions_fault}
+use Rattle.addr2line_units.specs.Views.{View, decided_answer, verdict, view_scope}
+
+-- the first fault of the functions of a view, and of their details where these are read
+abbrev pub read_of_functions : Reads → Scope → UnitRecord → Result (Unit {0}) Error
+read_of_functions reads.Functions scope view = functions_of scope.file.sections view >>= λ _. Ok tt
+read_of_functions reads.Details scope view = functions_fault scope view
+
+-- the first fault of a view and of what is read of it; nothing is read of a unit that is open
+abbrev pub read_of_view : Reads → Scope → Option (Result View Error) → Result (Unit {0}) Error
+read_of_view reads scope None = Ok tt
+read_of_view reads scope (Some view) =
+    view >>= λ v. read_of_functions reads (view_scope scope v) v.unit
+
+-- the first fault of what is read of a unit with this first answer, which is decided by none where
+-- it is open
+abbrev pub read_of_unit : Reads → Scope → UnitRecord → Option (Option Sections)
+    → Result (Unit {0}) Error
+read_of_unit reads scope u answer = read_of_view reads scope
+    (verdict scope.file.sections u (decided_answer scope.file.sections u answer None))
+
+-- the same of the unit of a number; where there is no such unit nothing is read
+abbrev pub read_of_number : Reads → Scope → List UnitRecord → List (Option (Option Sections)) → ℕ
+    → Result (Unit {0}) Error
+read_of_number reads scope us answers n = elim (slice_get us n)
+    [ None ↦ Ok tt | Some u ↦ read_of_unit reads scope u (answer_of answers n) ]
+
+-- the first fault of what is read of units with these first answers, in their order
+abbrev pub read_of_units : Reads → Scope → List UnitRecord → List (Option (Option Sections))
+    → Result (Unit {0}) Error
+read_of_units reads scope (u ∷ us) (answer ∷ answers) =
+    read_of_unit reads scope u answer >>= λ _. read_of_units reads scope us answers
+read_of_units reads scope _ _ = Ok tt
+
+-- all units before the one of a number can be read
+abbrev pub AreReadBefore : Reads → Scope → List UnitRecord → List (Option (Option Sections)) → ℕ
+    → Type 0
+AreReadBefore reads scope us answers n =
+    (m : ℕ) → m < n → read_of_number reads scope us answers m ≡ Ok tt
+
+-- the first answers of units after one that was read, or as they were where it had a fault
+abbrev pub unless_fault : Result (Unit {0}) Error → List (Option (Option Sections))
+    → List (Option (Option Sections)) → List (Option (Option Sections))
+unless_fault (Ok x) after before = after
+unless_fault (Err e) after before = before
+
+-- the first answers after a parse: each unit that was open is decided by none, up to the first unit
+-- with a fault, and that one too
+abbrev pub answers_after : Reads → Scope → List UnitRecord → List (Option (Option Sections))
+    → List (Option (Option Sections))
+answers_after reads scope (u ∷ us) (answer ∷ answers) =
+    decided_answer scope.file.sections u answer None
+    ∷ unless_fault (read_of_unit reads scope u answer)
+    (answers_after reads scope us answers) answers
+answers_after reads scope _ answers = answers
+
+-- the first answers where those of the first units that were open, so many, are decided by none
+abbrev pub first_decided : Sections → ℕ → List UnitRecord → List (Option (Option Sections))
+    → List (Option (Option Sections))
+first_decided d zero us answers = answers
+first_decided d (suc n) (u ∷ us) (answer ∷ answers) =
+    decided_answer d u answer None ∷ first_decided d n us answers
+first_decided d (suc n) _ answers = answers
+
+-- the first answers are those where some of the first units are decided, and no others
+abbrev pub AreFirstDecided : Sections → List UnitRecord → List (Option (Option Sections))
+    → List (Option (Option Sections)) → Type 0
+AreFirstDecided d us old new = (n : ℕ) × (new ≡ first_decided d n us old)

@@ -1,0 +1,52 @@
+-- What is kept of the entries of all units after a parse of their functions, as the private
+-- functions see it.
+use Rattle.std.specs.Prelude.{◌≡◌, ◌⊎◌, ℕ, Bool, true, false, is_ok, List, [], ◌∷◌, slice_get}
+use Rattle.std.specs.List.{AllByRecursion}
+use Rattle.addr2line_lines.specs.FunctionTable.{HasDetail}
+use Rattle.addr2line_units.specs.declared.functions.LazyFunctions.{LazyFunctions}
+use Rattle.addr2line_units.specs.declared.functions.LazyFunctions.TheVariants as lazy
+use Rattle.addr2line_units.specs.declared.parses.Reads.{Reads}
+use Rattle.addr2line_units.specs.declared.parses.Reads.TheVariants as reads
+use Rattle.addr2line_units.specs.declared.unit_frames.UnitEntries.{UnitEntries}
+use Rattle.addr2line_units.specs.declared.view.ViewState.{ViewState}
+use Rattle.addr2line_units.specs.declared.view.ViewState.TheVariants as states
+use Rattle.addr2line_units.specs.KeptEntries.{StayEntries}
+use Rattle.addr2line_units.specs.KeptViews.{is_decided}
+
+-- whether the view is known, and has no fault
+abbrev pub has_view : {R : Type 0} → ViewState R → Bool
+has_view states.Main = true
+has_view (states.Answered a) = is_ok a.unit
+has_view _ = false
+
+-- the functions are kept, with all details where these are read, and none has a fault
+abbrev pub HaveFunctions : {R : Type 0} → Reads → LazyFunctions R → Type 0
+HaveFunctions reads lazy.Unread = ⊥
+HaveFunctions reads (lazy.Faulty e) = ⊥
+HaveFunctions reads.Functions (lazy.Read t) = Unit {0}
+HaveFunctions reads.Details (lazy.Read t) = AllByRecursion HasDetail t.functions
+
+-- all that is read of a unit is kept, and has no fault
+pub record HasRead {R : Type 0} (reads : Reads) (v : UnitEntries R) : Type 0 where
+  pub view : has_view v.view.state ≡ true
+  pub functions : HaveFunctions reads v.functions
+
+-- the same of each unit
+abbrev pub HaveRead : {R : Type 0} → Reads → List (UnitEntries R) → Type 0
+HaveRead reads views = AllByRecursion (HasRead reads) views
+
+-- the view of each unit is known, or its fault
+abbrev pub AreDecided : {R : Type 0} → List (UnitEntries R) → Type 0
+AreDecided views = AllByRecursion (λ v. is_decided v.view.state ≡ true) views
+
+-- what is kept of each unit that was decided stays
+abbrev pub StayDecided : {R : Type 0} → List (UnitEntries R) → List (UnitEntries R) → Type 0
+StayDecided [] [] = Unit {0}
+StayDecided (v ∷ vs) (w ∷ ws) =
+    (is_decided v.view.state ≡ true → StayEntries v w) × StayDecided vs ws
+StayDecided _ _ = ⊥
+
+-- what is kept of a unit stays as it is, but of those that are asked for
+abbrev pub ChangesOnly : {R : Type 0} → (ℕ → Type 0) → List (UnitEntries R)
+    → List (UnitEntries R) → Type 0
+ChangesOnly IsAsked old new = (n : ℕ) → (slice_get new n ≡ slice_get old n) ⊎ IsAsked n

@@ -1,0 +1,270 @@
+//! Parses of the functions of all units.
+
+ghost use Rattle.std.specs.Prelude.{◌≡◌, ◌⊎◌, ◌<◌, ℕ, IfSome, None, Ok, OnOk, false, length, slice_get, true};
+ghost use Rattle.gimli_read.specs.Reading.{ExactlyUnlessOom};
+ghost use Rattle.addr2line_lines.specs.References.{IsScope};
+ghost use Rattle.addr2line_lines.specs.SeenScope.{seen_scope};
+ghost use Rattle.addr2line_units.specs.declared.parses.Reads.TheVariants.{Details, Functions};
+ghost use Rattle.addr2line_units.specs.FramesLookup.{with_answer};
+ghost use Rattle.addr2line_units.specs.FunctionParses.{AreFirstDecided, AreReadBefore, answers_after, read_of_functions, read_of_number, read_of_unit, read_of_units, read_of_view};
+ghost use Rattle.addr2line_units.specs.KeptEntries.{AreEntriesOf, StayEntries, kept_answer};
+ghost use Rattle.addr2line_units.specs.KeptFunctions.{AreFunctionsOf, StayFunctions};
+ghost use Rattle.addr2line_units.specs.KeptLookups.{HaveEntriesOf, StayAllEntries, answers_in, has_entries_at, scope_in};
+ghost use Rattle.addr2line_units.specs.KeptParses.{AreDecided, ChangesOnly, HasRead, HaveFunctions, HaveRead, StayDecided};
+ghost use Rattle.addr2line_units.specs.KeptViews.{is_decided, seen_answer};
+ghost use Rattle.addr2line_units.specs.Parsed.{IsNotOom};
+ghost use Rattle.addr2line_units.specs.Views.{decided_answer, verdict};
+
+use crate::functions::LazyFunctions;
+use crate::sup::SupUnits;
+use crate::unit_frames::UnitEntries;
+use crate::units::ResUnits;
+use crate::view::UnitView;
+use addr2line_lines::{FileUnits, Scope};
+use gimli::read::{Error, Reader};
+use gimli::{Dwarf, Unit};
+use std::alloc::Global;
+
+/// What is read of each unit.
+#[derive(Clone, Copy, Debug, PartialEq, Eq)]
+pub enum Reads {
+    /// Its functions.
+    Functions,
+    /// Its functions, and the detail of each.
+    Details,
+}
+
+impl<R: Reader> LazyFunctions<R> {
+    // Reads the functions of a view, unless they were read, and keeps them, or their fault. Refused
+    // by that fault; may fail with `OutOfMemory` instead, only where they were not read.
+    fn read_alone(
+        &mut self,
+        alloc: Global,
+        scope: Scope<'_, R>,
+        view: &Unit<R>,
+    ) -> Result<(), Error>
+        requires right { AreFunctionsOf (seen_scope scope) view.now self.old }
+        ensures gives { ExactlyUnlessOom (λ x. x) result
+            (read_of_functions Functions (seen_scope scope.entry) view.now) }
+        ensures right { AreFunctionsOf (seen_scope scope.entry) view.now self.new }
+        ensures stay { StayFunctions self.old self.new }
+        ensures read { OnOk result (HaveFunctions Functions self.new) }
+        ensures memory { HaveFunctions Functions self.old → result ≡ Ok tt }
+    {
+        self.cache(alloc, scope, view)?;
+        match self {
+            LazyFunctions::Faulty(error) => Err(*error),
+            LazyFunctions::Read(_) | LazyFunctions::Unread => Ok(()),
+        }
+    }
+
+    // Reads the functions of a view, and their details where these are asked for, as `read_alone`
+    // and `read_all` do.
+    fn read(
+        &mut self,
+        alloc: Global,
+        scope: Scope<'_, R>,
+        view: &Unit<R>,
+        reads: Reads,
+    ) -> Result<(), Error>
+        requires in_order { IsScope (seen_scope scope) }
+        requires right { AreFunctionsOf (seen_scope scope) view.now self.old }
+        ensures gives { ExactlyUnlessOom (λ x. x) result
+            (read_of_functions reads (seen_scope scope.entry) view.now) }
+        ensures right { AreFunctionsOf (seen_scope scope.entry) view.now self.new }
+        ensures stay { StayFunctions self.old self.new }
+        ensures read { OnOk result (HaveFunctions reads self.new) }
+        ensures memory { HaveFunctions reads self.old → result ≡ Ok tt }
+    {
+        match reads {
+            Reads::Functions => self.read_alone(alloc, scope, view),
+            Reads::Details => self.read_all(alloc, scope, view),
+        }
+    }
+}
+
+// Reads the functions of a view, as `UnitEntries::read` does.
+fn read_in_view<'x, R: Reader>(
+    alloc: Global,
+    view: &'x UnitView<R>,
+    functions: &mut LazyFunctions<R>,
+    scope: Scope<'x, R>,
+    dw_unit: &'x Unit<R>,
+    reads: Reads,
+) -> Result<(), Error>
+    requires in_order { IsScope (seen_scope scope) }
+    requires kept { AreEntriesOf (seen_scope scope) dw_unit.now
+        (record { view = view.now; functions = functions.old }) }
+    requires decided { is_decided view.now.state ≡ true }
+    ensures gives { ExactlyUnlessOom (λ x. x) result (read_of_view reads (seen_scope scope.entry)
+        (verdict scope.entry.file.dwarf.now dw_unit.now (seen_answer view.now))) }
+    ensures kept { AreEntriesOf (seen_scope scope.entry) dw_unit.now
+        (record { view = view.now; functions = functions.new }) }
+    ensures stay { StayFunctions functions.old functions.new }
+    ensures read { OnOk result (HasRead reads
+        (record { view = view.now; functions = functions.new })) }
+    ensures memory { HasRead reads (record { view = view.now; functions = functions.old })
+        → result ≡ Ok tt }
+{
+    let unit = view.unit_ref(scope.file.dwarf, dw_unit)?;
+    functions.read(alloc, view.scope_of(scope), unit.unit, reads)
+}
+
+impl<R: Reader> UnitEntries<R> {
+    // Reads the functions of the unit's view, and their details where these are asked for, unless
+    // they were read, and keeps them, or their faults. A unit that waits for an answer is decided
+    // by none first.
+    //
+    // Refused by the first fault of the view, its functions and the details; may fail with
+    // `OutOfMemory` instead, only where something of these isn't kept.
+    fn read<'x>(
+        &mut self,
+        alloc: Global,
+        scope: Scope<'x, R>,
+        dw_unit: &'x Unit<R>,
+        reads: Reads,
+    ) -> Result<(), Error>
+        requires in_order { IsScope (seen_scope scope) }
+        requires kept { AreEntriesOf (seen_scope scope) dw_unit.now self.old }
+        ensures gives { ExactlyUnlessOom (λ x. x) result (read_of_unit reads
+            (seen_scope scope.entry) dw_unit.now (kept_answer self.old)) }
+        ensures kept { AreEntriesOf (seen_scope scope.entry) dw_unit.now self.new }
+        ensures answer { IsNotOom result → kept_answer self.new ≡ decided_answer
+            scope.entry.file.dwarf.now dw_unit.now (kept_answer self.old) None }
+        ensures memory_answer { (kept_answer self.new ≡ kept_answer self.old)
+            ⊎ (kept_answer self.new ≡ decided_answer scope.entry.file.dwarf.now dw_unit.now
+            (kept_answer self.old) None) }
+        ensures stay { is_decided self.old.view.state ≡ true → StayEntries self.old self.new }
+        ensures read { OnOk result (HasRead reads self.new) }
+        ensures memory { HasRead reads self.old → result ≡ Ok tt }
+    {
+        self.answer(alloc, scope, dw_unit, None)?;
+        let UnitEntries { view, functions } = self;
+        read_in_view(alloc, view, functions, scope, dw_unit, reads)
+    }
+}
+
+// Reads the functions of the unit of a number, as `UnitEntries::read` does.
+fn read_functions_in<R: Reader>(
+    alloc: Global,
+    scope: Scope<'_, R>,
+    entries: &mut Vec<UnitEntries<R>>,
+    number: usize,
+    reads: Reads,
+) -> Result<(), Error>
+    requires in_order { IsScope (seen_scope scope) }
+    requires kept { HaveEntriesOf (seen_scope scope) scope.file.units.now entries.old.items }
+    requires there { number < length entries.old.items }
+    ensures gives { ExactlyUnlessOom (λ x. x) result (read_of_number reads
+        (seen_scope scope.entry) scope.entry.file.units.now (answers_in entries.old.items)
+        number) }
+    ensures kept { HaveEntriesOf (seen_scope scope.entry) scope.entry.file.units.now
+        entries.new.items }
+    ensures answers { IsNotOom result → answers_in entries.new.items
+        ≡ with_answer scope.entry.file.dwarf.now scope.entry.file.units.now
+        (answers_in entries.old.items) number None }
+    ensures memory_answers { (answers_in entries.new.items ≡ answers_in entries.old.items)
+        ⊎ (answers_in entries.new.items ≡ with_answer scope.entry.file.dwarf.now
+        scope.entry.file.units.now (answers_in entries.old.items) number None) }
+    ensures stay { StayDecided entries.old.items entries.new.items }
+    ensures only { ChangesOnly (λ n. n ≡ number) entries.old.items entries.new.items }
+    ensures read { OnOk result (IfSome (slice_get entries.new.items number) (HasRead reads)) }
+    ensures memory { IfSome (slice_get entries.old.items number) (HasRead reads)
+        → result ≡ Ok tt }
+{
+    let Some(dw_unit) = scope.file.units.get(number) else {
+        return Ok(());
+    };
+    let entries = &mut entries[number];
+    entries.read(alloc, scope, dw_unit, reads)
+}
+
+// Reads the functions of all units in their order, up to the first that has a fault, as
+// `UnitEntries::read` does.
+fn read_all_functions<R: Reader>(
+    alloc: Global,
+    scope: Scope<'_, R>,
+    entries: &mut Vec<UnitEntries<R>>,
+    reads: Reads,
+) -> Result<(), Error>
+    requires in_order { IsScope (seen_scope scope) }
+    requires kept { HaveEntriesOf (seen_scope scope) scope.file.units.now entries.old.items }
+    ensures gives { ExactlyUnlessOom (λ x. x) result (read_of_units reads
+        (seen_scope scope.entry) scope.entry.file.units.now (answers_in entries.old.items)) }
+    ensures kept { HaveEntriesOf (seen_scope scope.entry) scope.entry.file.units.now
+        entries.new.items }
+    ensures answers { IsNotOom result → answers_in entries.new.items
+        ≡ answers_after reads (seen_scope scope.entry) scope.entry.file.units.now
+        (answers_in entries.old.items) }
+    ensures memory_answers { AreFirstDecided scope.entry.file.dwarf.now
+        scope.entry.file.units.now (answers_in entries.old.items)
+        (answers_in entries.new.items) }
+    ensures stay { StayDecided entries.old.items entries.new.items }
+    ensures only { ChangesOnly (AreReadBefore reads (seen_scope scope.entry)
+        scope.entry.file.units.now (answers_in entries.old.items))
+        entries.old.items entries.new.items }
+    ensures read { OnOk result (HaveRead reads entries.new.items) }
+    ensures memory { HaveRead reads entries.old.items → result ≡ Ok tt }
+{
+    let count = entries.len();
+    for number in 0..count {
+        read_functions_in(alloc, scope, entries, number, reads)?;
+    }
+    Ok(())
+}
+
+impl<R: Reader> ResUnits<R> {
+    /// Reads the functions of all units in their order, or their functions and the details of these
+    /// in the order of the entries, unless they are kept, and keeps them, or the fault. A unit that
+    /// waits for an answer is decided by none first. The units behind the first fault are left as
+    /// they are.
+    ///
+    /// Refused by the first fault of a view, its functions and the details; may fail with
+    /// `OutOfMemory` instead, which is never kept: then some of the first units are decided. Takes
+    /// no memory where all that it reads is kept, without a fault. Source: DWARF 5, sections 3.3.1
+    /// and 3.3.8.
+    pub fn read_functions(
+        &mut self,
+        alloc: Global,
+        dwarf: &Dwarf<R>,
+        sup: &SupUnits<R>,
+        reads: Reads,
+    ) -> Result<(), Error>
+        requires in_order { IsScope (scope_in dwarf.now self.old.dw_units.items sup.now) }
+        requires kept { HaveEntriesOf (scope_in dwarf.now self.old.dw_units.items sup.now)
+            self.old.dw_units.items self.old.entries.items }
+        ensures gives { ExactlyUnlessOom (λ x. x) result (read_of_units reads
+            (scope_in dwarf.now self.old.dw_units.items sup.now) self.old.dw_units.items
+            (answers_in self.old.entries.items)) }
+        ensures kept { HaveEntriesOf (scope_in dwarf.now self.new.dw_units.items sup.now)
+            self.new.dw_units.items self.new.entries.items }
+        ensures answers { IsNotOom result → answers_in self.new.entries.items
+            ≡ answers_after reads (scope_in dwarf.now self.old.dw_units.items sup.now)
+            self.old.dw_units.items (answers_in self.old.entries.items) }
+        ensures memory_answers { AreFirstDecided dwarf.now self.old.dw_units.items
+            (answers_in self.old.entries.items) (answers_in self.new.entries.items) }
+        ensures stay { StayDecided self.old.entries.items self.new.entries.items }
+        ensures only { ChangesOnly (AreReadBefore reads
+            (scope_in dwarf.now self.old.dw_units.items sup.now) self.old.dw_units.items
+            (answers_in self.old.entries.items)) self.old.entries.items self.new.entries.items }
+        ensures read { OnOk result (HaveRead reads self.new.entries.items) }
+        ensures decided { OnOk result (AreDecided self.new.entries.items) }
+        ensures found { reads ≡ Details → OnOk result ((probe n : ℕ)
+            → has_entries_at probe self.new.entries.items n ≡ true) }
+        ensures memory { HaveRead reads self.old.entries.items → result ≡ Ok tt }
+        ensures same { HaveRead reads self.old.entries.items
+            → StayAllEntries self.old.entries.items self.new.entries.items }
+        ensures dw_units { self.new.dw_units.items ≡ self.old.dw_units.items }
+        ensures units { self.new.units.items ≡ self.old.units.items }
+        ensures ranges { self.new.ranges ≡ self.old.ranges }
+    {
+        let scope = Scope {
+            file: FileUnits {
+                dwarf,
+                units: &self.dw_units,
+            },
+            sup: sup.file(),
+        };
+        read_all_functions(alloc, scope, &mut self.entries, reads)
+    }
+}

@@ -1,11 +1,15 @@
 -- What a lookup of frames comes to in a context, by what is kept (on specs/Lookups.antt).
-use Rattle.std.proofs.Common.{◌≡◌, ◌⊎◌, inl, inr, ℕ, ◌≤◌, ◌&&◌, ◌||◌, Bool, true, false, not, List, [], ◌∷◌, map, slice_get, Option, Some, None, option_map, unwrap_or, Result, Ok, Err, refl, sym, ap, subst, ◌∙◌}
+use Rattle.std.proofs.Common.{◌≡◌, ◌≢◌, ◌⊎◌, inl, inr, ℕ, zero, suc, arith, length, ◌<◌, ◌≤◌, ◌&&◌, ◌||◌, Bool, true, false, not, List, [], ◌∷◌, map, slice_get, Option, Some, None, option_map, unwrap_or, Result, Ok, Err, refl, sym, ap, subst, ◌∙◌}
+use Rattle.std.specs.Prelude.{IfOk, IfSome}
 use Rattle.gimli_read.specs.declared.error.Error.{Error}
+use Rattle.gimli_read.specs.declared.error.Error.TheVariants.{OutOfMemory}
 use Rattle.gimli_read.specs.Reading.{◌>>=◌, ExactlyUnlessOom}
 use Rattle.gimli.specs.Sections.{Sections, SupSections}
 use Rattle.gimli.specs.Unit.{UnitRecord}
 use Rattle.addr2line_lines.specs.References.{FileRecord, IsScope, Scope}
 use Rattle.addr2line_units.specs.declared.frames_lookup.Faults.{Faults}
+use Rattle.addr2line_units.specs.declared.frames_lookup.FramesStop.{FramesStop}
+use Rattle.addr2line_units.specs.declared.frames_lookup.FramesStop.TheVariants as stops
 use Rattle.addr2line_units.specs.declared.index.UnitRange.{UnitRange}
 use Rattle.addr2line_units.specs.declared.sup.SupUnits.{SupUnits}
 use Rattle.addr2line_units.specs.declared.unit.ResUnit.{ResUnit}
@@ -13,18 +17,21 @@ use Rattle.addr2line_units.specs.declared.unit_frames.UnitEntries.{UnitEntries}
 use Rattle.addr2line_units.specs.CachedLines.{HaveLinesOf, StayUnits, indexed_units, parsed_units}
 use Rattle.addr2line_units.specs.Cover.{cover}
 use Rattle.addr2line_units.specs.Frames.{FrameRecord}
-use Rattle.addr2line_units.specs.FramesLookup.{LookupAsks, Stop, asked_frames, asks_lines_of, ends_lookup, has_many_of, holds_along, is_waiting, main_scope, stop_along}
-use Rattle.addr2line_units.specs.KeptLookups.{HaveEntriesOf, ReadsOnly, StayAllEntries, answers_in, has_frames_at, scope_in}
+use Rattle.addr2line_units.specs.FramesLookup.{LookupAsks, Stop, Waits, asked_frames, asks_lines_of, ends_lookup, frames_found, has_many_of, holds_along, is_waiting, main_scope, stop_along}
+use Rattle.addr2line_units.specs.KeptLookups.{HaveEntriesOf, HaveViewsOf, ReadsOnly, StayAllEntries, answers_in, has_frames_at, scope_in, seen_stop, waits_at}
 use Rattle.addr2line_units.specs.KnownEntries.{known_in, knows_at}
 use Rattle.addr2line_units.specs.Parsed.{IsNotOom, ParsesOnly, has_parsed}
 use Rattle.addr2line_units.specs.UnitIndex.{UnitIndex, index_units, sup_sections, unit_records}
+use Rattle.addr2line_units.specs.Views.{SplitLoad, load_of_unit}
 use Rattle.addr2line_units.proofs.KeptLookupLemmas.{entries_more_at, same_answers}
 use Rattle.addr2line_units.proofs.KnownLemmas.{known_is, known_unchanged}
 use Rattle.addr2line_units.proofs.ScopeLemmas.{main_scope_in_order, records_beside}
-use Rattle.addr2line_units.proofs.UnitsLemmas.{stay_parsed}
+use Rattle.addr2line_units.proofs.UnitsLemmas.{stay_indexed, stay_parsed}
+use Rattle.addr2line_units.proofs.WaitLemmas.{as_many_views, views_of_entries, waits_where_told, waits_within}
 use Rattle.addr2line.proofs.NewContextLemmas.{ok_is}
 use Rattle.addr2line.specs.Context.{ContextState, IsContext, index_by}
-use Rattle.addr2line.specs.Lookups.{AfterFrames, IsKnown, IsKnownFew, LearnsAsked, ParsesAsked, has_all_of, has_few_of, lookup_stop, stop_in}
+use Rattle.addr2line.specs.KeptStops.{waiting_after_fault, waiting_in}
+use Rattle.addr2line.specs.Lookups.{AfterFrames, IsKnown, IsKnownFew, IsLoadOf, has_all_of, has_few_of, lookup_stop, stop_in, waiting_unit}
 
 -- along ranges what is equal of each number
 pub holds_same : (h k : ℕ → Bool) (frames : ℕ → Result (Option (List FrameRecord)) Error) (ranges : List UnitRange) → ((n : ℕ) → h n ≡ k n) → holds_along h frames ranges ≡ holds_along k frames ranges
@@ -71,6 +78,59 @@ module _ {R : Type 0} where
 
     of_made : (P : UnitIndex → Type 0) → P made → (m : UnitIndex) → index_units d ≡ Ok m → P m
     of_made P h m e = subst P (ok_is _ _ (sym i.made_is ∙ e)) h
+
+    -- what a context has after a lookup is still what its sections give
+    pub still_context : (vs : List UnitRecord) → vs ≡ us → (new : List ResUnit) → StayUnits old new → (entries : List (UnitEntries R)) → HaveEntriesOf (scope_in d vs sup) vs entries → (now : List UnitRange) → now ≡ ranges → HaveLinesOf d vs new
+        → IsContext d vs new entries now sup.units.items sup.dwarf
+    still_context vs whole new stay entries own now same lines = record {
+      made_is = i.made_is ∙ ap (λ (m : UnitIndex). Ok m) (sym made_stays);
+      lines = lines;
+      entries = subst (λ s. HaveEntriesOf s vs entries) scope_stays own;
+      sup_dwarf_is = i.sup_dwarf_is;
+    }
+      where
+        made_stays : index_by vs new now sup.units.items ≡ made
+        made_stays =
+            ap (λ (rs : List UnitRange). index_by vs new rs sup.units.items) same
+            ∙ ap (λ (xs : List UnitRecord). index_by xs new ranges sup.units.items) whole
+            ∙ ap (λ is. record { units = is; ranges = ranges; sup_units = sup.units.items }) (stay_indexed us old new stay)
+
+        scope_stays : scope_in d vs sup ≡ main_scope d (index_by vs new now sup.units.items)
+        scope_stays = ap (λ (xs : List UnitRecord). scope_in d xs sup) whole ∙ scope_is ∙ ap (main_scope d) (sym made_stays)
+
+    -- a lookup that waits for a unit, where what it asks for is known, waits for one that waits
+    pub waits_told : (faults : Faults) (probe n looks : ℕ) → lookup_stop faults d (answers_in held) probe ≡ Ok (Waits n)
+        → IsKnown faults (record { sections = d; answers = answers_in held; parsed = parsed_units old; known = known_in held; looks = looks }) probe → waits_at held n ≡ true
+    waits_told faults probe n looks w known =
+        waits_where_told (main_scope d made) probe faults us old held (asks_lines_of (main_scope d made) (indexed_units us old) (answers_in held) probe) (parsed_units old) (cover probe ranges) n i.entries
+        (sym (holds_same _ _ (asked_frames faults (main_scope d made) (indexed_units us old) (answers_in held) probe) (cover probe ranges) all_is) ∙ known made i.made_is)
+        (sym (ap (λ r. r >>= stop_in faults d (answers_in held) probe) i.made_is) ∙ w)
+      where
+        all_is : (k : ℕ) → has_all_of (record { sections = d; answers = answers_in held; parsed = parsed_units old; known = known_in held; looks = looks }) probe made k
+            ≡ has_frames_at (asks_lines_of (main_scope d made) (indexed_units us old) (answers_in held) probe) probe (parsed_units old) held k
+        all_is k = ap (λ b. b && (not (asks_lines_of (main_scope d made) (indexed_units us old) (answers_in held) probe k) || has_parsed (parsed_units old) k)) (known_is probe held k)
+
+    pub views_are : HaveViewsOf d us held
+    views_are = views_of_entries (main_scope d made) us held i.entries
+
+    within_some : (xs : List UnitRecord) (n : ℕ) → n < length xs → slice_get xs n ≡ None → ⊥
+    within_some [] n h e = omega (arith, h)
+    within_some (x ∷ xs) zero h e = cc
+    within_some (x ∷ xs) (suc n) h e = within_some xs n (omega (arith, h)) e
+
+    -- its load
+    pub load_told : {X : Type 0} (see : X → SplitLoad) (r : Result X Error) (n : ℕ) → waits_at held n ≡ true → IfOk r (λ l. IfSome (slice_get us n) (λ u. load_of_unit d n u ≡ Ok (Some (see l)))) → IfOk r (λ l. IsLoadOf d n (see l))
+    load_told see (Err e) n w h = tt
+    load_told see (Ok l) n w h =
+        of_made (λ m. option_map (load_of_unit d n) (slice_get (unit_records m.units) n) ≡ Some (Ok (Some (see l))))
+        (ap (λ (xs : List UnitRecord). option_map (load_of_unit d n) (slice_get xs n)) (records_beside d us old i.lines) ∙ of (slice_get us n) refl h)
+      where
+        there : n < length us
+        there = let k = waits_within held n w in let m = as_many_views d us held views_are in omega (arith, k, m)
+
+        of : (o : Option UnitRecord) → slice_get us n ≡ o → IfSome o (λ u. load_of_unit d n u ≡ Ok (Some (see l))) → option_map (load_of_unit d n) o ≡ Some (Ok (Some (see l)))
+        of None e k = absurd (within_some us n there e)
+        of (Some u) e k = ap Some k
 
     module _ (new : List ResUnit) (stay : StayUnits old new) (entries : List (UnitEntries R)) (stays : StayAllEntries held entries) (looks now : ℕ) where
       abbrev before : ContextState
@@ -136,3 +196,46 @@ module _ {R : Type 0} where
           ready = λ answered. ready_is (ready answered);
           memory = λ few ended. memory (few_then few);
         }
+
+-- the unit that a lookup waits for
+module _ {R : Type 0} (units : List ResUnit) (views : List (UnitEntries R)) where
+  pub told_waiting : (r : Result FramesStop Error) (given : Result Stop Error) → ExactlyUnlessOom (seen_stop units views) r given → IfOk (waiting_in r) (λ w. w ≡ waiting_unit given)
+  told_waiting (Ok (stops.Waits n)) given h = ap waiting_unit (sym h)
+  told_waiting (Ok (stops.Finds p)) given h = ap waiting_unit (sym h)
+  told_waiting (Ok stops.FindsNothing) given h = ap waiting_unit (sym h)
+  told_waiting (Err e) given h = by e h
+    where
+      by : (e : Error) → (e ≢ OutOfMemory → given ≡ Err e) → IfOk (waiting_after_fault e) (λ w. w ≡ waiting_unit given)
+      by OutOfMemory k = tt
+      by _ k = ap waiting_unit (sym (k (λ q. absurd cc)))
+
+  -- the frames that a lookup has found
+  pub told_frames : (stop : FramesStop) (given : Result Stop Error) (frames : List FrameRecord) → given ≡ Ok (seen_stop units views stop) → frames ≡ frames_found (seen_stop units views stop)
+      → (given >>= λ s. Ok (frames_found s)) ≡ Ok frames
+  told_frames stop given frames h f = ap (λ r. r >>= λ s. Ok (frames_found s)) h ∙ ap (λ fs. Ok fs) (sym f)
+
+-- it is refused for want of memory where the lookup is
+pub oom_told : (r : Result FramesStop Error) → IsNotOom (waiting_in r) → IsNotOom r
+oom_told (Ok stop) h = tt
+oom_told (Err e) h = by e h
+  where
+    by : (e : Error) → IsNotOom (waiting_after_fault e) → e ≢ OutOfMemory
+    by OutOfMemory k = k
+    by _ k = λ q. absurd cc
+
+pub told_oom : (r : Result FramesStop Error) → IsNotOom r → IsNotOom (waiting_in r)
+told_oom (Ok (stops.Waits n)) h = tt
+told_oom (Ok (stops.Finds p)) h = tt
+told_oom (Ok stops.FindsNothing) h = tt
+told_oom (Err e) h = by e h
+  where
+    by : (e : Error) → e ≢ OutOfMemory → IsNotOom (waiting_after_fault e)
+    by OutOfMemory k = k
+    by _ k = tt
+
+-- beside each unit stand its lines
+pub as_many_lines : (d : Sections) (us : List UnitRecord) (rs : List ResUnit) → HaveLinesOf d us rs → length us ≡ length rs
+as_many_lines d [] [] own = refl
+as_many_lines d [] (r ∷ rs) own = absurd own
+as_many_lines d (u ∷ us) [] own = absurd own
+as_many_lines d (u ∷ us) (r ∷ rs) own = ap suc (as_many_lines d us rs own.1)

@@ -1,0 +1,35 @@
+use Rattle.std.proofs.Common.{ap, sym, subst, ◌∙◌}
+use Rattle.addr2line_units.specs.CachedLines.{HaveLinesOf}
+use Rattle.addr2line.proofs.LookupLemmas.{after_frames, entries_in_scope, oom_told, scope_in_order, still_context, stop_is, told_oom, told_waiting}
+use Rattle.addr2line.proofs.context.Context.waiting_unit.Goals as goal
+
+pub find_frames-stop-requires-clause-in_order : goal.find_frames-stop-requires-clause-in_order
+find_frames-stop-requires-clause-in_order g c =
+    let s = c.self.inside in
+    rw c.deref.ensures (scope_in_order s.dwarf.value s.units.dw_units.items s.units.units.items s.units.entries.items s.units.ranges s.sup_units c.self.invariant)
+
+pub find_frames-stop-requires-clause-kept : goal.find_frames-stop-requires-clause-kept
+find_frames-stop-requires-clause-kept g c =
+    let s = c.self.inside in
+    rw c.deref.ensures (entries_in_scope s.dwarf.value s.units.dw_units.items s.units.units.items s.units.entries.items s.units.ranges s.sup_units c.self.invariant)
+
+pub invariant_of-self : goal.invariant_of-self
+invariant_of-self g c =
+    let s = c.self.inside in
+    let e = rw c.deref.ensures at c.find_frames-stop.ensures in
+    still_context s.dwarf.value s.units.dw_units.items s.units.units.items s.units.entries.items s.units.ranges s.sup_units c.self.invariant _ e.dw_units _ e.stay_units _ e.kept _ e.ranges e.read
+
+pub returns-clause-gives : goal.returns-clause-gives
+returns-clause-gives g c =
+    let s = c.self.inside in
+    let e = rw c.deref.ensures at c.find_frames-stop.ensures in
+    let now = c.find_frames-stop.new.self in
+    let is = stop_is s.dwarf.value s.units.dw_units.items s.units.units.items s.units.entries.items s.units.ranges s.sup_units c.self.invariant c.args.faults c.args.probe in
+    rw (c.waiting_number.ensures.gives, sym c.self.view_is, is) (told_waiting now.units.items now.entries.items c.find_frames-stop.result _ e.gives)
+
+pub returns-clause-after : goal.returns-clause-after
+returns-clause-after g c =
+    let s = c.self.inside in
+    let e = rw c.deref.ensures at c.find_frames-stop.ensures in
+    let now = c.find_frames-stop.new.self in
+    rw (c.waiting_number.ensures.gives, sym c.self.view_is) (after_frames s.dwarf.value s.units.dw_units.items s.units.units.items s.units.entries.items s.units.ranges s.sup_units c.self.invariant now.units.items e.stay_units now.entries.items e.stay s.looks c.find_frames-stop.new.looks c.args.faults c.args.probe _ e.only e.lines (λ answered. e.ready (oom_told _ answered)) (λ few. told_oom _ (e.memory few)) e.raised)

@@ -1,5 +1,5 @@
 -- Answers to the loads of units, and what is kept of their entries (on specs/KeptEntries.antt).
-use Rattle.std.proofs.Common.{◌≡◌, ◌≢◌, ℕ, zero, suc, ◌<◌, Bool, true, false, List, [], ◌∷◌, length, get_or, map, slice_get, arith, subst, Option, Some, None, Result, Ok, Err, ap, refl, sym, ◌∙◌}
+use Rattle.std.proofs.Common.{◌≡◌, ◌≢◌, ℕ, zero, suc, ◌<◌, Bool, true, false, List, [], ◌∷◌, length, get_or, slice_get, arith, subst, Option, Some, None, Result, Ok, Err, ap, refl, sym, ◌∙◌}
 use Rattle.std.proofs.Math.ListN.{set}
 use Rattle.std.proofs.lemmas.List.{set-get_or}
 use Rattle.std.specs.Prelude.{IfErr, IfOk, IfSome, OnOk, is_none, is_some, if◌then◌else◌}
@@ -17,7 +17,7 @@ use Rattle.addr2line_units.specs.declared.view.ViewState.TheVariants as states
 use Rattle.addr2line_units.specs.FramesLookup.{answer_of, with_answer}
 use Rattle.addr2line_units.specs.KeptEntries.{AreEntriesOf, StayEntries, kept_answer}
 use Rattle.addr2line_units.specs.KeptFunctions.{AreFunctionsOf, were_read}
-use Rattle.addr2line_units.specs.KeptLookups.{HaveEntriesOf, StayAllEntries, answers_in, decided_at}
+use Rattle.addr2line_units.specs.KeptLookups.{StayAllEntries, answers_in, decided_at}
 use Rattle.addr2line_units.specs.KeptViews.{IsViewOf, is_decided, seen_answer, verdict_in, waits, was_looked_at}
 use Rattle.addr2line_units.specs.Views.{View, decided_answer, is_open, verdict, view_scope}
 use Rattle.addr2line_units.proofs.KeptLookupLemmas.{stay_entries_set}

@@ -1,5 +1,5 @@
 -- Laws of the loads that an address waits for (on specs/LoadLaws.antt).
-use Rattle.std.proofs.Common.{◌≡◌, ◌≢◌, ◌⊎◌, inl, inr, ℕ, zero, suc, ◌<◌, ◌≤◌, ◌==◌, ◌&&◌, not, cond, Bool, true, false, List, [], ◌∷◌, filter, length, map, slice_get, arith, subst, Option, Some, None, option_map, Result, Ok, Err, ap, refl, sym, ◌∙◌}
+use Rattle.std.proofs.Common.{◌≡◌, ◌≢◌, ◌⊎◌, inl, inr, ℕ, zero, suc, ◌<◌, ◌≤◌, ◌==◌, ◌&&◌, not, cond, Bool, true, false, List, [], ◌∷◌, filter, length, slice_get, arith, subst, Option, Some, None, option_map, Result, Ok, Err, ap, refl, sym, ◌∙◌}
 use Rattle.std.proofs.lemmas.Bool.{eq-eqb}
 use Rattle.std.proofs.lemmas.Bool.Decides.{eqb_tells}
 use Rattle.std.proofs.Math.ListN.{set}
@@ -10,10 +10,9 @@ use Rattle.gimli_read.specs.Reading.{◌>>=◌}
 use Rattle.gimli.specs.Sections.{Sections}
 use Rattle.gimli.specs.Unit.{UnitRecord}
 use Rattle.addr2line_lines.specs.References.{Scope}
-use Rattle.addr2line_units.specs.declared.frames_lookup.Faults.{Faults}
 use Rattle.addr2line_units.specs.declared.index.UnitRange.{UnitRange}
 use Rattle.addr2line_units.specs.Frames.{FrameRecord}
-use Rattle.addr2line_units.specs.FramesLookup.{Stop, Waits, answer_of, asked_frames, frames_of_number, or_stop, stop_along, with_answer}
+use Rattle.addr2line_units.specs.FramesLookup.{Waits, answer_of, asked_frames, frames_of_number, or_stop, stop_along, with_answer}
 use Rattle.addr2line_units.specs.LoadLaws.{IsListed, LeaveFewer, NeedLoadsToWait, WaitForListed, is_open_at, loads_of}
 use Rattle.addr2line_units.specs.Loads.{before_others, is_of_other, load_of_number, loads_along}
 use Rattle.addr2line_units.specs.Parsed.{LeadTo}

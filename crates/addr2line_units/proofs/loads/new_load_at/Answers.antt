@@ -1,4 +1,4 @@
-use Rattle.std.proofs.Common.{◌≡◌, ◌∙◌, ◌<◌, None, Ok, Some, ap, arith, get_or, length, ltb-false, ltb-true, option_map, refl, rules, slice_get, subst, sym}
+use Rattle.std.proofs.Common.{◌≡◌, ◌<◌, None, Some, ap, arith, ltb-false, ltb-true, option_map, refl, slice_get, subst, sym}
 use Rattle.std.specs.Prelude.{IfOk, OnOk}
 use Rattle.std.proofs.lemmas.Option.{get_or_from_slice_get, slice_get_past, slice_get_read, slice_get_within}
 use Rattle.addr2line_lines.specs.SeenScope.{seen_file}

@@ -1,11 +1,10 @@
 use Rattle.std.proofs.Common.{◌≡◌, ◌∙◌, ◌++◌, [], ap, filter, map, rules, subst, sym, true}
 use Rattle.std.specs.List.{AllByRecursion}
 use Rattle.std.proofs.lemmas.List.{append-nil}
-use Rattle.std.proofs.lemmas.Result.{err_from_is_err_and}
 use Rattle.addr2line_units.specs.declared.index.UnitRange.{UnitRange}
 use Rattle.addr2line_units.specs.KeptLookups.{answers_in, decided_at}
 use Rattle.addr2line_units.specs.KeptViews.{seen_load}
-use Rattle.addr2line_units.specs.ListedLoads.{MarksLoad, if_new, is_new}
+use Rattle.addr2line_units.specs.ListedLoads.{is_new}
 use Rattle.addr2line_units.specs.Loads.{load_of_number, loads_along}
 use Rattle.addr2line_units.specs.UnitRangesLeft.{ranges_left}
 use Rattle.addr2line_units.proofs.KeptLookupLemmas.{same_answers, stay_entries, stay_entries_over}

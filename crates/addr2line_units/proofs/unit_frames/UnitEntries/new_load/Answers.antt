@@ -1,9 +1,9 @@
-use Rattle.std.proofs.Common.{◌≡◌, ◌∙◌, Bool, None, Some, ap, false, is_some, not, refl, rules, subst, sym, true}
+use Rattle.std.proofs.Common.{◌≡◌, ◌∙◌, None, Some, ap, false, is_some, not, refl, rules, subst, sym, true}
 use Rattle.addr2line_units.specs.KeptEntries.{kept_answer}
 use Rattle.addr2line_units.specs.KeptViews.{seen_load}
 use Rattle.addr2line_units.specs.ListedLoads.{if_new, is_marked}
-use Rattle.addr2line_units.specs.Views.{awaited_load, is_open, load_of_unit}
-use Rattle.addr2line_units.proofs.AnswerLemmas.{decided_was_looked_at, never_waits, no_answer, open_by_look}
+use Rattle.addr2line_units.specs.Views.{awaited_load, is_open}
+use Rattle.addr2line_units.proofs.AnswerLemmas.{never_waits, no_answer, open_by_look}
 use Rattle.addr2line_units.proofs.LoadLemmas.{awaited_unit, awaits_this, is_new_load, marks_load, marks_none, not_new, open_awaits}
 use Rattle.addr2line_units.proofs.unit_frames.UnitEntries.new_load.Goals as goal
 

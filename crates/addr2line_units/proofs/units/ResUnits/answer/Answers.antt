@@ -1,6 +1,6 @@
-use Rattle.std.proofs.Common.{ap, arith, option_map, rules, sym, ◌∙◌, ◌<◌, length}
+use Rattle.std.proofs.Common.{arith, option_map, rules, sym}
 use Rattle.addr2line_lines.specs.SeenScope.{seen_file}
-use Rattle.addr2line_units.specs.KeptLookups.{answers_in, scope_in, sup_file}
+use Rattle.addr2line_units.specs.KeptLookups.{scope_in, sup_file}
 use Rattle.addr2line_units.proofs.AnswerLemmas.{answered_if_ok, answers_if_refused, decided_if_ok, decided_there, in_same_scope, others_stay, same_set}
 use Rattle.addr2line_units.proofs.KeptLookupLemmas.{as_many_entries, entries_at, entries_set}
 use Rattle.addr2line_units.proofs.units.ResUnits.answer.Goals as goal

@@ -1,5 +1,4 @@
-use Rattle.std.proofs.Common.{◌≡◌, Some, ap, arith, option_map, rules, sym, ◌∙◌}
-use Rattle.gimli.specs.Unit.{UnitRecord}
+use Rattle.std.proofs.Common.{◌≡◌, ap, arith, option_map, rules, sym, ◌∙◌}
 use Rattle.addr2line_lines.specs.SeenScope.{seen_file}
 use Rattle.addr2line_units.specs.KeptEntries.{kept_answer}
 use Rattle.addr2line_units.specs.KeptLookups.{scope_in, sup_file}

@@ -1,5 +1,4 @@
-use Rattle.std.proofs.Common.{◌≡◌, ◌≤◌, ◌<◌, None, Some, arith, get_or, length, ltb-false, ltb-true, rules, slice_get, subst, sym}
-use Rattle.std.proofs.lemmas.Option.{slice_get_past}
+use Rattle.std.proofs.Common.{◌≤◌, ◌<◌, None, arith, length, rules, sym}
 use Rattle.addr2line_units.specs.KeptLookups.{answers_in, scope_in}
 use Rattle.addr2line_units.proofs.KeptLookupLemmas.{as_many_entries}
 use Rattle.addr2line_units.proofs.LoadLemmas.{as_many_answers, known_forget_within, past_set}

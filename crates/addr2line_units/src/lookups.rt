@@ -96,10 +96,10 @@ impl<R: Reader> ResUnits<R> {
         ensures gives { frames_left result
             ≡ frames_found (seen_stop self.now.units.items self.now.entries.items stop) }
     {
-        match stop {
-            FramesStop::Finds(place) => self.frames(place),
-            _ => FrameIter::new_empty(),
-        }
+        let FramesStop::Finds(place) = stop else {
+            return FrameIter::new_empty();
+        };
+        self.frames(place)
     }
 }
 

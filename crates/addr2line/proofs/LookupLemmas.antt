@@ -173,14 +173,17 @@ module _ {R : Type 0} where
             (subst (λ a. holds_along (few_in (main_scope d made) a) (asked_in (main_scope d made) a) (cover probe ranges) ≡ true) same
             (sym (holds_same _ _ (asked_in (main_scope d made) (answers_in entries)) (cover probe ranges) few_is) ∙ k made i.made_is))
 
-        -- what holds of a context after a lookup
-        pub after_frames : {X : Type 0} (result : Result X Error)
-            → ReadsOnly (LookupAsks (asked_in (scope_in d us sup) (answers_in held)) (cover probe ranges)) probe held entries
-            → ParsesOnly (λ n. LookupAsks (asked_in (scope_in d us sup) (answers_in held)) (cover probe ranges) n × (asks_in (scope_in d us sup) (answers_in held) n ≡ true)) (parsed_units old) (parsed_units new)
-            → (IsNotOom result → holds_along (has_in (scope_in d us sup) (answers_in held)) (asked_in (scope_in d us sup) (answers_in held)) (cover probe ranges) ≡ true)
-            → (holds_along (few_in (scope_in d us sup) (answers_in held)) (asked_in (scope_in d us sup) (answers_in held)) (cover probe ranges) ≡ true → IsNotOom result)
+        -- what a lookup says of itself shows what holds of a context after it
+        abbrev ShowsAfter : {X : Type 0} → Sections → Result X Error → Type 0
+        ShowsAfter x result =
+            ReadsOnly (LookupAsks (asked_in (scope_in x us sup) (answers_in held)) (cover probe ranges)) probe held entries
+            → ParsesOnly (λ n. LookupAsks (asked_in (scope_in x us sup) (answers_in held)) (cover probe ranges) n × (asks_in (scope_in x us sup) (answers_in held) n ≡ true)) (parsed_units old) (parsed_units new)
+            → (IsNotOom result → holds_along (has_in (scope_in x us sup) (answers_in held)) (asked_in (scope_in x us sup) (answers_in held)) (cover probe ranges) ≡ true)
+            → (holds_along (few_in (scope_in x us sup) (answers_in held)) (asked_in (scope_in x us sup) (answers_in held)) (cover probe ranges) ≡ true → IsNotOom result)
             → looks ≤ now → AfterFrames faults probe result before after
-        after_frames result only lines ready memory raised = record {
+
+        shows_after : {X : Type 0} (result : Result X Error) → ShowsAfter d result
+        shows_after result only lines ready memory raised = record {
           sections = refl;
           answers = same;
           parsed = stay_parsed old new stay;
@@ -196,6 +199,9 @@ module _ {R : Type 0} where
           ready = λ answered. ready_is (ready answered);
           memory = λ few ended. memory (few_then few);
         }
+
+        pub after_frames : {X : Type 0} (x : Sections) → d ≡ x → (result : Result X Error) → ShowsAfter x result
+        after_frames x e result = subst (λ y. ShowsAfter y result) e (shows_after result)
 
 -- the unit that a lookup waits for
 module _ {R : Type 0} (units : List ResUnit) (views : List (UnitEntries R)) where

@@ -29,8 +29,8 @@ use crate::unit_frames::UnitEntries;
 use crate::units::ResUnits;
 use crate::view::SplitDwarfLoad;
 use addr2line_lines::{Count, FileUnits, Row, Scope};
-use gimli::{Dwarf, UnitRef};
 use gimli::read::{Error, Reader};
+use gimli::{Dwarf, UnitRef};
 use std::alloc::Global;
 use std::rc::Rc;
 

@@ -11,12 +11,12 @@ load-requires-clause-views g c =
 pub load-requires-clause-waits : goal.load-requires-clause-waits
 load-requires-clause-waits g c =
     let s = c.self.inside in
-    let r = rw c.self.view_is at c.requires in
+    let r = rw (sym c.self.view_is) at c.requires in
     waits_told s.dwarf.value s.units.dw_units.items s.units.units.items s.units.entries.items s.units.ranges s.sup_units c.self.invariant c.args.faults c.args.probe c.args.number s.looks r.waits r.known
 
 pub returns-clause-gives : goal.returns-clause-gives
 returns-clause-gives g c =
     let s = c.self.inside in
-    let r = rw c.self.view_is at c.requires in
+    let r = rw (sym c.self.view_is) at c.requires in
     let w = waits_told s.dwarf.value s.units.dw_units.items s.units.units.items s.units.entries.items s.units.ranges s.sup_units c.self.invariant c.args.faults c.args.probe c.args.number s.looks r.waits r.known in
     rw (sym c.self.view_is) (load_told s.dwarf.value s.units.dw_units.items s.units.units.items s.units.entries.items s.units.ranges s.sup_units c.self.invariant (seen_load g.R.Reader.section) c.load.result c.args.number w c.load.ensures.gives)

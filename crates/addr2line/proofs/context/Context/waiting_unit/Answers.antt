@@ -30,6 +30,6 @@ returns-clause-gives g c =
 pub returns-clause-after : goal.returns-clause-after
 returns-clause-after g c =
     let s = c.self.inside in
-    let e = rw c.deref.ensures at c.find_frames-stop.ensures in
+    let e = c.find_frames-stop.ensures in
     let now = c.find_frames-stop.new.self in
-    rw (c.waiting_number.ensures.gives, sym c.self.view_is) (after_frames s.dwarf.value s.units.dw_units.items s.units.units.items s.units.entries.items s.units.ranges s.sup_units c.self.invariant now.units.items e.stay_units now.entries.items e.stay s.looks c.find_frames-stop.new.looks c.args.faults c.args.probe _ e.only e.lines (λ answered. e.ready (oom_told _ answered)) (λ few. told_oom _ (e.memory few)) e.raised)
+    rw (c.waiting_number.ensures.gives, sym c.self.view_is) (after_frames s.dwarf.value s.units.dw_units.items s.units.units.items s.units.entries.items s.units.ranges s.sup_units c.self.invariant now.units.items e.stay_units now.entries.items e.stay s.looks c.find_frames-stop.new.looks c.args.faults c.args.probe c.deref.result.now (sym c.deref.ensures) _ e.only e.lines (λ answered. e.ready (oom_told _ answered)) (λ few. told_oom _ (e.memory few)) e.raised)

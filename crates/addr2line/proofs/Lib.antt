@@ -1,3 +1,5 @@
 pub mod ContextLemmas
 pub mod NewContextLemmas
 pub mod LookupLemmas
+pub mod AnsweredLemmas
+pub mod AfterLemmas

@@ -1,16 +1,28 @@
-//! Lookups of frames, which may wait for split files: as far as they read.
+//! Lookups of frames, which may wait for split files.
 
-ghost use Rattle.std.specs.Prelude.{◌≡◌, IfErr, IfOk, Ok};
+ghost use Rattle.std.specs.Prelude.{◌≡◌, ◌<◌, None, IfErr, IfOk, Ok, false, length, option_map, true};
+ghost use Rattle.std.specs.Borrow.{sem};
 ghost use Rattle.gimli_read.specs.declared.error.Error.TheVariants.{OutOfMemory};
+ghost use Rattle.gimli_read.specs.Reading.{ExactlyUnlessOom};
+ghost use Rattle.addr2line_units.specs.declared.frames_lookup.Faults.TheVariants.{End};
+ghost use Rattle.addr2line_units.specs.FramesLeft.{frames_left};
 ghost use Rattle.addr2line_units.specs.FramesLookup.{Waits};
 ghost use Rattle.addr2line_units.specs.KeptViews.{seen_load};
+ghost use Rattle.addr2line_units.specs.Suspended.{IfLoad, IfOutput, SkipsTo};
+ghost use Rattle.addr2line.specs.Answers.{AfterResume, SuspendsAgain, answered};
+ghost use Rattle.addr2line.specs.Borrowed.{RestsAs};
 ghost use Rattle.addr2line.specs.KeptStops.{waiting_in};
-ghost use Rattle.addr2line.specs.Lookups.{AfterFrames, IsKnown, IsLoadOf, lookup_stop, waiting_unit};
+ghost use Rattle.addr2line.specs.Lookups.{AfterFrames, IsKnown, IsLoadOf, Suspends, frames_of, loads_of, lookup_stop, waiting_unit, waits_for, with_none};
 
 use crate::context::Context;
+use crate::continuation::{FramesLookup, FramesLookupWith};
+use addr2line_units::continuation::{LookupContinuation, LookupResult};
 use addr2line_units::frames_lookup::{Faults, FramesStop};
 use addr2line_units::view::SplitDwarfLoad;
+use addr2line_units::FrameIter;
+use gimli::Dwarf;
 use gimli::read::{Error, Reader};
+use std::rc::Rc;
 
 // The unit that a lookup waits for, as far as it found memory.
 fn waiting_number(stop: Result<FramesStop, Error>) -> Result<Option<usize>, Error>
@@ -62,5 +74,184 @@ impl<R: Reader> Context<R> {
         ensures refused { IfErr result (λ e. e ≡ OutOfMemory) }
     {
         self.units.load(&self.dwarf, number)
+    }
+}
+
+// The end of a lookup of frames, which has none where it waits.
+fn end<R: Reader>(ctx: &mut Context<R>, probe: u64) -> LookupResult<FramesLookup<'_, R>>
+    ensures* ends { sem 𝓛 (RestsAs (λ c. c.ctx.ghost_name) R.row R.Reader ctx.entry result
+        (λ o n. AfterFrames End probe o ctx.old n)) }
+    ensures load { IfLoad result (λ c. ⊥) }
+    ensures output { IfOutput result (λ o. ExactlyUnlessOom frames_left o
+        (frames_of ctx.old.sections ctx.old.answers probe)) }
+{
+    let stop = ctx.units.find_frames(
+        ctx.alloc,
+        &ctx.dwarf,
+        &ctx.sup_units,
+        &mut ctx.looks,
+        probe,
+        Faults::End,
+    );
+    match stop {
+        Ok(stop) => LookupResult::Output(Ok(ctx.units.stop_frames(stop))),
+        Err(error) => LookupResult::Output(Err(error)),
+    }
+}
+
+// A lookup of frames from its beginning, by what is kept.
+fn go<R: Reader>(ctx: &mut Context<R>, probe: u64) -> LookupResult<FramesLookup<'_, R>>
+    ensures* ends { sem 𝓛 (RestsAs (λ c. c.ctx.ghost_name) R.row R.Reader ctx.entry result
+        (λ o n. AfterFrames End probe o ctx.old n)) }
+    ensures load { IfLoad result (λ c. (c.ctx.ghost_name ≡ ctx.entry.ghost_name)
+        × (c.probe ≡ probe)
+        × Suspends End probe c.number (seen_load R.section c.load) ctx.old c.ctx.now) }
+    ensures output { IfOutput result (λ o. ExactlyUnlessOom frames_left o
+        (frames_of ctx.old.sections ctx.old.answers probe)) }
+{
+    match ctx.waiting_unit(probe, Faults::End) {
+        Ok(Some(number)) => match ctx.load_of(probe, Faults::End, number) {
+            Ok(load) => LookupResult::Load {
+                continuation: FramesLookupWith {
+                    ctx,
+                    probe,
+                    number,
+                    load,
+                },
+            },
+            Err(error) => LookupResult::Output(Err(error)),
+        },
+        Ok(None) => end(ctx, probe),
+        Err(error) => LookupResult::Output(Err(error)),
+    }
+}
+
+// The rest of a lookup of frames after an answer to the load that it waited for.
+fn go_on<R: Reader>(
+    ctx: &mut Context<R>,
+    probe: u64,
+    number: usize,
+    input: Option<Rc<Dwarf<R>>>,
+) -> LookupResult<FramesLookup<'_, R>>
+    requires stands { waits_for number (lookup_stop End ctx.old.sections ctx.old.answers probe)
+        ≡ true }
+    ensures* ends { sem 𝓛 (RestsAs (λ c. c.ctx.ghost_name) R.row R.Reader ctx.entry result
+        (λ o n. AfterResume End probe number (option_map (λ d. d.value) input) o ctx.old n)) }
+    ensures load { IfLoad result (λ c. (c.ctx.ghost_name ≡ ctx.entry.ghost_name)
+        × (c.probe ≡ probe) × SuspendsAgain End probe number (option_map (λ d. d.value) input)
+        c.number (seen_load R.section c.load) ctx.old c.ctx.now) }
+    ensures fewer { IfLoad result (λ c.
+        length (loads_of c.ctx.now.sections c.ctx.now.answers c.probe)
+        < length (loads_of ctx.old.sections ctx.old.answers probe)) }
+    ensures output { IfOutput result (λ o. ExactlyUnlessOom frames_left o
+        (frames_of ctx.old.sections (answered ctx.old.sections ctx.old.answers number
+        (option_map (λ d. d.value) input)) probe)) }
+{
+    match ctx.answer(number, input) {
+        Ok(()) => go(ctx, probe),
+        Err(error) => LookupResult::Output(Err(error)),
+    }
+}
+
+impl<'ctx, R: Reader> LookupContinuation for FramesLookup<'ctx, R> {
+    type Output = Result<FrameIter<'ctx, R>, Error>;
+    type Buf = R;
+
+    ghost left = { λ c. length (loads_of c.ctx.now.sections c.ctx.now.answers c.probe) };
+
+    ghost skips_to = { λ c o. ExactlyUnlessOom frames_left o
+        (frames_of c.ctx.now.sections (with_none c.ctx.now.answers) c.probe) };
+
+    fn load(&self) -> &SplitDwarfLoad<R>
+        ensures gives { result.now ≡ self.now.load }
+    {
+        &self.load
+    }
+
+    fn resume(self, input: Option<Rc<Dwarf<R>>>) -> LookupResult<Self>
+        ensures* ends { sem 𝓛 (RestsAs (λ c. c.ctx.ghost_name) R.row R.Reader
+            self.entry.ctx result (λ o n. AfterResume End self.entry.probe self.entry.number
+            (option_map (λ d. d.value) input) o self.entry.ctx.now n)) }
+        ensures load { IfLoad result (λ c. (c.ctx.ghost_name ≡ self.entry.ctx.ghost_name)
+            × (c.probe ≡ self.entry.probe) × SuspendsAgain End self.entry.probe self.entry.number
+            (option_map (λ d. d.value) input) c.number (seen_load R.section c.load)
+            self.entry.ctx.now c.ctx.now) }
+        ensures fewer { IfLoad result (λ c.
+            length (loads_of c.ctx.now.sections c.ctx.now.answers c.probe)
+            < length (loads_of self.entry.ctx.now.sections self.entry.ctx.now.answers
+            self.entry.probe)) }
+        ensures output { IfOutput result (λ o. ExactlyUnlessOom frames_left o
+            (frames_of self.entry.ctx.now.sections (answered self.entry.ctx.now.sections
+            self.entry.ctx.now.answers self.entry.number (option_map (λ d. d.value) input))
+            self.entry.probe)) }
+        ensures skips { input ≡ None → (o : _)
+            → SkipsTo (λ c p. ExactlyUnlessOom frames_left p
+            (frames_of c.ctx.now.sections (with_none c.ctx.now.answers) c.probe)) result o
+            → ExactlyUnlessOom frames_left o (frames_of self.entry.ctx.now.sections
+            (with_none self.entry.ctx.now.answers) self.entry.probe) }
+    {
+        let FramesLookupWith {
+            ctx,
+            probe,
+            number,
+            load: _,
+        } = self;
+        go_on(ctx, probe, number, input)
+    }
+}
+
+impl<'ctx, R: Reader, B: Drop> FramesLookupWith<'ctx, R, B> {
+    /// Ends the lookup: the unit that it waits for stays open. Takes no memory.
+    pub fn abandon(self)
+        ensures kept { self.exit.0.now ≡ self.entry.ctx.now }
+    {
+        let FramesLookupWith {
+            ctx: _,
+            probe: _,
+            number: _,
+            load: _,
+        } = self;
+    }
+
+    /// Ends the lookup, and gives its load. Takes no memory.
+    pub fn into_load(self) -> B
+        ensures kept { self.exit.0.now ≡ self.entry.ctx.now }
+        ensures load { result ≡ self.entry.load }
+    {
+        let FramesLookupWith {
+            ctx: _,
+            probe: _,
+            number: _,
+            load,
+        } = self;
+        load
+    }
+}
+
+impl<R: Reader> Context<R> {
+    /// The frames at an address, from the innermost inlined function out: of the first unit among
+    /// those that cover it that has a function or a location there; none where no unit has.
+    ///
+    /// `probe` is an address as the file has it. Units are asked in the order of `find_location`.
+    /// The lookup waits for an answer where it comes to a unit whose entries stand in a split file
+    /// and that has no answer yet. What it reads of a unit, views, functions, details and lines,
+    /// is kept, faults too, and nothing is read of units that it doesn't ask.
+    ///
+    /// Refused by the first fault of the view, the functions, the detail or the lines of a unit
+    /// that it asks; may fail with `OutOfMemory` instead, which is never kept. An output takes no
+    /// memory where all that it asks for is kept and at most 16 inlined functions stand there.
+    ///
+    /// Source: DWARF 5, sections 2.17, 3.3, 3.1.2 and 7.3.2. Own: which unit counts, and what a
+    /// lookup waits for.
+    pub fn find_frames(&mut self, probe: u64) -> LookupResult<FramesLookup<'_, R>>
+        ensures* ends { sem 𝓛 (RestsAs (λ c. c.ctx.ghost_name) R.row R.Reader self.entry
+            result (λ o n. AfterFrames End probe o self.old n)) }
+        ensures load { IfLoad result (λ c. (c.ctx.ghost_name ≡ self.entry.ghost_name)
+            × (c.probe ≡ probe)
+            × Suspends End probe c.number (seen_load R.section c.load) self.old c.ctx.now) }
+        ensures output { IfOutput result (λ o. ExactlyUnlessOom frames_left o
+            (frames_of self.old.sections self.old.answers probe)) }
+    {
+        go(self, probe)
     }
 }

@@ -1,7 +1,9 @@
 //! From addresses to files and lines, by the DWARF sections of a file.
 #![tactic(auto)]
 
+mod answers;
 mod context;
+mod continuation;
 mod frames;
 
 pub use crate::context::Context;

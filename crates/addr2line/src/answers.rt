@@ -1,0 +1,31 @@
+//! Answers to the loads of units.
+
+ghost use Rattle.std.specs.Prelude.{◌≡◌, ◌<◌, ℕ, OnOk, length, option_map, true};
+ghost use Rattle.addr2line_units.specs.declared.frames_lookup.Faults.TheVariants.{End};
+ghost use Rattle.addr2line.specs.Answers.{AfterAnswer};
+ghost use Rattle.addr2line.specs.Lookups.{IsUnitOf, loads_of, lookup_stop, waits_for};
+
+use crate::context::Context;
+use gimli::read::{Error, Reader};
+use gimli::Dwarf;
+use std::rc::Rc;
+
+impl<R: Reader> Context<R> {
+    // Answers the load of the unit of a number. Refused `OutOfMemory` alone.
+    pub(crate) fn answer(
+        &mut self,
+        number: usize,
+        sections: Option<Rc<Dwarf<R>>>,
+    ) -> Result<(), Error>
+        requires there { IsUnitOf self.old.sections number }
+        ensures after { AfterAnswer number (option_map (λ d. d.value) sections) result self.old
+            self.new }
+        ensures fewer { (probe : ℕ) → waits_for number (lookup_stop End self.old.sections
+            self.old.answers probe) ≡ true → OnOk result
+            (length (loads_of self.new.sections self.new.answers probe)
+            < length (loads_of self.old.sections self.old.answers probe)) }
+    {
+        self.units
+            .answer(self.alloc, &self.dwarf, &self.sup_units, number, sections)
+    }
+}

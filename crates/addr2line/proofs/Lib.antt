@@ -3,3 +3,4 @@ pub mod NewContextLemmas
 pub mod LookupLemmas
 pub mod AnsweredLemmas
 pub mod AfterLemmas
+pub mod SkipLemmas

@@ -17,7 +17,7 @@ use Rattle.addr2line_units.specs.declared.unit_frames.UnitEntries.{UnitEntries}
 use Rattle.addr2line_units.specs.CachedLines.{HaveLinesOf, StayUnits, indexed_units, parsed_units}
 use Rattle.addr2line_units.specs.Cover.{cover}
 use Rattle.addr2line_units.specs.Frames.{FrameRecord}
-use Rattle.addr2line_units.specs.FramesLookup.{LookupAsks, Stop, Waits, asked_frames, asks_lines_of, ends_lookup, frames_found, has_many_of, holds_along, is_waiting, main_scope, stop_along}
+use Rattle.addr2line_units.specs.FramesLookup.{LookupAsks, Stop, Waits, Finds, FindsNothing, asked_frames, asks_lines_of, ends_lookup, frames_found, has_many_of, holds_along, is_waiting, main_scope, stop_along}
 use Rattle.addr2line_units.specs.KeptLookups.{HaveEntriesOf, HaveViewsOf, ReadsOnly, StayAllEntries, answers_in, has_frames_at, scope_in, seen_stop, waits_at}
 use Rattle.addr2line_units.specs.KnownEntries.{known_in, knows_at}
 use Rattle.addr2line_units.specs.Parsed.{IsNotOom, ParsesOnly, has_parsed}
@@ -31,7 +31,7 @@ use Rattle.addr2line_units.proofs.WaitLemmas.{as_many_views, views_of_entries, w
 use Rattle.addr2line.proofs.NewContextLemmas.{ok_is}
 use Rattle.addr2line.specs.Context.{ContextState, IsContext, index_by}
 use Rattle.addr2line.specs.KeptStops.{waiting_after_fault, waiting_in}
-use Rattle.addr2line.specs.Lookups.{AfterFrames, IsKnown, IsKnownFew, IsLoadOf, has_all_of, has_few_of, lookup_stop, stop_in, waiting_unit}
+use Rattle.addr2line.specs.Lookups.{AfterFrames, IsKnown, IsKnownFew, IsLoadOf, frames_told, has_all_of, has_few_of, lookup_stop, stop_in, waiting_unit}
 
 -- along ranges what is equal of each number
 pub holds_same : (h k : ℕ → Bool) (frames : ℕ → Result (Option (List FrameRecord)) Error) (ranges : List UnitRange) → ((n : ℕ) → h n ≡ k n) → holds_along h frames ranges ≡ holds_along k frames ranges
@@ -215,10 +215,16 @@ module _ {R : Type 0} (units : List ResUnit) (views : List (UnitEntries R)) wher
       by OutOfMemory k = tt
       by _ k = ap waiting_unit (sym (k (λ q. absurd cc)))
 
-  -- the frames that a lookup has found
-  pub told_frames : (stop : FramesStop) (given : Result Stop Error) (frames : List FrameRecord) → given ≡ Ok (seen_stop units views stop) → frames ≡ frames_found (seen_stop units views stop)
-      → (given >>= λ s. Ok (frames_found s)) ≡ Ok frames
-  told_frames stop given frames h f = ap (λ r. r >>= λ s. Ok (frames_found s)) h ∙ ap (λ fs. Ok fs) (sym f)
+  -- the frames of a lookup that has ended
+  pub told_frames : (stop : FramesStop) (given : Result Stop Error) (frames : List FrameRecord) → is_waiting given ≡ false → given ≡ Ok (seen_stop units views stop) → frames ≡ frames_found (seen_stop units views stop)
+      → (given >>= λ s. Ok (frames_told s)) ≡ Ok (Some frames)
+  told_frames stop given frames ended h f =
+      ap (λ r. r >>= λ s. Ok (frames_told s)) h ∙ by (seen_stop units views stop) (sym (ap is_waiting h) ∙ ended) ∙ ap (λ fs. Ok (Some fs)) (sym f)
+    where
+      by : (s : Stop) → is_waiting (Ok s) ≡ false → ◌≡◌ {A = Result (Option (List FrameRecord)) Error} (Ok (frames_told s)) (Ok (Some (frames_found s)))
+      by (Waits n) k = absurd cc
+      by (Finds n frames) k = refl
+      by FindsNothing k = refl
 
 -- it is refused for want of memory where the lookup is
 pub oom_told : (r : Result FramesStop Error) → IsNotOom (waiting_in r) → IsNotOom r

@@ -11,7 +11,7 @@ use Rattle.addr2line_units.specs.declared.frames_lookup.Faults.{Faults}
 use Rattle.addr2line_units.specs.declared.frames_lookup.Faults.TheVariants.{End, PassOver}
 use Rattle.addr2line_units.specs.Cover.{cover}
 use Rattle.addr2line_units.specs.Frames.{FrameRecord}
-use Rattle.addr2line_units.specs.FramesLookup.{Stop, Waits, Finds, FindsNothing, LookupAsks, asked_frames, asks_lines_of, frames_found, has_many_of, holds_along, is_waiting, main_scope, readable_view, stop_along, view_of_number}
+use Rattle.addr2line_units.specs.FramesLookup.{Stop, Waits, Finds, FindsNothing, LookupAsks, asked_frames, asks_lines_of, has_many_of, holds_along, is_waiting, main_scope, readable_view, stop_along, view_of_number}
 use Rattle.addr2line_units.specs.KeptViews.{parts_of}
 use Rattle.addr2line_units.specs.KnownEntries.{KnownEntries, knows_at}
 use Rattle.addr2line_units.specs.Loads.{load_of_number, loads_along}
@@ -39,9 +39,15 @@ stop_in faults d answers probe m =
 abbrev pub lookup_stop : Faults → Sections → FirstAnswers → ℕ → Result Stop Error
 lookup_stop faults d answers probe = index_units d >>= stop_in faults d answers probe
 
--- the frames at the probe of a lookup that has ended, or its first fault
-abbrev pub frames_of : Sections → FirstAnswers → ℕ → Result (List FrameRecord) Error
-frames_of d answers probe = lookup_stop End d answers probe >>= λ s. Ok (frames_found s)
+-- the frames of a lookup that has ended, none where it waits
+abbrev pub frames_told : Stop → Option (List FrameRecord)
+frames_told (Waits n) = None
+frames_told (Finds n frames) = Some frames
+frames_told FindsNothing = Some []
+
+-- the frames at the probe, none where the lookup waits for an answer, or its first fault
+abbrev pub frames_of : Sections → FirstAnswers → ℕ → Result (Option (List FrameRecord)) Error
+frames_of d answers probe = lookup_stop End d answers probe >>= λ s. Ok (frames_told s)
 
 -- the sections and the unit of the view that a lookup has found
 abbrev pub unit_found : Sections → FirstAnswers → UnitIndex → Stop

@@ -1,12 +1,12 @@
 //! Lookups of frames, which may wait for split files.
 
-ghost use Rattle.std.specs.Prelude.{◌≡◌, ◌<◌, None, IfErr, IfOk, Ok, false, length, option_map, true};
+ghost use Rattle.std.specs.Prelude.{◌≡◌, ◌<◌, None, Some, IfErr, IfOk, Ok, false, length, option_map, true};
 ghost use Rattle.std.specs.Borrow.{sem};
 ghost use Rattle.gimli_read.specs.declared.error.Error.TheVariants.{OutOfMemory};
 ghost use Rattle.gimli_read.specs.Reading.{ExactlyUnlessOom};
 ghost use Rattle.addr2line_units.specs.declared.frames_lookup.Faults.TheVariants.{End};
 ghost use Rattle.addr2line_units.specs.FramesLeft.{frames_left};
-ghost use Rattle.addr2line_units.specs.FramesLookup.{Waits};
+ghost use Rattle.addr2line_units.specs.FramesLookup.{Waits, is_waiting};
 ghost use Rattle.addr2line_units.specs.KeptViews.{seen_load};
 ghost use Rattle.addr2line_units.specs.Suspended.{IfLoad, IfOutput, SkipsTo};
 ghost use Rattle.addr2line.specs.Answers.{AfterResume, SuspendsAgain, answered};
@@ -77,12 +77,14 @@ impl<R: Reader> Context<R> {
     }
 }
 
-// The end of a lookup of frames, which has none where it waits.
+// The end of a lookup of frames that doesn't wait.
 fn end<R: Reader>(ctx: &mut Context<R>, probe: u64) -> LookupResult<FramesLookup<'_, R>>
+    requires ended { is_waiting (lookup_stop End ctx.old.sections ctx.old.answers probe)
+        ≡ false }
     ensures* ends { sem 𝓛 (RestsAs (λ c. c.ctx.ghost_name) R.row R.Reader ctx.entry result
         (λ o n. AfterFrames End probe o ctx.old n)) }
     ensures load { IfLoad result (λ c. ⊥) }
-    ensures output { IfOutput result (λ o. ExactlyUnlessOom frames_left o
+    ensures output { IfOutput result (λ o. ExactlyUnlessOom (λ i. Some (frames_left i)) o
         (frames_of ctx.old.sections ctx.old.answers probe)) }
 {
     let stop = ctx.units.find_frames(
@@ -106,7 +108,7 @@ fn go<R: Reader>(ctx: &mut Context<R>, probe: u64) -> LookupResult<FramesLookup<
     ensures load { IfLoad result (λ c. (c.ctx.ghost_name ≡ ctx.entry.ghost_name)
         × (c.probe ≡ probe)
         × Suspends End probe c.number (seen_load R.section c.load) ctx.old c.ctx.now) }
-    ensures output { IfOutput result (λ o. ExactlyUnlessOom frames_left o
+    ensures output { IfOutput result (λ o. ExactlyUnlessOom (λ i. Some (frames_left i)) o
         (frames_of ctx.old.sections ctx.old.answers probe)) }
 {
     match ctx.waiting_unit(probe, Faults::End) {
@@ -143,7 +145,7 @@ fn go_on<R: Reader>(
     ensures fewer { IfLoad result (λ c.
         length (loads_of c.ctx.now.sections c.ctx.now.answers c.probe)
         < length (loads_of ctx.old.sections ctx.old.answers probe)) }
-    ensures output { IfOutput result (λ o. ExactlyUnlessOom frames_left o
+    ensures output { IfOutput result (λ o. ExactlyUnlessOom (λ i. Some (frames_left i)) o
         (frames_of ctx.old.sections (answered ctx.old.sections ctx.old.answers number
         (option_map (λ d. d.value) input)) probe)) }
 {
@@ -159,7 +161,7 @@ impl<'ctx, R: Reader> LookupContinuation for FramesLookup<'ctx, R> {
 
     ghost left = { λ c. length (loads_of c.ctx.now.sections c.ctx.now.answers c.probe) };
 
-    ghost skips_to = { λ c o. ExactlyUnlessOom frames_left o
+    ghost skips_to = { λ c o. ExactlyUnlessOom (λ i. Some (frames_left i)) o
         (frames_of c.ctx.now.sections (with_none c.ctx.now.answers) c.probe) };
 
     fn load(&self) -> &SplitDwarfLoad<R>
@@ -180,14 +182,14 @@ impl<'ctx, R: Reader> LookupContinuation for FramesLookup<'ctx, R> {
             length (loads_of c.ctx.now.sections c.ctx.now.answers c.probe)
             < length (loads_of self.entry.ctx.now.sections self.entry.ctx.now.answers
             self.entry.probe)) }
-        ensures output { IfOutput result (λ o. ExactlyUnlessOom frames_left o
+        ensures output { IfOutput result (λ o. ExactlyUnlessOom (λ i. Some (frames_left i)) o
             (frames_of self.entry.ctx.now.sections (answered self.entry.ctx.now.sections
             self.entry.ctx.now.answers self.entry.number (option_map (λ d. d.value) input))
             self.entry.probe)) }
         ensures skips { input ≡ None → (o : _)
-            → SkipsTo (λ c p. ExactlyUnlessOom frames_left p
+            → SkipsTo (λ c p. ExactlyUnlessOom (λ i. Some (frames_left i)) p
             (frames_of c.ctx.now.sections (with_none c.ctx.now.answers) c.probe)) result o
-            → ExactlyUnlessOom frames_left o (frames_of self.entry.ctx.now.sections
+            → ExactlyUnlessOom (λ i. Some (frames_left i)) o (frames_of self.entry.ctx.now.sections
             (with_none self.entry.ctx.now.answers) self.entry.probe) }
     {
         let FramesLookupWith {
@@ -249,7 +251,7 @@ impl<R: Reader> Context<R> {
         ensures load { IfLoad result (λ c. (c.ctx.ghost_name ≡ self.entry.ghost_name)
             × (c.probe ≡ probe)
             × Suspends End probe c.number (seen_load R.section c.load) self.old c.ctx.now) }
-        ensures output { IfOutput result (λ o. ExactlyUnlessOom frames_left o
+        ensures output { IfOutput result (λ o. ExactlyUnlessOom (λ i. Some (frames_left i)) o
             (frames_of self.old.sections self.old.answers probe)) }
     {
         go(self, probe)

@@ -1,0 +1,160 @@
+-- A lookup that doesn't wait, where each unit that has no answer is answered none (on
+-- specs/Lookups.antt).
+use Rattle.std.proofs.Common.{◌≡◌, ◌≢◌, ℕ, zero, suc, get_or, Bool, true, false, List, [], ◌∷◌, map, slice_get, Option, Some, None, option_map, unwrap_or, Result, Ok, Err, refl, sym, ap, subst, ◌∙◌, if◌then◌else◌}
+use Rattle.std.proofs.Math.ListN.{set}
+use Rattle.std.proofs.Math.Seq.{map-set_same}
+use Rattle.std.proofs.lemmas.Option.{slice_get-map}
+use Rattle.std.specs.Prelude.{is_none}
+use Rattle.gimli_read.specs.declared.error.Error.{Error}
+use Rattle.gimli_read.specs.declared.error.Error.TheVariants.{OutOfMemory}
+use Rattle.gimli_read.specs.Reading.{◌>>=◌, ExactlyUnlessOom}
+use Rattle.gimli.specs.Sections.{Sections}
+use Rattle.gimli.specs.Unit.{UnitRecord}
+use Rattle.addr2line_lines.specs.References.{Scope}
+use Rattle.addr2line_units.specs.declared.continuation.LookupResult.{LookupResult}
+use Rattle.addr2line_units.specs.declared.continuation.LookupResult.TheVariants.{Load, Output}
+use Rattle.addr2line_units.specs.declared.frames_lookup.Faults.{Faults}
+use Rattle.addr2line_units.specs.declared.frames_lookup.Faults.TheVariants.{End, PassOver}
+use Rattle.addr2line_units.specs.declared.index.UnitRange.{UnitRange}
+use Rattle.addr2line_units.specs.Cover.{cover}
+use Rattle.addr2line_units.specs.Frames.{FrameRecord}
+use Rattle.addr2line_units.specs.FramesLookup.{Stop, Waits, Finds, FindsNothing, after_fault, answer_of, asked_frames, frames_of_number, is_waiting, main_scope, or_stop, stop_along, with_answer}
+use Rattle.addr2line_units.specs.Suspended.{IfLoad, IfOutput, SkipsTo}
+use Rattle.addr2line_units.specs.UnitFrames.{frames_by, frames_in, function_by}
+use Rattle.addr2line_units.specs.UnitIndex.{IndexedUnit, UnitIndex, index_units, unit_records}
+use Rattle.addr2line_units.specs.Views.{SplitLoad, View, decided_answer, is_open, load_of_unit, verdict, verdict_by}
+use Rattle.addr2line.specs.Answers.{answered}
+use Rattle.addr2line.specs.Lookups.{FirstAnswers, frames_of, frames_told, lookup_stop, stop_in, with_none}
+
+abbrev Reading : Type 0
+Reading = Result (Option (List FrameRecord)) Error
+
+-- a unit that is decided has its verdict where none is answered to the others
+settled_by : (d : Sections) (u : UnitRecord) (l : Result (Option SplitLoad) Error) (a : Option (Option Sections)) (v : Result View Error) → verdict_by d u l a ≡ Some v → verdict_by d u l (Some (unwrap_or a None)) ≡ Some v
+settled_by d u l (Some x) v e = e
+settled_by d u (Err f) None v e = e
+settled_by d u (Ok None) None v e = e
+settled_by d u (Ok (Some load)) None v e = absurd cc
+
+settled_unit : (scope : Scope) (probe : ℕ) (u : IndexedUnit) (a : Option (Option Sections)) → frames_in scope u a probe ≢ Ok None → frames_in scope u (Some (unwrap_or a None)) probe ≡ frames_in scope u a probe
+unfolding frames_in
+settled_unit scope probe u a ne = by (verdict scope.file.sections u.unit a) refl
+  where
+    frames_at : Option (Result View Error) → Reading
+    frames_at w = if is_none w then Ok None else (frames_by scope u probe (function_by scope probe w) >>= λ frames. Ok (Some frames))
+
+    by : (w : Option (Result View Error)) → verdict scope.file.sections u.unit a ≡ w → frames_at (verdict scope.file.sections u.unit (Some (unwrap_or a None))) ≡ frames_at (verdict scope.file.sections u.unit a)
+    by None e = absurd (ne (ap frames_at e))
+    by (Some v) e = ap frames_at (settled_by scope.file.sections u.unit (load_of_unit scope.file.sections 0 u.unit) a v e ∙ sym e)
+
+settled_number : (scope : Scope) (units : List IndexedUnit) (answers : FirstAnswers) (probe n : ℕ) → frames_of_number scope units answers probe n ≢ Ok None
+    → frames_of_number scope units (with_none answers) probe n ≡ frames_of_number scope units answers probe n
+settled_number scope units answers probe n ne = of_unit (slice_get units n) ne
+  where
+    frames_at : Option IndexedUnit → Option (Option Sections) → Reading
+    frames_at o a = elim o [ None ↦ Ok (Some []) | Some u ↦ frames_in scope u a probe ]
+
+    of_answer : (u : IndexedUnit) (o : Option (Option (Option Sections))) → frames_in scope u (unwrap_or o None) probe ≢ Ok None
+        → frames_in scope u (unwrap_or (option_map (λ a. Some (unwrap_or a None)) o) None) probe ≡ frames_in scope u (unwrap_or o None) probe
+    of_answer u None h = refl
+    of_answer u (Some a) h = settled_unit scope probe u a h
+
+    of_unit : (o : Option IndexedUnit) → frames_at o (answer_of answers n) ≢ Ok None → frames_at o (answer_of (with_none answers) n) ≡ frames_at o (answer_of answers n)
+    of_unit None h = refl
+    of_unit (Some u) h =
+        ap (λ o. frames_in scope u (unwrap_or o None) probe) (slice_get-map (λ (a : Option (Option Sections)). Some (unwrap_or a None)) answers n)
+        ∙ of_answer u (slice_get answers n) h
+
+settled_asked : (faults : Faults) (scope : Scope) (units : List IndexedUnit) (answers : FirstAnswers) (probe n : ℕ) → asked_frames faults scope units answers probe n ≢ Ok None
+    → asked_frames faults scope units (with_none answers) probe n ≡ asked_frames faults scope units answers probe n
+settled_asked faults scope units answers probe n ne =
+    ap (after_fault faults) (settled_number scope units answers probe n (λ e. ne (ap (after_fault faults) e)))
+
+-- along ranges
+settled_step : (n : ℕ) (a b : Result Stop Error) (r s : Reading) → (r ≢ Ok None → s ≡ r) → is_waiting (r >>= or_stop n a) ≡ false → (is_waiting a ≡ false → b ≡ a) → (s >>= or_stop n b) ≡ (r >>= or_stop n a)
+settled_step n a b (Err e) s same w rest = ap (λ x. x >>= or_stop n b) (same (λ q. absurd cc))
+settled_step n a b (Ok None) s same w rest = absurd cc
+settled_step n a b (Ok (Some [])) s same w rest = ap (λ x. x >>= or_stop n b) (same (λ q. absurd cc)) ∙ rest w
+settled_step n a b (Ok (Some (x ∷ xs))) s same w rest = ap (λ x. x >>= or_stop n b) (same (λ q. absurd cc))
+
+settled_along : (f h : ℕ → Reading) → ((n : ℕ) → f n ≢ Ok None → h n ≡ f n) → (ranges : List UnitRange) → is_waiting (stop_along f ranges) ≡ false → stop_along h ranges ≡ stop_along f ranges
+settled_along f h same [] w = refl
+settled_along f h same (r ∷ ranges) w = settled_step r.unit (stop_along f ranges) (stop_along h ranges) (f r.unit) (h r.unit) (same r.unit) w (settled_along f h same ranges)
+
+settled_stop : (faults : Faults) (d : Sections) (answers : FirstAnswers) (probe : ℕ) → is_waiting (lookup_stop faults d answers probe) ≡ false → lookup_stop faults d (with_none answers) probe ≡ lookup_stop faults d answers probe
+settled_stop faults d answers probe w = of_index (index_units d) w
+  where
+    of_index : (r : Result UnitIndex Error) → is_waiting (r >>= stop_in faults d answers probe) ≡ false → (r >>= stop_in faults d (with_none answers) probe) ≡ (r >>= stop_in faults d answers probe)
+    of_index (Err e) h = refl
+    of_index (Ok m) h = settled_along _ _ (settled_asked faults (main_scope d m) m.units answers probe) (cover probe m.ranges) h
+
+-- the frames of a lookup that ended
+settled_frames : (d : Sections) (answers : FirstAnswers) (probe : ℕ) → frames_of d answers probe ≢ Ok None → frames_of d (with_none answers) probe ≡ frames_of d answers probe
+settled_frames d answers probe ne = ap (λ r. r >>= λ s. Ok (frames_told s)) (settled_stop End d answers probe (ended (lookup_stop End d answers probe) ne))
+  where
+    ended : (r : Result Stop Error) → (r >>= λ s. Ok (frames_told s)) ≢ Ok None → is_waiting r ≡ false
+    ended (Err e) h = refl
+    ended (Ok (Waits n)) h = absurd (h refl)
+    ended (Ok (Finds n frames)) h = refl
+    ended (Ok FindsNothing) h = refl
+
+-- none as the answer of one more unit
+none_closed : (d : Sections) (u : UnitRecord) (a : Option (Option Sections)) → ◌≡◌ {A = Option (Option Sections)} (Some (unwrap_or (decided_answer d u a None) None)) (Some (unwrap_or a None))
+none_closed d u (Some x) = ap (λ (a : Option (Option Sections)). Some (unwrap_or a None)) (of_load (load_of_unit d 0 u))
+  where
+    of_load : (l : Result (Option SplitLoad) Error) → (if is_none (verdict_by d u l (Some x)) then Some None else Some x) ≡ Some x
+    of_load (Err e) = refl
+    of_load (Ok None) = refl
+    of_load (Ok (Some load)) = refl
+none_closed d u None = of_open (is_open d u None)
+  where
+    of_open : (b : Bool) → ◌≡◌ {A = Option (Option Sections)} (Some (unwrap_or (if b then Some None else None) None)) (Some None)
+    of_open true = refl
+    of_open false = refl
+
+none_after : (d : Sections) (answers : FirstAnswers) (n : ℕ) → with_none (answered d answers n None) ≡ with_none answers
+none_after d answers n = of_index (index_units d)
+  where
+    some_none : Option (Option Sections) → Option (Option Sections)
+    some_none a = Some (unwrap_or a None)
+
+    read_at : (xs : FirstAnswers) (k : ℕ) → unwrap_or (slice_get xs k) None ≡ get_or xs k None
+    read_at [] k = refl
+    read_at (x ∷ xs) zero = refl
+    read_at (x ∷ xs) (suc k) = read_at xs k
+
+    of_unit : (o : Option UnitRecord) → with_none (elim o [ None ↦ answers | Some u ↦ set answers n (decided_answer d u (answer_of answers n) None) ]) ≡ with_none answers
+    of_unit None = refl
+    of_unit (Some u) = map-set_same (λ (a : Option (Option Sections)). Some (unwrap_or a None)) answers n (decided_answer d u (answer_of answers n) None) None
+        (none_closed d u (answer_of answers n) ∙ ap (λ (a : Option (Option Sections)). some_none a) (read_at answers n))
+
+    of_index : (r : Result UnitIndex Error) → with_none (elim r [ Err e ↦ answers | Ok m ↦ with_answer d (unit_records m.units) answers n None ]) ≡ with_none answers
+    of_index (Err e) = refl
+    of_index (Ok m) = of_unit (slice_get (unit_records m.units) n)
+
+-- what a lookup may give after none as an answer it may give before it
+pub skip_told : {L X B : Type 0} (see : X → List FrameRecord) (d : Sections) (answers : FirstAnswers) (probe n : ℕ) (sections_of : L → Sections) (answers_of : L → FirstAnswers) (probe_of : L → ℕ) (r : LookupResult L (Result X Error) B)
+    → IfLoad r (λ c. (sections_of c ≡ d) × (answers_of c ≡ answered d answers n None) × (probe_of c ≡ probe))
+    → IfOutput r (λ o. ExactlyUnlessOom (λ x. Some (see x)) o (frames_of d (answered d answers n None) probe))
+    → (o : Result X Error) → SkipsTo (λ c p. ExactlyUnlessOom (λ x. Some (see x)) p (frames_of (sections_of c) (with_none (answers_of c)) (probe_of c))) r o
+    → ExactlyUnlessOom (λ x. Some (see x)) o (frames_of d (with_none answers) probe)
+skip_told see d answers probe n sections_of answers_of probe_of (Load c) load output o skips =
+    subst (λ a. ExactlyUnlessOom (λ x. Some (see x)) o (frames_of d a probe)) (none_after d answers n)
+    (subst (λ p. ExactlyUnlessOom (λ x. Some (see x)) o (frames_of d (with_none (answered d answers n None)) p)) load.2
+    (subst (λ a. ExactlyUnlessOom (λ x. Some (see x)) o (frames_of d (with_none a) (probe_of c))) load.1
+    (subst (λ s. ExactlyUnlessOom (λ x. Some (see x)) o (frames_of s (with_none (answers_of c)) (probe_of c))) load.0 skips)))
+skip_told {L} {X} see d answers probe n sections_of answers_of probe_of (Output p) load output o skips =
+    subst (λ q. ExactlyUnlessOom (λ x. Some (see x)) q (frames_of d (with_none answers) probe)) skips (of_output p output)
+  where
+    then_none : frames_of d (answered d answers n None) probe ≢ Ok None → frames_of d (with_none answers) probe ≡ frames_of d (answered d answers n None) probe
+    then_none ne = ap (λ a. frames_of d a probe) (sym (none_after d answers n)) ∙ settled_frames d (answered d answers n None) probe ne
+
+    of_output : (q : Result X Error) → ExactlyUnlessOom (λ x. Some (see x)) q (frames_of d (answered d answers n None) probe) → ExactlyUnlessOom (λ x. Some (see x)) q (frames_of d (with_none answers) probe)
+    of_output (Ok x) h = then_none (λ e. ok_none (sym h ∙ e)) ∙ h
+      where
+        ok_none : ◌≡◌ {A = Result (Option (List FrameRecord)) Error} (Ok (Some (see x))) (Ok None) → ⊥
+        ok_none k = cc
+    of_output (Err f) h = λ ne. then_none (λ e. err_none (sym (h ne) ∙ e)) ∙ h ne
+      where
+        err_none : ◌≡◌ {A = Result (Option (List FrameRecord)) Error} (Err f) (Ok None) → ⊥
+        err_none k = cc

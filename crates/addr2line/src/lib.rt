@@ -7,7 +7,11 @@ mod continuation;
 mod frames;
 
 pub use crate::context::Context;
+pub use crate::continuation::FramesLookup;
 pub use addr2line_lines::Location;
+pub use addr2line_units::continuation::{LookupContinuation, LookupResult};
 pub use addr2line_units::frame::{demangle, demangle_auto};
 pub use addr2line_units::range::LocationRangeIter;
+pub use addr2line_units::view::{SplitDwarfLoad, UnitToken};
+pub use addr2line_units::{Frame, FrameIter, FunctionName};
 pub use gimli;

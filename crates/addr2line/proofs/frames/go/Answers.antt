@@ -1,4 +1,4 @@
-use Rattle.std.proofs.Common.{refl}
+use Rattle.std.proofs.Common.{refl, rules}
 use Rattle.addr2line_units.specs.declared.frames_lookup.Faults.TheVariants.{End}
 use Rattle.addr2line_units.specs.FramesLeft.{frames_left}
 use Rattle.addr2line.proofs.AfterLemmas.{ended_told, never_loads, outputs_after, outputs_same}

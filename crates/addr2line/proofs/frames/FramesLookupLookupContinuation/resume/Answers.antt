@@ -1,12 +1,18 @@
-use Rattle.std.proofs.Common.{◌≡◌, None, option_map, refl, subst, sym, ◌∙◌, rules}
+use Rattle.std.proofs.Common.{◌≡◌, None, Some, ap, option_map, refl, subst, ◌∙◌}
+use Rattle.gimli_read.specs.Reading.{ExactlyUnlessOom}
 use Rattle.addr2line_units.specs.FramesLeft.{frames_left}
+use Rattle.addr2line_units.specs.Suspended.{IfOutput}
 use Rattle.addr2line.proofs.AfterLemmas.{if_load}
 use Rattle.addr2line.proofs.SkipLemmas.{skip_told}
+use Rattle.addr2line.specs.Answers.{answered}
+use Rattle.addr2line.specs.Lookups.{frames_of}
 use Rattle.addr2line.proofs.frames.FramesLookupLookupContinuation.resume.Goals as goal
 
 pub returns : goal.returns
 returns g c =
     let l = c.args.self in
+    let d = l.ctx.now.sections in
+    let answers = l.ctx.now.answers in
     let f = c.go_on.follows in
     (
       (refl, f.holds, f.holds-at-none),
@@ -15,6 +21,10 @@ returns g c =
         load = c.go_on.ensures.load;
         fewer = c.go_on.ensures.fewer;
         output = c.go_on.ensures.output;
-        skips = ?;
+        skips = λ none.
+            let given = ap (λ o. option_map (λ x. x.value) o) none in
+            skip_told frames_left d answers l.probe l.number (λ x. x.ctx.now.sections) (λ x. x.ctx.now.answers) (λ x. x.probe) c.go_on.result
+            (if_load _ _ c.go_on.result (λ x h. (h.2.2.after.sections ∙ h.2.1.sections, h.2.2.after.answers ∙ h.2.1.answers ∙ ap (answered d answers l.number) given, h.1)) c.go_on.ensures.load)
+            (subst (λ x. IfOutput c.go_on.result (λ o. ExactlyUnlessOom (λ i. Some (frames_left i)) o (frames_of d (answered d answers l.number x) l.probe))) given c.go_on.ensures.output);
       },
     )

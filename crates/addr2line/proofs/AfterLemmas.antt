@@ -49,24 +49,24 @@ module _ (faults : Faults) (probe : ℕ) (old mid new : ContextState) where
       learns = subst (λ x. LearnsBy x old.answers) a.sections (subst (λ x. LearnsBy mid.sections x) a.answers b.learns)
 
   -- the same of an output
-  pub outputs_after : {L X Y B : Type 0} (r : Result X Error) (result : LookupResult L (Result Y Error) B) → AfterFrames faults probe r old mid → IfOutput result (λ o. AfterFrames faults probe o mid new) → IfOutput result (λ o. AfterFrames faults probe o old new)
+  pub outputs_after : {L X Y D S : Type 0} (r : Result X Error) (result : LookupResult L (Result Y Error) D S) → AfterFrames faults probe r old mid → IfOutput result (λ o. AfterFrames faults probe o mid new) → IfOutput result (λ o. AfterFrames faults probe o old new)
   outputs_after r (Load c) a b = tt
   outputs_after r (Output o) a b = both_after r o a b
 
 -- a lookup that has ended gives the same in a context with the same sections and first answers
-pub outputs_same : {L X B : Type 0} (see : X → List FrameRecord) (probe : ℕ) (old mid : ContextState) (result : LookupResult L (Result X Error) B) → mid.sections ≡ old.sections → mid.answers ≡ old.answers
+pub outputs_same : {L X D S : Type 0} (see : X → List FrameRecord) (probe : ℕ) (old mid : ContextState) (result : LookupResult L (Result X Error) D S) → mid.sections ≡ old.sections → mid.answers ≡ old.answers
     → IfOutput result (λ o. ExactlyUnlessOom (λ x. Some (see x)) o (frames_of mid.sections mid.answers probe)) → IfOutput result (λ o. ExactlyUnlessOom (λ x. Some (see x)) o (frames_of old.sections old.answers probe))
 outputs_same see probe old mid result s a h =
     subst (λ x. IfOutput result (λ o. ExactlyUnlessOom (λ x. Some (see x)) o (frames_of x old.answers probe))) s
     (subst (λ x. IfOutput result (λ o. ExactlyUnlessOom (λ x. Some (see x)) o (frames_of mid.sections x probe))) a h)
 
 -- a lookup that never waits
-pub never_loads : {L O B : Type 0} (P : L → Type 0) (result : LookupResult L O B) → IfLoad result (λ c. ⊥) → IfLoad result P
+pub never_loads : {L O D S : Type 0} (P : L → Type 0) (result : LookupResult L O D S) → IfLoad result (λ c. ⊥) → IfLoad result P
 never_loads P (Load c) h = absurd h
 never_loads P (Output o) h = tt
 
 -- what holds of a lookup that waits
-pub if_load : {L O B : Type 0} (P Q : L → Type 0) (result : LookupResult L O B) → ((c : L) → P c → Q c) → IfLoad result P → IfLoad result Q
+pub if_load : {L O D S : Type 0} (P Q : L → Type 0) (result : LookupResult L O D S) → ((c : L) → P c → Q c) → IfLoad result P → IfLoad result Q
 if_load P Q (Load c) f h = f c h
 if_load P Q (Output o) f h = tt
 

@@ -133,7 +133,7 @@ none_after d answers n = of_index (index_units d)
     of_index (Ok m) = of_unit (slice_get (unit_records m.units) n)
 
 -- what a lookup may give after none as an answer it may give before it
-pub skip_told : {L X B : Type 0} (see : X → List FrameRecord) (d : Sections) (answers : FirstAnswers) (probe n : ℕ) (sections_of : L → Sections) (answers_of : L → FirstAnswers) (probe_of : L → ℕ) (r : LookupResult L (Result X Error) B)
+pub skip_told : {L X D S : Type 0} (see : X → List FrameRecord) (d : Sections) (answers : FirstAnswers) (probe n : ℕ) (sections_of : L → Sections) (answers_of : L → FirstAnswers) (probe_of : L → ℕ) (r : LookupResult L (Result X Error) D S)
     → IfLoad r (λ c. (sections_of c ≡ d) × (answers_of c ≡ answered d answers n None) × (probe_of c ≡ probe))
     → IfOutput r (λ o. ExactlyUnlessOom (λ x. Some (see x)) o (frames_of d (answered d answers n None) probe))
     → (o : Result X Error) → SkipsTo (λ c p. ExactlyUnlessOom (λ x. Some (see x)) p (frames_of (sections_of c) (with_none (answers_of c)) (probe_of c))) r o

@@ -20,12 +20,12 @@ EndsAs R r context holds =
     (record { is_clone = r.is_clone; is_infallible = r.is_infallible })) context holds
 
 -- a lookup that waits holds the context, and once an output is dropped the context is such
-abbrev pub RestsAs : {L O B : Type 0} → (L → GName) → (R : RattleType) (r : record {
+abbrev pub RestsAs : {L O D S : Type 0} → (L → GName) → (R : RattleType) (r : record {
   is_clone : R.Denot → R.Denot → Type 0;
   is_infallible : R.Denot → Type 0;
   section : R.Denot → Section;
   shares : Bool;
-}) → MutBor ContextState → LookupResult L O B → (O → ContextState → Type 0) → Fml
+}) → MutBor ContextState → LookupResult L O D S → (O → ContextState → Type 0) → Fml
 RestsAs name R r context result holds =
     rests name (the_row R (record { section = r.section; shares = r.shares })
     (record { is_clone = r.is_clone; is_infallible = r.is_infallible })) context result holds

@@ -6,8 +6,8 @@ ghost use Rattle.addr2line.specs.Answers.{AfterAnswer};
 ghost use Rattle.addr2line.specs.Lookups.{IsUnitOf, loads_of, lookup_stop, waits_for};
 
 use crate::context::Context;
-use gimli::read::{Error, Reader};
 use gimli::Dwarf;
+use gimli::read::{Error, Reader};
 use std::rc::Rc;
 
 impl<R: Reader> Context<R> {

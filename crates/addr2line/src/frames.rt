@@ -16,10 +16,10 @@ ghost use Rattle.addr2line.specs.Lookups.{AfterFrames, IsKnown, IsLoadOf, Suspen
 
 use crate::context::Context;
 use crate::continuation::{FramesLookup, FramesLookupWith};
+use addr2line_units::FrameIter;
 use addr2line_units::continuation::{LookupContinuation, LookupResult};
 use addr2line_units::frames_lookup::{Faults, FramesStop};
 use addr2line_units::view::SplitDwarfLoad;
-use addr2line_units::FrameIter;
 use gimli::Dwarf;
 use gimli::read::{Error, Reader};
 use std::rc::Rc;
@@ -157,7 +157,10 @@ fn go_on<R: Reader>(
 
 impl<'ctx, R: Reader> LookupContinuation for FramesLookup<'ctx, R> {
     type Output = Result<FrameIter<'ctx, R>, Error>;
-    type Buf = R;
+
+    type Load = SplitDwarfLoad<R>;
+
+    type Sections = Rc<Dwarf<R>>;
 
     ghost left = { λ c. length (loads_of c.ctx.now.sections c.ctx.now.answers c.probe) };
 

@@ -7,35 +7,35 @@ use mathlib.Core.Option as maybe
 use Rattle.addr2line_units.specs.declared.continuation.LookupResult.{LookupResult}
 use Rattle.addr2line_units.specs.declared.continuation.LookupResult.TheVariants.{Load, Output}
 
-module _ {L O B : Type 0} where
+module _ {L O D S : Type 0} where
   -- what holds of a lookup that waits
-  abbrev pub IfLoad : LookupResult L O B → (L → Type 0) → Type 0
+  abbrev pub IfLoad : LookupResult L O D S → (L → Type 0) → Type 0
   IfLoad (Load c) P = P c
   IfLoad (Output o) P = Unit {0}
 
   -- what holds of an output
-  abbrev pub IfOutput : LookupResult L O B → (O → Type 0) → Type 0
+  abbrev pub IfOutput : LookupResult L O D S → (O → Type 0) → Type 0
   IfOutput (Load c) P = Unit {0}
   IfOutput (Output o) P = P o
 
   -- an output is what answering none to each load may give
-  abbrev pub SkipsTo : (L → O → Type 0) → LookupResult L O B → O → Type 0
+  abbrev pub SkipsTo : (L → O → Type 0) → LookupResult L O D S → O → Type 0
   SkipsTo skips (Load c) o = skips c o
   SkipsTo skips (Output p) o = p ≡ o
 
   -- how many loads there may still be, where so many units wait at most
-  abbrev pub loads_left : (L → ℕ) → LookupResult L O B → ℕ
+  abbrev pub loads_left : (L → ℕ) → LookupResult L O D S → ℕ
   loads_left left (Load c) = suc (left c)
   loads_left left (Output o) = 0
 
   module _ (name : L → GName) where
     -- the name of the context that a lookup holds which waits
-    abbrev pub held : LookupResult L O B → maybe.Option GName
+    abbrev pub held : LookupResult L O D S → maybe.Option GName
     held (Load c) = maybe.some (name c)
     held (Output o) = maybe.none
 
     -- a context stays with a lookup that waits, and once an output is dropped it is such
-    abbrev pub rests : (R : RattleType) → MutBor R.Denot → LookupResult L O B
+    abbrev pub rests : (R : RattleType) → MutBor R.Denot → LookupResult L O D S
         → (O → R.Denot → Type 0) → Fml
     rests R s r P = follows_so R R s.ghost_name (held r) (λ w n. IfLoad r (λ _. n ≡ w))
         (λ n. IfOutput r (λ o. P o n))

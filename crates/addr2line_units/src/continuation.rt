@@ -3,11 +3,6 @@
 ghost use Rattle.std.specs.Prelude.{◌≡◌, ◌<◌, ℕ, None};
 ghost use Rattle.addr2line_units.specs.Suspended.{IfLoad, SkipsTo};
 
-use crate::view::SplitDwarfLoad;
-use gimli::Dwarf;
-use gimli::read::Reader;
-use std::rc::Rc;
-
 /// What a lookup gives: a load that it waits for, with the rest of the lookup, or its output.
 pub enum LookupResult<L: LookupContinuation> {
     /// The lookup waits for an answer to its load.
@@ -25,8 +20,10 @@ pub enum LookupResult<L: LookupContinuation> {
 pub trait LookupContinuation {
     /// What the lookup gives in the end.
     type Output;
-    /// What reads the sections.
-    type Buf: Reader;
+    /// What it waits for.
+    type Load: Drop;
+    /// The sections of a split file.
+    type Sections: Drop;
 
     // How many units among those that the lookup asks wait for an answer.
     ghost left: { Self → ℕ };
@@ -35,14 +32,14 @@ pub trait LookupContinuation {
     ghost skips_to: { Self → Self.Output → Type 0 };
 
     /// What the lookup waits for. Takes no memory.
-    fn load(&self) -> &SplitDwarfLoad<Self::Buf>;
+    fn load(&self) -> &Self::Load;
 
     /// Answers the load and goes on: the unit is decided by `input`, the sections of its split
     /// file, or none.
     ///
     /// An answer that found no memory wasn't one: the output is refused `OutOfMemory`, and the unit
     /// stays open.
-    fn resume(self, input: Option<Rc<Dwarf<Self::Buf>>>) -> LookupResult<Self>
+    fn resume(self, input: Option<Self::Sections>) -> LookupResult<Self>
         ensures fewer { IfLoad result (λ c. left c < left self) }
         ensures skips { input ≡ None → (o : Self.Output) → SkipsTo skips_to result o
             → skips_to self o };

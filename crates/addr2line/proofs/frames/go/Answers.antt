@@ -12,8 +12,7 @@ end-requires g c =
 pub returns-in-Ok-None : goal.returns-in-Ok-None
 returns-in-Ok-None g c =
     let a = c.in-Ok-None.ensures.after in
-    let f = c.end.follows in
-    (
+    let f = c.end.follows in (
       (refl, f.holds, outputs_after End c.args.probe c.args.ctx.now c.waiting_unit.new.self _ _ c.end.result a f.holds-at-none),
       record {
         ends = tt;

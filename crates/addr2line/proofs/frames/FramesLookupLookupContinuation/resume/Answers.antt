@@ -13,8 +13,7 @@ returns g c =
     let l = c.args.self in
     let d = l.ctx.now.sections in
     let answers = l.ctx.now.answers in
-    let f = c.go_on.follows in
-    (
+    let f = c.go_on.follows in (
       (refl, f.holds, f.holds-at-none),
       record {
         ends = tt;

@@ -74,12 +74,12 @@ module _ {R : Type 0} (d : Sections) (us : List UnitRecord) (old : List ResUnit)
       let b = as_many_lines d us old i.lines in
       omega (arith, k, a, b)
 
-  answers_are : (n : ℕ) (given : Option Sections) → answered d (answers_in held) n given ≡ with_answer d us (answers_in held) n given
+  pub answers_are : (n : ℕ) (given : Option Sections) → answered d (answers_in held) n given ≡ with_answer d us (answers_in held) n given
   answers_are n given =
       ap (λ (r : Result UnitIndex Error). elim r [ Err e ↦ answers_in held | Ok m ↦ with_answer d (unit_records m.units) (answers_in held) n given ]) i.made_is
       ∙ ap (λ xs. with_answer d xs (answers_in held) n given) (records_beside d us old i.lines)
 
-  loads_are : (answers : FirstAnswers) (probe : ℕ) → loads_of d answers probe ≡ laws.loads_of d us answers (cover probe ranges)
+  pub loads_are : (answers : FirstAnswers) (probe : ℕ) → loads_of d answers probe ≡ laws.loads_of d us answers (cover probe ranges)
   loads_are answers probe =
       ap (λ (r : Result UnitIndex Error). elim r [ Err e ↦ [] | Ok m ↦ loads_along (load_of_number d (unit_records m.units) answers) (cover probe m.ranges) ]) i.made_is
       ∙ ap (λ xs. loads_along (load_of_number d xs answers) (cover probe ranges)) (records_beside d us old i.lines)

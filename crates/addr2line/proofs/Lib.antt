@@ -4,3 +4,4 @@ pub mod LookupLemmas
 pub mod AnsweredLemmas
 pub mod AfterLemmas
 pub mod SkipLemmas
+pub mod LoadLemmas

@@ -3,3 +3,4 @@ pub mod Borrowed
 pub mod Lookups
 pub mod KeptStops
 pub mod Answers
+pub mod Loads

@@ -5,6 +5,8 @@ mod answers;
 mod context;
 mod continuation;
 mod frames;
+mod loads;
+mod parses;
 
 pub use crate::context::Context;
 pub use crate::continuation::FramesLookup;

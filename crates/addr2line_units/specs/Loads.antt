@@ -9,8 +9,13 @@ use Rattle.gimli_read.specs.Reading.{◌>>=◌}
 use Rattle.gimli.specs.Sections.{Sections}
 use Rattle.gimli.specs.Unit.{UnitRecord}
 use Rattle.addr2line_units.specs.declared.index.UnitRange.{UnitRange}
+use Rattle.addr2line_units.specs.declared.view.UnitToken.{UnitToken}
 use Rattle.addr2line_units.specs.FramesLookup.{answer_of}
 use Rattle.addr2line_units.specs.Views.{SplitLoad, View, awaited_load, decided_answer, verdict}
+
+-- the number of the unit that a token names
+abbrev pub token_number : UnitToken → ℕ
+token_number t = t.number
 
 -- the unit of a number, or UnknownToken where there is none
 abbrev pub unit_of_token : List UnitRecord → ℕ → Result UnitRecord Error

@@ -1,0 +1,144 @@
+-- Answers to loads outside a lookup, in a context (on specs/Loads.antt).
+use Rattle.std.proofs.Common.{◌≡◌, ◌≢◌, ℕ, true, List, length, map, slice_get, Option, None, Result, Ok, Err, refl, sym, ap, subst, ◌∙◌}
+use Rattle.std.specs.Prelude.{OnOk}
+use Rattle.gimli_read.specs.declared.error.Error.{Error}
+use Rattle.gimli_read.specs.Reading.{◌>>=◌, ExactlyUnlessOom}
+use Rattle.gimli.specs.Sections.{Sections}
+use Rattle.gimli.specs.Unit.{UnitRecord}
+use Rattle.addr2line_lines.specs.References.{Scope}
+use Rattle.addr2line_units.specs.declared.frames_lookup.Faults.{Faults}
+use Rattle.addr2line_units.specs.declared.index.UnitRange.{UnitRange}
+use Rattle.addr2line_units.specs.declared.parses.Reads.{Reads}
+use Rattle.addr2line_units.specs.declared.parses.Reads.TheVariants as kinds
+use Rattle.addr2line_units.specs.declared.sup.SupUnits.{SupUnits}
+use Rattle.addr2line_units.specs.declared.unit.ResUnit.{ResUnit}
+use Rattle.addr2line_units.specs.declared.unit_frames.UnitEntries.{UnitEntries}
+use Rattle.addr2line_units.specs.CachedLines.{indexed_units, parsed_units}
+use Rattle.addr2line_units.specs.Cover.{cover}
+use Rattle.addr2line_units.specs.FramesLookup.{answer_of, asked_frames, main_scope, stop_along, with_answer}
+use Rattle.addr2line_units.specs.FunctionParseLaws.{IsReached}
+use Rattle.addr2line_units.specs.FunctionParses.{AreFirstDecided, answers_after, read_of_units}
+use Rattle.addr2line_units.specs.KeptLookups.{StayAllEntries, answers_in, has_entries_at, scope_in}
+use Rattle.addr2line_units.specs.KnownEntries.{known_in, knows_at}
+use Rattle.addr2line_units.specs.Loads.{forget_result, forgotten, load_of_number, load_result, loads_along}
+use Rattle.addr2line_units.specs.Located.{all_lines, lines_fault}
+use Rattle.addr2line_units.specs.Parsed.{IsNotOom}
+use Rattle.addr2line_units.specs.UnitIndex.{UnitIndex, index_units, unit_records}
+use Rattle.addr2line_units.specs.Views.{SplitLoad}
+use Rattle.addr2line_units.proofs.KeptLookupLemmas.{as_many_entries, entries_more_at}
+use Rattle.addr2line_units.proofs.KnownLemmas.{known_is, known_unchanged}
+use Rattle.addr2line_units.proofs.LoadLemmas.{as_many_answers}
+use Rattle.addr2line_units.proofs.ReachedLemmas.{reached_all}
+use Rattle.addr2line_units.proofs.ScopeLemmas.{records_beside}
+use Rattle.addr2line_units.proofs.UnitsLemmas.{as_many_indexed}
+use Rattle.addr2line.proofs.AnsweredLemmas.{answers_are, loads_are}
+use Rattle.addr2line.proofs.ContextLemmas.{lines_are}
+use Rattle.addr2line.proofs.LookupLemmas.{as_many_lines, scope_is, stop_is}
+use Rattle.addr2line.proofs.NewContextLemmas.{ok_is}
+use Rattle.addr2line.specs.Context.{ContextState, IsContext, index_by, lines_of_all}
+use Rattle.addr2line.specs.Loads.{AfterForget, AfterLoad, AfterParse, AfterPreload, IsAllKnown, ReachesAllOf, StaysRead, forget_reply, load_reply, parse_reply, parsed_answers}
+use Rattle.addr2line.specs.Lookups.{FirstAnswers, StaysKnown, loads_of, lookup_stop}
+
+module _ {R : Type 0} (d : Sections) (us : List UnitRecord) (old : List ResUnit) (held : List (UnitEntries R)) (ranges : List UnitRange) (sup : SupUnits R) (i : IsContext d us old held ranges sup.units.items sup.dwarf) where
+  abbrev made : UnitIndex
+  made = index_by us old ranges sup.units.items
+
+  same_units : unit_records made.units ≡ us
+  same_units = records_beside d us old i.lines
+
+  pub load_is : (n : ℕ) (given : Option Sections) → load_reply d (answers_in held) n given ≡ load_result d us (answers_in held) n given
+  load_is n given =
+      ap (λ r. r >>= λ (m : UnitIndex). load_result d (unit_records m.units) (answers_in held) n given) i.made_is
+      ∙ ap (λ xs. load_result d xs (answers_in held) n given) same_units
+
+  pub forget_is : (n : ℕ) → forget_reply d n ≡ forget_result us n
+  forget_is n = ap (λ r. r >>= λ (m : UnitIndex). forget_result (unit_records m.units) n) i.made_is ∙ ap (λ xs. forget_result xs n) same_units
+
+  pub listed_are : (probe : ℕ) → loads_of d (answers_in held) probe ≡ loads_along (load_of_number d us (answers_in held)) (cover probe ranges)
+  listed_are probe = loads_are d us old held ranges sup i (answers_in held) probe
+
+  pub parse_is : (reads : Reads) → parse_reply reads d (answers_in held) ≡ read_of_units reads (scope_in d us sup) us (answers_in held)
+  parse_is reads =
+      ap (λ r. r >>= λ (m : UnitIndex). read_of_units reads (main_scope d m) (unit_records m.units) (answers_in held)) i.made_is
+      ∙ ap (λ xs. read_of_units reads (main_scope d made) xs (answers_in held)) same_units
+      ∙ ap (λ s. read_of_units reads s us (answers_in held)) (sym (scope_is d us old held ranges sup i))
+
+  pub parsed_is : (reads : Reads) → parsed_answers reads d (answers_in held) ≡ answers_after reads (scope_in d us sup) us (answers_in held)
+  parsed_is reads =
+      ap (λ (r : Result UnitIndex Error). elim r [ Err e ↦ answers_in held | Ok m ↦ answers_after reads (main_scope d m) (unit_records m.units) (answers_in held) ]) i.made_is
+      ∙ ap (λ xs. answers_after reads (main_scope d made) xs (answers_in held)) same_units
+      ∙ ap (λ s. answers_after reads s us (answers_in held)) (sym (scope_is d us old held ranges sup i))
+
+  module _ (new : List ResUnit) (same : new ≡ old) (entries : List (UnitEntries R)) (looks : ℕ) where
+    abbrev before : ContextState
+    before = record { sections = d; answers = answers_in held; parsed = parsed_units old; known = known_in held; looks = looks }
+
+    abbrev after : ContextState
+    after = record { sections = d; answers = answers_in entries; parsed = parsed_units new; known = known_in entries; looks = looks }
+
+    stays_read : StaysRead before after
+    stays_read = record { sections = refl; parsed = ap parsed_units same; looks = refl }
+
+    stays_known : StayAllEntries held entries → StaysKnown (known_in held) (known_in entries)
+    stays_known stay probe k e = known_is probe entries k ∙ entries_more_at probe held entries stay k (sym (known_is probe held k) ∙ e)
+
+    pub after_load : (n : ℕ) (given : Option Sections) (result : Result (Unit {0}) Error) → (IsNotOom result → answers_in entries ≡ with_answer d us (answers_in held) n given)
+        → (result ≢ load_result d us (answers_in held) n given → (answers_in entries ≡ answers_in held) × StayAllEntries held entries) → ((k : ℕ) → k ≢ n → slice_get entries k ≡ slice_get held k) → AfterLoad n given result before after
+    after_load n given result answers refused others = record {
+      stays = stays_read;
+      answers = λ told. answers told ∙ sym (answers_are d us old held ranges sup i n given);
+      refused = λ ne. let r = refused (λ e. ne (e ∙ sym (load_is n given))) in (r.0, stays_known r.1);
+      others = λ k ne. known_unchanged held entries k (others k ne);
+    }
+
+    pub after_forget : (n : ℕ) → answers_in entries ≡ forgotten (answers_in held) n → (answer_of (answers_in held) n ≡ None → entries ≡ held) → ((k : ℕ) → k ≢ n → slice_get entries k ≡ slice_get held k) → AfterForget n before after
+    after_forget n answers nothing others = record {
+      stays = stays_read;
+      answers = answers;
+      same = λ e. ap known_in (nothing e);
+      others = λ k ne. known_unchanged held entries k (others k ne);
+    }
+
+    pub after_preload : answers_in entries ≡ answers_in held → StayAllEntries held entries → AfterPreload before after
+    after_preload answers stay = record { stays = stays_read; answers = answers; known = stays_known stay }
+
+    pub after_parse : (reads : Reads) (result : Result (Unit {0}) Error) → (IsNotOom result → answers_in entries ≡ answers_after reads (scope_in d us sup) us (answers_in held)) → AreFirstDecided d us (answers_in held) (answers_in entries) → AfterParse reads result before after
+    after_parse reads result answers begun = record {
+      stays = stays_read;
+      answers = λ told. answers told ∙ sym (parsed_is reads);
+      begun = λ m e. subst (λ x. AreFirstDecided d (unit_records x.units) (answers_in held) (answers_in entries)) (ok_is _ _ (sym i.made_is ∙ e)) (subst (λ xs. AreFirstDecided d xs (answers_in held) (answers_in entries)) (sym same_units) begun);
+    }
+
+    pub all_known : (reads : Reads) (result : Result (Unit {0}) Error) → (reads ≡ kinds.Details → OnOk result ((probe n : ℕ) → has_entries_at probe entries n ≡ true)) → reads ≡ kinds.Details → OnOk result (IsAllKnown after)
+    all_known reads (Ok x) found e = λ probe n. known_is probe entries n ∙ found e probe n
+    all_known reads (Err f) found e = tt
+
+    pub all_reached : (reads : Reads) (result : Result (Unit {0}) Error) → ExactlyUnlessOom (λ x. x) result (read_of_units reads (scope_in d us sup) us (answers_in held))
+        → (IsNotOom result → answers_in entries ≡ answers_after reads (scope_in d us sup) us (answers_in held)) → reads ≡ kinds.Details → OnOk result (ReachesAllOf after)
+    all_reached reads (Err f) gives answers e = tt
+    all_reached reads (Ok x) gives answers e = λ lines faults probe.
+        subst IsReached (sym (stop_now faults probe))
+        (reached_all faults (main_scope d made) made.units (answers_in held) probe (cover probe ranges) many read (sym (lines_are d us old ranges sup.units.items i.made_is) ∙ lines))
+      where
+        many : length made.units ≡ length (answers_in held)
+        many = as_many_indexed d us old i.lines ∙ sym (as_many_lines d us old i.lines) ∙ as_many_entries (main_scope d made) us held i.entries ∙ sym (as_many_answers held)
+
+        read : read_of_units kinds.Details (main_scope d made) (unit_records made.units) (answers_in held) ≡ Ok tt
+        read =
+            ap (λ xs. read_of_units kinds.Details (main_scope d made) xs (answers_in held)) same_units
+            ∙ ap (λ s. read_of_units kinds.Details s us (answers_in held)) (sym (scope_is d us old held ranges sup i))
+            ∙ ap (λ k. read_of_units k (scope_in d us sup) us (answers_in held)) (sym e)
+            ∙ gives
+
+        now : answers_in entries ≡ answers_after kinds.Details (main_scope d made) (unit_records made.units) (answers_in held)
+        now =
+            answers tt
+            ∙ ap (λ k. answers_after k (scope_in d us sup) us (answers_in held)) e
+            ∙ ap (λ s. answers_after kinds.Details s us (answers_in held)) (scope_is d us old held ranges sup i)
+            ∙ ap (λ xs. answers_after kinds.Details (main_scope d made) xs (answers_in held)) (sym same_units)
+
+        stop_now : (faults : Faults) (probe : ℕ) → lookup_stop faults d (answers_in entries) probe
+            ≡ stop_along (asked_frames faults (main_scope d made) made.units (answers_after kinds.Details (main_scope d made) (unit_records made.units) (answers_in held)) probe) (cover probe ranges)
+        stop_now faults probe =
+            ap (λ r. r >>= λ (m : UnitIndex). stop_along (asked_frames faults (main_scope d m) m.units (answers_in entries) probe) (cover probe m.ranges)) i.made_is
+            ∙ ap (λ a. stop_along (asked_frames faults (main_scope d made) made.units a probe) (cover probe ranges)) now

@@ -1,0 +1,90 @@
+-- Answers to loads outside a lookup, what forgets them, and the parse of all functions, in a context
+-- (DWARF 5, sections 3.1.2, 3.3 and 7.3.2).
+-- Own: an answer to a unit that is decided changes nothing; a parse of all functions answers none to
+-- each load.
+use Rattle.std.specs.Prelude.{◌≡◌, ◌≢◌, ℕ, true, slice_get, Option, None, OnOk, Result, Ok, Err}
+use Rattle.gimli_read.specs.declared.error.Error.{Error}
+use Rattle.gimli_read.specs.Reading.{◌>>=◌}
+use Rattle.gimli.specs.Sections.{Sections}
+use Rattle.addr2line_units.specs.declared.frames_lookup.Faults.{Faults}
+use Rattle.addr2line_units.specs.declared.parses.Reads.{Reads}
+use Rattle.addr2line_units.specs.FramesLookup.{answer_of, main_scope}
+use Rattle.addr2line_units.specs.FunctionParseLaws.{IsReached}
+use Rattle.addr2line_units.specs.FunctionParses.{AreFirstDecided, answers_after, read_of_units}
+use Rattle.addr2line_units.specs.KnownEntries.{knows_at}
+use Rattle.addr2line_units.specs.Loads.{forget_result, forgotten, load_result}
+use Rattle.addr2line_units.specs.Parsed.{IsNotOom}
+use Rattle.addr2line_units.specs.UnitIndex.{UnitIndex, index_units, unit_records}
+use Rattle.addr2line.specs.Answers.{answered}
+use Rattle.addr2line.specs.Context.{ContextState, lines_of_all}
+use Rattle.addr2line.specs.Lookups.{FirstAnswers, StaysKnown, lookup_stop}
+
+-- what an answer to the load of the unit of a number gives: UnknownToken where there is none, or the
+-- fault of its view then
+abbrev pub load_reply : Sections → FirstAnswers → ℕ → Option Sections → Result (Unit {0}) Error
+load_reply d answers n given =
+    index_units d >>= λ m. load_result d (unit_records m.units) answers n given
+
+-- what it gives to forget the answer of the unit of a number
+abbrev pub forget_reply : Sections → ℕ → Result (Unit {0}) Error
+forget_reply d n = index_units d >>= λ m. forget_result (unit_records m.units) n
+
+-- what a parse of all functions gives
+abbrev pub parse_reply : Reads → Sections → FirstAnswers → Result (Unit {0}) Error
+parse_reply reads d answers =
+    index_units d >>= λ m. read_of_units reads (main_scope d m) (unit_records m.units) answers
+
+-- the first answers after a parse of all functions
+abbrev pub parsed_answers : Reads → Sections → FirstAnswers → FirstAnswers
+parsed_answers reads d answers = elim (index_units d) [
+  | Err e ↦ answers
+  | Ok m ↦ answers_after reads (main_scope d m) (unit_records m.units) answers
+]
+
+-- nothing is changed but what is known of units' entries, and first answers
+pub record StaysRead (old new : ContextState) : Type 0 where
+  pub sections : new.sections ≡ old.sections
+  pub parsed : new.parsed ≡ old.parsed
+  pub looks : new.looks ≡ old.looks
+
+-- after an answer to the load of the unit of a number nothing is changed but of that unit; where
+-- memory was refused in place of it, all first answers are as before, and what was known stays
+pub record AfterLoad (n : ℕ) (given : Option Sections) (result : Result (Unit {0}) Error)
+    (old new : ContextState) : Type 0 where
+  pub stays : StaysRead old new
+  pub answers : IsNotOom result → new.answers ≡ answered old.sections old.answers n given
+  pub refused : result ≢ load_reply old.sections old.answers n given
+      → (new.answers ≡ old.answers) × StaysKnown old.known new.known
+  pub others : (k : ℕ) → k ≢ n → slice_get new.known k ≡ slice_get old.known k
+
+-- after the unit of a number is forgotten nothing is changed but of that unit, and nothing at all
+-- where it had no answer
+pub record AfterForget (n : ℕ) (old new : ContextState) : Type 0 where
+  pub stays : StaysRead old new
+  pub answers : new.answers ≡ forgotten old.answers n
+  pub same : answer_of old.answers n ≡ None → new.known ≡ old.known
+  pub others : (k : ℕ) → k ≢ n → slice_get new.known k ≡ slice_get old.known k
+
+-- after loads were listed nothing is changed but that more may be known
+pub record AfterPreload (old new : ContextState) : Type 0 where
+  pub stays : StaysRead old new
+  pub answers : new.answers ≡ old.answers
+  pub known : StaysKnown old.known new.known
+
+-- after a parse of all functions open units are decided by none, up to the first fault; where memory
+-- was refused, some of the first ones
+pub record AfterParse (reads : Reads) (result : Result (Unit {0}) Error) (old new : ContextState)
+    : Type 0 where
+  pub stays : StaysRead old new
+  pub answers : IsNotOom result → new.answers ≡ parsed_answers reads old.sections old.answers
+  pub begun : (m : UnitIndex) → index_units old.sections ≡ Ok m
+      → AreFirstDecided old.sections (unit_records m.units) old.answers new.answers
+
+-- what every lookup asks of units' entries is known
+abbrev pub IsAllKnown : ContextState → Type 0
+IsAllKnown c = (probe n : ℕ) → knows_at c.known probe n ≡ true
+
+-- no lookup waits or has a fault, if all lines can be read
+abbrev pub ReachesAllOf : ContextState → Type 0
+ReachesAllOf c = lines_of_all c.sections ≡ Ok tt → (faults : Faults) (probe : ℕ)
+    → IsReached (lookup_stop faults c.sections c.answers probe)

@@ -1,0 +1,68 @@
+//! Answers to loads outside a lookup, and what forgets them.
+
+ghost use Rattle.std.specs.Prelude.{◌≡◌, IfErr, IfOk, map, option_map};
+ghost use Rattle.gimli_read.specs.declared.error.Error.TheVariants.{OutOfMemory};
+ghost use Rattle.gimli_read.specs.Reading.{ExactlyUnlessOom};
+ghost use Rattle.addr2line_units.specs.KeptViews.{seen_load};
+ghost use Rattle.addr2line_units.specs.Loads.{token_number};
+ghost use Rattle.addr2line.specs.Loads.{AfterForget, AfterLoad, AfterPreload, forget_reply, load_reply};
+ghost use Rattle.addr2line.specs.Lookups.{loads_of};
+
+use crate::context::Context;
+use addr2line_units::view::{SplitDwarfLoad, UnitToken};
+use gimli::Dwarf;
+use gimli::read::{Error, Reader};
+use std::rc::Rc;
+
+impl<R: Reader> Context<R> {
+    /// The loads of the open units that cover an address, each once, in the order in which a lookup
+    /// asks the units. Whether a unit is open is looked for and kept.
+    ///
+    /// `probe` is an address as the file has it. Refused `OutOfMemory` alone.
+    ///
+    /// Source: DWARF 5, section 7.3.2. Own: the order.
+    pub fn preload_units(&mut self, probe: u64) -> Result<Vec<SplitDwarfLoad<R>>, Error>
+        ensures gives { IfOk result (λ loads. map (seen_load R.section) loads.items
+            ≡ loads_of self.old.sections self.old.answers probe) }
+        ensures refused { IfErr result (λ e. e ≡ OutOfMemory) }
+        ensures after { AfterPreload self.old self.new }
+    {
+        self.units
+            .preload(self.alloc, &self.dwarf, &self.sup_units, probe)
+    }
+
+    /// Answers the load of a unit: decides it if it is open, by the sections of its split file or
+    /// none, and else leaves it as it is.
+    ///
+    /// Refused `UnknownToken` where there is no such unit, and then nothing is changed; refused by
+    /// the fault of the view that the unit has then, and the unit is decided all the same. May fail
+    /// with `OutOfMemory` instead; then all first answers are as before. A token of another context
+    /// counts by its number.
+    ///
+    /// Source: DWARF 5, section 7.3.2. Own: which answer counts.
+    pub fn load_unit(
+        &mut self,
+        unit: UnitToken,
+        sections: Option<Rc<Dwarf<R>>>,
+    ) -> Result<(), Error>
+        ensures gives { ExactlyUnlessOom (λ x. x) result (load_reply self.old.sections
+            self.old.answers (token_number unit) (option_map (λ d. d.value) sections)) }
+        ensures after { AfterLoad (token_number unit) (option_map (λ d. d.value) sections) result
+            self.old self.new }
+    {
+        self.units
+            .load_unit(self.alloc, &self.dwarf, &self.sup_units, unit, sections)
+    }
+
+    /// Takes the answer to the load of a unit back, if there is one, with what was read of its
+    /// view: the unit is open again. Its lines stay. Takes no memory.
+    ///
+    /// Refused `UnknownToken` alone, where there is no such unit; then nothing is changed. A unit
+    /// that is decided without an answer, and one that is open, stay as they are. Source: own.
+    pub fn forget(&mut self, unit: UnitToken) -> Result<(), Error>
+        ensures gives { result ≡ forget_reply self.old.sections (token_number unit) }
+        ensures after { AfterForget (token_number unit) self.old self.new }
+    {
+        self.units.forget_unit(&self.dwarf, &self.sup_units, unit)
+    }
+}

@@ -1,0 +1,58 @@
+//! Parses of the functions of all units.
+
+ghost use Rattle.std.specs.Prelude.{◌≡◌, OnOk};
+ghost use Rattle.gimli_read.specs.Reading.{ExactlyUnlessOom};
+ghost use Rattle.addr2line_units.specs.declared.parses.Reads.TheVariants as kinds;
+ghost use Rattle.addr2line.specs.Loads.{AfterParse, IsAllKnown, ReachesAllOf, parse_reply};
+
+use crate::context::Context;
+use addr2line_units::parses::Reads;
+use gimli::read::{Error, Reader};
+
+impl<R: Reader> Context<R> {
+    // Reads the functions of all units, with or without their details.
+    fn read_functions(&mut self, reads: Reads) -> Result<(), Error>
+        ensures gives { ExactlyUnlessOom (λ x. x) result
+            (parse_reply reads self.old.sections self.old.answers) }
+        ensures after { AfterParse reads result self.old self.new }
+        ensures known { reads ≡ kinds.Details → OnOk result (IsAllKnown self.new) }
+        ensures reaches { reads ≡ kinds.Details → OnOk result (ReachesAllOf self.new) }
+    {
+        self.units
+            .read_functions(self.alloc, &self.dwarf, &self.sup_units, reads)
+    }
+
+    /// Parses the functions of all units in their order, up to the first fault, and keeps them, the
+    /// fault too. A unit that waits for an answer is decided by none first; the units behind the
+    /// first fault are left as they are.
+    ///
+    /// Refused by the first fault of a view or its functions; may fail with `OutOfMemory` instead,
+    /// which is never kept.
+    ///
+    /// Source: DWARF 5, section 3.3.
+    pub fn parse_functions(&mut self) -> Result<(), Error>
+        ensures gives { ExactlyUnlessOom (λ x. x) result
+            (parse_reply kinds.Functions self.old.sections self.old.answers) }
+        ensures after { AfterParse kinds.Functions result self.old self.new }
+    {
+        self.read_functions(Reads::Functions)
+    }
+
+    /// Parses the functions of all units and the details of these, as `parse_functions` does.
+    ///
+    /// Refused by the first fault of a view, its functions or, in the order of the entries, a
+    /// detail; may fail with `OutOfMemory` instead, which is never kept. Once it isn't refused, and
+    /// where `parse_lines` isn't either, lookups of frames don't wait and have no fault, and take
+    /// no memory where at most 16 inlined functions stand at the address, until a unit is forgotten.
+    ///
+    /// Source: DWARF 5, sections 3.3 and 3.3.8.
+    pub fn parse_inlined_functions(&mut self) -> Result<(), Error>
+        ensures gives { ExactlyUnlessOom (λ x. x) result
+            (parse_reply kinds.Details self.old.sections self.old.answers) }
+        ensures after { AfterParse kinds.Details result self.old self.new }
+        ensures known { OnOk result (IsAllKnown self.new) }
+        ensures reaches { OnOk result (ReachesAllOf self.new) }
+    {
+        self.read_functions(Reads::Details)
+    }
+}

@@ -1,0 +1,40 @@
+use Rattle.std.proofs.Common.{◌≡◌, ◌≢◌, sym, subst}
+use Rattle.std.specs.Prelude.{option_map}
+use Rattle.gimli_read.specs.Reading.{ExactlyUnlessOom}
+use Rattle.addr2line_units.specs.FramesLookup.{with_answer}
+use Rattle.addr2line_units.specs.KeptLookups.{StayAllEntries, answers_in}
+use Rattle.addr2line_units.specs.Loads.{load_result}
+use Rattle.addr2line_units.specs.Parsed.{IsNotOom}
+use Rattle.addr2line.proofs.AnsweredLemmas.{still_answered}
+use Rattle.addr2line.proofs.LoadLemmas.{after_load, load_is}
+use Rattle.addr2line.proofs.LookupLemmas.{entries_in_scope}
+use Rattle.addr2line.proofs.context.Context.load_unit.Goals as goal
+
+pub load_unit-requires : goal.load_unit-requires
+load_unit-requires g c =
+    let s = c.self.inside in
+    record { kept = rw c.deref.ensures (entries_in_scope s.dwarf.value s.units.dw_units.items s.units.units.items s.units.entries.items s.units.ranges s.sup_units c.self.invariant) }
+
+pub invariant_of-self : goal.invariant_of-self
+invariant_of-self g c =
+    let s = c.self.inside in
+    let e = rw c.deref.ensures at c.load_unit.ensures in
+    still_answered s.dwarf.value s.units.dw_units.items s.units.units.items s.units.entries.items s.units.ranges s.sup_units c.self.invariant _ e.dw_units _ e.units _ e.kept _ e.ranges
+
+pub returns-clause-gives : goal.returns-clause-gives
+returns-clause-gives g c =
+    let s = c.self.inside in
+    let given = option_map (λ x. x.value) c.args.sections in
+    rw (sym c.self.view_is) (subst (ExactlyUnlessOom (λ x. x) c.load_unit.result) (sym (load_is s.dwarf.value s.units.dw_units.items s.units.units.items s.units.entries.items s.units.ranges s.sup_units c.self.invariant c.args.unit.number given))
+    (subst (λ d. ExactlyUnlessOom (λ x. x) c.load_unit.result (load_result d s.units.dw_units.items (answers_in s.units.entries.items) c.args.unit.number given)) c.deref.ensures c.load_unit.ensures.gives))
+
+pub returns-clause-after : goal.returns-clause-after
+returns-clause-after g c =
+    let s = c.self.inside in
+    let e = c.load_unit.ensures in
+    let now = c.load_unit.new.self in
+    let n = c.args.unit.number in
+    let given = option_map (λ x. x.value) c.args.sections in
+    let answers = subst (λ d. IsNotOom c.load_unit.result → answers_in now.entries.items ≡ with_answer d s.units.dw_units.items (answers_in s.units.entries.items) n given) c.deref.ensures e.answers in
+    let refused = subst (λ d. c.load_unit.result ≢ load_result d s.units.dw_units.items (answers_in s.units.entries.items) n given → (answers_in now.entries.items ≡ answers_in s.units.entries.items) × StayAllEntries s.units.entries.items now.entries.items) c.deref.ensures e.refused in
+    rw (sym c.self.view_is) (after_load s.dwarf.value s.units.dw_units.items s.units.units.items s.units.entries.items s.units.ranges s.sup_units c.self.invariant now.units.items e.units now.entries.items s.looks n given c.load_unit.result answers refused e.others)

@@ -1,0 +1,30 @@
+use Rattle.std.proofs.Common.{map, sym, ◌∙◌, ap, Ok, Err, subst}
+use Rattle.std.specs.Prelude.{IfOk, ◌≡◌}
+use Rattle.addr2line_units.specs.KeptViews.{seen_load}
+use Rattle.addr2line.proofs.AnsweredLemmas.{still_answered}
+use Rattle.addr2line.proofs.LoadLemmas.{after_preload, listed_are}
+use Rattle.addr2line.proofs.LookupLemmas.{entries_in_scope}
+use Rattle.addr2line.proofs.context.Context.preload_units.Goals as goal
+
+pub preload-requires : goal.preload-requires
+preload-requires g c =
+    let s = c.self.inside in
+    record { kept = entries_in_scope s.dwarf.value s.units.dw_units.items s.units.units.items s.units.entries.items s.units.ranges s.sup_units c.self.invariant }
+
+pub invariant_of-self : goal.invariant_of-self
+invariant_of-self g c =
+    let s = c.self.inside in
+    let e = c.preload.ensures in
+    still_answered s.dwarf.value s.units.dw_units.items s.units.units.items s.units.entries.items s.units.ranges s.sup_units c.self.invariant _ e.dw_units _ e.units _ e.kept _ e.ranges
+
+pub returns-clause-gives : goal.returns-clause-gives
+returns-clause-gives g c =
+    let s = c.self.inside in
+    rw (sym c.self.view_is) (subst (λ l. IfOk c.preload.result (λ loads. map (seen_load g.R.Reader.section) loads.items ≡ l)) (sym (listed_are s.dwarf.value s.units.dw_units.items s.units.units.items s.units.entries.items s.units.ranges s.sup_units c.self.invariant c.args.probe)) c.preload.ensures.gives)
+
+pub returns-clause-after : goal.returns-clause-after
+returns-clause-after g c =
+    let s = c.self.inside in
+    let e = c.preload.ensures in
+    let now = c.preload.new.self in
+    rw (sym c.self.view_is) (after_preload s.dwarf.value s.units.dw_units.items s.units.units.items s.units.entries.items s.units.ranges s.sup_units c.self.invariant now.units.items e.units now.entries.items s.looks e.answers e.stay)

@@ -1,20 +1,22 @@
 -- What holds of a context after two steps of a lookup (on specs/Lookups.antt).
-use Rattle.std.proofs.Common.{◌≡◌, ◌⊎◌, inl, inr, ℕ, ◌≤◌, arith, Bool, true, false, List, slice_get, Option, Some, None, Result, Ok, Err, refl, sym, ap, subst, ◌∙◌}
+use Rattle.std.proofs.Common.{◌≡◌, ◌⊎◌, inl, inr, ℕ, arith, true, false, slice_get, Result, Ok, Err, refl, sym, ap, subst, ◌∙◌}
+use Rattle.std.specs.Prelude.{IfErr, IfOk}
 use Rattle.gimli_read.specs.declared.error.Error.{Error}
-use Rattle.gimli_read.specs.Reading.{ExactlyUnlessOom}
+use Rattle.gimli_read.specs.Reading.{◌>>=◌, ExactlyUnlessOom}
 use Rattle.gimli.specs.Sections.{Sections}
 use Rattle.addr2line_units.specs.declared.continuation.LookupResult.{LookupResult}
 use Rattle.addr2line_units.specs.declared.continuation.LookupResult.TheVariants.{Load, Output}
 use Rattle.addr2line_units.specs.declared.frames_lookup.Faults.{Faults}
 use Rattle.addr2line_units.specs.Cover.{cover}
-use Rattle.addr2line_units.specs.Frames.{FrameRecord}
 use Rattle.addr2line_units.specs.FramesLookup.{Stop, Waits, Finds, FindsNothing, LookupAsks, asked_frames, asks_lines_of, is_waiting, main_scope}
 use Rattle.addr2line_units.specs.Parsed.{ParsesOnly}
 use Rattle.addr2line_units.specs.Suspended.{IfLoad, IfOutput}
 use Rattle.addr2line_units.specs.UnitIndex.{UnitIndex, index_units}
 use Rattle.addr2line_units.proofs.FramesLookupLemmas.{parses_more}
+use Rattle.addr2line.specs.declared.stops.UnitStop.TheVariants as units
 use Rattle.addr2line.specs.Context.{ContextState}
-use Rattle.addr2line.specs.Lookups.{AfterFrames, FirstAnswers, frames_of, lookup_stop, waiting_unit}
+use Rattle.addr2line.specs.KeptStops.{by_number, unit_stop}
+use Rattle.addr2line.specs.Lookups.{AfterFrames, FirstAnswers, lookup_stop}
 
 module _ (faults : Faults) (probe : ℕ) (old mid new : ContextState) where
   -- the second step asks for what the first one did
@@ -54,11 +56,11 @@ module _ (faults : Faults) (probe : ℕ) (old mid new : ContextState) where
   outputs_after r (Output o) a b = both_after r o a b
 
 -- a lookup that has ended gives the same in a context with the same sections and first answers
-pub outputs_same : {L X D S : Type 0} (see : X → List FrameRecord) (probe : ℕ) (old mid : ContextState) (result : LookupResult L (Result X Error) D S) → mid.sections ≡ old.sections → mid.answers ≡ old.answers
-    → IfOutput result (λ o. ExactlyUnlessOom (λ x. Some (see x)) o (frames_of mid.sections mid.answers probe)) → IfOutput result (λ o. ExactlyUnlessOom (λ x. Some (see x)) o (frames_of old.sections old.answers probe))
-outputs_same see probe old mid result s a h =
-    subst (λ x. IfOutput result (λ o. ExactlyUnlessOom (λ x. Some (see x)) o (frames_of x old.answers probe))) s
-    (subst (λ x. IfOutput result (λ o. ExactlyUnlessOom (λ x. Some (see x)) o (frames_of mid.sections x probe))) a h)
+pub outputs_same : {L V X D S : Type 0} (reading : Sections → FirstAnswers → ℕ → Result V Error) (see : X → V) (probe : ℕ) (old mid : ContextState) (result : LookupResult L (Result X Error) D S) → mid.sections ≡ old.sections → mid.answers ≡ old.answers
+    → IfOutput result (λ o. ExactlyUnlessOom see o (reading mid.sections mid.answers probe)) → IfOutput result (λ o. ExactlyUnlessOom see o (reading old.sections old.answers probe))
+outputs_same reading see probe old mid result s a h =
+    subst (λ x. IfOutput result (λ o. ExactlyUnlessOom see o (reading x old.answers probe))) s
+    (subst (λ x. IfOutput result (λ o. ExactlyUnlessOom see o (reading mid.sections x probe))) a h)
 
 -- a lookup that never waits
 pub never_loads : {L O D S : Type 0} (P : L → Type 0) (result : LookupResult L O D S) → IfLoad result (λ c. ⊥) → IfLoad result P
@@ -70,14 +72,64 @@ pub if_load : {L O D S : Type 0} (P Q : L → Type 0) (result : LookupResult L O
 if_load P Q (Load c) f h = f c h
 if_load P Q (Output o) f h = tt
 
--- a lookup waits for no unit where none is told
-pub ended_told : (faults : Faults) (probe : ℕ) (old mid : ContextState) → mid.sections ≡ old.sections → mid.answers ≡ old.answers → ◌≡◌ {A = Option ℕ} None (waiting_unit (lookup_stop faults old.sections old.answers probe))
+-- a lookup that has found something waits for no unit
+pub found_ended : (faults : Faults) (probe n : ℕ) (old mid : ContextState) → mid.sections ≡ old.sections → mid.answers ≡ old.answers → unit_stop faults old.sections old.answers probe ≡ Ok (units.Finds n)
     → is_waiting (lookup_stop faults mid.sections mid.answers probe) ≡ false
-ended_told faults probe old mid s a e =
+found_ended faults probe n old mid s a e =
     ap (λ x. is_waiting (lookup_stop faults x mid.answers probe)) s ∙ ap (λ x. is_waiting (lookup_stop faults old.sections x probe)) a ∙ by (lookup_stop faults old.sections old.answers probe) e
   where
-    by : (r : Result Stop Error) → ◌≡◌ {A = Option ℕ} None (waiting_unit r) → is_waiting r ≡ false
-    by (Ok (Waits n)) k = absurd cc
-    by (Ok (Finds n frames)) k = refl
-    by (Ok FindsNothing) k = refl
-    by (Err f) k = refl
+    by : (r : Result Stop Error) → (r >>= λ s. Ok (by_number s)) ≡ Ok (units.Finds n) → is_waiting r ≡ false
+    by (Ok (Waits k)) h = absurd cc
+    by (Ok (Finds k frames)) h = refl
+    by (Ok FindsNothing) h = absurd cc
+    by (Err f) h = refl
+
+-- it finds the same in a context with the same sections and first answers
+pub found_same : (faults : Faults) (probe n : ℕ) (old mid : ContextState) → mid.sections ≡ old.sections → mid.answers ≡ old.answers → unit_stop faults old.sections old.answers probe ≡ Ok (units.Finds n)
+    → unit_stop faults mid.sections mid.answers probe ≡ Ok (units.Finds n)
+found_same faults probe n old mid s a e = ap (λ x. unit_stop faults x mid.answers probe) s ∙ ap (λ x. unit_stop faults old.sections x probe) a ∙ e
+
+-- what is told of a lookup holds of its output, where it isn't refused and changes nothing more
+pub outputs_kept : {L X Y D S : Type 0} (faults : Faults) (probe : ℕ) (old mid new : ContextState) (y : Y) (result : LookupResult L (Result X Error) D S) → AfterFrames {X = Y} faults probe (Ok y) old mid
+    → IfOutput result (λ o. IfErr o (λ e. ⊥)) → IfOutput result (λ o. new ≡ mid) → IfOutput result (λ o. AfterFrames faults probe o old new)
+outputs_kept faults probe old mid new y (Load c) a never kept = tt
+outputs_kept faults probe old mid new y (Output (Err e)) a never kept = absurd never
+outputs_kept {X = X} faults probe old mid new y (Output (Ok x)) a never kept = subst (λ n. AfterFrames {X = X} faults probe (Ok x) old n) (sym kept) (record {
+  sections = a.sections;
+  answers = a.answers;
+  parsed = a.parsed;
+  known = a.known;
+  only = a.only;
+  learns = a.learns;
+  raised = a.raised;
+  ready = a.ready;
+  memory = λ few ended. tt;
+})
+
+-- an output that isn't refused is exact
+pub outputs_exact : {L V X D S : Type 0} (reading : Sections → FirstAnswers → ℕ → Result V Error) (see : X → V) (probe : ℕ) (old mid : ContextState) (result : LookupResult L (Result X Error) D S) → mid.sections ≡ old.sections → mid.answers ≡ old.answers
+    → IfOutput result (λ o. IfErr o (λ e. ⊥)) → IfOutput result (λ o. IfOk o (λ x. reading mid.sections mid.answers probe ≡ Ok (see x))) → IfOutput result (λ o. ExactlyUnlessOom see o (reading old.sections old.answers probe))
+outputs_exact reading see probe old mid (Load c) s a never h = tt
+outputs_exact reading see probe old mid (Output (Err e)) s a never h = absurd never
+outputs_exact reading see probe old mid (Output (Ok x)) s a never h =
+    subst (λ d. reading d old.answers probe ≡ Ok (see x)) s (subst (λ q. reading mid.sections q probe ≡ Ok (see x)) a h)
+
+-- nor for want of memory
+pub outputs_told : {L X D S : Type 0} (P : Error → Type 0) (result : LookupResult L (Result X Error) D S) → IfOutput result (λ o. IfErr o (λ e. ⊥)) → IfOutput result (λ o. IfErr o P)
+outputs_told P (Load c) never = tt
+outputs_told P (Output (Ok x)) never = tt
+outputs_told P (Output (Err e)) never = absurd never
+
+-- a refusal as another kind of result
+pub err_after : {X Y : Type 0} (faults : Faults) (probe : ℕ) (old new : ContextState) (e : Error) → AfterFrames {X = Y} faults probe (Err e) old new → AfterFrames {X = X} faults probe (Err e) old new
+err_after faults probe old new e a = record {
+  sections = a.sections;
+  answers = a.answers;
+  parsed = a.parsed;
+  known = a.known;
+  only = a.only;
+  learns = a.learns;
+  raised = a.raised;
+  ready = a.ready;
+  memory = a.memory;
+}

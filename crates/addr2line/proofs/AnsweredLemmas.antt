@@ -1,6 +1,6 @@
 -- What an answer to the load of a unit makes of a context, and of a lookup that waits for it (on
 -- specs/Answers.antt and specs/Lookups.antt).
-use Rattle.std.proofs.Common.{◌≡◌, ◌≢◌, ℕ, zero, suc, ◌==◌, ◌<◌, arith, Bool, true, false, List, [], ◌∷◌, length, map, slice_get, Option, Some, None, Result, Ok, Err, refl, sym, ap, subst, ◌∙◌}
+use Rattle.std.proofs.Common.{◌≡◌, ◌≢◌, ℕ, zero, suc, ◌<◌, arith, Bool, true, false, List, [], ◌∷◌, length, slice_get, Option, Some, None, Result, Ok, Err, refl, sym, ap, subst, ◌∙◌}
 use Rattle.std.proofs.lemmas.Bool.{eqb-true}
 use Rattle.std.proofs.lemmas.List.{length-map}
 use Rattle.std.specs.Prelude.{IfErr, OnOk}
@@ -10,12 +10,11 @@ use Rattle.gimli_read.specs.Reading.{◌>>=◌}
 use Rattle.gimli.specs.Sections.{Sections}
 use Rattle.gimli.specs.Unit.{UnitRecord}
 use Rattle.addr2line_units.specs.declared.frames_lookup.Faults.{Faults}
-use Rattle.addr2line_units.specs.declared.frames_lookup.Faults.TheVariants.{End}
 use Rattle.addr2line_units.specs.declared.index.UnitRange.{UnitRange}
 use Rattle.addr2line_units.specs.declared.sup.SupUnits.{SupUnits}
 use Rattle.addr2line_units.specs.declared.unit.ResUnit.{ResUnit}
 use Rattle.addr2line_units.specs.declared.unit_frames.UnitEntries.{UnitEntries}
-use Rattle.addr2line_units.specs.CachedLines.{indexed_units, parsed_units}
+use Rattle.addr2line_units.specs.CachedLines.{parsed_units}
 use Rattle.addr2line_units.specs.Cover.{cover}
 use Rattle.addr2line_units.specs.FramesLookup.{Stop, Waits, Finds, FindsNothing, answer_of, main_scope, with_answer}
 use Rattle.addr2line_units.specs.KeptLookups.{HaveEntriesOf, StayAllEntries, answers_in, scope_in}
@@ -23,8 +22,8 @@ use Rattle.addr2line_units.specs.KnownEntries.{known_in, knows_at}
 use Rattle.addr2line_units.specs.LoadLaws.{IsListed, is_open_at}
 use Rattle.addr2line_units.specs.LoadLaws as laws
 use Rattle.addr2line_units.specs.Loads.{load_of_number, loads_along}
-use Rattle.addr2line_units.specs.UnitIndex.{IndexedUnit, UnitIndex, index_units, unit_records}
-use Rattle.addr2line_units.specs.Views.{SplitLoad, is_open}
+use Rattle.addr2line_units.specs.UnitIndex.{IndexedUnit, UnitIndex, unit_records}
+use Rattle.addr2line_units.specs.Views.{is_open}
 use Rattle.addr2line_units.proofs.KeptLookupLemmas.{as_many_entries, entries_more_at}
 use Rattle.addr2line_units.proofs.KnownLemmas.{known_is, known_unchanged}
 use Rattle.addr2line_units.proofs.LoadLawLemmas.{fewer_left, waits_listed}
@@ -33,7 +32,7 @@ use Rattle.addr2line_units.proofs.ScopeLemmas.{records_beside}
 use Rattle.addr2line_units.proofs.UnitsLemmas.{as_many_indexed}
 use Rattle.addr2line.proofs.LookupLemmas.{as_many_lines, scope_is}
 use Rattle.addr2line.specs.Answers.{AfterAnswer, answered}
-use Rattle.addr2line.specs.Context.{ContextState, IsContext, index_by}
+use Rattle.addr2line.specs.Context.{IsContext, index_by}
 use Rattle.addr2line.specs.Lookups.{FirstAnswers, IsUnitOf, loads_of, lookup_stop, stop_in, waits_for}
 
 -- a lookup that waits for the unit of a number
@@ -55,8 +54,8 @@ open_within d us answers n e = within us n (of_unit us n e)
     within (x ∷ xs) (suc k) h = let m = within xs k h in omega (arith, m)
 
 -- waits for one that there is
-pub unit_told : (faults : Faults) (d : Sections) (answers : FirstAnswers) (probe n : ℕ) → waits_for n (lookup_stop faults d answers probe) ≡ true → IsUnitOf d n
-unit_told faults d answers probe n w m e =
+pub unit_waited_for : (faults : Faults) (d : Sections) (answers : FirstAnswers) (probe n : ℕ) → waits_for n (lookup_stop faults d answers probe) ≡ true → IsUnitOf d n
+unit_waited_for faults d answers probe n w m e =
     let stop : stop_in faults d answers probe m ≡ Ok (Waits n) = sym (ap (λ r. r >>= stop_in faults d answers probe) e) ∙ waits_is n _ w in
     let open_is = (waits_listed faults (main_scope d m) m.units answers probe n (cover probe m.ranges) stop).0 in
     let k = open_within d (unit_records m.units) answers n open_is in
@@ -123,16 +122,16 @@ module _ {R : Type 0} (d : Sections) (us : List UnitRecord) (old : List ResUnit)
         of_err (Err e) h = (h.0, h.1, λ probe k q. known_is probe entries k ∙ entries_more_at probe held entries h.2 k (sym (known_is probe held k) ∙ q))
 
     -- fewer loads are left after an answer to one that a lookup waits for
-    pub fewer_after : OnOk result (answers_in entries ≡ with_answer d us (answers_in held) n given) → (probe : ℕ) → waits_for n (lookup_stop End d (answers_in held) probe) ≡ true
+    pub fewer_after : OnOk result (answers_in entries ≡ with_answer d us (answers_in held) n given) → (faults : Faults) (probe : ℕ) → waits_for n (lookup_stop faults d (answers_in held) probe) ≡ true
         → OnOk result (length (loads_of d (answers_in entries) probe) < length (loads_of d (answers_in held) probe))
-    fewer_after answers probe w = of_ok result answers
+    fewer_after answers faults probe w = of_ok result answers
       where
-        stop : stop_in End d (answers_in held) probe made ≡ Ok (Waits n)
-        stop = sym (ap (λ r. r >>= stop_in End d (answers_in held) probe) i.made_is) ∙ waits_is n _ w
+        stop : stop_in faults d (answers_in held) probe made ≡ Ok (Waits n)
+        stop = sym (ap (λ r. r >>= stop_in faults d (answers_in held) probe) i.made_is) ∙ waits_is n _ w
 
         listed : IsListed n (laws.loads_of d us (answers_in held) (cover probe ranges))
         listed = subst (λ xs. IsListed n (laws.loads_of d xs (answers_in held) (cover probe ranges))) (records_beside d us old i.lines)
-            (waits_listed End (main_scope d made) made.units (answers_in held) probe n (cover probe ranges) stop).1
+            (waits_listed faults (main_scope d made) made.units (answers_in held) probe n (cover probe ranges) stop).1
 
         many : length us ≡ length (answers_in held)
         many = as_many_entries (main_scope d made) us held i.entries ∙ sym (as_many_answers held)

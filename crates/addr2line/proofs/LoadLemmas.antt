@@ -1,11 +1,10 @@
 -- Answers to loads outside a lookup, in a context (on specs/Loads.antt).
-use Rattle.std.proofs.Common.{◌≡◌, ◌≢◌, ℕ, true, List, length, map, slice_get, Option, None, Result, Ok, Err, refl, sym, ap, subst, ◌∙◌}
+use Rattle.std.proofs.Common.{◌≡◌, ◌≢◌, ℕ, true, List, length, slice_get, Option, None, Result, Ok, Err, refl, sym, ap, subst, ◌∙◌}
 use Rattle.std.specs.Prelude.{OnOk}
 use Rattle.gimli_read.specs.declared.error.Error.{Error}
 use Rattle.gimli_read.specs.Reading.{◌>>=◌, ExactlyUnlessOom}
 use Rattle.gimli.specs.Sections.{Sections}
 use Rattle.gimli.specs.Unit.{UnitRecord}
-use Rattle.addr2line_lines.specs.References.{Scope}
 use Rattle.addr2line_units.specs.declared.frames_lookup.Faults.{Faults}
 use Rattle.addr2line_units.specs.declared.index.UnitRange.{UnitRange}
 use Rattle.addr2line_units.specs.declared.parses.Reads.{Reads}
@@ -13,18 +12,16 @@ use Rattle.addr2line_units.specs.declared.parses.Reads.TheVariants as kinds
 use Rattle.addr2line_units.specs.declared.sup.SupUnits.{SupUnits}
 use Rattle.addr2line_units.specs.declared.unit.ResUnit.{ResUnit}
 use Rattle.addr2line_units.specs.declared.unit_frames.UnitEntries.{UnitEntries}
-use Rattle.addr2line_units.specs.CachedLines.{indexed_units, parsed_units}
+use Rattle.addr2line_units.specs.CachedLines.{parsed_units}
 use Rattle.addr2line_units.specs.Cover.{cover}
 use Rattle.addr2line_units.specs.FramesLookup.{answer_of, asked_frames, main_scope, stop_along, with_answer}
 use Rattle.addr2line_units.specs.FunctionParseLaws.{IsReached}
 use Rattle.addr2line_units.specs.FunctionParses.{AreFirstDecided, answers_after, read_of_units}
 use Rattle.addr2line_units.specs.KeptLookups.{StayAllEntries, answers_in, has_entries_at, scope_in}
-use Rattle.addr2line_units.specs.KnownEntries.{known_in, knows_at}
+use Rattle.addr2line_units.specs.KnownEntries.{known_in}
 use Rattle.addr2line_units.specs.Loads.{forget_result, forgotten, load_of_number, load_result, loads_along}
-use Rattle.addr2line_units.specs.Located.{all_lines, lines_fault}
 use Rattle.addr2line_units.specs.Parsed.{IsNotOom}
-use Rattle.addr2line_units.specs.UnitIndex.{UnitIndex, index_units, unit_records}
-use Rattle.addr2line_units.specs.Views.{SplitLoad}
+use Rattle.addr2line_units.specs.UnitIndex.{UnitIndex, unit_records}
 use Rattle.addr2line_units.proofs.KeptLookupLemmas.{as_many_entries, entries_more_at}
 use Rattle.addr2line_units.proofs.KnownLemmas.{known_is, known_unchanged}
 use Rattle.addr2line_units.proofs.LoadLemmas.{as_many_answers}
@@ -33,11 +30,11 @@ use Rattle.addr2line_units.proofs.ScopeLemmas.{records_beside}
 use Rattle.addr2line_units.proofs.UnitsLemmas.{as_many_indexed}
 use Rattle.addr2line.proofs.AnsweredLemmas.{answers_are, loads_are}
 use Rattle.addr2line.proofs.ContextLemmas.{lines_are}
-use Rattle.addr2line.proofs.LookupLemmas.{as_many_lines, scope_is, stop_is}
+use Rattle.addr2line.proofs.LookupLemmas.{as_many_lines, scope_is}
 use Rattle.addr2line.proofs.NewContextLemmas.{ok_is}
-use Rattle.addr2line.specs.Context.{ContextState, IsContext, index_by, lines_of_all}
+use Rattle.addr2line.specs.Context.{ContextState, IsContext, index_by}
 use Rattle.addr2line.specs.Loads.{AfterForget, AfterLoad, AfterParse, AfterPreload, IsAllKnown, ReachesAllOf, StaysRead, forget_reply, load_reply, parse_reply, parsed_answers}
-use Rattle.addr2line.specs.Lookups.{FirstAnswers, StaysKnown, loads_of, lookup_stop}
+use Rattle.addr2line.specs.Lookups.{StaysKnown, loads_of, lookup_stop}
 
 module _ {R : Type 0} (d : Sections) (us : List UnitRecord) (old : List ResUnit) (held : List (UnitEntries R)) (ranges : List UnitRange) (sup : SupUnits R) (i : IsContext d us old held ranges sup.units.items sup.dwarf) where
   abbrev made : UnitIndex

@@ -1,6 +1,6 @@
 -- What a lookup of frames comes to in a context, by what is kept (on specs/Lookups.antt).
-use Rattle.std.proofs.Common.{◌≡◌, ◌≢◌, ◌⊎◌, inl, inr, ℕ, zero, suc, arith, length, ◌<◌, ◌≤◌, ◌&&◌, ◌||◌, Bool, true, false, not, List, [], ◌∷◌, map, slice_get, Option, Some, None, option_map, unwrap_or, Result, Ok, Err, refl, sym, ap, subst, ◌∙◌}
-use Rattle.std.specs.Prelude.{IfOk, IfSome}
+use Rattle.std.proofs.Common.{◌≡◌, ◌≢◌, ◌⊎◌, inl, inr, ℕ, zero, suc, arith, length, ◌<◌, ◌≤◌, ◌&&◌, ◌||◌, Bool, true, false, not, List, [], ◌∷◌, slice_get, Option, Some, None, option_map, Result, Ok, Err, refl, sym, ap, subst, ◌∙◌}
+use Rattle.std.specs.Prelude.{IfErr, IfOk, IfSome}
 use Rattle.gimli_read.specs.declared.error.Error.{Error}
 use Rattle.gimli_read.specs.declared.error.Error.TheVariants.{OutOfMemory}
 use Rattle.gimli_read.specs.Reading.{◌>>=◌, ExactlyUnlessOom}
@@ -8,6 +8,7 @@ use Rattle.gimli.specs.Sections.{Sections, SupSections}
 use Rattle.gimli.specs.Unit.{UnitRecord}
 use Rattle.addr2line_lines.specs.References.{FileRecord, IsScope, Scope}
 use Rattle.addr2line_units.specs.declared.frames_lookup.Faults.{Faults}
+use Rattle.addr2line_units.specs.declared.frames_lookup.Faults.TheVariants.{PassOver}
 use Rattle.addr2line_units.specs.declared.frames_lookup.FramesStop.{FramesStop}
 use Rattle.addr2line_units.specs.declared.frames_lookup.FramesStop.TheVariants as stops
 use Rattle.addr2line_units.specs.declared.index.UnitRange.{UnitRange}
@@ -17,12 +18,13 @@ use Rattle.addr2line_units.specs.declared.unit_frames.UnitEntries.{UnitEntries}
 use Rattle.addr2line_units.specs.CachedLines.{HaveLinesOf, StayUnits, indexed_units, parsed_units}
 use Rattle.addr2line_units.specs.Cover.{cover}
 use Rattle.addr2line_units.specs.Frames.{FrameRecord}
-use Rattle.addr2line_units.specs.FramesLookup.{LookupAsks, Stop, Waits, Finds, FindsNothing, asked_frames, asks_lines_of, ends_lookup, frames_found, has_many_of, holds_along, is_waiting, main_scope, stop_along}
-use Rattle.addr2line_units.specs.KeptLookups.{HaveEntriesOf, HaveViewsOf, ReadsOnly, StayAllEntries, answers_in, has_frames_at, scope_in, seen_stop, waits_at}
-use Rattle.addr2line_units.specs.KnownEntries.{known_in, knows_at}
+use Rattle.addr2line_units.specs.FramesLookup.{LookupAsks, Stop, Waits, Finds, FindsNothing, after_fault, asked_frames, asks_lines_of, ends_lookup, frames_found, frames_of_number, has_many_of, holds_along, is_waiting, main_scope, or_stop, readable_view, stop_along, view_of_number}
+use Rattle.addr2line_units.specs.KeptLookups.{HaveEntriesOf, HaveViewsOf, ReadsOnly, StayAllEntries, answers_in, decided_at, has_frames_at, scope_in, seen_stop, waits_at}
+use Rattle.addr2line_units.specs.KnownEntries.{known_in}
 use Rattle.addr2line_units.specs.Parsed.{IsNotOom, ParsesOnly, has_parsed}
-use Rattle.addr2line_units.specs.UnitIndex.{UnitIndex, index_units, sup_sections, unit_records}
-use Rattle.addr2line_units.specs.Views.{SplitLoad, load_of_unit}
+use Rattle.addr2line_units.specs.UnitIndex.{IndexedUnit, UnitIndex, index_units, sup_sections, unit_records}
+use Rattle.addr2line_units.specs.Views.{SplitLoad, load_of_unit, parts_of}
+use Rattle.addr2line_units.proofs.FoundLemmas.{known_where_found}
 use Rattle.addr2line_units.proofs.KeptLookupLemmas.{entries_more_at, same_answers}
 use Rattle.addr2line_units.proofs.KnownLemmas.{known_is, known_unchanged}
 use Rattle.addr2line_units.proofs.ScopeLemmas.{main_scope_in_order, records_beside}
@@ -30,8 +32,10 @@ use Rattle.addr2line_units.proofs.UnitsLemmas.{stay_indexed, stay_parsed}
 use Rattle.addr2line_units.proofs.WaitLemmas.{as_many_views, views_of_entries, waits_where_told, waits_within}
 use Rattle.addr2line.proofs.NewContextLemmas.{ok_is}
 use Rattle.addr2line.specs.Context.{ContextState, IsContext, index_by}
-use Rattle.addr2line.specs.KeptStops.{waiting_after_fault, waiting_in}
-use Rattle.addr2line.specs.Lookups.{AfterFrames, IsKnown, IsKnownFew, IsLoadOf, frames_told, has_all_of, has_few_of, lookup_stop, stop_in, waiting_unit}
+use Rattle.addr2line.specs.declared.stops.UnitStop.{UnitStop}
+use Rattle.addr2line.specs.declared.stops.UnitStop.TheVariants as units
+use Rattle.addr2line.specs.KeptStops.{by_number, kept_by_number, unit_stop}
+use Rattle.addr2line.specs.Lookups.{AfterFrames, FirstAnswers, IsKnown, IsKnownFew, IsLoadOf, frames_told, has_all_of, has_few_of, lookup_stop, stop_in, unit_of, unit_told}
 
 -- along ranges what is equal of each number
 pub holds_same : (h k : ℕ → Bool) (frames : ℕ → Result (Option (List FrameRecord)) Error) (ranges : List UnitRange) → ((n : ℕ) → h n ≡ k n) → holds_along h frames ranges ≡ holds_along k frames ranges
@@ -39,6 +43,16 @@ holds_same h k frames [] e = refl
 holds_same h k frames (r ∷ ranges) e =
     ap (λ b. b && (ends_lookup (frames r.unit) || holds_along h frames ranges)) (e r.unit)
     ∙ ap (λ b. k r.unit && (ends_lookup (frames r.unit) || b)) (holds_same h k frames ranges e)
+
+-- a lookup by number
+finds_by : (n : ℕ) (r : Result Stop Error) → (r >>= λ s. Ok (by_number s)) ≡ Ok (units.Finds n) → (fs : List FrameRecord) × (r ≡ Ok (Finds n fs))
+finds_by n (Err e) h = absurd cc
+finds_by n (Ok (Waits k)) h = absurd cc
+finds_by n (Ok FindsNothing) h = absurd cc
+finds_by n (Ok (Finds k fs)) h = (fs, ap (λ j. Ok (Finds j fs)) (same_number k n h))
+  where
+    same_number : (k n : ℕ) → ◌≡◌ {A = Result UnitStop Error} (Ok (units.Finds k)) (Ok (units.Finds n)) → k ≡ n
+    same_number k n e = cc
 
 module _ {R : Type 0} where
   module _ (d : Sections) (us : List UnitRecord) (old : List ResUnit) (held : List (UnitEntries R)) (ranges : List UnitRange) (sup : SupUnits R) (i : IsContext d us old held ranges sup.units.items sup.dwarf) where
@@ -109,6 +123,31 @@ module _ {R : Type 0} where
         all_is : (k : ℕ) → has_all_of (record { sections = d; answers = answers_in held; parsed = parsed_units old; known = known_in held; looks = looks }) probe made k
             ≡ has_frames_at (asks_lines_of (main_scope d made) (indexed_units us old) (answers_in held) probe) probe (parsed_units old) held k
         all_is k = ap (λ b. b && (not (asks_lines_of (main_scope d made) (indexed_units us old) (answers_in held) probe k) || has_parsed (parsed_units old) k)) (known_is probe held k)
+
+    -- a lookup of a unit that has found one, where what it asks for is known, has found one whose view
+    -- is known
+    pub found_told : (probe n looks : ℕ) → unit_stop PassOver d (answers_in held) probe ≡ Ok (units.Finds n)
+        → IsKnown PassOver (record { sections = d; answers = answers_in held; parsed = parsed_units old; known = known_in held; looks = looks }) probe → decided_at held n ≡ true
+    found_told probe n looks w known =
+        let f = finds_by n (lookup_stop PassOver d (answers_in held) probe) w in
+        known_where_found (main_scope d made) probe PassOver us old held (asks_lines_of (main_scope d made) (indexed_units us old) (answers_in held) probe) (parsed_units old) (cover probe ranges) n f.0 i.entries
+        (sym (holds_same _ _ (asked_frames PassOver (main_scope d made) (indexed_units us old) (answers_in held) probe) (cover probe ranges) all_is) ∙ known made i.made_is)
+        (sym (ap (λ r. r >>= stop_in PassOver d (answers_in held) probe) i.made_is) ∙ f.1)
+      where
+        all_is : (k : ℕ) → has_all_of (record { sections = d; answers = answers_in held; parsed = parsed_units old; known = known_in held; looks = looks }) probe made k
+            ≡ has_frames_at (asks_lines_of (main_scope d made) (indexed_units us old) (answers_in held) probe) probe (parsed_units old) held k
+        all_is k = ap (λ b. b && (not (asks_lines_of (main_scope d made) (indexed_units us old) (answers_in held) probe k) || has_parsed (parsed_units old) k)) (known_is probe held k)
+
+    -- its view
+    pub unit_told_of : (probe n : ℕ) (found : Option (Sections × UnitRecord)) → unit_stop PassOver d (answers_in held) probe ≡ Ok (units.Finds n) → found ≡ option_map parts_of (readable_view (view_of_number d us (answers_in held) n))
+        → unit_of d (answers_in held) probe ≡ Ok (Some found)
+    unit_told_of probe n found w e =
+        let f = finds_by n (lookup_stop PassOver d (answers_in held) probe) w in
+        let stop : stop_in PassOver d (answers_in held) probe made ≡ Ok (Finds n f.0) = sym (ap (λ r. r >>= stop_in PassOver d (answers_in held) probe) i.made_is) ∙ f.1 in
+        ap (λ r. r >>= λ m. stop_in PassOver d (answers_in held) probe m >>= λ s. Ok (unit_told d (answers_in held) m s)) i.made_is
+        ∙ ap (λ r. r >>= λ s. Ok (unit_told d (answers_in held) made s)) stop
+        ∙ ap (λ xs. Ok (Some (option_map parts_of (readable_view (view_of_number d xs (answers_in held) n))))) (records_beside d us old i.lines)
+        ∙ ap (λ o. Ok (Some o)) (sym e)
 
     pub views_are : HaveViewsOf d us held
     views_are = views_of_entries (main_scope d made) us held i.entries
@@ -203,17 +242,17 @@ module _ {R : Type 0} where
         pub after_frames : {X : Type 0} (x : Sections) → d ≡ x → (result : Result X Error) → ShowsAfter x result
         after_frames x e result = subst (λ y. ShowsAfter y result) e (shows_after result)
 
--- the unit that a lookup waits for
+-- what a lookup comes to by number
 module _ {R : Type 0} (units : List ResUnit) (views : List (UnitEntries R)) where
-  pub told_waiting : (r : Result FramesStop Error) (given : Result Stop Error) → ExactlyUnlessOom (seen_stop units views) r given → IfOk (waiting_in r) (λ w. w ≡ waiting_unit given)
-  told_waiting (Ok (stops.Waits n)) given h = ap waiting_unit (sym h)
-  told_waiting (Ok (stops.Finds p)) given h = ap waiting_unit (sym h)
-  told_waiting (Ok stops.FindsNothing) given h = ap waiting_unit (sym h)
-  told_waiting (Err e) given h = by e h
-    where
-      by : (e : Error) → (e ≢ OutOfMemory → given ≡ Err e) → IfOk (waiting_after_fault e) (λ w. w ≡ waiting_unit given)
-      by OutOfMemory k = tt
-      by _ k = ap waiting_unit (sym (k (λ q. absurd cc)))
+  seen_by_number : (stop : FramesStop) → by_number (seen_stop units views stop) ≡ kept_by_number stop
+  seen_by_number (stops.Waits n) = refl
+  seen_by_number (stops.Finds p) = refl
+  seen_by_number stops.FindsNothing = refl
+
+  pub stop_told : (r : Result FramesStop Error) (given : Result Stop Error) → ExactlyUnlessOom (seen_stop units views) r given
+      → ExactlyUnlessOom (λ s. s) (r >>= λ s. Ok (kept_by_number s)) (given >>= λ s. Ok (by_number s))
+  stop_told (Ok stop) given h = ap (λ r. r >>= λ s. Ok (by_number s)) h ∙ ap (λ s. Ok s) (seen_by_number stop)
+  stop_told (Err e) given h = λ ne. ap (λ r. r >>= λ s. Ok (by_number s)) (h ne)
 
   -- the frames of a lookup that has ended
   pub told_frames : (stop : FramesStop) (given : Result Stop Error) (frames : List FrameRecord) → is_waiting given ≡ false → given ≡ Ok (seen_stop units views stop) → frames ≡ frames_found (seen_stop units views stop)
@@ -227,23 +266,43 @@ module _ {R : Type 0} (units : List ResUnit) (views : List (UnitEntries R)) wher
       by FindsNothing k = refl
 
 -- it is refused for want of memory where the lookup is
-pub oom_told : (r : Result FramesStop Error) → IsNotOom (waiting_in r) → IsNotOom r
-oom_told (Ok stop) h = tt
-oom_told (Err e) h = by e h
-  where
-    by : (e : Error) → IsNotOom (waiting_after_fault e) → e ≢ OutOfMemory
-    by OutOfMemory k = k
-    by _ k = λ q. absurd cc
+pub oom_told : {X Y : Type 0} (f : X → Y) (r : Result X Error) → IsNotOom (r >>= λ x. Ok (f x)) → IsNotOom r
+oom_told f (Ok x) h = h
+oom_told f (Err e) h = h
 
-pub told_oom : (r : Result FramesStop Error) → IsNotOom r → IsNotOom (waiting_in r)
-told_oom (Ok (stops.Waits n)) h = tt
-told_oom (Ok (stops.Finds p)) h = tt
-told_oom (Ok stops.FindsNothing) h = tt
-told_oom (Err e) h = by e h
+pub told_oom : {X Y : Type 0} (f : X → Y) (r : Result X Error) → IsNotOom r → IsNotOom (r >>= λ x. Ok (f x))
+told_oom f (Ok x) h = h
+told_oom f (Err e) h = h
+
+-- a lookup that passes over faults has none
+passes_step : (n : ℕ) (rest : Result Stop Error) (e : Error) (x : Result (Option (List FrameRecord)) Error) → rest ≢ Err e → (after_fault PassOver x >>= or_stop n rest) ≢ Err e
+passes_step n rest e (Err f) never h = never h
+passes_step n rest e (Ok None) never h = cc
+passes_step n rest e (Ok (Some [])) never h = never h
+passes_step n rest e (Ok (Some (f ∷ fs))) never h = cc
+
+passes_over : (scope : Scope) (units : List IndexedUnit) (answers : FirstAnswers) (probe : ℕ) (ranges : List UnitRange) (e : Error) → stop_along (asked_frames PassOver scope units answers probe) ranges ≢ Err e
+passes_over scope units answers probe [] e h = cc
+passes_over scope units answers probe (r ∷ ranges) e h =
+    passes_step r.unit (stop_along (asked_frames PassOver scope units answers probe) ranges) e (frames_of_number scope units answers probe r.unit) (passes_over scope units answers probe ranges e) h
+
+-- so a lookup of a unit in a context is refused for want of memory alone
+only_oom : (e : Error) {given : Result UnitStop Error} → given ≢ Err e → (e ≢ OutOfMemory → given ≡ Err e) → e ≡ OutOfMemory
+only_oom OutOfMemory never h = refl
+only_oom e never h = absurd (never (h (λ q. absurd cc)))
+
+pub refused_for_memory : {R : Type 0} (d : Sections) (us : List UnitRecord) (old : List ResUnit) (held : List (UnitEntries R)) (ranges : List UnitRange) (sup : SupUnits R) (i : IsContext d us old held ranges sup.units.items sup.dwarf) (faults : Faults) (probe : ℕ) (r : Result UnitStop Error)
+    → faults ≡ PassOver → ExactlyUnlessOom (λ s. s) r (unit_stop faults d (answers_in held) probe) → IfErr r (λ e. e ≡ OutOfMemory)
+refused_for_memory d us old held ranges sup i faults probe (Ok s) p h = tt
+refused_for_memory d us old held ranges sup i faults probe (Err e) p h = only_oom e never h
   where
-    by : (e : Error) → e ≢ OutOfMemory → IsNotOom (waiting_after_fault e)
-    by OutOfMemory k = k
-    by _ k = tt
+    by : (r : Result Stop Error) → (r >>= λ s. Ok (by_number s)) ≡ Err e → r ≡ Err e
+    by (Ok s) k = absurd cc
+    by (Err f) k = cc
+
+    never : unit_stop faults d (answers_in held) probe ≢ Err e
+    never k = passes_over (scope_in d us sup) (indexed_units us old) (answers_in held) probe (cover probe ranges) e
+        (sym (stop_is d us old held ranges sup i PassOver probe) ∙ by (lookup_stop PassOver d (answers_in held) probe) (ap (λ f. unit_stop f d (answers_in held) probe) (sym p) ∙ k))
 
 -- beside each unit stand its lines
 pub as_many_lines : (d : Sections) (us : List UnitRecord) (rs : List ResUnit) → HaveLinesOf d us rs → length us ≡ length rs

@@ -1,12 +1,11 @@
 -- A lookup that doesn't wait, where each unit that has no answer is answered none (on
 -- specs/Lookups.antt).
-use Rattle.std.proofs.Common.{◌≡◌, ◌≢◌, ℕ, zero, suc, get_or, Bool, true, false, List, [], ◌∷◌, map, slice_get, Option, Some, None, option_map, unwrap_or, Result, Ok, Err, refl, sym, ap, subst, ◌∙◌, if◌then◌else◌}
+use Rattle.std.proofs.Common.{◌≡◌, ◌≢◌, ℕ, zero, suc, get_or, Bool, true, false, List, [], ◌∷◌, slice_get, Option, Some, None, option_and_then, option_map, unwrap_or, Result, Ok, Err, refl, sym, ap, subst, ◌∙◌, if◌then◌else◌}
 use Rattle.std.proofs.Math.ListN.{set}
 use Rattle.std.proofs.Math.Seq.{map-set_same}
 use Rattle.std.proofs.lemmas.Option.{slice_get-map}
 use Rattle.std.specs.Prelude.{is_none}
 use Rattle.gimli_read.specs.declared.error.Error.{Error}
-use Rattle.gimli_read.specs.declared.error.Error.TheVariants.{OutOfMemory}
 use Rattle.gimli_read.specs.Reading.{◌>>=◌, ExactlyUnlessOom}
 use Rattle.gimli.specs.Sections.{Sections}
 use Rattle.gimli.specs.Unit.{UnitRecord}
@@ -18,13 +17,14 @@ use Rattle.addr2line_units.specs.declared.frames_lookup.Faults.TheVariants.{End,
 use Rattle.addr2line_units.specs.declared.index.UnitRange.{UnitRange}
 use Rattle.addr2line_units.specs.Cover.{cover}
 use Rattle.addr2line_units.specs.Frames.{FrameRecord}
-use Rattle.addr2line_units.specs.FramesLookup.{Stop, Waits, Finds, FindsNothing, after_fault, answer_of, asked_frames, frames_of_number, is_waiting, main_scope, or_stop, stop_along, with_answer}
+use Rattle.addr2line_units.specs.FramesLookup.{Stop, Waits, Finds, FindsNothing, after_fault, answer_of, asked_frames, frames_of_number, is_waiting, main_scope, or_stop, readable_view, stop_along, view_of_number, with_answer}
 use Rattle.addr2line_units.specs.Suspended.{IfLoad, IfOutput, SkipsTo}
 use Rattle.addr2line_units.specs.UnitFrames.{frames_by, frames_in, function_by}
 use Rattle.addr2line_units.specs.UnitIndex.{IndexedUnit, UnitIndex, index_units, unit_records}
-use Rattle.addr2line_units.specs.Views.{SplitLoad, View, decided_answer, is_open, load_of_unit, verdict, verdict_by}
+use Rattle.addr2line_units.specs.Views.{SplitLoad, View, decided_answer, is_open, load_of_unit, parts_of, verdict, verdict_by}
+use Rattle.addr2line_units.proofs.FoundLemmas.{always_along, decided_by_frames, found_along, found_by_unit, has_frames}
 use Rattle.addr2line.specs.Answers.{answered}
-use Rattle.addr2line.specs.Lookups.{FirstAnswers, frames_of, frames_told, lookup_stop, stop_in, with_none}
+use Rattle.addr2line.specs.Lookups.{FirstAnswers, frames_of, frames_told, lookup_stop, stop_in, unit_of, unit_told, with_none}
 
 abbrev Reading : Type 0
 Reading = Result (Option (List FrameRecord)) Error
@@ -89,7 +89,7 @@ settled_stop faults d answers probe w = of_index (index_units d) w
     of_index (Ok m) h = settled_along _ _ (settled_asked faults (main_scope d m) m.units answers probe) (cover probe m.ranges) h
 
 -- the frames of a lookup that ended
-settled_frames : (d : Sections) (answers : FirstAnswers) (probe : ℕ) → frames_of d answers probe ≢ Ok None → frames_of d (with_none answers) probe ≡ frames_of d answers probe
+pub settled_frames : (d : Sections) (answers : FirstAnswers) (probe : ℕ) → frames_of d answers probe ≢ Ok None → frames_of d (with_none answers) probe ≡ frames_of d answers probe
 settled_frames d answers probe ne = ap (λ r. r >>= λ s. Ok (frames_told s)) (settled_stop End d answers probe (ended (lookup_stop End d answers probe) ne))
   where
     ended : (r : Result Stop Error) → (r >>= λ s. Ok (frames_told s)) ≢ Ok None → is_waiting r ≡ false
@@ -97,6 +97,62 @@ settled_frames d answers probe ne = ap (λ r. r >>= λ s. Ok (frames_told s)) (s
     ended (Ok (Waits n)) h = absurd (h refl)
     ended (Ok (Finds n frames)) h = refl
     ended (Ok FindsNothing) h = refl
+
+-- the view of a unit in which a lookup has found something
+found_view : (d : Sections) (m : UnitIndex) (answers : FirstAnswers) (probe n : ℕ) (o : Option IndexedUnit) → has_frames (elim o [ None ↦ Ok (Some []) | Some u ↦ frames_in (main_scope d m) u (answer_of answers n) probe ]) ≡ true
+    → option_and_then (λ u. verdict d u (answer_of answers n)) (option_map (λ (u : IndexedUnit). u.unit) o) ≢ None
+unfolding has_frames
+found_view d m answers probe n None h e = absurd cc
+found_view d m answers probe n (Some u) h e =
+    let closed = decided_by_frames (main_scope d m) u (answer_of answers n) probe h in
+    let f : ◌≡◌ {A = Bool} true false = sym (ap is_none e) ∙ closed in
+    cc
+
+settled_verdict : (d : Sections) (u : UnitRecord) (o : Option (Option (Option Sections))) → verdict d u (unwrap_or o None) ≢ None → verdict d u (unwrap_or (option_map (λ a. Some (unwrap_or a None)) o) None) ≡ verdict d u (unwrap_or o None)
+settled_verdict d u None ne = refl
+settled_verdict d u (Some a) ne = by (verdict d u a) refl
+  where
+    by : (w : Option (Result View Error)) → verdict d u a ≡ w → verdict d u (Some (unwrap_or a None)) ≡ verdict d u a
+    by None e = absurd (ne e)
+    by (Some v) e = settled_by d u (load_of_unit d 0 u) a v e ∙ sym e
+
+settled_view : (d : Sections) (us : List UnitRecord) (answers : FirstAnswers) (n : ℕ) → view_of_number d us answers n ≢ None → view_of_number d us (with_none answers) n ≡ view_of_number d us answers n
+settled_view d us answers n ne = by (slice_get us n) ne
+  where
+    by : (o : Option UnitRecord) → option_and_then (λ u. verdict d u (answer_of answers n)) o ≢ None → option_and_then (λ u. verdict d u (answer_of (with_none answers) n)) o ≡ option_and_then (λ u. verdict d u (answer_of answers n)) o
+    by None h = refl
+    by (Some u) h =
+        ap (λ o. verdict d u (unwrap_or o None)) (slice_get-map (λ (a : Option (Option Sections)). Some (unwrap_or a None)) answers n)
+        ∙ settled_verdict d u (slice_get answers n) h
+
+-- the unit of a lookup that ended
+pub settled_unit_of : (d : Sections) (answers : FirstAnswers) (probe : ℕ) → unit_of d answers probe ≢ Ok None → unit_of d (with_none answers) probe ≡ unit_of d answers probe
+settled_unit_of d answers probe ne = of_index (index_units d) ne
+  where
+    of_stop : (m : UnitIndex) (r : Result Stop Error) → stop_in PassOver d answers probe m ≡ r → (r >>= λ s. Ok (unit_told d answers m s)) ≢ Ok None
+        → (r >>= λ s. Ok (unit_told d (with_none answers) m s)) ≡ (r >>= λ s. Ok (unit_told d answers m s))
+    of_stop m (Err e) is h = refl
+    of_stop m (Ok (Waits n)) is h = absurd (h refl)
+    of_stop m (Ok FindsNothing) is h = refl
+    of_stop m (Ok (Finds n frames)) is h =
+        let asked = asked_frames PassOver (main_scope d m) m.units answers probe in
+        let told = found_along (λ _. true) asked n frames (cover probe m.ranges) (always_along asked (cover probe m.ranges)) is in
+        let there = found_by_unit PassOver (frames_of_number (main_scope d m) m.units answers probe n) told.0 in
+        let known = subst (λ o. option_and_then (λ u. verdict d u (answer_of answers n)) o ≢ None) (sym (slice_get-map (λ (u : IndexedUnit). u.unit) m.units n)) (found_view d m answers probe n (slice_get m.units n) there) in
+        ap (λ (w : Option (Result View Error)). Ok (Some (option_map parts_of (readable_view w)))) (settled_view d (unit_records m.units) answers n known)
+
+    ended : (m : UnitIndex) (r : Result Stop Error) → (r >>= λ s. Ok (unit_told d answers m s)) ≢ Ok None → is_waiting r ≡ false
+    ended m (Err e) h = refl
+    ended m (Ok (Waits n)) h = absurd (h refl)
+    ended m (Ok (Finds n frames)) h = refl
+    ended m (Ok FindsNothing) h = refl
+
+    of_index : (r : Result UnitIndex Error) → (r >>= λ m. stop_in PassOver d answers probe m >>= λ s. Ok (unit_told d answers m s)) ≢ Ok None
+        → (r >>= λ m. stop_in PassOver d (with_none answers) probe m >>= λ s. Ok (unit_told d (with_none answers) m s)) ≡ (r >>= λ m. stop_in PassOver d answers probe m >>= λ s. Ok (unit_told d answers m s))
+    of_index (Err e) h = refl
+    of_index (Ok m) h =
+        ap (λ r. r >>= λ s. Ok (unit_told d (with_none answers) m s)) (settled_along _ _ (settled_asked PassOver (main_scope d m) m.units answers probe) (cover probe m.ranges) (ended m (stop_in PassOver d answers probe m) h))
+        ∙ of_stop m (stop_in PassOver d answers probe m) refl h
 
 -- none as the answer of one more unit
 none_closed : (d : Sections) (u : UnitRecord) (a : Option (Option Sections)) → ◌≡◌ {A = Option (Option Sections)} (Some (unwrap_or (decided_answer d u a None) None)) (Some (unwrap_or a None))
@@ -133,28 +189,29 @@ none_after d answers n = of_index (index_units d)
     of_index (Ok m) = of_unit (slice_get (unit_records m.units) n)
 
 -- what a lookup may give after none as an answer it may give before it
-pub skip_told : {L X D S : Type 0} (see : X → List FrameRecord) (d : Sections) (answers : FirstAnswers) (probe n : ℕ) (sections_of : L → Sections) (answers_of : L → FirstAnswers) (probe_of : L → ℕ) (r : LookupResult L (Result X Error) D S)
-    → IfLoad r (λ c. (sections_of c ≡ d) × (answers_of c ≡ answered d answers n None) × (probe_of c ≡ probe))
-    → IfOutput r (λ o. ExactlyUnlessOom (λ x. Some (see x)) o (frames_of d (answered d answers n None) probe))
-    → (o : Result X Error) → SkipsTo (λ c p. ExactlyUnlessOom (λ x. Some (see x)) p (frames_of (sections_of c) (with_none (answers_of c)) (probe_of c))) r o
-    → ExactlyUnlessOom (λ x. Some (see x)) o (frames_of d (with_none answers) probe)
-skip_told see d answers probe n sections_of answers_of probe_of (Load c) load output o skips =
-    subst (λ a. ExactlyUnlessOom (λ x. Some (see x)) o (frames_of d a probe)) (none_after d answers n)
-    (subst (λ p. ExactlyUnlessOom (λ x. Some (see x)) o (frames_of d (with_none (answered d answers n None)) p)) load.2
-    (subst (λ a. ExactlyUnlessOom (λ x. Some (see x)) o (frames_of d (with_none a) (probe_of c))) load.1
-    (subst (λ s. ExactlyUnlessOom (λ x. Some (see x)) o (frames_of s (with_none (answers_of c)) (probe_of c))) load.0 skips)))
-skip_told {L} {X} see d answers probe n sections_of answers_of probe_of (Output p) load output o skips =
-    subst (λ q. ExactlyUnlessOom (λ x. Some (see x)) q (frames_of d (with_none answers) probe)) skips (of_output p output)
-  where
-    then_none : frames_of d (answered d answers n None) probe ≢ Ok None → frames_of d (with_none answers) probe ≡ frames_of d (answered d answers n None) probe
-    then_none ne = ap (λ a. frames_of d a probe) (sym (none_after d answers n)) ∙ settled_frames d (answered d answers n None) probe ne
+module _ {V X : Type 0} (reading : Sections → FirstAnswers → ℕ → Result (Option V) Error) (settled : (d : Sections) (answers : FirstAnswers) (probe : ℕ) → reading d answers probe ≢ Ok None → reading d (with_none answers) probe ≡ reading d answers probe) (see : X → V) where
+  pub skip_told : {L D S : Type 0} (d : Sections) (answers : FirstAnswers) (probe n : ℕ) (sections_of : L → Sections) (answers_of : L → FirstAnswers) (probe_of : L → ℕ) (r : LookupResult L (Result X Error) D S)
+      → IfLoad r (λ c. (sections_of c ≡ d) × (answers_of c ≡ answered d answers n None) × (probe_of c ≡ probe))
+      → IfOutput r (λ o. ExactlyUnlessOom (λ x. Some (see x)) o (reading d (answered d answers n None) probe))
+      → (o : Result X Error) → SkipsTo (λ c p. ExactlyUnlessOom (λ x. Some (see x)) p (reading (sections_of c) (with_none (answers_of c)) (probe_of c))) r o
+      → ExactlyUnlessOom (λ x. Some (see x)) o (reading d (with_none answers) probe)
+  skip_told d answers probe n sections_of answers_of probe_of (Load c) load output o skips =
+      subst (λ a. ExactlyUnlessOom (λ x. Some (see x)) o (reading d a probe)) (none_after d answers n)
+      (subst (λ p. ExactlyUnlessOom (λ x. Some (see x)) o (reading d (with_none (answered d answers n None)) p)) load.2
+      (subst (λ a. ExactlyUnlessOom (λ x. Some (see x)) o (reading d (with_none a) (probe_of c))) load.1
+      (subst (λ s. ExactlyUnlessOom (λ x. Some (see x)) o (reading s (with_none (answers_of c)) (probe_of c))) load.0 skips)))
+  skip_told d answers probe n sections_of answers_of probe_of (Output p) load output o skips =
+      subst (λ q. ExactlyUnlessOom (λ x. Some (see x)) q (reading d (with_none answers) probe)) skips (of_output p output)
+    where
+      then_none : reading d (answered d answers n None) probe ≢ Ok None → reading d (with_none answers) probe ≡ reading d (answered d answers n None) probe
+      then_none ne = ap (λ a. reading d a probe) (sym (none_after d answers n)) ∙ settled d (answered d answers n None) probe ne
 
-    of_output : (q : Result X Error) → ExactlyUnlessOom (λ x. Some (see x)) q (frames_of d (answered d answers n None) probe) → ExactlyUnlessOom (λ x. Some (see x)) q (frames_of d (with_none answers) probe)
-    of_output (Ok x) h = then_none (λ e. ok_none (sym h ∙ e)) ∙ h
-      where
-        ok_none : ◌≡◌ {A = Result (Option (List FrameRecord)) Error} (Ok (Some (see x))) (Ok None) → ⊥
-        ok_none k = cc
-    of_output (Err f) h = λ ne. then_none (λ e. err_none (sym (h ne) ∙ e)) ∙ h ne
-      where
-        err_none : ◌≡◌ {A = Result (Option (List FrameRecord)) Error} (Err f) (Ok None) → ⊥
-        err_none k = cc
+      of_output : (q : Result X Error) → ExactlyUnlessOom (λ x. Some (see x)) q (reading d (answered d answers n None) probe) → ExactlyUnlessOom (λ x. Some (see x)) q (reading d (with_none answers) probe)
+      of_output (Ok x) h = then_none (λ e. ok_none (sym h ∙ e)) ∙ h
+        where
+          ok_none : ◌≡◌ {A = Result (Option V) Error} (Ok (Some (see x))) (Ok None) → ⊥
+          ok_none k = cc
+      of_output (Err f) h = λ ne. then_none (λ e. err_none (sym (h ne) ∙ e)) ∙ h ne
+        where
+          err_none : ◌≡◌ {A = Result (Option V) Error} (Err f) (Ok None) → ⊥
+          err_none k = cc

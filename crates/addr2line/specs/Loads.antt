@@ -2,7 +2,7 @@
 -- (DWARF 5, sections 3.1.2, 3.3 and 7.3.2).
 -- Own: an answer to a unit that is decided changes nothing; a parse of all functions answers none to
 -- each load.
-use Rattle.std.specs.Prelude.{◌≡◌, ◌≢◌, ℕ, true, slice_get, Option, None, OnOk, Result, Ok, Err}
+use Rattle.std.specs.Prelude.{◌≡◌, ◌≢◌, ℕ, true, slice_get, Option, None, Result, Ok, Err}
 use Rattle.gimli_read.specs.declared.error.Error.{Error}
 use Rattle.gimli_read.specs.Reading.{◌>>=◌}
 use Rattle.gimli.specs.Sections.{Sections}

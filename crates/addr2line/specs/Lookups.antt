@@ -2,7 +2,7 @@
 -- 2.17, 3.1.2, 3.3 and 7.3.2).
 -- Own: a lookup asks the units that cover an address one after another; a unit that is open ends it
 -- until its load is answered.
-use Rattle.std.specs.Prelude.{◌≡◌, ◌⊎◌, ℕ, ◌==◌, ◌<◌, ◌≤◌, Bool, true, false, ◌&&◌, ◌||◌, not, length, List, [], map, slice_get, Option, Some, None, option_map, unwrap_or, IsOk, Result, Ok, Err}
+use Rattle.std.specs.Prelude.{◌≡◌, ◌⊎◌, ℕ, ◌==◌, ◌<◌, ◌≤◌, Bool, true, false, ◌&&◌, ◌||◌, not, length, List, [], map, slice_get, Option, Some, None, option_map, unwrap_or, Result, Ok, Err}
 use Rattle.gimli_read.specs.declared.error.Error.{Error}
 use Rattle.gimli_read.specs.Reading.{◌>>=◌}
 use Rattle.gimli.specs.Sections.{Sections}
@@ -11,8 +11,7 @@ use Rattle.addr2line_units.specs.declared.frames_lookup.Faults.{Faults}
 use Rattle.addr2line_units.specs.declared.frames_lookup.Faults.TheVariants.{End, PassOver}
 use Rattle.addr2line_units.specs.Cover.{cover}
 use Rattle.addr2line_units.specs.Frames.{FrameRecord}
-use Rattle.addr2line_units.specs.FramesLookup.{Stop, Waits, Finds, FindsNothing, LookupAsks, asked_frames, asks_lines_of, has_many_of, holds_along, is_waiting, main_scope, readable_view, stop_along, view_of_number}
-use Rattle.addr2line_units.specs.KeptViews.{parts_of}
+use Rattle.addr2line_units.specs.FramesLookup.{Stop, Waits, Finds, FindsNothing, LookupAsks, asked_frames, asks_lines_of, has_many_of, holds_along, is_waiting, main_scope, stop_along, unit_found}
 use Rattle.addr2line_units.specs.KnownEntries.{KnownEntries, knows_at}
 use Rattle.addr2line_units.specs.Loads.{load_of_number, loads_along}
 use Rattle.addr2line_units.specs.Parsed.{IsNotOom, ParsesOnly, StaysParsed, has_parsed}
@@ -49,23 +48,18 @@ frames_told FindsNothing = Some []
 abbrev pub frames_of : Sections → FirstAnswers → ℕ → Result (Option (List FrameRecord)) Error
 frames_of d answers probe = lookup_stop End d answers probe >>= λ s. Ok (frames_told s)
 
--- the sections and the unit of the view that a lookup has found
-abbrev pub unit_found : Sections → FirstAnswers → UnitIndex → Stop
-    → Option (Sections × UnitRecord)
-unit_found d answers m (Finds n frames) =
-    option_map parts_of (readable_view (view_of_number d (unit_records m.units) answers n))
-unit_found d answers m stop = None
+-- the sections and the unit of the view of a lookup that has ended, none where it waits
+abbrev pub unit_told : Sections → FirstAnswers → UnitIndex → Stop
+    → Option (Option (Sections × UnitRecord))
+unit_told d answers m (Waits n) = None
+unit_told d answers m stop = Some (unit_found d (unit_records m.units) answers stop)
 
--- the sections and the unit of the view of a lookup of a unit that has ended; faults of units are
--- passed over
-abbrev pub unit_of : Sections → FirstAnswers → ℕ → Result (Option (Sections × UnitRecord)) Error
+-- the sections and the unit of the view at the probe, none where the lookup waits for an answer;
+-- faults of units are passed over
+abbrev pub unit_of : Sections → FirstAnswers → ℕ
+    → Result (Option (Option (Sections × UnitRecord))) Error
 unit_of d answers probe = index_units d >>= λ m.
-    stop_in PassOver d answers probe m >>= λ s. Ok (unit_found d answers m s)
-
--- the unit that a lookup waits for
-abbrev pub waiting_unit : Result Stop Error → Option ℕ
-waiting_unit (Ok (Waits n)) = Some n
-waiting_unit stop = None
+    stop_in PassOver d answers probe m >>= λ s. Ok (unit_told d answers m s)
 
 -- whether a lookup waits for the unit of this number
 abbrev pub waits_for : ℕ → Result Stop Error → Bool

@@ -1,7 +1,7 @@
 //! Answers to the loads of units.
 
 ghost use Rattle.std.specs.Prelude.{◌≡◌, ◌<◌, ℕ, OnOk, length, option_map, true};
-ghost use Rattle.addr2line_units.specs.declared.frames_lookup.Faults.TheVariants.{End};
+ghost use Rattle.addr2line_units.specs.declared.frames_lookup.Faults.{Faults};
 ghost use Rattle.addr2line.specs.Answers.{AfterAnswer};
 ghost use Rattle.addr2line.specs.Lookups.{IsUnitOf, loads_of, lookup_stop, waits_for};
 
@@ -20,8 +20,8 @@ impl<R: Reader> Context<R> {
         requires there { IsUnitOf self.old.sections number }
         ensures after { AfterAnswer number (option_map (λ d. d.value) sections) result self.old
             self.new }
-        ensures fewer { (probe : ℕ) → waits_for number (lookup_stop End self.old.sections
-            self.old.answers probe) ≡ true → OnOk result
+        ensures fewer { (faults : Faults) (probe : ℕ) → waits_for number
+            (lookup_stop faults self.old.sections self.old.answers probe) ≡ true → OnOk result
             (length (loads_of self.new.sections self.new.answers probe)
             < length (loads_of self.old.sections self.old.answers probe)) }
     {

@@ -1,81 +1,27 @@
 //! Lookups of frames, which may wait for split files.
 
-ghost use Rattle.std.specs.Prelude.{◌≡◌, ◌<◌, None, Some, IfErr, IfOk, Ok, false, length, option_map, true};
+ghost use Rattle.std.specs.Prelude.{◌≡◌, ◌<◌, None, Some, false, length, option_map, true};
 ghost use Rattle.std.specs.Borrow.{sem};
-ghost use Rattle.gimli_read.specs.declared.error.Error.TheVariants.{OutOfMemory};
 ghost use Rattle.gimli_read.specs.Reading.{ExactlyUnlessOom};
 ghost use Rattle.addr2line_units.specs.declared.frames_lookup.Faults.TheVariants.{End};
 ghost use Rattle.addr2line_units.specs.FramesLeft.{frames_left};
-ghost use Rattle.addr2line_units.specs.FramesLookup.{Waits, is_waiting};
+ghost use Rattle.addr2line_units.specs.FramesLookup.{is_waiting};
 ghost use Rattle.addr2line_units.specs.KeptViews.{seen_load};
 ghost use Rattle.addr2line_units.specs.Suspended.{IfLoad, IfOutput, SkipsTo};
 ghost use Rattle.addr2line.specs.Answers.{AfterResume, SuspendsAgain, answered};
 ghost use Rattle.addr2line.specs.Borrowed.{RestsAs};
-ghost use Rattle.addr2line.specs.KeptStops.{waiting_in};
-ghost use Rattle.addr2line.specs.Lookups.{AfterFrames, IsKnown, IsLoadOf, Suspends, frames_of, loads_of, lookup_stop, waiting_unit, waits_for, with_none};
+ghost use Rattle.addr2line.specs.Lookups.{AfterFrames, Suspends, frames_of, loads_of, lookup_stop, waits_for, with_none};
 
 use crate::context::Context;
 use crate::continuation::{FramesLookup, FramesLookupWith};
+use crate::stops::UnitStop;
 use addr2line_units::FrameIter;
 use addr2line_units::continuation::{LookupContinuation, LookupResult};
-use addr2line_units::frames_lookup::{Faults, FramesStop};
+use addr2line_units::frames_lookup::Faults;
 use addr2line_units::view::SplitDwarfLoad;
 use gimli::Dwarf;
 use gimli::read::{Error, Reader};
 use std::rc::Rc;
-
-// The unit that a lookup waits for, as far as it found memory.
-fn waiting_number(stop: Result<FramesStop, Error>) -> Result<Option<usize>, Error>
-    ensures gives { result ≡ waiting_in stop }
-{
-    match stop {
-        Ok(FramesStop::Waits(number)) => Ok(Some(number)),
-        Err(Error::OutOfMemory) => Err(Error::OutOfMemory),
-        _ => Ok(None),
-    }
-}
-
-impl<R: Reader> Context<R> {
-    // The unit that a lookup of frames waits for, if it waits. What it asks for is read and kept.
-    // Refused `OutOfMemory` alone.
-    pub(crate) fn waiting_unit(
-        &mut self,
-        probe: u64,
-        faults: Faults,
-    ) -> Result<Option<usize>, Error>
-        ensures gives { IfOk result (λ w. w ≡ waiting_unit
-            (lookup_stop faults self.old.sections self.old.answers probe)) }
-        ensures refused { IfErr result (λ e. e ≡ OutOfMemory) }
-        ensures after { AfterFrames faults probe result self.old self.new }
-    {
-        let stop = self.units.find_frames(
-            self.alloc,
-            &self.dwarf,
-            &self.sup_units,
-            &mut self.looks,
-            probe,
-            faults,
-        );
-        waiting_number(stop)
-    }
-
-    // The load of the unit that a lookup waits for. Refused `OutOfMemory` alone.
-    pub(crate) fn load_of(
-        &self,
-        probe: u64,
-        faults: Faults,
-        number: usize,
-    ) -> Result<SplitDwarfLoad<R>, Error>
-        requires waits { lookup_stop faults self.now.sections self.now.answers probe
-            ≡ Ok (Waits number) }
-        requires known { IsKnown faults self.now probe }
-        ensures gives { IfOk result (λ l. IsLoadOf self.now.sections number
-            (seen_load R.section l)) }
-        ensures refused { IfErr result (λ e. e ≡ OutOfMemory) }
-    {
-        self.units.load(&self.dwarf, number)
-    }
-}
 
 // The end of a lookup of frames that doesn't wait.
 fn end<R: Reader>(ctx: &mut Context<R>, probe: u64) -> LookupResult<FramesLookup<'_, R>>
@@ -111,8 +57,8 @@ fn go<R: Reader>(ctx: &mut Context<R>, probe: u64) -> LookupResult<FramesLookup<
     ensures output { IfOutput result (λ o. ExactlyUnlessOom (λ i. Some (frames_left i)) o
         (frames_of ctx.old.sections ctx.old.answers probe)) }
 {
-    match ctx.waiting_unit(probe, Faults::End) {
-        Ok(Some(number)) => match ctx.load_of(probe, Faults::End, number) {
+    match ctx.stop(probe, Faults::End) {
+        Ok(UnitStop::Waits(number)) => match ctx.load_of(probe, Faults::End, number) {
             Ok(load) => LookupResult::Load {
                 continuation: FramesLookupWith {
                     ctx,
@@ -123,7 +69,8 @@ fn go<R: Reader>(ctx: &mut Context<R>, probe: u64) -> LookupResult<FramesLookup<
             },
             Err(error) => LookupResult::Output(Err(error)),
         },
-        Ok(None) => end(ctx, probe),
+        Ok(UnitStop::Finds(_)) => end(ctx, probe),
+        Ok(UnitStop::FindsNothing) => LookupResult::Output(Ok(FrameIter::new_empty())),
         Err(error) => LookupResult::Output(Err(error)),
     }
 }

@@ -7,9 +7,11 @@ mod continuation;
 mod frames;
 mod loads;
 mod parses;
+mod stops;
+mod units;
 
 pub use crate::context::Context;
-pub use crate::continuation::FramesLookup;
+pub use crate::continuation::{FramesLookup, UnitLookup};
 pub use addr2line_lines::Location;
 pub use addr2line_units::continuation::{LookupContinuation, LookupResult};
 pub use addr2line_units::frame::{demangle, demangle_auto};

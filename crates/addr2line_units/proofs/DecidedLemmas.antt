@@ -12,8 +12,8 @@ use Rattle.addr2line_units.specs.declared.view.ViewState.TheVariants as states
 use Rattle.addr2line_units.specs.FramesLookup.{answer_of, readable_view, view_of_number}
 use Rattle.addr2line_units.specs.KeptEntries.{kept_answer}
 use Rattle.addr2line_units.specs.KeptLookups.{HaveViewsOf, answers_in, decided_at}
-use Rattle.addr2line_units.specs.KeptViews.{IsViewOf, is_decided, kept_verdict, parts_of, parts_or_fault, seen_answer}
-use Rattle.addr2line_units.specs.Views.{View, verdict}
+use Rattle.addr2line_units.specs.KeptViews.{IsViewOf, is_decided, kept_verdict, parts_or_fault, seen_answer}
+use Rattle.addr2line_units.specs.Views.{View, parts_of, verdict}
 use Rattle.addr2line_units.proofs.AnswerLemmas.{got_unit}
 use Rattle.addr2line_units.proofs.KeptLookupLemmas.{answer_at}
 

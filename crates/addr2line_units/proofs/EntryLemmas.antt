@@ -16,9 +16,9 @@ use Rattle.addr2line_units.specs.declared.view.ViewState.TheVariants as states
 use Rattle.addr2line_units.specs.Frames.{function_at}
 use Rattle.addr2line_units.specs.KeptEntries.{AreEntriesOf, StayEntries, has_answered, has_entries_by, kept_answer}
 use Rattle.addr2line_units.specs.KeptFunctions.{AreFunctionsOf, StayFunctions, has_function, is_kept, were_read}
-use Rattle.addr2line_units.specs.KeptViews.{IsViewOf, answer_in, is_decided, parts_of, parts_or_fault, seen_answer, seen_sections, verdict_in, view_by, waits, was_looked_at}
+use Rattle.addr2line_units.specs.KeptViews.{IsViewOf, answer_in, is_decided, parts_or_fault, seen_answer, seen_sections, verdict_in, view_by, waits, was_looked_at}
 use Rattle.addr2line_units.specs.UnitFrames.{function_by, function_in, has_many, is_many}
-use Rattle.addr2line_units.specs.Views.{View, is_open, verdict, view_scope}
+use Rattle.addr2line_units.specs.Views.{View, is_open, parts_of, verdict, view_scope}
 
 -- functions stay what they are
 pub functions_stay : {R : Type 0} (scope : Scope) (u : UnitRecord) (f : LazyFunctions R) → StayFunctions f f

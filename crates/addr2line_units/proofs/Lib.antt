@@ -19,6 +19,7 @@ pub mod ViewLemmas
 pub mod AnswerLemmas
 pub mod ScopeLemmas
 pub mod WaitLemmas
+pub mod FoundLemmas
 pub mod DecidedLemmas
 pub mod KnownLemmas
 pub mod KeptLookupLemmas

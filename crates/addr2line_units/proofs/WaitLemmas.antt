@@ -40,11 +40,11 @@ pub same_number : (n k : ℕ) → ◌≡◌ {A = Result Stop Error} (Ok (Waits n
 unfolding number_of
 same_number n k e = let s : ◌≡◌ {A = Stop} (Waits n) (Waits k) = cc in ap (λ x. number_of x 0) s
 
-and_first : (a b : Bool) → (a && b) ≡ true → a ≡ true
+pub and_first : (a b : Bool) → (a && b) ≡ true → a ≡ true
 and_first true b e = refl
 and_first false b e = absurd cc
 
-and_second : (a b : Bool) → (a && b) ≡ true → b ≡ true
+pub and_second : (a b : Bool) → (a && b) ≡ true → b ≡ true
 and_second true b e = e
 and_second false b e = absurd cc
 
@@ -79,7 +79,7 @@ open_of_none scope u answer probe e = of_open (is_open scope.file.sections u.uni
     of_open false (Ok x) k = absurd cc
     of_open false (Err x) k = absurd cc
 
-known_was_looked_at : {R : Type 0} (probe : ℕ) (v : UnitEntries R) → has_entries probe v ≡ true → was_looked_at v.view.state ≡ true
+pub known_was_looked_at : {R : Type 0} (probe : ℕ) (v : UnitEntries R) → has_entries probe v ≡ true → was_looked_at v.view.state ≡ true
 known_was_looked_at probe v e = by v.view.state e
   where
     by : (s : ViewState _) → has_entries probe (record { view = record { state = s }; functions = v.functions }) ≡ true → was_looked_at s ≡ true

@@ -13,7 +13,7 @@ use Rattle.addr2line_units.specs.declared.frames_lookup.Faults.TheVariants.{End,
 use Rattle.addr2line_units.specs.Frames.{FrameRecord}
 use Rattle.addr2line_units.specs.UnitFrames.{asks_lines_in, frames_in, has_many}
 use Rattle.addr2line_units.specs.UnitIndex.{IndexedUnit, UnitIndex, sup_sections, unit_records}
-use Rattle.addr2line_units.specs.Views.{View, decided_answer, verdict}
+use Rattle.addr2line_units.specs.Views.{View, decided_answer, parts_of, verdict}
 
 -- where references lead from a unit of a context
 abbrev pub main_scope : Sections → UnitIndex → Scope
@@ -85,6 +85,13 @@ view_of_number d us answers n =
 abbrev pub readable_view : Option (Result View Error) → Option View
 readable_view (Some (Ok v)) = Some v
 readable_view view = None
+
+-- the sections and the unit of the view that a lookup has found
+abbrev pub unit_found : Sections → List UnitRecord → List (Option (Option Sections)) → Stop
+    → Option (Sections × UnitRecord)
+unit_found d us answers (Finds n frames) =
+    option_map parts_of (readable_view (view_of_number d us answers n))
+unit_found d us answers stop = None
 
 -- whether what a unit has ends a lookup
 abbrev pub ends_lookup : Result (Option (List FrameRecord)) Error → Bool

@@ -85,6 +85,10 @@ frames_at_place units views p =
     (option_map (function_of_place (functions_at views p.unit)) p.function)
     (option_map (location_of_row (cached_files (lines_at units p.unit))) p.row)
 
+-- the number of the unit of a place
+abbrev pub unit_of_place : FramePlace → ℕ
+unit_of_place p = p.unit
+
 -- what a lookup comes to, by what is kept
 abbrev pub seen_stop : {R : Type 0} → List ResUnit → List (UnitEntries R) → FramesStop → Stop
 seen_stop units views (stops.Waits n) = Waits n

@@ -14,7 +14,7 @@ use Rattle.addr2line_units.specs.declared.view.SplitDwarfLoad.{SplitDwarfLoad}
 use Rattle.addr2line_units.specs.declared.view.UnitView.{UnitView}
 use Rattle.addr2line_units.specs.declared.view.ViewState.{ViewState}
 use Rattle.addr2line_units.specs.declared.view.ViewState.TheVariants as states
-use Rattle.addr2line_units.specs.Views.{SplitLoad, View, first_unit, is_open, main_view, split_view, verdict}
+use Rattle.addr2line_units.specs.Views.{SplitLoad, View, first_unit, is_open, main_view, parts_of, split_view, verdict}
 
 -- a load
 abbrev pub seen_load : {R : Type 0} → (R → Section) → SplitDwarfLoad R → SplitLoad
@@ -106,10 +106,6 @@ scope_by scope None = scope
 scope_by scope (Some split) =
     record { file = record { sections = split; units = [] }; sup = scope.sup }
 
--- the sections and the unit of a view
-abbrev pub parts_of : View → Sections × UnitRecord
-parts_of v = (v.sections, v.unit)
-
--- the same, or the fault
+-- the sections and the unit of a view, or the fault
 abbrev pub parts_or_fault : Result View Error → Result (Sections × UnitRecord) Error
 parts_or_fault view = view >>= λ v. Ok (parts_of v)

@@ -20,6 +20,7 @@ pub mod Views
 pub mod ViewLaws
 pub mod KeptViews
 pub mod SeenFrame
+pub mod SeenUnit
 pub mod FramesLeft
 pub mod UnitFrames
 pub mod FramesLookup

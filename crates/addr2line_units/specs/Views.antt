@@ -41,6 +41,10 @@ main_view d u = record { sections = d; unit = u; is_split = false }
 abbrev pub split_view : Sections → UnitRecord → View
 split_view d u = record { sections = d; unit = u; is_split = true }
 
+-- the sections and the unit of a view
+abbrev pub parts_of : View → Sections × UnitRecord
+parts_of v = (v.sections, v.unit)
+
 -- where references lead from a view: in the main view where they lead from the main unit
 abbrev pub view_scope : Scope → View → Scope
 view_scope scope v =

@@ -6,7 +6,7 @@ ghost use Rattle.addr2line_lines.specs.References.{IsScope};
 ghost use Rattle.addr2line_lines.specs.SeenScope.{seen_scope};
 ghost use Rattle.addr2line_units.specs.CachedLines.{HaveLinesOf, StayUnits, indexed_units, parsed_units};
 ghost use Rattle.addr2line_units.specs.FramesLookup.{LookupAsks, asked_frames, asks_lines_of, frames_of_number, has_many_of, holds_along, stop_along};
-ghost use Rattle.addr2line_units.specs.KeptLookups.{AreFoundAt, HaveEntriesOf, IsStopIn, ReadsOnly, StayAllEntries, answers_in, found_after_fault, frames_found_at, has_frames_at, seen_stop, stop_of_found};
+ghost use Rattle.addr2line_units.specs.KeptLookups.{AreFoundAt, HaveEntriesOf, IsStopIn, ReadsOnly, StayAllEntries, answers_in, found_after_fault, frames_found_at, has_frames_at, seen_stop, stop_of_found, unit_of_place};
 ghost use Rattle.addr2line_units.specs.Parsed.{IsNotOom, ParsesOnly};
 ghost use Rattle.addr2line_units.specs.UnitRangesLeft.{ranges_left};
 
@@ -31,6 +31,15 @@ pub struct FramePlace {
     pub(crate) unit: usize,
     pub(crate) function: Option<FunctionPlace>,
     pub(crate) row: Option<Row>,
+}
+
+impl FramePlace {
+    // The number of the unit.
+    pub fn unit(&self) -> usize
+        ensures gives { result ≡ unit_of_place self.now }
+    {
+        self.unit
+    }
 }
 
 // What a lookup comes to.

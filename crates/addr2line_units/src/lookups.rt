@@ -16,8 +16,9 @@ ghost use Rattle.addr2line_units.specs.Frames.{found_frames};
 ghost use Rattle.addr2line_units.specs.KeptEntries.{AreRead};
 ghost use Rattle.addr2line_units.specs.KeptFunctions.{IsPlaceIn, function_of_place, kept_functions};
 ghost use Rattle.addr2line_units.specs.KeptLookups.{HaveEntriesOf, HaveViewsOf, IsFramePlaceIn, IsStopIn, ReadsOnly, StayAllEntries, WaitsIn, answers_in, decided_at, frames_at_place, has_frames_at, scope_in, seen_stop, sup_file, waits_at};
-ghost use Rattle.addr2line_units.specs.KeptViews.{parts_of, seen_load};
-ghost use Rattle.addr2line_units.specs.Views.{load_of_unit};
+ghost use Rattle.addr2line_units.specs.KeptViews.{seen_load};
+ghost use Rattle.addr2line_units.specs.SeenUnit.{seen_unit};
+ghost use Rattle.addr2line_units.specs.Views.{load_of_unit, parts_of};
 ghost use Rattle.addr2line_units.specs.Parsed.{IsNotOom, ParsesOnly};
 
 use crate::frame::{FrameIter, frames_of};
@@ -205,7 +206,7 @@ impl<R: Reader> ResUnits<R> {
     pub fn unit_ref<'x>(&'x self, dwarf: &'x Dwarf<R>, number: usize) -> Option<UnitRef<'x, R>>
         requires views { HaveViewsOf dwarf.now self.now.dw_units.items self.now.entries.items }
         requires decided { decided_at self.now.entries.items number ≡ true }
-        ensures gives { option_map (λ r. (r.dwarf.now, r.unit.now)) result
+        ensures gives { option_map seen_unit result
             ≡ option_map parts_of (readable_view (view_of_number dwarf.now
             self.now.dw_units.items (answers_in self.now.entries.items) number)) }
     {

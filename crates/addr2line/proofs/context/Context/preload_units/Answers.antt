@@ -1,4 +1,4 @@
-use Rattle.std.proofs.Common.{map, sym, ◌∙◌, ap, Ok, Err, subst}
+use Rattle.std.proofs.Common.{map, sym, subst}
 use Rattle.std.specs.Prelude.{IfOk, ◌≡◌}
 use Rattle.addr2line_units.specs.KeptViews.{seen_load}
 use Rattle.addr2line.proofs.AnsweredLemmas.{still_answered}

@@ -1,0 +1,30 @@
+use Rattle.std.proofs.Common.{ap, option_map, refl, subst, ◌∙◌}
+use Rattle.gimli_read.specs.Reading.{ExactlyUnlessOom}
+use Rattle.addr2line_units.specs.SeenUnit.{seen_found, seen_unit}
+use Rattle.addr2line_units.specs.Suspended.{IfOutput}
+use Rattle.addr2line.proofs.AfterLemmas.{if_load}
+use Rattle.addr2line.proofs.SkipLemmas.{settled_unit_of, skip_told}
+use Rattle.addr2line.specs.Answers.{answered}
+use Rattle.addr2line.specs.Lookups.{unit_of}
+use Rattle.addr2line.proofs.units.UnitLookupLookupContinuation.resume.Goals as goal
+
+pub returns : goal.returns
+returns g c =
+    let l = c.args.self in
+    let d = l.ctx.now.sections in
+    let answers = l.ctx.now.answers in
+    let f = c.go_on.follows in (
+      (refl, f.holds, f.holds-at-none),
+      record {
+        ends = tt;
+        load = c.go_on.ensures.load;
+        fewer = c.go_on.ensures.fewer;
+        output = c.go_on.ensures.output;
+        refused = c.go_on.ensures.refused;
+        skips = λ none.
+            let given = ap (λ o. option_map (λ x. x.value) o) none in
+            skip_told unit_of settled_unit_of (option_map seen_unit) d answers l.probe l.number (λ x. x.ctx.now.sections) (λ x. x.ctx.now.answers) (λ x. x.probe) c.go_on.result
+            (if_load _ _ c.go_on.result (λ x h. (h.2.2.after.sections ∙ h.2.1.sections, h.2.2.after.answers ∙ h.2.1.answers ∙ ap (answered d answers l.number) given, h.1)) c.go_on.ensures.load)
+            (subst (λ x. IfOutput c.go_on.result (λ o. ExactlyUnlessOom seen_found o (unit_of d (answered d answers l.number x) l.probe))) given c.go_on.ensures.output);
+      },
+    )

@@ -1,0 +1,210 @@
+//! Lookups of units, which may wait for split files.
+
+ghost use Rattle.std.specs.Prelude.{◌≡◌, ◌<◌, None, IfErr, IfOk, Ok, length, option_map, true};
+ghost use Rattle.std.specs.Borrow.{sem};
+ghost use Rattle.gimli_read.specs.declared.error.Error.TheVariants.{OutOfMemory};
+ghost use Rattle.gimli_read.specs.Reading.{ExactlyUnlessOom};
+ghost use Rattle.addr2line_units.specs.declared.frames_lookup.Faults.TheVariants.{PassOver};
+ghost use Rattle.addr2line_units.specs.KeptViews.{seen_load};
+ghost use Rattle.addr2line_units.specs.SeenUnit.{seen_found};
+ghost use Rattle.addr2line_units.specs.Suspended.{IfLoad, IfOutput, SkipsTo};
+ghost use Rattle.addr2line.specs.declared.stops.UnitStop.TheVariants.{Finds};
+ghost use Rattle.addr2line.specs.Answers.{AfterResume, SuspendsAgain, answered};
+ghost use Rattle.addr2line.specs.Borrowed.{RestsAs};
+ghost use Rattle.addr2line.specs.KeptStops.{unit_stop};
+ghost use Rattle.addr2line.specs.Lookups.{AfterFrames, IsKnown, Suspends, loads_of, lookup_stop, unit_of, waits_for, with_none};
+
+use crate::context::Context;
+use crate::continuation::{UnitLookup, UnitLookupWith};
+use crate::stops::UnitStop;
+use addr2line_units::continuation::{LookupContinuation, LookupResult};
+use addr2line_units::frames_lookup::Faults;
+use addr2line_units::view::SplitDwarfLoad;
+use gimli::read::{Error, Reader};
+use gimli::{Dwarf, UnitRef};
+use std::rc::Rc;
+
+// The end of a lookup of a unit that has found one. Takes no memory.
+fn end<R: Reader>(
+    ctx: &mut Context<R>,
+    probe: u64,
+    number: usize,
+) -> LookupResult<UnitLookup<'_, R>>
+    requires found { unit_stop PassOver ctx.old.sections ctx.old.answers probe
+        ≡ Ok (Finds number) }
+    requires known { IsKnown PassOver ctx.old probe }
+    ensures* ends { sem 𝓛 (RestsAs (λ c. c.ctx.ghost_name) R.row R.Reader ctx.entry result
+        (λ o n. n ≡ ctx.old)) }
+    ensures load { IfLoad result (λ c. ⊥) }
+    ensures output { IfOutput result (λ o. IfOk o (λ u.
+        unit_of ctx.old.sections ctx.old.answers probe ≡ Ok (seen_found u))) }
+    ensures refused { IfOutput result (λ o. IfErr o (λ e. ⊥)) }
+{
+    LookupResult::Output(Ok(ctx.unit_at(probe, number)))
+}
+
+// A lookup of a unit from its beginning, by what is kept.
+fn go<R: Reader>(ctx: &mut Context<R>, probe: u64) -> LookupResult<UnitLookup<'_, R>>
+    ensures* ends { sem 𝓛 (RestsAs (λ c. c.ctx.ghost_name) R.row R.Reader ctx.entry result
+        (λ o n. AfterFrames PassOver probe o ctx.old n)) }
+    ensures load { IfLoad result (λ c. (c.ctx.ghost_name ≡ ctx.entry.ghost_name)
+        × (c.probe ≡ probe)
+        × Suspends PassOver probe c.number (seen_load R.section c.load) ctx.old c.ctx.now) }
+    ensures output { IfOutput result (λ o. ExactlyUnlessOom seen_found o
+        (unit_of ctx.old.sections ctx.old.answers probe)) }
+    ensures refused { IfOutput result (λ o. IfErr o (λ e. e ≡ OutOfMemory)) }
+{
+    match ctx.stop(probe, Faults::PassOver) {
+        Ok(UnitStop::Waits(number)) => match ctx.load_of(probe, Faults::PassOver, number) {
+            Ok(load) => LookupResult::Load {
+                continuation: UnitLookupWith {
+                    ctx,
+                    probe,
+                    number,
+                    load,
+                },
+            },
+            Err(error) => LookupResult::Output(Err(error)),
+        },
+        Ok(UnitStop::Finds(number)) => end(ctx, probe, number),
+        Ok(UnitStop::FindsNothing) => LookupResult::Output(Ok(None)),
+        Err(error) => LookupResult::Output(Err(error)),
+    }
+}
+
+// The rest of a lookup of a unit after an answer to the load that it waited for.
+fn go_on<R: Reader>(
+    ctx: &mut Context<R>,
+    probe: u64,
+    number: usize,
+    input: Option<Rc<Dwarf<R>>>,
+) -> LookupResult<UnitLookup<'_, R>>
+    requires stands { waits_for number (lookup_stop PassOver ctx.old.sections ctx.old.answers probe)
+        ≡ true }
+    ensures* ends { sem 𝓛 (RestsAs (λ c. c.ctx.ghost_name) R.row R.Reader ctx.entry result
+        (λ o n. AfterResume PassOver probe number (option_map (λ d. d.value) input) o ctx.old n)) }
+    ensures load { IfLoad result (λ c. (c.ctx.ghost_name ≡ ctx.entry.ghost_name)
+        × (c.probe ≡ probe) × SuspendsAgain PassOver probe number (option_map (λ d. d.value) input)
+        c.number (seen_load R.section c.load) ctx.old c.ctx.now) }
+    ensures fewer { IfLoad result (λ c.
+        length (loads_of c.ctx.now.sections c.ctx.now.answers c.probe)
+        < length (loads_of ctx.old.sections ctx.old.answers probe)) }
+    ensures output { IfOutput result (λ o. ExactlyUnlessOom seen_found o
+        (unit_of ctx.old.sections (answered ctx.old.sections ctx.old.answers number
+        (option_map (λ d. d.value) input)) probe)) }
+    ensures refused { IfOutput result (λ o. IfErr o (λ e. e ≡ OutOfMemory)) }
+{
+    match ctx.answer(number, input) {
+        Ok(()) => go(ctx, probe),
+        Err(error) => LookupResult::Output(Err(error)),
+    }
+}
+
+impl<'ctx, R: Reader> LookupContinuation for UnitLookup<'ctx, R> {
+    type Output = Result<Option<UnitRef<'ctx, R>>, Error>;
+
+    type Load = SplitDwarfLoad<R>;
+
+    type Sections = Rc<Dwarf<R>>;
+
+    ghost left = { λ c. length (loads_of c.ctx.now.sections c.ctx.now.answers c.probe) };
+
+    ghost skips_to = { λ c o. ExactlyUnlessOom seen_found o
+        (unit_of c.ctx.now.sections (with_none c.ctx.now.answers) c.probe) };
+
+    fn load(&self) -> &SplitDwarfLoad<R>
+        ensures gives { result.now ≡ self.now.load }
+    {
+        &self.load
+    }
+
+    fn resume(self, input: Option<Rc<Dwarf<R>>>) -> LookupResult<Self>
+        ensures* ends { sem 𝓛 (RestsAs (λ c. c.ctx.ghost_name) R.row R.Reader
+            self.entry.ctx result (λ o n. AfterResume PassOver self.entry.probe self.entry.number
+            (option_map (λ d. d.value) input) o self.entry.ctx.now n)) }
+        ensures load { IfLoad result (λ c. (c.ctx.ghost_name ≡ self.entry.ctx.ghost_name)
+            × (c.probe ≡ self.entry.probe) × SuspendsAgain PassOver self.entry.probe self.entry.number
+            (option_map (λ d. d.value) input) c.number (seen_load R.section c.load)
+            self.entry.ctx.now c.ctx.now) }
+        ensures fewer { IfLoad result (λ c.
+            length (loads_of c.ctx.now.sections c.ctx.now.answers c.probe)
+            < length (loads_of self.entry.ctx.now.sections self.entry.ctx.now.answers
+            self.entry.probe)) }
+        ensures output { IfOutput result (λ o. ExactlyUnlessOom seen_found o
+            (unit_of self.entry.ctx.now.sections (answered self.entry.ctx.now.sections
+            self.entry.ctx.now.answers self.entry.number (option_map (λ d. d.value) input))
+            self.entry.probe)) }
+        ensures refused { IfOutput result (λ o. IfErr o (λ e. e ≡ OutOfMemory)) }
+        ensures skips { input ≡ None → (o : _)
+            → SkipsTo (λ c p. ExactlyUnlessOom seen_found p
+            (unit_of c.ctx.now.sections (with_none c.ctx.now.answers) c.probe)) result o
+            → ExactlyUnlessOom seen_found o (unit_of self.entry.ctx.now.sections
+            (with_none self.entry.ctx.now.answers) self.entry.probe) }
+    {
+        let UnitLookupWith {
+            ctx,
+            probe,
+            number,
+            load: _,
+        } = self;
+        go_on(ctx, probe, number, input)
+    }
+}
+
+impl<'ctx, R: Reader, B: Drop> UnitLookupWith<'ctx, R, B> {
+    /// Ends the lookup: the unit that it waits for stays open. Takes no memory.
+    pub fn abandon(self)
+        ensures kept { self.exit.0.now ≡ self.entry.ctx.now }
+    {
+        let UnitLookupWith {
+            ctx: _,
+            probe: _,
+            number: _,
+            load: _,
+        } = self;
+    }
+
+    /// Ends the lookup, and gives its load. Takes no memory.
+    pub fn into_load(self) -> B
+        ensures kept { self.exit.0.now ≡ self.entry.ctx.now }
+        ensures load { result ≡ self.entry.load }
+    {
+        let UnitLookupWith {
+            ctx: _,
+            probe: _,
+            number: _,
+            load,
+        } = self;
+        load
+    }
+}
+
+impl<R: Reader> Context<R> {
+    /// The sections and the unit whose entries say what stands at an address: the view of the
+    /// first unit among those that cover it that has a function or a location there; none where
+    /// no unit has. It passes over each unit in which its view, functions, detail or lines have a
+    /// fault.
+    ///
+    /// `probe` is an address as the file has it. Units are asked in the order of `find_location`.
+    /// The lookup waits for an answer where it comes to a unit whose entries stand in a split file
+    /// and that has no answer yet. What it reads of a unit is kept, faults too, and nothing is read
+    /// of units that it doesn't ask.
+    ///
+    /// Refused `OutOfMemory` alone, which is never kept. An output takes no memory where all that
+    /// it asks for is kept and at most 16 inlined functions stand there.
+    ///
+    /// Source: DWARF 5, sections 2.17, 3.3, 3.1.2 and 7.3.2. Own: which unit counts, and what a
+    /// lookup waits for.
+    pub fn find_dwarf_and_unit(&mut self, probe: u64) -> LookupResult<UnitLookup<'_, R>>
+        ensures* ends { sem 𝓛 (RestsAs (λ c. c.ctx.ghost_name) R.row R.Reader self.entry
+            result (λ o n. AfterFrames PassOver probe o self.old n)) }
+        ensures load { IfLoad result (λ c. (c.ctx.ghost_name ≡ self.entry.ghost_name)
+            × (c.probe ≡ probe)
+            × Suspends PassOver probe c.number (seen_load R.section c.load) self.old c.ctx.now) }
+        ensures output { IfOutput result (λ o. ExactlyUnlessOom seen_found o
+            (unit_of self.old.sections self.old.answers probe)) }
+        ensures refused { IfOutput result (λ o. IfErr o (λ e. e ≡ OutOfMemory)) }
+    {
+        go(self, probe)
+    }
+}

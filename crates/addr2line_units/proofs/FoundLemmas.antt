@@ -1,0 +1,117 @@
+-- The unit in which a lookup of frames has found something (on specs/FramesLookup.antt and
+-- specs/KeptLookups.antt).
+use Rattle.std.proofs.Common.{◌≡◌, ℕ, zero, suc, Bool, true, false, ◌&&◌, ◌||◌, List, [], ◌∷◌, Option, Some, None, Result, Ok, Err, ap, refl, sym, subst, ◌∙◌}
+use Rattle.std.specs.Prelude.{if◌then◌else◌}
+use Rattle.gimli_read.specs.declared.error.Error.{Error}
+use Rattle.gimli_read.specs.Reading.{◌>>=◌}
+use Rattle.gimli.specs.Sections.{Sections}
+use Rattle.gimli.specs.Unit.{UnitRecord}
+use Rattle.addr2line_lines.specs.References.{Scope}
+use Rattle.addr2line_units.specs.declared.frames_lookup.Faults.{Faults}
+use Rattle.addr2line_units.specs.declared.frames_lookup.Faults.TheVariants.{End, PassOver}
+use Rattle.addr2line_units.specs.declared.index.UnitRange.{UnitRange}
+use Rattle.addr2line_units.specs.declared.unit.ResUnit.{ResUnit}
+use Rattle.addr2line_units.specs.declared.unit_frames.UnitEntries.{UnitEntries}
+use Rattle.addr2line_units.specs.declared.view.ViewState.{ViewState}
+use Rattle.addr2line_units.specs.declared.view.ViewState.TheVariants as states
+use Rattle.addr2line_units.specs.CachedLines.{indexed_units}
+use Rattle.addr2line_units.specs.Frames.{FrameRecord}
+use Rattle.addr2line_units.specs.FramesLookup.{Stop, Waits, Finds, FindsNothing, after_fault, asked_frames, ends_lookup, frames_of_number, holds_along, or_stop, stop_along}
+use Rattle.addr2line_units.specs.KeptEntries.{kept_answer}
+use Rattle.addr2line_units.specs.KeptLookups.{HaveEntriesOf, answers_in, decided_at, has_entries_at, has_frames_at}
+use Rattle.addr2line_units.specs.KeptViews.{is_decided, waits, was_looked_at}
+use Rattle.addr2line_units.specs.UnitFrames.{frames_by, frames_in, function_in}
+use Rattle.addr2line_units.specs.UnitIndex.{IndexedUnit}
+use Rattle.addr2line_units.specs.Views.{is_open}
+use Rattle.addr2line_units.proofs.AnswerLemmas.{looked_waits}
+use Rattle.addr2line_units.proofs.WaitLemmas.{and_first, and_second, known_was_looked_at}
+
+abbrev Reading : Type 0
+Reading = Result (Option (List FrameRecord)) Error
+
+number_of : Stop → ℕ → ℕ
+number_of (Waits n) d = d
+number_of (Finds n frames) d = n
+number_of FindsNothing d = d
+
+same_number : (n k : ℕ) (fs gs : List FrameRecord) → ◌≡◌ {A = Result Stop Error} (Ok (Finds n fs)) (Ok (Finds k gs)) → n ≡ k
+unfolding number_of
+same_number n k fs gs e = let s : ◌≡◌ {A = Stop} (Finds n fs) (Finds k gs) = cc in ap (λ x. number_of x 0) s
+
+-- whether there are frames
+unfoldable pub has_frames : Reading → Bool
+has_frames (Ok (Some (f ∷ frames))) = true
+has_frames (Ok (Some [])) = false
+has_frames (Ok None) = false
+has_frames (Err e) = false
+
+-- a lookup that has found something in a unit was told so by it, and of it holds what holds along
+-- the ranges
+module _ (holds : ℕ → Bool) (frames : ℕ → Reading) (n : ℕ) (fs : List FrameRecord) where
+  told : (k : ℕ) (rest : Result Stop Error) (more : Bool) (r : Reading) → frames k ≡ r → (holds k && (ends_lookup r || more)) ≡ true → (r >>= or_stop k rest) ≡ Ok (Finds n fs)
+      → (rest ≡ Ok (Finds n fs) → more ≡ true → (has_frames (frames n) ≡ true) × (holds n ≡ true)) → (has_frames (frames n) ≡ true) × (holds n ≡ true)
+  unfolding has_frames
+  told k rest more (Err x) e h w further = absurd cc
+  told k rest more (Ok None) e h w further = absurd cc
+  told k rest more (Ok (Some [])) e h w further = further w (and_second (holds k) more h)
+  told k rest more (Ok (Some (g ∷ gs))) e h w further =
+      let same = same_number k n (g ∷ gs) fs w in
+      (subst (λ j. has_frames (frames j) ≡ true) same (ap has_frames e), subst (λ j. holds j ≡ true) same (and_first (holds k) true h))
+
+  pub found_along : (ranges : List UnitRange) → holds_along holds frames ranges ≡ true → stop_along frames ranges ≡ Ok (Finds n fs) → (has_frames (frames n) ≡ true) × (holds n ≡ true)
+  found_along [] h w = absurd cc
+  found_along (r ∷ ranges) h w =
+      told r.unit (stop_along frames ranges) (holds_along holds frames ranges) (frames r.unit) refl h w (λ v m. found_along ranges m v)
+
+pub always_along : (frames : ℕ → Reading) (ranges : List UnitRange) → holds_along (λ _. true) frames ranges ≡ true
+always_along frames [] = refl
+always_along frames (r ∷ ranges) = by (ends_lookup (frames r.unit)) (always_along frames ranges)
+  where
+    by : (b : Bool) {rest : Bool} → rest ≡ true → (b || rest) ≡ true
+    by true e = refl
+    by false e = e
+
+pub found_by_unit : (faults : Faults) (r : Reading) → has_frames (after_fault faults r) ≡ true → has_frames r ≡ true
+unfolding has_frames
+found_by_unit faults (Ok x) e = e
+found_by_unit End (Err x) e = e
+found_by_unit PassOver (Err x) e = absurd cc
+
+-- only a unit that is decided has frames
+pub decided_by_frames : (scope : Scope) (u : IndexedUnit) (answer : Option (Option Sections)) (probe : ℕ) → has_frames (frames_in scope u answer probe) ≡ true → is_open scope.file.sections u.unit answer ≡ false
+unfolding frames_in has_frames
+decided_by_frames scope u answer probe e = of_open (is_open scope.file.sections u.unit answer) (frames_by scope u probe (function_in scope u.unit answer probe)) e
+  where
+    of_open : (b : Bool) (r : Result (List FrameRecord) Error) → has_frames (if b then Ok None else (r >>= λ frames. Ok (Some frames))) ≡ true → b ≡ false
+    of_open true r k = absurd cc
+    of_open false r k = refl
+
+looked_is_decided : {R : Type 0} (s : ViewState R) → was_looked_at s ≡ true → waits s ≡ false → is_decided s ≡ true
+looked_is_decided states.Undecided e w = absurd cc
+looked_is_decided states.Open e w = absurd cc
+looked_is_decided states.Main e w = refl
+looked_is_decided (states.Unnamed x) e w = refl
+looked_is_decided (states.Answered a) e w = refl
+
+-- of a unit that was looked at and has frames the view is known
+module _ {R : Type 0} (scope : Scope) (probe : ℕ) where
+  decided_there : (us : List UnitRecord) (rs : List ResUnit) (vs : List (UnitEntries R)) (n : ℕ) → HaveEntriesOf scope us vs
+      → has_frames (frames_of_number scope (indexed_units us rs) (answers_in vs) probe n) ≡ true → has_entries_at probe vs n ≡ true → decided_at vs n ≡ true
+  unfolding has_frames
+  decided_there [] rs vs n own e h = absurd cc
+  decided_there (u ∷ us) [] vs n own e h = absurd cc
+  decided_there (u ∷ us) (r ∷ rs) [] n own e h = absurd own
+  decided_there (u ∷ us) (r ∷ rs) (v ∷ vs) zero own e h =
+      let decided = decided_by_frames scope (record { unit = u; language = r.lang }) (kept_answer v) probe e in
+      let looked = known_was_looked_at probe v h in
+      looked_is_decided v.view.state looked (looked_waits scope.file.sections u v.view own.0.view looked ∙ decided)
+  decided_there (u ∷ us) (r ∷ rs) (v ∷ vs) (suc n) own e h = decided_there us rs vs n own.1 e h
+
+  -- so it is where a lookup has found something
+  pub known_where_found : (faults : Faults) (us : List UnitRecord) (rs : List ResUnit) (vs : List (UnitEntries R)) (asks_lines : ℕ → Bool) (parsed : List Bool) (ranges : List UnitRange) (n : ℕ) (fs : List FrameRecord) → HaveEntriesOf scope us vs
+      → holds_along (has_frames_at asks_lines probe parsed vs) (asked_frames faults scope (indexed_units us rs) (answers_in vs) probe) ranges ≡ true
+      → stop_along (asked_frames faults scope (indexed_units us rs) (answers_in vs) probe) ranges ≡ Ok (Finds n fs) → decided_at vs n ≡ true
+  known_where_found faults us rs vs asks_lines parsed ranges n fs own h w =
+      let t = found_along (has_frames_at asks_lines probe parsed vs) (asked_frames faults scope (indexed_units us rs) (answers_in vs) probe) n fs ranges h w in
+      decided_there us rs vs n own (found_by_unit faults (frames_of_number scope (indexed_units us rs) (answers_in vs) probe n) t.0)
+      (and_first (has_entries_at probe vs n) _ t.1)

@@ -19,11 +19,12 @@ use Rattle.addr2line_units.specs.CachedLines.{HaveLinesOf, StayUnits, indexed_un
 use Rattle.addr2line_units.specs.Cover.{cover}
 use Rattle.addr2line_units.specs.Frames.{FrameRecord}
 use Rattle.addr2line_units.specs.FramesLookup.{LookupAsks, Stop, Waits, Finds, FindsNothing, after_fault, asked_frames, asks_lines_of, ends_lookup, frames_found, frames_of_number, has_many_of, holds_along, is_waiting, main_scope, or_stop, readable_view, stop_along, view_of_number}
-use Rattle.addr2line_units.specs.KeptLookups.{HaveEntriesOf, HaveViewsOf, ReadsOnly, StayAllEntries, answers_in, decided_at, has_frames_at, scope_in, seen_stop, waits_at}
+use Rattle.addr2line_units.specs.KeptLookups.{HaveEntriesOf, HaveViewsOf, ReadsOnly, StayAllEntries, answers_in, decided_along, decided_at, has_frames_at, scope_in, seen_stop, waits_at}
 use Rattle.addr2line_units.specs.KnownEntries.{known_in}
 use Rattle.addr2line_units.specs.Parsed.{IsNotOom, ParsesOnly, has_parsed}
 use Rattle.addr2line_units.specs.UnitIndex.{IndexedUnit, UnitIndex, index_units, sup_sections, unit_records}
 use Rattle.addr2line_units.specs.Views.{SplitLoad, load_of_unit, parts_of}
+use Rattle.addr2line_units.proofs.EndedLemmas.{ended_where_decided}
 use Rattle.addr2line_units.proofs.FoundLemmas.{known_where_found}
 use Rattle.addr2line_units.proofs.KeptLookupLemmas.{entries_more_at, same_answers}
 use Rattle.addr2line_units.proofs.KnownLemmas.{known_is, known_unchanged}
@@ -123,6 +124,15 @@ module _ {R : Type 0} where
         all_is : (k : ℕ) → has_all_of (record { sections = d; answers = answers_in held; parsed = parsed_units old; known = known_in held; looks = looks }) probe made k
             ≡ has_frames_at (asks_lines_of (main_scope d made) (indexed_units us old) (answers_in held) probe) probe (parsed_units old) held k
         all_is k = ap (λ b. b && (not (asks_lines_of (main_scope d made) (indexed_units us old) (answers_in held) probe k) || has_parsed (parsed_units old) k)) (known_is probe held k)
+
+    -- a lookup waits for no unit where all views are known
+    pub never_waits : (faults : Faults) (probe : ℕ) → not (decided_along held (cover probe ranges)) ≡ false → is_waiting (lookup_stop faults d (answers_in held) probe) ≡ false
+    never_waits faults probe decided =
+        ap is_waiting (stop_is faults probe) ∙ ended_where_decided (scope_in d us sup) probe faults us old held (cover probe ranges) entries_in_scope (by (decided_along held (cover probe ranges)) decided)
+      where
+        by : (b : Bool) → not b ≡ false → b ≡ true
+        by true e = refl
+        by false e = absurd cc
 
     -- a lookup of a unit that has found one, where what it asks for is known, has found one whose view
     -- is known

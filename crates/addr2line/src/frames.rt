@@ -47,8 +47,8 @@ fn end<R: Reader>(ctx: &mut Context<R>, probe: u64) -> LookupResult<FramesLookup
     }
 }
 
-// A lookup of frames from its beginning, by what is kept.
-fn go<R: Reader>(ctx: &mut Context<R>, probe: u64) -> LookupResult<FramesLookup<'_, R>>
+// A lookup of frames that may wait: it asks once whether it does, and then once for what to lend.
+fn ask_units<R: Reader>(ctx: &mut Context<R>, probe: u64) -> LookupResult<FramesLookup<'_, R>>
     ensures* ends { sem 𝓛 (RestsAs (λ c. c.ctx.ghost_name) R.row R.Reader ctx.entry result
         (λ o n. AfterFrames End probe o ctx.old n)) }
     ensures load { IfLoad result (λ c. (c.ctx.ghost_name ≡ ctx.entry.ghost_name)
@@ -72,6 +72,23 @@ fn go<R: Reader>(ctx: &mut Context<R>, probe: u64) -> LookupResult<FramesLookup<
         Ok(UnitStop::Finds(_)) => end(ctx, probe),
         Ok(UnitStop::FindsNothing) => LookupResult::Output(Ok(FrameIter::new_empty())),
         Err(error) => LookupResult::Output(Err(error)),
+    }
+}
+
+// A lookup of frames from its beginning, by what is kept.
+fn go<R: Reader>(ctx: &mut Context<R>, probe: u64) -> LookupResult<FramesLookup<'_, R>>
+    ensures* ends { sem 𝓛 (RestsAs (λ c. c.ctx.ghost_name) R.row R.Reader ctx.entry result
+        (λ o n. AfterFrames End probe o ctx.old n)) }
+    ensures load { IfLoad result (λ c. (c.ctx.ghost_name ≡ ctx.entry.ghost_name)
+        × (c.probe ≡ probe)
+        × Suspends End probe c.number (seen_load R.section c.load) ctx.old c.ctx.now) }
+    ensures output { IfOutput result (λ o. ExactlyUnlessOom (λ i. Some (frames_left i)) o
+        (frames_of ctx.old.sections ctx.old.answers probe)) }
+{
+    if ctx.may_wait(probe) {
+        ask_units(ctx, probe)
+    } else {
+        end(ctx, probe)
     }
 }
 

@@ -1,10 +1,11 @@
 //! What lookups come to, by the number of a unit.
 
-ghost use Rattle.std.specs.Prelude.{◌≡◌, IfErr, IfOk, Ok};
+ghost use Rattle.std.specs.Prelude.{◌≡◌, IfErr, IfOk, Ok, false};
 ghost use Rattle.gimli_read.specs.declared.error.Error.TheVariants.{OutOfMemory};
 ghost use Rattle.gimli_read.specs.Reading.{ExactlyUnlessOom};
+ghost use Rattle.addr2line_units.specs.declared.frames_lookup.Faults.{Faults};
 ghost use Rattle.addr2line_units.specs.declared.frames_lookup.Faults.TheVariants.{PassOver};
-ghost use Rattle.addr2line_units.specs.FramesLookup.{Waits};
+ghost use Rattle.addr2line_units.specs.FramesLookup.{Waits, is_waiting};
 ghost use Rattle.addr2line_units.specs.KeptViews.{seen_load};
 ghost use Rattle.addr2line_units.specs.SeenUnit.{seen_found};
 ghost use Rattle.addr2line.specs.declared.stops.UnitStop.TheVariants.{Finds};
@@ -56,6 +57,14 @@ impl<R: Reader> Context<R> {
             faults,
         );
         stop_by_number(stop)
+    }
+
+    // Whether a lookup may wait for an answer, by what is kept. Takes no memory.
+    pub(crate) fn may_wait(&self, probe: u64) -> bool
+        ensures ends { result ≡ false → (faults : Faults)
+            → is_waiting (lookup_stop faults self.now.sections self.now.answers probe) ≡ false }
+    {
+        self.units.may_wait(probe)
     }
 
     // The load of the unit that a lookup waits for. Refused `OutOfMemory` alone.

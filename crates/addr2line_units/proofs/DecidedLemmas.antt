@@ -33,7 +33,7 @@ decided_view {R} d (x ∷ us) (y ∷ vs) zero u v own w e f =
 decided_view d (x ∷ us) (y ∷ vs) (suc n) u v own w e f = decided_view d us vs n u v own.1 w e f
 
 -- it has a verdict
-decided_has_verdict : {R : Type 0} → (d : Sections) (u : UnitRecord) (v : UnitEntries R) → IsViewOf d u v.view → is_decided v.view.state ≡ true → is_some (verdict d u (kept_answer v)) ≡ true
+pub decided_has_verdict : {R : Type 0} → (d : Sections) (u : UnitRecord) (v : UnitEntries R) → IsViewOf d u v.view → is_decided v.view.state ≡ true → is_some (verdict d u (kept_answer v)) ≡ true
 decided_has_verdict {R} d u v is decided = by v.view.state (verdict d u (kept_answer v)) decided is.right
   where
     by : (s : ViewState R) (w : Option (Result View Error)) → is_decided s ≡ true → IfSome (kept_verdict d u (record { state = s })) (λ kept. kept ≡ w) → is_some w ≡ true

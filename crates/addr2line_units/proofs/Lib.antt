@@ -21,6 +21,7 @@ pub mod ScopeLemmas
 pub mod WaitLemmas
 pub mod FoundLemmas
 pub mod DecidedLemmas
+pub mod EndedLemmas
 pub mod KnownLemmas
 pub mod KeptLookupLemmas
 pub mod ParseLemmas

@@ -14,6 +14,7 @@ use Rattle.addr2line_units.specs.declared.frames_lookup.Faults.TheVariants.{Pass
 use Rattle.addr2line_units.specs.declared.frames_lookup.FramePlace.{FramePlace}
 use Rattle.addr2line_units.specs.declared.frames_lookup.FramesStop.{FramesStop}
 use Rattle.addr2line_units.specs.declared.frames_lookup.FramesStop.TheVariants as stops
+use Rattle.addr2line_units.specs.declared.index.UnitRange.{UnitRange}
 use Rattle.addr2line_units.specs.declared.sup.SupUnits.{SupUnits}
 use Rattle.addr2line_units.specs.declared.unit.ResUnit.{ResUnit}
 use Rattle.addr2line_units.specs.declared.unit_frames.UnitEntries.{UnitEntries}
@@ -162,6 +163,11 @@ waits_at views n = unwrap_or (option_map (λ v. waits v.view.state) (slice_get v
 abbrev pub decided_at : {R : Type 0} → List (UnitEntries R) → ℕ → Bool
 decided_at views n =
     unwrap_or (option_map (λ v. is_decided v.view.state) (slice_get views n)) false
+
+-- the same of each unit along ranges
+abbrev pub decided_along : {R : Type 0} → List (UnitEntries R) → List UnitRange → Bool
+decided_along views [] = true
+decided_along views (r ∷ ranges) = decided_at views r.unit && decided_along views ranges
 
 -- the unit that a lookup waits for does
 abbrev pub WaitsIn : {R : Type 0} → List (UnitEntries R) → FramesStop → Type 0

@@ -3,7 +3,7 @@ use Rattle.addr2line_units.specs.declared.frames_lookup.Faults.TheVariants.{End}
 use Rattle.addr2line_units.specs.FramesLeft.{frames_left}
 use Rattle.addr2line.proofs.AfterLemmas.{found_ended, never_loads, outputs_after, outputs_same}
 use Rattle.addr2line.specs.Lookups.{frames_of}
-use Rattle.addr2line.proofs.frames.go.Goals as goal
+use Rattle.addr2line.proofs.frames.ask_units.Goals as goal
 
 pub end-requires : goal.end-requires
 end-requires g c =

@@ -19,7 +19,7 @@ use Rattle.addr2line_units.specs.FunctionParseLaws.{IsReached}
 use Rattle.addr2line_units.specs.FunctionParses.{AreFirstDecided, answers_after, read_of_units}
 use Rattle.addr2line_units.specs.KeptLookups.{StayAllEntries, answers_in, has_entries_at, scope_in}
 use Rattle.addr2line_units.specs.KnownEntries.{known_in}
-use Rattle.addr2line_units.specs.Loads.{forget_result, forgotten, load_of_number, load_result, loads_along}
+use Rattle.addr2line_units.specs.Loads.{AreSettled, forget_result, forgotten, is_settled_at, load_of_number, load_result, loads_along}
 use Rattle.addr2line_units.specs.Parsed.{IsNotOom}
 use Rattle.addr2line_units.specs.UnitIndex.{UnitIndex, unit_records}
 use Rattle.addr2line_units.proofs.KeptLookupLemmas.{as_many_entries, entries_more_at}
@@ -33,7 +33,7 @@ use Rattle.addr2line.proofs.ContextLemmas.{lines_are}
 use Rattle.addr2line.proofs.LookupLemmas.{as_many_lines, scope_is}
 use Rattle.addr2line.proofs.NewContextLemmas.{ok_is}
 use Rattle.addr2line.specs.Context.{ContextState, IsContext, index_by}
-use Rattle.addr2line.specs.Loads.{AfterForget, AfterLoad, AfterParse, AfterPreload, IsAllKnown, ReachesAllOf, StaysRead, forget_reply, load_reply, parse_reply, parsed_answers}
+use Rattle.addr2line.specs.Loads.{AfterForget, AfterLoad, AfterParse, AfterPreload, AreSettledAt, IsAllKnown, IsSettled, ReachesAllOf, StaysRead, forget_reply, load_reply, parse_reply, parsed_answers}
 use Rattle.addr2line.specs.Lookups.{StaysKnown, loads_of, lookup_stop}
 
 module _ {R : Type 0} (d : Sections) (us : List UnitRecord) (old : List ResUnit) (held : List (UnitEntries R)) (ranges : List UnitRange) (sup : SupUnits R) (i : IsContext d us old held ranges sup.units.items sup.dwarf) where
@@ -53,6 +53,12 @@ module _ {R : Type 0} (d : Sections) (us : List UnitRecord) (old : List ResUnit)
 
   pub listed_are : (probe : ℕ) → loads_of d (answers_in held) probe ≡ loads_along (load_of_number d us (answers_in held)) (cover probe ranges)
   listed_are probe = loads_are d us old held ranges sup i (answers_in held) probe
+
+  pub settled_is : (n looks : ℕ) → IsSettled (record { sections = d; answers = answers_in held; parsed = parsed_units old; known = known_in held; looks = looks }) n → is_settled_at us (answers_in held) n ≡ true
+  settled_is n looks h = subst (λ xs. is_settled_at xs (answers_in held) n ≡ true) same_units (h made i.made_is)
+
+  pub settled_are : (probe looks : ℕ) → AreSettledAt (record { sections = d; answers = answers_in held; parsed = parsed_units old; known = known_in held; looks = looks }) probe → AreSettled us (answers_in held) (cover probe ranges)
+  settled_are probe looks h = subst (λ xs. AreSettled xs (answers_in held) (cover probe ranges)) same_units (h made i.made_is)
 
   pub parse_is : (reads : Reads) → parse_reply reads d (answers_in held) ≡ read_of_units reads (scope_in d us sup) us (answers_in held)
   parse_is reads =

@@ -8,11 +8,12 @@ use Rattle.gimli_read.specs.Reading.{◌>>=◌}
 use Rattle.gimli.specs.Sections.{Sections}
 use Rattle.addr2line_units.specs.declared.frames_lookup.Faults.{Faults}
 use Rattle.addr2line_units.specs.declared.parses.Reads.{Reads}
+use Rattle.addr2line_units.specs.Cover.{cover}
 use Rattle.addr2line_units.specs.FramesLookup.{answer_of, main_scope}
 use Rattle.addr2line_units.specs.FunctionParseLaws.{IsReached}
 use Rattle.addr2line_units.specs.FunctionParses.{AreFirstDecided, answers_after, read_of_units}
 use Rattle.addr2line_units.specs.KnownEntries.{knows_at}
-use Rattle.addr2line_units.specs.Loads.{forget_result, forgotten, load_result}
+use Rattle.addr2line_units.specs.Loads.{AreSettled, forget_result, forgotten, is_settled_at, load_result}
 use Rattle.addr2line_units.specs.Parsed.{IsNotOom}
 use Rattle.addr2line_units.specs.UnitIndex.{UnitIndex, index_units, unit_records}
 use Rattle.addr2line.specs.Answers.{answered}
@@ -40,6 +41,16 @@ parsed_answers reads d answers = elim (index_units d) [
   | Err e ↦ answers
   | Ok m ↦ answers_after reads (main_scope d m) (unit_records m.units) answers
 ]
+
+-- no memory is wanted to know that the unit of a number is decided, or that there is none
+abbrev pub IsSettled : ContextState → ℕ → Type 0
+IsSettled c n = (m : UnitIndex) → index_units c.sections ≡ Ok m
+    → is_settled_at (unit_records m.units) c.answers n ≡ true
+
+-- the same of each unit that covers the probe
+abbrev pub AreSettledAt : ContextState → ℕ → Type 0
+AreSettledAt c probe = (m : UnitIndex) → index_units c.sections ≡ Ok m
+    → AreSettled (unit_records m.units) c.answers (cover probe m.ranges)
 
 -- nothing is changed but what is known of units' entries, and first answers
 pub record StaysRead (old new : ContextState) : Type 0 where

@@ -1,11 +1,11 @@
 //! Answers to loads outside a lookup, and what forgets them.
 
-ghost use Rattle.std.specs.Prelude.{◌≡◌, IfErr, IfOk, map, option_map};
+ghost use Rattle.std.specs.Prelude.{◌≡◌, IfErr, IfOk, IsOk, map, option_map};
 ghost use Rattle.gimli_read.specs.declared.error.Error.TheVariants.{OutOfMemory};
 ghost use Rattle.gimli_read.specs.Reading.{ExactlyUnlessOom};
 ghost use Rattle.addr2line_units.specs.KeptViews.{seen_load};
 ghost use Rattle.addr2line_units.specs.Loads.{token_number};
-ghost use Rattle.addr2line.specs.Loads.{AfterForget, AfterLoad, AfterPreload, forget_reply, load_reply};
+ghost use Rattle.addr2line.specs.Loads.{AfterForget, AfterLoad, AfterPreload, AreSettledAt, IsSettled, forget_reply, load_reply};
 ghost use Rattle.addr2line.specs.Lookups.{loads_of};
 
 use crate::context::Context;
@@ -18,13 +18,15 @@ impl<R: Reader> Context<R> {
     /// The loads of the open units that cover an address, each once, in the order in which a lookup
     /// asks the units. Whether a unit is open is looked for and kept.
     ///
-    /// `probe` is an address as the file has it. Refused `OutOfMemory` alone.
+    /// `probe` is an address as the file has it. Refused `OutOfMemory` alone; takes no memory where
+    /// each unit that covers the address has no split unit, or an answer.
     ///
     /// Source: DWARF 5, section 7.3.2. Own: the order.
     pub fn preload_units(&mut self, probe: u64) -> Result<Vec<SplitDwarfLoad<R>>, Error>
         ensures gives { IfOk result (λ loads. map (seen_load R.section) loads.items
             ≡ loads_of self.old.sections self.old.answers probe) }
         ensures refused { IfErr result (λ e. e ≡ OutOfMemory) }
+        ensures memory { AreSettledAt self.old probe → IsOk result }
         ensures after { AfterPreload self.old self.new }
     {
         self.units
@@ -36,8 +38,8 @@ impl<R: Reader> Context<R> {
     ///
     /// Refused `UnknownToken` where there is no such unit, and then nothing is changed; refused by
     /// the fault of the view that the unit has then, and the unit is decided all the same. May fail
-    /// with `OutOfMemory` instead; then all first answers are as before. A token of another context
-    /// counts by its number.
+    /// with `OutOfMemory` instead, unless the unit has no split unit, or an answer; then all first
+    /// answers are as before. A token of another context counts by its number.
     ///
     /// Source: DWARF 5, section 7.3.2. Own: which answer counts.
     pub fn load_unit(
@@ -47,6 +49,9 @@ impl<R: Reader> Context<R> {
     ) -> Result<(), Error>
         ensures gives { ExactlyUnlessOom (λ x. x) result (load_reply self.old.sections
             self.old.answers (token_number unit) (option_map (λ d. d.value) sections)) }
+        ensures memory { IsSettled self.old (token_number unit) → result ≡ load_reply
+            self.old.sections self.old.answers (token_number unit)
+            (option_map (λ d. d.value) sections) }
         ensures after { AfterLoad (token_number unit) (option_map (λ d. d.value) sections) result
             self.old self.new }
     {

@@ -30,5 +30,6 @@ pub mod ReachedLemmas
 pub mod NumberedFrames
 pub mod FramesLookupLemmas
 pub mod WalkLemmas
+pub mod SettledLemmas
 pub mod LoadLemmas
 pub mod LoadLawLemmas

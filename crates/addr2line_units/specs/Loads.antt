@@ -2,7 +2,8 @@
 -- (DWARF 5, sections 3.1.2 and 7.3.2).
 -- Own: an answer to a unit that is decided changes nothing; one that is forgotten can be given
 -- again. Of the units that cover an address each load is listed once, where its first range stands.
-use Rattle.std.specs.Prelude.{ℕ, ◌==◌, Bool, not, List, [], ◌∷◌, filter, set, slice_get, Option, Some, None, Result, Ok, Err}
+use Rattle.std.specs.Prelude.{◌≡◌, ℕ, ◌==◌, Bool, true, ◌||◌, not, List, [], ◌∷◌, filter, set, slice_get, Option, Some, None, is_none, is_some, Result, Ok, Err}
+use Rattle.std.specs.List.{AllByRecursion}
 use Rattle.gimli_read.specs.declared.error.Error.{Error}
 use Rattle.gimli_read.specs.declared.error.Error.TheVariants.{UnknownToken}
 use Rattle.gimli_read.specs.Reading.{◌>>=◌}
@@ -39,6 +40,19 @@ forget_result us n = unit_of_token us n >>= λ _. Ok tt
 -- the first answers without that of the unit of a number, if there is one
 abbrev pub forgotten : List (Option (Option Sections)) → ℕ → List (Option (Option Sections))
 forgotten answers n = set answers n None
+
+-- whether no memory is wanted to know that a unit is decided: it has no split unit, or an answer
+abbrev pub is_settled : UnitRecord → Option (Option Sections) → Bool
+is_settled u answer = is_none u.dwo_id || is_some answer
+
+-- the same of the unit of a number; a number of no unit asks for nothing
+abbrev pub is_settled_at : List UnitRecord → List (Option (Option Sections)) → ℕ → Bool
+is_settled_at us answers n = elim (slice_get us n)
+    [ None ↦ true | Some u ↦ is_settled u (answer_of answers n) ]
+
+-- the same of the units that ranges lead to
+abbrev pub AreSettled : List UnitRecord → List (Option (Option Sections)) → List UnitRange → Type 0
+AreSettled us answers ranges = AllByRecursion (λ r. is_settled_at us answers r.unit ≡ true) ranges
 
 -- the load that the unit of a number waits for, none where it is decided or there is no such unit
 abbrev pub load_of_number : Sections → List UnitRecord → List (Option (Option Sections)) → ℕ

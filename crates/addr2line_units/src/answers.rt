@@ -5,6 +5,7 @@ ghost use Rattle.gimli_read.specs.declared.error.Error.TheVariants.{OutOfMemory}
 ghost use Rattle.addr2line_lines.specs.SeenScope.{seen_scope};
 ghost use Rattle.addr2line_units.specs.KeptEntries.{AreEntriesOf, StayEntries, kept_answer};
 ghost use Rattle.addr2line_units.specs.KeptViews.{IsViewOf, is_decided, seen_load, waits};
+ghost use Rattle.addr2line_units.specs.Loads.{is_settled};
 ghost use Rattle.addr2line_units.specs.Views.{decided_answer, is_open, load_of_unit};
 
 use crate::functions::LazyFunctions;
@@ -96,6 +97,7 @@ impl<R: Reader> UnitEntries<R> {
             ≡ false → self.new.functions ≡ self.old.functions }
         ensures same { is_decided self.old.view.state ≡ true
             → (self.new ≡ self.old) × (result ≡ Ok tt) }
+        ensures settled { is_settled dw_unit.now (kept_answer self.old) ≡ true → result ≡ Ok tt }
     {
         self.look(scope, dw_unit)?;
         if self.is_open() {

@@ -13,7 +13,7 @@ ghost use Rattle.addr2line_units.specs.KeptEntries.{AreEntriesOf, StayEntries, k
 ghost use Rattle.addr2line_units.specs.KeptLookups.{HaveEntriesOf, StayAllEntries, answers_in, decided_at, scope_in};
 ghost use Rattle.addr2line_units.specs.KeptViews.{is_decided, seen_load};
 ghost use Rattle.addr2line_units.specs.ListedLoads.{MarksLoad, MarksUnit, if_new, is_marked};
-ghost use Rattle.addr2line_units.specs.Loads.{forget_result, forgotten, load_of_number, load_result, loads_along, view_fault};
+ghost use Rattle.addr2line_units.specs.Loads.{AreSettled, forget_result, forgotten, is_settled, is_settled_at, load_of_number, load_result, loads_along, view_fault};
 ghost use Rattle.addr2line_units.specs.Parsed.{IsNotOom};
 ghost use Rattle.addr2line_units.specs.UnitRangesLeft.{ranges_left};
 ghost use Rattle.addr2line_units.specs.Views.{awaited_load, verdict};
@@ -94,6 +94,11 @@ impl<R: Reader> ResUnits<R> {
             × (result ≡ load_result dwarf.now self.old.dw_units.items
             (answers_in self.old.entries.items) token.number
             (option_map (λ d. d.value) sections)) }
+        ensures settled { is_settled_at self.old.dw_units.items
+            (answers_in self.old.entries.items) token.number ≡ true
+            → result ≡ load_result dwarf.now self.old.dw_units.items
+            (answers_in self.old.entries.items) token.number
+            (option_map (λ d. d.value) sections) }
         ensures others { (n : ℕ) → n ≢ token.number → slice_get self.new.entries.items n
             ≡ slice_get self.old.entries.items n }
         ensures kept { HaveEntriesOf (scope_in dwarf.now self.new.dw_units.items sup.now)
@@ -181,6 +186,8 @@ impl<R: Reader> UnitEntries<R> {
             (awaited_load dwarf.now.value number dw_unit.now (kept_answer self.old))
             marks.old.items marks.new.items) }
         ensures decided { is_decided self.old.view.state ≡ true → result ≡ Ok None }
+        ensures settled { is_settled dw_unit.now (kept_answer self.old) ≡ true
+            → result ≡ Ok None }
         ensures refused { IfErr result (λ e. e ≡ OutOfMemory) }
         ensures kept { AreEntriesOf (seen_scope scope.entry) dw_unit.now self.new }
         ensures stay { StayEntries self.old self.new }
@@ -216,6 +223,8 @@ fn new_load_at<R: Reader>(
         (load_of_number dwarf.now.value dw_units.now (answers_in entries.old.items) number)
         marks.old.items marks.new.items) }
     ensures decided { decided_at entries.old.items number ≡ true → result ≡ Ok None }
+    ensures settled { is_settled_at dw_units.now (answers_in entries.old.items) number ≡ true
+        → result ≡ Ok None }
     ensures refused { IfErr result (λ e. e ≡ OutOfMemory) }
     ensures kept { HaveEntriesOf (scope_in dwarf.now.value dw_units.now sup.now) dw_units.now
         entries.new.items }
@@ -270,6 +279,8 @@ fn read_loads<R: Reader>(
     ensures refused { IfErr result (λ e. e ≡ OutOfMemory) }
     ensures memory { AllByRecursion (λ r. decided_at entries.old.items r.unit ≡ true)
         (ranges_left ranges.entry) → IsOk result }
+    ensures settled { AreSettled dw_units.now (answers_in entries.old.items)
+        (ranges_left ranges.entry) → IsOk result }
     ensures kept { HaveEntriesOf (scope_in dwarf.now.value dw_units.now sup.now) dw_units.now
         entries.new.items }
     ensures stay { StayAllEntries entries.old.items entries.new.items }
@@ -302,6 +313,8 @@ impl<R: Reader> ResUnits<R> {
             (answers_in self.old.entries.items)) (cover probe self.old.ranges)) }
         ensures refused { IfErr result (λ e. e ≡ OutOfMemory) }
         ensures memory { AllByRecursion (λ r. decided_at self.old.entries.items r.unit ≡ true)
+            (cover probe self.old.ranges) → IsOk result }
+        ensures settled { AreSettled self.old.dw_units.items (answers_in self.old.entries.items)
             (cover probe self.old.ranges) → IsOk result }
         ensures answers { answers_in self.new.entries.items
             ≡ answers_in self.old.entries.items }

@@ -18,6 +18,7 @@ ghost use Rattle.addr2line_units.specs.KeptFunctions.{IsPlaceIn, function_of_pla
 ghost use Rattle.addr2line_units.specs.KeptLookups.{HaveEntriesOf, HaveViewsOf, IsFramePlaceIn, IsStopIn, ReadsOnly, StayAllEntries, WaitsIn, answers_in, decided_at, frames_at_place, has_frames_at, scope_in, seen_stop, sup_file, waits_at};
 ghost use Rattle.addr2line_units.specs.KeptViews.{seen_load};
 ghost use Rattle.addr2line_units.specs.SeenUnit.{seen_unit};
+ghost use Rattle.addr2line_units.specs.Loads.{is_settled_at};
 ghost use Rattle.addr2line_units.specs.Views.{load_of_unit, parts_of};
 ghost use Rattle.addr2line_units.specs.Parsed.{IsNotOom, ParsesOnly};
 
@@ -240,6 +241,8 @@ impl<R: Reader> ResUnits<R> {
         ensures decided { OnOk result (decided_at self.new.entries.items number ≡ true) }
         ensures same { decided_at self.old.entries.items number ≡ true
             → (self.new.entries.items ≡ self.old.entries.items) × (result ≡ Ok tt) }
+        ensures settled { is_settled_at self.old.dw_units.items
+            (answers_in self.old.entries.items) number ≡ true → result ≡ Ok tt }
         ensures others { (n : ℕ) → n ≢ number → slice_get self.new.entries.items n
             ≡ slice_get self.old.entries.items n }
         ensures refused { IfErr result (λ e. (e ≡ OutOfMemory)

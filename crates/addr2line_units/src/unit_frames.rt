@@ -9,6 +9,7 @@ ghost use Rattle.addr2line_units.specs.CachedLines.{AreLinesOf, StaysUnit, index
 ghost use Rattle.addr2line_units.specs.KeptEntries.{AreEntriesOf, AreFramesIn, AreFresh, ReadsEntriesOf, StayEntries, frames_of_place, has_entries, has_entries_by, kept_answer};
 ghost use Rattle.addr2line_units.specs.KeptFunctions.{IsPlaceIn, ReadsNoOther, StayFunctions, function_of_place, kept_functions};
 ghost use Rattle.addr2line_units.specs.KeptViews.{is_decided, seen_answer, waits, was_looked_at};
+ghost use Rattle.addr2line_units.specs.Loads.{is_settled};
 ghost use Rattle.addr2line_units.specs.Parsed.{IsNotOom};
 ghost use Rattle.addr2line_units.specs.UnitFrames.{asks_lines_in, frames_in, function_in, has_many};
 ghost use Rattle.addr2line_units.specs.Views.{is_open};
@@ -98,6 +99,7 @@ impl<R: Reader> UnitEntries<R> {
         ensures same { was_looked_at self.old.view.state ≡ true
             → (self.new ≡ self.old) × (result ≡ Ok tt) }
         ensures refused { IfErr result (λ e. (e ≡ OutOfMemory) × (self.new ≡ self.old)) }
+        ensures settled { is_settled dw_unit.now (kept_answer self.old) ≡ true → result ≡ Ok tt }
     {
         self.view.look(scope.file.dwarf, dw_unit)
     }

@@ -1,12 +1,12 @@
-use Rattle.std.proofs.Common.{◌≡◌, ◌≢◌, sym, subst}
+use Rattle.std.proofs.Common.{◌≡◌, ◌≢◌, ◌∙◌, sym, subst, true}
 use Rattle.std.specs.Prelude.{option_map}
 use Rattle.gimli_read.specs.Reading.{ExactlyUnlessOom}
 use Rattle.addr2line_units.specs.FramesLookup.{with_answer}
 use Rattle.addr2line_units.specs.KeptLookups.{StayAllEntries, answers_in}
-use Rattle.addr2line_units.specs.Loads.{load_result}
+use Rattle.addr2line_units.specs.Loads.{is_settled_at, load_result}
 use Rattle.addr2line_units.specs.Parsed.{IsNotOom}
 use Rattle.addr2line.proofs.AnsweredLemmas.{still_answered}
-use Rattle.addr2line.proofs.LoadLemmas.{after_load, load_is}
+use Rattle.addr2line.proofs.LoadLemmas.{after_load, load_is, settled_is}
 use Rattle.addr2line.proofs.LookupLemmas.{entries_in_scope}
 use Rattle.addr2line.proofs.context.Context.load_unit.Goals as goal
 
@@ -38,3 +38,11 @@ returns-clause-after g c =
     let answers = subst (λ d. IsNotOom c.load_unit.result → answers_in now.entries.items ≡ with_answer d s.units.dw_units.items (answers_in s.units.entries.items) n given) c.deref.ensures e.answers in
     let refused = subst (λ d. c.load_unit.result ≢ load_result d s.units.dw_units.items (answers_in s.units.entries.items) n given → (answers_in now.entries.items ≡ answers_in s.units.entries.items) × StayAllEntries s.units.entries.items now.entries.items) c.deref.ensures e.refused in
     rw (sym c.self.view_is) (after_load s.dwarf.value s.units.dw_units.items s.units.units.items s.units.entries.items s.units.ranges s.sup_units c.self.invariant now.units.items e.units now.entries.items s.looks n given c.load_unit.result answers refused e.others)
+
+pub returns-clause-memory : goal.returns-clause-memory
+returns-clause-memory g c =
+    let s = c.self.inside in
+    let n = c.args.unit.number in
+    let given = option_map (λ x. x.value) c.args.sections in
+    let settled = subst (λ d. is_settled_at s.units.dw_units.items (answers_in s.units.entries.items) n ≡ true → c.load_unit.result ≡ load_result d s.units.dw_units.items (answers_in s.units.entries.items) n given) c.deref.ensures c.load_unit.ensures.settled in
+    rw (sym c.self.view_is) (λ h. settled (settled_is s.dwarf.value s.units.dw_units.items s.units.units.items s.units.entries.items s.units.ranges s.sup_units c.self.invariant n s.looks h) ∙ sym (load_is s.dwarf.value s.units.dw_units.items s.units.units.items s.units.entries.items s.units.ranges s.sup_units c.self.invariant n given))

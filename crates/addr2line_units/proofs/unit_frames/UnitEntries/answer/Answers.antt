@@ -4,6 +4,7 @@ use Rattle.addr2line_units.specs.KeptEntries.{StayEntries, kept_answer}
 use Rattle.addr2line_units.specs.Views.{is_open}
 use Rattle.addr2line_units.proofs.AnswerLemmas.{decided_if_not, decided_if_open, decided_was_looked_at, never_waits, open_by_look}
 use Rattle.addr2line_units.proofs.EntryLemmas.{looked_decides}
+use Rattle.addr2line_units.proofs.SettledLemmas.{open_is_unsettled}
 use Rattle.addr2line_units.proofs.unit_frames.UnitEntries.answer.Goals as goal
 
 pub returns-in_err-look-clause-same : goal.returns-in_err-look-clause-same
@@ -62,3 +63,11 @@ returns-else-is_open-clause-decided g c =
 pub returns-else-is_open-clause-same : goal.returns-else-is_open-clause-same
 returns-else-is_open-clause-same g c h =
     ((c.look.ensures.same (decided_was_looked_at c.args.self.now.view.state h)).0, refl)
+
+pub returns-in_err-decide-clause-settled : goal.returns-in_err-decide-clause-settled
+returns-in_err-decide-clause-settled g c h =
+    let d = c.args.scope.file.dwarf.now in
+    let u = c.args.dw_unit.now in
+    let s = c.args.self.now in
+    let was : is_open d u (kept_answer s) ≡ true = open_by_look d u s.view c.look.new.self.view true c.look.ensures.kept.view c.in_ok-look.ensures.looked c.look.ensures.stay.answer (search rules) in
+    absurd (open_is_unsettled d u (kept_answer s) was h)

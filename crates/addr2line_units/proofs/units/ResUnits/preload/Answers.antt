@@ -1,9 +1,9 @@
 use Rattle.std.proofs.Common.{◌≡◌, map, subst}
-use Rattle.std.specs.Prelude.{IfOk}
+use Rattle.std.specs.Prelude.{IfOk, IsOk}
 use Rattle.addr2line_units.specs.Cover.{cover}
 use Rattle.addr2line_units.specs.KeptLookups.{answers_in}
 use Rattle.addr2line_units.specs.KeptViews.{seen_load}
-use Rattle.addr2line_units.specs.Loads.{load_of_number, loads_along}
+use Rattle.addr2line_units.specs.Loads.{AreSettled, load_of_number, loads_along}
 use Rattle.addr2line_units.proofs.KeptLookupLemmas.{same_answers}
 use Rattle.addr2line_units.proofs.units.ResUnits.preload.Goals as goal
 
@@ -18,3 +18,10 @@ returns-clause-gives g c =
 pub returns-clause-answers : goal.returns-clause-answers
 returns-clause-answers g c =
     same_answers c.args.self.now.entries.items c.read_loads.new.entries.items c.read_loads.ensures.stay
+
+pub returns-clause-settled : goal.returns-clause-settled
+returns-clause-settled g c =
+    let s = c.args.self.now in
+    let answers = answers_in s.entries.items in
+    subst (λ us. AreSettled us answers (cover c.args.probe s.ranges) → IsOk c.read_loads.result) c.deref.ensures.value
+    (subst (λ rs. AreSettled c.deref.result.now answers rs → IsOk c.read_loads.result) c.find.ensures.gives c.read_loads.ensures.settled)

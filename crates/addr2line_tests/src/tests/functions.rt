@@ -43,8 +43,8 @@ const LISTED: &[u8] = b"\x01\x11\x01\0\0\x02\x2e\0\x55\x17\0\0\x03\x2e\0\x11\x01
 // The ranges of a list at 0xc, and [45, 60) at 0x11.
 const LISTED_INFO: &[u8] = b"\x12\0\0\0\x04\0\0\0\0\0\x02\x01\x02\0\0\0\0\x03\x2d\0\x0f\0";
 
-// [0, 100) and [40, 50).
-const LIST: [u8; 12] = [0, 0, 100, 0, 40, 0, 50, 0, 0, 0, 0, 0];
+/// [0, 100) and [40, 50).
+pub const LIST: [u8; 12] = [0, 0, 100, 0, 40, 0, 50, 0, 0, 0, 0, 0];
 
 // Where the function at an address begins, 0 where there is none.
 fn offset_at(functions: &Functions<EndianSlice<'_>>, probe: u64) -> u64 {

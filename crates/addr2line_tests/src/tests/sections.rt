@@ -139,6 +139,7 @@ pub fn fault_code(error: Error) -> u32 {
         Error::UnknownReservedLength => 9_200_000,
         Error::UnsupportedSegmentSize => 9_300_000,
         Error::OffsetOutOfBounds => 9_400_000,
+        Error::UnknownToken => 9_500_000,
         _ => 8_000_000,
     }
 }

@@ -1,0 +1,404 @@
+//! What the calls of a context answer that may wait for split files, as numbers.
+
+use super::sections::{LINE, code_of, dwarf_of, fault_code, location_code};
+use addr2line::gimli::read::{Error, Reader};
+use addr2line::gimli::{Dwarf, DwarfFileType, UnitRef, UnitType};
+use addr2line::{
+    Context, Frame, FrameIter, FunctionName, LookupContinuation, LookupResult, SplitDwarfLoad,
+    UnitToken,
+};
+use std::alloc::Global;
+use std::rc::Rc;
+
+/// A unit with DW_AT_stmt_list, DW_AT_comp_dir, DW_AT_dwo_name, DW_AT_low_pc and DW_AT_high_pc.
+pub const WAITING_ABBREV: &[u8] = b"\x01\x4a\0\x10\x17\x1b\x08\x76\x08\x11\x01\x12\x06\0\0\0";
+
+/// The units [0, 100) and [10, 20), which wait for split files with the identifiers 1 and 2.
+pub const TWO_WAITING_INFO: &[u8] = b"\x2a\0\0\0\x05\0\x04\x08\0\0\0\0\x01\0\0\0\0\0\0\0\
+    \x01\0\0\0\0/w\0s.dwo\0\0\0\0\0\0\0\0\0\x64\0\0\0\
+    \x2a\0\0\0\x05\0\x04\x08\0\0\0\0\x02\0\0\0\0\0\0\0\
+    \x01\0\0\0\0/w\0s.dwo\0\x0a\0\0\0\0\0\0\0\x0a\0\0\0";
+
+/// Three frames: of each where its entry begins, the first byte of its name with its language, and
+/// its location; 0 for none. Any other answer stands in the first place.
+#[derive(Clone, Copy, Debug, PartialEq, Eq)]
+pub struct Codes(pub [u64; 3], pub [u64; 3], pub [u64; 3]);
+
+/// Nothing is found.
+pub const NONE: Codes = Codes([0; 3], [0; 3], [0; 3]);
+
+/// A call was made that gives nothing else.
+pub const DONE: Codes = Codes([0, 0, 1], [0; 3], [0; 3]);
+
+/// Growths that were refused.
+const REFUSED: Codes = Codes([0, 0, 9_100_000], [0; 3], [0; 3]);
+
+/// How a lookup goes on that waits for a split file.
+#[derive(Clone, Copy)]
+pub enum Answer {
+    /// It is dropped.
+    Drop,
+    Abandon,
+    IntoLoad,
+    /// There is no split file.
+    Nothing,
+    /// There is the split file.
+    Split,
+    /// There is no split file for this load and each later one.
+    Skip,
+}
+
+/// A call of a context.
+#[derive(Clone, Copy)]
+pub enum Call {
+    Frames(u64, Answer),
+    Unit(u64, Answer),
+    Location(u64),
+    Preload(u64),
+    /// Answers the load of the unit of a number by the split file.
+    Load(usize),
+    /// Answers it by none.
+    LoadNothing(usize),
+    Forget(usize),
+    ParseLines,
+    ParseFunctions,
+    ParseInlined,
+}
+
+/// What calls are made with: the tokens of the units 0 and 1, and the sections of the split file.
+#[derive(Drop)]
+pub struct Given<R: Reader> {
+    tokens: [UnitToken; 2],
+    split: Rc<Dwarf<R>>,
+}
+
+/// The only frame, or another answer.
+pub fn first(code: [u64; 3]) -> Codes {
+    Codes(code, [0; 3], [0; 3])
+}
+
+fn fault_codes(error: Error) -> Codes {
+    first([0, 0, u64::from(fault_code(error))])
+}
+
+fn done_codes(done: Result<(), Error>) -> Codes {
+    match done {
+        Ok(()) => DONE,
+        Err(error) => fault_codes(error),
+    }
+}
+
+// The first byte of a name, and 256 for each number of its language.
+fn name_code<R: Reader>(name: &FunctionName<'_, R>) -> u64 {
+    let letter = name
+        .name
+        .to_slice()
+        .first()
+        .map_or(1, |byte| u64::from(*byte));
+    letter
+        + name
+            .language
+            .map_or(0, |language| u64::from(language.0) * 256)
+}
+
+fn frame_code<R: Reader>(frame: &Frame<'_, R>) -> [u64; 3] {
+    let offset = frame.dw_die_offset.map_or(0, |offset| offset.0);
+    let name = match &frame.function {
+        Some(name) => name_code(name),
+        None => 0,
+    };
+    let location = frame
+        .location
+        .map_or(0, |location| u64::from(location_code(location)));
+    [offset, name, location]
+}
+
+// The next frame; nines for a fault.
+fn next_code<R: Reader>(frames: &mut FrameIter<'_, R>) -> [u64; 3] {
+    match frames.next() {
+        Ok(Some(frame)) => frame_code(&frame),
+        Ok(None) => [0; 3],
+        Err(_) => [9; 3],
+    }
+}
+
+fn frame_codes<R: Reader>(frames: FrameIter<'_, R>) -> Codes {
+    let mut frames = frames;
+    let first = next_code(&mut frames);
+    let second = next_code(&mut frames);
+    Codes(first, second, next_code(&mut frames))
+}
+
+fn frames_or_fault<R: Reader>(frames: Result<FrameIter<'_, R>, Error>) -> Codes {
+    match frames {
+        Ok(frames) => frame_codes(frames),
+        Err(error) => fault_codes(error),
+    }
+}
+
+// Where a unit begins, its kind, and 1.
+fn unit_codes<R: Reader>(unit: Result<Option<UnitRef<'_, R>>, Error>) -> Codes {
+    match unit {
+        Ok(Some(found)) => {
+            let unit = found.unit;
+            let kind = match unit.header.type_() {
+                UnitType::Compile => 1,
+                UnitType::Skeleton => 4,
+                UnitType::SplitCompile => 5,
+                UnitType::TypeUnit | UnitType::Partial | UnitType::SplitType => 0,
+            };
+            first([unit.header.offset().0, kind, 1])
+        }
+        Ok(None) => NONE,
+        Err(error) => fault_codes(error),
+    }
+}
+
+// Whether the text is there and is this one.
+fn has_text<R: Reader>(reader: &Option<R>, text: &[u8]) -> u64 {
+    match reader {
+        Some(reader) => u64::from(reader.to_slice() == text),
+        None => 0,
+    }
+}
+
+// The identifier of a load, whether its directory is "/w", and whether its path is "s.dwo".
+fn load_codes<R: Reader>(load: &SplitDwarfLoad<R>) -> Codes {
+    let dir = has_text(&load.comp_dir, b"/w");
+    let path = has_text(&load.path, b"s.dwo");
+    first([load.dwo_id.0, dir, path])
+}
+
+// How many loads there are, and the identifiers of the first two.
+fn loads_codes<R: Reader>(loads: Result<Vec<SplitDwarfLoad<R>>, Error>) -> Codes {
+    match loads {
+        Ok(loads) => {
+            let [a, b] = [0, 1].map(|i: usize| loads.get(i).map_or(0, |load| load.dwo_id.0));
+            first([loads.len() as u64, a, b])
+        }
+        Err(error) => fault_codes(error),
+    }
+}
+
+// A lookup that has ended, or its load; then it is dropped.
+fn drop_frames<R: Reader>(context: &mut Context<R>, probe: u64) -> Codes {
+    match context.find_frames(probe) {
+        LookupResult::Output(frames) => frames_or_fault(frames),
+        LookupResult::Load { continuation } => load_codes(continuation.load()),
+    }
+}
+
+fn abandon_frames<R: Reader>(context: &mut Context<R>, probe: u64) -> Codes {
+    match context.find_frames(probe) {
+        LookupResult::Output(frames) => frames_or_fault(frames),
+        LookupResult::Load { continuation } => {
+            let codes = load_codes(continuation.load());
+            continuation.abandon();
+            codes
+        }
+    }
+}
+
+fn load_of_frames<R: Reader>(context: &mut Context<R>, probe: u64) -> Codes {
+    match context.find_frames(probe) {
+        LookupResult::Output(frames) => frames_or_fault(frames),
+        LookupResult::Load { continuation } => load_codes(&continuation.into_load()),
+    }
+}
+
+fn resume_frames<R: Reader>(
+    context: &mut Context<R>,
+    probe: u64,
+    input: Option<Rc<Dwarf<R>>>,
+) -> Codes {
+    match context.find_frames(probe) {
+        LookupResult::Output(frames) => frames_or_fault(frames),
+        LookupResult::Load { continuation } => match continuation.resume(input) {
+            LookupResult::Output(frames) => frames_or_fault(frames),
+            LookupResult::Load { continuation } => load_codes(continuation.load()),
+        },
+    }
+}
+
+fn skip_frames<R: Reader>(context: &mut Context<R>, probe: u64) -> Codes {
+    frames_or_fault(context.find_frames(probe).skip_all_loads())
+}
+
+fn frames_reply<R: Reader>(
+    context: &mut Context<R>,
+    probe: u64,
+    answer: Answer,
+    split: &Rc<Dwarf<R>>,
+) -> Codes {
+    match answer {
+        Answer::Drop => drop_frames(context, probe),
+        Answer::Abandon => abandon_frames(context, probe),
+        Answer::IntoLoad => load_of_frames(context, probe),
+        Answer::Nothing => resume_frames(context, probe, None),
+        Answer::Split => match split.clone() {
+            Ok(split) => resume_frames(context, probe, Some(split)),
+            Err(_) => REFUSED,
+        },
+        Answer::Skip => skip_frames(context, probe),
+    }
+}
+
+fn drop_unit<R: Reader>(context: &mut Context<R>, probe: u64) -> Codes {
+    match context.find_dwarf_and_unit(probe) {
+        LookupResult::Output(unit) => unit_codes(unit),
+        LookupResult::Load { continuation } => load_codes(continuation.load()),
+    }
+}
+
+fn abandon_unit<R: Reader>(context: &mut Context<R>, probe: u64) -> Codes {
+    match context.find_dwarf_and_unit(probe) {
+        LookupResult::Output(unit) => unit_codes(unit),
+        LookupResult::Load { continuation } => {
+            let codes = load_codes(continuation.load());
+            continuation.abandon();
+            codes
+        }
+    }
+}
+
+fn load_of_unit<R: Reader>(context: &mut Context<R>, probe: u64) -> Codes {
+    match context.find_dwarf_and_unit(probe) {
+        LookupResult::Output(unit) => unit_codes(unit),
+        LookupResult::Load { continuation } => load_codes(&continuation.into_load()),
+    }
+}
+
+fn resume_unit<R: Reader>(
+    context: &mut Context<R>,
+    probe: u64,
+    input: Option<Rc<Dwarf<R>>>,
+) -> Codes {
+    match context.find_dwarf_and_unit(probe) {
+        LookupResult::Output(unit) => unit_codes(unit),
+        LookupResult::Load { continuation } => match continuation.resume(input) {
+            LookupResult::Output(unit) => unit_codes(unit),
+            LookupResult::Load { continuation } => load_codes(continuation.load()),
+        },
+    }
+}
+
+fn skip_unit<R: Reader>(context: &mut Context<R>, probe: u64) -> Codes {
+    unit_codes(context.find_dwarf_and_unit(probe).skip_all_loads())
+}
+
+fn unit_reply<R: Reader>(
+    context: &mut Context<R>,
+    probe: u64,
+    answer: Answer,
+    split: &Rc<Dwarf<R>>,
+) -> Codes {
+    match answer {
+        Answer::Drop => drop_unit(context, probe),
+        Answer::Abandon => abandon_unit(context, probe),
+        Answer::IntoLoad => load_of_unit(context, probe),
+        Answer::Nothing => resume_unit(context, probe, None),
+        Answer::Split => match split.clone() {
+            Ok(split) => resume_unit(context, probe, Some(split)),
+            Err(_) => REFUSED,
+        },
+        Answer::Skip => skip_unit(context, probe),
+    }
+}
+
+fn load_reply<R: Reader>(
+    context: &mut Context<R>,
+    token: UnitToken,
+    split: &Rc<Dwarf<R>>,
+) -> Codes {
+    match split.clone() {
+        Ok(split) => done_codes(context.load_unit(token, Some(split))),
+        Err(_) => REFUSED,
+    }
+}
+
+// The answer of one call.
+fn reply<R: Reader>(context: &mut Context<R>, given: &Given<R>, call: Call) -> Codes {
+    let [zero, one] = given.tokens;
+    let token = |number: usize| if number == 0 { zero } else { one };
+    match call {
+        Call::Frames(probe, answer) => frames_reply(context, probe, answer, &given.split),
+        Call::Unit(probe, answer) => unit_reply(context, probe, answer, &given.split),
+        Call::Location(probe) => first([0, 0, u64::from(code_of(context, probe))]),
+        Call::Preload(probe) => loads_codes(context.preload_units(probe)),
+        Call::Load(number) => load_reply(context, token(number), &given.split),
+        Call::LoadNothing(number) => done_codes(context.load_unit(token(number), None)),
+        Call::Forget(number) => done_codes(context.forget(token(number))),
+        Call::ParseLines => done_codes(context.parse_lines()),
+        Call::ParseFunctions => done_codes(context.parse_functions()),
+        Call::ParseInlined => done_codes(context.parse_inlined_functions()),
+    }
+}
+
+// The answers of the calls, the second where the first found no memory; and how often one did.
+fn replies<R: Reader, const N: usize>(
+    context: Context<R>,
+    given: &Given<R>,
+    calls: [Call; N],
+) -> ([Codes; N], u64) {
+    let mut context = context;
+    let mut refused = 0u64;
+    let mut codes = [NONE; N];
+    for i in 0..N {
+        codes[i] = reply(&mut context, given, calls[i]);
+        if codes[i] == REFUSED {
+            refused = refused.wrapping_add(1);
+            codes[i] = reply(&mut context, given, calls[i]);
+        }
+    }
+    (codes, refused)
+}
+
+// The tokens of the units 0 and 1, from a context of two units that wait.
+fn tokens(alloc: Global) -> Result<[UnitToken; 2], Error> {
+    let mut context = Context::from_dwarf(
+        alloc,
+        dwarf_of(WAITING_ABBREV, TWO_WAITING_INFO, &LINE),
+    )?;
+    let loads = context.preload_units(15)?;
+    match loads.as_slice() {
+        [one, zero] => Ok([zero.unit, one.unit]),
+        _ => Err(Error::UnknownToken),
+    }
+}
+
+fn given_of<R: Reader>(alloc: Global, split: Dwarf<R>) -> Result<Given<R>, Error> {
+    let mut split = split;
+    split.file_type = DwarfFileType::Dwo;
+    let split = Rc::new(alloc, split)?;
+    Ok(Given {
+        tokens: tokens(alloc)?,
+        split,
+    })
+}
+
+// The answers of a context that is made once more where it was refused.
+fn told_in<R: Reader, const N: usize>(
+    alloc: Global,
+    main: Rc<Dwarf<R>>,
+    given: &Given<R>,
+    calls: [Call; N],
+) -> ([Codes; N], u64) {
+    match Context::from_arc_dwarf(alloc, main) {
+        Ok(context) => replies(context, given, calls),
+        Err(error) => ([fault_codes(error); N], 1),
+    }
+}
+
+/// The answers of the calls of a context of its own, the second where the first found no memory;
+/// and how often one did.
+pub fn told<R: Reader, const N: usize>(
+    alloc: Global,
+    main: Dwarf<R>,
+    split: Dwarf<R>,
+    calls: [Call; N],
+) -> ([Codes; N], u64) {
+    match (Rc::new(alloc, main), given_of(alloc, split)) {
+        (Ok(main), Ok(given)) => told_in(alloc, main, &given, calls),
+        _ => ([REFUSED; N], 1),
+    }
+}

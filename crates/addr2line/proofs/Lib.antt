@@ -4,4 +4,5 @@ pub mod LookupLemmas
 pub mod AnsweredLemmas
 pub mod AfterLemmas
 pub mod SkipLemmas
+pub mod ParseLemmas
 pub mod LoadLemmas

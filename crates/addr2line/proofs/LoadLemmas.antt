@@ -1,5 +1,5 @@
 -- Answers to loads outside a lookup, in a context (on specs/Loads.antt).
-use Rattle.std.proofs.Common.{◌≡◌, ◌≢◌, ℕ, true, List, length, slice_get, Option, None, Result, Ok, Err, refl, sym, ap, subst, ◌∙◌}
+use Rattle.std.proofs.Common.{◌≡◌, ◌≢◌, ℕ, false, true, List, length, slice_get, Option, None, Result, Ok, Err, refl, sym, ap, subst, ◌∙◌}
 use Rattle.std.specs.Prelude.{OnOk}
 use Rattle.gimli_read.specs.declared.error.Error.{Error}
 use Rattle.gimli_read.specs.Reading.{◌>>=◌, ExactlyUnlessOom}
@@ -18,7 +18,9 @@ use Rattle.addr2line_units.specs.FramesLookup.{answer_of, asked_frames, main_sco
 use Rattle.addr2line_units.specs.FunctionParseLaws.{IsReached}
 use Rattle.addr2line_units.specs.FunctionParses.{AreFirstDecided, answers_after, read_of_units}
 use Rattle.addr2line_units.specs.KeptLookups.{StayAllEntries, answers_in, has_entries_at, scope_in}
-use Rattle.addr2line_units.specs.KnownEntries.{known_in}
+use Rattle.addr2line_units.specs.KeptParses.{HaveRead, StayDecided}
+use Rattle.addr2line_units.specs.KnownEntries.{known_in, knows_at}
+use Rattle.addr2line_units.specs.LoadLaws.{is_open_at}
 use Rattle.addr2line_units.specs.Loads.{AreSettled, forget_result, forgotten, is_settled_at, load_of_number, load_result, loads_along}
 use Rattle.addr2line_units.specs.Parsed.{IsNotOom}
 use Rattle.addr2line_units.specs.UnitIndex.{UnitIndex, unit_records}
@@ -32,6 +34,7 @@ use Rattle.addr2line.proofs.AnsweredLemmas.{answers_are, loads_are}
 use Rattle.addr2line.proofs.ContextLemmas.{lines_are}
 use Rattle.addr2line.proofs.LookupLemmas.{as_many_lines, scope_is}
 use Rattle.addr2line.proofs.NewContextLemmas.{ok_is}
+use Rattle.addr2line.proofs.ParseLemmas.{decided_more, read_after, read_before}
 use Rattle.addr2line.specs.Context.{ContextState, IsContext, index_by}
 use Rattle.addr2line.specs.Loads.{AfterForget, AfterLoad, AfterParse, AfterPreload, AreSettledAt, IsAllKnown, IsSettled, ReachesAllOf, StaysRead, forget_reply, load_reply, parse_reply, parsed_answers}
 use Rattle.addr2line.specs.Lookups.{StaysKnown, loads_of, lookup_stop}
@@ -105,11 +108,16 @@ module _ {R : Type 0} (d : Sections) (us : List UnitRecord) (old : List ResUnit)
     pub after_preload : answers_in entries ≡ answers_in held → StayAllEntries held entries → AfterPreload before after
     after_preload answers stay = record { stays = stays_read; answers = answers; known = stays_known stay }
 
-    pub after_parse : (reads : Reads) (result : Result (Unit {0}) Error) → (IsNotOom result → answers_in entries ≡ answers_after reads (scope_in d us sup) us (answers_in held)) → AreFirstDecided d us (answers_in held) (answers_in entries) → AfterParse reads result before after
-    after_parse reads result answers begun = record {
+    pub after_parse : (reads : Reads) (result : Result (Unit {0}) Error) → (IsNotOom result → answers_in entries ≡ answers_after reads (scope_in d us sup) us (answers_in held)) → AreFirstDecided d us (answers_in held) (answers_in entries)
+        → StayDecided held entries → OnOk result (HaveRead reads entries) → (HaveRead reads held → result ≡ Ok tt) → AfterParse reads result before after
+    after_parse reads result answers begun stay read memory = record {
       stays = stays_read;
       answers = λ told. answers told ∙ sym (parsed_is reads);
       begun = λ m e. subst (λ x. AreFirstDecided d (unit_records x.units) (answers_in held) (answers_in entries)) (ok_is _ _ (sym i.made_is ∙ e)) (subst (λ xs. AreFirstDecided d xs (answers_in held) (answers_in entries)) (sym same_units) begun);
+      known = λ m e. subst (λ x. (probe n : ℕ) → is_open_at d (unit_records x.units) (answers_in held) n ≡ false → knows_at (known_in held) probe n ≡ true → knows_at (known_in entries) probe n ≡ true) (ok_is _ _ (sym i.made_is ∙ e))
+          (λ probe n shut k. known_is probe entries n ∙ decided_more (main_scope d made) probe us held entries n i.entries stay (subst (λ xs. is_open_at d xs (answers_in held) n ≡ false) same_units shut) (sym (known_is probe held n) ∙ k));
+      read = read_after reads result entries read;
+      memory = λ all. memory (read_before reads held all);
     }
 
     pub all_known : (reads : Reads) (result : Result (Unit {0}) Error) → (reads ≡ kinds.Details → OnOk result ((probe n : ℕ) → has_entries_at probe entries n ≡ true)) → reads ≡ kinds.Details → OnOk result (IsAllKnown after)

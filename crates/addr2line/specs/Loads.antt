@@ -2,17 +2,21 @@
 -- (DWARF 5, sections 3.1.2, 3.3 and 7.3.2).
 -- Own: an answer to a unit that is decided changes nothing; a parse of all functions answers none to
 -- each load.
-use Rattle.std.specs.Prelude.{◌≡◌, ◌≢◌, ℕ, true, slice_get, Option, None, Result, Ok, Err}
+use Rattle.std.specs.Prelude.{◌≡◌, ◌≢◌, ℕ, false, true, slice_get, Option, None, OnOk, Result, Ok, Err}
+use Rattle.std.specs.List.{AllByRecursion}
 use Rattle.gimli_read.specs.declared.error.Error.{Error}
 use Rattle.gimli_read.specs.Reading.{◌>>=◌}
 use Rattle.gimli.specs.Sections.{Sections}
+use Rattle.addr2line_lines.specs.FunctionTable.{HasDetail}
 use Rattle.addr2line_units.specs.declared.frames_lookup.Faults.{Faults}
 use Rattle.addr2line_units.specs.declared.parses.Reads.{Reads}
+use Rattle.addr2line_units.specs.declared.parses.Reads.TheVariants as kinds
 use Rattle.addr2line_units.specs.Cover.{cover}
 use Rattle.addr2line_units.specs.FramesLookup.{answer_of, main_scope}
 use Rattle.addr2line_units.specs.FunctionParseLaws.{IsReached}
 use Rattle.addr2line_units.specs.FunctionParses.{AreFirstDecided, answers_after, read_of_units}
-use Rattle.addr2line_units.specs.KnownEntries.{knows_at}
+use Rattle.addr2line_units.specs.KnownEntries.{KnownEntries, NothingKnown, AllKnown, FunctionsKnown, knows_at}
+use Rattle.addr2line_units.specs.LoadLaws.{is_open_at}
 use Rattle.addr2line_units.specs.Loads.{AreSettled, forget_result, forgotten, is_settled_at, load_result}
 use Rattle.addr2line_units.specs.Parsed.{IsNotOom}
 use Rattle.addr2line_units.specs.UnitIndex.{UnitIndex, index_units, unit_records}
@@ -82,14 +86,31 @@ pub record AfterPreload (old new : ContextState) : Type 0 where
   pub answers : new.answers ≡ old.answers
   pub known : StaysKnown old.known new.known
 
+-- all is known that a parse of functions reads of a unit
+abbrev pub IsReadBy : Reads → KnownEntries → Type 0
+IsReadBy reads NothingKnown = ⊥
+IsReadBy reads AllKnown = ⊥
+IsReadBy kinds.Functions (FunctionsKnown t) = Unit {0}
+IsReadBy kinds.Details (FunctionsKnown t) = AllByRecursion HasDetail t.functions
+
+-- the same of all units
+abbrev pub AreReadBy : Reads → ContextState → Type 0
+AreReadBy reads c = AllByRecursion (IsReadBy reads) c.known
+
 -- after a parse of all functions open units are decided by none, up to the first fault; where memory
--- was refused, some of the first ones
+-- was refused, some of the first ones. What was known of the others stays, and where all was no
+-- memory is wanted
 pub record AfterParse (reads : Reads) (result : Result (Unit {0}) Error) (old new : ContextState)
     : Type 0 where
   pub stays : StaysRead old new
   pub answers : IsNotOom result → new.answers ≡ parsed_answers reads old.sections old.answers
   pub begun : (m : UnitIndex) → index_units old.sections ≡ Ok m
       → AreFirstDecided old.sections (unit_records m.units) old.answers new.answers
+  pub known : (m : UnitIndex) → index_units old.sections ≡ Ok m → (probe n : ℕ)
+      → is_open_at old.sections (unit_records m.units) old.answers n ≡ false
+      → knows_at old.known probe n ≡ true → knows_at new.known probe n ≡ true
+  pub read : OnOk result (AreReadBy reads new)
+  pub memory : AreReadBy reads old → result ≡ Ok tt
 
 -- what every lookup asks of units' entries is known
 abbrev pub IsAllKnown : ContextState → Type 0

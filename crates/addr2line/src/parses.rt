@@ -27,7 +27,7 @@ impl<R: Reader> Context<R> {
     /// first fault are left as they are.
     ///
     /// Refused by the first fault of a view or its functions; may fail with `OutOfMemory` instead,
-    /// which is never kept.
+    /// which is never kept. Takes no memory where all functions are kept.
     ///
     /// Source: DWARF 5, section 3.3.
     pub fn parse_functions(&mut self) -> Result<(), Error>
@@ -41,7 +41,8 @@ impl<R: Reader> Context<R> {
     /// Parses the functions of all units and the details of these, as `parse_functions` does.
     ///
     /// Refused by the first fault of a view, its functions or, in the order of the entries, a
-    /// detail; may fail with `OutOfMemory` instead, which is never kept. Once it isn't refused, and
+    /// detail; may fail with `OutOfMemory` instead, which is never kept. Takes no memory where all
+    /// of these are kept. Once it isn't refused, and
     /// where `parse_lines` isn't either, lookups of frames don't wait and have no fault, and take
     /// no memory where at most 16 inlined functions stand at the address, until a unit is forgotten.
     ///

@@ -86,7 +86,7 @@ decided_by_frames scope u answer probe e = of_open (is_open scope.file.sections 
     of_open true r k = absurd cc
     of_open false r k = refl
 
-looked_is_decided : {R : Type 0} (s : ViewState R) → was_looked_at s ≡ true → waits s ≡ false → is_decided s ≡ true
+pub looked_is_decided : {R : Type 0} (s : ViewState R) → was_looked_at s ≡ true → waits s ≡ false → is_decided s ≡ true
 looked_is_decided states.Undecided e w = absurd cc
 looked_is_decided states.Open e w = absurd cc
 looked_is_decided states.Main e w = refl

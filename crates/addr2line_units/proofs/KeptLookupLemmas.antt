@@ -164,7 +164,7 @@ module _ {R : Type 0} where
   looked_by probe (states.Unnamed x) f e = refl
   looked_by probe (states.Answered x) f e = refl
 
-  entries_more : (probe : ℕ) (v w : UnitEntries R) → StayEntries v w → has_entries probe v ≡ true → has_entries probe w ≡ true
+  pub entries_more : (probe : ℕ) (v w : UnitEntries R) → StayEntries v w → has_entries probe v ≡ true → has_entries probe w ≡ true
   entries_more probe v w a e = ap (λ y. has_entries_by probe y.state w.functions) (a.view (looked_by probe v.view.state v.functions e)) ∙ entries_more_by probe v.view.state v.functions w.functions a.functions e
 
   pub entries_more_at : (probe : ℕ) (vs ws : List (UnitEntries R)) → StayAllEntries vs ws → (n : ℕ) → has_entries_at probe vs n ≡ true → has_entries_at probe ws n ≡ true

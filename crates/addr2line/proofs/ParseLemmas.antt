@@ -1,0 +1,93 @@
+-- What is known of the functions of all units before and after a parse of them (on
+-- specs/Loads.antt).
+use Rattle.std.proofs.Common.{◌≡◌, ℕ, zero, suc, Bool, true, false, List, [], ◌∷◌, Result, Ok, Err, refl, ◌∙◌}
+use Rattle.std.specs.List.{AllByRecursion}
+use Rattle.std.specs.Prelude.{OnOk, is_ok, if◌then◌else◌}
+use Rattle.gimli_read.specs.declared.error.Error.{Error}
+use Rattle.gimli.specs.Unit.{UnitRecord}
+use Rattle.addr2line_lines.specs.References.{Scope}
+use Rattle.addr2line_units.specs.declared.functions.LazyFunctions.{LazyFunctions}
+use Rattle.addr2line_units.specs.declared.functions.LazyFunctions.TheVariants as lazy
+use Rattle.addr2line_units.specs.declared.parses.Reads.{Reads}
+use Rattle.addr2line_units.specs.declared.parses.Reads.TheVariants as kinds
+use Rattle.addr2line_units.specs.declared.unit_frames.UnitEntries.{UnitEntries}
+use Rattle.addr2line_units.specs.declared.view.ViewState.{ViewState}
+use Rattle.addr2line_units.specs.declared.view.ViewState.TheVariants as states
+use Rattle.addr2line_units.specs.KeptFunctions.{is_kept}
+use Rattle.addr2line_units.specs.KeptLookups.{HaveEntriesOf, answers_in, has_entries_at}
+use Rattle.addr2line_units.specs.KeptParses.{HaveFunctions, HaveRead, StayDecided, has_view}
+use Rattle.addr2line_units.specs.KnownEntries.{NothingKnown, AllKnown, known_answer, known_by, known_functions, known_in}
+use Rattle.addr2line_units.specs.LoadLaws.{is_open_at}
+use Rattle.addr2line_units.proofs.AnswerLemmas.{looked_waits}
+use Rattle.addr2line_units.proofs.FoundLemmas.{looked_is_decided}
+use Rattle.addr2line_units.proofs.KeptLookupLemmas.{entries_more}
+use Rattle.addr2line_units.proofs.WaitLemmas.{known_was_looked_at}
+use Rattle.addr2line.specs.Loads.{IsReadBy}
+
+never_fault : (reads : Reads) (b : Bool) → IsReadBy reads (if b then AllKnown else NothingKnown) → ⊥
+never_fault reads true h = h
+never_fault reads false h = h
+
+module _ {R : Type 0} where
+  read_functions : (reads : Reads) (f : LazyFunctions R) → HaveFunctions reads f → IsReadBy reads (known_functions f)
+  read_functions reads lazy.Unread h = absurd h
+  read_functions reads (lazy.Faulty e) h = absurd h
+  read_functions kinds.Functions (lazy.Read t) h = tt
+  read_functions kinds.Details (lazy.Read t) h = h
+
+  read_answer : {X : Type 0} (reads : Reads) (r : Result X Error) (f : LazyFunctions R) → is_ok r ≡ true → HaveFunctions reads f → IsReadBy reads (known_answer r f)
+  read_answer reads (Ok x) f e h = read_functions reads f h
+  read_answer reads (Err x) f e h = absurd cc
+
+  read_view : (reads : Reads) (s : ViewState R) (f : LazyFunctions R) → has_view s ≡ true → HaveFunctions reads f → IsReadBy reads (known_by s f)
+  read_view reads states.Undecided f e h = absurd cc
+  read_view reads states.Open f e h = absurd cc
+  read_view reads states.Main f e h = read_functions reads f h
+  read_view reads (states.Unnamed x) f e h = absurd cc
+  read_view reads (states.Answered a) f e h = read_answer reads a.unit f e h
+
+  -- what is kept is known
+  all_read : (reads : Reads) (vs : List (UnitEntries R)) → HaveRead reads vs → AllByRecursion (IsReadBy reads) (known_in vs)
+  all_read reads [] h = tt
+  all_read reads (v ∷ vs) h = (read_view reads v.view.state v.functions h.0.view h.0.functions, all_read reads vs h.1)
+
+  pub read_after : (reads : Reads) (r : Result (Unit {0}) Error) (vs : List (UnitEntries R)) → OnOk r (HaveRead reads vs) → OnOk r (AllByRecursion (IsReadBy reads) (known_in vs))
+  read_after reads (Ok x) vs h = all_read reads vs h
+  read_after reads (Err e) vs h = tt
+
+  kept_functions : (reads : Reads) (f : LazyFunctions R) → IsReadBy reads (known_functions f) → HaveFunctions reads f
+  kept_functions reads lazy.Unread h = absurd h
+  kept_functions reads (lazy.Faulty e) h = absurd (never_fault reads (is_kept e) h)
+  kept_functions kinds.Functions (lazy.Read t) h = tt
+  kept_functions kinds.Details (lazy.Read t) h = h
+
+  kept_in_answer : {X : Type 0} (reads : Reads) (r : Result X Error) (f : LazyFunctions R) → IsReadBy reads (known_answer r f) → (is_ok r ≡ true) × HaveFunctions reads f
+  kept_in_answer reads (Ok x) f h = (refl, kept_functions reads f h)
+  kept_in_answer reads (Err e) f h = absurd (never_fault reads (is_kept e) h)
+
+  kept_view : (reads : Reads) (s : ViewState R) (f : LazyFunctions R) → IsReadBy reads (known_by s f) → (has_view s ≡ true) × HaveFunctions reads f
+  kept_view reads states.Undecided f h = absurd h
+  kept_view reads states.Open f h = absurd h
+  kept_view reads states.Main f h = (refl, kept_functions reads f h)
+  kept_view reads (states.Unnamed e) f h = absurd (never_fault reads (is_kept e) h)
+  kept_view reads (states.Answered a) f h = kept_in_answer reads a.unit f h
+
+  -- what is known is kept
+  pub read_before : (reads : Reads) (vs : List (UnitEntries R)) → AllByRecursion (IsReadBy reads) (known_in vs) → HaveRead reads vs
+  read_before reads [] h = tt
+  read_before reads (v ∷ vs) h =
+      let k = kept_view reads v.view.state v.functions h.0 in
+      (record { view = k.0; functions = k.1 }, read_before reads vs h.1)
+
+  -- what is known of units that aren't open stays
+  pub decided_more : (scope : Scope) (probe : ℕ) (us : List UnitRecord) (vs ws : List (UnitEntries R)) (n : ℕ) → HaveEntriesOf scope us vs → StayDecided vs ws → is_open_at scope.file.sections us (answers_in vs) n ≡ false
+      → has_entries_at probe vs n ≡ true → has_entries_at probe ws n ≡ true
+  decided_more scope probe [] [] [] n own stay shut e = e
+  decided_more scope probe [] [] (w ∷ ws) n own stay shut e = absurd stay
+  decided_more scope probe [] (v ∷ vs) ws n own stay shut e = absurd own
+  decided_more scope probe (u ∷ us) [] ws n own stay shut e = absurd own
+  decided_more scope probe (u ∷ us) (v ∷ vs) [] n own stay shut e = absurd stay
+  decided_more scope probe (u ∷ us) (v ∷ vs) (w ∷ ws) zero own stay shut e =
+      let looked = known_was_looked_at probe v e in
+      entries_more probe v w (stay.0 (looked_is_decided v.view.state looked (looked_waits scope.file.sections u v.view own.0.view looked ∙ shut))) e
+  decided_more scope probe (u ∷ us) (v ∷ vs) (w ∷ ws) (suc n) own stay shut e = decided_more scope probe us vs ws n own.1 stay.1 shut e

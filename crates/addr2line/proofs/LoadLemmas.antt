@@ -1,5 +1,6 @@
 -- Answers to loads outside a lookup, in a context (on specs/Loads.antt).
-use Rattle.std.proofs.Common.{◌≡◌, ◌≢◌, ℕ, false, true, List, length, slice_get, Option, None, Result, Ok, Err, refl, sym, ap, subst, ◌∙◌}
+use Rattle.std.proofs.Common.{◌≡◌, ◌≢◌, ◌⊎◌, inl, inr, ℕ, ◌≤◌, false, true, List, length, slice_get, Option, None, option_map, unwrap_or, Result, Ok, Err, refl, sym, ap, subst, ◌∙◌}
+use Rattle.std.proofs.lemmas.Bool.Decides.{eqb_tells}
 use Rattle.std.specs.Prelude.{OnOk}
 use Rattle.gimli_read.specs.declared.error.Error.{Error}
 use Rattle.gimli_read.specs.Reading.{◌>>=◌, ExactlyUnlessOom}
@@ -16,9 +17,10 @@ use Rattle.addr2line_units.specs.CachedLines.{parsed_units}
 use Rattle.addr2line_units.specs.Cover.{cover}
 use Rattle.addr2line_units.specs.FramesLookup.{answer_of, asked_frames, main_scope, stop_along, with_answer}
 use Rattle.addr2line_units.specs.FunctionParseLaws.{IsReached}
-use Rattle.addr2line_units.specs.FunctionParses.{AreFirstDecided, answers_after, read_of_units}
-use Rattle.addr2line_units.specs.KeptLookups.{StayAllEntries, answers_in, has_entries_at, scope_in}
-use Rattle.addr2line_units.specs.KeptParses.{HaveRead, StayDecided}
+use Rattle.addr2line_units.specs.FunctionParses.{AreFirstDecided, AreReadBefore, answers_after, read_of_units}
+use Rattle.addr2line_units.specs.KeptEntries.{has_entries}
+use Rattle.addr2line_units.specs.KeptLookups.{StayAllEntries, answers_in, decided_at, has_entries_at, scope_in}
+use Rattle.addr2line_units.specs.KeptParses.{ChangesOnly, HaveRead, StayDecided}
 use Rattle.addr2line_units.specs.KnownEntries.{known_in, knows_at}
 use Rattle.addr2line_units.specs.LoadLaws.{is_open_at}
 use Rattle.addr2line_units.specs.Loads.{AreSettled, forget_result, forgotten, is_settled_at, load_of_number, load_result, loads_along}
@@ -34,7 +36,7 @@ use Rattle.addr2line.proofs.AnsweredLemmas.{answers_are, loads_are}
 use Rattle.addr2line.proofs.ContextLemmas.{lines_are}
 use Rattle.addr2line.proofs.LookupLemmas.{as_many_lines, scope_is}
 use Rattle.addr2line.proofs.NewContextLemmas.{ok_is}
-use Rattle.addr2line.proofs.ParseLemmas.{decided_more, read_after, read_before}
+use Rattle.addr2line.proofs.ParseLemmas.{decided_more, known_is_decided, none_asked, read_after, read_before}
 use Rattle.addr2line.specs.Context.{ContextState, IsContext, index_by}
 use Rattle.addr2line.specs.Loads.{AfterForget, AfterLoad, AfterParse, AfterPreload, AreSettledAt, IsAllKnown, IsSettled, ReachesAllOf, StaysRead, forget_reply, load_reply, parse_reply, parsed_answers}
 use Rattle.addr2line.specs.Lookups.{StaysKnown, loads_of, lookup_stop}
@@ -89,13 +91,26 @@ module _ {R : Type 0} (d : Sections) (us : List UnitRecord) (old : List ResUnit)
     stays_known stay probe k e = known_is probe entries k ∙ entries_more_at probe held entries stay k (sym (known_is probe held k) ∙ e)
 
     pub after_load : (n : ℕ) (given : Option Sections) (result : Result (Unit {0}) Error) → (IsNotOom result → answers_in entries ≡ with_answer d us (answers_in held) n given)
-        → (result ≢ load_result d us (answers_in held) n given → (answers_in entries ≡ answers_in held) × StayAllEntries held entries) → ((k : ℕ) → k ≢ n → slice_get entries k ≡ slice_get held k) → AfterLoad n given result before after
-    after_load n given result answers refused others = record {
+        → (result ≢ load_result d us (answers_in held) n given → (answers_in entries ≡ answers_in held) × StayAllEntries held entries) → ((k : ℕ) → k ≢ n → slice_get entries k ≡ slice_get held k)
+        → (decided_at held n ≡ true → entries ≡ held) → length us ≡ length entries → AfterLoad n given result before after
+    after_load n given result answers refused others same_decided many = record {
       stays = stays_read;
       answers = λ told. answers told ∙ sym (answers_are d us old held ranges sup i n given);
       refused = λ ne. let r = refused (λ e. ne (e ∙ sym (load_is n given))) in (r.0, stays_known r.1);
+      known = λ m e. subst (λ x. is_open_at d (unit_records x.units) (answers_in held) n ≡ false → StaysKnown (known_in held) (known_in entries)) (ok_is _ _ (sym i.made_is ∙ e))
+          (λ shut probe k q. known_is probe entries k ∙ shut_stays probe k (subst (λ xs. is_open_at d xs (answers_in held) n ≡ false) same_units shut) (same_or k) (sym (known_is probe held k) ∙ q));
       others = λ k ne. known_unchanged held entries k (others k ne);
     }
+      where
+        same_or : (k : ℕ) → (k ≡ n) ⊎ (k ≢ n)
+        same_or k = elim (eqb_tells k n) [ inl p ↦ inl p.1 | inr q ↦ inr q.1 ]
+
+        shut_stays : (probe k : ℕ) → is_open_at d us (answers_in held) n ≡ false → (k ≡ n) ⊎ (k ≢ n) → has_entries_at probe held k ≡ true → has_entries_at probe entries k ≡ true
+        shut_stays probe k shut (inr ne) q = ap (λ o. unwrap_or (option_map (has_entries probe) o) true) (others k ne) ∙ q
+        shut_stays probe k shut (inl e) q = elim (known_is_decided (main_scope d made) probe us held k i.entries (subst (λ j. is_open_at d us (answers_in held) j ≡ false) (sym e) shut) q) [
+          | inl decided ↦ ap (λ vs. has_entries_at probe vs k) (same_decided (subst (λ j. decided_at held j ≡ true) e decided)) ∙ q
+          | inr past ↦ none_asked probe entries k (subst (λ l. l ≤ k) many past)
+        ]
 
     pub after_forget : (n : ℕ) → answers_in entries ≡ forgotten (answers_in held) n → (answer_of (answers_in held) n ≡ None → entries ≡ held) → ((k : ℕ) → k ≢ n → slice_get entries k ≡ slice_get held k) → AfterForget n before after
     after_forget n answers nothing others = record {
@@ -109,13 +124,19 @@ module _ {R : Type 0} (d : Sections) (us : List UnitRecord) (old : List ResUnit)
     after_preload answers stay = record { stays = stays_read; answers = answers; known = stays_known stay }
 
     pub after_parse : (reads : Reads) (result : Result (Unit {0}) Error) → (IsNotOom result → answers_in entries ≡ answers_after reads (scope_in d us sup) us (answers_in held)) → AreFirstDecided d us (answers_in held) (answers_in entries)
-        → StayDecided held entries → OnOk result (HaveRead reads entries) → (HaveRead reads held → result ≡ Ok tt) → AfterParse reads result before after
-    after_parse reads result answers begun stay read memory = record {
+        → StayDecided held entries → OnOk result (HaveRead reads entries) → (HaveRead reads held → result ≡ Ok tt)
+        → ChangesOnly (AreReadBefore reads (scope_in d us sup) us (answers_in held)) held entries → AfterParse reads result before after
+    after_parse reads result answers begun stay read memory only = record {
       stays = stays_read;
       answers = λ told. answers told ∙ sym (parsed_is reads);
       begun = λ m e. subst (λ x. AreFirstDecided d (unit_records x.units) (answers_in held) (answers_in entries)) (ok_is _ _ (sym i.made_is ∙ e)) (subst (λ xs. AreFirstDecided d xs (answers_in held) (answers_in entries)) (sym same_units) begun);
       known = λ m e. subst (λ x. (probe n : ℕ) → is_open_at d (unit_records x.units) (answers_in held) n ≡ false → knows_at (known_in held) probe n ≡ true → knows_at (known_in entries) probe n ≡ true) (ok_is _ _ (sym i.made_is ∙ e))
           (λ probe n shut k. known_is probe entries n ∙ decided_more (main_scope d made) probe us held entries n i.entries stay (subst (λ xs. is_open_at d xs (answers_in held) n ≡ false) same_units shut) (sym (known_is probe held n) ∙ k));
+      only = λ m e. subst (λ x. (n : ℕ) → (slice_get (known_in entries) n ≡ slice_get (known_in held) n) ⊎ AreReadBefore reads (main_scope d x) (unit_records x.units) (answers_in held) n) (ok_is _ _ (sym i.made_is ∙ e))
+          (λ n. elim (only n) [
+            | inl k ↦ inl (known_unchanged held entries n k)
+            | inr q ↦ inr (subst (λ xs. AreReadBefore reads (main_scope d made) xs (answers_in held) n) (sym same_units) (subst (λ s. AreReadBefore reads s us (answers_in held) n) (scope_is d us old held ranges sup i) q))
+          ]);
       read = read_after reads result entries read;
       memory = λ all. memory (read_before reads held all);
     }

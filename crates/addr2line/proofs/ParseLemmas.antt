@@ -1,6 +1,6 @@
 -- What is known of the functions of all units before and after a parse of them (on
 -- specs/Loads.antt).
-use Rattle.std.proofs.Common.{◌≡◌, ℕ, zero, suc, Bool, true, false, List, [], ◌∷◌, Result, Ok, Err, refl, ◌∙◌}
+use Rattle.std.proofs.Common.{◌≡◌, ◌⊎◌, inl, inr, ℕ, zero, suc, ◌≤◌, arith, Bool, true, false, List, [], ◌∷◌, length, Result, Ok, Err, refl, ◌∙◌}
 use Rattle.std.specs.List.{AllByRecursion}
 use Rattle.std.specs.Prelude.{OnOk, is_ok, if◌then◌else◌}
 use Rattle.gimli_read.specs.declared.error.Error.{Error}
@@ -14,7 +14,7 @@ use Rattle.addr2line_units.specs.declared.unit_frames.UnitEntries.{UnitEntries}
 use Rattle.addr2line_units.specs.declared.view.ViewState.{ViewState}
 use Rattle.addr2line_units.specs.declared.view.ViewState.TheVariants as states
 use Rattle.addr2line_units.specs.KeptFunctions.{is_kept}
-use Rattle.addr2line_units.specs.KeptLookups.{HaveEntriesOf, answers_in, has_entries_at}
+use Rattle.addr2line_units.specs.KeptLookups.{HaveEntriesOf, answers_in, decided_at, has_entries_at}
 use Rattle.addr2line_units.specs.KeptParses.{HaveFunctions, HaveRead, StayDecided, has_view}
 use Rattle.addr2line_units.specs.KnownEntries.{NothingKnown, AllKnown, known_answer, known_by, known_functions, known_in}
 use Rattle.addr2line_units.specs.LoadLaws.{is_open_at}
@@ -91,3 +91,20 @@ module _ {R : Type 0} where
       let looked = known_was_looked_at probe v e in
       entries_more probe v w (stay.0 (looked_is_decided v.view.state looked (looked_waits scope.file.sections u v.view own.0.view looked ∙ shut))) e
   decided_more scope probe (u ∷ us) (v ∷ vs) (w ∷ ws) (suc n) own stay shut e = decided_more scope probe us vs ws n own.1 stay.1 shut e
+
+  -- the view of a unit that isn't open and of which something is known
+  pub known_is_decided : (scope : Scope) (probe : ℕ) (us : List UnitRecord) (vs : List (UnitEntries R)) (n : ℕ) → HaveEntriesOf scope us vs → is_open_at scope.file.sections us (answers_in vs) n ≡ false
+      → has_entries_at probe vs n ≡ true → (decided_at vs n ≡ true) ⊎ (length us ≤ n)
+  known_is_decided scope probe [] [] n own shut e = inr (omega arith)
+  known_is_decided scope probe [] (v ∷ vs) n own shut e = absurd own
+  known_is_decided scope probe (u ∷ us) [] n own shut e = absurd own
+  known_is_decided scope probe (u ∷ us) (v ∷ vs) zero own shut e =
+      let looked = known_was_looked_at probe v e in
+      inl (looked_is_decided v.view.state looked (looked_waits scope.file.sections u v.view own.0.view looked ∙ shut))
+  known_is_decided scope probe (u ∷ us) (v ∷ vs) (suc n) own shut e = elim (known_is_decided scope probe us vs n own.1 shut e) [ inl d ↦ inl d | inr m ↦ inr (omega (arith, m)) ]
+
+  -- nothing is asked of a unit that there isn't
+  pub none_asked : (probe : ℕ) (vs : List (UnitEntries R)) (n : ℕ) → length vs ≤ n → has_entries_at probe vs n ≡ true
+  none_asked probe [] n h = refl
+  none_asked probe (v ∷ vs) zero h = absurd (omega (arith, h))
+  none_asked probe (v ∷ vs) (suc n) h = none_asked probe vs n (omega (arith, h))

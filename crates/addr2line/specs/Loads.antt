@@ -2,7 +2,7 @@
 -- (DWARF 5, sections 3.1.2, 3.3 and 7.3.2).
 -- Own: an answer to a unit that is decided changes nothing; a parse of all functions answers none to
 -- each load.
-use Rattle.std.specs.Prelude.{◌≡◌, ◌≢◌, ℕ, false, true, slice_get, Option, None, OnOk, Result, Ok, Err}
+use Rattle.std.specs.Prelude.{◌≡◌, ◌≢◌, ◌⊎◌, ℕ, false, true, slice_get, Option, None, OnOk, Result, Ok, Err}
 use Rattle.std.specs.List.{AllByRecursion}
 use Rattle.gimli_read.specs.declared.error.Error.{Error}
 use Rattle.gimli_read.specs.Reading.{◌>>=◌}
@@ -14,7 +14,7 @@ use Rattle.addr2line_units.specs.declared.parses.Reads.TheVariants as kinds
 use Rattle.addr2line_units.specs.Cover.{cover}
 use Rattle.addr2line_units.specs.FramesLookup.{answer_of, main_scope}
 use Rattle.addr2line_units.specs.FunctionParseLaws.{IsReached}
-use Rattle.addr2line_units.specs.FunctionParses.{AreFirstDecided, answers_after, read_of_units}
+use Rattle.addr2line_units.specs.FunctionParses.{AreFirstDecided, AreReadBefore, answers_after, read_of_units}
 use Rattle.addr2line_units.specs.KnownEntries.{KnownEntries, NothingKnown, AllKnown, FunctionsKnown, knows_at}
 use Rattle.addr2line_units.specs.LoadLaws.{is_open_at}
 use Rattle.addr2line_units.specs.Loads.{AreSettled, forget_result, forgotten, is_settled_at, load_result}
@@ -62,14 +62,18 @@ pub record StaysRead (old new : ContextState) : Type 0 where
   pub parsed : new.parsed ≡ old.parsed
   pub looks : new.looks ≡ old.looks
 
--- after an answer to the load of the unit of a number nothing is changed but of that unit; where
--- memory was refused in place of it, all first answers are as before, and what was known stays
+-- after an answer to the load of the unit of a number nothing is changed but of that unit, of which
+-- what was known stays unless it was open; where memory was refused in place of it, all first answers
+-- are as before, and what was known stays
 pub record AfterLoad (n : ℕ) (given : Option Sections) (result : Result (Unit {0}) Error)
     (old new : ContextState) : Type 0 where
   pub stays : StaysRead old new
   pub answers : IsNotOom result → new.answers ≡ answered old.sections old.answers n given
   pub refused : result ≢ load_reply old.sections old.answers n given
       → (new.answers ≡ old.answers) × StaysKnown old.known new.known
+  pub known : (m : UnitIndex) → index_units old.sections ≡ Ok m
+      → is_open_at old.sections (unit_records m.units) old.answers n ≡ false
+      → StaysKnown old.known new.known
   pub others : (k : ℕ) → k ≢ n → slice_get new.known k ≡ slice_get old.known k
 
 -- after the unit of a number is forgotten nothing is changed but of that unit, and nothing at all
@@ -109,6 +113,9 @@ pub record AfterParse (reads : Reads) (result : Result (Unit {0}) Error) (old ne
   pub known : (m : UnitIndex) → index_units old.sections ≡ Ok m → (probe n : ℕ)
       → is_open_at old.sections (unit_records m.units) old.answers n ≡ false
       → knows_at old.known probe n ≡ true → knows_at new.known probe n ≡ true
+  pub only : (m : UnitIndex) → index_units old.sections ≡ Ok m → (n : ℕ)
+      → (slice_get new.known n ≡ slice_get old.known n)
+      ⊎ AreReadBefore reads (main_scope old.sections m) (unit_records m.units) old.answers n
   pub read : OnOk result (AreReadBy reads new)
   pub memory : AreReadBy reads old → result ≡ Ok tt
 

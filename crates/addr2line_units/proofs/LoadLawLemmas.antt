@@ -13,7 +13,7 @@ use Rattle.addr2line_lines.specs.References.{Scope}
 use Rattle.addr2line_units.specs.declared.index.UnitRange.{UnitRange}
 use Rattle.addr2line_units.specs.Frames.{FrameRecord}
 use Rattle.addr2line_units.specs.FramesLookup.{Waits, answer_of, asked_frames, frames_of_number, or_stop, stop_along, with_answer}
-use Rattle.addr2line_units.specs.LoadLaws.{IsListed, LeaveFewer, NeedLoadsToWait, WaitForListed, is_open_at, loads_of}
+use Rattle.addr2line_units.specs.LoadLaws.{IsListed, LeaveFewer, LeaveOthers, NeedLoadsToWait, WaitForListed, is_open_at, loads_of}
 use Rattle.addr2line_units.specs.Loads.{before_others, is_of_other, load_of_number, loads_along}
 use Rattle.addr2line_units.specs.Parsed.{LeadTo}
 use Rattle.addr2line_units.specs.UnitFrames.{frames_in}
@@ -177,11 +177,16 @@ module _ (d : Sections) (us : List UnitRecord) where
       by None f = absurd cc
       by (Some u) f = sym (open_awaits d n u (answer_of answers n)) ∙ f
 
+-- after an answer to a load the others are left
+pub others_left : LeaveOthers
+others_left d us answers n given ranges many =
+    taken_along (load_of_number d us answers) (load_of_number d us (with_answer d us answers n given)) n (load_own d us answers) (load_gone d us answers n given many) (load_others d us answers n given) ranges
+
 -- fewer loads are left after an answer to one of them
 pub fewer_left : LeaveFewer
 fewer_left d us answers n given ranges many h =
     subst (λ xs. length xs < length (loads_of d us answers ranges))
-    (sym (taken_along (load_of_number d us answers) (load_of_number d us (with_answer d us answers n given)) n (load_own d us answers) (load_gone d us answers n given many) (load_others d us answers n given) ranges))
+    (sym (others_left d us answers n given ranges many))
     (fewer_than n (loads_of d us answers ranges) h)
 
 -- a lookup that waits was told so by a unit that a range leads to

@@ -1,13 +1,13 @@
 -- Laws of the loads that an address waits for, and of lookups that wait (on Loads and
 -- FramesLookup).
-use Rattle.std.specs.Prelude.{◌≡◌, ◌≢◌, ◌⊎◌, ◌<◌, ℕ, Bool, true, false, length, List, [], ◌∷◌, slice_get, Option, Some, None, Ok}
+use Rattle.std.specs.Prelude.{◌≡◌, ◌≢◌, ◌⊎◌, ◌<◌, ℕ, Bool, true, false, filter, length, List, [], ◌∷◌, slice_get, Option, Some, None, Ok}
 use Rattle.gimli.specs.Sections.{Sections}
 use Rattle.gimli.specs.Unit.{UnitRecord}
 use Rattle.addr2line_lines.specs.References.{Scope}
 use Rattle.addr2line_units.specs.declared.frames_lookup.Faults.{Faults}
 use Rattle.addr2line_units.specs.declared.index.UnitRange.{UnitRange}
 use Rattle.addr2line_units.specs.FramesLookup.{Waits, answer_of, asked_frames, stop_along, with_answer}
-use Rattle.addr2line_units.specs.Loads.{load_of_number, loads_along}
+use Rattle.addr2line_units.specs.Loads.{is_of_other, load_of_number, loads_along}
 use Rattle.addr2line_units.specs.UnitIndex.{IndexedUnit, unit_records}
 use Rattle.addr2line_units.specs.Views.{SplitLoad, is_open}
 
@@ -40,6 +40,13 @@ NeedLoadsToWait = (faults : Faults) (scope : Scope) (units : List IndexedUnit)
     (answers : List (Option (Option Sections))) (probe n : ℕ) (ranges : List UnitRange)
     → loads_of scope.file.sections (unit_records units) answers ranges ≡ []
     → stop_along (asked_frames faults scope units answers probe) ranges ≢ Ok (Waits n)
+
+-- after an answer to a load the others are listed as before
+abbrev pub LeaveOthers : Type 0
+LeaveOthers = (d : Sections) (us : List UnitRecord) (answers : List (Option (Option Sections)))
+    (n : ℕ) (given : Option Sections) (ranges : List UnitRange) → length us ≡ length answers
+    → loads_of d us (with_answer d us answers n given) ranges
+    ≡ filter (is_of_other n) (loads_of d us answers ranges)
 
 -- fewer loads are listed after an answer to one of them
 abbrev pub LeaveFewer : Type 0

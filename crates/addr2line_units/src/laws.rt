@@ -3,7 +3,7 @@
 
 ghost use Rattle.addr2line_units.specs.FunctionParseLaws.{ReachesAll, ReadsAgain};
 ghost use Rattle.addr2line_units.specs.LegacyLaws.{FindsLegacyNames, FindsOnlyLegacyNames, HasOneText};
-ghost use Rattle.addr2line_units.specs.LoadLaws.{LeaveFewer, NeedLoadsToWait, WaitForListed};
+ghost use Rattle.addr2line_units.specs.LoadLaws.{LeaveFewer, LeaveOthers, NeedLoadsToWait, WaitForListed};
 ghost use Rattle.addr2line_units.specs.UnitIndexLaws.{SupUnitsInOrder, UnitsInOrder};
 ghost use Rattle.addr2line_units.specs.ViewLaws.{KeepOrder, NeedNoAnswer, TakeAnswers};
 
@@ -30,10 +30,12 @@ pub fn view_laws()
 {}
 
 /// A lookup of frames waits only for open units, whose loads are among those that its address waits
-/// for, and fewer of these are left after an answer to one.
+/// for; after an answer to one the others are left. So it doesn't wait once each of them has an
+/// answer.
 pub fn load_laws()
     ensures listed { WaitForListed }
     ensures none { NeedLoadsToWait }
+    ensures others { LeaveOthers }
     ensures fewer { LeaveFewer }
 {}
 

@@ -1,7 +1,8 @@
 use Rattle.std.proofs.Common.{◌≡◌, sym, subst}
 use Rattle.gimli_read.specs.Reading.{ExactlyUnlessOom}
-use Rattle.addr2line_units.specs.FunctionParses.{AreFirstDecided, answers_after, read_of_units}
+use Rattle.addr2line_units.specs.FunctionParses.{AreFirstDecided, AreReadBefore, answers_after, read_of_units}
 use Rattle.addr2line_units.specs.KeptLookups.{answers_in, scope_in}
+use Rattle.addr2line_units.specs.KeptParses.{ChangesOnly}
 use Rattle.addr2line_units.specs.Parsed.{IsNotOom}
 use Rattle.addr2line.proofs.AnsweredLemmas.{still_answered}
 use Rattle.addr2line.proofs.LoadLemmas.{after_parse, all_known, all_reached, parse_is}
@@ -36,8 +37,9 @@ returns-clause-after g c =
     let e = c.read_functions.ensures in
     let now = c.read_functions.new.self in
     let answers = subst (λ d. IsNotOom c.read_functions.result → answers_in now.entries.items ≡ answers_after c.args.reads (scope_in d s.units.dw_units.items s.sup_units) s.units.dw_units.items (answers_in s.units.entries.items)) c.deref.ensures e.answers in
+    let only = subst (λ d. ChangesOnly (AreReadBefore c.args.reads (scope_in d s.units.dw_units.items s.sup_units) s.units.dw_units.items (answers_in s.units.entries.items)) s.units.entries.items now.entries.items) c.deref.ensures e.only in
     let begun = subst (λ d. AreFirstDecided d s.units.dw_units.items (answers_in s.units.entries.items) (answers_in now.entries.items)) c.deref.ensures e.memory_answers in
-    rw (sym c.self.view_is) (after_parse s.dwarf.value s.units.dw_units.items s.units.units.items s.units.entries.items s.units.ranges s.sup_units c.self.invariant now.units.items e.units now.entries.items s.looks c.args.reads c.read_functions.result answers begun e.stay e.read e.memory)
+    rw (sym c.self.view_is) (after_parse s.dwarf.value s.units.dw_units.items s.units.units.items s.units.entries.items s.units.ranges s.sup_units c.self.invariant now.units.items e.units now.entries.items s.looks c.args.reads c.read_functions.result answers begun e.stay e.read e.memory only)
 
 pub returns-clause-known : goal.returns-clause-known
 returns-clause-known g c =

@@ -36,7 +36,7 @@ use Rattle.addr2line.proofs.AnsweredLemmas.{answers_are, loads_are}
 use Rattle.addr2line.proofs.ContextLemmas.{lines_are}
 use Rattle.addr2line.proofs.LookupLemmas.{as_many_lines, scope_is}
 use Rattle.addr2line.proofs.NewContextLemmas.{ok_is}
-use Rattle.addr2line.proofs.ParseLemmas.{decided_more, known_is_decided, none_asked, read_after, read_before}
+use Rattle.addr2line.proofs.ParseLemmas.{answered_is_decided, decided_more, known_is_decided, none_asked, read_after, read_before}
 use Rattle.addr2line.specs.Context.{ContextState, IsContext, index_by}
 use Rattle.addr2line.specs.Loads.{AfterForget, AfterLoad, AfterParse, AfterPreload, AreSettledAt, IsAllKnown, IsSettled, ReachesAllOf, StaysRead, forget_reply, load_reply, parse_reply, parsed_answers}
 use Rattle.addr2line.specs.Lookups.{StaysKnown, loads_of, lookup_stop}
@@ -99,6 +99,7 @@ module _ {R : Type 0} (d : Sections) (us : List UnitRecord) (old : List ResUnit)
       refused = λ ne. let r = refused (λ e. ne (e ∙ sym (load_is n given))) in (r.0, stays_known r.1);
       known = λ m e. subst (λ x. is_open_at d (unit_records x.units) (answers_in held) n ≡ false → StaysKnown (known_in held) (known_in entries)) (ok_is _ _ (sym i.made_is ∙ e))
           (λ shut probe k q. known_is probe entries k ∙ shut_stays probe k (subst (λ xs. is_open_at d xs (answers_in held) n ≡ false) same_units shut) (same_or k) (sym (known_is probe held k) ∙ q));
+      same = λ first e. ap known_in (same_decided (answered_is_decided held n first e));
       others = λ k ne. known_unchanged held entries k (others k ne);
     }
       where

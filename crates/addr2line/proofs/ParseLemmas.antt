@@ -1,9 +1,10 @@
 -- What is known of the functions of all units before and after a parse of them (on
 -- specs/Loads.antt).
-use Rattle.std.proofs.Common.{◌≡◌, ◌⊎◌, inl, inr, ℕ, zero, suc, ◌≤◌, arith, Bool, true, false, List, [], ◌∷◌, length, Result, Ok, Err, refl, ◌∙◌}
+use Rattle.std.proofs.Common.{◌≡◌, ◌⊎◌, inl, inr, ℕ, zero, suc, ◌≤◌, arith, Bool, true, false, List, [], ◌∷◌, length, Option, Some, Result, Ok, Err, refl, ◌∙◌}
 use Rattle.std.specs.List.{AllByRecursion}
 use Rattle.std.specs.Prelude.{OnOk, is_ok, if◌then◌else◌}
 use Rattle.gimli_read.specs.declared.error.Error.{Error}
+use Rattle.gimli.specs.Sections.{Sections}
 use Rattle.gimli.specs.Unit.{UnitRecord}
 use Rattle.addr2line_lines.specs.References.{Scope}
 use Rattle.addr2line_units.specs.declared.functions.LazyFunctions.{LazyFunctions}
@@ -15,6 +16,8 @@ use Rattle.addr2line_units.specs.declared.view.ViewState.{ViewState}
 use Rattle.addr2line_units.specs.declared.view.ViewState.TheVariants as states
 use Rattle.addr2line_units.specs.KeptFunctions.{is_kept}
 use Rattle.addr2line_units.specs.KeptLookups.{HaveEntriesOf, answers_in, decided_at, has_entries_at}
+use Rattle.addr2line_units.specs.FramesLookup.{answer_of}
+use Rattle.addr2line_units.specs.KeptViews.{answer_in, is_decided}
 use Rattle.addr2line_units.specs.KeptParses.{HaveFunctions, HaveRead, StayDecided, has_view}
 use Rattle.addr2line_units.specs.KnownEntries.{NothingKnown, AllKnown, known_answer, known_by, known_functions, known_in}
 use Rattle.addr2line_units.specs.LoadLaws.{is_open_at}
@@ -108,3 +111,16 @@ module _ {R : Type 0} where
   none_asked probe [] n h = refl
   none_asked probe (v ∷ vs) zero h = absurd (omega (arith, h))
   none_asked probe (v ∷ vs) (suc n) h = none_asked probe vs n (omega (arith, h))
+
+  answered_state : (s : ViewState R) (first : Option Sections) → answer_in s ≡ Some first → is_decided s ≡ true
+  answered_state states.Undecided first e = absurd cc
+  answered_state states.Open first e = absurd cc
+  answered_state states.Main first e = refl
+  answered_state (states.Unnamed x) first e = refl
+  answered_state (states.Answered a) first e = refl
+
+  -- a unit that has an answer is decided
+  pub answered_is_decided : (vs : List (UnitEntries R)) (n : ℕ) (first : Option Sections) → answer_of (answers_in vs) n ≡ Some first → decided_at vs n ≡ true
+  answered_is_decided [] n first e = absurd cc
+  answered_is_decided (v ∷ vs) zero first e = answered_state v.view.state first e
+  answered_is_decided (v ∷ vs) (suc n) first e = answered_is_decided vs n first e

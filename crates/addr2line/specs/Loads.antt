@@ -2,7 +2,7 @@
 -- (DWARF 5, sections 3.1.2, 3.3 and 7.3.2).
 -- Own: an answer to a unit that is decided changes nothing; a parse of all functions answers none to
 -- each load.
-use Rattle.std.specs.Prelude.{◌≡◌, ◌≢◌, ◌⊎◌, ℕ, false, true, slice_get, Option, None, OnOk, Result, Ok, Err}
+use Rattle.std.specs.Prelude.{◌≡◌, ◌≢◌, ◌⊎◌, ℕ, false, true, slice_get, Option, Some, None, OnOk, Result, Ok, Err}
 use Rattle.std.specs.List.{AllByRecursion}
 use Rattle.gimli_read.specs.declared.error.Error.{Error}
 use Rattle.gimli_read.specs.Reading.{◌>>=◌}
@@ -63,8 +63,8 @@ pub record StaysRead (old new : ContextState) : Type 0 where
   pub looks : new.looks ≡ old.looks
 
 -- after an answer to the load of the unit of a number nothing is changed but of that unit, of which
--- what was known stays unless it was open; where memory was refused in place of it, all first answers
--- are as before, and what was known stays
+-- what was known stays unless it was open, and nothing is changed where it had an answer; where
+-- memory was refused in place of it, all first answers are as before, and what was known stays
 pub record AfterLoad (n : ℕ) (given : Option Sections) (result : Result (Unit {0}) Error)
     (old new : ContextState) : Type 0 where
   pub stays : StaysRead old new
@@ -74,6 +74,8 @@ pub record AfterLoad (n : ℕ) (given : Option Sections) (result : Result (Unit 
   pub known : (m : UnitIndex) → index_units old.sections ≡ Ok m
       → is_open_at old.sections (unit_records m.units) old.answers n ≡ false
       → StaysKnown old.known new.known
+  pub same : (first : Option Sections) → answer_of old.answers n ≡ Some first
+      → new.known ≡ old.known
   pub others : (k : ℕ) → k ≢ n → slice_get new.known k ≡ slice_get old.known k
 
 -- after the unit of a number is forgotten nothing is changed but of that unit, and nothing at all

@@ -1,5 +1,6 @@
 //! Worked cases, by what they show.
 
+mod codes;
 mod context;
 mod details;
 mod example;

@@ -1,8 +1,9 @@
 //! Worked cases: lookups of frames and of units in one file.
 
+use super::codes::{Codes, DONE, NONE, first};
 use super::details::{OPEN_FUNCTION, OPEN_UNIT, TWO_FUNCTIONS};
 use super::functions::{LIST, NAMED, NAMED_INFO};
-use super::replies::{Answer, Call, Codes, DONE, NONE, first, told};
+use super::replies::{Answer, Call, told};
 use super::sections::{LINE, dwarf_of, little, shared_dwarf_of};
 use addr2line::gimli::DebugRanges;
 use std::alloc::Global;

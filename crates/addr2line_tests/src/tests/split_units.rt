@@ -1,9 +1,8 @@
 //! Worked cases: lookups that wait for split files, and the calls that answer them elsewhere.
 
+use super::codes::{Codes, DONE, NONE, REFUSED, first};
 use super::context::LINE_V5;
-use super::replies::{
-    Answer, Call, Codes, DONE, NONE, TWO_WAITING_INFO, WAITING_ABBREV, first, told,
-};
+use super::replies::{Answer, Call, TWO_WAITING_INFO, WAITING_ABBREV, told};
 use super::sections::{dwarf_of, shared_dwarf_of};
 use std::alloc::Global;
 
@@ -156,11 +155,11 @@ const GROWN: [Codes; 6] = [DONE, H, SPLIT, DONE, NONE, LINE_3];
 
 // The answers of a context that is made once more where it was refused.
 fn told_again(alloc: Global) -> [Codes; 6] {
-    let (codes, refused) = told_borrowed(alloc, GROWING);
-    if codes[0] == DONE || refused == 0 {
-        return codes;
+    let (codes, _) = told_borrowed(alloc, GROWING);
+    if codes == [REFUSED; 6] {
+        return told_borrowed(alloc, GROWING).0;
     }
-    told_borrowed(alloc, GROWING).0
+    codes
 }
 
 // Each growth is refused in turn by `tools/refuse_growths`.

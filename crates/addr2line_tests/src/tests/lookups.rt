@@ -4,8 +4,9 @@ use super::codes::{Codes, DONE, NONE, first};
 use super::details::{OPEN_FUNCTION, OPEN_UNIT, TWO_FUNCTIONS};
 use super::functions::{LIST, NAMED, NAMED_INFO};
 use super::replies::{Answer, Call, told};
-use super::sections::{LINE, dwarf_of, little, shared_dwarf_of};
-use addr2line::gimli::DebugRanges;
+use super::sections::{LINE, dwarf_of, little, shared, shared_dwarf_of};
+use addr2line::gimli::read::Reader;
+use addr2line::gimli::{DebugRanges, Dwarf};
 use std::alloc::Global;
 
 // "g" at 0x31 at line 3, called at line 7 without a column by "f" at 0x22.
@@ -124,23 +125,35 @@ fn alone(offset: u64) -> Codes {
     first([offset, 0, 0])
 }
 
-// The frames at three addresses of a unit without lines.
-fn told_ranged(alloc: Global, info: &[u8], probes: [u64; 3]) -> ([Codes; 3], u64) {
-    let mut dwarf = dwarf_of(RANGED, info, &[]);
-    dwarf.debug_ranges = DebugRanges::from(little(&LIST));
-    told(alloc, dwarf, dwarf_of(&[], &[], &[]), probes.map(frames))
+// The sections with ranges of functions.
+fn with_ranges<R: Reader>(dwarf: Dwarf<R>, ranges: R) -> Dwarf<R> {
+    let mut dwarf = dwarf;
+    dwarf.debug_ranges = DebugRanges::from(ranges);
+    dwarf
+}
+
+// The frames at three addresses of a unit without lines, over borrowed and over shared bytes.
+fn told_ranged(alloc: Global, info: &'static [u8], probes: [u64; 3]) -> [([Codes; 3], u64); 2] {
+    let calls = probes.map(frames);
+    let main = with_ranges(dwarf_of(RANGED, info, &[]), little(&LIST));
+    let borrowed = told(alloc, main, dwarf_of(&[], &[], &[]), calls);
+    let main = with_ranges(shared_dwarf_of(RANGED, info, &[]), shared(&LIST));
+    [
+        borrowed,
+        told(alloc, main, shared_dwarf_of(&[], &[], &[]), calls),
+    ]
 }
 
 #[test]
 fn functions_that_overlap_have_one_at_each_address(rt: HostRuntime) {
     let gap = Codes([0x1c, 0, 0], [0x13, 0, UNSAID], [0xf, 0, UNSAID]);
-    let cases: [(&[u8], [u64; 3], [Codes; 3]); 4] = [
+    let cases: [(&'static [u8], [u64; 3], [Codes; 3]); 4] = [
         (NESTED, [0x24, 0x2a, 0x30], [alone(0x14), alone(0xf), NONE]),
         (EQUAL, [0x10, 0x1f, 0x20], [alone(0xf), alone(0xf), NONE]),
         (LISTED, [47, 52, 60], [alone(0xf), alone(0x14), alone(0xf)]),
         (SIBLINGS, [7, 0x30, u64::MAX], [gap, NONE, NONE]),
     ];
     for (info, probes, want) in cases {
-        assert_eq!(rt; told_ranged(rt.alloc(), info, probes), (want, 0));
+        assert_eq!(rt; told_ranged(rt.alloc(), info, probes), [(want, 0); 2]);
     }
 }

@@ -132,13 +132,14 @@ fn a_split_unit_is_decided_by_its_first_answer(rt: HostRuntime) {
 
 #[test]
 fn loads_are_listed_in_the_order_of_units(rt: HostRuntime) {
-    let main = dwarf_of(WAITING_ABBREV, TWO_WAITING_INFO, &LINE_V5);
     let calls = [Call::Preload(15), Call::Preload(5)];
-    let want = [first([2, 2, 1]), first([1, 1, 0])];
-    assert_eq!(rt;
-        told(rt.alloc(), main, dwarf_of(&[], &[], &[]), calls),
-        (want, 0)
-    );
+    let want = ([first([2, 2, 1]), first([1, 1, 0])], 0);
+    let main = dwarf_of(WAITING_ABBREV, TWO_WAITING_INFO, &LINE_V5);
+    let split = dwarf_of(&[], &[], &[]);
+    assert_eq!(rt; told(rt.alloc(), main, split, calls), want);
+    let main = shared_dwarf_of(WAITING_ABBREV, TWO_WAITING_INFO, &LINE_V5);
+    let split = shared_dwarf_of(&[], &[], &[]);
+    assert_eq!(rt; told(rt.alloc(), main, split, calls), want);
 }
 
 // Calls that ask for memory, and what they give.

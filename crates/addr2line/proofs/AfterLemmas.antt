@@ -9,7 +9,7 @@ use Rattle.addr2line_units.specs.declared.continuation.LookupResult.TheVariants.
 use Rattle.addr2line_units.specs.declared.frames_lookup.Faults.{Faults}
 use Rattle.addr2line_units.specs.Cover.{cover}
 use Rattle.addr2line_units.specs.FramesLookup.{Stop, Waits, Finds, FindsNothing, LookupAsks, asked_frames, asks_lines_of, is_waiting, main_scope}
-use Rattle.addr2line_units.specs.Parsed.{ParsesOnly}
+use Rattle.addr2line_units.specs.Parsed.{IsNotOom, ParsesOnly}
 use Rattle.addr2line_units.specs.Suspended.{IfLoad, IfOutput}
 use Rattle.addr2line_units.specs.UnitIndex.{UnitIndex, index_units}
 use Rattle.addr2line_units.proofs.FramesLookupLemmas.{parses_more}
@@ -89,12 +89,9 @@ pub found_same : (faults : Faults) (probe n : ℕ) (old mid : ContextState) → 
     → unit_stop faults mid.sections mid.answers probe ≡ Ok (units.Finds n)
 found_same faults probe n old mid s a e = ap (λ x. unit_stop faults x mid.answers probe) s ∙ ap (λ x. unit_stop faults old.sections x probe) a ∙ e
 
--- what is told of a lookup holds of its output, where it isn't refused and changes nothing more
-pub outputs_kept : {L X Y D S : Type 0} (faults : Faults) (probe : ℕ) (old mid new : ContextState) (y : Y) (result : LookupResult L (Result X Error) D S) → AfterFrames {X = Y} faults probe (Ok y) old mid
-    → IfOutput result (λ o. IfErr o (λ e. ⊥)) → IfOutput result (λ o. new ≡ mid) → IfOutput result (λ o. AfterFrames faults probe o old new)
-outputs_kept faults probe old mid new y (Load c) a never kept = tt
-outputs_kept faults probe old mid new y (Output (Err e)) a never kept = absurd never
-outputs_kept {X = X} faults probe old mid new y (Output (Ok x)) a never kept = subst (λ n. AfterFrames {X = X} faults probe (Ok x) old n) (sym kept) (record {
+-- the same of another result that is refused for want of memory where this one is
+pub same_after : {X Y : Type 0} (faults : Faults) (probe : ℕ) (old new : ContextState) (r : Result Y Error) (s : Result X Error) → (IsNotOom s → IsNotOom r) → (IsNotOom r → IsNotOom s) → AfterFrames faults probe r old new → AfterFrames faults probe s old new
+same_after faults probe old new r s back on a = record {
   sections = a.sections;
   answers = a.answers;
   parsed = a.parsed;
@@ -102,9 +99,17 @@ outputs_kept {X = X} faults probe old mid new y (Output (Ok x)) a never kept = s
   only = a.only;
   learns = a.learns;
   raised = a.raised;
-  ready = a.ready;
-  memory = λ few ended. tt;
-})
+  ready = λ told. a.ready (back told);
+  memory = λ few ended. on (a.memory few ended);
+}
+
+-- what is told of a lookup holds of its output, where it isn't refused and changes nothing more
+pub outputs_kept : {L X Y D S : Type 0} (faults : Faults) (probe : ℕ) (old mid new : ContextState) (y : Y) (result : LookupResult L (Result X Error) D S) → AfterFrames {X = Y} faults probe (Ok y) old mid
+    → IfOutput result (λ o. IfErr o (λ e. ⊥)) → IfOutput result (λ o. new ≡ mid) → IfOutput result (λ o. AfterFrames faults probe o old new)
+outputs_kept faults probe old mid new y (Load c) a never kept = tt
+outputs_kept faults probe old mid new y (Output (Err e)) a never kept = absurd never
+outputs_kept {X = X} faults probe old mid new y (Output (Ok x)) a never kept =
+    subst (λ n. AfterFrames {X = X} faults probe (Ok x) old n) (sym kept) (same_after faults probe old mid (Ok y) (Ok x) (λ t. t) (λ t. t) a)
 
 -- an output that isn't refused is exact
 pub outputs_exact : {L V X D S : Type 0} (reading : Sections → FirstAnswers → ℕ → Result V Error) (see : X → V) (probe : ℕ) (old mid : ContextState) (result : LookupResult L (Result X Error) D S) → mid.sections ≡ old.sections → mid.answers ≡ old.answers
@@ -119,17 +124,3 @@ pub outputs_told : {L X D S : Type 0} (P : Error → Type 0) (result : LookupRes
 outputs_told P (Load c) never = tt
 outputs_told P (Output (Ok x)) never = tt
 outputs_told P (Output (Err e)) never = absurd never
-
--- a refusal as another kind of result
-pub err_after : {X Y : Type 0} (faults : Faults) (probe : ℕ) (old new : ContextState) (e : Error) → AfterFrames {X = Y} faults probe (Err e) old new → AfterFrames {X = X} faults probe (Err e) old new
-err_after faults probe old new e a = record {
-  sections = a.sections;
-  answers = a.answers;
-  parsed = a.parsed;
-  known = a.known;
-  only = a.only;
-  learns = a.learns;
-  raised = a.raised;
-  ready = a.ready;
-  memory = a.memory;
-}

@@ -1,7 +1,7 @@
--- Answers to loads outside a lookup, what forgets them, and the parse of all functions, in a context
--- (DWARF 5, sections 3.1.2, 3.3 and 7.3.2).
--- Own: an answer to a unit that is decided changes nothing; a parse of all functions answers none to
--- each load.
+-- Answers to loads outside a lookup, what forgets them, and the parse of all functions, in a
+-- context (DWARF 5, sections 3.1.2, 3.3 and 7.3.2).
+-- Own: an answer to a unit that is decided changes nothing; a parse of all functions answers none
+-- to each load.
 use Rattle.std.specs.Prelude.{◌≡◌, ◌≢◌, ◌⊎◌, ℕ, false, true, slice_get, Option, Some, None, OnOk, Result, Ok, Err}
 use Rattle.std.specs.List.{AllByRecursion}
 use Rattle.gimli_read.specs.declared.error.Error.{Error}
@@ -24,8 +24,8 @@ use Rattle.addr2line.specs.Answers.{answered}
 use Rattle.addr2line.specs.Context.{ContextState, lines_of_all}
 use Rattle.addr2line.specs.Lookups.{FirstAnswers, StaysKnown, lookup_stop}
 
--- what an answer to the load of the unit of a number gives: UnknownToken where there is none, or the
--- fault of its view then
+-- what an answer to the load of the unit of a number gives: UnknownToken where there is none, or
+-- the fault of its view then
 abbrev pub load_reply : Sections → FirstAnswers → ℕ → Option Sections → Result (Unit {0}) Error
 load_reply d answers n given =
     index_units d >>= λ m. load_result d (unit_records m.units) answers n given
@@ -103,9 +103,9 @@ IsReadBy kinds.Details (FunctionsKnown t) = AllByRecursion HasDetail t.functions
 abbrev pub AreReadBy : Reads → ContextState → Type 0
 AreReadBy reads c = AllByRecursion (IsReadBy reads) c.known
 
--- after a parse of all functions open units are decided by none, up to the first fault; where memory
--- was refused, some of the first ones. What was known of the others stays, and where all was no
--- memory is wanted
+-- after a parse of all functions open units are decided by none, up to the first fault; where
+-- memory was refused, some of the first ones. What was known of the others stays, and where all was
+-- no memory is wanted
 pub record AfterParse (reads : Reads) (result : Result (Unit {0}) Error) (old new : ContextState)
     : Type 0 where
   pub stays : StaysRead old new

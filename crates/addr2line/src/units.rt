@@ -123,7 +123,8 @@ impl<'ctx, R: Reader> LookupContinuation for UnitLookup<'ctx, R> {
             self.entry.ctx result (λ o n. AfterResume PassOver self.entry.probe self.entry.number
             (option_map (λ d. d.value) input) o self.entry.ctx.now n)) }
         ensures load { IfLoad result (λ c. (c.ctx.ghost_name ≡ self.entry.ctx.ghost_name)
-            × (c.probe ≡ self.entry.probe) × SuspendsAgain PassOver self.entry.probe self.entry.number
+            × (c.probe ≡ self.entry.probe)
+            × SuspendsAgain PassOver self.entry.probe self.entry.number
             (option_map (λ d. d.value) input) c.number (seen_load R.section c.load)
             self.entry.ctx.now c.ctx.now) }
         ensures fewer { IfLoad result (λ c.

@@ -1,23 +1,24 @@
 -- Units of which no memory is wanted to know that they are decided (on specs/Loads.antt).
-use Rattle.std.proofs.Common.{◌≡◌, ℕ, ◌||◌, get_or, Bool, true, false, List, length, ◌<◌, slice_get, Option, Some, None, is_some, Result, Ok, Err, refl, sym, subst, ap, ◌∙◌}
+use Rattle.std.proofs.Common.{◌≡◌, ℕ, ◌||◌, get_or, Bool, true, false, List, ◌∷◌, length, ◌<◌, slice_get, Option, Some, None, is_some, Result, Ok, Err, refl, sym, subst, ap, ◌∙◌}
 use Rattle.std.specs.Prelude.{IfErr, is_none, unwrap_or}
 use Rattle.gimli_read.specs.declared.error.Error.{Error}
 use Rattle.gimli_read.specs.Section.{Section}
 use Rattle.gimli.specs.declared.unit.DwoId.{DwoId}
 use Rattle.gimli.specs.Sections.{Sections}
 use Rattle.gimli.specs.Unit.{UnitRecord}
+use Rattle.addr2line_units.specs.declared.index.UnitRange.{UnitRange}
 use Rattle.addr2line_units.specs.declared.unit_frames.UnitEntries.{UnitEntries}
 use Rattle.addr2line_units.specs.declared.view.UnitView.{UnitView}
 use Rattle.addr2line_units.specs.declared.view.ViewState.{ViewState}
 use Rattle.addr2line_units.specs.declared.view.ViewState.TheVariants as states
 use Rattle.addr2line_units.specs.FramesLookup.{answer_of}
 use Rattle.addr2line_units.specs.KeptEntries.{kept_answer}
-use Rattle.addr2line_units.specs.KeptLookups.{answers_in}
-use Rattle.addr2line_units.specs.KeptViews.{answer_in, seen_answer, was_looked_at}
-use Rattle.addr2line_units.specs.Loads.{is_settled, is_settled_at}
+use Rattle.addr2line_units.specs.KeptLookups.{StayAllEntries, answers_in}
+use Rattle.addr2line_units.specs.KeptViews.{IsViewOf, answer_in, seen_answer, waits, was_looked_at}
+use Rattle.addr2line_units.specs.Loads.{AreSettled, is_settled, is_settled_at}
 use Rattle.addr2line_units.specs.Views.{SplitLoad, is_open, load_by, load_of_unit, split_name_of, verdict_by}
-use Rattle.addr2line_units.proofs.AnswerLemmas.{got_unit}
-use Rattle.addr2line_units.proofs.KeptLookupLemmas.{answer_at}
+use Rattle.addr2line_units.proofs.AnswerLemmas.{open_by_look}
+use Rattle.addr2line_units.proofs.KeptLookupLemmas.{answer_at, same_answers}
 
 answered_was_looked_at : {R : Type 0} (s : ViewState R) → is_some (answer_in s) ≡ true → was_looked_at s ≡ true
 answered_was_looked_at states.Undecided e = absurd cc
@@ -57,9 +58,17 @@ settled_there us vs n u v there within e settled =
     at : Option UnitRecord → Bool
     at o = elim o [ None ↦ true | Some x ↦ is_settled x (answer_of (answers_in vs) n) ]
 
--- one that waits isn't such a unit
-pub open_is_unsettled : (d : Sections) (u : UnitRecord) (answer : Option (Option Sections)) → is_open d u answer ≡ true → is_settled u answer ≡ true → ⊥
-open_is_unsettled d u answer opened settled = let f : ◌≡◌ {A = Bool} true false = sym opened ∙ settled_is_decided d u answer settled in cc
+-- one that waits after a look isn't such a unit
+pub waiting_is_unsettled : {R : Type 0} (d : Sections) (u : UnitRecord) (v w : UnitView R) → IsViewOf d u w → was_looked_at w.state ≡ true → seen_answer w ≡ seen_answer v → true ≡ waits w.state → is_settled u (seen_answer v) ≡ true → ⊥
+waiting_is_unsettled d u v w own looked same waiting settled =
+    let f : ◌≡◌ {A = Bool} true false = sym (open_by_look d u v w true own looked same waiting) ∙ settled_is_decided d u (seen_answer v) settled in
+    cc
+
+-- the first unit along ranges, by what is kept later
+pub settled_first : {R : Type 0} (us : List UnitRecord) (vs ws : List (UnitEntries R)) (ranges : List UnitRange) (r : UnitRange) (rest : List UnitRange) → ranges ≡ r ∷ rest → StayAllEntries vs ws → AreSettled us (answers_in vs) ranges
+    → is_settled_at us (answers_in ws) r.unit ≡ true
+settled_first us vs ws ranges r rest steps stay all =
+    subst (λ a. is_settled_at us a r.unit ≡ true) (sym (same_answers vs ws stay)) (subst (AreSettled us (answers_in vs)) steps all).0
 
 -- what a refusal says last
 pub third_if_refused : (r : Result (Unit {0}) Error) (P : Error → Type 0) (Q S : Type 0) → IfErr r (λ e. P e × Q × S) → IfErr r (λ e. S)

@@ -1,7 +1,7 @@
 use Rattle.std.proofs.Common.{refl}
 use Rattle.addr2line_units.specs.declared.frames_lookup.Faults.TheVariants.{PassOver}
 use Rattle.addr2line_units.specs.SeenUnit.{seen_found}
-use Rattle.addr2line.proofs.AfterLemmas.{err_after, never_loads, outputs_exact, outputs_kept, outputs_told}
+use Rattle.addr2line.proofs.AfterLemmas.{never_loads, outputs_exact, outputs_kept, outputs_told, same_after}
 use Rattle.addr2line.specs.Lookups.{unit_of}
 use Rattle.addr2line.proofs.units.go.Goals as goal
 
@@ -22,7 +22,7 @@ returns-in-Ok-Finds g c =
 pub returns-in-Err : goal.returns-in-Err
 returns-in-Err g c =
     let e = c.in-Err.ensures in (
-      (refl, (λ _. tt), err_after PassOver c.args.probe c.args.ctx.now c.stop.new.self c.in-Err.error e.after),
+      (refl, (λ _. tt), same_after PassOver c.args.probe c.args.ctx.now c.stop.new.self _ _ (λ t. t) (λ t. t) e.after),
       record {
         ends = tt;
         load = tt;

@@ -5,10 +5,11 @@ use Rattle.addr2line_units.specs.declared.index.UnitRange.{UnitRange}
 use Rattle.addr2line_units.specs.KeptLookups.{answers_in, decided_at}
 use Rattle.addr2line_units.specs.KeptViews.{seen_load}
 use Rattle.addr2line_units.specs.ListedLoads.{is_new}
-use Rattle.addr2line_units.specs.Loads.{AreSettled, is_settled_at, load_of_number, loads_along}
+use Rattle.addr2line_units.specs.Loads.{AreSettled, load_of_number, loads_along}
 use Rattle.addr2line_units.specs.UnitRangesLeft.{ranges_left}
 use Rattle.addr2line_units.proofs.KeptLookupLemmas.{same_answers, stay_entries, stay_entries_over}
 use Rattle.addr2line_units.proofs.LoadLemmas.{decided_stays, found_same, listed_step, none_marked}
+use Rattle.addr2line_units.proofs.SettledLemmas.{settled_first}
 use Rattle.addr2line_units.proofs.loads.read_loads.Goals as goal
 
 pub loop-range-init : goal.loop-range-init
@@ -76,17 +77,11 @@ returns-clause-gives g c =
 pub returns-in_err-load-clause-settled : goal.returns-in_err-load-clause-settled
 returns-in_err-load-clause-settled g c h =
     let i = c.loop-range.invariant in
-    let us = c.args.dw_units.now in
-    let vs = c.args.entries.now.items in
-    let at = subst (AreSettled us (answers_in vs)) c.in-Some.ensures.steps (i.settled h) in
-    let now = subst (λ a. is_settled_at us a c.in-Some.range.unit ≡ true) (sym (same_answers vs c.loop-range.entries.items i.stay)) at.0 in
+    let now = settled_first c.args.dw_units.now c.args.entries.now.items c.loop-range.entries.items _ c.in-Some.range _ c.in-Some.ensures.steps i.stay (i.settled h) in
     absurd (let e = c.in_err-load.ensures.settled now in cc)
 
 pub returns-in_err-push_if-clause-settled : goal.returns-in_err-push_if-clause-settled
 returns-in_err-push_if-clause-settled g c h =
     let i = c.loop-range.invariant in
-    let us = c.args.dw_units.now in
-    let vs = c.args.entries.now.items in
-    let at = subst (AreSettled us (answers_in vs)) c.in-Some.ensures.steps (i.settled h) in
-    let now = subst (λ a. is_settled_at us a c.in-Some.range.unit ≡ true) (sym (same_answers vs c.loop-range.entries.items i.stay)) at.0 in
+    let now = settled_first c.args.dw_units.now c.args.entries.now.items c.loop-range.entries.items _ c.in-Some.range _ c.in-Some.ensures.steps i.stay (i.settled h) in
     absurd (let e = c.in_ok-load.ensures.settled now in let f = c.in_err-push_if.ensures.none (found_same _ _ e) in cc)

@@ -4,7 +4,7 @@ use Rattle.addr2line_units.specs.KeptEntries.{StayEntries, kept_answer}
 use Rattle.addr2line_units.specs.Views.{is_open}
 use Rattle.addr2line_units.proofs.AnswerLemmas.{decided_if_not, decided_if_open, decided_was_looked_at, never_waits, open_by_look}
 use Rattle.addr2line_units.proofs.EntryLemmas.{looked_decides}
-use Rattle.addr2line_units.proofs.SettledLemmas.{open_is_unsettled}
+use Rattle.addr2line_units.proofs.SettledLemmas.{waiting_is_unsettled}
 use Rattle.addr2line_units.proofs.unit_frames.UnitEntries.answer.Goals as goal
 
 pub returns-in_err-look-clause-same : goal.returns-in_err-look-clause-same
@@ -66,8 +66,4 @@ returns-else-is_open-clause-same g c h =
 
 pub returns-in_err-decide-clause-settled : goal.returns-in_err-decide-clause-settled
 returns-in_err-decide-clause-settled g c h =
-    let d = c.args.scope.file.dwarf.now in
-    let u = c.args.dw_unit.now in
-    let s = c.args.self.now in
-    let was : is_open d u (kept_answer s) ≡ true = open_by_look d u s.view c.look.new.self.view true c.look.ensures.kept.view c.in_ok-look.ensures.looked c.look.ensures.stay.answer (search rules) in
-    absurd (open_is_unsettled d u (kept_answer s) was h)
+    absurd (waiting_is_unsettled c.args.scope.file.dwarf.now c.args.dw_unit.now c.args.self.now.view c.look.new.self.view c.look.ensures.kept.view c.in_ok-look.ensures.looked c.look.ensures.stay.answer (search rules) h)

@@ -5,7 +5,7 @@ use Rattle.addr2line_units.specs.ListedLoads.{if_new, is_marked}
 use Rattle.addr2line_units.specs.Views.{awaited_load, is_open}
 use Rattle.addr2line_units.proofs.AnswerLemmas.{never_waits, no_answer, open_by_look}
 use Rattle.addr2line_units.proofs.LoadLemmas.{awaited_unit, awaits_this, is_new_load, marks_load, marks_none, not_new, open_awaits}
-use Rattle.addr2line_units.proofs.SettledLemmas.{open_is_unsettled}
+use Rattle.addr2line_units.proofs.SettledLemmas.{waiting_is_unsettled}
 use Rattle.addr2line_units.proofs.unit_frames.UnitEntries.new_load.Goals as goal
 
 pub returns-then-not-is_open-clause-gives : goal.returns-then-not-is_open-clause-gives
@@ -82,27 +82,15 @@ returns-clause-decided g c h =
 
 pub returns-in_err-mark_unit-clause-settled : goal.returns-in_err-mark_unit-clause-settled
 returns-in_err-mark_unit-clause-settled g c h =
-    let d = c.args.scope.file.dwarf.now in
-    let u = c.args.dw_unit.now in
-    let s = c.args.self.now in
-    let was : is_open d u (kept_answer s) ≡ true = open_by_look d u s.view c.look.new.self.view true c.look.ensures.kept.view c.in_ok-look.ensures.looked c.look.ensures.stay.answer (search rules) in
-    absurd (open_is_unsettled d u (kept_answer s) was h)
+    absurd (waiting_is_unsettled c.args.scope.file.dwarf.now c.args.dw_unit.now c.args.self.now.view c.look.new.self.view c.look.ensures.kept.view c.in_ok-look.ensures.looked c.look.ensures.stay.answer (search rules) h)
 
 pub returns-in_err-load-clause-settled : goal.returns-in_err-load-clause-settled
 returns-in_err-load-clause-settled g c h =
-    let d = c.args.scope.file.dwarf.now in
-    let u = c.args.dw_unit.now in
-    let s = c.args.self.now in
-    let was : is_open d u (kept_answer s) ≡ true = open_by_look d u s.view c.look.new.self.view true c.look.ensures.kept.view c.in_ok-look.ensures.looked c.look.ensures.stay.answer (search rules) in
-    absurd (open_is_unsettled d u (kept_answer s) was h)
+    absurd (waiting_is_unsettled c.args.scope.file.dwarf.now c.args.dw_unit.now c.args.self.now.view c.look.new.self.view c.look.ensures.kept.view c.in_ok-look.ensures.looked c.look.ensures.stay.answer (search rules) h)
 
 pub returns-clause-settled : goal.returns-clause-settled
 returns-clause-settled g c h =
-    let d = c.args.scope.file.dwarf.now in
-    let u = c.args.dw_unit.now in
-    let s = c.args.self.now in
-    let was : is_open d u (kept_answer s) ≡ true = open_by_look d u s.view c.look.new.self.view true c.look.ensures.kept.view c.in_ok-look.ensures.looked c.look.ensures.stay.answer (search rules) in
-    absurd (open_is_unsettled d u (kept_answer s) was h)
+    absurd (waiting_is_unsettled c.args.scope.file.dwarf.now c.args.dw_unit.now c.args.self.now.view c.look.new.self.view c.look.ensures.kept.view c.in_ok-look.ensures.looked c.look.ensures.stay.answer (search rules) h)
 
 pub returns-in_err-load-clause-decided : goal.returns-in_err-load-clause-decided
 returns-in_err-load-clause-decided g c h =

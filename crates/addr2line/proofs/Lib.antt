@@ -6,3 +6,4 @@ pub mod AfterLemmas
 pub mod SkipLemmas
 pub mod ParseLemmas
 pub mod LoadLemmas
+mod HistoryLemmas

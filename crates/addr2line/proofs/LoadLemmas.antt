@@ -91,11 +91,13 @@ module _ {R : Type 0} (d : Sections) (us : List UnitRecord) (old : List ResUnit)
     stays_known stay probe k e = known_is probe entries k ∙ entries_more_at probe held entries stay k (sym (known_is probe held k) ∙ e)
 
     pub after_load : (n : ℕ) (given : Option Sections) (result : Result (Unit {0}) Error) → (IsNotOom result → answers_in entries ≡ with_answer d us (answers_in held) n given)
+        → (answers_in entries ≡ answers_in held) ⊎ (answers_in entries ≡ with_answer d us (answers_in held) n given)
         → (result ≢ load_result d us (answers_in held) n given → (answers_in entries ≡ answers_in held) × StayAllEntries held entries) → ((k : ℕ) → k ≢ n → slice_get entries k ≡ slice_get held k)
         → (decided_at held n ≡ true → entries ≡ held) → length us ≡ length entries → AfterLoad n given result before after
-    after_load n given result answers refused others same_decided many = record {
+    after_load n given result answers begun refused others same_decided many = record {
       stays = stays_read;
       answers = λ told. answers told ∙ sym (answers_are d us old held ranges sup i n given);
+      begun = elim begun [ inl e ↦ inl e | inr e ↦ inr (e ∙ sym (answers_are d us old held ranges sup i n given)) ];
       refused = λ ne. let r = refused (λ e. ne (e ∙ sym (load_is n given))) in (r.0, stays_known r.1);
       known = λ m e. subst (λ x. is_open_at d (unit_records x.units) (answers_in held) n ≡ false → StaysKnown (known_in held) (known_in entries)) (ok_is _ _ (sym i.made_is ∙ e))
           (λ shut probe k q. known_is probe entries k ∙ shut_stays probe k (subst (λ xs. is_open_at d xs (answers_in held) n ≡ false) same_units shut) (same_or k) (sym (known_is probe held k) ∙ q));
@@ -124,13 +126,14 @@ module _ {R : Type 0} (d : Sections) (us : List UnitRecord) (old : List ResUnit)
     pub after_preload : answers_in entries ≡ answers_in held → StayAllEntries held entries → AfterPreload before after
     after_preload answers stay = record { stays = stays_read; answers = answers; known = stays_known stay }
 
-    pub after_parse : (reads : Reads) (result : Result (Unit {0}) Error) → (IsNotOom result → answers_in entries ≡ answers_after reads (scope_in d us sup) us (answers_in held)) → AreFirstDecided d us (answers_in held) (answers_in entries)
+    pub after_parse : (reads : Reads) (result : Result (Unit {0}) Error) → (IsNotOom result → answers_in entries ≡ answers_after reads (scope_in d us sup) us (answers_in held)) → AreFirstDecided reads (scope_in d us sup) us (answers_in held) (answers_in entries)
         → StayDecided held entries → OnOk result (HaveRead reads entries) → (HaveRead reads held → result ≡ Ok tt)
         → ChangesOnly (AreReadBefore reads (scope_in d us sup) us (answers_in held)) held entries → AfterParse reads result before after
     after_parse reads result answers begun stay read memory only = record {
       stays = stays_read;
       answers = λ told. answers told ∙ sym (parsed_is reads);
-      begun = λ m e. subst (λ x. AreFirstDecided d (unit_records x.units) (answers_in held) (answers_in entries)) (ok_is _ _ (sym i.made_is ∙ e)) (subst (λ xs. AreFirstDecided d xs (answers_in held) (answers_in entries)) (sym same_units) begun);
+      begun = λ m e. subst (λ x. AreFirstDecided reads (main_scope d x) (unit_records x.units) (answers_in held) (answers_in entries)) (ok_is _ _ (sym i.made_is ∙ e))
+          (subst (λ xs. AreFirstDecided reads (main_scope d made) xs (answers_in held) (answers_in entries)) (sym same_units) (subst (λ s. AreFirstDecided reads s us (answers_in held) (answers_in entries)) (scope_is d us old held ranges sup i) begun));
       known = λ m e. subst (λ x. (probe n : ℕ) → is_open_at d (unit_records x.units) (answers_in held) n ≡ false → knows_at (known_in held) probe n ≡ true → knows_at (known_in entries) probe n ≡ true) (ok_is _ _ (sym i.made_is ∙ e))
           (λ probe n shut k. known_is probe entries n ∙ decided_more (main_scope d made) probe us held entries n i.entries stay (subst (λ xs. is_open_at d xs (answers_in held) n ≡ false) same_units shut) (sym (known_is probe held n) ∙ k));
       only = λ m e. subst (λ x. (n : ℕ) → (slice_get (known_in entries) n ≡ slice_get (known_in held) n) ⊎ AreReadBefore reads (main_scope d x) (unit_records x.units) (answers_in held) n) (ok_is _ _ (sym i.made_is ∙ e))

@@ -4,3 +4,8 @@ pub mod Lookups
 pub mod KeptStops
 pub mod Answers
 pub mod Loads
+pub mod Replies
+pub mod History
+pub mod Skips
+pub mod SeenReplies
+pub mod SeenCalls

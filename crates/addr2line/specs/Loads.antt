@@ -69,6 +69,8 @@ pub record AfterLoad (n : ℕ) (given : Option Sections) (result : Result (Unit 
     (old new : ContextState) : Type 0 where
   pub stays : StaysRead old new
   pub answers : IsNotOom result → new.answers ≡ answered old.sections old.answers n given
+  pub begun : (new.answers ≡ old.answers)
+      ⊎ (new.answers ≡ answered old.sections old.answers n given)
   pub refused : result ≢ load_reply old.sections old.answers n given
       → (new.answers ≡ old.answers) × StaysKnown old.known new.known
   pub known : (m : UnitIndex) → index_units old.sections ≡ Ok m
@@ -111,7 +113,8 @@ pub record AfterParse (reads : Reads) (result : Result (Unit {0}) Error) (old ne
   pub stays : StaysRead old new
   pub answers : IsNotOom result → new.answers ≡ parsed_answers reads old.sections old.answers
   pub begun : (m : UnitIndex) → index_units old.sections ≡ Ok m
-      → AreFirstDecided old.sections (unit_records m.units) old.answers new.answers
+      → AreFirstDecided reads (main_scope old.sections m) (unit_records m.units) old.answers
+      new.answers
   pub known : (m : UnitIndex) → index_units old.sections ≡ Ok m → (probe n : ℕ)
       → is_open_at old.sections (unit_records m.units) old.answers n ≡ false
       → knows_at old.known probe n ≡ true → knows_at new.known probe n ≡ true

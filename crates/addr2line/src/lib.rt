@@ -4,14 +4,22 @@
 mod answers;
 mod context;
 mod continuation;
+mod copies;
 mod frames;
 mod loads;
 mod parses;
+mod reply;
+mod session;
+mod skips;
 mod stops;
 mod units;
 
 pub use crate::context::Context;
 pub use crate::continuation::{FramesLookup, UnitLookup};
+pub use crate::reply::{
+    FoundUnit, OwnedFrame, OwnedLoad, OwnedLocation, OwnedName, OwnedSpan, Reply,
+};
+pub use crate::session::{Answer, Call, replay};
 pub use addr2line_lines::Location;
 pub use addr2line_units::continuation::{LookupContinuation, LookupResult};
 pub use addr2line_units::frame::{demangle, demangle_auto};

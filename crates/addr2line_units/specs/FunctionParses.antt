@@ -3,7 +3,7 @@
 -- Own: units are read in their order, up to the first that has a fault; one that waits for an
 -- answer is decided by none first. The first fault counts of the view of a unit, of its functions,
 -- and, where they are asked for, of their details in the order of the entries.
-use Rattle.std.specs.Prelude.{ℕ, zero, suc, ◌≡◌, ◌<◌, List, ◌∷◌, slice_get, Option, Some, None, Result, Ok, Err}
+use Rattle.std.specs.Prelude.{ℕ, zero, suc, ◌≡◌, ◌⊎◌, ◌<◌, List, ◌∷◌, slice_get, Option, Some, None, Result, Ok, Err}
 use Rattle.gimli_read.specs.declared.error.Error.{Error}
 use Rattle.gimli_read.specs.Reading.{◌>>=◌}
 use Rattle.gimli.specs.Sections.{Sections}
@@ -77,7 +77,10 @@ first_decided d (suc n) (u ∷ us) (answer ∷ answers) =
     decided_answer d u answer None ∷ first_decided d n us answers
 first_decided d (suc n) _ answers = answers
 
--- the first answers are those where some of the first units are decided, and no others
-abbrev pub AreFirstDecided : Sections → List UnitRecord → List (Option (Option Sections))
+-- all units before the one of some number can be read, and those that were open are decided by
+-- none; that one may be, and no other
+abbrev pub AreFirstDecided : Reads → Scope → List UnitRecord → List (Option (Option Sections))
     → List (Option (Option Sections)) → Type 0
-AreFirstDecided d us old new = (n : ℕ) × (new ≡ first_decided d n us old)
+AreFirstDecided reads scope us old new = (n : ℕ) × AreReadBefore reads scope us old n
+    × ((new ≡ first_decided scope.file.sections n us old)
+    ⊎ (new ≡ first_decided scope.file.sections (suc n) us old))

@@ -1,6 +1,6 @@
 //! Answers to the loads of units that no lookup waits for, and the loads that an address waits for.
 
-ghost use Rattle.std.specs.Prelude.{◌≡◌, ◌≢◌, ◌++◌, ◌<◌, ℕ, IfErr, IfOk, IsOk, None, Ok, OnOk, Some, length, map, not, option_map, slice_get, true};
+ghost use Rattle.std.specs.Prelude.{◌≡◌, ◌≢◌, ◌⊎◌, ◌++◌, ◌<◌, ℕ, IfErr, IfOk, IsOk, None, Ok, OnOk, Some, length, map, not, option_map, slice_get, true};
 ghost use Rattle.std.specs.List.{AllByRecursion};
 ghost use Rattle.std.specs.Option.{option_to_list};
 ghost use Rattle.gimli_read.specs.declared.error.Error.TheVariants.{OutOfMemory};
@@ -85,6 +85,10 @@ impl<R: Reader> ResUnits<R> {
         ensures answers { IsNotOom result → answers_in self.new.entries.items
             ≡ with_answer dwarf.now self.old.dw_units.items (answers_in self.old.entries.items)
             token.number (option_map (λ d. d.value) sections) }
+        ensures begun { (answers_in self.new.entries.items ≡ answers_in self.old.entries.items)
+            ⊎ (answers_in self.new.entries.items ≡ with_answer dwarf.now
+            self.old.dw_units.items (answers_in self.old.entries.items) token.number
+            (option_map (λ d. d.value) sections)) }
         ensures refused { result ≢ load_result dwarf.now self.old.dw_units.items
             (answers_in self.old.entries.items) token.number (option_map (λ d. d.value) sections)
             → (answers_in self.new.entries.items ≡ answers_in self.old.entries.items)

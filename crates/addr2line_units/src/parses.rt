@@ -196,7 +196,7 @@ fn read_all_functions<R: Reader>(
     ensures answers { IsNotOom result → answers_in entries.new.items
         ≡ answers_after reads (seen_scope scope.entry) scope.entry.file.units.now
         (answers_in entries.old.items) }
-    ensures memory_answers { AreFirstDecided scope.entry.file.dwarf.now
+    ensures begun { AreFirstDecided reads (seen_scope scope.entry)
         scope.entry.file.units.now (answers_in entries.old.items)
         (answers_in entries.new.items) }
     ensures stay { StayDecided entries.old.items entries.new.items }
@@ -220,8 +220,8 @@ impl<R: Reader> ResUnits<R> {
     /// they are.
     ///
     /// Refused by the first fault of a view, its functions and the details; may fail with
-    /// `OutOfMemory` instead, which is never kept: then some of the first units are decided. Takes
-    /// no memory where all that it reads is kept, without a fault. Source: DWARF 5, sections 3.3.1
+    /// `OutOfMemory` instead, which is never kept: then some of the first units that it would
+    /// decide are decided. Takes no memory where all that it reads is kept, without a fault. Source: DWARF 5, sections 3.3.1
     /// and 3.3.8.
     pub fn read_functions(
         &mut self,
@@ -241,7 +241,8 @@ impl<R: Reader> ResUnits<R> {
         ensures answers { IsNotOom result → answers_in self.new.entries.items
             ≡ answers_after reads (scope_in dwarf.now self.old.dw_units.items sup.now)
             self.old.dw_units.items (answers_in self.old.entries.items) }
-        ensures memory_answers { AreFirstDecided dwarf.now self.old.dw_units.items
+        ensures begun { AreFirstDecided reads
+            (scope_in dwarf.now self.old.dw_units.items sup.now) self.old.dw_units.items
             (answers_in self.old.entries.items) (answers_in self.new.entries.items) }
         ensures stay { StayDecided self.old.entries.items self.new.entries.items }
         ensures only { ChangesOnly (AreReadBefore reads

@@ -67,8 +67,8 @@ returns-in_err-read_functions_in-clause-answers g c =
     c.in_err-read_functions_in.ensures.answers ne ∙ ap (λ a. with_answer d us a k None) i.answers ∙ decided_more d us (answers_in vs) k h many
     ∙ sym (after_stop c.args.reads scope us (answers_in vs) k _ many i.before at))
 
-pub returns-in_err-read_functions_in-clause-memory_answers : goal.returns-in_err-read_functions_in-clause-memory_answers
-returns-in_err-read_functions_in-clause-memory_answers g c =
+pub returns-in_err-read_functions_in-clause-begun : goal.returns-in_err-read_functions_in-clause-begun
+returns-in_err-read_functions_in-clause-begun g c =
     let i = c.loop-number.invariant in
     let d = c.args.scope.file.dwarf.now in
     let scope = seen_scope c.args.scope in
@@ -81,8 +81,8 @@ returns-in_err-read_functions_in-clause-memory_answers g c =
     let h : k < length us = omega (arith, first, below, count) in
     let many = many_answers scope us vs c.requires.kept in
     elim c.in_err-read_functions_in.ensures.memory_answers [
-      | inl e ↦ (k, e ∙ i.answers)
-      | inr e ↦ (suc k, e ∙ ap (λ a. with_answer d us a k None) i.answers ∙ decided_more d us (answers_in vs) k h many)
+      | inl e ↦ (k, i.before, inl (e ∙ i.answers))
+      | inr e ↦ (k, i.before, inr (e ∙ ap (λ a. with_answer d us a k None) i.answers ∙ decided_more d us (answers_in vs) k h many))
     ]
 
 pub returns-in_err-read_functions_in-clause-stay : goal.returns-in_err-read_functions_in-clause-stay
@@ -158,8 +158,8 @@ returns-clause-answers g c = λ ne.
     let past : length us ≤ c.loop-number.number = omega (arith, first, end, count) in
     i.answers ∙ sym (after_end c.args.reads scope us (answers_in vs) c.loop-number.number (many_answers scope us vs c.requires.kept) past i.before)
 
-pub returns-clause-memory_answers : goal.returns-clause-memory_answers
-returns-clause-memory_answers g c = (c.loop-number.number, c.loop-number.invariant.answers)
+pub returns-clause-begun : goal.returns-clause-begun
+returns-clause-begun g c = (c.loop-number.number, c.loop-number.invariant.before, inl c.loop-number.invariant.answers)
 
 pub returns-clause-only : goal.returns-clause-only
 returns-clause-only g c =

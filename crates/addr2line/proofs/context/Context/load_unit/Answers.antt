@@ -1,4 +1,4 @@
-use Rattle.std.proofs.Common.{◌≡◌, ◌≢◌, ◌∙◌, ap, length, sym, subst, true}
+use Rattle.std.proofs.Common.{◌≡◌, ◌≢◌, ◌⊎◌, ◌∙◌, ap, length, sym, subst, true}
 use Rattle.std.specs.Prelude.{option_map}
 use Rattle.gimli_read.specs.Reading.{ExactlyUnlessOom}
 use Rattle.addr2line_units.specs.FramesLookup.{with_answer}
@@ -37,9 +37,10 @@ returns-clause-after g c =
     let n = c.args.unit.number in
     let given = option_map (λ x. x.value) c.args.sections in
     let answers = subst (λ d. IsNotOom c.load_unit.result → answers_in now.entries.items ≡ with_answer d s.units.dw_units.items (answers_in s.units.entries.items) n given) c.deref.ensures e.answers in
+    let begun = subst (λ d. (answers_in now.entries.items ≡ answers_in s.units.entries.items) ⊎ (answers_in now.entries.items ≡ with_answer d s.units.dw_units.items (answers_in s.units.entries.items) n given)) c.deref.ensures e.begun in
     let many = ap length (sym e.dw_units) ∙ as_many_entries (scope_in c.deref.result.now now.dw_units.items s.sup_units) now.dw_units.items now.entries.items e.kept in
     let refused = subst (λ d. c.load_unit.result ≢ load_result d s.units.dw_units.items (answers_in s.units.entries.items) n given → (answers_in now.entries.items ≡ answers_in s.units.entries.items) × StayAllEntries s.units.entries.items now.entries.items) c.deref.ensures e.refused in
-    rw (sym c.self.view_is) (after_load s.dwarf.value s.units.dw_units.items s.units.units.items s.units.entries.items s.units.ranges s.sup_units c.self.invariant now.units.items e.units now.entries.items s.looks n given c.load_unit.result answers refused e.others (λ h. (e.same h).0) many)
+    rw (sym c.self.view_is) (after_load s.dwarf.value s.units.dw_units.items s.units.units.items s.units.entries.items s.units.ranges s.sup_units c.self.invariant now.units.items e.units now.entries.items s.looks n given c.load_unit.result answers begun refused e.others (λ h. (e.same h).0) many)
 
 pub returns-clause-memory : goal.returns-clause-memory
 returns-clause-memory g c =

@@ -38,7 +38,7 @@ returns-clause-after g c =
     let now = c.read_functions.new.self in
     let answers = subst (λ d. IsNotOom c.read_functions.result → answers_in now.entries.items ≡ answers_after c.args.reads (scope_in d s.units.dw_units.items s.sup_units) s.units.dw_units.items (answers_in s.units.entries.items)) c.deref.ensures e.answers in
     let only = subst (λ d. ChangesOnly (AreReadBefore c.args.reads (scope_in d s.units.dw_units.items s.sup_units) s.units.dw_units.items (answers_in s.units.entries.items)) s.units.entries.items now.entries.items) c.deref.ensures e.only in
-    let begun = subst (λ d. AreFirstDecided d s.units.dw_units.items (answers_in s.units.entries.items) (answers_in now.entries.items)) c.deref.ensures e.memory_answers in
+    let begun = subst (λ d. AreFirstDecided c.args.reads (scope_in d s.units.dw_units.items s.sup_units) s.units.dw_units.items (answers_in s.units.entries.items) (answers_in now.entries.items)) c.deref.ensures e.begun in
     rw (sym c.self.view_is) (after_parse s.dwarf.value s.units.dw_units.items s.units.units.items s.units.entries.items s.units.ranges s.sup_units c.self.invariant now.units.items e.units now.entries.items s.looks c.args.reads c.read_functions.result answers begun e.stay e.read e.memory only)
 
 pub returns-clause-known : goal.returns-clause-known

@@ -1,0 +1,103 @@
+-- One answer more of a lookup, and one call more of a history (on specs/History.antt).
+use Rattle.std.proofs.Common.{◌≡◌, ◌≢◌, ◌⊎◌, inl, inr, ℕ, zero, suc, ◌+◌, ◌<◌, ◌≤◌, arith, add-one, append_assoc, Bool, true, false, List, [], ◌∷◌, ◌++◌, drop, get_or, length, map, take, Option, Some, None, Result, Ok, Err, refl, sym, ap, subst, ◌∙◌}
+use Rattle.std.proofs.Math.Seq.{drop-cons}
+use Rattle.std.proofs.lemmas.List.{append-nil, get_or-map, length-map, take-append-drop, take_more}
+use Rattle.std.specs.Prelude.{IfErr, IfOk, OnOk}
+use Rattle.gimli_read.specs.declared.error.Error.{Error}
+use Rattle.gimli_read.specs.declared.error.Error.TheVariants.{OutOfMemory}
+use Rattle.gimli_read.specs.Reading.{◌>>=◌, ExactlyUnlessOom}
+use Rattle.gimli.specs.Sections.{Sections}
+use Rattle.addr2line_units.specs.declared.frames_lookup.Faults.{Faults}
+use Rattle.addr2line_units.specs.FramesLookup.{Stop, Waits, Finds, FindsNothing, is_waiting}
+use Rattle.addr2line_units.specs.Parsed.{IsNotOom, StaysParsed, has_parsed}
+use Rattle.addr2line.specs.Answers.{AfterAnswer, AfterResume, SuspendsAgain, answered}
+use Rattle.addr2line.specs.Context.{ContextState}
+use Rattle.addr2line.specs.History.{Given, Gives, GivesUp, HasBegun, HistoryCall, AsksLocation, AsksRange, AsksFrames, AsksUnit, AsksLoads, AnswersLoad, Forgets, ParsesLines, ParsesFunctions, IsCutShort, StaysMade, answers_given, answers_left, where_waiting}
+use Rattle.addr2line.specs.Lookups.{AfterFrames, FirstAnswers, frames_told, lookup_stop}
+
+-- where a lookup waits it goes on
+where_waits : {X : Type 0} (f : ℕ → X) (x : X) (s : Result Stop Error) (n : ℕ) → s ≡ Ok (Waits n) → where_waiting f x s ≡ f n
+where_waits f x s n e = ap (where_waiting f x) e
+
+-- where it has ended it doesn't
+where_ended : {X : Type 0} (f : ℕ → X) (x : X) (s : Result Stop Error) → is_waiting s ≡ false → where_waiting f x s ≡ x
+where_ended f x (Ok (Waits n)) e = absurd cc
+where_ended f x (Ok (Finds n frames)) e = refl
+where_ended f x (Ok FindsNothing) e = refl
+where_ended f x (Err e) h = refl
+
+module _ (faults : Faults) (d : Sections) (probe : ℕ) where
+  -- a lookup that waits, given one more answer
+  pub given_one : (answers : FirstAnswers) (n : ℕ) (x : Option Sections) (given : List Given) → lookup_stop faults d answers probe ≡ Ok (Waits n)
+      → answers_given faults d probe answers (Gives x ∷ given) ≡ answers_given faults d probe (answered d answers n x) given
+  given_one answers n x given e = where_waits (λ k. answers_given faults d probe (answered d answers k x) given) answers _ n e
+
+  -- a lookup that has ended takes no more answers
+  pub given_ended : (answers : FirstAnswers) (given : List Given) → is_waiting (lookup_stop faults d answers probe) ≡ false → answers_given faults d probe answers given ≡ answers
+  given_ended answers [] e = refl
+  given_ended answers (GivesUp ∷ given) e = refl
+  given_ended answers (Gives x ∷ given) e = where_ended (λ k. answers_given faults d probe (answered d answers k x) given) answers _ e
+
+-- the answers of a list, one by one
+module _ {A B : Type 0} (f : A → B) (xs : List A) (i : ℕ) (a : A) (h : i < length xs) (e : a ≡ get_or xs i a) where
+  inside : i < length (map f xs)
+  inside = rw (length-map xs f) h
+
+  element_is : get_or (map f xs) i (f a) ≡ f a
+  element_is = get_or-map f xs i a (f a) h ∙ ap f (sym e)
+
+  pub drop_one : drop i (map f xs) ≡ f a ∷ drop (i + 1) (map f xs)
+  drop_one = rw add-one (drop-cons (map f xs) i (f a) inside ∙ ap (λ y. y ∷ drop (suc i) (map f xs)) element_is)
+
+  take_one : take (i + 1) (map f xs) ≡ take i (map f xs) ++ (f a ∷ [])
+  take_one = take_more (map f xs) i (f a) inside ∙ ap (λ y. take i (map f xs) ++ (y ∷ [])) element_is
+
+  pub take_then : (rest : List B) → take (i + 1) (map f xs) ++ rest ≡ take i (map f xs) ++ (f a ∷ rest)
+  take_then rest = ap (λ ys. ys ++ rest) take_one ∙ append_assoc (take i (map f xs)) (f a ∷ []) rest
+
+  pub take_drop_one : take i (map f xs) ++ (f a ∷ drop (i + 1) (map f xs)) ≡ map f xs
+  take_drop_one = ap (λ ys. take i (map f xs) ++ ys) (sym drop_one) ∙ take-append-drop i (map f xs)
+
+-- what a lookup has been given so far, and what is left
+abbrev pub HasGiven : Faults → Sections → ℕ → FirstAnswers → List Given → FirstAnswers → Type 0
+HasGiven faults d probe first given now =
+    (rest : List Given) → answers_given faults d probe first (given ++ rest) ≡ answers_given faults d probe now rest
+
+module _ (faults : Faults) (d : Sections) (probe : ℕ) (first now : FirstAnswers) (given : List Given) (so : HasGiven faults d probe first given now) where
+  -- nothing more is given
+  pub given_all : answers_given faults d probe first given ≡ now
+  given_all = ap (answers_given faults d probe first) (sym (append-nil given)) ∙ so []
+
+  pub given_up : (rest all : List Given) → given ++ (GivesUp ∷ rest) ≡ all → answers_given faults d probe first all ≡ now
+  given_up rest all e = ap (answers_given faults d probe first) (sym e) ∙ so (GivesUp ∷ rest)
+
+  -- one more answer is given
+  module _ (n : ℕ) (x : Option Sections) (waits : lookup_stop faults d now probe ≡ Ok (Waits n)) where
+    pub given_more : (more : List Given) → ((rest : List Given) → more ++ rest ≡ given ++ (Gives x ∷ rest)) → HasGiven faults d probe first more (answered d now n x)
+    given_more more e rest = ap (answers_given faults d probe first) (e rest) ∙ so (Gives x ∷ rest) ∙ given_one faults d probe now n x rest waits
+
+    pub given_last : (rest all : List Given) → given ++ (Gives x ∷ rest) ≡ all → is_waiting (lookup_stop faults d (answered d now n x) probe) ≡ false → answers_given faults d probe first all ≡ answered d now n x
+    given_last rest all e ended = ap (answers_given faults d probe first) (sym e) ∙ so (Gives x ∷ rest) ∙ given_one faults d probe now n x rest waits ∙ given_ended faults d probe (answered d now n x) rest ended
+
+-- a context after an answer with which a lookup went on
+module _ {X : Type 0} (faults : Faults) (probe n : ℕ) (x : Option Sections) (o : Result X Error) (old new : ContextState) (after : AfterResume faults probe n x o old new) where
+  pub resumed_sections : new.sections ≡ old.sections
+  resumed_sections = elim after [ inl (mid, a, b) ↦ b.sections ∙ a.sections | inr (e, a) ↦ a.sections ]
+
+  pub resumed_parsed : StaysParsed old.parsed new.parsed
+  resumed_parsed = elim after [
+    | inl (mid, a, b) ↦ λ k h. b.parsed k (subst (λ p. has_parsed p k ≡ true) (sym a.parsed) h)
+    | inr (e, a) ↦ λ k h. subst (λ p. has_parsed p k ≡ true) (sym a.parsed) h
+  ]
+
+  pub resumed_answers : IsNotOom o → new.answers ≡ answered old.sections old.answers n x
+  resumed_answers told = elim after [
+    | inl (mid, a, b) ↦ b.answers ∙ a.answers
+    | inr (e, a) ↦ absurd (subst IsNotOom e told refl)
+  ]
+
+  pub resumed_begun : (new.answers ≡ old.answers) ⊎ (new.answers ≡ answered old.sections old.answers n x)
+  resumed_begun = elim after [
+    | inl (mid, a, b) ↦ inr (b.answers ∙ a.answers)
+    | inr (e, a) ↦ inl (a.refused.1)
+  ]

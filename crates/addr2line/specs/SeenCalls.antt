@@ -1,0 +1,34 @@
+-- Recorded calls and answers, as contracts see them.
+use Rattle.std.specs.Prelude.{map, Option, Some, None, option_map}
+use Rattle.gimli.specs.Sections.{Sections}
+use Rattle.addr2line_units.specs.declared.parses.Reads.TheVariants.{Details, Functions}
+use Rattle.addr2line_units.specs.Loads.{token_number}
+use Rattle.addr2line.specs.declared.session.Answer.{Answer}
+use Rattle.addr2line.specs.declared.session.Answer.TheVariants.{Give, Abandon}
+use Rattle.addr2line.specs.declared.session.Call.{Call}
+use Rattle.addr2line.specs.declared.session.Call.TheVariants as calls
+use Rattle.addr2line.specs.History.{Given, Gives, GivesUp, HistoryCall, AsksLocation, AsksRange, AsksFrames, AsksUnit, AsksLoads, AnswersLoad, Forgets, ParsesLines, ParsesFunctions}
+
+-- what is given: sections or none, or nothing where a lookup is given up
+abbrev pub given_by : Option (Option Sections) → Given
+given_by None = GivesUp
+given_by (Some sections) = Gives sections
+
+-- an answer
+abbrev pub seen_given : {R : Type 0} → Answer R → Given
+seen_given (Give sections) = Gives (option_map (λ d. d.value) sections)
+seen_given Abandon = GivesUp
+
+-- a call
+abbrev pub seen_call : {R : Type 0} → Call R → HistoryCall
+seen_call (calls.Location probe) = AsksLocation probe
+seen_call (calls.LocationRange low high) = AsksRange low high
+seen_call (calls.Frames probe answers) = AsksFrames probe (map seen_given answers.items)
+seen_call (calls.Unit probe answers) = AsksUnit probe (map seen_given answers.items)
+seen_call (calls.Preload probe) = AsksLoads probe
+seen_call (calls.LoadUnit unit sections) =
+    AnswersLoad (token_number unit) (option_map (λ d. d.value) sections)
+seen_call (calls.Forget unit) = Forgets (token_number unit)
+seen_call calls.ParseLines = ParsesLines
+seen_call calls.ParseFunctions = ParsesFunctions Functions
+seen_call calls.ParseInlinedFunctions = ParsesFunctions Details

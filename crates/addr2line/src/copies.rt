@@ -1,0 +1,260 @@
+//! Owned copies of what calls of a context lend.
+
+ghost use Rattle.std.specs.Prelude.{◌≡◌, List, Option, None, Some, Result, Ok, Err, IfErr, IfOk, IsOk, OnOk, map, option_map, true};
+ghost use Rattle.gimli_read.specs.declared.error.Error.{Error};
+ghost use Rattle.gimli_read.specs.declared.error.Error.TheVariants.{OutOfMemory};
+ghost use Rattle.gimli_read.specs.Reading.{◌>>=◌, ExactlyUnlessOom};
+ghost use Rattle.gimli.specs.Sections.{Sections};
+ghost use Rattle.gimli.specs.Unit.{UnitRecord};
+ghost use Rattle.addr2line_lines.specs.Location.{Location};
+ghost use Rattle.addr2line_lines.specs.Rows.{result_map};
+ghost use Rattle.addr2line_lines.specs.SeenLocation.{seen_location};
+ghost use Rattle.addr2line_units.specs.FramesLeft.{frames_left};
+ghost use Rattle.addr2line_units.specs.FramesLookup.{Stop, is_waiting};
+ghost use Rattle.addr2line_units.specs.KeptViews.{seen_load};
+ghost use Rattle.addr2line_units.specs.LocationsLeft.{locations_left};
+ghost use Rattle.addr2line_units.specs.Parsed.{IsNotOom};
+ghost use Rattle.addr2line_units.specs.RangeLookup.{seen_span};
+ghost use Rattle.addr2line_units.specs.SeenFrame.{seen_frame, seen_name};
+ghost use Rattle.addr2line_units.specs.SeenUnit.{seen_found, seen_unit};
+ghost use Rattle.addr2line.specs.Lookups.{frames_told};
+ghost use Rattle.addr2line.specs.Replies.{Located, Ranged, Listed, Ended, bytes_of, copied_frame, copied_load, copied_name, copied_unit, reply_of_frames, reply_of_unit};
+ghost use Rattle.addr2line.specs.SeenReplies.{seen_owned_frame, seen_owned_load, seen_owned_location, seen_owned_name, seen_owned_span, seen_owned_unit, seen_reply};
+
+use crate::reply::{FoundUnit, OwnedFrame, OwnedLoad, OwnedLocation, OwnedName, OwnedSpan, Reply};
+use addr2line_lines::Location;
+use addr2line_units::range::LocationRangeIter;
+use addr2line_units::view::SplitDwarfLoad;
+use addr2line_units::{Frame, FrameIter, FunctionName};
+use gimli::UnitRef;
+use gimli::read::{Error, Reader};
+use std::alloc::{AllocError, Global};
+
+// The bytes of a reader, if there is one.
+fn copy_bytes<R: Reader>(alloc: Global, reader: Option<&R>) -> Result<Option<Vec<u8>>, AllocError>
+    ensures gives { IfOk result (λ copy. option_map (λ (v : _). v.items) copy
+        ≡ option_map (λ r. bytes_of (R.section r.now)) reader.entry) }
+{
+    match reader {
+        Some(reader) => Ok(Some(Vec::from_slice(alloc, reader.to_slice())?)),
+        None => Ok(None),
+    }
+}
+
+fn copy_location(alloc: Global, location: Location<'_>) -> Result<OwnedLocation, AllocError>
+    ensures gives { IfOk result (λ copy. seen_owned_location copy ≡ seen_location location.entry) }
+{
+    let file = match location.file {
+        Some(file) => Some(String::from_str(alloc, file)?),
+        None => None,
+    };
+    Ok(OwnedLocation {
+        file,
+        line: location.line,
+        column: location.column,
+    })
+}
+
+fn copy_location_if(
+    alloc: Global,
+    location: Option<Location<'_>>,
+) -> Result<Option<OwnedLocation>, AllocError>
+    ensures gives { IfOk result (λ copy. option_map seen_owned_location copy
+        ≡ option_map seen_location location.entry) }
+{
+    match location {
+        Some(location) => Ok(Some(copy_location(alloc, location)?)),
+        None => Ok(None),
+    }
+}
+
+fn copy_name<R: Reader>(alloc: Global, name: &FunctionName<'_, R>) -> Result<OwnedName, AllocError>
+    ensures gives { IfOk result (λ copy. seen_owned_name copy
+        ≡ copied_name (seen_name R.section name.now)) }
+{
+    Ok(OwnedName {
+        name: Vec::from_slice(alloc, name.name.to_slice())?,
+        language: name.language,
+    })
+}
+
+fn copy_frame<R: Reader>(alloc: Global, frame: &Frame<'_, R>) -> Result<OwnedFrame, AllocError>
+    ensures gives { IfOk result (λ copy. seen_owned_frame copy
+        ≡ copied_frame (seen_frame R.section frame.now)) }
+{
+    let function = match &frame.function {
+        Some(name) => Some(copy_name(alloc, name)?),
+        None => None,
+    };
+    Ok(OwnedFrame {
+        dw_die_offset: frame.dw_die_offset,
+        function,
+        location: copy_location_if(alloc, frame.location)?,
+    })
+}
+
+fn copy_frames<R: Reader>(alloc: Global, frames: FrameIter<'_, R>) -> Result<Vec<OwnedFrame>, Error>
+    ensures gives { IfOk result (λ copy. map seen_owned_frame copy.items
+        ≡ map copied_frame (frames_left frames.entry)) }
+    ensures refused { IfErr result (λ e. e ≡ OutOfMemory) }
+{
+    let mut frames = frames;
+    let mut copies = Vec::new(alloc);
+    while let Some(frame) = frames.next()? {
+        copies.push(copy_frame(alloc, &frame)?)?;
+    }
+    Ok(copies)
+}
+
+fn copy_span(alloc: Global, span: (u64, u64, Location<'_>)) -> Result<OwnedSpan, AllocError>
+    ensures gives { IfOk result (λ copy. seen_owned_span copy ≡ seen_span span.entry) }
+{
+    let (address, length, location) = span;
+    Ok(OwnedSpan {
+        address,
+        length,
+        location: copy_location(alloc, location)?,
+    })
+}
+
+fn copy_load<R: Reader>(alloc: Global, load: &SplitDwarfLoad<R>) -> Result<OwnedLoad, AllocError>
+    ensures gives { IfOk result (λ copy. seen_owned_load copy
+        ≡ copied_load (seen_load R.section load.now)) }
+{
+    Ok(OwnedLoad {
+        unit: load.unit,
+        dwo_id: load.dwo_id,
+        comp_dir: copy_bytes(alloc, load.comp_dir.as_ref())?,
+        path: copy_bytes(alloc, load.path.as_ref())?,
+    })
+}
+
+// The reply of a lookup of a location. Refused `OutOfMemory` alone.
+pub(crate) fn location_reply(
+    alloc: Global,
+    location: Result<Option<Location<'_>>, Error>,
+) -> Result<Reply, Error>
+    ensures gives { (given : Result (Option Location) Error)
+        → ExactlyUnlessOom (option_map seen_location) location.entry given
+        → IfOk result (λ r. seen_reply r ≡ Located given) }
+    ensures refused { IfErr result (λ e. e ≡ OutOfMemory) }
+{
+    match location {
+        Ok(location) => Ok(Reply::Location(Ok(copy_location_if(alloc, location)?))),
+        Err(Error::OutOfMemory) => Err(Error::OutOfMemory),
+        Err(error) => Ok(Reply::Location(Err(error))),
+    }
+}
+
+// The rows and faults that are left.
+fn copy_rows<R: Reader>(
+    alloc: Global,
+    rows: LocationRangeIter<'_, R>,
+) -> Result<Vec<Result<OwnedSpan, Error>>, Error>
+    ensures gives { IfOk result (λ copies. map (result_map seen_owned_span) copies.items
+        ≡ locations_left rows.entry) }
+    ensures refused { IfErr result (λ e. e ≡ OutOfMemory) }
+{
+    let mut rows = rows;
+    let mut copies = Vec::new(alloc);
+    loop {
+        match rows.next_loc() {
+            Ok(Some(row)) => copies.push(Ok(copy_span(alloc, row)?))?,
+            Ok(None) => return Ok(copies),
+            Err(error) => copies.push(Err(error))?,
+        }
+    }
+}
+
+// The reply of a lookup of a range. Refused `OutOfMemory` alone.
+pub(crate) fn rows_reply<R: Reader>(
+    alloc: Global,
+    rows: Result<LocationRangeIter<'_, R>, Error>,
+) -> Result<Reply, Error>
+    ensures gives { IfOk result (λ r. IfOk rows.entry (λ i. seen_reply r
+        ≡ Ranged (locations_left i))) }
+    ensures read { OnOk result (IsOk rows.entry) }
+    ensures refused { IfErr result (λ e. e ≡ OutOfMemory) }
+{
+    match rows {
+        Ok(rows) => Ok(Reply::Range(copy_rows(alloc, rows)?)),
+        Err(_) => Err(Error::OutOfMemory),
+    }
+}
+
+// The reply of a lookup of frames that has ended. Refused `OutOfMemory` alone.
+pub(crate) fn frames_reply<R: Reader>(
+    alloc: Global,
+    frames: Result<FrameIter<'_, R>, Error>,
+) -> Result<Reply, Error>
+    ensures gives { (stop : Result Stop Error)
+        → ExactlyUnlessOom (λ i. Some (frames_left i)) frames.entry
+        (stop >>= λ s. Ok (frames_told s))
+        → IfOk result (λ r. seen_reply r ≡ reply_of_frames stop) }
+    ensures refused { IfErr result (λ e. e ≡ OutOfMemory) }
+{
+    match frames {
+        Ok(frames) => Ok(Reply::Frames(Ok(copy_frames(alloc, frames)?))),
+        Err(Error::OutOfMemory) => Err(Error::OutOfMemory),
+        Err(error) => Ok(Reply::Frames(Err(error))),
+    }
+}
+
+fn found_unit<R: Reader>(found: UnitRef<'_, R>) -> FoundUnit
+    ensures gives { seen_owned_unit result ≡ copied_unit (seen_unit found.entry) }
+{
+    let dwarf = found.dwarf;
+    let unit = found.unit;
+    let header = &unit.header;
+    FoundUnit {
+        file_type: dwarf.file_type,
+        offset: header.offset(),
+    }
+}
+
+// The reply of a lookup of a unit that has ended. Refused `OutOfMemory` alone.
+pub(crate) fn unit_reply<R: Reader>(
+    unit: Result<Option<UnitRef<'_, R>>, Error>,
+) -> Result<Reply, Error>
+    ensures gives { (stop : Result Stop Error)
+        (given : Result (Option (Option (Sections × UnitRecord))) Error)
+        → ExactlyUnlessOom seen_found unit.entry given
+        → (is_waiting stop ≡ true → given ≡ Ok None)
+        → IfOk result (λ r. seen_reply r ≡ reply_of_unit stop given) }
+    ensures refused { IfErr result (λ e. e ≡ OutOfMemory) }
+{
+    match unit {
+        Ok(Some(found)) => Ok(Reply::Unit(Some(found_unit(found)))),
+        Ok(None) => Ok(Reply::Unit(None)),
+        Err(_) => Err(Error::OutOfMemory),
+    }
+}
+
+// The reply that lists loads. Refused `OutOfMemory` alone.
+pub(crate) fn loads_reply<R: Reader>(
+    alloc: Global,
+    loads: &[SplitDwarfLoad<R>],
+) -> Result<Reply, Error>
+    ensures gives { IfOk result (λ r. seen_reply r
+        ≡ Listed (map copied_load (map (seen_load R.section) loads.now))) }
+    ensures refused { IfErr result (λ e. e ≡ OutOfMemory) }
+{
+    let mut copies = Vec::new(alloc);
+    for load in loads {
+        copies.push(copy_load(alloc, load)?)?;
+    }
+    Ok(Reply::Preload(copies))
+}
+
+// The reply of a call that gives nothing. Refused `OutOfMemory` alone.
+pub(crate) fn done_reply(done: Result<(), Error>) -> Result<Reply, Error>
+    ensures gives { (given : Result (Unit {0}) Error) → ExactlyUnlessOom (λ x. x) done given
+        → IfOk result (λ r. seen_reply r ≡ Ended given) }
+    ensures told { OnOk result (IsNotOom done) }
+    ensures refused { IfErr result (λ e. (e ≡ OutOfMemory) × (done ≡ Err OutOfMemory)) }
+{
+    match done {
+        Err(Error::OutOfMemory) => Err(Error::OutOfMemory),
+        done => Ok(Reply::Done(done)),
+    }
+}

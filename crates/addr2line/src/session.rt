@@ -1,0 +1,266 @@
+//! Calls of a context that were recorded, made again.
+
+ghost use Rattle.std.specs.Prelude.{◌≡◌, IfErr, IfOk, OnOk, map, option_map};
+ghost use Rattle.gimli_read.specs.declared.error.Error.TheVariants.{OutOfMemory};
+ghost use Rattle.addr2line_units.specs.declared.frames_lookup.Faults.TheVariants.{End, PassOver};
+ghost use Rattle.addr2line_units.specs.Loads.{token_number};
+ghost use Rattle.addr2line.specs.Answers.{answered};
+ghost use Rattle.addr2line.specs.History.{AnswersLoad, AsksFrames, AsksUnit, HasBegun, IsCutShort, StaysMade, answers_after, answers_given, answers_left, frames_replied, replies_to, reply_to, unit_replied};
+ghost use Rattle.addr2line.specs.Loads.{load_reply};
+ghost use Rattle.addr2line.specs.Lookups.{loads_of};
+ghost use Rattle.addr2line.specs.Replies.{Ended, Listed, copied_load};
+ghost use Rattle.addr2line.specs.SeenCalls.{given_by, seen_call, seen_given};
+ghost use Rattle.addr2line.specs.SeenReplies.{seen_reply};
+
+use crate::context::Context;
+use crate::copies::{
+    done_reply, frames_reply, loads_reply, location_reply, rows_reply, unit_reply,
+};
+use crate::reply::Reply;
+use addr2line_units::continuation::{LookupContinuation, LookupResult};
+use addr2line_units::view::UnitToken;
+use gimli::Dwarf;
+use gimli::read::{Error, Reader};
+use std::rc::Rc;
+
+/// What a lookup is given that waits for a split file.
+#[derive(Drop)]
+pub enum Answer<R: Reader> {
+    /// The sections of the split file, or none.
+    Give(Option<Rc<Dwarf<R>>>),
+    /// The lookup is given up, and its unit stays open.
+    Abandon,
+}
+
+/// A call of a context. Addresses are as the file has them.
+#[derive(Drop)]
+pub enum Call<R: Reader> {
+    /// `find_location` of an address.
+    Location(u64),
+    /// `find_location_range` from an address up to another.
+    LocationRange(u64, u64),
+    /// `find_frames` of an address, with the answers to its loads in turn. Where none is left the
+    /// lookup is given up.
+    Frames(u64, Vec<Answer<R>>),
+    /// `find_dwarf_and_unit` of an address, with the answers to its loads in turn.
+    Unit(u64, Vec<Answer<R>>),
+    /// `preload_units` of an address.
+    Preload(u64),
+    /// `load_unit` of a unit with the sections of its split file, or none.
+    LoadUnit(UnitToken, Option<Rc<Dwarf<R>>>),
+    /// `forget` of a unit.
+    Forget(UnitToken),
+    /// `parse_lines`.
+    ParseLines,
+    /// `parse_functions`.
+    ParseFunctions,
+    /// `parse_inlined_functions`.
+    ParseInlinedFunctions,
+}
+
+// The sections that are given, shared.
+fn share<R: Reader>(sections: &Option<Rc<Dwarf<R>>>) -> Result<Option<Rc<Dwarf<R>>>, Error>
+    ensures gives { IfOk result (λ shared. option_map (λ d. d.value) shared
+        ≡ option_map (λ d. d.value) sections.now) }
+    ensures refused { IfErr result (λ e. e ≡ OutOfMemory) }
+{
+    match sections {
+        Some(sections) => match sections.clone() {
+            Ok(sections) => Ok(Some(sections)),
+            Err(_) => Err(Error::OutOfMemory),
+        },
+        None => Ok(None),
+    }
+}
+
+// What an answer gives: sections or none; nothing where the lookup is given up.
+fn share_given<R: Reader>(answer: &Answer<R>) -> Result<Option<Option<Rc<Dwarf<R>>>>, Error>
+    ensures gives { IfOk result (λ given. given_by (option_map (option_map (λ d. d.value)) given)
+        ≡ seen_given answer.now) }
+    ensures refused { IfErr result (λ e. e ≡ OutOfMemory) }
+{
+    match answer {
+        Answer::Give(sections) => Ok(Some(share(sections)?)),
+        Answer::Abandon => Ok(None),
+    }
+}
+
+// `find_frames` with answers to its loads in turn; where none is left it is given up.
+fn replay_frames<R: Reader>(
+    context: &mut Context<R>,
+    probe: u64,
+    answers: &[Answer<R>],
+) -> Result<Reply, Error>
+    ensures gives { IfOk result (λ r. seen_reply r ≡ frames_replied context.old.sections probe
+        (answers_given End context.old.sections probe context.old.answers
+        (map seen_given answers.now))) }
+    ensures answers { OnOk result (context.new.answers ≡ answers_given End context.old.sections
+        probe context.old.answers (map seen_given answers.now)) }
+    ensures refused { IfErr result (λ e. (e ≡ OutOfMemory) × HasBegun context.old.sections
+        context.old.answers (AsksFrames probe (map seen_given answers.now)) context.new.answers) }
+    ensures stays { StaysMade context.old context.new }
+{
+    let alloc = context.alloc;
+    let mut next = match context.find_frames(probe) {
+        LookupResult::Load { continuation } => continuation,
+        LookupResult::Output(frames) => {
+            return frames_reply(alloc, frames);
+        }
+    };
+    for answer in answers {
+        match share_given(answer) {
+            Ok(Some(input)) => {
+                next = match next.resume(input) {
+                    LookupResult::Load { continuation } => continuation,
+                    LookupResult::Output(frames) => {
+                        return frames_reply(alloc, frames);
+                    }
+                };
+            }
+            Ok(None) => {
+                let unit = next.load().unit;
+                next.abandon();
+                return Ok(Reply::Suspended(unit));
+            }
+            Err(error) => {
+                next.abandon();
+                return Err(error);
+            }
+        }
+    }
+    let unit = next.load().unit;
+    next.abandon();
+    Ok(Reply::Suspended(unit))
+}
+
+// `find_dwarf_and_unit` with answers to its loads in turn; where none is left it is given up.
+fn replay_unit<R: Reader>(
+    context: &mut Context<R>,
+    probe: u64,
+    answers: &[Answer<R>],
+) -> Result<Reply, Error>
+    ensures gives { IfOk result (λ r. seen_reply r ≡ unit_replied context.old.sections probe
+        (answers_given PassOver context.old.sections probe context.old.answers
+        (map seen_given answers.now))) }
+    ensures answers { OnOk result (context.new.answers ≡ answers_given PassOver
+        context.old.sections probe context.old.answers (map seen_given answers.now)) }
+    ensures refused { IfErr result (λ e. (e ≡ OutOfMemory) × HasBegun context.old.sections
+        context.old.answers (AsksUnit probe (map seen_given answers.now)) context.new.answers) }
+    ensures stays { StaysMade context.old context.new }
+{
+    let mut next = match context.find_dwarf_and_unit(probe) {
+        LookupResult::Load { continuation } => continuation,
+        LookupResult::Output(unit) => {
+            return unit_reply(unit);
+        }
+    };
+    for answer in answers {
+        match share_given(answer) {
+            Ok(Some(input)) => {
+                next = match next.resume(input) {
+                    LookupResult::Load { continuation } => continuation,
+                    LookupResult::Output(unit) => {
+                        return unit_reply(unit);
+                    }
+                };
+            }
+            Ok(None) => {
+                let unit = next.load().unit;
+                next.abandon();
+                return Ok(Reply::Suspended(unit));
+            }
+            Err(error) => {
+                next.abandon();
+                return Err(error);
+            }
+        }
+    }
+    let unit = next.load().unit;
+    next.abandon();
+    Ok(Reply::Suspended(unit))
+}
+
+// `preload_units` of an address.
+fn replay_preload<R: Reader>(context: &mut Context<R>, probe: u64) -> Result<Reply, Error>
+    ensures gives { IfOk result (λ r. seen_reply r ≡ Listed (map copied_load
+        (loads_of context.old.sections context.old.answers probe))) }
+    ensures answers { context.new.answers ≡ context.old.answers }
+    ensures refused { IfErr result (λ e. e ≡ OutOfMemory) }
+    ensures stays { StaysMade context.old context.new }
+{
+    let alloc = context.alloc;
+    let loads = context.preload_units(probe)?;
+    loads_reply(alloc, loads.as_slice())
+}
+
+// `load_unit` of a unit.
+fn replay_load<R: Reader>(
+    context: &mut Context<R>,
+    unit: UnitToken,
+    sections: &Option<Rc<Dwarf<R>>>,
+) -> Result<Reply, Error>
+    ensures gives { IfOk result (λ r. seen_reply r ≡ Ended (load_reply context.old.sections
+        context.old.answers (token_number unit) (option_map (λ d. d.value) sections.now))) }
+    ensures answers { OnOk result (context.new.answers ≡ answered context.old.sections
+        context.old.answers (token_number unit) (option_map (λ d. d.value) sections.now)) }
+    ensures refused { IfErr result (λ e. (e ≡ OutOfMemory) × HasBegun context.old.sections
+        context.old.answers (AnswersLoad (token_number unit)
+        (option_map (λ d. d.value) sections.now)) context.new.answers) }
+    ensures stays { StaysMade context.old context.new }
+{
+    let sections = share(sections)?;
+    done_reply(context.load_unit(unit, sections))
+}
+
+// Makes one call.
+fn make_call<R: Reader>(context: &mut Context<R>, call: &Call<R>) -> Result<Reply, Error>
+    ensures gives { IfOk result (λ r. seen_reply r
+        ≡ reply_to context.old.sections context.old.answers (seen_call call.now)) }
+    ensures answers { OnOk result (context.new.answers
+        ≡ answers_left context.old.sections context.old.answers (seen_call call.now)) }
+    ensures refused { IfErr result (λ e. (e ≡ OutOfMemory) × HasBegun context.old.sections
+        context.old.answers (seen_call call.now) context.new.answers) }
+    ensures stays { StaysMade context.old context.new }
+{
+    let alloc = context.alloc;
+    match call {
+        Call::Location(probe) => location_reply(alloc, context.find_location(*probe)),
+        Call::LocationRange(low, high) => {
+            rows_reply(alloc, context.find_location_range(*low, *high))
+        }
+        Call::Frames(probe, answers) => replay_frames(context, *probe, answers.as_slice()),
+        Call::Unit(probe, answers) => replay_unit(context, *probe, answers.as_slice()),
+        Call::Preload(probe) => replay_preload(context, *probe),
+        Call::LoadUnit(unit, sections) => replay_load(context, *unit, sections),
+        Call::Forget(unit) => Ok(Reply::Done(context.forget(*unit))),
+        Call::ParseLines => done_reply(context.parse_lines()),
+        Call::ParseFunctions => done_reply(context.parse_functions()),
+        Call::ParseInlinedFunctions => done_reply(context.parse_inlined_functions()),
+    }
+}
+
+/// Makes calls in their order, through the public calls of the context alone, and gives one reply
+/// for each.
+///
+/// Each reply is the one that plain filters over entries and rows give by the sections and, of each
+/// unit, the first answer to its load since it was last forgotten.
+///
+/// Refused `OutOfMemory` alone, where a growth was refused: the calls up to that one were made, and
+/// it may have begun. The same calls can be made again.
+///
+/// Source: own.
+pub fn replay<R: Reader>(context: &mut Context<R>, calls: &[Call<R>]) -> Result<Vec<Reply>, Error>
+    ensures gives { IfOk result (λ replies. map seen_reply replies.items
+        ≡ replies_to context.old.sections context.old.answers (map seen_call calls.now)) }
+    ensures answers { OnOk result (context.new.answers ≡ answers_after context.old.sections
+        context.old.answers (map seen_call calls.now)) }
+    ensures refused { IfErr result (λ e. (e ≡ OutOfMemory) × IsCutShort context.old.sections
+        context.old.answers (map seen_call calls.now) context.new.answers) }
+    ensures stays { StaysMade context.old context.new }
+{
+    let mut replies = Vec::with_capacity(context.alloc, calls.len())?;
+    for call in calls {
+        replies.push(make_call(context, call)?)?;
+    }
+    Ok(replies)
+}

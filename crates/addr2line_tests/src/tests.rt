@@ -15,6 +15,7 @@ mod range_attributes;
 mod refused_growths;
 mod replies;
 mod sections;
+mod session;
 mod split_units;
 mod unit_index;
 mod units;

@@ -55,8 +55,8 @@ pub enum Call {
 /// What calls are made with: the tokens of the units 0 and 1, and the sections of the split file.
 #[derive(Drop)]
 pub struct Given<R: Reader> {
-    tokens: [UnitToken; 2],
-    split: Rc<Dwarf<R>>,
+    pub tokens: [UnitToken; 2],
+    pub split: Rc<Dwarf<R>>,
 }
 
 // A lookup that has ended, or its load; then it is dropped.
@@ -245,7 +245,8 @@ fn tokens(alloc: Global) -> Result<[UnitToken; 2], Error> {
     }
 }
 
-fn given_of<R: Reader>(alloc: Global, split: Dwarf<R>) -> Result<Given<R>, Error> {
+/// What calls are made with, with these sections of the split file.
+pub fn given_of<R: Reader>(alloc: Global, split: Dwarf<R>) -> Result<Given<R>, Error> {
     let mut split = split;
     split.file_type = DwarfFileType::Dwo;
     let split = Rc::new(alloc, split)?;

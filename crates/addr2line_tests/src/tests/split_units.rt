@@ -6,15 +6,15 @@ use super::replies::{Answer, Call, TWO_WAITING_INFO, WAITING_ABBREV, told};
 use super::sections::{dwarf_of, shared_dwarf_of};
 use std::alloc::Global;
 
-// The unit [0x10, 0x30) in "/w", which waits for "s.dwo".
-const MAIN_INFO: &[u8] = b"\x2a\0\0\0\x05\0\x04\x08\0\0\0\0\x88\x77\x66\x55\x44\x33\x22\x11\
+/// The unit [0x10, 0x30) in "/w", which waits for "s.dwo".
+pub const MAIN_INFO: &[u8] = b"\x2a\0\0\0\x05\0\x04\x08\0\0\0\0\x88\x77\x66\x55\x44\x33\x22\x11\
     \x01\0\0\0\0/w\0s.dwo\0\x10\0\0\0\0\0\0\0\x20\0\0\0";
 
-// A root entry with a language, and a function with a name and a range.
-const SPLIT_ABBREV: &[u8] = b"\x01\x11\x01\x13\x05\0\0\x02\x2e\0\x03\x08\x11\x01\x12\x06\0\0\0";
+/// A root entry with a language, and a function with a name and a range.
+pub const SPLIT_ABBREV: &[u8] = b"\x01\x11\x01\x13\x05\0\0\x02\x2e\0\x03\x08\x11\x01\x12\x06\0\0\0";
 
-// The split unit: "h" [0x10, 0x30) at 0x17.
-const SPLIT_INFO: &[u8] = b"\x23\0\0\0\x05\0\x05\x08\0\0\0\0\x88\x77\x66\x55\x44\x33\x22\x11\
+/// The split unit: "h" [0x10, 0x30) at 0x17.
+pub const SPLIT_INFO: &[u8] = b"\x23\0\0\0\x05\0\x05\x08\0\0\0\0\x88\x77\x66\x55\x44\x33\x22\x11\
     \x01\x1c\0\x02h\0\x10\0\0\0\0\0\0\0\x20\0\0\0\0";
 
 // The lookup waits for a load: its identifier, and that its names are these.

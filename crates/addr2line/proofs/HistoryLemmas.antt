@@ -12,7 +12,7 @@ use Rattle.addr2line_units.specs.FramesLookup.{Stop, Waits, Finds, FindsNothing,
 use Rattle.addr2line_units.specs.Parsed.{IsNotOom, StaysParsed, has_parsed}
 use Rattle.addr2line.specs.Answers.{AfterAnswer, AfterResume, SuspendsAgain, answered}
 use Rattle.addr2line.specs.Context.{ContextState}
-use Rattle.addr2line.specs.History.{Given, Gives, GivesUp, HasBegun, HistoryCall, AsksLocation, AsksRange, AsksFrames, AsksUnit, AsksLoads, AnswersLoad, Forgets, ParsesLines, ParsesFunctions, IsCutShort, StaysMade, answers_given, answers_left, where_waiting}
+use Rattle.addr2line.specs.History.{Given, Gives, GivesUp, HasBegun, HistoryCall, AsksLocation, AsksRange, AsksFrames, AsksUnit, AsksLoads, AnswersLoad, Forgets, ParsesLines, ParsesFunctions, IsCutShort, answers_given, answers_left, where_waiting}
 use Rattle.addr2line.specs.Lookups.{AfterFrames, FirstAnswers, frames_told, lookup_stop}
 
 -- where a lookup waits it goes on

@@ -6,4 +6,7 @@ pub mod AfterLemmas
 pub mod SkipLemmas
 pub mod ParseLemmas
 pub mod LoadLemmas
-mod HistoryLemmas
+pub mod HistoryLemmas
+pub mod HistoryLawLemmas
+pub mod SkippedLemmas
+pub mod ReplayLemmas

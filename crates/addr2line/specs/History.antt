@@ -3,8 +3,9 @@
 -- its sections and the first answers of its units decides a reply.
 -- Own: a lookup takes the answers that it is given in turn, one for each load that it waits for; it
 -- is left at its load where it is given up, or where no answer is left.
-use Rattle.std.specs.Prelude.{◌≡◌, ◌⊎◌, ℕ, List, [], ◌∷◌, map, take, Option, None, Result, Ok, Err}
+use Rattle.std.specs.Prelude.{◌≡◌, ◌⊎◌, ℕ, List, [], ◌∷◌, map, take, Option, None, IfErr, OnOk, Result, Ok, Err}
 use Rattle.gimli_read.specs.declared.error.Error.{Error}
+use Rattle.gimli_read.specs.declared.error.Error.TheVariants.{OutOfMemory}
 use Rattle.gimli.specs.Sections.{Sections}
 use Rattle.addr2line_units.specs.declared.frames_lookup.Faults.{Faults}
 use Rattle.addr2line_units.specs.declared.frames_lookup.Faults.TheVariants.{End, PassOver}
@@ -120,7 +121,23 @@ IsCutShort d old [] new = new ≡ old
 IsCutShort d old (call ∷ calls) new =
     HasBegun d old call new ⊎ IsCutShort d (answers_left d old call) calls new
 
--- the sections are the same, and what was parsed of lines stays parsed
-pub record StaysMade (old new : ContextState) : Type 0 where
+-- after calls: the first answers are these, or, where a growth was refused, those of calls that
+-- have begun; the sections are the same, and what was parsed of lines stays parsed
+pub record Leaves {X : Type 0} (left : FirstAnswers) (begun : FirstAnswers → Type 0)
+    (result : Result X Error) (old new : ContextState) : Type 0 where
   pub sections : new.sections ≡ old.sections
+  pub answers : OnOk result (new.answers ≡ left)
+  pub refused : IfErr result (λ e. (e ≡ OutOfMemory) × begun new.answers)
   pub parsed : StaysParsed old.parsed new.parsed
+
+-- after one call
+abbrev pub AfterCall : {X : Type 0} → HistoryCall → Result X Error → ContextState → ContextState
+    → Type 0
+AfterCall call result old new = Leaves (answers_left old.sections old.answers call)
+    (HasBegun old.sections old.answers call) result old new
+
+-- after calls
+abbrev pub AfterCalls : {X : Type 0} → List HistoryCall → Result X Error → ContextState
+    → ContextState → Type 0
+AfterCalls calls result old new = Leaves (answers_after old.sections old.answers calls)
+    (IsCutShort old.sections old.answers calls) result old new

@@ -7,5 +7,6 @@ pub mod Loads
 pub mod Replies
 pub mod History
 pub mod Skips
+pub mod HistoryLaws
 pub mod SeenReplies
 pub mod SeenCalls

@@ -3,6 +3,7 @@
 use Rattle.std.specs.Prelude.{ℕ, List, [], map, Option, Some, None, option_map, Result, Ok, Err}
 use Rattle.gimli_read.specs.declared.constants.DwLang.{DwLang}
 use Rattle.gimli_read.specs.declared.error.Error.{Error}
+use Rattle.gimli_read.specs.Reading.{◌>>=◌}
 use Rattle.gimli_read.specs.Section.{Section}
 use Rattle.gimli.specs.declared.dwarf.DwarfFileType.{DwarfFileType}
 use Rattle.gimli.specs.declared.unit.DwoId.{DwoId}
@@ -13,6 +14,7 @@ use Rattle.addr2line_lines.specs.RangeLocations.{LocatedSpan}
 use Rattle.addr2line_units.specs.Frames.{FrameRecord, NameRecord}
 use Rattle.addr2line_units.specs.FramesLookup.{Stop, Waits, Finds, FindsNothing}
 use Rattle.addr2line_units.specs.Views.{SplitLoad}
+use Rattle.addr2line.specs.Lookups.{frames_told}
 
 -- the bytes of a name, and the language of its unit
 pub record CopiedName : Type 0 where
@@ -37,9 +39,13 @@ pub record CopiedLoad : Type 0 where
   pub comp_dir : Option (List ℕ)
   pub path : Option (List ℕ)
 
+-- what a lookup of a location gives
+abbrev pub LocationAnswer : Type 0
+LocationAnswer = Result (Option Location) Error
+
 -- what one call gives
 pub data CopiedReply : Type 0 where
-  Located : Result (Option Location) Error → CopiedReply
+  Located : LocationAnswer → CopiedReply
   Ranged : List (Result LocatedSpan Error) → CopiedReply
   Framed : Result (List CopiedFrame) Error → CopiedReply
   Viewed : Option CopiedUnit → CopiedReply
@@ -75,6 +81,10 @@ copied_load l = record {
   comp_dir = option_map bytes_of l.comp_dir;
   path = option_map bytes_of l.path;
 }
+
+-- the frames of a lookup that has come to this, none where it waits
+abbrev pub frames_at : Result Stop Error → Result (Option (List FrameRecord)) Error
+frames_at stop = stop >>= λ s. Ok (frames_told s)
 
 -- the reply of a lookup of frames that has come to this
 abbrev pub reply_of_frames : Result Stop Error → CopiedReply

@@ -1,12 +1,11 @@
 //! Owned copies of what calls of a context lend.
 
-ghost use Rattle.std.specs.Prelude.{◌≡◌, List, Option, None, Some, Result, Ok, Err, IfErr, IfOk, IsOk, OnOk, map, option_map, true};
+ghost use Rattle.std.specs.Prelude.{◌≡◌, List, Option, None, Some, Result, Ok, Err, IfErr, IfOk, IsOk, OnOk, map, option_map, false, true};
 ghost use Rattle.gimli_read.specs.declared.error.Error.{Error};
 ghost use Rattle.gimli_read.specs.declared.error.Error.TheVariants.{OutOfMemory};
-ghost use Rattle.gimli_read.specs.Reading.{◌>>=◌, ExactlyUnlessOom};
+ghost use Rattle.gimli_read.specs.Reading.{ExactlyUnlessOom};
 ghost use Rattle.gimli.specs.Sections.{Sections};
 ghost use Rattle.gimli.specs.Unit.{UnitRecord};
-ghost use Rattle.addr2line_lines.specs.Location.{Location};
 ghost use Rattle.addr2line_lines.specs.Rows.{result_map};
 ghost use Rattle.addr2line_lines.specs.SeenLocation.{seen_location};
 ghost use Rattle.addr2line_units.specs.FramesLeft.{frames_left};
@@ -17,8 +16,7 @@ ghost use Rattle.addr2line_units.specs.Parsed.{IsNotOom};
 ghost use Rattle.addr2line_units.specs.RangeLookup.{seen_span};
 ghost use Rattle.addr2line_units.specs.SeenFrame.{seen_frame, seen_name};
 ghost use Rattle.addr2line_units.specs.SeenUnit.{seen_found, seen_unit};
-ghost use Rattle.addr2line.specs.Lookups.{frames_told};
-ghost use Rattle.addr2line.specs.Replies.{Located, Ranged, Listed, Ended, bytes_of, copied_frame, copied_load, copied_name, copied_unit, reply_of_frames, reply_of_unit};
+ghost use Rattle.addr2line.specs.Replies.{LocationAnswer, Located, Ranged, Listed, Ended, bytes_of, copied_frame, copied_load, copied_name, copied_unit, frames_at, reply_of_frames, reply_of_unit};
 ghost use Rattle.addr2line.specs.SeenReplies.{seen_owned_frame, seen_owned_load, seen_owned_location, seen_owned_name, seen_owned_span, seen_owned_unit, seen_reply};
 
 use crate::reply::{FoundUnit, OwnedFrame, OwnedLoad, OwnedLocation, OwnedName, OwnedSpan, Reply};
@@ -134,9 +132,10 @@ pub(crate) fn location_reply(
     alloc: Global,
     location: Result<Option<Location<'_>>, Error>,
 ) -> Result<Reply, Error>
-    ensures gives { (given : Result (Option Location) Error)
+    ensures gives { (given : LocationAnswer)
         → ExactlyUnlessOom (option_map seen_location) location.entry given
         → IfOk result (λ r. seen_reply r ≡ Located given) }
+    ensures told { OnOk result (IsNotOom location.entry) }
     ensures refused { IfErr result (λ e. e ≡ OutOfMemory) }
 {
     match location {
@@ -149,13 +148,12 @@ pub(crate) fn location_reply(
 // The rows and faults that are left.
 fn copy_rows<R: Reader>(
     alloc: Global,
-    rows: LocationRangeIter<'_, R>,
+    mut rows: LocationRangeIter<'_, R>,
 ) -> Result<Vec<Result<OwnedSpan, Error>>, Error>
     ensures gives { IfOk result (λ copies. map (result_map seen_owned_span) copies.items
         ≡ locations_left rows.entry) }
     ensures refused { IfErr result (λ e. e ≡ OutOfMemory) }
 {
-    let mut rows = rows;
     let mut copies = Vec::new(alloc);
     loop {
         match rows.next_loc() {
@@ -188,9 +186,9 @@ pub(crate) fn frames_reply<R: Reader>(
     frames: Result<FrameIter<'_, R>, Error>,
 ) -> Result<Reply, Error>
     ensures gives { (stop : Result Stop Error)
-        → ExactlyUnlessOom (λ i. Some (frames_left i)) frames.entry
-        (stop >>= λ s. Ok (frames_told s))
-        → IfOk result (λ r. seen_reply r ≡ reply_of_frames stop) }
+        → ExactlyUnlessOom (λ i. Some (frames_left i)) frames.entry (frames_at stop)
+        → IfOk result (λ r. (seen_reply r ≡ reply_of_frames stop) × (is_waiting stop ≡ false)) }
+    ensures told { OnOk result (IsNotOom frames.entry) }
     ensures refused { IfErr result (λ e. e ≡ OutOfMemory) }
 {
     match frames {
@@ -220,7 +218,9 @@ pub(crate) fn unit_reply<R: Reader>(
         (given : Result (Option (Option (Sections × UnitRecord))) Error)
         → ExactlyUnlessOom seen_found unit.entry given
         → (is_waiting stop ≡ true → given ≡ Ok None)
-        → IfOk result (λ r. seen_reply r ≡ reply_of_unit stop given) }
+        → IfOk result (λ r. (seen_reply r ≡ reply_of_unit stop given)
+        × (is_waiting stop ≡ false)) }
+    ensures told { OnOk result (IsNotOom unit.entry) }
     ensures refused { IfErr result (λ e. e ≡ OutOfMemory) }
 {
     match unit {

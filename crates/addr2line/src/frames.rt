@@ -11,6 +11,7 @@ ghost use Rattle.addr2line_units.specs.Suspended.{IfLoad, IfOutput, SkipsTo};
 ghost use Rattle.addr2line.specs.Answers.{AfterResume, SuspendsAgain, answered};
 ghost use Rattle.addr2line.specs.Borrowed.{RestsAs};
 ghost use Rattle.addr2line.specs.Lookups.{AfterFrames, Suspends, frames_of, loads_of, lookup_stop, waits_for, with_none};
+ghost use Rattle.addr2line.specs.Skips.{AfterSkip, skipped_answers};
 
 use crate::context::Context;
 use crate::continuation::{FramesLookup, FramesLookupWith};
@@ -119,6 +120,21 @@ fn go_on<R: Reader>(
     }
 }
 
+// A lookup of frames from its beginning, of which none is answered to each load.
+fn skip<R: Reader>(ctx: &mut Context<R>, probe: u64) -> LookupResult<FramesLookup<'_, R>>
+    ensures* ends { sem 𝓛 (RestsAs (λ c. c.ctx.ghost_name) R.row R.Reader ctx.entry result
+        (λ o n. AfterSkip End probe o ctx.old n)) }
+    ensures load { IfLoad result (λ c. ⊥) }
+    ensures output { IfOutput result (λ o. ExactlyUnlessOom (λ i. Some (frames_left i)) o
+        (frames_of ctx.old.sections
+        (skipped_answers End ctx.old.sections probe ctx.old.answers) probe)) }
+{
+    match ctx.skip_loads(probe, Faults::End) {
+        Ok(_) => end(ctx, probe),
+        Err(error) => LookupResult::Output(Err(error)),
+    }
+}
+
 impl<'ctx, R: Reader> LookupContinuation for FramesLookup<'ctx, R> {
     type Output = Result<FrameIter<'ctx, R>, Error>;
 
@@ -166,6 +182,32 @@ impl<'ctx, R: Reader> LookupContinuation for FramesLookup<'ctx, R> {
             load: _,
         } = self;
         go_on(ctx, probe, number, input)
+    }
+}
+
+impl<'ctx, R: Reader> FramesLookup<'ctx, R> {
+    /// Answers none to this load and to each later one, and gives the output. The units that waited
+    /// are decided by none, and stay so until they are forgotten.
+    ///
+    /// Refused as `find_frames` is. It is what `skip_all_loads` gives; here it is said too which
+    /// context is left.
+    pub fn skip(self) -> LookupResult<FramesLookup<'ctx, R>>
+        ensures* ends { sem 𝓛 (RestsAs (λ c. c.ctx.ghost_name) R.row R.Reader
+            self.entry.ctx result (λ o n. AfterSkip End self.entry.probe o
+            self.entry.ctx.now n)) }
+        ensures load { IfLoad result (λ c. ⊥) }
+        ensures output { IfOutput result (λ o. ExactlyUnlessOom (λ i. Some (frames_left i)) o
+            (frames_of self.entry.ctx.now.sections (skipped_answers End
+            self.entry.ctx.now.sections self.entry.probe self.entry.ctx.now.answers)
+            self.entry.probe)) }
+    {
+        let FramesLookupWith {
+            ctx,
+            probe,
+            number: _,
+            load: _,
+        } = self;
+        skip(ctx, probe)
     }
 }
 

@@ -6,6 +6,7 @@ mod context;
 mod continuation;
 mod copies;
 mod frames;
+pub mod laws;
 mod loads;
 mod parses;
 mod reply;

@@ -1,14 +1,16 @@
 //! Calls of a context that were recorded, made again.
 
-ghost use Rattle.std.specs.Prelude.{◌≡◌, IfErr, IfOk, OnOk, map, option_map};
+ghost use Rattle.std.specs.Prelude.{◌≡◌, IfErr, IfOk, map, option_map};
 ghost use Rattle.gimli_read.specs.declared.error.Error.TheVariants.{OutOfMemory};
 ghost use Rattle.addr2line_units.specs.declared.frames_lookup.Faults.TheVariants.{End, PassOver};
+ghost use Rattle.addr2line_units.specs.declared.parses.Reads.TheVariants as kinds;
 ghost use Rattle.addr2line_units.specs.Loads.{token_number};
-ghost use Rattle.addr2line.specs.Answers.{answered};
-ghost use Rattle.addr2line.specs.History.{AnswersLoad, AsksFrames, AsksUnit, HasBegun, IsCutShort, StaysMade, answers_after, answers_given, answers_left, frames_replied, replies_to, reply_to, unit_replied};
-ghost use Rattle.addr2line.specs.Loads.{load_reply};
+ghost use Rattle.addr2line_units.specs.Located.{location_of, spans_of};
+ghost use Rattle.addr2line.specs.Context.{lines_of_all};
+ghost use Rattle.addr2line.specs.History.{AfterCall, AfterCalls, AnswersLoad, AsksFrames, AsksLoads, AsksLocation, AsksRange, AsksUnit, Forgets, ParsesFunctions, ParsesLines, answers_given, frames_replied, replies_to, reply_to, unit_replied};
+ghost use Rattle.addr2line.specs.Loads.{forget_reply, load_reply, parse_reply};
 ghost use Rattle.addr2line.specs.Lookups.{loads_of};
-ghost use Rattle.addr2line.specs.Replies.{Ended, Listed, copied_load};
+ghost use Rattle.addr2line.specs.Replies.{Ended, Listed, Located, copied_load, reply_of_range};
 ghost use Rattle.addr2line.specs.SeenCalls.{given_by, seen_call, seen_given};
 ghost use Rattle.addr2line.specs.SeenReplies.{seen_reply};
 
@@ -94,11 +96,8 @@ fn replay_frames<R: Reader>(
     ensures gives { IfOk result (λ r. seen_reply r ≡ frames_replied context.old.sections probe
         (answers_given End context.old.sections probe context.old.answers
         (map seen_given answers.now))) }
-    ensures answers { OnOk result (context.new.answers ≡ answers_given End context.old.sections
-        probe context.old.answers (map seen_given answers.now)) }
-    ensures refused { IfErr result (λ e. (e ≡ OutOfMemory) × HasBegun context.old.sections
-        context.old.answers (AsksFrames probe (map seen_given answers.now)) context.new.answers) }
-    ensures stays { StaysMade context.old context.new }
+    ensures after { AfterCall (AsksFrames probe (map seen_given answers.now)) result context.old
+        context.new }
 {
     let alloc = context.alloc;
     let mut next = match context.find_frames(probe) {
@@ -142,11 +141,8 @@ fn replay_unit<R: Reader>(
     ensures gives { IfOk result (λ r. seen_reply r ≡ unit_replied context.old.sections probe
         (answers_given PassOver context.old.sections probe context.old.answers
         (map seen_given answers.now))) }
-    ensures answers { OnOk result (context.new.answers ≡ answers_given PassOver
-        context.old.sections probe context.old.answers (map seen_given answers.now)) }
-    ensures refused { IfErr result (λ e. (e ≡ OutOfMemory) × HasBegun context.old.sections
-        context.old.answers (AsksUnit probe (map seen_given answers.now)) context.new.answers) }
-    ensures stays { StaysMade context.old context.new }
+    ensures after { AfterCall (AsksUnit probe (map seen_given answers.now)) result context.old
+        context.new }
 {
     let mut next = match context.find_dwarf_and_unit(probe) {
         LookupResult::Load { continuation } => continuation,
@@ -180,13 +176,31 @@ fn replay_unit<R: Reader>(
     Ok(Reply::Suspended(unit))
 }
 
+// `find_location` of an address.
+fn replay_location<R: Reader>(context: &mut Context<R>, probe: u64) -> Result<Reply, Error>
+    ensures gives { IfOk result (λ r. seen_reply r
+        ≡ Located (location_of context.old.sections probe)) }
+    ensures after { AfterCall (AsksLocation probe) result context.old context.new }
+{
+    let alloc = context.alloc;
+    location_reply(alloc, context.find_location(probe))
+}
+
+// `find_location_range` of addresses.
+fn replay_range<R: Reader>(context: &mut Context<R>, low: u64, high: u64) -> Result<Reply, Error>
+    ensures gives { IfOk result (λ r. seen_reply r
+        ≡ reply_of_range (spans_of context.old.sections low high)) }
+    ensures after { AfterCall (AsksRange low high) result context.old context.new }
+{
+    let alloc = context.alloc;
+    rows_reply(alloc, context.find_location_range(low, high))
+}
+
 // `preload_units` of an address.
 fn replay_preload<R: Reader>(context: &mut Context<R>, probe: u64) -> Result<Reply, Error>
     ensures gives { IfOk result (λ r. seen_reply r ≡ Listed (map copied_load
         (loads_of context.old.sections context.old.answers probe))) }
-    ensures answers { context.new.answers ≡ context.old.answers }
-    ensures refused { IfErr result (λ e. e ≡ OutOfMemory) }
-    ensures stays { StaysMade context.old context.new }
+    ensures after { AfterCall (AsksLoads probe) result context.old context.new }
 {
     let alloc = context.alloc;
     let loads = context.preload_units(probe)?;
@@ -201,41 +215,66 @@ fn replay_load<R: Reader>(
 ) -> Result<Reply, Error>
     ensures gives { IfOk result (λ r. seen_reply r ≡ Ended (load_reply context.old.sections
         context.old.answers (token_number unit) (option_map (λ d. d.value) sections.now))) }
-    ensures answers { OnOk result (context.new.answers ≡ answered context.old.sections
-        context.old.answers (token_number unit) (option_map (λ d. d.value) sections.now)) }
-    ensures refused { IfErr result (λ e. (e ≡ OutOfMemory) × HasBegun context.old.sections
-        context.old.answers (AnswersLoad (token_number unit)
-        (option_map (λ d. d.value) sections.now)) context.new.answers) }
-    ensures stays { StaysMade context.old context.new }
+    ensures after { AfterCall (AnswersLoad (token_number unit)
+        (option_map (λ d. d.value) sections.now)) result context.old context.new }
 {
     let sections = share(sections)?;
     done_reply(context.load_unit(unit, sections))
+}
+
+// `forget` of a unit.
+fn replay_forget<R: Reader>(context: &mut Context<R>, unit: UnitToken) -> Result<Reply, Error>
+    ensures gives { IfOk result (λ r. seen_reply r
+        ≡ Ended (forget_reply context.old.sections (token_number unit))) }
+    ensures after { AfterCall (Forgets (token_number unit)) result context.old context.new }
+{
+    Ok(Reply::Done(context.forget(unit)))
+}
+
+// `parse_lines`.
+fn replay_lines<R: Reader>(context: &mut Context<R>) -> Result<Reply, Error>
+    ensures gives { IfOk result (λ r. seen_reply r
+        ≡ Ended (lines_of_all context.old.sections)) }
+    ensures after { AfterCall ParsesLines result context.old context.new }
+{
+    done_reply(context.parse_lines())
+}
+
+// `parse_functions`.
+fn replay_functions<R: Reader>(context: &mut Context<R>) -> Result<Reply, Error>
+    ensures gives { IfOk result (λ r. seen_reply r ≡ Ended (parse_reply kinds.Functions
+        context.old.sections context.old.answers)) }
+    ensures after { AfterCall (ParsesFunctions kinds.Functions) result context.old context.new }
+{
+    done_reply(context.parse_functions())
+}
+
+// `parse_inlined_functions`.
+fn replay_details<R: Reader>(context: &mut Context<R>) -> Result<Reply, Error>
+    ensures gives { IfOk result (λ r. seen_reply r ≡ Ended (parse_reply kinds.Details
+        context.old.sections context.old.answers)) }
+    ensures after { AfterCall (ParsesFunctions kinds.Details) result context.old context.new }
+{
+    done_reply(context.parse_inlined_functions())
 }
 
 // Makes one call.
 fn make_call<R: Reader>(context: &mut Context<R>, call: &Call<R>) -> Result<Reply, Error>
     ensures gives { IfOk result (λ r. seen_reply r
         ≡ reply_to context.old.sections context.old.answers (seen_call call.now)) }
-    ensures answers { OnOk result (context.new.answers
-        ≡ answers_left context.old.sections context.old.answers (seen_call call.now)) }
-    ensures refused { IfErr result (λ e. (e ≡ OutOfMemory) × HasBegun context.old.sections
-        context.old.answers (seen_call call.now) context.new.answers) }
-    ensures stays { StaysMade context.old context.new }
+    ensures after { AfterCall (seen_call call.now) result context.old context.new }
 {
-    let alloc = context.alloc;
     match call {
-        Call::Location(probe) => location_reply(alloc, context.find_location(*probe)),
-        Call::LocationRange(low, high) => {
-            rows_reply(alloc, context.find_location_range(*low, *high))
-        }
+        Call::Location(probe) => replay_location(context, *probe),
+        Call::LocationRange(low, high) => replay_range(context, *low, *high),
         Call::Frames(probe, answers) => replay_frames(context, *probe, answers.as_slice()),
         Call::Unit(probe, answers) => replay_unit(context, *probe, answers.as_slice()),
         Call::Preload(probe) => replay_preload(context, *probe),
         Call::LoadUnit(unit, sections) => replay_load(context, *unit, sections),
-        Call::Forget(unit) => Ok(Reply::Done(context.forget(*unit))),
-        Call::ParseLines => done_reply(context.parse_lines()),
-        Call::ParseFunctions => done_reply(context.parse_functions()),
-        Call::ParseInlinedFunctions => done_reply(context.parse_inlined_functions()),
+        Call::Forget(unit) => replay_forget(context, *unit),
+        Call::ParseLines => replay_lines(context),
+        Call::ParseFunctions => replay_functions(context),
+        Call::ParseInlinedFunctions => replay_details(context),
     }
 }
 
@@ -252,11 +291,7 @@ fn make_call<R: Reader>(context: &mut Context<R>, call: &Call<R>) -> Result<Repl
 pub fn replay<R: Reader>(context: &mut Context<R>, calls: &[Call<R>]) -> Result<Vec<Reply>, Error>
     ensures gives { IfOk result (λ replies. map seen_reply replies.items
         ≡ replies_to context.old.sections context.old.answers (map seen_call calls.now)) }
-    ensures answers { OnOk result (context.new.answers ≡ answers_after context.old.sections
-        context.old.answers (map seen_call calls.now)) }
-    ensures refused { IfErr result (λ e. (e ≡ OutOfMemory) × IsCutShort context.old.sections
-        context.old.answers (map seen_call calls.now) context.new.answers) }
-    ensures stays { StaysMade context.old context.new }
+    ensures after { AfterCalls (map seen_call calls.now) result context.old context.new }
 {
     let mut replies = Vec::with_capacity(context.alloc, calls.len())?;
     for call in calls {

@@ -1,7 +1,9 @@
 //! Lookups of which none is answered to each load.
 
-ghost use Rattle.std.specs.Prelude.{◌≡◌};
+ghost use Rattle.std.specs.Prelude.{◌≡◌, IfErr};
+ghost use Rattle.gimli_read.specs.declared.error.Error.TheVariants.{OutOfMemory};
 ghost use Rattle.gimli_read.specs.Reading.{ExactlyUnlessOom};
+ghost use Rattle.addr2line_units.specs.declared.frames_lookup.Faults.TheVariants.{PassOver};
 ghost use Rattle.addr2line.specs.KeptStops.{unit_stop};
 ghost use Rattle.addr2line.specs.Skips.{AfterSkip, found_stop, skipped_answers};
 
@@ -16,6 +18,7 @@ impl<R: Reader> Context<R> {
     pub(crate) fn skip_loads(&mut self, probe: u64, faults: Faults) -> Result<Option<usize>, Error>
         ensures gives { ExactlyUnlessOom found_stop result (unit_stop faults self.old.sections
             (skipped_answers faults self.old.sections probe self.old.answers) probe) }
+        ensures refused { faults ≡ PassOver → IfErr result (λ e. e ≡ OutOfMemory) }
         ensures after { AfterSkip faults probe result self.old self.new }
     {
         loop {

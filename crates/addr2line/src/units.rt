@@ -13,6 +13,7 @@ ghost use Rattle.addr2line.specs.Answers.{AfterResume, SuspendsAgain, answered};
 ghost use Rattle.addr2line.specs.Borrowed.{RestsAs};
 ghost use Rattle.addr2line.specs.KeptStops.{unit_stop};
 ghost use Rattle.addr2line.specs.Lookups.{AfterFrames, IsKnown, Suspends, loads_of, lookup_stop, unit_of, waits_for, with_none};
+ghost use Rattle.addr2line.specs.Skips.{AfterSkip, skipped_answers};
 
 use crate::context::Context;
 use crate::continuation::{UnitLookup, UnitLookupWith};
@@ -100,6 +101,23 @@ fn go_on<R: Reader>(
     }
 }
 
+// A lookup of a unit from its beginning, of which none is answered to each load.
+fn skip<R: Reader>(ctx: &mut Context<R>, probe: u64) -> LookupResult<UnitLookup<'_, R>>
+    ensures* ends { sem 𝓛 (RestsAs (λ c. c.ctx.ghost_name) R.row R.Reader ctx.entry result
+        (λ o n. AfterSkip PassOver probe o ctx.old n)) }
+    ensures load { IfLoad result (λ c. ⊥) }
+    ensures output { IfOutput result (λ o. ExactlyUnlessOom seen_found o
+        (unit_of ctx.old.sections
+        (skipped_answers PassOver ctx.old.sections probe ctx.old.answers) probe)) }
+    ensures refused { IfOutput result (λ o. IfErr o (λ e. e ≡ OutOfMemory)) }
+{
+    match ctx.skip_loads(probe, Faults::PassOver) {
+        Ok(Some(number)) => end(ctx, probe, number),
+        Ok(None) => LookupResult::Output(Ok(None)),
+        Err(error) => LookupResult::Output(Err(error)),
+    }
+}
+
 impl<'ctx, R: Reader> LookupContinuation for UnitLookup<'ctx, R> {
     type Output = Result<Option<UnitRef<'ctx, R>>, Error>;
 
@@ -149,6 +167,33 @@ impl<'ctx, R: Reader> LookupContinuation for UnitLookup<'ctx, R> {
             load: _,
         } = self;
         go_on(ctx, probe, number, input)
+    }
+}
+
+impl<'ctx, R: Reader> UnitLookup<'ctx, R> {
+    /// Answers none to this load and to each later one, and gives the output. The units that waited
+    /// are decided by none, and stay so until they are forgotten.
+    ///
+    /// Refused `OutOfMemory` alone. It is what `skip_all_loads` gives; here it is said too which
+    /// context is left.
+    pub fn skip(self) -> LookupResult<UnitLookup<'ctx, R>>
+        ensures* ends { sem 𝓛 (RestsAs (λ c. c.ctx.ghost_name) R.row R.Reader
+            self.entry.ctx result (λ o n. AfterSkip PassOver self.entry.probe o
+            self.entry.ctx.now n)) }
+        ensures load { IfLoad result (λ c. ⊥) }
+        ensures output { IfOutput result (λ o. ExactlyUnlessOom seen_found o
+            (unit_of self.entry.ctx.now.sections (skipped_answers PassOver
+            self.entry.ctx.now.sections self.entry.probe self.entry.ctx.now.answers)
+            self.entry.probe)) }
+        ensures refused { IfOutput result (λ o. IfErr o (λ e. e ≡ OutOfMemory)) }
+    {
+        let UnitLookupWith {
+            ctx,
+            probe,
+            number: _,
+            load: _,
+        } = self;
+        skip(ctx, probe)
     }
 }
 

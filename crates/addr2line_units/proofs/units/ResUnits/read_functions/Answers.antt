@@ -1,11 +1,17 @@
 use Rattle.std.proofs.Common.{[], option_map, refl, rules}
 use Rattle.addr2line_lines.specs.SeenScope.{seen_file}
-use Rattle.addr2line_units.specs.FunctionParses.{AreReadBefore}
+use Rattle.addr2line_units.specs.FunctionParses.{AreFirstDecided, AreReadBefore}
 use Rattle.addr2line_units.specs.KeptLookups.{answers_in, sup_file}
 use Rattle.addr2line_units.specs.KeptParses.{ChangesOnly}
 use Rattle.addr2line_units.proofs.KeptParseLemmas.{all_stay, decided_if_ok, found_if_ok}
 use Rattle.addr2line_units.proofs.WalkLemmas.{in_scope}
 use Rattle.addr2line_units.proofs.units.ResUnits.read_functions.Goals as goal
+
+pub returns-clause-begun : goal.returns-clause-begun
+returns-clause-begun g c =
+    let s = c.args.self.now in
+    let at = in_scope c.args.dwarf.now c.deref.result.now s.dw_units.items (option_map seen_file c.file.result) (sup_file c.args.sup.now) [] [] in
+    at (λ S us qs. AreFirstDecided c.args.reads S us (answers_in s.entries.items) (answers_in c.read_all_functions.new.entries.items)) (search rules) c.file.ensures.gives refl c.read_all_functions.ensures.begun
 
 pub returns-clause-only : goal.returns-clause-only
 returns-clause-only g c =

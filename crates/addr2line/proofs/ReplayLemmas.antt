@@ -1,0 +1,212 @@
+-- What recorded lookups are given, answer by answer, and the replies that they come to (on
+-- specs/History.antt).
+use Rattle.std.proofs.Common.{◌≡◌, ◌≢◌, ◌⊎◌, inl, inr, ℕ, zero, suc, ◌+◌, ◌<◌, ◌≤◌, arith, Bool, true, false, List, [], ◌∷◌, ◌++◌, drop, get_or, length, map, slice_get, take, Option, Some, None, option_map, Result, Ok, Err, refl, sym, ap, subst, ◌∙◌}
+use Rattle.std.proofs.lemmas.List.{length-map, take_all}
+use Rattle.std.specs.Prelude.{IfErr, IfOk, OnOk}
+use Rattle.gimli_read.specs.declared.error.Error.{Error}
+use Rattle.gimli_read.specs.declared.error.Error.TheVariants.{OutOfMemory}
+use Rattle.gimli_read.specs.Reading.{◌>>=◌}
+use Rattle.gimli_read.specs.Section.{Section}
+use Rattle.gimli.specs.declared.unit.DwoId.{DwoId}
+use Rattle.gimli.specs.Sections.{Sections}
+use Rattle.gimli.specs.Unit.{UnitRecord}
+use Rattle.addr2line_units.specs.declared.continuation.LookupResult.{LookupResult}
+use Rattle.addr2line_units.specs.declared.continuation.LookupResult.TheVariants.{Output}
+use Rattle.addr2line_units.specs.declared.frames_lookup.Faults.{Faults}
+use Rattle.addr2line_units.specs.declared.frames_lookup.Faults.TheVariants.{PassOver}
+use Rattle.addr2line_units.specs.FramesLookup.{Stop, Waits, Finds, FindsNothing, is_waiting}
+use Rattle.addr2line_units.specs.Parsed.{IsNotOom, StaysParsed, has_parsed}
+use Rattle.addr2line_units.specs.Suspended.{IfOutput}
+use Rattle.addr2line_units.specs.UnitIndex.{UnitIndex, index_units, unit_records}
+use Rattle.addr2line_units.specs.Views.{SplitLoad, load_by, load_of_unit, split_name_of}
+use Rattle.addr2line.proofs.HistoryLemmas.{HasGiven, given_all, given_ended, given_last, given_more, given_up, resumed_answers, resumed_begun, resumed_parsed, resumed_sections, take_drop_one, take_then}
+use Rattle.addr2line.specs.Answers.{AfterAnswer, AfterResume, SuspendsAgain, answered}
+use Rattle.addr2line.specs.Context.{ContextState}
+use Rattle.addr2line.specs.History.{Given, Gives, GivesUp, Leaves, answers_given}
+use Rattle.addr2line.specs.Lookups.{AfterFrames, FirstAnswers, IsLoadOf, Suspends, lookup_stop, stop_in, unit_of, unit_told}
+use Rattle.addr2line.specs.Replies.{CopiedReply, SuspendedAt}
+
+-- the load of a unit has its number
+load_number : (d : Sections) (n : ℕ) (u : UnitRecord) (l : SplitLoad) → load_of_unit d n u ≡ Ok (Some l) → l.unit ≡ n
+unfolding load_of_unit
+load_number d n u l e = by (split_name_of d u) u.dwo_id e
+  where
+    by : (name : Result (Option Section) Error) (id : Option DwoId) → load_by d n u name id ≡ Ok (Some l) → l.unit ≡ n
+    by name None h = absurd cc
+    by (Err f) (Some i) h = absurd cc
+    by (Ok path) (Some i) h = sym (own h)
+      where
+        own : ◌≡◌ {A = Result (Option SplitLoad) Error} (Ok (Some (record { unit = n; dwo_id = i; comp_dir = u.comp_dir; path = path; parent = d }))) (Ok (Some l)) → n ≡ l.unit
+        own q = ap (λ (r : Result (Option SplitLoad) Error). elim r [ Err f ↦ n | Ok o ↦ elim o [ None ↦ n | Some x ↦ x.unit ] ]) q
+
+-- the load of a lookup that waits
+pub load_token : (faults : Faults) (d : Sections) (answers : FirstAnswers) (probe n : ℕ) (l : SplitLoad) → lookup_stop faults d answers probe ≡ Ok (Waits n) → IsLoadOf d n l → l.unit ≡ n
+load_token faults d answers probe n l w own = by (index_units d) refl
+  where
+    of_unit : (o : Option UnitRecord) → option_map (load_of_unit d n) o ≡ Some (Ok (Some l)) → l.unit ≡ n
+    of_unit None h = absurd cc
+    of_unit (Some u) h = load_number d n u l (some_is h)
+      where
+        some_is : ◌≡◌ {A = Option (Result (Option SplitLoad) Error)} (Some (load_of_unit d n u)) (Some (Ok (Some l))) → load_of_unit d n u ≡ Ok (Some l)
+        some_is q = cc
+
+    by : (r : Result UnitIndex Error) → index_units d ≡ r → l.unit ≡ n
+    by (Err f) e = absurd (let q : ◌≡◌ {A = Result Stop Error} (Err f) (Ok (Waits n)) = sym (ap (λ x. x >>= stop_in faults d answers probe) e) ∙ w in cc)
+    by (Ok m) e = of_unit (slice_get (unit_records m.units) n) (own m e)
+
+-- what holds of an output
+of_output : {L O D S : Type 0} (result : LookupResult L O D S) (o : O) (P : O → Type 0) → result ≡ Output o → IfOutput result P → P o
+of_output result o P e h = subst (λ r. IfOutput r P) e h
+
+-- a lookup was given so many answers, and waits for the unit of a number
+pub record HasAnswered (faults : Faults) (probe : ℕ) (first : ContextState) (all : List Given) (i number : ℕ) (now : ContextState) : Type 0 where
+  pub sections : now.sections ≡ first.sections
+  pub given : HasGiven faults first.sections probe first.answers (take i all) now.answers
+  pub waits : lookup_stop faults now.sections now.answers probe ≡ Ok (Waits number)
+  pub parsed : StaysParsed first.parsed now.parsed
+
+module _ (faults : Faults) (probe : ℕ) (first : ContextState) (all : List Given) where
+  -- a lookup that waits at first
+  pub begun_at : (number : ℕ) (load : SplitLoad) (now : ContextState) → Suspends faults probe number load first now → HasAnswered faults probe first all 0 number now
+  begun_at number load now s = record {
+    sections = s.after.sections;
+    given = λ rest. ap (λ x. answers_given faults first.sections probe x rest) (sym s.after.answers);
+    waits = ap (λ d. lookup_stop faults d now.answers probe) s.after.sections ∙ ap (λ x. lookup_stop faults first.sections x probe) s.after.answers ∙ s.waits;
+    parsed = s.after.parsed;
+  }
+
+  module _ (i number : ℕ) (now : ContextState) (so : HasAnswered faults probe first all i number now) where
+    own_waits : lookup_stop faults first.sections now.answers probe ≡ Ok (Waits number)
+    own_waits = ap (λ d. lookup_stop faults d now.answers probe) (sym so.sections) ∙ so.waits
+
+    own_answered : (x : Option Sections) → answered now.sections now.answers number x ≡ answered first.sections now.answers number x
+    own_answered x = ap (λ d. answered d now.answers number x) so.sections
+
+    -- it waits again
+    pub goes_on : (x : Option Sections) → ((rest : List Given) → take (i + 1) all ++ rest ≡ take i all ++ (Gives x ∷ rest)) → (next : ℕ) (load : SplitLoad) (new : ContextState)
+        → SuspendsAgain faults probe number x next load now new → HasAnswered faults probe first all (i + 1) next new
+    goes_on x more next load new (mid, a, s) = record {
+      sections = s.after.sections ∙ a.sections ∙ so.sections;
+      given = subst (λ y. HasGiven faults first.sections probe first.answers (take (i + 1) all) y) (sym (s.after.answers ∙ a.answers ∙ own_answered x))
+          (given_more faults first.sections probe first.answers now.answers (take i all) so.given number x own_waits (take (i + 1) all) more);
+      waits = ap (λ d. lookup_stop faults d new.answers probe) s.after.sections ∙ ap (λ y. lookup_stop faults mid.sections y probe) s.after.answers ∙ s.waits;
+      parsed = λ k e. s.after.parsed k (subst (λ p. has_parsed p k ≡ true) (sym a.parsed) (so.parsed k e));
+    }
+
+    -- it has ended after one more answer
+    pub ended_by : (x : Option Sections) (rest : List Given) → take i all ++ (Gives x ∷ rest) ≡ all → is_waiting (lookup_stop faults first.sections (answered now.sections now.answers number x) probe) ≡ false
+        → answers_given faults first.sections probe first.answers all ≡ answered now.sections now.answers number x
+    ended_by x rest whole ended =
+        given_last faults first.sections probe first.answers now.answers (take i all) so.given number x own_waits rest all whole
+        (subst (λ y. is_waiting (lookup_stop faults first.sections y probe) ≡ false) (own_answered x) ended)
+        ∙ sym (own_answered x)
+
+    -- it is given up, or no answer is left
+    pub left_by : (rest : List Given) → take i all ++ (GivesUp ∷ rest) ≡ all → answers_given faults first.sections probe first.answers all ≡ now.answers
+    left_by rest whole = given_up faults first.sections probe first.answers now.answers (take i all) so.given rest all whole
+
+    pub left_at_end : length all ≤ i → answers_given faults first.sections probe first.answers all ≡ now.answers
+    left_at_end h = ap (answers_given faults first.sections probe first.answers) (sym (take_all i all h)) ∙ given_all faults first.sections probe first.answers now.answers (take i all) so.given
+
+    -- a beginning of the answers was given
+    pub begun_so : (new : ContextState) → new.answers ≡ now.answers → (n : ℕ) × (new.answers ≡ answers_given faults first.sections probe first.answers (take n all))
+    begun_so new e = (i, e ∙ sym (given_all faults first.sections probe first.answers now.answers (take i all) so.given))
+
+    pub begun_more : {X : Type 0} (x : Option Sections) → ((rest : List Given) → take (i + 1) all ++ rest ≡ take i all ++ (Gives x ∷ rest)) → (o : Result X Error) (new : ContextState) → AfterResume faults probe number x o now new
+        → (n : ℕ) × (new.answers ≡ answers_given faults first.sections probe first.answers (take n all))
+    begun_more x more o new after = elim (resumed_begun faults probe number x o now new after) [
+      | inl e ↦ begun_so new e
+      | inr e ↦ (
+        i + 1,
+        e ∙ own_answered x ∙ sym (given_all faults first.sections probe first.answers (answered first.sections now.answers number x) (take (i + 1) all)
+            (given_more faults first.sections probe first.answers now.answers (take i all) so.given number x own_waits (take (i + 1) all) more)),
+      )
+    ]
+
+    -- what it replies that waits for its unit
+    pub suspended_by : (replied : FirstAnswers → CopiedReply) → (lookup_stop faults first.sections now.answers probe ≡ Ok (Waits number) → replied now.answers ≡ SuspendedAt number)
+        → (token : ℕ) → token ≡ number → answers_given faults first.sections probe first.answers all ≡ now.answers → SuspendedAt token ≡ replied (answers_given faults first.sections probe first.answers all)
+    suspended_by replied told token e left = ap (λ n. SuspendedAt n) e ∙ sym (told own_waits) ∙ ap replied (sym left)
+
+    abbrev all_given : FirstAnswers
+    all_given = answers_given faults first.sections probe first.answers all
+
+    abbrev SomeGiven : FirstAnswers → Type 0
+    SomeGiven answers = (n : ℕ) × (answers ≡ answers_given faults first.sections probe first.answers (take n all))
+
+    -- what it leaves that is given up, or has no answer left
+    pub left_leaves : {Y : Type 0} (y : Y) (new : ContextState) → new ≡ now → all_given ≡ now.answers → Leaves {X = Y} all_given SomeGiven (Ok y) first new
+    left_leaves y new e left = record {
+      sections = ap (λ (s : ContextState). s.sections) e ∙ so.sections;
+      answers = ap (λ (s : ContextState). s.answers) e ∙ sym left;
+      refused = tt;
+      parsed = subst (λ (s : ContextState). StaysParsed first.parsed s.parsed) (sym e) so.parsed;
+    }
+
+    -- an answer could not be shared
+    pub refused_leaves : {Y : Type 0} (f : Error) (new : ContextState) → new ≡ now → f ≡ OutOfMemory → Leaves {X = Y} all_given SomeGiven (Err f) first new
+    refused_leaves f new e oom = record {
+      sections = ap (λ (s : ContextState). s.sections) e ∙ so.sections;
+      answers = tt;
+      refused = (oom, begun_so new (ap (λ (s : ContextState). s.answers) e));
+      parsed = subst (λ (s : ContextState). StaysParsed first.parsed s.parsed) (sym e) so.parsed;
+    }
+
+    -- it has ended with an answer
+    pub resumed_leaves : {L D S X Y ended : Type 0} (result : LookupResult L (Result X Error) D S) (x : Option Sections) → ((rest : List Given) → take (i + 1) all ++ rest ≡ take i all ++ (Gives x ∷ rest)) → (o : Result X Error) (new : ContextState) (asked : ℕ) → asked ≡ probe → result ≡ Output o → (lender : ContextState) → new ≡ lender → IfOutput result (λ p. AfterResume faults asked number x p now lender) → (r : Result Y Error)
+        → (P : Y → Type 0) → IfOk r (λ y. P y × ended) → (ended → all_given ≡ answered now.sections now.answers number x) → OnOk r (IsNotOom o) → IfErr r (λ e. e ≡ OutOfMemory) → Leaves all_given SomeGiven r first new
+    resumed_leaves {ended = ended} result x more o new asked same_probe is lender ends rests r P h same told oom = record {
+      sections = resumed_sections faults asked number x o now new after ∙ so.sections;
+      answers = of_ok r P h told;
+      refused = of_err r oom;
+      parsed = λ k e. resumed_parsed faults asked number x o now new after k (so.parsed k e);
+    }
+      where
+        after : AfterResume faults asked number x o now new
+        after = subst (λ s. AfterResume faults asked number x o now s) (sym ends) (of_output result o (λ p. AfterResume faults asked number x p now lender) is rests)
+
+        of_ok : {Y : Type 0} (r : Result Y Error) (P : Y → Type 0) → IfOk r (λ y. P y × ended) → OnOk r (IsNotOom o) → OnOk r (new.answers ≡ all_given)
+        of_ok (Err e) P h t = tt
+        of_ok (Ok y) P h t = resumed_answers faults asked number x o now new after t ∙ sym (same h.1)
+
+        of_err : {Y : Type 0} (r : Result Y Error) → IfErr r (λ e. e ≡ OutOfMemory) → IfErr r (λ e. (e ≡ OutOfMemory) × SomeGiven new.answers)
+        of_err (Ok y) k = tt
+        of_err (Err e) k = (k, begun_more x more o new (subst (λ q. AfterResume faults q number x o now new) same_probe after))
+
+-- the reply of a lookup by the first answers that it leaves
+pub reply_by : {R ended : Type 0} (seen : R → CopiedReply) (replied : FirstAnswers → CopiedReply) (r : Result R Error) (left all : FirstAnswers) → IfOk r (λ x. (seen x ≡ replied left) × ended) → (ended → all ≡ left) → IfOk r (λ x. seen x ≡ replied all)
+reply_by seen replied (Err e) left all h same = tt
+reply_by seen replied (Ok x) left all h same = h.0 ∙ ap replied (sym (same h.1))
+
+-- what a lookup leaves that has ended at once
+pub looked_leaves : {X Y ended : Type 0} (faults : Faults) (probe : ℕ) (given : List Given) (o : Result X Error) (old new : ContextState) → AfterFrames faults probe o old new → (r : Result Y Error) (P : Y → Type 0)
+    → IfOk r (λ y. P y × ended) → (ended → answers_given faults old.sections probe old.answers given ≡ old.answers) → IfErr r (λ e. e ≡ OutOfMemory)
+    → Leaves (answers_given faults old.sections probe old.answers given) (λ answers. (n : ℕ) × (answers ≡ answers_given faults old.sections probe old.answers (take n given))) r old new
+looked_leaves {ended = ended} faults probe given o old new a r P h same oom = record {
+  sections = a.sections;
+  answers = of_ok r P h;
+  refused = of_err r oom;
+  parsed = a.parsed;
+}
+  where
+    of_ok : {Y : Type 0} (r : Result Y Error) (P : Y → Type 0) → IfOk r (λ y. P y × ended) → OnOk r (new.answers ≡ answers_given faults old.sections probe old.answers given)
+    of_ok (Err e) P h = tt
+    of_ok (Ok y) P h = a.answers ∙ sym (same h.1)
+
+    of_err : {Y : Type 0} (r : Result Y Error) → IfErr r (λ e. e ≡ OutOfMemory) → IfErr r (λ e. (e ≡ OutOfMemory) × ((n : ℕ) × (new.answers ≡ answers_given faults old.sections probe old.answers (take n given))))
+    of_err (Ok y) k = tt
+    of_err (Err e) k = (k, (0, a.answers))
+
+-- a lookup of a unit that waits has found none
+pub unit_waiting : (d : Sections) (answers : FirstAnswers) (probe : ℕ) → is_waiting (lookup_stop PassOver d answers probe) ≡ true → unit_of d answers probe ≡ Ok None
+unit_waiting d answers probe w = of_index (index_units d) w
+  where
+    of_stop : (m : UnitIndex) (r : Result Stop Error) → is_waiting r ≡ true → (r >>= λ s. Ok (unit_told d answers m s)) ≡ Ok None
+    of_stop m (Ok (Waits n)) h = refl
+    of_stop m (Ok (Finds n frames)) h = absurd cc
+    of_stop m (Ok FindsNothing) h = absurd cc
+    of_stop m (Err e) h = absurd cc
+
+    of_index : (r : Result UnitIndex Error) → is_waiting (r >>= stop_in PassOver d answers probe) ≡ true → (r >>= λ m. stop_in PassOver d answers probe m >>= λ s. Ok (unit_told d answers m s)) ≡ Ok None
+    of_index (Err e) h = absurd cc
+    of_index (Ok m) h = of_stop m (stop_in PassOver d answers probe m) h

@@ -1,0 +1,159 @@
+-- Lookups of which none is answered to each load (on specs/Skips.antt).
+use Rattle.std.proofs.Common.{◌≡◌, ◌≢◌, ◌⊎◌, inl, inr, ℕ, zero, suc, ◌+◌, ◌-◌, ◌<◌, ◌≤◌, arith, Bool, true, false, List, [], ◌∷◌, ◌++◌, length, Option, Some, None, Result, Ok, Err, refl, sym, ap, subst, ◌∙◌}
+use Rattle.std.proofs.lemmas.Bool.{eq-eqb}
+use Rattle.gimli_read.specs.declared.error.Error.{Error}
+use Rattle.gimli_read.specs.declared.error.Error.TheVariants.{OutOfMemory}
+use Rattle.gimli_read.specs.Reading.{◌>>=◌, ExactlyUnlessOom}
+use Rattle.gimli.specs.Sections.{Sections}
+use Rattle.addr2line_units.specs.declared.frames_lookup.Faults.{Faults}
+use Rattle.addr2line_units.specs.FramesLookup.{Stop, Waits, Finds, FindsNothing, is_waiting}
+use Rattle.addr2line_units.specs.Parsed.{IsNotOom, StaysParsed, has_parsed}
+use Rattle.addr2line.proofs.HistoryLemmas.{HasGiven, given_all, given_ended, given_more}
+use Rattle.addr2line.specs.declared.stops.UnitStop.{UnitStop}
+use Rattle.addr2line.specs.declared.stops.UnitStop.TheVariants as units
+use Rattle.addr2line.specs.Answers.{AfterAnswer, answered}
+use Rattle.addr2line.specs.Context.{ContextState}
+use Rattle.addr2line.specs.History.{Given, Gives, answers_given}
+use Rattle.addr2line.specs.KeptStops.{by_number, unit_stop}
+use Rattle.addr2line.specs.Lookups.{AfterFrames, FirstAnswers, IsKnown, IsUnitOf, loads_of, lookup_stop, waits_for}
+use Rattle.addr2line.specs.Skips.{AfterSkip, found_stop, nones, skipped_answers}
+
+-- none as an answer, so often
+nones_then : (k : ℕ) (rest : List Given) → nones (suc k) ++ rest ≡ nones k ++ (Gives None ∷ rest)
+nones_then zero rest = refl
+nones_then (suc k) rest = ap (λ ys. Gives None ∷ ys) (nones_then k rest)
+
+nones_both : (k r : ℕ) → nones k ++ nones r ≡ nones (k + r)
+nones_both zero r = ap nones (let e : r ≡ 0 + r = omega arith in e)
+nones_both (suc k) r = ap (λ ys. Gives None ∷ ys) (nones_both k r) ∙ ap nones (let e : suc (k + r) ≡ suc k + r = omega arith in e)
+
+-- what a lookup has come to, by the number of a unit
+stop_waits : (n : ℕ) (r : Result Stop Error) → (r >>= λ s. Ok (by_number s)) ≡ Ok (units.Waits n) → r ≡ Ok (Waits n)
+stop_waits n (Ok (Waits k)) e = ap (λ j. Ok (Waits j)) (same_unit e)
+  where
+    same_unit : ◌≡◌ {A = Result UnitStop Error} (Ok (units.Waits k)) (Ok (units.Waits n)) → k ≡ n
+    same_unit q = cc
+stop_waits n (Ok (Finds k frames)) e = absurd cc
+stop_waits n (Ok FindsNothing) e = absurd cc
+stop_waits n (Err f) e = absurd cc
+
+stop_ended : (o : Option ℕ) (r : Result Stop Error) → (r >>= λ s. Ok (by_number s)) ≡ Ok (found_stop o) → is_waiting r ≡ false
+stop_ended o (Ok (Finds k frames)) e = refl
+stop_ended o (Ok FindsNothing) e = refl
+stop_ended o (Err f) e = refl
+stop_ended None (Ok (Waits k)) e = absurd cc
+stop_ended (Some n) (Ok (Waits k)) e = absurd cc
+
+stop_failed : (f : Error) (r : Result Stop Error) → (r >>= λ s. Ok (by_number s)) ≡ Err f → is_waiting r ≡ false
+stop_failed f (Ok (Finds k frames)) e = refl
+stop_failed f (Ok FindsNothing) e = refl
+stop_failed f (Err g) e = refl
+stop_failed f (Ok (Waits k)) e = absurd cc
+
+-- of so many loads none was the answer, and no more are left than there were less these
+pub record HasSkipped (faults : Faults) (probe : ℕ) (first now : ContextState) : Type 0 where
+  pub sections : now.sections ≡ first.sections
+  pub count : ℕ
+  pub given : HasGiven faults first.sections probe first.answers (nones count) now.answers
+  pub left : count + length (loads_of now.sections now.answers probe) ≤ length (loads_of first.sections first.answers probe)
+  pub parsed : StaysParsed first.parsed now.parsed
+  pub raised : first.looks ≤ now.looks
+
+module _ (faults : Faults) (probe : ℕ) (first : ContextState) where
+  pub skipped_none : HasSkipped faults probe first first
+  skipped_none = record {
+    sections = refl;
+    count = 0;
+    given = λ rest. refl;
+    left = omega arith;
+    parsed = λ n e. e;
+    raised = omega arith;
+  }
+
+  module _ (now : ContextState) (so : HasSkipped faults probe first now) where
+    -- a lookup changes neither sections nor first answers
+    pub skipped_look : {X : Type 0} (r : Result X Error) (new : ContextState) → AfterFrames faults probe r now new → HasSkipped faults probe first new
+    skipped_look r new a = record {
+      sections = a.sections ∙ so.sections;
+      count = so.count;
+      given = subst (λ x. HasGiven faults first.sections probe first.answers (nones so.count) x) (sym a.answers) so.given;
+      left = subst (λ l. so.count + l ≤ length (loads_of first.sections first.answers probe)) (sym (same_left new a.sections a.answers)) so.left;
+      parsed = λ n e. a.parsed n (so.parsed n e);
+      raised = let x = so.raised in let y = a.raised in omega (arith, x, y);
+    }
+      where
+        same_left : (new : ContextState) → new.sections ≡ now.sections → new.answers ≡ now.answers → length (loads_of new.sections new.answers probe) ≡ length (loads_of now.sections now.answers probe)
+        same_left n s e = ap (λ d. length (loads_of d n.answers probe)) s ∙ ap (λ x. length (loads_of now.sections x probe)) e
+
+    -- none is the answer to one more load
+    pub skipped_more : (n : ℕ) (new : ContextState) → lookup_stop faults now.sections now.answers probe ≡ Ok (Waits n) → AfterAnswer n None (Ok tt) now new
+        → length (loads_of new.sections new.answers probe) < length (loads_of now.sections now.answers probe) → HasSkipped faults probe first new
+    skipped_more n new waits a fewer = record {
+      sections = a.sections ∙ so.sections;
+      count = suc so.count;
+      given = subst (λ x. HasGiven faults first.sections probe first.answers (nones (suc so.count)) x) (sym (a.answers ∙ ap (λ d. answered d now.answers n None) so.sections))
+          (given_more faults first.sections probe first.answers now.answers (nones so.count) so.given n None (ap (λ d. lookup_stop faults d now.answers probe) (sym so.sections) ∙ waits) (nones (suc so.count)) (nones_then so.count));
+      left = let x = so.left in omega (arith, x, fewer);
+      parsed = λ k e. subst (λ p. has_parsed p k ≡ true) (sym a.parsed) (so.parsed k e);
+      raised = subst (λ l. first.looks ≤ l) (sym a.looks) so.raised;
+    }
+
+    -- none could not be given
+    pub skipped_refused : (n : ℕ) (e : Error) (new : ContextState) → AfterAnswer n None (Err e) now new → HasSkipped faults probe first new
+    skipped_refused n e new a = record {
+      sections = a.sections ∙ so.sections;
+      count = so.count;
+      given = subst (λ x. HasGiven faults first.sections probe first.answers (nones so.count) x) (sym a.refused.1) so.given;
+      left = subst (λ l. so.count + l ≤ length (loads_of first.sections first.answers probe))
+          (sym (ap (λ d. length (loads_of d new.answers probe)) a.sections ∙ ap (λ x. length (loads_of now.sections x probe)) a.refused.1)) so.left;
+      parsed = λ k q. subst (λ p. has_parsed p k ≡ true) (sym a.parsed) (so.parsed k q);
+      raised = subst (λ l. first.looks ≤ l) (sym a.looks) so.raised;
+    }
+
+    -- a lookup that has ended was given none for each load
+    pub skip_end : is_waiting (lookup_stop faults now.sections now.answers probe) ≡ false → skipped_answers faults first.sections probe first.answers ≡ now.answers
+    skip_end ended =
+        let total = length (loads_of first.sections first.answers probe) in
+        let h = so.left in
+        let e : so.count + (total - so.count) ≡ total = omega (arith, h) in
+        ap (λ t. answers_given faults first.sections probe first.answers (nones t)) (sym e)
+        ∙ ap (answers_given faults first.sections probe first.answers) (sym (nones_both so.count (total - so.count)))
+        ∙ so.given (nones (total - so.count))
+        ∙ given_ended faults first.sections probe now.answers (nones (total - so.count)) (ap (λ d. is_waiting (lookup_stop faults d now.answers probe)) (sym so.sections) ∙ ended)
+
+    pub skip_stop : is_waiting (lookup_stop faults now.sections now.answers probe) ≡ false → unit_stop faults first.sections (skipped_answers faults first.sections probe first.answers) probe ≡ unit_stop faults now.sections now.answers probe
+    skip_stop ended = ap (λ x. unit_stop faults first.sections x probe) (skip_end ended) ∙ ap (λ d. unit_stop faults d now.answers probe) (sym so.sections)
+
+    pub skip_found : (o : Option ℕ) → unit_stop faults now.sections now.answers probe ≡ Ok (found_stop o) → unit_stop faults first.sections (skipped_answers faults first.sections probe first.answers) probe ≡ Ok (found_stop o)
+    skip_found o e = skip_stop (stop_ended o (lookup_stop faults now.sections now.answers probe) e) ∙ e
+
+    pub skip_failed : (f : Error) → unit_stop faults now.sections now.answers probe ≡ Err f → unit_stop faults first.sections (skipped_answers faults first.sections probe first.answers) probe ≡ Err f
+    skip_failed f e = skip_stop (stop_failed f (lookup_stop faults now.sections now.answers probe) e) ∙ e
+
+    -- the state that is left
+    pub after_skip : {X : Type 0} (r : Result X Error) → (IsNotOom r → is_waiting (lookup_stop faults now.sections now.answers probe) ≡ false) → (IsNotOom r → IsKnown faults now probe) → AfterSkip faults probe r first now
+    after_skip r ended ready = record {
+      sections = so.sections;
+      answers = λ told. sym (skip_end (ended told));
+      begun = (so.count, sym (given_all faults first.sections probe first.answers now.answers (nones so.count) so.given));
+      parsed = so.parsed;
+      raised = so.raised;
+      ready = ready;
+    }
+
+-- a lookup comes to the same after one
+module _ {X : Type 0} (faults : Faults) (probe : ℕ) (r : Result X Error) (old new : ContextState) (a : AfterFrames faults probe r old new) where
+  same_lookup : lookup_stop faults new.sections new.answers probe ≡ lookup_stop faults old.sections old.answers probe
+  same_lookup = ap (λ d. lookup_stop faults d new.answers probe) a.sections ∙ ap (λ x. lookup_stop faults old.sections x probe) a.answers
+
+  pub then_waits : (n : ℕ) → unit_stop faults old.sections old.answers probe ≡ Ok (units.Waits n) → lookup_stop faults new.sections new.answers probe ≡ Ok (Waits n)
+  then_waits n e = same_lookup ∙ stop_waits n (lookup_stop faults old.sections old.answers probe) e
+
+  pub then_found : (o : Option ℕ) → unit_stop faults old.sections old.answers probe ≡ Ok (found_stop o) → is_waiting (lookup_stop faults new.sections new.answers probe) ≡ false
+  then_found o e = ap is_waiting same_lookup ∙ stop_ended o (lookup_stop faults old.sections old.answers probe) e
+
+  pub then_failed : (f : Error) → unit_stop faults old.sections old.answers probe ≡ Err f → is_waiting (lookup_stop faults new.sections new.answers probe) ≡ false
+  then_failed f e = ap is_waiting same_lookup ∙ stop_failed f (lookup_stop faults old.sections old.answers probe) e
+
+pub waits_true : (n : ℕ) (r : Result Stop Error) → r ≡ Ok (Waits n) → waits_for n r ≡ true
+waits_true n r e = ap (waits_for n) e ∙ eq-eqb n n refl

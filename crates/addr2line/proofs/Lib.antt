@@ -10,3 +10,4 @@ pub mod HistoryLemmas
 pub mod HistoryLawLemmas
 pub mod SkippedLemmas
 pub mod ReplayLemmas
+pub mod RunLemmas

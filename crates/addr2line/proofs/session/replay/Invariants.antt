@@ -1,4 +1,4 @@
-use Rattle.std.proofs.Common.{◌≡◌, ◌++◌, drop, map}
+use Rattle.std.proofs.Common.{drop, map}
 use Rattle.addr2line.proofs.RunLemmas.{HasMade}
 use Rattle.addr2line.specs.SeenCalls.{seen_call}
 use Rattle.addr2line.specs.SeenReplies.{seen_reply}
@@ -6,4 +6,4 @@ use Rattle.addr2line.proofs.session.replay.Given as goal
 
 -- the calls so far were made
 abbrev pub invariant-loop-call : goal.invariant-loop-call
-invariant-loop-call g l = HasMade l.fn.context (map seen_call l.calls) (map seen_call (drop l.call-index l.calls)) (map seen_reply l.replies.items) l.context
+invariant-loop-call g l = HasMade l.fn.context (map seen_call l.calls) (drop l.call-index (map seen_call l.calls)) (map seen_reply l.replies.items) l.context

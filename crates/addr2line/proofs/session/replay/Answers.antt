@@ -1,0 +1,43 @@
+use Rattle.std.proofs.Common.{Err, Ok, ap, drop, map, refl, rules, subst, sym, ◌+◌, ◌∙◌}
+use Rattle.std.proofs.lemmas.List.{map-append}
+use Rattle.std.proofs.lemmas.Result.{err_from_is_err_and}
+use Rattle.gimli_read.specs.declared.error.Error.TheVariants.{OutOfMemory}
+use Rattle.addr2line.proofs.HistoryLemmas.{drop_one}
+use Rattle.addr2line.proofs.RunLemmas.{HasMade, made_one, refused_after, refused_at_once, refused_in}
+use Rattle.addr2line.specs.SeenCalls.{seen_call}
+use Rattle.addr2line.specs.SeenReplies.{seen_reply}
+use Rattle.addr2line.proofs.session.replay.Goals as goal
+
+pub returns-in_err-replies-clause-after : goal.returns-in_err-replies-clause-after
+returns-in_err-replies-clause-after g c =
+    let p = err_from_is_err_and c.from_residual.result c.from_residual.ensures.1 in
+    rw (p.1, p.2) (refused_at_once c.args.context.now (map seen_call c.args.calls.now) OutOfMemory refl)
+
+pub returns-in_err-make_call-clause-after : goal.returns-in_err-make_call-clause-after
+returns-in_err-make_call-clause-after g c =
+    let p = err_from_is_err_and c.from_residual-in_err-make_call.result c.from_residual-in_err-make_call.ensures.1 in
+    let all = map seen_call c.args.calls.now in
+    let i = c.loop-call.call-index in
+    let call = c.call-item.result in
+    let next = drop_one seen_call c.args.calls.now i call (search rules) c.call-item.is in
+    rw (p.1, p.2) (refused_in c.args.context.now all (drop i all) (map seen_reply c.loop-call.replies.items) c.loop-call.context c.loop-call.invariant (seen_call call) (drop (i + 1) all) next c.make_call.new.context c.in_err-make_call.field-0.0 c.in_err-make_call.ensures.after)
+
+pub returns-in_err-push-clause-after : goal.returns-in_err-push-clause-after
+returns-in_err-push-clause-after g c =
+    let p = err_from_is_err_and c.from_residual-in_err-push.result c.from_residual-in_err-push.ensures.1 in
+    let all = map seen_call c.args.calls.now in
+    let i = c.loop-call.call-index in
+    let call = c.call-item.result in
+    let next = drop_one seen_call c.args.calls.now i call (search rules) c.call-item.is in
+    rw (p.1, p.2) (refused_after c.args.context.now all (drop i all) (map seen_reply c.loop-call.replies.items) c.loop-call.context c.loop-call.invariant (seen_call call) (drop (i + 1) all) next c.make_call.new.context c.in_ok-make_call.field-0 OutOfMemory refl c.in_ok-make_call.ensures.after)
+
+pub loop-call-preserved : goal.loop-call-preserved
+loop-call-preserved g c =
+    let all = map seen_call c.args.calls.now in
+    let i = c.loop-call.call-index in
+    let call = c.call-item.result in
+    let reply = c.in_ok-make_call.field-0 in
+    let next = drop_one seen_call c.args.calls.now i call (search rules) c.call-item.is in
+    let made = made_one c.args.context.now all (drop i all) (map seen_reply c.loop-call.replies.items) c.loop-call.context c.loop-call.invariant (seen_call call) (drop (i + 1) all) next c.make_call.new.context reply (seen_reply reply) c.in_ok-make_call.ensures.after c.in_ok-make_call.ensures.gives in
+    let pushed = ap (map seen_reply) c.in_ok-push.ensures.items ∙ map-append _ _ _ in
+    subst (λ replies. HasMade c.args.context.now all (drop (i + 1) all) replies c.make_call.new.context) (sym pushed) made

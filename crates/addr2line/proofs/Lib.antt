@@ -6,3 +6,6 @@ pub mod AfterLemmas
 pub mod SkipLemmas
 pub mod ParseLemmas
 pub mod LoadLemmas
+pub mod FilesLookupLemmas
+pub mod LoadingLemmas
+pub mod SplitFileLemmas

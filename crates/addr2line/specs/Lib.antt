@@ -4,3 +4,10 @@ pub mod Lookups
 pub mod KeptStops
 pub mod Answers
 pub mod Loads
+pub mod Files
+pub mod FileSections
+pub mod SplitFiles
+pub mod Loaded
+pub mod FramesByFiles
+pub mod Loader
+pub mod BorrowedLoader

@@ -4,18 +4,26 @@
 mod answers;
 mod context;
 mod continuation;
+mod file_sections;
+mod files;
 mod frames;
+mod loader;
 mod loads;
 mod parses;
+mod split_files;
 mod stops;
 mod units;
 
 pub use crate::context::Context;
 pub use crate::continuation::{FramesLookup, UnitLookup};
+pub use crate::files::{FileSource, HostFiles, MemoryFiles};
+pub use crate::loader::{Loader, LoaderOver};
 pub use addr2line_lines::Location;
 pub use addr2line_units::continuation::{LookupContinuation, LookupResult};
 pub use addr2line_units::frame::{demangle, demangle_auto};
 pub use addr2line_units::range::LocationRangeIter;
 pub use addr2line_units::view::{SplitDwarfLoad, UnitToken};
 pub use addr2line_units::{Frame, FrameIter, FunctionName};
+pub use elf::{LoaderError, Symbol};
 pub use gimli;
+pub use gimli::read::Range;

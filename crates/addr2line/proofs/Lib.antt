@@ -11,3 +11,6 @@ pub mod HistoryLawLemmas
 pub mod SkippedLemmas
 pub mod ReplayLemmas
 pub mod RunLemmas
+pub mod FilesLookupLemmas
+pub mod LoadingLemmas
+pub mod SplitFileLemmas

@@ -10,3 +10,10 @@ pub mod Skips
 pub mod HistoryLaws
 pub mod SeenReplies
 pub mod SeenCalls
+pub mod Files
+pub mod FileSections
+pub mod SplitFiles
+pub mod Loaded
+pub mod FramesByFiles
+pub mod Loader
+pub mod BorrowedLoader

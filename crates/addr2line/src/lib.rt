@@ -5,18 +5,24 @@ mod answers;
 mod context;
 mod continuation;
 mod copies;
+mod file_sections;
+mod files;
 mod frames;
 pub mod laws;
+mod loader;
 mod loads;
 mod parses;
 mod reply;
 mod session;
 mod skips;
+mod split_files;
 mod stops;
 mod units;
 
 pub use crate::context::Context;
 pub use crate::continuation::{FramesLookup, UnitLookup};
+pub use crate::files::{FileSource, HostFiles, MemoryFiles};
+pub use crate::loader::{Loader, LoaderOver};
 pub use crate::reply::{
     FoundUnit, OwnedFrame, OwnedLoad, OwnedLocation, OwnedName, OwnedSpan, Reply,
 };
@@ -27,4 +33,6 @@ pub use addr2line_units::frame::{demangle, demangle_auto};
 pub use addr2line_units::range::LocationRangeIter;
 pub use addr2line_units::view::{SplitDwarfLoad, UnitToken};
 pub use addr2line_units::{Frame, FrameIter, FunctionName};
+pub use elf::{LoaderError, Symbol};
 pub use gimli;
+pub use gimli::read::Range;

@@ -1,0 +1,31 @@
+-- Answers about a file, by what its bytes give (on specs/Loading.antt of elf, specs/SplitFiles.antt
+-- and specs/Loaded.antt).
+use Rattle.std.proofs.Common.{◌≡◌, ◌≢◌, Bool, true, Option, Some, None, Result, Ok, Err, ap, refl, sym, ◌∙◌}
+use Rattle.std.specs.Prelude.{IfErr, IfSome, option_map}
+use Rattle.gimli_read.specs.declared.error.Error.{Error}
+use Rattle.gimli_read.specs.declared.error.Error.TheVariants as reading
+use Rattle.gimli_read.specs.Reading.{ExactlyUnlessOom, ExactlyUnlessOomIf, ◌>>=◌}
+use Rattle.elf.specs.declared.error.LoaderError.{LoaderError}
+use Rattle.elf.specs.declared.error.LoaderError.TheVariants.{OutOfMemory}
+use Rattle.elf.specs.Loading.{Loading, LoadsUnlessOom, LoadsUnlessOomFor}
+use Rattle.elf.specs.Text.{loader_error_of}
+use Rattle.addr2line.specs.SplitFiles.{of_file}
+
+-- whatever takes memory
+pub loads_for : {X : Type 0} (takes : Loading X → Bool) (r given : Loading X) → LoadsUnlessOomFor takes r given → LoadsUnlessOom (λ x. x) r given
+loads_for takes (Ok x) given h = h
+loads_for takes (Err e) given h = λ ne. h (λ _. ne)
+
+-- a refusal of DWARF that isn't told as OutOfMemory isn't OutOfMemory
+pub no_oom : (e : Error) → loader_error_of e ≢ OutOfMemory → e ≢ reading.OutOfMemory
+no_oom e ne q = ne (ap loader_error_of q)
+
+-- an answer about DWARF as one about its file
+pub as_loading : {X Y : Type 0} (see : X → Y) (r : Result X Error) (given : Result Y Error) → ExactlyUnlessOom see r given → LoadsUnlessOom see (of_file r) (of_file given)
+as_loading see (Ok x) given h = ap of_file h
+as_loading see (Err e) given h = λ ne. ap of_file (h (no_oom e ne))
+
+-- both of two sources are known
+pub if_some_both : {X : Type 0} (o : Option X) {P Q R : X → Type 0} → IfSome o P → IfSome o Q → ((x : X) → P x → Q x → R x) → IfSome o R
+if_some_both None p q f = tt
+if_some_both (Some x) p q f = f x p q

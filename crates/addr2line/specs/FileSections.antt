@@ -1,0 +1,76 @@
+-- The sections of an ELF file that DWARF is read from (DWARF 5, section 7.5 and appendix B; split
+-- files: section 7.3.2.2).
+-- Own: they are taken in the order of their names, and the first fault counts. A section that split
+-- files don't have is empty.
+use Rattle.std.specs.Prelude.{List, ℕ, [], Option, Some, None, Ok}
+use Rattle.gimli_read.specs.declared.endian.RunTimeEndian.TheVariants.{Little}
+use Rattle.gimli_read.specs.Reading.{◌>>=◌}
+use Rattle.gimli_read.specs.Section.{Section}
+use Rattle.gimli.specs.declared.dwarf.DwarfFileType.{DwarfFileType}
+use Rattle.gimli.specs.declared.load.SectionId.{SectionId}
+use Rattle.gimli.specs.declared.load.SectionId.TheVariants.{DebugAbbrev, DebugAddr, DebugAranges, DebugInfo, DebugLine, DebugLineStr, DebugRanges, DebugRngLists, DebugStr, DebugStrOffsets}
+use Rattle.gimli.specs.Asked.{dwo_section_name, section_name}
+use Rattle.gimli.specs.Sections.{Sections, SupSections}
+use Rattle.elf.specs.Loading.{Loading}
+use Rattle.elf.specs.ObjectFile.{ObjectFile}
+use Rattle.elf.specs.Sections.{section_at}
+
+-- the ten sections, by what each is given as, or the first fault
+unfoldable pub sections_by : (SectionId → Loading Section) → Loading SupSections
+sections_by given = do
+  abbrevs ← given DebugAbbrev
+  addr ← given DebugAddr
+  aranges ← given DebugAranges
+  info ← given DebugInfo
+  line ← given DebugLine
+  line_str ← given DebugLineStr
+  ranges ← given DebugRanges
+  rnglists ← given DebugRngLists
+  str ← given DebugStr
+  str_offsets ← given DebugStrOffsets
+  Ok (record {
+    debug_abbrev = abbrevs;
+    debug_addr = addr;
+    debug_aranges = aranges;
+    debug_info = info;
+    debug_line = line;
+    debug_line_str = line_str;
+    debug_ranges = ranges;
+    debug_rnglists = rnglists;
+    debug_str = str;
+    debug_str_offsets = str_offsets;
+  })
+
+-- a section of a file that isn't split
+abbrev pub main_section : ObjectFile → SectionId → Loading Section
+main_section file id = section_at (section_name id) file
+
+-- no bytes
+abbrev pub empty_section : Section
+empty_section = record { bytes = []; endian = Little }
+
+-- the section of a name in a split file, if split files have it
+abbrev pub section_if : ObjectFile → Option (List ℕ) → Loading Section
+section_if file None = Ok empty_section
+section_if file (Some name) = section_at name file
+
+-- a section of a split file
+abbrev pub split_section : ObjectFile → SectionId → Loading Section
+split_section file id = section_if file (dwo_section_name id)
+
+-- ten sections as those of a file of a kind with a supplementary file, or none
+abbrev pub as_file : DwarfFileType → Option SupSections → SupSections → Sections
+as_file kind sup ten = record {
+  debug_abbrev = ten.debug_abbrev;
+  debug_addr = ten.debug_addr;
+  debug_aranges = ten.debug_aranges;
+  debug_info = ten.debug_info;
+  debug_line = ten.debug_line;
+  debug_line_str = ten.debug_line_str;
+  debug_ranges = ten.debug_ranges;
+  debug_rnglists = ten.debug_rnglists;
+  debug_str = ten.debug_str;
+  debug_str_offsets = ten.debug_str_offsets;
+  file_type = kind;
+  sup = sup;
+}

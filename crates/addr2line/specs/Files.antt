@@ -1,0 +1,22 @@
+-- Files by their paths.
+-- Own: a path has the bytes of one file, or none: no file is there, or it can't be read.
+use Rattle.std.specs.Prelude.{ℕ, List, Option, Some, find, if◌then◌else◌, option_map, string_bytes, Vec}
+use Rattle.std.specs.Str.{bytes_eq}
+use Rattle.std.specs.declared.alloc.Global.{Global}
+use Rattle.std.specs.declared.string.String.{String}
+
+-- the bytes at a path, if there are any
+abbrev pub Files : Type 0
+Files = List ℕ → Option (List ℕ)
+
+-- the files after one is put at a path, in place of one that was there
+abbrev pub with_file : Files → List ℕ → List ℕ → Files
+with_file files path bytes = λ other. if bytes_eq other path then Some bytes else files other
+
+-- the files of a list of paths with bytes, in which the first of a path counts
+abbrev pub files_in : List (List ℕ × List ℕ) → Files
+files_in entries = λ path. option_map (λ (e : _). e.1) (find (λ e. bytes_eq path e.0) entries)
+
+-- a path and bytes that are kept
+abbrev pub seen_entry : String Global × Vec ℕ Global → List ℕ × List ℕ
+seen_entry e = (string_bytes e.0, e.1.items)

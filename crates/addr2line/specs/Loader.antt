@@ -1,0 +1,65 @@
+-- A loader as callers see it: the files that it reads, its main file, and the context of its
+-- sections.
+-- Own: a lookup gives the frames that the files say at that call, whichever lookups were made
+-- before; the first answer of a unit stays, so a file counts that was there when its unit was first
+-- looked up.
+use Rattle.std.specs.Prelude.{◌≡◌, ◌≢◌, ℕ, Option, Some, IfSome, Err}
+use Rattle.gimli.specs.Sections.{Sections}
+use Rattle.elf.specs.declared.error.LoaderError.{LoaderError}
+use Rattle.elf.specs.declared.error.LoaderError.TheVariants.{OutOfMemory}
+use Rattle.elf.specs.ObjectFile.{ObjectFile}
+use Rattle.addr2line_units.specs.FramesLookup.{answer_of}
+use Rattle.addr2line.specs.declared.loader.LoaderOver.{LoaderOver}
+use Rattle.addr2line.specs.Context.{ContextState, Stays}
+use Rattle.addr2line.specs.Files.{Files}
+use Rattle.addr2line.specs.FramesByFiles.{frames_by_files}
+use Rattle.addr2line.specs.Lookups.{FirstAnswers}
+
+-- the files, where they are known, the main file, and the context
+pub record LoaderState : Type 0 where
+  pub files : Option Files
+  pub object : ObjectFile
+  pub context : ContextState
+
+-- a loader, by what its files are
+abbrev pub seen_loader : {F : Type 0} → (F → Option Files) → LoaderOver F → LoaderState
+seen_loader files l = record { files = files l.files; object = l.object; context = l.context }
+
+-- first answers stay
+abbrev pub StayAnswered : FirstAnswers → FirstAnswers → Type 0
+StayAnswered old new = (n : ℕ) (answer : Option Sections) → answer_of old n ≡ Some answer
+    → answer_of new n ≡ Some answer
+
+-- where files answer loads, all lookups of frames give the same
+abbrev pub GivesSameFrames : Files → ContextState → ContextState → Type 0
+GivesSameFrames files old new = (probe : ℕ) → frames_by_files files new.sections new.answers probe
+    ≡ frames_by_files files old.sections old.answers probe
+
+-- sections and first answers are the same
+pub record StaysDecided (old new : ContextState) : Type 0 where
+  pub sections : new.sections ≡ old.sections
+  pub answers : new.answers ≡ old.answers
+
+-- loads of a context were answered by files
+pub record AfterAnswers (files : Option Files) (old new : ContextState) : Type 0 where
+  pub sections : new.sections ≡ old.sections
+  pub answers : StayAnswered old.answers new.answers
+  pub frames : IfSome files (λ held. GivesSameFrames held old new)
+
+-- a lookup of frames has answered loads by files: the files, the main file and the sections are the
+-- same, first answers stay, and all lookups of frames give the same
+pub record AfterLoads (old new : LoaderState) : Type 0 where
+  pub files : new.files ≡ old.files
+  pub object : new.object ≡ old.object
+  pub context : AfterAnswers old.files old.context new.context
+
+-- a lookup of locations has changed nothing but what is parsed and counted
+pub record StaysLoaded (old new : LoaderState) : Type 0 where
+  pub files : new.files ≡ old.files
+  pub object : new.object ≡ old.object
+  pub context : Stays old.context new.context
+
+-- where the files are known, the refusal is the fault of the frames by them, or OutOfMemory
+abbrev pub IsFaultByFiles : Option Files → ContextState → ℕ → LoaderError → Type 0
+IsFaultByFiles files c probe e = IfSome files (λ held. e ≢ OutOfMemory
+    → frames_by_files held c.sections c.answers probe ≡ Err e)

@@ -1,0 +1,99 @@
+-- The split files of units, and what answers their loads (DWARF 5, sections 3.1.2 and 7.3.2).
+-- Own: the file's path is the name of the split file where that begins with `/`, else the unit's
+-- directory, a `/` unless the directory is empty or ends in one, and the name. A unit without a
+-- name has no split file, and a path that isn't UTF-8 is a fault.
+-- Own: the first unit of the file has to have the identifier that the load has. A file that can't
+-- be read, another one, and a faulty one are answered none.
+use Rattle.std.specs.Prelude.{◌≡◌, ◌==◌, ◌++◌, ℕ, Bool, false, List, [], ◌∷◌, Option, Some, None, Result, Ok, Err, if◌then◌else◌, option_and_then, option_map, unwrap_or}
+use Rattle.std.specs.Option.{option_map_or}
+use Rattle.gimli_read.specs.declared.error.Error.{Error}
+use Rattle.gimli_read.specs.Reading.{◌>>=◌}
+use Rattle.gimli_read.specs.Section.{Section}
+use Rattle.gimli.specs.declared.dwarf.DwarfFileType.TheVariants.{Dwo}
+use Rattle.gimli.specs.declared.load.SectionId.{SectionId}
+use Rattle.gimli.specs.declared.unit.DwoId.{DwoId}
+use Rattle.gimli.specs.Sections.{Sections}
+use Rattle.gimli.specs.Split.{split_sections}
+use Rattle.gimli.specs.Unit.{UnitRecord}
+use Rattle.elf.specs.declared.error.LoaderError.TheVariants.{PathNotUtf8}
+use Rattle.elf.specs.Loading.{Loading}
+use Rattle.elf.specs.ObjectFile.{object_file_of}
+use Rattle.elf.specs.Symbols.{utf8_from}
+use Rattle.elf.specs.Text.{loader_error_of}
+use Rattle.addr2line_lines.specs.Paths.{lacks, slash}
+use Rattle.addr2line_units.specs.Views.{SplitLoad, first_unit}
+use Rattle.addr2line.specs.FileSections.{as_file, sections_by, split_section}
+use Rattle.addr2line.specs.Files.{Files}
+
+-- what DWARF bytes give, as an answer about their file
+abbrev pub of_file : {A : Type 0} → Result A Error → Loading A
+of_file (Ok x) = Ok x
+of_file (Err e) = Err (loader_error_of e)
+
+-- whether the name of a file begins with `/`
+abbrev pub is_absolute : List ℕ → Bool
+is_absolute [] = false
+is_absolute (b ∷ name) = b == slash
+
+-- a directory with what separates it from a name
+abbrev pub separated : List ℕ → List ℕ
+separated directory = if lacks slash directory then directory ++ slash ∷ [] else directory
+
+-- the path of a name in a directory
+abbrev pub path_in : List ℕ → List ℕ → List ℕ
+path_in directory name = if is_absolute name then name else separated directory ++ name
+
+-- the bytes of a text that may be there
+abbrev pub bytes_or_none : Option Section → List ℕ
+bytes_or_none text = option_map_or (λ (s : Section). s.bytes) text []
+
+-- the path of a split file, if it has a name
+abbrev pub split_path : SplitLoad → Option (List ℕ)
+split_path load =
+    option_map (λ (name : Section). path_in (bytes_or_none load.comp_dir) name.bytes) load.path
+
+-- whether an identifier is the one that is wanted
+abbrev pub is_same_id : DwoId → Option DwoId → Bool
+is_same_id wanted None = false
+is_same_id wanted (Some id) = id.0 == wanted.0
+
+-- whether a unit is there and has the identifier that is wanted
+abbrev pub is_wanted : DwoId → Option UnitRecord → Bool
+is_wanted wanted None = false
+is_wanted wanted (Some u) = is_same_id wanted u.dwo_id
+
+-- the split sections of a load, by what each section is given as; none where they belong to another
+-- unit
+unfoldable pub split_by : (SectionId → Loading Section) → SplitLoad → Loading (Option Sections)
+split_by given load = do
+  ten ← sections_by given
+  unit ← of_file (first_unit (as_file Dwo None ten))
+  Ok (if is_wanted load.dwo_id unit
+      then Some (split_sections (as_file Dwo None ten) load.parent)
+      else None)
+
+-- the same of the bytes of a file
+unfoldable pub split_of : SplitLoad → List ℕ → Loading (Option Sections)
+split_of load bytes = object_file_of bytes >>= λ file. split_by (split_section file) load
+
+-- what is loaded, or none in place of a fault
+abbrev pub or_none : Loading (Option Sections) → Option Sections
+or_none (Ok found) = found
+or_none (Err e) = None
+
+-- a path, if it is UTF-8
+abbrev pub utf8_path : List ℕ → Loading (List ℕ)
+utf8_path path = elim (utf8_from path) [ None ↦ Err PathNotUtf8 | Some text ↦ Ok text ]
+
+-- the split sections at a path, if they are there
+abbrev pub split_at : Files → SplitLoad → List ℕ → Option Sections
+split_at files load path = option_and_then (λ bytes. or_none (split_of load bytes)) (files path)
+
+-- the answer to the load of a unit by the file at a path
+abbrev pub given_at : Files → SplitLoad → List ℕ → Loading (Option Sections)
+given_at files load path = utf8_path path >>= λ text. Ok (split_at files load text)
+
+-- the answer to the load of a unit
+unfoldable pub given_by : Files → SplitLoad → Loading (Option Sections)
+given_by files load = elim (split_path load)
+    [ None ↦ Ok None | Some path ↦ given_at files load path ]

@@ -1,0 +1,109 @@
+//! The sections of an ELF file that DWARF is read from.
+
+ghost use Rattle.std.specs.Prelude.{◌≡◌, option_map};
+ghost use Rattle.elf.specs.Loading.{LoadsUnlessOom};
+ghost use Rattle.addr2line.specs.FileSections.{as_file, sections_by};
+
+use bytes::Bytes;
+use elf::{ElfFile, LoaderError};
+use gimli::read::{EndianBytes, Reader, RunTimeEndian};
+use gimli::{
+    DebugAbbrev, DebugAddr, DebugAranges, DebugInfo, DebugLine, DebugLineStr, DebugRanges,
+    DebugRngLists, DebugStr, DebugStrOffsets, Dwarf, DwarfFileType, SectionId, SupDwarf,
+};
+use std::rc::Rc;
+
+// What gives the sections of a file, main or split. It gives them as any reader, since a function
+// that owns shared bytes lets go of them in many steps on each way out.
+pub(crate) trait SectionSource<R: Reader> {
+    ghost use Rattle.gimli_read.specs.Section.{Section};
+    ghost use Rattle.gimli.specs.declared.load.SectionId.{SectionId};
+    ghost use Rattle.elf.specs.Loading.{Loading, LoadsUnlessOom};
+
+    // The section of a name, or the fault.
+    ghost given: { Self → SectionId → Loading Section };
+
+    // Reads the section of a name.
+    fn section(&self, id: SectionId) -> Result<R, LoaderError>
+        ensures gives { LoadsUnlessOom R.section result (given self.now id) };
+}
+
+// A file that isn't split.
+#[derive(Clone, Copy)]
+pub(crate) struct MainFile<'a> {
+    pub(crate) object: &'a ElfFile,
+}
+
+impl SectionSource<EndianBytes> for MainFile<'_> {
+    ghost use Rattle.addr2line.specs.FileSections.{main_section};
+
+    ghost given = { λ s id. main_section s.object.now id };
+
+    fn section(&self, id: SectionId) -> Result<EndianBytes, LoaderError> {
+        self.object.section(id.name())
+    }
+}
+
+// A split file.
+#[derive(Clone, Copy)]
+pub(crate) struct SplitFile<'a> {
+    pub(crate) object: &'a ElfFile,
+}
+
+impl SectionSource<EndianBytes> for SplitFile<'_> {
+    ghost use Rattle.addr2line.specs.FileSections.{split_section};
+
+    ghost given = { λ s id. split_section s.object.now id };
+
+    fn section(&self, id: SectionId) -> Result<EndianBytes, LoaderError> {
+        match id.dwo_name() {
+            Some(name) => self.object.section(name),
+            None => Ok(EndianBytes::new(Bytes::new(), RunTimeEndian::Little)),
+        }
+    }
+}
+
+// The sections of a file, in the order of their names.
+#[tactic(auto, unfolding(crate::specs::FileSections::sections_by))]
+pub(crate) fn read_sections<R: Reader, S: SectionSource<R>>(
+    file: &S,
+) -> Result<SupDwarf<R>, LoaderError>
+    ensures gives { LoadsUnlessOom (λ d. d) result (sections_by (S.given file.now)) }
+{
+    Ok(SupDwarf {
+        debug_abbrev: DebugAbbrev::from(file.section(SectionId::DebugAbbrev)?),
+        debug_addr: DebugAddr::from(file.section(SectionId::DebugAddr)?),
+        debug_aranges: DebugAranges::from(file.section(SectionId::DebugAranges)?),
+        debug_info: DebugInfo::from(file.section(SectionId::DebugInfo)?),
+        debug_line: DebugLine::from(file.section(SectionId::DebugLine)?),
+        debug_line_str: DebugLineStr::from(file.section(SectionId::DebugLineStr)?),
+        debug_ranges: DebugRanges::from(file.section(SectionId::DebugRanges)?),
+        debug_rnglists: DebugRngLists::from(file.section(SectionId::DebugRngLists)?),
+        debug_str: DebugStr::from(file.section(SectionId::DebugStr)?),
+        debug_str_offsets: DebugStrOffsets::from(file.section(SectionId::DebugStrOffsets)?),
+    })
+}
+
+// Sections as those of a file of a kind, with a supplementary file or none. Takes no memory.
+pub(crate) fn as_dwarf<R: Reader>(
+    sections: SupDwarf<R>,
+    file_type: DwarfFileType,
+    sup: Option<Rc<SupDwarf<R>>>,
+) -> Dwarf<R>
+    ensures gives { result ≡ as_file file_type (option_map (λ s. s.value) sup) sections }
+{
+    Dwarf {
+        debug_abbrev: sections.debug_abbrev,
+        debug_addr: sections.debug_addr,
+        debug_aranges: sections.debug_aranges,
+        debug_info: sections.debug_info,
+        debug_line: sections.debug_line,
+        debug_line_str: sections.debug_line_str,
+        debug_ranges: sections.debug_ranges,
+        debug_rnglists: sections.debug_rnglists,
+        debug_str: sections.debug_str,
+        debug_str_offsets: sections.debug_str_offsets,
+        file_type,
+        sup,
+    }
+}

@@ -1,0 +1,107 @@
+//! Where files come from.
+
+ghost use Rattle.std.specs.Prelude.{◌≡◌, ℕ, List, [], OnErr, OnOk};
+ghost use Rattle.addr2line.specs.Files.{files_in, with_file};
+
+use std::alloc::{AllocError, Global};
+use std::fs;
+use std::io::ErrorKind;
+use std::marker::Model;
+
+/// What gives whole files by their paths.
+pub trait FileSource: Drop {
+    ghost use Rattle.std.specs.Prelude.{IfOk, IfSome, None, Option, option_map};
+    ghost use Rattle.addr2line.specs.Files.{Files};
+
+    /// What stands at each path, where that is known.
+    ghost files: { Self → Option Files } = { λ _. None };
+
+    /// The bytes of the file at a path, none where there is no file or it can't be read.
+    ///
+    /// Fails where a growth was refused. Source: own.
+    fn read(&self, alloc: Global, path: &str) -> Result<Option<Vec<u8>>, AllocError>
+        ensures gives { IfSome (files self.now) (λ held. IfOk result (λ found.
+            option_map (λ (v : _). v.items) found ≡ held path.now)) };
+}
+
+/// Files in memory.
+#[derive(Drop)]
+pub struct MemoryFiles {
+    alloc: Global,
+    // A file that is put stands before the others, so that it hides one of the same path.
+    entries: Vec<(String, Vec<u8>)>,
+}
+
+impl Model for MemoryFiles {
+    ghost use Rattle.std.specs.Prelude.{List, map, ℕ};
+    ghost use Rattle.addr2line.specs.Files.{seen_entry};
+
+    ghost Value = { List (List ℕ × List ℕ) };
+
+    ghost view = { λ s. map seen_entry s.entries.items };
+}
+
+impl MemoryFiles {
+    /// No files. Takes no memory.
+    pub fn new(alloc: Global) -> MemoryFiles
+        ensures none { result ≡ [] }
+    {
+        MemoryFiles {
+            alloc,
+            entries: Vec::new(alloc),
+        }
+    }
+
+    /// Puts a file at a path, in place of one that was there.
+    ///
+    /// Fails where a growth was refused; then nothing is changed.
+    pub fn put(&mut self, path: &str, bytes: &[u8]) -> Result<(), AllocError>
+        ensures after { OnOk result ((other : List ℕ) → files_in self.new other
+            ≡ with_file (files_in self.old) path.now bytes.now other) }
+        ensures refused { OnErr result (self.new ≡ self.old) }
+    {
+        let path = String::from_str(self.alloc, path)?;
+        let bytes = Vec::from_slice(self.alloc, bytes)?;
+        self.entries.insert(0, (path, bytes))?;
+        Ok(())
+    }
+}
+
+impl FileSource for MemoryFiles {
+    ghost use Rattle.std.specs.Prelude.{Some};
+    ghost use Rattle.addr2line.specs.Files.{files_in};
+
+    ghost files = { λ s. Some (files_in s) };
+
+    fn read(&self, alloc: Global, path: &str) -> Result<Option<Vec<u8>>, AllocError> {
+        for (name, bytes) in self.entries.iter() {
+            if path == name.as_str() {
+                return Ok(Some(Vec::from_slice(alloc, bytes.as_slice())?));
+            }
+        }
+        Ok(None)
+    }
+}
+
+/// The files of the host.
+#[derive(Drop)]
+pub struct HostFiles {
+    rt: HostRuntime,
+}
+
+impl HostFiles {
+    /// The files that the runtime reaches. Takes no memory.
+    pub fn new(rt: HostRuntime) -> HostFiles {
+        HostFiles { rt }
+    }
+}
+
+impl FileSource for HostFiles {
+    fn read(&self, _alloc: Global, path: &str) -> Result<Option<Vec<u8>>, AllocError> {
+        match fs::read(&self.rt, path) {
+            Ok(bytes) => Ok(Some(bytes)),
+            Err(error) if error.kind() == ErrorKind::OutOfMemory => Err(AllocError),
+            Err(_) => Ok(None),
+        }
+    }
+}

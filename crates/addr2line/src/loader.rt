@@ -1,0 +1,248 @@
+//! Loaders: contexts of ELF files, with their symbols and their split files.
+
+ghost use Rattle.std.specs.Prelude.{◌≡◌, IfErr, IfOk, IfSome, Ok, Option, Some, option_map};
+ghost use Rattle.std.specs.Borrow.{sem};
+ghost use Rattle.elf.specs.declared.error.LoaderError.TheVariants.{OutOfMemory};
+ghost use Rattle.elf.specs.Loading.{Loading, LoadsUnlessOom};
+ghost use Rattle.elf.specs.Sections.{section_range_at};
+ghost use Rattle.elf.specs.Symbols.{NamedAddress, named_address, symbol_at};
+ghost use Rattle.gimli.specs.Sections.{Sections, SupSections};
+ghost use Rattle.addr2line_lines.specs.SeenLocation.{seen_location};
+ghost use Rattle.addr2line_units.specs.Located.{location_of, spans_of};
+ghost use Rattle.addr2line_units.specs.LocationsLeft.{locations_left};
+ghost use Rattle.addr2line.specs.Loaded.{as_sup, context_at, dwarf_at, loaded, main_with_sup, object_at, sup_at};
+ghost use Rattle.addr2line.specs.Loader.{StaysLoaded, seen_loader};
+ghost use Rattle.addr2line.specs.SplitFiles.{of_file};
+
+use crate::context::Context;
+use crate::file_sections::{MainFile, as_dwarf, read_sections};
+use crate::files::{FileSource, HostFiles};
+use crate::split_files::parse_file;
+use addr2line_lines::Location;
+use addr2line_units::range::LocationRangeIter;
+use elf::{ElfFile, LoaderError, Symbol};
+use gimli::read::{EndianBytes, Range, Reader};
+use gimli::{Dwarf, DwarfFileType, SupDwarf};
+use std::alloc::Global;
+use std::rc::Rc;
+
+// The ELF file at a path.
+#[tactic(auto, unfolding(crate::specs::Loaded::object_at))]
+fn open<F: FileSource>(alloc: Global, files: &F, path: &str) -> Result<ElfFile, LoaderError>
+    ensures gives { IfSome (F.files files.now) (λ held. LoadsUnlessOom (λ f. f) result
+        (object_at held path.now)) }
+{
+    match files.read(alloc, path)? {
+        Some(bytes) => parse_file(alloc, bytes),
+        None => Err(LoaderError::Io),
+    }
+}
+
+// The sections of a supplementary file, shared, or their fault.
+fn share_sup<R: Reader>(
+    alloc: Global,
+    sections: Result<SupDwarf<R>, LoaderError>,
+) -> Result<Option<Rc<SupDwarf<R>>>, LoaderError>
+    ensures gives { (given : Loading SupSections) → LoadsUnlessOom (λ s. s) sections given
+        → LoadsUnlessOom (option_map (λ s. s.value)) result (as_sup given) }
+{
+    Ok(Some(Rc::new(alloc, sections?)?))
+}
+
+// The sections of the supplementary file, if one is named.
+#[tactic(auto, unfolding(crate::specs::Loaded::sup_at))]
+fn read_sup<F: FileSource>(
+    alloc: Global,
+    files: &F,
+    path: Option<&str>,
+) -> Result<Option<Rc<SupDwarf<EndianBytes>>>, LoaderError>
+    ensures gives { IfSome (F.files files.now) (λ held.
+        LoadsUnlessOom (option_map (λ s. s.value)) result
+        (sup_at held (option_map (λ p. p.now) path.entry))) }
+{
+    let Some(path) = path else {
+        return Ok(None);
+    };
+    let object = open(alloc, files, path)?;
+    share_sup(alloc, read_sections(&MainFile { object: &object }))
+}
+
+// The sections of a main file with those of a supplementary one, or the fault of these.
+fn with_sup<R: Reader>(
+    main: SupDwarf<R>,
+    sup: Result<Option<Rc<SupDwarf<R>>>, LoaderError>,
+) -> Result<Dwarf<R>, LoaderError>
+    ensures gives { (given : Loading (Option SupSections))
+        → LoadsUnlessOom (option_map (λ s. s.value)) sup given
+        → LoadsUnlessOom (λ d. d) result (main_with_sup main given) }
+{
+    Ok(as_dwarf(main, DwarfFileType::Main, sup?))
+}
+
+// The sections of a main file and of the supplementary file, if one is named.
+#[tactic(auto, unfolding(crate::specs::Loaded::dwarf_at))]
+fn read_dwarf<F: FileSource>(
+    alloc: Global,
+    files: &F,
+    object: &ElfFile,
+    sup_path: Option<&str>,
+) -> Result<Dwarf<EndianBytes>, LoaderError>
+    ensures gives { IfSome (F.files files.now) (λ held. LoadsUnlessOom (λ d. d) result
+        (dwarf_at held object.now (option_map (λ p. p.now) sup_path.entry))) }
+{
+    let main = read_sections(&MainFile { object })?;
+    with_sup(main, read_sup(alloc, files, sup_path))
+}
+
+// The context of sections, or their fault.
+fn context_of<R: Reader>(
+    alloc: Global,
+    dwarf: Result<Dwarf<R>, LoaderError>,
+) -> Result<Context<R>, LoaderError>
+    ensures gives { (given : Loading Sections) → LoadsUnlessOom (λ d. d) dwarf given
+        → LoadsUnlessOom (λ c. c) result (context_at given) }
+{
+    Ok(Context::from_dwarf(alloc, dwarf?)?)
+}
+
+/// The debug information of an ELF file: a context of its sections, its symbols, and the files
+/// `F` that answer for its split files.
+#[derive(Drop)]
+pub struct LoaderOver<F: FileSource> {
+    alloc: Global,
+    files: F,
+    object: ElfFile,
+    context: Context<EndianBytes>,
+}
+
+/// A loader over the files of the host.
+pub type Loader = LoaderOver<HostFiles>;
+
+impl<F: FileSource> LoaderOver<F> {
+    ghost use Rattle.addr2line.specs.BorrowedLoader.{LendsFiles, LoaderEndsAs};
+
+    /// A loader of the ELF file at `path`, with the supplementary file at `sup_path`, if there is
+    /// one.
+    ///
+    /// | Refusal, in this order | When |
+    /// |---|---|
+    /// | `Io` | the file can't be read |
+    /// | `NotElf`, `BadElf` | as `ElfFile::parse` is refused |
+    /// | `BadElf`, `CompressedSection`, `RelocationsNeeded` | by the first section that `ElfFile::section` refuses, in the order of their names |
+    /// | the same | by the supplementary file |
+    /// | `Dwarf` | as `Context::from_dwarf` is refused |
+    ///
+    /// May fail with `OutOfMemory` instead. No section is copied. Source: DWARF 5, sections 7.3.6
+    /// and 7.5. Own: the order.
+    #[tactic(auto, unfolding(crate::specs::Loaded::loaded))]
+    pub fn over(
+        alloc: Global,
+        files: F,
+        path: &str,
+        sup_path: Option<&str>,
+    ) -> Result<LoaderOver<F>, LoaderError>
+        ensures gives { IfSome (F.files files) (λ held.
+            LoadsUnlessOom (λ l. (l.object, l.context)) result
+            (loaded held path.now (option_map (λ p. p.now) sup_path.entry))) }
+        ensures files { IfOk result (λ l. l.files ≡ files) }
+    {
+        let object = open(alloc, &files, path)?;
+        let context = context_of(alloc, read_dwarf(alloc, &files, &object, sup_path))?;
+        Ok(LoaderOver {
+            alloc,
+            files,
+            object,
+            context,
+        })
+    }
+
+    /// The files that answer loads. Takes no memory.
+    pub fn files_mut(&mut self) -> &mut F
+        ensures files { result.now ≡ self.old.files }
+        ensures* lends { sem 𝓛 (LendsFiles F.row self.entry result) }
+    {
+        &mut self.files
+    }
+
+    /// What is subtracted from addresses before they are looked up: 0. Takes no memory.
+    pub fn relative_address_base(&self) -> u64
+        ensures gives { result ≡ 0 }
+    {
+        0
+    }
+
+    /// The location of an address, as `Context::find_location` gives it.
+    ///
+    /// Refused `Dwarf` as that is; may fail with `OutOfMemory` instead.
+    pub fn find_location(&mut self, probe: u64) -> Result<Option<Location<'_>>, LoaderError>
+        ensures gives { LoadsUnlessOom (option_map seen_location) result
+            (of_file (location_of self.old.context.sections probe)) }
+        ensures* kept { sem 𝓛 (LoaderEndsAs F.row F.files self.entry
+            (StaysLoaded (seen_loader F.files self.old))) }
+    {
+        match self.context.find_location(probe) {
+            Ok(location) => Ok(location),
+            Err(error) => Err(LoaderError::from(error)),
+        }
+    }
+
+    /// The rows that a range of addresses meets, as `Context::find_location_range` gives them.
+    ///
+    /// Refused `OutOfMemory` alone.
+    pub fn find_location_range(
+        &mut self,
+        low: u64,
+        high: u64,
+    ) -> Result<LocationRangeIter<'_, EndianBytes>, LoaderError>
+        ensures gives { IfOk result (λ rows. spans_of self.old.context.sections low high
+            ≡ Ok (locations_left rows)) }
+        ensures refused { IfErr result (λ e. e ≡ OutOfMemory) }
+        ensures* kept { sem 𝓛 (LoaderEndsAs F.row F.files self.entry
+            (StaysLoaded (seen_loader F.files self.old))) }
+    {
+        match self.context.find_location_range(low, high) {
+            Ok(rows) => Ok(rows),
+            Err(error) => Err(LoaderError::from(error)),
+        }
+    }
+
+    /// The name of the symbol of an address, as `ElfFile::symbol` chooses it. Takes no memory.
+    pub fn find_symbol(&self, probe: u64) -> Option<&str>
+        ensures gives { option_map (λ name. name.now) result
+            ≡ option_map (λ (s : NamedAddress). s.name) (symbol_at probe self.now.object) }
+    {
+        let symbol = self.object.symbol(probe)?;
+        Some(symbol.name())
+    }
+
+    /// The symbol of an address, as `ElfFile::symbol` chooses it. Takes no memory.
+    pub fn find_symbol_info(&self, probe: u64) -> Option<Symbol<'_>>
+        ensures gives { option_map named_address result ≡ symbol_at probe self.now.object }
+    {
+        self.object.symbol(probe)
+    }
+
+    /// The addresses of the first section of a name, whatever its type and flags; none where there
+    /// is no such section, or where its end passes 64 bits. Takes no memory.
+    pub fn get_section_range(&self, name: &[u8]) -> Option<Range>
+        ensures gives { result ≡ section_range_at name.now self.now.object }
+    {
+        self.object.section_range(name)
+    }
+}
+
+impl LoaderOver<HostFiles> {
+    /// A loader of a file of the host, as `over` makes it.
+    pub fn new(rt: HostRuntime, path: &str) -> Result<Loader, LoaderError> {
+        LoaderOver::over(rt.alloc(), HostFiles::new(rt), path, None)
+    }
+
+    /// The same with a supplementary file.
+    pub fn new_with_sup(
+        rt: HostRuntime,
+        path: &str,
+        sup_path: &str,
+    ) -> Result<Loader, LoaderError> {
+        LoaderOver::over(rt.alloc(), HostFiles::new(rt), path, Some(sup_path))
+    }
+}

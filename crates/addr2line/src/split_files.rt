@@ -1,0 +1,197 @@
+//! The split files of units, which answer their loads.
+
+ghost use Rattle.std.specs.Prelude.{◌≡◌, IfOk, IfSome, List, ℕ, None, Ok, OnOk, Option, Some, option_map};
+ghost use Rattle.gimli_read.specs.Reading.{Exactly, ExactlyUnlessOom};
+ghost use Rattle.gimli.specs.Sections.{Sections};
+ghost use Rattle.elf.specs.Loading.{Loading, LoadsUnlessOom};
+ghost use Rattle.elf.specs.ObjectFile.{object_file_of};
+ghost use Rattle.addr2line_units.specs.KeptViews.{seen_load};
+ghost use Rattle.addr2line_units.specs.Views.{first_unit};
+ghost use Rattle.addr2line.specs.SplitFiles.{bytes_or_none, given_by, is_absolute, is_same_id, is_wanted, or_none, path_in, separated, split_by, split_of, split_path, utf8_path};
+
+use crate::file_sections::{SectionSource, SplitFile, as_dwarf, read_sections};
+use crate::files::FileSource;
+use addr2line_units::view::SplitDwarfLoad;
+use bytes::Bytes;
+use elf::{ElfFile, LoaderError};
+use gimli::read::{EndianBytes, Error, Reader, RunTimeEndian};
+use gimli::{Dwarf, DwarfFileType, DwoId, Unit};
+use std::alloc::{AllocError, Global};
+use std::rc::Rc;
+use std::str;
+
+// The ELF file that bytes are. Byte 5 of them gives their order, whatever is given here.
+pub(crate) fn parse_file(alloc: Global, bytes: Vec<u8>) -> Result<ElfFile, LoaderError>
+    ensures gives { LoadsUnlessOom (λ f. f) result (object_file_of bytes.items) }
+{
+    let bytes = Bytes::from_vec(bytes)?;
+    ElfFile::parse(alloc, EndianBytes::new(bytes, RunTimeEndian::Little))
+}
+
+// The bytes of a text that may be there.
+fn bytes_of<R: Reader>(text: &Option<R>) -> &[u8]
+    ensures gives { result.now ≡ bytes_or_none (option_map R.section text.now) }
+{
+    match text {
+        Some(text) => text.to_slice(),
+        None => &[],
+    }
+}
+
+// Whether the name of a file begins with `/`.
+fn begins_with_slash(name: &[u8]) -> bool
+    ensures gives { result ≡ is_absolute name.now }
+{
+    match name.first() {
+        Some(byte) => *byte == b'/',
+        None => false,
+    }
+}
+
+// A directory with what separates it from a name.
+fn separated_directory(alloc: Global, directory: &[u8]) -> Result<Vec<u8>, AllocError>
+    ensures gives { IfOk result (λ path. path.items ≡ separated directory.now) }
+{
+    let mut path = Vec::from_slice(alloc, directory)?;
+    match directory.last() {
+        Some(byte) if *byte != b'/' => path.push(b'/')?,
+        _ => {}
+    }
+    Ok(path)
+}
+
+// The path of a name in a directory.
+fn join(alloc: Global, directory: &[u8], name: &[u8]) -> Result<Vec<u8>, AllocError>
+    ensures gives { IfOk result (λ path. path.items ≡ path_in directory.now name.now) }
+{
+    if begins_with_slash(name) {
+        return Vec::from_slice(alloc, name);
+    }
+    let mut path = separated_directory(alloc, directory)?;
+    path.extend_from_slice(name)?;
+    Ok(path)
+}
+
+// The path of a split file, none where it has no name.
+fn path_of<R: Reader>(
+    alloc: Global,
+    load: &SplitDwarfLoad<R>,
+) -> Result<Option<Vec<u8>>, AllocError>
+    ensures gives { IfOk result (λ path. option_map (λ (v : _). v.items) path
+        ≡ split_path (seen_load R.section load.now)) }
+{
+    match &load.path {
+        Some(name) => Ok(Some(join(alloc, bytes_of(&load.comp_dir), name.to_slice())?)),
+        None => Ok(None),
+    }
+}
+
+// A path as a text, if it is UTF-8.
+fn text_of(path: &[u8]) -> Result<&str, LoaderError>
+    ensures gives { Exactly (λ text. text.now) result (utf8_path path.now) }
+{
+    match str::from_utf8(path) {
+        Ok(text) => Ok(text),
+        Err(_) => Err(LoaderError::PathNotUtf8),
+    }
+}
+
+// The first unit of sections, none where they have no unit.
+fn read_first_unit<R: Reader>(alloc: Global, dwarf: &Dwarf<R>) -> Result<Option<Unit<R>>, Error>
+    ensures gives { ExactlyUnlessOom (λ u. u) result (first_unit dwarf.now) }
+{
+    let mut headers = dwarf.units()?;
+    match headers.next()? {
+        Some(header) => Ok(Some(dwarf.unit(alloc, header)?)),
+        None => Ok(None),
+    }
+}
+
+// Whether an identifier is the one that is wanted.
+fn is_same(wanted: DwoId, id: Option<DwoId>) -> bool
+    ensures gives { result ≡ is_same_id wanted id }
+{
+    match id {
+        Some(id) => id.0 == wanted.0,
+        None => false,
+    }
+}
+
+// Whether a unit has the identifier that is wanted.
+fn has_wanted<R: Reader>(wanted: DwoId, unit: &Option<Unit<R>>) -> bool
+    ensures gives { result ≡ is_wanted wanted unit.now }
+{
+    match unit {
+        Some(unit) => is_same(wanted, unit.dwo_id),
+        None => false,
+    }
+}
+
+// The sections of a file as those of the split file of a load, none where they belong to another
+// unit.
+#[tactic(auto, unfolding(crate::specs::SplitFiles::split_by))]
+fn read_split<R: Reader, S: SectionSource<R>>(
+    alloc: Global,
+    file: &S,
+    load: &SplitDwarfLoad<R>,
+) -> Result<Option<Rc<Dwarf<R>>>, LoaderError>
+    ensures gives { LoadsUnlessOom (option_map (λ d. d.value)) result
+        (split_by (S.given file.now) (seen_load R.section load.now)) }
+{
+    let mut dwarf = as_dwarf(read_sections(file)?, DwarfFileType::Dwo, None);
+    let unit = read_first_unit(alloc, &dwarf)?;
+    if !has_wanted(load.dwo_id, &unit) {
+        return Ok(None);
+    }
+    dwarf.make_dwo(&load.parent)?;
+    Ok(Some(Rc::new(alloc, dwarf)?))
+}
+
+// The split sections of a load that the bytes of a file are.
+#[tactic(auto, unfolding(crate::specs::SplitFiles::split_of))]
+fn read_split_file(
+    alloc: Global,
+    load: &SplitDwarfLoad<EndianBytes>,
+    bytes: Vec<u8>,
+) -> Result<Option<Rc<Dwarf<EndianBytes>>>, LoaderError>
+    ensures gives { LoadsUnlessOom (option_map (λ d. d.value)) result
+        (split_of (seen_load (λ r. r) load.now) bytes.items) }
+{
+    let object = parse_file(alloc, bytes)?;
+    read_split(alloc, &SplitFile { object: &object }, load)
+}
+
+// What was read, or none in place of a fault.
+fn without_fault<R: Reader>(
+    found: Result<Option<Rc<Dwarf<R>>>, LoaderError>,
+) -> Result<Option<Rc<Dwarf<R>>>, LoaderError>
+    ensures gives { (given : Loading (Option Sections))
+        → LoadsUnlessOom (option_map (λ d. d.value)) found given
+        → LoadsUnlessOom (option_map (λ d. d.value)) result (Ok (or_none given)) }
+{
+    match found {
+        Ok(found) => Ok(found),
+        Err(LoaderError::OutOfMemory) => Err(LoaderError::OutOfMemory),
+        Err(_) => Ok(None),
+    }
+}
+
+// The answer to the load of a unit, by the files.
+#[tactic(auto, unfolding(crate::specs::SplitFiles::given_by))]
+pub(crate) fn answer_to<F: FileSource>(
+    alloc: Global,
+    files: &F,
+    load: &SplitDwarfLoad<EndianBytes>,
+) -> Result<Option<Rc<Dwarf<EndianBytes>>>, LoaderError>
+    ensures gives { IfSome (F.files files.now) (λ held.
+        LoadsUnlessOom (option_map (λ d. d.value)) result
+        (given_by held (seen_load (λ r. r) load.now))) }
+{
+    let Some(path) = path_of(alloc, load)? else {
+        return Ok(None);
+    };
+    match files.read(alloc, text_of(&path)?)? {
+        Some(bytes) => without_fault(read_split_file(alloc, load, bytes)),
+        None => Ok(None),
+    }
+}

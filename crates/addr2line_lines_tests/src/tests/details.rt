@@ -1,32 +1,13 @@
 //! Worked cases: names of functions and the inlined functions at addresses, and the faults that
 //! refuse them.
 
-use super::functions::{NAMED, NAMED_INFO};
-use super::sections::{LINE, dwarf_of};
-use addr2line::gimli::read::{EndianSlice, Error, Reader};
-use addr2line::gimli::{Dwarf, Unit, UnitRef};
+use crate::sections::dwarf_of;
+use crate::vectors::{LINE, NAMED, NAMED_INFO, OPEN_FUNCTION, OPEN_UNIT, TWO_FUNCTIONS};
 use addr2line_lines::{FileUnits, Functions, Scope};
+use gimli::read::{EndianSlice, Error, Reader};
+use gimli::{Dwarf, Unit, UnitRef};
 use std::alloc::{AllocError, Global};
 use std::test::Fail;
-
-/// The unit without its last byte, the closing entry of its root.
-pub const OPEN_UNIT: &[u8] = b"\x42\0\0\0\x04\0\0\0\0\0\x08\x01\0\0\0\0\x2f\x77\0\x10\0\0\0\0\0\0\0\
-    \x20\0\0\0\x04\x67\0\x02\x66\0\x10\0\0\0\0\0\0\0\x20\0\0\0\x03\x1f\0\0\0\x20\0\0\0\0\0\0\0\x08\0\
-    \0\0\x01\x07\0\0";
-
-/// The same without that of the function.
-pub const OPEN_FUNCTION: &[u8] =
-    b"\x41\0\0\0\x04\0\0\0\0\0\x08\x01\0\0\0\0\x2f\x77\0\x10\0\0\0\0\0\0\
-    \0\x20\0\0\0\x04\x67\0\x02\x66\0\x10\0\0\0\0\0\0\0\x20\0\0\0\x03\x1f\0\0\0\x20\0\0\0\0\0\0\0\
-    \x08\0\0\0\x01\x07\0";
-
-/// "f" [0x10, 0x30) with an inlined function [0x20, 0x28) that is called at line 7, and "e"
-/// [0x40, 0x60) with one [0x40, 0x48) that is called at line 9; both are "g".
-pub const TWO_FUNCTIONS: &[u8] =
-    b"\x67\0\0\0\x04\0\0\0\0\0\x08\x01\0\0\0\0\x2f\x77\0\x10\0\0\0\0\0\0\
-    \0\x50\0\0\0\x04\x67\0\x02\x66\0\x10\0\0\0\0\0\0\0\x20\0\0\0\x03\x1f\0\0\0\x20\0\0\0\0\0\0\0\
-    \x08\0\0\0\x01\x07\0\0\x02\x65\0\x40\0\0\0\0\0\0\0\x20\0\0\0\x03\x1f\0\0\0\x40\0\0\0\0\0\0\0\
-    \x08\0\0\0\x01\x09\0\0\0";
 
 /// A root entry without attributes, and functions and inlined functions with children and with
 /// DW_AT_low_pc and DW_AT_high_pc.

@@ -1,11 +1,11 @@
 //! Worked cases: the frames of an address, and the texts of their names.
 
-use super::functions::{NAMED, NAMED_INFO};
-use super::sections::{LINE, dwarf_of, little, location_code};
-use addr2line::gimli::read::{DwLang, EndianSlice, Error};
-use addr2line::gimli::{Dwarf, Unit, UnitRef};
+use crate::sections::{dwarf_of, little, location_code};
+use crate::vectors::{LINE, NAMED, NAMED_INFO};
 use addr2line_lines::{FileUnits, Functions, Lines, Scope};
 use addr2line_units::{Frame, FrameIter, FunctionName};
+use gimli::read::{DwLang, EndianSlice, Error};
+use gimli::{Dwarf, Unit, UnitRef};
 use std::alloc::Global;
 use std::test::Fail;
 

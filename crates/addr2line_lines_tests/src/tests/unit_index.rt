@@ -1,8 +1,8 @@
 //! Worked cases: the ranges of units that hold an address or meet a range.
 
-use addr2line::gimli::read::{Error, Range};
 use addr2line_units::index::{UnitRange, UnitRanges};
 use addr2line_units::range_iter::UnitRangeIter;
+use gimli::read::{Error, Range};
 use std::alloc::Global;
 use std::test::Fail;
 

@@ -1,10 +1,10 @@
 //! Worked cases: the ranges of addresses that the attributes of a unit's root entry give.
 
-use super::sections::{dwarf_of, little};
-use addr2line::gimli::read::{EndianSlice, Error};
-use addr2line::gimli::{DebugRanges, DebugRngLists, Dwarf, UnitRef};
+use crate::sections::{dwarf_of, little};
 use addr2line_lines::read_ranges;
 use addr2line_units::attributes::read_unit_attributes;
+use gimli::read::{EndianSlice, Error};
+use gimli::{DebugRanges, DebugRngLists, Dwarf, UnitRef};
 use std::alloc::Global;
 use std::test::Fail;
 

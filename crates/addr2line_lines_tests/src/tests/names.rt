@@ -1,7 +1,7 @@
 //! Texts of names.
 
-use addr2line::gimli::read::{DwLang, Error};
-use addr2line::{demangle, demangle_auto};
+use addr2line_units::frame::{demangle, demangle_auto};
+use gimli::read::{DwLang, Error};
 use std::alloc::Global;
 use std::borrow::CowStr;
 use std::test::Fail;

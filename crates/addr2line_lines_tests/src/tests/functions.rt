@@ -1,24 +1,12 @@
 //! Worked cases: the functions of a unit, and which of them counts at an address.
 
-use super::sections::{LINE, dwarf_of, little};
-use addr2line::gimli::read::{EndianSlice, Error};
-use addr2line::gimli::{DebugRanges, UnitRef};
+use crate::sections::{dwarf_of, little};
+use crate::vectors::{LINE, LIST, NAMED, NAMED_INFO};
 use addr2line_lines::Functions;
+use gimli::read::{EndianSlice, Error};
+use gimli::{DebugRanges, UnitRef};
 use std::alloc::Global;
 use std::test::Fail;
-
-// A unit's root entry, a function with a name and children, an inlined function, and a function
-// with a name alone.
-pub const NAMED: &[u8] =
-    b"\x01\x11\x01\x10\x17\x1b\x08\x11\x01\x12\x06\0\0\x02\x2e\x01\x03\x08\x11\x01\
-    \x12\x06\0\0\x03\x1d\0\x31\x13\x11\x01\x12\x06\x58\x0b\x59\x0b\x57\x0b\0\0\x04\x2e\0\x03\x08\0\
-    \0\0";
-
-// The function "g" without ranges at 0x1f, and "f" [0x10, 0x30) at 0x22.
-pub const NAMED_INFO: &[u8; 71] =
-    b"\x43\0\0\0\x04\0\0\0\0\0\x08\x01\0\0\0\0\x2f\x77\0\x10\0\0\0\0\0\0\0\
-    \x20\0\0\0\x04\x67\0\x02\x66\0\x10\0\0\0\0\0\0\0\x20\0\0\0\x03\x1f\0\0\0\x20\0\0\0\0\0\0\0\x08\0\
-    \0\0\x01\x07\0\0\0";
 
 // "f" begins at the greatest address and has 0x10 of them: the sum wraps.
 const WRAPPED_INFO: &[u8] = b"\x43\0\0\0\x04\0\0\0\0\0\x08\x01\0\0\0\0\x2f\x77\0\x10\0\0\0\0\0\0\0\
@@ -42,9 +30,6 @@ const LISTED: &[u8] = b"\x01\x11\x01\0\0\x02\x2e\0\x55\x17\0\0\x03\x2e\0\x11\x01
 
 // The ranges of a list at 0xc, and [45, 60) at 0x11.
 const LISTED_INFO: &[u8] = b"\x12\0\0\0\x04\0\0\0\0\0\x02\x01\x02\0\0\0\0\x03\x2d\0\x0f\0";
-
-/// [0, 100) and [40, 50).
-pub const LIST: [u8; 12] = [0, 0, 100, 0, 40, 0, 50, 0, 0, 0, 0, 0];
 
 // Where the function at an address begins, 0 where there is none.
 fn offset_at(functions: &Functions<EndianSlice<'_>>, probe: u64) -> u64 {

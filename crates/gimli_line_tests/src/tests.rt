@@ -7,7 +7,7 @@ mod programs;
 
 use bytes::Bytes;
 use gimli_line::{LineRow, LineRows, read_line_program};
-use gimli_read::{AttributeValue, EndianBytes, Error, Reader, RunTimeEndian};
+use gimli_read::{AttributeValue, EndianBytes, EndianSlice, Error, Reader, RunTimeEndian};
 use std::alloc::{AllocError, Global};
 
 // One file a.c, version 4, address size 8.
@@ -121,6 +121,17 @@ fn program_answers<R: Reader>(alloc: Global, input: R, address_size: u8) -> Answ
 
 fn shared(alloc: Global, bytes: &[u8], order: RunTimeEndian) -> Result<EndianBytes, AllocError> {
     Ok(EndianBytes::new(Bytes::copy_from_slice(alloc, bytes)?, order))
+}
+
+// The answers of a program over borrowed and over shared bytes; of these the fault where they can't
+// be had.
+fn both_answers(alloc: Global, bytes: &[u8], order: RunTimeEndian, size: u8) -> [Answers; 2] {
+    let borrowed = program_answers(alloc, EndianSlice::new(bytes, order), size);
+    let counted = match shared(alloc, bytes, order) {
+        Ok(input) => program_answers(alloc, input, size),
+        Err(_) => answers(&[fault(code_of(Error::OutOfMemory))]),
+    };
+    [borrowed, counted]
 }
 
 // A text, by the number of the one that it is: 0 for another value.

@@ -1,6 +1,6 @@
 //! Worked cases of files together: sections by name, supplementary and split files, address ranges.
 
-use crate::tests::{counted, shared};
+use crate::tests::{counted, first_unit, shared, spelled};
 use gimli::{
     AttributeValue, DebugAbbrev, DebugAddr, DebugInfoOffset, Dwarf, DwarfFileType, EndianBytes,
     EndianSlice, Error, Reader, RunTimeEndian, SectionId, ToUnitOffset, Unit,
@@ -61,22 +61,6 @@ fn fault(error: Error) -> u64 {
         Error::UnknownVersion => 1005,
         Error::UnsupportedSegmentSize => 1006,
         _ => 1007,
-    }
-}
-
-// Bytes as a number in base 256, after a 1 that keeps their number.
-fn spelled(bytes: &[u8]) -> u64 {
-    let mut number = 1u64;
-    for byte in bytes {
-        number = number.wrapping_mul(256).wrapping_add(u64::from(*byte));
-    }
-    number
-}
-
-fn first_unit<R: Reader>(alloc: Global, dwarf: &Dwarf<R>) -> Result<Unit<R>, Error> {
-    match dwarf.units()?.next()? {
-        Some(header) => dwarf.unit(alloc, header),
-        None => Err(Error::MissingUnitDie),
     }
 }
 
@@ -206,8 +190,8 @@ fn refused_code(refused: SectionId) -> u64 {
 
 #[test]
 fn a_refused_section_refuses_the_file(rt: HostRuntime) {
-    assert_eq!(rt; refused_code(SectionId::DebugAbbrev), 1005);
-    assert_eq!(rt; refused_code(SectionId::DebugStrOffsets), 1005);
+    let codes = [SectionId::DebugAbbrev, SectionId::DebugStrOffsets].map(refused_code);
+    assert_eq!(rt; codes, [1005; 2]);
 }
 
 fn kind_code(file_type: DwarfFileType) -> u64 {
@@ -305,7 +289,7 @@ const TAKEN: [u64; 3] = [1, 24, 0x173_7570];
 
 // What its unit says, the second answer where the first was refused; and how often that and a
 // growth before it were refused.
-fn unit_again<R: Reader>(alloc: Global, file: Dwarf<R>, refused: u64) -> ([u64; 8], u64) {
+fn unit_again<R: Reader>(alloc: Global, (file, refused): (Dwarf<R>, u64)) -> ([u64; 8], u64) {
     let first = unit_answer(alloc, &file);
     if first == WITH_SUP {
         (first, refused)
@@ -317,9 +301,8 @@ fn unit_again<R: Reader>(alloc: Global, file: Dwarf<R>, refused: u64) -> ([u64; 
 // What a split file takes of its parent, in the same way.
 fn taken_again<R: Reader>(
     alloc: Global,
+    (parent, refused): (Dwarf<R>, u64),
     split: Dwarf<R>,
-    parent: Dwarf<R>,
-    refused: u64,
 ) -> ([u64; 3], u64) {
     let mut split = split;
     let first = split_code(alloc, &mut split, &parent);
@@ -333,17 +316,20 @@ fn taken_again<R: Reader>(
     }
 }
 
-// The same of files over shared bytes, to which the supplementary file is added.
-fn unit_of_shared(alloc: Global) -> ([u64; 8], u64) {
+// The file over shared bytes with its supplementary file, and how often that was refused.
+fn file_with_sup(alloc: Global) -> (Dwarf<EndianBytes>, u64) {
     let mut file = shared_file();
     let refused = add_sup_again(alloc, &mut file);
-    unit_again(alloc, file, refused)
+    (file, refused)
+}
+
+// The same of such files.
+fn unit_of_shared(alloc: Global) -> ([u64; 8], u64) {
+    unit_again(alloc, file_with_sup(alloc))
 }
 
 fn taken_of_shared(alloc: Global) -> ([u64; 3], u64) {
-    let mut parent = shared_file();
-    let refused = add_sup_again(alloc, &mut parent);
-    taken_again(alloc, shared_file(), parent, refused)
+    taken_again(alloc, file_with_sup(alloc), shared_file())
 }
 
 // A refused growth leaves a file as it was: the same call is granted after it.

@@ -86,7 +86,7 @@ pub fn fault(error: Error) -> u64 {
 }
 
 // Bytes as a number in base 256, after a 1 that keeps their number.
-fn spelled(bytes: &[u8]) -> u64 {
+pub fn spelled(bytes: &[u8]) -> u64 {
     let mut number = 1u64;
     for byte in bytes {
         number = number.wrapping_mul(256).wrapping_add(u64::from(*byte));

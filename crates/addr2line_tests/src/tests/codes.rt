@@ -1,9 +1,9 @@
 //! Frames, units, loads and faults as numbers.
 
-use super::sections::{fault_code, location_code};
 use addr2line::gimli::read::{Error, Reader};
 use addr2line::gimli::{UnitRef, UnitType};
 use addr2line::{Frame, FrameIter, FunctionName, SplitDwarfLoad};
+use addr2line_lines_tests::sections::{fault_code, location_code};
 
 /// Three frames: of each where its entry begins, the first byte of its name with its language, and
 /// its location; 0 for none. Any other answer stands in the first place.

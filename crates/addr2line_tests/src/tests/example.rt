@@ -1,12 +1,12 @@
 //! The library in use, as the README shows it.
 
-use super::sections::{ABBREV, INFO, LINE};
 use addr2line::Context;
 use addr2line::gimli::read::{EndianSlice, Error, RunTimeEndian};
 use addr2line::gimli::{
     DebugAbbrev, DebugAddr, DebugAranges, DebugInfo, DebugLine, DebugLineStr, DebugRanges,
     DebugRngLists, DebugStr, DebugStrOffsets, Dwarf, DwarfFileType,
 };
+use addr2line_lines_tests::vectors::{ABBREV, INFO, LINE};
 use std::alloc::Global;
 use std::test::Fail;
 

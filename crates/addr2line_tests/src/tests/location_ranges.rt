@@ -1,14 +1,15 @@
 //! Contexts: the rows that a range of addresses meets, unit range after unit range.
 
-use super::line_ranges::{ZERO_LENGTH, ZERO_LENGTH_AND_ANOTHER};
-use super::lines::{FOUR_SEQUENCES, SAME_ADDRESS, THREE_SEQUENCES};
-use super::sections::{
-    ABBREV, INFO, codes_of, context_of, fault_code, location_code, shared_dwarf_of,
-};
+use super::sections::{codes_of, context_of, shared_dwarf_of};
 use super::units::{TWO_INFO, TWO_LINES};
 use addr2line::gimli::Dwarf;
 use addr2line::gimli::read::{Error, Reader};
 use addr2line::{Context, Location, LocationRangeIter};
+use addr2line_lines_tests::sections::{fault_code, location_code};
+use addr2line_lines_tests::vectors::{
+    ABBREV, FOUR_SEQUENCES, INFO, SAME_ADDRESS, THREE_SEQUENCES, ZERO_LENGTH,
+    ZERO_LENGTH_AND_ANOTHER,
+};
 use std::alloc::Global;
 use std::test::Fail;
 

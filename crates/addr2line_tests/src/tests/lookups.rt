@@ -1,12 +1,14 @@
 //! Worked cases: lookups of frames and of units in one file.
 
 use super::codes::{Codes, DONE, NONE, first};
-use super::details::{OPEN_FUNCTION, OPEN_UNIT, TWO_FUNCTIONS};
-use super::functions::{LIST, NAMED, NAMED_INFO};
 use super::replies::{Answer, Call, told};
-use super::sections::{LINE, dwarf_of, little, shared, shared_dwarf_of};
+use super::sections::{shared, shared_dwarf_of};
 use addr2line::gimli::read::Reader;
 use addr2line::gimli::{DebugRanges, Dwarf};
+use addr2line_lines_tests::sections::{dwarf_of, little};
+use addr2line_lines_tests::vectors::{
+    LINE, LIST, NAMED, NAMED_INFO, OPEN_FUNCTION, OPEN_UNIT, TWO_FUNCTIONS,
+};
 use std::alloc::Global;
 
 // "g" at 0x31 at line 3, called at line 7 without a column by "f" at 0x22.

@@ -4,10 +4,12 @@ use super::codes::{
     Codes, NONE, REFUSED, done_codes, fault_codes, first, frames_or_fault, load_codes, loads_codes,
     unit_codes,
 };
-use super::sections::{LINE, code_of, dwarf_of};
+use super::sections::code_of;
 use addr2line::gimli::read::{Error, Reader};
 use addr2line::gimli::{Dwarf, DwarfFileType};
 use addr2line::{Context, LookupContinuation, LookupResult, UnitToken};
+use addr2line_lines_tests::sections::dwarf_of;
+use addr2line_lines_tests::vectors::LINE;
 use std::alloc::Global;
 use std::rc::Rc;
 

@@ -3,7 +3,8 @@
 use super::codes::{Codes, DONE, NONE, REFUSED, first};
 use super::context::LINE_V5;
 use super::replies::{Answer, Call, TWO_WAITING_INFO, WAITING_ABBREV, told};
-use super::sections::{dwarf_of, shared_dwarf_of};
+use super::sections::shared_dwarf_of;
+use addr2line_lines_tests::sections::dwarf_of;
 use std::alloc::Global;
 
 /// The unit [0x10, 0x30) in "/w", which waits for "s.dwo".

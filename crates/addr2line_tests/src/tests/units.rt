@@ -1,12 +1,11 @@
 //! Contexts of several units: which units and ranges they have, and what refuses them.
 
-use super::sections::{
-    ABBREV, INFO, LINE, code_of, context_of, context_with, dwarf_of, fault_code, little,
-    shared_dwarf_of,
-};
+use super::sections::{code_of, context_of, context_with, shared_dwarf_of};
 use addr2line::Context;
 use addr2line::gimli::read::{EndianSlice, Error, Reader};
 use addr2line::gimli::{Dwarf, SectionId};
+use addr2line_lines_tests::sections::{dwarf_of, fault_code, little};
+use addr2line_lines_tests::vectors::{ABBREV, INFO, LINE};
 use std::alloc::Global;
 use std::rc::Rc;
 use std::test::Fail;

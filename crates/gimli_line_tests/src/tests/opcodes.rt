@@ -1,9 +1,8 @@
 //! Every opcode, with the rows that the standard gives for it.
 
-use super::{Answer, DROPPED_END, answers, at, end, fault, program_answers, shared};
-use gimli_read::{EndianSlice, RunTimeEndian};
+use super::{Answer, Answers, DROPPED_END, answers, at, both_answers, end, fault};
+use gimli_read::RunTimeEndian;
 use std::alloc::{AllocError, Global};
-use std::test::Fail;
 
 // Appends a small number of some bytes.
 fn push(to: &mut Vec<u8>, order: RunTimeEndian, size: usize, number: u8) -> Result<(), AllocError> {
@@ -44,8 +43,22 @@ const WIDE: [u8; 6] = [2, 4, 1, 0xfb, 0x0e, 0x0d];
 // An instruction of 255 bytes.
 const LONG: [u8; 6] = [255, 1, 1, 0xfb, 0x0e, 0x0d];
 
+// The answers of a program of these numbers and opcodes over both readers.
+fn opcode_answers(
+    alloc: Global,
+    order: RunTimeEndian,
+    numbers: [u8; 6],
+    opcodes: &[u8],
+    size: u8,
+) -> [Answers; 2] {
+    match program(alloc, order, numbers, opcodes) {
+        Ok(bytes) => both_answers(alloc, &bytes, order, size),
+        Err(_) => [answers(&[fault(1)]); 2],
+    }
+}
+
 #[test]
-fn each_opcode_changes_its_registers(rt: HostRuntime) -> Result<(), Fail> {
+fn each_opcode_changes_its_registers(rt: HostRuntime) {
     let cases: [(&[u8], Answer); 22] = [
         (&[1], at(0, 1)),
         (&[2, 0x81, 1, 1], at(129, 1)),
@@ -71,20 +84,13 @@ fn each_opcode_changes_its_registers(rt: HostRuntime) -> Result<(), Fail> {
         (&[0, 3, 1, 9, 9], end(0, 1)),
     ];
     for (opcodes, row) in cases {
-        let bytes = program(rt.alloc(), RunTimeEndian::Little, USUAL, opcodes)?;
-        let borrowed = EndianSlice::new(&bytes, RunTimeEndian::Little);
-        let counted = shared(rt.alloc(), &bytes, RunTimeEndian::Little)?;
-        let given = [
-            program_answers(rt.alloc(), borrowed, 8),
-            program_answers(rt.alloc(), counted, 8),
-        ];
-        assert_eq!(rt; given, [answers(&[row]), answers(&[row])]);
+        let given = opcode_answers(rt.alloc(), RunTimeEndian::Little, USUAL, opcodes, 8);
+        assert_eq!(rt; given, [answers(&[row]); 2]);
     }
-    Ok(())
 }
 
 #[test]
-fn opcodes_give_their_rows_or_fault(rt: HostRuntime) -> Result<(), Fail> {
+fn opcodes_give_their_rows_or_fault(rt: HostRuntime) {
     let little = RunTimeEndian::Little;
     let cases: [(RunTimeEndian, [u8; 6], &[u8], u8, &[Answer]); 13] = [
         // Numbers are of the program's order.
@@ -180,24 +186,34 @@ fn opcodes_give_their_rows_or_fault(rt: HostRuntime) -> Result<(), Fail> {
         ),
     ];
     for (order, numbers, opcodes, size, wanted) in cases {
-        let bytes = program(rt.alloc(), order, numbers, opcodes)?;
-        let given = program_answers(rt.alloc(), EndianSlice::new(&bytes, order), size);
-        assert_eq!(rt; given, answers(wanted));
+        let given = opcode_answers(rt.alloc(), order, numbers, opcodes, size);
+        assert_eq!(rt; given, [answers(wanted); 2]);
     }
-    Ok(())
 }
 
-// Appends a set_address to the third greatest address of a size.
-fn set_address(to: &mut Vec<u8>, size: u8) -> Result<(), AllocError> {
-    to.extend_from_slice(&[0, size.min(8) + 1, 2, 0xfd])?;
+// A set_address to the third greatest address of a size, a row there, a row at the greatest one, and
+// a row after some opcodes more.
+fn past_the_greatest(alloc: Global, size: u8, tail: &[u8]) -> Result<Vec<u8>, AllocError> {
+    let mut opcodes = Vec::new(alloc);
+    opcodes.extend_from_slice(&[0, size.min(8) + 1, 2, 0xfd])?;
     for _ in 1..size {
-        to.push(0xff)?;
+        opcodes.push(0xff)?;
     }
-    Ok(())
+    opcodes.extend_from_slice(&[1, 2, 2, 1])?;
+    opcodes.extend_from_slice(tail)?;
+    opcodes.push(1)?;
+    Ok(opcodes)
+}
+
+fn past_answers(alloc: Global, size: u8, tail: &[u8]) -> [Answers; 2] {
+    match past_the_greatest(alloc, size, tail) {
+        Ok(opcodes) => opcode_answers(alloc, RunTimeEndian::Little, USUAL, &opcodes, size),
+        Err(_) => [answers(&[fault(1)]); 2],
+    }
 }
 
 #[test]
-fn an_address_past_its_size_is_refused(rt: HostRuntime) -> Result<(), Fail> {
+fn an_address_past_its_size_is_refused(rt: HostRuntime) {
     let sizes = [
         (1, 0xff),
         (2, 0xffff),
@@ -206,20 +222,9 @@ fn an_address_past_its_size_is_refused(rt: HostRuntime) -> Result<(), Fail> {
     ];
     let tails: [&[u8]; 4] = [&[2, 1], &[9, 1, 0], &[8], &[0x30]];
     for (size, greatest) in sizes {
+        let want = answers(&[at(greatest - 2, 1), at(greatest, 1), fault(19)]);
         for tail in tails {
-            let mut opcodes = Vec::new(rt.alloc());
-            set_address(&mut opcodes, size)?;
-            opcodes.extend_from_slice(&[1, 2, 2, 1])?;
-            opcodes.extend_from_slice(tail)?;
-            opcodes.push(1)?;
-            let bytes = program(rt.alloc(), RunTimeEndian::Little, USUAL, &opcodes)?;
-            let borrowed = EndianSlice::new(&bytes, RunTimeEndian::Little);
-            let given = program_answers(rt.alloc(), borrowed, size);
-            assert_eq!(rt;
-                given,
-                answers(&[at(greatest - 2, 1), at(greatest, 1), fault(19)])
-            );
+            assert_eq!(rt; past_answers(rt.alloc(), size, tail), [want; 2]);
         }
     }
-    Ok(())
 }

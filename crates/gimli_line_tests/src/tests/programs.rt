@@ -1,12 +1,9 @@
 //! Whole programs, over both readers.
 
-use super::{
-    Answer, DROPPED_END, PLAIN, PLAIN5, answers, at, code_of, end, of_file, program_answers, shared,
-};
+use super::{Answer, DROPPED_END, PLAIN, PLAIN5, answers, at, both_answers, code_of, end, of_file};
 use gimli_line::read_line_program;
 use gimli_read::{EndianSlice, RunTimeEndian};
 use std::alloc::Global;
-use std::test::Fail;
 
 // `PLAIN5` in big endian order.
 const BIG5: [u8; 68] = [
@@ -58,7 +55,7 @@ const LOW_BASE: [u8; 22] = [
 ];
 
 #[test]
-fn each_program_gives_its_rows(rt: HostRuntime) -> Result<(), Fail> {
+fn each_program_gives_its_rows(rt: HostRuntime) {
     let plain = [at(0x10, 1), at(0x20, 3), end(0x30, 3)];
     let plain5 = [
         of_file(at(0x10, 1), 0),
@@ -80,11 +77,11 @@ fn each_program_gives_its_rows(rt: HostRuntime) -> Result<(), Fail> {
         (&LOW_BASE, RunTimeEndian::Little, 4, &[at(1, 2)]),
     ];
     for (bytes, order, size, wanted) in cases {
-        let borrowed = program_answers(rt.alloc(), EndianSlice::new(bytes, order), size);
-        let shared = program_answers(rt.alloc(), shared(rt.alloc(), bytes, order)?, size);
-        assert_eq!(rt; [borrowed, shared], [answers(wanted), answers(wanted)]);
+        assert_eq!(rt;
+            both_answers(rt.alloc(), bytes, order, size),
+            [answers(wanted); 2]
+        );
     }
-    Ok(())
 }
 
 // The refusal of a header, 0 for none.

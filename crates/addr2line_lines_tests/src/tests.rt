@@ -1,0 +1,11 @@
+//! Worked cases, by what they show.
+
+mod details;
+mod frames;
+mod functions;
+mod line_ranges;
+mod names;
+mod range_attributes;
+mod refused_growths;
+mod unit_index;
+mod unit_lines;

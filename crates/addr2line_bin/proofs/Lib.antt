@@ -2,3 +2,4 @@ pub mod Parts
 pub mod Runs
 pub mod Addresses
 pub mod Words
+pub mod CommandLemmas

@@ -11,8 +11,10 @@ ghost use Rattle.addr2line_bin.specs.declared.stream.Stop.TheVariants as stop;
 
 mod address;
 mod command;
+mod command_line;
 mod engine;
 mod load;
+mod options;
 mod stream;
 #[cfg(test)]
 mod tests;

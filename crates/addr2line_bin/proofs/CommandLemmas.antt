@@ -1,0 +1,85 @@
+-- Lemmas on the words of the command line (specs/CommandLine): matches and their rows, and faults.
+use Rattle.std.proofs.Common.{◌≡◌, ◌∙◌, ap, refl, sym, subst, inl, inr, true, false, List, []}
+use Rattle.std.proofs.Common.{Result, Ok, Err, IfErr, IfOk, IsErrAnd, option_map}
+use Rattle.clap.specs.Words.{App, Text, is_simple, is_simple_and_free, takes}
+use Rattle.clap.specs.Words.{HasKind, IsAmong, Kinds, fault_of, kind_of}
+use Rattle.clap.specs.Words.{Row, all_of, first_of, first_value, matched_of, matches_of, raw_values, rows_of}
+use Rattle.clap.specs.declared.error.Error.{Error}
+use Rattle.clap.specs.declared.error.kind.ErrorKind.TheVariants as kind
+use Rattle.clap.specs.declared.parser.matches.Found.{Found}
+use Rattle.clap.proofs.WalkLemmas.{first_value-rows, raw_values-rows}
+use Rattle.addr2line_bin.specs.CommandLine.{IsFaultOf, IsUnasked, IsWordFault, is_complete}
+use Rattle.addr2line_bin.specs.CommandLine.{are_taken, faults_in, matches_in, whole_command}
+use Rattle.addr2line_bin.specs.declared.command_line.WordFault.{WordFault}
+use Rattle.addr2line_bin.specs.declared.command_line.WordFault.TheVariants as fault
+
+-- ---- what matches lend is what stands in their rows
+
+pub first_of_matches : (f : Found) (id : Text) → first_value f id ≡ first_of id (rows_of f)
+first_of_matches f id = first_value-rows f id
+
+pub all_of_matches : (f : Found) (id : Text)
+    → option_map raw_values (matched_of f id) ≡ all_of id (rows_of f)
+all_of_matches f id = raw_values-rows f id
+
+-- ---- what a parse by the command says of the words
+
+pub is_simple_by : (a : App) → a ≡ whole_command → is_simple a ≡ true
+is_simple_by a e = ap is_simple e ∙ refl
+
+pub is_free_by : (a : App) → a ≡ whole_command → is_simple_and_free a ≡ true
+is_free_by a e = ap is_simple_and_free e ∙ refl
+
+pub taken_by : (a : App) (words : List Text) → a ≡ whole_command → are_taken words ≡ true
+    → takes a words ≡ true
+unfolding are_taken
+taken_by a words e h = ap (λ b. takes b words) e ∙ h
+
+pub matches_by : (a : App) (words : List Text) (rows : List Row) → a ≡ whole_command
+    → rows ≡ matches_of a words → rows ≡ matches_in words
+unfolding matches_in
+matches_by a words rows e h = h ∙ ap (λ b. matches_of b words) e
+
+pub faults_by : (a : App) (words : List Text) → a ≡ whole_command → fault_of a words ≡ faults_in words
+unfolding faults_in
+faults_by a words e = ap (λ b. fault_of b words) e
+
+-- ---- faults of words
+
+-- a fault of the parse is a fault of the words
+pub word_fault_of : (kinds : Kinds) (words : List Text) (x : Error) (e : WordFault)
+    → kinds ≡ faults_in words → HasKind kinds x → IsFaultOf x e → IsWordFault words e
+word_fault_of kinds words x e same told (inl m) = subst (IsWordFault words) (sym m.1) tt
+word_fault_of kinds words x e same (inl k) (inr m) = absurd (m.0 k)
+word_fault_of kinds words x e same (inr k) (inr m) =
+    subst (IsWordFault words) (sym m.1) (subst (IsAmong (kind_of x)) same k)
+
+-- so are words without a value of `-e`, or with `--all` beside an address
+pub unasked_fault : (words : List Text) (e : WordFault) → faults_in words ≡ []
+    → IsUnasked (matches_in words) e → IsWordFault words e
+unasked_fault words e h (inl m) = subst (IsWordFault words) (sym m) tt
+unasked_fault words e h (inr m) = subst (IsWordFault words) (sym m.0) (h, m.1)
+
+-- complete matches miss memory alone
+pub complete_fault : (rows : List Row) (e : WordFault) → IsUnasked rows e → is_complete rows ≡ true
+    → e ≡ fault.OutOfMemory
+complete_fault rows e (inl m) h = m
+complete_fault rows e (inr m) h = let no : true ≡ false = sym h ∙ m.1 in absurd cc
+
+-- words that the command takes miss memory alone
+pub taken_fault : (x : Error) (e : WordFault) → kind_of x ≡ kind.OutOfMemory → IsFaultOf x e
+    → e ≡ fault.OutOfMemory
+taken_fault x e k (inl m) = m.1
+taken_fault x e k (inr m) = absurd (m.0 k)
+
+-- ---- of results
+
+pub err_weaker : {X E : Type 0} (r : Result X E) (Q P : E → Type 0) → IsErrAnd r Q
+    → ((e : E) → Q e → P e) → IfErr r P
+err_weaker (Ok x) Q P q f = tt
+err_weaker (Err e) Q P q f = f e q
+
+pub ok_of_both : {X E : Type 0} (r : Result X E) (P Q R : X → Type 0) → IfOk r P → IfOk r Q
+    → ((x : X) → P x → Q x → R x) → IfOk r R
+ok_of_both (Ok x) P Q R p q f = f x p q
+ok_of_both (Err e) P Q R p q f = tt

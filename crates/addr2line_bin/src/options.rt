@@ -1,0 +1,37 @@
+//! What is asked of the program.
+
+/// The addresses that are asked for.
+#[derive(Drop)]
+pub enum Probes {
+    /// Each address of a row, in rising order.
+    All,
+    /// These words.
+    Words(Vec<String>),
+    /// The lines of standard input.
+    Lines,
+}
+
+/// What is asked, and how it is printed.
+#[derive(Drop)]
+pub struct Options {
+    /// What the program calls itself.
+    pub name: String,
+    /// The section that addresses are offsets in, if one is named.
+    pub section: Option<String>,
+    /// The addresses that are asked for.
+    pub probes: Probes,
+    /// Whether functions are printed.
+    pub functions: bool,
+    /// Whether a function and its location stand on one line.
+    pub pretty: bool,
+    /// Whether inlined functions are printed.
+    pub inlines: bool,
+    /// Whether addresses are printed.
+    pub addresses: bool,
+    /// Whether only the last part of a path is printed.
+    pub basenames: bool,
+    /// Whether names are demangled.
+    pub demangle: bool,
+    /// Whether the texts are LLVM's.
+    pub llvm: bool,
+}

@@ -1,5 +1,6 @@
 pub mod Parts
 pub mod Runs
+pub mod Texts
 pub mod Addresses
 pub mod Words
 pub mod CommandLemmas

@@ -1,7 +1,7 @@
 -- Texts that go to a writer one after another.
 use Rattle.std.proofs.Common.{◌∙◌, ℕ, Bool, true, false, List, [], ◌++◌, Option, Some, None, refl, sym, ap, append-nil, append_assoc}
 use Rattle.std.specs.Io.KnownBytes.{Appends, Keeps}
-use Rattle.addr2line_bin.specs.Put.{WritesPrefix, WritesUnlessFailed, WritesIfUnfailed, WritesPrefixIfUnfailed}
+use Rattle.addr2line_bin.specs.Put.{WritesPrefix, WritesUnlessFailed, WritesIfUnfailed}
 
 pub appends_nothing : (old new : Option (List ℕ)) → Keeps old new → Appends old new []
 appends_nothing None new k = tt
@@ -74,23 +74,5 @@ sends_on old mid new true true h a b p q = (keeps_both old mid new p.0 q.0, q.1)
 sends_on old mid new true false h a b p q = absurd (cc)
 sends_on old mid new false g h a b p q = goes_on old mid new g h a b p q
 
-pub begins_with_nothing : (old : Option (List ℕ)) (f : Bool) (text : List ℕ) → WritesPrefixIfUnfailed old old f f text
-begins_with_nothing old f text = record { sent = []; rest = text; joins = refl; sends = sends_nothing old f (keeps_itself old) }
-
-pub begins_whole : (old new : Option (List ℕ)) (f g : Bool) (text : List ℕ) → WritesIfUnfailed old new f g text → WritesPrefixIfUnfailed old new f g text
-begins_whole old new f g text t = record { sent = text; rest = []; joins = sym (append-nil text); sends = t }
-
 pub part_nothing : (old : Option (List ℕ)) (text : List ℕ) → WritesPrefix old old text
 part_nothing old text = record { written = []; rest = text; joins = refl; appends = appends_nothing old old (keeps_itself old) }
-
--- what was sent whole, and a beginning of the next text
-pub begins_later : (old mid new : Option (List ℕ)) (f g h : Bool) (a b : List ℕ) → WritesIfUnfailed old mid f g a → WritesPrefixIfUnfailed mid new g h b → WritesPrefixIfUnfailed old new f h (a ++ b)
-begins_later old mid new f g h a b p q = record {
-  sent = a ++ q.sent;
-  rest = q.rest;
-  joins = ap (λ s. a ++ s) q.joins ∙ sym (append_assoc a q.sent q.rest);
-  sends = sends_on old mid new f g h a q.sent p q.sends;
-}
-
-pub begins_longer : (old new : Option (List ℕ)) (f g : Bool) (a b : List ℕ) → WritesPrefixIfUnfailed old new f g a → WritesPrefixIfUnfailed old new f g (a ++ b)
-begins_longer old new f g a b p = record { sent = p.sent; rest = p.rest ++ b; joins = ap (λ s. s ++ b) p.joins ∙ append_assoc p.sent p.rest b; sends = p.sends }

@@ -1,5 +1,7 @@
 pub mod Put
 pub mod Address
+pub mod Stopped
+pub mod Print
 pub mod Text
 pub mod Command
 pub mod CommandLine

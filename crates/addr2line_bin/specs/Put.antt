@@ -1,8 +1,37 @@
--- What goes to a writer that may fail: its bytes, where they are known, grow by a text or by a
--- beginning of it.
+-- What goes to a stream that may fail: its bytes, where they are known, grow by a text, or by a
+-- beginning of it where it fails.
 -- Own: after a failed write to standard error nothing more goes there.
-use Rattle.std.specs.Prelude.{◌≡◌, ℕ, Bool, true, false, List, ◌++◌, Option}
+use Rattle.std.specs.Prelude.{◌≡◌, ◌+◌, ℕ, Bool, true, false, List, ◌++◌, Option, Some, is_some, option_map, Result, Ok, Err}
+use Rattle.std.specs.declared.io.ErrorKind.{ErrorKind}
+use Rattle.std.specs.declared.io.Error.{Error}
+use Rattle.std.specs.IoError.{error_kind}
 use Rattle.std.specs.Io.KnownBytes.{Appends, Keeps}
+
+-- a stream: its bytes and how often it was flushed, where these are known, whether all of them are
+-- flushed, and its last fault
+pub record StreamState : Type 0 where
+  pub contents : Option (List ℕ)
+  pub flushes : Option ℕ
+  pub is_flushed : Bool
+  pub fault : Option ErrorKind
+
+-- whether a stream has failed
+abbrev pub has_fault : StreamState → Bool
+has_fault s = is_some s.fault
+
+-- the same answer, with its fault's kind
+abbrev pub kind_of : Result (Unit {0}) Error → Result (Unit {0}) ErrorKind
+kind_of (Ok x) = Ok x
+kind_of (Err e) = Err (error_kind e)
+
+-- the last fault, after a call with this answer
+abbrev pub fault_after : Option ErrorKind → Result (Unit {0}) ErrorKind → Option ErrorKind
+fault_after before (Ok _) = before
+fault_after before (Err kind) = Some kind
+
+-- a known count, and n more
+abbrev pub plus : Option ℕ → ℕ → Option ℕ
+plus known n = option_map (λ m. m + n) known
 
 -- known bytes grow by a beginning of the text
 pub record WritesPrefix (old new : Option (List ℕ)) (text : List ℕ) : Type 0 where
@@ -21,23 +50,7 @@ abbrev pub WritesIfUnfailed : Option (List ℕ) → Option (List ℕ) → Bool �
 WritesIfUnfailed old new true after text = Keeps old new × (after ≡ true)
 WritesIfUnfailed old new false after text = WritesUnlessFailed old new after text
 
--- a beginning of a text is sent
-pub record WritesPrefixIfUnfailed
-    (old new : Option (List ℕ)) (before after : Bool) (text : List ℕ) : Type 0 where
-  pub sent : List ℕ
-  pub rest : List ℕ
-  pub joins : text ≡ sent ++ rest
-  pub sends : WritesIfUnfailed old new before after sent
-
--- of the text `all`, what isn't written yet is `rest`
-pub record HasWritten (old new : Option (List ℕ)) (all rest : List ℕ) : Type 0 where
-  pub written : List ℕ
-  pub joins : all ≡ written ++ rest
-  pub appends : Appends old new written
-
--- the same of what is sent
-pub record HasSent
-    (old new : Option (List ℕ)) (before after : Bool) (all rest : List ℕ) : Type 0 where
-  pub sent : List ℕ
-  pub joins : all ≡ sent ++ rest
-  pub sends : WritesIfUnfailed old new before after sent
+-- a text is reported to a stream, all of it unless the stream fails or has failed
+abbrev pub Reports : StreamState → StreamState → List ℕ → Type 0
+Reports old new text =
+    WritesIfUnfailed old.contents new.contents (has_fault old) (has_fault new) text

@@ -1,25 +1,23 @@
 //! The text that the program prints for addresses.
 
-ghost use Rattle.std.specs.Prelude.{◌≡◌, ◌++◌, OnOk, OnErr, IfOk, ℕ, Result, Option, option_map, string_bytes};
+ghost use Rattle.std.specs.Prelude.{◌≡◌, ◌++◌, ◌∷◌, [], OnOk, IfOk, List, option_map, string_bytes};
 ghost use Rattle.std.specs.Borrow.{sem};
 ghost use Rattle.std.specs.Io.BufRead.{Rests};
-ghost use Rattle.std.specs.Io.KnownBytes.{Appends};
-ghost use Rattle.gimli_read.specs.Reading.{ExactlyUnlessOom};
+ghost use Rattle.gimli_read.specs.Reading.{ExactlyUnlessOom, IsUnlessOom};
 ghost use Rattle.addr2line_lines.specs.SeenLocation.{seen_location};
-ghost use Rattle.addr2line_bin.specs.Put.{WritesPrefix, WritesIfUnfailed, WritesPrefixIfUnfailed};
-ghost use Rattle.addr2line_bin.specs.Text.{location_text, location_or_none, hex, fault_line, fault_text, out_of, told_of, outs, errs, probes_in};
-ghost use Rattle.addr2line_bin.specs.declared.engine.Exit.TheVariants as exit;
+ghost use Rattle.addr2line_bin.specs.Put.{Reports};
+ghost use Rattle.addr2line_bin.specs.Text.{location_text, location_or_none, hex, fault_line, fault_text, Found, IsText, probes_in};
+ghost use Rattle.addr2line_bin.specs.Print.{ProbeText, AllTexts, PrintsUnless, PrintsEach, last_text, exit_at};
 ghost use Rattle.addr2line_bin.specs.Told.{load_fault_text, usage_text};
-ghost use Rattle.addr2line_bin.specs.Run.{last_text, exit_at, IsRun};
+ghost use Rattle.addr2line_bin.specs.declared.engine.Exit.TheVariants as exit;
 
 use crate::address::address_of;
-use crate::stream::{Stop, send, tell, tell_both};
+use crate::stream::{Stop, Stream, send, tell, tell_both};
 use crate::text::push_location;
 use addr2line::gimli::read::{Error, Reader};
 use addr2line::{Context, Location};
 use elf::LoaderError;
 use std::alloc::{AllocError, Global};
-use std::io::Write;
 
 /// What answers for an address.
 pub trait Locate {
@@ -83,15 +81,14 @@ fn push_answer<L: Locate>(
     out: &mut String,
     err: &mut String,
 ) -> Result<(), AllocError>
-    ensures out { OnOk result (string_bytes out.new
-        ≡ string_bytes out.old ++ location_text (location_or_none (L.found context.old probe))) }
-    ensures err { OnOk result (string_bytes err.new
-        ≡ string_bytes err.old ++ fault_text name.now probe (L.found context.old probe)) }
+    ensures gives { OnOk result ((given : Found)
+        × IsUnlessOom given (L.found context.old probe)
+        × (string_bytes out.new ≡ string_bytes out.old ++ location_text (location_or_none given))
+        × (string_bytes err.new ≡ string_bytes err.old ++ fault_text name.now probe given)) }
     ensures kept { L.found context.new ≡ L.found context.old }
 {
     match context.find_location(probe) {
         Ok(location) => push_location(out, location),
-        Err(Error::OutOfMemory) => Err(AllocError),
         Err(error) => {
             push_fault(name, probe, error, err)?;
             push_location(out, None)
@@ -106,9 +103,8 @@ fn texts_of<L: Locate>(
     context: &mut L,
     probe: Option<u64>,
 ) -> Result<Texts, AllocError>
-    ensures out { IfOk result (λ t. string_bytes t.out ≡ out_of (L.found context.old) probe) }
-    ensures err { IfOk result (λ t. string_bytes t.err
-        ≡ told_of (L.found context.old) name.now probe) }
+    ensures gives { IfOk result (λ t. IsText (L.found context.old) name.now probe
+        (record { out = string_bytes t.out; err = string_bytes t.err })) }
     ensures kept { L.found context.new ≡ L.found context.old }
 {
     let mut out = String::new(alloc);
@@ -121,76 +117,61 @@ fn texts_of<L: Locate>(
 }
 
 // Prints what a word asks for.
-#[tactic(auto, using(crate::proofs::Parts::begins_whole, crate::proofs::Parts::begins_with_nothing, crate::proofs::Parts::part_nothing))]
-fn step<L: Locate, W: Write, E: Write>(
+fn step<L: Locate, W: Stream, E: Stream>(
     alloc: Global,
     name: &str,
     context: &mut L,
     probe: Option<u64>,
     out: &mut W,
     err: &mut E,
-    has_failed: &mut bool,
 ) -> Result<(), Stop>
     ensures kept { L.found context.new ≡ L.found context.old }
-    ensures out { OnOk result (Appends (W.contents out.old) (W.contents out.new)
-        (out_of (L.found context.old) probe)) }
-    ensures part { OnErr result (WritesPrefix (W.contents out.old) (W.contents out.new)
-        (out_of (L.found context.old) probe)) }
-    ensures err { OnOk result (WritesIfUnfailed (E.contents err.old) (E.contents err.new)
-        has_failed.old has_failed.new (told_of (L.found context.old) name.now probe)) }
-    ensures begun { OnErr result (WritesPrefixIfUnfailed (E.contents err.old) (E.contents err.new)
-        has_failed.old has_failed.new (told_of (L.found context.old) name.now probe)) }
+    ensures gives { (text : ProbeText) × IsText (L.found context.old) name.now probe text
+        × PrintsUnless (W.state out.old) (W.state out.new) (E.state err.old) (E.state err.new)
+        (text ∷ []) result }
 {
     let texts = texts_of(alloc, name, context, probe)?;
-    tell(err, has_failed, texts.err.as_str());
+    tell(err, texts.err.as_str());
     send(out, texts.out.as_str())
 }
 
 // Prints what the words ask for.
-#[tactic(auto, using(crate::proofs::Runs::out_start, crate::proofs::Runs::out_more, crate::proofs::Runs::out_end, crate::proofs::Runs::out_stop, crate::proofs::Runs::err_start, crate::proofs::Runs::err_more, crate::proofs::Runs::err_end, crate::proofs::Runs::err_stop))]
-fn print_words<L: Locate, W: Write, E: Write>(
+fn print_words<L: Locate, W: Stream, E: Stream>(
     alloc: Global,
     name: &str,
     context: &mut L,
     words: &[String],
     out: &mut W,
     err: &mut E,
-    has_failed: &mut bool,
 ) -> Result<(), Stop>
-    ensures out { OnOk result (Appends (W.contents out.old) (W.contents out.new)
-        (outs (L.found context.old) (probes_in words.now))) }
-    ensures part { OnErr result (WritesPrefix (W.contents out.old) (W.contents out.new)
-        (outs (L.found context.old) (probes_in words.now))) }
-    ensures err { OnOk result (WritesIfUnfailed (E.contents err.old) (E.contents err.new)
-        has_failed.old has_failed.new (errs (L.found context.old) name.now (probes_in words.now))) }
-    ensures begun { OnErr result (WritesPrefixIfUnfailed (E.contents err.old) (E.contents err.new)
-        has_failed.old has_failed.new (errs (L.found context.old) name.now (probes_in words.now))) }
+    ensures gives { (texts : List ProbeText)
+        × AllTexts (IsText (L.found context.old) name.now) (probes_in words.now) texts
+        × PrintsUnless (W.state out.old) (W.state out.new) (E.state err.old) (E.state err.new)
+        texts result }
 {
     for word in words {
         let probe = address_of(word.as_str());
-        step(alloc, name, context, probe, out, err, has_failed)?;
+        step(alloc, name, context, probe, out, err)?;
     }
     Ok(())
 }
 
 /// Writes why a run stopped early.
 #[tactic(auto, using(crate::proofs::Parts::sends_nothing, crate::proofs::Parts::keeps_itself))]
-pub fn tell_last<E: Write>(name: &str, stop: Stop, err: &mut E, has_failed: &mut bool) -> Exit
-    ensures err { WritesIfUnfailed (E.contents err.old) (E.contents err.new)
-        has_failed.old has_failed.new
-        (last_text name.now stop) }
+pub fn tell_last<E: Stream>(name: &str, stop: Stop, err: &mut E) -> Exit
+    ensures err { Reports (E.state err.old) (E.state err.new) (last_text name.now stop) }
     ensures exit { result ≡ exit_at stop }
 {
     match stop {
         Stop::OutOfMemory => {
-            tell_both(err, has_failed, name, ": out of memory\n");
+            tell_both(err, name, ": out of memory\n");
             Exit::Failed
         }
         Stop::Output { is_broken_pipe } => {
             if is_broken_pipe {
                 return Exit::Done;
             }
-            tell_both(err, has_failed, name, ": error writing output\n");
+            tell_both(err, name, ": error writing output\n");
             Exit::Failed
         }
     }
@@ -199,10 +180,10 @@ pub fn tell_last<E: Write>(name: &str, stop: Stop, err: &mut E, has_failed: &mut
 /// Prints where the addresses of the words lie, each on a line of its own, and writes each fault to
 /// standard error.
 ///
-/// What goes to `out` is the joined texts of the words' locations, or a beginning of it after a
-/// failed write or a refused growth; then the last line on standard error says so, but for a broken
-/// pipe.
-pub fn print<L: Locate, W: Write, E: Write>(
+/// What goes to `out` is the joined texts of the words' locations, each with a flush, or a beginning
+/// of it after a failed write or a refused growth; then the last line on standard error says so, but
+/// for a broken pipe. All of each fault's line goes to `err`, unless that has failed.
+pub fn print<L: Locate, W: Stream, E: Stream>(
     alloc: Global,
     name: &str,
     context: &mut L,
@@ -210,20 +191,18 @@ pub fn print<L: Locate, W: Write, E: Write>(
     out: &mut W,
     err: &mut E,
 ) -> Exit
-    ensures gives { IsRun name.now (W.contents out.old) (W.contents out.new)
-        (E.contents err.old) (E.contents err.new)
-        (outs (L.found context.old) (probes_in words.now))
-        (errs (L.found context.old) name.now (probes_in words.now)) result }
+    ensures gives { PrintsEach (IsText (L.found context.old) name.now) name.now
+        (W.state out.old) (W.state out.new) (E.state err.old) (E.state err.new)
+        (probes_in words.now) result }
 {
-    let mut has_failed = false;
-    match print_words(alloc, name, context, words, out, err, &mut has_failed) {
+    match print_words(alloc, name, context, words, out, err) {
         Ok(()) => Exit::Done,
-        Err(stop) => tell_last(name, stop, err, &mut has_failed),
+        Err(stop) => tell_last(name, stop, err),
     }
 }
 
 /// The same of a context that nothing else is asked of.
-pub fn print_all<L: Locate + Drop, W: Write, E: Write>(
+pub fn print_all<L: Locate + Drop, W: Stream, E: Stream>(
     alloc: Global,
     name: &str,
     context: L,
@@ -231,42 +210,32 @@ pub fn print_all<L: Locate + Drop, W: Write, E: Write>(
     out: &mut W,
     err: &mut E,
 ) -> Exit
-    ensures gives { IsRun name.now (W.contents out.old) (W.contents out.new)
-        (E.contents err.old) (E.contents err.new)
-        (outs (L.found context) (probes_in words.now))
-        (errs (L.found context) name.now (probes_in words.now)) result }
+    ensures gives { PrintsEach (IsText (L.found context) name.now) name.now
+        (W.state out.old) (W.state out.new) (E.state err.old) (E.state err.new)
+        (probes_in words.now) result }
 {
     let mut context = context;
     print(alloc, name, &mut context, words, out, err)
 }
 
 /// Writes why the debug information of a file can't be loaded.
-pub fn tell_load_fault<E: Write>(
-    name: &str,
-    fault: LoaderError,
-    err: &mut E,
-    has_failed: &mut bool,
-) -> Exit
-    ensures err { WritesIfUnfailed (E.contents err.old) (E.contents err.new)
-        has_failed.old has_failed.new
-        (load_fault_text name.now fault) }
+pub fn tell_load_fault<E: Stream>(name: &str, fault: LoaderError, err: &mut E) -> Exit
+    ensures err { Reports (E.state err.old) (E.state err.new) (load_fault_text name.now fault) }
     ensures exit { result ≡ exit.Failed }
 {
-    tell_both(err, has_failed, name, ": failed to load debug info: ");
-    tell_both(err, has_failed, fault.text(), "\n");
+    tell_both(err, name, ": failed to load debug info: ");
+    tell_both(err, fault.text(), "\n");
     Exit::Failed
 }
 
 /// Writes how the program is used.
 #[tactic(auto, using(crate::proofs::Parts::sends_on))]
-pub fn tell_usage<E: Write>(name: &str, err: &mut E, has_failed: &mut bool) -> Exit
-    ensures err { WritesIfUnfailed (E.contents err.old) (E.contents err.new)
-        has_failed.old has_failed.new
-        (usage_text name.now) }
+pub fn tell_usage<E: Stream>(name: &str, err: &mut E) -> Exit
+    ensures err { Reports (E.state err.old) (E.state err.new) (usage_text name.now) }
     ensures exit { result ≡ exit.Misused }
 {
-    tell_both(err, has_failed, name, ": usage: ");
-    tell_both(err, has_failed, name, " -e FILE ADDR..\n");
+    tell_both(err, name, ": usage: ");
+    tell_both(err, name, " -e FILE ADDR..\n");
     Exit::Misused
 }
 

@@ -1,8 +1,9 @@
 //! Texts to streams that may fail.
 
-ghost use Rattle.std.specs.Prelude.{◌≡◌, ◌≢◌, ◌++◌, OnOk, IfErr, MatchResult};
+ghost use Rattle.std.specs.Prelude.{◌≡◌, ◌++◌, OnOk, IfErr, MatchResult, None, true};
 ghost use Rattle.std.specs.Io.KnownBytes.{Appends};
-ghost use Rattle.addr2line_bin.specs.Put.{WritesPrefix, WritesIfUnfailed};
+ghost use Rattle.addr2line_bin.specs.Put.{WritesPrefix, Reports, fault_after, kind_of, plus};
+ghost use Rattle.addr2line_bin.specs.Stopped.{IsFault, stop_of};
 ghost use Rattle.addr2line_bin.specs.declared.stream.Stop.TheVariants as stop;
 
 use std::alloc::AllocError;
@@ -28,12 +29,97 @@ impl From<AllocError> for Stop {
     }
 }
 
-impl From<io::Error> for Stop {
-    ghost from_gives = { λ _ e. e ≢ stop.OutOfMemory };
+impl From<ErrorKind> for Stop {
+    ghost from_gives = { λ kind e. e ≡ stop_of kind };
 
-    fn from(error: io::Error) -> Stop {
+    fn from(kind: ErrorKind) -> Stop {
         Stop::Output {
-            is_broken_pipe: error.kind() == ErrorKind::BrokenPipe,
+            is_broken_pipe: matches!(kind, ErrorKind::BrokenPipe),
+        }
+    }
+}
+
+/// A stream that texts go to.
+pub trait Stream {
+    ghost use Rattle.std.specs.Prelude.{◌≡◌, MatchResult, OnOk, true};
+    ghost use Rattle.std.specs.Io.KnownBytes.{Appends, Keeps};
+    ghost use Rattle.addr2line_bin.specs.Put.{StreamState, WritesPrefix, fault_after, has_fault, plus};
+
+    /// Its bytes, its flushes and its last fault.
+    ghost state: { Self → StreamState };
+
+    /// Whether a call has failed.
+    fn has_failed(&self) -> bool
+        ensures gives { result ≡ has_fault (state self.now) };
+
+    /// Writes the bytes, or a beginning of them before a fault.
+    fn put(&mut self, bytes: &[u8]) -> Result<(), ErrorKind>
+        ensures bytes { MatchResult result
+            (λ _. Appends (state self.old).contents (state self.new).contents bytes.now)
+            (λ _. WritesPrefix (state self.old).contents (state self.new).contents bytes.now) }
+        ensures flushes { (state self.new).flushes ≡ (state self.old).flushes }
+        ensures fault { (state self.new).fault ≡ fault_after (state self.old).fault result };
+
+    /// Hands on what was written.
+    fn flush(&mut self) -> Result<(), ErrorKind>
+        ensures bytes { Keeps (state self.old).contents (state self.new).contents }
+        ensures flushes { OnOk result ((state self.new).flushes ≡ plus (state self.old).flushes 1) }
+        ensures flushed { OnOk result ((state self.new).is_flushed ≡ true) }
+        ensures fault { (state self.new).fault ≡ fault_after (state self.old).fault result };
+}
+
+/// A writer as a stream. Its flushes aren't known.
+#[derive(Drop)]
+pub struct Written<W: Write> {
+    /// Where the bytes go.
+    pub writer: W,
+    fault: Option<ErrorKind>,
+}
+
+impl<W: Write> Written<W> {
+    /// A stream that hasn't failed.
+    pub fn new(writer: W) -> Written<W>
+        ensures gives { result ≡ record { writer = writer; fault = None } }
+    {
+        Written {
+            writer,
+            fault: None,
+        }
+    }
+}
+
+impl<W: Write> Stream for Written<W> {
+    ghost state = { λ s. record {
+      contents = W.contents s.writer;
+      flushes = None;
+      is_flushed = true;
+      fault = s.fault;
+    } };
+
+    fn has_failed(&self) -> bool {
+        self.fault.is_some()
+    }
+
+    fn put(&mut self, bytes: &[u8]) -> Result<(), ErrorKind> {
+        noted(&mut self.fault, put(&mut self.writer, bytes))
+    }
+
+    fn flush(&mut self) -> Result<(), ErrorKind> {
+        noted(&mut self.fault, self.writer.flush())
+    }
+}
+
+// A writer's answer, whose fault is noted.
+fn noted(fault: &mut Option<ErrorKind>, answer: io::Result<()>) -> Result<(), ErrorKind>
+    ensures gives { result ≡ kind_of answer }
+    ensures fault { fault.new ≡ fault_after fault.old (kind_of answer) }
+{
+    match answer {
+        Ok(()) => Ok(()),
+        Err(error) => {
+            let kind = error.kind();
+            *fault = Some(kind);
+            Err(kind)
         }
     }
 }
@@ -56,36 +142,36 @@ fn put<W: Write>(out: &mut W, bytes: &[u8]) -> io::Result<()>
     Ok(())
 }
 
-/// Sends a text to standard error, unless it has failed before; `has_failed` is whether it has by
-/// now.
-pub fn tell<W: Write>(err: &mut W, has_failed: &mut bool, text: &str)
-    ensures gives { WritesIfUnfailed (W.contents err.old) (W.contents err.new)
-        has_failed.old has_failed.new text.now }
+/// Writes a text to standard error, unless that has failed before.
+pub fn tell<E: Stream>(err: &mut E, text: &str)
+    ensures gives { Reports (E.state err.old) (E.state err.new) text.now }
 {
-    if !*has_failed {
-        *has_failed = put(err, text.as_bytes()).is_err();
+    if !err.has_failed() {
+        let _answer = err.put(text.as_bytes());
     }
 }
 
-/// Sends two texts, one after the other.
+/// Writes two texts, one after the other, as `tell` does.
 #[tactic(auto, using(crate::proofs::Parts::sends_on))]
-pub fn tell_both<W: Write>(err: &mut W, has_failed: &mut bool, first: &str, second: &str)
-    ensures gives { WritesIfUnfailed (W.contents err.old) (W.contents err.new)
-        has_failed.old has_failed.new
-        (first.now ++ second.now) }
+pub fn tell_both<E: Stream>(err: &mut E, first: &str, second: &str)
+    ensures gives { Reports (E.state err.old) (E.state err.new) (first.now ++ second.now) }
 {
-    tell(err, has_failed, first);
-    tell(err, has_failed, second);
+    tell(err, first);
+    tell(err, second);
 }
 
 /// Writes and flushes a text of the output.
 #[tactic(auto, using(crate::proofs::Parts::part_flushed, crate::proofs::Parts::keeps_after))]
-pub fn send<W: Write>(out: &mut W, text: &str) -> Result<(), Stop>
-    ensures gives { OnOk result (Appends (W.contents out.old) (W.contents out.new) text.now) }
-    ensures refused { IfErr result (λ e. (e ≢ stop.OutOfMemory)
-        × WritesPrefix (W.contents out.old) (W.contents out.new) text.now) }
+pub fn send<W: Stream>(out: &mut W, text: &str) -> Result<(), Stop>
+    ensures gives { OnOk result
+        (Appends (W.state out.old).contents (W.state out.new).contents text.now) }
+    ensures flushes { OnOk result ((W.state out.new).flushes ≡ plus (W.state out.old).flushes 1) }
+    ensures flushed { OnOk result ((W.state out.new).is_flushed ≡ true) }
+    ensures fault { OnOk result ((W.state out.new).fault ≡ (W.state out.old).fault) }
+    ensures refused { IfErr result (λ e. IsFault (W.state out.new) e
+        × WritesPrefix (W.state out.old).contents (W.state out.new).contents text.now) }
 {
-    put(out, text.as_bytes())?;
+    out.put(text.as_bytes())?;
     out.flush()?;
     Ok(())
 }

@@ -1,59 +1,14 @@
 //! Worked cases of the program.
 
-ghost use Rattle.std.specs.Prelude.{Some};
-
 use crate::command::{name_of, request_of};
 use crate::engine::{Exit, tell_usage};
 use crate::run;
+use crate::test_streams::{failing, unfailing, words};
 use elf::LoaderError;
 use std::alloc::{AllocGlobal, Global};
-use std::io;
-use std::io::{ErrorKind, Write};
+use std::io::ErrorKind;
 use std::process::Abort;
 use std::test::Fail;
-
-// Takes so many bytes, and then nobody reads any more.
-#[derive(Drop)]
-struct StopWriter {
-    taken: Vec<u8>,
-    left: usize,
-}
-
-// More bytes than any test writes.
-const AMPLE: usize = 999;
-
-impl Write for StopWriter {
-    ghost contents = { λ w. Some w.taken.items };
-
-    fn write(&mut self, buf: &[u8]) -> io::Result<usize> {
-        if self.left == 0 {
-            return Err(io::Error::from(ErrorKind::BrokenPipe));
-        }
-        let count = self.left.min(buf.len());
-        self.taken.extend_from_slice(&buf[..count])?;
-        self.left -= count;
-        Ok(count)
-    }
-
-    fn flush(&mut self) -> io::Result<()> {
-        Ok(())
-    }
-}
-
-fn writer(alloc: Global, left: usize) -> StopWriter {
-    StopWriter {
-        taken: Vec::new(alloc),
-        left,
-    }
-}
-
-fn words(alloc: Global, texts: &[&str]) -> Result<Vec<String>, Fail> {
-    let mut words = Vec::new(alloc);
-    for text in texts {
-        words.push(String::from_str(alloc, text)?)?;
-    }
-    Ok(words)
-}
 
 fn assert_fault(
     rt: &(impl Abort + AllocGlobal),
@@ -61,8 +16,8 @@ fn assert_fault(
     want: &str,
 ) -> Result<(), Fail> {
     let addresses = words(rt.alloc(), &["0x10"])?;
-    let mut out = writer(rt.alloc(), AMPLE);
-    let mut err = writer(rt.alloc(), AMPLE);
+    let mut out = unfailing(rt.alloc());
+    let mut err = unfailing(rt.alloc());
     let exit = run(
         rt.alloc(),
         "addr2line",
@@ -72,8 +27,8 @@ fn assert_fault(
         &mut err,
     );
     assert_eq!(rt; exit, Exit::Failed);
-    assert!(rt; out.taken.is_empty());
-    assert_eq!(rt; err.taken.as_slice(), want.as_bytes());
+    assert!(rt; out.writer.taken.is_empty());
+    assert_eq!(rt; err.writer.taken.as_slice(), want.as_bytes());
     Ok(())
 }
 
@@ -136,11 +91,11 @@ fn other_words_ask_for_nothing(rt: HostRuntime) -> Result<(), Fail> {
 
 #[test]
 fn a_usage_fault_is_told(rt: HostRuntime) -> Result<(), Fail> {
-    let mut err = writer(rt.alloc(), AMPLE);
-    let exit = tell_usage("a2l", &mut err, &mut false);
+    let mut err = unfailing(rt.alloc());
+    let exit = tell_usage("a2l", &mut err);
     assert_eq!(rt; exit, Exit::Misused);
     assert_eq!(rt;
-        err.taken.as_slice(),
+        err.writer.taken.as_slice(),
         b"a2l: usage: a2l -e FILE ADDR..\n".as_slice()
     );
     Ok(())
@@ -204,22 +159,25 @@ const PLAIN: [u8; 533] = [
     0x00, 0x00, 0x00, 0x00, 0x00,
 ];
 
+// More calls than any run takes.
+const AMPLE: u64 = 999;
+
 // Where the length of its line program's last opcode lies.
 const LAST_LENGTH: usize = 162;
 
-// What a run for three addresses writes to both streams, of which each takes so many bytes, and how
+// What a run for three addresses writes to both streams, of which each takes so many calls, and how
 // it ends.
 fn run_of(
     alloc: Global,
     last_length: u8,
-    left: [usize; 2],
+    calls: [u64; 2],
 ) -> Result<(Vec<u8>, Vec<u8>, Exit), Fail> {
     let mut file = PLAIN;
     file[LAST_LENGTH] = last_length;
     let bytes = Vec::from_slice(alloc, file.as_slice())?;
     let addresses = words(alloc, &["0x10", "2f", "0x30"])?;
-    let mut out = writer(alloc, left[0]);
-    let mut err = writer(alloc, left[1]);
+    let mut out = failing(alloc, calls[0], ErrorKind::BrokenPipe);
+    let mut err = failing(alloc, calls[1], ErrorKind::BrokenPipe);
     let exit = run(
         alloc,
         "a2l",
@@ -228,7 +186,7 @@ fn run_of(
         &mut out,
         &mut err,
     );
-    Ok((out.taken, err.taken, exit))
+    Ok((out.writer.taken, err.writer.taken, exit))
 }
 
 #[test]
@@ -237,17 +195,17 @@ fn a_run_over_a_file(rt: HostRuntime) -> Result<(), Fail> {
     let none = "??:0\n??:0\n??:0\n";
     let faults = "a2l: failed to find location for 0x10: unexpected end of data\n\
         a2l: failed to find location for 0x2f: unexpected end of data\n";
-    let cases: [(u8, [usize; 2], &str, &str); 5] = [
+    let cases: [(u8, [u64; 2], &str, &str); 5] = [
         (1, [AMPLE, AMPLE], found, ""),
         (0x7f, [AMPLE, AMPLE], none, faults),
         // An error stream that fails at once ends nothing.
         (0x7f, [AMPLE, 0], none, ""),
         // Nobody reads the output any more.
-        (1, [12, AMPLE], "/w/a.c:1\n/w/", ""),
+        (1, [2, AMPLE], "/w/a.c:1\n", ""),
         (1, [0, AMPLE], "", ""),
     ];
-    for (last_length, left, out, err) in cases {
-        let got = run_of(rt.alloc(), last_length, left)?;
+    for (last_length, calls, out, err) in cases {
+        let got = run_of(rt.alloc(), last_length, calls)?;
         assert_eq!(rt; got.0.as_slice(), out.as_bytes());
         assert_eq!(rt; got.1.as_slice(), err.as_bytes());
         assert_eq!(rt; got.2, Exit::Done);

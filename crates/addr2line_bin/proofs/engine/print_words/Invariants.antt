@@ -1,13 +1,12 @@
-use Rattle.std.proofs.Common.{◌≡◌, drop}
-use Rattle.addr2line_bin.specs.Put.{HasWritten, HasSent}
-use Rattle.addr2line_bin.specs.Text.{outs, errs, probes_in}
+use Rattle.std.proofs.Common.{◌≡◌, ◌++◌, List, drop}
+use Rattle.addr2line_bin.specs.Text.{IsText, probes_in}
+use Rattle.addr2line_bin.specs.Print.{ProbeText, AllTexts, Prints}
 use Rattle.addr2line_bin.proofs.engine.print_words.Given as goal
 
+-- what was printed so far, and that texts of the words that are left make it whole
 abbrev pub invariant-loop-word : goal.invariant-loop-word
 invariant-loop-word g l =
     let found = g.L.Locate.found l.fn.context in
-    record {
-      kept : g.L.Locate.found l.context ≡ found;
-      out : HasWritten (g.W.Write.contents l.fn.out) (g.W.Write.contents l.out) (outs found (probes_in l.words)) (outs found (probes_in (drop l.word-index l.words)));
-      err : HasSent (g.E.Write.contents l.fn.err) (g.E.Write.contents l.err) l.fn.has_failed l.has_failed (errs found l.name (probes_in l.words)) (errs found l.name (probes_in (drop l.word-index l.words)));
-    }
+    (g.L.Locate.found l.context ≡ found) × ((sofar : List ProbeText)
+    × ((more : List ProbeText) → AllTexts (IsText found l.name) (probes_in (drop l.word-index l.words)) more → AllTexts (IsText found l.name) (probes_in l.words) (sofar ++ more))
+    × Prints (g.W.Stream.state l.fn.out) (g.W.Stream.state l.out) (g.E.Stream.state l.fn.err) (g.E.Stream.state l.err) sofar)

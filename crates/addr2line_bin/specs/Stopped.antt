@@ -1,0 +1,26 @@
+-- Why a run stops early.
+-- Own: a broken pipe of the output is told apart from each other fault.
+use Rattle.std.specs.Prelude.{◌≡◌, Bool, true, false, Some, option_map}
+use Rattle.std.specs.declared.io.ErrorKind.{ErrorKind}
+use Rattle.std.specs.declared.io.ErrorKind.TheVariants.{BrokenPipe}
+use Rattle.addr2line_bin.specs.declared.stream.Stop.{Stop}
+use Rattle.addr2line_bin.specs.declared.stream.Stop.TheVariants as stop
+use Rattle.addr2line_bin.specs.Put.{StreamState}
+
+-- whether nobody reads the output any more
+abbrev pub is_broken_pipe : ErrorKind → Bool
+is_broken_pipe BrokenPipe = true
+is_broken_pipe _ = false
+
+-- what a fault of the output makes of a run
+abbrev pub stop_of : ErrorKind → Stop
+stop_of kind = stop.Output (is_broken_pipe kind)
+
+-- it stops for the stream's last fault
+abbrev pub IsFault : StreamState → Stop → Type 0
+IsFault new why = option_map stop_of new.fault ≡ Some why
+
+-- a run stops for a refused growth, and its output hasn't failed; or for the output's last fault
+abbrev pub Stops : StreamState → StreamState → Stop → Type 0
+Stops old new stop.OutOfMemory = new.fault ≡ old.fault
+Stops old new (stop.Output b) = IsFault new (stop.Output b)

@@ -1,0 +1,143 @@
+//! Streams that tests write to.
+
+ghost use Rattle.std.specs.Prelude.{◌≡◌, Some, length};
+
+use crate::stream::{Stream, Written};
+use std::alloc::Global;
+use std::io;
+use std::io::{ErrorKind, Write};
+use std::test::Fail;
+
+/// Takes so many calls and bytes: then a call fails, or takes no byte.
+#[derive(Drop)]
+pub struct StopWriter {
+    /// What it has taken.
+    pub taken: Vec<u8>,
+    /// How much of that was flushed.
+    pub flushed: usize,
+    calls: u64,
+    room: usize,
+    fault: ErrorKind,
+}
+
+// More calls and bytes than any test takes.
+const AMPLE: usize = 9999;
+
+impl StopWriter {
+    fn call(&mut self) -> io::Result<()>
+        ensures same { self.new.taken ≡ self.old.taken }
+    {
+        if self.calls == 0 {
+            return Err(io::Error::from(self.fault));
+        }
+        self.calls -= 1;
+        Ok(())
+    }
+}
+
+impl Write for StopWriter {
+    ghost contents = { λ w. Some w.taken.items };
+
+    fn write(&mut self, buf: &[u8]) -> io::Result<usize> {
+        self.call()?;
+        let count = self.room.min(buf.len());
+        self.taken.extend_from_slice(&buf[..count])?;
+        self.room -= count;
+        Ok(count)
+    }
+
+    fn flush(&mut self) -> io::Result<()> {
+        self.call()?;
+        self.flushed = self.taken.len();
+        Ok(())
+    }
+}
+
+/// A writer that fails after so many calls.
+pub fn failing(alloc: Global, calls: u64, fault: ErrorKind) -> Written<StopWriter> {
+    Written::new(StopWriter {
+        taken: Vec::new(alloc),
+        flushed: 0,
+        calls,
+        room: AMPLE,
+        fault,
+    })
+}
+
+/// A writer that takes no byte after so many.
+pub fn full_after(alloc: Global, room: usize) -> Written<StopWriter> {
+    Written::new(StopWriter {
+        taken: Vec::new(alloc),
+        flushed: 0,
+        calls: 9999,
+        room,
+        fault: ErrorKind::Other,
+    })
+}
+
+/// A writer that doesn't fail.
+pub fn unfailing(alloc: Global) -> Written<StopWriter> {
+    full_after(alloc, AMPLE)
+}
+
+/// A stream whose bytes and flushes are known.
+#[derive(Drop)]
+pub struct Memory {
+    /// What it has taken.
+    pub taken: Vec<u8>,
+    /// How much it had taken at each flush.
+    pub flushes: Vec<usize>,
+    is_flushed: bool,
+    fault: Option<ErrorKind>,
+}
+
+impl Stream for Memory {
+    ghost state = { λ s. record {
+      contents = Some s.taken.items;
+      flushes = Some (length s.flushes.items);
+      is_flushed = s.is_flushed;
+      fault = s.fault;
+    } };
+
+    fn has_failed(&self) -> bool {
+        self.fault.is_some()
+    }
+
+    #[tactic(auto, using(crate::proofs::Parts::part_nothing))]
+    fn put(&mut self, bytes: &[u8]) -> Result<(), ErrorKind> {
+        self.is_flushed = false;
+        if self.taken.extend_from_slice(bytes).is_err() {
+            self.fault = Some(ErrorKind::OutOfMemory);
+            return Err(ErrorKind::OutOfMemory);
+        }
+        Ok(())
+    }
+
+    fn flush(&mut self) -> Result<(), ErrorKind> {
+        if self.flushes.push(self.taken.len()).is_err() {
+            self.fault = Some(ErrorKind::OutOfMemory);
+            return Err(ErrorKind::OutOfMemory);
+        }
+        self.is_flushed = true;
+        Ok(())
+    }
+}
+
+/// A stream whose bytes and flushes are known.
+pub fn known_stream(alloc: Global) -> Memory {
+    Memory {
+        taken: Vec::new(alloc),
+        flushes: Vec::new(alloc),
+        is_flushed: true,
+        fault: None,
+    }
+}
+
+/// The texts as words.
+pub fn words(alloc: Global, texts: &[&str]) -> Result<Vec<String>, Fail> {
+    let mut words = Vec::new(alloc);
+    for text in texts {
+        words.push(String::from_str(alloc, text)?)?;
+    }
+    Ok(words)
+}

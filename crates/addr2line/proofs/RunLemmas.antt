@@ -77,8 +77,11 @@ module _ (first : ContextState) (all : List HistoryCall) where
       refused_after x f oom a = record {
         sections = a.sections ∙ made.sections;
         answers = tt;
-        refused = (oom, made.cut new.answers (subst (λ calls. IsCutShort first.sections now.answers calls new.answers) (sym e)
-            (inr (subst (λ answers. IsCutShort first.sections answers more new.answers) (left_is x a) (cut_nothing first.sections new.answers more)))));
+        refused = (
+          oom,
+          made.cut new.answers (subst (λ calls. IsCutShort first.sections now.answers calls new.answers) (sym e)
+              (inr (subst (λ answers. IsCutShort first.sections answers more new.answers) (left_is x a) (cut_nothing first.sections new.answers more)))),
+        );
         parsed = λ n h. a.parsed n (made.parsed n h);
       }
 

@@ -2,16 +2,19 @@
 
 use super::codes::{Codes, DONE, NONE, REFUSED, done_codes, fault_codes, first};
 use super::context::LINE_V5;
-use super::line_ranges::{ZERO_LENGTH, ZERO_LENGTH_AND_ANOTHER};
-use super::lines::{FOUR_SEQUENCES, SAME_ADDRESS, THREE_SEQUENCES};
 use super::replies::{Given, WAITING_ABBREV, given_of};
-use super::sections::{ABBREV, INFO_WIDE, dwarf_of, fault_code, location_code, shared_dwarf_of};
+use super::sections::shared_dwarf_of;
 use super::split_units::{MAIN_INFO, SPLIT_ABBREV, SPLIT_INFO};
 use addr2line::gimli::read::{Error, Reader};
 use addr2line::gimli::{Dwarf, DwarfFileType};
 use addr2line::{
     Answer, Call, Context, FoundUnit, Location, OwnedFrame, OwnedLoad, OwnedLocation, OwnedName,
     OwnedSpan, Reply, UnitToken, replay,
+};
+use addr2line_lines_tests::sections::{dwarf_of, fault_code, location_code};
+use addr2line_lines_tests::vectors::{
+    ABBREV, FOUR_SEQUENCES, INFO_WIDE, SAME_ADDRESS, THREE_SEQUENCES, ZERO_LENGTH,
+    ZERO_LENGTH_AND_ANOTHER,
 };
 use std::alloc::Global;
 use std::rc::Rc;

@@ -19,24 +19,18 @@ fn words_in(alloc: Global, line: &str) -> Result<Vec<String>, Fail> {
 // order of `Options`.
 fn digits_of(options: &Options) -> u32 {
     let probes = match &options.probes {
-        Probes::All => 2,
-        Probes::Words(_) => 3,
-        Probes::Lines => 4,
+        Probes::All => 20_000_000,
+        Probes::Words(_) => 30_000_000,
+        Probes::Lines => 40_000_000,
     };
-    let switches = [
-        options.functions,
-        options.pretty,
-        options.inlines,
-        options.addresses,
-        options.basenames,
-        options.demangle,
-        options.llvm,
-    ];
-    let mut digits = probes;
-    for is_on in switches {
-        digits = digits * 10 + u32::from(is_on);
-    }
-    digits
+    probes
+        + u32::from(options.functions) * 1_000_000
+        + u32::from(options.pretty) * 100_000
+        + u32::from(options.inlines) * 10_000
+        + u32::from(options.addresses) * 1_000
+        + u32::from(options.basenames) * 100
+        + u32::from(options.demangle) * 10
+        + u32::from(options.llvm)
 }
 
 // The digits of what a line asks for; below ten for what is wrong with it.

@@ -101,10 +101,10 @@ impl<R: Reader> ResUnits<R> {
         ensures gives { frames_left result
             ≡ frames_found (seen_stop self.now.units.items self.now.entries.items self.now.stop) }
     {
-        match &self.stop {
-            FramesStop::Finds(place) => self.frames(place),
-            FramesStop::Waits(_) | FramesStop::FindsNothing => FrameIter::new_empty(),
-        }
+        let FramesStop::Finds(place) = &self.stop else {
+            return FrameIter::new_empty();
+        };
+        self.frames(place)
     }
 }
 

@@ -6,19 +6,20 @@ use Rattle.gimli_read.specs.Reading.{◌>>=◌}
 use Rattle.gimli.specs.Sections.{Sections}
 use Rattle.elf.specs.declared.error.LoaderError.{LoaderError}
 use Rattle.elf.specs.declared.error.LoaderError.TheVariants.{OutOfMemory}
+use Rattle.elf.specs.ObjectFile.{ObjectFile}
 use Rattle.elf.specs.Text.{loader_error_of}
 use Rattle.addr2line_units.specs.declared.frames_lookup.Faults.TheVariants.{End}
 use Rattle.addr2line_units.specs.Frames.{FrameRecord}
 use Rattle.addr2line_units.specs.FramesLookup.{Stop, Waits, Finds, FindsNothing, is_waiting}
-use Rattle.addr2line_units.specs.Parsed.{has_parsed}
+use Rattle.addr2line_units.specs.Parsed.{IsNotOom, has_parsed}
 use Rattle.addr2line_units.specs.Views.{SplitLoad}
 use Rattle.addr2line.specs.Answers.{AfterAnswer}
 use Rattle.addr2line.specs.Context.{ContextState}
 use Rattle.addr2line.specs.Files.{Files}
 use Rattle.addr2line.specs.FramesByFiles.{frames_by, frames_by_files, stop_frames}
 use Rattle.addr2line.specs.KeptStops.{by_number, unit_stop}
-use Rattle.addr2line.specs.Loader.{AfterAnswers, IsFaultByFiles, StayAnswered}
-use Rattle.addr2line.specs.Lookups.{AfterFrames, IsLoadOf, frames_told, lookup_stop}
+use Rattle.addr2line.specs.Loader.{AfterAnswers, AfterLoads, IsFaultByFiles, LoaderState, StayAnswered}
+use Rattle.addr2line.specs.Lookups.{AfterFrames, IsLoadOf, frames_of, frames_told, lookup_stop}
 use Rattle.addr2line.specs.SplitFiles.{given_by}
 use Rattle.addr2line.proofs.FilesLookupLemmas.{first_answers_stay, frames_ended, frames_stay, refused_frames}
 use Rattle.addr2line.proofs.LoadingLemmas.{if_some_both, no_oom}
@@ -114,3 +115,36 @@ found_told frames (Err e) h = absurd cc
 failed_told : (e : Error) (stop : Result Stop Error) → (stop >>= λ s. Ok (frames_told s)) ≡ Err e → stop_frames stop ≡ Err (loader_error_of e)
 failed_told e (Ok s) h = absurd cc
 failed_told e (Err f) h = cc
+
+module _ (files : Option Files) (probe : ℕ) (first mid : ContextState) (a : AfterAnswers files first mid) where
+  -- the frames, and the fault, of a lookup that waits no more are those by the files
+  module _ (ended : is_waiting (lookup_stop End mid.sections mid.answers probe) ≡ false) where
+    pub found_by_files : (frames : List FrameRecord) → frames_of mid.sections mid.answers probe ≡ Ok (Some frames) → IfSome files (λ held. frames_by_files held first.sections first.answers probe ≡ Ok frames)
+    found_by_files frames h = if_some_map files a.frames
+        (λ held p. sym (p probe) ∙ frames_ended (given_by held) mid.sections mid.answers probe ended ∙ found_told frames (lookup_stop End mid.sections mid.answers probe) h)
+
+    pub failed_by_files : (e : Error) → (loader_error_of e ≢ OutOfMemory → frames_of mid.sections mid.answers probe ≡ Err e)
+        → IfSome files (λ held. loader_error_of e ≢ OutOfMemory → frames_by_files held first.sections first.answers probe ≡ Err (loader_error_of e))
+    failed_by_files e h = if_some_map files a.frames
+        (λ held p ne. sym (p probe) ∙ frames_ended (given_by held) mid.sections mid.answers probe ended ∙ failed_told e (lookup_stop End mid.sections mid.answers probe) (h ne))
+
+  -- the loader after its lookup
+  module _ {X : Type 0} (object : ObjectFile) (r : Result X Error) (new : ContextState) (b : AfterFrames End probe r mid new) where
+    abbrev loader : ContextState → LoaderState
+    loader c = record { files = files; object = object; context = c }
+
+    pub loader_found : (x : X) → r ≡ Ok x → AfterLoads {X = X} probe (Ok x) (loader first) (loader new)
+    loader_found x is = record {
+      files = refl;
+      object = refl;
+      context = then_answered files first mid new a (after_look files probe r mid new b);
+      ready = b.ready (subst (λ (y : Result X Error). IsNotOom y) (sym is) tt);
+    }
+
+    pub loader_failed : (e : LoaderError) → AfterLoads {X = X} probe (Err e) (loader first) (loader new)
+    loader_failed e = record {
+      files = refl;
+      object = refl;
+      context = then_answered files first mid new a (after_look files probe r mid new b);
+      ready = tt;
+    }

@@ -7,7 +7,6 @@ use addr2line_lines_tests::vectors::{
 };
 use elf_writer::{SHAPES, Section, elf_file, plain};
 use std::alloc::{AllocError, Global};
-use std::test::Fail;
 
 const MAIN: &str = "/p/main";
 
@@ -30,6 +29,10 @@ const NO_TEXT_INFO: &[u8] = b"\x2a\0\0\0\x05\0\x04\x08\0\0\0\0\x88\x77\x66\x55\x
 // The split unit with another identifier.
 const FOREIGN_INFO: &[u8] = b"\x23\0\0\0\x05\0\x05\x08\0\0\0\0\x89\x77\x66\x55\x44\x33\x22\x11\
     \x01\x1c\0\x02h\0\x10\0\0\0\0\0\0\0\x20\0\0\0\0";
+
+// The split unit without its last bytes.
+const CUT_INFO: &[u8] = b"\x23\0\0\0\x05\0\x05\x08\0\0\0\0\x88\x77\x66\x55\x44\x33\x22\x11\
+    \x01\x1c\0\x02h\0\x10";
 
 // "h" with the location of line 1, and the location alone.
 const H: [u64; 2] = [0x6868, 1];
@@ -127,149 +130,201 @@ fn split_file(alloc: Global, info: &[u8]) -> Result<Vec<u8>, AllocError> {
     )
 }
 
-// A main file of this unit, a plain file, and a split file, unless it is empty.
-fn files_of(alloc: Global, main: &[u8], split: &[u8]) -> Result<MemoryFiles, AllocError> {
+// The bytes at the path of a split file: a file of this unit, or these bytes.
+#[derive(Clone, Copy)]
+enum Split {
+    Unit(&'static [u8]),
+    Bytes(&'static [u8]),
+}
+
+fn split_bytes(alloc: Global, split: Split) -> Result<Vec<u8>, AllocError> {
+    match split {
+        Split::Unit(info) => split_file(alloc, info),
+        Split::Bytes(bytes) => Vec::from_slice(alloc, bytes),
+    }
+}
+
+// A main file, and a plain file.
+fn files_of(alloc: Global, main: Vec<u8>) -> Result<MemoryFiles, AllocError> {
     let mut files = MemoryFiles::new(alloc);
-    files.put(MAIN, main)?;
+    files.put(MAIN, main.as_slice())?;
     files.put(PLAIN, plain_file(alloc)?.as_slice())?;
-    if !split.is_empty() {
-        files.put(SPLIT, split)?;
+    Ok(files)
+}
+
+fn put_split(alloc: Global, files: &mut MemoryFiles, split: Split) -> Result<(), AllocError> {
+    let split = split_bytes(alloc, split)?;
+    files.put(SPLIT, split.as_slice())
+}
+
+// A main file of the unit, a plain file, and a split file, if there is one.
+fn split_files(
+    alloc: Global,
+    info: &[u8],
+    split: Option<Split>,
+) -> Result<MemoryFiles, AllocError> {
+    let mut files = files_of(alloc, main_file(alloc, info)?)?;
+    if let Some(split) = split {
+        put_split(alloc, &mut files, split)?;
     }
     Ok(files)
 }
 
-// What a loader finds at 0x18, asked twice.
-fn told<F: FileSource>(alloc: Global, loader: Result<LoaderOver<F>, LoaderError>) -> [[u64; 2]; 2] {
-    let mut loader = match loader {
-        Ok(loader) => loader,
-        Err(error) => return [[fault_code(error), 1]; 2],
-    };
-    let first = frame_code(alloc, loader.find_frames(0x18));
-    [first, frame_code(alloc, loader.find_frames(0x18))]
+// What a loader finds at 0x18.
+fn told<F: FileSource>(alloc: Global, loader: &mut LoaderOver<F>) -> [u64; 2] {
+    frame_code(alloc, loader.find_frames(0x18))
 }
 
-// The same of a loader over these files.
-fn told_of(
+// The same, asked twice, or a fault's number.
+fn told_or_fault<F: FileSource>(
     alloc: Global,
-    files: Result<MemoryFiles, AllocError>,
+    loader: Result<LoaderOver<F>, LoaderError>,
+) -> [[u64; 2]; 2] {
+    match loader {
+        Ok(loader) => {
+            let mut loader = loader;
+            [told(alloc, &mut loader), told(alloc, &mut loader)]
+        }
+        Err(error) => [[fault_code(error), 1]; 2],
+    }
+}
+
+// The same of a unit and what stands at the path of its split file.
+fn told_split(
+    alloc: Global,
+    info: &[u8],
+    split: Option<Split>,
     sup: Option<&str>,
 ) -> [[u64; 2]; 2] {
-    match files {
-        Ok(files) => told(alloc, LoaderOver::over(alloc, files, MAIN, sup)),
+    match split_files(alloc, info, split) {
+        Ok(files) => told_or_fault(alloc, LoaderOver::over(alloc, files, MAIN, sup)),
         Err(_) => [[28, 2]; 2],
     }
 }
 
-// The same of the unit and the bytes at the path of its split file.
-fn told_split(alloc: Global, info: &[u8], split: &[u8], sup: Option<&str>) -> [[u64; 2]; 2] {
-    let Ok(main) = main_file(alloc, info) else {
-        return [[28, 3]; 2];
-    };
-    told_of(alloc, files_of(alloc, main.as_slice(), split), sup)
-}
-
 #[test]
-fn a_split_file_is_found_by_its_path(rt: HostRuntime) -> Result<(), Fail> {
-    let alloc = rt.alloc();
-    let split = split_file(alloc, SPLIT_INFO)?;
-    let foreign = split_file(alloc, FOREIGN_INFO)?;
-    let cut = split_file(alloc, &SPLIT_INFO[..30])?;
+fn a_split_file_is_found_by_its_path(rt: HostRuntime) {
+    let whole = Some(Split::Unit(SPLIT_INFO));
     let cases = [
-        (MAIN_INFO, split.as_slice(), H),
-        (SLASH_INFO, split.as_slice(), H),
-        (WHOLE_PATH_INFO, split.as_slice(), H),
+        (MAIN_INFO, whole, H),
+        (SLASH_INFO, whole, H),
+        (WHOLE_PATH_INFO, whole, H),
         // None, another one, one that is no ELF file, and one whose unit isn't whole.
-        (MAIN_INFO, &[], LINE_1),
-        (MAIN_INFO, foreign.as_slice(), LINE_1),
-        (MAIN_INFO, b"h", LINE_1),
-        (MAIN_INFO, cut.as_slice(), LINE_1),
-        (NO_TEXT_INFO, split.as_slice(), [26, 0]),
+        (MAIN_INFO, None, LINE_1),
+        (MAIN_INFO, Some(Split::Unit(FOREIGN_INFO)), LINE_1),
+        (MAIN_INFO, Some(Split::Bytes(b"h")), LINE_1),
+        (MAIN_INFO, Some(Split::Unit(CUT_INFO)), LINE_1),
+        (NO_TEXT_INFO, whole, [26, 0]),
     ];
     for (info, split, want) in cases {
-        assert_eq!(rt; told_split(alloc, info, split, None), [want; 2]);
-        assert_eq!(rt; told_split(alloc, info, split, Some(PLAIN)), [want; 2]);
+        for sup in [None, Some(PLAIN)] {
+            assert_eq!(rt; told_split(rt.alloc(), info, split, sup), [want; 2]);
+        }
     }
-    Ok(())
+}
+
+// Puts a split file where a loader looks for it, 28 if memory was refused.
+fn put_late(alloc: Global, loader: &mut LoaderOver<MemoryFiles>) -> u64 {
+    match put_split(alloc, loader.files_mut(), Split::Unit(SPLIT_INFO)) {
+        Ok(()) => 0,
+        Err(_) => 28,
+    }
 }
 
 // What a loader finds before and after a split file is put at its path.
-fn told_late(
-    loader: Result<LoaderOver<MemoryFiles>, LoaderError>,
+fn told_late(alloc: Global, loader: LoaderOver<MemoryFiles>) -> ([u64; 2], u64, [u64; 2]) {
+    let mut loader = loader;
+    let first = told(alloc, &mut loader);
+    let put = put_late(alloc, &mut loader);
+    (first, put, told(alloc, &mut loader))
+}
+
+// The same of a file whose unit waits, or a fault's number.
+fn told_late_of(
     alloc: Global,
-    split: &[u8],
-) -> [[u64; 2]; 2] {
-    let mut loader = match loader {
-        Ok(loader) => loader,
-        Err(error) => return [[fault_code(error), 1]; 2],
+    files: Result<MemoryFiles, AllocError>,
+) -> ([u64; 2], u64, [u64; 2]) {
+    let Ok(files) = files else {
+        return ([28, 2], 28, [0; 2]);
     };
-    let first = frame_code(alloc, loader.find_frames(0x18));
-    match loader.files_mut().put(SPLIT, split) {
-        Ok(()) => [first, frame_code(alloc, loader.find_frames(0x18))],
-        Err(_) => [first, [28, 4]],
+    match LoaderOver::over(alloc, files, MAIN, None) {
+        Ok(loader) => told_late(alloc, loader),
+        Err(error) => ([fault_code(error), 1], 0, [0; 2]),
     }
 }
 
-// The loader of a main file of this unit, and of files of which none is split.
-fn loader_of(alloc: Global, info: &[u8]) -> Result<LoaderOver<MemoryFiles>, LoaderError> {
-    let files = files_of(alloc, main_file(alloc, info)?.as_slice(), &[])?;
-    LoaderOver::over(alloc, files, MAIN, None)
-}
-
 #[test]
-fn the_first_answer_to_a_load_stays(rt: HostRuntime) -> Result<(), Fail> {
-    let alloc = rt.alloc();
-    let split = split_file(alloc, SPLIT_INFO)?;
-    let loader = loader_of(alloc, MAIN_INFO);
-    assert_eq!(rt; told_late(loader, alloc, split.as_slice()), [LINE_1; 2]);
-    Ok(())
+fn the_first_answer_to_a_load_stays(rt: HostRuntime) {
+    let files = split_files(rt.alloc(), MAIN_INFO, None);
+    assert_eq!(rt; told_late_of(rt.alloc(), files), (LINE_1, 0, LINE_1));
 }
 
-// The addresses of `.text` in a file, and the line at 0x20.
-fn text_of(alloc: Global, loader: Result<LoaderOver<MemoryFiles>, LoaderError>) -> [u64; 3] {
-    let mut loader = match loader {
-        Ok(loader) => loader,
-        Err(error) => return [fault_code(error), 0, 9],
-    };
-    let line = match loader.find_location(0x20) {
+// A main file: of `.text` at an address with a size, one whose unit isn't whole, or these bytes.
+#[derive(Clone, Copy)]
+enum Main {
+    Text(u64, usize),
+    Cut,
+    Bytes(&'static [u8]),
+}
+
+fn main_bytes(alloc: Global, main: Main) -> Result<Vec<u8>, AllocError> {
+    match main {
+        Main::Text(address, size) => file_of(alloc, address, size, [&ABBREV, &INFO, &LINE]),
+        Main::Cut => file_of(alloc, 0x10, 0x20, [&ABBREV, &INFO[..20], &LINE]),
+        Main::Bytes(bytes) => Vec::from_slice(alloc, bytes),
+    }
+}
+
+fn plain_files(alloc: Global, main: Main) -> Result<MemoryFiles, AllocError> {
+    files_of(alloc, main_bytes(alloc, main)?)
+}
+
+// The line at 0x20, or a fault's number.
+fn line_of<F: FileSource>(loader: &mut LoaderOver<F>) -> u64 {
+    match loader.find_location(0x20) {
         Ok(Some(location)) => u64::from(location.line.unwrap_or(0)),
         Ok(None) => 0,
         Err(error) => fault_code(error),
-    };
+    }
+}
+
+// The addresses of `.text` in a file, and the line at 0x20.
+fn text_of<F: FileSource>(loader: LoaderOver<F>) -> [u64; 3] {
+    let mut loader = loader;
+    let line = line_of(&mut loader);
     match loader.get_section_range(b".text") {
         Some(Range { begin, end }) => [begin, end, line],
         None => [0, 0, line],
     }
 }
 
-// The same of files and paths.
-fn text_at(alloc: Global, main: &[u8], path: &str, sup: Option<&str>) -> [u64; 3] {
-    match files_of(alloc, main, &[]) {
-        Ok(files) => text_of(alloc, LoaderOver::over(alloc, files, path, sup)),
-        Err(_) => [28, 0, 8],
+// The same of files and paths, or a fault's number.
+fn text_at(alloc: Global, main: Main, path: &str, sup: Option<&str>) -> [u64; 3] {
+    let Ok(files) = plain_files(alloc, main) else {
+        return [28, 0, 8];
+    };
+    match LoaderOver::over(alloc, files, path, sup) {
+        Ok(loader) => text_of(loader),
+        Err(error) => [fault_code(error), 0, 9],
     }
 }
 
 #[test]
-fn files_are_loaded_or_refused_in_their_order(rt: HostRuntime) -> Result<(), Fail> {
-    let alloc = rt.alloc();
-    let sections: [&[u8]; 3] = [&ABBREV, &INFO, &LINE];
-    let whole = file_of(alloc, 0x10, 0x20, sections)?;
-    let last = file_of(alloc, u64::MAX, 2, sections)?;
-    let cut = file_of(alloc, 0x10, 0x20, [&ABBREV, &INFO[..20], &LINE])?;
+fn files_are_loaded_or_refused_in_their_order(rt: HostRuntime) {
     let none = "/p/none";
+    let whole = Main::Text(0x10, 0x20);
     let cases = [
-        (whole.as_slice(), MAIN, None, [0x10, 0x30, 3]),
-        (last.as_slice(), MAIN, None, [0, 0, 3]),
-        (whole.as_slice(), MAIN, Some(PLAIN), [0x10, 0x30, 3]),
-        (whole.as_slice(), none, Some(none), [21, 0, 9]),
-        (whole.as_slice(), MAIN, Some(none), [21, 0, 9]),
-        (b"h", MAIN, Some(none), [22, 0, 9]),
+        (whole, MAIN, None, [0x10, 0x30, 3]),
+        (Main::Text(u64::MAX, 2), MAIN, None, [0, 0, 3]),
+        (whole, MAIN, Some(PLAIN), [0x10, 0x30, 3]),
+        (whole, none, Some(none), [21, 0, 9]),
+        (whole, MAIN, Some(none), [21, 0, 9]),
+        (Main::Bytes(b"h"), MAIN, Some(none), [22, 0, 9]),
         // The supplementary file is read before the units.
-        (cut.as_slice(), MAIN, Some(none), [21, 0, 9]),
-        (cut.as_slice(), MAIN, None, [27, 0, 9]),
+        (Main::Cut, MAIN, Some(none), [21, 0, 9]),
+        (Main::Cut, MAIN, None, [27, 0, 9]),
     ];
     for (main, path, sup, want) in cases {
-        assert_eq!(rt; text_at(alloc, main, path, sup), want);
+        assert_eq!(rt; text_at(rt.alloc(), main, path, sup), want);
     }
-    Ok(())
 }

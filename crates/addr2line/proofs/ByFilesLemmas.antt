@@ -1,5 +1,6 @@
 -- Loads that files answer, one after another (on specs/Loader.antt and specs/FramesByFiles.antt).
-use Rattle.std.proofs.Common.{◌≡◌, ◌≢◌, ◌≤◌, ℕ, List, Option, Some, None, Result, Ok, Err, false, arith, true, refl, sym, ap, subst, ◌∙◌}
+use Rattle.std.proofs.Common.{◌≡◌, ◌≢◌, ◌≤◌, ◌⊎◌, inl, inr, ℕ, List, [], ◌∷◌, ◌++◌, Option, Some, None, Result, Ok, Err, false, arith, true, refl, sym, ap, subst, ◌∙◌}
+use Rattle.std.proofs.lemmas.List.{append_assoc}
 use Rattle.std.specs.Prelude.{IfSome}
 use Rattle.gimli_read.specs.declared.error.Error.{Error}
 use Rattle.gimli_read.specs.Reading.{◌>>=◌}
@@ -13,15 +14,17 @@ use Rattle.addr2line_units.specs.Frames.{FrameRecord}
 use Rattle.addr2line_units.specs.FramesLookup.{Stop, Waits, Finds, FindsNothing, is_waiting}
 use Rattle.addr2line_units.specs.Parsed.{IsNotOom, has_parsed}
 use Rattle.addr2line_units.specs.Views.{SplitLoad}
-use Rattle.addr2line.specs.Answers.{AfterAnswer}
+use Rattle.addr2line.specs.Answers.{AfterAnswer, answered}
 use Rattle.addr2line.specs.Context.{ContextState}
 use Rattle.addr2line.specs.Files.{Files}
 use Rattle.addr2line.specs.FramesByFiles.{frames_by, frames_by_files, stop_frames}
+use Rattle.addr2line.specs.History.{Given, Gives}
 use Rattle.addr2line.specs.KeptStops.{by_number, unit_stop}
-use Rattle.addr2line.specs.Loader.{AfterAnswers, AfterLoads, IsFaultByFiles, LoaderState, StayAnswered}
+use Rattle.addr2line.specs.Loader.{AfterAnswers, AfterLoads, AnswersInTurn, AnswersOne, IsFaultByFiles, LoaderState, StayAnswered}
 use Rattle.addr2line.specs.Lookups.{AfterFrames, IsLoadOf, frames_of, frames_told, lookup_stop}
 use Rattle.addr2line.specs.SplitFiles.{given_by}
 use Rattle.addr2line.proofs.FilesLookupLemmas.{first_answers_stay, frames_ended, frames_stay, refused_frames}
+use Rattle.addr2line.proofs.HistoryLemmas.{HasGiven, given_all, given_more}
 use Rattle.addr2line.proofs.LoadingLemmas.{if_some_both, no_oom}
 
 -- what holds of each files holds where they are known
@@ -93,6 +96,45 @@ module _ (files : Option Files) where
     pub refused_by_file : (e : LoaderError) → IfSome files (λ held. e ≢ OutOfMemory → given_by held load ≡ Err e) → IsFaultByFiles files old probe e
     refused_by_file e h = if_some_map files h (λ held k ne. refused_frames old.sections old.answers probe n load waits is (given_by held) e (k ne))
 
+-- of a load one answer is given at most
+pub one_answered : (n : ℕ) (given : Option Sections) (r : Result (Unit {0}) Error) (old new : ContextState) → AfterAnswer n given r old new → AnswersOne n old new
+one_answered n given (Ok x) old new a = inr (given, a.answers)
+one_answered n given (Err e) old new a = inl a.refused.1
+
+-- loads of a lookup were answered by files, in turn
+pub record HasAnswered (files : Option Files) (probe : ℕ) (first now : ContextState) : Type 0 where
+  pub after : AfterAnswers files first now
+  pub given : List Given
+  pub so : HasGiven End first.sections probe first.answers given now.answers
+
+module _ (files : Option Files) (probe : ℕ) (first : ContextState) where
+  pub has_answered_none : HasAnswered files probe first first
+  has_answered_none = record { after = unanswered files first; given = []; so = λ rest. refl }
+
+  module _ (now : ContextState) (h : HasAnswered files probe first now) where
+    pub has_looked : {X : Type 0} (r : Result X Error) (new : ContextState) → AfterFrames End probe r now new → HasAnswered files probe first new
+    has_looked r new a = record {
+      after = then_answered files first now new h.after (after_look files probe r now new a);
+      given = h.given;
+      so = subst (λ x. HasGiven End first.sections probe first.answers h.given x) (sym a.answers) h.so;
+    }
+
+    pub has_answered_one : (n : ℕ) (new : ContextState) → lookup_stop End now.sections now.answers probe ≡ Ok (Waits n) → AfterAnswers files now new → AnswersOne n now new → HasAnswered files probe first new
+    has_answered_one n new waits b (inl same) = record {
+      after = then_answered files first now new h.after b;
+      given = h.given;
+      so = subst (λ x. HasGiven End first.sections probe first.answers h.given x) (sym same) h.so;
+    }
+    has_answered_one n new waits b (inr p) = record {
+      after = then_answered files first now new h.after b;
+      given = h.given ++ (Gives p.0 ∷ []);
+      so = subst (λ x. HasGiven End first.sections probe first.answers (h.given ++ (Gives p.0 ∷ [])) x) (sym (p.1 ∙ ap (λ d. answered d now.answers n p.0) h.after.sections))
+          (given_more End first.sections probe first.answers now.answers h.given h.so n p.0 (ap (λ d. lookup_stop End d now.answers probe) (sym h.after.sections) ∙ waits) (h.given ++ (Gives p.0 ∷ [])) (append_assoc h.given (Gives p.0 ∷ [])));
+    }
+
+    pub in_turn : AnswersInTurn probe first now
+    in_turn = (h.given, sym (given_all End first.sections probe first.answers now.answers h.given h.so))
+
 failed_stop : (e : Error) (r : Result Stop Error) → (r >>= λ s. Ok (by_number s)) ≡ Err e → (is_waiting r ≡ false) × (stop_frames r ≡ Err (loader_error_of e))
 failed_stop e (Ok s) h = absurd cc
 failed_stop e (Err f) h = (refl, cc)
@@ -117,6 +159,10 @@ failed_told e (Ok s) h = absurd cc
 failed_told e (Err f) h = cc
 
 module _ (files : Option Files) (probe : ℕ) (first mid : ContextState) (a : AfterAnswers files first mid) where
+  -- after the lookup of answers that were given in turn
+  still_in_turn : {X : Type 0} (r : Result X Error) (new : ContextState) → AnswersInTurn probe first mid → AfterFrames End probe r mid new → AnswersInTurn probe first new
+  still_in_turn r new t b = (t.0, b.answers ∙ t.1)
+
   -- the frames, and the fault, of a lookup that waits no more are those by the files
   module _ (ended : is_waiting (lookup_stop End mid.sections mid.answers probe) ≡ false) where
     pub found_by_files : (frames : List FrameRecord) → frames_of mid.sections mid.answers probe ≡ Ok (Some frames) → IfSome files (λ held. frames_by_files held first.sections first.answers probe ≡ Ok frames)
@@ -129,7 +175,7 @@ module _ (files : Option Files) (probe : ℕ) (first mid : ContextState) (a : Af
         (λ held p ne. sym (p probe) ∙ frames_ended (given_by held) mid.sections mid.answers probe ended ∙ failed_told e (lookup_stop End mid.sections mid.answers probe) (h ne))
 
   -- the loader after its lookup
-  module _ {X : Type 0} (object : ObjectFile) (r : Result X Error) (new : ContextState) (b : AfterFrames End probe r mid new) where
+  module _ {X : Type 0} (object : ObjectFile) (r : Result X Error) (new : ContextState) (b : AfterFrames End probe r mid new) (t : AnswersInTurn probe first mid) where
     abbrev loader : ContextState → LoaderState
     loader c = record { files = files; object = object; context = c }
 
@@ -138,6 +184,7 @@ module _ (files : Option Files) (probe : ℕ) (first mid : ContextState) (a : Af
       files = refl;
       object = refl;
       context = then_answered files first mid new a (after_look files probe r mid new b);
+      in_turn = still_in_turn r new t b;
       ready = b.ready (subst (λ (y : Result X Error). IsNotOom y) (sym is) tt);
     }
 
@@ -146,5 +193,6 @@ module _ (files : Option Files) (probe : ℕ) (first mid : ContextState) (a : Af
       files = refl;
       object = refl;
       context = then_answered files first mid new a (after_look files probe r mid new b);
+      in_turn = still_in_turn r new t b;
       ready = tt;
     }

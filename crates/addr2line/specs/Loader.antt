@@ -3,7 +3,7 @@
 -- Own: a lookup gives the frames that the files say at that call, whichever lookups were made
 -- before; the first answer of a unit stays, so a file counts that was there when its unit was first
 -- looked up.
-use Rattle.std.specs.Prelude.{◌≡◌, ◌≢◌, ◌≤◌, ℕ, Option, Some, IfOk, IfSome, Err}
+use Rattle.std.specs.Prelude.{◌≡◌, ◌≢◌, ◌≤◌, ◌⊎◌, ℕ, List, Option, Some, IfOk, IfSome, Err}
 use Rattle.gimli.specs.Sections.{Sections}
 use Rattle.elf.specs.declared.error.LoaderError.{LoaderError}
 use Rattle.elf.specs.declared.error.LoaderError.TheVariants.{OutOfMemory}
@@ -13,9 +13,11 @@ use Rattle.addr2line_units.specs.declared.frames_lookup.Faults.TheVariants.{End}
 use Rattle.addr2line_units.specs.FramesLookup.{answer_of}
 use Rattle.addr2line_units.specs.Parsed.{StaysParsed}
 use Rattle.addr2line.specs.declared.loader.LoaderOver.{LoaderOver}
+use Rattle.addr2line.specs.Answers.{answered}
 use Rattle.addr2line.specs.Context.{ContextState, Stays}
 use Rattle.addr2line.specs.Files.{Files}
 use Rattle.addr2line.specs.FramesByFiles.{frames_by_files}
+use Rattle.addr2line.specs.History.{Given, answers_given}
 use Rattle.addr2line.specs.Lookups.{FirstAnswers, IsKnown}
 
 -- the files, where they are known, the main file, and the context
@@ -52,13 +54,25 @@ pub record AfterAnswers (files : Option Files) (old new : ContextState) : Type 0
   pub parsed : StaysParsed old.parsed new.parsed
   pub raised : old.looks ≤ new.looks
 
--- a lookup of frames at the probe has answered loads by files: the files and the main file are the
--- same, and, unless it was refused, all is known that the lookup asks for
+-- the unit of a number was answered, or nothing was
+abbrev pub AnswersOne : ℕ → ContextState → ContextState → Type 0
+AnswersOne n old new = (new.answers ≡ old.answers) ⊎ ((given : Option Sections)
+    × (new.answers ≡ answered old.sections old.answers n given))
+
+-- a lookup of the probe was given answers in turn, each for the unit that it waited for by then; no
+-- other unit was answered
+abbrev pub AnswersInTurn : ℕ → ContextState → ContextState → Type 0
+AnswersInTurn probe old new = (given : List Given)
+    × (new.answers ≡ answers_given End old.sections probe old.answers given)
+
+-- a lookup of frames at the probe has answered the loads that it came to by files: the files and
+-- the main file are the same, and, unless it was refused, all is known that the lookup asks for
 pub record AfterLoads {X : Type 0} (probe : ℕ) (result : Loading X) (old new : LoaderState)
     : Type 0 where
   pub files : new.files ≡ old.files
   pub object : new.object ≡ old.object
   pub context : AfterAnswers old.files old.context new.context
+  pub in_turn : AnswersInTurn probe old.context new.context
   pub ready : IfOk result (λ _. IsKnown End new.context probe)
 
 -- a lookup of locations has changed nothing but what is parsed and counted

@@ -3,7 +3,7 @@
 ghost use Rattle.std.specs.Prelude.{◌≡◌, ◌<◌, IfErr, Ok, OnOk, false, length};
 ghost use Rattle.addr2line_units.specs.declared.frames_lookup.Faults.TheVariants.{End};
 ghost use Rattle.addr2line_units.specs.FramesLookup.{Waits, is_waiting};
-ghost use Rattle.addr2line.specs.Loader.{AfterAnswers, IsFaultByFiles};
+ghost use Rattle.addr2line.specs.Loader.{AfterAnswers, AnswersInTurn, AnswersOne, IsFaultByFiles};
 ghost use Rattle.addr2line.specs.Lookups.{IsKnown, loads_of, lookup_stop};
 
 use crate::context::Context;
@@ -26,6 +26,7 @@ fn answer_load<F: FileSource>(
     requires waits { lookup_stop End ctx.old.sections ctx.old.answers probe ≡ Ok (Waits number) }
     requires known { IsKnown End ctx.old probe }
     ensures after { AfterAnswers (F.files files.now) ctx.old ctx.new }
+    ensures one { AnswersOne number ctx.old ctx.new }
     ensures fewer { OnOk result (length (loads_of ctx.new.sections ctx.new.answers probe)
         < length (loads_of ctx.old.sections ctx.old.answers probe)) }
     ensures refused { IfErr result (IsFaultByFiles (F.files files.now) ctx.old probe) }
@@ -43,6 +44,7 @@ pub(crate) fn answer_loads<F: FileSource>(
     probe: u64,
 ) -> Result<(), LoaderError>
     ensures after { AfterAnswers (F.files files.now) ctx.old ctx.new }
+    ensures in_turn { AnswersInTurn probe ctx.old ctx.new }
     ensures ended { OnOk result
         (is_waiting (lookup_stop End ctx.new.sections ctx.new.answers probe) ≡ false) }
     ensures refused { IfErr result (IsFaultByFiles (F.files files.now) ctx.old probe) }

@@ -1,6 +1,6 @@
 //! Owned copies of what calls of a context lend.
 
-ghost use Rattle.std.specs.Prelude.{◌≡◌, List, Option, None, Some, Result, Ok, Err, IfErr, IfOk, IsOk, OnOk, map, option_map, false, true};
+ghost use Rattle.std.specs.Prelude.{◌≡◌, ◌≢◌, List, Option, None, Some, Result, Ok, Err, IfErr, IfOk, IsOk, OnOk, map, option_map, false, true};
 ghost use Rattle.gimli_read.specs.declared.error.Error.{Error};
 ghost use Rattle.gimli_read.specs.declared.error.Error.TheVariants.{OutOfMemory};
 ghost use Rattle.gimli_read.specs.Reading.{ExactlyUnlessOom};
@@ -127,7 +127,7 @@ fn copy_load<R: Reader>(alloc: Global, load: &SplitDwarfLoad<R>) -> Result<Owned
     })
 }
 
-// The reply of a lookup of a location. Refused `OutOfMemory` alone.
+// The reply of a lookup of a location. Refused `OutOfMemory` alone, and a fault takes no memory.
 pub(crate) fn location_reply(
     alloc: Global,
     location: Result<Option<Location<'_>>, Error>,
@@ -136,6 +136,7 @@ pub(crate) fn location_reply(
         → ExactlyUnlessOom (option_map seen_location) location.entry given
         → IfOk result (λ r. seen_reply r ≡ Located given) }
     ensures told { OnOk result (IsNotOom location.entry) }
+    ensures fault { IfErr location.entry (λ e. e ≢ OutOfMemory → IsOk result) }
     ensures refused { IfErr result (λ e. e ≡ OutOfMemory) }
 {
     match location {
@@ -180,7 +181,8 @@ pub(crate) fn rows_reply<R: Reader>(
     }
 }
 
-// The reply of a lookup of frames that has ended. Refused `OutOfMemory` alone.
+// The reply of a lookup of frames that has ended. Refused `OutOfMemory` alone, and a fault takes no
+// memory.
 pub(crate) fn frames_reply<R: Reader>(
     alloc: Global,
     frames: Result<FrameIter<'_, R>, Error>,
@@ -189,6 +191,7 @@ pub(crate) fn frames_reply<R: Reader>(
         → ExactlyUnlessOom (λ i. Some (frames_left i)) frames.entry (frames_at stop)
         → IfOk result (λ r. (seen_reply r ≡ reply_of_frames stop) × (is_waiting stop ≡ false)) }
     ensures told { OnOk result (IsNotOom frames.entry) }
+    ensures fault { IfErr frames.entry (λ e. e ≢ OutOfMemory → IsOk result) }
     ensures refused { IfErr result (λ e. e ≡ OutOfMemory) }
 {
     match frames {

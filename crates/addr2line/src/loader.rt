@@ -1,8 +1,9 @@
 //! Loaders: contexts of ELF files, with their symbols and their split files.
 
-ghost use Rattle.std.specs.Prelude.{◌≡◌, IfErr, IfOk, IfSome, Ok, Option, Some, option_map};
+ghost use Rattle.std.specs.Prelude.{◌≡◌, ◌^◌, ◌-◌, IfErr, IfOk, IfSome, IsOk, None, Ok, Option, Some, option_map};
 ghost use Rattle.std.specs.Borrow.{sem};
 ghost use Rattle.elf.specs.declared.error.LoaderError.TheVariants.{OutOfMemory};
+ghost use Rattle.gimli_read.specs.Reading.{Exactly};
 ghost use Rattle.elf.specs.Loading.{Loading, LoadsUnlessOom};
 ghost use Rattle.elf.specs.Sections.{section_range_at};
 ghost use Rattle.elf.specs.Symbols.{NamedAddress, named_address, symbol_at};
@@ -11,6 +12,7 @@ ghost use Rattle.addr2line_lines.specs.SeenLocation.{seen_location};
 ghost use Rattle.addr2line_units.specs.FramesLeft.{frames_left};
 ghost use Rattle.addr2line_units.specs.Located.{location_of, spans_of};
 ghost use Rattle.addr2line_units.specs.LocationsLeft.{locations_left};
+ghost use Rattle.addr2line.specs.Context.{IsReady, IsReadyForRange};
 ghost use Rattle.addr2line.specs.FramesByFiles.{frames_by_files};
 ghost use Rattle.addr2line.specs.Loaded.{as_sup, context_at, dwarf_at, loaded, main_with_sup, object_at, sup_at};
 ghost use Rattle.addr2line.specs.Loader.{AfterLoads, StaysLoaded, seen_loader};
@@ -177,10 +179,14 @@ impl<F: FileSource> LoaderOver<F> {
 
     /// The location of an address, as `Context::find_location` gives it.
     ///
-    /// Refused `Dwarf` as that is; may fail with `OutOfMemory` instead.
+    /// Refused `Dwarf` as that is; may fail with `OutOfMemory` instead. Takes no memory where the
+    /// lines that it asks for are parsed, nor where no unit covers `probe`.
     pub fn find_location(&mut self, probe: u64) -> Result<Option<Location<'_>>, LoaderError>
         ensures gives { LoadsUnlessOom (option_map seen_location) result
             (of_file (location_of self.old.context.sections probe)) }
+        ensures exact { IsReady self.old.context probe → Exactly (option_map seen_location) result
+            (of_file (location_of self.old.context.sections probe)) }
+        ensures last { probe ≡ 2 ^ 64 - 1 → result ≡ Ok None }
         ensures* kept { sem 𝓛 (LoaderEndsAs F.row F.files self.entry
             (StaysLoaded (seen_loader F.files self.old))) }
     {
@@ -192,7 +198,7 @@ impl<F: FileSource> LoaderOver<F> {
 
     /// The rows that a range of addresses meets, as `Context::find_location_range` gives them.
     ///
-    /// Refused `OutOfMemory` alone.
+    /// Refused `OutOfMemory` alone; takes no memory where the lines are parsed.
     pub fn find_location_range(
         &mut self,
         low: u64,
@@ -201,6 +207,7 @@ impl<F: FileSource> LoaderOver<F> {
         ensures gives { IfOk result (λ rows. spans_of self.old.context.sections low high
             ≡ Ok (locations_left rows)) }
         ensures refused { IfErr result (λ e. e ≡ OutOfMemory) }
+        ensures exact { IsReadyForRange self.old.context low high → IsOk result }
         ensures* kept { sem 𝓛 (LoaderEndsAs F.row F.files self.entry
             (StaysLoaded (seen_loader F.files self.old))) }
     {

@@ -3,7 +3,7 @@ use Rattle.std.proofs.lemmas.Result.{err_from_is_err_and}
 use Rattle.addr2line_units.specs.declared.frames_lookup.Faults.TheVariants.{End}
 use Rattle.addr2line_units.specs.KeptViews.{seen_load}
 use Rattle.addr2line.proofs.AnsweredLemmas.{unit_waited_for}
-use Rattle.addr2line.proofs.ByFilesLemmas.{answered_by_file, refused_by_file}
+use Rattle.addr2line.proofs.ByFilesLemmas.{answered_by_file, one_answered, refused_by_file}
 use Rattle.addr2line.proofs.SkippedLemmas.{waits_true}
 use Rattle.addr2line.proofs.by_files.answer_load.Goals as goal
 
@@ -23,3 +23,6 @@ returns-clause-after g c =
     let load = seen_load (λ r. r) c.in_ok-load.load in
     let given = option_map (λ d. d.value) c.in_ok-sections.sections in
     answered_by_file (g.F.FileSource.files c.args.files.now) c.args.probe c.args.number load c.args.ctx.now c.requires.waits c.in_ok-load.ensures.gives given c.in_ok-sections.ensures.gives _ c.answer.new.self c.answer.ensures.after
+
+pub returns-clause-one : goal.returns-clause-one
+returns-clause-one g c = one_answered c.args.number (option_map (λ d. d.value) c.in_ok-sections.sections) _ c.args.ctx.now c.answer.new.self c.answer.ensures.after

@@ -1,12 +1,13 @@
 //! Worked cases: split files, symbols and sections of ELF files, and why a file can't be loaded.
 
-use addr2line::gimli::read::Reader;
+use addr2line::gimli::read::{Error, Reader};
 use addr2line::{FileSource, FrameIter, FunctionName, LoaderError, LoaderOver, MemoryFiles, Range};
 use addr2line_lines_tests::vectors::{
     ABBREV, INFO, LINE, LINE_V5, MAIN_INFO, SPLIT_ABBREV, SPLIT_INFO, WAITING_ABBREV,
 };
 use elf_writer::{SHAPES, Section, elf_file, plain};
 use std::alloc::{AllocError, Global};
+use std::borrow::CowStr;
 
 const MAIN: &str = "/p/main";
 
@@ -58,11 +59,19 @@ fn letter(text: &str) -> u64 {
     text.as_bytes().first().map_or(0, |byte| u64::from(*byte))
 }
 
+// The first byte of a text that may be refused.
+fn letter_of(text: Result<CowStr<'_>, Error>) -> u64 {
+    match text {
+        Ok(text) => letter(text.as_str()),
+        Err(_) => 1,
+    }
+}
+
 // The first bytes of a name and of its text in its language.
 fn name_code<R: Reader>(alloc: Global, name: &FunctionName<'_, R>) -> u64 {
-    let raw = name.raw_name(alloc).map_or(1, |text| letter(text.as_str()));
-    let demangled = name.demangle(alloc).map_or(1, |text| letter(text.as_str()));
-    raw * 256 + demangled
+    let raw = letter_of(name.raw_name(alloc));
+    raw.wrapping_mul(256)
+        .wrapping_add(letter_of(name.demangle(alloc)))
 }
 
 // The name and the line of the first frame, or a fault's number.

@@ -1,7 +1,12 @@
 pub mod Put
 pub mod Address
+pub mod AddressTexts
+pub mod FrameTexts
+pub mod FileAnswers
+pub mod ProbeTexts
 pub mod Stopped
 pub mod Print
+pub mod Printing
 pub mod Text
 pub mod Command
 pub mod CommandLine

@@ -4,3 +4,5 @@ pub mod Texts
 pub mod Addresses
 pub mod Words
 pub mod CommandLemmas
+pub mod AnswerLemmas
+pub mod PrintingLemmas

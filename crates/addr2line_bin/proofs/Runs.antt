@@ -20,7 +20,7 @@ plus_plus None m n k e = refl
 plus_plus (Some x) m n k e = let e : (x + m) + n ≡ x + k = omega (arith, e) in ap Some e
 
 -- what stops later, stops
-stops_later : (old mid new : StreamState) (why : Stop) → mid.fault ≡ old.fault → Stops mid new why → Stops old new why
+pub stops_later : (old mid new : StreamState) (why : Stop) → mid.fault ≡ old.fault → Stops mid new why → Stops old new why
 stops_later old mid new stop.OutOfMemory e s = s ∙ e
 stops_later old mid new (stop.Output b) e s = s
 
@@ -105,7 +105,7 @@ prints_no_part o e t = record {
 }
 
 -- a fault of a stream is no refused growth
-no_refused_growth : (f : Option ErrorKind) → option_map stop_of f ≡ Some stop.OutOfMemory → ⊥
+pub no_refused_growth : (f : Option ErrorKind) → option_map stop_of f ≡ Some stop.OutOfMemory → ⊥
 no_refused_growth None e = absurd (cc)
 no_refused_growth (Some kind) e = absurd (cc)
 

@@ -4,6 +4,7 @@ pub mod AddressTexts
 pub mod FrameTexts
 pub mod FileAnswers
 pub mod ProbeTexts
+pub mod InputLines
 pub mod Stopped
 pub mod Print
 pub mod Printing

@@ -12,11 +12,17 @@ ghost use Rattle.addr2line_bin.specs.declared.engine.Exit.TheVariants as exit;
 ghost use Rattle.addr2line_bin.specs.declared.stream.Stop.TheVariants as stop;
 
 mod address;
+mod address_text;
 mod command;
 mod command_line;
 mod engine;
+mod frame_text;
+mod input;
 mod load;
+mod lookups;
 mod options;
+mod printing;
+mod probe_text;
 mod stream;
 #[cfg(test)]
 mod stream_tests;

@@ -6,3 +6,5 @@ pub mod Words
 pub mod CommandLemmas
 pub mod AnswerLemmas
 pub mod PrintingLemmas
+pub mod AddressLemmas
+pub mod FrameLemmas

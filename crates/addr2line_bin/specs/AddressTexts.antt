@@ -67,8 +67,19 @@ location_text style (Some p) =
 abbrev pub probe_end : Style → List ℕ
 probe_end style = if style.llvm then codes "\n" else []
 
--- the line of a fault of a lookup for what is looked up
+-- what can't be found
+abbrev pub fault_topic : List ℕ → List ℕ → List ℕ
+fault_topic name what = name ++ (codes ": failed to find " ++ what)
+
+-- for which address
+abbrev pub fault_subject : ℕ → List ℕ
+fault_subject address = codes " for 0x" ++ hex_digits address
+
+-- why
+abbrev pub fault_reason : LoaderError → List ℕ
+fault_reason e = codes ": " ++ (loader_text_of e ++ codes "\n")
+
+-- the line that says why something can't be found for an address
 abbrev pub fault_line : List ℕ → List ℕ → ℕ → LoaderError → List ℕ
 fault_line name what address e =
-    (name ++ (codes ": failed to find " ++ (what ++ (codes " for 0x" ++ hex_digits address))))
-    ++ (codes ": " ++ (loader_text_of e ++ codes "\n"))
+    fault_topic name what ++ (fault_subject address ++ fault_reason e)

@@ -4,7 +4,7 @@
 use Rattle.std.specs.Prelude.{◌≡◌, ◌⊎◌, ◌<◌, ◌-◌, ◌^◌, ℕ, Bool, true, false, List, [], ◌∷◌, length, map, Option, Some, IfSome, Result, Ok, Err}
 use Rattle.std.specs.Io.BufRead.{drop_through, first_line}
 use Rattle.std.specs.Io.KnownBytes.{IsAtEnd}
-use Rattle.std.specs.Str.{is_utf8}
+use Rattle.std.specs.Str.{IsUtf8}
 use Rattle.addr2line_bin.specs.Address.{address_in}
 use Rattle.addr2line_bin.specs.declared.stream.Stop.{Stop}
 
@@ -24,13 +24,13 @@ ReadsLine false old new line = new.has_fault ≡ false → IsAtEnd old.bytes
 abbrev pub StartWith : List ℕ → List (List ℕ) → List ℕ → Type 0
 StartWith bytes [] rest = bytes ≡ rest
 StartWith bytes (line ∷ lines) rest = (0 < length bytes)
-    × (line ≡ first_line bytes) × (is_utf8 line ≡ true)
+    × (line ≡ first_line bytes) × IsUtf8 line
     × StartWith (drop_through 10 bytes) lines rest
 
 -- the input ends here, after so many lines
 abbrev pub IsInputEnd : List ℕ → ℕ → Type 0
 IsInputEnd rest count =
-    (rest ≡ []) ⊎ ((is_utf8 (first_line rest) ≡ false) ⊎ (count ≡ 2 ^ 64 - 1))
+    (rest ≡ []) ⊎ ((IsUtf8 (first_line rest) → ⊥) ⊎ (count ≡ 2 ^ 64 - 1))
 
 -- the lines that were read from an input: where no read has failed, all of them
 abbrev pub AreLines : InputState → InputState → List (List ℕ) → Type 0

@@ -40,10 +40,18 @@ asks_frames style = style.functions || style.inlines
 abbrev pub asked_symbol : Style → Option (List ℕ) → Option (List ℕ)
 asked_symbol style symbol = if style.functions then option_map (symbol_name style) symbol else None
 
+-- what a lookup of a location gives
+abbrev pub Found : Type 0
+Found = Loading (Option Location)
+
+-- what a lookup of frames gives
+abbrev pub FoundFrames : Type 0
+FoundFrames = Loading (List FrameRecord)
+
 -- what the lookups of an address gave: its location; or its frames, and the name of its symbol
 pub data Given : Type 0 where
-  GivesLocation : Loading (Option Location) → Given
-  GivesFrames : Loading (List FrameRecord) → Option (List ℕ) → Given
+  GivesLocation : Found → Given
+  GivesFrames : FoundFrames → Option (List ℕ) → Given
 
 -- the lookups of an address may give this
 abbrev pub MayBeGiven : FileAnswers → Style → ℕ → Given → Type 0

@@ -1,10 +1,11 @@
 //! The texts of addresses and of locations, and the lines of faults.
 
-ghost use Rattle.std.specs.Prelude.{◌≡◌, ◌++◌, OnOk, codes, option_map, string_bytes};
+ghost use Rattle.std.specs.Prelude.{◌≡◌, ◌++◌, OnOk, option_map, string_bytes};
 ghost use Rattle.std.specs.Option.{option_copied};
 ghost use Rattle.addr2line_lines.specs.SeenLocation.{seen_location};
 ghost use Rattle.addr2line_bin.specs.AddressTexts.{address_end, address_text, basename_of, digits_text};
-ghost use Rattle.addr2line_bin.specs.AddressTexts.{fault_line, file_text, hex_digits, line_text};
+ghost use Rattle.addr2line_bin.specs.AddressTexts.{fault_line, fault_reason, fault_subject, fault_topic};
+ghost use Rattle.addr2line_bin.specs.AddressTexts.{file_text, hex_digits, line_text};
 ghost use Rattle.addr2line_bin.specs.AddressTexts.{location_text, nowhere_text, place_text, probe_end};
 
 use crate::options::Style;
@@ -22,6 +23,7 @@ fn push_hex(text: &mut String, address: u64) -> Result<(), AllocError>
 }
 
 // Adds the digits of an address.
+#[tactic(auto, using(crate::proofs::AddressLemmas::wide_digits))]
 fn push_digits(text: &mut String, style: Style, address: u64) -> Result<(), AllocError>
     ensures gives { OnOk result (string_bytes text.new
         ≡ string_bytes text.old ++ digits_text style address) }
@@ -64,7 +66,7 @@ fn basename_of(path: &str) -> &str
 // Adds a file.
 fn push_file(text: &mut String, style: Style, file: Option<&str>) -> Result<(), AllocError>
     ensures gives { OnOk result (string_bytes text.new
-        ≡ string_bytes text.old ++ file_text style (option_copied file)) }
+        ≡ string_bytes text.old ++ file_text style (option_copied file.entry)) }
 {
     match file {
         None => text.push_str("??"),
@@ -134,25 +136,37 @@ pub fn push_probe_end(text: &mut String, style: Style) -> Result<(), AllocError>
     text.push_str(if style.llvm { "\n" } else { "" })
 }
 
-// Adds for what an address was looked up.
-fn push_lookup(
-    text: &mut String,
-    name: &str,
-    what: &str,
-    address: u64,
-) -> Result<(), AllocError>
-    ensures gives { OnOk result (string_bytes text.new ≡ string_bytes text.old
-        ++ (name.now ++ (codes ": failed to find "
-        ++ (what.now ++ (codes " for 0x" ++ hex_digits address))))) }
+// Adds what can't be found.
+fn push_topic(text: &mut String, name: &str, what: &str) -> Result<(), AllocError>
+    ensures gives { OnOk result (string_bytes text.new
+        ≡ string_bytes text.old ++ fault_topic name.now what.now) }
 {
     text.push_str(name)?;
     text.push_str(": failed to find ")?;
     text.push_str(what)?;
+    Ok(())
+}
+
+// Adds for which address.
+fn push_subject(text: &mut String, address: u64) -> Result<(), AllocError>
+    ensures gives { OnOk result (string_bytes text.new
+        ≡ string_bytes text.old ++ fault_subject address) }
+{
     text.push_str(" for 0x")?;
     push_hex(text, address)
 }
 
-/// Adds the line that says why an address can't be looked up for a thing.
+// Adds why.
+fn push_reason(text: &mut String, error: LoaderError) -> Result<(), AllocError>
+    ensures gives { OnOk result (string_bytes text.new
+        ≡ string_bytes text.old ++ fault_reason error) }
+{
+    text.push_str(": ")?;
+    text.push_str(error.text())?;
+    text.push_str("\n")
+}
+
+/// Adds the line that says why something can't be found for an address.
 pub fn push_fault(
     text: &mut String,
     name: &str,
@@ -163,8 +177,7 @@ pub fn push_fault(
     ensures gives { OnOk result (string_bytes text.new ≡ string_bytes text.old
         ++ fault_line name.now what.now address error) }
 {
-    push_lookup(text, name, what, address)?;
-    text.push_str(": ")?;
-    text.push_str(error.text())?;
-    text.push_str("\n")
+    push_topic(text, name, what)?;
+    push_subject(text, address)?;
+    push_reason(text, error)
 }

@@ -58,7 +58,7 @@ fn push_function_end(text: &mut String, style: Style) -> Result<(), AllocError>
 // Adds a function by its name, where functions are printed.
 fn push_function(text: &mut String, style: Style, name: Option<&str>) -> Result<(), AllocError>
     ensures gives { OnOk result (string_bytes text.new
-        ≡ string_bytes text.old ++ function_text style (option_copied name)) }
+        ≡ string_bytes text.old ++ function_text style (option_copied name.entry)) }
 {
     if !style.functions {
         return Ok(());
@@ -96,7 +96,7 @@ fn push_frame<R: Reader>(
     frame: &Frame<'_, R>,
 ) -> Result<(), AllocError>
     ensures gives { OnOk result (string_bytes text.new ≡ string_bytes text.old
-        ++ frame_text style (option_copied symbol) (seen_frame R.section frame.now)) }
+        ++ frame_text style (option_copied symbol.entry) (seen_frame R.section frame.now)) }
 {
     match symbol {
         Some(_) => push_function(text, style, symbol)?,
@@ -131,6 +131,14 @@ fn symbol_before<'a, R: Reader>(
     }
 }
 
+// Adds what stands before each frame but the first.
+fn push_caller_mark(text: &mut String, style: Style) -> Result<(), AllocError>
+    ensures gives { OnOk result (string_bytes text.new
+        ≡ string_bytes text.old ++ caller_mark style) }
+{
+    text.push_str(if style.pretty { " (inlined by) " } else { "" })
+}
+
 // Adds a frame after others.
 fn push_caller<R: Reader>(
     text: &mut String,
@@ -141,9 +149,9 @@ fn push_caller<R: Reader>(
 ) -> Result<(), AllocError>
     ensures gives { OnOk result (string_bytes text.new ≡ string_bytes text.old
         ++ (caller_mark style
-        ++ frame_text style (option_copied symbol) (seen_frame R.section frame.now))) }
+        ++ frame_text style (option_copied symbol.entry) (seen_frame R.section frame.now))) }
 {
-    text.push_str(if style.pretty { " (inlined by) " } else { "" })?;
+    push_caller_mark(text, style)?;
     push_frame(text, alloc, style, symbol, frame)
 }
 
@@ -157,7 +165,7 @@ fn push_callers<'ctx, R: Reader>(
     frames: FrameIter<'ctx, R>,
 ) -> Result<(), AllocError>
     ensures gives { OnOk result (string_bytes text.new ≡ string_bytes text.old
-        ++ callers_text style (option_copied symbol)
+        ++ callers_text style (option_copied symbol.entry)
         (next_and (option_map (seen_frame R.section) first.entry) (frames_left frames.entry))) }
 {
     let mut frames = frames;
@@ -170,13 +178,9 @@ fn push_callers<'ctx, R: Reader>(
 }
 
 /// Adds what stands where there is no frame.
-pub fn push_missing(
-    text: &mut String,
-    style: Style,
-    symbol: Option<&str>,
-) -> Result<(), AllocError>
+pub fn push_missing(text: &mut String, style: Style, symbol: Option<&str>) -> Result<(), AllocError>
     ensures gives { OnOk result (string_bytes text.new ≡ string_bytes text.old
-        ++ missing_text style (option_copied symbol)) }
+        ++ missing_text style (option_copied symbol.entry)) }
 {
     push_function(text, style, symbol)?;
     push_location(text, style, None)
@@ -191,7 +195,7 @@ pub fn push_frames<R: Reader>(
     frames: FrameIter<'_, R>,
 ) -> Result<(), AllocError>
     ensures gives { OnOk result (string_bytes text.new ≡ string_bytes text.old
-        ++ frames_text style (option_copied symbol) (frames_left frames.entry)) }
+        ++ frames_text style (option_copied symbol.entry) (frames_left frames.entry)) }
 {
     let mut frames = frames;
     let Some(frame) = next_frame(&mut frames) else {

@@ -1,6 +1,6 @@
 //! Inputs that lines are read from.
 
-ghost use Rattle.std.specs.Prelude.{◌≡◌, false};
+ghost use Rattle.std.specs.Prelude.{◌≡◌, false, if◌then◌else◌};
 ghost use Rattle.std.specs.Io.BufRead.{ends_with_byte, strip_last};
 
 use std::alloc::AllocError;

@@ -1,23 +1,22 @@
 //! The texts of an address that is asked for.
 
-ghost use Rattle.std.specs.Prelude.{◌≡◌, ◌++◌, IfOk, OnOk, codes, option_map, string_bytes};
+ghost use Rattle.std.specs.Prelude.{◌≡◌, ◌++◌, IfOk, List, [], ℕ, None, OnOk, Option, codes, option_map, string_bytes};
 ghost use Rattle.std.specs.Option.{option_copied};
-ghost use Rattle.elf.specs.Loading.{Loading};
+ghost use Rattle.elf.specs.Loading.{LoadsUnlessOom};
 ghost use Rattle.addr2line_lines.specs.Rows.{result_map};
 ghost use Rattle.addr2line_lines.specs.SeenLocation.{seen_location};
 ghost use Rattle.addr2line_units.specs.FramesLeft.{frames_left};
 ghost use Rattle.addr2line_bin.specs.AddressTexts.{location_text};
 ghost use Rattle.addr2line_bin.specs.FileAnswers.{StaysAnswered};
-ghost use Rattle.addr2line_bin.specs.FrameTexts.{frames_text, symbol_name};
-ghost use Rattle.addr2line_bin.specs.ProbeTexts.{address_by, asked_symbol, asks_frames, fault_text};
-ghost use Rattle.addr2line_bin.specs.ProbeTexts.{Given, IsText, IsTextAt, MayBeGiven, given_fault, given_or, given_text};
+ghost use Rattle.addr2line_bin.specs.FrameTexts.{frames_text};
+ghost use Rattle.addr2line_bin.specs.ProbeTexts.{Found, FoundFrames, Given, IsAnswerAt, IsText, MayBeGiven, asked_symbol, asks_frames};
+ghost use Rattle.addr2line_bin.specs.ProbeTexts.{fault_text, given_fault, given_or, given_text};
 ghost use Rattle.addr2line_bin.specs.ProbeTexts.{looked_up, offset_in};
-ghost use Rattle.addr2line_bin.specs.ProbeTexts.Given.{GivesFrames, GivesLocation};
 
 use crate::address_text::{push_address, push_fault, push_location, push_probe_end};
 use crate::frame_text::{push_frames, push_missing, symbol_name};
 use crate::lookups::Lookups;
-use crate::options::Setup;
+use crate::options::{Setup, Style};
 use addr2line::gimli::read::Reader;
 use addr2line::{FrameIter, LoaderError, Location, Range};
 use std::alloc::{AllocError, Global};
@@ -96,7 +95,7 @@ fn push_found_frames<R: Reader>(
     found: Result<FrameIter<'_, R>, LoaderError>,
 ) -> Result<(), AllocError>
     ensures out { OnOk result (string_bytes texts.new.out ≡ string_bytes texts.old.out
-        ++ frames_text setup.now.style (option_copied symbol)
+        ++ frames_text setup.now.style (option_copied symbol.entry)
         (given_or [] (result_map frames_left found.entry))) }
     ensures err { OnOk result (string_bytes texts.new.err ≡ string_bytes texts.old.err
         ++ fault_text setup.now.name.now (codes "frames") address
@@ -139,6 +138,26 @@ fn as_text(text: &Option<String>) -> Option<&str>
     }
 }
 
+// Adds the frames of an address by its symbol's name, or tells why they can't be looked up.
+fn push_frames_by<L: Lookups>(
+    texts: &mut Texts,
+    setup: &Setup<'_>,
+    lookups: &mut L,
+    address: u64,
+    symbol: Option<&str>,
+) -> Result<(), AllocError>
+    ensures gives { OnOk result ((frames : FoundFrames)
+        × (L.answers lookups.old).MayGive address frames
+        × (string_bytes texts.new.out ≡ string_bytes texts.old.out
+        ++ frames_text setup.now.style (option_copied symbol.entry)
+        (given_or [] frames))
+        × (string_bytes texts.new.err ≡ string_bytes texts.old.err
+        ++ fault_text setup.now.name.now (codes "frames") address frames)) }
+    ensures kept { StaysAnswered (L.answers lookups.old) (L.answers lookups.new) }
+{
+    push_found_frames(texts, setup, address, symbol, lookups.find_frames(address))
+}
+
 // Adds the frames of an address, or tells why they can't be looked up.
 #[tactic(auto, using(crate::proofs::AnswerLemmas::stays_itself))]
 fn push_frames_at<L: Lookups>(
@@ -147,7 +166,7 @@ fn push_frames_at<L: Lookups>(
     lookups: &mut L,
     address: u64,
 ) -> Result<(), AllocError>
-    ensures gives { OnOk result ((frames : Loading (List FrameRecord))
+    ensures gives { OnOk result ((frames : FoundFrames)
         × (L.answers lookups.old).MayGive address frames
         × (string_bytes texts.new.out ≡ string_bytes texts.old.out
         ++ frames_text setup.now.style
@@ -158,13 +177,7 @@ fn push_frames_at<L: Lookups>(
     ensures kept { StaysAnswered (L.answers lookups.old) (L.answers lookups.new) }
 {
     let symbol = symbol_of(setup, lookups, address)?;
-    push_found_frames(
-        texts,
-        setup,
-        address,
-        as_text(&symbol),
-        lookups.find_frames(address),
-    )
+    push_frames_by(texts, setup, lookups, address, as_text(&symbol))
 }
 
 // Adds the location of an address, or tells why it can't be looked up.
@@ -174,7 +187,7 @@ fn push_location_at<L: Lookups>(
     lookups: &mut L,
     address: u64,
 ) -> Result<(), AllocError>
-    ensures gives { OnOk result ((found : Loading (Option Location))
+    ensures gives { OnOk result ((found : Found)
         × LoadsUnlessOom (λ x. x) found ((L.answers lookups.old).location_at address)
         × (string_bytes texts.new.out ≡ string_bytes texts.old.out
         ++ location_text setup.now.style (given_or None found))
@@ -183,6 +196,13 @@ fn push_location_at<L: Lookups>(
     ensures kept { StaysAnswered (L.answers lookups.old) (L.answers lookups.new) }
 {
     push_found(texts, setup, address, lookups.find_location(address))
+}
+
+// Whether frames are looked up.
+fn asks_frames(style: Style) -> bool
+    ensures gives { result ≡ asks_frames style }
+{
+    style.functions || style.inlines
 }
 
 // Adds what the lookups of an address give.
@@ -200,7 +220,7 @@ fn push_given<L: Lookups>(
         ++ given_fault setup.now.name.now address given)) }
     ensures kept { StaysAnswered (L.answers lookups.old) (L.answers lookups.new) }
 {
-    if setup.style.functions || setup.style.inlines {
+    if asks_frames(setup.style) {
         return push_frames_at(texts, setup, lookups, address);
     }
     push_location_at(texts, setup, lookups, address)

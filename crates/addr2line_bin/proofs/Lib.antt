@@ -8,3 +8,4 @@ pub mod AnswerLemmas
 pub mod PrintingLemmas
 pub mod AddressLemmas
 pub mod FrameLemmas
+pub mod LineLemmas

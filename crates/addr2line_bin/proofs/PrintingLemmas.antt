@@ -1,5 +1,5 @@
 -- A run prints what is asked for one after another.
-use Rattle.std.proofs.Common.{◌≡◌, ◌∙◌, ℕ, List, [], ◌∷◌, ◌++◌, Option, Some, None, Result, Ok, Err, refl, sym, ap, append-nil, append_assoc, OnOk, IfErr, true, option_map}
+use Rattle.std.proofs.Common.{◌≡◌, ◌∙◌, ℕ, List, [], ◌∷◌, ◌++◌, Option, Some, None, Result, Ok, Err, refl, sym, ap, append-nil, append_assoc, OnOk, IfErr, true, option_map, map, drop, drop-cons, length, get_or, add-one, ◌<◌, ◌+◌}
 use Rattle.std.specs.Io.KnownBytes.{Appends}
 use Rattle.std.specs.declared.io.ErrorKind.{ErrorKind}
 use Rattle.std.proofs.lemmas.Grind.{flat_map-append}
@@ -13,11 +13,10 @@ use Rattle.addr2line_bin.proofs.Parts.{appends_both, appends_nothing, keeps_itse
 use Rattle.addr2line_bin.proofs.Runs.{no_refused_growth, prints_more, prints_nothing, stops_later}
 
 -- a text of what is asked for now is one at the beginning
-pub Weaker : TextOf → TextOf → Type 0
+abbrev pub Weaker : TextOf → TextOf → Type 0
 Weaker Now Is = (p : Option ℕ) (t : ProbeText) → Now p t → Is p t
 
 all_weaker : (Now Is : TextOf) → Weaker Now Is → (ps : List (Option ℕ)) (ts : List ProbeText) → AllTexts Now ps ts → AllTexts Is ps ts
-unfolding Weaker
 all_weaker Now Is w [] [] a = tt
 all_weaker Now Is w [] (t ∷ ts) a = absurd a
 all_weaker Now Is w (p ∷ ps) [] a = absurd a
@@ -42,10 +41,9 @@ prints_next Now Is oo om on eo em en ps qs w a b = record {
 }
 
 ends_weaker : (Now Is : TextOf) → Weaker Now Is → (why : Stop) (later rest : List (Option ℕ)) (written told : List ℕ) → EndsAt Now why later written told → EndsAt Is why (later ++ rest) written told
-unfolding Weaker
 ends_weaker Now Is w stop.OutOfMemory later rest written told e = e
 ends_weaker Now Is w (stop.Output b) [] rest written told e = absurd e
-ends_weaker Now Is w (stop.Output b) (p ∷ later) rest written told e = (e.0, w p e.0 e.1, e.2)
+ends_weaker Now Is w (stop.Output b) (p ∷ later) rest written told e = (e.0, w p e.0 e.1, e.2, e.3)
 
 -- what was printed, and then an early end
 pub ends_next : (Now Is : TextOf) (oo om on eo em en : StreamState) (ps qs rest all : List (Option ℕ)) (why : Stop) → Weaker Now Is → PrintsOf Is oo om eo em ps → EndsEarly Now om on em en qs why []
@@ -81,6 +79,10 @@ ends_at_once Is o e ps = record {
   stops = refl;
   err = sends_nothing e.contents (has_fault e) (keeps_itself e.contents);
 }
+
+-- a refused growth, after all was printed
+pub ends_here : (Is : TextOf) (oo on eo en : StreamState) (ps : List (Option ℕ)) → PrintsOf Is oo on eo en ps → EndsEarly Is oo on eo en ps stop.OutOfMemory []
+ends_here Is oo on eo en ps a = ends_next Is Is oo on on eo en en ps [] [] ps stop.OutOfMemory (λ p t h. h) a (ends_at_once Is on en []) (sym (append-nil ps))
 
 -- an early end, and then more is reported
 pub ends_reported : (Is : TextOf) (oo on eo em en : StreamState) (ps : List (Option ℕ)) (why : Stop) (more : List ℕ) → EndsEarly Is oo on eo em ps why [] → Reports em en more
@@ -128,3 +130,7 @@ sends_one Is oo on eo en p t is told (Err (stop.Output b)) sent flushes flushed 
   stops = refused.0;
   err = rw (append-nil t.err) told;
 }
+
+-- the next of addresses that are left
+pub somes_next : (xs : List ℕ) (i : ℕ) → i < length xs → map Some (drop i xs) ≡ Some (get_or xs i 0) ∷ map Some (drop (i + 1) xs)
+somes_next xs i lt = ap (map Some) (drop-cons xs i 0 lt) ∙ rw add-one refl

@@ -14,3 +14,4 @@ pub mod RunLemmas
 pub mod FilesLookupLemmas
 pub mod LoadingLemmas
 pub mod SplitFileLemmas
+pub mod ByFilesLemmas

@@ -3,17 +3,20 @@
 -- Own: a lookup gives the frames that the files say at that call, whichever lookups were made
 -- before; the first answer of a unit stays, so a file counts that was there when its unit was first
 -- looked up.
-use Rattle.std.specs.Prelude.{◌≡◌, ◌≢◌, ℕ, Option, Some, IfSome, Err}
+use Rattle.std.specs.Prelude.{◌≡◌, ◌≢◌, ◌≤◌, ℕ, Option, Some, IfOk, IfSome, Err}
 use Rattle.gimli.specs.Sections.{Sections}
 use Rattle.elf.specs.declared.error.LoaderError.{LoaderError}
 use Rattle.elf.specs.declared.error.LoaderError.TheVariants.{OutOfMemory}
+use Rattle.elf.specs.Loading.{Loading}
 use Rattle.elf.specs.ObjectFile.{ObjectFile}
+use Rattle.addr2line_units.specs.declared.frames_lookup.Faults.TheVariants.{End}
 use Rattle.addr2line_units.specs.FramesLookup.{answer_of}
+use Rattle.addr2line_units.specs.Parsed.{StaysParsed}
 use Rattle.addr2line.specs.declared.loader.LoaderOver.{LoaderOver}
 use Rattle.addr2line.specs.Context.{ContextState, Stays}
 use Rattle.addr2line.specs.Files.{Files}
 use Rattle.addr2line.specs.FramesByFiles.{frames_by_files}
-use Rattle.addr2line.specs.Lookups.{FirstAnswers}
+use Rattle.addr2line.specs.Lookups.{FirstAnswers, IsKnown}
 
 -- the files, where they are known, the main file, and the context
 pub record LoaderState : Type 0 where
@@ -40,18 +43,23 @@ pub record StaysDecided (old new : ContextState) : Type 0 where
   pub sections : new.sections ≡ old.sections
   pub answers : new.answers ≡ old.answers
 
--- loads of a context were answered by files
+-- loads of a context were answered by files: the sections are the same, first answers stay, all
+-- lookups of frames give the same, and what was parsed of lines stays parsed
 pub record AfterAnswers (files : Option Files) (old new : ContextState) : Type 0 where
   pub sections : new.sections ≡ old.sections
   pub answers : StayAnswered old.answers new.answers
   pub frames : IfSome files (λ held. GivesSameFrames held old new)
+  pub parsed : StaysParsed old.parsed new.parsed
+  pub raised : old.looks ≤ new.looks
 
--- a lookup of frames has answered loads by files: the files, the main file and the sections are the
--- same, first answers stay, and all lookups of frames give the same
-pub record AfterLoads (old new : LoaderState) : Type 0 where
+-- a lookup of frames at the probe has answered loads by files: the files and the main file are the
+-- same, and, unless it was refused, all is known that the lookup asks for
+pub record AfterLoads {X : Type 0} (probe : ℕ) (result : Loading X) (old new : LoaderState)
+    : Type 0 where
   pub files : new.files ≡ old.files
   pub object : new.object ≡ old.object
   pub context : AfterAnswers old.files old.context new.context
+  pub ready : IfOk result (λ _. IsKnown End new.context probe)
 
 -- a lookup of locations has changed nothing but what is parsed and counted
 pub record StaysLoaded (old new : LoaderState) : Type 0 where

@@ -9,7 +9,7 @@ ghost use Rattle.addr2line_units.specs.FramesLookup.{is_waiting};
 ghost use Rattle.addr2line_units.specs.KeptViews.{seen_load};
 ghost use Rattle.addr2line_units.specs.Suspended.{IfLoad, IfOutput, SkipsTo};
 ghost use Rattle.addr2line.specs.Answers.{AfterResume, SuspendsAgain, answered};
-ghost use Rattle.addr2line.specs.Borrowed.{RestsAs};
+ghost use Rattle.addr2line.specs.Borrowed.{EndsAs, RestsAs};
 ghost use Rattle.addr2line.specs.Lookups.{AfterFrames, Suspends, frames_of, loads_of, lookup_stop, waits_for, with_none};
 ghost use Rattle.addr2line.specs.Skips.{AfterSkip, skipped_answers};
 
@@ -34,18 +34,7 @@ fn end<R: Reader>(ctx: &mut Context<R>, probe: u64) -> LookupResult<FramesLookup
     ensures output { IfOutput result (λ o. ExactlyUnlessOom (λ i. Some (frames_left i)) o
         (frames_of ctx.old.sections ctx.old.answers probe)) }
 {
-    let stop = ctx.units.find_frames(
-        ctx.alloc,
-        &ctx.dwarf,
-        &ctx.sup_units,
-        &mut ctx.looks,
-        probe,
-        Faults::End,
-    );
-    match stop {
-        Ok(stop) => LookupResult::Output(Ok(ctx.units.stop_frames(stop))),
-        Err(error) => LookupResult::Output(Err(error)),
-    }
+    LookupResult::Output(ctx.ended_frames(probe))
 }
 
 // A lookup of frames that may wait: it asks once whether it does, and then once for what to lend.
@@ -240,6 +229,27 @@ impl<'ctx, R: Reader, B: Drop> FramesLookupWith<'ctx, R, B> {
 }
 
 impl<R: Reader> Context<R> {
+    // The frames of a lookup that doesn't wait.
+    pub(crate) fn ended_frames(&mut self, probe: u64) -> Result<FrameIter<'_, R>, Error>
+        requires ended { is_waiting (lookup_stop End self.old.sections self.old.answers probe)
+            ≡ false }
+        ensures gives { ExactlyUnlessOom (λ i. Some (frames_left i)) result
+            (frames_of self.old.sections self.old.answers probe) }
+        ensures* kept { sem 𝓛 (EndsAs R.row R.Reader self.entry
+            (AfterFrames End probe result self.old)) }
+    {
+        let stop = self.units.find_frames(
+            self.alloc,
+            &self.dwarf,
+            &self.sup_units,
+            &mut self.looks,
+            probe,
+            Faults::End,
+        )?;
+        self.units.keep_stop(stop);
+        Ok(self.units.stop_frames())
+    }
+
     /// The frames at an address, from the innermost inlined function out: of the first unit among
     /// those that cover it that has a function or a location there; none where no unit has.
     ///

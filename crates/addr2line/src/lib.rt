@@ -2,6 +2,7 @@
 #![tactic(auto)]
 
 mod answers;
+mod by_files;
 mod context;
 mod continuation;
 mod copies;

@@ -8,17 +8,21 @@ ghost use Rattle.elf.specs.Sections.{section_range_at};
 ghost use Rattle.elf.specs.Symbols.{NamedAddress, named_address, symbol_at};
 ghost use Rattle.gimli.specs.Sections.{Sections, SupSections};
 ghost use Rattle.addr2line_lines.specs.SeenLocation.{seen_location};
+ghost use Rattle.addr2line_units.specs.FramesLeft.{frames_left};
 ghost use Rattle.addr2line_units.specs.Located.{location_of, spans_of};
 ghost use Rattle.addr2line_units.specs.LocationsLeft.{locations_left};
+ghost use Rattle.addr2line.specs.FramesByFiles.{frames_by_files};
 ghost use Rattle.addr2line.specs.Loaded.{as_sup, context_at, dwarf_at, loaded, main_with_sup, object_at, sup_at};
-ghost use Rattle.addr2line.specs.Loader.{StaysLoaded, seen_loader};
+ghost use Rattle.addr2line.specs.Loader.{AfterLoads, StaysLoaded, seen_loader};
 ghost use Rattle.addr2line.specs.SplitFiles.{of_file};
 
+use crate::by_files::answer_loads;
 use crate::context::Context;
 use crate::file_sections::{MainFile, as_dwarf, read_sections};
 use crate::files::{FileSource, HostFiles};
 use crate::split_files::parse_file;
 use addr2line_lines::Location;
+use addr2line_units::FrameIter;
 use addr2line_units::range::LocationRangeIter;
 use elf::{ElfFile, LoaderError, Symbol};
 use gimli::read::{EndianBytes, Range, Reader};
@@ -202,6 +206,35 @@ impl<F: FileSource> LoaderOver<F> {
     {
         match self.context.find_location_range(low, high) {
             Ok(rows) => Ok(rows),
+            Err(error) => Err(LoaderError::from(error)),
+        }
+    }
+
+    /// The frames at an address, as `Context::find_frames` gives them where each load that it waits
+    /// for is answered by the files as they are now.
+    ///
+    /// The path of a split file is the load's `path` where that begins with `/`, else its
+    /// `comp_dir`, a `/` unless that is empty or ends in one, and `path`. A load without a path, a
+    /// file that isn't there, one whose first unit has another identifier or none, and a faulty one
+    /// are answered none. An answer stays: a file counts that was there when its unit was first
+    /// asked for frames.
+    ///
+    /// | Refusal | When |
+    /// |---|---|
+    /// | `PathNotUtf8` | the path of a split file isn't UTF-8; its unit stays open |
+    /// | `Dwarf` | as `Context::find_frames` is refused |
+    ///
+    /// May fail with `OutOfMemory` instead, which leaves the unit that was asked for open. Source:
+    /// DWARF 5, sections 3.1.2 and 7.3.2. Own: the path, and what counts as none.
+    pub fn find_frames(&mut self, probe: u64) -> Result<FrameIter<'_, EndianBytes>, LoaderError>
+        ensures gives { IfSome (F.files self.old.files) (λ held. LoadsUnlessOom frames_left result
+            (frames_by_files held self.old.context.sections self.old.context.answers probe)) }
+        ensures* kept { sem 𝓛 (LoaderEndsAs F.row F.files self.entry
+            (AfterLoads probe result (seen_loader F.files self.old))) }
+    {
+        answer_loads(self.alloc, &self.files, &mut self.context, probe)?;
+        match self.context.ended_frames(probe) {
+            Ok(frames) => Ok(frames),
             Err(error) => Err(LoaderError::from(error)),
         }
     }

@@ -105,3 +105,26 @@ pub const TWO_FUNCTIONS: &[u8] =
     \0\x50\0\0\0\x04\x67\0\x02\x66\0\x10\0\0\0\0\0\0\0\x20\0\0\0\x03\x1f\0\0\0\x20\0\0\0\0\0\0\0\
     \x08\0\0\0\x01\x07\0\0\x02\x65\0\x40\0\0\0\0\0\0\0\x20\0\0\0\x03\x1f\0\0\0\x40\0\0\0\0\0\0\0\
     \x08\0\0\0\x01\x09\0\0\0";
+
+/// The line program of a unit, version 5: the rows of `LINE`.
+pub const LINE_V5: [u8; 68] = [
+    0x40, 0x00, 0x00, 0x00, 0x05, 0x00, 0x08, 0x00, 0x24, 0x00, 0x00, 0x00, 0x01, 0x01, 0x01, 0xfb,
+    0x0e, 0x0d, 0x00, 0x01, 0x01, 0x01, 0x01, 0x00, 0x00, 0x00, 0x01, 0x00, 0x00, 0x01, 0x01, 0x01,
+    0x08, 0x01, 0x2f, 0x77, 0x00, 0x02, 0x01, 0x08, 0x02, 0x0b, 0x01, 0x61, 0x2e, 0x63, 0x00, 0x00,
+    0x00, 0x09, 0x02, 0x10, 0x00, 0x00, 0x00, 0x00, 0x00, 0x00, 0x00, 0x04, 0x00, 0x01, 0xf4, 0x02,
+    0x10, 0x00, 0x01, 0x01,
+];
+
+/// A unit with DW_AT_stmt_list, DW_AT_comp_dir, DW_AT_dwo_name, DW_AT_low_pc and DW_AT_high_pc.
+pub const WAITING_ABBREV: &[u8] = b"\x01\x4a\0\x10\x17\x1b\x08\x76\x08\x11\x01\x12\x06\0\0\0";
+
+/// The unit [0x10, 0x30) in "/w", which waits for "s.dwo".
+pub const MAIN_INFO: &[u8] = b"\x2a\0\0\0\x05\0\x04\x08\0\0\0\0\x88\x77\x66\x55\x44\x33\x22\x11\
+    \x01\0\0\0\0/w\0s.dwo\0\x10\0\0\0\0\0\0\0\x20\0\0\0";
+
+/// A root entry with a language, and a function with a name and a range.
+pub const SPLIT_ABBREV: &[u8] = b"\x01\x11\x01\x13\x05\0\0\x02\x2e\0\x03\x08\x11\x01\x12\x06\0\0\0";
+
+/// The split unit: "h" [0x10, 0x30) at 0x17.
+pub const SPLIT_INFO: &[u8] = b"\x23\0\0\0\x05\0\x05\x08\0\0\0\0\x88\x77\x66\x55\x44\x33\x22\x11\
+    \x01\x1c\0\x02h\0\x10\0\0\0\0\0\0\0\x20\0\0\0\0";

@@ -38,7 +38,7 @@ abbrev pub state_frames : {R : Type 0} → FrameState R → List FrameRecord
 state_frames Empty = []
 state_frames (Located l) = location_frames (option_map seen_location l)
 state_frames (Function f) =
-    frames_inside f.lines.now.files f.language f.functions.now f.place (reverse f.inlined.items)
+    frames_inside f.lines.now.files f.language f.functions.now f.place (reverse f.inlined.now)
     (option_map seen_location f.location)
 
 -- the frames that are left

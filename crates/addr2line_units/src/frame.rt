@@ -22,7 +22,6 @@ use crate::functions::{FunctionPlace, LazyFunctions};
 use crate::legacy::LegacyName;
 use addr2line_lines::{Functions, InlinedFunction, Lines, Location};
 use gimli_read::{DwLang, Error, Reader, UnitOffset};
-use smallvec::SmallVec;
 use std::alloc::Global;
 use std::borrow::CowStr;
 use std::mem;
@@ -84,7 +83,8 @@ pub fn demangle_auto<'a>(
 }
 
 /// The name of a function, and the language of the main unit.
-// It has no `Model`, so that what a lookup lends is seen to hold nothing but references.
+// It has no `Model` and owns nothing, so that what a lookup lends is seen to hold nothing but
+// references: whoever is lent it knows what its lender is afterwards.
 #[derive(Drop)]
 pub struct FunctionName<'ctx, R: Reader> {
     /// The bytes of the name, as the file has them.
@@ -162,10 +162,12 @@ fn call_location<'ctx, R: Reader>(lines: &'ctx Lines, entry: &InlinedFunction<R>
 }
 
 // The place of the innermost of inlined functions, which isn't among them then.
-fn take_innermost(inlined: &mut SmallVec<usize, 16>) -> Option<usize>
-    ensures gives { YieldsFirst (λ s. reverse s.items) inlined.old result inlined.new }
+fn take_innermost(inlined: &mut &[usize]) -> Option<usize>
+    ensures gives { YieldsFirst (λ s. reverse s.now) inlined.old result inlined.new }
 {
-    inlined.pop()
+    let (innermost, rest) = inlined.split_last()?;
+    *inlined = rest;
+    Some(*innermost)
 }
 
 // The frames of a function that are left.
@@ -175,7 +177,7 @@ struct FunctionFrames<'ctx, R: Reader> {
     // The place of the function.
     place: usize,
     // The places of its inlined functions that are left, from the outside in.
-    inlined: SmallVec<usize, 16>,
+    inlined: &'ctx [usize],
     // The lines of the main unit, whose files those of calls are.
     lines: &'ctx Lines,
     language: Option<DwLang>,
@@ -247,7 +249,8 @@ enum FrameState<'ctx, R: Reader> {
 }
 
 /// The frames of an address.
-// It has no `Model`, so that what a lookup lends is seen to hold nothing but references.
+// It has no `Model` and owns nothing, so that what a lookup lends is seen to hold nothing but
+// references: whoever is lent it knows what its lender is afterwards.
 #[derive(Drop)]
 pub struct FrameIter<'ctx, R: Reader> {
     state: FrameState<'ctx, R>,
@@ -284,17 +287,17 @@ impl<'ctx, R: Reader> FrameIter<'ctx, R> {
     pub fn new_function(
         functions: &'ctx Functions<R>,
         place: usize,
-        inlined: SmallVec<usize, 16>,
+        inlined: &'ctx [usize],
         lines: &'ctx Lines,
         language: Option<DwLang>,
         location: Option<Location<'ctx>>,
     ) -> FrameIter<'ctx, R>
-        requires there { AllByRecursion (λ n. n < length functions.now.inlined) inlined.items }
+        requires there { AllByRecursion (λ n. n < length functions.now.inlined) inlined.now }
         ensures gives { IfSome (offset_at functions.now place) (λ offset. frames_left result
             ≡ frames_from lines.now.files language offset (cached_name functions.now place)
-            (reverse (map (entry_among functions.now.inlined) inlined.items))
+            (reverse (map (entry_among functions.now.inlined) inlined.now))
             (option_map seen_location location.entry)) }
-        ensures count { length (frames_left result) ≡ length inlined.items + 1 }
+        ensures count { length (frames_left result) ≡ length inlined.now + 1 }
     {
         FrameIter {
             state: FrameState::Function(FunctionFrames {
@@ -345,14 +348,14 @@ impl<'ctx, R: Reader> FrameIter<'ctx, R> {
 // alone. Takes no memory.
 pub(crate) fn frames_of<'ctx, R: Reader>(
     functions: &'ctx LazyFunctions<R>,
-    place: Option<FunctionPlace>,
+    place: &'ctx Option<FunctionPlace>,
     lines: &'ctx Lines,
     language: Option<DwLang>,
     location: Option<Location<'ctx>>,
 ) -> FrameIter<'ctx, R>
-    requires there { IfSome place (IsPlaceIn (kept_functions functions.now)) }
+    requires there { IfSome place.now (IsPlaceIn (kept_functions functions.now)) }
     ensures gives { frames_left result ≡ found_frames lines.now.files language
-        (option_map (function_of_place (kept_functions functions.now)) place)
+        (option_map (function_of_place (kept_functions functions.now)) place.now)
         (option_map seen_location location.entry) }
 {
     let Some(found) = place else {
@@ -362,7 +365,7 @@ pub(crate) fn frames_of<'ctx, R: Reader>(
         LazyFunctions::Read(functions) => FrameIter::new_function(
             functions,
             found.place,
-            found.inlined,
+            found.inlined.as_slice(),
             lines,
             language,
             location,

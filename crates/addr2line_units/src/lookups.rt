@@ -55,13 +55,13 @@ impl<R: Reader> SupUnits<R> {
 fn frames_in_unit<'ctx, R: Reader>(
     unit: &'ctx ResUnit,
     entries: &'ctx UnitEntries<R>,
-    function: Option<FunctionPlace>,
+    function: &'ctx Option<FunctionPlace>,
     row: Option<Row>,
 ) -> FrameIter<'ctx, R>
-    requires function { IfSome function (IsPlaceIn (kept_functions entries.now.functions)) }
+    requires function { IfSome function.now (IsPlaceIn (kept_functions entries.now.functions)) }
     requires read { AreRead unit.now.lines }
     ensures gives { frames_left result ≡ found_frames (cached_files unit.now.lines) unit.now.lang
-        (option_map (function_of_place (kept_functions entries.now.functions)) function)
+        (option_map (function_of_place (kept_functions entries.now.functions)) function.now)
         (option_map (location_of_row (cached_files unit.now.lines)) row) }
 {
     let LazyLines::Read(lines) = &unit.lines else {
@@ -75,30 +75,33 @@ fn frames_in_unit<'ctx, R: Reader>(
 }
 
 impl<R: Reader> ResUnits<R> {
-    /// The frames of a place, by what is kept. Takes no memory.
-    pub fn frames(&self, place: FramePlace) -> FrameIter<'_, R>
-        requires there { IsFramePlaceIn self.now.units.items self.now.entries.items place }
+    // The frames of a place, by what is kept. Takes no memory.
+    fn frames<'x>(&'x self, place: &'x FramePlace) -> FrameIter<'x, R>
+        requires there { IsFramePlaceIn self.now.units.items self.now.entries.items place.now }
         requires beside { length self.now.entries.items ≡ length self.now.units.items }
         ensures gives { frames_left result
-            ≡ frames_at_place self.now.units.items self.now.entries.items place }
+            ≡ frames_at_place self.now.units.items self.now.entries.items place.now }
     {
-        let FramePlace {
-            unit,
-            function,
-            row,
-        } = place;
-        frames_in_unit(&self.units[unit], &self.entries[unit], function, row)
+        let unit = &self.units[place.unit];
+        frames_in_unit(unit, &self.entries[place.unit], &place.function, place.row)
     }
 
-    /// The frames that a lookup has found, none where it waits or has found nothing. Takes no
-    /// memory.
-    pub fn stop_frames(&self, stop: FramesStop) -> FrameIter<'_, R>
-        requires there { IsStopIn self.now.units.items self.now.entries.items stop }
+    /// Keeps what a lookup has come to, so that its frames can be lent. Takes no memory.
+    pub fn keep_stop(&mut self, stop: FramesStop)
+        ensures kept { self.new ≡ record self.old { stop = stop } }
+    {
+        self.stop = stop;
+    }
+
+    /// The frames that the lookup has found whose end is kept, none where it waits or has found
+    /// nothing. Takes no memory.
+    pub fn stop_frames(&self) -> FrameIter<'_, R>
+        requires there { IsStopIn self.now.units.items self.now.entries.items self.now.stop }
         requires beside { length self.now.entries.items ≡ length self.now.units.items }
         ensures gives { frames_left result
-            ≡ frames_found (seen_stop self.now.units.items self.now.entries.items stop) }
+            ≡ frames_found (seen_stop self.now.units.items self.now.entries.items self.now.stop) }
     {
-        let FramesStop::Finds(place) = stop else {
+        let FramesStop::Finds(place) = &self.stop else {
             return FrameIter::new_empty();
         };
         self.frames(place)

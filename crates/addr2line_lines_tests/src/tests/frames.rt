@@ -66,7 +66,14 @@ fn frames_in<'a, 'u>(
     let file = FileUnits { dwarf, units: &[] };
     functions.read(Scope { file, sup: None }, unit, place)?;
     let inlined = functions.find_inlined_functions(alloc, place, probe)?;
-    let frames = FrameIter::new_function(&functions, place, inlined, &lines, None, location);
+    let frames = FrameIter::new_function(
+        &functions,
+        place,
+        inlined.as_slice(),
+        &lines,
+        None,
+        location,
+    );
     Ok(codes_of(alloc, frames))
 }
 

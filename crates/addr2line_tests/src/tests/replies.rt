@@ -13,9 +13,6 @@ use addr2line_lines_tests::vectors::LINE;
 use std::alloc::Global;
 use std::rc::Rc;
 
-/// A unit with DW_AT_stmt_list, DW_AT_comp_dir, DW_AT_dwo_name, DW_AT_low_pc and DW_AT_high_pc.
-pub const WAITING_ABBREV: &[u8] = b"\x01\x4a\0\x10\x17\x1b\x08\x76\x08\x11\x01\x12\x06\0\0\0";
-
 /// The units [0, 100) and [10, 20), which wait for split files with the identifiers 1 and 2.
 pub const TWO_WAITING_INFO: &[u8] = b"\x2a\0\0\0\x05\0\x04\x08\0\0\0\0\x01\0\0\0\0\0\0\0\
     \x01\0\0\0\0/w\0s.dwo\0\0\0\0\0\0\0\0\0\x64\0\0\0\

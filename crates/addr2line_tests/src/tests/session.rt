@@ -1,10 +1,8 @@
 //! Worked cases: recorded calls, made again.
 
 use super::codes::{Codes, DONE, NONE, REFUSED, done_codes, fault_codes, first};
-use super::context::LINE_V5;
-use super::replies::{Given, WAITING_ABBREV, given_of};
+use super::replies::{Given, given_of};
 use super::sections::shared_dwarf_of;
-use super::split_units::{MAIN_INFO, SPLIT_ABBREV, SPLIT_INFO};
 use addr2line::gimli::read::{Error, Reader};
 use addr2line::gimli::{Dwarf, DwarfFileType};
 use addr2line::{
@@ -13,8 +11,8 @@ use addr2line::{
 };
 use addr2line_lines_tests::sections::{dwarf_of, fault_code, location_code};
 use addr2line_lines_tests::vectors::{
-    ABBREV, FOUR_SEQUENCES, INFO_WIDE, SAME_ADDRESS, THREE_SEQUENCES, ZERO_LENGTH,
-    ZERO_LENGTH_AND_ANOTHER,
+    ABBREV, FOUR_SEQUENCES, INFO_WIDE, LINE_V5, MAIN_INFO, SAME_ADDRESS, SPLIT_ABBREV, SPLIT_INFO,
+    THREE_SEQUENCES, WAITING_ABBREV, ZERO_LENGTH, ZERO_LENGTH_AND_ANOTHER,
 };
 use std::alloc::Global;
 use std::rc::Rc;

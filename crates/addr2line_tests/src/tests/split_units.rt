@@ -1,22 +1,13 @@
 //! Worked cases: lookups that wait for split files, and the calls that answer them elsewhere.
 
 use super::codes::{Codes, DONE, NONE, REFUSED, first};
-use super::context::LINE_V5;
-use super::replies::{Answer, Call, TWO_WAITING_INFO, WAITING_ABBREV, told};
+use super::replies::{Answer, Call, TWO_WAITING_INFO, told};
 use super::sections::shared_dwarf_of;
 use addr2line_lines_tests::sections::dwarf_of;
+use addr2line_lines_tests::vectors::{
+    LINE_V5, MAIN_INFO, SPLIT_ABBREV, SPLIT_INFO, WAITING_ABBREV,
+};
 use std::alloc::Global;
-
-/// The unit [0x10, 0x30) in "/w", which waits for "s.dwo".
-pub const MAIN_INFO: &[u8] = b"\x2a\0\0\0\x05\0\x04\x08\0\0\0\0\x88\x77\x66\x55\x44\x33\x22\x11\
-    \x01\0\0\0\0/w\0s.dwo\0\x10\0\0\0\0\0\0\0\x20\0\0\0";
-
-/// A root entry with a language, and a function with a name and a range.
-pub const SPLIT_ABBREV: &[u8] = b"\x01\x11\x01\x13\x05\0\0\x02\x2e\0\x03\x08\x11\x01\x12\x06\0\0\0";
-
-/// The split unit: "h" [0x10, 0x30) at 0x17.
-pub const SPLIT_INFO: &[u8] = b"\x23\0\0\0\x05\0\x05\x08\0\0\0\0\x88\x77\x66\x55\x44\x33\x22\x11\
-    \x01\x1c\0\x02h\0\x10\0\0\0\0\0\0\0\x20\0\0\0\0";
 
 // The lookup waits for a load: its identifier, and that its names are these.
 const WAITS: Codes = Codes([0x1122_3344_5566_7788, 1, 1], [0; 3], [0; 3]);

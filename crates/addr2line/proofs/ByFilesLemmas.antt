@@ -1,0 +1,150 @@
+-- Loads that files answer, one after another (on specs/Loader.antt and specs/FramesByFiles.antt).
+use Rattle.std.proofs.Common.{◌≡◌, ◌≢◌, ◌≤◌, ℕ, List, Option, Some, None, Result, Ok, Err, false, arith, true, refl, sym, ap, subst, ◌∙◌}
+use Rattle.std.specs.Prelude.{IfSome}
+use Rattle.gimli_read.specs.declared.error.Error.{Error}
+use Rattle.gimli_read.specs.Reading.{◌>>=◌}
+use Rattle.gimli.specs.Sections.{Sections}
+use Rattle.elf.specs.declared.error.LoaderError.{LoaderError}
+use Rattle.elf.specs.declared.error.LoaderError.TheVariants.{OutOfMemory}
+use Rattle.elf.specs.ObjectFile.{ObjectFile}
+use Rattle.elf.specs.Text.{loader_error_of}
+use Rattle.addr2line_units.specs.declared.frames_lookup.Faults.TheVariants.{End}
+use Rattle.addr2line_units.specs.Frames.{FrameRecord}
+use Rattle.addr2line_units.specs.FramesLookup.{Stop, Waits, Finds, FindsNothing, is_waiting}
+use Rattle.addr2line_units.specs.Parsed.{IsNotOom, has_parsed}
+use Rattle.addr2line_units.specs.Views.{SplitLoad}
+use Rattle.addr2line.specs.Answers.{AfterAnswer}
+use Rattle.addr2line.specs.Context.{ContextState}
+use Rattle.addr2line.specs.Files.{Files}
+use Rattle.addr2line.specs.FramesByFiles.{frames_by, frames_by_files, stop_frames}
+use Rattle.addr2line.specs.KeptStops.{by_number, unit_stop}
+use Rattle.addr2line.specs.Loader.{AfterAnswers, AfterLoads, IsFaultByFiles, LoaderState, StayAnswered}
+use Rattle.addr2line.specs.Lookups.{AfterFrames, IsLoadOf, frames_of, frames_told, lookup_stop}
+use Rattle.addr2line.specs.SplitFiles.{given_by}
+use Rattle.addr2line.proofs.FilesLookupLemmas.{first_answers_stay, frames_ended, frames_stay, refused_frames}
+use Rattle.addr2line.proofs.LoadingLemmas.{if_some_both, no_oom}
+
+-- what holds of each files holds where they are known
+always : {X : Type 0} (o : Option X) {P : X → Type 0} → ((x : X) → P x) → IfSome o P
+always None h = tt
+always (Some x) h = h x
+
+if_some_map : {X : Type 0} (o : Option X) {P Q : X → Type 0} → IfSome o P → ((x : X) → P x → Q x) → IfSome o Q
+if_some_map None p h = tt
+if_some_map (Some x) p h = h x p
+
+module _ (files : Option Files) where
+  -- a lookup changes neither sections nor first answers
+  pub after_look : {X : Type 0} (probe : ℕ) (r : Result X Error) (old new : ContextState) → AfterFrames End probe r old new → AfterAnswers files old new
+  after_look probe r old new a = record {
+    sections = a.sections;
+    answers = subst (λ x. StayAnswered old.answers x) (sym a.answers) (λ n given e. e);
+    frames = always files (λ held q. ap (λ d. frames_by_files held d new.answers q) a.sections ∙ ap (λ x. frames_by_files held old.sections x q) a.answers);
+    parsed = a.parsed;
+    raised = a.raised;
+  }
+
+  pub unanswered : (c : ContextState) → AfterAnswers files c c
+  unanswered c = record {
+    sections = refl;
+    answers = λ n given e. e;
+    frames = always files (λ held q. refl);
+    parsed = λ n e. e;
+    raised = omega arith;
+  }
+
+  pub then_answered : (old mid new : ContextState) → AfterAnswers files old mid → AfterAnswers files mid new → AfterAnswers files old new
+  then_answered old mid new a b = record {
+    sections = b.sections ∙ a.sections;
+    answers = λ n given e. b.answers n given (a.answers n given e);
+    frames = if_some_both files a.frames b.frames (λ held p q probe. q probe ∙ p probe);
+    parsed = λ n e. b.parsed n (a.parsed n e);
+    raised = let x = a.raised in let y = b.raised in omega (arith, x, y);
+  }
+
+  -- a fault by the files was one before
+  pub fault_before : (old mid : ContextState) (probe : ℕ) (e : LoaderError) → AfterAnswers files old mid → IsFaultByFiles files mid probe e → IsFaultByFiles files old probe e
+  fault_before old mid probe e a h = if_some_both files a.frames h (λ held p q ne. sym (p probe) ∙ q ne)
+
+  -- refused memory is no fault by the files
+  pub memory_refused : (c : ContextState) (probe : ℕ) (e : LoaderError) → e ≡ OutOfMemory → IsFaultByFiles files c probe e
+  memory_refused c probe e q = always files (λ held ne. absurd (ne q))
+
+  module _ (probe n : ℕ) (load : SplitLoad) (old : ContextState) (waits : lookup_stop End old.sections old.answers probe ≡ Ok (Waits n)) (is : IsLoadOf old.sections n load) where
+    -- the load was answered by a file, or memory was refused for it
+    pub answered_by_file : (given : Option Sections) → IfSome files (λ held. given_by held load ≡ Ok given) → (r : Result (Unit {0}) Error) (new : ContextState) → AfterAnswer n given r old new → AfterAnswers files old new
+    answered_by_file given h (Ok x) new a = record {
+      sections = a.sections;
+      answers = subst (λ x. StayAnswered old.answers x) (sym a.answers) (first_answers_stay old.sections old.answers probe n load waits is given);
+      frames = if_some_map files h (λ held e q. ap (λ d. frames_by_files held d new.answers q) a.sections ∙ ap (λ x. frames_by_files held old.sections x q) a.answers
+          ∙ frames_stay old.sections old.answers probe n load waits is (given_by held) given e q);
+      parsed = λ k e. subst (λ p. has_parsed p k ≡ true) (sym a.parsed) e;
+      raised = subst (λ l. old.looks ≤ l) (sym a.looks) (omega arith);
+    }
+    answered_by_file given h (Err e) new a = record {
+      sections = a.sections;
+      answers = subst (λ x. StayAnswered old.answers x) (sym a.refused.1) (λ n given e. e);
+      frames = always files (λ held q. ap (λ d. frames_by_files held d new.answers q) a.sections ∙ ap (λ x. frames_by_files held old.sections x q) a.refused.1);
+      parsed = λ k e. subst (λ p. has_parsed p k ≡ true) (sym a.parsed) e;
+      raised = subst (λ l. old.looks ≤ l) (sym a.looks) (omega arith);
+    }
+
+    -- the files refused the load
+    pub refused_by_file : (e : LoaderError) → IfSome files (λ held. e ≢ OutOfMemory → given_by held load ≡ Err e) → IsFaultByFiles files old probe e
+    refused_by_file e h = if_some_map files h (λ held k ne. refused_frames old.sections old.answers probe n load waits is (given_by held) e (k ne))
+
+failed_stop : (e : Error) (r : Result Stop Error) → (r >>= λ s. Ok (by_number s)) ≡ Err e → (is_waiting r ≡ false) × (stop_frames r ≡ Err (loader_error_of e))
+failed_stop e (Ok s) h = absurd cc
+failed_stop e (Err f) h = (refl, cc)
+
+-- a fault that ends a lookup is one by the files
+pub stop_fault : (files : Option Files) (c : ContextState) (probe : ℕ) (e : Error) → (loader_error_of e ≢ OutOfMemory → unit_stop End c.sections c.answers probe ≡ Err e) → IsFaultByFiles files c probe (loader_error_of e)
+stop_fault files c probe e h = always files by
+  where
+    by : (held : Files) → loader_error_of e ≢ OutOfMemory → frames_by_files held c.sections c.answers probe ≡ Err (loader_error_of e)
+    by held ne =
+        let p = failed_stop e (lookup_stop End c.sections c.answers probe) (h ne) in
+        frames_ended (given_by held) c.sections c.answers probe p.0 ∙ p.1
+
+found_told : (frames : List FrameRecord) (stop : Result Stop Error) → (stop >>= λ s. Ok (frames_told s)) ≡ Ok (Some frames) → stop_frames stop ≡ Ok frames
+found_told frames (Ok (Waits n)) h = absurd cc
+found_told frames (Ok (Finds n fs)) h = cc
+found_told frames (Ok FindsNothing) h = cc
+found_told frames (Err e) h = absurd cc
+
+failed_told : (e : Error) (stop : Result Stop Error) → (stop >>= λ s. Ok (frames_told s)) ≡ Err e → stop_frames stop ≡ Err (loader_error_of e)
+failed_told e (Ok s) h = absurd cc
+failed_told e (Err f) h = cc
+
+module _ (files : Option Files) (probe : ℕ) (first mid : ContextState) (a : AfterAnswers files first mid) where
+  -- the frames, and the fault, of a lookup that waits no more are those by the files
+  module _ (ended : is_waiting (lookup_stop End mid.sections mid.answers probe) ≡ false) where
+    pub found_by_files : (frames : List FrameRecord) → frames_of mid.sections mid.answers probe ≡ Ok (Some frames) → IfSome files (λ held. frames_by_files held first.sections first.answers probe ≡ Ok frames)
+    found_by_files frames h = if_some_map files a.frames
+        (λ held p. sym (p probe) ∙ frames_ended (given_by held) mid.sections mid.answers probe ended ∙ found_told frames (lookup_stop End mid.sections mid.answers probe) h)
+
+    pub failed_by_files : (e : Error) → (loader_error_of e ≢ OutOfMemory → frames_of mid.sections mid.answers probe ≡ Err e)
+        → IfSome files (λ held. loader_error_of e ≢ OutOfMemory → frames_by_files held first.sections first.answers probe ≡ Err (loader_error_of e))
+    failed_by_files e h = if_some_map files a.frames
+        (λ held p ne. sym (p probe) ∙ frames_ended (given_by held) mid.sections mid.answers probe ended ∙ failed_told e (lookup_stop End mid.sections mid.answers probe) (h ne))
+
+  -- the loader after its lookup
+  module _ {X : Type 0} (object : ObjectFile) (r : Result X Error) (new : ContextState) (b : AfterFrames End probe r mid new) where
+    abbrev loader : ContextState → LoaderState
+    loader c = record { files = files; object = object; context = c }
+
+    pub loader_found : (x : X) → r ≡ Ok x → AfterLoads {X = X} probe (Ok x) (loader first) (loader new)
+    loader_found x is = record {
+      files = refl;
+      object = refl;
+      context = then_answered files first mid new a (after_look files probe r mid new b);
+      ready = b.ready (subst (λ (y : Result X Error). IsNotOom y) (sym is) tt);
+    }
+
+    pub loader_failed : (e : LoaderError) → AfterLoads {X = X} probe (Err e) (loader first) (loader new)
+    loader_failed e = record {
+      files = refl;
+      object = refl;
+      context = then_answered files first mid new a (after_look files probe r mid new b);
+      ready = tt;
+    }

@@ -1,0 +1,25 @@
+use Rattle.std.proofs.Common.{option_map}
+use Rattle.std.proofs.lemmas.Result.{err_from_is_err_and}
+use Rattle.addr2line_units.specs.declared.frames_lookup.Faults.TheVariants.{End}
+use Rattle.addr2line_units.specs.KeptViews.{seen_load}
+use Rattle.addr2line.proofs.AnsweredLemmas.{unit_waited_for}
+use Rattle.addr2line.proofs.ByFilesLemmas.{answered_by_file, refused_by_file}
+use Rattle.addr2line.proofs.SkippedLemmas.{waits_true}
+use Rattle.addr2line.proofs.by_files.answer_load.Goals as goal
+
+pub returns-in_err-sections-clause-refused : goal.returns-in_err-sections-clause-refused
+returns-in_err-sections-clause-refused g c =
+    let p = err_from_is_err_and c.from_residual-in_err-sections.result c.from_residual-in_err-sections.ensures.1 in
+    let load = seen_load (λ r. r) c.in_ok-load.load in
+    rw (p.1, p.2) (refused_by_file (g.F.FileSource.files c.args.files.now) c.args.probe c.args.number load c.args.ctx.now c.requires.waits c.in_ok-load.ensures.gives _ c.in_err-sections.ensures.gives)
+
+pub answer-requires : goal.answer-requires
+answer-requires g c = record {
+  there = unit_waited_for End c.args.ctx.now.sections c.args.ctx.now.answers c.args.probe c.args.number (waits_true c.args.number _ c.requires.waits);
+}
+
+pub returns-clause-after : goal.returns-clause-after
+returns-clause-after g c =
+    let load = seen_load (λ r. r) c.in_ok-load.load in
+    let given = option_map (λ d. d.value) c.in_ok-sections.sections in
+    answered_by_file (g.F.FileSource.files c.args.files.now) c.args.probe c.args.number load c.args.ctx.now c.requires.waits c.in_ok-load.ensures.gives given c.in_ok-sections.ensures.gives _ c.answer.new.self c.answer.ensures.after

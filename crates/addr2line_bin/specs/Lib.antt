@@ -14,3 +14,5 @@ pub mod CommandLine
 pub mod Load
 pub mod Told
 pub mod Run
+pub mod AllAddresses
+pub mod ProgramRun

@@ -13,6 +13,7 @@ ghost use Rattle.addr2line_bin.specs.declared.stream.Stop.TheVariants as stop;
 
 mod address;
 mod address_text;
+mod all_addresses;
 mod command;
 mod command_line;
 mod engine;
@@ -23,6 +24,7 @@ mod lookups;
 mod options;
 mod printing;
 mod probe_text;
+mod program;
 mod stream;
 #[cfg(test)]
 mod stream_tests;

@@ -13,8 +13,7 @@ use Rattle.addr2line_bin.proofs.printing.print_lines.Goals as goal
 
 pub loop-init : goal.loop-init
 loop-init g c =
-    let first = g.L.Lookups.answers c.args.lookups.now in
-    (
+    let first = g.L.Lookups.answers c.args.lookups.now in (
       stays_itself first,
       ([], refl, read_nothing (g.I.Input.state c.args.input.now).bytes, prints_none (IsText first c.args.setup.now) (g.W.Stream.state c.args.out.now) (g.E.Stream.state c.args.err.now)),
     )
@@ -103,7 +102,7 @@ loop-preserved g c =
         so_far,
         subst (λ ps. PrintsOf (IsText first setup) (o c.args.out.now) (o c.step.new.out) (e c.args.err.now) (e c.step.new.err) ps) (sym more)
             (prints_next (IsText now setup) (IsText first setup) (o c.args.out.now) (o c.loop.out) (o c.step.new.out) (e c.args.err.now) (e c.loop.err) (e c.step.new.err)
-                (line_probes inv.0) (c.address_of.result ∷ []) (text_before first now c.loop.invariant.0 setup) inv.3 c.in_ok-step.ensures.gives),
+            (line_probes inv.0) (c.address_of.result ∷ []) (text_before first now c.loop.invariant.0 setup) inv.3 c.in_ok-step.ensures.gives),
       ),
     )
 

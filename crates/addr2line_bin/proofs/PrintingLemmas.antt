@@ -1,12 +1,13 @@
 -- A run prints what is asked for one after another.
-use Rattle.std.proofs.Common.{◌≡◌, ◌∙◌, ℕ, List, [], ◌∷◌, ◌++◌, Option, Some, None, Result, Ok, Err, refl, sym, ap, append-nil, append_assoc, OnOk, IfErr, true, option_map, map, drop, drop-cons, length, get_or, add-one, ◌<◌, ◌+◌}
+use Rattle.std.proofs.Common.{◌≡◌, ◌∙◌, inl, inr, ℕ, List, [], ◌∷◌, ◌++◌, Option, Some, None, Result, Ok, Err, refl, sym, ap, append-nil, append_assoc, OnOk, IfErr, true, option_map, map, drop, drop-cons, length, get_or, add-one, ◌<◌, ◌+◌}
 use Rattle.std.specs.Io.KnownBytes.{Appends}
 use Rattle.std.specs.declared.io.ErrorKind.{ErrorKind}
 use Rattle.std.proofs.lemmas.Grind.{flat_map-append}
 use Rattle.addr2line_bin.specs.Put.{StreamState, WritesPrefix, Reports, has_fault, plus}
 use Rattle.addr2line_bin.specs.Stopped.{IsFault, Stops, stop_of}
-use Rattle.addr2line_bin.specs.Print.{ProbeText, AllTexts, Prints, errs, outs}
-use Rattle.addr2line_bin.specs.Printing.{TextOf, EndsAt, EndsEarly, PrintsOf, PrintsUnlessStopped}
+use Rattle.addr2line_bin.specs.Print.{ProbeText, AllTexts, Prints, errs, last_text, outs}
+use Rattle.addr2line_bin.specs.Printing.{TextOf, EndsAt, EndsEarly, PrintsOf, PrintsRun, PrintsUnlessStopped}
+use Rattle.addr2line_bin.specs.declared.engine.Exit.{Exit}
 use Rattle.addr2line_bin.specs.declared.stream.Stop.{Stop}
 use Rattle.addr2line_bin.specs.declared.stream.Stop.TheVariants as stop
 use Rattle.addr2line_bin.proofs.Parts.{appends_both, appends_nothing, keeps_itself, sends_nothing, sends_on}
@@ -134,3 +135,31 @@ sends_one Is oo on eo en p t is told (Err (stop.Output b)) sent flushes flushed 
 -- the next of addresses that are left
 pub somes_next : (xs : List ℕ) (i : ℕ) → i < length xs → map Some (drop i xs) ≡ Some (get_or xs i 0) ∷ map Some (drop (i + 1) xs)
 somes_next xs i lt = ap (map Some) (drop-cons xs i 0 lt) ∙ rw add-one refl
+
+prints_before : (Now Is : TextOf) → Weaker Now Is → (oo on eo en : StreamState) (ps : List (Option ℕ)) → PrintsOf Now oo on eo en ps → PrintsOf Is oo on eo en ps
+prints_before Now Is w oo on eo en ps a = record { texts = a.texts; each = all_weaker Now Is w ps a.texts a.each; prints = a.prints }
+
+ends_before : (Now Is : TextOf) → Weaker Now Is → (why : Stop) (later : List (Option ℕ)) (written told : List ℕ) → EndsAt Now why later written told → EndsAt Is why later written told
+ends_before Now Is w stop.OutOfMemory later written told e = e
+ends_before Now Is w (stop.Output b) [] written told e = absurd e
+ends_before Now Is w (stop.Output b) (p ∷ later) written told e = (e.0, w p e.0 e.1, e.2, e.3)
+
+early_before : (Now Is : TextOf) → Weaker Now Is → (oo on eo en : StreamState) (ps : List (Option ℕ)) (why : Stop) (more : List ℕ) → EndsEarly Now oo on eo en ps why more → EndsEarly Is oo on eo en ps why more
+early_before Now Is w oo on eo en ps why more p = record {
+  done = p.done;
+  later = p.later;
+  joins = p.joins;
+  texts = p.texts;
+  each = all_weaker Now Is w p.done p.texts p.each;
+  written = p.written;
+  told = p.told;
+  ends = ends_before Now Is w why p.later p.written p.told p.ends;
+  out = p.out;
+  stops = p.stops;
+  err = p.err;
+}
+
+-- a run after a lookup is one before it
+pub run_before : (Now Is : TextOf) → Weaker Now Is → (name : List ℕ) (oo on eo en : StreamState) (ps : List (Option ℕ)) (e : Exit) → PrintsRun Now name oo on eo en ps e → PrintsRun Is name oo on eo en ps e
+run_before Now Is w name oo on eo en ps e (inl p) = inl (prints_before Now Is w oo on eo en ps p.0, p.1)
+run_before Now Is w name oo on eo en ps e (inr p) = inr (record { why = p.why; prints = early_before Now Is w oo on eo en ps p.why (last_text name p.why) p.prints; exit = p.exit })

@@ -3,6 +3,7 @@ pub mod Address
 pub mod AddressTexts
 pub mod FrameTexts
 pub mod FileAnswers
+pub mod LoaderAnswers
 pub mod ProbeTexts
 pub mod InputLines
 pub mod Stopped

@@ -67,7 +67,7 @@ section_by answers (Some name) = section_or_name name (answers.section_at name)
 pub record IsSetup (o : Options) (section : Option Range) (s : Setup) : Type 0 where
   pub name : s.name.now ≡ string_bytes o.name
   pub style : s.style ≡ o.style
-  pub section : s.section ≡ section
+  pub range : s.section ≡ section
 
 -- a run by the section that is named, if it is there
 abbrev pub RunsBy : Result (Option Range) (List ℕ) → FileAnswers → Options → InputState → InputState

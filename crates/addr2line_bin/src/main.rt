@@ -20,6 +20,7 @@ mod engine;
 mod frame_text;
 mod input;
 mod load;
+mod loader_lookups;
 mod lookups;
 mod options;
 mod printing;

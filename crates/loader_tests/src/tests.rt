@@ -169,7 +169,7 @@ fn told_split(alloc: Global, info: &[u8], split: &[u8], sup: Option<&str>) -> [[
 }
 
 #[test]
-fn a_split_file_is_found_by_its_path(rt: HostRuntime) {
+fn a_split_file_is_found_by_its_path(rt: HostRuntime) -> Result<(), Fail> {
     let alloc = rt.alloc();
     let split = split_file(alloc, SPLIT_INFO)?;
     let foreign = split_file(alloc, FOREIGN_INFO)?;
@@ -193,8 +193,15 @@ fn a_split_file_is_found_by_its_path(rt: HostRuntime) {
 }
 
 // What a loader finds before and after a split file is put at its path.
-fn told_late(loader: LoaderOver<MemoryFiles>, alloc: Global, split: &[u8]) -> [[u64; 2]; 2] {
-    let mut loader = loader;
+fn told_late(
+    loader: Result<LoaderOver<MemoryFiles>, LoaderError>,
+    alloc: Global,
+    split: &[u8],
+) -> [[u64; 2]; 2] {
+    let mut loader = match loader {
+        Ok(loader) => loader,
+        Err(error) => return [[fault_code(error), 1]; 2],
+    };
     let first = frame_code(alloc, loader.find_frames(0x18));
     match loader.files_mut().put(SPLIT, split) {
         Ok(()) => [first, frame_code(alloc, loader.find_frames(0x18))],
@@ -209,12 +216,10 @@ fn loader_of(alloc: Global, info: &[u8]) -> Result<LoaderOver<MemoryFiles>, Load
 }
 
 #[test]
-fn the_first_answer_to_a_load_stays(rt: HostRuntime) {
+fn the_first_answer_to_a_load_stays(rt: HostRuntime) -> Result<(), Fail> {
     let alloc = rt.alloc();
     let split = split_file(alloc, SPLIT_INFO)?;
-    let Ok(loader) = loader_of(alloc, MAIN_INFO) else {
-        return Err(Fail);
-    };
+    let loader = loader_of(alloc, MAIN_INFO);
     assert_eq!(rt; told_late(loader, alloc, split.as_slice()), [LINE_1; 2]);
     Ok(())
 }
@@ -245,7 +250,7 @@ fn text_at(alloc: Global, main: &[u8], path: &str, sup: Option<&str>) -> [u64; 3
 }
 
 #[test]
-fn files_are_loaded_or_refused_in_their_order(rt: HostRuntime) {
+fn files_are_loaded_or_refused_in_their_order(rt: HostRuntime) -> Result<(), Fail> {
     let alloc = rt.alloc();
     let sections: [&[u8]; 3] = [&ABBREV, &INFO, &LINE];
     let whole = file_of(alloc, 0x10, 0x20, sections)?;

@@ -9,7 +9,7 @@ use addr2line::gimli::read::{Error, Reader};
 use addr2line::gimli::{Dwarf, DwarfFileType};
 use addr2line::{Context, LookupContinuation, LookupResult, UnitToken};
 use addr2line_lines_tests::sections::dwarf_of;
-use addr2line_lines_tests::vectors::LINE;
+use addr2line_lines_tests::vectors::{LINE, WAITING_ABBREV};
 use std::alloc::Global;
 use std::rc::Rc;
 

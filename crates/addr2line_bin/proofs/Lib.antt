@@ -1,6 +1,5 @@
 pub mod Parts
 pub mod Runs
-pub mod Texts
 pub mod Addresses
 pub mod Words
 pub mod CommandLemmas

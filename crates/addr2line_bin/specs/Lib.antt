@@ -9,11 +9,8 @@ pub mod InputLines
 pub mod Stopped
 pub mod Print
 pub mod Printing
-pub mod Text
 pub mod Command
 pub mod CommandLine
-pub mod Load
 pub mod Told
-pub mod Run
 pub mod AllAddresses
 pub mod ProgramRun

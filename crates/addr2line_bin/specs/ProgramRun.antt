@@ -12,7 +12,7 @@ use Rattle.addr2line_bin.specs.FileAnswers.{FileAnswers}
 use Rattle.addr2line_bin.specs.InputLines.{AreFirstLines, AreLines, InputState, line_probes}
 use Rattle.addr2line_bin.specs.Printing.{IsCutOff, PrintsOf, PrintsRun}
 use Rattle.addr2line_bin.specs.ProbeTexts.{IsText}
-use Rattle.addr2line_bin.specs.Text.{probes_in}
+use Rattle.addr2line_bin.specs.Address.{probes_in}
 use Rattle.addr2line_bin.specs.Told.{addresses_fault_text, load_fault_text, section_fault_text}
 use Rattle.addr2line_bin.specs.declared.engine.Exit.{Exit}
 use Rattle.addr2line_bin.specs.declared.engine.Exit.TheVariants as exit
@@ -20,6 +20,12 @@ use Rattle.addr2line_bin.specs.declared.options.Options.{Options}
 use Rattle.addr2line_bin.specs.declared.options.Probes.{Probes}
 use Rattle.addr2line_bin.specs.declared.options.Probes.TheVariants as probes
 use Rattle.addr2line_bin.specs.declared.options.Setup.{Setup}
+
+-- the status that the program ends with
+abbrev pub status_at : Exit → ℕ
+status_at exit.Done = 0
+status_at exit.Failed = 1
+status_at exit.Misused = 2
 
 -- only a line of standard error is written, and the run has failed
 abbrev pub OnlyTells : StreamState → StreamState → StreamState → StreamState → List ℕ → Exit

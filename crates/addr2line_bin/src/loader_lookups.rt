@@ -5,7 +5,9 @@ ghost use Rattle.addr2line_bin.specs.LoaderAnswers.{loader_answers};
 
 use crate::lookups::Lookups;
 use addr2line::gimli::read::EndianBytes;
-use addr2line::{FileSource, FrameIter, LoaderError, LoaderOver, Location, LocationRangeIter, Range};
+use addr2line::{
+    FileSource, FrameIter, LoaderError, LoaderOver, Location, LocationRangeIter, Range,
+};
 
 impl<F: FileSource> Lookups for LoaderOver<F> {
     ghost answers = { λ l. loader_answers (seen_loader F.files l) };

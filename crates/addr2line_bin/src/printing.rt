@@ -5,7 +5,7 @@ ghost use Rattle.addr2line_bin.specs.FileAnswers.{StaysAnswered};
 ghost use Rattle.addr2line_bin.specs.InputLines.{AreLinesUnlessStopped, line_probes};
 ghost use Rattle.addr2line_bin.specs.Printing.{PrintsUnlessStopped};
 ghost use Rattle.addr2line_bin.specs.ProbeTexts.{IsText};
-ghost use Rattle.addr2line_bin.specs.Text.{probes_in};
+ghost use Rattle.addr2line_bin.specs.Address.{probes_in};
 
 use crate::address::address_of;
 use crate::input::Input;

@@ -128,8 +128,8 @@ fn symbol_of<L: Lookups>(
     }
 }
 
-// A text that there may be.
-fn as_text(text: &Option<String>) -> Option<&str>
+/// A text that there may be.
+pub fn as_text(text: &Option<String>) -> Option<&str>
     ensures gives { option_copied result ≡ option_map string_bytes text.now }
 {
     match text {

@@ -7,7 +7,7 @@ ghost use Rattle.addr2line_bin.specs.ProbeTexts.{IsText};
 ghost use Rattle.addr2line_bin.specs.ProgramRun.{IsRun, IsSetup, PrintsAllRows, PrintsAsked};
 ghost use Rattle.addr2line_bin.specs.ProgramRun.{PrintsLines, RunsOver, section_by};
 ghost use Rattle.addr2line_bin.specs.Put.{Reports};
-ghost use Rattle.addr2line_bin.specs.Text.{probes_in};
+ghost use Rattle.addr2line_bin.specs.Address.{probes_in};
 ghost use Rattle.addr2line_bin.specs.Told.{addresses_fault_text, section_fault_text};
 ghost use Rattle.addr2line_bin.specs.declared.engine.Exit.TheVariants as exit;
 ghost use Rattle.addr2line_lines.specs.Rows.{result_map};

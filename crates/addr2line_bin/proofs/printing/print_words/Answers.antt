@@ -2,7 +2,7 @@ use Rattle.std.proofs.Common.{◌≡◌, ◌∙◌, ◌+◌, ◌≤◌, [], ◌�
 use Rattle.std.proofs.lemmas.Result.{err_from_is_err_and}
 use Rattle.std.proofs.lemmas.List.{drop_all}
 use Rattle.addr2line_bin.specs.Address.{address_in}
-use Rattle.addr2line_bin.specs.Text.{probes_in}
+use Rattle.addr2line_bin.specs.Address.{probes_in}
 use Rattle.addr2line_bin.proofs.Words.{probes_next}
 use Rattle.addr2line_bin.specs.Printing.{PrintsOf}
 use Rattle.addr2line_bin.specs.ProbeTexts.{IsText}

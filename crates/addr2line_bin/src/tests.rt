@@ -11,12 +11,12 @@ use std::alloc::Global;
 use std::io::ErrorKind;
 use std::test::Fail;
 
-// More calls than any run takes.
-const AMPLE: u64 = 999;
+/// More calls than any run takes.
+pub const AMPLE: u64 = 999;
 
-// What the words of a run over a file at `f` write to both streams, of which each takes so many
-// calls, and how it ends.
-fn run_of(
+/// What the words of a run over a file at `f` write to both streams, of which each takes so many
+/// calls, and how it ends.
+pub fn run_of(
     alloc: Global,
     file: Option<&[u8]>,
     given: &[&str],

@@ -23,6 +23,8 @@ mod frame_text;
 mod input;
 mod loader_lookups;
 mod lookups;
+#[cfg(test)]
+mod option_tests;
 mod options;
 mod printing;
 mod probe_text;

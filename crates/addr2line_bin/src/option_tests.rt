@@ -56,16 +56,34 @@ const INLINED: [u8; 710] = [
 ];
 
 // Words after `-e f`, the input, what goes to the output, to standard error, and the end.
-type Case = (&'static [&'static str], &'static [u8], &'static str, &'static str, Exit);
+type Case = (
+    &'static [&'static str],
+    &'static [u8],
+    &'static str,
+    &'static str,
+    Exit,
+);
 
 const PRETTY: &str = "0x0000000000000024: g at /w/a.c:3\n (inlined by) f at /w/a.c:7\n";
 
 const FRAMES: [Case; 9] = [
     (&["-a", "-p", "-f", "-i", "24"], b"", PRETTY, "", Exit::Done),
     (&["-f", "24"], b"", "g\n/w/a.c:3\n", "", Exit::Done),
-    (&["-f", "-i", "24"], b"", "g\n/w/a.c:3\nf\n/w/a.c:7\n", "", Exit::Done),
+    (
+        &["-f", "-i", "24"],
+        b"",
+        "g\n/w/a.c:3\nf\n/w/a.c:7\n",
+        "",
+        Exit::Done,
+    ),
     (&["-f", "-C", "2a"], b"", "f\n/w/a.c:3\n", "", Exit::Done),
-    (&["-p", "-i", "24"], b"", "/w/a.c:3\n (inlined by) /w/a.c:7\n", "", Exit::Done),
+    (
+        &["-p", "-i", "24"],
+        b"",
+        "/w/a.c:3\n (inlined by) /w/a.c:7\n",
+        "",
+        Exit::Done,
+    ),
     (&["-p", "-f", "30"], b"", "?? at ??:0\n", "", Exit::Done),
     (&["-f", "zz"], b"", "??\n??:0\n", "", Exit::Done),
     (
@@ -75,7 +93,13 @@ const FRAMES: [Case; 9] = [
         "",
         Exit::Done,
     ),
-    (&["--llvm", "-f", "30"], b"", "??\n??:0:0\n\n", "", Exit::Done),
+    (
+        &["--llvm", "-f", "30"],
+        b"",
+        "??\n??:0:0\n\n",
+        "",
+        Exit::Done,
+    ),
 ];
 
 const ADDRESSES: [Case; 11] = [
@@ -97,10 +121,22 @@ const ADDRESSES: [Case; 11] = [
     ),
     (&["--all"], b"", "/w/a.c:1\n/w/a.c:3\n", "", Exit::Done),
     (&["-s", "24"], b"", "a.c:3\n", "", Exit::Done),
-    (&["--llvm", "-a", "24", "zz"], b"", "0x24\n/w/a.c:3:0\n\n0x0\n??:0:0\n\n", "", Exit::Done),
+    (
+        &["--llvm", "-a", "24", "zz"],
+        b"",
+        "0x24\n/w/a.c:3:0\n\n0x0\n??:0:0\n\n",
+        "",
+        Exit::Done,
+    ),
     (&[], b"24\r\nzz\n", "/w/a.c:3\n??:0\n", "", Exit::Done),
     (&[], b"24\n\xff\n24\n", "/w/a.c:3\n", "", Exit::Done),
-    (&[], b"24\n\n2a", "/w/a.c:3\n??:0\n/w/a.c:3\n", "", Exit::Done),
+    (
+        &[],
+        b"24\n\n2a",
+        "/w/a.c:3\n??:0\n/w/a.c:3\n",
+        "",
+        Exit::Done,
+    ),
     (
         &["0x1f", "1F", "+1f", "0x+1f", "0x", ""],
         b"",
@@ -118,7 +154,13 @@ fn first_wrong(alloc: Global, cases: &[Case]) -> Result<usize, Fail> {
         let mut words: Vec<&str> = Vec::new(alloc);
         words.extend_from_slice(["addr2line", "-e", "f"].as_slice())?;
         words.extend_from_slice(given)?;
-        let got = run_of(alloc, Some(INLINED.as_slice()), words.as_slice(), input, [AMPLE, AMPLE])?;
+        let got = run_of(
+            alloc,
+            Some(INLINED.as_slice()),
+            words.as_slice(),
+            input,
+            [AMPLE, AMPLE],
+        )?;
         let same = got.0.as_slice() == out.as_bytes() && got.1.as_slice() == err.as_bytes();
         if !same || got.2 != *exit {
             return Ok(at);

@@ -4,7 +4,6 @@ use Rattle.elf.specs.Loading.{LoadsUnlessOom}
 use Rattle.addr2line_bin.specs.declared.options.Setup.{Setup}
 use Rattle.addr2line_bin.specs.declared.options.Style.{Style}
 use Rattle.addr2line_bin.specs.FileAnswers.{FileAnswers, StaysAnswered}
-use Rattle.addr2line_bin.specs.Print.{ProbeText}
 use Rattle.addr2line_bin.specs.ProbeTexts.{Given, GivesFrames, GivesLocation, IsAnswerAt, IsText, MayBeGiven, asked_symbol, looked_up}
 use Rattle.addr2line_bin.proofs.PrintingLemmas.{Weaker}
 

@@ -1,11 +1,11 @@
 -- Lines that are read from an input one after another.
-use Rattle.std.proofs.Common.{◌≡◌, ◌∙◌, ◌-◌, ◌^◌, ◌<◌, inl, inr, ℕ, Bool, false, List, [], ◌∷◌, ◌++◌, length, refl, sym, map, Option, Some, None, IfSome, ap}
+use Rattle.std.proofs.Common.{◌≡◌, ◌-◌, ◌^◌, ◌<◌, inl, inr, ℕ, Bool, false, List, [], ◌∷◌, ◌++◌, length, refl, Option, Some, None, IfSome}
 use Rattle.std.proofs.lemmas.List.{map-append}
 use Rattle.std.specs.Io.BufRead.{first_line, drop_through}
 use Rattle.std.specs.Io.KnownBytes.{IsAtEnd}
 use Rattle.std.specs.Str.{IsUtf8}
 use Rattle.addr2line_bin.specs.Address.{address_in}
-use Rattle.addr2line_bin.specs.InputLines.{InputState, IsInputEnd, StartWith, line_probes}
+use Rattle.addr2line_bin.specs.InputLines.{IsInputEnd, StartWith, line_probes}
 
 -- the lines that were read, where these bytes are left of all
 abbrev pub ReadSoFar : Option (List ℕ) → Option (List ℕ) → List (List ℕ) → Type 0

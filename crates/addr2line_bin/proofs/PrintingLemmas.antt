@@ -1,11 +1,10 @@
 -- A run prints what is asked for one after another.
-use Rattle.std.proofs.Common.{◌≡◌, ◌∙◌, inl, inr, ℕ, List, [], ◌∷◌, ◌++◌, Option, Some, None, Result, Ok, Err, refl, sym, ap, append-nil, append_assoc, OnOk, IfErr, true, option_map, map, drop, drop-cons, length, get_or, add-one, ◌<◌, ◌+◌}
+use Rattle.std.proofs.Common.{◌≡◌, ◌∙◌, inl, inr, ℕ, List, [], ◌∷◌, ◌++◌, Option, Some, Result, Ok, Err, refl, sym, ap, append-nil, append_assoc, OnOk, IfErr, true, map, drop, drop-cons, length, get_or, add-one, ◌<◌, ◌+◌}
 use Rattle.std.specs.Io.KnownBytes.{Appends}
-use Rattle.std.specs.declared.io.ErrorKind.{ErrorKind}
 use Rattle.std.proofs.lemmas.Grind.{flat_map-append}
 use Rattle.addr2line_bin.specs.Put.{StreamState, WritesPrefix, Reports, has_fault, plus}
-use Rattle.addr2line_bin.specs.Stopped.{IsFault, Stops, stop_of}
-use Rattle.addr2line_bin.specs.Print.{ProbeText, AllTexts, Prints, errs, last_text, outs}
+use Rattle.addr2line_bin.specs.Stopped.{IsFault}
+use Rattle.addr2line_bin.specs.Print.{ProbeText, AllTexts, errs, last_text, outs}
 use Rattle.addr2line_bin.specs.Printing.{TextOf, EndsAt, EndsEarly, PrintsOf, PrintsRun, PrintsUnlessStopped}
 use Rattle.addr2line_bin.specs.declared.engine.Exit.{Exit}
 use Rattle.addr2line_bin.specs.declared.stream.Stop.{Stop}

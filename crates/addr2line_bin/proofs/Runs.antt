@@ -1,11 +1,10 @@
 -- A run writes one text after another.
-use Rattle.std.proofs.Common.{true, ◌≡◌, ◌∙◌, ◌+◌, ℕ, List, [], ◌∷◌, ◌++◌, Option, Some, None, Result, Ok, Err, option_map, length, refl, sym, ap, append-nil, append_assoc, arith, OnOk, IfErr}
-use Rattle.std.specs.Io.KnownBytes.{Appends}
+use Rattle.std.proofs.Common.{◌≡◌, ◌∙◌, ◌+◌, ℕ, List, [], ◌++◌, Option, Some, None, option_map, length, refl, ap, arith}
 use Rattle.std.proofs.lemmas.Grind.{flat_map-append}
 use Rattle.std.proofs.lemmas.List.{length-append}
 use Rattle.std.specs.declared.io.ErrorKind.{ErrorKind}
-use Rattle.addr2line_bin.specs.Put.{StreamState, WritesPrefix, Reports, plus, has_fault}
-use Rattle.addr2line_bin.specs.Stopped.{Stops, IsFault, stop_of}
+use Rattle.addr2line_bin.specs.Put.{StreamState, plus, has_fault}
+use Rattle.addr2line_bin.specs.Stopped.{Stops, stop_of}
 use Rattle.addr2line_bin.specs.Print.{ProbeText, outs, errs, Prints}
 use Rattle.addr2line_bin.specs.declared.stream.Stop.{Stop}
 use Rattle.addr2line_bin.specs.declared.stream.Stop.TheVariants as stop

@@ -1,6 +1,6 @@
 -- What a loader answers to the lookups of a run.
 -- Own: where its files aren't known, any frames may be given.
-use Rattle.std.specs.Prelude.{ℕ, IfSome, List, option_map}
+use Rattle.std.specs.Prelude.{IfSome, option_map}
 use Rattle.elf.specs.Loading.{LoadsUnlessOom}
 use Rattle.elf.specs.Sections.{section_range_at}
 use Rattle.elf.specs.Symbols.{NamedAddress, symbol_at}

@@ -1,10 +1,9 @@
 -- What a run writes to its two streams for one probe after another.
 -- Own: a failed write or flush of the output ends the run, without a text for a broken pipe; so
 -- does a refused growth that no line of a lookup's fault tells.
-use Rattle.std.specs.Prelude.{◌≡◌, ◌⊎◌, ℕ, true, false, List, [], ◌∷◌, ◌++◌, Result, Ok, Err, length, codes, flat_map}
+use Rattle.std.specs.Prelude.{◌≡◌, ℕ, true, false, List, [], ◌∷◌, ◌++◌, length, codes, flat_map}
 use Rattle.std.specs.Io.KnownBytes.{Appends}
 use Rattle.addr2line_bin.specs.Put.{StreamState, Reports, plus}
-use Rattle.addr2line_bin.specs.Stopped.{Stops}
 use Rattle.addr2line_bin.specs.declared.engine.Exit.{Exit}
 use Rattle.addr2line_bin.specs.declared.engine.Exit.TheVariants as exit
 use Rattle.addr2line_bin.specs.declared.stream.Stop.{Stop}

@@ -2,17 +2,13 @@
 -- Own: with a section an address below its size is an offset in it, and another is no address.
 -- Own: a fault is written to standard error, and its address is printed as one without a location;
 -- a refused growth within a lookup is such a fault.
-use Rattle.std.specs.Prelude.{◌≡◌, ◌-◌, ◌+◌, ℕ, Bool, true, false, ◌||◌, List, [], ◌++◌, Option, Some, None, Result, Ok, Err, codes, map, nat_lt, option_and_then, option_map, string_bytes, if◌then◌else◌}
-use Rattle.std.specs.declared.string.String.{String}
-use Rattle.std.specs.declared.alloc.Global.{Global}
+use Rattle.std.specs.Prelude.{◌≡◌, ◌-◌, ◌+◌, ℕ, Bool, true, false, ◌||◌, List, [], ◌++◌, Option, Some, None, Ok, Err, codes, nat_lt, option_and_then, option_map, if◌then◌else◌}
 use Rattle.gimli_read.specs.declared.range.Range.{Range}
-use Rattle.elf.specs.declared.error.LoaderError.{LoaderError}
 use Rattle.elf.specs.Loading.{Loading, LoadsUnlessOom}
 use Rattle.addr2line_lines.specs.Location.{Location}
 use Rattle.addr2line_units.specs.Frames.{FrameRecord}
 use Rattle.addr2line_bin.specs.declared.options.Setup.{Setup}
 use Rattle.addr2line_bin.specs.declared.options.Style.{Style}
-use Rattle.addr2line_bin.specs.Address.{address_in}
 use Rattle.addr2line_bin.specs.AddressTexts.{address_text, fault_line, location_text, probe_end}
 use Rattle.addr2line_bin.specs.FileAnswers.{FileAnswers}
 use Rattle.addr2line_bin.specs.FrameTexts.{frames_text, missing_text, symbol_name}

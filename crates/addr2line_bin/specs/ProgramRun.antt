@@ -4,7 +4,6 @@
 use Rattle.std.specs.Prelude.{◌≡◌, ◌⊎◌, ℕ, List, map, Option, Some, None, option_map, Result, Ok, Err, string_bytes}
 use Rattle.gimli_read.specs.declared.range.Range.{Range}
 use Rattle.elf.specs.Loading.{Loading}
-use Rattle.elf.specs.declared.error.LoaderError.{LoaderError}
 use Rattle.elf.specs.declared.error.LoaderError.TheVariants.{OutOfMemory}
 use Rattle.addr2line_bin.specs.Put.{StreamState, Reports}
 use Rattle.addr2line_bin.specs.AllAddresses.{AreAllAddresses}

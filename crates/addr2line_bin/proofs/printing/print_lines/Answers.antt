@@ -1,9 +1,8 @@
-use Rattle.std.proofs.Common.{◌≡◌, ◌∙◌, ◌+◌, ◌≤◌, [], ◌∷◌, ◌++◌, List, ℕ, ap, append-nil, arith, length, refl, subst, sym}
+use Rattle.std.proofs.Common.{◌≡◌, ◌∙◌, ◌+◌, [], ◌∷◌, ◌++◌, ap, arith, refl, subst, sym}
 use Rattle.std.proofs.lemmas.Result.{err_from_is_err_and}
 use Rattle.std.proofs.lemmas.List.{length-append}
-use Rattle.std.specs.Str.{IsUtf8}
 use Rattle.addr2line_bin.specs.Address.{address_in}
-use Rattle.addr2line_bin.specs.InputLines.{ReadsLine, line_probes}
+use Rattle.addr2line_bin.specs.InputLines.{line_probes}
 use Rattle.addr2line_bin.specs.Printing.{PrintsOf}
 use Rattle.addr2line_bin.specs.ProbeTexts.{IsText}
 use Rattle.addr2line_bin.proofs.AnswerLemmas.{stays_itself, stays_on, text_before}

@@ -1,6 +1,11 @@
 pub mod Parts
 pub mod Runs
-pub mod Texts
 pub mod Addresses
 pub mod Words
 pub mod CommandLemmas
+pub mod AnswerLemmas
+pub mod PrintingLemmas
+pub mod AddressLemmas
+pub mod FrameLemmas
+pub mod LineLemmas
+pub mod AddressListLemmas

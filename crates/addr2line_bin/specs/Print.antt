@@ -1,10 +1,9 @@
 -- What a run writes to its two streams for one probe after another.
 -- Own: a failed write or flush of the output ends the run, without a text for a broken pipe; so
 -- does a refused growth that no line of a lookup's fault tells.
-use Rattle.std.specs.Prelude.{◌≡◌, ◌⊎◌, ℕ, true, false, List, [], ◌∷◌, ◌++◌, Result, Ok, Err, length, codes, flat_map}
+use Rattle.std.specs.Prelude.{◌≡◌, ℕ, true, false, List, [], ◌∷◌, ◌++◌, length, codes, flat_map}
 use Rattle.std.specs.Io.KnownBytes.{Appends}
 use Rattle.addr2line_bin.specs.Put.{StreamState, Reports, plus}
-use Rattle.addr2line_bin.specs.Stopped.{Stops}
 use Rattle.addr2line_bin.specs.declared.engine.Exit.{Exit}
 use Rattle.addr2line_bin.specs.declared.engine.Exit.TheVariants as exit
 use Rattle.addr2line_bin.specs.declared.stream.Stop.{Stop}
@@ -48,48 +47,3 @@ pub record Prints (oo on eo en : StreamState) (texts : List ProbeText) : Type 0 
   pub flushed : oo.is_flushed ≡ true → on.is_flushed ≡ true
   pub fault : on.fault ≡ oo.fault
   pub err : Reports eo en (errs texts)
-
--- what is reported for the probe at which a run stopped
-abbrev pub reported_at : Stop → ProbeText → List ℕ
-reported_at stop.OutOfMemory t = []
-reported_at (stop.Output b) t = t.err
-
--- the first texts go out, and a beginning of the next one; their faults are reported, and then more
-pub record PrintsPart
-    (oo on eo en : StreamState) (texts : List ProbeText) (why : Stop) (more : List ℕ)
-    : Type 0 where
-  pub done : List ProbeText
-  pub at : ProbeText
-  pub rest : List ProbeText
-  pub joins : texts ≡ done ++ at ∷ rest
-  pub written : List ℕ
-  pub left : List ℕ
-  pub of_at : at.out ≡ written ++ left
-  pub out : Appends oo.contents on.contents (outs done ++ written)
-  pub stops : Stops oo on why
-  pub err : Reports eo en ((errs done ++ reported_at why at) ++ more)
-
--- the same by the answer of the function that prints
-abbrev pub PrintsUnless : StreamState → StreamState → StreamState → StreamState → List ProbeText
-    → Result (Unit {0}) Stop → Type 0
-PrintsUnless oo on eo en texts (Ok _) = Prints oo on eo en texts
-PrintsUnless oo on eo en texts (Err why) = PrintsPart oo on eo en texts why []
-
--- the run stopped early, with a last line
-pub record IsCut (name : List ℕ) (oo on eo en : StreamState) (texts : List ProbeText) (e : Exit)
-    : Type 0 where
-  pub why : Stop
-  pub prints : PrintsPart oo on eo en texts why (last_text name why)
-  pub exit : e ≡ exit_at why
-
--- the run wrote all of the texts to both streams, or stopped early
-abbrev pub PrintsAll : List ℕ → StreamState → StreamState → StreamState → StreamState
-    → List ProbeText → Exit → Type 0
-PrintsAll name oo on eo en texts e =
-    (Prints oo on eo en texts × (e ≡ exit.Done)) ⊎ IsCut name oo on eo en texts e
-
--- the same, where each text is one of its probe's
-abbrev pub PrintsEach : {P : Type 0} → (P → ProbeText → Type 0) → List ℕ → StreamState → StreamState
-    → StreamState → StreamState → List P → Exit → Type 0
-PrintsEach IsText name oo on eo en probes e =
-    (texts : List ProbeText) × AllTexts IsText probes texts × PrintsAll name oo on eo en texts e

@@ -1,22 +1,34 @@
-//! The program `addr2line`: the file and line of addresses.
+//! The program `addr2line`: files, lines and functions of addresses.
 #![tactic(auto)]
 
 ghost use Rattle.std.specs.Process.{exit_status};
-ghost use Rattle.std.specs.Prelude.{◌≡◌};
-ghost use Rattle.addr2line_lines.specs.Rows.{result_map};
-ghost use Rattle.addr2line_bin.specs.Told.{read_fault_of};
+ghost use Rattle.std.specs.Prelude.{◌≡◌, IfSome, option_map, string_bytes};
+ghost use Rattle.elf.specs.Loading.{Loading, LoadsUnlessOom};
+ghost use Rattle.addr2line.specs.Loaded.{loaded};
+ghost use Rattle.addr2line.specs.Loader.{seen_loader};
+ghost use Rattle.addr2line_bin.specs.LoaderAnswers.{loader_answers};
+ghost use Rattle.addr2line_bin.specs.ProgramRun.{IsRun, status_at};
 ghost use Rattle.addr2line_bin.specs.Put.{Reports};
 ghost use Rattle.addr2line_bin.specs.Print.{last_text};
-ghost use Rattle.addr2line_bin.specs.Run.{IsAnswer, status_at};
 ghost use Rattle.addr2line_bin.specs.declared.engine.Exit.TheVariants as exit;
 ghost use Rattle.addr2line_bin.specs.declared.stream.Stop.TheVariants as stop;
 
 mod address;
+mod address_text;
+mod all_addresses;
 mod command;
 mod command_line;
 mod engine;
-mod load;
+mod frame_text;
+mod input;
+mod loader_lookups;
+mod lookups;
+#[cfg(test)]
+mod option_tests;
 mod options;
+mod printing;
+mod probe_text;
+mod program;
 mod stream;
 #[cfg(test)]
 mod stream_tests;
@@ -24,17 +36,19 @@ mod stream_tests;
 mod test_streams;
 #[cfg(test)]
 mod tests;
-mod text;
 
-use crate::command::{Request, name_of, request_of};
-use crate::engine::{Exit, print_all, tell_last, tell_load_fault, tell_usage};
-use crate::load::load_from;
+use crate::command::name_of;
+use crate::command_line::{Request, WordFault, command_line};
+use crate::engine::{Exit, tell_last, tell_usage};
+use crate::input::{Input, Lines};
+use crate::probe_text::as_text;
+use crate::program::run;
 use crate::stream::{Stop, Stream, Written};
-use elf::LoaderError;
+use addr2line::{FileSource, HostFiles, LoaderOver};
 use std::alloc::Global;
-use std::io::ErrorKind;
+use std::env;
+use std::io::{BufReader, ErrorKind};
 use std::process::ExitCode;
-use std::{env, fs};
 
 // The words of the command line.
 fn words_of(rt: &(impl std::rt::Env + AllocGlobal)) -> Result<Vec<String>, ErrorKind> {
@@ -44,33 +58,24 @@ fn words_of(rt: &(impl std::rt::Env + AllocGlobal)) -> Result<Vec<String>, Error
     }
 }
 
-// Why a file can't be read.
-fn fault_of(kind: ErrorKind) -> LoaderError
-    ensures gives { result ≡ read_fault_of kind }
-{
-    match kind {
-        ErrorKind::OutOfMemory => LoaderError::OutOfMemory,
-        _ => LoaderError::Io,
-    }
-}
-
-// Answers what the words ask for of the bytes of their file.
-fn run<W: Stream, E: Stream>(
+// Loads the file that a request names, and prints what is asked of it.
+fn run_request<F: FileSource, I: Input, W: Stream, E: Stream>(
     alloc: Global,
-    name: &str,
-    addresses: &[String],
-    bytes: Result<Vec<u8>, LoaderError>,
+    files: F,
+    request: &Request,
+    input: &mut I,
     out: &mut W,
     err: &mut E,
 ) -> Exit
-    ensures gives { IsAnswer name.now (W.state out.old) (W.state out.new)
-        (E.state err.old) (E.state err.new) addresses.now
-        (result_map (λ v. v.items) bytes) result }
+    ensures gives { (loader : Loading (LoaderOver F))
+        × IfSome (F.files files) (λ held. LoadsUnlessOom (λ l. (l.object, l.context)) loader
+        (loaded held (string_bytes request.now.exe) (option_map string_bytes request.now.sup)))
+        × IsRun (λ l. loader_answers (seen_loader F.files l)) loader request.now.options
+        (I.state input.old) (I.state input.new) (W.state out.old) (W.state out.new)
+        (E.state err.old) (E.state err.new) result }
 {
-    match load_from(alloc, bytes) {
-        Ok(context) => print_all(alloc, name, context, addresses, out, err),
-        Err(fault) => tell_load_fault(name, fault, err),
-    }
+    let loader = LoaderOver::over(alloc, files, request.exe.as_str(), as_text(&request.sup));
+    run(alloc, &request.options, loader, input, out, err)
 }
 
 // Writes that memory was refused before there is a file.
@@ -92,6 +97,23 @@ fn status_of(exit: Exit) -> ExitCode
     }
 }
 
+// Writes why the words ask for nothing, or the help or the version that they ask for.
+fn answer_fault<E: Stream>(
+    rt: &HostRuntime,
+    name: &str,
+    fault: WordFault,
+    err: &mut E,
+) -> ExitCode {
+    match fault {
+        WordFault::OutOfMemory => status_of(tell_no_memory(name, err)),
+        WordFault::Usage => status_of(tell_usage(name, err)),
+        WordFault::Clap(error) => match error.print(rt) {
+            Ok(()) if error.exit_code() == 0 => ExitCode::from(0),
+            _ => ExitCode::from(2),
+        },
+    }
+}
+
 fn main(rt: HostRuntime) -> ExitCode {
     let alloc: Global = rt.alloc();
     let mut out = Written::new(rt.stdout());
@@ -105,12 +127,14 @@ fn main(rt: HostRuntime) -> ExitCode {
         Ok(name) => name,
         Err(_) => return status_of(tell_no_memory("addr2line", &mut err)),
     };
-    let Some(Request { path, addresses }) = request_of(words.as_slice()) else {
-        return status_of(tell_usage(name.as_str(), &mut err));
+    let request = match command_line(alloc, words.as_slice()) {
+        Ok(request) => request,
+        Err(fault) => return answer_fault(&rt, name.as_str(), fault, &mut err),
     };
-    let bytes = match fs::read(&rt, path) {
-        Ok(bytes) => Ok(bytes),
-        Err(error) => Err(fault_of(error.kind())),
+    let mut input = match BufReader::new(alloc, rt.reader()) {
+        Ok(reader) => Lines::new(reader),
+        Err(_) => return status_of(tell_no_memory(name.as_str(), &mut err)),
     };
-    status_of(run(alloc, name.as_str(), addresses, bytes, &mut out, &mut err))
+    let files = HostFiles::new(rt);
+    status_of(run_request(alloc, files, &request, &mut input, &mut out, &mut err))
 }

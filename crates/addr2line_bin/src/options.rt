@@ -1,5 +1,8 @@
 //! What is asked of the program.
 
+use addr2line::Range;
+use std::alloc::Global;
+
 /// The addresses that are asked for.
 #[derive(Drop)]
 pub enum Probes {
@@ -11,15 +14,9 @@ pub enum Probes {
     Lines,
 }
 
-/// What is asked, and how it is printed.
-#[derive(Drop)]
-pub struct Options {
-    /// What the program calls itself.
-    pub name: String,
-    /// The section that addresses are offsets in, if one is named.
-    pub section: Option<String>,
-    /// The addresses that are asked for.
-    pub probes: Probes,
+/// How what is asked is printed.
+#[derive(Clone, Copy)]
+pub struct Style {
     /// Whether functions are printed.
     pub functions: bool,
     /// Whether a function and its location stand on one line.
@@ -34,4 +31,30 @@ pub struct Options {
     pub demangle: bool,
     /// Whether the texts are LLVM's.
     pub llvm: bool,
+}
+
+/// What is asked, and how it is printed.
+#[derive(Drop)]
+pub struct Options {
+    /// What the program calls itself.
+    pub name: String,
+    /// The section that addresses are offsets in, if one is named.
+    pub section: Option<String>,
+    /// The addresses that are asked for.
+    pub probes: Probes,
+    /// How they are printed.
+    pub style: Style,
+}
+
+/// What is the same for each address of a run.
+#[derive(Clone, Copy)]
+pub struct Setup<'a> {
+    /// Where memory comes from.
+    pub alloc: Global,
+    /// What the program calls itself.
+    pub name: &'a str,
+    /// How addresses are printed.
+    pub style: Style,
+    /// The section that addresses are offsets in, if one is named.
+    pub section: Option<Range>,
 }

@@ -1,13 +1,19 @@
 //! Runs whose streams fail.
 
-ghost use Rattle.std.specs.Prelude.{◌==◌, None, Ok, Err, if◌then◌else◌};
+ghost use Rattle.std.specs.Prelude.{◌≡◌, ◌==◌, [], None, Ok, Err, if◌then◌else◌};
 ghost use Rattle.gimli_read.specs.declared.error.Error.TheVariants.{UnexpectedEof};
+ghost use Rattle.elf.specs.declared.error.LoaderError.TheVariants.{Dwarf};
 
-use crate::engine::{Exit, Locate, print};
+use crate::engine::Exit;
+use crate::input::Lines;
+use crate::lookups::Lookups;
+use crate::options::{Options, Probes, Style};
+use crate::program::run;
+use crate::stream::Stream;
 use crate::test_streams::{failing, full_after, known_stream, unfailing, words};
-use addr2line::Location;
-use addr2line::gimli::read::Error;
-use std::alloc::AllocGlobal;
+use addr2line::gimli::read::{EndianBytes, Error};
+use addr2line::{FrameIter, LoaderError, Location, LocationRangeIter, Range};
+use std::alloc::{AllocGlobal, Global};
 use std::io::ErrorKind;
 use std::process::Abort;
 use std::test::Fail;
@@ -16,16 +22,71 @@ use std::test::Fail;
 #[derive(Drop)]
 struct Faulty;
 
-impl Locate for Faulty {
-    ghost found = { λ _ probe. if probe == 32 then Err UnexpectedEof else Ok None };
+impl Lookups for Faulty {
+    ghost answers = { λ _. record {
+      location_at = λ probe. if probe == 32 then Err (Dwarf UnexpectedEof) else Ok None;
+      MayGive = λ probe given. given ≡ Ok [];
+      symbol_at = λ probe. None;
+      section_at = λ name. None;
+      spans_in = λ low high. Ok [];
+    } };
 
-    fn find_location(&mut self, probe: u64) -> Result<Option<Location<'_>>, Error> {
+    #[tactic(auto, using(crate::proofs::AnswerLemmas::stays_itself))]
+    fn find_location(&mut self, probe: u64) -> Result<Option<Location<'_>>, LoaderError> {
         match probe {
-            0x20 => Err(Error::UnexpectedEof),
-            0x30 => Err(Error::OutOfMemory),
+            0x20 => Err(LoaderError::Dwarf(Error::UnexpectedEof)),
+            0x30 => Err(LoaderError::OutOfMemory),
             _ => Ok(None),
         }
     }
+
+    #[tactic(auto, using(crate::proofs::AnswerLemmas::stays_itself))]
+    fn find_frames(&mut self, _probe: u64) -> Result<FrameIter<'_, EndianBytes>, LoaderError> {
+        Ok(FrameIter::new_empty())
+    }
+
+    #[tactic(auto, using(crate::proofs::AnswerLemmas::stays_itself))]
+    fn find_location_range(
+        &mut self,
+        _low: u64,
+        _high: u64,
+    ) -> Result<LocationRangeIter<'_, EndianBytes>, LoaderError> {
+        Err(LoaderError::OutOfMemory)
+    }
+
+    fn find_symbol(&self, _probe: u64) -> Option<&str> {
+        None
+    }
+
+    fn get_section_range(&self, _name: &[u8]) -> Option<Range> {
+        None
+    }
+}
+
+// How a run ends that prints what words ask for.
+fn print_of<W: Stream, E: Stream>(
+    alloc: Global,
+    words: Vec<String>,
+    out: &mut W,
+    err: &mut E,
+) -> Result<Exit, Fail> {
+    let style = Style {
+        functions: false,
+        pretty: false,
+        inlines: false,
+        addresses: false,
+        basenames: false,
+        demangle: false,
+        llvm: false,
+    };
+    let options = Options {
+        name: String::from_str(alloc, "a")?,
+        section: None,
+        probes: Probes::Words(words),
+        style,
+    };
+    let mut input = Lines::new(b"".as_slice());
+    Ok(run(alloc, &options, Ok(Faulty), &mut input, out, err))
 }
 
 #[test]
@@ -33,14 +94,7 @@ fn faults_of_lookups_are_told(rt: HostRuntime) -> Result<(), Fail> {
     let addresses = words(rt.alloc(), &["0x10", "0x20", "0x30", "0x40"])?;
     let mut out = unfailing(rt.alloc());
     let mut err = unfailing(rt.alloc());
-    let exit = print(
-        rt.alloc(),
-        "a",
-        &mut Faulty,
-        addresses.as_slice(),
-        &mut out,
-        &mut err,
-    );
+    let exit = print_of(rt.alloc(), addresses, &mut out, &mut err)?;
     let want = "a: failed to find location for 0x20: unexpected end of data\n\
         a: failed to find location for 0x30: out of memory\n";
     assert_eq!(rt; exit, Exit::Done);
@@ -62,14 +116,7 @@ fn assert_stop(
     let addresses = words(rt.alloc(), &["0x10", "0x40", "0x50"])?;
     let mut out = failing(rt.alloc(), calls, fault);
     let mut err = unfailing(rt.alloc());
-    let exit = print(
-        rt.alloc(),
-        "a",
-        &mut Faulty,
-        addresses.as_slice(),
-        &mut out,
-        &mut err,
-    );
+    let exit = print_of(rt.alloc(), addresses, &mut out, &mut err)?;
     assert_eq!(rt; exit, want.0);
     assert_eq!(rt; out.writer.taken.as_slice(), want.1.as_bytes());
     assert_eq!(rt; err.writer.taken.as_slice(), want.2.as_bytes());
@@ -112,14 +159,7 @@ fn a_write_of_no_byte_is_a_failed_write(rt: HostRuntime) -> Result<(), Fail> {
     let addresses = words(rt.alloc(), &["0x10", "0x40"])?;
     let mut out = full_after(rt.alloc(), 7);
     let mut err = unfailing(rt.alloc());
-    let exit = print(
-        rt.alloc(),
-        "a",
-        &mut Faulty,
-        addresses.as_slice(),
-        &mut out,
-        &mut err,
-    );
+    let exit = print_of(rt.alloc(), addresses, &mut out, &mut err)?;
     assert_eq!(rt; exit, Exit::Failed);
     assert_eq!(rt; out.writer.taken.as_slice(), b"??:0\n??".as_slice());
     assert_eq!(rt;
@@ -134,14 +174,7 @@ fn each_text_is_flushed(rt: HostRuntime) -> Result<(), Fail> {
     let addresses = words(rt.alloc(), &["0x10", "zz", "0x40"])?;
     let mut out = known_stream(rt.alloc());
     let mut err = known_stream(rt.alloc());
-    let exit = print(
-        rt.alloc(),
-        "a",
-        &mut Faulty,
-        addresses.as_slice(),
-        &mut out,
-        &mut err,
-    );
+    let exit = print_of(rt.alloc(), addresses, &mut out, &mut err)?;
     assert_eq!(rt; exit, Exit::Done);
     assert_eq!(rt; out.flushes.as_slice(), [5, 10, 15].as_slice());
     assert!(rt; err.taken.is_empty());
@@ -153,14 +186,7 @@ fn nothing_is_told_after_a_failed_write(rt: HostRuntime) -> Result<(), Fail> {
     let addresses = words(rt.alloc(), &["0x20", "0x20", "0x40"])?;
     let mut out = unfailing(rt.alloc());
     let mut err = failing(rt.alloc(), 1, ErrorKind::BrokenPipe);
-    let exit = print(
-        rt.alloc(),
-        "a",
-        &mut Faulty,
-        addresses.as_slice(),
-        &mut out,
-        &mut err,
-    );
+    let exit = print_of(rt.alloc(), addresses, &mut out, &mut err)?;
     assert_eq!(rt; exit, Exit::Done);
     assert_eq!(rt;
         out.writer.taken.as_slice(),

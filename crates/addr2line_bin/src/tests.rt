@@ -1,91 +1,71 @@
 //! Worked cases of the program.
 
-use crate::command::{name_of, request_of};
+use crate::command::name_of;
+use crate::command_line::command_line;
 use crate::engine::{Exit, tell_usage};
-use crate::run;
+use crate::input::Lines;
+use crate::run_request;
 use crate::test_streams::{failing, unfailing, words};
-use elf::LoaderError;
-use std::alloc::{AllocGlobal, Global};
+use addr2line::MemoryFiles;
+use std::alloc::Global;
 use std::io::ErrorKind;
-use std::process::Abort;
 use std::test::Fail;
 
-fn assert_fault(
-    rt: &(impl Abort + AllocGlobal),
-    bytes: Result<Vec<u8>, LoaderError>,
-    want: &str,
-) -> Result<(), Fail> {
-    let addresses = words(rt.alloc(), &["0x10"])?;
-    let mut out = unfailing(rt.alloc());
-    let mut err = unfailing(rt.alloc());
-    let exit = run(
-        rt.alloc(),
-        "addr2line",
-        addresses.as_slice(),
-        bytes,
-        &mut out,
-        &mut err,
-    );
-    assert_eq!(rt; exit, Exit::Failed);
-    assert!(rt; out.writer.taken.is_empty());
-    assert_eq!(rt; err.writer.taken.as_slice(), want.as_bytes());
-    Ok(())
+/// More calls than any run takes.
+pub const AMPLE: u64 = 999;
+
+/// What the words of a run over a file at `f` write to both streams, of which each takes so many
+/// calls, and how it ends.
+pub fn run_of(
+    alloc: Global,
+    file: Option<&[u8]>,
+    given: &[&str],
+    input: &[u8],
+    calls: [u64; 2],
+) -> Result<(Vec<u8>, Vec<u8>, Exit), Fail> {
+    let mut files = MemoryFiles::new(alloc);
+    if let Some(bytes) = file {
+        files.put("f", bytes)?;
+    }
+    let given = words(alloc, given)?;
+    let Ok(request) = command_line(alloc, given.as_slice()) else {
+        return Err(Fail::from("no request"));
+    };
+    let mut out = failing(alloc, calls[0], ErrorKind::BrokenPipe);
+    let mut err = failing(alloc, calls[1], ErrorKind::BrokenPipe);
+    let mut lines = Lines::new(input);
+    let exit = run_request(alloc, files, &request, &mut lines, &mut out, &mut err);
+    Ok((out.writer.taken, err.writer.taken, exit))
 }
 
 #[test]
-fn a_missing_file_is_told(rt: HostRuntime) -> Result<(), Fail> {
-    assert_fault(
-        &rt,
-        Err(LoaderError::Io),
-        "addr2line: failed to load debug info: the file cannot be read\n",
-    )
-}
-
-#[test]
-fn a_file_that_is_not_elf_is_told(rt: HostRuntime) -> Result<(), Fail> {
-    let bytes = Vec::from_slice(rt.alloc(), b"#!/bin/sh".as_slice())?;
-    assert_fault(
-        &rt,
-        Ok(bytes),
-        "addr2line: failed to load debug info: not an ELF file\n",
-    )
-}
-
-#[test]
-fn a_file_that_is_cut_is_told(rt: HostRuntime) -> Result<(), Fail> {
-    let bytes = Vec::from_slice(rt.alloc(), b"\x7fELF\x02\x01".as_slice())?;
-    assert_fault(
-        &rt,
-        Ok(bytes),
-        "addr2line: failed to load debug info: malformed ELF file\n",
-    )
-}
-
-#[test]
-fn words_ask_for_a_file_and_addresses(rt: HostRuntime) -> Result<(), Fail> {
-    let given = words(rt.alloc(), &["a", "-e", "f", "0x10", "20"])?;
-    let request = request_of(given.as_slice()).ok_or("no request")?;
-    assert_eq!(rt; request.path, "f");
-    assert_eq!(rt; request.addresses.len(), 2);
-    let bare = words(rt.alloc(), &["a", "-e", "f"])?;
-    assert!(rt; request_of(bare.as_slice()).is_some());
-    Ok(())
-}
-
-fn assert_no_request(rt: &(impl Abort + AllocGlobal), texts: &[&str]) -> Result<(), Fail> {
-    let given = words(rt.alloc(), texts)?;
-    assert!(rt; request_of(given.as_slice()).is_none());
-    Ok(())
-}
-
-#[test]
-fn other_words_ask_for_nothing(rt: HostRuntime) -> Result<(), Fail> {
-    assert_no_request(&rt, &["a", "-e"])?;
-    assert_no_request(&rt, &["a"])?;
-    assert_no_request(&rt, &["a", "f", "-e", "0x10"])?;
-    assert_no_request(&rt, &["a", "-e", "f", "0x10", "-f"])?;
-    let none = Vec::new(rt.alloc());
-    assert!(rt; request_of(none.as_slice()).is_none());
+fn a_file_that_cannot_be_loaded_is_told(rt: HostRuntime) -> Result<(), Fail> {
+    let cases: [(Option<&[u8]>, &str); 3] = [
+        (
+            None,
+            "a2l: failed to load debug info: the file cannot be read\n",
+        ),
+        (
+            Some(b"#!/bin/sh"),
+            "a2l: failed to load debug info: not an ELF file\n",
+        ),
+        (
+            Some(b"\x7fELF\x02\x01"),
+            "a2l: failed to load debug info: malformed ELF file\n",
+        ),
+    ];
+    for (file, want) in cases {
+        let got = run_of(
+            rt.alloc(),
+            file,
+            &["a2l", "-e", "f", "0x10"],
+            b"",
+            [AMPLE, AMPLE],
+        )?;
+        assert!(rt; got.0.is_empty());
+        assert_eq!(rt; got.1.as_slice(), want.as_bytes());
+        assert_eq!(rt; got.2, Exit::Failed);
+    }
     Ok(())
 }
 
@@ -96,7 +76,7 @@ fn a_usage_fault_is_told(rt: HostRuntime) -> Result<(), Fail> {
     assert_eq!(rt; exit, Exit::Misused);
     assert_eq!(rt;
         err.writer.taken.as_slice(),
-        b"a2l: usage: a2l -e FILE ADDR..\n".as_slice()
+        b"a2l: usage: a2l -e FILE [OPTION].. [ADDR..]\n".as_slice()
     );
     Ok(())
 }
@@ -159,35 +139,8 @@ const PLAIN: [u8; 533] = [
     0x00, 0x00, 0x00, 0x00, 0x00,
 ];
 
-// More calls than any run takes.
-const AMPLE: u64 = 999;
-
 // Where the length of its line program's last opcode lies.
 const LAST_LENGTH: usize = 162;
-
-// What a run for three addresses writes to both streams, of which each takes so many calls, and how
-// it ends.
-fn run_of(
-    alloc: Global,
-    last_length: u8,
-    calls: [u64; 2],
-) -> Result<(Vec<u8>, Vec<u8>, Exit), Fail> {
-    let mut file = PLAIN;
-    file[LAST_LENGTH] = last_length;
-    let bytes = Vec::from_slice(alloc, file.as_slice())?;
-    let addresses = words(alloc, &["0x10", "2f", "0x30"])?;
-    let mut out = failing(alloc, calls[0], ErrorKind::BrokenPipe);
-    let mut err = failing(alloc, calls[1], ErrorKind::BrokenPipe);
-    let exit = run(
-        alloc,
-        "a2l",
-        addresses.as_slice(),
-        Ok(bytes),
-        &mut out,
-        &mut err,
-    );
-    Ok((out.writer.taken, err.writer.taken, exit))
-}
 
 #[test]
 fn a_run_over_a_file(rt: HostRuntime) -> Result<(), Fail> {
@@ -205,7 +158,16 @@ fn a_run_over_a_file(rt: HostRuntime) -> Result<(), Fail> {
         (1, [0, AMPLE], "", ""),
     ];
     for (last_length, calls, out, err) in cases {
-        let got = run_of(rt.alloc(), last_length, calls)?;
+        let mut file = PLAIN;
+        file[LAST_LENGTH] = last_length;
+        let given = ["a2l", "-e", "f", "0x10", "2f", "0x30"];
+        let got = run_of(
+            rt.alloc(),
+            Some(file.as_slice()),
+            given.as_slice(),
+            b"",
+            calls,
+        )?;
         assert_eq!(rt; got.0.as_slice(), out.as_bytes());
         assert_eq!(rt; got.1.as_slice(), err.as_bytes());
         assert_eq!(rt; got.2, Exit::Done);

@@ -1,0 +1,15 @@
+use Rattle.std.proofs.Common.{◌≡◌, ◌++◌, List, ℕ, Option, drop}
+use Rattle.addr2line_bin.specs.FileAnswers.{StaysAnswered}
+use Rattle.addr2line_bin.specs.Printing.{PrintsOf}
+use Rattle.addr2line_bin.specs.ProbeTexts.{IsText}
+use Rattle.addr2line_bin.specs.Address.{probes_in}
+use Rattle.addr2line_bin.proofs.printing.print_words.Given as goal
+
+-- what was printed so far, and the words that are left
+abbrev pub invariant-loop-word : goal.invariant-loop-word
+invariant-loop-word g l =
+    let first = g.L.Lookups.answers l.fn.lookups in
+    StaysAnswered first (g.L.Lookups.answers l.lookups)
+    × ((done : List (Option ℕ))
+    × (probes_in l.words ≡ done ++ probes_in (drop l.word-index l.words))
+    × PrintsOf (IsText first l.setup) (g.W.Stream.state l.fn.out) (g.W.Stream.state l.out) (g.E.Stream.state l.fn.err) (g.E.Stream.state l.err) done)

@@ -1,0 +1,28 @@
+-- What a file answers to the lookups of a run.
+-- Own: a lookup may change what its file answers later, as split files are read then; it adds no
+-- answer that couldn't have been given before.
+use Rattle.std.specs.Prelude.{◌≡◌, ℕ, List, Option, Result}
+use Rattle.gimli_read.specs.declared.error.Error.{Error}
+use Rattle.gimli_read.specs.declared.range.Range.{Range}
+use Rattle.elf.specs.Loading.{Loading}
+use Rattle.addr2line_lines.specs.Location.{Location}
+use Rattle.addr2line_lines.specs.RangeLocations.{LocatedSpan}
+use Rattle.addr2line_units.specs.Frames.{FrameRecord}
+
+-- the location at an address, or the fault of its lookup; which frames or fault may be given for an
+-- address; the name of the symbol at an address; the addresses of a section by its name; and the
+-- rows of a range of addresses with the faults among them
+pub record FileAnswers : Type 1 where
+  pub location_at : ℕ → Loading (Option Location)
+  pub MayGive : ℕ → Loading (List FrameRecord) → Type 0
+  pub symbol_at : ℕ → Option (List ℕ)
+  pub section_at : List ℕ → Option Range
+  pub spans_in : ℕ → ℕ → Result (List (Result LocatedSpan Error)) Error
+
+-- what is answered after a lookup could be answered before
+pub record StaysAnswered (old new : FileAnswers) : Type 0 where
+  pub location_at : new.location_at ≡ old.location_at
+  pub frames : (address : ℕ) (given : Loading (List FrameRecord)) → new.MayGive address given
+      → old.MayGive address given
+  pub symbol_at : new.symbol_at ≡ old.symbol_at
+  pub section_at : new.section_at ≡ old.section_at

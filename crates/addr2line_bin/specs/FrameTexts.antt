@@ -1,0 +1,73 @@
+-- The texts of frames: functions with their locations.
+-- Own: the last frame has the name of the symbol at the address, if there is one, in place of its
+-- own; a function without a name is `??`.
+-- Own: a symbol's name is of no language that is known.
+use Rattle.std.specs.Prelude.{ℕ, List, [], ◌∷◌, ◌++◌, Option, Some, None, codes, option_map, unwrap_or, if◌then◌else◌}
+use Rattle.std.specs.Option.{option_or}
+use Rattle.addr2line_units.specs.Frames.{FrameRecord, NameRecord}
+use Rattle.addr2line_units.specs.LegacyText.{demangled_auto}
+use Rattle.addr2line_units.specs.SeenFrame.{name_text, raw_text}
+use Rattle.addr2line_bin.specs.declared.options.Style.{Style}
+use Rattle.addr2line_bin.specs.AddressTexts.{location_text}
+
+-- a function's name
+abbrev pub function_name : Style → NameRecord → List ℕ
+function_name style n = if style.demangle then name_text n else raw_text n
+
+-- a symbol's name
+abbrev pub symbol_name : Style → List ℕ → List ℕ
+symbol_name style name =
+    if style.demangle then unwrap_or (demangled_auto None name) name else name
+
+-- the name of the function of a frame
+abbrev pub own_name : Style → FrameRecord → Option (List ℕ)
+own_name style f = option_map (function_name style) f.function
+
+-- the symbol's name where no frame follows
+abbrev pub symbol_before : Option (List ℕ) → List FrameRecord → Option (List ℕ)
+symbol_before symbol [] = symbol
+symbol_before symbol (f ∷ rest) = None
+
+-- what follows a function
+abbrev pub function_end : Style → List ℕ
+function_end style = if style.pretty then codes " at " else codes "\n"
+
+-- a function, where functions are printed
+abbrev pub function_text : Style → Option (List ℕ) → List ℕ
+function_text style name =
+    if style.functions then unwrap_or name (codes "??") ++ function_end style else []
+
+-- a frame, by the symbol's name if there is one
+abbrev pub frame_text : Style → Option (List ℕ) → FrameRecord → List ℕ
+frame_text style symbol f =
+    function_text style (option_or symbol (own_name style f)) ++ location_text style f.location
+
+-- what stands before each frame but the first
+abbrev pub caller_mark : Style → List ℕ
+caller_mark style = if style.pretty then codes " (inlined by) " else []
+
+-- the frames after the first
+abbrev pub callers_text : Style → Option (List ℕ) → List FrameRecord → List ℕ
+callers_text style symbol [] = []
+callers_text style symbol (f ∷ rest) =
+    caller_mark style
+    ++ (frame_text style (symbol_before symbol rest) f ++ callers_text style symbol rest)
+
+-- the same, where inlined functions are printed
+abbrev pub more_text : Style → Option (List ℕ) → List FrameRecord → List ℕ
+more_text style symbol rest = if style.inlines then callers_text style symbol rest else []
+
+-- where there is no frame
+abbrev pub missing_text : Style → Option (List ℕ) → List ℕ
+missing_text style symbol = function_text style symbol ++ location_text style None
+
+-- all frames
+abbrev pub frames_text : Style → Option (List ℕ) → List FrameRecord → List ℕ
+frames_text style symbol [] = missing_text style symbol
+frames_text style symbol (f ∷ rest) =
+    frame_text style (symbol_before symbol rest) f ++ more_text style symbol rest
+
+-- the next frame, if there is one, and those after it
+abbrev pub next_and : Option FrameRecord → List FrameRecord → List FrameRecord
+next_and None rest = []
+next_and (Some f) rest = f ∷ rest

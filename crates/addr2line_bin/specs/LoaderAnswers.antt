@@ -1,0 +1,22 @@
+-- What a loader answers to the lookups of a run.
+-- Own: where its files aren't known, any frames may be given.
+use Rattle.std.specs.Prelude.{IfSome, option_map}
+use Rattle.elf.specs.Loading.{LoadsUnlessOom}
+use Rattle.elf.specs.Sections.{section_range_at}
+use Rattle.elf.specs.Symbols.{NamedAddress, symbol_at}
+use Rattle.addr2line_units.specs.Located.{location_of, spans_of}
+use Rattle.addr2line.specs.FramesByFiles.{frames_by_files}
+use Rattle.addr2line.specs.Loader.{LoaderState}
+use Rattle.addr2line.specs.SplitFiles.{of_file}
+use Rattle.addr2line_bin.specs.FileAnswers.{FileAnswers}
+
+-- what it answers by its sections, its main file, and its files
+abbrev pub loader_answers : LoaderState → FileAnswers
+loader_answers l = record {
+  location_at = λ address. of_file (location_of l.context.sections address);
+  MayGive = λ address given. IfSome l.files (λ held. LoadsUnlessOom (λ frames. frames) given
+      (frames_by_files held l.context.sections l.context.answers address));
+  symbol_at = λ address. option_map (λ (s : NamedAddress). s.name) (symbol_at address l.object);
+  section_at = λ name. section_range_at name l.object;
+  spans_in = λ low high. spans_of l.context.sections low high;
+}

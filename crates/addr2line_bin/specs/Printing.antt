@@ -1,0 +1,72 @@
+-- What a run writes to its two streams for addresses that are asked for one after another.
+-- Own: a failed write or flush of the output ends the run; so does a refused growth that no line of
+-- a lookup's fault tells. All texts before are whole, and of the one at which it ended a beginning
+-- went out where the output failed, and nothing where a growth was refused.
+use Rattle.std.specs.Prelude.{◌≡◌, ◌⊎◌, ℕ, List, [], ◌∷◌, ◌++◌, Option, Result, Ok, Err}
+use Rattle.std.specs.Io.KnownBytes.{Appends}
+use Rattle.addr2line_bin.specs.Put.{StreamState, Reports}
+use Rattle.addr2line_bin.specs.Stopped.{Stops}
+use Rattle.addr2line_bin.specs.Print.{ProbeText, AllTexts, Prints, errs, exit_at, last_text, outs}
+use Rattle.addr2line_bin.specs.declared.engine.Exit.{Exit}
+use Rattle.addr2line_bin.specs.declared.engine.Exit.TheVariants as exit
+use Rattle.addr2line_bin.specs.declared.stream.Stop.{Stop}
+use Rattle.addr2line_bin.specs.declared.stream.Stop.TheVariants as stop
+
+-- whether a text is one of what is asked for
+abbrev pub TextOf : Type 1
+TextOf = Option ℕ → ProbeText → Type 0
+
+-- what went out of the text at which a run ended, and what was reported for it
+abbrev pub EndsAt : TextOf → Stop → List (Option ℕ) → List ℕ → List ℕ → Type 0
+EndsAt IsText stop.OutOfMemory later written told = (written ≡ []) × (told ≡ [])
+EndsAt IsText (stop.Output b) [] written told = ⊥
+EndsAt IsText (stop.Output b) (p ∷ later) written told = (text : ProbeText) × IsText p text
+    × (told ≡ text.err) × ((left : List ℕ) × (text.out ≡ written ++ left))
+
+-- the texts of what is asked for go out, each with a flush, and their faults are reported
+pub record PrintsOf (IsText : TextOf) (oo on eo en : StreamState) (probes : List (Option ℕ))
+    : Type 0 where
+  pub texts : List ProbeText
+  pub each : AllTexts IsText probes texts
+  pub prints : Prints oo on eo en texts
+
+-- a run ended early: the texts of the first go out, and a beginning of the next one; their faults
+-- are reported, and then more
+pub record EndsEarly
+    (IsText : TextOf) (oo on eo en : StreamState) (probes : List (Option ℕ)) (why : Stop)
+    (more : List ℕ)
+    : Type 0 where
+  pub done : List (Option ℕ)
+  pub later : List (Option ℕ)
+  pub joins : probes ≡ done ++ later
+  pub texts : List ProbeText
+  pub each : AllTexts IsText done texts
+  pub written : List ℕ
+  pub told : List ℕ
+  pub ends : EndsAt IsText why later written told
+  pub out : Appends oo.contents on.contents (outs texts ++ written)
+  pub stops : Stops oo on why
+  pub err : Reports eo en ((errs texts ++ told) ++ more)
+
+-- the same by the answer of the function that prints
+abbrev pub PrintsUnlessStopped : TextOf → StreamState → StreamState → StreamState → StreamState
+    → List (Option ℕ) → Result (Unit {0}) Stop → Type 0
+PrintsUnlessStopped IsText oo on eo en probes (Ok _) = PrintsOf IsText oo on eo en probes
+PrintsUnlessStopped IsText oo on eo en probes (Err why) =
+    EndsEarly IsText oo on eo en probes why []
+
+-- a run ended early, with a last line
+pub record IsCutOff
+    (IsText : TextOf) (name : List ℕ) (oo on eo en : StreamState) (probes : List (Option ℕ))
+    (e : Exit)
+    : Type 0 where
+  pub why : Stop
+  pub prints : EndsEarly IsText oo on eo en probes why (last_text name why)
+  pub exit : e ≡ exit_at why
+
+-- a run wrote all texts to both streams, or ended early
+abbrev pub PrintsRun : TextOf → List ℕ → StreamState → StreamState → StreamState → StreamState
+    → List (Option ℕ) → Exit → Type 0
+PrintsRun IsText name oo on eo en probes e =
+    (PrintsOf IsText oo on eo en probes × (e ≡ exit.Done))
+    ⊎ IsCutOff IsText name oo on eo en probes e

@@ -1,0 +1,94 @@
+-- What goes to the two streams for an address that is asked for.
+-- Own: with a section an address below its size is an offset in it, and another is no address.
+-- Own: a fault is written to standard error, and its address is printed as one without a location;
+-- a refused growth within a lookup is such a fault.
+use Rattle.std.specs.Prelude.{◌≡◌, ◌-◌, ◌+◌, ℕ, Bool, true, false, ◌||◌, List, [], ◌++◌, Option, Some, None, Ok, Err, codes, nat_lt, option_and_then, option_map, if◌then◌else◌}
+use Rattle.gimli_read.specs.declared.range.Range.{Range}
+use Rattle.elf.specs.Loading.{Loading, LoadsUnlessOom}
+use Rattle.addr2line_lines.specs.Location.{Location}
+use Rattle.addr2line_units.specs.Frames.{FrameRecord}
+use Rattle.addr2line_bin.specs.declared.options.Setup.{Setup}
+use Rattle.addr2line_bin.specs.declared.options.Style.{Style}
+use Rattle.addr2line_bin.specs.AddressTexts.{address_text, fault_line, location_text, probe_end}
+use Rattle.addr2line_bin.specs.FileAnswers.{FileAnswers}
+use Rattle.addr2line_bin.specs.FrameTexts.{frames_text, missing_text, symbol_name}
+use Rattle.addr2line_bin.specs.Print.{ProbeText}
+
+-- the address in a section at an offset, none past its size
+abbrev pub offset_in : Range → ℕ → Option ℕ
+offset_in section n =
+    if nat_lt n (section.end - section.begin) then Some (section.begin + n) else None
+
+-- the same, or the address itself without a section
+abbrev pub address_by : Option Range → ℕ → Option ℕ
+address_by None n = Some n
+address_by (Some section) n = offset_in section n
+
+-- the address that is looked up for what is asked for, if it is one
+abbrev pub looked_up : Option Range → Option ℕ → Option ℕ
+looked_up section probe = option_and_then (address_by section) probe
+
+-- whether frames are looked up
+abbrev pub asks_frames : Style → Bool
+asks_frames style = style.functions || style.inlines
+
+-- the symbol's name, where functions are printed
+abbrev pub asked_symbol : Style → Option (List ℕ) → Option (List ℕ)
+asked_symbol style symbol = if style.functions then option_map (symbol_name style) symbol else None
+
+-- what a lookup of a location gives
+abbrev pub Found : Type 0
+Found = Loading (Option Location)
+
+-- what a lookup of frames gives
+abbrev pub FoundFrames : Type 0
+FoundFrames = Loading (List FrameRecord)
+
+-- what the lookups of an address gave: its location; or its frames, and the name of its symbol
+pub data Given : Type 0 where
+  GivesLocation : Found → Given
+  GivesFrames : FoundFrames → Option (List ℕ) → Given
+
+-- the lookups of an address may give this
+abbrev pub MayBeGiven : FileAnswers → Style → ℕ → Given → Type 0
+MayBeGiven answers style address (GivesLocation found) =
+    (asks_frames style ≡ false) × LoadsUnlessOom (λ x. x) found (answers.location_at address)
+MayBeGiven answers style address (GivesFrames frames symbol) =
+    (asks_frames style ≡ true)
+    × answers.MayGive address frames × (symbol ≡ asked_symbol style (answers.symbol_at address))
+
+-- what is given, and this where there is a fault
+abbrev pub given_or : {A : Type 0} → A → Loading A → A
+given_or other (Ok x) = x
+given_or other (Err e) = other
+
+-- the text of what was given
+abbrev pub given_text : Style → Given → List ℕ
+given_text style (GivesLocation found) = location_text style (given_or None found)
+given_text style (GivesFrames frames symbol) = frames_text style symbol (given_or [] frames)
+
+-- the line of a fault, if there is one
+abbrev pub fault_text : {A : Type 0} → List ℕ → List ℕ → ℕ → Loading A → List ℕ
+fault_text name what address (Ok x) = []
+fault_text name what address (Err e) = fault_line name what address e
+
+-- the line of the fault that was given, if one was
+abbrev pub given_fault : List ℕ → ℕ → Given → List ℕ
+given_fault name address (GivesLocation found) = fault_text name (codes "location") address found
+given_fault name address (GivesFrames frames symbol) =
+    fault_text name (codes "frames") address frames
+
+-- the text and the line of a fault, by the address that is looked up, if there is one
+abbrev pub IsAnswerAt : FileAnswers → Setup → Option ℕ → List ℕ → List ℕ → Type 0
+IsAnswerAt answers s None found fault = (found ≡ missing_text s.style None) × (fault ≡ [])
+IsAnswerAt answers s (Some address) found fault = (given : Given)
+    × MayBeGiven answers s.style address given
+    × (found ≡ given_text s.style given) × (fault ≡ given_fault s.name.now address given)
+
+-- what goes to both streams for what is asked for, if that is an address
+pub record IsText (answers : FileAnswers) (s : Setup) (probe : Option ℕ) (text : ProbeText) : Type 0 where
+  pub found : List ℕ
+  pub fault : List ℕ
+  pub given : IsAnswerAt answers s (looked_up s.section probe) found fault
+  pub out : text.out ≡ address_text s.style probe ++ (found ++ probe_end s.style)
+  pub err : text.err ≡ fault

@@ -1,0 +1,96 @@
+-- A run over a file: what goes to the two streams, and how it ends.
+-- Own: a section that isn't there, addresses that can't be collected, and debug information that
+-- can't be loaded are told on a line of standard error, and nothing is printed.
+use Rattle.std.specs.Prelude.{◌≡◌, ◌⊎◌, ℕ, List, map, Option, Some, None, option_map, Result, Ok, Err, string_bytes}
+use Rattle.gimli_read.specs.declared.range.Range.{Range}
+use Rattle.elf.specs.Loading.{Loading}
+use Rattle.elf.specs.declared.error.LoaderError.TheVariants.{OutOfMemory}
+use Rattle.addr2line_bin.specs.Put.{StreamState, Reports}
+use Rattle.addr2line_bin.specs.AllAddresses.{AreAllAddresses}
+use Rattle.addr2line_bin.specs.FileAnswers.{FileAnswers}
+use Rattle.addr2line_bin.specs.InputLines.{AreFirstLines, AreLines, InputState, line_probes}
+use Rattle.addr2line_bin.specs.Printing.{IsCutOff, PrintsOf, PrintsRun}
+use Rattle.addr2line_bin.specs.ProbeTexts.{IsText}
+use Rattle.addr2line_bin.specs.Address.{probes_in}
+use Rattle.addr2line_bin.specs.Told.{addresses_fault_text, load_fault_text, section_fault_text}
+use Rattle.addr2line_bin.specs.declared.engine.Exit.{Exit}
+use Rattle.addr2line_bin.specs.declared.engine.Exit.TheVariants as exit
+use Rattle.addr2line_bin.specs.declared.options.Options.{Options}
+use Rattle.addr2line_bin.specs.declared.options.Probes.{Probes}
+use Rattle.addr2line_bin.specs.declared.options.Probes.TheVariants as probes
+use Rattle.addr2line_bin.specs.declared.options.Setup.{Setup}
+
+-- the status that the program ends with
+abbrev pub status_at : Exit → ℕ
+status_at exit.Done = 0
+status_at exit.Failed = 1
+status_at exit.Misused = 2
+
+-- only a line of standard error is written, and the run has failed
+abbrev pub OnlyTells : StreamState → StreamState → StreamState → StreamState → List ℕ → Exit
+    → Type 0
+OnlyTells oo on eo en line e = (on ≡ oo) × Reports eo en line × (e ≡ exit.Failed)
+
+-- what the lines of an input ask for is printed: of all, or of the first ones where the run ended
+-- early
+abbrev pub PrintsLines : FileAnswers → Setup → InputState → InputState → StreamState → StreamState
+    → StreamState → StreamState → Exit → Type 0
+PrintsLines answers s io inn oo on eo en e = (lines : List (List ℕ))
+    × ((AreLines io inn lines × PrintsOf (IsText answers s) oo on eo en (line_probes lines)
+    × (e ≡ exit.Done))
+    ⊎ (AreFirstLines io lines
+    × IsCutOff (IsText answers s) s.name.now oo on eo en (line_probes lines) e))
+
+-- what the addresses of all rows ask for is printed; or memory was refused for them
+abbrev pub PrintsAllRows : FileAnswers → Setup → StreamState → StreamState → StreamState
+    → StreamState → Exit → Type 0
+PrintsAllRows answers s oo on eo en e =
+    ((addresses : List ℕ) × AreAllAddresses answers addresses
+    × PrintsRun (IsText answers s) s.name.now oo on eo en (map Some addresses) e)
+    ⊎ OnlyTells oo on eo en (addresses_fault_text s.name.now OutOfMemory) e
+
+-- what is asked for is printed
+abbrev pub PrintsAsked : FileAnswers → Setup → Probes → InputState → InputState → StreamState
+    → StreamState → StreamState → StreamState → Exit → Type 0
+PrintsAsked answers s probes.All io inn oo on eo en e = PrintsAllRows answers s oo on eo en e
+PrintsAsked answers s (probes.Words v) io inn oo on eo en e =
+    PrintsRun (IsText answers s) s.name.now oo on eo en (probes_in v.items) e
+PrintsAsked answers s probes.Lines io inn oo on eo en e =
+    PrintsLines answers s io inn oo on eo en e
+
+-- the addresses of a section, or its name where it isn't there
+abbrev pub section_or_name : List ℕ → Option Range → Result (Option Range) (List ℕ)
+section_or_name name None = Err name
+section_or_name name (Some range) = Ok (Some range)
+
+-- the same of the section that is named, none where none is
+abbrev pub section_by : FileAnswers → Option (List ℕ) → Result (Option Range) (List ℕ)
+section_by answers None = Ok None
+section_by answers (Some name) = section_or_name name (answers.section_at name)
+
+-- a setup is that of options, with the addresses of their section
+pub record IsSetup (o : Options) (section : Option Range) (s : Setup) : Type 0 where
+  pub name : s.name.now ≡ string_bytes o.name
+  pub style : s.style ≡ o.style
+  pub range : s.section ≡ section
+
+-- a run by the section that is named, if it is there
+abbrev pub RunsBy : Result (Option Range) (List ℕ) → FileAnswers → Options → InputState → InputState
+    → StreamState → StreamState → StreamState → StreamState → Exit → Type 0
+RunsBy (Err name) answers o io inn oo on eo en e =
+    OnlyTells oo on eo en (section_fault_text (string_bytes o.name) name) e
+RunsBy (Ok section) answers o io inn oo on eo en e = (s : Setup)
+    × IsSetup o section s × PrintsAsked answers s o.probes io inn oo on eo en e
+
+-- a run over a file
+abbrev pub RunsOver : FileAnswers → Options → InputState → InputState → StreamState → StreamState
+    → StreamState → StreamState → Exit → Type 0
+RunsOver answers o io inn oo on eo en e =
+    RunsBy (section_by answers (option_map string_bytes o.section)) answers o io inn oo on eo en e
+
+-- the same, or the fault of its loading is told
+abbrev pub IsRun : {L : Type 0} → (L → FileAnswers) → Loading L → Options → InputState → InputState
+    → StreamState → StreamState → StreamState → StreamState → Exit → Type 0
+IsRun answers (Ok file) o io inn oo on eo en e = RunsOver (answers file) o io inn oo on eo en e
+IsRun answers (Err fault) o io inn oo on eo en e =
+    OnlyTells oo on eo en (load_fault_text (string_bytes o.name) fault) e

@@ -1,0 +1,88 @@
+//! Inputs that lines are read from.
+
+ghost use Rattle.std.specs.Prelude.{◌≡◌, false, if◌then◌else◌};
+ghost use Rattle.std.specs.Io.BufRead.{ends_with_byte, strip_last};
+
+use std::alloc::AllocError;
+use std::io::{BufRead, ErrorKind};
+
+/// An input that lines are read from.
+pub trait Input {
+    ghost use Rattle.std.specs.Prelude.{IfOk};
+    ghost use Rattle.addr2line_bin.specs.InputLines.{InputState, ReadsLine};
+
+    /// The bytes that are left, and whether a read has failed.
+    ghost state: { Self → InputState };
+
+    /// Reads the next line, without its end, in place of what `line` has; whether there is one.
+    fn read_line(&mut self, line: &mut Vec<u8>) -> Result<bool, AllocError>
+        ensures gives { IfOk result (λ is_read.
+            ReadsLine is_read (state self.old) (state self.new) line.new.items) };
+}
+
+/// A reader as an input.
+#[derive(Drop)]
+pub struct Lines<R: BufRead> {
+    reader: R,
+    has_fault: bool,
+}
+
+impl<R: BufRead> Lines<R> {
+    /// An input no read of which has failed.
+    pub fn new(reader: R) -> Lines<R>
+        ensures gives { result ≡ record { reader = reader; has_fault = false } }
+    {
+        Lines {
+            reader,
+            has_fault: false,
+        }
+    }
+}
+
+// Cuts the last byte if it is this one; whether it was.
+fn cut_last(bytes: &mut Vec<u8>, byte: u8) -> bool
+    ensures was { result ≡ ends_with_byte byte bytes.old.items }
+    ensures cuts { bytes.new.items ≡ strip_last byte bytes.old.items }
+{
+    let count = bytes.len();
+    if count == 0 {
+        return false;
+    }
+    if bytes[count - 1] != byte {
+        return false;
+    }
+    bytes.truncate(count - 1);
+    true
+}
+
+// Cuts a line feed at the end, and a carriage return before it.
+fn cut_line_end(line: &mut Vec<u8>)
+    ensures cuts { line.new.items ≡ (if ends_with_byte 10 line.old.items
+        then strip_last 13 (strip_last 10 line.old.items) else line.old.items) }
+{
+    if cut_last(line, b'\n') {
+        cut_last(line, b'\r');
+    }
+}
+
+impl<R: BufRead> Input for Lines<R> {
+    ghost state = { λ s. record { bytes = R.remaining s.reader; has_fault = s.has_fault } };
+
+    fn read_line(&mut self, line: &mut Vec<u8>) -> Result<bool, AllocError> {
+        line.clear();
+        match self.reader.read_until(b'\n', line) {
+            Ok(0) => Ok(false),
+            Ok(_) => {
+                cut_line_end(line);
+                Ok(true)
+            }
+            Err(error) => match error.kind() {
+                ErrorKind::OutOfMemory => Err(AllocError),
+                _ => {
+                    self.has_fault = true;
+                    Ok(false)
+                }
+            },
+        }
+    }
+}

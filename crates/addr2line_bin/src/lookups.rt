@@ -1,0 +1,55 @@
+//! The lookups that the program makes.
+
+use addr2line::gimli::read::EndianBytes;
+use addr2line::{FrameIter, LoaderError, Location, LocationRangeIter, Range};
+
+/// A file that answers lookups.
+pub trait Lookups {
+    ghost use Rattle.std.specs.Prelude.{◌≡◌, IfErr, IfOk, Ok, option_map};
+    ghost use Rattle.std.specs.Borrow.{sem};
+    ghost use Rattle.std.specs.Io.BufRead.{Rests};
+    ghost use Rattle.elf.specs.Loading.{LoadsUnlessOom};
+    ghost use Rattle.elf.specs.declared.error.LoaderError.TheVariants.{OutOfMemory};
+    ghost use Rattle.addr2line_lines.specs.Rows.{result_map};
+    ghost use Rattle.addr2line_lines.specs.SeenLocation.{seen_location};
+    ghost use Rattle.addr2line_units.specs.FramesLeft.{frames_left};
+    ghost use Rattle.addr2line_units.specs.LocationsLeft.{locations_left};
+    ghost use Rattle.addr2line_bin.specs.FileAnswers.{FileAnswers, StaysAnswered};
+
+    /// What it answers.
+    ghost answers: { Self → FileAnswers };
+
+    /// The location of an address.
+    fn find_location(&mut self, probe: u64) -> Result<Option<Location<'_>>, LoaderError>
+        ensures gives { LoadsUnlessOom (option_map seen_location) result
+            ((answers self.old).location_at probe) }
+        ensures* kept { sem 𝓛 (Rests Self.row self.entry
+            (λ new. StaysAnswered (answers self.old) (answers new))) };
+
+    /// The frames of an address.
+    fn find_frames(&mut self, probe: u64) -> Result<FrameIter<'_, EndianBytes>, LoaderError>
+        ensures gives { (answers self.old).MayGive probe (result_map frames_left result) }
+        ensures* kept { sem 𝓛 (Rests Self.row self.entry
+            (λ new. StaysAnswered (answers self.old) (answers new))) };
+
+    /// The rows that a range of addresses meets. Refused `OutOfMemory` alone.
+    fn find_location_range(
+        &mut self,
+        low: u64,
+        high: u64,
+    ) -> Result<LocationRangeIter<'_, EndianBytes>, LoaderError>
+        ensures gives { IfOk result (λ rows. (answers self.old).spans_in low high
+            ≡ Ok (locations_left rows)) }
+        ensures refused { IfErr result (λ e. e ≡ OutOfMemory) }
+        ensures* kept { sem 𝓛 (Rests Self.row self.entry
+            (λ new. StaysAnswered (answers self.old) (answers new))) };
+
+    /// The name of the symbol of an address.
+    fn find_symbol(&self, probe: u64) -> Option<&str>
+        ensures gives { option_map (λ name. name.now) result
+            ≡ (answers self.now).symbol_at probe };
+
+    /// The addresses of the first section of a name.
+    fn get_section_range(&self, name: &[u8]) -> Option<Range>
+        ensures gives { result ≡ (answers self.now).section_at name.now };
+}

@@ -1,0 +1,102 @@
+//! Printing of addresses that are asked for one after another.
+
+ghost use Rattle.std.specs.Prelude.{◌≡◌, ◌∷◌, [], ℕ, List, Some, map};
+ghost use Rattle.addr2line_bin.specs.FileAnswers.{StaysAnswered};
+ghost use Rattle.addr2line_bin.specs.InputLines.{AreLinesUnlessStopped, line_probes};
+ghost use Rattle.addr2line_bin.specs.Printing.{PrintsUnlessStopped};
+ghost use Rattle.addr2line_bin.specs.ProbeTexts.{IsText};
+ghost use Rattle.addr2line_bin.specs.Address.{probes_in};
+
+use crate::address::address_of;
+use crate::input::Input;
+use crate::lookups::Lookups;
+use crate::options::Setup;
+use crate::probe_text::{Texts, make_texts};
+use crate::stream::{Stop, Stream, send, tell};
+use std::str;
+
+// Prints what is asked for.
+fn step<L: Lookups, W: Stream, E: Stream>(
+    texts: &mut Texts,
+    setup: &Setup<'_>,
+    lookups: &mut L,
+    probe: Option<u64>,
+    out: &mut W,
+    err: &mut E,
+) -> Result<(), Stop>
+    ensures kept { StaysAnswered (L.answers lookups.old) (L.answers lookups.new) }
+    ensures gives { PrintsUnlessStopped (IsText (L.answers lookups.old) setup.now)
+        (W.state out.old) (W.state out.new) (E.state err.old) (E.state err.new)
+        (probe ∷ []) result }
+{
+    make_texts(texts, setup, lookups, probe)?;
+    tell(err, texts.err.as_str());
+    send(out, texts.out.as_str())
+}
+
+/// Prints what the words ask for.
+pub fn print_words<L: Lookups, W: Stream, E: Stream>(
+    setup: &Setup<'_>,
+    lookups: &mut L,
+    words: &[String],
+    out: &mut W,
+    err: &mut E,
+) -> Result<(), Stop>
+    ensures gives { PrintsUnlessStopped (IsText (L.answers lookups.old) setup.now)
+        (W.state out.old) (W.state out.new) (E.state err.old) (E.state err.new)
+        (probes_in words.now) result }
+{
+    let mut texts = Texts::new(setup.alloc);
+    for word in words {
+        let probe = address_of(word.as_str());
+        step(&mut texts, setup, lookups, probe, out, err)?;
+    }
+    Ok(())
+}
+
+/// Prints what addresses ask for.
+pub fn print_addresses<L: Lookups, W: Stream, E: Stream>(
+    setup: &Setup<'_>,
+    lookups: &mut L,
+    addresses: &[u64],
+    out: &mut W,
+    err: &mut E,
+) -> Result<(), Stop>
+    ensures gives { PrintsUnlessStopped (IsText (L.answers lookups.old) setup.now)
+        (W.state out.old) (W.state out.new) (E.state err.old) (E.state err.new)
+        (map Some addresses.now) result }
+{
+    let mut texts = Texts::new(setup.alloc);
+    for address in addresses {
+        step(&mut texts, setup, lookups, Some(*address), out, err)?;
+    }
+    Ok(())
+}
+
+/// Prints what the lines of an input ask for, each before the next is read.
+pub fn print_lines<L: Lookups, I: Input, W: Stream, E: Stream>(
+    setup: &Setup<'_>,
+    lookups: &mut L,
+    input: &mut I,
+    out: &mut W,
+    err: &mut E,
+) -> Result<(), Stop>
+    ensures gives { (lines : List (List ℕ))
+        × AreLinesUnlessStopped (I.state input.old) (I.state input.new) lines result
+        × PrintsUnlessStopped (IsText (L.answers lookups.old) setup.now)
+        (W.state out.old) (W.state out.new) (E.state err.old) (E.state err.new)
+        (line_probes lines) result }
+{
+    let mut texts = Texts::new(setup.alloc);
+    let mut line = Vec::new(setup.alloc);
+    for _ in 0..u64::MAX {
+        if !input.read_line(&mut line)? {
+            return Ok(());
+        }
+        let Ok(text) = str::from_utf8(line.as_slice()) else {
+            return Ok(());
+        };
+        step(&mut texts, setup, lookups, address_of(text), out, err)?;
+    }
+    Ok(())
+}

@@ -1,0 +1,216 @@
+//! A run over a file: what is asked for, printed.
+
+ghost use Rattle.std.specs.Prelude.{◌≡◌, map, Ok, Err, Option, Some, option_map, string_bytes};
+ghost use Rattle.elf.specs.declared.error.LoaderError.TheVariants.{OutOfMemory};
+ghost use Rattle.addr2line_bin.specs.Printing.{PrintsRun};
+ghost use Rattle.addr2line_bin.specs.ProbeTexts.{IsText};
+ghost use Rattle.addr2line_bin.specs.ProgramRun.{IsRun, IsSetup, PrintsAllRows, PrintsAsked};
+ghost use Rattle.addr2line_bin.specs.ProgramRun.{PrintsLines, RunsOver, section_by};
+ghost use Rattle.addr2line_bin.specs.Put.{Reports};
+ghost use Rattle.addr2line_bin.specs.Address.{probes_in};
+ghost use Rattle.addr2line_bin.specs.Told.{addresses_fault_text, section_fault_text};
+ghost use Rattle.addr2line_bin.specs.declared.engine.Exit.TheVariants as exit;
+ghost use Rattle.addr2line_lines.specs.Rows.{result_map};
+ghost use Rattle.std.specs.Result.{result_map_both};
+
+use crate::all_addresses::all_addresses;
+use crate::engine::{Exit, tell_last, tell_load_fault};
+use crate::input::Input;
+use crate::lookups::Lookups;
+use crate::options::{Options, Probes, Setup};
+use crate::printing::{print_addresses, print_lines, print_words};
+use crate::stream::{Stream, tell_both};
+use addr2line::{LoaderError, Range};
+use std::alloc::Global;
+
+// Writes that a section isn't there.
+#[tactic(auto, using(crate::proofs::Parts::sends_on))]
+fn tell_no_section<E: Stream>(name: &str, section: &str, err: &mut E) -> Exit
+    ensures err { Reports (E.state err.old) (E.state err.new)
+        (section_fault_text name.now section.now) }
+    ensures exit { result ≡ exit.Failed }
+{
+    tell_both(err, name, ": cannot find section ");
+    tell_both(err, section, "\n");
+    Exit::Failed
+}
+
+// Writes why the addresses of all rows can't be found.
+fn tell_addresses_fault<E: Stream>(name: &str, fault: LoaderError, err: &mut E) -> Exit
+    ensures err { Reports (E.state err.old) (E.state err.new)
+        (addresses_fault_text name.now fault) }
+    ensures exit { result ≡ exit.Failed }
+{
+    tell_both(err, name, ": failed to find all addresses: ");
+    tell_both(err, fault.text(), "\n");
+    Exit::Failed
+}
+
+// Prints what the words ask for.
+fn run_words<L: Lookups, W: Stream, E: Stream>(
+    setup: &Setup<'_>,
+    lookups: &mut L,
+    words: &[String],
+    out: &mut W,
+    err: &mut E,
+) -> Exit
+    ensures gives { PrintsRun (IsText (L.answers lookups.old) setup.now) setup.now.name.now
+        (W.state out.old) (W.state out.new) (E.state err.old) (E.state err.new)
+        (probes_in words.now) result }
+{
+    match print_words(setup, lookups, words, out, err) {
+        Ok(()) => Exit::Done,
+        Err(stop) => tell_last(setup.name, stop, err),
+    }
+}
+
+// Prints what addresses ask for.
+fn run_addresses<L: Lookups, W: Stream, E: Stream>(
+    setup: &Setup<'_>,
+    lookups: &mut L,
+    addresses: &[u64],
+    out: &mut W,
+    err: &mut E,
+) -> Exit
+    ensures gives { PrintsRun (IsText (L.answers lookups.old) setup.now) setup.now.name.now
+        (W.state out.old) (W.state out.new) (E.state err.old) (E.state err.new)
+        (map Some addresses.now) result }
+{
+    match print_addresses(setup, lookups, addresses, out, err) {
+        Ok(()) => Exit::Done,
+        Err(stop) => tell_last(setup.name, stop, err),
+    }
+}
+
+// Prints what the lines of an input ask for.
+fn run_lines<L: Lookups, I: Input, W: Stream, E: Stream>(
+    setup: &Setup<'_>,
+    lookups: &mut L,
+    input: &mut I,
+    out: &mut W,
+    err: &mut E,
+) -> Exit
+    ensures gives { PrintsLines (L.answers lookups.old) setup.now
+        (I.state input.old) (I.state input.new) (W.state out.old) (W.state out.new)
+        (E.state err.old) (E.state err.new) result }
+{
+    match print_lines(setup, lookups, input, out, err) {
+        Ok(()) => Exit::Done,
+        Err(stop) => tell_last(setup.name, stop, err),
+    }
+}
+
+// Prints what the addresses of all rows ask for.
+fn run_all<L: Lookups, W: Stream, E: Stream>(
+    setup: &Setup<'_>,
+    lookups: &mut L,
+    out: &mut W,
+    err: &mut E,
+) -> Exit
+    ensures gives { PrintsAllRows (L.answers lookups.old) setup.now
+        (W.state out.old) (W.state out.new) (E.state err.old) (E.state err.new) result }
+{
+    match all_addresses(setup.alloc, lookups) {
+        Ok(addresses) => run_addresses(setup, lookups, addresses.as_slice(), out, err),
+        Err(fault) => tell_addresses_fault(setup.name, fault, err),
+    }
+}
+
+// Prints what is asked for.
+fn run_asked<L: Lookups, I: Input, W: Stream, E: Stream>(
+    setup: &Setup<'_>,
+    probes: &Probes,
+    lookups: &mut L,
+    input: &mut I,
+    out: &mut W,
+    err: &mut E,
+) -> Exit
+    ensures gives { PrintsAsked (L.answers lookups.old) setup.now probes.now
+        (I.state input.old) (I.state input.new) (W.state out.old) (W.state out.new)
+        (E.state err.old) (E.state err.new) result }
+{
+    match probes {
+        Probes::All => run_all(setup, lookups, out, err),
+        Probes::Words(words) => run_words(setup, lookups, words.as_slice(), out, err),
+        Probes::Lines => run_lines(setup, lookups, input, out, err),
+    }
+}
+
+// The addresses of the section that is named, if one is, or its name where it isn't there.
+fn section_of<'a, L: Lookups>(
+    section: &'a Option<String>,
+    lookups: &L,
+) -> Result<Option<Range>, &'a str>
+    ensures gives { result_map_both (λ r. r) (λ name. name.now) result
+        ≡ section_by (L.answers lookups.now) (option_map string_bytes section.entry.now) }
+{
+    let Some(name) = section else {
+        return Ok(None);
+    };
+    match lookups.get_section_range(name.as_bytes()) {
+        Some(range) => Ok(Some(range)),
+        None => Err(name.as_str()),
+    }
+}
+
+// What is the same for each address.
+fn setup_of<'a>(alloc: Global, options: &'a Options, section: Option<Range>) -> Setup<'a>
+    ensures gives { IsSetup options.entry.now section result }
+{
+    Setup {
+        alloc,
+        name: options.name.as_str(),
+        style: options.style,
+        section,
+    }
+}
+
+// Prints what is asked of a file.
+fn run_over<L: Lookups + Drop, I: Input, W: Stream, E: Stream>(
+    alloc: Global,
+    options: &Options,
+    lookups: L,
+    input: &mut I,
+    out: &mut W,
+    err: &mut E,
+) -> Exit
+    ensures gives { RunsOver (L.answers lookups) options.now
+        (I.state input.old) (I.state input.new) (W.state out.old) (W.state out.new)
+        (E.state err.old) (E.state err.new) result }
+{
+    let mut lookups = lookups;
+    match section_of(&options.section, &lookups) {
+        Ok(section) => run_asked(
+            &setup_of(alloc, options, section),
+            &options.probes,
+            &mut lookups,
+            input,
+            out,
+            err,
+        ),
+        Err(name) => tell_no_section(options.name.as_str(), name, err),
+    }
+}
+
+/// Prints what is asked of a file, or why its debug information can't be loaded.
+///
+/// What goes to `out` is the joined texts of what is asked for, each with a flush, or a beginning of
+/// them after a failed write or a refused growth; then the last line on standard error says so, but
+/// for a broken pipe. All of each fault's line goes to `err`, unless that has failed.
+pub fn run<L: Lookups + Drop, I: Input, W: Stream, E: Stream>(
+    alloc: Global,
+    options: &Options,
+    loader: Result<L, LoaderError>,
+    input: &mut I,
+    out: &mut W,
+    err: &mut E,
+) -> Exit
+    ensures gives { IsRun L.answers loader options.now
+        (I.state input.old) (I.state input.new) (W.state out.old) (W.state out.new)
+        (E.state err.old) (E.state err.new) result }
+{
+    match loader {
+        Ok(lookups) => run_over(alloc, options, lookups, input, out, err),
+        Err(fault) => tell_load_fault(options.name.as_str(), fault, err),
+    }
+}

@@ -9,3 +9,4 @@ pub mod AddressLemmas
 pub mod FrameLemmas
 pub mod LineLemmas
 pub mod AddressListLemmas
+pub mod LoaderLemmas

@@ -89,7 +89,7 @@ pub found_same : (faults : Faults) (probe n : ℕ) (old mid : ContextState) → 
     → unit_stop faults mid.sections mid.answers probe ≡ Ok (units.Finds n)
 found_same faults probe n old mid s a e = ap (λ x. unit_stop faults x mid.answers probe) s ∙ ap (λ x. unit_stop faults old.sections x probe) a ∙ e
 
--- the same of another result that is refused for want of memory where this one is
+-- the same of another result that is refused memory where this one is
 pub same_after : {X Y : Type 0} (faults : Faults) (probe : ℕ) (old new : ContextState) (r : Result Y Error) (s : Result X Error) → (IsNotOom s → IsNotOom r) → (IsNotOom r → IsNotOom s) → AfterFrames faults probe r old new → AfterFrames faults probe s old new
 same_after faults probe old new r s back on a = record {
   sections = a.sections;
@@ -119,7 +119,7 @@ outputs_exact reading see probe old mid (Output (Err e)) s a never h = absurd ne
 outputs_exact reading see probe old mid (Output (Ok x)) s a never h =
     subst (λ d. reading d old.answers probe ≡ Ok (see x)) s (subst (λ q. reading mid.sections q probe ≡ Ok (see x)) a h)
 
--- nor for want of memory
+-- nor where memory is refused
 pub outputs_told : {L X D S : Type 0} (P : Error → Type 0) (result : LookupResult L (Result X Error) D S) → IfOutput result (λ o. IfErr o (λ e. ⊥)) → IfOutput result (λ o. IfErr o P)
 outputs_told P (Load c) never = tt
 outputs_told P (Output (Ok x)) never = tt

@@ -20,7 +20,7 @@ use Rattle.addr2line.specs.Files.{Files}
 use Rattle.addr2line.specs.FramesByFiles.{frames_by, frames_by_files, stop_frames}
 use Rattle.addr2line.specs.History.{Given, Gives}
 use Rattle.addr2line.specs.KeptStops.{by_number, unit_stop}
-use Rattle.addr2line.specs.Loader.{AfterAnswers, AfterLoads, AnswersInTurn, AnswersOne, IsFaultByFiles, LoaderState, StayAnswered}
+use Rattle.addr2line.specs.Loader.{AfterAnswers, AfterLoads, AnswersInTurn, AnswersOne, IsFaultByFiles, LoaderState, StayAnswered, WaitsForNone}
 use Rattle.addr2line.specs.Lookups.{AfterFrames, IsLoadOf, frames_of, frames_told, lookup_stop}
 use Rattle.addr2line.specs.SplitFiles.{given_by}
 use Rattle.addr2line.proofs.FilesLookupLemmas.{first_answers_stay, frames_ended, frames_stay, refused_frames}
@@ -139,6 +139,13 @@ failed_stop : (e : Error) (r : Result Stop Error) → (r >>= λ s. Ok (by_number
 failed_stop e (Ok s) h = absurd cc
 failed_stop e (Err f) h = (refl, cc)
 
+-- what a lookup reads doesn't decide whether it waits
+pub still_ended : {X : Type 0} (probe : ℕ) (r : Result X Error) (old new : ContextState) → AfterFrames End probe r old new → WaitsForNone old probe → WaitsForNone new probe
+still_ended probe r old new a w =
+    ap (λ d. is_waiting (lookup_stop End d new.answers probe)) a.sections
+    ∙ ap (λ x. is_waiting (lookup_stop End old.sections x probe)) a.answers
+    ∙ w
+
 -- a fault that ends a lookup is one by the files
 pub stop_fault : (files : Option Files) (c : ContextState) (probe : ℕ) (e : Error) → (loader_error_of e ≢ OutOfMemory → unit_stop End c.sections c.answers probe ≡ Err e) → IsFaultByFiles files c probe (loader_error_of e)
 stop_fault files c probe e h = always files by
@@ -175,7 +182,7 @@ module _ (files : Option Files) (probe : ℕ) (first mid : ContextState) (a : Af
         (λ held p ne. sym (p probe) ∙ frames_ended (given_by held) mid.sections mid.answers probe ended ∙ failed_told e (lookup_stop End mid.sections mid.answers probe) (h ne))
 
   -- the loader after its lookup
-  module _ {X : Type 0} (object : ObjectFile) (r : Result X Error) (new : ContextState) (b : AfterFrames End probe r mid new) (t : AnswersInTurn probe first mid) where
+  module _ {X : Type 0} (object : ObjectFile) (r : Result X Error) (new : ContextState) (b : AfterFrames End probe r mid new) (t : AnswersInTurn probe first mid) (ended : WaitsForNone mid probe) where
     abbrev loader : ContextState → LoaderState
     loader c = record { files = files; object = object; context = c }
 
@@ -185,6 +192,7 @@ module _ (files : Option Files) (probe : ℕ) (first mid : ContextState) (a : Af
       object = refl;
       context = then_answered files first mid new a (after_look files probe r mid new b);
       in_turn = still_in_turn r new t b;
+      ended = λ _. still_ended probe r mid new b ended;
       ready = b.ready (subst (λ (y : Result X Error). IsNotOom y) (sym is) tt);
     }
 
@@ -194,5 +202,6 @@ module _ (files : Option Files) (probe : ℕ) (first mid : ContextState) (a : Af
       object = refl;
       context = then_answered files first mid new a (after_look files probe r mid new b);
       in_turn = still_in_turn r new t b;
+      ended = λ _. still_ended probe r mid new b ended;
       ready = tt;
     }

@@ -17,13 +17,12 @@ use Rattle.addr2line_units.specs.CachedLines.{parsed_units}
 use Rattle.addr2line_units.specs.Cover.{cover}
 use Rattle.addr2line_units.specs.FramesLookup.{answer_of, asked_frames, main_scope, stop_along, with_answer}
 use Rattle.addr2line_units.specs.FunctionParseLaws.{IsReached}
-use Rattle.addr2line_units.specs.FunctionParses.{AreFirstDecided, AreReadBefore, answers_after, read_of_units}
+use Rattle.addr2line_units.specs.FunctionParses.{AreFirstDecided, AreReadBefore, AreReadyFor, answers_after, read_of_units}
 use Rattle.addr2line_units.specs.KeptEntries.{has_entries}
 use Rattle.addr2line_units.specs.KeptLookups.{StayAllEntries, answers_in, decided_at, has_entries_at, scope_in}
 use Rattle.addr2line_units.specs.KeptParses.{ChangesOnly, HaveRead, StayDecided}
 use Rattle.addr2line_units.specs.KnownEntries.{known_in, knows_at}
-use Rattle.addr2line_units.specs.LoadLaws.{is_open_at}
-use Rattle.addr2line_units.specs.Loads.{AreSettled, forget_result, forgotten, is_settled_at, load_of_number, load_result, loads_along}
+use Rattle.addr2line_units.specs.Loads.{AreSettled, forget_result, forgotten, is_open_at, load_of_number, load_result, loads_along}
 use Rattle.addr2line_units.specs.Parsed.{IsNotOom}
 use Rattle.addr2line_units.specs.UnitIndex.{UnitIndex, unit_records}
 use Rattle.addr2line_units.proofs.KeptLookupLemmas.{as_many_entries, entries_more_at}
@@ -38,7 +37,7 @@ use Rattle.addr2line.proofs.LookupLemmas.{as_many_lines, scope_is}
 use Rattle.addr2line.proofs.NewContextLemmas.{ok_is}
 use Rattle.addr2line.proofs.ParseLemmas.{answered_is_decided, decided_more, known_is_decided, none_asked, read_after, read_before}
 use Rattle.addr2line.specs.Context.{ContextState, IsContext, index_by}
-use Rattle.addr2line.specs.Loads.{AfterForget, AfterLoad, AfterParse, AfterPreload, AreSettledAt, IsAllKnown, IsSettled, ReachesAllOf, StaysRead, forget_reply, load_reply, parse_reply, parsed_answers}
+use Rattle.addr2line.specs.Loads.{AfterForget, AfterLoad, AfterParse, AfterPreload, AreSettledAt, IsAllKnown, IsReadyToRead, IsSettled, ReachesAllOf, StaysRead, forget_reply, load_reply, parse_reply, parsed_answers}
 use Rattle.addr2line.specs.Lookups.{StaysKnown, loads_of, lookup_stop}
 
 module _ {R : Type 0} (d : Sections) (us : List UnitRecord) (old : List ResUnit) (held : List (UnitEntries R)) (ranges : List UnitRange) (sup : SupUnits R) (i : IsContext d us old held ranges sup.units.items sup.dwarf) where
@@ -59,11 +58,11 @@ module _ {R : Type 0} (d : Sections) (us : List UnitRecord) (old : List ResUnit)
   pub listed_are : (probe : ℕ) → loads_of d (answers_in held) probe ≡ loads_along (load_of_number d us (answers_in held)) (cover probe ranges)
   listed_are probe = loads_are d us old held ranges sup i (answers_in held) probe
 
-  pub settled_is : (n looks : ℕ) → IsSettled (record { sections = d; answers = answers_in held; parsed = parsed_units old; known = known_in held; looks = looks }) n → is_settled_at us (answers_in held) n ≡ true
-  settled_is n looks h = subst (λ xs. is_settled_at xs (answers_in held) n ≡ true) same_units (h made i.made_is)
+  pub settled_is : (n looks : ℕ) → IsSettled (record { sections = d; answers = answers_in held; parsed = parsed_units old; known = known_in held; looks = looks }) n → is_open_at d us (answers_in held) n ≡ false
+  settled_is n looks h = subst (λ xs. is_open_at d xs (answers_in held) n ≡ false) same_units (h made i.made_is)
 
-  pub settled_are : (probe looks : ℕ) → AreSettledAt (record { sections = d; answers = answers_in held; parsed = parsed_units old; known = known_in held; looks = looks }) probe → AreSettled us (answers_in held) (cover probe ranges)
-  settled_are probe looks h = subst (λ xs. AreSettled xs (answers_in held) (cover probe ranges)) same_units (h made i.made_is)
+  pub settled_are : (probe looks : ℕ) → AreSettledAt (record { sections = d; answers = answers_in held; parsed = parsed_units old; known = known_in held; looks = looks }) probe → AreSettled d us (answers_in held) (cover probe ranges)
+  settled_are probe looks h = subst (λ xs. AreSettled d xs (answers_in held) (cover probe ranges)) same_units (h made i.made_is)
 
   pub parse_is : (reads : Reads) → parse_reply reads d (answers_in held) ≡ read_of_units reads (scope_in d us sup) us (answers_in held)
   parse_is reads =
@@ -128,8 +127,10 @@ module _ {R : Type 0} (d : Sections) (us : List UnitRecord) (old : List ResUnit)
 
     pub after_parse : (reads : Reads) (result : Result (Unit {0}) Error) → (IsNotOom result → answers_in entries ≡ answers_after reads (scope_in d us sup) us (answers_in held)) → AreFirstDecided reads (scope_in d us sup) us (answers_in held) (answers_in entries)
         → StayDecided held entries → OnOk result (HaveRead reads entries) → (HaveRead reads held → result ≡ Ok tt)
-        → ChangesOnly (AreReadBefore reads (scope_in d us sup) us (answers_in held)) held entries → AfterParse reads result before after
-    after_parse reads result answers begun stay read memory only = record {
+        → ChangesOnly (AreReadBefore reads (scope_in d us sup) us (answers_in held)) held entries → (IsNotOom result → AreReadyFor reads (scope_in d us sup) us (answers_in entries) (known_in entries))
+        → (AreReadyFor reads (scope_in d us sup) us (answers_in held) (known_in held) → result ≡ read_of_units reads (scope_in d us sup) us (answers_in held))
+        → (AreReadyFor reads (scope_in d us sup) us (answers_in held) (known_in held) → entries ≡ held) → AfterParse reads result before after
+    after_parse reads result answers begun stay read memory only ready exact unchanged = record {
       stays = stays_read;
       answers = λ told. answers told ∙ sym (parsed_is reads);
       begun = λ m e. subst (λ x. AreFirstDecided reads (main_scope d x) (unit_records x.units) (answers_in held) (answers_in entries)) (ok_is _ _ (sym i.made_is ∙ e))
@@ -143,7 +144,18 @@ module _ {R : Type 0} (d : Sections) (us : List UnitRecord) (old : List ResUnit)
           ]);
       read = read_after reads result entries read;
       memory = λ all. memory (read_before reads held all);
+      ready = λ told. λ m e. subst (λ x. AreReadyFor reads (main_scope d x) (unit_records x.units) (answers_in entries) (known_in entries)) (ok_is _ _ (sym i.made_is ∙ e))
+          (subst (λ xs. AreReadyFor reads (main_scope d made) xs (answers_in entries) (known_in entries)) (sym same_units) (subst (λ s. AreReadyFor reads s us (answers_in entries) (known_in entries)) (scope_is d us old held ranges sup i) (ready told)));
+      exact = λ known. exact (were_ready reads known) ∙ sym (parse_is reads);
+      same = λ known.
+          ap (λ vs. record { sections = d; answers = answers_in vs; parsed = parsed_units new; known = known_in vs; looks = looks }) (unchanged (were_ready reads known))
+          ∙ ap (λ rs. record { sections = d; answers = answers_in held; parsed = parsed_units rs; known = known_in held; looks = looks }) same;
     }
+      where
+        were_ready : (r : Reads) → IsReadyToRead r before → AreReadyFor r (scope_in d us sup) us (answers_in held) (known_in held)
+        were_ready r h =
+            subst (λ s. AreReadyFor r s us (answers_in held) (known_in held)) (sym (scope_is d us old held ranges sup i))
+            (subst (λ xs. AreReadyFor r (main_scope d made) xs (answers_in held) (known_in held)) same_units (h made i.made_is))
 
     pub all_known : (reads : Reads) (result : Result (Unit {0}) Error) → (reads ≡ kinds.Details → OnOk result ((probe n : ℕ) → has_entries_at probe entries n ≡ true)) → reads ≡ kinds.Details → OnOk result (IsAllKnown after)
     all_known reads (Ok x) found e = λ probe n. known_is probe entries n ∙ found e probe n

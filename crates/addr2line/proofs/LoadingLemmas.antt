@@ -1,6 +1,6 @@
 -- Answers about a file, by what its bytes give (on specs/Loading.antt of elf, specs/SplitFiles.antt
 -- and specs/Loaded.antt).
-use Rattle.std.proofs.Common.{◌≡◌, ◌≢◌, Bool, true, Option, Some, None, Result, Ok, Err, ap, refl, sym, ◌∙◌}
+use Rattle.std.proofs.Common.{◌≡◌, ◌≢◌, inl, Bool, true, Option, Some, None, Result, Ok, Err, ap, refl, sym, ◌∙◌}
 use Rattle.std.specs.Prelude.{IfErr, IfSome, option_map}
 use Rattle.gimli_read.specs.declared.error.Error.{Error}
 use Rattle.gimli_read.specs.declared.error.Error.TheVariants as reading
@@ -9,6 +9,7 @@ use Rattle.elf.specs.declared.error.LoaderError.{LoaderError}
 use Rattle.elf.specs.declared.error.LoaderError.TheVariants.{OutOfMemory}
 use Rattle.elf.specs.Loading.{Loading, LoadsUnlessOom, LoadsUnlessOomFor}
 use Rattle.elf.specs.Text.{loader_error_of}
+use Rattle.addr2line.specs.Loader.{LeavesOpen}
 use Rattle.addr2line.specs.SplitFiles.{of_file}
 
 -- whatever takes memory
@@ -24,6 +25,11 @@ no_oom e ne q = ne (ap loader_error_of q)
 pub as_loading : {X Y : Type 0} (see : X → Y) (r : Result X Error) (given : Result Y Error) → ExactlyUnlessOom see r given → LoadsUnlessOom see (of_file r) (of_file given)
 as_loading see (Ok x) given h = ap of_file h
 as_loading see (Err e) given h = λ ne. ap of_file (h (no_oom e ne))
+
+-- OutOfMemory leaves a unit open
+pub or_oom : {X : Type 0} (r : Loading X) → IfErr r (λ e. e ≡ OutOfMemory) → IfErr r LeavesOpen
+or_oom (Ok x) h = tt
+or_oom (Err e) h = inl h
 
 -- both of two sources are known
 pub if_some_both : {X : Type 0} (o : Option X) {P Q R : X → Type 0} → IfSome o P → IfSome o Q → ((x : X) → P x → Q x → R x) → IfSome o R

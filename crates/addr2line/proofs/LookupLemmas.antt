@@ -275,7 +275,7 @@ module _ {R : Type 0} (units : List ResUnit) (views : List (UnitEntries R)) wher
       by (Finds n frames) k = refl
       by FindsNothing k = refl
 
--- it is refused for want of memory where the lookup is
+-- it is refused memory where the lookup is
 pub oom_told : {X Y : Type 0} (f : X → Y) (r : Result X Error) → IsNotOom (r >>= λ x. Ok (f x)) → IsNotOom r
 oom_told f (Ok x) h = h
 oom_told f (Err e) h = h
@@ -296,7 +296,7 @@ passes_over scope units answers probe [] e h = cc
 passes_over scope units answers probe (r ∷ ranges) e h =
     passes_step r.unit (stop_along (asked_frames PassOver scope units answers probe) ranges) e (frames_of_number scope units answers probe r.unit) (passes_over scope units answers probe ranges e) h
 
--- so a lookup of a unit in a context is refused for want of memory alone
+-- so a lookup of a unit in a context is refused memory alone
 only_oom : (e : Error) {given : Result UnitStop Error} → given ≢ Err e → (e ≢ OutOfMemory → given ≡ Err e) → e ≡ OutOfMemory
 only_oom OutOfMemory never h = refl
 only_oom e never h = absurd (never (h (λ q. absurd cc)))

@@ -7,6 +7,7 @@ use Rattle.gimli_read.specs.declared.error.Error.{Error}
 use Rattle.gimli.specs.Sections.{Sections}
 use Rattle.gimli.specs.Unit.{UnitRecord}
 use Rattle.addr2line_lines.specs.References.{Scope}
+use Rattle.addr2line_units.specs.Loads.{is_open_at}
 use Rattle.addr2line_units.specs.declared.functions.LazyFunctions.{LazyFunctions}
 use Rattle.addr2line_units.specs.declared.functions.LazyFunctions.TheVariants as lazy
 use Rattle.addr2line_units.specs.declared.parses.Reads.{Reads}
@@ -20,7 +21,6 @@ use Rattle.addr2line_units.specs.FramesLookup.{answer_of}
 use Rattle.addr2line_units.specs.KeptViews.{answer_in, is_decided}
 use Rattle.addr2line_units.specs.KeptParses.{HaveFunctions, HaveRead, StayDecided, has_view}
 use Rattle.addr2line_units.specs.KnownEntries.{NothingKnown, AllKnown, known_answer, known_by, known_functions, known_in}
-use Rattle.addr2line_units.specs.LoadLaws.{is_open_at}
 use Rattle.addr2line_units.proofs.AnswerLemmas.{looked_waits}
 use Rattle.addr2line_units.proofs.FoundLemmas.{looked_is_decided}
 use Rattle.addr2line_units.proofs.KeptLookupLemmas.{entries_more}

@@ -3,14 +3,14 @@
 -- Own: a lookup gives the frames that the files say at that call, whichever lookups were made
 -- before; the first answer of a unit stays, so a file counts that was there when its unit was first
 -- looked up.
-use Rattle.std.specs.Prelude.{◌≡◌, ◌≢◌, ◌≤◌, ◌⊎◌, ℕ, List, Option, Some, IfOk, IfSome, Err}
+use Rattle.std.specs.Prelude.{◌≡◌, ◌≢◌, ◌≤◌, ◌⊎◌, ℕ, false, List, Option, Some, IfOk, IfSome, Ok, Err}
 use Rattle.gimli.specs.Sections.{Sections}
 use Rattle.elf.specs.declared.error.LoaderError.{LoaderError}
-use Rattle.elf.specs.declared.error.LoaderError.TheVariants.{OutOfMemory}
+use Rattle.elf.specs.declared.error.LoaderError.TheVariants.{OutOfMemory, PathNotUtf8}
 use Rattle.elf.specs.Loading.{Loading}
 use Rattle.elf.specs.ObjectFile.{ObjectFile}
 use Rattle.addr2line_units.specs.declared.frames_lookup.Faults.TheVariants.{End}
-use Rattle.addr2line_units.specs.FramesLookup.{answer_of}
+use Rattle.addr2line_units.specs.FramesLookup.{answer_of, is_waiting}
 use Rattle.addr2line_units.specs.Parsed.{StaysParsed}
 use Rattle.addr2line.specs.declared.loader.LoaderOver.{LoaderOver}
 use Rattle.addr2line.specs.Answers.{answered}
@@ -18,7 +18,7 @@ use Rattle.addr2line.specs.Context.{ContextState, Stays}
 use Rattle.addr2line.specs.Files.{Files}
 use Rattle.addr2line.specs.FramesByFiles.{frames_by_files}
 use Rattle.addr2line.specs.History.{Given, answers_given}
-use Rattle.addr2line.specs.Lookups.{FirstAnswers, IsKnown}
+use Rattle.addr2line.specs.Lookups.{FirstAnswers, IsKnown, lookup_stop}
 
 -- the files, where they are known, the main file, and the context
 pub record LoaderState : Type 0 where
@@ -65,14 +65,29 @@ abbrev pub AnswersInTurn : ℕ → ContextState → ContextState → Type 0
 AnswersInTurn probe old new = (given : List Given)
     × (new.answers ≡ answers_given End old.sections probe old.answers given)
 
+-- a refusal that leaves the unit open whose load it refuses
+abbrev pub LeavesOpen : LoaderError → Type 0
+LeavesOpen e = (e ≡ OutOfMemory) ⊎ (e ≡ PathNotUtf8)
+
+-- any answer but these refusals: frames, or the fault of a unit
+abbrev pub HasEnded : {X : Type 0} → Loading X → Type 0
+HasEnded (Ok x) = Unit {0}
+HasEnded (Err e) = (e ≢ OutOfMemory) × (e ≢ PathNotUtf8)
+
+-- a lookup of the probe waits for no answer
+abbrev pub WaitsForNone : ContextState → ℕ → Type 0
+WaitsForNone c probe = is_waiting (lookup_stop End c.sections c.answers probe) ≡ false
+
 -- a lookup of frames at the probe has answered the loads that it came to by files: the files and
--- the main file are the same, and, unless it was refused, all is known that the lookup asks for
+-- the main file are the same; once it has ended, at a fault too, each unit that it came to is
+-- decided; and, unless it was refused, all is known that the lookup asks for
 pub record AfterLoads {X : Type 0} (probe : ℕ) (result : Loading X) (old new : LoaderState)
     : Type 0 where
   pub files : new.files ≡ old.files
   pub object : new.object ≡ old.object
   pub context : AfterAnswers old.files old.context new.context
   pub in_turn : AnswersInTurn probe old.context new.context
+  pub ended : HasEnded result → WaitsForNone new.context probe
   pub ready : IfOk result (λ _. IsKnown End new.context probe)
 
 -- a lookup of locations has changed nothing but what is parsed and counted

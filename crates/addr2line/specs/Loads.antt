@@ -14,10 +14,9 @@ use Rattle.addr2line_units.specs.declared.parses.Reads.TheVariants as kinds
 use Rattle.addr2line_units.specs.Cover.{cover}
 use Rattle.addr2line_units.specs.FramesLookup.{answer_of, main_scope}
 use Rattle.addr2line_units.specs.FunctionParseLaws.{IsReached}
-use Rattle.addr2line_units.specs.FunctionParses.{AreFirstDecided, AreReadBefore, answers_after, read_of_units}
+use Rattle.addr2line_units.specs.FunctionParses.{AreFirstDecided, AreReadBefore, AreReadyFor, answers_after, read_of_units}
 use Rattle.addr2line_units.specs.KnownEntries.{KnownEntries, NothingKnown, AllKnown, FunctionsKnown, knows_at}
-use Rattle.addr2line_units.specs.LoadLaws.{is_open_at}
-use Rattle.addr2line_units.specs.Loads.{AreSettled, forget_result, forgotten, is_settled_at, load_result}
+use Rattle.addr2line_units.specs.Loads.{AreSettled, forget_result, forgotten, is_open_at, load_result}
 use Rattle.addr2line_units.specs.Parsed.{IsNotOom}
 use Rattle.addr2line_units.specs.UnitIndex.{UnitIndex, index_units, unit_records}
 use Rattle.addr2line.specs.Answers.{answered}
@@ -46,15 +45,15 @@ parsed_answers reads d answers = elim (index_units d) [
   | Ok m ↦ answers_after reads (main_scope d m) (unit_records m.units) answers
 ]
 
--- no memory is wanted to know that the unit of a number is decided, or that there is none
+-- the unit of a number is decided, or there is none
 abbrev pub IsSettled : ContextState → ℕ → Type 0
 IsSettled c n = (m : UnitIndex) → index_units c.sections ≡ Ok m
-    → is_settled_at (unit_records m.units) c.answers n ≡ true
+    → is_open_at c.sections (unit_records m.units) c.answers n ≡ false
 
--- the same of each unit that covers the probe
+-- none of the units that cover the probe is open
 abbrev pub AreSettledAt : ContextState → ℕ → Type 0
 AreSettledAt c probe = (m : UnitIndex) → index_units c.sections ≡ Ok m
-    → AreSettled (unit_records m.units) c.answers (cover probe m.ranges)
+    → AreSettled c.sections (unit_records m.units) c.answers (cover probe m.ranges)
 
 -- nothing is changed but what is known of units' entries, and first answers
 pub record StaysRead (old new : ContextState) : Type 0 where
@@ -105,9 +104,16 @@ IsReadBy kinds.Details (FunctionsKnown t) = AllByRecursion HasDetail t.functions
 abbrev pub AreReadBy : Reads → ContextState → Type 0
 AreReadBy reads c = AllByRecursion (IsReadBy reads) c.known
 
+-- all is known that a parse of functions reads of the units, up to the first fault, and that fault
+-- too, and no unit up to there is open
+abbrev pub IsReadyToRead : Reads → ContextState → Type 0
+IsReadyToRead reads c = (m : UnitIndex) → index_units c.sections ≡ Ok m
+    → AreReadyFor reads (main_scope c.sections m) (unit_records m.units) c.answers c.known
+
 -- after a parse of all functions open units are decided by none, up to the first fault; where
--- memory was refused, some of the first ones. What was known of the others stays, and where all was
--- no memory is wanted
+-- memory was refused, some of the first ones. What was known of the others stays. Unless memory was
+-- refused all is known that the parse reads; where it was before, no memory is wanted, and nothing
+-- is changed
 pub record AfterParse (reads : Reads) (result : Result (Unit {0}) Error) (old new : ContextState)
     : Type 0 where
   pub stays : StaysRead old new
@@ -123,6 +129,9 @@ pub record AfterParse (reads : Reads) (result : Result (Unit {0}) Error) (old ne
       ⊎ AreReadBefore reads (main_scope old.sections m) (unit_records m.units) old.answers n
   pub read : OnOk result (AreReadBy reads new)
   pub memory : AreReadBy reads old → result ≡ Ok tt
+  pub ready : IsNotOom result → IsReadyToRead reads new
+  pub exact : IsReadyToRead reads old → result ≡ parse_reply reads old.sections old.answers
+  pub same : IsReadyToRead reads old → new ≡ old
 
 -- what every lookup asks of units' entries is known
 abbrev pub IsAllKnown : ContextState → Type 0

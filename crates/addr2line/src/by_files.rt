@@ -1,9 +1,9 @@
 //! Lookups of frames where files answer loads.
 
-ghost use Rattle.std.specs.Prelude.{◌≡◌, ◌<◌, IfErr, Ok, OnOk, false, length};
+ghost use Rattle.std.specs.Prelude.{◌≡◌, ◌<◌, IfErr, Ok, OnOk, length};
 ghost use Rattle.addr2line_units.specs.declared.frames_lookup.Faults.TheVariants.{End};
-ghost use Rattle.addr2line_units.specs.FramesLookup.{Waits, is_waiting};
-ghost use Rattle.addr2line.specs.Loader.{AfterAnswers, AnswersInTurn, AnswersOne, IsFaultByFiles};
+ghost use Rattle.addr2line_units.specs.FramesLookup.{Waits};
+ghost use Rattle.addr2line.specs.Loader.{AfterAnswers, AnswersInTurn, AnswersOne, HasEnded, IsFaultByFiles, LeavesOpen, WaitsForNone};
 ghost use Rattle.addr2line.specs.Lookups.{IsKnown, loads_of, lookup_stop};
 
 use crate::context::Context;
@@ -30,6 +30,7 @@ fn answer_load<F: FileSource>(
     ensures fewer { OnOk result (length (loads_of ctx.new.sections ctx.new.answers probe)
         < length (loads_of ctx.old.sections ctx.old.answers probe)) }
     ensures refused { IfErr result (IsFaultByFiles (F.files files.now) ctx.old probe) }
+    ensures stays_open { IfErr result LeavesOpen }
 {
     let load = ctx.load_of(probe, Faults::End, number)?;
     let sections = answer_to(alloc, files, &load)?;
@@ -45,8 +46,7 @@ pub(crate) fn answer_loads<F: FileSource>(
 ) -> Result<(), LoaderError>
     ensures after { AfterAnswers (F.files files.now) ctx.old ctx.new }
     ensures in_turn { AnswersInTurn probe ctx.old ctx.new }
-    ensures ended { OnOk result
-        (is_waiting (lookup_stop End ctx.new.sections ctx.new.answers probe) ≡ false) }
+    ensures ended { HasEnded result → WaitsForNone ctx.new probe }
     ensures refused { IfErr result (IsFaultByFiles (F.files files.now) ctx.old probe) }
 {
     if !ctx.may_wait(probe) {

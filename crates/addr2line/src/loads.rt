@@ -19,7 +19,7 @@ impl<R: Reader> Context<R> {
     /// asks the units. Whether a unit is open is looked for and kept.
     ///
     /// `probe` is an address as the file has it. Refused `OutOfMemory` alone; takes no memory where
-    /// each unit that covers the address has no split unit, or an answer.
+    /// no unit that covers the address is open.
     ///
     /// Source: DWARF 5, section 7.3.2. Own: the order.
     pub fn preload_units(&mut self, probe: u64) -> Result<Vec<SplitDwarfLoad<R>>, Error>
@@ -38,8 +38,8 @@ impl<R: Reader> Context<R> {
     ///
     /// Refused `UnknownToken` where there is no such unit, and then nothing is changed; refused by
     /// the fault of the view that the unit has then, and the unit is decided all the same. May fail
-    /// with `OutOfMemory` instead, unless the unit has no split unit, or an answer; then all first
-    /// answers are as before. A token of another context counts by its number.
+    /// with `OutOfMemory` instead, where the unit is open; then all first answers are as before. A
+    /// token of another context counts by its number.
     ///
     /// Source: DWARF 5, section 7.3.2. Own: which answer counts.
     pub fn load_unit(

@@ -1,12 +1,14 @@
 //! The split files of units, which answer their loads.
 
-ghost use Rattle.std.specs.Prelude.{◌≡◌, IfOk, IfSome, List, ℕ, None, Ok, OnOk, Option, Some, option_map};
+ghost use Rattle.std.specs.Prelude.{◌≡◌, IfErr, IfOk, IfSome, List, ℕ, None, Ok, OnOk, Option, Some, option_map};
 ghost use Rattle.gimli_read.specs.Reading.{Exactly, ExactlyUnlessOom};
 ghost use Rattle.gimli.specs.Sections.{Sections};
+ghost use Rattle.elf.specs.declared.error.LoaderError.TheVariants.{OutOfMemory, PathNotUtf8};
 ghost use Rattle.elf.specs.Loading.{Loading, LoadsUnlessOom};
 ghost use Rattle.elf.specs.ObjectFile.{object_file_of};
 ghost use Rattle.addr2line_units.specs.KeptViews.{seen_load};
 ghost use Rattle.addr2line_units.specs.Views.{first_unit};
+ghost use Rattle.addr2line.specs.Loader.{LeavesOpen};
 ghost use Rattle.addr2line.specs.SplitFiles.{bytes_or_none, given_by, is_absolute, is_same_id, is_wanted, or_none, path_in, separated, split_by, split_of, split_path, utf8_path};
 
 use crate::file_sections::{SectionSource, SplitFile, as_dwarf, read_sections};
@@ -89,6 +91,7 @@ fn path_of<R: Reader>(
 // A path as a text, if it is UTF-8.
 fn text_of(path: &[u8]) -> Result<&str, LoaderError>
     ensures gives { Exactly (λ text. text.now) result (utf8_path path.now) }
+    ensures refused { IfErr result (λ e. e ≡ PathNotUtf8) }
 {
     match str::from_utf8(path) {
         Ok(text) => Ok(text),
@@ -168,6 +171,7 @@ fn without_fault<R: Reader>(
     ensures gives { (given : Loading (Option Sections))
         → LoadsUnlessOom (option_map (λ d. d.value)) found given
         → LoadsUnlessOom (option_map (λ d. d.value)) result (Ok (or_none given)) }
+    ensures refused { IfErr result (λ e. e ≡ OutOfMemory) }
 {
     match found {
         Ok(found) => Ok(found),
@@ -186,6 +190,7 @@ pub(crate) fn answer_to<F: FileSource>(
     ensures gives { IfSome (F.files files.now) (λ held.
         LoadsUnlessOom (option_map (λ d. d.value)) result
         (given_by held (seen_load (λ r. r) load.now))) }
+    ensures stays_open { IfErr result LeavesOpen }
 {
     let Some(path) = path_of(alloc, load)? else {
         return Ok(None);

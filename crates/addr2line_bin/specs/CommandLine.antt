@@ -111,13 +111,13 @@ pub record IsAsked (rows : List Row) (r : Request) : Type 0 where
   pub sup : first_of (codes "sup") rows ≡ option_map string_bytes r.sup
   pub section : first_of (codes "section") rows ≡ option_map string_bytes r.options.section
   pub probes : AreProbes rows r.options.probes
-  pub functions : r.options.style.functions ≡ is_on (codes "functions") rows
-  pub pretty : r.options.style.pretty ≡ is_on (codes "pretty-print") rows
-  pub inlines : r.options.style.inlines ≡ is_on (codes "inlines") rows
-  pub addresses : r.options.style.addresses ≡ is_on (codes "addresses") rows
-  pub basenames : r.options.style.basenames ≡ is_on (codes "basenames") rows
-  pub demangle : r.options.style.demangle ≡ is_on (codes "demangle") rows
-  pub llvm : r.options.style.llvm ≡ is_on (codes "llvm") rows
+  pub functions : r.options.functions ≡ is_on (codes "functions") rows
+  pub pretty : r.options.pretty ≡ is_on (codes "pretty-print") rows
+  pub inlines : r.options.inlines ≡ is_on (codes "inlines") rows
+  pub addresses : r.options.addresses ≡ is_on (codes "addresses") rows
+  pub basenames : r.options.basenames ≡ is_on (codes "basenames") rows
+  pub demangle : r.options.demangle ≡ is_on (codes "demangle") rows
+  pub llvm : r.options.llvm ≡ is_on (codes "llvm") rows
 
 -- a fault of the parse as a fault of the words
 abbrev pub IsFaultOf : Error → WordFault → Type 0

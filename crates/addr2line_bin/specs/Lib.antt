@@ -14,3 +14,4 @@ pub mod CommandLine
 pub mod Told
 pub mod AllAddresses
 pub mod ProgramRun
+pub mod WordAnswers

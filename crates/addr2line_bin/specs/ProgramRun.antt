@@ -19,12 +19,12 @@ use Rattle.addr2line_bin.specs.declared.options.Options.{Options}
 use Rattle.addr2line_bin.specs.declared.options.Probes.{Probes}
 use Rattle.addr2line_bin.specs.declared.options.Probes.TheVariants as probes
 use Rattle.addr2line_bin.specs.declared.options.Setup.{Setup}
+use Rattle.addr2line_bin.specs.declared.options.Style.{Style}
 
 -- the status that the program ends with
 abbrev pub status_at : Exit → ℕ
 status_at exit.Done = 0
 status_at exit.Failed = 1
-status_at exit.Misused = 2
 
 -- only a line of standard error is written, and the run has failed
 abbrev pub OnlyTells : StreamState → StreamState → StreamState → StreamState → List ℕ → Exit
@@ -68,10 +68,22 @@ abbrev pub section_by : FileAnswers → Option (List ℕ) → Result (Option Ran
 section_by answers None = Ok None
 section_by answers (Some name) = section_or_name name (answers.section_at name)
 
+-- the switches of options
+abbrev pub style_of : Options → Style
+style_of o = record {
+  functions = o.functions;
+  pretty = o.pretty;
+  inlines = o.inlines;
+  addresses = o.addresses;
+  basenames = o.basenames;
+  demangle = o.demangle;
+  llvm = o.llvm;
+}
+
 -- a setup is that of options, with the addresses of their section
 pub record IsSetup (o : Options) (section : Option Range) (s : Setup) : Type 0 where
   pub name : s.name.now ≡ string_bytes o.name
-  pub style : s.style ≡ o.style
+  pub style : s.style ≡ style_of o
   pub range : s.section ≡ section
 
 -- a run by the section that is named, if it is there

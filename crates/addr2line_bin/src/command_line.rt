@@ -12,7 +12,7 @@ ghost use Rattle.addr2line_bin.specs.CommandLine.{matches_in, are_taken, texts_i
 ghost use Rattle.addr2line_bin.specs.declared.command_line.WordFault.TheVariants as fault;
 
 use crate::command::name_of;
-use crate::options::{Options, Probes, Style};
+use crate::options::{Options, Probes};
 use clap::error::ErrorKind;
 use clap::{Arg, ArgAction, ArgMatches, Command};
 use std::alloc::{AllocError, Global};
@@ -224,7 +224,10 @@ fn request_of(alloc: Global, name: String, matches: &ArgMatches<'_>) -> Result<R
     };
     let sup = value_of(alloc, matches, "sup")?;
     let section = value_of(alloc, matches, "section")?;
-    let style = Style {
+    let options = Options {
+        name,
+        section,
+        probes,
         functions: is_on(matches, "functions"),
         pretty: is_on(matches, "pretty-print"),
         inlines: is_on(matches, "inlines"),
@@ -232,12 +235,6 @@ fn request_of(alloc: Global, name: String, matches: &ArgMatches<'_>) -> Result<R
         basenames: is_on(matches, "basenames"),
         demangle: is_on(matches, "demangle"),
         llvm: is_on(matches, "llvm"),
-    };
-    let options = Options {
-        name,
-        section,
-        probes,
-        style,
     };
     Ok(Request { exe, sup, options })
 }

@@ -16,8 +16,6 @@ pub enum Exit {
     Done,
     /// With status 1.
     Failed,
-    /// With status 2.
-    Misused,
 }
 
 /// Writes why a run stopped early.
@@ -53,11 +51,9 @@ pub fn tell_load_fault<E: Stream>(name: &str, fault: LoaderError, err: &mut E) -
 
 /// Writes how the program is used.
 #[tactic(auto, using(crate::proofs::Parts::sends_on))]
-pub fn tell_usage<E: Stream>(name: &str, err: &mut E) -> Exit
+pub fn tell_usage<E: Stream>(name: &str, err: &mut E)
     ensures err { Reports (E.state err.old) (E.state err.new) (usage_text name.now) }
-    ensures exit { result ≡ exit.Misused }
 {
     tell_both(err, name, ": usage: ");
     tell_both(err, name, " -e FILE [OPTION].. [ADDR..]\n");
-    Exit::Misused
 }

@@ -10,6 +10,9 @@ ghost use Rattle.addr2line_bin.specs.LoaderAnswers.{loader_answers};
 ghost use Rattle.addr2line_bin.specs.ProgramRun.{IsRun, status_at};
 ghost use Rattle.addr2line_bin.specs.Put.{Reports};
 ghost use Rattle.addr2line_bin.specs.Print.{last_text};
+ghost use Rattle.addr2line_bin.specs.Told.{usage_text};
+ghost use Rattle.addr2line_bin.specs.WordAnswers.{AnswersFault, AnswersWords, ShowsText, is_shown};
+ghost use Rattle.clap.specs.Values.{kind_of};
 ghost use Rattle.addr2line_bin.specs.declared.engine.Exit.TheVariants as exit;
 ghost use Rattle.addr2line_bin.specs.declared.stream.Stop.TheVariants as stop;
 
@@ -19,6 +22,8 @@ mod all_addresses;
 mod command;
 mod command_line;
 mod engine;
+#[cfg(test)]
+mod fault_tests;
 mod frame_text;
 mod input;
 mod loader_lookups;
@@ -33,6 +38,10 @@ mod stream;
 #[cfg(test)]
 mod stream_tests;
 #[cfg(test)]
+mod test_files;
+#[cfg(test)]
+mod test_runs;
+#[cfg(test)]
 mod test_streams;
 #[cfg(test)]
 mod tests;
@@ -43,7 +52,7 @@ use crate::engine::{Exit, tell_last, tell_usage};
 use crate::input::{Input, Lines};
 use crate::probe_text::as_text;
 use crate::program::run;
-use crate::stream::{Stop, Stream, Written};
+use crate::stream::{Stop, Stream, Written, send, tell};
 use addr2line::{FileSource, HostFiles, LoaderOver};
 use std::alloc::Global;
 use std::env;
@@ -93,24 +102,75 @@ fn status_of(exit: Exit) -> ExitCode
     match exit {
         Exit::Done => ExitCode::from(0),
         Exit::Failed => ExitCode::from(1),
-        Exit::Misused => ExitCode::from(2),
     }
 }
 
+// Writes how the program is used, where the words ask for nothing.
+fn answer_misuse<E: Stream>(name: &str, err: &mut E) -> ExitCode
+    ensures err { Reports (E.state err.old) (E.state err.new) (usage_text name.now) }
+    ensures status { exit_status result ≡ 2 }
+{
+    tell_usage(name, err);
+    ExitCode::from(2)
+}
+
+// Writes the help or the version to the output.
+fn show_text<W: Stream, E: Stream>(name: &str, text: &str, out: &mut W, err: &mut E) -> ExitCode
+    ensures gives { ShowsText name.now text.now (W.state out.old) (W.state out.new)
+        (E.state err.old) (E.state err.new) (exit_status result) }
+{
+    match send(out, text) {
+        Ok(()) => ExitCode::from(0),
+        Err(stop) => status_of(tell_last(name, stop, err)),
+    }
+}
+
+// Whether the text of a fault is the help or the version.
+fn is_shown(error: &clap::Error) -> bool
+    ensures gives { result ≡ is_shown (kind_of error.now) }
+{
+    matches!(
+        error.kind(),
+        clap::error::ErrorKind::DisplayHelp | clap::error::ErrorKind::DisplayVersion
+    )
+}
+
+// Writes why the command doesn't take the words, or the help or the version that they ask for.
+fn answer_words<W: Stream, E: Stream>(
+    alloc: Global,
+    name: &str,
+    error: &clap::Error,
+    out: &mut W,
+    err: &mut E,
+) -> ExitCode
+    ensures gives { AnswersWords name.now (is_shown (kind_of error.now)) (W.state out.old) (W.state out.new)
+        (E.state err.old) (E.state err.new) (exit_status result) }
+{
+    let Ok(text) = format!(in alloc; "{error}") else {
+        return status_of(tell_no_memory(name, err));
+    };
+    if is_shown(error) {
+        return show_text(name, text.as_str(), out, err);
+    }
+    tell(err, text.as_str());
+    ExitCode::from(2)
+}
+
 // Writes why the words ask for nothing, or the help or the version that they ask for.
-fn answer_fault<E: Stream>(
-    rt: &HostRuntime,
+fn answer_fault<W: Stream, E: Stream>(
+    alloc: Global,
     name: &str,
     fault: WordFault,
+    out: &mut W,
     err: &mut E,
-) -> ExitCode {
+) -> ExitCode
+    ensures gives { AnswersFault name.now fault (W.state out.old) (W.state out.new)
+        (E.state err.old) (E.state err.new) (exit_status result) }
+{
     match fault {
         WordFault::OutOfMemory => status_of(tell_no_memory(name, err)),
-        WordFault::Usage => status_of(tell_usage(name, err)),
-        WordFault::Clap(error) => match error.print(rt) {
-            Ok(()) if error.exit_code() == 0 => ExitCode::from(0),
-            _ => ExitCode::from(2),
-        },
+        WordFault::Usage => answer_misuse(name, err),
+        WordFault::Clap(error) => answer_words(alloc, name, &error, out, err),
     }
 }
 
@@ -121,7 +181,7 @@ fn main(rt: HostRuntime) -> ExitCode {
     let words = match words_of(&rt) {
         Ok(words) => words,
         Err(ErrorKind::OutOfMemory) => return status_of(tell_no_memory("addr2line", &mut err)),
-        Err(_) => return status_of(tell_usage("addr2line", &mut err)),
+        Err(_) => return answer_misuse("addr2line", &mut err),
     };
     let name = match name_of(alloc, words.as_slice()) {
         Ok(name) => name,
@@ -129,7 +189,7 @@ fn main(rt: HostRuntime) -> ExitCode {
     };
     let request = match command_line(alloc, words.as_slice()) {
         Ok(request) => request,
-        Err(fault) => return answer_fault(&rt, name.as_str(), fault, &mut err),
+        Err(fault) => return answer_fault(alloc, name.as_str(), fault, &mut out, &mut err),
     };
     let mut input = match BufReader::new(alloc, rt.reader()) {
         Ok(reader) => Lines::new(reader),

@@ -1,5 +1,8 @@
 //! What is asked of the program.
 
+ghost use Rattle.std.specs.Prelude.{◌≡◌};
+ghost use Rattle.addr2line_bin.specs.ProgramRun.{style_of};
+
 use addr2line::Range;
 use std::alloc::Global;
 
@@ -14,7 +17,32 @@ pub enum Probes {
     Lines,
 }
 
-/// How what is asked is printed.
+/// What is asked, and how it is printed.
+#[derive(Drop)]
+pub struct Options {
+    /// What the program calls itself.
+    pub name: String,
+    /// The section that addresses are offsets in, if one is named.
+    pub section: Option<String>,
+    /// The addresses that are asked for.
+    pub probes: Probes,
+    /// Whether functions are printed.
+    pub functions: bool,
+    /// Whether a function and its location stand on one line.
+    pub pretty: bool,
+    /// Whether inlined functions are printed.
+    pub inlines: bool,
+    /// Whether addresses are printed.
+    pub addresses: bool,
+    /// Whether only the last part of a path is printed.
+    pub basenames: bool,
+    /// Whether names are demangled.
+    pub demangle: bool,
+    /// Whether the texts are LLVM's.
+    pub llvm: bool,
+}
+
+/// The switches of options.
 #[derive(Clone, Copy)]
 pub struct Style {
     /// Whether functions are printed.
@@ -33,17 +61,21 @@ pub struct Style {
     pub llvm: bool,
 }
 
-/// What is asked, and how it is printed.
-#[derive(Drop)]
-pub struct Options {
-    /// What the program calls itself.
-    pub name: String,
-    /// The section that addresses are offsets in, if one is named.
-    pub section: Option<String>,
-    /// The addresses that are asked for.
-    pub probes: Probes,
-    /// How they are printed.
-    pub style: Style,
+impl Options {
+    /// The switches.
+    pub fn style(&self) -> Style
+        ensures gives { result ≡ style_of self.now }
+    {
+        Style {
+            functions: self.functions,
+            pretty: self.pretty,
+            inlines: self.inlines,
+            addresses: self.addresses,
+            basenames: self.basenames,
+            demangle: self.demangle,
+            llvm: self.llvm,
+        }
+    }
 }
 
 /// What is the same for each address of a run.

@@ -160,7 +160,7 @@ fn setup_of<'a>(alloc: Global, options: &'a Options, section: Option<Range>) -> 
     Setup {
         alloc,
         name: options.name.as_str(),
-        style: options.style,
+        style: options.style(),
         section,
     }
 }

@@ -1,197 +1,195 @@
 //! Runs whose streams fail.
 
-ghost use Rattle.std.specs.Prelude.{◌≡◌, ◌==◌, [], None, Ok, Err, if◌then◌else◌};
-ghost use Rattle.gimli_read.specs.declared.error.Error.TheVariants.{UnexpectedEof};
-ghost use Rattle.elf.specs.declared.error.LoaderError.TheVariants.{Dwarf};
-
 use crate::engine::Exit;
 use crate::input::Lines;
-use crate::lookups::Lookups;
-use crate::options::{Options, Probes, Style};
 use crate::program::run;
-use crate::stream::Stream;
-use crate::test_streams::{failing, full_after, known_stream, unfailing, words};
-use addr2line::gimli::read::{EndianBytes, Error};
-use addr2line::{FrameIter, LoaderError, Location, LocationRangeIter, Range};
-use std::alloc::{AllocGlobal, Global};
+use crate::test_files::INLINED;
+use crate::test_runs::{Fixed, Found, request_in, run_files, run_lookups};
+use crate::test_streams::{Streams, failing, full_after, known_stream};
+use addr2line::LoaderError;
+use addr2line::gimli::read::Error;
+use std::alloc::Global;
 use std::io::ErrorKind;
-use std::process::Abort;
 use std::test::Fail;
 
-// Nothing lies at an address; 0x20 is a fault, and a growth is refused for 0x30.
-#[derive(Drop)]
-struct Faulty;
+const PRETTY: &str = "0x0000000000000024: g at /w/a.c:3\n (inlined by) f at /w/a.c:7\n";
 
-impl Lookups for Faulty {
-    ghost answers = { λ _. record {
-      location_at = λ probe. if probe == 32 then Err (Dwarf UnexpectedEof) else Ok None;
-      MayGive = λ probe given. given ≡ Ok [];
-      symbol_at = λ probe. None;
-      section_at = λ name. None;
-      spans_in = λ low high. Ok [];
-    } };
+const ALL_OPTIONS: [&str; 8] = ["addr2line", "-a", "-p", "-f", "-i", "-e", "f", "24"];
 
-    #[tactic(auto, using(crate::proofs::AnswerLemmas::stays_itself))]
-    fn find_location(&mut self, probe: u64) -> Result<Option<Location<'_>>, LoaderError> {
-        match probe {
-            0x20 => Err(LoaderError::Dwarf(Error::UnexpectedEof)),
-            0x30 => Err(LoaderError::OutOfMemory),
-            _ => Ok(None),
-        }
+const FAULT_LINE: &str = "addr2line: error writing output\n";
+
+// How many bytes went out, where they are a beginning of the text. 1000 more for the line of a
+// fault, 2000 more for status 1; 9000 for anything else.
+fn code_of(exit: Exit, streams: &Streams, text: &str) -> usize {
+    let out = streams.out.writer.taken.as_slice();
+    let err = streams.err.writer.taken.as_slice();
+    if !text.as_bytes().starts_with(out) || (err != FAULT_LINE.as_bytes() && !err.is_empty()) {
+        return 9000;
     }
-
-    #[tactic(auto, using(crate::proofs::AnswerLemmas::stays_itself))]
-    fn find_frames(&mut self, _probe: u64) -> Result<FrameIter<'_, EndianBytes>, LoaderError> {
-        Ok(FrameIter::new_empty())
-    }
-
-    #[tactic(auto, using(crate::proofs::AnswerLemmas::stays_itself))]
-    fn find_location_range(
-        &mut self,
-        _low: u64,
-        _high: u64,
-    ) -> Result<LocationRangeIter<'_, EndianBytes>, LoaderError> {
-        Err(LoaderError::OutOfMemory)
-    }
-
-    fn find_symbol(&self, _probe: u64) -> Option<&str> {
-        None
-    }
-
-    fn get_section_range(&self, _name: &[u8]) -> Option<Range> {
-        None
-    }
+    let told = if err.is_empty() { 0 } else { 1000 };
+    let failed = if exit == Exit::Failed { 2000 } else { 0 };
+    out.len().saturating_add(told + failed)
 }
 
-// How a run ends that prints what words ask for.
-fn print_of<W: Stream, E: Stream>(
+// The same of a run over a file with an output that fails after so many calls.
+fn cut_code(
     alloc: Global,
-    words: Vec<String>,
-    out: &mut W,
-    err: &mut E,
-) -> Result<Exit, Fail> {
-    let style = Style {
-        functions: false,
-        pretty: false,
-        inlines: false,
-        addresses: false,
-        basenames: false,
-        demangle: false,
-        llvm: false,
-    };
-    let options = Options {
-        name: String::from_str(alloc, "a")?,
-        section: None,
-        probes: Probes::Words(words),
-        style,
-    };
-    let mut input = Lines::new(b"".as_slice());
-    Ok(run(alloc, &options, Ok(Faulty), &mut input, out, err))
-}
-
-#[test]
-fn faults_of_lookups_are_told(rt: HostRuntime) -> Result<(), Fail> {
-    let addresses = words(rt.alloc(), &["0x10", "0x20", "0x30", "0x40"])?;
-    let mut out = unfailing(rt.alloc());
-    let mut err = unfailing(rt.alloc());
-    let exit = print_of(rt.alloc(), addresses, &mut out, &mut err)?;
-    let want = "a: failed to find location for 0x20: unexpected end of data\n\
-        a: failed to find location for 0x30: out of memory\n";
-    assert_eq!(rt; exit, Exit::Done);
-    assert_eq!(rt;
-        out.writer.taken.as_slice(),
-        b"??:0\n??:0\n??:0\n??:0\n".as_slice()
-    );
-    assert_eq!(rt; out.writer.flushed, 20);
-    assert_eq!(rt; err.writer.taken.as_slice(), want.as_bytes());
-    Ok(())
-}
-
-fn assert_stop(
-    rt: &(impl Abort + AllocGlobal),
     calls: u64,
     fault: ErrorKind,
-    want: (Exit, &str, &str),
-) -> Result<(), Fail> {
-    let addresses = words(rt.alloc(), &["0x10", "0x40", "0x50"])?;
-    let mut out = failing(rt.alloc(), calls, fault);
-    let mut err = unfailing(rt.alloc());
-    let exit = print_of(rt.alloc(), addresses, &mut out, &mut err)?;
-    assert_eq!(rt; exit, want.0);
-    assert_eq!(rt; out.writer.taken.as_slice(), want.1.as_bytes());
-    assert_eq!(rt; err.writer.taken.as_slice(), want.2.as_bytes());
+    given: &[&str],
+    text: &str,
+) -> Result<usize, Fail> {
+    let mut streams = Streams::sound(alloc);
+    streams.out = failing(alloc, calls, fault);
+    let exit = run_files(alloc, given, &[("f", &INLINED)], b"", &mut streams)?;
+    Ok(code_of(exit, &streams, text))
+}
+
+// The same for no call to six.
+fn cut_codes(
+    alloc: Global,
+    fault: ErrorKind,
+    given: &[&str],
+    text: &str,
+) -> Result<[usize; 7], Fail> {
+    let mut codes = [0; 7];
+    for calls in 0..7usize {
+        codes[calls] = cut_code(alloc, calls as u64, fault, given, text)?;
+    }
+    Ok(codes)
+}
+
+// Four writes and a flush.
+#[test]
+fn what_went_out_before_a_fault_is_a_beginning(rt: HostRuntime) -> Result<(), Fail> {
+    let cases = [
+        (ErrorKind::BrokenPipe, [0, 20, 40, 60, 62, 62, 62]),
+        (
+            ErrorKind::StorageFull,
+            [3000, 3020, 3040, 3060, 3062, 62, 62],
+        ),
+        (
+            ErrorKind::Interrupted,
+            [3000, 3020, 3040, 3060, 3062, 62, 62],
+        ),
+    ];
+    for (fault, want) in cases {
+        let got = cut_codes(rt.alloc(), fault, &ALL_OPTIONS, PRETTY)?;
+        assert_eq!(rt; got, want);
+    }
     Ok(())
 }
 
 // A write and a flush for each address take turns.
 #[test]
 fn a_failed_write_or_flush_ends_the_run(rt: HostRuntime) -> Result<(), Fail> {
-    let line = "a: error writing output\n";
-    let whole = "??:0\n??:0\n??:0\n";
-    let cases: [(u64, &str); 6] = [
-        (0, ""),
-        (1, "??:0\n"),
-        (2, "??:0\n"),
-        (3, "??:0\n??:0\n"),
-        (4, "??:0\n??:0\n"),
-        (5, whole),
-    ];
-    for (calls, out) in cases {
-        assert_stop(&rt, calls, ErrorKind::BrokenPipe, (Exit::Done, out, ""))?;
-        assert_stop(
-            &rt,
-            calls,
+    let cases = [
+        (ErrorKind::BrokenPipe, [0, 5, 5, 10, 10, 15, 15]),
+        (
             ErrorKind::StorageFull,
-            (Exit::Failed, out, line),
-        )?;
-        assert_stop(
-            &rt,
-            calls,
-            ErrorKind::Interrupted,
-            (Exit::Failed, out, line),
-        )?;
+            [3000, 3005, 3005, 3010, 3010, 3015, 15],
+        ),
+    ];
+    let given = ["addr2line", "-e", "f", "30", "zz", "40"];
+    for (fault, want) in cases {
+        let got = cut_codes(rt.alloc(), fault, &given, "??:0\n??:0\n??:0\n")?;
+        assert_eq!(rt; got, want);
     }
-    assert_stop(&rt, 6, ErrorKind::StorageFull, (Exit::Done, whole, ""))
+    Ok(())
 }
 
 #[test]
 fn a_write_of_no_byte_is_a_failed_write(rt: HostRuntime) -> Result<(), Fail> {
-    let addresses = words(rt.alloc(), &["0x10", "0x40"])?;
-    let mut out = full_after(rt.alloc(), 7);
-    let mut err = unfailing(rt.alloc());
-    let exit = print_of(rt.alloc(), addresses, &mut out, &mut err)?;
-    assert_eq!(rt; exit, Exit::Failed);
-    assert_eq!(rt; out.writer.taken.as_slice(), b"??:0\n??".as_slice());
-    assert_eq!(rt;
-        err.writer.taken.as_slice(),
-        b"a: error writing output\n".as_slice()
-    );
+    let mut streams = Streams::sound(rt.alloc());
+    streams.out = full_after(rt.alloc(), 33);
+    let exit = run_files(
+        rt.alloc(),
+        &ALL_OPTIONS,
+        &[("f", &INLINED)],
+        b"",
+        &mut streams,
+    )?;
+    assert_eq!(rt; code_of(exit, &streams, PRETTY), 3033);
+    Ok(())
+}
+
+// What the lookups of a file give that is damaged.
+const CUT: Found = Err(LoaderError::Dwarf(Error::UnexpectedEof));
+
+// How many bytes went to a standard error that fails after so many calls, where these are a
+// beginning of the lines and all else is as without the fault; 9000 for anything else.
+fn told_code(
+    alloc: Global,
+    calls: u64,
+    given: &[&str],
+    out: &str,
+    lines: &str,
+) -> Result<usize, Fail> {
+    let mut streams = Streams::sound(alloc);
+    streams.err = failing(alloc, calls, ErrorKind::BrokenPipe);
+    let file = Fixed::new(CUT);
+    let mut input = Lines::new(b"".as_slice());
+    let exit = run_lookups(alloc, given, Ok(file), &mut input, &mut streams)?;
+    let err = streams.err.writer.taken.as_slice();
+    let is_same = streams.out.writer.taken.as_slice() == out.as_bytes()
+        && streams.out.writer.flushed == out.len();
+    if exit == Exit::Done && is_same && lines.as_bytes().starts_with(err) {
+        Ok(err.len())
+    } else {
+        Ok(9000)
+    }
+}
+
+// The same for no call to eight.
+fn told_codes(alloc: Global, given: &[&str], out: &str, lines: &str) -> Result<[usize; 9], Fail> {
+    let mut codes = [0; 9];
+    for calls in 0..9usize {
+        codes[calls] = told_code(alloc, calls as u64, given, out, lines)?;
+    }
+    Ok(codes)
+}
+
+// A line has 62 bytes or 60, so it takes four calls or three.
+#[test]
+fn nothing_is_told_after_a_failed_write(rt: HostRuntime) -> Result<(), Fail> {
+    let lines = "a2l: failed to find location for 0x10: unexpected end of data\n\
+        a2l: failed to find location for 0x20: unexpected end of data\n";
+    let got = told_codes(
+        rt.alloc(),
+        &["a2l", "-e", "f", "10", "20"],
+        "??:0\n??:0\n",
+        lines,
+    )?;
+    assert_eq!(rt; got, [0, 20, 40, 60, 62, 82, 102, 122, 124]);
+    let lines = "a2l: failed to find frames for 0x10: unexpected end of data\n\
+        a2l: failed to find frames for 0x20: unexpected end of data\n";
+    let got = told_codes(
+        rt.alloc(),
+        &["a2l", "-f", "-e", "f", "10", "20"],
+        "??\n??:0\n??\n??:0\n",
+        lines,
+    )?;
+    assert_eq!(rt; got, [0, 20, 40, 60, 80, 100, 120, 120, 120]);
     Ok(())
 }
 
 #[test]
 fn each_text_is_flushed(rt: HostRuntime) -> Result<(), Fail> {
-    let addresses = words(rt.alloc(), &["0x10", "zz", "0x40"])?;
+    let request = request_in(rt.alloc(), &["a2l", "-e", "f", "10", "zz", "40"])?;
     let mut out = known_stream(rt.alloc());
     let mut err = known_stream(rt.alloc());
-    let exit = print_of(rt.alloc(), addresses, &mut out, &mut err)?;
+    let mut input = Lines::new(b"".as_slice());
+    let file = Fixed::new(Ok(None));
+    let exit = run(
+        rt.alloc(),
+        &request.options,
+        Ok(file),
+        &mut input,
+        &mut out,
+        &mut err,
+    );
     assert_eq!(rt; exit, Exit::Done);
     assert_eq!(rt; out.flushes.as_slice(), [5, 10, 15].as_slice());
     assert!(rt; err.taken.is_empty());
-    Ok(())
-}
-
-#[test]
-fn nothing_is_told_after_a_failed_write(rt: HostRuntime) -> Result<(), Fail> {
-    let addresses = words(rt.alloc(), &["0x20", "0x20", "0x40"])?;
-    let mut out = unfailing(rt.alloc());
-    let mut err = failing(rt.alloc(), 1, ErrorKind::BrokenPipe);
-    let exit = print_of(rt.alloc(), addresses, &mut out, &mut err)?;
-    assert_eq!(rt; exit, Exit::Done);
-    assert_eq!(rt;
-        out.writer.taken.as_slice(),
-        b"??:0\n??:0\n??:0\n".as_slice()
-    );
-    assert_eq!(rt; err.writer.taken.len(), 60);
     Ok(())
 }

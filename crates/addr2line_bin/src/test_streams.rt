@@ -8,7 +8,7 @@ use std::io;
 use std::io::{ErrorKind, Write};
 use std::test::Fail;
 
-/// Takes so many calls and bytes: then a call fails, or takes no byte.
+/// Takes so many calls and bytes, 20 bytes in each call at most: then a call fails, or takes no byte.
 #[derive(Drop)]
 pub struct StopWriter {
     /// What it has taken.
@@ -22,6 +22,9 @@ pub struct StopWriter {
 
 // More calls and bytes than any test takes.
 const AMPLE: usize = 9999;
+
+// The most bytes that a call takes.
+const MOST: usize = 20;
 
 impl StopWriter {
     fn call(&mut self) -> io::Result<()>
@@ -40,7 +43,7 @@ impl Write for StopWriter {
 
     fn write(&mut self, buf: &[u8]) -> io::Result<usize> {
         self.call()?;
-        let count = self.room.min(buf.len());
+        let count = self.room.min(MOST).min(buf.len());
         self.taken.extend_from_slice(&buf[..count])?;
         self.room -= count;
         Ok(count)
@@ -78,6 +81,32 @@ pub fn full_after(alloc: Global, room: usize) -> Written<StopWriter> {
 /// A writer that doesn't fail.
 pub fn unfailing(alloc: Global) -> Written<StopWriter> {
     full_after(alloc, AMPLE)
+}
+
+/// The two streams of a run.
+#[derive(Drop)]
+pub struct Streams {
+    /// The output.
+    pub out: Written<StopWriter>,
+    /// Standard error.
+    pub err: Written<StopWriter>,
+}
+
+impl Streams {
+    /// Streams that don't fail.
+    pub fn sound(alloc: Global) -> Streams {
+        Streams {
+            out: unfailing(alloc),
+            err: unfailing(alloc),
+        }
+    }
+
+    /// Whether these texts went to the output, flushed, and to standard error.
+    pub fn have(&self, out: &str, err: &str) -> bool {
+        self.out.writer.taken.as_slice() == out.as_bytes()
+            && self.out.writer.flushed == out.len()
+            && self.err.writer.taken.as_slice() == err.as_bytes()
+    }
 }
 
 /// A stream whose bytes and flushes are known.

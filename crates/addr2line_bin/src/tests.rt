@@ -2,82 +2,70 @@
 
 use crate::command::name_of;
 use crate::command_line::command_line;
-use crate::engine::{Exit, tell_usage};
+use crate::engine::Exit;
 use crate::input::Lines;
-use crate::run_request;
-use crate::test_streams::{failing, unfailing, words};
-use addr2line::MemoryFiles;
+use crate::test_files::{LAST_LENGTH, PLAIN, SPLIT, WAITING};
+use crate::test_runs::{request_in, run_files};
+use crate::test_streams::{Streams, failing, words};
+use crate::{answer_fault, run_request};
+use addr2line::HostFiles;
 use std::alloc::Global;
 use std::io::ErrorKind;
+use std::process::ExitCode;
 use std::test::Fail;
 
-/// More calls than any run takes.
-pub const AMPLE: u64 = 999;
-
-/// What the words of a run over a file at `f` write to both streams, of which each takes so many
-/// calls, and how it ends.
-pub fn run_of(
+// Whether a run of words over files writes these texts and ends so.
+fn goes(
     alloc: Global,
-    file: Option<&[u8]>,
     given: &[&str],
-    input: &[u8],
-    calls: [u64; 2],
-) -> Result<(Vec<u8>, Vec<u8>, Exit), Fail> {
-    let mut files = MemoryFiles::new(alloc);
-    if let Some(bytes) = file {
-        files.put("f", bytes)?;
-    }
-    let given = words(alloc, given)?;
-    let Ok(request) = command_line(alloc, given.as_slice()) else {
-        return Err(Fail::from("no request"));
-    };
-    let mut out = failing(alloc, calls[0], ErrorKind::BrokenPipe);
-    let mut err = failing(alloc, calls[1], ErrorKind::BrokenPipe);
-    let mut lines = Lines::new(input);
-    let exit = run_request(alloc, files, &request, &mut lines, &mut out, &mut err);
-    Ok((out.writer.taken, err.writer.taken, exit))
+    files: &[(&str, &[u8])],
+    want: (&str, &str, Exit),
+) -> Result<bool, Fail> {
+    let mut streams = Streams::sound(alloc);
+    let exit = run_files(alloc, given, files, b"", &mut streams)?;
+    Ok(exit == want.2 && streams.have(want.0, want.1))
 }
 
 #[test]
 fn a_file_that_cannot_be_loaded_is_told(rt: HostRuntime) -> Result<(), Fail> {
-    let cases: [(Option<&[u8]>, &str); 3] = [
+    let cases: [(&[(&str, &[u8])], &str); 3] = [
         (
-            None,
+            &[],
             "a2l: failed to load debug info: the file cannot be read\n",
         ),
         (
-            Some(b"#!/bin/sh"),
+            &[("f", b"#!/bin/sh")],
             "a2l: failed to load debug info: not an ELF file\n",
         ),
         (
-            Some(b"\x7fELF\x02\x01"),
+            &[("f", b"\x7fELF\x02\x01")],
             "a2l: failed to load debug info: malformed ELF file\n",
         ),
     ];
-    for (file, want) in cases {
-        let got = run_of(
-            rt.alloc(),
-            file,
-            &["a2l", "-e", "f", "0x10"],
-            b"",
-            [AMPLE, AMPLE],
-        )?;
-        assert!(rt; got.0.is_empty());
-        assert_eq!(rt; got.1.as_slice(), want.as_bytes());
-        assert_eq!(rt; got.2, Exit::Failed);
+    for (files, want) in cases {
+        let given = ["a2l", "-e", "f", "0x10"];
+        assert!(rt;
+            goes(rt.alloc(), &given, files, ("", want, Exit::Failed))?,
+            "{want}"
+        );
     }
     Ok(())
 }
 
 #[test]
-fn a_usage_fault_is_told(rt: HostRuntime) -> Result<(), Fail> {
-    let mut err = unfailing(rt.alloc());
-    let exit = tell_usage("a2l", &mut err);
-    assert_eq!(rt; exit, Exit::Misused);
-    assert_eq!(rt;
-        err.writer.taken.as_slice(),
-        b"a2l: usage: a2l -e FILE [OPTION].. [ADDR..]\n".as_slice()
+fn a_missing_file_of_the_host_is_told(rt: HostRuntime) -> Result<(), Fail> {
+    let mut streams = Streams::sound(rt.alloc());
+    let request = request_in(rt.alloc(), &["a2l", "-e", "/no/such/file", "10"])?;
+    let exit = run_request(
+        rt.alloc(),
+        HostFiles::new(rt),
+        &request,
+        &mut Lines::new(b"".as_slice()),
+        &mut streams.out,
+        &mut streams.err,
     );
+    let line = "a2l: failed to load debug info: the file cannot be read\n";
+    assert!(rt; exit == Exit::Failed && streams.have("", line));
     Ok(())
 }
 
@@ -101,76 +89,147 @@ fn the_name_is_the_last_part_of_word_0(rt: HostRuntime) -> Result<(), Fail> {
     Ok(())
 }
 
-// The file of `data/plain.elf`: lines 1 and 3 of "/w/a.c", from 0x10 and from 0x20 on, up to 0x30.
-const PLAIN: [u8; 533] = [
-    0x7f, 0x45, 0x4c, 0x46, 0x02, 0x01, 0x01, 0x00, 0x00, 0x00, 0x00, 0x00, 0x00, 0x00, 0x00, 0x00,
-    0x02, 0x00, 0x3e, 0x00, 0x01, 0x00, 0x00, 0x00, 0x00, 0x00, 0x00, 0x00, 0x00, 0x00, 0x00, 0x00,
-    0x00, 0x00, 0x00, 0x00, 0x00, 0x00, 0x00, 0x00, 0xd5, 0x00, 0x00, 0x00, 0x00, 0x00, 0x00, 0x00,
-    0x00, 0x00, 0x00, 0x00, 0x40, 0x00, 0x00, 0x00, 0x00, 0x00, 0x40, 0x00, 0x05, 0x00, 0x04, 0x00,
-    0x01, 0x11, 0x00, 0x10, 0x17, 0x1b, 0x08, 0x11, 0x01, 0x12, 0x06, 0x00, 0x00, 0x00, 0x1b, 0x00,
-    0x00, 0x00, 0x04, 0x00, 0x00, 0x00, 0x00, 0x00, 0x08, 0x01, 0x00, 0x00, 0x00, 0x00, 0x2f, 0x77,
-    0x00, 0x10, 0x00, 0x00, 0x00, 0x00, 0x00, 0x00, 0x00, 0x20, 0x00, 0x00, 0x00, 0x33, 0x00, 0x00,
-    0x00, 0x04, 0x00, 0x1b, 0x00, 0x00, 0x00, 0x01, 0x01, 0x01, 0xfb, 0x0e, 0x0d, 0x00, 0x01, 0x01,
-    0x01, 0x01, 0x00, 0x00, 0x00, 0x01, 0x00, 0x00, 0x01, 0x00, 0x61, 0x2e, 0x63, 0x00, 0x00, 0x00,
-    0x00, 0x00, 0x00, 0x09, 0x02, 0x10, 0x00, 0x00, 0x00, 0x00, 0x00, 0x00, 0x00, 0x01, 0xf4, 0x02,
-    0x10, 0x00, 0x01, 0x01, 0x00, 0x2e, 0x64, 0x65, 0x62, 0x75, 0x67, 0x5f, 0x61, 0x62, 0x62, 0x72,
-    0x65, 0x76, 0x00, 0x2e, 0x64, 0x65, 0x62, 0x75, 0x67, 0x5f, 0x69, 0x6e, 0x66, 0x6f, 0x00, 0x2e,
-    0x64, 0x65, 0x62, 0x75, 0x67, 0x5f, 0x6c, 0x69, 0x6e, 0x65, 0x00, 0x2e, 0x73, 0x68, 0x73, 0x74,
-    0x72, 0x74, 0x61, 0x62, 0x00, 0x00, 0x00, 0x00, 0x00, 0x00, 0x00, 0x00, 0x00, 0x00, 0x00, 0x00,
-    0x00, 0x00, 0x00, 0x00, 0x00, 0x00, 0x00, 0x00, 0x00, 0x00, 0x00, 0x00, 0x00, 0x00, 0x00, 0x00,
-    0x00, 0x00, 0x00, 0x00, 0x00, 0x00, 0x00, 0x00, 0x00, 0x00, 0x00, 0x00, 0x00, 0x00, 0x00, 0x00,
-    0x00, 0x00, 0x00, 0x00, 0x00, 0x00, 0x00, 0x00, 0x00, 0x00, 0x00, 0x00, 0x00, 0x00, 0x00, 0x00,
-    0x00, 0x00, 0x00, 0x00, 0x00, 0x01, 0x00, 0x00, 0x00, 0x01, 0x00, 0x00, 0x00, 0x00, 0x00, 0x00,
-    0x00, 0x00, 0x00, 0x00, 0x00, 0x00, 0x00, 0x00, 0x00, 0x00, 0x00, 0x00, 0x00, 0x40, 0x00, 0x00,
-    0x00, 0x00, 0x00, 0x00, 0x00, 0x0e, 0x00, 0x00, 0x00, 0x00, 0x00, 0x00, 0x00, 0x00, 0x00, 0x00,
-    0x00, 0x00, 0x00, 0x00, 0x00, 0x01, 0x00, 0x00, 0x00, 0x00, 0x00, 0x00, 0x00, 0x00, 0x00, 0x00,
-    0x00, 0x00, 0x00, 0x00, 0x00, 0x0f, 0x00, 0x00, 0x00, 0x01, 0x00, 0x00, 0x00, 0x00, 0x00, 0x00,
-    0x00, 0x00, 0x00, 0x00, 0x00, 0x00, 0x00, 0x00, 0x00, 0x00, 0x00, 0x00, 0x00, 0x4e, 0x00, 0x00,
-    0x00, 0x00, 0x00, 0x00, 0x00, 0x1f, 0x00, 0x00, 0x00, 0x00, 0x00, 0x00, 0x00, 0x00, 0x00, 0x00,
-    0x00, 0x00, 0x00, 0x00, 0x00, 0x01, 0x00, 0x00, 0x00, 0x00, 0x00, 0x00, 0x00, 0x00, 0x00, 0x00,
-    0x00, 0x00, 0x00, 0x00, 0x00, 0x1b, 0x00, 0x00, 0x00, 0x01, 0x00, 0x00, 0x00, 0x00, 0x00, 0x00,
-    0x00, 0x00, 0x00, 0x00, 0x00, 0x00, 0x00, 0x00, 0x00, 0x00, 0x00, 0x00, 0x00, 0x6d, 0x00, 0x00,
-    0x00, 0x00, 0x00, 0x00, 0x00, 0x37, 0x00, 0x00, 0x00, 0x00, 0x00, 0x00, 0x00, 0x00, 0x00, 0x00,
-    0x00, 0x00, 0x00, 0x00, 0x00, 0x01, 0x00, 0x00, 0x00, 0x00, 0x00, 0x00, 0x00, 0x00, 0x00, 0x00,
-    0x00, 0x00, 0x00, 0x00, 0x00, 0x27, 0x00, 0x00, 0x00, 0x03, 0x00, 0x00, 0x00, 0x00, 0x00, 0x00,
-    0x00, 0x00, 0x00, 0x00, 0x00, 0x00, 0x00, 0x00, 0x00, 0x00, 0x00, 0x00, 0x00, 0xa4, 0x00, 0x00,
-    0x00, 0x00, 0x00, 0x00, 0x00, 0x31, 0x00, 0x00, 0x00, 0x00, 0x00, 0x00, 0x00, 0x00, 0x00, 0x00,
-    0x00, 0x00, 0x00, 0x00, 0x00, 0x01, 0x00, 0x00, 0x00, 0x00, 0x00, 0x00, 0x00, 0x00, 0x00, 0x00,
-    0x00, 0x00, 0x00, 0x00, 0x00,
-];
-
-// Where the length of its line program's last opcode lies.
-const LAST_LENGTH: usize = 162;
-
 #[test]
 fn a_run_over_a_file(rt: HostRuntime) -> Result<(), Fail> {
-    let found = "/w/a.c:1\n/w/a.c:3\n??:0\n";
-    let none = "??:0\n??:0\n??:0\n";
     let faults = "a2l: failed to find location for 0x10: unexpected end of data\n\
         a2l: failed to find location for 0x2f: unexpected end of data\n";
-    let cases: [(u8, [u64; 2], &str, &str); 5] = [
-        (1, [AMPLE, AMPLE], found, ""),
-        (0x7f, [AMPLE, AMPLE], none, faults),
-        // An error stream that fails at once ends nothing.
-        (0x7f, [AMPLE, 0], none, ""),
-        // Nobody reads the output any more.
-        (1, [2, AMPLE], "/w/a.c:1\n", ""),
-        (1, [0, AMPLE], "", ""),
+    let cases = [
+        (1, "/w/a.c:1\n/w/a.c:3\n??:0\n", ""),
+        (0x7f, "??:0\n??:0\n??:0\n", faults),
     ];
-    for (last_length, calls, out, err) in cases {
+    for (last_length, out, err) in cases {
         let mut file = PLAIN;
         file[LAST_LENGTH] = last_length;
         let given = ["a2l", "-e", "f", "0x10", "2f", "0x30"];
-        let got = run_of(
-            rt.alloc(),
-            Some(file.as_slice()),
-            given.as_slice(),
-            b"",
-            calls,
-        )?;
-        assert_eq!(rt; got.0.as_slice(), out.as_bytes());
-        assert_eq!(rt; got.1.as_slice(), err.as_bytes());
-        assert_eq!(rt; got.2, Exit::Done);
+        let files: [(&str, &[u8]); 1] = [("f", &file)];
+        assert!(rt;
+            goes(rt.alloc(), &given, &files, (out, err, Exit::Done))?,
+            "{out}"
+        );
+    }
+    Ok(())
+}
+
+// The first case is that of a split file which is there, the next ones of one that isn't.
+#[test]
+fn split_and_supplementary_files_are_read(rt: HostRuntime) -> Result<(), Fail> {
+    let h = ("h\n/w/a.c:1\n", "", Exit::Done);
+    let missing = ("??\n/w/a.c:1\n", "", Exit::Done);
+    let unread = (
+        "",
+        "a2l: failed to load debug info: the file cannot be read\n",
+        Exit::Failed,
+    );
+    let cases: [(&[&str], &[(&str, &[u8])], (&str, &str, Exit)); 5] = [
+        (
+            &["a2l", "-f", "-e", "f", "18"],
+            &[("f", WAITING), ("/w/s.dwo", SPLIT)],
+            h,
+        ),
+        (&["a2l", "-f", "-e", "f", "18"], &[("f", WAITING)], missing),
+        (
+            &["a2l", "-f", "-e", "f", "18"],
+            &[("f", WAITING), ("/w/s.dwo", b"#!/bin/sh")],
+            missing,
+        ),
+        (
+            &["a2l", "-f", "-e", "f", "--sup", "g", "18"],
+            &[("f", WAITING), ("/w/s.dwo", SPLIT), ("g", &PLAIN)],
+            h,
+        ),
+        (
+            &["a2l", "-f", "-e", "f", "--sup", "g", "18"],
+            &[("f", WAITING), ("/w/s.dwo", SPLIT)],
+            unread,
+        ),
+    ];
+    for (given, files, want) in cases {
+        assert!(rt; goes(rt.alloc(), given, files, want)?, "{given:?}");
+    }
+    Ok(())
+}
+
+const HELP: &str = "\
+The file and line of addresses
+
+Usage: a2l [OPTIONS] [ADDR]...
+
+Arguments:
+  [ADDR]...  Addresses; without any, the lines of standard input
+
+Options:
+  -e, --exe <FILE>      The ELF file to look into
+      --sup <FILE>      Its supplementary file
+  -j, --section <NAME>  Offsets in this section
+      --all             Each address that has a line
+  -f, --functions       Print functions
+  -p, --pretty-print    Print one line a frame
+  -i, --inlines         Print inlined functions
+  -a, --addresses       Print each address first
+  -s, --basenames       Print file names alone
+  -C, --demangle        Print demangled names
+      --llvm            Print as llvm-addr2line does
+  -h, --help            Print help
+  -V, --version         Print version
+";
+
+const UNKNOWN: &str = "\
+error: unexpected argument '-x' found
+
+  tip: to pass '-x' as a value, use '-- -x'
+
+Usage: a2l [OPTIONS] [ADDR]...
+
+For more information, try '--help'.
+";
+
+const USAGE: &str = "a2l: usage: a2l -e FILE [OPTION].. [ADDR..]\n";
+
+// The status of words that ask for nothing of a file.
+fn answer(alloc: Global, given: &[&str], streams: &mut Streams) -> Result<ExitCode, Fail> {
+    let given = words(alloc, given)?;
+    match command_line(alloc, given.as_slice()) {
+        Ok(_) => Err(Fail::from("a request")),
+        Err(fault) => Ok(answer_fault(alloc, "a2l", fault, &mut streams.out, &mut streams.err)),
+    }
+}
+
+#[test]
+fn help_and_usage_go_to_their_streams(rt: HostRuntime) -> Result<(), Fail> {
+    let cases: [(&[&str], &str, &str, u8); 7] = [
+        (&["a2l", "--help"], HELP, "", 0),
+        (&["a2l", "-h"], HELP, "", 0),
+        (&["a2l", "--version"], "addr2line 0.27.1\n", "", 0),
+        (&["a2l", "-V"], "addr2line 0.27.1\n", "", 0),
+        (&["a2l", "-e", "f", "-x"], "", UNKNOWN, 2),
+        (&["a2l", "10"], "", USAGE, 2),
+        (&["a2l", "-e", "f", "--all", "10"], "", USAGE, 2),
+    ];
+    for (given, out, err, status) in cases {
+        let mut streams = Streams::sound(rt.alloc());
+        let got = answer(rt.alloc(), given, &mut streams)?;
+        assert!(rt;
+            got == ExitCode::from(status) && streams.have(out, err),
+            "{given:?}"
+        );
+    }
+    Ok(())
+}
+
+#[test]
+fn help_that_cannot_be_written_is_told(rt: HostRuntime) -> Result<(), Fail> {
+    let cases = [
+        (ErrorKind::BrokenPipe, "", 0),
+        (ErrorKind::StorageFull, "a2l: error writing output\n", 1),
+    ];
+    for (fault, err, status) in cases {
+        let mut streams = Streams::sound(rt.alloc());
+        streams.out = failing(rt.alloc(), 0, fault);
+        let got = answer(rt.alloc(), &["a2l", "--version"], &mut streams)?;
+        assert!(rt;
+            got == ExitCode::from(status) && streams.have("", err),
+            "{err}"
+        );
     }
     Ok(())
 }

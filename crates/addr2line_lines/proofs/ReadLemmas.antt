@@ -1,5 +1,5 @@
 -- Details that are read one after another (on specs/FunctionTable.antt).
-use Rattle.std.proofs.Common.{◌≡◌, ◌≢◌, ℕ, ◌+◌, ◌<◌, ◌≤◌, ◌⊎◌, ◌&&◌, Bool, true, is_ok, List, [], ◌∷◌, ◌++◌, append_assoc, drop, length, slice_get, slice_set, take, Option, Some, None, Result, Ok, Err, refl, ap, sym, subst, ◌∙◌, arith, inl, inr, zero, suc}
+use Rattle.std.proofs.Common.{◌≡◌, ◌≢◌, ℕ, ◌+◌, ◌<◌, ◌≤◌, ◌⊎◌, ◌&&◌, Bool, true, false, is_ok, List, [], ◌∷◌, ◌++◌, append_assoc, drop, length, slice_get, slice_set, take, Option, Some, None, Result, Ok, Err, refl, ap, sym, subst, ◌∙◌, arith, inl, inr, zero, suc}
 use Rattle.std.specs.List.{AllByRecursion, AllZip}
 use Rattle.std.proofs.lemmas.List.Elements.{length_all_zip}
 use Rattle.gimli_read.specs.declared.error.Error.{Error}
@@ -8,11 +8,11 @@ use Rattle.gimli_read.specs.Reading.{◌>>=◌, ExactlyUnlessOomIf}
 use Rattle.gimli.specs.Unit.{UnitRecord}
 use Rattle.addr2line_lines.specs.Details.{Detail, detail_at}
 use Rattle.addr2line_lines.specs.FoundDetails.{IsGrown}
-use Rattle.addr2line_lines.specs.FunctionTable.{AreDetailsOf, AreUnread, CachedFunction, FunctionTable, HasDetail, IsDetailOf, IsFunctionMore, IsReadAt, IsReadOf, IsReadOnce, IsTableMore, IsWithDetail, detail_fault, details_fault, details_take_memory, read_fault, takes_memory}
+use Rattle.addr2line_lines.specs.FunctionTable.{AreCachedToFault, AreDetailsOf, AreUnread, CachedFunction, FunctionTable, HasDetail, IsCachedToFault, IsDetailOf, IsFunctionMore, IsReadAt, IsReadOf, IsReadOnce, IsTableMore, IsWithDetail, detail_fault, details_fault, details_take_memory, read_fault, takes_memory}
 use Rattle.addr2line_lines.specs.References.{Scope}
 use Rattle.addr2line_lines.proofs.FunctionCacheLemmas.{no_more}
 use Rattle.addr2line_lines.proofs.FunctionLemmas.{or_first, or_second}
-use Rattle.addr2line_lines.proofs.PlaceLemmas.{all_at, all_set, all_weaker, drop_at, drop_set, drop_whole, set_same, some_at, take_set, take_whole}
+use Rattle.addr2line_lines.proofs.PlaceLemmas.{all_at, all_set, all_weaker, drop_at, drop_set, drop_whole, get_set_same, set_same, some_at, take_set, take_whole}
 
 -- whether an error is that of memory
 memory_or_not : (e : Error) → (e ≡ OutOfMemory) ⊎ (e ≡ OutOfMemory → ⊥)
@@ -141,6 +141,88 @@ fault_is scope u f right = by_detail f.detail refl
     by_detail None e = refl
     by_detail (Some d) e = ap detail_fault (sym (right d e))
 
+-- details that are all cached, or up to a fault
+pub all_to_fault : (fs : List CachedFunction) → AllByRecursion HasDetail fs → AreCachedToFault fs
+all_to_fault [] all = tt
+all_to_fault (f ∷ fs) all = subst (λ d. IsCachedToFault d (AreCachedToFault fs)) (sym all.0.1) (all_to_fault fs all.1)
+
+to_fault : (fs : List CachedFunction) (n : ℕ) (f : CachedFunction) (e : Error) → e ≢ OutOfMemory → AllByRecursion HasDetail (take n fs) → slice_get fs n ≡ Some f → f.detail ≡ Some (Err e) → AreCachedToFault fs
+to_fault [] n f e ne before at detail = tt
+to_fault (g ∷ fs) zero f e ne before at detail =
+    let same : g ≡ f = cc in
+    subst (λ d. IsCachedToFault d (AreCachedToFault fs)) (sym (ap (λ (h : CachedFunction). h.detail) same ∙ detail)) ne
+to_fault (g ∷ fs) (suc n) f e ne before at detail =
+    subst (λ d. IsCachedToFault d (AreCachedToFault fs)) (sym before.0.1) (to_fault fs n f e ne before.1 at detail)
+
+-- where they are cached up to the first fault, the one after details without a fault is cached
+next_cached : (fs : List CachedFunction) (n : ℕ) (f : CachedFunction) → AreCachedToFault fs → AllByRecursion HasDetail (take n fs) → slice_get fs n ≡ Some f → (d : Result Detail Error) × (f.detail ≡ Some d)
+next_cached [] n f all before at = absurd cc
+next_cached (g ∷ fs) zero f all before at =
+    let same : g ≡ f = cc in
+    by_detail f.detail (subst (λ (h : CachedFunction). IsCachedToFault h.detail (AreCachedToFault fs)) same all)
+  where
+    by_detail : (o : Option (Result Detail Error)) → IsCachedToFault o (AreCachedToFault fs) → (d : Result Detail Error) × (o ≡ Some d)
+    by_detail None h = absurd h
+    by_detail (Some d) h = (d, refl)
+next_cached (g ∷ fs) (suc n) f all before at =
+    next_cached fs n f (subst (λ d. IsCachedToFault d (AreCachedToFault fs)) before.0.1 all) before.1 at
+
+-- and no memory is taken
+pub no_memory_to_fault : (shares : Bool) (scope : Scope) (u : UnitRecord) (fs : List CachedFunction) → AreCachedToFault fs → details_take_memory shares scope u fs ≡ false
+no_memory_to_fault shares scope u [] all = refl
+no_memory_to_fault shares scope u (f ∷ fs) all = by_detail (no_memory_to_fault shares scope u fs) f.detail all
+  where
+    by_detail : (AreCachedToFault fs → details_take_memory shares scope u fs ≡ false) → (o : Option (Result Detail Error)) → IsCachedToFault o (AreCachedToFault fs)
+        → details_take_memory shares scope u (record { offset = f.offset; detail = o } ∷ fs) ≡ false
+    by_detail rest None h = absurd h
+    by_detail rest (Some (Ok d)) h = rest h
+    by_detail rest (Some (Err e)) h = refl
+
+-- a detail that was cached is the answer, and nothing changes
+read_cached : (scope : Scope) (u : UnitRecord) (n : ℕ) (f : CachedFunction) (old new : FunctionTable) (result : Result (Unit {0}) Error) (d : Result Detail Error) → slice_get old.functions n ≡ Some f → f.detail ≡ Some d
+    → IsReadAt scope u n old result new → new ≡ old
+read_cached scope u n f old new result d at detail k =
+    (subst (λ o. IsReadOnce scope u n f o old result new) detail (subst (λ o. IsReadOf scope u n o old result new) at k)).1
+
+-- what a fault leaves: the functions before it as they were, and its own
+record IsFault (n : ℕ) (e : Error) (old new : FunctionTable) : Type 0 where
+  pub now : CachedFunction
+  pub at : slice_get new.functions n ≡ Some now
+  pub is : now.detail ≡ Some (Err e)
+  pub before : AllByRecursion HasDetail (take n old.functions) → AllByRecursion HasDetail (take n new.functions)
+
+before_set : {X : Type 0} (P : X → Type 0) (xs : List X) (n : ℕ) (x : X) → AllByRecursion P (take n xs) → AllByRecursion P (take n (slice_set xs n x))
+before_set P [] n x all = all
+before_set P (y ∷ xs) zero x all = all
+before_set P (y ∷ xs) (suc n) x all = (all.0, before_set P xs n x all.1)
+
+fault_step : (scope : Scope) (u : UnitRecord) (n : ℕ) (f : CachedFunction) (old new : FunctionTable) (e : Error) → n < length old.functions → slice_get old.functions n ≡ Some f → e ≢ OutOfMemory → IsReadAt scope u n old (Err e) new → IsFault n e old new
+fault_step scope u n f old new e l at ne k = by_detail f.detail refl (subst (λ o. IsReadOf scope u n o old (Err e) new) at k)
+  where
+    faulty : (r : Result Detail Error) → detail_fault r ≡ Err e → r ≡ Err e
+    faulty (Ok d) q = absurd cc
+    faulty (Err x) q = let same : x ≡ e = cc in ap Err same
+
+    by_detail : (o : Option (Result Detail Error)) → f.detail ≡ o → IsReadOnce scope u n f o old (Err e) new → IsFault n e old new
+    by_detail None q h =
+        let r = h.0 ne in
+        let x : CachedFunction = record { offset = f.offset; detail = Some (detail_at scope u f.offset) } in
+        record {
+          now = x;
+          at = ap (λ fs. slice_get fs n) r.1.functions ∙ get_set_same old.functions n x l;
+          is = ap Some (faulty (detail_at scope u f.offset) r.0);
+          before = λ all. subst (λ fs. AllByRecursion HasDetail (take n fs)) (sym r.1.functions) (before_set HasDetail old.functions n x all);
+        }
+    by_detail (Some (Ok d)) q h = absurd cc
+    by_detail (Some (Err x)) q h =
+        let same : x ≡ e = cc in
+        record {
+          now = f;
+          at = ap (λ (t : FunctionTable). slice_get t.functions n) h.1 ∙ at;
+          is = q ∙ ap (λ y. Some (Err y)) same;
+          before = λ all. subst (λ (t : FunctionTable). AllByRecursion HasDetail (take n t.functions)) (sym h.1) all;
+        }
+
 -- the details of the functions before a place are read
 pub record IsReadTo (shares : Bool) (scope : Scope) (u : UnitRecord) (old now : FunctionTable) (n : ℕ) : Type 0 where
   pub kept : IsTableMore old now
@@ -148,12 +230,22 @@ pub record IsReadTo (shares : Bool) (scope : Scope) (u : UnitRecord) (old now : 
   pub fault : AreDetailsOf scope u old → details_fault scope u old.functions ≡ details_fault scope u (drop n now.functions)
   pub takes : details_take_memory shares scope u (drop n now.functions) ≡ true → details_take_memory shares scope u old.functions ≡ true
   pub cached : AllByRecursion HasDetail (take n now.functions)
+  pub same : AreCachedToFault old.functions → now ≡ old
 
 pub none_read : (shares : Bool) (scope : Scope) (u : UnitRecord) (t : FunctionTable) → IsReadTo shares scope u t t 0
-none_read shares scope u t = record { kept = table_same t; right = λ all. all; fault = λ all. refl; takes = λ e. e; cached = tt }
+none_read shares scope u t = record { kept = table_same t; right = λ all. all; fault = λ all. refl; takes = λ e. e; cached = tt; same = λ _. refl }
 
 pub same_number : (shares : Bool) (scope : Scope) (u : UnitRecord) (old now : FunctionTable) (n : ℕ) → IsReadTo shares scope u old now n → length old.functions ≡ length now.functions
 same_number shares scope u old now n h = length_all_zip IsFunctionMore old.functions now.functions h.kept.functions
+
+-- where the details are cached up to the first fault nothing changes
+pub reads_nothing : (shares : Bool) (scope : Scope) (u : UnitRecord) (old now next : FunctionTable) (n : ℕ) (result : Result (Unit {0}) Error) → IsReadTo shares scope u old now n → n < length old.functions → IsReadAt scope u n now result next
+    → AreCachedToFault old.functions → next ≡ old
+reads_nothing shares scope u old now next n result h l k ready =
+    let same = h.same ready in
+    let at = some_at now.functions n (subst (λ (t : FunctionTable). n < length t.functions) (sym same) l) in
+    let cached = next_cached now.functions n at.0 (subst (λ (t : FunctionTable). AreCachedToFault t.functions) (sym same) ready) h.cached at.1 in
+    read_cached scope u n at.0 now next result cached.0 at.1 cached.1 k ∙ same
 
 -- one more detail is read
 pub one_read : (shares : Bool) (scope : Scope) (u : UnitRecord) (old now next : FunctionTable) (n : ℕ) → IsReadTo shares scope u old now n → n < length old.functions → IsReadAt scope u n now (Ok tt) next
@@ -176,6 +268,7 @@ one_read shares scope u old now next n h l k well =
           (ap (λ o. is_ok (read_fault scope u o) && details_take_memory shares scope u (drop (suc n) now.functions)) (sym at.1)
           ∙ ap (λ r. is_ok r && details_take_memory shares scope u (drop (suc n) now.functions)) well ∙ ap (details_take_memory shares scope u) (sym next_left) ∙ e));
       cached = subst (λ fs. AllByRecursion HasDetail (take (suc n) fs)) (sym step.functions) (take_set HasDetail now.functions n step.now h.cached step.has);
+      same = λ ready. reads_nothing shares scope u old now next n (Ok tt) h l k ready;
     })
 
 -- a detail is refused
@@ -201,3 +294,15 @@ pub all_read : (shares : Bool) (scope : Scope) (u : UnitRecord) (old now : Funct
 all_read shares scope u old now n h l =
     let same = same_number shares scope u old now n h in
     (λ all. h.fault all ∙ ap (details_fault scope u) (drop_whole now.functions n (omega arith)), take_whole HasDetail now.functions n (omega arith) h.cached)
+
+-- all are cached up to a fault
+pub fault_ready : (shares : Bool) (scope : Scope) (u : UnitRecord) (old now next : FunctionTable) (n : ℕ) (e : Error) → IsReadTo shares scope u old now n → n < length old.functions → IsReadAt scope u n now (Err e) next → e ≢ OutOfMemory → AreCachedToFault next.functions
+fault_ready shares scope u old now next n e h l k ne =
+    let many = same_number shares scope u old now n h in
+    let below : n < length now.functions = omega arith in
+    let at = some_at now.functions n below in
+    let step = fault_step scope u n at.0 now next e below at.1 ne k in
+    to_fault next.functions n step.now e ne (step.before h.cached) step.at step.is
+
+pub all_ready : (shares : Bool) (scope : Scope) (u : UnitRecord) (old now : FunctionTable) (n : ℕ) → IsReadTo shares scope u old now n → length old.functions ≤ n → AreCachedToFault now.functions
+all_ready shares scope u old now n h l = all_to_fault now.functions (all_read shares scope u old now n h l).1

@@ -160,6 +160,19 @@ details_take_memory shares scope u (f ∷ functions) = takes_memory shares scope
 abbrev pub HasDetail : CachedFunction → Type 0
 HasDetail f = (d : Detail) × (f.detail ≡ Some (Ok d))
 
+-- the detail of a function is cached, and where it has no fault, so is what follows; or its fault
+-- is, which isn't OutOfMemory
+abbrev pub IsCachedToFault : Option (Result Detail Error) → Type 0 → Type 0
+IsCachedToFault None rest = ⊥
+IsCachedToFault (Some (Ok d)) rest = rest
+IsCachedToFault (Some (Err e)) rest = e ≢ OutOfMemory
+
+-- the details of functions are cached in their order, up to the first that has a fault, and that
+-- fault too
+abbrev pub AreCachedToFault : List CachedFunction → Type 0
+AreCachedToFault [] = Unit {0}
+AreCachedToFault (f ∷ functions) = IsCachedToFault f.detail (AreCachedToFault functions)
+
 -- a function is the same, and what was cached of it is
 pub record IsFunctionMore (f g : CachedFunction) : Type 0 where
   pub offset : g.offset ≡ f.offset

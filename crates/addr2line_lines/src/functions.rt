@@ -1,13 +1,14 @@
 //! The functions of a unit.
 
 ghost use Rattle.std.specs.List.{AllByRecursion};
-ghost use Rattle.std.specs.Prelude.{◌≡◌, ◌<◌, ◌==◌, false, length, map, nat_lt, option_and_then, option_map, slice_get, IfOk, IfSome, None, Ok, OnOk, Some};
+ghost use Rattle.std.specs.Prelude.{◌≡◌, ◌≢◌, ◌<◌, ◌==◌, Err, false, length, map, nat_lt, option_and_then, option_map, slice_get, IfOk, IfSome, None, Ok, OnOk, Some};
+ghost use Rattle.gimli_read.specs.declared.error.Error.TheVariants.{OutOfMemory};
 ghost use Rattle.gimli_read.specs.Reading.{ExactlyUnlessOomIf};
 ghost use Rattle.addr2line_lines.specs.Details.{inlined_chain};
 ghost use Rattle.addr2line_lines.specs.FoundDetails.{entry_among, seen_inlined};
 ghost use Rattle.addr2line_lines.specs.FoundRanges.{is_function};
 ghost use Rattle.addr2line_lines.specs.FunctionCache.{read_at};
-ghost use Rattle.addr2line_lines.specs.FunctionTable.{AreDetailsOf, AreListed, AreUnread, HasDetail, IsReadAt, IsTableMore, cached_inlined, cached_name, details_fault, details_take_memory, function_place_at, offset_at, read_fault, takes_memory};
+ghost use Rattle.addr2line_lines.specs.FunctionTable.{AreCachedToFault, AreDetailsOf, AreListed, AreUnread, HasDetail, IsReadAt, IsTableMore, cached_inlined, cached_name, details_fault, details_take_memory, function_place_at, offset_at, read_fault, takes_memory};
 ghost use Rattle.addr2line_lines.specs.Functions.{function_offset_at, functions_of, functions_take_memory, is_subprogram};
 ghost use Rattle.gimli.specs.Ranges.{ranges_at};
 ghost use Rattle.addr2line_lines.specs.RangeAttributes.{begins_well, gives_a_range};
@@ -309,12 +310,14 @@ impl<R: Reader> Functions<R> {
     }
 
     /// Reads the details of all functions, in the order of their entries, as `read` does, up to the
-    /// first fault. What was cached stays cached; where none is refused all are cached then.
+    /// first fault. What was cached stays cached; the details up to the first fault are cached then,
+    /// and that fault too.
     ///
     /// `unit` is the unit of the functions, and `scope` says where its references lead. Refused by
-    /// the first fault of a detail; may fail with `OutOfMemory` instead, only where `read` may for
-    /// a function, and no detail of a function before it has a fault. Source: DWARF 5, section
-    /// 3.3.8.
+    /// the first fault of a detail; may fail with `OutOfMemory` instead, which is not cached, only
+    /// where `read` may for a function, and no detail of a function before it has a fault. Takes no
+    /// memory, and changes nothing, where the details up to the first fault are cached, and that
+    /// fault. Source: DWARF 5, section 3.3.8.
     pub fn read_all(&mut self, scope: Scope<'_, R>, unit: &Unit<R>) -> Result<(), Error>
         requires in_order { IsScope (seen_scope scope) }
         ensures gives { AreDetailsOf (seen_scope scope.entry) unit.now self.old
@@ -325,6 +328,11 @@ impl<R: Reader> Functions<R> {
         ensures right { AreDetailsOf (seen_scope scope.entry) unit.now self.old
             → AreDetailsOf (seen_scope scope.entry) unit.now self.new }
         ensures cached { OnOk result (AllByRecursion HasDetail self.new.functions) }
+        ensures ready_for_all { result ≢ Err OutOfMemory → AreCachedToFault self.new.functions }
+        ensures exact { AreDetailsOf (seen_scope scope.entry) unit.now self.old
+            → AreCachedToFault self.old.functions
+            → result ≡ details_fault (seen_scope scope.entry) unit.now self.old.functions }
+        ensures same { AreCachedToFault self.old.functions → self.new ≡ self.old }
     {
         let count = self.functions.len();
         for place in 0..count {

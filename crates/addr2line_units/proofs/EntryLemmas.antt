@@ -60,10 +60,6 @@ module _ {R : Type 0} (scope : Scope) (u : UnitRecord) (old : UnitEntries R) (vi
   pub look_stays : seen_answer view ≡ seen_answer old.view → StayEntries old (record { view = view; functions = old.functions })
   look_stays answer = record { answer = answer; view = kept; functions = functions_stay scope u old.functions }
 
-  pub look_refused : {X : Type 0} (P : Type 0) (r : Result X Error) → IfErr r (λ e. (e ≡ OutOfMemory) × (view ≡ old.view) × P) → IfErr r (λ e. (e ≡ OutOfMemory) × ◌≡◌ {A = UnitEntries R} (record { view = view; functions = old.functions }) old)
-  look_refused P (Ok x) h = tt
-  look_refused P (Err e) h = (h.0, ap with_view h.1)
-
 -- memory may be taken at any time
 pub exactly_unless_oom : {X Y : Type 0} (may : Bool) (see : X → Y) (r : Result X Error) (given : Result Y Error) → ExactlyUnlessOomIf may see r given → ExactlyUnlessOom see r given
 exactly_unless_oom may see (Ok x) given h = h

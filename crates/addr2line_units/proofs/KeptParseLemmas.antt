@@ -224,12 +224,12 @@ module _ {R : Type 0} where
   changes_set (x ∷ vs) (suc k) w zero = inl refl
   changes_set (x ∷ vs) (suc k) w (suc n) = elim (changes_set vs k w n) [ inl e ↦ inl e | inr e ↦ inr (ap suc e) ]
 
-  got_set : (vs : List (UnitEntries R)) (n : ℕ) (w : UnitEntries R) → n < length vs → slice_get (set vs n w) n ≡ Some w
+  pub got_set : (vs : List (UnitEntries R)) (n : ℕ) (w : UnitEntries R) → n < length vs → slice_get (set vs n w) n ≡ Some w
   got_set [] n w h = absurd (omega arith)
   got_set (x ∷ vs) zero w h = refl
   got_set (x ∷ vs) (suc n) w h = got_set vs n w (omega arith)
 
-  got_entry : (vs : List (UnitEntries R)) (n : ℕ) (v : UnitEntries R) → n < length vs → v ≡ get_or vs n v → slice_get vs n ≡ Some v
+  pub got_entry : (vs : List (UnitEntries R)) (n : ℕ) (v : UnitEntries R) → n < length vs → v ≡ get_or vs n v → slice_get vs n ≡ Some v
   got_entry [] n v h e = absurd (omega arith)
   got_entry (x ∷ vs) zero v h e = ap Some (sym e)
   got_entry (x ∷ vs) (suc n) v h e = got_entry vs n v (omega arith) e

@@ -26,6 +26,7 @@ pub mod KnownLemmas
 pub mod KeptLookupLemmas
 pub mod ParseLemmas
 pub mod KeptParseLemmas
+pub mod ReadyLemmas
 pub mod ReachedLemmas
 pub mod NumberedFrames
 pub mod FramesLookupLemmas

@@ -13,8 +13,8 @@ use Rattle.addr2line_lines.specs.References.{Scope}
 use Rattle.addr2line_units.specs.declared.index.UnitRange.{UnitRange}
 use Rattle.addr2line_units.specs.Frames.{FrameRecord}
 use Rattle.addr2line_units.specs.FramesLookup.{Waits, answer_of, asked_frames, frames_of_number, or_stop, stop_along, with_answer}
-use Rattle.addr2line_units.specs.LoadLaws.{IsListed, LeaveFewer, LeaveOthers, NeedLoadsToWait, WaitForListed, is_open_at, loads_of}
-use Rattle.addr2line_units.specs.Loads.{before_others, is_of_other, load_of_number, loads_along}
+use Rattle.addr2line_units.specs.LoadLaws.{IsListed, LeaveFewer, LeaveOthers, NeedLoadsToWait, WaitForListed, loads_of}
+use Rattle.addr2line_units.specs.Loads.{before_others, is_of_other, is_open_at, load_of_number, loads_along}
 use Rattle.addr2line_units.specs.Parsed.{LeadTo}
 use Rattle.addr2line_units.specs.UnitFrames.{frames_in}
 use Rattle.addr2line_units.specs.UnitIndex.{IndexedUnit, unit_records}

@@ -132,7 +132,7 @@ module _ (d : Sections) (u : UnitRecord) where
 
 -- a parse after a parse
 module _ (reads : Reads) (scope : Scope) where
-  unit_again : (u : UnitRecord) (answer : Option (Option Sections)) → read_of_unit reads scope u (decided_answer scope.file.sections u answer None) ≡ read_of_unit reads scope u answer
+  pub unit_again : (u : UnitRecord) (answer : Option (Option Sections)) → read_of_unit reads scope u (decided_answer scope.file.sections u answer None) ≡ read_of_unit reads scope u answer
   unit_again u answer = ap (λ a. read_of_view_at a) (decided_again scope.file.sections u answer)
     where
       read_of_view_at : Option (Option Sections) → Result (Unit {0}) Error

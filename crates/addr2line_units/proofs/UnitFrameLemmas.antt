@@ -38,6 +38,14 @@ open_by d u (states.Answered a) w h = cc
 pub waiting_stays_open : {R : Type 0} (d : Sections) (u : UnitRecord) (v : UnitView R) → waits v.state ≡ true → IsViewOf d u v → is_open d u (seen_answer v) ≡ true
 waiting_stays_open d u v w h = open_by d u v.state w h
 
+-- of a unit that waits all is known that a lookup asks
+pub waiting_entries : {R : Type 0} (probe : ℕ) (s : ViewState R) (fs : LazyFunctions R) → waits s ≡ true → has_entries_by probe s fs ≡ true
+waiting_entries probe states.Undecided fs e = absurd cc
+waiting_entries probe states.Open fs e = refl
+waiting_entries probe states.Main fs e = absurd cc
+waiting_entries probe (states.Unnamed x) fs e = absurd cc
+waiting_entries probe (states.Answered a) fs e = absurd cc
+
 known_looks : {R : Type 0} (probe : ℕ) (s : ViewState R) (fs : LazyFunctions R) → has_entries_by probe s fs ≡ true → was_looked_at s ≡ true
 known_looks probe states.Undecided fs h = cc
 known_looks probe states.Open fs h = refl

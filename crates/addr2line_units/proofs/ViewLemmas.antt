@@ -2,19 +2,21 @@
 use Rattle.std.proofs.Common.{◌≡◌, ◌≢◌, ◌∙◌, ℕ, ap, sym, refl, subst, not, ◌⊎◌, inl, inr, ⊎_elim, Bool, true, false, [], Option, Some, None, is_some, is_none, option_map, IfSome, IfOk, Result, Ok, Err, if◌then◌else◌}
 use Rattle.gimli_read.specs.declared.error.Error.{Error}
 use Rattle.gimli_read.specs.declared.error.Error.TheVariants.{OutOfMemory}
+use Rattle.gimli_read.specs.declared.value.AttributeValue.{AttributeValue}
 use Rattle.gimli_read.specs.Reading.{◌>>=◌}
 use Rattle.gimli_read.specs.Section.{Section}
 use Rattle.gimli.specs.declared.unit.DwoId.{DwoId}
 use Rattle.gimli.specs.Sections.{Sections}
-use Rattle.gimli.specs.Split.{relocated}
-use Rattle.gimli.specs.Unit.{UnitRecord}
+use Rattle.gimli.specs.Split.{dwo_name_fault, dwo_name_of, relocated, string_fault_if}
+use Rattle.gimli.specs.Text.{string_fault}
+use Rattle.gimli.specs.Unit.{UnitRecord, attr_string_of}
 use Rattle.addr2line_lines.specs.References.{IsScope, Scope}
 use Rattle.addr2line_units.specs.declared.view.Answer.{Answer}
 use Rattle.addr2line_units.specs.declared.view.UnitView.{UnitView}
 use Rattle.addr2line_units.specs.declared.view.ViewState.{ViewState}
 use Rattle.addr2line_units.specs.declared.view.ViewState.TheVariants as states
 use Rattle.addr2line_units.specs.KeptViews.{IsViewOf, answer_in, scope_by, seen_answer, seen_sections, split_file_by, split_file_in, split_unit, verdict_in, view_by, waits}
-use Rattle.addr2line_units.specs.Views.{SplitLoad, View, answered_view, first_unit, first_view, load_by, load_of_unit, main_view, split_name_of, verdict, verdict_by, view_scope}
+use Rattle.addr2line_units.specs.Views.{SplitLoad, View, answered_view, first_unit, first_view, load_by, load_of_unit, main_view, split_name_of, string_if, verdict, verdict_by, view_scope}
 
 decided_by : (d : Sections) (u : UnitRecord) (load : Result (Option SplitLoad) Error) (r : Result View Error) (answer : Option (Option Sections)) → verdict_by d u load None ≡ Some r → verdict_by d u load answer ≡ Some r
 decided_by d u (Err e) r answer h = h
@@ -60,6 +62,36 @@ unnamed_by d u e (Some id) h = refl
 pub verdict_of_unnamed : (d : Sections) (u : UnitRecord) (e : Error) → is_some u.dwo_id ≡ true → split_name_of d u ≡ Err e → verdict d u None ≡ Some (Err e)
 unfolding load_of_unit
 verdict_of_unnamed d u e h k = ap (λ name. verdict_by d u (load_by d 0 u name u.dwo_id) None) k ∙ unnamed_by d u e u.dwo_id h
+
+-- the fault of a split name is that of the name
+name_fault : (d : Sections) (u : UnitRecord) → (split_name_of d u >>= λ _. Ok tt) ≡ dwo_name_fault d u
+unfolding split_name_of
+name_fault d u = by_value (dwo_name_of u)
+  where
+    by_string : (r : Result Section Error) → ((r >>= λ string. Ok (Some string)) >>= λ _. Ok tt) ≡ string_fault r
+    by_string (Ok s) = refl
+    by_string (Err e) = refl
+
+    by_value : (r : Result (Option (AttributeValue Section)) Error) → ((r >>= string_if d u) >>= λ _. Ok tt) ≡ (r >>= string_fault_if d u)
+    by_value (Err e) = refl
+    by_value (Ok None) = refl
+    by_value (Ok (Some value)) = by_string (attr_string_of d u value)
+
+-- so is the verdict of a unit that has one
+pub verdict_of_fault : (d : Sections) (u : UnitRecord) (e : Error) → is_some u.dwo_id ≡ true → dwo_name_fault d u ≡ Err e → verdict d u None ≡ Some (Err e)
+verdict_of_fault d u e h k = verdict_of_unnamed d u e h (by (split_name_of d u) (name_fault d u ∙ k))
+  where
+    by : (r : Result (Option Section) Error) → ◌≡◌ {A = Result (Unit {0}) Error} (r >>= λ _. Ok tt) (Err e) → r ≡ Err e
+    by (Ok path) x = absurd cc
+    by (Err f) x = cc
+
+-- and it is open where it has none
+pub verdict_of_no_fault : (d : Sections) (u : UnitRecord) → is_some u.dwo_id ≡ true → dwo_name_fault d u ≡ Ok tt → verdict d u None ≡ None
+verdict_of_no_fault d u h k = by (split_name_of d u) refl (name_fault d u ∙ k)
+  where
+    by : (r : Result (Option Section) Error) → split_name_of d u ≡ r → ◌≡◌ {A = Result (Unit {0}) Error} (r >>= λ _. Ok tt) (Ok tt) → verdict d u None ≡ None
+    by (Ok path) e x = verdict_of_named d u path h e
+    by (Err f) e x = absurd cc
 
 open_in : {R : Type 0} (d : Sections) (u : UnitRecord) (s : ViewState R) → waits s ≡ true → IfSome (verdict_in d u s) (λ kept. kept ≡ verdict d u (answer_in s)) → verdict d u None ≡ None
 open_in d u states.Undecided h right = cc

@@ -3,17 +3,20 @@
 -- Own: units are read in their order, up to the first that has a fault; one that waits for an
 -- answer is decided by none first. The first fault counts of the view of a unit, of its functions,
 -- and, where they are asked for, of their details in the order of the entries.
-use Rattle.std.specs.Prelude.{ℕ, zero, suc, ◌≡◌, ◌⊎◌, ◌<◌, List, ◌∷◌, slice_get, Option, Some, None, Result, Ok, Err}
+use Rattle.std.specs.Prelude.{ℕ, zero, suc, ◌≡◌, ◌⊎◌, ◌<◌, false, List, ◌∷◌, slice_get, Option, Some, None, IfSome, Result, Ok, Err}
 use Rattle.gimli_read.specs.declared.error.Error.{Error}
 use Rattle.gimli_read.specs.Reading.{◌>>=◌}
 use Rattle.gimli.specs.Sections.{Sections}
 use Rattle.gimli.specs.Unit.{UnitRecord}
 use Rattle.addr2line_lines.specs.Functions.{functions_of}
+use Rattle.addr2line_lines.specs.FunctionTable.{AreCachedToFault}
 use Rattle.addr2line_lines.specs.References.{Scope}
 use Rattle.addr2line_units.specs.declared.parses.Reads.{Reads}
 use Rattle.addr2line_units.specs.declared.parses.Reads.TheVariants as reads
 use Rattle.addr2line_units.specs.FramesLookup.{answer_of}
 use Rattle.addr2line_units.specs.KeptFunctions.{functions_fault}
+use Rattle.addr2line_units.specs.KnownEntries.{KnownEntries, NothingKnown, AllKnown, FunctionsKnown}
+use Rattle.addr2line_units.specs.Loads.{is_open_at}
 use Rattle.addr2line_units.specs.Views.{View, decided_answer, verdict, view_scope}
 
 -- the first fault of the functions of a view, and of their details where these are read
@@ -52,6 +55,20 @@ abbrev pub AreReadBefore : Reads → Scope → List UnitRecord → List (Option 
     → Type 0
 AreReadBefore reads scope us answers n =
     (m : ℕ) → m < n → read_of_number reads scope us answers m ≡ Ok tt
+
+-- what a parse reads of a unit that isn't open is known, up to the first fault, and that fault too
+abbrev pub IsReadyFor : Reads → KnownEntries → Type 0
+IsReadyFor reads NothingKnown = ⊥
+IsReadyFor reads AllKnown = Unit {0}
+IsReadyFor reads.Functions (FunctionsKnown t) = Unit {0}
+IsReadyFor reads.Details (FunctionsKnown t) = AreCachedToFault t.functions
+
+-- the same of each unit before which all can be read; none of these is open
+abbrev pub AreReadyFor : Reads → Scope → List UnitRecord → List (Option (Option Sections))
+    → List KnownEntries → Type 0
+AreReadyFor reads scope us answers known = (n : ℕ) → AreReadBefore reads scope us answers n
+    → (is_open_at scope.file.sections us answers n ≡ false)
+    × IfSome (slice_get known n) (IsReadyFor reads)
 
 -- the first answers of units after one that was read, or as they were where it had a fault
 abbrev pub unless_fault : Result (Unit {0}) Error → List (Option (Option Sections))

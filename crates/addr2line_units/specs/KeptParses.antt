@@ -1,8 +1,11 @@
 -- What is kept of the entries of all units after a parse of their functions, as the private
 -- functions see it.
-use Rattle.std.specs.Prelude.{◌≡◌, ◌⊎◌, ℕ, Bool, true, false, is_ok, List, [], ◌∷◌, slice_get}
+use Rattle.std.specs.Prelude.{◌≡◌, ◌⊎◌, ℕ, Bool, true, false, is_ok, List, [], ◌∷◌, Option, IfSome, slice_get}
 use Rattle.std.specs.List.{AllByRecursion}
+use Rattle.gimli.specs.Sections.{Sections}
+use Rattle.gimli.specs.Unit.{UnitRecord}
 use Rattle.addr2line_lines.specs.FunctionTable.{HasDetail}
+use Rattle.addr2line_lines.specs.References.{Scope}
 use Rattle.addr2line_units.specs.declared.functions.LazyFunctions.{LazyFunctions}
 use Rattle.addr2line_units.specs.declared.functions.LazyFunctions.TheVariants as lazy
 use Rattle.addr2line_units.specs.declared.parses.Reads.{Reads}
@@ -10,8 +13,10 @@ use Rattle.addr2line_units.specs.declared.parses.Reads.TheVariants as reads
 use Rattle.addr2line_units.specs.declared.unit_frames.UnitEntries.{UnitEntries}
 use Rattle.addr2line_units.specs.declared.view.ViewState.{ViewState}
 use Rattle.addr2line_units.specs.declared.view.ViewState.TheVariants as states
+use Rattle.addr2line_units.specs.FunctionParses.{AreReadBefore, IsReadyFor}
 use Rattle.addr2line_units.specs.KeptEntries.{StayEntries}
 use Rattle.addr2line_units.specs.KeptViews.{is_decided}
+use Rattle.addr2line_units.specs.KnownEntries.{known_by}
 
 -- whether the view is known, and has no fault
 abbrev pub has_view : {R : Type 0} → ViewState R → Bool
@@ -34,6 +39,17 @@ pub record HasRead {R : Type 0} (reads : Reads) (v : UnitEntries R) : Type 0 whe
 -- the same of each unit
 abbrev pub HaveRead : {R : Type 0} → Reads → List (UnitEntries R) → Type 0
 HaveRead reads views = AllByRecursion (HasRead reads) views
+
+-- the view of a unit is known, or its fault, and what is read of it, up to the first fault
+pub record IsReadyUnit {R : Type 0} (reads : Reads) (v : UnitEntries R) : Type 0 where
+  pub decided : is_decided v.view.state ≡ true
+  pub known : IsReadyFor reads (known_by v.view.state v.functions)
+
+-- the same of each unit before which all can be read
+abbrev pub AreReadyUnits : {R : Type 0} → Reads → Scope → List UnitRecord
+    → List (Option (Option Sections)) → List (UnitEntries R) → Type 0
+AreReadyUnits reads scope us answers views = (n : ℕ) → AreReadBefore reads scope us answers n
+    → IfSome (slice_get views n) (IsReadyUnit reads)
 
 -- the view of each unit is known, or its fault
 abbrev pub AreDecided : {R : Type 0} → List (UnitEntries R) → Type 0

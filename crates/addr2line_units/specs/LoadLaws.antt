@@ -7,19 +7,14 @@ use Rattle.addr2line_lines.specs.References.{Scope}
 use Rattle.addr2line_units.specs.declared.frames_lookup.Faults.{Faults}
 use Rattle.addr2line_units.specs.declared.index.UnitRange.{UnitRange}
 use Rattle.addr2line_units.specs.FramesLookup.{Waits, answer_of, asked_frames, stop_along, with_answer}
-use Rattle.addr2line_units.specs.Loads.{is_of_other, load_of_number, loads_along}
+use Rattle.addr2line_units.specs.Loads.{is_of_other, is_open_at, load_of_number, loads_along}
 use Rattle.addr2line_units.specs.UnitIndex.{IndexedUnit, unit_records}
-use Rattle.addr2line_units.specs.Views.{SplitLoad, is_open}
+use Rattle.addr2line_units.specs.Views.{SplitLoad}
 
 -- the load of the unit of a number is listed
 abbrev pub IsListed : ℕ → List SplitLoad → Type 0
 IsListed n [] = ⊥
 IsListed n (load ∷ loads) = (load.unit ≡ n) ⊎ IsListed n loads
-
--- whether there is a unit of a number and it is open
-abbrev pub is_open_at : Sections → List UnitRecord → List (Option (Option Sections)) → ℕ → Bool
-is_open_at d us answers n = elim (slice_get us n)
-    [ None ↦ false | Some u ↦ is_open d u (answer_of answers n) ]
 
 -- the loads of the units along ranges that are open with these first answers
 abbrev pub loads_of : Sections → List UnitRecord → List (Option (Option Sections))

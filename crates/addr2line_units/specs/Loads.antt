@@ -2,7 +2,7 @@
 -- (DWARF 5, sections 3.1.2 and 7.3.2).
 -- Own: an answer to a unit that is decided changes nothing; one that is forgotten can be given
 -- again. Of the units that cover an address each load is listed once, where its first range stands.
-use Rattle.std.specs.Prelude.{◌≡◌, ℕ, ◌==◌, Bool, true, ◌||◌, not, List, [], ◌∷◌, filter, set, slice_get, Option, Some, None, is_none, is_some, Result, Ok, Err}
+use Rattle.std.specs.Prelude.{◌≡◌, ℕ, ◌==◌, Bool, true, false, not, List, [], ◌∷◌, filter, set, slice_get, Option, Some, None, Result, Ok, Err}
 use Rattle.std.specs.List.{AllByRecursion}
 use Rattle.gimli_read.specs.declared.error.Error.{Error}
 use Rattle.gimli_read.specs.declared.error.Error.TheVariants.{UnknownToken}
@@ -12,7 +12,7 @@ use Rattle.gimli.specs.Unit.{UnitRecord}
 use Rattle.addr2line_units.specs.declared.index.UnitRange.{UnitRange}
 use Rattle.addr2line_units.specs.declared.view.UnitToken.{UnitToken}
 use Rattle.addr2line_units.specs.FramesLookup.{answer_of}
-use Rattle.addr2line_units.specs.Views.{SplitLoad, View, awaited_load, decided_answer, verdict}
+use Rattle.addr2line_units.specs.Views.{SplitLoad, View, awaited_load, decided_answer, is_open, verdict}
 
 -- the number of the unit that a token names
 abbrev pub token_number : UnitToken → ℕ
@@ -41,18 +41,16 @@ forget_result us n = unit_of_token us n >>= λ _. Ok tt
 abbrev pub forgotten : List (Option (Option Sections)) → ℕ → List (Option (Option Sections))
 forgotten answers n = set answers n None
 
--- whether no memory is wanted to know that a unit is decided: it has no split unit, or an answer
-abbrev pub is_settled : UnitRecord → Option (Option Sections) → Bool
-is_settled u answer = is_none u.dwo_id || is_some answer
+-- whether there is a unit of a number and it is open
+abbrev pub is_open_at : Sections → List UnitRecord → List (Option (Option Sections)) → ℕ → Bool
+is_open_at d us answers n = elim (slice_get us n)
+    [ None ↦ false | Some u ↦ is_open d u (answer_of answers n) ]
 
--- the same of the unit of a number; a number of no unit asks for nothing
-abbrev pub is_settled_at : List UnitRecord → List (Option (Option Sections)) → ℕ → Bool
-is_settled_at us answers n = elim (slice_get us n)
-    [ None ↦ true | Some u ↦ is_settled u (answer_of answers n) ]
-
--- the same of the units that ranges lead to
-abbrev pub AreSettled : List UnitRecord → List (Option (Option Sections)) → List UnitRange → Type 0
-AreSettled us answers ranges = AllByRecursion (λ r. is_settled_at us answers r.unit ≡ true) ranges
+-- none of the units that ranges lead to is open
+abbrev pub AreSettled : Sections → List UnitRecord → List (Option (Option Sections))
+    → List UnitRange → Type 0
+AreSettled d us answers ranges =
+    AllByRecursion (λ r. is_open_at d us answers r.unit ≡ false) ranges
 
 -- the load that the unit of a number waits for, none where it is decided or there is no such unit
 abbrev pub load_of_number : Sections → List UnitRecord → List (Option (Option Sections)) → ℕ

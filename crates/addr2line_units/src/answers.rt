@@ -5,7 +5,6 @@ ghost use Rattle.gimli_read.specs.declared.error.Error.TheVariants.{OutOfMemory}
 ghost use Rattle.addr2line_lines.specs.SeenScope.{seen_scope};
 ghost use Rattle.addr2line_units.specs.KeptEntries.{AreEntriesOf, StayEntries, kept_answer};
 ghost use Rattle.addr2line_units.specs.KeptViews.{IsViewOf, is_decided, seen_load, waits};
-ghost use Rattle.addr2line_units.specs.Loads.{is_settled};
 ghost use Rattle.addr2line_units.specs.Views.{decided_answer, is_open, load_of_unit};
 
 use crate::functions::LazyFunctions;
@@ -77,7 +76,8 @@ impl<R: Reader> UnitEntries<R> {
     }
 
     // Decides the unit by an answer if it is open, and else leaves it as it is. Refused
-    // `OutOfMemory` alone; then all that is kept stays, and only that it was looked at may be new.
+    // `OutOfMemory` alone, and only of an open unit; then all that is kept stays, and only that it
+    // was looked at may be new.
     pub(crate) fn answer(
         &mut self,
         alloc: Global,
@@ -97,9 +97,10 @@ impl<R: Reader> UnitEntries<R> {
             ≡ false → self.new.functions ≡ self.old.functions }
         ensures same { is_decided self.old.view.state ≡ true
             → (self.new ≡ self.old) × (result ≡ Ok tt) }
-        ensures settled { is_settled dw_unit.now (kept_answer self.old) ≡ true → result ≡ Ok tt }
+        ensures settled { is_open scope.entry.file.dwarf.now dw_unit.now (kept_answer self.old)
+            ≡ false → result ≡ Ok tt }
     {
-        self.look(scope, dw_unit)?;
+        self.look(scope, dw_unit);
         if self.is_open() {
             self.decide(alloc, scope, dw_unit, sections)?;
         }

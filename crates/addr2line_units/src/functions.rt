@@ -7,8 +7,11 @@ ghost use Rattle.gimli_read.specs.Reading.{ExactlyUnlessOomIf};
 ghost use Rattle.addr2line_lines.specs.FunctionTable.{AreUnread, HasDetail, IsTableMore};
 ghost use Rattle.addr2line_lines.specs.References.{IsScope};
 ghost use Rattle.addr2line_lines.specs.SeenScope.{seen_scope};
+ghost use Rattle.addr2line_units.specs.declared.parses.Reads.TheVariants as kinds;
 ghost use Rattle.addr2line_units.specs.Frames.{function_at};
+ghost use Rattle.addr2line_units.specs.FunctionParses.{IsReadyFor};
 ghost use Rattle.addr2line_units.specs.KeptFunctions.{AreFunctionsOf, IsPlaceIn, IsTableOf, ReadsNoOther, StayFunctions, are_many, find_takes_memory, function_of_place, functions_fault, has_function, has_table, kept_functions, reading_takes_memory, table_takes_memory, were_read};
+ghost use Rattle.addr2line_units.specs.KnownEntries.{known_functions};
 ghost use Rattle.addr2line_units.specs.Parsed.{IsNotOom};
 ghost use Rattle.addr2line_units.specs.UnitFrames.{is_many};
 
@@ -161,7 +164,8 @@ impl<R: Reader> LazyFunctions<R> {
 
     // Reads the functions of a view and all their details, in the order of their entries, up to the
     // first fault; what was read is kept, the fault too. May fail with `OutOfMemory` instead, only
-    // where the functions are not kept, or memory is taken for a detail before any fault.
+    // where the functions are not kept, or memory is taken for a detail before any fault. Takes no
+    // memory, and changes nothing, where all is kept up to the first fault.
     pub(crate) fn read_all(
         &mut self,
         alloc: Global,
@@ -180,6 +184,12 @@ impl<R: Reader> LazyFunctions<R> {
             (AllByRecursion HasDetail (kept_functions self.new).functions) }
         ensures ready { OnOk result ((probe : ℕ)
             → find_takes_memory probe self.new ≡ are_many probe (kept_functions self.new)) }
+        ensures ready_for_all { IsNotOom result
+            → IsReadyFor kinds.Details (known_functions self.new) }
+        ensures exact { IsReadyFor kinds.Details (known_functions self.old)
+            → result ≡ functions_fault (seen_scope scope.entry) view.now }
+        ensures same { IsReadyFor kinds.Details (known_functions self.old)
+            → self.new ≡ self.old }
     {
         self.cache(alloc, scope, view)?;
         match self {

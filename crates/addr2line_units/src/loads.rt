@@ -1,6 +1,6 @@
 //! Answers to the loads of units that no lookup waits for, and the loads that an address waits for.
 
-ghost use Rattle.std.specs.Prelude.{◌≡◌, ◌≢◌, ◌⊎◌, ◌++◌, ◌<◌, ℕ, IfErr, IfOk, IsOk, None, Ok, OnOk, Some, length, map, not, option_map, slice_get, true};
+ghost use Rattle.std.specs.Prelude.{◌≡◌, ◌≢◌, ◌⊎◌, ◌++◌, ◌<◌, ℕ, IfErr, IfOk, IsOk, None, Ok, OnOk, Some, false, length, map, not, option_map, slice_get, true};
 ghost use Rattle.std.specs.List.{AllByRecursion};
 ghost use Rattle.std.specs.Option.{option_to_list};
 ghost use Rattle.gimli_read.specs.declared.error.Error.TheVariants.{OutOfMemory};
@@ -13,10 +13,10 @@ ghost use Rattle.addr2line_units.specs.KeptEntries.{AreEntriesOf, StayEntries, k
 ghost use Rattle.addr2line_units.specs.KeptLookups.{HaveEntriesOf, StayAllEntries, answers_in, decided_at, scope_in};
 ghost use Rattle.addr2line_units.specs.KeptViews.{is_decided, seen_load};
 ghost use Rattle.addr2line_units.specs.ListedLoads.{MarksLoad, MarksUnit, if_new, is_marked};
-ghost use Rattle.addr2line_units.specs.Loads.{AreSettled, forget_result, forgotten, is_settled, is_settled_at, load_of_number, load_result, loads_along, view_fault};
+ghost use Rattle.addr2line_units.specs.Loads.{AreSettled, forget_result, forgotten, is_open_at, load_of_number, load_result, loads_along, view_fault};
 ghost use Rattle.addr2line_units.specs.Parsed.{IsNotOom};
 ghost use Rattle.addr2line_units.specs.UnitRangesLeft.{ranges_left};
-ghost use Rattle.addr2line_units.specs.Views.{awaited_load, verdict};
+ghost use Rattle.addr2line_units.specs.Views.{awaited_load, is_open, verdict};
 
 use crate::range_iter::UnitRangeIter;
 use crate::sup::SupUnits;
@@ -67,8 +67,8 @@ impl<R: Reader> ResUnits<R> {
     ///
     /// Refused `UnknownToken` where there is no such unit; then nothing is changed. Refused by the
     /// fault of the view that the unit has then; the unit is decided all the same. May fail with
-    /// `OutOfMemory` instead, unless the unit is known to be decided; then all that is kept stays,
-    /// and only that the unit was looked at may be new.
+    /// `OutOfMemory` instead, unless the unit is decided; then all that is kept stays, and only that
+    /// the unit was looked at may be new.
     pub fn load_unit(
         &mut self,
         alloc: Global,
@@ -98,8 +98,8 @@ impl<R: Reader> ResUnits<R> {
             × (result ≡ load_result dwarf.now self.old.dw_units.items
             (answers_in self.old.entries.items) token.number
             (option_map (λ d. d.value) sections)) }
-        ensures settled { is_settled_at self.old.dw_units.items
-            (answers_in self.old.entries.items) token.number ≡ true
+        ensures settled { is_open_at dwarf.now self.old.dw_units.items
+            (answers_in self.old.entries.items) token.number ≡ false
             → result ≡ load_result dwarf.now self.old.dw_units.items
             (answers_in self.old.entries.items) token.number
             (option_map (λ d. d.value) sections) }
@@ -171,7 +171,7 @@ impl<R: Reader> UnitEntries<R> {
     // The load of the unit of a number, if it waits for one and isn't marked, which it is then.
     // Whether it waits is looked for, unless that was done.
     //
-    // Refused `OutOfMemory` alone, and not where the unit is known to be decided.
+    // Refused `OutOfMemory` alone, and only of an open unit.
     fn new_load(
         &mut self,
         dwarf: &Rc<Dwarf<R>>,
@@ -190,13 +190,13 @@ impl<R: Reader> UnitEntries<R> {
             (awaited_load dwarf.now.value number dw_unit.now (kept_answer self.old))
             marks.old.items marks.new.items) }
         ensures decided { is_decided self.old.view.state ≡ true → result ≡ Ok None }
-        ensures settled { is_settled dw_unit.now (kept_answer self.old) ≡ true
+        ensures settled { is_open dwarf.now.value dw_unit.now (kept_answer self.old) ≡ false
             → result ≡ Ok None }
         ensures refused { IfErr result (λ e. e ≡ OutOfMemory) }
         ensures kept { AreEntriesOf (seen_scope scope.entry) dw_unit.now self.new }
         ensures stay { StayEntries self.old self.new }
     {
-        self.look(scope, dw_unit)?;
+        self.look(scope, dw_unit);
         if !self.is_open() {
             return Ok(None);
         }
@@ -227,8 +227,8 @@ fn new_load_at<R: Reader>(
         (load_of_number dwarf.now.value dw_units.now (answers_in entries.old.items) number)
         marks.old.items marks.new.items) }
     ensures decided { decided_at entries.old.items number ≡ true → result ≡ Ok None }
-    ensures settled { is_settled_at dw_units.now (answers_in entries.old.items) number ≡ true
-        → result ≡ Ok None }
+    ensures settled { is_open_at dwarf.now.value dw_units.now (answers_in entries.old.items) number
+        ≡ false → result ≡ Ok None }
     ensures refused { IfErr result (λ e. e ≡ OutOfMemory) }
     ensures kept { HaveEntriesOf (scope_in dwarf.now.value dw_units.now sup.now) dw_units.now
         entries.new.items }
@@ -266,7 +266,7 @@ fn push_if<R: Reader>(
 // The loads of the open units that ranges lead to, each once, in the order of its first range.
 // Whether a unit is open is looked for, unless that was done.
 //
-// Refused `OutOfMemory` alone, and not where all these units are known to be decided.
+// Refused `OutOfMemory` alone, and not where none of these units is open.
 fn read_loads<R: Reader>(
     alloc: Global,
     dwarf: &Rc<Dwarf<R>>,
@@ -283,7 +283,7 @@ fn read_loads<R: Reader>(
     ensures refused { IfErr result (λ e. e ≡ OutOfMemory) }
     ensures memory { AllByRecursion (λ r. decided_at entries.old.items r.unit ≡ true)
         (ranges_left ranges.entry) → IsOk result }
-    ensures settled { AreSettled dw_units.now (answers_in entries.old.items)
+    ensures settled { AreSettled dwarf.now.value dw_units.now (answers_in entries.old.items)
         (ranges_left ranges.entry) → IsOk result }
     ensures kept { HaveEntriesOf (scope_in dwarf.now.value dw_units.now sup.now) dw_units.now
         entries.new.items }
@@ -302,7 +302,7 @@ impl<R: Reader> ResUnits<R> {
     /// The loads of the open units that cover an address, each once, in the order of its first
     /// range. Whether a unit is open is looked for and kept.
     ///
-    /// Refused `OutOfMemory` alone, and not where all these units are known to be decided.
+    /// Refused `OutOfMemory` alone, and not where none of these units is open.
     pub fn preload(
         &mut self,
         alloc: Global,
@@ -318,8 +318,8 @@ impl<R: Reader> ResUnits<R> {
         ensures refused { IfErr result (λ e. e ≡ OutOfMemory) }
         ensures memory { AllByRecursion (λ r. decided_at self.old.entries.items r.unit ≡ true)
             (cover probe self.old.ranges) → IsOk result }
-        ensures settled { AreSettled self.old.dw_units.items (answers_in self.old.entries.items)
-            (cover probe self.old.ranges) → IsOk result }
+        ensures settled { AreSettled dwarf.now.value self.old.dw_units.items
+            (answers_in self.old.entries.items) (cover probe self.old.ranges) → IsOk result }
         ensures answers { answers_in self.new.entries.items
             ≡ answers_in self.old.entries.items }
         ensures stay { StayAllEntries self.old.entries.items self.new.entries.items }

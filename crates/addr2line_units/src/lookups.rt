@@ -1,6 +1,6 @@
 //! Lookups of frames over the units of a context, and the answers to their loads.
 
-ghost use Rattle.std.specs.Prelude.{◌≡◌, ◌≢◌, ◌&&◌, ◌<◌, ◌≤◌, ℕ, None, Some, set, IfErr, IfOk, IfSome, Ok, OnOk, length, not, option_map, slice_get, true};
+ghost use Rattle.std.specs.Prelude.{◌≡◌, ◌≢◌, ◌&&◌, ◌<◌, ◌≤◌, ℕ, None, Some, set, IfErr, IfOk, IfSome, Ok, OnOk, false, length, not, option_map, slice_get, true};
 ghost use Rattle.gimli_read.specs.declared.error.Error.TheVariants.{OutOfMemory};
 ghost use Rattle.gimli_read.specs.Reading.{ExactlyUnlessOom};
 ghost use Rattle.addr2line_lines.specs.References.{IsScope};
@@ -18,7 +18,7 @@ ghost use Rattle.addr2line_units.specs.KeptFunctions.{IsPlaceIn, function_of_pla
 ghost use Rattle.addr2line_units.specs.KeptLookups.{HaveEntriesOf, HaveViewsOf, IsFramePlaceIn, IsStopIn, ReadsOnly, StayAllEntries, WaitsIn, answers_in, decided_at, frames_at_place, has_frames_at, scope_in, seen_stop, sup_file, waits_at};
 ghost use Rattle.addr2line_units.specs.KeptViews.{seen_load};
 ghost use Rattle.addr2line_units.specs.SeenUnit.{seen_unit};
-ghost use Rattle.addr2line_units.specs.Loads.{is_settled_at};
+ghost use Rattle.addr2line_units.specs.Loads.{is_open_at};
 ghost use Rattle.addr2line_units.specs.Views.{load_of_unit, parts_of};
 ghost use Rattle.addr2line_units.specs.Parsed.{IsNotOom, ParsesOnly};
 
@@ -223,8 +223,8 @@ impl<R: Reader> ResUnits<R> {
     /// Decides the unit of a number by an answer to its load if it is open, and else leaves it as
     /// it is.
     ///
-    /// Refused `OutOfMemory` alone; then all that is kept stays, and only that the unit was looked
-    /// at may be new. Takes no memory for a unit that is known to be decided.
+    /// Refused `OutOfMemory` alone, and only of an open unit; then all that is kept stays, and only
+    /// that the unit was looked at may be new.
     pub fn answer(
         &mut self,
         alloc: Global,
@@ -244,8 +244,8 @@ impl<R: Reader> ResUnits<R> {
         ensures decided { OnOk result (decided_at self.new.entries.items number ≡ true) }
         ensures same { decided_at self.old.entries.items number ≡ true
             → (self.new.entries.items ≡ self.old.entries.items) × (result ≡ Ok tt) }
-        ensures settled { is_settled_at self.old.dw_units.items
-            (answers_in self.old.entries.items) number ≡ true → result ≡ Ok tt }
+        ensures settled { is_open_at dwarf.now self.old.dw_units.items
+            (answers_in self.old.entries.items) number ≡ false → result ≡ Ok tt }
         ensures others { (n : ℕ) → n ≢ number → slice_get self.new.entries.items n
             ≡ slice_get self.old.entries.items n }
         ensures refused { IfErr result (λ e. (e ≡ OutOfMemory)

@@ -6,12 +6,13 @@ ghost use Rattle.addr2line_lines.specs.References.{IsScope};
 ghost use Rattle.addr2line_lines.specs.SeenScope.{seen_scope};
 ghost use Rattle.addr2line_units.specs.declared.parses.Reads.TheVariants.{Details, Functions};
 ghost use Rattle.addr2line_units.specs.FramesLookup.{with_answer};
-ghost use Rattle.addr2line_units.specs.FunctionParses.{AreFirstDecided, AreReadBefore, answers_after, read_of_functions, read_of_number, read_of_unit, read_of_units, read_of_view};
+ghost use Rattle.addr2line_units.specs.FunctionParses.{AreFirstDecided, AreReadBefore, AreReadyFor, IsReadyFor, answers_after, read_of_functions, read_of_number, read_of_unit, read_of_units, read_of_view};
 ghost use Rattle.addr2line_units.specs.KeptEntries.{AreEntriesOf, StayEntries, kept_answer};
 ghost use Rattle.addr2line_units.specs.KeptFunctions.{AreFunctionsOf, StayFunctions};
 ghost use Rattle.addr2line_units.specs.KeptLookups.{HaveEntriesOf, StayAllEntries, answers_in, has_entries_at, scope_in};
-ghost use Rattle.addr2line_units.specs.KeptParses.{AreDecided, ChangesOnly, HasRead, HaveFunctions, HaveRead, StayDecided};
+ghost use Rattle.addr2line_units.specs.KeptParses.{AreDecided, AreReadyUnits, ChangesOnly, HasRead, HaveFunctions, HaveRead, IsReadyUnit, StayDecided};
 ghost use Rattle.addr2line_units.specs.KeptViews.{is_decided, seen_answer};
+ghost use Rattle.addr2line_units.specs.KnownEntries.{known_by, known_functions, known_in};
 ghost use Rattle.addr2line_units.specs.Parsed.{IsNotOom};
 ghost use Rattle.addr2line_units.specs.Views.{decided_answer, verdict};
 
@@ -36,7 +37,8 @@ pub enum Reads {
 
 impl<R: Reader> LazyFunctions<R> {
     // Reads the functions of a view, unless they were read, and keeps them, or their fault. Refused
-    // by that fault; may fail with `OutOfMemory` instead, only where they were not read.
+    // by that fault; may fail with `OutOfMemory` instead, only where they were not read. Changes
+    // nothing where they were, or their fault is kept.
     fn read_alone(
         &mut self,
         alloc: Global,
@@ -50,6 +52,11 @@ impl<R: Reader> LazyFunctions<R> {
         ensures stay { StayFunctions self.old self.new }
         ensures read { OnOk result (HaveFunctions Functions self.new) }
         ensures memory { HaveFunctions Functions self.old → result ≡ Ok tt }
+        ensures ready_for_all { IsNotOom result
+            → IsReadyFor Functions (known_functions self.new) }
+        ensures exact { IsReadyFor Functions (known_functions self.old)
+            → result ≡ read_of_functions Functions (seen_scope scope.entry) view.now }
+        ensures same { IsReadyFor Functions (known_functions self.old) → self.new ≡ self.old }
     {
         self.cache(alloc, scope, view)?;
         match self {
@@ -75,6 +82,10 @@ impl<R: Reader> LazyFunctions<R> {
         ensures stay { StayFunctions self.old self.new }
         ensures read { OnOk result (HaveFunctions reads self.new) }
         ensures memory { HaveFunctions reads self.old → result ≡ Ok tt }
+        ensures ready_for_all { IsNotOom result → IsReadyFor reads (known_functions self.new) }
+        ensures exact { IsReadyFor reads (known_functions self.old)
+            → result ≡ read_of_functions reads (seen_scope scope.entry) view.now }
+        ensures same { IsReadyFor reads (known_functions self.old) → self.new ≡ self.old }
     {
         match reads {
             Reads::Functions => self.read_alone(alloc, scope, view),
@@ -105,6 +116,13 @@ fn read_in_view<'x, R: Reader>(
         (record { view = view.now; functions = functions.new })) }
     ensures memory { HasRead reads (record { view = view.now; functions = functions.old })
         → result ≡ Ok tt }
+    ensures ready_for_all { IsNotOom result
+        → IsReadyFor reads (known_by view.now.state functions.new) }
+    ensures exact { IsReadyFor reads (known_by view.now.state functions.old)
+        → result ≡ read_of_view reads (seen_scope scope.entry)
+        (verdict scope.entry.file.dwarf.now dw_unit.now (seen_answer view.now)) }
+    ensures same { IsReadyFor reads (known_by view.now.state functions.old)
+        → functions.new ≡ functions.old }
 {
     let unit = view.unit_ref(scope.file.dwarf, dw_unit)?;
     functions.read(alloc, view.scope_of(scope), unit.unit, reads)
@@ -116,7 +134,8 @@ impl<R: Reader> UnitEntries<R> {
     // by none first.
     //
     // Refused by the first fault of the view, its functions and the details; may fail with
-    // `OutOfMemory` instead, only where something of these isn't kept.
+    // `OutOfMemory` instead, only where something of these isn't kept. Takes no memory, and changes
+    // nothing, where the view and what is read of it are kept, up to the first fault.
     fn read<'x>(
         &mut self,
         alloc: Global,
@@ -137,6 +156,10 @@ impl<R: Reader> UnitEntries<R> {
         ensures stay { is_decided self.old.view.state ≡ true → StayEntries self.old self.new }
         ensures read { OnOk result (HasRead reads self.new) }
         ensures memory { HasRead reads self.old → result ≡ Ok tt }
+        ensures ready_for_all { IsNotOom result → IsReadyUnit reads self.new }
+        ensures exact { IsReadyUnit reads self.old → result ≡ read_of_unit reads
+            (seen_scope scope.entry) dw_unit.now (kept_answer self.old) }
+        ensures same { IsReadyUnit reads self.old → self.new ≡ self.old }
     {
         self.answer(alloc, scope, dw_unit, None)?;
         let UnitEntries { view, functions } = self;
@@ -171,6 +194,13 @@ fn read_functions_in<R: Reader>(
     ensures read { OnOk result (IfSome (slice_get entries.new.items number) (HasRead reads)) }
     ensures memory { IfSome (slice_get entries.old.items number) (HasRead reads)
         → result ≡ Ok tt }
+    ensures ready_for_all { IsNotOom result
+        → IfSome (slice_get entries.new.items number) (IsReadyUnit reads) }
+    ensures exact { IfSome (slice_get entries.old.items number) (IsReadyUnit reads)
+        → result ≡ read_of_number reads (seen_scope scope.entry) scope.entry.file.units.now
+        (answers_in entries.old.items) number }
+    ensures same { IfSome (slice_get entries.old.items number) (IsReadyUnit reads)
+        → entries.new.items ≡ entries.old.items }
 {
     let Some(dw_unit) = scope.file.units.get(number) else {
         return Ok(());
@@ -205,6 +235,15 @@ fn read_all_functions<R: Reader>(
         entries.old.items entries.new.items }
     ensures read { OnOk result (HaveRead reads entries.new.items) }
     ensures memory { HaveRead reads entries.old.items → result ≡ Ok tt }
+    ensures ready_for_all { IsNotOom result → AreReadyUnits reads (seen_scope scope.entry)
+        scope.entry.file.units.now (answers_in entries.old.items) entries.new.items }
+    ensures exact { AreReadyUnits reads (seen_scope scope.entry) scope.entry.file.units.now
+        (answers_in entries.old.items) entries.old.items
+        → result ≡ read_of_units reads (seen_scope scope.entry) scope.entry.file.units.now
+        (answers_in entries.old.items) }
+    ensures same { AreReadyUnits reads (seen_scope scope.entry) scope.entry.file.units.now
+        (answers_in entries.old.items) entries.old.items
+        → entries.new.items ≡ entries.old.items }
 {
     let count = entries.len();
     for number in 0..count {
@@ -215,14 +254,14 @@ fn read_all_functions<R: Reader>(
 
 impl<R: Reader> ResUnits<R> {
     /// Reads the functions of all units in their order, or their functions and the details of these
-    /// in the order of the entries, unless they are kept, and keeps them, or the fault. A unit that
-    /// waits for an answer is decided by none first. The units behind the first fault are left as
-    /// they are.
+    /// in the order of the entries, up to the first fault, and keeps them, that fault too. A unit
+    /// that waits for an answer is decided by none first. The units behind the first fault are left
+    /// as they are.
     ///
     /// Refused by the first fault of a view, its functions and the details; may fail with
     /// `OutOfMemory` instead, which is never kept: then some of the first units that it would
-    /// decide are decided. Takes no memory where all that it reads is kept, without a fault. Source: DWARF 5, sections 3.3.1
-    /// and 3.3.8.
+    /// decide are decided. Takes no memory, and changes nothing, where all that it reads is kept,
+    /// up to the first fault, and that fault. Source: DWARF 5, sections 3.3.1 and 3.3.8.
     pub fn read_functions(
         &mut self,
         alloc: Global,
@@ -255,6 +294,19 @@ impl<R: Reader> ResUnits<R> {
         ensures memory { HaveRead reads self.old.entries.items → result ≡ Ok tt }
         ensures same { HaveRead reads self.old.entries.items
             → StayAllEntries self.old.entries.items self.new.entries.items }
+        ensures ready_for_all { IsNotOom result → AreReadyFor reads
+            (scope_in dwarf.now self.old.dw_units.items sup.now) self.old.dw_units.items
+            (answers_in self.new.entries.items) (known_in self.new.entries.items) }
+        ensures exact { AreReadyFor reads (scope_in dwarf.now self.old.dw_units.items sup.now)
+            self.old.dw_units.items (answers_in self.old.entries.items)
+            (known_in self.old.entries.items)
+            → result ≡ read_of_units reads
+            (scope_in dwarf.now self.old.dw_units.items sup.now) self.old.dw_units.items
+            (answers_in self.old.entries.items) }
+        ensures unchanged { AreReadyFor reads
+            (scope_in dwarf.now self.old.dw_units.items sup.now) self.old.dw_units.items
+            (answers_in self.old.entries.items) (known_in self.old.entries.items)
+            → self.new.entries.items ≡ self.old.entries.items }
         ensures dw_units { self.new.dw_units.items ≡ self.old.dw_units.items }
         ensures units { self.new.units.items ≡ self.old.units.items }
         ensures ranges { self.new.ranges ≡ self.old.ranges }

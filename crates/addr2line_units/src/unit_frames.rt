@@ -9,7 +9,6 @@ ghost use Rattle.addr2line_units.specs.CachedLines.{AreLinesOf, StaysUnit, index
 ghost use Rattle.addr2line_units.specs.KeptEntries.{AreEntriesOf, AreFramesIn, AreFresh, ReadsEntriesOf, StayEntries, frames_of_place, has_entries, has_entries_by, kept_answer};
 ghost use Rattle.addr2line_units.specs.KeptFunctions.{IsPlaceIn, ReadsNoOther, StayFunctions, function_of_place, kept_functions};
 ghost use Rattle.addr2line_units.specs.KeptViews.{is_decided, seen_answer, waits, was_looked_at};
-ghost use Rattle.addr2line_units.specs.Loads.{is_settled};
 ghost use Rattle.addr2line_units.specs.Parsed.{IsNotOom};
 ghost use Rattle.addr2line_units.specs.UnitFrames.{asks_lines_in, frames_in, function_in, has_many};
 ghost use Rattle.addr2line_units.specs.Views.{is_open};
@@ -88,20 +87,16 @@ impl<R: Reader> UnitEntries<R> {
         }
     }
 
-    // Looks whether the unit waits for an answer, unless that was done. Refused `OutOfMemory`
-    // alone, and only before it was done.
-    pub(crate) fn look(&mut self, scope: Scope<'_, R>, dw_unit: &Unit<R>) -> Result<(), Error>
+    // Looks whether the unit waits for an answer, unless that was done. Takes no memory.
+    pub(crate) fn look(&mut self, scope: Scope<'_, R>, dw_unit: &Unit<R>)
         requires kept { AreEntriesOf (seen_scope scope) dw_unit.now self.old }
         ensures kept { AreEntriesOf (seen_scope scope.entry) dw_unit.now self.new }
-        ensures looked { OnOk result (was_looked_at self.new.view.state ≡ true) }
+        ensures looked { was_looked_at self.new.view.state ≡ true }
         ensures stay { StayEntries self.old self.new }
         ensures functions { self.new.functions ≡ self.old.functions }
-        ensures same { was_looked_at self.old.view.state ≡ true
-            → (self.new ≡ self.old) × (result ≡ Ok tt) }
-        ensures refused { IfErr result (λ e. (e ≡ OutOfMemory) × (self.new ≡ self.old)) }
-        ensures settled { is_settled dw_unit.now (kept_answer self.old) ≡ true → result ≡ Ok tt }
+        ensures same { was_looked_at self.old.view.state ≡ true → self.new ≡ self.old }
     {
-        self.view.look(scope.file.dwarf, dw_unit)
+        self.view.look(scope.file.dwarf, dw_unit);
     }
 
     // The function at an address in the unit's view, none where no function holds it. The functions
@@ -180,7 +175,7 @@ pub(crate) fn find_frames_in<'x, R: Reader>(
         → IsNotOom result }
     ensures raised { looks.old ≤ looks.new }
 {
-    entries.look(scope, dw_unit)?;
+    entries.look(scope, dw_unit);
     if entries.view.is_open() {
         return Ok(UnitFrames::Open);
     }

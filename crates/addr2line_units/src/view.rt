@@ -145,24 +145,19 @@ fn read_split_unit<R: Reader>(
     Ok(Some(unit))
 }
 
-// Whether a unit waits for an answer, its view, or the fault of its split file's name. Refused
-// `OutOfMemory` alone, of a unit with the identifier of a split unit.
-fn first_state<R: Reader>(dwarf: &Dwarf<R>, unit: &Unit<R>) -> Result<ViewState<R>, Error>
-    ensures gives { IfOk result (λ s. verdict_in dwarf.now unit.now s
-        ≡ Some (verdict dwarf.now unit.now None)) }
-    ensures answer { IfOk result (λ s. answer_in s ≡ None) }
-    ensures refused { IfErr result (λ e. (e ≡ OutOfMemory)
-        × (is_some unit.now.dwo_id ≡ true)) }
-    ensures memory { R.shares ≡ false → IfErr result (λ e.
-        split_name_of dwarf.now unit.now ≡ Err e) }
+// Whether a unit waits for an answer, its view, or the fault of its split file's name. Takes no
+// memory.
+fn first_state<R: Reader>(dwarf: &Dwarf<R>, unit: &Unit<R>) -> ViewState<R>
+    ensures gives { verdict_in dwarf.now unit.now result
+        ≡ Some (verdict dwarf.now unit.now None) }
+    ensures answer { answer_in result ≡ None }
 {
     if unit.dwo_id.is_none() {
-        return Ok(ViewState::Main);
+        return ViewState::Main;
     }
-    match read_split_name(dwarf, unit) {
-        Ok(_) => Ok(ViewState::Open),
-        Err(Error::OutOfMemory) => Err(Error::OutOfMemory),
-        Err(error) => Ok(ViewState::Unnamed(error)),
+    match unit.check_dwo_name(dwarf) {
+        Ok(()) => ViewState::Open,
+        Err(error) => ViewState::Unnamed(error),
     }
 }
 
@@ -206,22 +201,17 @@ impl<R: Reader> UnitView<R> {
         }
     }
 
-    // Looks whether the unit needs an answer, unless that was done. Refused `OutOfMemory` alone,
-    // and only before it was done.
-    pub(crate) fn look(&mut self, dwarf: &Dwarf<R>, dw_unit: &Unit<R>) -> Result<(), Error>
+    // Looks whether the unit needs an answer, unless that was done. Takes no memory.
+    pub(crate) fn look(&mut self, dwarf: &Dwarf<R>, dw_unit: &Unit<R>)
         requires view { IsViewOf dwarf.now dw_unit.now self.old }
         ensures view { IsViewOf dwarf.now dw_unit.now self.new }
-        ensures looked { OnOk result (was_looked_at self.new.state ≡ true) }
-        ensures kept { was_looked_at self.old.state ≡ true
-            → (self.new ≡ self.old) × (result ≡ Ok tt) }
+        ensures looked { was_looked_at self.new.state ≡ true }
+        ensures kept { was_looked_at self.old.state ≡ true → self.new ≡ self.old }
         ensures answer { seen_answer self.new ≡ seen_answer self.old }
-        ensures refused { IfErr result (λ e. (e ≡ OutOfMemory) × (self.new ≡ self.old)
-            × (is_some dw_unit.now.dwo_id ≡ true)) }
     {
         if matches!(self.state, ViewState::Undecided) {
-            self.state = first_state(dwarf, dw_unit)?;
+            self.state = first_state(dwarf, dw_unit);
         }
-        Ok(())
     }
 
     // Whether the unit waits for an answer, as far as it was looked at.

@@ -1,5 +1,5 @@
 -- Split files and what they take from the file that they belong to (DWARF 5, section 7.3.2).
-use Rattle.std.specs.Prelude.{ℕ, nat_lt, Option, Result, Ok, if◌then◌else◌}
+use Rattle.std.specs.Prelude.{ℕ, nat_lt, Option, Some, None, Result, Ok, if◌then◌else◌}
 use Rattle.gimli_read.specs.declared.error.Error.{Error}
 use Rattle.gimli_read.specs.declared.value.AttributeValue.{AttributeValue}
 use Rattle.gimli_read.specs.Section.{Section}
@@ -7,7 +7,8 @@ use Rattle.gimli_read.specs.Reading.{◌>>=◌}
 use Rattle.gimli.specs.declared.dwarf.DwarfFileType.TheVariants.{Dwo}
 use Rattle.gimli.specs.Sections.{Sections}
 use Rattle.gimli.specs.Record.{root_values_of}
-use Rattle.gimli.specs.Unit.{UnitRecord}
+use Rattle.gimli.specs.Text.{string_fault}
+use Rattle.gimli.specs.Unit.{UnitRecord, attr_string_of}
 
 -- the sections of a split file of a parent: addresses, range lists of versions 2 to 4 and the
 -- supplementary file are the parent's
@@ -23,6 +24,16 @@ split_sections split parent = record split {
 abbrev pub dwo_name_of : UnitRecord → Result (Option (AttributeValue Section)) Error
 dwo_name_of u =
     root_values_of u.header.encoding u.abbreviations u.header.entries >>= λ root. Ok root.dwo_name
+
+-- the fault of the string of a value, if there is a value, and it has one
+abbrev pub string_fault_if : Sections → UnitRecord → Option (AttributeValue Section)
+    → Result (Unit {0}) Error
+string_fault_if d u None = Ok tt
+string_fault_if d u (Some value) = string_fault (attr_string_of d u value)
+
+-- the fault of the name of a unit's split file, if it has one
+abbrev pub dwo_name_fault : Sections → UnitRecord → Result (Unit {0}) Error
+dwo_name_fault d u = dwo_name_of u >>= string_fault_if d u
 
 -- the base of range lists of a split unit: below version 5 its main unit's
 abbrev pub relocated_rnglists_base : UnitRecord → UnitRecord → ℕ

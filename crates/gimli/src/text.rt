@@ -5,7 +5,7 @@ ghost use Rattle.gimli_read.specs.Reading.{Exactly, ExactlyUnlessOomFor};
 ghost use Rattle.gimli_read.specs.Form.{seen_value};
 ghost use Rattle.gimli_read.specs.Number.{offset_size};
 ghost use Rattle.gimli.specs.Unit.{attr_string_of};
-ghost use Rattle.gimli.specs.Text.{from_offset, string_at, string_length_at, indexed_number, indexed_string, sup_string_at, string_of, string_takes_memory};
+ghost use Rattle.gimli.specs.Text.{from_offset, string_at, string_fault, string_length_at, indexed_number, indexed_string, sup_string_at, string_of, string_takes_memory};
 
 use crate::dwarf::Dwarf;
 use crate::unit_record::Unit;
@@ -147,6 +147,65 @@ pub(crate) fn read_string<R: Reader>(
         AttributeValue::DebugStrRefSup(offset) => read_sup_string(dwarf, offset),
         AttributeValue::DebugStrOffsetsIndex(index) => {
             read_indexed_string(dwarf, format, base, index)
+        }
+        _ => Err(Error::ExpectedString),
+    }
+}
+
+// Refused as the string at an offset is. Takes no memory.
+fn check_string_at<R: Reader>(section: &R, offset: u64) -> Result<(), Error>
+    ensures gives { Exactly (λ x. x) result
+        (string_fault (string_at offset (R.section section.now))) }
+{
+    read_string_length(section, offset)?;
+    Ok(())
+}
+
+// Refused as the string of an index is. Takes no memory.
+fn check_indexed_string<R: Reader>(
+    dwarf: &Dwarf<R>,
+    format: Format,
+    base: u64,
+    index: u64,
+) -> Result<(), Error>
+    ensures gives { Exactly (λ x. x) result
+        (string_fault (indexed_string dwarf.now format base index)) }
+{
+    let size = size_of_offset(format);
+    let offset = read_indexed_number(&dwarf.debug_str_offsets.section, size, base, index)?;
+    check_string_at(&dwarf.debug_str.section, offset)
+}
+
+// Refused as the string at an offset of the supplementary file's strings is. Takes no memory.
+fn check_sup_string<R: Reader>(dwarf: &Dwarf<R>, offset: u64) -> Result<(), Error>
+    ensures gives { Exactly (λ x. x) result (string_fault (sup_string_at offset dwarf.now.sup)) }
+{
+    match &dwarf.sup {
+        Some(sup) => check_string_at(&sup.debug_str.section, offset),
+        None => Err(Error::NoSupplementary),
+    }
+}
+
+/// Refused as the string that a value stands for is (`read_string`), but that it takes no memory.
+#[tactic(auto, unfolding(crate::specs::Text::string_of))]
+pub(crate) fn check_string<R: Reader, S: Reader>(
+    dwarf: &Dwarf<R>,
+    format: Format,
+    base: u64,
+    value: AttributeValue<S>,
+) -> Result<(), Error>
+    ensures gives { Exactly (λ x. x) result (string_fault (string_of dwarf.now format base
+        (seen_value S.section value))) }
+{
+    match value {
+        AttributeValue::String(_) => Ok(()),
+        AttributeValue::DebugStrRef(offset) => check_string_at(&dwarf.debug_str.section, offset),
+        AttributeValue::DebugLineStrRef(offset) => {
+            check_string_at(&dwarf.debug_line_str.section, offset)
+        }
+        AttributeValue::DebugStrRefSup(offset) => check_sup_string(dwarf, offset),
+        AttributeValue::DebugStrOffsetsIndex(index) => {
+            check_indexed_string(dwarf, format, base, index)
         }
         _ => Err(Error::ExpectedString),
     }

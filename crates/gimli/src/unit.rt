@@ -3,7 +3,7 @@
 ghost use Rattle.std.specs.Prelude.{◌≡◌, ℕ, option_map};
 ghost use Rattle.gimli.specs.Offsets.{unit_offset_of};
 
-use gimli_read::{DebugInfoOffset, Encoding, Format, Reader, UnitOffset};
+use gimli_read::{DebugInfoOffset, Encoding, EndianSlice, Format, Reader, UnitOffset};
 use std::marker::Model;
 
 /// What kind of unit a unit is (DWARF 5, section 7.5.1).
@@ -64,6 +64,21 @@ impl<R: Reader> Model for UnitHeader<R> {
 }
 
 impl<R: Reader> UnitHeader<R> {
+    // The same header over borrowed bytes. Takes no memory.
+    pub(crate) fn borrowed(&self) -> UnitHeader<EndianSlice<'_>>
+        ensures gives { result ≡ self.now }
+    {
+        UnitHeader {
+            encoding: self.encoding,
+            unit_type: self.unit_type,
+            offset: self.offset,
+            debug_abbrev_offset: self.debug_abbrev_offset,
+            dwo_id: self.dwo_id,
+            header_length: self.header_length,
+            entries: EndianSlice::new(self.entries.to_slice(), self.entries.endian()),
+        }
+    }
+
     /// The version of DWARF, from 2 to 5. Takes no memory.
     pub fn version(&self) -> u16
         ensures gives { result ≡ self.now.encoding.version }

@@ -3,7 +3,7 @@
 ghost use Rattle.std.specs.Prelude.{◌≡◌, Ok, is_some, option_map};
 ghost use Rattle.gimli_read.specs.Reading.{Exactly, ExactlyUnlessOomFor, ExactlyUnlessOomIf, IsUnlessOom};
 ghost use Rattle.gimli_read.specs.Form.{seen_value};
-ghost use Rattle.gimli.specs.Split.{dwo_name_of, relocated};
+ghost use Rattle.gimli.specs.Split.{dwo_name_fault, dwo_name_of, relocated};
 ghost use Rattle.gimli.specs.Unit.{first_base, low_pc_of, line_program_of, readable_string, gives_string, dwo_id_of, completed_record, unit_record_of, unit_takes_memory};
 
 use crate::constants::{
@@ -11,7 +11,7 @@ use crate::constants::{
 };
 use crate::dwarf::{Dwarf, DwarfFileType};
 use crate::record::{AddressValue, RootAttributes, read_root};
-use crate::text::{read_from, read_indexed_number, read_string};
+use crate::text::{check_string, read_from, read_indexed_number, read_string};
 use crate::unit::{DwoId, UnitHeader};
 use gimli_line::{IncompleteLineProgram, read_line_program};
 use gimli_read::{Abbreviations, AttributeValue, Encoding, Error, Format, Reader};
@@ -239,6 +239,22 @@ impl<R: Reader> Unit<R> {
     {
         let root = read_root(&self.header, &self.abbreviations)?;
         Ok(root.dwo_name)
+    }
+
+    /// Refused by the fault of the name of the unit's split file, if it has one: that of `dwo_name`,
+    /// or of the string that it stands for (`Dwarf::attr_string`). Takes no memory.
+    pub fn check_dwo_name(&self, dwarf: &Dwarf<R>) -> Result<(), Error>
+        ensures gives { Exactly (λ x. x) result (dwo_name_fault dwarf.now self.now) }
+    {
+        let header = self.header.borrowed();
+        let root = read_root(&header, &self.abbreviations)?;
+        match root.dwo_name {
+            Some(name) => {
+                let format = self.header.encoding.format;
+                check_string(dwarf, format, self.str_offsets_base, name)
+            }
+            None => Ok(()),
+        }
     }
 
     /// Takes over what the main unit of this split unit relocates: low_pc, the base of addresses

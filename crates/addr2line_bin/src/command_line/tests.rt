@@ -24,13 +24,13 @@ fn digits_of(options: &Options) -> u32 {
         Probes::Lines => 40_000_000,
     };
     probes
-        + u32::from(options.style.functions) * 1_000_000
-        + u32::from(options.style.pretty) * 100_000
-        + u32::from(options.style.inlines) * 10_000
-        + u32::from(options.style.addresses) * 1_000
-        + u32::from(options.style.basenames) * 100
-        + u32::from(options.style.demangle) * 10
-        + u32::from(options.style.llvm)
+        + u32::from(options.functions) * 1_000_000
+        + u32::from(options.pretty) * 100_000
+        + u32::from(options.inlines) * 10_000
+        + u32::from(options.addresses) * 1_000
+        + u32::from(options.basenames) * 100
+        + u32::from(options.demangle) * 10
+        + u32::from(options.llvm)
 }
 
 // The digits of what a line asks for; below ten for what is wrong with it.

@@ -113,4 +113,4 @@ returns-clause-settled g c h =
     let there : slice_get us n ≡ Some u = slice_get_read us _ n u refl (ltb-true _ _ (sym c.in-Some.ensures.lookup.0)) c.in-Some.ensures.lookup.1 in
     let scope = scope_in c.args.dwarf.now.value us c.args.sup.now in
     let within = subst (λ m. n < m) (as_many_entries scope us vs c.requires.kept) (slice_get_within us n u there) in
-    c.new_load.ensures.settled (settled_there us vs n u c.index_mut-entries.result.now there within c.index_mut-entries.ensures.value h)
+    c.new_load.ensures.settled (settled_there c.args.dwarf.now.value us vs n u c.index_mut-entries.result.now there within c.index_mut-entries.ensures.value h)

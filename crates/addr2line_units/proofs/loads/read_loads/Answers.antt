@@ -63,7 +63,7 @@ loop-range-preserved g c =
           ∙ listed_step see c.loop-range.loads.items d us (answers_in vs) (answers_in ws) c.in-Some.range old now (ranges_left c.next.new.self) (ranges_left c.loop-range.ranges) (loads_along (load_of_number d us (answers_in vs)) (ranges_left c.args.ranges))
           c.in_ok-load.load (same_answers vs ws i.stay) c.in-Some.ensures.steps c.in_ok-load.ensures.gives c.in_ok-load.ensures.marked i.listed;
       decided = λ h. (subst (AllByRecursion (λ (r : UnitRange). decided_at vs r.unit ≡ true)) c.in-Some.ensures.steps (i.decided h)).1;
-      settled = λ h. (subst (AreSettled us (answers_in vs)) c.in-Some.ensures.steps (i.settled h)).1;
+      settled = λ h. (subst (AreSettled c.args.dwarf.now.value us (answers_in vs)) c.in-Some.ensures.steps (i.settled h)).1;
     }
 
 pub returns-clause-gives : goal.returns-clause-gives
@@ -77,11 +77,11 @@ returns-clause-gives g c =
 pub returns-in_err-load-clause-settled : goal.returns-in_err-load-clause-settled
 returns-in_err-load-clause-settled g c h =
     let i = c.loop-range.invariant in
-    let now = settled_first c.args.dw_units.now c.args.entries.now.items c.loop-range.entries.items _ c.in-Some.range _ c.in-Some.ensures.steps i.stay (i.settled h) in
+    let now = settled_first c.args.dwarf.now.value c.args.dw_units.now c.args.entries.now.items c.loop-range.entries.items _ c.in-Some.range _ c.in-Some.ensures.steps i.stay (i.settled h) in
     absurd (let e = c.in_err-load.ensures.settled now in cc)
 
 pub returns-in_err-push_if-clause-settled : goal.returns-in_err-push_if-clause-settled
 returns-in_err-push_if-clause-settled g c h =
     let i = c.loop-range.invariant in
-    let now = settled_first c.args.dw_units.now c.args.entries.now.items c.loop-range.entries.items _ c.in-Some.range _ c.in-Some.ensures.steps i.stay (i.settled h) in
+    let now = settled_first c.args.dwarf.now.value c.args.dw_units.now c.args.entries.now.items c.loop-range.entries.items _ c.in-Some.range _ c.in-Some.ensures.steps i.stay (i.settled h) in
     absurd (let e = c.in_ok-load.ensures.settled now in let f = c.in_err-push_if.ensures.none (found_same _ _ e) in cc)

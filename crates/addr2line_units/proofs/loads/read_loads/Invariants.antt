@@ -17,7 +17,7 @@ invariant-loop-range g l =
       kept : HaveEntriesOf (scope_in l.dwarf.value l.dw_units l.sup) l.dw_units l.entries.items;
       listed : map (seen_load g.R.Reader.section) l.loads.items ++ filter (is_new l.marks.items) (loads_along load (ranges_left l.ranges)) ≡ loads_along load (ranges_left l.fn.ranges);
       decided : AllByRecursion (λ (r : UnitRange). decided_at l.fn.entries.items r.unit ≡ true) (ranges_left l.fn.ranges) → AllByRecursion (λ (r : UnitRange). decided_at l.fn.entries.items r.unit ≡ true) (ranges_left l.ranges);
-      settled : AreSettled l.dw_units (answers_in l.fn.entries.items) (ranges_left l.fn.ranges) → AreSettled l.dw_units (answers_in l.fn.entries.items) (ranges_left l.ranges);
+      settled : AreSettled l.dwarf.value l.dw_units (answers_in l.fn.entries.items) (ranges_left l.fn.ranges) → AreSettled l.dwarf.value l.dw_units (answers_in l.fn.entries.items) (ranges_left l.ranges);
     }
 
 abbrev pub decreases-loop-range : goal.decreases-loop-range

@@ -5,10 +5,11 @@ use Rattle.addr2line_lines.specs.SeenScope.{seen_scope}
 use Rattle.addr2line_units.specs.FramesLookup.{with_answer}
 use Rattle.addr2line_units.specs.FunctionParses.{AreReadBefore, first_decided, read_of_number}
 use Rattle.addr2line_units.specs.KeptLookups.{answers_in}
-use Rattle.addr2line_units.specs.KeptParses.{HasRead}
+use Rattle.addr2line_units.specs.KeptParses.{HasRead, IsReadyUnit}
 use Rattle.addr2line_units.proofs.KeptLookupLemmas.{as_many_entries}
 use Rattle.addr2line_units.proofs.KeptParseLemmas.{all_read, before_less, behind_more, changes_all, changes_then, decided_over, decided_same, many_answers, read_more, read_number}
 use Rattle.addr2line_units.proofs.ParseLemmas.{after_end, after_stop, before_more, decided_more, number_behind, read_end, read_stop}
+use Rattle.addr2line_units.proofs.ReadyLemmas.{ready_stop, some_ready}
 use Rattle.addr2line_units.proofs.parses.read_all_functions.Goals as goal
 
 pub loop-number-init : goal.loop-number-init
@@ -21,6 +22,7 @@ loop-number-init g c =
       before = λ m h. absurd (omega arith);
       stay = decided_same c.args.entries.now.items;
       read = λ n h. absurd (omega arith);
+      same = λ _. refl;
       behind = λ n h. refl;
     }
 
@@ -131,6 +133,7 @@ loop-number-preserved g c =
       before = subst (AreReadBefore c.args.reads scope us (answers_in vs)) one (before_more c.args.reads scope us (answers_in vs) k i.before at);
       stay = decided_over vs mid new i.stay step.stay;
       read = subst (λ m. (n : ℕ) → n < m → IfSome (slice_get new n) (HasRead c.args.reads)) one (read_more c.args.reads mid new k i.read step.only step.read);
+      same = λ ready. step.same (subst (λ o. IfSome o (IsReadyUnit c.args.reads)) (sym (i.behind k (omega arith))) (ready k i.before)) ∙ i.same ready;
       behind = subst (λ m. (n : ℕ) → m ≤ n → slice_get new n ≡ slice_get vs n) one (behind_more vs mid new k i.behind step.only);
     }
 
@@ -181,3 +184,63 @@ returns-clause-read g c =
     let count = i.count in
     let past : length mid ≤ c.loop-number.number = omega (arith, first, now, end, count) in
     all_read c.args.reads mid c.loop-number.number past i.read
+
+pub returns-in_err-read_functions_in-clause-ready_for_all : goal.returns-in_err-read_functions_in-clause-ready_for_all
+returns-in_err-read_functions_in-clause-ready_for_all g c =
+    let p = err_from_is_err_and c.from_residual.result c.from_residual.ensures.1 in
+    let i = c.loop-number.invariant in
+    let scope = seen_scope c.args.scope in
+    let us = c.args.scope.file.units.now in
+    let vs = c.args.entries.now.items in
+    let k = c.loop-number.number in
+    rw (p.1, p.2) (λ ne.
+    let at = sym (number_behind c.args.reads scope us (answers_in vs) k) ∙ ap (λ a. read_of_number c.args.reads scope us a k) (sym i.answers) ∙ c.in_err-read_functions_in.ensures.gives ne in
+    ready_stop c.args.reads scope us (answers_in vs) c.loop-number.entries.items c.read_functions_in.new.entries.items k _ i.read c.in_err-read_functions_in.ensures.only (c.in_err-read_functions_in.ensures.ready_for_all ne) at)
+
+pub returns-in_err-read_functions_in-clause-exact : goal.returns-in_err-read_functions_in-clause-exact
+returns-in_err-read_functions_in-clause-exact g c =
+    let p = err_from_is_err_and c.from_residual.result c.from_residual.ensures.1 in
+    let i = c.loop-number.invariant in
+    let scope = seen_scope c.args.scope in
+    let us = c.args.scope.file.units.now in
+    let vs = c.args.entries.now.items in
+    let k = c.loop-number.number in
+    let many = many_answers scope us vs c.requires.kept in
+    rw (p.1, p.2) (λ ready.
+    let known = subst (λ o. IfSome o (IsReadyUnit c.args.reads)) (sym (i.behind k (omega arith))) (ready k i.before) in
+    let at = sym (number_behind c.args.reads scope us (answers_in vs) k) ∙ ap (λ a. read_of_number c.args.reads scope us a k) (sym i.answers) ∙ sym (c.in_err-read_functions_in.ensures.exact known) in
+    sym (read_stop c.args.reads scope us (answers_in vs) k _ many i.before at))
+
+pub returns-in_err-read_functions_in-clause-same : goal.returns-in_err-read_functions_in-clause-same
+returns-in_err-read_functions_in-clause-same g c = λ ready.
+    let i = c.loop-number.invariant in
+    let k = c.loop-number.number in
+    c.in_err-read_functions_in.ensures.same (subst (λ o. IfSome o (IsReadyUnit c.args.reads)) (sym (i.behind k (omega arith))) (ready k i.before)) ∙ i.same ready
+
+pub returns-clause-ready_for_all : goal.returns-clause-ready_for_all
+returns-clause-ready_for_all g c = λ _. λ n. λ _.
+    let i = c.loop-number.invariant in
+    let scope = seen_scope c.args.scope in
+    let us = c.args.scope.file.units.now in
+    let mid = c.loop-number.entries.items in
+    let first = as_many_entries scope us c.args.entries.now.items c.requires.kept in
+    let now = as_many_entries scope us mid i.kept in
+    let end = c.loop-number-test.false in
+    let count = i.count in
+    let past : length mid ≤ c.loop-number.number = omega (arith, first, now, end, count) in
+    some_ready c.args.reads (slice_get mid n) (read_number c.args.reads mid (all_read c.args.reads mid c.loop-number.number past i.read) n)
+
+pub returns-clause-exact : goal.returns-clause-exact
+returns-clause-exact g c = λ _.
+    let i = c.loop-number.invariant in
+    let scope = seen_scope c.args.scope in
+    let us = c.args.scope.file.units.now in
+    let vs = c.args.entries.now.items in
+    let first = as_many_entries scope us vs c.requires.kept in
+    let end = c.loop-number-test.false in
+    let count = i.count in
+    let past : length us ≤ c.loop-number.number = omega (arith, first, end, count) in
+    sym (read_end c.args.reads scope us (answers_in vs) c.loop-number.number (many_answers scope us vs c.requires.kept) past i.before)
+
+pub returns-clause-same : goal.returns-clause-same
+returns-clause-same g c = c.loop-number.invariant.same

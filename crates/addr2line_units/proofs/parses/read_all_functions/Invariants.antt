@@ -3,7 +3,7 @@ use Rattle.std.specs.Prelude.{IfSome}
 use Rattle.addr2line_lines.specs.SeenScope.{seen_scope}
 use Rattle.addr2line_units.specs.FunctionParses.{AreReadBefore, first_decided}
 use Rattle.addr2line_units.specs.KeptLookups.{HaveEntriesOf, answers_in}
-use Rattle.addr2line_units.specs.KeptParses.{HasRead, StayDecided}
+use Rattle.addr2line_units.specs.KeptParses.{AreReadyUnits, HasRead, StayDecided}
 use Rattle.addr2line_units.proofs.parses.read_all_functions.Given as goal
 
 -- the units before this number are read, those from it on are as they were
@@ -19,5 +19,6 @@ invariant-loop-number g l =
       before : AreReadBefore l.reads scope us given l.number;
       stay : StayDecided l.fn.entries.items l.entries.items;
       read : (n : ℕ) → n < l.number → IfSome (slice_get l.entries.items n) (HasRead l.reads);
+      same : AreReadyUnits l.reads scope us given l.fn.entries.items → l.entries.items ≡ l.fn.entries.items;
       behind : (n : ℕ) → l.number ≤ n → slice_get l.entries.items n ≡ slice_get l.fn.entries.items n;
     }

@@ -1,4 +1,4 @@
-use Rattle.std.proofs.Common.{◌≡◌, ◌<◌, None, Some, arith, inl, inr, length, ltb-false, ltb-true, refl, slice_get, subst, sym}
+use Rattle.std.proofs.Common.{◌≡◌, ◌<◌, ◌∙◌, None, Some, arith, inl, inr, length, ltb-false, ltb-true, refl, slice_get, subst, sym}
 use Rattle.std.proofs.lemmas.Option.{get_or_from_slice_get, slice_get_past, slice_get_read}
 use Rattle.gimli_read.specs.Reading.{ExactlyUnlessOom}
 use Rattle.addr2line_lines.specs.SeenScope.{seen_scope}
@@ -6,6 +6,7 @@ use Rattle.addr2line_units.proofs.AnswerLemmas.{answered_all, answers_stay}
 use Rattle.addr2line_units.proofs.KeptLookupLemmas.{as_many_entries, entries_at, entries_set}
 use Rattle.addr2line_units.proofs.KeptParseLemmas.{changes_set, decided_same, decided_set, number_is, read_entry, read_set}
 use Rattle.addr2line_units.proofs.NumberedFrames.{none_past}
+use Rattle.addr2line_units.proofs.ReadyLemmas.{ready_entry, ready_set, same_set}
 use Rattle.addr2line_units.proofs.parses.read_functions_in.Goals as goal
 
 pub read-requires-clause-kept : goal.read-requires-clause-kept
@@ -110,6 +111,46 @@ returns-in_default-clause-only g c = λ n. inl refl
 
 pub returns-in_default-clause-read : goal.returns-in_default-clause-read
 returns-in_default-clause-read g c =
+    let us = c.args.scope.file.units.now in
+    let none : slice_get c.args.scope.file.units.now c.args.number ≡ None = slice_get_past c.args.scope.file.units.now c.args.number (ltb-false _ _ (sym c.in_default.ensures.lookup.0)) in
+    let past = none_past us c.args.number none in
+    let many = as_many_entries (seen_scope c.args.scope) us c.args.entries.now.items c.requires.kept in
+    let there = c.requires.there in
+    absurd (omega (arith, past, many, there))
+
+pub returns-clause-ready_for_all : goal.returns-clause-ready_for_all
+returns-clause-ready_for_all g c = λ ne. ready_set c.args.reads c.args.entries.now.items c.args.number c.read.new.self c.requires.there (c.read.ensures.ready_for_all ne)
+
+pub returns-clause-exact : goal.returns-clause-exact
+returns-clause-exact g c = λ ready.
+    let us = c.args.scope.file.units.now in
+    let vs = c.args.entries.now.items in
+    let n = c.args.number in
+    let u = c.in-Some.dw_unit.now in
+    let there : slice_get c.args.scope.file.units.now c.args.number ≡ Some c.in-Some.dw_unit.now = slice_get_read c.args.scope.file.units.now _ c.args.number c.in-Some.dw_unit.now refl (ltb-true _ _ (sym c.in-Some.ensures.lookup.0)) c.in-Some.ensures.lookup.1 in
+    let e = sym (get_or_from_slice_get us n u u there) in
+    let v = c.index_mut-entries.result.now in
+    let h : n < length us = subst (λ m. n < m) (sym (as_many_entries (seen_scope c.args.scope) us vs c.requires.kept)) c.requires.there in
+    c.read.ensures.exact (ready_entry c.args.reads vs n v c.requires.there c.index_mut-entries.ensures.value ready)
+    ∙ sym (number_is c.args.reads (seen_scope c.args.scope) us vs n u v h c.requires.there e c.index_mut-entries.ensures.value)
+
+pub returns-clause-same : goal.returns-clause-same
+returns-clause-same g c = λ ready.
+    let vs = c.args.entries.now.items in
+    let v = c.index_mut-entries.result.now in
+    same_set vs c.args.number v c.read.new.self c.requires.there c.index_mut-entries.ensures.value (c.read.ensures.same (ready_entry c.args.reads vs c.args.number v c.requires.there c.index_mut-entries.ensures.value ready))
+
+pub returns-in_default-clause-ready_for_all : goal.returns-in_default-clause-ready_for_all
+returns-in_default-clause-ready_for_all g c = λ ne.
+    let us = c.args.scope.file.units.now in
+    let none : slice_get c.args.scope.file.units.now c.args.number ≡ None = slice_get_past c.args.scope.file.units.now c.args.number (ltb-false _ _ (sym c.in_default.ensures.lookup.0)) in
+    let past = none_past us c.args.number none in
+    let many = as_many_entries (seen_scope c.args.scope) us c.args.entries.now.items c.requires.kept in
+    let there = c.requires.there in
+    absurd (omega (arith, past, many, there))
+
+pub returns-in_default-clause-exact : goal.returns-in_default-clause-exact
+returns-in_default-clause-exact g c = λ ready.
     let us = c.args.scope.file.units.now in
     let none : slice_get c.args.scope.file.units.now c.args.number ≡ None = slice_get_past c.args.scope.file.units.now c.args.number (ltb-false _ _ (sym c.in_default.ensures.lookup.0)) in
     let past = none_past us c.args.number none in

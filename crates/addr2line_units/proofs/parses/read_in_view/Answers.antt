@@ -1,10 +1,12 @@
 use Rattle.std.proofs.Common.{ap, subst, sym, ◌∙◌}
+use Rattle.std.proofs.lemmas.Result.{err_from_is_err_and}
 use Rattle.gimli_read.specs.Reading.{ExactlyUnlessOom}
 use Rattle.addr2line_lines.specs.SeenScope.{seen_scope}
 use Rattle.addr2line_units.specs.declared.unit_frames.UnitEntries.{UnitEntries}
-use Rattle.addr2line_units.specs.FunctionParses.{read_of_view}
+use Rattle.addr2line_units.specs.FunctionParses.{IsReadyFor, read_of_view}
 use Rattle.addr2line_units.proofs.EntryLemmas.{fault_known, functions_keep, functions_right, functions_stay, here, view_known}
 use Rattle.addr2line_units.proofs.KeptParseLemmas.{known_view, no_view, read_if_view, view_read}
+use Rattle.addr2line_units.proofs.ReadyLemmas.{fault_by_view, functions_by_view, ready_fault}
 use Rattle.addr2line_units.proofs.parses.read_in_view.Goals as goal
 
 pub returns-in_err-unit-clause-stay : goal.returns-in_err-unit-clause-stay
@@ -64,3 +66,53 @@ returns-clause-read g c =
     let v = view_known scope u 0 old c.requires.kept c.requires.decided c.in_ok-unit.unit.dwarf.now x inner c.in_ok-unit.ensures.gives (c.scope_of.ensures.gives scope.file.sections u c.requires.kept.view) in
     read_if_view c.args.reads c.read.result c.args.view.now c.read.new.self
     (known_view scope.file.sections u (here scope u 0 old c.requires.kept c.requires.decided) v.view old.view.state c.requires.decided c.requires.kept.view.right v.is) c.read.ensures.read
+
+pub returns-in_err-unit-clause-ready_for_all : goal.returns-in_err-unit-clause-ready_for_all
+returns-in_err-unit-clause-ready_for_all g c =
+    let p = err_from_is_err_and c.from_residual.result c.from_residual.ensures.1 in
+    let scope = seen_scope c.args.scope in
+    let u = c.args.dw_unit.now in
+    let old : UnitEntries g.row.R.Denot = record { view = c.args.view.now; functions = c.args.functions.now } in
+    let x = c.in_err-unit.field-0.0 in
+    let is = fault_known scope u 0 old c.requires.kept c.requires.decided x c.in_err-unit.ensures.gives in
+    rw (p.1, p.2) (λ ne. subst (IsReadyFor c.args.reads) (sym (fault_by_view scope.file.sections u (here scope u 0 old c.requires.kept c.requires.decided) x old.view.state old.functions c.requires.decided c.requires.kept.view.right is)) (ready_fault c.args.reads x ne))
+
+pub returns-in_err-unit-clause-exact : goal.returns-in_err-unit-clause-exact
+returns-in_err-unit-clause-exact g c = λ _.
+    let p = err_from_is_err_and c.from_residual.result c.from_residual.ensures.1 in
+    let scope = seen_scope c.args.scope in
+    let u = c.args.dw_unit.now in
+    let old : UnitEntries g.row.R.Denot = record { view = c.args.view.now; functions = c.args.functions.now } in
+    let x = c.in_err-unit.field-0.0 in
+    let is = fault_known scope u 0 old c.requires.kept c.requires.decided x c.in_err-unit.ensures.gives in
+    rw (p.1, p.2) (sym (ap (read_of_view c.args.reads scope) is))
+
+pub returns-clause-ready_for_all : goal.returns-clause-ready_for_all
+returns-clause-ready_for_all g c = λ ne.
+    let scope = seen_scope c.args.scope in
+    let u = c.args.dw_unit.now in
+    let old : UnitEntries g.row.R.Denot = record { view = c.args.view.now; functions = c.args.functions.now } in
+    let inner = seen_scope c.scope_of.result in
+    let x = c.in_ok-unit.unit.unit.now in
+    let v = view_known scope u 0 old c.requires.kept c.requires.decided c.in_ok-unit.unit.dwarf.now x inner c.in_ok-unit.ensures.gives (c.scope_of.ensures.gives scope.file.sections u c.requires.kept.view) in
+    subst (IsReadyFor c.args.reads) (sym (functions_by_view scope.file.sections u (here scope u 0 old c.requires.kept c.requires.decided) v.view old.view.state c.read.new.self c.requires.decided c.requires.kept.view.right v.is)) (c.read.ensures.ready_for_all ne)
+
+pub returns-clause-exact : goal.returns-clause-exact
+returns-clause-exact g c = λ ready.
+    let scope = seen_scope c.args.scope in
+    let u = c.args.dw_unit.now in
+    let old : UnitEntries g.row.R.Denot = record { view = c.args.view.now; functions = c.args.functions.now } in
+    let inner = seen_scope c.scope_of.result in
+    let x = c.in_ok-unit.unit.unit.now in
+    let v = view_known scope u 0 old c.requires.kept c.requires.decided c.in_ok-unit.unit.dwarf.now x inner c.in_ok-unit.ensures.gives (c.scope_of.ensures.gives scope.file.sections u c.requires.kept.view) in
+    c.read.ensures.exact (subst (IsReadyFor c.args.reads) (functions_by_view scope.file.sections u (here scope u 0 old c.requires.kept c.requires.decided) v.view old.view.state old.functions c.requires.decided c.requires.kept.view.right v.is) ready) ∙ sym (ap (read_of_view c.args.reads scope) v.is ∙ view_read c.args.reads scope v.view inner x v.unit v.leads)
+
+pub returns-clause-same : goal.returns-clause-same
+returns-clause-same g c = λ ready.
+    let scope = seen_scope c.args.scope in
+    let u = c.args.dw_unit.now in
+    let old : UnitEntries g.row.R.Denot = record { view = c.args.view.now; functions = c.args.functions.now } in
+    let inner = seen_scope c.scope_of.result in
+    let x = c.in_ok-unit.unit.unit.now in
+    let v = view_known scope u 0 old c.requires.kept c.requires.decided c.in_ok-unit.unit.dwarf.now x inner c.in_ok-unit.ensures.gives (c.scope_of.ensures.gives scope.file.sections u c.requires.kept.view) in
+    c.read.ensures.same (subst (IsReadyFor c.args.reads) (functions_by_view scope.file.sections u (here scope u 0 old c.requires.kept c.requires.decided) v.view old.view.state old.functions c.requires.decided c.requires.kept.view.right v.is) ready)

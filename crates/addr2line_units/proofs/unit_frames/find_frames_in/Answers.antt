@@ -9,19 +9,8 @@ use Rattle.addr2line_units.specs.KeptFunctions.{function_of_place, kept_function
 use Rattle.addr2line_units.specs.UnitFrames.{function_in}
 use Rattle.addr2line_units.specs.Views.{is_open}
 use Rattle.addr2line_units.proofs.EntryLemmas.{looked_decides, not_open}
-use Rattle.addr2line_units.proofs.UnitFrameLemmas.{closed_asks, fault_frames, lines_fault_frames, lines_frames, look_only, only_after, open_asks, open_frames, stay_after, waiting_stays_open}
+use Rattle.addr2line_units.proofs.UnitFrameLemmas.{closed_asks, fault_frames, lines_fault_frames, lines_frames, look_only, only_after, open_asks, open_frames, stay_after, waiting_entries, waiting_stays_open}
 use Rattle.addr2line_units.proofs.unit_frames.find_frames_in.Goals as goal
-
-pub returns-in_err-look-clause-only : goal.returns-in_err-look-clause-only
-returns-in_err-look-clause-only g c =
-    let scope = seen_scope c.args.scope in
-    let u = c.args.dw_unit.now in
-    let probe = c.args.probe in
-    let old = c.args.entries.now in
-    let mid = c.look.new.self in
-    let x = indexed_unit u c.args.unit.now in
-    let answer = kept_answer old in
-    look_only probe old mid c.look.ensures.functions (λ looked. (c.look.ensures.same looked).0)
 
 pub returns-then-is_open-clause-gives : goal.returns-then-is_open-clause-gives
 returns-then-is_open-clause-gives g c =
@@ -36,6 +25,11 @@ returns-then-is_open-clause-gives g c =
     let open_now : is_open scope.file.sections u answer ≡ true = ap (is_open scope.file.sections u) (sym c.look.ensures.stay.answer) ∙ waiting in
     open_frames scope x answer probe open_now
 
+pub returns-then-is_open-clause-ready : goal.returns-then-is_open-clause-ready
+returns-then-is_open-clause-ready g c =
+    let mid = c.look.new.self in
+    λ _. waiting_entries c.args.probe mid.view.state mid.functions (sym c.is_open.ensures.gives ∙ c.if-is_open.true)
+
 pub returns-then-is_open-clause-only : goal.returns-then-is_open-clause-only
 returns-then-is_open-clause-only g c =
     let scope = seen_scope c.args.scope in
@@ -45,7 +39,7 @@ returns-then-is_open-clause-only g c =
     let mid = c.look.new.self in
     let x = indexed_unit u c.args.unit.now in
     let answer = kept_answer old in
-    look_only probe old mid c.look.ensures.functions (λ looked. (c.look.ensures.same looked).0)
+    look_only probe old mid c.look.ensures.functions c.look.ensures.same
 
 pub returns-then-is_open-clause-parsed : goal.returns-then-is_open-clause-parsed
 returns-then-is_open-clause-parsed g c =
@@ -69,9 +63,9 @@ returns-in_err-function-clause-gives g c =
     let mid = c.look.new.self in
     let x = indexed_unit u c.args.unit.now in
     let answer = kept_answer old in
-    let decided = looked_decides mid.view.state c.in_ok-look.ensures.looked (sym c.is_open.ensures.gives ∙ c.if-is_open.false) in
+    let decided = looked_decides mid.view.state c.look.ensures.looked (sym c.is_open.ensures.gives ∙ c.if-is_open.false) in
     let closed : is_open scope.file.sections u answer ≡ false = ap (is_open scope.file.sections u) (sym c.look.ensures.stay.answer) ∙ not_open scope u probe mid c.look.ensures.kept decided in
-    let p = err_from_is_err_and c.from_residual-in_err-function.result c.from_residual-in_err-function.ensures.1 in
+    let p = err_from_is_err_and c.from_residual.result c.from_residual.ensures.1 in
     rw (p.1, p.2) (λ ne. fault_frames scope x answer probe closed c.in_err-function.field-0.0 (ap (λ a. function_in scope u a probe) (sym c.look.ensures.stay.answer) ∙ c.in_err-function.ensures.gives ne))
 
 pub returns-in_err-function-clause-stay : goal.returns-in_err-function-clause-stay
@@ -83,7 +77,7 @@ returns-in_err-function-clause-stay g c =
     let mid = c.look.new.self in
     let x = indexed_unit u c.args.unit.now in
     let answer = kept_answer old in
-    stay_after probe old mid c.look.ensures.functions (λ looked. (c.look.ensures.same looked).0) c.find_function.new.self c.look.ensures.stay c.find_function.ensures.stay
+    stay_after probe old mid c.look.ensures.functions c.look.ensures.same c.find_function.new.self c.look.ensures.stay c.find_function.ensures.stay
 
 pub returns-in_err-function-clause-only : goal.returns-in_err-function-clause-only
 returns-in_err-function-clause-only g c =
@@ -94,7 +88,7 @@ returns-in_err-function-clause-only g c =
     let mid = c.look.new.self in
     let x = indexed_unit u c.args.unit.now in
     let answer = kept_answer old in
-    only_after probe old mid c.look.ensures.functions (λ looked. (c.look.ensures.same looked).0) c.find_function.new.self c.find_function.ensures.only
+    only_after probe old mid c.look.ensures.functions c.look.ensures.same c.find_function.new.self c.find_function.ensures.only
 
 pub returns-in_err-function-clause-parsed : goal.returns-in_err-function-clause-parsed
 returns-in_err-function-clause-parsed g c =
@@ -105,9 +99,9 @@ returns-in_err-function-clause-parsed g c =
     let mid = c.look.new.self in
     let x = indexed_unit u c.args.unit.now in
     let answer = kept_answer old in
-    let decided = looked_decides mid.view.state c.in_ok-look.ensures.looked (sym c.is_open.ensures.gives ∙ c.if-is_open.false) in
+    let decided = looked_decides mid.view.state c.look.ensures.looked (sym c.is_open.ensures.gives ∙ c.if-is_open.false) in
     let closed : is_open scope.file.sections u answer ≡ false = ap (is_open scope.file.sections u) (sym c.look.ensures.stay.answer) ∙ not_open scope u probe mid c.look.ensures.kept decided in
-    let p = err_from_is_err_and c.from_residual-in_err-function.result c.from_residual-in_err-function.ensures.1 in
+    let p = err_from_is_err_and c.from_residual.result c.from_residual.ensures.1 in
     rw (p.1, p.2) (λ ne. λ asks. (let no : false ≡ true = sym (closed_asks scope x answer probe closed (Err c.in_err-function.field-0.0) (ap (λ a. function_in scope u a probe) (sym c.look.ensures.stay.answer) ∙ c.in_err-function.ensures.gives ne)) ∙ asks in absurd cc))
 
 pub returns-in_err-row-clause-gives : goal.returns-in_err-row-clause-gives
@@ -119,7 +113,7 @@ returns-in_err-row-clause-gives g c =
     let mid = c.look.new.self in
     let x = indexed_unit u c.args.unit.now in
     let answer = kept_answer old in
-    let decided = looked_decides mid.view.state c.in_ok-look.ensures.looked (sym c.is_open.ensures.gives ∙ c.if-is_open.false) in
+    let decided = looked_decides mid.view.state c.look.ensures.looked (sym c.is_open.ensures.gives ∙ c.if-is_open.false) in
     let closed : is_open scope.file.sections u answer ≡ false = ap (is_open scope.file.sections u) (sym c.look.ensures.stay.answer) ∙ not_open scope u probe mid c.look.ensures.kept decided in
     let f = option_map (function_of_place (kept_functions c.find_function.new.self.functions)) c.in_ok-function.function in
     let found : function_in scope u answer probe ≡ Ok f = ap (λ a. function_in scope u a probe) (sym c.look.ensures.stay.answer) ∙ c.in_ok-function.ensures.gives in
@@ -135,7 +129,7 @@ returns-in_err-row-clause-stay g c =
     let mid = c.look.new.self in
     let x = indexed_unit u c.args.unit.now in
     let answer = kept_answer old in
-    stay_after probe old mid c.look.ensures.functions (λ looked. (c.look.ensures.same looked).0) c.find_function.new.self c.look.ensures.stay c.find_function.ensures.stay
+    stay_after probe old mid c.look.ensures.functions c.look.ensures.same c.find_function.new.self c.look.ensures.stay c.find_function.ensures.stay
 
 pub returns-in_err-row-clause-only : goal.returns-in_err-row-clause-only
 returns-in_err-row-clause-only g c =
@@ -146,7 +140,7 @@ returns-in_err-row-clause-only g c =
     let mid = c.look.new.self in
     let x = indexed_unit u c.args.unit.now in
     let answer = kept_answer old in
-    only_after probe old mid c.look.ensures.functions (λ looked. (c.look.ensures.same looked).0) c.find_function.new.self c.find_function.ensures.only
+    only_after probe old mid c.look.ensures.functions c.look.ensures.same c.find_function.new.self c.find_function.ensures.only
 
 pub returns-in_err-row-clause-lines : goal.returns-in_err-row-clause-lines
 returns-in_err-row-clause-lines g c =
@@ -157,7 +151,7 @@ returns-in_err-row-clause-lines g c =
     let mid = c.look.new.self in
     let x = indexed_unit u c.args.unit.now in
     let answer = kept_answer old in
-    let decided = looked_decides mid.view.state c.in_ok-look.ensures.looked (sym c.is_open.ensures.gives ∙ c.if-is_open.false) in
+    let decided = looked_decides mid.view.state c.look.ensures.looked (sym c.is_open.ensures.gives ∙ c.if-is_open.false) in
     let closed : is_open scope.file.sections u answer ≡ false = ap (is_open scope.file.sections u) (sym c.look.ensures.stay.answer) ∙ not_open scope u probe mid c.look.ensures.kept decided in
     let f = option_map (function_of_place (kept_functions c.find_function.new.self.functions)) c.in_ok-function.function in
     let found : function_in scope u answer probe ≡ Ok f = ap (λ a. function_in scope u a probe) (sym c.look.ensures.stay.answer) ∙ c.in_ok-function.ensures.gives in
@@ -172,7 +166,7 @@ returns-in_err-row-clause-memory g c =
     let mid = c.look.new.self in
     let x = indexed_unit u c.args.unit.now in
     let answer = kept_answer old in
-    let decided = looked_decides mid.view.state c.in_ok-look.ensures.looked (sym c.is_open.ensures.gives ∙ c.if-is_open.false) in
+    let decided = looked_decides mid.view.state c.look.ensures.looked (sym c.is_open.ensures.gives ∙ c.if-is_open.false) in
     let closed : is_open scope.file.sections u answer ≡ false = ap (is_open scope.file.sections u) (sym c.look.ensures.stay.answer) ∙ not_open scope u probe mid c.look.ensures.kept decided in
     let f = option_map (function_of_place (kept_functions c.find_function.new.self.functions)) c.in_ok-function.function in
     let found : function_in scope u answer probe ≡ Ok f = ap (λ a. function_in scope u a probe) (sym c.look.ensures.stay.answer) ∙ c.in_ok-function.ensures.gives in
@@ -188,7 +182,7 @@ returns-clause-gives g c =
     let mid = c.look.new.self in
     let x = indexed_unit u c.args.unit.now in
     let answer = kept_answer old in
-    let decided = looked_decides mid.view.state c.in_ok-look.ensures.looked (sym c.is_open.ensures.gives ∙ c.if-is_open.false) in
+    let decided = looked_decides mid.view.state c.look.ensures.looked (sym c.is_open.ensures.gives ∙ c.if-is_open.false) in
     let closed : is_open scope.file.sections u answer ≡ false = ap (is_open scope.file.sections u) (sym c.look.ensures.stay.answer) ∙ not_open scope u probe mid c.look.ensures.kept decided in
     let f = option_map (function_of_place (kept_functions c.find_function.new.self.functions)) c.in_ok-function.function in
     let found : function_in scope u answer probe ≡ Ok f = ap (λ a. function_in scope u a probe) (sym c.look.ensures.stay.answer) ∙ c.in_ok-function.ensures.gives in
@@ -205,7 +199,7 @@ returns-clause-there g c =
     let mid = c.look.new.self in
     let x = indexed_unit u c.args.unit.now in
     let answer = kept_answer old in
-    let decided = looked_decides mid.view.state c.in_ok-look.ensures.looked (sym c.is_open.ensures.gives ∙ c.if-is_open.false) in
+    let decided = looked_decides mid.view.state c.look.ensures.looked (sym c.is_open.ensures.gives ∙ c.if-is_open.false) in
     let closed : is_open scope.file.sections u answer ≡ false = ap (is_open scope.file.sections u) (sym c.look.ensures.stay.answer) ∙ not_open scope u probe mid c.look.ensures.kept decided in
     let f = option_map (function_of_place (kept_functions c.find_function.new.self.functions)) c.in_ok-function.function in
     let found : function_in scope u answer probe ≡ Ok f = ap (λ a. function_in scope u a probe) (sym c.look.ensures.stay.answer) ∙ c.in_ok-function.ensures.gives in
@@ -221,7 +215,7 @@ returns-clause-stay g c =
     let mid = c.look.new.self in
     let x = indexed_unit u c.args.unit.now in
     let answer = kept_answer old in
-    stay_after probe old mid c.look.ensures.functions (λ looked. (c.look.ensures.same looked).0) c.find_function.new.self c.look.ensures.stay c.find_function.ensures.stay
+    stay_after probe old mid c.look.ensures.functions c.look.ensures.same c.find_function.new.self c.look.ensures.stay c.find_function.ensures.stay
 
 pub returns-clause-only : goal.returns-clause-only
 returns-clause-only g c =
@@ -232,7 +226,7 @@ returns-clause-only g c =
     let mid = c.look.new.self in
     let x = indexed_unit u c.args.unit.now in
     let answer = kept_answer old in
-    only_after probe old mid c.look.ensures.functions (λ looked. (c.look.ensures.same looked).0) c.find_function.new.self c.find_function.ensures.only
+    only_after probe old mid c.look.ensures.functions c.look.ensures.same c.find_function.new.self c.find_function.ensures.only
 
 pub returns-clause-lines : goal.returns-clause-lines
 returns-clause-lines g c =
@@ -243,7 +237,7 @@ returns-clause-lines g c =
     let mid = c.look.new.self in
     let x = indexed_unit u c.args.unit.now in
     let answer = kept_answer old in
-    let decided = looked_decides mid.view.state c.in_ok-look.ensures.looked (sym c.is_open.ensures.gives ∙ c.if-is_open.false) in
+    let decided = looked_decides mid.view.state c.look.ensures.looked (sym c.is_open.ensures.gives ∙ c.if-is_open.false) in
     let closed : is_open scope.file.sections u answer ≡ false = ap (is_open scope.file.sections u) (sym c.look.ensures.stay.answer) ∙ not_open scope u probe mid c.look.ensures.kept decided in
     let f = option_map (function_of_place (kept_functions c.find_function.new.self.functions)) c.in_ok-function.function in
     let found : function_in scope u answer probe ≡ Ok f = ap (λ a. function_in scope u a probe) (sym c.look.ensures.stay.answer) ∙ c.in_ok-function.ensures.gives in

@@ -1,9 +1,9 @@
-use Rattle.std.proofs.Common.{◌≡◌, ◌≢◌, ◌⊎◌, ◌∙◌, ap, length, sym, subst, true}
+use Rattle.std.proofs.Common.{◌≡◌, ◌≢◌, ◌⊎◌, ◌∙◌, ap, false, length, sym, subst, true}
 use Rattle.std.specs.Prelude.{option_map}
 use Rattle.gimli_read.specs.Reading.{ExactlyUnlessOom}
 use Rattle.addr2line_units.specs.FramesLookup.{with_answer}
 use Rattle.addr2line_units.specs.KeptLookups.{StayAllEntries, answers_in, scope_in}
-use Rattle.addr2line_units.specs.Loads.{is_settled_at, load_result}
+use Rattle.addr2line_units.specs.Loads.{is_open_at, load_result}
 use Rattle.addr2line_units.specs.Parsed.{IsNotOom}
 use Rattle.addr2line_units.proofs.KeptLookupLemmas.{as_many_entries}
 use Rattle.addr2line.proofs.AnsweredLemmas.{still_answered}
@@ -47,5 +47,5 @@ returns-clause-memory g c =
     let s = c.self.inside in
     let n = c.args.unit.number in
     let given = option_map (λ x. x.value) c.args.sections in
-    let settled = subst (λ d. is_settled_at s.units.dw_units.items (answers_in s.units.entries.items) n ≡ true → c.load_unit.result ≡ load_result d s.units.dw_units.items (answers_in s.units.entries.items) n given) c.deref.ensures c.load_unit.ensures.settled in
+    let settled = subst (λ d. is_open_at d s.units.dw_units.items (answers_in s.units.entries.items) n ≡ false → c.load_unit.result ≡ load_result d s.units.dw_units.items (answers_in s.units.entries.items) n given) c.deref.ensures c.load_unit.ensures.settled in
     rw (sym c.self.view_is) (λ h. settled (settled_is s.dwarf.value s.units.dw_units.items s.units.units.items s.units.entries.items s.units.ranges s.sup_units c.self.invariant n s.looks h) ∙ sym (load_is s.dwarf.value s.units.dw_units.items s.units.units.items s.units.entries.items s.units.ranges s.sup_units c.self.invariant n given))

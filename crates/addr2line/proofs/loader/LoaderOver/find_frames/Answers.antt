@@ -10,9 +10,9 @@ returns-in-Ok g c =
     let first = c.args.self.now.context in
     let mid = c.answer_loads.new.ctx in
     let a = c.answer_loads.ensures.after in (
-      (refl, (λ _. tt), loader_found files c.args.probe first mid a c.args.self.now.object c.ended_frames.result c.ended_frames.follows.lender-at-none c.ended_frames.follows.holds-at-none c.answer_loads.ensures.in_turn c.in-Ok.frames c.in-Ok.is),
+      (refl, (λ _. tt), loader_found files c.args.probe first mid a c.args.self.now.object c.ended_frames.result c.ended_frames.follows.lender-at-none c.ended_frames.follows.holds-at-none c.answer_loads.ensures.in_turn (c.in_ok-answer_loads.ensures.ended tt) c.in-Ok.frames c.in-Ok.is),
       record {
-        gives = found_by_files files c.args.probe first mid a c.in_ok-answer_loads.ensures.ended (frames_left c.in-Ok.frames) c.in-Ok.ensures.gives;
+        gives = found_by_files files c.args.probe first mid a (c.in_ok-answer_loads.ensures.ended tt) (frames_left c.in-Ok.frames) c.in-Ok.ensures.gives;
         kept = tt;
       },
     )
@@ -25,9 +25,9 @@ returns-in-Err g c =
     let a = c.answer_loads.ensures.after in
     let e = c.in-Err.error in
     rw c.from.ensures (
-      (refl, (λ _. tt), loader_failed files c.args.probe first mid a c.args.self.now.object c.ended_frames.result c.ended_frames.follows.lender-at-none c.ended_frames.follows.holds-at-none c.answer_loads.ensures.in_turn _),
+      (refl, (λ _. tt), loader_failed files c.args.probe first mid a c.args.self.now.object c.ended_frames.result c.ended_frames.follows.lender-at-none c.ended_frames.follows.holds-at-none c.answer_loads.ensures.in_turn (c.in_ok-answer_loads.ensures.ended tt) _),
       record {
-        gives = failed_by_files files c.args.probe first mid a c.in_ok-answer_loads.ensures.ended e (λ ne. c.in-Err.ensures.gives (no_oom e ne));
+        gives = failed_by_files files c.args.probe first mid a (c.in_ok-answer_loads.ensures.ended tt) e (λ ne. c.in-Err.ensures.gives (no_oom e ne));
         kept = tt;
       },
     )

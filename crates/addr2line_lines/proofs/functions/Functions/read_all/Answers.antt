@@ -1,10 +1,10 @@
-use Rattle.std.proofs.Common.{◌≡◌, List, [], ◌∷◌, length, map, suc, refl, ap, arith}
+use Rattle.std.proofs.Common.{◌≡◌, true, false, List, [], ◌∷◌, Err, length, map, suc, refl, ap, sym, ◌∙◌, arith}
 use Rattle.std.proofs.lemmas.Result.{err_from_is_err_and}
 use Rattle.addr2line_lines.specs.FunctionTable.{FunctionTable}
 use Rattle.addr2line_lines.specs.FunctionCache.{seen_function}
 use Rattle.addr2line_lines.specs.KeptDetails.{seen_details}
 use Rattle.addr2line_lines.specs.SeenScope.{seen_scope}
-use Rattle.addr2line_lines.proofs.ReadLemmas.{all_read, fault_kept, fault_read, none_read, one_read}
+use Rattle.addr2line_lines.proofs.ReadLemmas.{all_read, all_ready, fault_kept, fault_read, fault_ready, no_memory_to_fault, none_read, one_read, reads_nothing}
 use Rattle.addr2line_lines.proofs.functions.Functions.read_all.Goals as goal
 
 long : {X Y : Type 0} (f : X → Y) (xs : List X) → length (map f xs) ≡ length xs
@@ -61,3 +61,39 @@ returns-clause-cached g c =
     let i = c.loop-place.invariant in
     let l = c.loop-place-test.false in
     (all_read g.R.Reader.shares (seen_scope c.args.scope) c.args.unit.now c.args.self.now c.loop-place.self c.loop-place.place i.read (let m = i.count in omega arith)).1
+
+pub returns-in_err-read-clause-ready_for_all : goal.returns-in_err-read-clause-ready_for_all
+returns-in_err-read-clause-ready_for_all g c =
+    let p = err_from_is_err_and c.from_residual.result c.from_residual.ensures.1 in
+    let i = c.loop-place.invariant in
+    let l = c.loop-place-test.true in
+    rw (p.1, p.2) (λ ne. fault_ready g.R.Reader.shares (seen_scope c.args.scope) c.args.unit.now c.args.self.now c.loop-place.self c.read.new.self c.loop-place.place c.in_err-read.field-0.0 i.read (let m = i.count in omega arith) c.in_err-read.ensures.gives (λ e. ne (ap Err e)))
+
+pub returns-in_err-read-clause-exact : goal.returns-in_err-read-clause-exact
+returns-in_err-read-clause-exact g c =
+    let p = err_from_is_err_and c.from_residual.result c.from_residual.ensures.1 in
+    let i = c.loop-place.invariant in
+    let l = c.loop-place-test.true in
+    rw (p.1, p.2) (λ right. λ ready. sym (fault_read g.R.Reader.shares (seen_scope c.args.scope) c.args.unit.now c.args.self.now c.loop-place.self c.loop-place.place c.in_err-read.field-0.0 i.read (let m = i.count in omega arith) c.in_err-read.ensures.exact right
+    (λ takes. absurd (let no : true ≡ false = sym takes ∙ no_memory_to_fault g.R.Reader.shares (seen_scope c.args.scope) c.args.unit.now c.args.self.now.functions ready in cc))))
+
+pub returns-in_err-read-clause-same : goal.returns-in_err-read-clause-same
+returns-in_err-read-clause-same g c =
+    let i = c.loop-place.invariant in
+    let l = c.loop-place-test.true in
+    reads_nothing g.R.Reader.shares (seen_scope c.args.scope) c.args.unit.now c.args.self.now c.loop-place.self c.read.new.self c.loop-place.place c.read.result i.read (let m = i.count in omega arith) c.read.ensures.gives
+
+pub returns-clause-ready_for_all : goal.returns-clause-ready_for_all
+returns-clause-ready_for_all g c = λ _.
+    let i = c.loop-place.invariant in
+    let l = c.loop-place-test.false in
+    all_ready g.R.Reader.shares (seen_scope c.args.scope) c.args.unit.now c.args.self.now c.loop-place.self c.loop-place.place i.read (let m = i.count in omega arith)
+
+pub returns-clause-exact : goal.returns-clause-exact
+returns-clause-exact g c = λ right. λ _.
+    let i = c.loop-place.invariant in
+    let l = c.loop-place-test.false in
+    sym ((all_read g.R.Reader.shares (seen_scope c.args.scope) c.args.unit.now c.args.self.now c.loop-place.self c.loop-place.place i.read (let m = i.count in omega arith)).0 right)
+
+pub returns-clause-same : goal.returns-clause-same
+returns-clause-same g c = c.loop-place.invariant.read.same

@@ -1,9 +1,10 @@
-use Rattle.std.proofs.Common.{OnOk, subst, sym}
+use Rattle.std.proofs.Common.{OnOk, ◌∙◌, ap, subst, sym}
 use Rattle.gimli_read.specs.Reading.{ExactlyUnlessOom}
 use Rattle.addr2line_lines.specs.SeenScope.{seen_scope}
-use Rattle.addr2line_units.specs.FunctionParses.{read_of_functions}
+use Rattle.addr2line_units.specs.FunctionParses.{IsReadyFor, read_of_functions}
 use Rattle.addr2line_units.specs.KeptParses.{HaveFunctions}
 use Rattle.addr2line_units.specs.KeptFunctions.{functions_fault, reading_takes_memory}
+use Rattle.addr2line_units.specs.KnownEntries.{known_functions}
 use Rattle.addr2line_units.proofs.EntryLemmas.{exactly_unless_oom}
 use Rattle.addr2line_units.proofs.KeptParseLemmas.{details_have, details_kept}
 use Rattle.addr2line_units.proofs.functions.LazyFunctions.read.Goals as goal
@@ -30,3 +31,27 @@ returns-in-Details-clause-memory g c = λ have.
 
 pub returns-in-Functions-clause-memory : goal.returns-in-Functions-clause-memory
 returns-in-Functions-clause-memory g c = λ have. c.read_alone.ensures.memory (subst (λ r. HaveFunctions r c.args.self.now) c.in-Functions.is have)
+
+pub returns-in-Details-clause-ready_for_all : goal.returns-in-Details-clause-ready_for_all
+returns-in-Details-clause-ready_for_all g c = λ ne.
+    subst (λ r. IsReadyFor r (known_functions c.read_all.new.self)) (sym c.in-Details.is) (c.read_all.ensures.ready_for_all ne)
+
+pub returns-in-Details-clause-exact : goal.returns-in-Details-clause-exact
+returns-in-Details-clause-exact g c = λ ready.
+    c.read_all.ensures.exact (subst (λ r. IsReadyFor r (known_functions c.args.self.now)) c.in-Details.is ready)
+    ∙ ap (λ r. read_of_functions r (seen_scope c.args.scope) c.args.view.now) (sym c.in-Details.is)
+
+pub returns-in-Details-clause-same : goal.returns-in-Details-clause-same
+returns-in-Details-clause-same g c = λ ready. c.read_all.ensures.same (subst (λ r. IsReadyFor r (known_functions c.args.self.now)) c.in-Details.is ready)
+
+pub returns-in-Functions-clause-ready_for_all : goal.returns-in-Functions-clause-ready_for_all
+returns-in-Functions-clause-ready_for_all g c = λ ne.
+    subst (λ r. IsReadyFor r (known_functions c.read_alone.new.self)) (sym c.in-Functions.is) (c.read_alone.ensures.ready_for_all ne)
+
+pub returns-in-Functions-clause-exact : goal.returns-in-Functions-clause-exact
+returns-in-Functions-clause-exact g c = λ ready.
+    c.read_alone.ensures.exact (subst (λ r. IsReadyFor r (known_functions c.args.self.now)) c.in-Functions.is ready)
+    ∙ ap (λ r. read_of_functions r (seen_scope c.args.scope) c.args.view.now) (sym c.in-Functions.is)
+
+pub returns-in-Functions-clause-same : goal.returns-in-Functions-clause-same
+returns-in-Functions-clause-same g c = λ ready. c.read_alone.ensures.same (subst (λ r. IsReadyFor r (known_functions c.args.self.now)) c.in-Functions.is ready)

@@ -1,10 +1,13 @@
-use Rattle.std.proofs.Common.{Result, subst, sym}
+use Rattle.std.proofs.Common.{Result, ◌∙◌, ap, subst, sym}
 use Rattle.gimli_read.specs.declared.error.Error.{Error}
 use Rattle.gimli_read.specs.Reading.{ExactlyUnlessOomIf}
 use Rattle.addr2line_lines.specs.FunctionTable.{details_take_memory}
 use Rattle.addr2line_lines.specs.SeenScope.{seen_scope}
+use Rattle.addr2line_units.specs.declared.functions.LazyFunctions.TheVariants as lazy
+use Rattle.addr2line_units.specs.declared.parses.Reads.TheVariants as reads
 use Rattle.addr2line_units.specs.KeptFunctions.{AreFunctionsOf, functions_fault, reading_takes_memory}
 use Rattle.addr2line_units.proofs.KeptFunctionLemmas.{all_ready, exactly_weaker, fault_is, on_ok, reading_before, stay_faulty, stay_read, table_more}
+use Rattle.addr2line_units.proofs.ReadyLemmas.{fault_of_functions, not_oom, ready_fault, ready_same, ready_then, ready_were_read}
 use Rattle.addr2line_units.proofs.functions.LazyFunctions.read_all.Goals as goal
 
 pub returns-in-Read-clause-gives : goal.returns-in-Read-clause-gives
@@ -35,3 +38,37 @@ returns-in-Read-clause-ready g c = on_ok c.read_all.result (all_ready c.read_all
 pub returns-in-Faulty-clause-stay : goal.returns-in-Faulty-clause-stay
 returns-in-Faulty-clause-stay g c =
     stay_faulty c.args.self.now c.cache.new.self (λ read. (c.cache.ensures.kept read).0) c.in-Faulty.error c.in-Faulty.is
+
+pub returns-in_err-cache-clause-exact : goal.returns-in_err-cache-clause-exact
+returns-in_err-cache-clause-exact g c = λ ready.
+    absurd (let no = (c.in_err-cache.ensures.kept (ready_were_read reads.Details c.args.self.now ready)).1 in cc)
+
+pub returns-in-Read-clause-ready_for_all : goal.returns-in-Read-clause-ready_for_all
+returns-in-Read-clause-ready_for_all g c = λ ne. c.read_all.ensures.ready_for_all (not_oom c.read_all.result ne)
+
+pub returns-in-Read-clause-exact : goal.returns-in-Read-clause-exact
+returns-in-Read-clause-exact g c = λ ready.
+    let scope = seen_scope c.args.scope in
+    let view = c.args.view.now in
+    let t = c.in-Read.functions in
+    let table = subst (λ x. AreFunctionsOf scope view x) c.in-Read.is c.cache.ensures.right in
+    c.read_all.ensures.exact table.details (ready_then reads.Details c.args.self.now c.cache.new.self (λ read. (c.cache.ensures.kept read).0) ready (lazy.Read t) c.in-Read.is) ∙ sym (fault_is scope view t table)
+
+pub returns-in-Read-clause-same : goal.returns-in-Read-clause-same
+returns-in-Read-clause-same g c = λ ready.
+    let t = c.in-Read.functions in
+    ap lazy.Read (c.read_all.ensures.same (ready_then reads.Details c.args.self.now c.cache.new.self (λ read. (c.cache.ensures.kept read).0) ready (lazy.Read t) c.in-Read.is))
+    ∙ sym c.in-Read.is ∙ ready_same reads.Details c.args.self.now c.cache.new.self (λ read. (c.cache.ensures.kept read).0) ready
+
+pub returns-in-Faulty-clause-ready_for_all : goal.returns-in-Faulty-clause-ready_for_all
+returns-in-Faulty-clause-ready_for_all g c = λ ne. ready_fault reads.Details c.in-Faulty.error ne
+
+pub returns-in-Faulty-clause-exact : goal.returns-in-Faulty-clause-exact
+returns-in-Faulty-clause-exact g c = λ _.
+    let scope = seen_scope c.args.scope in
+    let view = c.args.view.now in
+    sym (fault_of_functions scope view c.in-Faulty.error (subst (λ x. AreFunctionsOf scope view x) c.in-Faulty.is c.cache.ensures.right))
+
+pub returns-in-Faulty-clause-same : goal.returns-in-Faulty-clause-same
+returns-in-Faulty-clause-same g c = λ ready.
+    sym c.in-Faulty.is ∙ ready_same reads.Details c.args.self.now c.cache.new.self (λ read. (c.cache.ensures.kept read).0) ready

@@ -1,8 +1,9 @@
 use Rattle.std.proofs.Common.{subst, sym, ◌∙◌}
 use Rattle.addr2line_lines.specs.SeenScope.{seen_scope}
 use Rattle.addr2line_units.specs.declared.parses.Reads.TheVariants.{Functions}
-use Rattle.addr2line_units.specs.KeptFunctions.{StayFunctions}
-use Rattle.addr2line_units.proofs.KeptParseLemmas.{cached_stay, have_no_fault, have_were_read}
+use Rattle.addr2line_units.specs.KeptFunctions.{AreFunctionsOf, StayFunctions}
+use Rattle.addr2line_units.proofs.KeptParseLemmas.{alone_fault, cached_stay, have_no_fault, have_were_read}
+use Rattle.addr2line_units.proofs.ReadyLemmas.{ready_fault, ready_same, ready_were_read}
 use Rattle.addr2line_units.proofs.functions.LazyFunctions.read_alone.Goals as goal
 
 pub returns-in-Read-clause-stay : goal.returns-in-Read-clause-stay
@@ -17,3 +18,24 @@ returns-in-Faulty-clause-stay g c =
 pub returns-in-Faulty-clause-memory : goal.returns-in-Faulty-clause-memory
 returns-in-Faulty-clause-memory g c = λ have.
     absurd (have_no_fault Functions c.args.self.now c.in-Faulty.error have (sym (c.cache.ensures.kept (have_were_read Functions c.args.self.now have)).0 ∙ c.in-Faulty.is))
+
+pub returns-in_err-cache-clause-exact : goal.returns-in_err-cache-clause-exact
+returns-in_err-cache-clause-exact g c = λ ready.
+    absurd (let no = (c.in_err-cache.ensures.kept (ready_were_read Functions c.args.self.now ready)).1 in cc)
+
+pub returns-in-Faulty-clause-ready_for_all : goal.returns-in-Faulty-clause-ready_for_all
+returns-in-Faulty-clause-ready_for_all g c = λ ne. ready_fault Functions c.in-Faulty.error ne
+
+pub returns-in-Faulty-clause-exact : goal.returns-in-Faulty-clause-exact
+returns-in-Faulty-clause-exact g c = λ _.
+    let scope = seen_scope c.args.scope in
+    let view = c.args.view.now in
+    sym (alone_fault scope view c.in-Faulty.error (subst (λ x. AreFunctionsOf scope view x) c.in-Faulty.is c.cache.ensures.right))
+
+pub returns-in-Faulty-clause-same : goal.returns-in-Faulty-clause-same
+returns-in-Faulty-clause-same g c = λ ready.
+    sym c.in-Faulty.is ∙ ready_same Functions c.args.self.now c.cache.new.self (λ read. (c.cache.ensures.kept read).0) ready
+
+pub returns-in-Read-clause-same : goal.returns-in-Read-clause-same
+returns-in-Read-clause-same g c = λ ready.
+    ready_same Functions c.args.self.now c.cache.new.self (λ read. (c.cache.ensures.kept read).0) ready

@@ -7,23 +7,14 @@ use Rattle.addr2line_units.proofs.EntryLemmas.{looked_decides}
 use Rattle.addr2line_units.proofs.SettledLemmas.{waiting_is_unsettled}
 use Rattle.addr2line_units.proofs.unit_frames.UnitEntries.answer.Goals as goal
 
-pub returns-in_err-look-clause-same : goal.returns-in_err-look-clause-same
-returns-in_err-look-clause-same g c h =
-    absurd (let e = (c.in_err-look.ensures.same (decided_was_looked_at c.args.self.now.view.state h)).1 in cc)
-
-pub returns-in_err-look-clause-refused : goal.returns-in_err-look-clause-refused
-returns-in_err-look-clause-refused g c =
-    let p = err_from_is_err_and c.from_residual.result c.from_residual.ensures.1 in
-    rw (p.1, p.2) (c.in_err-look.ensures.refused.0, c.look.ensures.stay)
-
 pub returns-in_err-decide-clause-refused : goal.returns-in_err-decide-clause-refused
 returns-in_err-decide-clause-refused g c =
-    let p = err_from_is_err_and c.from_residual-in_err-decide.result c.from_residual-in_err-decide.ensures.1 in
+    let p = err_from_is_err_and c.from_residual.result c.from_residual.ensures.1 in
     rw (p.1, p.2) (c.in_err-decide.ensures.refused.0, subst (λ x. StayEntries c.args.self.now x) (sym c.in_err-decide.ensures.refused.1) c.look.ensures.stay)
 
 pub returns-in_err-decide-clause-same : goal.returns-in_err-decide-clause-same
 returns-in_err-decide-clause-same g c h =
-    absurd (never_waits c.args.self.now c.look.new.self c.is_open.result h (λ l. (c.look.ensures.same l).0) c.is_open.ensures.gives (search rules))
+    absurd (never_waits c.args.self.now c.look.new.self c.is_open.result h c.look.ensures.same c.is_open.ensures.gives (search rules))
 
 pub returns-in_ok-decide-clause-answer : goal.returns-in_ok-decide-clause-answer
 returns-in_ok-decide-clause-answer g c =
@@ -31,7 +22,7 @@ returns-in_ok-decide-clause-answer g c =
     let u = c.args.dw_unit.now in
     let s = c.args.self.now in
     let n = c.look.new.self in
-    let was : is_open d u (kept_answer s) ≡ true = open_by_look d u s.view n.view true c.look.ensures.kept.view c.in_ok-look.ensures.looked c.look.ensures.stay.answer (search rules) in
+    let was : is_open d u (kept_answer s) ≡ true = open_by_look d u s.view n.view true c.look.ensures.kept.view c.look.ensures.looked c.look.ensures.stay.answer (search rules) in
     c.in_ok-decide.ensures.answer ∙ sym (decided_if_open d u (kept_answer s) (option_map (λ x. x.value) c.args.sections) was)
 
 pub returns-in_ok-decide-clause-functions : goal.returns-in_ok-decide-clause-functions
@@ -40,12 +31,12 @@ returns-in_ok-decide-clause-functions g c h =
     let u = c.args.dw_unit.now in
     let s = c.args.self.now in
     let n = c.look.new.self in
-    let was : is_open d u (kept_answer s) ≡ true = open_by_look d u s.view n.view true c.look.ensures.kept.view c.in_ok-look.ensures.looked c.look.ensures.stay.answer (search rules) in
+    let was : is_open d u (kept_answer s) ≡ true = open_by_look d u s.view n.view true c.look.ensures.kept.view c.look.ensures.looked c.look.ensures.stay.answer (search rules) in
     absurd (let e : true ≡ false = sym was ∙ h in cc)
 
 pub returns-in_ok-decide-clause-same : goal.returns-in_ok-decide-clause-same
 returns-in_ok-decide-clause-same g c h =
-    absurd (never_waits c.args.self.now c.look.new.self c.is_open.result h (λ l. (c.look.ensures.same l).0) c.is_open.ensures.gives (search rules))
+    absurd (never_waits c.args.self.now c.look.new.self c.is_open.result h c.look.ensures.same c.is_open.ensures.gives (search rules))
 
 pub returns-else-is_open-clause-answer : goal.returns-else-is_open-clause-answer
 returns-else-is_open-clause-answer g c =
@@ -53,17 +44,17 @@ returns-else-is_open-clause-answer g c =
     let u = c.args.dw_unit.now in
     let s = c.args.self.now in
     let n = c.look.new.self in
-    let was : is_open d u (kept_answer s) ≡ false = open_by_look d u s.view n.view false c.look.ensures.kept.view c.in_ok-look.ensures.looked c.look.ensures.stay.answer (search rules) in
+    let was : is_open d u (kept_answer s) ≡ false = open_by_look d u s.view n.view false c.look.ensures.kept.view c.look.ensures.looked c.look.ensures.stay.answer (search rules) in
     c.look.ensures.stay.answer ∙ sym (decided_if_not d u (kept_answer s) (option_map (λ x. x.value) c.args.sections) was)
 
 pub returns-else-is_open-clause-decided : goal.returns-else-is_open-clause-decided
 returns-else-is_open-clause-decided g c =
-    looked_decides c.look.new.self.view.state c.in_ok-look.ensures.looked (search rules)
+    looked_decides c.look.new.self.view.state c.look.ensures.looked (search rules)
 
 pub returns-else-is_open-clause-same : goal.returns-else-is_open-clause-same
 returns-else-is_open-clause-same g c h =
-    ((c.look.ensures.same (decided_was_looked_at c.args.self.now.view.state h)).0, refl)
+    (c.look.ensures.same (decided_was_looked_at c.args.self.now.view.state h), refl)
 
 pub returns-in_err-decide-clause-settled : goal.returns-in_err-decide-clause-settled
 returns-in_err-decide-clause-settled g c h =
-    absurd (waiting_is_unsettled c.args.scope.file.dwarf.now c.args.dw_unit.now c.args.self.now.view c.look.new.self.view c.look.ensures.kept.view c.in_ok-look.ensures.looked c.look.ensures.stay.answer (search rules) h)
+    absurd (waiting_is_unsettled c.args.scope.file.dwarf.now c.args.dw_unit.now c.args.self.now.view c.look.new.self.view c.look.ensures.kept.view c.look.ensures.looked c.look.ensures.stay.answer (search rules) h)

@@ -14,7 +14,7 @@ returns-then-not-is_open-clause-gives g c =
     let e = c.args.dwarf.now.value in
     let u = c.args.dw_unit.now in
     let s = c.args.self.now in
-    let was : is_open d u (kept_answer s) ≡ false = open_by_look d u s.view c.look.new.self.view false c.look.ensures.kept.view c.in_ok-look.ensures.looked c.look.ensures.stay.answer (search rules) in
+    let was : is_open d u (kept_answer s) ≡ false = open_by_look d u s.view c.look.new.self.view false c.look.ensures.kept.view c.look.ensures.looked c.look.ensures.stay.answer (search rules) in
     let none : awaited_load e c.args.number u (kept_answer s) ≡ None = no_answer (awaited_load e c.args.number u (kept_answer s)) (sym (open_awaits e c.args.number u (kept_answer s)) ∙ subst (λ x. is_open x u (kept_answer s) ≡ false) c.requires.same was) in
     sym (ap (if_new c.args.marks.now.items) none)
 
@@ -24,7 +24,7 @@ returns-then-not-is_open-clause-marked g c =
     let e = c.args.dwarf.now.value in
     let u = c.args.dw_unit.now in
     let s = c.args.self.now in
-    let was : is_open d u (kept_answer s) ≡ false = open_by_look d u s.view c.look.new.self.view false c.look.ensures.kept.view c.in_ok-look.ensures.looked c.look.ensures.stay.answer (search rules) in
+    let was : is_open d u (kept_answer s) ≡ false = open_by_look d u s.view c.look.new.self.view false c.look.ensures.kept.view c.look.ensures.looked c.look.ensures.stay.answer (search rules) in
     let none : awaited_load e c.args.number u (kept_answer s) ≡ None = no_answer (awaited_load e c.args.number u (kept_answer s)) (sym (open_awaits e c.args.number u (kept_answer s)) ∙ subst (λ x. is_open x u (kept_answer s) ≡ false) c.requires.same was) in
     marks_none c.args.marks.now.items (awaited_load e c.args.number u (kept_answer s)) none
 
@@ -35,7 +35,7 @@ returns-then-not-branch-clause-gives g c =
     let u = c.args.dw_unit.now in
     let s = c.args.self.now in
     let n = c.args.number in
-    let was : is_open d u (kept_answer s) ≡ true = open_by_look d u s.view c.look.new.self.view true c.look.ensures.kept.view c.in_ok-look.ensures.looked c.look.ensures.stay.answer (search rules) in
+    let was : is_open d u (kept_answer s) ≡ true = open_by_look d u s.view c.look.new.self.view true c.look.ensures.kept.view c.look.ensures.looked c.look.ensures.stay.answer (search rules) in
     let some : is_some (awaited_load e n u (kept_answer s)) ≡ true = sym (open_awaits e n u (kept_answer s)) ∙ subst (λ x. is_open x u (kept_answer s) ≡ true) c.requires.same was in
     let old : not (is_marked c.args.marks.now.items n) ≡ false = search rules in
     sym (not_new c.args.marks.now.items n (awaited_load e n u (kept_answer s)) some (awaited_unit e n u (kept_answer s)) old)
@@ -47,7 +47,7 @@ returns-then-not-branch-clause-marked g c =
     let u = c.args.dw_unit.now in
     let s = c.args.self.now in
     let n = c.args.number in
-    let was : is_open d u (kept_answer s) ≡ true = open_by_look d u s.view c.look.new.self.view true c.look.ensures.kept.view c.in_ok-look.ensures.looked c.look.ensures.stay.answer (search rules) in
+    let was : is_open d u (kept_answer s) ≡ true = open_by_look d u s.view c.look.new.self.view true c.look.ensures.kept.view c.look.ensures.looked c.look.ensures.stay.answer (search rules) in
     let some : is_some (awaited_load e n u (kept_answer s)) ≡ true = sym (open_awaits e n u (kept_answer s)) ∙ subst (λ x. is_open x u (kept_answer s) ≡ true) c.requires.same was in
     marks_load c.args.marks.now.items n c.mark_unit.new.marks.items (awaited_load e n u (kept_answer s)) some (awaited_unit e n u (kept_answer s)) c.in_ok-mark_unit.ensures.marked
 
@@ -59,7 +59,7 @@ returns-clause-gives g c =
     let s = c.args.self.now in
     let n = c.args.number in
     let l = seen_load g.R.Reader.section c.in_ok-load.field-0 in
-    let was : is_open d u (kept_answer s) ≡ true = open_by_look d u s.view c.look.new.self.view true c.look.ensures.kept.view c.in_ok-look.ensures.looked c.look.ensures.stay.answer (search rules) in
+    let was : is_open d u (kept_answer s) ≡ true = open_by_look d u s.view c.look.new.self.view true c.look.ensures.kept.view c.look.ensures.looked c.look.ensures.stay.answer (search rules) in
     let some : is_some (awaited_load e n u (kept_answer s)) ≡ true = sym (open_awaits e n u (kept_answer s)) ∙ subst (λ x. is_open x u (kept_answer s) ≡ true) c.requires.same was in
     let this : awaited_load e n u (kept_answer s) ≡ Some l = awaits_this e n u (kept_answer s) l c.in_ok-load.ensures.gives some in
     let fresh : not (is_marked c.args.marks.now.items n) ≡ true = search rules in
@@ -72,26 +72,26 @@ returns-clause-marked g c =
     let u = c.args.dw_unit.now in
     let s = c.args.self.now in
     let n = c.args.number in
-    let was : is_open d u (kept_answer s) ≡ true = open_by_look d u s.view c.look.new.self.view true c.look.ensures.kept.view c.in_ok-look.ensures.looked c.look.ensures.stay.answer (search rules) in
+    let was : is_open d u (kept_answer s) ≡ true = open_by_look d u s.view c.look.new.self.view true c.look.ensures.kept.view c.look.ensures.looked c.look.ensures.stay.answer (search rules) in
     let some : is_some (awaited_load e n u (kept_answer s)) ≡ true = sym (open_awaits e n u (kept_answer s)) ∙ subst (λ x. is_open x u (kept_answer s) ≡ true) c.requires.same was in
     marks_load c.args.marks.now.items n c.mark_unit.new.marks.items (awaited_load e n u (kept_answer s)) some (awaited_unit e n u (kept_answer s)) c.in_ok-mark_unit.ensures.marked
 
 pub returns-clause-decided : goal.returns-clause-decided
 returns-clause-decided g c h =
-    absurd (never_waits c.args.self.now c.look.new.self true h (λ l. (c.look.ensures.same l).0) (search rules) refl)
+    absurd (never_waits c.args.self.now c.look.new.self true h c.look.ensures.same (search rules) refl)
 
 pub returns-in_err-mark_unit-clause-settled : goal.returns-in_err-mark_unit-clause-settled
 returns-in_err-mark_unit-clause-settled g c h =
-    absurd (waiting_is_unsettled c.args.scope.file.dwarf.now c.args.dw_unit.now c.args.self.now.view c.look.new.self.view c.look.ensures.kept.view c.in_ok-look.ensures.looked c.look.ensures.stay.answer (search rules) h)
+    absurd (waiting_is_unsettled c.args.scope.file.dwarf.now c.args.dw_unit.now c.args.self.now.view c.look.new.self.view c.look.ensures.kept.view c.look.ensures.looked c.look.ensures.stay.answer (search rules) (subst (λ x. is_open x c.args.dw_unit.now (kept_answer c.args.self.now) ≡ false) (sym c.requires.same) h))
 
 pub returns-in_err-load-clause-settled : goal.returns-in_err-load-clause-settled
 returns-in_err-load-clause-settled g c h =
-    absurd (waiting_is_unsettled c.args.scope.file.dwarf.now c.args.dw_unit.now c.args.self.now.view c.look.new.self.view c.look.ensures.kept.view c.in_ok-look.ensures.looked c.look.ensures.stay.answer (search rules) h)
+    absurd (waiting_is_unsettled c.args.scope.file.dwarf.now c.args.dw_unit.now c.args.self.now.view c.look.new.self.view c.look.ensures.kept.view c.look.ensures.looked c.look.ensures.stay.answer (search rules) (subst (λ x. is_open x c.args.dw_unit.now (kept_answer c.args.self.now) ≡ false) (sym c.requires.same) h))
 
 pub returns-clause-settled : goal.returns-clause-settled
 returns-clause-settled g c h =
-    absurd (waiting_is_unsettled c.args.scope.file.dwarf.now c.args.dw_unit.now c.args.self.now.view c.look.new.self.view c.look.ensures.kept.view c.in_ok-look.ensures.looked c.look.ensures.stay.answer (search rules) h)
+    absurd (waiting_is_unsettled c.args.scope.file.dwarf.now c.args.dw_unit.now c.args.self.now.view c.look.new.self.view c.look.ensures.kept.view c.look.ensures.looked c.look.ensures.stay.answer (search rules) (subst (λ x. is_open x c.args.dw_unit.now (kept_answer c.args.self.now) ≡ false) (sym c.requires.same) h))
 
 pub returns-in_err-load-clause-decided : goal.returns-in_err-load-clause-decided
 returns-in_err-load-clause-decided g c h =
-    absurd (never_waits c.args.self.now c.look.new.self true h (λ l. (c.look.ensures.same l).0) (search rules) refl)
+    absurd (never_waits c.args.self.now c.look.new.self true h c.look.ensures.same (search rules) refl)

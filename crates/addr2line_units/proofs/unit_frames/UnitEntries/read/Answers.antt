@@ -1,6 +1,12 @@
-use Rattle.std.proofs.Common.{subst, sym}
+use Rattle.std.proofs.Common.{◌∙◌, ap, subst, sym}
+use Rattle.std.proofs.lemmas.Result.{err_from_is_err_and}
+use Rattle.addr2line_lines.specs.SeenScope.{seen_scope}
+use Rattle.addr2line_units.specs.declared.functions.LazyFunctions.{LazyFunctions}
+use Rattle.addr2line_units.specs.declared.unit_frames.UnitEntries.{UnitEntries}
+use Rattle.addr2line_units.specs.FunctionParses.{read_of_view}
 use Rattle.addr2line_units.specs.KeptEntries.{StayEntries}
-use Rattle.addr2line_units.specs.KeptParses.{HasRead}
+use Rattle.addr2line_units.specs.KeptParses.{HasRead, IsReadyUnit}
+use Rattle.addr2line_units.specs.Views.{verdict}
 use Rattle.addr2line_units.proofs.KeptLookupLemmas.{entries_same}
 use Rattle.addr2line_units.proofs.KeptParseLemmas.{entries_then, read_decided}
 use Rattle.addr2line_units.proofs.unit_frames.UnitEntries.read.Goals as goal
@@ -21,3 +27,35 @@ pub returns-clause-memory : goal.returns-clause-memory
 returns-clause-memory g c = λ have.
     let same = (c.answer.ensures.same (read_decided c.args.reads c.args.self.now have)).0 in
     c.read_in_view.ensures.memory (subst (HasRead c.args.reads) (sym same) have)
+
+pub returns-in_err-answer-clause-ready_for_all : goal.returns-in_err-answer-clause-ready_for_all
+returns-in_err-answer-clause-ready_for_all g c =
+    let p = err_from_is_err_and c.from_residual.result c.from_residual.ensures.1 in
+    rw (p.1, p.2) (λ ne. absurd (ne c.in_err-answer.ensures.refused.0))
+
+pub returns-in_err-answer-clause-exact : goal.returns-in_err-answer-clause-exact
+returns-in_err-answer-clause-exact g c = λ ready.
+    absurd (let no = (c.in_err-answer.ensures.same ready.decided).1 in cc)
+
+pub returns-in_err-answer-clause-same : goal.returns-in_err-answer-clause-same
+returns-in_err-answer-clause-same g c = λ ready. (c.in_err-answer.ensures.same ready.decided).0
+
+pub returns-clause-ready_for_all : goal.returns-clause-ready_for_all
+returns-clause-ready_for_all g c = λ ne.
+    record { decided = c.in_ok-answer.ensures.decided; known = c.read_in_view.ensures.ready_for_all ne }
+
+pub returns-clause-exact : goal.returns-clause-exact
+returns-clause-exact g c = λ ready.
+    let scope = seen_scope c.args.scope in
+    let same = (c.answer.ensures.same ready.decided).0 in
+    c.read_in_view.ensures.exact (subst (IsReadyUnit c.args.reads) (sym same) ready).known
+    ∙ ap (λ a. read_of_view c.args.reads scope (verdict scope.file.sections c.args.dw_unit.now a)) c.in_ok-answer.ensures.answer
+
+pub returns-clause-same : goal.returns-clause-same
+returns-clause-same g c = λ ready.
+    let same = (c.answer.ensures.same ready.decided).0 in
+    let mid = c.answer.new.self in
+    ap (λ f. with_functions mid f) (c.read_in_view.ensures.same (subst (IsReadyUnit c.args.reads) (sym same) ready).known) ∙ same
+  where
+    with_functions : {R : Type 0} → UnitEntries R → LazyFunctions R → UnitEntries R
+    with_functions v f = record { view = v.view; functions = f }

@@ -64,4 +64,4 @@ returns-clause-settled g c h =
     let s = c.args.self.now in
     let many = as_many_entries (scope_in c.args.dwarf.now s.dw_units.items c.args.sup.now) s.dw_units.items s.entries.items c.requires.kept in
     let there = c.requires.there in
-    c.answer.ensures.settled (settled_there s.dw_units.items s.entries.items c.args.number c.index.result.now c.index_mut-entries.result.now (got_unit s.dw_units.items c.args.number c.index.result.now there (search rules)) (omega (arith, many, there)) c.index_mut-entries.ensures.value h)
+    c.answer.ensures.settled (settled_there c.args.dwarf.now s.dw_units.items s.entries.items c.args.number c.index.result.now c.index_mut-entries.result.now (got_unit s.dw_units.items c.args.number c.index.result.now there (search rules)) (omega (arith, many, there)) c.index_mut-entries.ensures.value h)

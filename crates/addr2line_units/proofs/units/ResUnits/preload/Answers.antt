@@ -23,5 +23,5 @@ pub returns-clause-settled : goal.returns-clause-settled
 returns-clause-settled g c =
     let s = c.args.self.now in
     let answers = answers_in s.entries.items in
-    subst (λ us. AreSettled us answers (cover c.args.probe s.ranges) → IsOk c.read_loads.result) c.deref.ensures.value
-    (subst (λ rs. AreSettled c.deref.result.now answers rs → IsOk c.read_loads.result) c.find.ensures.gives c.read_loads.ensures.settled)
+    subst (λ us. AreSettled c.args.dwarf.now.value us answers (cover c.args.probe s.ranges) → IsOk c.read_loads.result) c.deref.ensures.value
+    (subst (λ rs. AreSettled c.args.dwarf.now.value c.deref.result.now answers rs → IsOk c.read_loads.result) c.find.ensures.gives c.read_loads.ensures.settled)

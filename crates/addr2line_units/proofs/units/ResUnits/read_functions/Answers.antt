@@ -1,9 +1,12 @@
-use Rattle.std.proofs.Common.{[], option_map, refl, rules}
+use Rattle.std.proofs.Common.{◌≡◌, [], option_map, refl, rules}
 use Rattle.addr2line_lines.specs.SeenScope.{seen_file}
-use Rattle.addr2line_units.specs.FunctionParses.{AreFirstDecided, AreReadBefore}
+use Rattle.addr2line_units.specs.FunctionParses.{AreFirstDecided, AreReadBefore, AreReadyFor, answers_after, read_of_units}
 use Rattle.addr2line_units.specs.KeptLookups.{answers_in, sup_file}
 use Rattle.addr2line_units.specs.KeptParses.{ChangesOnly}
 use Rattle.addr2line_units.proofs.KeptParseLemmas.{all_stay, decided_if_ok, found_if_ok}
+use Rattle.addr2line_units.specs.KnownEntries.{known_in}
+use Rattle.addr2line_units.specs.Parsed.{IsNotOom}
+use Rattle.addr2line_units.proofs.ReadyLemmas.{ready_after, ready_before}
 use Rattle.addr2line_units.proofs.WalkLemmas.{in_scope}
 use Rattle.addr2line_units.proofs.units.ResUnits.read_functions.Goals as goal
 
@@ -27,3 +30,35 @@ returns-clause-found g c = λ is. found_if_ok c.args.reads c.read_all_functions.
 
 pub returns-clause-same : goal.returns-clause-same
 returns-clause-same g c = λ have. all_stay c.args.reads c.args.self.now.entries.items c.read_all_functions.new.entries.items have c.read_all_functions.ensures.stay
+
+pub returns-clause-ready_for_all : goal.returns-clause-ready_for_all
+returns-clause-ready_for_all g c = λ ne.
+    let s = c.args.self.now in
+    let new = c.read_all_functions.new.entries.items in
+    let at = in_scope c.args.dwarf.now c.deref.result.now s.dw_units.items (option_map seen_file c.file.result) (sup_file c.args.sup.now) [] [] in
+    let e = c.read_all_functions.ensures in
+    at (λ S us qs. AreReadyFor c.args.reads S us (answers_in new) (known_in new)) (search rules) c.file.ensures.gives refl
+    (ready_after c.args.reads _ _ (answers_in s.entries.items) new e.kept (e.answers ne) (e.ready_for_all ne))
+
+pub returns-clause-exact : goal.returns-clause-exact
+returns-clause-exact g c =
+    let s = c.args.self.now in
+    let old = s.entries.items in
+    let at = in_scope c.args.dwarf.now c.deref.result.now s.dw_units.items (option_map seen_file c.file.result) (sup_file c.args.sup.now) [] [] in
+    at (λ S us qs. AreReadyFor c.args.reads S us (answers_in old) (known_in old) → c.read_all_functions.result ≡ read_of_units c.args.reads S us (answers_in old)) (search rules) c.file.ensures.gives refl
+    (λ ready. c.read_all_functions.ensures.exact (ready_before c.args.reads _ _ old (search rules) ready))
+
+pub returns-clause-unchanged : goal.returns-clause-unchanged
+returns-clause-unchanged g c =
+    let s = c.args.self.now in
+    let old = s.entries.items in
+    let at = in_scope c.args.dwarf.now c.deref.result.now s.dw_units.items (option_map seen_file c.file.result) (sup_file c.args.sup.now) [] [] in
+    at (λ S us qs. AreReadyFor c.args.reads S us (answers_in old) (known_in old) → c.read_all_functions.new.entries.items ≡ old) (search rules) c.file.ensures.gives refl
+    (λ ready. c.read_all_functions.ensures.same (ready_before c.args.reads _ _ old (search rules) ready))
+
+pub returns-clause-answers : goal.returns-clause-answers
+returns-clause-answers g c =
+    let s = c.args.self.now in
+    let new = c.read_all_functions.new.entries.items in
+    let at = in_scope c.args.dwarf.now c.deref.result.now s.dw_units.items (option_map seen_file c.file.result) (sup_file c.args.sup.now) [] [] in
+    at (λ S us qs. IsNotOom c.read_all_functions.result → answers_in new ≡ answers_after c.args.reads S us (answers_in s.entries.items)) (search rules) c.file.ensures.gives refl c.read_all_functions.ensures.answers

@@ -1,0 +1,145 @@
+//! Runs over files and lookups that tests know.
+
+ghost use Rattle.std.specs.Prelude.{◌≡◌, [], None, Ok, false, option_map};
+ghost use Rattle.addr2line_lines.specs.Rows.{result_map};
+ghost use Rattle.addr2line_lines.specs.SeenLocation.{seen_location};
+
+use crate::command_line::{Request, command_line};
+use crate::engine::Exit;
+use crate::input::{Input, Lines};
+use crate::lookups::Lookups;
+use crate::program::run;
+use crate::run_request;
+use crate::test_streams::{Streams, words};
+use addr2line::gimli::read::EndianBytes;
+use addr2line::{FrameIter, LoaderError, Location, LocationRangeIter, MemoryFiles, Range};
+use std::alloc::{AllocError, Global};
+use std::test::Fail;
+
+/// A location, none, or a fault.
+pub type Found = Result<Option<Location<'static>>, LoaderError>;
+
+/// A file that gives the same to each lookup; it has no functions, rows and sections.
+#[derive(Drop)]
+pub struct Fixed {
+    /// What it gives.
+    pub found: Found,
+    /// The name of the symbol at each address.
+    pub symbol: Option<&'static str>,
+}
+
+impl Lookups for Fixed {
+    ghost answers = { λ file. record {
+      location_at = λ probe. result_map (option_map seen_location) file.found;
+      MayGive = λ probe given. Unit {0};
+      symbol_at = λ probe. option_map (λ name. name.now) file.symbol;
+      section_at = λ name. None;
+      spans_in = λ low high. Ok [];
+    } };
+
+    #[tactic(auto, using(crate::proofs::AnswerLemmas::stays_itself))]
+    fn find_location(&mut self, _probe: u64) -> Result<Option<Location<'_>>, LoaderError> {
+        match self.found {
+            Ok(location) => Ok(location),
+            Err(fault) => Err(fault),
+        }
+    }
+
+    #[tactic(auto, using(crate::proofs::AnswerLemmas::stays_itself))]
+    fn find_frames(&mut self, _probe: u64) -> Result<FrameIter<'_, EndianBytes>, LoaderError> {
+        match self.found {
+            Ok(location) => Ok(FrameIter::new_location(location)),
+            Err(fault) => Err(fault),
+        }
+    }
+
+    #[tactic(auto, using(crate::proofs::AnswerLemmas::stays_itself))]
+    fn find_location_range(
+        &mut self,
+        _low: u64,
+        _high: u64,
+    ) -> Result<LocationRangeIter<'_, EndianBytes>, LoaderError> {
+        Err(LoaderError::OutOfMemory)
+    }
+
+    fn find_symbol(&self, _probe: u64) -> Option<&str> {
+        self.symbol
+    }
+
+    fn get_section_range(&self, _name: &[u8]) -> Option<Range> {
+        None
+    }
+}
+
+impl Fixed {
+    /// A file without symbols.
+    pub fn new(found: Found) -> Fixed {
+        Fixed {
+            found,
+            symbol: None,
+        }
+    }
+}
+
+/// An input for whose lines memory is refused.
+#[derive(Drop)]
+pub struct Refusing;
+
+impl Input for Refusing {
+    ghost state = { λ _. record { bytes = None; has_fault = false } };
+
+    fn read_line(&mut self, _line: &mut Vec<u8>) -> Result<bool, AllocError> {
+        Err(AllocError)
+    }
+}
+
+/// What words ask for.
+pub fn request_in(alloc: Global, given: &[&str]) -> Result<Request, Fail> {
+    let given = words(alloc, given)?;
+    match command_line(alloc, given.as_slice()) {
+        Ok(request) => Ok(request),
+        Err(_) => Err(Fail::from("no request")),
+    }
+}
+
+/// How a run of words over lookups ends.
+pub fn run_lookups<I: Input>(
+    alloc: Global,
+    given: &[&str],
+    loader: Result<Fixed, LoaderError>,
+    input: &mut I,
+    streams: &mut Streams,
+) -> Result<Exit, Fail> {
+    let request = request_in(alloc, given)?;
+    Ok(run(
+        alloc,
+        &request.options,
+        loader,
+        input,
+        &mut streams.out,
+        &mut streams.err,
+    ))
+}
+
+/// How a run of words over files ends.
+pub fn run_files(
+    alloc: Global,
+    given: &[&str],
+    files: &[(&str, &[u8])],
+    input: &[u8],
+    streams: &mut Streams,
+) -> Result<Exit, Fail> {
+    let request = request_in(alloc, given)?;
+    let mut held = MemoryFiles::new(alloc);
+    for (path, bytes) in files {
+        held.put(path, bytes)?;
+    }
+    Ok(run_request(
+        alloc,
+        held,
+        &request,
+        &mut Lines::new(input),
+        &mut streams.out,
+        &mut streams.err,
+    ))
+}

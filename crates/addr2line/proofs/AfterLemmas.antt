@@ -13,6 +13,7 @@ use Rattle.addr2line_units.specs.Parsed.{IsNotOom, ParsesOnly}
 use Rattle.addr2line_units.specs.Suspended.{IfLoad, IfOutput}
 use Rattle.addr2line_units.specs.UnitIndex.{UnitIndex, index_units}
 use Rattle.addr2line_units.proofs.FramesLookupLemmas.{parses_more}
+use Rattle.addr2line.proofs.StayLemmas.{known_twice}
 use Rattle.addr2line.specs.declared.stops.UnitStop.TheVariants as units
 use Rattle.addr2line.specs.Context.{ContextState}
 use Rattle.addr2line.specs.KeptStops.{by_number, unit_stop}
@@ -33,7 +34,7 @@ module _ (faults : Faults) (probe : ℕ) (old mid new : ContextState) where
     sections = b.sections ∙ a.sections;
     answers = b.answers ∙ a.answers;
     parsed = λ n e. b.parsed n (a.parsed n e);
-    known = λ p n e. b.known p n (a.known p n e);
+    known = known_twice old.known mid.known new.known a.known b.known;
     only = λ m e. parses_more _ _ old.parsed mid.parsed new.parsed (a.only m e) (only m e) (λ n q. q);
     learns = λ m e n. elim (learns m e n) [
       | inl x ↦ elim (a.learns m e n) [ inl y ↦ inl (x ∙ y) | inr q ↦ inr q ]

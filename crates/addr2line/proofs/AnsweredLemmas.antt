@@ -18,22 +18,23 @@ use Rattle.addr2line_units.specs.CachedLines.{parsed_units}
 use Rattle.addr2line_units.specs.Cover.{cover}
 use Rattle.addr2line_units.specs.FramesLookup.{Stop, Waits, Finds, FindsNothing, answer_of, main_scope, with_answer}
 use Rattle.addr2line_units.specs.KeptLookups.{HaveEntriesOf, StayAllEntries, answers_in, scope_in}
-use Rattle.addr2line_units.specs.KnownEntries.{known_in, knows_at}
+use Rattle.addr2line_units.specs.KnownEntries.{known_in}
 use Rattle.addr2line_units.specs.LoadLaws.{IsListed}
 use Rattle.addr2line_units.specs.LoadLaws as laws
 use Rattle.addr2line_units.specs.Loads.{is_open_at, load_of_number, loads_along}
 use Rattle.addr2line_units.specs.UnitIndex.{IndexedUnit, UnitIndex, unit_records}
 use Rattle.addr2line_units.specs.Views.{is_open}
-use Rattle.addr2line_units.proofs.KeptLookupLemmas.{as_many_entries, entries_more_at}
-use Rattle.addr2line_units.proofs.KnownLemmas.{known_is, known_unchanged}
+use Rattle.addr2line_units.proofs.KeptLookupLemmas.{as_many_entries}
+use Rattle.addr2line_units.proofs.KnownLemmas.{known_unchanged}
 use Rattle.addr2line_units.proofs.LoadLawLemmas.{fewer_left, waits_listed}
 use Rattle.addr2line_units.proofs.LoadLemmas.{as_many_answers}
 use Rattle.addr2line_units.proofs.ScopeLemmas.{records_beside}
 use Rattle.addr2line_units.proofs.UnitsLemmas.{as_many_indexed}
 use Rattle.addr2line.proofs.LookupLemmas.{as_many_lines, scope_is}
+use Rattle.addr2line.proofs.StayLemmas.{stays_known}
 use Rattle.addr2line.specs.Answers.{AfterAnswer, answered}
 use Rattle.addr2line.specs.Context.{IsContext, index_by}
-use Rattle.addr2line.specs.Lookups.{FirstAnswers, IsUnitOf, loads_of, lookup_stop, stop_in, waits_for}
+use Rattle.addr2line.specs.Lookups.{FirstAnswers, IsUnitOf, StaysKnown, loads_of, lookup_stop, stop_in, waits_for}
 
 -- a lookup that waits for the unit of a number
 pub waits_is : (n : ℕ) (r : Result Stop Error) → waits_for n r ≡ true → r ≡ Ok (Waits n)
@@ -117,9 +118,9 @@ module _ {R : Type 0} (d : Sections) (us : List UnitRecord) (old : List ResUnit)
         of_ok (Err e) h = tt
 
         of_err : (r : Result (Unit {0}) Error) → IfErr r (λ e. (e ≡ OutOfMemory) × (answers_in entries ≡ answers_in held) × StayAllEntries held entries)
-            → IfErr r (λ e. (e ≡ OutOfMemory) × (answers_in entries ≡ answers_in held) × ((probe k : ℕ) → knows_at (known_in held) probe k ≡ true → knows_at (known_in entries) probe k ≡ true))
+            → IfErr r (λ e. (e ≡ OutOfMemory) × (answers_in entries ≡ answers_in held) × StaysKnown (known_in held) (known_in entries))
         of_err (Ok x) h = tt
-        of_err (Err e) h = (h.0, h.1, λ probe k q. known_is probe entries k ∙ entries_more_at probe held entries h.2 k (sym (known_is probe held k) ∙ q))
+        of_err (Err e) h = (h.0, h.1, stays_known held entries h.2)
 
     -- fewer loads are left after an answer to one that a lookup waits for
     pub fewer_after : OnOk result (answers_in entries ≡ with_answer d us (answers_in held) n given) → (faults : Faults) (probe : ℕ) → waits_for n (lookup_stop faults d (answers_in held) probe) ≡ true

@@ -1,5 +1,6 @@
 pub mod ContextLemmas
 pub mod NewContextLemmas
+pub mod StayLemmas
 pub mod LookupLemmas
 pub mod AnsweredLemmas
 pub mod AfterLemmas

@@ -1,7 +1,7 @@
 -- Answers to loads outside a lookup, in a context (on specs/Loads.antt).
 use Rattle.std.proofs.Common.{◌≡◌, ◌≢◌, ◌⊎◌, inl, inr, ℕ, ◌≤◌, false, true, List, length, slice_get, Option, None, option_map, unwrap_or, Result, Ok, Err, refl, sym, ap, subst, ◌∙◌}
 use Rattle.std.proofs.lemmas.Bool.Decides.{eqb_tells}
-use Rattle.std.specs.Prelude.{OnOk}
+use Rattle.std.specs.Prelude.{IfSome, OnOk}
 use Rattle.gimli_read.specs.declared.error.Error.{Error}
 use Rattle.gimli_read.specs.Reading.{◌>>=◌, ExactlyUnlessOom}
 use Rattle.gimli.specs.Sections.{Sections}
@@ -17,7 +17,7 @@ use Rattle.addr2line_units.specs.CachedLines.{parsed_units}
 use Rattle.addr2line_units.specs.Cover.{cover}
 use Rattle.addr2line_units.specs.FramesLookup.{answer_of, asked_frames, main_scope, stop_along, with_answer}
 use Rattle.addr2line_units.specs.FunctionParseLaws.{IsReached}
-use Rattle.addr2line_units.specs.FunctionParses.{AreFirstDecided, AreReadBefore, AreReadyFor, answers_after, read_of_units}
+use Rattle.addr2line_units.specs.FunctionParses.{AreFirstDecided, AreReadBefore, AreReadyFor, IsReadyFor, answers_after, read_of_units}
 use Rattle.addr2line_units.specs.KeptEntries.{has_entries}
 use Rattle.addr2line_units.specs.KeptLookups.{StayAllEntries, answers_in, decided_at, has_entries_at, scope_in}
 use Rattle.addr2line_units.specs.KeptParses.{ChangesOnly, HaveRead, StayDecided}
@@ -25,7 +25,7 @@ use Rattle.addr2line_units.specs.KnownEntries.{known_in, knows_at}
 use Rattle.addr2line_units.specs.Loads.{AreSettled, forget_result, forgotten, is_open_at, load_of_number, load_result, loads_along}
 use Rattle.addr2line_units.specs.Parsed.{IsNotOom}
 use Rattle.addr2line_units.specs.UnitIndex.{UnitIndex, unit_records}
-use Rattle.addr2line_units.proofs.KeptLookupLemmas.{as_many_entries, entries_more_at}
+use Rattle.addr2line_units.proofs.KeptLookupLemmas.{as_many_entries}
 use Rattle.addr2line_units.proofs.KnownLemmas.{known_is, known_unchanged}
 use Rattle.addr2line_units.proofs.LoadLemmas.{as_many_answers}
 use Rattle.addr2line_units.proofs.ReachedLemmas.{reached_all}
@@ -36,9 +36,10 @@ use Rattle.addr2line.proofs.ContextLemmas.{lines_are}
 use Rattle.addr2line.proofs.LookupLemmas.{as_many_lines, scope_is}
 use Rattle.addr2line.proofs.NewContextLemmas.{ok_is}
 use Rattle.addr2line.proofs.ParseLemmas.{answered_is_decided, decided_more, known_is_decided, none_asked, read_after, read_before}
+use Rattle.addr2line.proofs.StayLemmas.{none_whole, stays_known, whole_decided, whole_is_decided}
 use Rattle.addr2line.specs.Context.{ContextState, IsContext, index_by}
 use Rattle.addr2line.specs.Loads.{AfterForget, AfterLoad, AfterParse, AfterPreload, AreSettledAt, IsAllKnown, IsReadyToRead, IsSettled, ReachesAllOf, StaysRead, forget_reply, load_reply, parse_reply, parsed_answers}
-use Rattle.addr2line.specs.Lookups.{StaysKnown, loads_of, lookup_stop}
+use Rattle.addr2line.specs.Lookups.{IsReadyAt, StaysKnown, loads_of, lookup_stop}
 
 module _ {R : Type 0} (d : Sections) (us : List UnitRecord) (old : List ResUnit) (held : List (UnitEntries R)) (ranges : List UnitRange) (sup : SupUnits R) (i : IsContext d us old held ranges sup.units.items sup.dwarf) where
   abbrev made : UnitIndex
@@ -86,9 +87,6 @@ module _ {R : Type 0} (d : Sections) (us : List UnitRecord) (old : List ResUnit)
     stays_read : StaysRead before after
     stays_read = record { sections = refl; parsed = ap parsed_units same; looks = refl }
 
-    stays_known : StayAllEntries held entries → StaysKnown (known_in held) (known_in entries)
-    stays_known stay probe k e = known_is probe entries k ∙ entries_more_at probe held entries stay k (sym (known_is probe held k) ∙ e)
-
     pub after_load : (n : ℕ) (given : Option Sections) (result : Result (Unit {0}) Error) → (IsNotOom result → answers_in entries ≡ with_answer d us (answers_in held) n given)
         → (answers_in entries ≡ answers_in held) ⊎ (answers_in entries ≡ with_answer d us (answers_in held) n given)
         → (result ≢ load_result d us (answers_in held) n given → (answers_in entries ≡ answers_in held) × StayAllEntries held entries) → ((k : ℕ) → k ≢ n → slice_get entries k ≡ slice_get held k)
@@ -97,9 +95,12 @@ module _ {R : Type 0} (d : Sections) (us : List UnitRecord) (old : List ResUnit)
       stays = stays_read;
       answers = λ told. answers told ∙ sym (answers_are d us old held ranges sup i n given);
       begun = elim begun [ inl e ↦ inl e | inr e ↦ inr (e ∙ sym (answers_are d us old held ranges sup i n given)) ];
-      refused = λ ne. let r = refused (λ e. ne (e ∙ sym (load_is n given))) in (r.0, stays_known r.1);
+      refused = λ ne. let r = refused (λ e. ne (e ∙ sym (load_is n given))) in (r.0, stays_known held entries r.1);
       known = λ m e. subst (λ x. is_open_at d (unit_records x.units) (answers_in held) n ≡ false → StaysKnown (known_in held) (known_in entries)) (ok_is _ _ (sym i.made_is ∙ e))
-          (λ shut probe k q. known_is probe entries k ∙ shut_stays probe k (subst (λ xs. is_open_at d xs (answers_in held) n ≡ false) same_units shut) (same_or k) (sym (known_is probe held k) ∙ q));
+          (λ shut. let still = subst (λ xs. is_open_at d xs (answers_in held) n ≡ false) same_units shut in record {
+            at = λ probe k q. known_is probe entries k ∙ shut_stays probe k still (same_or k) (sym (known_is probe held k) ∙ q);
+            whole = λ kind k q. shut_whole kind k still (same_or k) q;
+          });
       same = λ first e. ap known_in (same_decided (answered_is_decided held n first e));
       others = λ k ne. known_unchanged held entries k (others k ne);
     }
@@ -114,6 +115,13 @@ module _ {R : Type 0} (d : Sections) (us : List UnitRecord) (old : List ResUnit)
           | inr past ↦ none_asked probe entries k (subst (λ l. l ≤ k) many past)
         ]
 
+        shut_whole : (kind : Reads) (k : ℕ) → is_open_at d us (answers_in held) n ≡ false → (k ≡ n) ⊎ (k ≢ n) → IsReadyAt kind (known_in held) k → IsReadyAt kind (known_in entries) k
+        shut_whole kind k shut (inr ne) q = subst (λ o. IfSome o (IsReadyFor kind)) (sym (known_unchanged held entries k (others k ne))) q
+        shut_whole kind k shut (inl e) q = elim (whole_is_decided kind (main_scope d made) us held k i.entries (subst (λ j. is_open_at d us (answers_in held) j ≡ false) (sym e) shut) q) [
+          | inl decided ↦ subst (λ vs. IsReadyAt kind (known_in vs) k) (sym (same_decided (subst (λ j. decided_at held j ≡ true) e decided))) q
+          | inr past ↦ none_whole kind entries k (subst (λ l. l ≤ k) many past)
+        ]
+
     pub after_forget : (n : ℕ) → answers_in entries ≡ forgotten (answers_in held) n → (answer_of (answers_in held) n ≡ None → entries ≡ held) → ((k : ℕ) → k ≢ n → slice_get entries k ≡ slice_get held k) → AfterForget n before after
     after_forget n answers nothing others = record {
       stays = stays_read;
@@ -123,7 +131,7 @@ module _ {R : Type 0} (d : Sections) (us : List UnitRecord) (old : List ResUnit)
     }
 
     pub after_preload : answers_in entries ≡ answers_in held → StayAllEntries held entries → AfterPreload before after
-    after_preload answers stay = record { stays = stays_read; answers = answers; known = stays_known stay }
+    after_preload answers stay = record { stays = stays_read; answers = answers; known = stays_known held entries stay }
 
     pub after_parse : (reads : Reads) (result : Result (Unit {0}) Error) → (IsNotOom result → answers_in entries ≡ answers_after reads (scope_in d us sup) us (answers_in held)) → AreFirstDecided reads (scope_in d us sup) us (answers_in held) (answers_in entries)
         → StayDecided held entries → OnOk result (HaveRead reads entries) → (HaveRead reads held → result ≡ Ok tt)
@@ -137,6 +145,8 @@ module _ {R : Type 0} (d : Sections) (us : List UnitRecord) (old : List ResUnit)
           (subst (λ xs. AreFirstDecided reads (main_scope d made) xs (answers_in held) (answers_in entries)) (sym same_units) (subst (λ s. AreFirstDecided reads s us (answers_in held) (answers_in entries)) (scope_is d us old held ranges sup i) begun));
       known = λ m e. subst (λ x. (probe n : ℕ) → is_open_at d (unit_records x.units) (answers_in held) n ≡ false → knows_at (known_in held) probe n ≡ true → knows_at (known_in entries) probe n ≡ true) (ok_is _ _ (sym i.made_is ∙ e))
           (λ probe n shut k. known_is probe entries n ∙ decided_more (main_scope d made) probe us held entries n i.entries stay (subst (λ xs. is_open_at d xs (answers_in held) n ≡ false) same_units shut) (sym (known_is probe held n) ∙ k));
+      whole = λ m e. subst (λ x. (kind : Reads) (n : ℕ) → is_open_at d (unit_records x.units) (answers_in held) n ≡ false → IsReadyAt kind (known_in held) n → IsReadyAt kind (known_in entries) n) (ok_is _ _ (sym i.made_is ∙ e))
+          (λ kind n shut k. whole_decided kind (main_scope d made) us held entries n i.entries stay (subst (λ xs. is_open_at d xs (answers_in held) n ≡ false) same_units shut) k);
       only = λ m e. subst (λ x. (n : ℕ) → (slice_get (known_in entries) n ≡ slice_get (known_in held) n) ⊎ AreReadBefore reads (main_scope d x) (unit_records x.units) (answers_in held) n) (ok_is _ _ (sym i.made_is ∙ e))
           (λ n. elim (only n) [
             | inl k ↦ inl (known_unchanged held entries n k)

@@ -26,12 +26,13 @@ use Rattle.addr2line_units.specs.UnitIndex.{IndexedUnit, UnitIndex, index_units,
 use Rattle.addr2line_units.specs.Views.{SplitLoad, load_of_unit, parts_of}
 use Rattle.addr2line_units.proofs.EndedLemmas.{ended_where_decided}
 use Rattle.addr2line_units.proofs.FoundLemmas.{known_where_found}
-use Rattle.addr2line_units.proofs.KeptLookupLemmas.{entries_more_at, same_answers}
+use Rattle.addr2line_units.proofs.KeptLookupLemmas.{same_answers}
 use Rattle.addr2line_units.proofs.KnownLemmas.{known_is, known_unchanged}
 use Rattle.addr2line_units.proofs.ScopeLemmas.{main_scope_in_order, records_beside}
 use Rattle.addr2line_units.proofs.UnitsLemmas.{stay_indexed, stay_parsed}
 use Rattle.addr2line_units.proofs.WaitLemmas.{as_many_views, views_of_entries, waits_where_told, waits_within}
 use Rattle.addr2line.proofs.NewContextLemmas.{ok_is}
+use Rattle.addr2line.proofs.StayLemmas.{stays_known}
 use Rattle.addr2line.specs.Context.{ContextState, IsContext, index_by}
 use Rattle.addr2line.specs.declared.stops.UnitStop.{UnitStop}
 use Rattle.addr2line.specs.declared.stops.UnitStop.TheVariants as units
@@ -236,7 +237,7 @@ module _ {R : Type 0} where
           sections = refl;
           answers = same;
           parsed = stay_parsed old new stay;
-          known = λ p n e. known_is p entries n ∙ entries_more_at p held entries stays n (sym (known_is p held n) ∙ e);
+          known = stays_known held entries stays;
           only = of_made (λ m. ParsesOnly (λ n. LookupAsks (asked_frames faults (main_scope d m) m.units (answers_in held) probe) (cover probe m.ranges) n × (asks_lines_of (main_scope d m) m.units (answers_in held) probe n ≡ true)) (parsed_units old) (parsed_units new))
               (subst (λ s. ParsesOnly (λ n. LookupAsks (asked_in s (answers_in held)) (cover probe ranges) n × (asks_in s (answers_in held) n ≡ true)) (parsed_units old) (parsed_units new)) scope_is lines);
           learns = of_made (λ m. (n : ℕ) → (slice_get (known_in entries) n ≡ slice_get (known_in held) n) ⊎ LookupAsks (asked_frames faults (main_scope d m) m.units (answers_in held) probe) (cover probe m.ranges) n)

@@ -21,7 +21,7 @@ use Rattle.addr2line_units.specs.Parsed.{IsNotOom}
 use Rattle.addr2line_units.specs.UnitIndex.{UnitIndex, index_units, unit_records}
 use Rattle.addr2line.specs.Answers.{answered}
 use Rattle.addr2line.specs.Context.{ContextState, lines_of_all}
-use Rattle.addr2line.specs.Lookups.{FirstAnswers, StaysKnown, lookup_stop}
+use Rattle.addr2line.specs.Lookups.{FirstAnswers, IsReadyAt, StaysKnown, lookup_stop}
 
 -- what an answer to the load of the unit of a number gives: UnknownToken where there is none, or
 -- the fault of its view then
@@ -124,6 +124,9 @@ pub record AfterParse (reads : Reads) (result : Result (Unit {0}) Error) (old ne
   pub known : (m : UnitIndex) → index_units old.sections ≡ Ok m → (probe n : ℕ)
       → is_open_at old.sections (unit_records m.units) old.answers n ≡ false
       → knows_at old.known probe n ≡ true → knows_at new.known probe n ≡ true
+  pub whole : (m : UnitIndex) → index_units old.sections ≡ Ok m → (kind : Reads) (n : ℕ)
+      → is_open_at old.sections (unit_records m.units) old.answers n ≡ false
+      → IsReadyAt kind old.known n → IsReadyAt kind new.known n
   pub only : (m : UnitIndex) → index_units old.sections ≡ Ok m → (n : ℕ)
       → (slice_get new.known n ≡ slice_get old.known n)
       ⊎ AreReadBefore reads (main_scope old.sections m) (unit_records m.units) old.answers n

@@ -2,16 +2,18 @@
 -- 2.17, 3.1.2, 3.3 and 7.3.2).
 -- Own: a lookup asks the units that cover an address one after another; a unit that is open ends it
 -- until its load is answered.
-use Rattle.std.specs.Prelude.{◌≡◌, ◌⊎◌, ℕ, ◌==◌, ◌<◌, ◌≤◌, Bool, true, false, ◌&&◌, ◌||◌, not, length, List, [], map, slice_get, Option, Some, None, option_map, unwrap_or, Result, Ok, Err}
+use Rattle.std.specs.Prelude.{◌≡◌, ◌⊎◌, ℕ, ◌==◌, ◌<◌, ◌≤◌, Bool, true, false, ◌&&◌, ◌||◌, not, length, List, [], map, slice_get, IfSome, Option, Some, None, option_map, unwrap_or, Result, Ok, Err}
 use Rattle.gimli_read.specs.declared.error.Error.{Error}
 use Rattle.gimli_read.specs.Reading.{◌>>=◌}
 use Rattle.gimli.specs.Sections.{Sections}
 use Rattle.gimli.specs.Unit.{UnitRecord}
 use Rattle.addr2line_units.specs.declared.frames_lookup.Faults.{Faults}
 use Rattle.addr2line_units.specs.declared.frames_lookup.Faults.TheVariants.{End, PassOver}
+use Rattle.addr2line_units.specs.declared.parses.Reads.{Reads}
 use Rattle.addr2line_units.specs.Cover.{cover}
 use Rattle.addr2line_units.specs.Frames.{FrameRecord}
 use Rattle.addr2line_units.specs.FramesLookup.{Stop, Waits, Finds, FindsNothing, LookupAsks, asked_frames, asks_lines_of, has_many_of, holds_along, is_waiting, main_scope, stop_along, unit_found}
+use Rattle.addr2line_units.specs.FunctionParses.{IsReadyFor}
 use Rattle.addr2line_units.specs.KnownEntries.{KnownEntries, knows_at}
 use Rattle.addr2line_units.specs.Loads.{load_of_number, loads_along}
 use Rattle.addr2line_units.specs.Parsed.{IsNotOom, ParsesOnly, StaysParsed, has_parsed}
@@ -86,10 +88,15 @@ abbrev pub IsLoadOf : Sections → ℕ → SplitLoad → Type 0
 IsLoadOf d n load = (m : UnitIndex) → index_units d ≡ Ok m
     → option_map (load_of_unit d n) (slice_get (unit_records m.units) n) ≡ Some (Ok (Some load))
 
--- what was known of a unit stays known
-abbrev pub StaysKnown : List KnownEntries → List KnownEntries → Type 0
-StaysKnown old new =
-    (probe n : ℕ) → knows_at old probe n ≡ true → knows_at new probe n ≡ true
+-- all is known that a parse of functions reads of the unit of a number that isn't open, up to the
+-- first fault, and that fault too
+abbrev pub IsReadyAt : Reads → List KnownEntries → ℕ → Type 0
+IsReadyAt reads known n = IfSome (slice_get known n) (IsReadyFor reads)
+
+-- what was known of units stays known: what a lookup asks, and all that a parse of functions reads
+pub record StaysKnown (old new : List KnownEntries) : Type 0 where
+  pub at : (probe n : ℕ) → knows_at old probe n ≡ true → knows_at new probe n ≡ true
+  pub whole : (reads : Reads) (n : ℕ) → IsReadyAt reads old n → IsReadyAt reads new n
 
 -- whether all is known that a lookup asks the unit of a number for
 abbrev pub has_all_of : ContextState → ℕ → UnitIndex → ℕ → Bool

@@ -38,12 +38,12 @@ cached_more : (fs gs : List CachedFunction) → AllZip IsFunctionMore fs gs → 
 cached_more [] [] a h = tt
 cached_more [] (g ∷ gs) a h = absurd a
 cached_more (f ∷ fs) [] a h = absurd a
-cached_more (f ∷ fs) (g ∷ gs) a h = by f.detail refl h
+cached_more (f ∷ fs) (g ∷ gs) a h = by (λ k. cached_more fs gs a.1 k) f.detail refl h
   where
-    by : (o : Option (Result Detail Error)) → f.detail ≡ o → IsCachedToFault o (AreCachedToFault fs) → IsCachedToFault g.detail (AreCachedToFault gs)
-    by None e k = absurd k
-    by (Some (Ok d)) e k = subst (λ o. IsCachedToFault o (AreCachedToFault gs)) (sym (a.0.detail (Ok d) e)) (cached_more fs gs a.1 k)
-    by (Some (Err x)) e k = subst (λ o. IsCachedToFault o (AreCachedToFault gs)) (sym (a.0.detail (Err x) e)) k
+    by : (AreCachedToFault fs → AreCachedToFault gs) → (o : Option (Result Detail Error)) → f.detail ≡ o → IsCachedToFault o (AreCachedToFault fs) → IsCachedToFault g.detail (AreCachedToFault gs)
+    by more None e k = absurd k
+    by more (Some (Ok d)) e k = subst (λ o. IsCachedToFault o (AreCachedToFault gs)) (sym (a.0.detail (Ok d) e)) (more k)
+    by more (Some (Err x)) e k = subst (λ o. IsCachedToFault o (AreCachedToFault gs)) (sym (a.0.detail (Err x) e)) k
 
 table_whole : (r : Reads) (t u : FunctionTable) → IsTableMore t u → IsReadyFor r (FunctionsKnown t) → IsReadyFor r (FunctionsKnown u)
 table_whole kinds.Functions t u a h = tt

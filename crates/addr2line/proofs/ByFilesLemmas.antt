@@ -20,7 +20,7 @@ use Rattle.addr2line.specs.Files.{Files}
 use Rattle.addr2line.specs.FramesByFiles.{frames_by, frames_by_files, stop_frames}
 use Rattle.addr2line.specs.History.{Given, Gives}
 use Rattle.addr2line.specs.KeptStops.{by_number, unit_stop}
-use Rattle.addr2line.specs.Loader.{AfterAnswers, AfterLoads, AnswersInTurn, AnswersOne, IsFaultByFiles, LoaderState, StayAnswered, WaitsForNone}
+use Rattle.addr2line.specs.Loader.{AfterAnswers, AfterLoads, AfterNoLoad, AnswersInTurn, AnswersOne, IsFaultByFiles, LoaderState, StayAnswered, WaitsForNone}
 use Rattle.addr2line.specs.Lookups.{AfterFrames, IsLoadOf, frames_of, frames_told, lookup_stop}
 use Rattle.addr2line.specs.SplitFiles.{given_by}
 use Rattle.addr2line.proofs.FilesLookupLemmas.{first_answers_stay, frames_ended, frames_stay, refused_frames}
@@ -135,7 +135,8 @@ module _ (files : Option Files) (probe : ℕ) (first : ContextState) where
     pub in_turn : AnswersInTurn probe first now
     in_turn = (h.given, sym (given_all End first.sections probe first.answers now.answers h.given h.so))
 
-failed_stop : (e : Error) (r : Result Stop Error) → (r >>= λ s. Ok (by_number s)) ≡ Err e → (is_waiting r ≡ false) × (stop_frames r ≡ Err (loader_error_of e))
+-- what a fault says of the lookup that it ends
+pub failed_stop : (e : Error) (r : Result Stop Error) → (r >>= λ s. Ok (by_number s)) ≡ Err e → (is_waiting r ≡ false) × (stop_frames r ≡ Err (loader_error_of e))
 failed_stop e (Ok s) h = absurd cc
 failed_stop e (Err f) h = (refl, cc)
 
@@ -155,13 +156,14 @@ stop_fault files c probe e h = always files by
         let p = failed_stop e (lookup_stop End c.sections c.answers probe) (h ne) in
         frames_ended (given_by held) c.sections c.answers probe p.0 ∙ p.1
 
-found_told : (frames : List FrameRecord) (stop : Result Stop Error) → (stop >>= λ s. Ok (frames_told s)) ≡ Ok (Some frames) → stop_frames stop ≡ Ok frames
+-- what the frames of a lookup say of what it comes to
+pub found_told : (frames : List FrameRecord) (stop : Result Stop Error) → (stop >>= λ s. Ok (frames_told s)) ≡ Ok (Some frames) → stop_frames stop ≡ Ok frames
 found_told frames (Ok (Waits n)) h = absurd cc
 found_told frames (Ok (Finds n fs)) h = cc
 found_told frames (Ok FindsNothing) h = cc
 found_told frames (Err e) h = absurd cc
 
-failed_told : (e : Error) (stop : Result Stop Error) → (stop >>= λ s. Ok (frames_told s)) ≡ Err e → stop_frames stop ≡ Err (loader_error_of e)
+pub failed_told : (e : Error) (stop : Result Stop Error) → (stop >>= λ s. Ok (frames_told s)) ≡ Err e → stop_frames stop ≡ Err (loader_error_of e)
 failed_told e (Ok s) h = absurd cc
 failed_told e (Err f) h = cc
 
@@ -186,22 +188,24 @@ module _ (files : Option Files) (probe : ℕ) (first mid : ContextState) (a : Af
     abbrev loader : ContextState → LoaderState
     loader c = record { files = files; object = object; context = c }
 
-    pub loader_found : (x : X) → r ≡ Ok x → AfterLoads {X = X} probe (Ok x) (loader first) (loader new)
-    loader_found x is = record {
+    pub loader_found : (x : X) → r ≡ Ok x → (WaitsForNone first probe → AfterNoLoad {X = X} probe (Ok x) first new) → AfterLoads {X = X} probe (Ok x) (loader first) (loader new)
+    loader_found x is no_load = record {
       files = refl;
       object = refl;
       context = then_answered files first mid new a (after_look files probe r mid new b);
       in_turn = still_in_turn r new t b;
       ended = λ _. still_ended probe r mid new b ended;
       ready = b.ready (subst (λ (y : Result X Error). IsNotOom y) (sym is) tt);
+      no_load = no_load;
     }
 
-    pub loader_failed : (e : LoaderError) → AfterLoads {X = X} probe (Err e) (loader first) (loader new)
-    loader_failed e = record {
+    pub loader_failed : (e : LoaderError) → (WaitsForNone first probe → AfterNoLoad {X = X} probe (Err e) first new) → AfterLoads {X = X} probe (Err e) (loader first) (loader new)
+    loader_failed e no_load = record {
       files = refl;
       object = refl;
       context = then_answered files first mid new a (after_look files probe r mid new b);
       in_turn = still_in_turn r new t b;
       ended = λ _. still_ended probe r mid new b ended;
       ready = tt;
+      no_load = no_load;
     }

@@ -16,3 +16,4 @@ pub mod FilesLookupLemmas
 pub mod LoadingLemmas
 pub mod SplitFileLemmas
 pub mod ByFilesLemmas
+pub mod NoLoadLemmas

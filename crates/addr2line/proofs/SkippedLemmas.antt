@@ -28,7 +28,7 @@ nones_both zero r = ap nones (let e : r ≡ 0 + r = omega arith in e)
 nones_both (suc k) r = ap (λ ys. Gives None ∷ ys) (nones_both k r) ∙ ap nones (let e : suc (k + r) ≡ suc k + r = omega arith in e)
 
 -- what a lookup has come to, by the number of a unit
-stop_waits : (n : ℕ) (r : Result Stop Error) → (r >>= λ s. Ok (by_number s)) ≡ Ok (units.Waits n) → r ≡ Ok (Waits n)
+pub stop_waits : (n : ℕ) (r : Result Stop Error) → (r >>= λ s. Ok (by_number s)) ≡ Ok (units.Waits n) → r ≡ Ok (Waits n)
 stop_waits n (Ok (Waits k)) e = ap (λ j. Ok (Waits j)) (same_unit e)
   where
     same_unit : ◌≡◌ {A = Result UnitStop Error} (Ok (units.Waits k)) (Ok (units.Waits n)) → k ≡ n

@@ -5,7 +5,7 @@
 -- parsed; a context that is made has parsed them only where they give a unit its ranges, and a unit
 -- without a line program has its lines, which are none.
 -- Own: of a unit the first answer to its load counts: the sections of a split file, or none.
-use Rattle.std.specs.Prelude.{◌≡◌, ℕ, ◌+◌, ◌<◌, ◌≤◌, Bool, true, List, map, Option, None, option_map, Result, Ok}
+use Rattle.std.specs.Prelude.{◌≡◌, ℕ, ◌+◌, ◌<◌, ◌≤◌, Bool, true, List, [], map, Option, None, option_map, Result, Ok}
 use Rattle.gimli_read.specs.declared.error.Error.{Error}
 use Rattle.gimli_read.specs.Reading.{◌>>=◌}
 use Rattle.gimli.specs.Sections.{Sections}
@@ -48,6 +48,11 @@ new_context d = do
 abbrev pub IsReady : ContextState → ℕ → Type 0
 IsReady c probe = (m : UnitIndex) → index_units c.sections ≡ Ok m
     → ready_along c.sections m.units c.parsed probe (cover probe m.ranges) ≡ true
+
+-- no unit covers the probe
+abbrev pub IsUncovered : ContextState → ℕ → Type 0
+IsUncovered c probe = (m : UnitIndex)
+    × (index_units c.sections ≡ Ok m) × (cover probe m.ranges ≡ [])
 
 -- a lookup of a range parses nothing
 abbrev pub IsReadyForRange : ContextState → ℕ → ℕ → Type 0

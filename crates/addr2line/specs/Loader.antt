@@ -3,22 +3,23 @@
 -- Own: a lookup gives the frames that the files say at that call, whichever lookups were made
 -- before; the first answer of a unit stays, so a file counts that was there when its unit was first
 -- looked up.
-use Rattle.std.specs.Prelude.{◌≡◌, ◌≢◌, ◌≤◌, ◌⊎◌, ℕ, false, List, Option, Some, IfOk, IfSome, Ok, Err}
+use Rattle.std.specs.Prelude.{◌≡◌, ◌≢◌, ◌≤◌, ◌⊎◌, ℕ, false, List, Option, Some, IfErr, IfOk, IfSome, Ok, Err}
 use Rattle.gimli.specs.Sections.{Sections}
 use Rattle.elf.specs.declared.error.LoaderError.{LoaderError}
 use Rattle.elf.specs.declared.error.LoaderError.TheVariants.{OutOfMemory, PathNotUtf8}
 use Rattle.elf.specs.Loading.{Loading}
 use Rattle.elf.specs.ObjectFile.{ObjectFile}
 use Rattle.addr2line_units.specs.declared.frames_lookup.Faults.TheVariants.{End}
+use Rattle.addr2line_units.specs.Frames.{FrameRecord}
 use Rattle.addr2line_units.specs.FramesLookup.{answer_of, is_waiting}
 use Rattle.addr2line_units.specs.Parsed.{StaysParsed}
 use Rattle.addr2line.specs.declared.loader.LoaderOver.{LoaderOver}
 use Rattle.addr2line.specs.Answers.{answered}
 use Rattle.addr2line.specs.Context.{ContextState, Stays}
 use Rattle.addr2line.specs.Files.{Files}
-use Rattle.addr2line.specs.FramesByFiles.{frames_by_files}
+use Rattle.addr2line.specs.FramesByFiles.{frames_by_files, stop_frames}
 use Rattle.addr2line.specs.History.{Given, answers_given}
-use Rattle.addr2line.specs.Lookups.{FirstAnswers, IsKnown, lookup_stop}
+use Rattle.addr2line.specs.Lookups.{FirstAnswers, IsKnown, IsKnownFew, StaysKnown, lookup_stop}
 
 -- the files, where they are known, the main file, and the context
 pub record LoaderState : Type 0 where
@@ -78,9 +79,23 @@ HasEnded (Err e) = (e ≢ OutOfMemory) × (e ≢ PathNotUtf8)
 abbrev pub WaitsForNone : ContextState → ℕ → Type 0
 WaitsForNone c probe = is_waiting (lookup_stop End c.sections c.answers probe) ≡ false
 
+-- the frames of a lookup that waits for no answer, whatever the files are, or its fault
+abbrev pub ended_frames_of : ContextState → ℕ → Loading (List FrameRecord)
+ended_frames_of c probe = stop_frames (lookup_stop End c.sections c.answers probe)
+
+-- after a lookup of the probe that has answered no load: first answers are the same, and what was
+-- known stays known; memory is refused only where something is left to read, or more than 16
+-- inlined functions stand there
+pub record AfterNoLoad {X : Type 0} (probe : ℕ) (result : Loading X) (old new : ContextState)
+    : Type 0 where
+  pub answers : new.answers ≡ old.answers
+  pub known : StaysKnown old.known new.known
+  pub memory : IsKnownFew End new probe → IfErr result (λ e. e ≢ OutOfMemory)
+
 -- a lookup of frames at the probe has answered the loads that it came to by files: the files and
 -- the main file are the same; once it has ended, at a fault too, each unit that it came to is
--- decided; and, unless it was refused, all is known that the lookup asks for
+-- decided; and, unless it was refused, all is known that the lookup asks for. One that waits for no
+-- answer gives none
 pub record AfterLoads {X : Type 0} (probe : ℕ) (result : Loading X) (old new : LoaderState)
     : Type 0 where
   pub files : new.files ≡ old.files
@@ -89,6 +104,8 @@ pub record AfterLoads {X : Type 0} (probe : ℕ) (result : Loading X) (old new :
   pub in_turn : AnswersInTurn probe old.context new.context
   pub ended : HasEnded result → WaitsForNone new.context probe
   pub ready : IfOk result (λ _. IsKnown End new.context probe)
+  pub no_load : WaitsForNone old.context probe
+      → AfterNoLoad probe result old.context new.context
 
 -- a lookup of locations has changed nothing but what is parsed and counted
 pub record StaysLoaded (old new : LoaderState) : Type 0 where

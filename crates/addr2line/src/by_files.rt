@@ -1,9 +1,11 @@
 //! Lookups of frames where files answer loads.
 
-ghost use Rattle.std.specs.Prelude.{◌≡◌, ◌<◌, IfErr, Ok, OnOk, length};
+ghost use Rattle.std.specs.Prelude.{◌≡◌, ◌≢◌, ◌^◌, ◌-◌, ◌<◌, Err, IfErr, Ok, OnOk, length};
+ghost use Rattle.elf.specs.declared.error.LoaderError.TheVariants.{OutOfMemory};
 ghost use Rattle.addr2line_units.specs.declared.frames_lookup.Faults.TheVariants.{End};
 ghost use Rattle.addr2line_units.specs.FramesLookup.{Waits};
-ghost use Rattle.addr2line.specs.Loader.{AfterAnswers, AnswersInTurn, AnswersOne, HasEnded, IsFaultByFiles, LeavesOpen, WaitsForNone};
+ghost use Rattle.addr2line.specs.Context.{IsUncovered};
+ghost use Rattle.addr2line.specs.Loader.{AfterAnswers, AfterNoLoad, AnswersInTurn, AnswersOne, HasEnded, IsFaultByFiles, LeavesOpen, WaitsForNone, ended_frames_of};
 ghost use Rattle.addr2line.specs.Lookups.{IsKnown, loads_of, lookup_stop};
 
 use crate::context::Context;
@@ -48,6 +50,10 @@ pub(crate) fn answer_loads<F: FileSource>(
     ensures in_turn { AnswersInTurn probe ctx.old ctx.new }
     ensures ended { HasEnded result → WaitsForNone ctx.new probe }
     ensures refused { IfErr result (IsFaultByFiles (F.files files.now) ctx.old probe) }
+    ensures no_load { WaitsForNone ctx.old probe → AfterNoLoad probe result ctx.old ctx.new }
+    ensures fault { WaitsForNone ctx.old probe
+        → IfErr result (λ e. e ≢ OutOfMemory → ended_frames_of ctx.old probe ≡ Err e) }
+    ensures last { probe ≡ 2 ^ 64 - 1 → IsUncovered ctx.old probe }
 {
     if !ctx.may_wait(probe) {
         return Ok(());

@@ -1,6 +1,6 @@
 //! Loaders: contexts of ELF files, with their symbols and their split files.
 
-ghost use Rattle.std.specs.Prelude.{◌≡◌, ◌^◌, ◌-◌, IfErr, IfOk, IfSome, IsOk, None, Ok, Option, Some, option_map};
+ghost use Rattle.std.specs.Prelude.{◌≡◌, ◌^◌, ◌-◌, [], IfErr, IfOk, IfSome, IsOk, None, Ok, Option, Some, option_map};
 ghost use Rattle.std.specs.Borrow.{sem};
 ghost use Rattle.elf.specs.declared.error.LoaderError.TheVariants.{OutOfMemory};
 ghost use Rattle.gimli_read.specs.Reading.{Exactly};
@@ -9,13 +9,15 @@ ghost use Rattle.elf.specs.Sections.{section_range_at};
 ghost use Rattle.elf.specs.Symbols.{NamedAddress, named_address, symbol_at};
 ghost use Rattle.gimli.specs.Sections.{Sections, SupSections};
 ghost use Rattle.addr2line_lines.specs.SeenLocation.{seen_location};
+ghost use Rattle.addr2line_units.specs.declared.frames_lookup.Faults.TheVariants.{End};
 ghost use Rattle.addr2line_units.specs.FramesLeft.{frames_left};
 ghost use Rattle.addr2line_units.specs.Located.{location_of, spans_of};
 ghost use Rattle.addr2line_units.specs.LocationsLeft.{locations_left};
 ghost use Rattle.addr2line.specs.Context.{IsReady, IsReadyForRange};
 ghost use Rattle.addr2line.specs.FramesByFiles.{frames_by_files};
 ghost use Rattle.addr2line.specs.Loaded.{as_sup, context_at, dwarf_at, loaded, main_with_sup, object_at, sup_at};
-ghost use Rattle.addr2line.specs.Loader.{AfterLoads, StaysLoaded, seen_loader};
+ghost use Rattle.addr2line.specs.Loader.{AfterLoads, StaysLoaded, WaitsForNone, ended_frames_of, seen_loader};
+ghost use Rattle.addr2line.specs.Lookups.{IsKnownFew};
 ghost use Rattle.addr2line.specs.SplitFiles.{of_file};
 
 use crate::by_files::answer_loads;
@@ -231,11 +233,19 @@ impl<F: FileSource> LoaderOver<F> {
     /// | `PathNotUtf8` | the path of a split file isn't UTF-8; its unit stays open |
     /// | `Dwarf` | as `Context::find_frames` is refused |
     ///
-    /// May fail with `OutOfMemory` instead, which leaves the unit that was asked for open. Source:
-    /// DWARF 5, sections 3.1.2 and 7.3.2. Own: the path, and what counts as none.
+    /// May fail with `OutOfMemory` instead, which leaves the unit that was asked for open. Takes no
+    /// memory where no unit covers `probe`, nor where it waits for no load, all that it asks for is
+    /// kept and at most 16 inlined functions stand there. No unit covers 2^64 - 1. Source: DWARF 5,
+    /// sections 3.1.2 and 7.3.2. Own: the path, and what counts as none.
     pub fn find_frames(&mut self, probe: u64) -> Result<FrameIter<'_, EndianBytes>, LoaderError>
         ensures gives { IfSome (F.files self.old.files) (λ held. LoadsUnlessOom frames_left result
             (frames_by_files held self.old.context.sections self.old.context.answers probe)) }
+        ensures ended { WaitsForNone self.old.context probe → LoadsUnlessOom frames_left result
+            (ended_frames_of self.old.context probe) }
+        ensures exact { WaitsForNone self.old.context probe
+            → IsKnownFew End self.old.context probe
+            → Exactly frames_left result (ended_frames_of self.old.context probe) }
+        ensures last { probe ≡ 2 ^ 64 - 1 → Exactly frames_left result (Ok []) }
         ensures* kept { sem 𝓛 (LoaderEndsAs F.row F.files self.entry
             (AfterLoads probe result (seen_loader F.files self.old))) }
     {

@@ -1,6 +1,6 @@
 //! What lookups come to, by the number of a unit.
 
-ghost use Rattle.std.specs.Prelude.{◌≡◌, IfErr, IfOk, Ok, false};
+ghost use Rattle.std.specs.Prelude.{◌≡◌, ◌^◌, ◌-◌, IfErr, IfOk, Ok, false};
 ghost use Rattle.gimli_read.specs.declared.error.Error.TheVariants.{OutOfMemory};
 ghost use Rattle.gimli_read.specs.Reading.{ExactlyUnlessOom};
 ghost use Rattle.addr2line_units.specs.declared.frames_lookup.Faults.{Faults};
@@ -8,6 +8,7 @@ ghost use Rattle.addr2line_units.specs.declared.frames_lookup.Faults.TheVariants
 ghost use Rattle.addr2line_units.specs.FramesLookup.{Waits, is_waiting};
 ghost use Rattle.addr2line_units.specs.KeptViews.{seen_load};
 ghost use Rattle.addr2line_units.specs.SeenUnit.{seen_found};
+ghost use Rattle.addr2line.specs.Context.{IsUncovered};
 ghost use Rattle.addr2line.specs.declared.stops.UnitStop.TheVariants.{Finds};
 ghost use Rattle.addr2line.specs.KeptStops.{kept_stop, unit_stop};
 ghost use Rattle.addr2line.specs.Lookups.{AfterFrames, IsKnown, IsLoadOf, lookup_stop, unit_of};
@@ -63,6 +64,7 @@ impl<R: Reader> Context<R> {
     pub(crate) fn may_wait(&self, probe: u64) -> bool
         ensures ends { result ≡ false → (faults : Faults)
             → is_waiting (lookup_stop faults self.now.sections self.now.answers probe) ≡ false }
+        ensures last { probe ≡ 2 ^ 64 - 1 → IsUncovered self.now probe }
     {
         self.units.may_wait(probe)
     }

@@ -1,6 +1,6 @@
 //! Whether lookups of frames may wait for answers.
 
-ghost use Rattle.std.specs.Prelude.{◌≡◌, not};
+ghost use Rattle.std.specs.Prelude.{◌≡◌, ◌^◌, ◌-◌, [], not};
 ghost use Rattle.addr2line_units.specs.Cover.{cover};
 ghost use Rattle.addr2line_units.specs.KeptLookups.{decided_along, decided_at};
 ghost use Rattle.addr2line_units.specs.UnitRangesLeft.{ranges_left};
@@ -34,10 +34,11 @@ fn are_decided_along<R: Reader>(entries: &[UnitEntries<R>], mut ranges: UnitRang
 
 impl<R: Reader> ResUnits<R> {
     /// Whether a lookup of frames may wait for an answer: the view of a unit that covers an address
-    /// isn't known yet. Takes no memory.
+    /// isn't known yet. No unit covers 2^64 - 1. Takes no memory.
     pub fn may_wait(&self, probe: u64) -> bool
         ensures gives { result
             ≡ not (decided_along self.now.entries.items (cover probe self.now.ranges)) }
+        ensures last { probe ≡ 2 ^ 64 - 1 → cover probe self.now.ranges ≡ [] }
     {
         !are_decided_along(&self.entries, self.ranges.find(probe))
     }

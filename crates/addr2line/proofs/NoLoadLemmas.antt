@@ -24,6 +24,7 @@ use Rattle.addr2line.specs.Loader.{AfterNoLoad, WaitsForNone, ended_frames_of}
 use Rattle.addr2line.specs.Lookups.{AfterFrames, FirstAnswers, IsKnownFew, StaysKnown, asked_of, frames_of, has_few_of, lookup_stop, stop_in}
 use Rattle.addr2line.proofs.ByFilesLemmas.{failed_stop, failed_told, found_told}
 use Rattle.addr2line.proofs.NewContextLemmas.{ok_is}
+use Rattle.addr2line.proofs.StayLemmas.{known_twice}
 
 more : (a b c x y : Bool) → (a ≡ true → x ≡ true) → (c ≡ true → y ≡ true) → (a && (b || c)) ≡ true → (x && (b || y)) ≡ true
 more true true c x y f g e = rw (f refl) refl
@@ -55,7 +56,7 @@ module _ (probe : ℕ) (old new : ContextState) where
           let few_there = not (has_many_of scope m.units old.answers probe n) in
           let before = knows_at old.known probe n && (asks || has_parsed old.parsed n) in
           let after = knows_at new.known probe n && (asks || has_parsed new.parsed n) in
-          more before false few_there after few_there (more _ asks (has_parsed old.parsed n) _ (has_parsed new.parsed n) (known probe n) (parsed n)) (λ q. q) e
+          more before false few_there after few_there (more _ asks (has_parsed old.parsed n) _ (has_parsed new.parsed n) (known.at probe n) (parsed n)) (λ q. q) e
 
 -- a refusal of DWARF that isn't OutOfMemory isn't told as it
 not_told : (e : Error) → e ≢ reading.OutOfMemory → loader_error_of e ≢ OutOfMemory
@@ -115,12 +116,12 @@ module _ {X Z : Type 0} (probe : ℕ) (first mid new : ContextState) (z : Z) (r 
       ∙ ap (λ x. stop_frames (lookup_stop End first.sections x probe)) (l w).answers
 
   pub then_found : {Y : Type 0} (y : Y) → WaitsForNone first probe → AfterNoLoad {X = Y} probe (Ok y) first new
-  then_found y w = record { answers = b.answers ∙ (l w).answers; known = λ p n e. b.known p n ((l w).known p n e); memory = λ few. tt }
+  then_found y w = record { answers = b.answers ∙ (l w).answers; known = known_twice first.known mid.known new.known (l w).known b.known; memory = λ few. tt }
 
   pub then_failed : {Y : Type 0} (e : Error) → r ≡ Err e → WaitsForNone first probe → AfterNoLoad {X = Y} probe (Err (loader_error_of e)) first new
   then_failed e is w = record {
     answers = b.answers ∙ (l w).answers;
-    known = λ p n k. b.known p n ((l w).known p n k);
+    known = known_twice first.known mid.known new.known (l w).known b.known;
     memory = λ few. not_told e (subst (λ (x : Result X Error). IsNotOom x) is (b.memory few ended));
   }
 

@@ -41,6 +41,3 @@ pub use crate::range::{LineLocationRangeIter, LineRanges};
 pub use crate::references::{FileUnits, Scope};
 pub use crate::row::Row;
 pub use crate::segments::{FunctionAddress, Segments};
-
-#[cfg(test)]
-mod tests;

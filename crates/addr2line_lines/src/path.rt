@@ -55,10 +55,10 @@ fn join(path: &mut String, text: &str) -> Result<(), AllocError>
     path.push_str(text)
 }
 
-/// Pushes a text onto a path: an absolute text replaces it, any other is added after a separator.
-///
-/// Fails only where a growth is refused, and then the path may be any text.
-pub(crate) fn push_path(path: &mut String, text: &str) -> Result<(), AllocError>
+// Pushes a text onto a path: an absolute text replaces it, any other is added after a separator.
+//
+// Fails only where a growth is refused, and then the path may be any text.
+fn push_path(path: &mut String, text: &str) -> Result<(), AllocError>
     ensures gives { OnOk result (string_bytes path.new ≡
         pushed_path (string_bytes path.old) text.now) }
 {

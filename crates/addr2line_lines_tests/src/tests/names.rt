@@ -51,6 +51,12 @@ const CASES: [(&str, Option<&str>); 34] = [
     ("_ZN2\u{e4}E", None),
 ];
 
+// A name of the program below, which takes many growths.
+const LONGEST: (&str, &str) = (
+    "_ZN4core3ptr196drop_in_place$LT$hashbrown..scopeguard..ScopeGuard$LT$hashbrown..raw..RawTableInner$C$hashbrown..raw..RawTableInner..prepare_resize$LT$alloc..alloc..Global$GT$..$u7b$$u7b$closure$u7d$$u7d$$GT$$GT$17h0587c7906a86ff26E",
+    "core::ptr::drop_in_place<hashbrown::scopeguard::ScopeGuard<hashbrown::raw::RawTableInner,hashbrown::raw::RawTableInner::prepare_resize<alloc::alloc::Global>::{{closure}}>>",
+);
+
 // Names of a program that rustc 1.95 compiled with `-C symbol-mangling-version=legacy`, without
 // and with `-O`, and what `nm -C` of GNU binutils 2.40 prints for them. It leaves `$uf6$` and
 // `$udf$` of the second name as they are; by the format they are the characters of `größe`.
@@ -148,10 +154,7 @@ const PROGRAM: [(&str, &str); 25] = [
         "_ZN148_$LT$dyn$u20$core..ops..function..Fn$LT$$LP$u8$C$u16$RP$$GT$$u2b$Output$u20$$u3d$$u20$u64$u2b$core..marker..Send$u20$as$u20$sample..shapes..Area$GT$4area17h68fa7e1162a7653fE",
         "<dyn core::ops::function::Fn<(u8,u16)>+Output = u64+core::marker::Send as sample::shapes::Area>::area",
     ),
-    (
-        "_ZN4core3ptr196drop_in_place$LT$hashbrown..scopeguard..ScopeGuard$LT$hashbrown..raw..RawTableInner$C$hashbrown..raw..RawTableInner..prepare_resize$LT$alloc..alloc..Global$GT$..$u7b$$u7b$closure$u7d$$u7d$$GT$$GT$17h0587c7906a86ff26E",
-        "core::ptr::drop_in_place<hashbrown::scopeguard::ScopeGuard<hashbrown::raw::RawTableInner,hashbrown::raw::RawTableInner::prepare_resize<alloc::alloc::Global>::{{closure}}>>",
-    ),
+    LONGEST,
 ];
 
 // Whether the name gives the wanted text, none where none is wanted.
@@ -244,13 +247,13 @@ fn gives_or_refuses(alloc: Global, name: &str, want: &str) -> bool {
 
 #[test]
 fn growths_that_are_granted_give_a_text(rt: HostRuntime) {
-    let [.., (name, want)] = PROGRAM;
+    let (name, want) = LONGEST;
     assert_eq!(rt; gives(rt.alloc(), name, RUST, Some(want)), true);
 }
 
 // Each growth is refused in turn by `tools/refuse_growths`.
 #[test]
 fn a_refused_growth_is_out_of_memory(rt: HostRuntime) {
-    let [.., (name, want)] = PROGRAM;
+    let (name, want) = LONGEST;
     assert_eq!(rt; gives_or_refuses(rt.alloc(), name, want), true);
 }

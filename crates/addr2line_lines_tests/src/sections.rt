@@ -43,8 +43,10 @@ pub fn first_unit<R: Reader>(alloc: Global, dwarf: &Dwarf<R>) -> Result<Unit<R>,
 /// The lines of the first unit of these sections.
 pub fn lines_in(alloc: Global, abbrev: &[u8], info: &[u8], line: &[u8]) -> Result<Lines, Error> {
     let dwarf = dwarf_of(abbrev, info, line);
-    let unit = first_unit(alloc, &dwarf)?;
-    Lines::parse(alloc, &dwarf, &unit)
+    match first_unit(alloc, &dwarf) {
+        Ok(unit) => Lines::parse(alloc, &dwarf, &unit),
+        Err(error) => Err(error),
+    }
 }
 
 /// The lines of the unit with this program.

@@ -175,9 +175,9 @@ fn gives_auto(alloc: Global, name: &str, language: Option<DwLang>, want: &str) -
 }
 
 // The first name that gives another text, empty where there is none.
-fn first_wrong(alloc: Global) -> &'static str {
-    for (name, want) in CASES {
-        if !gives(alloc, name, RUST, want) {
+fn first_wrong(alloc: Global, cases: &[(&'static str, Option<&str>)]) -> &'static str {
+    for (name, want) in cases {
+        if !gives(alloc, name, RUST, *want) {
             return name;
         }
     }
@@ -186,7 +186,7 @@ fn first_wrong(alloc: Global) -> &'static str {
 
 #[test]
 fn names_give_the_texts_of_the_format(rt: HostRuntime) {
-    assert_eq!(rt; first_wrong(rt.alloc()), "");
+    assert_eq!(rt; first_wrong(rt.alloc(), &CASES), "");
 }
 
 // The same among the names of the program.

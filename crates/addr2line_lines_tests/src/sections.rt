@@ -2,10 +2,10 @@
 
 use crate::vectors::ABBREV;
 use addr2line_lines::{Lines, Location};
-use gimli::read::{EndianSlice, Error, RunTimeEndian};
+use gimli::read::{EndianSlice, Error, Reader, RunTimeEndian};
 use gimli::{
     DebugAbbrev, DebugAddr, DebugAranges, DebugInfo, DebugLine, DebugLineStr, DebugRanges,
-    DebugRngLists, DebugStr, DebugStrOffsets, Dwarf, DwarfFileType,
+    DebugRngLists, DebugStr, DebugStrOffsets, Dwarf, DwarfFileType, Unit,
 };
 use std::alloc::Global;
 
@@ -32,16 +32,26 @@ pub fn dwarf_of<'a>(abbrev: &'a [u8], info: &'a [u8], line: &'a [u8]) -> Dwarf<E
     }
 }
 
-/// The lines of the unit with this program.
-pub fn lines_of(alloc: Global, info: &[u8], line: &[u8]) -> Result<Lines, Error> {
-    let dwarf = dwarf_of(&ABBREV, info, line);
+/// The first unit.
+pub fn first_unit<R: Reader>(alloc: Global, dwarf: &Dwarf<R>) -> Result<Unit<R>, Error> {
     match dwarf.units()?.next()? {
-        Some(header) => {
-            let unit = dwarf.unit(alloc, header)?;
-            Lines::parse(alloc, &dwarf, &unit)
-        }
+        Some(header) => dwarf.unit(alloc, header),
         None => Err(Error::MissingUnitDie),
     }
+}
+
+/// The lines of the first unit of these sections.
+pub fn lines_in(alloc: Global, abbrev: &[u8], info: &[u8], line: &[u8]) -> Result<Lines, Error> {
+    let dwarf = dwarf_of(abbrev, info, line);
+    match first_unit(alloc, &dwarf) {
+        Ok(unit) => Lines::parse(alloc, &dwarf, &unit),
+        Err(error) => Err(error),
+    }
+}
+
+/// The lines of the unit with this program.
+pub fn lines_of(alloc: Global, info: &[u8], line: &[u8]) -> Result<Lines, Error> {
+    lines_in(alloc, &ABBREV, info, line)
 }
 
 /// A fault as a number above those of locations.

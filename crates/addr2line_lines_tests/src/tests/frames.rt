@@ -1,13 +1,12 @@
 //! Worked cases: the frames of an address, and the texts of their names.
 
-use crate::sections::{dwarf_of, little, location_code};
+use crate::sections::{dwarf_of, first_unit, little, location_code};
 use crate::vectors::{LINE, NAMED, NAMED_INFO};
 use addr2line_lines::{FileUnits, Functions, Lines, Scope};
 use addr2line_units::{Frame, FrameIter, FunctionName};
-use gimli::read::{DwLang, EndianSlice, Error};
+use gimli::read::{DwLang, EndianSlice};
 use gimli::{Dwarf, Unit, UnitRef};
 use std::alloc::Global;
-use std::test::Fail;
 
 // A frame by where its entry begins, the first byte of its name and its location; 0 for none.
 type FrameCode = [u64; 3];
@@ -50,56 +49,84 @@ fn codes_of(alloc: Global, frames: FrameIter<'_, EndianSlice<'_>>) -> [FrameCode
     codes
 }
 
-// The frames at an address of a unit without a language.
-fn frames_in<'a, 'u>(
+// A fault in the place of frames.
+const FAULT: [FrameCode; 3] = [[8; 3]; 3];
+
+// The frames at an address of a function of a unit without a language.
+fn frames_at(
     alloc: Global,
-    dwarf: &'u Dwarf<EndianSlice<'a>>,
-    unit: &'u Unit<EndianSlice<'a>>,
+    functions: &Functions<EndianSlice<'_>>,
+    place: usize,
+    lines: &Lines,
     probe: u64,
-) -> Result<[FrameCode; 3], Error> {
-    let lines = Lines::parse(alloc, dwarf, unit)?;
+) -> [FrameCode; 3] {
     let location = lines.find_location(probe);
-    let mut functions = Functions::parse(alloc, UnitRef::new(dwarf, unit))?;
+    match functions.find_inlined_functions(alloc, place, probe) {
+        Ok(inlined) => codes_of(
+            alloc,
+            FrameIter::new_function(functions, place, inlined.as_slice(), lines, None, location),
+        ),
+        Err(_) => FAULT,
+    }
+}
+
+// The same of the function with the address, or its location alone.
+fn frames_by<'a>(
+    alloc: Global,
+    functions: Functions<EndianSlice<'a>>,
+    dwarf: &Dwarf<EndianSlice<'a>>,
+    unit: &Unit<EndianSlice<'a>>,
+    lines: &Lines,
+    probe: u64,
+) -> [FrameCode; 3] {
+    let mut functions = functions;
     let Some(place) = functions.find(probe) else {
-        return Ok(codes_of(alloc, FrameIter::new_location(location)));
+        return codes_of(alloc, FrameIter::new_location(lines.find_location(probe)));
     };
     let file = FileUnits { dwarf, units: &[] };
-    functions.read(Scope { file, sup: None }, unit, place)?;
-    let inlined = functions.find_inlined_functions(alloc, place, probe)?;
-    let frames = FrameIter::new_function(
-        &functions,
-        place,
-        inlined.as_slice(),
-        &lines,
-        None,
-        location,
-    );
-    Ok(codes_of(alloc, frames))
+    match functions.read(Scope { file, sup: None }, unit, place) {
+        Ok(()) => frames_at(alloc, &functions, place, lines, probe),
+        Err(_) => FAULT,
+    }
+}
+
+fn frames_with<'a>(
+    alloc: Global,
+    lines: Lines,
+    dwarf: &Dwarf<EndianSlice<'a>>,
+    unit: &Unit<EndianSlice<'a>>,
+    probe: u64,
+) -> [FrameCode; 3] {
+    match Functions::parse(alloc, UnitRef::new(dwarf, unit)) {
+        Ok(functions) => frames_by(alloc, functions, dwarf, unit, &lines, probe),
+        Err(_) => FAULT,
+    }
+}
+
+// The same of a unit.
+fn frames_in<'a>(
+    alloc: Global,
+    dwarf: &Dwarf<EndianSlice<'a>>,
+    unit: &Unit<EndianSlice<'a>>,
+    probe: u64,
+) -> [FrameCode; 3] {
+    match Lines::parse(alloc, dwarf, unit) {
+        Ok(lines) => frames_with(alloc, lines, dwarf, unit, probe),
+        Err(_) => FAULT,
+    }
 }
 
 // The same of the first unit.
-fn frames_of(
-    alloc: Global,
-    dwarf: &Dwarf<EndianSlice<'_>>,
-    probe: u64,
-) -> Result<[FrameCode; 3], Error> {
-    let Some(header) = dwarf.units()?.next()? else {
-        return Err(Error::MissingUnitDie);
-    };
-    let unit = dwarf.unit(alloc, header)?;
-    frames_in(alloc, dwarf, &unit, probe)
-}
-
-// The same; eights for a fault.
 fn told(alloc: Global, probe: u64) -> [FrameCode; 3] {
-    match frames_of(alloc, &dwarf_of(NAMED, NAMED_INFO, &LINE), probe) {
-        Ok(codes) => codes,
-        Err(_) => [[8; 3]; 3],
+    let dwarf = dwarf_of(NAMED, NAMED_INFO, &LINE);
+    match first_unit(alloc, &dwarf) {
+        Ok(unit) => frames_in(alloc, &dwarf, &unit, probe),
+        Err(_) => FAULT,
     }
 }
 
 #[test]
-fn the_innermost_inlined_function_is_the_first_frame(rt: HostRuntime) -> Result<(), Fail> {
+fn the_innermost_inlined_function_is_the_first_frame(rt: HostRuntime) {
     let none = [0; 3];
     let cases: [(u64, [FrameCode; 3]); 3] = [
         // "g" at 0x31 at line 3, called at line 7 without a column by "f" at 0x22.
@@ -113,7 +140,6 @@ fn the_innermost_inlined_function_is_the_first_frame(rt: HostRuntime) -> Result<
     for (probe, want) in cases {
         assert_eq!(rt; told(rt.alloc(), probe), want);
     }
-    Ok(())
 }
 
 // Whether the texts of a name are these: that of the file, and that in its language.
@@ -130,7 +156,7 @@ fn has_texts(alloc: Global, name: &[u8], language: Option<DwLang>, texts: [&str;
 }
 
 #[test]
-fn a_name_has_the_text_of_its_language(rt: HostRuntime) -> Result<(), Fail> {
+fn a_name_has_the_text_of_its_language(rt: HostRuntime) {
     let cases: [(&[u8], Option<DwLang>, [&str; 2]); 3] = [
         (b"_ZN4test1aE", None, ["_ZN4test1aE", "test::a"]),
         (
@@ -143,5 +169,4 @@ fn a_name_has_the_text_of_its_language(rt: HostRuntime) -> Result<(), Fail> {
     for (name, language, texts) in cases {
         assert_eq!(rt; has_texts(rt.alloc(), name, language, texts), true);
     }
-    Ok(())
 }

@@ -1,12 +1,11 @@
 //! Worked cases: the functions of a unit, and which of them counts at an address.
 
-use crate::sections::{dwarf_of, little};
+use crate::sections::{dwarf_of, first_unit, little};
 use crate::vectors::{LINE, LIST, NAMED, NAMED_INFO};
-use addr2line_lines::Functions;
-use gimli::read::{EndianSlice, Error};
-use gimli::{DebugRanges, UnitRef};
+use addr2line_lines::{FunctionAddress, Functions, Segments};
+use gimli::read::{EndianSlice, Error, Range};
+use gimli::{DebugRanges, Dwarf, Unit, UnitRef};
 use std::alloc::Global;
-use std::test::Fail;
 
 // "f" begins at the greatest address and has 0x10 of them: the sum wraps.
 const WRAPPED_INFO: &[u8] = b"\x43\0\0\0\x04\0\0\0\0\0\x08\x01\0\0\0\0\x2f\x77\0\x10\0\0\0\0\0\0\0\
@@ -39,34 +38,38 @@ fn offset_at(functions: &Functions<EndianSlice<'_>>, probe: u64) -> u64 {
     }
 }
 
-// Where the functions at three addresses begin, 0 where there is none.
-fn functions_at(
+// Where the functions at three addresses begin, 0 where there is none; a refusal's number.
+fn functions_in<'a>(
     alloc: Global,
-    abbrev: &[u8],
-    info: &[u8],
+    dwarf: &Dwarf<EndianSlice<'a>>,
+    unit: &Unit<EndianSlice<'a>>,
     probes: [u64; 3],
-) -> Result<[u64; 3], Error> {
-    let mut dwarf = dwarf_of(abbrev, info, &LINE);
-    dwarf.debug_ranges = DebugRanges::from(little(&LIST));
-    let Some(header) = dwarf.units()?.next()? else {
-        return Err(Error::MissingUnitDie);
-    };
-    let unit = dwarf.unit(alloc, header)?;
-    let functions = Functions::parse(alloc, UnitRef::new(&dwarf, &unit))?;
-    Ok(probes.map(|probe| offset_at(&functions, probe)))
+) -> [u64; 3] {
+    match Functions::parse(alloc, UnitRef::new(dwarf, unit)) {
+        Ok(functions) => probes.map(|probe| offset_at(&functions, probe)),
+        Err(error) => refused(error),
+    }
 }
 
-// The same, and for a refusal its number.
+fn refused(error: Error) -> [u64; 3] {
+    match error {
+        Error::UnknownAbbreviation => [1, 0, 1],
+        _ => [2, 0, 2],
+    }
+}
+
+// The same of sections.
 fn told(alloc: Global, abbrev: &[u8], info: &[u8], probes: [u64; 3]) -> [u64; 3] {
-    match functions_at(alloc, abbrev, info, probes) {
-        Ok(offsets) => offsets,
-        Err(Error::UnknownAbbreviation) => [1, 0, 1],
-        Err(_) => [2, 0, 2],
+    let mut dwarf = dwarf_of(abbrev, info, &LINE);
+    dwarf.debug_ranges = DebugRanges::from(little(&LIST));
+    match first_unit(alloc, &dwarf) {
+        Ok(unit) => functions_in(alloc, &dwarf, &unit, probes),
+        Err(error) => refused(error),
     }
 }
 
 #[test]
-fn the_function_of_an_address_is_found(rt: HostRuntime) -> Result<(), Fail> {
+fn the_function_of_an_address_is_found(rt: HostRuntime) {
     let cases: [(&[u8], &[u8], [u64; 3], [u64; 3]); 6] = [
         (NAMED, NAMED_INFO, [0xf, 0x24, 0x30], [0, 0x22, 0]),
         (NAMED, WRAPPED_INFO, [0xf, 0x24, u64::MAX], [0; 3]),
@@ -79,5 +82,48 @@ fn the_function_of_an_address_is_found(rt: HostRuntime) -> Result<(), Fail> {
     for (abbrev, info, probes, want) in cases {
         assert_eq!(rt; told(rt.alloc(), abbrev, info, probes), want);
     }
-    Ok(())
+}
+
+// The functions at three addresses, 9 where there is none, 99 where no memory is left.
+fn shortest_at(alloc: Global, ranges: &[(u64, u64, usize)], probes: [u64; 3]) -> [usize; 3] {
+    let mut addresses = Vec::new(alloc);
+    for (begin, end, function) in ranges {
+        let range = Range {
+            begin: *begin,
+            end: *end,
+        };
+        let function = *function;
+        if addresses.push(FunctionAddress { range, function }).is_err() {
+            return [99; 3];
+        }
+    }
+    match Segments::new(alloc, addresses) {
+        Ok(segments) => probes.map(|probe| segments.find(probe).unwrap_or(9)),
+        Err(_) => [99; 3],
+    }
+}
+
+#[test]
+fn the_shortest_range_counts(rt: HostRuntime) {
+    let cases: [(&[(u64, u64, usize)], [u64; 3], [usize; 3]); 4] = [
+        (
+            &[(0x10, 0x30, 0), (0x20, 0x28, 1)],
+            [0x24, 0x2a, 0x30],
+            [1, 0, 9],
+        ),
+        (
+            &[(0x10, 0x20, 1), (0x10, 0x20, 0)],
+            [0xf, 0x10, 0x1f],
+            [9, 0, 0],
+        ),
+        (
+            &[(0, 100, 0), (40, 50, 0), (45, 60, 1)],
+            [47, 52, 60],
+            [0, 1, 0],
+        ),
+        (&[], [0, 1, u64::MAX], [9, 9, 9]),
+    ];
+    for (ranges, probes, want) in cases {
+        assert_eq!(rt; shortest_at(rt.alloc(), ranges, probes), want);
+    }
 }

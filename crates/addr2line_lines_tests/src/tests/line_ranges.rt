@@ -1,13 +1,13 @@
 //! The rows of a range of addresses, the ranges of sequences, and looks, by the lines of one unit.
 
-use crate::sections::lines_of;
+use crate::sections::{fault_code, lines_of};
 use crate::vectors::{
-    FOUR_SEQUENCES, INFO_WIDE, SAME_ADDRESS, THREE_SEQUENCES, ZERO_LENGTH, ZERO_LENGTH_AND_ANOTHER,
+    FOUR_SEQUENCES, INFO_WIDE, SAME_ADDRESS, SHARED_BLOCK, THREE_SEQUENCES, TWO_HUNDRED_ROWS,
+    ZERO_LENGTH, ZERO_LENGTH_AND_ANOTHER,
 };
 use addr2line_lines::{Count, Lines};
 use gimli::read::{Error, Range};
 use std::alloc::Global;
-use std::test::Fail;
 
 // No item.
 const NONE: [u64; 3] = [0, 0, 0];
@@ -22,8 +22,16 @@ fn items_of(lines: &Lines, [begin, end, low, high]: [u64; 4]) -> [[u64; 3]; 5] {
     items
 }
 
+// The same by the line program; eights where there are no lines.
+fn items_in(alloc: Global, line: &[u8], range: [u64; 4]) -> [[u64; 3]; 5] {
+    match lines_of(alloc, &INFO_WIDE, line) {
+        Ok(lines) => items_of(&lines, range),
+        Err(_) => [[8; 3]; 5],
+    }
+}
+
 #[test]
-fn a_range_meets_rows_with_their_whole_spans(rt: HostRuntime) -> Result<(), Fail> {
+fn a_range_meets_rows_with_their_whole_spans(rt: HostRuntime) {
     let cases: [(&[u8], [u64; 4], [[u64; 3]; 5]); 6] = [
         (
             &SAME_ADDRESS,
@@ -58,14 +66,15 @@ fn a_range_meets_rows_with_their_whole_spans(rt: HostRuntime) -> Result<(), Fail
         ),
     ];
     for (line, range, want) in cases {
-        let lines = lines_of(rt.alloc(), &INFO_WIDE, line)?;
-        assert_eq!(rt; items_of(&lines, range), want);
+        assert_eq!(rt; items_in(rt.alloc(), line, range), want);
     }
-    Ok(())
 }
 
-// The first four ranges of the sequences.
-fn ranges_of(lines: &Lines) -> [[u64; 2]; 4] {
+// The first four ranges of the sequences; eights where there are no lines.
+fn ranges_in(alloc: Global, line: &[u8]) -> [[u64; 2]; 4] {
+    let Ok(lines) = lines_of(alloc, &INFO_WIDE, line) else {
+        return [[8; 2]; 4];
+    };
     let mut ranges = [[0, 0]; 4];
     for (range, found) in ranges.iter_mut().zip(lines.ranges()) {
         *range = [found.begin, found.end];
@@ -74,10 +83,9 @@ fn ranges_of(lines: &Lines) -> [[u64; 2]; 4] {
 }
 
 #[test]
-fn sequences_have_ranges_in_order(rt: HostRuntime) -> Result<(), Fail> {
-    let lines = lines_of(rt.alloc(), &INFO_WIDE, &FOUR_SEQUENCES)?;
-    assert_eq!(rt; ranges_of(&lines), [[0, 4], [0, 8], [2, 3], [0x10, 0x30]]);
-    Ok(())
+fn sequences_have_ranges_in_order(rt: HostRuntime) {
+    let want = [[0, 4], [0, 8], [2, 3], [0x10, 0x30]];
+    assert_eq!(rt; ranges_in(rt.alloc(), &FOUR_SEQUENCES), want);
 }
 
 // The line at an address, with and without the count of looks; 0 for none.
@@ -91,33 +99,57 @@ fn lines_at(lines: &Lines, probe: u64) -> [u32; 2] {
     ]
 }
 
-#[test]
-fn a_lookup_that_counts_answers_alike(rt: HostRuntime) -> Result<(), Fail> {
-    let lines = lines_of(rt.alloc(), &INFO_WIDE, &FOUR_SEQUENCES)?;
-    let answers = [2, 5, 0x18].map(|probe| lines_at(&lines, probe));
-    assert_eq!(rt; answers, [[4, 4], [0, 0], [3, 3]]);
-    Ok(())
-}
-
-// The lines at 2, 5 and 0x18 after a first parse that may be refused memory, as each of its growths
-// is in turn by `tools/refuse_growths`.
-fn parsed_again(alloc: Global) -> Result<[u32; 3], Error> {
-    let _first = lines_of(alloc, &INFO_WIDE, &FOUR_SEQUENCES).is_ok();
-    let lines = lines_of(alloc, &INFO_WIDE, &FOUR_SEQUENCES)?;
-    Ok([2, 5, 0x18].map(|probe| lines_at(&lines, probe)[0]))
+// The same at four addresses by the line program; a fault's number where there are no lines.
+fn lines_in(alloc: Global, line: &[u8], probes: [u64; 4]) -> [[u32; 2]; 4] {
+    match lines_of(alloc, &INFO_WIDE, line) {
+        Ok(lines) => probes.map(|probe| lines_at(&lines, probe)),
+        Err(error) => [[fault_code(error); 2]; 4],
+    }
 }
 
 #[test]
-fn growths_that_are_granted_give_lines(rt: HostRuntime) -> Result<(), Fail> {
-    let lines = lines_of(rt.alloc(), &INFO_WIDE, &FOUR_SEQUENCES)?;
-    assert_eq!(rt; lines_at(&lines, 2), [4, 4]);
-    Ok(())
+fn a_lookup_that_counts_answers_alike(rt: HostRuntime) {
+    let cases: [(&[u8], [u64; 4], [u32; 4]); 3] = [
+        (&FOUR_SEQUENCES, [2, 5, 0x18, 8], [4, 0, 3, 0]),
+        // The fourth block has rows of one sequence, or of both.
+        (
+            &TWO_HUNDRED_ROWS,
+            [0x120a, 0x131f, 0x1320, 6],
+            [131, 200, 0, 0],
+        ),
+        (&SHARED_BLOCK, [0x120a, 0x131f, 0x1320, 6], [131, 200, 0, 2]),
+    ];
+    for (line, probes, want) in cases {
+        assert_eq!(rt;
+            lines_in(rt.alloc(), line, probes),
+            want.map(|line| [line, line])
+        );
+    }
 }
 
+// The lines at four addresses, as each way gives them.
+const FOUR_LINES: [[u32; 2]; 4] = [[4, 4], [0, 0], [3, 3], [0, 0]];
+
+fn four_lines(alloc: Global) -> [[u32; 2]; 4] {
+    lines_in(alloc, &FOUR_SEQUENCES, [2, 5, 0x18, 8])
+}
+
+// The same by a second parse where the first is refused memory.
+fn parsed_again(alloc: Global) -> [[u32; 2]; 4] {
+    let lines = four_lines(alloc);
+    if lines == [[fault_code(Error::OutOfMemory); 2]; 4] {
+        return four_lines(alloc);
+    }
+    lines
+}
+
+#[test]
+fn growths_that_are_granted_give_lines(rt: HostRuntime) {
+    assert_eq!(rt; four_lines(rt.alloc()), FOUR_LINES);
+}
+
+// Each growth is refused in turn by `tools/refuse_growths`.
 #[test]
 fn a_refused_growth_is_parsed_again(rt: HostRuntime) {
-    match parsed_again(rt.alloc()) {
-        Ok(lines) => assert_eq!(rt; lines, [4, 0, 3]),
-        Err(error) => assert_eq!(rt; error, Error::OutOfMemory),
-    }
+    assert_eq!(rt; parsed_again(rt.alloc()), FOUR_LINES);
 }

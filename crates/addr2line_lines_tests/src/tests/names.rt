@@ -4,7 +4,6 @@ use addr2line_units::frame::{demangle, demangle_auto};
 use gimli::read::{DwLang, Error};
 use std::alloc::Global;
 use std::borrow::CowStr;
-use std::test::Fail;
 
 const RUST: DwLang = DwLang::DW_LANG_Rust;
 
@@ -51,6 +50,12 @@ const CASES: [(&str, Option<&str>); 34] = [
     ("_ZN99999999999999999999999aE", None),
     ("_ZN2\u{e4}E", None),
 ];
+
+// A name of the program below, which takes many growths.
+const LONGEST: (&str, &str) = (
+    "_ZN4core3ptr196drop_in_place$LT$hashbrown..scopeguard..ScopeGuard$LT$hashbrown..raw..RawTableInner$C$hashbrown..raw..RawTableInner..prepare_resize$LT$alloc..alloc..Global$GT$..$u7b$$u7b$closure$u7d$$u7d$$GT$$GT$17h0587c7906a86ff26E",
+    "core::ptr::drop_in_place<hashbrown::scopeguard::ScopeGuard<hashbrown::raw::RawTableInner,hashbrown::raw::RawTableInner::prepare_resize<alloc::alloc::Global>::{{closure}}>>",
+);
 
 // Names of a program that rustc 1.95 compiled with `-C symbol-mangling-version=legacy`, without
 // and with `-O`, and what `nm -C` of GNU binutils 2.40 prints for them. It leaves `$uf6$` and
@@ -149,10 +154,7 @@ const PROGRAM: [(&str, &str); 25] = [
         "_ZN148_$LT$dyn$u20$core..ops..function..Fn$LT$$LP$u8$C$u16$RP$$GT$$u2b$Output$u20$$u3d$$u20$u64$u2b$core..marker..Send$u20$as$u20$sample..shapes..Area$GT$4area17h68fa7e1162a7653fE",
         "<dyn core::ops::function::Fn<(u8,u16)>+Output = u64+core::marker::Send as sample::shapes::Area>::area",
     ),
-    (
-        "_ZN4core3ptr196drop_in_place$LT$hashbrown..scopeguard..ScopeGuard$LT$hashbrown..raw..RawTableInner$C$hashbrown..raw..RawTableInner..prepare_resize$LT$alloc..alloc..Global$GT$..$u7b$$u7b$closure$u7d$$u7d$$GT$$GT$17h0587c7906a86ff26E",
-        "core::ptr::drop_in_place<hashbrown::scopeguard::ScopeGuard<hashbrown::raw::RawTableInner,hashbrown::raw::RawTableInner::prepare_resize<alloc::alloc::Global>::{{closure}}>>",
-    ),
+    LONGEST,
 ];
 
 // Whether the name gives the wanted text, none where none is wanted.
@@ -172,48 +174,62 @@ fn gives_auto(alloc: Global, name: &str, language: Option<DwLang>, want: &str) -
     }
 }
 
+// The first name that gives another text, empty where there is none.
+fn first_wrong(alloc: Global, cases: &[(&'static str, Option<&str>)]) -> &'static str {
+    for (name, want) in cases {
+        if !gives(alloc, name, RUST, *want) {
+            return name;
+        }
+    }
+    ""
+}
+
 #[test]
 fn names_give_the_texts_of_the_format(rt: HostRuntime) {
-    for (name, want) in CASES {
-        assert_eq!(rt; gives(rt.alloc(), name, RUST, want), true, "{name}");
+    assert_eq!(rt; first_wrong(rt.alloc(), &CASES), "");
+}
+
+// The same among the names of the program.
+fn first_wrong_of_program(alloc: Global) -> &'static str {
+    for (name, want) in PROGRAM {
+        if !gives(alloc, name, RUST, Some(want)) {
+            return name;
+        }
     }
+    ""
 }
 
 #[test]
 fn names_of_a_program_give_what_nm_prints(rt: HostRuntime) {
-    for (name, want) in PROGRAM {
-        assert_eq!(rt; gives(rt.alloc(), name, RUST, Some(want)), true, "{name}");
-    }
+    assert_eq!(rt; first_wrong_of_program(rt.alloc()), "");
+}
+
+// Whether the name is left as it is in a language.
+fn is_left(alloc: Global, name: &str, language: DwLang) -> bool {
+    gives(alloc, name, language, None) && gives_auto(alloc, name, Some(language), name)
 }
 
 #[test]
 fn no_other_language_is_demangled(rt: HostRuntime) {
-    let name = "_ZN4test1a2bcE";
-    for number in [0x00, 0x0c, 0x1b, 0x1d, 0x8001] {
-        let language = DwLang(number);
-        let same = gives_auto(rt.alloc(), name, Some(language), name);
-        assert_eq!(rt;
-            (gives(rt.alloc(), name, language, None), same),
-            (true, true)
-        );
-    }
+    let alloc = rt.alloc();
+    let left = [0x00, 0x0c, 0x1b, 0x1d, 0x8001].map(|number| is_left(
+        alloc,
+        "_ZN4test1a2bcE",
+        DwLang(number),
+    ));
+    assert_eq!(rt; left, [true; 5]);
 }
 
 #[test]
 fn an_unknown_language_is_tried_as_rust(rt: HostRuntime) {
-    let cases = [
-        ("_ZN4test1a2bcE", None, "test::a::bc"),
-        ("_ZN4test1a2bcE", Some(RUST), "test::a::bc"),
-        ("_ZN3foo3barEv", None, "_ZN3foo3barEv"),
-        ("_ZN3foo3barEv", Some(RUST), "_ZN3foo3barEv"),
+    let alloc = rt.alloc();
+    let given = [
+        gives_auto(alloc, "_ZN4test1a2bcE", None, "test::a::bc"),
+        gives_auto(alloc, "_ZN4test1a2bcE", Some(RUST), "test::a::bc"),
+        gives_auto(alloc, "_ZN3foo3barEv", None, "_ZN3foo3barEv"),
+        gives_auto(alloc, "_ZN3foo3barEv", Some(RUST), "_ZN3foo3barEv"),
     ];
-    for (name, language, want) in cases {
-        assert_eq!(rt;
-            gives_auto(rt.alloc(), name, language, want),
-            true,
-            "{name}"
-        );
-    }
+    assert_eq!(rt; given, [true; 4]);
 }
 
 // Whether both calls give the text or refuse OutOfMemory.
@@ -231,14 +247,13 @@ fn gives_or_refuses(alloc: Global, name: &str, want: &str) -> bool {
 
 #[test]
 fn growths_that_are_granted_give_a_text(rt: HostRuntime) {
-    let [.., (name, want)] = PROGRAM;
+    let (name, want) = LONGEST;
     assert_eq!(rt; gives(rt.alloc(), name, RUST, Some(want)), true);
 }
 
 // Each growth is refused in turn by `tools/refuse_growths`.
 #[test]
-fn a_refused_growth_is_out_of_memory(rt: HostRuntime) -> Result<(), Fail> {
-    let [.., (name, want)] = PROGRAM;
+fn a_refused_growth_is_out_of_memory(rt: HostRuntime) {
+    let (name, want) = LONGEST;
     assert_eq!(rt; gives_or_refuses(rt.alloc(), name, want), true);
-    Ok(())
 }

@@ -1,12 +1,11 @@
 //! Worked cases: the ranges of addresses that the attributes of a unit's root entry give.
 
-use crate::sections::{dwarf_of, little};
+use crate::sections::{dwarf_of, first_unit, little};
 use addr2line_lines::read_ranges;
 use addr2line_units::attributes::read_unit_attributes;
-use gimli::read::{EndianSlice, Error};
+use gimli::read::{EndianSlice, Error, Range};
 use gimli::{DebugRanges, DebugRngLists, Dwarf, UnitRef};
 use std::alloc::Global;
-use std::test::Fail;
 
 // DW_AT_low_pc and DW_AT_high_pc, an address and a size.
 const LOW_HIGH: &[u8] = b"\x01\x11\0\x11\x01\x12\x06\0\0\0";
@@ -45,34 +44,47 @@ fn unit_of<'a>(abbrev: &'a [u8], info: &'a [u8]) -> Dwarf<EndianSlice<'a>> {
 }
 
 // The begins and ends of the first two ranges, 0 where there is none.
-fn root_ranges(alloc: Global, abbrev: &[u8], info: &[u8]) -> Result<[u64; 4], Error> {
-    let dwarf = unit_of(abbrev, info);
-    let Some(header) = dwarf.units()?.next()? else {
-        return Err(Error::MissingUnitDie);
-    };
-    let unit = dwarf.unit(alloc, header)?;
-    let unit = UnitRef::new(&dwarf, &unit);
-    let ranges = read_ranges(alloc, unit, &read_unit_attributes(unit)?.ranges)?;
+fn first_two(ranges: &[Range]) -> [u64; 4] {
     let mut told = [0; 4];
     for (i, range) in ranges.iter().enumerate().take(2) {
         told[2 * i] = range.begin;
         told[2 * i + 1] = range.end;
     }
-    Ok(told)
+    told
 }
 
-// The same, and for a refusal its number, where the begin of the second range would stand alone.
+// The number of a refusal, where the begin of the second range would stand alone.
+fn refused(error: Error) -> [u64; 4] {
+    match error {
+        Error::UnexpectedEof => [0, 0, 1, 0],
+        Error::OffsetOutOfBounds => [0, 0, 2, 0],
+        _ => [0, 0, 3, 0],
+    }
+}
+
+// The ranges of the root of a unit.
+fn root_ranges(alloc: Global, unit: UnitRef<'_, EndianSlice<'_>>) -> Result<Vec<Range>, Error> {
+    read_ranges(alloc, unit, &read_unit_attributes(unit)?.ranges)
+}
+
+fn ranges_in(alloc: Global, unit: UnitRef<'_, EndianSlice<'_>>) -> [u64; 4] {
+    match root_ranges(alloc, unit) {
+        Ok(ranges) => first_two(&ranges),
+        Err(error) => refused(error),
+    }
+}
+
+// The same of the first unit.
 fn told(alloc: Global, abbrev: &[u8], info: &[u8]) -> [u64; 4] {
-    match root_ranges(alloc, abbrev, info) {
-        Ok(ranges) => ranges,
-        Err(Error::UnexpectedEof) => [0, 0, 1, 0],
-        Err(Error::OffsetOutOfBounds) => [0, 0, 2, 0],
-        Err(_) => [0, 0, 3, 0],
+    let dwarf = unit_of(abbrev, info);
+    match first_unit(alloc, &dwarf) {
+        Ok(unit) => ranges_in(alloc, UnitRef::new(&dwarf, &unit)),
+        Err(error) => refused(error),
     }
 }
 
 #[test]
-fn attributes_give_ranges(rt: HostRuntime) -> Result<(), Fail> {
+fn attributes_give_ranges(rt: HostRuntime) {
     let cases: [(&[u8], &[u8], [u64; 4]); 12] = [
         (
             LOW_HIGH,
@@ -147,5 +159,4 @@ fn attributes_give_ranges(rt: HostRuntime) -> Result<(), Fail> {
     for (abbrev, info, want) in cases {
         assert_eq!(rt; told(rt.alloc(), abbrev, info), want);
     }
-    Ok(())
 }

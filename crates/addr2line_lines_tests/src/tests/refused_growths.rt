@@ -1,7 +1,7 @@
 //! The functions of a unit after a refused growth: the same calls give what they would have given.
 
 use super::details::NESTED;
-use crate::sections::{dwarf_of, fault_code};
+use crate::sections::{dwarf_of, fault_code, first_unit};
 use crate::vectors::LINE;
 use addr2line_lines::{FileUnits, Functions, Scope};
 use gimli::read::{EndianSlice, Error};
@@ -16,16 +16,6 @@ const DEEP_INFO: &[u8] = b"\x63\0\0\0\x04\0\0\0\0\0\x02\x01\x02\x10\0\x20\x03\x1
 
 // Its detail is read, 17 functions are inlined at its address, and its detail stays read.
 const DEEP_WANT: [u64; 3] = [1, 17, 1];
-
-fn deep_unit<'a>(
-    alloc: Global,
-    dwarf: &Dwarf<EndianSlice<'a>>,
-) -> Result<Unit<EndianSlice<'a>>, Error> {
-    match dwarf.units()?.next()? {
-        Some(header) => dwarf.unit(alloc, header),
-        None => Err(Error::MissingUnitDie),
-    }
-}
 
 // What a call on the function at 0x18 gives, or a fault's number.
 fn deep_answer<'a>(
@@ -71,32 +61,54 @@ fn deep_answers<'a>(
     (codes, refused)
 }
 
-// The answers of functions that are parsed once more where that was refused.
+// The numbers where memory is refused.
+fn are_refused(answers: ([u64; 3], u64)) -> bool {
+    answers.0 == [u64::from(fault_code(Error::OutOfMemory)); 3]
+}
+
+// The answers of functions that are parsed now.
+fn answers_by_functions<'a>(
+    alloc: Global,
+    dwarf: &Dwarf<EndianSlice<'a>>,
+    unit: &Unit<EndianSlice<'a>>,
+    refused: u64,
+) -> ([u64; 3], u64) {
+    match Functions::parse(alloc, UnitRef::new(dwarf, unit)) {
+        Ok(functions) => deep_answers(alloc, functions, dwarf, unit, refused),
+        Err(error) => ([u64::from(fault_code(error)); 3], refused),
+    }
+}
+
+// The same, once more where that is refused.
 fn answers_in_unit<'a>(
     alloc: Global,
     dwarf: &Dwarf<EndianSlice<'a>>,
     unit: &Unit<EndianSlice<'a>>,
     refused: u64,
 ) -> ([u64; 3], u64) {
-    if let Ok(functions) = Functions::parse(alloc, UnitRef::new(dwarf, unit)) {
-        return deep_answers(alloc, functions, dwarf, unit, refused);
+    let answers = answers_by_functions(alloc, dwarf, unit, refused);
+    if are_refused(answers) {
+        return answers_by_functions(alloc, dwarf, unit, refused.wrapping_add(1));
     }
-    match Functions::parse(alloc, UnitRef::new(dwarf, unit)) {
-        Ok(functions) => deep_answers(alloc, functions, dwarf, unit, refused.wrapping_add(1)),
+    answers
+}
+
+// The same of a unit that is read now.
+fn answers_by_unit(alloc: Global, dwarf: &Dwarf<EndianSlice<'_>>, refused: u64) -> ([u64; 3], u64) {
+    match first_unit(alloc, dwarf) {
+        Ok(unit) => answers_in_unit(alloc, dwarf, &unit, refused),
         Err(error) => ([u64::from(fault_code(error)); 3], refused),
     }
 }
 
-// The answers in a unit that is read once more where that was refused.
+// The same, once more where that is refused.
 fn answers_of_deep(alloc: Global) -> ([u64; 3], u64) {
     let dwarf = dwarf_of(NESTED, DEEP_INFO, &LINE);
-    if let Ok(unit) = deep_unit(alloc, &dwarf) {
-        return answers_in_unit(alloc, &dwarf, &unit, 0);
+    let answers = answers_by_unit(alloc, &dwarf, 0);
+    if are_refused(answers) {
+        return answers_by_unit(alloc, &dwarf, 1);
     }
-    match deep_unit(alloc, &dwarf) {
-        Ok(unit) => answers_in_unit(alloc, &dwarf, &unit, 1),
-        Err(error) => ([u64::from(fault_code(error)); 3], 0),
-    }
+    answers
 }
 
 // Each growth is refused in turn by `tools/refuse_growths`.

@@ -1,6 +1,5 @@
 -- What files answer after lookups.
-use Rattle.std.proofs.Common.{◌∙◌, ℕ, List, Option, Some, None, ap, refl, subst}
-use Rattle.elf.specs.Loading.{LoadsUnlessOom}
+use Rattle.std.proofs.Common.{◌∙◌, ℕ, List, Option, Some, None, ap, refl}
 use Rattle.addr2line_bin.specs.declared.options.Setup.{Setup}
 use Rattle.addr2line_bin.specs.declared.options.Style.{Style}
 use Rattle.addr2line_bin.specs.FileAnswers.{FileAnswers, StaysAnswered}
@@ -9,7 +8,7 @@ use Rattle.addr2line_bin.proofs.PrintingLemmas.{Weaker}
 
 pub stays_itself : (a : FileAnswers) → StaysAnswered a a
 stays_itself a = record {
-  location_at = refl;
+  locations = λ address found h. h;
   frames = λ address given h. h;
   symbol_at = refl;
   section_at = refl;
@@ -17,14 +16,14 @@ stays_itself a = record {
 
 pub stays_on : (a b c : FileAnswers) → StaysAnswered a b → StaysAnswered b c → StaysAnswered a c
 stays_on a b c p q = record {
-  location_at = q.location_at ∙ p.location_at;
+  locations = λ address found h. p.locations address found (q.locations address found h);
   frames = λ address given h. p.frames address given (q.frames address given h);
   symbol_at = q.symbol_at ∙ p.symbol_at;
   section_at = q.section_at ∙ p.section_at;
 }
 
 may_before : (a b : FileAnswers) → StaysAnswered a b → (style : Style) (address : ℕ) (given : Given) → MayBeGiven b style address given → MayBeGiven a style address given
-may_before a b st style address (GivesLocation found) h = (h.0, subst (λ f. LoadsUnlessOom (λ x. x) found (f address)) st.location_at h.1)
+may_before a b st style address (GivesLocation found) h = (h.0, st.locations address found h.1)
 may_before a b st style address (GivesFrames frames symbol) h = (h.0, st.frames address frames h.1, h.2 ∙ ap (λ f. asked_symbol style (f address)) st.symbol_at)
 
 answer_before : (a b : FileAnswers) → StaysAnswered a b → (s : Setup) (address : Option ℕ) (found fault : List ℕ) → IsAnswerAt b s address found fault → IsAnswerAt a s address found fault

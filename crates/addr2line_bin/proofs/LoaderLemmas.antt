@@ -1,23 +1,59 @@
--- What a loader answers after a lookup that left its files, its main file, its sections and its first
--- answers (on specs/LoaderAnswers.antt).
-use Rattle.std.proofs.Common.{ℕ, List, Option, option_map, ap, subst}
-use Rattle.std.specs.Prelude.{IfSome}
+-- What a loader answers after lookups, which leave its files, its main file and its sections
+-- (on specs/LoaderAnswers.antt).
+use Rattle.std.proofs.Common.{◌≡◌, ◌-◌, ◌^◌, ◌∙◌, inl, inr, ℕ, Bool, true, false, ◌&&◌, ◌||◌, List, [], ◌∷◌, Option, Some, None, Ok, Err, option_map, ap, refl, subst, sym}
+use Rattle.std.specs.Prelude.{IfSome, slice_get}
+use Rattle.gimli_read.specs.Reading.{Exactly}
 use Rattle.gimli.specs.Sections.{Sections}
-use Rattle.elf.specs.Loading.{LoadsUnlessOom}
+use Rattle.elf.specs.Loading.{Loading, LoadsUnlessOom}
 use Rattle.elf.specs.ObjectFile.{ObjectFile}
 use Rattle.elf.specs.Sections.{section_range_at}
 use Rattle.elf.specs.Symbols.{NamedAddress, symbol_at}
-use Rattle.addr2line_units.specs.Located.{location_of}
+use Rattle.addr2line_lines.specs.Location.{Location}
+use Rattle.addr2line_lines.specs.Rows.{result_map}
+use Rattle.addr2line_units.specs.declared.index.UnitRange.{UnitRange}
+use Rattle.addr2line_units.specs.Cover.{cover}
+use Rattle.addr2line_units.specs.Frames.{FrameRecord}
+use Rattle.addr2line_units.specs.Located.{location_in, location_of}
+use Rattle.addr2line_units.specs.Parsed.{StaysParsed, decides, has_parsed, ready_along}
+use Rattle.addr2line_units.specs.UnitIndex.{IndexedUnit, index_units}
+use Rattle.addr2line.specs.Context.{ContextState, IsReady}
 use Rattle.addr2line.specs.Files.{Files}
 use Rattle.addr2line.specs.FramesByFiles.{frames_by_files}
-use Rattle.addr2line.specs.Loader.{LoaderState, StaysLoaded}
+use Rattle.addr2line.specs.Loader.{AfterLoads, GivesSameFrames, LoaderState, StaysLoaded}
 use Rattle.addr2line.specs.SplitFiles.{of_file}
 use Rattle.addr2line_bin.specs.FileAnswers.{StaysAnswered}
-use Rattle.addr2line_bin.specs.LoaderAnswers.{loader_answers}
+use Rattle.addr2line_bin.specs.LoaderAnswers.{IsReadyAt, MayFindBy, loader_answers}
+
+-- a lookup that parses nothing does so where more is parsed
+ready_more : (d : Sections) (us : List IndexedUnit) (p q : List Bool) → StaysParsed p q → (probe : ℕ) (ranges : List UnitRange) → ready_along d us p probe ranges ≡ true → ready_along d us q probe ranges ≡ true
+ready_more d us p q stays probe [] ready = refl
+ready_more d us p q stays probe (r ∷ ranges) ready =
+    both (has_parsed p r.unit) (decides (location_in d probe (slice_get us r.unit))) (ready_along d us p probe ranges) (has_parsed q r.unit) (ready_along d us q probe ranges) (stays r.unit) (ready_more d us p q stays probe ranges) ready
+  where
+    both : (a b c x y : Bool) → (a ≡ true → x ≡ true) → (c ≡ true → y ≡ true) → (a && (b || c)) ≡ true → (x && (b || y)) ≡ true
+    both true true c x y f g h = rw (f refl) refl
+    both true false c x y f g h = rw (f refl) (g h)
+    both false b c x y f g h = absurd (false_true h)
+      where
+        false_true : false ≡ true → ⊥
+        false_true e = cc
+
+ready_later : (old new : ContextState) → new.sections ≡ old.sections → StaysParsed old.parsed new.parsed → (address : ℕ) → IsReadyAt old address → IsReadyAt new address
+ready_later old new e p address (inl last) = inl last
+ready_later old new e p address (inr ready) =
+    inr (λ m made. subst (λ d. ready_along d m.units new.parsed address (cover address m.ranges) ≡ true) (sym e)
+    (ready_more old.sections m.units old.parsed new.parsed p address (cover address m.ranges) (ready m (ap index_units (sym e) ∙ made))))
+
+-- what is found later could be found before
+found_before : (old new : ContextState) → new.sections ≡ old.sections → StaysParsed old.parsed new.parsed → (address : ℕ) (found : Loading (Option Location)) → MayFindBy new address found → MayFindBy old address found
+found_before old new e p address found h = (
+  subst (λ d. LoadsUnlessOom (λ x. x) found (of_file (location_of d address))) e h.0,
+  λ ready. subst (λ d. Exactly (λ x. x) found (of_file (location_of d address))) e (h.1 (ready_later old new e p address ready)),
+)
 
 pub same_answers : (old new : LoaderState) → StaysLoaded old new → StaysAnswered (loader_answers old) (loader_answers new)
 same_answers old new s = record {
-  location_at = ap (λ (d : Sections). λ (address : ℕ). of_file (location_of d address)) s.context.sections;
+  locations = found_before old.context new.context s.context.sections s.context.parsed;
   frames = λ address given h.
       subst (λ d. IfSome old.files (λ held. LoadsUnlessOom (λ frames. frames) given (frames_by_files held d old.context.answers address))) s.context.sections
       (subst (λ x. IfSome old.files (λ held. LoadsUnlessOom (λ frames. frames) given (frames_by_files held new.context.sections x address))) s.context.answers
@@ -25,3 +61,50 @@ same_answers old new s = record {
   symbol_at = ap (λ (o : ObjectFile). λ (address : ℕ). option_map (λ (x : NamedAddress). x.name) (symbol_at address o)) s.object;
   section_at = ap (λ (o : ObjectFile). λ (name : List ℕ). section_range_at name o) s.object;
 }
+
+same_frames : (files : Option Files) (old new : ContextState) → IfSome files (λ held. GivesSameFrames held old new) → (address : ℕ) (given : Loading (List FrameRecord))
+    → IfSome files (λ held. LoadsUnlessOom (λ frames. frames) given (frames_by_files held new.sections new.answers address)) → IfSome files (λ held. LoadsUnlessOom (λ frames. frames) given (frames_by_files held old.sections old.answers address))
+same_frames None old new same address given h = tt
+same_frames (Some held) old new same address given h = subst (λ frames. LoadsUnlessOom (λ x. x) given frames) (same address) h
+
+-- the same after a lookup of frames, which adds first answers
+pub same_after_loads : {X : Type 0} (probe : ℕ) (result : Loading X) (old new : LoaderState) → AfterLoads probe result old new → StaysAnswered (loader_answers old) (loader_answers new)
+same_after_loads probe result old new a = record {
+  locations = found_before old.context new.context a.context.sections a.context.parsed;
+  frames = λ address given h.
+      same_frames old.files old.context new.context a.context.frames address given
+      (subst (λ (f : Option Files). IfSome f (λ held. LoadsUnlessOom (λ frames. frames) given (frames_by_files held new.context.sections new.context.answers address))) a.files h);
+  symbol_at = ap (λ (o : ObjectFile). λ (address : ℕ). option_map (λ (x : NamedAddress). x.name) (symbol_at address o)) a.object;
+  section_at = ap (λ (o : ObjectFile). λ (name : List ℕ). section_range_at name o) a.object;
+}
+
+-- a location, as it is seen
+seen_unless : {X Y : Type 0} (view : X → Y) (r : Loading X) (given : Loading Y) → LoadsUnlessOom view r given → LoadsUnlessOom (λ x. x) (result_map view r) given
+seen_unless view (Ok x) given h = h
+seen_unless view (Err e) given h = h
+
+seen_exactly : {X Y : Type 0} (view : X → Y) (r : Loading X) (given : Loading Y) → Exactly view r given → Exactly (λ x. x) (result_map view r) given
+seen_exactly view (Ok x) given h = h
+seen_exactly view (Err e) given h = h
+
+-- frames, as they are seen
+pub gives_frames : {X : Type 0} (view : X → List FrameRecord) (files : Option Files) (c : ContextState) (address : ℕ) (r : Loading X) → IfSome files (λ held. LoadsUnlessOom view r (frames_by_files held c.sections c.answers address))
+    → IfSome files (λ held. LoadsUnlessOom (λ frames. frames) (result_map view r) (frames_by_files held c.sections c.answers address))
+gives_frames view None c address r h = tt
+gives_frames view (Some held) c address r h = seen_unless view r (frames_by_files held c.sections c.answers address) h
+
+-- where none is found, none is what is given
+exactly_none : {X : Type 0} (view : X → Location) (r : Loading (Option X)) (given : Loading (Option Location)) → r ≡ Ok None → LoadsUnlessOom (option_map view) r given → Exactly (option_map view) r given
+exactly_none view (Ok x) given e h = h
+exactly_none view (Err x) given e h = absurd (cc)
+
+-- a lookup finds what it may find
+pub finds : {X : Type 0} (view : X → Location) (c : ContextState) (address : ℕ) (r : Loading (Option X)) → LoadsUnlessOom (option_map view) r (of_file (location_of c.sections address))
+    → (IsReady c address → Exactly (option_map view) r (of_file (location_of c.sections address))) → (address ≡ 2 ^ 64 - 1 → r ≡ Ok None) → MayFindBy c address (result_map (option_map view) r)
+finds view c address r gives exact last = (
+  seen_unless (option_map view) r (of_file (location_of c.sections address)) gives,
+  λ ready. elim ready [
+    | inl e ↦ seen_exactly (option_map view) r (of_file (location_of c.sections address)) (exactly_none view r (of_file (location_of c.sections address)) (last e) gives)
+    | inr is ↦ seen_exactly (option_map view) r (of_file (location_of c.sections address)) (exact is)
+  ],
+)

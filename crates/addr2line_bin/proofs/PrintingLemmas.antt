@@ -1,5 +1,5 @@
 -- A run prints what is asked for one after another.
-use Rattle.std.proofs.Common.{◌≡◌, ◌∙◌, inl, inr, ℕ, List, [], ◌∷◌, ◌++◌, Option, Some, Result, Ok, Err, refl, sym, ap, append-nil, append_assoc, OnOk, IfErr, true, map, drop, drop-cons, length, get_or, add-one, ◌<◌, ◌+◌}
+use Rattle.std.proofs.Common.{◌≡◌, ◌∙◌, inl, inr, ℕ, List, [], ◌∷◌, ◌++◌, Option, Some, Result, Ok, Err, refl, sym, ap, append-nil, append_assoc, OnOk, IfErr, MatchResult, true, map, drop, drop-cons, length, get_or, add-one, ◌<◌, ◌+◌}
 use Rattle.std.specs.Io.KnownBytes.{Appends}
 use Rattle.std.proofs.lemmas.Grind.{flat_map-append}
 use Rattle.addr2line_bin.specs.Put.{StreamState, WritesPrefix, Reports, has_fault, plus}
@@ -10,7 +10,7 @@ use Rattle.addr2line_bin.specs.declared.engine.Exit.{Exit}
 use Rattle.addr2line_bin.specs.declared.stream.Stop.{Stop}
 use Rattle.addr2line_bin.specs.declared.stream.Stop.TheVariants as stop
 use Rattle.addr2line_bin.proofs.Parts.{appends_both, appends_nothing, keeps_itself, sends_nothing, sends_on}
-use Rattle.addr2line_bin.proofs.Runs.{no_refused_growth, prints_more, prints_nothing, stops_later}
+use Rattle.addr2line_bin.proofs.Runs.{flushes_both, no_refused_growth, plus_nothing, prints_more, prints_nothing, stops_later}
 
 -- a text of what is asked for now is one at the beginning
 abbrev pub Weaker : TextOf → TextOf → Type 0
@@ -59,7 +59,8 @@ ends_next Now Is oo om on eo em en ps qs rest all why w a b is = record {
   ends = ends_weaker Now Is w why b.later rest b.written b.told b.ends;
   out = rw (flat_map-append (λ (t : ProbeText). t.out) a.texts b.texts, append_assoc (outs a.texts) (outs b.texts) b.written)
       (appends_both oo.contents om.contents on.contents (outs a.texts) (outs b.texts ++ b.written) a.prints.out b.out);
-  stops = stops_later oo om on why a.prints.fault b.stops;
+  flushes = flushes_both oo.flushes om.flushes on.flushes a.texts b.texts a.prints.flushes b.flushes;
+  stops = stops_later oo om on why a.prints.fault a.prints.flushed b.stops;
   err = rw (flat_map-append (λ (t : ProbeText). t.err) a.texts b.texts, append_assoc (errs a.texts) (errs b.texts) b.told, append_assoc (errs a.texts) (errs b.texts ++ b.told) [])
       (sends_on eo.contents em.contents en.contents (has_fault eo) (has_fault em) (has_fault en) (errs a.texts) ((errs b.texts ++ b.told) ++ []) a.prints.err b.err);
 }
@@ -76,7 +77,8 @@ ends_at_once Is o e ps = record {
   told = [];
   ends = (refl, refl);
   out = appends_nothing o.contents o.contents (keeps_itself o.contents);
-  stops = refl;
+  flushes = plus_nothing o.flushes;
+  stops = (refl, λ h. h);
   err = sends_nothing e.contents (has_fault e) (keeps_itself e.contents);
 }
 
@@ -97,13 +99,14 @@ ends_reported Is oo on eo em en ps why more p t = record {
   told = p.told;
   ends = p.ends;
   out = p.out;
+  flushes = p.flushes;
   stops = p.stops;
   err = sends_on eo.contents em.contents en.contents (has_fault eo) (has_fault em) (has_fault en) (errs p.texts ++ p.told) more (rw append-nil at p.err) t;
 }
 
 -- a text that is reported, and one that is sent
 pub sends_one : (Is : TextOf) (oo on eo en : StreamState) (p : Option ℕ) (t : ProbeText) → Is p t → Reports eo en t.err
-    → (r : Result (Unit {0}) Stop) → OnOk r (Appends oo.contents on.contents t.out) → OnOk r (on.flushes ≡ plus oo.flushes 1) → OnOk r (on.is_flushed ≡ true) → OnOk r (on.fault ≡ oo.fault)
+    → (r : Result (Unit {0}) Stop) → OnOk r (Appends oo.contents on.contents t.out) → MatchResult r (λ _. on.flushes ≡ plus oo.flushes 1) (λ _. on.flushes ≡ oo.flushes) → OnOk r (on.is_flushed ≡ true) → OnOk r (on.fault ≡ oo.fault)
     → IfErr r (λ e. IsFault on e × WritesPrefix oo.contents on.contents t.out) → PrintsUnlessStopped Is oo on eo en (p ∷ []) r
 sends_one Is oo on eo en p t is told (Ok x) sent flushes flushed fault refused = record {
   texts = t ∷ [];
@@ -116,7 +119,7 @@ sends_one Is oo on eo en p t is told (Ok x) sent flushes flushed fault refused =
     err = rw (append-nil t.err) told;
   };
 }
-sends_one Is oo on eo en p t is told (Err stop.OutOfMemory) sent flushes flushed fault refused = absurd (no_refused_growth on.fault refused.0)
+sends_one Is oo on eo en p t is told (Err stop.OutOfMemory) sent flushes flushed fault refused = absurd (no_refused_growth on.fault refused.0.1)
 sends_one Is oo on eo en p t is told (Err (stop.Output b)) sent flushes flushed fault refused = record {
   done = [];
   later = p ∷ [];
@@ -127,6 +130,7 @@ sends_one Is oo on eo en p t is told (Err (stop.Output b)) sent flushes flushed 
   told = t.err;
   ends = (t, is, refl, (refused.1.rest, refused.1.joins));
   out = refused.1.appends;
+  flushes = flushes ∙ plus_nothing oo.flushes;
   stops = refused.0;
   err = rw (append-nil t.err) told;
 }
@@ -154,6 +158,7 @@ early_before Now Is w oo on eo en ps why more p = record {
   told = p.told;
   ends = ends_before Now Is w why p.later p.written p.told p.ends;
   out = p.out;
+  flushes = p.flushes;
   stops = p.stops;
   err = p.err;
 }

@@ -9,11 +9,11 @@ use Rattle.addr2line_lines.specs.Location.{Location}
 use Rattle.addr2line_lines.specs.RangeLocations.{LocatedSpan}
 use Rattle.addr2line_units.specs.Frames.{FrameRecord}
 
--- the location at an address, or the fault of its lookup; which frames or fault may be given for an
--- address; the name of the symbol at an address; the addresses of a section by its name; and the
--- rows of a range of addresses with the faults among them
+-- which location or fault may be found at an address, and which frames or fault may be given for
+-- it; the name of the symbol at an address; the addresses of a section by its name; and the rows of
+-- a range of addresses with the faults among them
 pub record FileAnswers : Type 1 where
-  pub location_at : ℕ → Loading (Option Location)
+  pub MayFind : ℕ → Loading (Option Location) → Type 0
   pub MayGive : ℕ → Loading (List FrameRecord) → Type 0
   pub symbol_at : ℕ → Option (List ℕ)
   pub section_at : List ℕ → Option Range
@@ -21,7 +21,8 @@ pub record FileAnswers : Type 1 where
 
 -- what is answered after a lookup could be answered before
 pub record StaysAnswered (old new : FileAnswers) : Type 0 where
-  pub location_at : new.location_at ≡ old.location_at
+  pub locations : (address : ℕ) (found : Loading (Option Location)) → new.MayFind address found
+      → old.MayFind address found
   pub frames : (address : ℕ) (given : Loading (List FrameRecord)) → new.MayGive address given
       → old.MayGive address given
   pub symbol_at : new.symbol_at ≡ old.symbol_at

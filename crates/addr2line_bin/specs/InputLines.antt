@@ -2,6 +2,7 @@
 -- Own: a line ends at a line feed, and a carriage return before it is cut; a line that isn't UTF-8
 -- ends the input, and so does a read that fails, or the number of lines that 64 bits hold.
 use Rattle.std.specs.Prelude.{◌≡◌, ◌⊎◌, ◌<◌, ◌-◌, ◌^◌, ℕ, Bool, true, false, List, [], ◌∷◌, length, map, Option, Some, IfSome, Result, Ok, Err}
+use Rattle.std.specs.declared.io.ErrorKind.{ErrorKind}
 use Rattle.std.specs.Io.BufRead.{drop_through, first_line}
 use Rattle.std.specs.Io.KnownBytes.{IsAtEnd}
 use Rattle.std.specs.Str.{IsUtf8}
@@ -13,11 +14,21 @@ pub record InputState : Type 0 where
   pub bytes : Option (List ℕ)
   pub has_fault : Bool
 
--- a call reads a line, or there is none: at the end, or where the read fails
+-- whether a read has failed, after one with this answer
+abbrev pub has_fault_after : Bool → Result Bool ErrorKind → Bool
+has_fault_after before (Ok _) = before
+has_fault_after before (Err _) = true
+
+-- a call takes a line from the bytes that are left, or there are none
+abbrev pub TakesLine : Bool → Option (List ℕ) → Option (List ℕ) → List ℕ → Type 0
+TakesLine true old new line = IfSome old (λ xs. (0 < length xs) × (line ≡ first_line xs)
+    × (new ≡ Some (drop_through 10 xs)))
+TakesLine false old new line = IsAtEnd old
+
+-- the same, or there is none since the read failed
 abbrev pub ReadsLine : Bool → InputState → InputState → List ℕ → Type 0
-ReadsLine true old new line = (new.has_fault ≡ old.has_fault)
-    × IfSome old.bytes (λ xs. (0 < length xs) × (line ≡ first_line xs)
-    × (new.bytes ≡ Some (drop_through 10 xs)))
+ReadsLine true old new line =
+    (new.has_fault ≡ old.has_fault) × TakesLine true old.bytes new.bytes line
 ReadsLine false old new line = new.has_fault ≡ false → IsAtEnd old.bytes
 
 -- the lines are the first ones of the bytes, all of UTF-8, and rest is what follows them

@@ -1,19 +1,33 @@
 -- What a loader answers to the lookups of a run.
 -- Own: where its files aren't known, any frames may be given.
-use Rattle.std.specs.Prelude.{IfSome, option_map}
-use Rattle.elf.specs.Loading.{LoadsUnlessOom}
+use Rattle.std.specs.Prelude.{◌≡◌, ◌-◌, ◌^◌, ◌⊎◌, ℕ, IfSome, Option, option_map}
+use Rattle.gimli_read.specs.Reading.{Exactly}
+use Rattle.elf.specs.Loading.{Loading, LoadsUnlessOom}
 use Rattle.elf.specs.Sections.{section_range_at}
 use Rattle.elf.specs.Symbols.{NamedAddress, symbol_at}
+use Rattle.addr2line_lines.specs.Location.{Location}
 use Rattle.addr2line_units.specs.Located.{location_of, spans_of}
+use Rattle.addr2line.specs.Context.{ContextState, IsReady}
 use Rattle.addr2line.specs.FramesByFiles.{frames_by_files}
 use Rattle.addr2line.specs.Loader.{LoaderState}
 use Rattle.addr2line.specs.SplitFiles.{of_file}
 use Rattle.addr2line_bin.specs.FileAnswers.{FileAnswers}
 
+-- a lookup of the location at an address takes no memory: no unit holds the last address, or the
+-- lines that it asks for are parsed
+abbrev pub IsReadyAt : ContextState → ℕ → Type 0
+IsReadyAt c address = (address ≡ 2 ^ 64 - 1) ⊎ IsReady c address
+
+-- it finds what its sections say, or OutOfMemory where it takes memory
+abbrev pub MayFindBy : ContextState → ℕ → Loading (Option Location) → Type 0
+MayFindBy c address found =
+    LoadsUnlessOom (λ x. x) found (of_file (location_of c.sections address))
+    × (IsReadyAt c address → Exactly (λ x. x) found (of_file (location_of c.sections address)))
+
 -- what it answers by its sections, its main file, and its files
 abbrev pub loader_answers : LoaderState → FileAnswers
 loader_answers l = record {
-  location_at = λ address. of_file (location_of l.context.sections address);
+  MayFind = MayFindBy l.context;
   MayGive = λ address given. IfSome l.files (λ held. LoadsUnlessOom (λ frames. frames) given
       (frames_by_files held l.context.sections l.context.answers address));
   symbol_at = λ address. option_map (λ (s : NamedAddress). s.name) (symbol_at address l.object);

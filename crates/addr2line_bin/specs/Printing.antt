@@ -2,9 +2,9 @@
 -- Own: a failed write or flush of the output ends the run; so does a refused growth that no line of
 -- a lookup's fault tells. All texts before are whole, and of the one at which it ended a beginning
 -- went out where the output failed, and nothing where a growth was refused.
-use Rattle.std.specs.Prelude.{◌≡◌, ◌⊎◌, ℕ, List, [], ◌∷◌, ◌++◌, Option, Result, Ok, Err}
+use Rattle.std.specs.Prelude.{◌≡◌, ◌⊎◌, ℕ, List, [], ◌∷◌, ◌++◌, length, Option, Result, Ok, Err}
 use Rattle.std.specs.Io.KnownBytes.{Appends}
-use Rattle.addr2line_bin.specs.Put.{StreamState, Reports}
+use Rattle.addr2line_bin.specs.Put.{StreamState, Reports, plus}
 use Rattle.addr2line_bin.specs.Stopped.{Stops}
 use Rattle.addr2line_bin.specs.Print.{ProbeText, AllTexts, Prints, errs, exit_at, last_text, outs}
 use Rattle.addr2line_bin.specs.declared.engine.Exit.{Exit}
@@ -30,8 +30,8 @@ pub record PrintsOf (IsText : TextOf) (oo on eo en : StreamState) (probes : List
   pub each : AllTexts IsText probes texts
   pub prints : Prints oo on eo en texts
 
--- a run ended early: the texts of the first go out, and a beginning of the next one; their faults
--- are reported, and then more
+-- a run ended early: the texts of the first go out, each with a flush, and a beginning of the next
+-- one; their faults are reported, and then more
 pub record EndsEarly
     (IsText : TextOf) (oo on eo en : StreamState) (probes : List (Option ℕ)) (why : Stop)
     (more : List ℕ)
@@ -45,6 +45,7 @@ pub record EndsEarly
   pub told : List ℕ
   pub ends : EndsAt IsText why later written told
   pub out : Appends oo.contents on.contents (outs texts ++ written)
+  pub flushes : on.flushes ≡ plus oo.flushes (length texts)
   pub stops : Stops oo on why
   pub err : Reports eo en ((errs texts ++ told) ++ more)
 

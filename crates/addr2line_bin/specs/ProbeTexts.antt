@@ -4,7 +4,7 @@
 -- a refused growth within a lookup is such a fault.
 use Rattle.std.specs.Prelude.{◌≡◌, ◌-◌, ◌+◌, ℕ, Bool, true, false, ◌||◌, List, [], ◌++◌, Option, Some, None, Ok, Err, codes, nat_lt, option_and_then, option_map, if◌then◌else◌}
 use Rattle.gimli_read.specs.declared.range.Range.{Range}
-use Rattle.elf.specs.Loading.{Loading, LoadsUnlessOom}
+use Rattle.elf.specs.Loading.{Loading}
 use Rattle.addr2line_lines.specs.Location.{Location}
 use Rattle.addr2line_units.specs.Frames.{FrameRecord}
 use Rattle.addr2line_bin.specs.declared.options.Setup.{Setup}
@@ -52,7 +52,7 @@ pub data Given : Type 0 where
 -- the lookups of an address may give this
 abbrev pub MayBeGiven : FileAnswers → Style → ℕ → Given → Type 0
 MayBeGiven answers style address (GivesLocation found) =
-    (asks_frames style ≡ false) × LoadsUnlessOom (λ x. x) found (answers.location_at address)
+    (asks_frames style ≡ false) × answers.MayFind address found
 MayBeGiven answers style address (GivesFrames frames symbol) =
     (asks_frames style ≡ true)
     × answers.MayGive address frames × (symbol ≡ asked_symbol style (answers.symbol_at address))

@@ -8,12 +8,13 @@ use Rattle.std.specs.IoError.{error_kind}
 use Rattle.std.specs.Io.KnownBytes.{Appends, Keeps}
 
 -- a stream: its bytes and how often it was flushed, where these are known, whether all of them are
--- flushed, and its last fault
+-- flushed, its last fault, and whether its last call had that
 pub record StreamState : Type 0 where
   pub contents : Option (List ℕ)
   pub flushes : Option ℕ
   pub is_flushed : Bool
   pub fault : Option ErrorKind
+  pub is_failing : Bool
 
 -- whether a stream has failed
 abbrev pub has_fault : StreamState → Bool
@@ -32,6 +33,11 @@ fault_after before (Err kind) = Some kind
 -- a known count, and n more
 abbrev pub plus : Option ℕ → ℕ → Option ℕ
 plus known n = option_map (λ m. m + n) known
+
+-- how often a stream was flushed, after a flush with this answer
+abbrev pub flushes_after : Option ℕ → Result (Unit {0}) ErrorKind → Option ℕ
+flushes_after known (Ok _) = plus known 1
+flushes_after known (Err _) = known
 
 -- known bytes grow by a beginning of the text
 pub record WritesPrefix (old new : Option (List ℕ)) (text : List ℕ) : Type 0 where

@@ -16,11 +16,13 @@ is_broken_pipe _ = false
 abbrev pub stop_of : ErrorKind → Stop
 stop_of kind = stop.Output (is_broken_pipe kind)
 
--- it stops for the stream's last fault
+-- it stops for the fault of the stream's last call
 abbrev pub IsFault : StreamState → Stop → Type 0
-IsFault new why = option_map stop_of new.fault ≡ Some why
+IsFault new why = (new.is_failing ≡ true) × (option_map stop_of new.fault ≡ Some why)
 
--- a run stops for a refused growth, and its output hasn't failed; or for the output's last fault
+-- a run stops for a refused growth, and its output hasn't failed and is flushed if it was before;
+-- or for the fault of the output's last call
 abbrev pub Stops : StreamState → StreamState → Stop → Type 0
-Stops old new stop.OutOfMemory = new.fault ≡ old.fault
+Stops old new stop.OutOfMemory =
+    (new.fault ≡ old.fault) × (old.is_flushed ≡ true → new.is_flushed ≡ true)
 Stops old new (stop.Output b) = IsFault new (stop.Output b)

@@ -29,7 +29,7 @@ pub struct Request {
 }
 
 /// Why there is no request.
-#[derive(Debug, Drop)]
+#[derive(Drop)]
 pub enum WordFault {
     /// Memory was refused.
     OutOfMemory,
@@ -258,7 +258,7 @@ pub fn command_line(alloc: Global, words: &[String]) -> Result<Request, WordFaul
     ensures taken { IfErr result (λ e. are_taken (texts_in words.now) ≡ true
         → is_complete (matches_in (texts_in words.now)) ≡ true → e ≡ fault.OutOfMemory) }
 {
-    let name = name_of(alloc, words)?;
+    let name = String::from_str(alloc, name_of(words))?;
     let matches = whole_command(alloc)?.try_get_matches_from(words)?;
     request_of(alloc, name, &matches)
 }

@@ -31,6 +31,16 @@ fn line_7(file: &'static str, column: u32) -> Given {
     (Ok(Some(location)), None)
 }
 
+// Line 7 of a file that isn't known.
+fn line_7_of_no_file() -> Given {
+    let location = Location {
+        file: None,
+        line: Some(7),
+        column: Some(3),
+    };
+    (Ok(Some(location)), None)
+}
+
 // A fault of a lookup.
 fn cut() -> Given {
     (Err(LoaderError::Dwarf(Error::UnexpectedEof)), None)
@@ -67,7 +77,8 @@ fn first_wrong(alloc: Global, cases: &[Case]) -> Result<usize, Fail> {
 
 #[test]
 fn the_last_part_of_a_path_is_printed(rt: HostRuntime) -> Result<(), Fail> {
-    let cases: [Case; 6] = [
+    let cases: [Case; 7] = [
+        (line_7_of_no_file(), &["-s", "10"], "??:7\n", "", Exit::Done),
         (
             line_7("/a/b.c", 3),
             &["-s", "10"],
@@ -93,7 +104,7 @@ fn the_last_part_of_a_path_is_printed(rt: HostRuntime) -> Result<(), Fail> {
             Exit::Done,
         ),
     ];
-    assert_eq!(rt; first_wrong(rt.alloc(), cases.as_slice())?, 6);
+    assert_eq!(rt; first_wrong(rt.alloc(), cases.as_slice())?, 7);
     Ok(())
 }
 

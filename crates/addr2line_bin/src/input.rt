@@ -1,23 +1,41 @@
 //! Inputs that lines are read from.
 
-ghost use Rattle.std.specs.Prelude.{◌≡◌, false, if◌then◌else◌};
+ghost use Rattle.std.specs.Prelude.{◌≡◌, IfOk, OnErr, false, true, if◌then◌else◌};
 ghost use Rattle.std.specs.Io.BufRead.{ends_with_byte, strip_last};
+ghost use Rattle.addr2line_bin.specs.InputLines.{ReadsLine};
 
 use std::alloc::AllocError;
 use std::io::{BufRead, ErrorKind};
 
 /// An input that lines are read from.
 pub trait Input {
-    ghost use Rattle.std.specs.Prelude.{IfOk};
-    ghost use Rattle.addr2line_bin.specs.InputLines.{InputState, ReadsLine};
+    ghost use Rattle.std.specs.Prelude.{◌≡◌, IfOk};
+    ghost use Rattle.addr2line_bin.specs.InputLines.{InputState, TakesLine, has_fault_after};
 
     /// The bytes that are left, and whether a read has failed.
     ghost state: { Self → InputState };
 
     /// Reads the next line, without its end, in place of what `line` has; whether there is one.
-    fn read_line(&mut self, line: &mut Vec<u8>) -> Result<bool, AllocError>
+    fn read_line(&mut self, line: &mut Vec<u8>) -> Result<bool, ErrorKind>
         ensures gives { IfOk result (λ is_read.
-            ReadsLine is_read (state self.old) (state self.new) line.new.items) };
+            TakesLine is_read (state self.old).bytes (state self.new).bytes line.new.items) }
+        ensures fault { (state self.new).has_fault
+            ≡ has_fault_after (state self.old).has_fault result };
+}
+
+/// Reads the next line as `read_line` does. There is none where the read fails.
+///
+/// Refused where memory is refused for the line.
+pub fn next_line<I: Input>(input: &mut I, line: &mut Vec<u8>) -> Result<bool, AllocError>
+    ensures gives { IfOk result (λ is_read.
+        ReadsLine is_read (I.state input.old) (I.state input.new) line.new.items) }
+    ensures refused { OnErr result ((I.state input.new).has_fault ≡ true) }
+{
+    match input.read_line(line) {
+        Ok(is_read) => Ok(is_read),
+        Err(ErrorKind::OutOfMemory) => Err(AllocError),
+        Err(_) => Ok(false),
+    }
 }
 
 /// A reader as an input.
@@ -68,7 +86,7 @@ fn cut_line_end(line: &mut Vec<u8>)
 impl<R: BufRead> Input for Lines<R> {
     ghost state = { λ s. record { bytes = R.remaining s.reader; has_fault = s.has_fault } };
 
-    fn read_line(&mut self, line: &mut Vec<u8>) -> Result<bool, AllocError> {
+    fn read_line(&mut self, line: &mut Vec<u8>) -> Result<bool, ErrorKind> {
         line.clear();
         match self.reader.read_until(b'\n', line) {
             Ok(0) => Ok(false),
@@ -76,13 +94,10 @@ impl<R: BufRead> Input for Lines<R> {
                 cut_line_end(line);
                 Ok(true)
             }
-            Err(error) => match error.kind() {
-                ErrorKind::OutOfMemory => Err(AllocError),
-                _ => {
-                    self.has_fault = true;
-                    Ok(false)
-                }
-            },
+            Err(error) => {
+                self.has_fault = true;
+                Err(error.kind())
+            }
         }
     }
 }

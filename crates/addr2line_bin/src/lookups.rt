@@ -8,7 +8,6 @@ pub trait Lookups {
     ghost use Rattle.std.specs.Prelude.{◌≡◌, IfErr, IfOk, Ok, option_map};
     ghost use Rattle.std.specs.Borrow.{sem};
     ghost use Rattle.std.specs.Io.BufRead.{Rests};
-    ghost use Rattle.elf.specs.Loading.{LoadsUnlessOom};
     ghost use Rattle.elf.specs.declared.error.LoaderError.TheVariants.{OutOfMemory};
     ghost use Rattle.addr2line_lines.specs.Rows.{result_map};
     ghost use Rattle.addr2line_lines.specs.SeenLocation.{seen_location};
@@ -21,8 +20,8 @@ pub trait Lookups {
 
     /// The location of an address.
     fn find_location(&mut self, probe: u64) -> Result<Option<Location<'_>>, LoaderError>
-        ensures gives { LoadsUnlessOom (option_map seen_location) result
-            ((answers self.old).location_at probe) }
+        ensures gives { (answers self.old).MayFind probe
+            (result_map (option_map seen_location) result) }
         ensures* kept { sem 𝓛 (Rests Self.row self.entry
             (λ new. StaysAnswered (answers self.old) (answers new))) };
 

@@ -2,7 +2,7 @@
 #![tactic(auto)]
 
 ghost use Rattle.std.specs.Process.{exit_status};
-ghost use Rattle.std.specs.Prelude.{◌≡◌, IfSome, option_map, string_bytes};
+ghost use Rattle.std.specs.Prelude.{◌≡◌, IfOk, IfSome, option_map, string_bytes};
 ghost use Rattle.elf.specs.Loading.{Loading, LoadsUnlessOom};
 ghost use Rattle.addr2line.specs.Loaded.{loaded};
 ghost use Rattle.addr2line.specs.Loader.{seen_loader};
@@ -79,6 +79,7 @@ fn run_request<F: FileSource, I: Input, W: Stream, E: Stream>(
     ensures gives { (loader : Loading (LoaderOver F))
         × IfSome (F.files files) (λ held. LoadsUnlessOom (λ l. (l.object, l.context)) loader
         (loaded held (string_bytes request.now.exe) (option_map string_bytes request.now.sup)))
+        × IfOk loader (λ l. l.files ≡ files)
         × IsRun (λ l. loader_answers (seen_loader F.files l)) loader request.now.options
         (I.state input.old) (I.state input.new) (W.state out.old) (W.state out.new)
         (E.state err.old) (E.state err.new) result }
@@ -183,17 +184,14 @@ fn main(rt: HostRuntime) -> ExitCode {
         Err(ErrorKind::OutOfMemory) => return status_of(tell_no_memory("addr2line", &mut err)),
         Err(_) => return answer_misuse("addr2line", &mut err),
     };
-    let name = match name_of(alloc, words.as_slice()) {
-        Ok(name) => name,
-        Err(_) => return status_of(tell_no_memory("addr2line", &mut err)),
-    };
+    let name = name_of(words.as_slice());
     let request = match command_line(alloc, words.as_slice()) {
         Ok(request) => request,
-        Err(fault) => return answer_fault(alloc, name.as_str(), fault, &mut out, &mut err),
+        Err(fault) => return answer_fault(alloc, name, fault, &mut out, &mut err),
     };
     let mut input = match BufReader::new(alloc, rt.reader()) {
         Ok(reader) => Lines::new(reader),
-        Err(_) => return status_of(tell_no_memory(name.as_str(), &mut err)),
+        Err(_) => return status_of(tell_no_memory(name, &mut err)),
     };
     let files = HostFiles::new(rt);
     status_of(run_request(alloc, files, &request, &mut input, &mut out, &mut err))

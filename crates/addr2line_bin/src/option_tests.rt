@@ -1,7 +1,7 @@
 //! Worked cases of the options.
 
 use crate::engine::Exit;
-use crate::test_files::INLINED;
+use crate::test_files::{INLINED, SYMBOLS};
 use crate::test_runs::run_files;
 use crate::test_streams::Streams;
 use std::alloc::Global;
@@ -54,6 +54,38 @@ const FRAMES: [Case; 9] = [
     ),
 ];
 
+// What llvm-addr2line prints.
+const LINKED: [Case; 4] = [
+    (
+        &["-f", "-i", "24", "2a"],
+        b"",
+        "g\n/w/a.c:3\n_ZN4test1a2bcE\n/w/a.c:7\n_ZN4test1a2bcE\n/w/a.c:3\n",
+        "",
+        Exit::Done,
+    ),
+    (
+        &["-f", "-C", "24", "2a", "30"],
+        b"",
+        "g\n/w/a.c:3\ntest::a::bc\n/w/a.c:3\n??\n??:0\n",
+        "",
+        Exit::Done,
+    ),
+    (
+        &["-p", "-f", "-i", "-C", "24"],
+        b"",
+        "g at /w/a.c:3\n (inlined by) test::a::bc at /w/a.c:7\n",
+        "",
+        Exit::Done,
+    ),
+    (
+        &["-i", "-C", "24"],
+        b"",
+        "/w/a.c:3\n/w/a.c:7\n",
+        "",
+        Exit::Done,
+    ),
+];
+
 const ADDRESSES: [Case; 11] = [
     (&["-j", ".text", "14"], b"", "/w/a.c:3\n", "", Exit::Done),
     (&["-j", ".text", "20"], b"", "??:0\n", "", Exit::Done),
@@ -100,13 +132,13 @@ const ADDRESSES: [Case; 11] = [
 
 // The number of the first case that goes otherwise than wanted, and how many there are where none
 // does.
-fn first_wrong(alloc: Global, cases: &[Case]) -> Result<usize, Fail> {
+fn first_wrong(alloc: Global, file: &[u8], cases: &[Case]) -> Result<usize, Fail> {
     let mut at = 0usize;
     for (given, input, out, err, exit) in cases {
         let mut words: Vec<&str> = Vec::new(alloc);
         words.extend_from_slice(["addr2line", "-e", "f"].as_slice())?;
         words.extend_from_slice(given)?;
-        let files: [(&str, &[u8]); 1] = [("f", &INLINED)];
+        let files: [(&str, &[u8]); 1] = [("f", file)];
         let mut streams = Streams::sound(alloc);
         let got = run_files(alloc, words.as_slice(), &files, input, &mut streams)?;
         if got != *exit || !streams.have(out, err) {
@@ -119,12 +151,21 @@ fn first_wrong(alloc: Global, cases: &[Case]) -> Result<usize, Fail> {
 
 #[test]
 fn frames_are_printed_as_the_options_say(rt: HostRuntime) -> Result<(), Fail> {
-    assert_eq!(rt; first_wrong(rt.alloc(), FRAMES.as_slice())?, 9);
+    assert_eq!(rt; first_wrong(rt.alloc(), &INLINED, FRAMES.as_slice())?, 9);
+    Ok(())
+}
+
+#[test]
+fn the_last_frame_has_the_name_of_the_symbol(rt: HostRuntime) -> Result<(), Fail> {
+    assert_eq!(rt; first_wrong(rt.alloc(), SYMBOLS, LINKED.as_slice())?, 4);
     Ok(())
 }
 
 #[test]
 fn addresses_are_read_as_the_options_say(rt: HostRuntime) -> Result<(), Fail> {
-    assert_eq!(rt; first_wrong(rt.alloc(), ADDRESSES.as_slice())?, 11);
+    assert_eq!(rt;
+        first_wrong(rt.alloc(), &INLINED, ADDRESSES.as_slice())?,
+        11
+    );
     Ok(())
 }

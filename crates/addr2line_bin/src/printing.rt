@@ -8,7 +8,7 @@ ghost use Rattle.addr2line_bin.specs.ProbeTexts.{IsText};
 ghost use Rattle.addr2line_bin.specs.Address.{probes_in};
 
 use crate::address::address_of;
-use crate::input::Input;
+use crate::input::{Input, next_line};
 use crate::lookups::Lookups;
 use crate::options::Setup;
 use crate::probe_text::{Texts, make_texts};
@@ -90,7 +90,7 @@ pub fn print_lines<L: Lookups, I: Input, W: Stream, E: Stream>(
     let mut texts = Texts::new(setup.alloc);
     let mut line = Vec::new(setup.alloc);
     for _ in 0..u64::MAX {
-        if !input.read_line(&mut line)? {
+        if !next_line(input, &mut line)? {
             return Ok(());
         }
         let Ok(text) = str::from_utf8(line.as_slice()) else {

@@ -2,7 +2,6 @@
 
 ghost use Rattle.std.specs.Prelude.{◌≡◌, ◌++◌, IfOk, List, [], ℕ, None, OnOk, Option, codes, option_map, string_bytes};
 ghost use Rattle.std.specs.Option.{option_copied};
-ghost use Rattle.elf.specs.Loading.{LoadsUnlessOom};
 ghost use Rattle.addr2line_lines.specs.Rows.{result_map};
 ghost use Rattle.addr2line_lines.specs.SeenLocation.{seen_location};
 ghost use Rattle.addr2line_units.specs.FramesLeft.{frames_left};
@@ -188,7 +187,7 @@ fn push_location_at<L: Lookups>(
     address: u64,
 ) -> Result<(), AllocError>
     ensures gives { OnOk result ((found : Found)
-        × LoadsUnlessOom (λ x. x) found ((L.answers lookups.old).location_at address)
+        × (L.answers lookups.old).MayFind address found
         × (string_bytes texts.new.out ≡ string_bytes texts.old.out
         ++ location_text setup.now.style (given_or None found))
         × (string_bytes texts.new.err ≡ string_bytes texts.old.err

@@ -1,6 +1,6 @@
 //! Texts to streams that may fail.
 
-ghost use Rattle.std.specs.Prelude.{◌≡◌, ◌++◌, OnOk, IfErr, MatchResult, None, true};
+ghost use Rattle.std.specs.Prelude.{◌≡◌, ◌++◌, OnOk, IfErr, MatchResult, None, false, is_err, true};
 ghost use Rattle.std.specs.Io.KnownBytes.{Appends};
 ghost use Rattle.addr2line_bin.specs.Put.{WritesPrefix, Reports, fault_after, kind_of, plus};
 ghost use Rattle.addr2line_bin.specs.Stopped.{IsFault, stop_of};
@@ -41,11 +41,12 @@ impl From<ErrorKind> for Stop {
 
 /// A stream that texts go to.
 pub trait Stream {
-    ghost use Rattle.std.specs.Prelude.{◌≡◌, MatchResult, OnOk, true};
+    ghost use Rattle.std.specs.Prelude.{◌≡◌, MatchResult, OnOk, is_err, true};
     ghost use Rattle.std.specs.Io.KnownBytes.{Appends, Keeps};
-    ghost use Rattle.addr2line_bin.specs.Put.{StreamState, WritesPrefix, fault_after, has_fault, plus};
+    ghost use Rattle.addr2line_bin.specs.Put.{StreamState, WritesPrefix, fault_after};
+    ghost use Rattle.addr2line_bin.specs.Put.{flushes_after, has_fault};
 
-    /// Its bytes, its flushes and its last fault.
+    /// Its bytes, its flushes, its last fault, and whether its last call had that.
     ghost state: { Self → StreamState };
 
     /// Whether a call has failed.
@@ -58,14 +59,17 @@ pub trait Stream {
             (λ _. Appends (state self.old).contents (state self.new).contents bytes.now)
             (λ _. WritesPrefix (state self.old).contents (state self.new).contents bytes.now) }
         ensures flushes { (state self.new).flushes ≡ (state self.old).flushes }
-        ensures fault { (state self.new).fault ≡ fault_after (state self.old).fault result };
+        ensures fault { (state self.new).fault ≡ fault_after (state self.old).fault result }
+        ensures failing { (state self.new).is_failing ≡ is_err result };
 
     /// Hands on what was written.
     fn flush(&mut self) -> Result<(), ErrorKind>
         ensures bytes { Keeps (state self.old).contents (state self.new).contents }
-        ensures flushes { OnOk result ((state self.new).flushes ≡ plus (state self.old).flushes 1) }
+        ensures flushes { (state self.new).flushes
+            ≡ flushes_after (state self.old).flushes result }
         ensures flushed { OnOk result ((state self.new).is_flushed ≡ true) }
-        ensures fault { (state self.new).fault ≡ fault_after (state self.old).fault result };
+        ensures fault { (state self.new).fault ≡ fault_after (state self.old).fault result }
+        ensures failing { (state self.new).is_failing ≡ is_err result };
 }
 
 /// A writer as a stream. Its flushes aren't known.
@@ -74,16 +78,18 @@ pub struct Written<W: Write> {
     /// Where the bytes go.
     pub writer: W,
     fault: Option<ErrorKind>,
+    is_failing: bool,
 }
 
 impl<W: Write> Written<W> {
     /// A stream that hasn't failed.
     pub fn new(writer: W) -> Written<W>
-        ensures gives { result ≡ record { writer = writer; fault = None } }
+        ensures gives { result ≡ record { writer = writer; fault = None; is_failing = false } }
     {
         Written {
             writer,
             fault: None,
+            is_failing: false,
         }
     }
 }
@@ -94,6 +100,7 @@ impl<W: Write> Stream for Written<W> {
       flushes = None;
       is_flushed = true;
       fault = s.fault;
+      is_failing = s.is_failing;
     } };
 
     fn has_failed(&self) -> bool {
@@ -101,23 +108,34 @@ impl<W: Write> Stream for Written<W> {
     }
 
     fn put(&mut self, bytes: &[u8]) -> Result<(), ErrorKind> {
-        noted(&mut self.fault, put(&mut self.writer, bytes))
+        let answer = put(&mut self.writer, bytes);
+        noted(&mut self.fault, &mut self.is_failing, answer)
     }
 
     fn flush(&mut self) -> Result<(), ErrorKind> {
-        noted(&mut self.fault, self.writer.flush())
+        let answer = self.writer.flush();
+        noted(&mut self.fault, &mut self.is_failing, answer)
     }
 }
 
-// A writer's answer, whose fault is noted.
-fn noted(fault: &mut Option<ErrorKind>, answer: io::Result<()>) -> Result<(), ErrorKind>
+// A writer's answer. Whether it is a fault is noted, and which one.
+fn noted(
+    fault: &mut Option<ErrorKind>,
+    is_failing: &mut bool,
+    answer: io::Result<()>,
+) -> Result<(), ErrorKind>
     ensures gives { result ≡ kind_of answer }
     ensures fault { fault.new ≡ fault_after fault.old (kind_of answer) }
+    ensures failing { is_failing.new ≡ is_err (kind_of answer) }
 {
     match answer {
-        Ok(()) => Ok(()),
+        Ok(()) => {
+            *is_failing = false;
+            Ok(())
+        }
         Err(error) => {
             let kind = error.kind();
+            *is_failing = true;
             *fault = Some(kind);
             Err(kind)
         }
@@ -165,7 +183,9 @@ pub fn tell_both<E: Stream>(err: &mut E, first: &str, second: &str)
 pub fn send<W: Stream>(out: &mut W, text: &str) -> Result<(), Stop>
     ensures gives { OnOk result
         (Appends (W.state out.old).contents (W.state out.new).contents text.now) }
-    ensures flushes { OnOk result ((W.state out.new).flushes ≡ plus (W.state out.old).flushes 1) }
+    ensures flushes { MatchResult result
+        (λ _. (W.state out.new).flushes ≡ plus (W.state out.old).flushes 1)
+        (λ _. (W.state out.new).flushes ≡ (W.state out.old).flushes) }
     ensures flushed { OnOk result ((W.state out.new).is_flushed ≡ true) }
     ensures fault { OnOk result ((W.state out.new).fault ≡ (W.state out.old).fault) }
     ensures refused { IfErr result (λ e. IsFault (W.state out.new) e

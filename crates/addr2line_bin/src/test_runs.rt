@@ -1,6 +1,6 @@
 //! Runs over files and lookups that tests know.
 
-ghost use Rattle.std.specs.Prelude.{◌≡◌, [], None, Ok, false, option_map};
+ghost use Rattle.std.specs.Prelude.{◌≡◌, [], None, Ok, true, option_map};
 ghost use Rattle.addr2line_lines.specs.Rows.{result_map};
 ghost use Rattle.addr2line_lines.specs.SeenLocation.{seen_location};
 
@@ -13,7 +13,8 @@ use crate::run_request;
 use crate::test_streams::{Streams, words};
 use addr2line::gimli::read::EndianBytes;
 use addr2line::{FrameIter, LoaderError, Location, LocationRangeIter, MemoryFiles, Range};
-use std::alloc::{AllocError, Global};
+use std::alloc::Global;
+use std::io::ErrorKind;
 use std::test::Fail;
 
 /// A location, none, or a fault.
@@ -30,7 +31,7 @@ pub struct Fixed {
 
 impl Lookups for Fixed {
     ghost answers = { λ file. record {
-      location_at = λ probe. result_map (option_map seen_location) file.found;
+      MayFind = λ probe found. found ≡ result_map (option_map seen_location) file.found;
       MayGive = λ probe given. Unit {0};
       symbol_at = λ probe. option_map (λ name. name.now) file.symbol;
       section_at = λ name. None;
@@ -86,10 +87,10 @@ impl Fixed {
 pub struct Refusing;
 
 impl Input for Refusing {
-    ghost state = { λ _. record { bytes = None; has_fault = false } };
+    ghost state = { λ _. record { bytes = None; has_fault = true } };
 
-    fn read_line(&mut self, _line: &mut Vec<u8>) -> Result<bool, AllocError> {
-        Err(AllocError)
+    fn read_line(&mut self, _line: &mut Vec<u8>) -> Result<bool, ErrorKind> {
+        Err(ErrorKind::OutOfMemory)
     }
 }
 

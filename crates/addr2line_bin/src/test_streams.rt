@@ -118,6 +118,7 @@ pub struct Memory {
     pub flushes: Vec<usize>,
     is_flushed: bool,
     fault: Option<ErrorKind>,
+    is_failing: bool,
 }
 
 impl Stream for Memory {
@@ -126,6 +127,7 @@ impl Stream for Memory {
       flushes = Some (length s.flushes.items);
       is_flushed = s.is_flushed;
       fault = s.fault;
+      is_failing = s.is_failing;
     } };
 
     fn has_failed(&self) -> bool {
@@ -136,17 +138,21 @@ impl Stream for Memory {
     fn put(&mut self, bytes: &[u8]) -> Result<(), ErrorKind> {
         self.is_flushed = false;
         if self.taken.extend_from_slice(bytes).is_err() {
+            self.is_failing = true;
             self.fault = Some(ErrorKind::OutOfMemory);
             return Err(ErrorKind::OutOfMemory);
         }
+        self.is_failing = false;
         Ok(())
     }
 
     fn flush(&mut self) -> Result<(), ErrorKind> {
         if self.flushes.push(self.taken.len()).is_err() {
+            self.is_failing = true;
             self.fault = Some(ErrorKind::OutOfMemory);
             return Err(ErrorKind::OutOfMemory);
         }
+        self.is_failing = false;
         self.is_flushed = true;
         Ok(())
     }
@@ -159,6 +165,7 @@ pub fn known_stream(alloc: Global) -> Memory {
         flushes: Vec::new(alloc),
         is_flushed: true,
         fault: None,
+        is_failing: false,
     }
 }
 

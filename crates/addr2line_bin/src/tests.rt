@@ -81,11 +81,9 @@ fn the_name_is_the_last_part_of_word_0(rt: HostRuntime) -> Result<(), Fail> {
         ("..", "addr2line"),
     ] {
         let given = words(rt.alloc(), &[word])?;
-        let name = name_of(rt.alloc(), given.as_slice())?;
-        assert_eq!(rt; name.as_str(), want);
+        assert_eq!(rt; name_of(given.as_slice()), want);
     }
-    let name = name_of(rt.alloc(), &[])?;
-    assert_eq!(rt; name.as_str(), "addr2line");
+    assert_eq!(rt; name_of(&[]), "addr2line");
     Ok(())
 }
 

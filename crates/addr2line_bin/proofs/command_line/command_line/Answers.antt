@@ -29,7 +29,7 @@ returns-clause-gives c =
     ok_of_both c.request_of.result _ _ _ c.request_of.ensures.gives c.request_of.ensures.name
     (λ r asked named. record {
       taken = sym (faults_by _ _ command) ∙ parsed.kinds (is_free_by _ command);
-      name = ap string_bytes named ∙ c.in_ok-name.ensures.gives;
+      name = ap string_bytes named ∙ c.in_ok-name.ensures.ok ∙ c.name_of.ensures.gives;
       asked = subst (λ m. IsAsked m r) rows asked;
     })
 

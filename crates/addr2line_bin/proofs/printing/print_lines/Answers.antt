@@ -17,8 +17,8 @@ loop-init g c =
       ([], refl, read_nothing (g.I.Input.state c.args.input.now).bytes, prints_none (IsText first c.args.setup.now) (g.W.Stream.state c.args.out.now) (g.E.Stream.state c.args.err.now)),
     )
 
-pub returns-in_err-read_line : goal.returns-in_err-read_line
-returns-in_err-read_line g c =
+pub returns-in_err-next_line : goal.returns-in_err-next_line
+returns-in_err-next_line g c =
     let inv = c.loop.invariant.1 in
     let first = g.L.Lookups.answers c.args.lookups.now in
     let o = g.W.Stream.state in
@@ -37,18 +37,18 @@ pub returns-then-not-branch : goal.returns-then-not-branch
 returns-then-not-branch g c =
     let inv = c.loop.invariant.1 in
     let i = g.I.Input.state in
-    let read = rw c.if-not-branch.true at c.in_ok-read_line.ensures.gives in
-    record { gives = (inv.0, read_end (i c.args.input.now).bytes (i c.loop.input).bytes inv.0 (i c.read_line.new.self).has_fault inv.2 read, inv.3) }
+    let read = rw c.if-not-branch.true at c.in_ok-next_line.ensures.gives in
+    record { gives = (inv.0, read_end (i c.args.input.now).bytes (i c.loop.input).bytes inv.0 (i c.next_line.new.input).has_fault inv.2 read, inv.3) }
 
 pub returns-in_default : goal.returns-in_default
 returns-in_default g c =
     let inv = c.loop.invariant.1 in
     let i = g.I.Input.state in
-    let line = c.read_line.new.line.items in
-    let read = rw c.if-not-branch.false at c.in_ok-read_line.ensures.gives in
+    let line = c.next_line.new.line.items in
+    let read = rw c.if-not-branch.false at c.in_ok-next_line.ensures.gives in
     let foreign = rw c.as_slice.ensures.value at c.in_default.ensures.cases.0 in
     record {
-      gives = (inv.0, read_foreign (i c.args.input.now).bytes (i c.loop.input).bytes inv.0 line (i c.read_line.new.self).has_fault (i c.read_line.new.self).bytes inv.2 read.1 foreign, inv.3);
+      gives = (inv.0, read_foreign (i c.args.input.now).bytes (i c.loop.input).bytes inv.0 line (i c.next_line.new.input).has_fault (i c.next_line.new.input).bytes inv.2 read.1 foreign, inv.3);
     }
 
 pub returns-in_err-step : goal.returns-in_err-step
@@ -60,18 +60,18 @@ returns-in_err-step g c =
     let o = g.W.Stream.state in
     let e = g.E.Stream.state in
     let i = g.I.Input.state in
-    let line = c.read_line.new.line.items in
+    let line = c.next_line.new.line.items in
     let lines = inv.0 ++ line ∷ [] in
-    let read = rw c.if-not-branch.false at c.in_ok-read_line.ensures.gives in
+    let read = rw c.if-not-branch.false at c.in_ok-next_line.ensures.gives in
     let utf8 = rw c.as_slice.ensures.value at c.in-Ok.ensures.cases.1 in
     let probe : c.address_of.result ≡ address_in line = c.address_of.ensures.gives ∙ ap address_in (c.in-Ok.ensures.cases.0 ∙ c.as_slice.ensures.value) in
-    let so_far = read_more (i c.args.input.now).bytes (i c.loop.input).bytes (i c.read_line.new.self).bytes inv.0 line inv.2 read.1 utf8 in
+    let so_far = read_more (i c.args.input.now).bytes (i c.loop.input).bytes (i c.next_line.new.input).bytes inv.0 line inv.2 read.1 utf8 in
     let more : line_probes lines ≡ line_probes inv.0 ++ c.address_of.result ∷ [] = probes_more inv.0 line ∙ ap (λ q. line_probes inv.0 ++ q ∷ []) (sym probe) in
     let p = err_from_is_err_and c.from_residual-in_err-step.result c.from_residual-in_err-step.ensures.1 in
     record {
       gives = rw (p.1, p.2) (
         lines,
-        read_part (i c.args.input.now).bytes (i c.read_line.new.self).bytes lines so_far,
+        read_part (i c.args.input.now).bytes (i c.next_line.new.input).bytes lines so_far,
         ends_next (IsText now setup) (IsText first setup) (o c.args.out.now) (o c.loop.out) (o c.step.new.out) (e c.args.err.now) (e c.loop.err) (e c.step.new.err)
             (line_probes inv.0) (c.address_of.result ∷ []) [] (line_probes lines) _ (text_before first now c.loop.invariant.0 setup) inv.3 c.in_err-step.ensures.gives more,
       );
@@ -86,12 +86,12 @@ loop-preserved g c =
     let o = g.W.Stream.state in
     let e = g.E.Stream.state in
     let i = g.I.Input.state in
-    let line = c.read_line.new.line.items in
+    let line = c.next_line.new.line.items in
     let lines = inv.0 ++ line ∷ [] in
-    let read = rw c.if-not-branch.false at c.in_ok-read_line.ensures.gives in
+    let read = rw c.if-not-branch.false at c.in_ok-next_line.ensures.gives in
     let utf8 = rw c.as_slice.ensures.value at c.in-Ok.ensures.cases.1 in
     let probe : c.address_of.result ≡ address_in line = c.address_of.ensures.gives ∙ ap address_in (c.in-Ok.ensures.cases.0 ∙ c.as_slice.ensures.value) in
-    let so_far = read_more (i c.args.input.now).bytes (i c.loop.input).bytes (i c.read_line.new.self).bytes inv.0 line inv.2 read.1 utf8 in
+    let so_far = read_more (i c.args.input.now).bytes (i c.loop.input).bytes (i c.next_line.new.input).bytes inv.0 line inv.2 read.1 utf8 in
     let more : line_probes lines ≡ line_probes inv.0 ++ c.address_of.result ∷ [] = probes_more inv.0 line ∙ ap (λ q. line_probes inv.0 ++ q ∷ []) (sym probe) in
     let new = g.L.Lookups.answers c.step.new.lookups in (
       stays_on first now new c.loop.invariant.0 c.in_ok-step.ensures.kept,

@@ -189,9 +189,9 @@ fn names_give_the_texts_of_the_format(rt: HostRuntime) {
     assert_eq!(rt; first_wrong(rt.alloc(), &CASES), "");
 }
 
-// The same among the names of the program.
-fn first_wrong_of_program(alloc: Global) -> &'static str {
-    for (name, want) in PROGRAM {
+// The same where each name gives a text.
+fn first_wrong_text(alloc: Global, cases: &[(&'static str, &str)]) -> &'static str {
+    for (name, want) in cases {
         if !gives(alloc, name, RUST, Some(want)) {
             return name;
         }
@@ -201,7 +201,7 @@ fn first_wrong_of_program(alloc: Global) -> &'static str {
 
 #[test]
 fn names_of_a_program_give_what_nm_prints(rt: HostRuntime) {
-    assert_eq!(rt; first_wrong_of_program(rt.alloc()), "");
+    assert_eq!(rt; first_wrong_text(rt.alloc(), &PROGRAM), "");
 }
 
 // Whether the name is left as it is in a language.

@@ -1,6 +1,6 @@
 //! Contexts: the rows that a range of addresses meets, unit range after unit range.
 
-use super::sections::{codes_of, context_of, shared_dwarf_of};
+use super::sections::{codes_in, context_of, shared_dwarf_of};
 use super::units::{TWO_INFO, TWO_LINES};
 use addr2line::gimli::Dwarf;
 use addr2line::gimli::read::{Error, Reader};
@@ -11,7 +11,6 @@ use addr2line_lines_tests::vectors::{
     ZERO_LENGTH_AND_ANOTHER,
 };
 use std::alloc::Global;
-use std::test::Fail;
 
 // An item: its address, the length of its span, and the number of its location.
 type Item = [u64; 3];
@@ -69,6 +68,25 @@ fn items_of<R: Reader>(context: Context<R>, [low, high]: [u64; 2]) -> [[Item; 6]
     [first, second]
 }
 
+// The same of a context that may be refused: then the fault in each place.
+fn items_made<R: Reader>(context: Result<Context<R>, Error>, range: [u64; 2]) -> [[Item; 6]; 2] {
+    match context {
+        Ok(context) => items_of(context, range),
+        Err(error) => [[fault_item(error); 6]; 2],
+    }
+}
+
+// The same of a context of three sections.
+fn items_in(
+    alloc: Global,
+    abbrev: &[u8],
+    info: &[u8],
+    line: &[u8],
+    range: [u64; 2],
+) -> [[Item; 6]; 2] {
+    items_made(context_of(alloc, abbrev, info, line), range)
+}
+
 // `INFO` with another begin, and another number of addresses.
 fn info_of(low: u8, size: u8) -> [u8; 31] {
     let mut info = INFO;
@@ -78,7 +96,7 @@ fn info_of(low: u8, size: u8) -> [u8; 31] {
 }
 
 #[test]
-fn rows_of_one_unit_are_met(rt: HostRuntime) -> Result<(), Fail> {
+fn rows_of_one_unit_are_met(rt: HostRuntime) {
     let cases: [(&[u8], [u8; 2], [u64; 2], [Item; 4]); 7] = [
         (
             &SAME_ADDRESS,
@@ -137,25 +155,27 @@ fn rows_of_one_unit_are_met(rt: HostRuntime) -> Result<(), Fail> {
     ];
     for (line, [low, size], range, [first, second, third, fourth]) in cases {
         let info = info_of(low, size);
-        let context = context_of(rt.alloc(), &ABBREV, &info, line)?;
         let items = [first, second, third, fourth, NONE, NONE];
-        assert_eq!(rt; items_of(context, range), [items; 2]);
+        assert_eq!(rt;
+            items_in(rt.alloc(), &ABBREV, &info, line, range),
+            [items; 2]
+        );
     }
-    Ok(())
 }
 
 #[test]
-fn the_last_sequence_that_begins_counts(rt: HostRuntime) -> Result<(), Fail> {
+fn the_last_sequence_that_begins_counts(rt: HostRuntime) {
     let info = info_of(0, 0x30);
-    let probes = [2, 5, 0x18];
-    let context = context_of(rt.alloc(), &ABBREV, &info, &THREE_SEQUENCES)?;
-    assert_eq!(rt;
-        codes_of(context, probes),
-        [1_001_000, 1_001_000, 1_003_000]
-    );
-    let context = context_of(rt.alloc(), &ABBREV, &info, &FOUR_SEQUENCES)?;
-    assert_eq!(rt; codes_of(context, probes), [1_004_000, 0, 1_003_000]);
-    Ok(())
+    let cases: [(&[u8], [u32; 3]); 2] = [
+        (&THREE_SEQUENCES, [1_001_000, 1_001_000, 1_003_000]),
+        (&FOUR_SEQUENCES, [1_004_000, 0, 1_003_000]),
+    ];
+    for (line, want) in cases {
+        assert_eq!(rt;
+            codes_in(rt.alloc(), &ABBREV, &info, line, [2, 5, 0x18]),
+            want
+        );
+    }
 }
 
 // The rows of the two units.
@@ -168,7 +188,7 @@ const V_1: Item = [0x40, 0x10, 4_001_000];
 const V_3: Item = [0x50, 0x10, 4_003_000];
 
 #[test]
-fn rows_of_two_units_are_met(rt: HostRuntime) -> Result<(), Fail> {
+fn rows_of_two_units_are_met(rt: HostRuntime) {
     let both = [W_1, W_3, V_1, V_3, NONE, NONE];
     // The first unit ends last: [0x10, 0x70).
     let mut wide = TWO_INFO;
@@ -218,18 +238,16 @@ fn rows_of_two_units_are_met(rt: HostRuntime) -> Result<(), Fail> {
         ),
     ];
     for (info, line, range, with_faults, without) in cases {
-        let context = context_of(rt.alloc(), &ABBREV, info, line)?;
-        assert_eq!(rt; items_of(context, range), [with_faults, without]);
+        assert_eq!(rt;
+            items_in(rt.alloc(), &ABBREV, info, line, range),
+            [with_faults, without]
+        );
     }
-    Ok(())
 }
 
 // The same of the sections of a file.
 fn items_by<R: Reader>(alloc: Global, dwarf: Dwarf<R>, range: [u64; 2]) -> [[Item; 6]; 2] {
-    match Context::from_dwarf(alloc, dwarf) {
-        Ok(context) => items_of(context, range),
-        Err(error) => [[fault_item(error); 6]; 2],
-    }
+    items_made(Context::from_dwarf(alloc, dwarf), range)
 }
 
 #[test]
@@ -240,8 +258,9 @@ fn rows_over_shared_bytes_are_met_alike(rt: HostRuntime) {
 }
 
 #[test]
-fn empty_sections_have_no_rows(rt: HostRuntime) -> Result<(), Fail> {
-    let context = context_of(rt.alloc(), &[], &[], &[])?;
-    assert_eq!(rt; items_of(context, [0, u64::MAX]), [[NONE; 6]; 2]);
-    Ok(())
+fn empty_sections_have_no_rows(rt: HostRuntime) {
+    assert_eq!(rt;
+        items_in(rt.alloc(), &[], &[], &[], [0, u64::MAX]),
+        [[NONE; 6]; 2]
+    );
 }

@@ -2,7 +2,7 @@
 
 use super::codes::{Codes, DONE, NONE, first};
 use super::replies::{Answer, Call, told};
-use super::sections::{shared, shared_dwarf_of};
+use super::sections::{shared, shared_dwarf_of, shared_none};
 use addr2line::gimli::read::Reader;
 use addr2line::gimli::{DebugRanges, Dwarf};
 use addr2line_lines_tests::sections::{dwarf_of, little};
@@ -40,13 +40,23 @@ fn told_both<const N: usize>(
     info: &'static [u8],
     calls: [Call; N],
 ) -> [([Codes; N], u64); 2] {
-    let split = dwarf_of(&[], &[], &[]);
-    let borrowed = told(alloc, dwarf_of(NAMED, info, &LINE), split, calls);
-    let split = shared_dwarf_of(&[], &[], &[]);
-    [
-        borrowed,
-        told(alloc, shared_dwarf_of(NAMED, info, &LINE), split, calls),
-    ]
+    let main = dwarf_of(NAMED, info, &LINE);
+    let borrowed = told(alloc, main, dwarf_of(&[], &[], &[]), calls);
+    [borrowed, told_shared(alloc, info, calls)]
+}
+
+// The same over shared bytes alone.
+fn told_shared<const N: usize>(
+    alloc: Global,
+    info: &'static [u8],
+    calls: [Call; N],
+) -> ([Codes; N], u64) {
+    told(
+        alloc,
+        shared_dwarf_of(NAMED, info, &LINE),
+        shared_none(),
+        calls,
+    )
 }
 
 #[test]
@@ -139,11 +149,13 @@ fn told_ranged(alloc: Global, info: &'static [u8], probes: [u64; 3]) -> [([Codes
     let calls = probes.map(frames);
     let main = with_ranges(dwarf_of(RANGED, info, &[]), little(&LIST));
     let borrowed = told(alloc, main, dwarf_of(&[], &[], &[]), calls);
+    [borrowed, told_shared_ranged(alloc, info, calls)]
+}
+
+// The same over shared bytes alone.
+fn told_shared_ranged(alloc: Global, info: &'static [u8], calls: [Call; 3]) -> ([Codes; 3], u64) {
     let main = with_ranges(shared_dwarf_of(RANGED, info, &[]), shared(&LIST));
-    [
-        borrowed,
-        told(alloc, main, shared_dwarf_of(&[], &[], &[]), calls),
-    ]
+    told(alloc, main, shared_none(), calls)
 }
 
 #[test]

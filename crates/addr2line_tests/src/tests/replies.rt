@@ -7,7 +7,7 @@ use super::codes::{
 use super::sections::code_of;
 use addr2line::gimli::read::{Error, Reader};
 use addr2line::gimli::{Dwarf, DwarfFileType};
-use addr2line::{Context, LookupContinuation, LookupResult, UnitToken};
+use addr2line::{Context, LookupContinuation, LookupResult, SplitDwarfLoad, UnitToken};
 use addr2line_lines_tests::sections::dwarf_of;
 use addr2line_lines_tests::vectors::{LINE, WAITING_ABBREV};
 use std::alloc::Global;
@@ -231,16 +231,27 @@ fn replies<R: Reader, const N: usize>(
     (codes, refused)
 }
 
-// The tokens of the units 0 and 1, from a context of two units that wait.
-fn tokens(alloc: Global) -> Result<[UnitToken; 2], Error> {
-    let mut context = Context::from_dwarf(
-        alloc,
-        dwarf_of(WAITING_ABBREV, TWO_WAITING_INFO, &LINE),
-    )?;
-    let loads = context.preload_units(15)?;
-    match loads.as_slice() {
+// The tokens of the units 0 and 1, by their loads.
+fn tokens_of<R: Reader>(loads: &[SplitDwarfLoad<R>]) -> Result<[UnitToken; 2], Error> {
+    match loads {
         [one, zero] => Ok([zero.unit, one.unit]),
         _ => Err(Error::UnknownToken),
+    }
+}
+
+fn tokens_in<R: Reader>(context: &mut Context<R>) -> Result<[UnitToken; 2], Error> {
+    match context.preload_units(15) {
+        Ok(loads) => tokens_of(loads.as_slice()),
+        Err(error) => Err(error),
+    }
+}
+
+// The same from a context of two units that wait.
+fn tokens(alloc: Global) -> Result<[UnitToken; 2], Error> {
+    let dwarf = dwarf_of(WAITING_ABBREV, TWO_WAITING_INFO, &LINE);
+    match Context::from_dwarf(alloc, dwarf) {
+        Ok(mut context) => tokens_in(&mut context),
+        Err(error) => Err(error),
     }
 }
 
@@ -248,14 +259,20 @@ fn tokens(alloc: Global) -> Result<[UnitToken; 2], Error> {
 pub fn given_of<R: Reader>(alloc: Global, split: Dwarf<R>) -> Result<Given<R>, Error> {
     let mut split = split;
     split.file_type = DwarfFileType::Dwo;
-    let split = Rc::new(alloc, split)?;
-    Ok(Given {
-        tokens: tokens(alloc)?,
-        split,
-    })
+    match Rc::new(alloc, split) {
+        Ok(split) => given_with(alloc, split),
+        Err(_) => Err(Error::OutOfMemory),
+    }
 }
 
-// The answers of a context that is made once more where it was refused.
+fn given_with<R: Reader>(alloc: Global, split: Rc<Dwarf<R>>) -> Result<Given<R>, Error> {
+    match tokens(alloc) {
+        Ok(tokens) => Ok(Given { tokens, split }),
+        Err(error) => Err(error),
+    }
+}
+
+// The answers of a context of held sections.
 fn told_in<R: Reader, const N: usize>(
     alloc: Global,
     main: Rc<Dwarf<R>>,
@@ -268,6 +285,18 @@ fn told_in<R: Reader, const N: usize>(
     }
 }
 
+fn told_with<R: Reader, const N: usize>(
+    alloc: Global,
+    main: Dwarf<R>,
+    given: &Given<R>,
+    calls: [Call; N],
+) -> ([Codes; N], u64) {
+    match Rc::new(alloc, main) {
+        Ok(main) => told_in(alloc, main, given, calls),
+        Err(_) => ([REFUSED; N], 1),
+    }
+}
+
 /// The answers of the calls of a context of its own, the second where the first found no memory;
 /// and how often one did.
 pub fn told<R: Reader, const N: usize>(
@@ -276,8 +305,8 @@ pub fn told<R: Reader, const N: usize>(
     split: Dwarf<R>,
     calls: [Call; N],
 ) -> ([Codes; N], u64) {
-    match (Rc::new(alloc, main), given_of(alloc, split)) {
-        (Ok(main), Ok(given)) => told_in(alloc, main, &given, calls),
-        _ => ([REFUSED; N], 1),
+    match given_of(alloc, split) {
+        Ok(given) => told_with(alloc, main, &given, calls),
+        Err(_) => ([REFUSED; N], 1),
     }
 }

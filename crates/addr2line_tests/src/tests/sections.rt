@@ -7,6 +7,9 @@ use addr2line::gimli::{
     DebugRngLists, DebugStr, DebugStrOffsets, Dwarf, DwarfFileType,
 };
 use addr2line_lines_tests::sections::{fault_code, little, location_code};
+use addr2line_lines_tests::vectors::{
+    LINE_V5, MAIN_INFO, SPLIT_ABBREV, SPLIT_INFO, WAITING_ABBREV,
+};
 use bytes::Bytes;
 use std::alloc::Global;
 
@@ -35,6 +38,21 @@ pub fn shared_dwarf_of(
         file_type: DwarfFileType::Main,
         sup: None,
     }
+}
+
+/// The file of a unit that waits for a split file.
+pub fn shared_main() -> Dwarf<EndianBytes> {
+    shared_dwarf_of(WAITING_ABBREV, MAIN_INFO, &LINE_V5)
+}
+
+/// Its split file.
+pub fn shared_split() -> Dwarf<EndianBytes> {
+    shared_dwarf_of(SPLIT_ABBREV, SPLIT_INFO, &[])
+}
+
+/// No sections.
+pub fn shared_none() -> Dwarf<EndianBytes> {
+    shared_dwarf_of(&[], &[], &[])
 }
 
 /// A context of three sections, each by itself; the others are empty.
@@ -88,4 +106,34 @@ pub fn codes_of<R: Reader, const N: usize>(context: Context<R>, probes: [u64; N]
         codes[i] = code_of(&mut context, probes[i]);
     }
     codes
+}
+
+/// The same of a context that may be refused: then the fault's number in each place.
+pub fn codes_made<R: Reader, const N: usize>(
+    context: Result<Context<R>, Error>,
+    probes: [u64; N],
+) -> [u32; N] {
+    match context {
+        Ok(context) => codes_of(context, probes),
+        Err(error) => [fault_code(error); N],
+    }
+}
+
+/// The same of a context of three sections.
+pub fn codes_in<const N: usize>(
+    alloc: Global,
+    abbrev: &[u8],
+    info: &[u8],
+    line: &[u8],
+    probes: [u64; N],
+) -> [u32; N] {
+    codes_made(context_of(alloc, abbrev, info, line), probes)
+}
+
+/// What making a context says: 1, or a fault's number.
+pub fn made_code<R: Reader>(context: Result<Context<R>, Error>) -> u32 {
+    match context {
+        Ok(_) => 1,
+        Err(error) => fault_code(error),
+    }
 }

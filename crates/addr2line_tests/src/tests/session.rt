@@ -2,8 +2,8 @@
 
 use super::codes::{Codes, DONE, NONE, REFUSED, done_codes, fault_codes, first};
 use super::replies::{Given, given_of};
-use super::sections::shared_dwarf_of;
-use addr2line::gimli::read::{Error, Reader};
+use super::sections::{shared_main, shared_split};
+use addr2line::gimli::read::{EndianSlice, Error, Reader};
 use addr2line::gimli::{Dwarf, DwarfFileType};
 use addr2line::{
     Answer, Call, Context, FoundUnit, Location, OwnedFrame, OwnedLoad, OwnedLocation, OwnedName,
@@ -150,19 +150,23 @@ enum Step {
     ParseInlined,
 }
 
+fn only<R: Reader>(alloc: Global, answer: Answer<R>) -> Result<Vec<Answer<R>>, Error> {
+    let mut answers = Vec::new(alloc);
+    answers.push(answer)?;
+    Ok(answers)
+}
+
 fn answers_of<R: Reader>(
     alloc: Global,
     gives: Gives,
     split: &Rc<Dwarf<R>>,
 ) -> Result<Vec<Answer<R>>, Error> {
-    let mut answers = Vec::new(alloc);
     match gives {
-        Gives::Nothing => {}
-        Gives::Abandons => answers.push(Answer::Abandon)?,
-        Gives::NoFile => answers.push(Answer::Give(None))?,
-        Gives::Split => answers.push(Answer::Give(Some(split.clone()?)))?,
+        Gives::Nothing => Ok(Vec::new(alloc)),
+        Gives::Abandons => only(alloc, Answer::Abandon),
+        Gives::NoFile => only(alloc, Answer::Give(None)),
+        Gives::Split => only(alloc, Answer::Give(Some(split.clone()?))),
     }
-    Ok(answers)
 }
 
 fn call_of<R: Reader>(
@@ -219,21 +223,41 @@ fn codes_in<const N: usize>(replies: Result<Vec<Reply>, Error>, zero: UnitToken)
 }
 
 // The replies to calls of a context of these sections.
+fn told_by<R: Reader, const N: usize>(
+    alloc: Global,
+    main: Dwarf<R>,
+    calls: Vec<Call<R>>,
+    zero: UnitToken,
+) -> [Codes; N] {
+    match Context::from_dwarf(alloc, main) {
+        Ok(context) => codes_in(replies_of(context, calls.as_slice()), zero),
+        Err(error) => [fault_codes(error); N],
+    }
+}
+
+// The same by steps.
+fn told_with<R: Reader, const N: usize>(
+    alloc: Global,
+    main: Dwarf<R>,
+    given: &Given<R>,
+    steps: [Step; N],
+) -> [Codes; N] {
+    match calls_of(alloc, &steps, given) {
+        Ok(calls) => told_by(alloc, main, calls, given.tokens[0]),
+        Err(_) => [REFUSED; N],
+    }
+}
+
+// The same with the sections of the split file.
 fn told<R: Reader, const N: usize>(
     alloc: Global,
     main: Dwarf<R>,
     split: Dwarf<R>,
     steps: [Step; N],
 ) -> [Codes; N] {
-    let Ok(given) = given_of(alloc, split) else {
-        return [REFUSED; N];
-    };
-    let Ok(calls) = calls_of(alloc, &steps, &given) else {
-        return [REFUSED; N];
-    };
-    match Context::from_dwarf(alloc, main) {
-        Ok(context) => codes_in(replies_of(context, calls.as_slice()), given.tokens[0]),
-        Err(error) => [fault_codes(error); N],
+    match given_of(alloc, split) {
+        Ok(given) => told_with(alloc, main, &given, steps),
+        Err(_) => [REFUSED; N],
     }
 }
 
@@ -243,13 +267,12 @@ fn told_borrowed<const N: usize>(alloc: Global, steps: [Step; N]) -> [Codes; N] 
 }
 
 fn told_shared<const N: usize>(alloc: Global, steps: [Step; N]) -> [Codes; N] {
-    let main = shared_dwarf_of(WAITING_ABBREV, MAIN_INFO, &LINE_V5);
-    told(
-        alloc,
-        main,
-        shared_dwarf_of(SPLIT_ABBREV, SPLIT_INFO, &[]),
-        steps,
-    )
+    told(alloc, shared_main(), shared_split(), steps)
+}
+
+// Both.
+fn told_both<const N: usize>(alloc: Global, steps: [Step; N]) -> [[Codes; N]; 2] {
+    [told_borrowed(alloc, steps), told_shared(alloc, steps)]
 }
 
 // "h", a location without a function, and a line.
@@ -309,8 +332,7 @@ fn the_first_answer_decides_until_it_is_forgotten(rt: HostRuntime) {
     for case in cases {
         let want = case.map(|(_, want)| want);
         let steps = case.map(|(step, _)| step);
-        assert_eq!(rt; told_borrowed(rt.alloc(), steps), want);
-        assert_eq!(rt; told_shared(rt.alloc(), steps), want);
+        assert_eq!(rt; told_both(rt.alloc(), steps), [want; 2]);
     }
 }
 
@@ -327,13 +349,23 @@ fn rows_codes(replies: Result<Vec<Reply>, Error>) -> [[u64; 3]; 5] {
     codes
 }
 
-fn rows_of(alloc: Global, line: &[u8], [low, high]: [u64; 2]) -> [[u64; 3]; 5] {
-    let mut calls = Vec::new(alloc);
-    let pushed = calls.push(Call::LocationRange(low, high));
-    match Context::from_dwarf(alloc, dwarf_of(&ABBREV, &INFO_WIDE, line)) {
-        Ok(context) if pushed.is_ok() => rows_codes(replies_of(context, calls.as_slice())),
-        _ => [[9; 3]; 5],
+// The same of a context that may be refused: then nines.
+fn rows_by(
+    context: Result<Context<EndianSlice<'_>>, Error>,
+    calls: &[Call<EndianSlice<'_>>],
+) -> [[u64; 3]; 5] {
+    match context {
+        Ok(context) => rows_codes(replies_of(context, calls)),
+        Err(_) => [[9; 3]; 5],
     }
+}
+
+fn rows_of(alloc: Global, line: &[u8], [low, high]: [u64; 2]) -> [[u64; 3]; 5] {
+    let calls = [Call::LocationRange(low, high)];
+    rows_by(
+        Context::from_dwarf(alloc, dwarf_of(&ABBREV, &INFO_WIDE, line)),
+        &calls,
+    )
 }
 
 #[test]

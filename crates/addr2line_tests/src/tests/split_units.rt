@@ -2,7 +2,7 @@
 
 use super::codes::{Codes, DONE, NONE, REFUSED, first};
 use super::replies::{Answer, Call, TWO_WAITING_INFO, told};
-use super::sections::shared_dwarf_of;
+use super::sections::{shared_dwarf_of, shared_main, shared_none, shared_split};
 use addr2line_lines_tests::sections::dwarf_of;
 use addr2line_lines_tests::vectors::{
     LINE_V5, MAIN_INFO, SPLIT_ABBREV, SPLIT_INFO, WAITING_ABBREV,
@@ -44,13 +44,12 @@ fn told_borrowed<const N: usize>(alloc: Global, calls: [Call; N]) -> ([Codes; N]
 
 // The same over shared bytes.
 fn told_shared<const N: usize>(alloc: Global, calls: [Call; N]) -> ([Codes; N], u64) {
-    let main = shared_dwarf_of(WAITING_ABBREV, MAIN_INFO, &LINE_V5);
-    told(
-        alloc,
-        main,
-        shared_dwarf_of(SPLIT_ABBREV, SPLIT_INFO, &[]),
-        calls,
-    )
+    told(alloc, shared_main(), shared_split(), calls)
+}
+
+// Both.
+fn told_both<const N: usize>(alloc: Global, calls: [Call; N]) -> [([Codes; N], u64); 2] {
+    [told_borrowed(alloc, calls), told_shared(alloc, calls)]
 }
 
 #[test]
@@ -117,21 +116,31 @@ fn a_split_unit_is_decided_by_its_first_answer(rt: HostRuntime) {
     for case in cases {
         let want = (case.map(|(_, want)| want), 0);
         let calls = case.map(|(call, _)| call);
-        assert_eq!(rt; told_borrowed(rt.alloc(), calls), want);
-        assert_eq!(rt; told_shared(rt.alloc(), calls), want);
+        assert_eq!(rt; told_both(rt.alloc(), calls), [want; 2]);
     }
+}
+
+// The loads of two units at two addresses, over borrowed bytes.
+fn loads_borrowed(alloc: Global) -> ([Codes; 2], u64) {
+    let main = dwarf_of(WAITING_ABBREV, TWO_WAITING_INFO, &LINE_V5);
+    let calls = [Call::Preload(15), Call::Preload(5)];
+    told(alloc, main, dwarf_of(&[], &[], &[]), calls)
+}
+
+// The same over shared bytes.
+fn loads_shared(alloc: Global) -> ([Codes; 2], u64) {
+    let main = shared_dwarf_of(WAITING_ABBREV, TWO_WAITING_INFO, &LINE_V5);
+    let calls = [Call::Preload(15), Call::Preload(5)];
+    told(alloc, main, shared_none(), calls)
 }
 
 #[test]
 fn loads_are_listed_in_the_order_of_units(rt: HostRuntime) {
-    let calls = [Call::Preload(15), Call::Preload(5)];
     let want = ([first([2, 2, 1]), first([1, 1, 0])], 0);
-    let main = dwarf_of(WAITING_ABBREV, TWO_WAITING_INFO, &LINE_V5);
-    let split = dwarf_of(&[], &[], &[]);
-    assert_eq!(rt; told(rt.alloc(), main, split, calls), want);
-    let main = shared_dwarf_of(WAITING_ABBREV, TWO_WAITING_INFO, &LINE_V5);
-    let split = shared_dwarf_of(&[], &[], &[]);
-    assert_eq!(rt; told(rt.alloc(), main, split, calls), want);
+    assert_eq!(rt;
+        [loads_borrowed(rt.alloc()), loads_shared(rt.alloc())],
+        [want; 2]
+    );
 }
 
 // Calls that ask for memory, and what they give.

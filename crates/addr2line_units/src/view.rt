@@ -320,6 +320,7 @@ impl<R: Reader> UnitView<R> {
             ViewState::Answered(answer) => answer.unit_ref(dwarf, dw_unit),
         }
     }
+
     // The sections of the split file that has the unit of the view, if it is in one.
     fn split_file(&self) -> Option<&Dwarf<R>>
         ensures gives { option_map (λ d. d.now) result ≡ split_file_in self.now.state }

@@ -23,7 +23,7 @@ use Rattle.addr2line.specs.KeptStops.{by_number, unit_stop}
 use Rattle.addr2line.specs.Loader.{AfterAnswers, AfterLoads, AfterNoLoad, AnswersInTurn, AnswersOne, IsFaultByFiles, LoaderState, StayAnswered, WaitsForNone}
 use Rattle.addr2line.specs.Lookups.{AfterFrames, IsLoadOf, frames_of, frames_told, lookup_stop}
 use Rattle.addr2line.specs.SplitFiles.{given_by}
-use Rattle.addr2line.proofs.FilesLookupLemmas.{first_answers_stay, frames_ended, frames_stay, refused_frames}
+use Rattle.addr2line.proofs.FilesLookupLemmas.{first_answers_stay, frames_ended, frames_stay, refused_frames, stop_stays}
 use Rattle.addr2line.proofs.HistoryLemmas.{HasGiven, given_all, given_more}
 use Rattle.addr2line.proofs.LoadingLemmas.{if_some_both, no_oom}
 
@@ -43,6 +43,7 @@ module _ (files : Option Files) where
     sections = a.sections;
     answers = subst (λ x. StayAnswered old.answers x) (sym a.answers) (λ n given e. e);
     frames = always files (λ held q. ap (λ d. frames_by_files held d new.answers q) a.sections ∙ ap (λ x. frames_by_files held old.sections x q) a.answers);
+    ended = λ q w. ap (λ d. lookup_stop End d new.answers q) a.sections ∙ ap (λ x. lookup_stop End old.sections x q) a.answers;
     parsed = a.parsed;
     raised = a.raised;
   }
@@ -52,6 +53,7 @@ module _ (files : Option Files) where
     sections = refl;
     answers = λ n given e. e;
     frames = always files (λ held q. refl);
+    ended = λ q w. refl;
     parsed = λ n e. e;
     raised = omega arith;
   }
@@ -61,6 +63,7 @@ module _ (files : Option Files) where
     sections = b.sections ∙ a.sections;
     answers = λ n given e. b.answers n given (a.answers n given e);
     frames = if_some_both files a.frames b.frames (λ held p q probe. q probe ∙ p probe);
+    ended = λ q w. b.ended q (ap is_waiting (a.ended q w) ∙ w) ∙ a.ended q w;
     parsed = λ n e. b.parsed n (a.parsed n e);
     raised = let x = a.raised in let y = b.raised in omega (arith, x, y);
   }
@@ -81,6 +84,7 @@ module _ (files : Option Files) where
       answers = subst (λ x. StayAnswered old.answers x) (sym a.answers) (first_answers_stay old.sections old.answers probe n load waits is given);
       frames = if_some_map files h (λ held e q. ap (λ d. frames_by_files held d new.answers q) a.sections ∙ ap (λ x. frames_by_files held old.sections x q) a.answers
           ∙ frames_stay old.sections old.answers probe n load waits is (given_by held) given e q);
+      ended = λ q w. ap (λ d. lookup_stop End d new.answers q) a.sections ∙ ap (λ x. lookup_stop End old.sections x q) a.answers ∙ stop_stays old.sections old.answers probe n load waits is given q w;
       parsed = λ k e. subst (λ p. has_parsed p k ≡ true) (sym a.parsed) e;
       raised = subst (λ l. old.looks ≤ l) (sym a.looks) (omega arith);
     }
@@ -88,6 +92,7 @@ module _ (files : Option Files) where
       sections = a.sections;
       answers = subst (λ x. StayAnswered old.answers x) (sym a.refused.1) (λ n given e. e);
       frames = always files (λ held q. ap (λ d. frames_by_files held d new.answers q) a.sections ∙ ap (λ x. frames_by_files held old.sections x q) a.refused.1);
+      ended = λ q w. ap (λ d. lookup_stop End d new.answers q) a.sections ∙ ap (λ x. lookup_stop End old.sections x q) a.refused.1;
       parsed = λ k e. subst (λ p. has_parsed p k ≡ true) (sym a.parsed) e;
       raised = subst (λ l. old.looks ≤ l) (sym a.looks) (omega arith);
     }

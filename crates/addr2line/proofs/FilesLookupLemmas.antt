@@ -24,6 +24,7 @@ use Rattle.addr2line_units.proofs.AnswerLemmas.{decided_if_not, decided_if_open,
 use Rattle.addr2line_units.proofs.LoadLawLemmas.{waits_listed}
 use Rattle.addr2line_units.proofs.LoadLemmas.{open_awaits}
 use Rattle.addr2line_units.proofs.WaitLemmas.{same_number}
+use Rattle.addr2line.proofs.SkipLemmas.{settled_along}
 use Rattle.addr2line.specs.Answers.{answered}
 use Rattle.addr2line.specs.FramesByFiles.{GivesAnswers, answer_by, first_frames, frames_by, frames_in_units, frames_of_unit, frames_or_fault, frames_with, or_rest, stop_frames}
 use Rattle.addr2line.specs.Loader.{StayAnswered}
@@ -196,6 +197,22 @@ module _ (give : GivesAnswers) (scope : Scope) (units : List IndexedUnit) (answe
       never : (j : ℕ) → j ≡ n → answer_of answers j ≢ Some a
       never j q h = let f : ◌≡◌ {A = Option (Option Sections)} None (Some a) = sym no_answer_yet ∙ ap (answer_of answers) (sym q) ∙ h in cc
 
+  -- a unit that doesn't wait is asked for the same
+  same_asked : (given : Option Sections) (probe k : ℕ) → asked_frames End scope units answers probe k ≢ Ok None → asked_frames End scope units (now given) probe k ≡ asked_frames End scope units answers probe k
+  same_asked given probe k ne = elim (eqb_tells k n) [
+    | inl p ↦ absurd (ne (waits_at k p.1))
+    | inr q ↦ ap (λ a. after_fault End (asked_by a (slice_get units k))) (other_now given k q.1)
+  ]
+    where
+      asked_by : Option (Option Sections) → Option IndexedUnit → Reading
+      asked_by a o = elim o [ None ↦ Ok (Some []) | Some u ↦ frames_in scope u a probe ]
+
+      waits_here : frames_of_number scope units answers probe n ≡ Ok None
+      waits_here = ap (asked_by (answer_of answers n)) w.there ∙ none_if_open scope w.unit (answer_of answers n) probe w.open_is
+
+      waits_at : (j : ℕ) → j ≡ n → asked_frames End scope units answers probe j ≡ Ok None
+      waits_at j q = subst (λ i. asked_frames End scope units answers probe i ≡ Ok None) (sym q) (ap (after_fault End) waits_here)
+
 -- a lookup that waits for a unit, by the load of which the files are asked
 module _ (d : Sections) (answers : FirstAnswers) (probe n : ℕ) (load : SplitLoad) (waits : lookup_stop End d answers probe ≡ Ok (Waits n)) (is : IsLoadOf d n load) where
   stop_is : (m : UnitIndex) → index_units d ≡ Ok m → stop_in End d answers probe m ≡ Ok (Waits n)
@@ -221,6 +238,14 @@ module _ (d : Sections) (answers : FirstAnswers) (probe n : ℕ) (load : SplitLo
       by : (r : Result UnitIndex Error) → index_units d ≡ r → StayAnswered answers (answers_by r given)
       by (Err e) k = λ j a h. h
       by (Ok m) k = stays_answered (λ l. Ok None) (main_scope d m) m.units answers n load (awaits_in m k) given
+
+  -- nor what one comes to that waits for none
+  pub stop_stays : (given : Option Sections) (q : ℕ) → is_waiting (lookup_stop End d answers q) ≡ false → lookup_stop End d (answered d answers n given) q ≡ lookup_stop End d answers q
+  stop_stays given q ended = by (index_units d) refl ended
+    where
+      by : (r : Result UnitIndex Error) → index_units d ≡ r → is_waiting (r >>= stop_in End d answers q) ≡ false → (r >>= stop_in End d (answers_by r given) q) ≡ (r >>= stop_in End d answers q)
+      by (Err e) k h = refl
+      by (Ok m) k h = settled_along _ _ (same_asked (λ l. Ok None) (main_scope d m) m.units answers n load (awaits_in m k) given q) (cover q m.ranges) h
 
   -- where no answer is given, the lookup has that fault
   pub refused_frames : (give : GivesAnswers) (fault : LoaderError) → give load ≡ Err fault → frames_by give d answers probe ≡ Err fault

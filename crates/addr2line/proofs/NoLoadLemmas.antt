@@ -1,6 +1,5 @@
 -- Lookups by files that answer no load (on specs/Loader.antt).
 use Rattle.std.proofs.Common.{◌≡◌, ◌≢◌, ◌&&◌, ◌||◌, ℕ, Bool, true, false, not, List, [], ◌∷◌, Option, Some, Result, Ok, Err, refl, sym, ap, subst, ◌∙◌}
-use Rattle.std.specs.Prelude.{IfErr}
 use Rattle.gimli_read.specs.declared.error.Error.{Error}
 use Rattle.gimli_read.specs.declared.error.Error.TheVariants as reading
 use Rattle.gimli_read.specs.Reading.{◌>>=◌}
@@ -13,7 +12,7 @@ use Rattle.addr2line_units.specs.declared.frames_lookup.Faults.TheVariants.{End}
 use Rattle.addr2line_units.specs.declared.index.UnitRange.{UnitRange}
 use Rattle.addr2line_units.specs.Cover.{cover}
 use Rattle.addr2line_units.specs.Frames.{FrameRecord}
-use Rattle.addr2line_units.specs.FramesLookup.{Stop, Waits, FindsNothing, asks_lines_of, ends_lookup, has_many_of, holds_along, is_waiting, main_scope, stop_along}
+use Rattle.addr2line_units.specs.FramesLookup.{Waits, FindsNothing, asks_lines_of, ends_lookup, has_many_of, holds_along, is_waiting, main_scope, stop_along}
 use Rattle.addr2line_units.specs.KnownEntries.{knows_at}
 use Rattle.addr2line_units.specs.Parsed.{IsNotOom, StaysParsed, has_parsed}
 use Rattle.addr2line_units.specs.UnitIndex.{UnitIndex, index_units}

@@ -77,7 +77,7 @@ settled_step n a b (Ok None) s same w rest = absurd cc
 settled_step n a b (Ok (Some [])) s same w rest = ap (λ x. x >>= or_stop n b) (same (λ q. absurd cc)) ∙ rest w
 settled_step n a b (Ok (Some (x ∷ xs))) s same w rest = ap (λ x. x >>= or_stop n b) (same (λ q. absurd cc))
 
-settled_along : (f h : ℕ → Reading) → ((n : ℕ) → f n ≢ Ok None → h n ≡ f n) → (ranges : List UnitRange) → is_waiting (stop_along f ranges) ≡ false → stop_along h ranges ≡ stop_along f ranges
+pub settled_along : (f h : ℕ → Reading) → ((n : ℕ) → f n ≢ Ok None → h n ≡ f n) → (ranges : List UnitRange) → is_waiting (stop_along f ranges) ≡ false → stop_along h ranges ≡ stop_along f ranges
 settled_along f h same [] w = refl
 settled_along f h same (r ∷ ranges) w = settled_step r.unit (stop_along f ranges) (stop_along h ranges) (f r.unit) (h r.unit) (same r.unit) w (settled_along f h same ranges)
 

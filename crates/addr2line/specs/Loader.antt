@@ -46,12 +46,24 @@ pub record StaysDecided (old new : ContextState) : Type 0 where
   pub sections : new.sections ≡ old.sections
   pub answers : new.answers ≡ old.answers
 
+-- a lookup of the probe waits for no answer
+abbrev pub WaitsForNone : ContextState → ℕ → Type 0
+WaitsForNone c probe = is_waiting (lookup_stop End c.sections c.answers probe) ≡ false
+
+-- a lookup that waits for no answer comes to the same later
+abbrev pub StayEnded : ContextState → ContextState → Type 0
+StayEnded old new = (probe : ℕ) → WaitsForNone old probe
+    → lookup_stop End new.sections new.answers probe
+    ≡ lookup_stop End old.sections old.answers probe
+
 -- loads of a context were answered by files: the sections are the same, first answers stay, all
--- lookups of frames give the same, and what was parsed of lines stays parsed
+-- lookups of frames give the same, those that wait for none whatever the files are, and what was
+-- parsed of lines stays parsed
 pub record AfterAnswers (files : Option Files) (old new : ContextState) : Type 0 where
   pub sections : new.sections ≡ old.sections
   pub answers : StayAnswered old.answers new.answers
   pub frames : IfSome files (λ held. GivesSameFrames held old new)
+  pub ended : StayEnded old new
   pub parsed : StaysParsed old.parsed new.parsed
   pub raised : old.looks ≤ new.looks
 
@@ -74,10 +86,6 @@ LeavesOpen e = (e ≡ OutOfMemory) ⊎ (e ≡ PathNotUtf8)
 abbrev pub HasEnded : {X : Type 0} → Loading X → Type 0
 HasEnded (Ok x) = Unit {0}
 HasEnded (Err e) = (e ≢ OutOfMemory) × (e ≢ PathNotUtf8)
-
--- a lookup of the probe waits for no answer
-abbrev pub WaitsForNone : ContextState → ℕ → Type 0
-WaitsForNone c probe = is_waiting (lookup_stop End c.sections c.answers probe) ≡ false
 
 -- the frames of a lookup that waits for no answer, whatever the files are, or its fault
 abbrev pub ended_frames_of : ContextState → ℕ → Loading (List FrameRecord)

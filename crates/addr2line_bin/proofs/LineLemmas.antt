@@ -30,10 +30,11 @@ read_more (Some bytes) None new lines line s h u = absurd s
 read_more (Some bytes) (Some xs) new lines line s h u = rw h.2 (line_more bytes lines xs line s h.0 h.1 u)
 
 -- what was read so far is a beginning
-pub read_part : (all left : Option (List ℕ)) (lines : List (List ℕ)) → ReadSoFar all left lines → IfSome all (λ bytes. (rest : List ℕ) × StartWith bytes lines rest)
-read_part None left lines s = tt
-read_part (Some bytes) None lines s = absurd s
-read_part (Some bytes) (Some rest) lines s = (rest, s)
+pub read_part : (all left new : Option (List ℕ)) (lines : List (List ℕ)) (fault : Bool) → ReadSoFar all left lines → (fault ≡ false → new ≡ left)
+    → IfSome all (λ bytes. (rest : List ℕ) × StartWith bytes lines rest × (fault ≡ false → new ≡ Some rest))
+read_part None left new lines fault s h = tt
+read_part (Some bytes) None new lines fault s h = absurd s
+read_part (Some bytes) (Some rest) new lines fault s h = (rest, s, h)
 
 -- the input ends where the reader says so, unless a read has failed
 pub read_end : (all left : Option (List ℕ)) (lines : List (List ℕ)) (fault : Bool) → ReadSoFar all left lines → (fault ≡ false → IsAtEnd left)

@@ -12,17 +12,20 @@ use Rattle.addr2line_lines.specs.Location.{Location}
 use Rattle.addr2line_lines.specs.Rows.{result_map}
 use Rattle.addr2line_units.specs.declared.index.UnitRange.{UnitRange}
 use Rattle.addr2line_units.specs.Cover.{cover}
+use Rattle.addr2line_units.specs.declared.frames_lookup.Faults.TheVariants.{End}
 use Rattle.addr2line_units.specs.Frames.{FrameRecord}
+use Rattle.addr2line_units.specs.FramesLookup.{is_waiting}
 use Rattle.addr2line_units.specs.Located.{location_in, location_of}
 use Rattle.addr2line_units.specs.Parsed.{StaysParsed, decides, has_parsed, ready_along}
 use Rattle.addr2line_units.specs.UnitIndex.{IndexedUnit, index_units}
 use Rattle.addr2line.specs.Context.{ContextState, IsReady}
 use Rattle.addr2line.specs.Files.{Files}
-use Rattle.addr2line.specs.FramesByFiles.{frames_by_files}
-use Rattle.addr2line.specs.Loader.{AfterLoads, GivesSameFrames, LoaderState, StaysLoaded}
+use Rattle.addr2line.specs.FramesByFiles.{frames_by_files, stop_frames}
+use Rattle.addr2line.specs.Loader.{AfterLoads, GivesSameFrames, LoaderState, StayEnded, StaysLoaded, WaitsForNone, ended_frames_of}
+use Rattle.addr2line.specs.Lookups.{lookup_stop}
 use Rattle.addr2line.specs.SplitFiles.{of_file}
 use Rattle.addr2line_bin.specs.FileAnswers.{StaysAnswered}
-use Rattle.addr2line_bin.specs.LoaderAnswers.{IsReadyAt, MayFindBy, loader_answers}
+use Rattle.addr2line_bin.specs.LoaderAnswers.{IsReadyAt, MayFindBy, MayGiveBy, loader_answers}
 
 -- a lookup that parses nothing does so where more is parsed
 ready_more : (d : Sections) (us : List IndexedUnit) (p q : List Bool) → StaysParsed p q → (probe : ℕ) (ranges : List UnitRange) → ready_along d us p probe ranges ≡ true → ready_along d us q probe ranges ≡ true
@@ -51,13 +54,21 @@ found_before old new e p address found h = (
   λ ready. subst (λ d. Exactly (λ x. x) found (of_file (location_of d address))) e (h.1 (ready_later old new e p address ready)),
 )
 
+-- where a lookup waits for no split file, what it gives later it could give before
+ended_before : (old new : ContextState) → StayEnded old new → (address : ℕ) (given : Loading (List FrameRecord)) → (WaitsForNone new address → LoadsUnlessOom (λ frames. frames) given (ended_frames_of new address))
+    → WaitsForNone old address → LoadsUnlessOom (λ frames. frames) given (ended_frames_of old address)
+ended_before old new stays address given h w = subst (λ stop. LoadsUnlessOom (λ frames. frames) given (stop_frames stop)) (stays address w) (h (ap is_waiting (stays address w) ∙ w))
+
 pub same_answers : (old new : LoaderState) → StaysLoaded old new → StaysAnswered (loader_answers old) (loader_answers new)
 same_answers old new s = record {
   locations = found_before old.context new.context s.context.sections s.context.parsed;
-  frames = λ address given h.
-      subst (λ d. IfSome old.files (λ held. LoadsUnlessOom (λ frames. frames) given (frames_by_files held d old.context.answers address))) s.context.sections
-      (subst (λ x. IfSome old.files (λ held. LoadsUnlessOom (λ frames. frames) given (frames_by_files held new.context.sections x address))) s.context.answers
-      (subst (λ (f : Option Files). IfSome f (λ held. LoadsUnlessOom (λ frames. frames) given (frames_by_files held new.context.sections new.context.answers address))) s.files h));
+  frames = λ address given h. (
+    subst (λ d. IfSome old.files (λ held. LoadsUnlessOom (λ frames. frames) given (frames_by_files held d old.context.answers address))) s.context.sections
+        (subst (λ x. IfSome old.files (λ held. LoadsUnlessOom (λ frames. frames) given (frames_by_files held new.context.sections x address))) s.context.answers
+        (subst (λ (f : Option Files). IfSome f (λ held. LoadsUnlessOom (λ frames. frames) given (frames_by_files held new.context.sections new.context.answers address))) s.files h.0)),
+    ended_before old.context new.context (λ q w. ap (λ d. lookup_stop End d new.context.answers q) s.context.sections ∙ ap (λ x. lookup_stop End old.context.sections x q) s.context.answers) address given h.1,
+    h.2,
+  );
   symbol_at = ap (λ (o : ObjectFile). λ (address : ℕ). option_map (λ (x : NamedAddress). x.name) (symbol_at address o)) s.object;
   section_at = ap (λ (o : ObjectFile). λ (name : List ℕ). section_range_at name o) s.object;
 }
@@ -71,9 +82,12 @@ same_frames (Some held) old new same address given h = subst (λ frames. LoadsUn
 pub same_after_loads : {X : Type 0} (probe : ℕ) (result : Loading X) (old new : LoaderState) → AfterLoads probe result old new → StaysAnswered (loader_answers old) (loader_answers new)
 same_after_loads probe result old new a = record {
   locations = found_before old.context new.context a.context.sections a.context.parsed;
-  frames = λ address given h.
-      same_frames old.files old.context new.context a.context.frames address given
-      (subst (λ (f : Option Files). IfSome f (λ held. LoadsUnlessOom (λ frames. frames) given (frames_by_files held new.context.sections new.context.answers address))) a.files h);
+  frames = λ address given h. (
+    same_frames old.files old.context new.context a.context.frames address given
+        (subst (λ (f : Option Files). IfSome f (λ held. LoadsUnlessOom (λ frames. frames) given (frames_by_files held new.context.sections new.context.answers address))) a.files h.0),
+    ended_before old.context new.context a.context.ended address given h.1,
+    h.2,
+  );
   symbol_at = ap (λ (o : ObjectFile). λ (address : ℕ). option_map (λ (x : NamedAddress). x.name) (symbol_at address o)) a.object;
   section_at = ap (λ (o : ObjectFile). λ (name : List ℕ). section_range_at name o) a.object;
 }
@@ -87,11 +101,19 @@ seen_exactly : {X Y : Type 0} (view : X → Y) (r : Loading X) (given : Loading 
 seen_exactly view (Ok x) given h = h
 seen_exactly view (Err e) given h = h
 
--- frames, as they are seen
-pub gives_frames : {X : Type 0} (view : X → List FrameRecord) (files : Option Files) (c : ContextState) (address : ℕ) (r : Loading X) → IfSome files (λ held. LoadsUnlessOom view r (frames_by_files held c.sections c.answers address))
+by_files : {X : Type 0} (view : X → List FrameRecord) (files : Option Files) (c : ContextState) (address : ℕ) (r : Loading X) → IfSome files (λ held. LoadsUnlessOom view r (frames_by_files held c.sections c.answers address))
     → IfSome files (λ held. LoadsUnlessOom (λ frames. frames) (result_map view r) (frames_by_files held c.sections c.answers address))
-gives_frames view None c address r h = tt
-gives_frames view (Some held) c address r h = seen_unless view r (frames_by_files held c.sections c.answers address) h
+by_files view None c address r h = tt
+by_files view (Some held) c address r h = seen_unless view r (frames_by_files held c.sections c.answers address) h
+
+-- frames, as they are seen
+pub gives_frames : {X : Type 0} (view : X → List FrameRecord) (l : LoaderState) (address : ℕ) (r : Loading X) → IfSome l.files (λ held. LoadsUnlessOom view r (frames_by_files held l.context.sections l.context.answers address))
+    → (WaitsForNone l.context address → LoadsUnlessOom view r (ended_frames_of l.context address)) → (address ≡ 2 ^ 64 - 1 → Exactly view r (Ok [])) → MayGiveBy l address (result_map view r)
+gives_frames view l address r h ended last = (
+  by_files view l.files l.context address r h,
+  λ w. seen_unless view r (ended_frames_of l.context address) (ended w),
+  λ e. seen_exactly view r (Ok []) (last e),
+)
 
 -- where none is found, none is what is given
 exactly_none : {X : Type 0} (view : X → Location) (r : Loading (Option X)) (given : Loading (Option Location)) → r ≡ Ok None → LoadsUnlessOom (option_map view) r given → Exactly (option_map view) r given

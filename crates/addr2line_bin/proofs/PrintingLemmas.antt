@@ -1,7 +1,8 @@
 -- A run prints what is asked for one after another.
-use Rattle.std.proofs.Common.{◌≡◌, ◌∙◌, inl, inr, ℕ, List, [], ◌∷◌, ◌++◌, Option, Some, Result, Ok, Err, refl, sym, ap, append-nil, append_assoc, OnOk, IfErr, MatchResult, true, map, drop, drop-cons, length, get_or, add-one, ◌<◌, ◌+◌}
+use Rattle.std.proofs.Common.{◌≡◌, ◌∙◌, inl, inr, ℕ, List, [], ◌∷◌, ◌++◌, Option, Some, Result, Ok, Err, refl, sym, ap, append-nil, append_assoc, OnOk, IfErr, MatchResult, true, map, drop, drop-cons, length, get_or, add-one, arith, subst, ◌<◌, ◌≤◌, ◌+◌}
 use Rattle.std.specs.Io.KnownBytes.{Appends}
 use Rattle.std.proofs.lemmas.Grind.{flat_map-append}
+use Rattle.std.proofs.lemmas.List.{length-append}
 use Rattle.addr2line_bin.specs.Put.{StreamState, WritesPrefix, Reports, has_fault, plus}
 use Rattle.addr2line_bin.specs.Stopped.{IsFault}
 use Rattle.addr2line_bin.specs.Print.{ProbeText, AllTexts, errs, last_text, outs}
@@ -16,13 +17,13 @@ use Rattle.addr2line_bin.proofs.Runs.{flushes_both, no_refused_growth, plus_noth
 abbrev pub Weaker : TextOf → TextOf → Type 0
 Weaker Now Is = (p : Option ℕ) (t : ProbeText) → Now p t → Is p t
 
-all_weaker : (Now Is : TextOf) → Weaker Now Is → (ps : List (Option ℕ)) (ts : List ProbeText) → AllTexts Now ps ts → AllTexts Is ps ts
+pub all_weaker : (Now Is : TextOf) → Weaker Now Is → (ps : List (Option ℕ)) (ts : List ProbeText) → AllTexts Now ps ts → AllTexts Is ps ts
 all_weaker Now Is w [] [] a = tt
 all_weaker Now Is w [] (t ∷ ts) a = absurd a
 all_weaker Now Is w (p ∷ ps) [] a = absurd a
 all_weaker Now Is w (p ∷ ps) (t ∷ ts) a = (w p t a.0, all_weaker Now Is w ps ts a.1)
 
-all_append : (Is : TextOf) (ps qs : List (Option ℕ)) (ts us : List ProbeText) → AllTexts Is ps ts → AllTexts Is qs us → AllTexts Is (ps ++ qs) (ts ++ us)
+pub all_append : (Is : TextOf) (ps qs : List (Option ℕ)) (ts us : List ProbeText) → AllTexts Is ps ts → AllTexts Is qs us → AllTexts Is (ps ++ qs) (ts ++ us)
 all_append Is [] qs [] us a b = b
 all_append Is [] qs (t ∷ ts) us a b = absurd a
 all_append Is (p ∷ ps) qs [] us a b = absurd a
@@ -40,13 +41,13 @@ prints_next Now Is oo om on eo em en ps qs w a b = record {
   prints = prints_more oo om on eo em en a.texts b.texts a.prints b.prints;
 }
 
-ends_weaker : (Now Is : TextOf) → Weaker Now Is → (why : Stop) (later rest : List (Option ℕ)) (written told : List ℕ) → EndsAt Now why later written told → EndsAt Is why (later ++ rest) written told
+pub ends_weaker : (Now Is : TextOf) → Weaker Now Is → (why : Stop) (later rest : List (Option ℕ)) (written told : List ℕ) → EndsAt Now why later written told → EndsAt Is why (later ++ rest) written told
 ends_weaker Now Is w stop.OutOfMemory later rest written told e = e
 ends_weaker Now Is w (stop.Output b) [] rest written told e = absurd e
 ends_weaker Now Is w (stop.Output b) (p ∷ later) rest written told e = (e.0, w p e.0 e.1, e.2, e.3)
 
 -- what was printed, and then an early end
-pub ends_next : (Now Is : TextOf) (oo om on eo em en : StreamState) (ps qs rest all : List (Option ℕ)) (why : Stop) → Weaker Now Is → PrintsOf Is oo om eo em ps → EndsEarly Now om on em en qs why []
+unfoldable pub ends_next : (Now Is : TextOf) (oo om on eo em en : StreamState) (ps qs rest all : List (Option ℕ)) (why : Stop) → Weaker Now Is → PrintsOf Is oo om eo em ps → EndsEarly Now om on em en qs why []
     → all ≡ ps ++ (qs ++ rest) → EndsEarly Is oo on eo en all why []
 ends_next Now Is oo om on eo em en ps qs rest all why w a b is = record {
   done = ps ++ b.done;
@@ -66,7 +67,7 @@ ends_next Now Is oo om on eo em en ps qs rest all why w a b is = record {
 }
 
 -- a refused growth, before anything was printed
-pub ends_at_once : (Is : TextOf) (o e : StreamState) (ps : List (Option ℕ)) → EndsEarly Is o o e e ps stop.OutOfMemory []
+unfoldable pub ends_at_once : (Is : TextOf) (o e : StreamState) (ps : List (Option ℕ)) → EndsEarly Is o o e e ps stop.OutOfMemory []
 ends_at_once Is o e ps = record {
   done = [];
   later = ps;
@@ -83,11 +84,31 @@ ends_at_once Is o e ps = record {
 }
 
 -- a refused growth, after all was printed
-pub ends_here : (Is : TextOf) (oo on eo en : StreamState) (ps : List (Option ℕ)) → PrintsOf Is oo on eo en ps → EndsEarly Is oo on eo en ps stop.OutOfMemory []
+unfoldable pub ends_here : (Is : TextOf) (oo on eo en : StreamState) (ps : List (Option ℕ)) → PrintsOf Is oo on eo en ps → EndsEarly Is oo on eo en ps stop.OutOfMemory []
 ends_here Is oo on eo en ps a = ends_next Is Is oo on on eo en en ps [] [] ps stop.OutOfMemory (λ p t h. h) a (ends_at_once Is on en []) (sym (append-nil ps))
 
+-- of one that is asked for at most one is left
+left_of_one : (p : Option ℕ) (done later : List (Option ℕ)) → p ∷ [] ≡ done ++ later → length later ≤ 1
+left_of_one p done later e =
+    let both : 1 ≡ length done + length later = ap length e ∙ length-append done later in
+    omega (arith, both)
+
+-- what was printed, and then an early end at the next
+pub read_next : (Now Is : TextOf) (oo om on eo em en : StreamState) (ps all : List (Option ℕ)) (p : Option ℕ) (why : Stop) → Weaker Now Is → PrintsOf Is oo om eo em ps → EndsEarly Now om on em en (p ∷ []) why []
+    → all ≡ ps ++ p ∷ [] → (b : EndsEarly Is oo on eo en all why []) × (length b.later ≤ 1)
+unfolding ends_next
+read_next Now Is oo om on eo em en ps all p why w a b is = (
+  ends_next Now Is oo om on eo em en ps (p ∷ []) [] all why w a b is,
+  subst (λ xs. length xs ≤ 1) (sym (append-nil b.later)) (left_of_one p b.done b.later b.joins),
+)
+
+-- the same where nothing more is asked for
+pub read_here : (Is : TextOf) (oo on eo en : StreamState) (ps : List (Option ℕ)) → PrintsOf Is oo on eo en ps → (b : EndsEarly Is oo on eo en ps stop.OutOfMemory []) × (length b.later ≤ 1)
+unfolding ends_here ends_next ends_at_once
+read_here Is oo on eo en ps a = (ends_here Is oo on eo en ps a, omega arith)
+
 -- an early end, and then more is reported
-pub ends_reported : (Is : TextOf) (oo on eo em en : StreamState) (ps : List (Option ℕ)) (why : Stop) (more : List ℕ) → EndsEarly Is oo on eo em ps why [] → Reports em en more
+unfoldable pub ends_reported : (Is : TextOf) (oo on eo em en : StreamState) (ps : List (Option ℕ)) (why : Stop) (more : List ℕ) → EndsEarly Is oo on eo em ps why [] → Reports em en more
     → EndsEarly Is oo on eo en ps why more
 ends_reported Is oo on eo em en ps why more p t = record {
   done = p.done;

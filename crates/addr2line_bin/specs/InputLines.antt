@@ -48,15 +48,16 @@ abbrev pub AreLines : InputState → InputState → List (List ℕ) → Type 0
 AreLines old new lines = IfSome old.bytes (λ bytes. (rest : List ℕ) × StartWith bytes lines rest
     × (new.has_fault ≡ false → IsInputEnd rest (length lines)))
 
--- the lines are the first ones of an input
-abbrev pub AreFirstLines : InputState → List (List ℕ) → Type 0
-AreFirstLines old lines = IfSome old.bytes (λ bytes. (rest : List ℕ) × StartWith bytes lines rest)
+-- the lines are the first ones of an input; where no read has failed, nothing behind them was read
+abbrev pub AreFirstLines : InputState → InputState → List (List ℕ) → Type 0
+AreFirstLines old new lines = IfSome old.bytes (λ bytes. (rest : List ℕ)
+    × StartWith bytes lines rest × (new.has_fault ≡ false → new.bytes ≡ Some rest))
 
 -- all of them, or the first ones where a run ended early
 abbrev pub AreLinesUnlessStopped : InputState → InputState → List (List ℕ)
     → Result (Unit {0}) Stop → Type 0
 AreLinesUnlessStopped old new lines (Ok _) = AreLines old new lines
-AreLinesUnlessStopped old new lines (Err why) = AreFirstLines old lines
+AreLinesUnlessStopped old new lines (Err why) = AreFirstLines old new lines
 
 -- the addresses that lines are
 abbrev pub line_probes : List (List ℕ) → List (Option ℕ)

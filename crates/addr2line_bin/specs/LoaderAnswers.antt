@@ -1,15 +1,17 @@
 -- What a loader answers to the lookups of a run.
--- Own: where its files aren't known, any frames may be given.
-use Rattle.std.specs.Prelude.{◌≡◌, ◌-◌, ◌^◌, ◌⊎◌, ℕ, IfSome, Option, option_map}
+-- Own: where its files aren't known, any frames may be given at an address of a unit that waits for
+-- a split file.
+use Rattle.std.specs.Prelude.{◌≡◌, ◌-◌, ◌^◌, ◌⊎◌, ℕ, List, [], IfSome, Ok, Option, option_map}
 use Rattle.gimli_read.specs.Reading.{Exactly}
 use Rattle.elf.specs.Loading.{Loading, LoadsUnlessOom}
 use Rattle.elf.specs.Sections.{section_range_at}
 use Rattle.elf.specs.Symbols.{NamedAddress, symbol_at}
 use Rattle.addr2line_lines.specs.Location.{Location}
+use Rattle.addr2line_units.specs.Frames.{FrameRecord}
 use Rattle.addr2line_units.specs.Located.{location_of, spans_of}
 use Rattle.addr2line.specs.Context.{ContextState, IsReady}
 use Rattle.addr2line.specs.FramesByFiles.{frames_by_files}
-use Rattle.addr2line.specs.Loader.{LoaderState}
+use Rattle.addr2line.specs.Loader.{LoaderState, WaitsForNone, ended_frames_of}
 use Rattle.addr2line.specs.SplitFiles.{of_file}
 use Rattle.addr2line_bin.specs.FileAnswers.{FileAnswers}
 
@@ -24,12 +26,21 @@ MayFindBy c address found =
     LoadsUnlessOom (λ x. x) found (of_file (location_of c.sections address))
     × (IsReadyAt c address → Exactly (λ x. x) found (of_file (location_of c.sections address)))
 
+-- a lookup of frames gives what the files say, where they are known; where it waits for no split
+-- file, what the sections say, whatever the files are; and none at the last address, without memory
+abbrev pub MayGiveBy : LoaderState → ℕ → Loading (List FrameRecord) → Type 0
+MayGiveBy l address given =
+    IfSome l.files (λ held. LoadsUnlessOom (λ frames. frames) given
+    (frames_by_files held l.context.sections l.context.answers address))
+    × (WaitsForNone l.context address
+    → LoadsUnlessOom (λ frames. frames) given (ended_frames_of l.context address))
+    × (address ≡ 2 ^ 64 - 1 → Exactly (λ frames. frames) given (Ok []))
+
 -- what it answers by its sections, its main file, and its files
 abbrev pub loader_answers : LoaderState → FileAnswers
 loader_answers l = record {
   MayFind = MayFindBy l.context;
-  MayGive = λ address given. IfSome l.files (λ held. LoadsUnlessOom (λ frames. frames) given
-      (frames_by_files held l.context.sections l.context.answers address));
+  MayGive = MayGiveBy l;
   symbol_at = λ address. option_map (λ (s : NamedAddress). s.name) (symbol_at address l.object);
   section_at = λ name. section_range_at name l.object;
   spans_in = λ low high. spans_of l.context.sections low high;

@@ -2,7 +2,7 @@
 -- Own: a failed write or flush of the output ends the run; so does a refused growth that no line of
 -- a lookup's fault tells. All texts before are whole, and of the one at which it ended a beginning
 -- went out where the output failed, and nothing where a growth was refused.
-use Rattle.std.specs.Prelude.{◌≡◌, ◌⊎◌, ℕ, List, [], ◌∷◌, ◌++◌, length, Option, Result, Ok, Err}
+use Rattle.std.specs.Prelude.{◌≡◌, ◌⊎◌, ◌≤◌, ℕ, List, [], ◌∷◌, ◌++◌, length, Option, Result, Ok, Err}
 use Rattle.std.specs.Io.KnownBytes.{Appends}
 use Rattle.addr2line_bin.specs.Put.{StreamState, Reports, plus}
 use Rattle.addr2line_bin.specs.Stopped.{Stops}
@@ -55,6 +55,13 @@ abbrev pub PrintsUnlessStopped : TextOf → StreamState → StreamState → Stre
 PrintsUnlessStopped IsText oo on eo en probes (Ok _) = PrintsOf IsText oo on eo en probes
 PrintsUnlessStopped IsText oo on eo en probes (Err why) =
     EndsEarly IsText oo on eo en probes why []
+
+-- the same where nothing is asked for behind the one at which the run ended
+abbrev pub PrintsReadUnlessStopped : TextOf → StreamState → StreamState → StreamState → StreamState
+    → List (Option ℕ) → Result (Unit {0}) Stop → Type 0
+PrintsReadUnlessStopped IsText oo on eo en probes (Ok _) = PrintsOf IsText oo on eo en probes
+PrintsReadUnlessStopped IsText oo on eo en probes (Err why) =
+    (p : EndsEarly IsText oo on eo en probes why []) × (length p.later ≤ 1)
 
 -- a run ended early, with a last line
 pub record IsCutOff

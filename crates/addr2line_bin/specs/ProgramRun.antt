@@ -1,7 +1,7 @@
 -- A run over a file: what goes to the two streams, and how it ends.
 -- Own: a section that isn't there, addresses that can't be collected, and debug information that
 -- can't be loaded are told on a line of standard error, and nothing is printed.
-use Rattle.std.specs.Prelude.{◌≡◌, ◌⊎◌, ℕ, List, map, Option, Some, None, option_map, Result, Ok, Err, string_bytes}
+use Rattle.std.specs.Prelude.{◌≡◌, ◌⊎◌, ◌≤◌, ℕ, List, length, map, Option, Some, None, option_map, Result, Ok, Err, string_bytes}
 use Rattle.gimli_read.specs.declared.range.Range.{Range}
 use Rattle.elf.specs.Loading.{Loading}
 use Rattle.elf.specs.declared.error.LoaderError.TheVariants.{OutOfMemory}
@@ -32,14 +32,15 @@ abbrev pub OnlyTells : StreamState → StreamState → StreamState → StreamSta
 OnlyTells oo on eo en line e = (on ≡ oo) × Reports eo en line × (e ≡ exit.Failed)
 
 -- what the lines of an input ask for is printed: of all, or of the first ones where the run ended
--- early
+-- early; no line was read before the text of the one before it was written
 abbrev pub PrintsLines : FileAnswers → Setup → InputState → InputState → StreamState → StreamState
     → StreamState → StreamState → Exit → Type 0
 PrintsLines answers s io inn oo on eo en e = (lines : List (List ℕ))
     × ((AreLines io inn lines × PrintsOf (IsText answers s) oo on eo en (line_probes lines)
     × (e ≡ exit.Done))
-    ⊎ (AreFirstLines io lines
-    × IsCutOff (IsText answers s) s.name.now oo on eo en (line_probes lines) e))
+    ⊎ (AreFirstLines io inn lines
+    × ((cut : IsCutOff (IsText answers s) s.name.now oo on eo en (line_probes lines) e)
+    × (length cut.prints.later ≤ 1))))
 
 -- what the addresses of all rows ask for is printed; or memory was refused for them
 abbrev pub PrintsAllRows : FileAnswers → Setup → StreamState → StreamState → StreamState

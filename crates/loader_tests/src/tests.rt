@@ -1,9 +1,13 @@
 //! Worked cases: split files, symbols and sections of ELF files, and why a file can't be loaded.
 
+mod host;
+mod late;
+mod symbols;
+
 use addr2line::gimli::read::{Error, Reader};
 use addr2line::{FileSource, FrameIter, FunctionName, LoaderError, LoaderOver, MemoryFiles, Range};
 use addr2line_lines_tests::vectors::{
-    ABBREV, INFO, LINE, LINE_V5, MAIN_INFO, SPLIT_ABBREV, SPLIT_INFO, WAITING_ABBREV,
+    ABBREV, INFO, LINE, LINE_V5, MAIN_INFO, SPLIT_ABBREV, SPLIT_INFO,
 };
 use elf_writer::{SHAPES, Section, elf_file, plain};
 use std::alloc::{AllocError, Global};
@@ -22,6 +26,29 @@ const WHOLE_PATH_INFO: &[u8] = b"\x2c\0\0\0\x05\0\x04\x08\0\0\0\0\x88\x77\x66\x5
 // The directory ends in `/`.
 const SLASH_INFO: &[u8] = b"\x2b\0\0\0\x05\0\x04\x08\0\0\0\0\x88\x77\x66\x55\x44\x33\x22\x11\
     \x01\0\0\0\0/w/\0s.dwo\0\x10\0\0\0\0\0\0\0\x20\0\0\0";
+
+// Units that wait: one as the vector has it, one without DW_AT_dwo_name, and one without
+// DW_AT_comp_dir.
+const ABBREVS: &[u8] = b"\x01\x4a\0\x10\x17\x1b\x08\x76\x08\x11\x01\x12\x06\0\0\
+    \x02\x4a\0\x10\x17\x1b\x08\x11\x01\x12\x06\0\0\
+    \x03\x4a\0\x10\x17\x76\x08\x11\x01\x12\x06\0\0\0";
+
+const NO_PATH_INFO: &[u8] = b"\x24\0\0\0\x05\0\x04\x08\0\0\0\0\x88\x77\x66\x55\x44\x33\x22\x11\
+    \x02\0\0\0\0/w\0\x10\0\0\0\0\0\0\0\x20\0\0\0";
+
+const NO_DIRECTORY_INFO: &[u8] = b"\x27\0\0\0\x05\0\x04\x08\0\0\0\0\x88\x77\x66\x55\x44\x33\x22\
+    \x11\x03\0\0\0\0s.dwo\0\x10\0\0\0\0\0\0\0\x20\0\0\0";
+
+const EMPTY_DIRECTORY_INFO: &[u8] = b"\x28\0\0\0\x05\0\x04\x08\0\0\0\0\x88\x77\x66\x55\x44\x33\
+    \x22\x11\x01\0\0\0\0\0s.dwo\0\x10\0\0\0\0\0\0\0\x20\0\0\0";
+
+// The unit without a directory waits for "/w/s.dwo".
+const WHOLE_PATH_ALONE_INFO: &[u8] = b"\x2a\0\0\0\x05\0\x04\x08\0\0\0\0\x88\x77\x66\x55\x44\
+    \x33\x22\x11\x03\0\0\0\0/w/s.dwo\0\x10\0\0\0\0\0\0\0\x20\0\0\0";
+
+// The directory is no UTF-8.
+const NO_TEXT_DIRECTORY_INFO: &[u8] = b"\x2a\0\0\0\x05\0\x04\x08\0\0\0\0\x88\x77\x66\x55\x44\
+    \x33\x22\x11\x01\0\0\0\0/\xff\0s.dwo\0\x10\0\0\0\0\0\0\0\x20\0\0\0";
 
 // The name is no UTF-8.
 const NO_TEXT_INFO: &[u8] = b"\x2a\0\0\0\x05\0\x04\x08\0\0\0\0\x88\x77\x66\x55\x44\x33\x22\x11\
@@ -121,7 +148,7 @@ fn file_of(
 }
 
 fn main_file(alloc: Global, info: &[u8]) -> Result<Vec<u8>, AllocError> {
-    file_of(alloc, 0x10, 0x20, [WAITING_ABBREV, info, &LINE_V5])
+    file_of(alloc, 0x10, 0x20, [ABBREVS, info, &LINE_V5])
 }
 
 fn plain_file(alloc: Global) -> Result<Vec<u8>, AllocError> {
@@ -161,20 +188,26 @@ fn files_of(alloc: Global, main: Vec<u8>) -> Result<MemoryFiles, AllocError> {
     Ok(files)
 }
 
-fn put_split(alloc: Global, files: &mut MemoryFiles, split: Split) -> Result<(), AllocError> {
+fn put_split(
+    alloc: Global,
+    files: &mut MemoryFiles,
+    path: &str,
+    split: Split,
+) -> Result<(), AllocError> {
     let split = split_bytes(alloc, split)?;
-    files.put(SPLIT, split.as_slice())
+    files.put(path, split.as_slice())
 }
 
-// A main file of the unit, a plain file, and a split file, if there is one.
+// A main file of the unit, a plain file, and what stands at a path, if there is something.
 fn split_files(
     alloc: Global,
     info: &[u8],
+    path: &str,
     split: Option<Split>,
 ) -> Result<MemoryFiles, AllocError> {
     let mut files = files_of(alloc, main_file(alloc, info)?)?;
     if let Some(split) = split {
-        put_split(alloc, &mut files, split)?;
+        put_split(alloc, &mut files, path, split)?;
     }
     Ok(files)
 }
@@ -202,10 +235,11 @@ fn told_or_fault<F: FileSource>(
 fn told_split(
     alloc: Global,
     info: &[u8],
+    path: &str,
     split: Option<Split>,
     sup: Option<&str>,
 ) -> [[u64; 2]; 2] {
-    match split_files(alloc, info, split) {
+    match split_files(alloc, info, path, split) {
         Ok(files) => told_or_fault(alloc, LoaderOver::over(alloc, files, MAIN, sup)),
         Err(_) => [[28, 2]; 2],
     }
@@ -215,57 +249,23 @@ fn told_split(
 fn a_split_file_is_found_by_its_path(rt: HostRuntime) {
     let whole = Some(Split::Unit(SPLIT_INFO));
     let cases = [
-        (MAIN_INFO, whole, H),
-        (SLASH_INFO, whole, H),
-        (WHOLE_PATH_INFO, whole, H),
-        // None, another one, one that is no ELF file, and one whose unit isn't whole.
-        (MAIN_INFO, None, LINE_1),
-        (MAIN_INFO, Some(Split::Unit(FOREIGN_INFO)), LINE_1),
-        (MAIN_INFO, Some(Split::Bytes(b"h")), LINE_1),
-        (MAIN_INFO, Some(Split::Unit(CUT_INFO)), LINE_1),
-        (NO_TEXT_INFO, whole, [26, 0]),
+        (MAIN_INFO, SPLIT, whole, H),
+        (SLASH_INFO, SPLIT, whole, H),
+        (WHOLE_PATH_INFO, SPLIT, whole, H),
+        (WHOLE_PATH_ALONE_INFO, SPLIT, whole, H),
+        (NO_DIRECTORY_INFO, "s.dwo", whole, H),
+        (EMPTY_DIRECTORY_INFO, "s.dwo", whole, H),
+        (NO_PATH_INFO, SPLIT, whole, LINE_1),
+        (MAIN_INFO, SPLIT, None, LINE_1),
+        // A path that is no UTF-8 leaves the unit open.
+        (NO_TEXT_INFO, SPLIT, whole, [26, 0]),
+        (NO_TEXT_DIRECTORY_INFO, SPLIT, whole, [26, 0]),
     ];
-    for (info, split, want) in cases {
+    for (info, path, split, want) in cases {
         for sup in [None, Some(PLAIN)] {
-            assert_eq!(rt; told_split(rt.alloc(), info, split, sup), [want; 2]);
+            assert_eq!(rt; told_split(rt.alloc(), info, path, split, sup), [want; 2]);
         }
     }
-}
-
-// Puts a split file where a loader looks for it, 28 if memory was refused.
-fn put_late(alloc: Global, loader: &mut LoaderOver<MemoryFiles>) -> u64 {
-    match put_split(alloc, loader.files_mut(), Split::Unit(SPLIT_INFO)) {
-        Ok(()) => 0,
-        Err(_) => 28,
-    }
-}
-
-// What a loader finds before and after a split file is put at its path.
-fn told_late(alloc: Global, loader: LoaderOver<MemoryFiles>) -> ([u64; 2], u64, [u64; 2]) {
-    let mut loader = loader;
-    let first = told(alloc, &mut loader);
-    let put = put_late(alloc, &mut loader);
-    (first, put, told(alloc, &mut loader))
-}
-
-// The same of a file whose unit waits, or a fault's number.
-fn told_late_of(
-    alloc: Global,
-    files: Result<MemoryFiles, AllocError>,
-) -> ([u64; 2], u64, [u64; 2]) {
-    let Ok(files) = files else {
-        return ([28, 2], 28, [0; 2]);
-    };
-    match LoaderOver::over(alloc, files, MAIN, None) {
-        Ok(loader) => told_late(alloc, loader),
-        Err(error) => ([fault_code(error), 1], 0, [0; 2]),
-    }
-}
-
-#[test]
-fn the_first_answer_to_a_load_stays(rt: HostRuntime) {
-    let files = split_files(rt.alloc(), MAIN_INFO, None);
-    assert_eq!(rt; told_late_of(rt.alloc(), files), (LINE_1, 0, LINE_1));
 }
 
 // A main file: of `.text` at an address with a size, one whose unit isn't whole, or these bytes.

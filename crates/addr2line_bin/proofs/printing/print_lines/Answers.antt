@@ -1,4 +1,4 @@
-use Rattle.std.proofs.Common.{◌≡◌, ◌∙◌, ◌+◌, [], ◌∷◌, ◌++◌, ap, arith, refl, subst, sym}
+use Rattle.std.proofs.Common.{◌≡◌, ◌∙◌, ◌+◌, false, true, [], ◌∷◌, ◌++◌, ap, arith, refl, subst, sym}
 use Rattle.std.proofs.lemmas.Result.{err_from_is_err_and}
 use Rattle.std.proofs.lemmas.List.{length-append}
 use Rattle.addr2line_bin.specs.Address.{address_in}
@@ -7,7 +7,7 @@ use Rattle.addr2line_bin.specs.Printing.{PrintsOf}
 use Rattle.addr2line_bin.specs.ProbeTexts.{IsText}
 use Rattle.addr2line_bin.proofs.AnswerLemmas.{stays_itself, stays_on, text_before}
 use Rattle.addr2line_bin.proofs.LineLemmas.{probes_more, read_end, read_foreign, read_full, read_more, read_nothing, read_part}
-use Rattle.addr2line_bin.proofs.PrintingLemmas.{ends_here, ends_next, prints_next, prints_none}
+use Rattle.addr2line_bin.proofs.PrintingLemmas.{prints_next, prints_none, read_here, read_next}
 use Rattle.addr2line_bin.proofs.printing.print_lines.Goals as goal
 
 pub loop-init : goal.loop-init
@@ -28,8 +28,9 @@ returns-in_err-next_line g c =
     record {
       gives = rw (p.1, p.2) (
         inv.0,
-        read_part (i c.args.input.now).bytes (i c.loop.input).bytes inv.0 inv.2,
-        ends_here (IsText first c.args.setup.now) (o c.args.out.now) (o c.loop.out) (e c.args.err.now) (e c.loop.err) (line_probes inv.0) inv.3,
+        read_part (i c.args.input.now).bytes (i c.loop.input).bytes (i c.next_line.new.input).bytes inv.0 (i c.next_line.new.input).has_fault inv.2
+            (λ q. let f : true ≡ false = sym c.in_err-next_line.ensures.refused ∙ q in absurd cc),
+        read_here (IsText first c.args.setup.now) (o c.args.out.now) (o c.loop.out) (e c.args.err.now) (e c.loop.err) (line_probes inv.0) inv.3,
       );
     }
 
@@ -71,9 +72,9 @@ returns-in_err-step g c =
     record {
       gives = rw (p.1, p.2) (
         lines,
-        read_part (i c.args.input.now).bytes (i c.next_line.new.input).bytes lines so_far,
-        ends_next (IsText now setup) (IsText first setup) (o c.args.out.now) (o c.loop.out) (o c.step.new.out) (e c.args.err.now) (e c.loop.err) (e c.step.new.err)
-            (line_probes inv.0) (c.address_of.result ∷ []) [] (line_probes lines) _ (text_before first now c.loop.invariant.0 setup) inv.3 c.in_err-step.ensures.gives more,
+        read_part (i c.args.input.now).bytes (i c.next_line.new.input).bytes (i c.next_line.new.input).bytes lines (i c.next_line.new.input).has_fault so_far (λ q. refl),
+        read_next (IsText now setup) (IsText first setup) (o c.args.out.now) (o c.loop.out) (o c.step.new.out) (e c.args.err.now) (e c.loop.err) (e c.step.new.err)
+            (line_probes inv.0) (line_probes lines) c.address_of.result _ (text_before first now c.loop.invariant.0 setup) inv.3 c.in_err-step.ensures.gives more,
       );
     }
 

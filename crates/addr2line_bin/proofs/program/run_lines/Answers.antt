@@ -10,6 +10,7 @@ returns-in-Ok g c =
     record { gives = (a.0, inl (a.1, a.2, refl)) }
 
 pub returns-in-Err : goal.returns-in-Err
+unfolding ends_reported
 returns-in-Err g c =
     let a = c.in-Err.ensures.gives in
     let Is = IsText (g.L.Lookups.answers c.args.lookups.now) c.args.setup.now in
@@ -20,11 +21,14 @@ returns-in-Err g c =
         a.0,
         inr (
           a.1,
-          record {
-            why = c.in-Err.stop;
-            prints = ends_reported Is (o c.args.out.now) (o c.print_lines.new.out) (e c.args.err.now) (e c.print_lines.new.err) (e c.tell_last.new.err) (line_probes a.0) c.in-Err.stop _ a.2 c.tell_last.ensures.err;
-            exit = c.tell_last.ensures.exit;
-          },
+          (
+            record {
+              why = c.in-Err.stop;
+              prints = ends_reported Is (o c.args.out.now) (o c.print_lines.new.out) (e c.args.err.now) (e c.print_lines.new.err) (e c.tell_last.new.err) (line_probes a.0) c.in-Err.stop _ a.2.0 c.tell_last.ensures.err;
+              exit = c.tell_last.ensures.exit;
+            },
+            a.2.1,
+          ),
         ),
       );
     }

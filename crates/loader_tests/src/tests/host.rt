@@ -1,0 +1,40 @@
+//! Loaders over files of the host.
+
+use super::{fault_code, plain_file, text_of};
+use addr2line::{Loader, LoaderError};
+use std::test::Fail;
+use std::{env, fs, process};
+
+// The addresses of `.text` and the line at 0x20 in a file of the host, or a fault's number.
+fn text_in(loader: Result<Loader, LoaderError>) -> [u64; 3] {
+    match loader {
+        Ok(loader) => text_of(loader),
+        Err(error) => [fault_code(error), 0, 9],
+    }
+}
+
+// What loaders over the host's files say: of that file, of no file, and of both beside each other.
+fn told(rt: HostRuntime, file: &str) -> [[u64; 3]; 5] {
+    let empty = "/dev/null";
+    let none = "/there/is/none";
+    [
+        text_in(Loader::new(rt, file)),
+        text_in(Loader::new(rt, none)),
+        text_in(Loader::new_with_sup(rt, file, file)),
+        text_in(Loader::new_with_sup(rt, file, none)),
+        // The main file is read first.
+        text_in(Loader::new_with_sup(rt, empty, none)),
+    ]
+}
+
+#[test]
+fn files_of_the_host_are_loaded_or_refused(rt: HostRuntime) -> Result<(), Fail> {
+    let name = format!(in rt.alloc(); "addr2line-{}", process::id(rt.process()))?;
+    let path = env::temp_dir(&rt)?.join(rt.alloc(), name.as_str())?;
+    fs::write(&rt, path.as_path(), &plain_file(rt.alloc())?)?;
+    let told = told(rt, path.to_str().unwrap_or(""));
+    fs::remove_file(&rt, path.as_path())?;
+    let text = [0x10, 0x30, 3];
+    assert_eq!(rt; told, [text, [21, 0, 9], text, [21, 0, 9], [22, 0, 9]]);
+    Ok(())
+}

@@ -298,9 +298,8 @@ fn line_of<F: FileSource>(loader: &mut LoaderOver<F>) -> u64 {
 }
 
 // The addresses of `.text` in a file, and the line at 0x20.
-fn text_of<F: FileSource>(loader: LoaderOver<F>) -> [u64; 3] {
-    let mut loader = loader;
-    let line = line_of(&mut loader);
+fn text_of<F: FileSource>(loader: &mut LoaderOver<F>) -> [u64; 3] {
+    let line = line_of(loader);
     match loader.get_section_range(b".text") {
         Some(Range { begin, end }) => [begin, end, line],
         None => [0, 0, line],
@@ -313,7 +312,10 @@ fn text_at(alloc: Global, main: Main, path: &str, sup: Option<&str>) -> [u64; 3]
         return [28, 0, 8];
     };
     match LoaderOver::over(alloc, files, path, sup) {
-        Ok(loader) => text_of(loader),
+        Ok(loader) => {
+            let mut loader = loader;
+            text_of(&mut loader)
+        }
         Err(error) => [fault_code(error), 0, 9],
     }
 }

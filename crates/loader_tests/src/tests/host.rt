@@ -8,7 +8,10 @@ use std::{env, fs, process};
 // The addresses of `.text` and the line at 0x20 in a file of the host, or a fault's number.
 fn text_in(loader: Result<Loader, LoaderError>) -> [u64; 3] {
     match loader {
-        Ok(loader) => text_of(loader),
+        Ok(loader) => {
+            let mut loader = loader;
+            text_of(&mut loader)
+        }
         Err(error) => [fault_code(error), 0, 9],
     }
 }

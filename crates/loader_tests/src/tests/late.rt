@@ -35,13 +35,16 @@ fn put_late(alloc: Global, files: &mut RefusingFiles) -> u64 {
 
 // What a loader finds at the last address, and at 0x18 before and after the split file is put at
 // its path, where the first read of it may be refused memory.
-fn told_late(alloc: Global, loader: LoaderOver<RefusingFiles>, refuses: bool) -> [[u64; 2]; 4] {
-    let mut loader = loader;
+fn told_late(
+    alloc: Global,
+    loader: &mut LoaderOver<RefusingFiles>,
+    refuses: bool,
+) -> [[u64; 2]; 4] {
     loader.files_mut().refuses = refuses;
     let last = frame_code(alloc, loader.find_frames(u64::MAX));
-    let first = told(alloc, &mut loader);
+    let first = told(alloc, loader);
     let put = put_late(alloc, loader.files_mut());
-    [last, first, [put, 0], told(alloc, &mut loader)]
+    [last, first, [put, 0], told(alloc, loader)]
 }
 
 // The same of what stands at the path of the split file, or a fault's number.
@@ -54,7 +57,10 @@ fn told_late_of(alloc: Global, split: Option<Split>, refuses: bool) -> [[u64; 2]
         refuses: false,
     };
     match LoaderOver::over(alloc, files, MAIN, None) {
-        Ok(loader) => told_late(alloc, loader, refuses),
+        Ok(loader) => {
+            let mut loader = loader;
+            told_late(alloc, &mut loader, refuses)
+        }
         Err(error) => [[fault_code(error), 1]; 4],
     }
 }

@@ -1,6 +1,6 @@
 -- What a loader answers after lookups, which leave its files, its main file and its sections
 -- (on specs/LoaderAnswers.antt).
-use Rattle.std.proofs.Common.{◌≡◌, ◌-◌, ◌^◌, ◌∙◌, inl, inr, ℕ, Bool, true, false, ◌&&◌, ◌||◌, List, [], ◌∷◌, Option, Some, None, Ok, Err, option_map, ap, refl, subst, sym}
+use Rattle.std.proofs.Common.{◌≡◌, ◌-◌, ◌^◌, ◌∙◌, inl, inr, ◌⊎◌, ℕ, Bool, true, false, ◌&&◌, ◌||◌, List, [], ◌∷◌, Option, Some, None, Ok, Err, option_map, ap, refl, subst, sym}
 use Rattle.std.specs.Prelude.{IfSome, slice_get}
 use Rattle.gimli_read.specs.Reading.{Exactly}
 use Rattle.gimli.specs.Sections.{Sections}
@@ -18,11 +18,12 @@ use Rattle.addr2line_units.specs.FramesLookup.{is_waiting}
 use Rattle.addr2line_units.specs.Located.{location_in, location_of}
 use Rattle.addr2line_units.specs.Parsed.{StaysParsed, decides, has_parsed, ready_along}
 use Rattle.addr2line_units.specs.UnitIndex.{IndexedUnit, index_units}
-use Rattle.addr2line.specs.Context.{ContextState, IsReady}
+use Rattle.addr2line.proofs.NoLoadLemmas.{last_frames}
+use Rattle.addr2line.specs.Context.{ContextState, IsReady, IsUncovered}
 use Rattle.addr2line.specs.Files.{Files}
 use Rattle.addr2line.specs.FramesByFiles.{frames_by_files, stop_frames}
 use Rattle.addr2line.specs.Loader.{AfterLoads, GivesSameFrames, LoaderState, StayEnded, StaysLoaded, WaitsForNone, ended_frames_of}
-use Rattle.addr2line.specs.Lookups.{lookup_stop}
+use Rattle.addr2line.specs.Lookups.{IsKnownFew, lookup_stop}
 use Rattle.addr2line.specs.SplitFiles.{of_file}
 use Rattle.addr2line_bin.specs.FileAnswers.{StaysAnswered}
 use Rattle.addr2line_bin.specs.LoaderAnswers.{IsReadyAt, MayFindBy, MayGiveBy, loader_answers}
@@ -59,6 +60,11 @@ ended_before : (old new : ContextState) → StayEnded old new → (address : ℕ
     → WaitsForNone old address → LoadsUnlessOom (λ frames. frames) given (ended_frames_of old address)
 ended_before old new stays address given h w = subst (λ stop. LoadsUnlessOom (λ frames. frames) given (stop_frames stop)) (stays address w) (h (ap is_waiting (stays address w) ∙ w))
 
+-- where no unit covers an address, none does later
+bare_later : (old new : ContextState) → new.sections ≡ old.sections → (address : ℕ) → (address ≡ 2 ^ 64 - 1) ⊎ IsUncovered old address → (address ≡ 2 ^ 64 - 1) ⊎ IsUncovered new address
+bare_later old new e address (inl last) = inl last
+bare_later old new e address (inr u) = inr (u.0, ap index_units e ∙ u.1, u.2)
+
 pub same_answers : (old new : LoaderState) → StaysLoaded old new → StaysAnswered (loader_answers old) (loader_answers new)
 same_answers old new s = record {
   locations = found_before old.context new.context s.context.sections s.context.parsed;
@@ -67,7 +73,7 @@ same_answers old new s = record {
         (subst (λ x. IfSome old.files (λ held. LoadsUnlessOom (λ frames. frames) given (frames_by_files held new.context.sections x address))) s.context.answers
         (subst (λ (f : Option Files). IfSome f (λ held. LoadsUnlessOom (λ frames. frames) given (frames_by_files held new.context.sections new.context.answers address))) s.files h.0)),
     ended_before old.context new.context (λ q w. ap (λ d. lookup_stop End d new.context.answers q) s.context.sections ∙ ap (λ x. lookup_stop End old.context.sections x q) s.context.answers) address given h.1,
-    h.2,
+    λ bare. h.2 (bare_later old.context new.context s.context.sections address bare),
   );
   symbol_at = ap (λ (o : ObjectFile). λ (address : ℕ). option_map (λ (x : NamedAddress). x.name) (symbol_at address o)) s.object;
   section_at = ap (λ (o : ObjectFile). λ (name : List ℕ). section_range_at name o) s.object;
@@ -86,7 +92,7 @@ same_after_loads probe result old new a = record {
     same_frames old.files old.context new.context a.context.frames address given
         (subst (λ (f : Option Files). IfSome f (λ held. LoadsUnlessOom (λ frames. frames) given (frames_by_files held new.context.sections new.context.answers address))) a.files h.0),
     ended_before old.context new.context a.context.ended address given h.1,
-    h.2,
+    λ bare. h.2 (bare_later old.context new.context a.context.sections address bare),
   );
   symbol_at = ap (λ (o : ObjectFile). λ (address : ℕ). option_map (λ (x : NamedAddress). x.name) (symbol_at address o)) a.object;
   section_at = ap (λ (o : ObjectFile). λ (name : List ℕ). section_range_at name o) a.object;
@@ -106,13 +112,23 @@ by_files : {X : Type 0} (view : X → List FrameRecord) (files : Option Files) (
 by_files view None c address r h = tt
 by_files view (Some held) c address r h = seen_unless view r (frames_by_files held c.sections c.answers address) h
 
+-- a lookup gives none where no unit covers the address
+gives_none : {X : Type 0} (view : X → List FrameRecord) (c : ContextState) (address : ℕ) (r : Loading X) → IsUncovered c address → (WaitsForNone c address → IsKnownFew End c address → Exactly view r (ended_frames_of c address))
+    → Exactly view r (Ok [])
+gives_none view c address (Ok x) u exact = last_frames address c u (Ok (view x)) exact
+gives_none view c address (Err e) u exact = last_frames address c u (Err e) exact
+
 -- frames, as they are seen
 pub gives_frames : {X : Type 0} (view : X → List FrameRecord) (l : LoaderState) (address : ℕ) (r : Loading X) → IfSome l.files (λ held. LoadsUnlessOom view r (frames_by_files held l.context.sections l.context.answers address))
-    → (WaitsForNone l.context address → LoadsUnlessOom view r (ended_frames_of l.context address)) → (address ≡ 2 ^ 64 - 1 → Exactly view r (Ok [])) → MayGiveBy l address (result_map view r)
-gives_frames view l address r h ended last = (
+    → (WaitsForNone l.context address → LoadsUnlessOom view r (ended_frames_of l.context address)) → (address ≡ 2 ^ 64 - 1 → Exactly view r (Ok []))
+    → (WaitsForNone l.context address → IsKnownFew End l.context address → Exactly view r (ended_frames_of l.context address)) → MayGiveBy l address (result_map view r)
+gives_frames view l address r h ended last exact = (
   by_files view l.files l.context address r h,
   λ w. seen_unless view r (ended_frames_of l.context address) (ended w),
-  λ e. seen_exactly view r (Ok []) (last e),
+  λ bare. elim bare [
+    | inl e ↦ seen_exactly view r (Ok []) (last e)
+    | inr u ↦ seen_exactly view r (Ok []) (gives_none view l.context address r u exact)
+  ],
 )
 
 -- where none is found, none is what is given

@@ -9,7 +9,7 @@ use Rattle.elf.specs.Symbols.{NamedAddress, symbol_at}
 use Rattle.addr2line_lines.specs.Location.{Location}
 use Rattle.addr2line_units.specs.Frames.{FrameRecord}
 use Rattle.addr2line_units.specs.Located.{location_of, spans_of}
-use Rattle.addr2line.specs.Context.{ContextState, IsReady}
+use Rattle.addr2line.specs.Context.{ContextState, IsReady, IsUncovered}
 use Rattle.addr2line.specs.FramesByFiles.{frames_by_files}
 use Rattle.addr2line.specs.Loader.{LoaderState, WaitsForNone, ended_frames_of}
 use Rattle.addr2line.specs.SplitFiles.{of_file}
@@ -27,14 +27,16 @@ MayFindBy c address found =
     × (IsReadyAt c address → Exactly (λ x. x) found (of_file (location_of c.sections address)))
 
 -- a lookup of frames gives what the files say, where they are known; where it waits for no split
--- file, what the sections say, whatever the files are; and none at the last address, without memory
+-- file, what the sections say, whatever the files are; and none, without memory, where no unit
+-- covers the address
 abbrev pub MayGiveBy : LoaderState → ℕ → Loading (List FrameRecord) → Type 0
 MayGiveBy l address given =
     IfSome l.files (λ held. LoadsUnlessOom (λ frames. frames) given
     (frames_by_files held l.context.sections l.context.answers address))
     × (WaitsForNone l.context address
     → LoadsUnlessOom (λ frames. frames) given (ended_frames_of l.context address))
-    × (address ≡ 2 ^ 64 - 1 → Exactly (λ frames. frames) given (Ok []))
+    × ((address ≡ 2 ^ 64 - 1) ⊎ IsUncovered l.context address
+    → Exactly (λ frames. frames) given (Ok []))
 
 -- what it answers by its sections, its main file, and its files
 abbrev pub loader_answers : LoaderState → FileAnswers

@@ -50,12 +50,13 @@ PrintsAllRows answers s oo on eo en e =
     × PrintsRun (IsText answers s) s.name.now oo on eo en (map Some addresses) e)
     ⊎ OnlyTells oo on eo en (addresses_fault_text s.name.now OutOfMemory) e
 
--- what is asked for is printed
+-- what is asked for is printed; the input is read for its lines alone
 abbrev pub PrintsAsked : FileAnswers → Setup → Probes → InputState → InputState → StreamState
     → StreamState → StreamState → StreamState → Exit → Type 0
-PrintsAsked answers s probes.All io inn oo on eo en e = PrintsAllRows answers s oo on eo en e
+PrintsAsked answers s probes.All io inn oo on eo en e =
+    PrintsAllRows answers s oo on eo en e × (inn ≡ io)
 PrintsAsked answers s (probes.Words v) io inn oo on eo en e =
-    PrintsRun (IsText answers s) s.name.now oo on eo en (probes_in v.items) e
+    PrintsRun (IsText answers s) s.name.now oo on eo en (probes_in v.items) e × (inn ≡ io)
 PrintsAsked answers s probes.Lines io inn oo on eo en e =
     PrintsLines answers s io inn oo on eo en e
 
@@ -91,7 +92,7 @@ pub record IsSetup (o : Options) (section : Option Range) (s : Setup) : Type 0 w
 abbrev pub RunsBy : Result (Option Range) (List ℕ) → FileAnswers → Options → InputState → InputState
     → StreamState → StreamState → StreamState → StreamState → Exit → Type 0
 RunsBy (Err name) answers o io inn oo on eo en e =
-    OnlyTells oo on eo en (section_fault_text (string_bytes o.name) name) e
+    OnlyTells oo on eo en (section_fault_text (string_bytes o.name) name) e × (inn ≡ io)
 RunsBy (Ok section) answers o io inn oo on eo en e = (s : Setup)
     × IsSetup o section s × PrintsAsked answers s o.probes io inn oo on eo en e
 
@@ -106,4 +107,4 @@ abbrev pub IsRun : {L : Type 0} → (L → FileAnswers) → Loading L → Option
     → StreamState → StreamState → StreamState → StreamState → Exit → Type 0
 IsRun answers (Ok file) o io inn oo on eo en e = RunsOver (answers file) o io inn oo on eo en e
 IsRun answers (Err fault) o io inn oo on eo en e =
-    OnlyTells oo on eo en (load_fault_text (string_bytes o.name) fault) e
+    OnlyTells oo on eo en (load_fault_text (string_bytes o.name) fault) e × (inn ≡ io)

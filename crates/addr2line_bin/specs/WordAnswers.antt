@@ -6,7 +6,7 @@ use Rattle.clap.specs.declared.error.kind.ErrorKind.{ErrorKind}
 use Rattle.clap.specs.declared.error.kind.ErrorKind.TheVariants as kind
 use Rattle.clap.specs.Values.{kind_of}
 use Rattle.std.specs.Io.KnownBytes.{Appends}
-use Rattle.addr2line_bin.specs.Put.{Reports, StreamState, WritesPrefix}
+use Rattle.addr2line_bin.specs.Put.{Reports, StreamState, WritesPrefix, plus}
 use Rattle.addr2line_bin.specs.Print.{exit_at, last_text}
 use Rattle.addr2line_bin.specs.ProgramRun.{status_at}
 use Rattle.addr2line_bin.specs.Stopped.{IsFault}
@@ -26,11 +26,13 @@ abbrev pub TellsNoMemory : List ℕ → StreamState → StreamState → StreamSt
 TellsNoMemory name oo on eo en status =
     TellsAlone oo on eo en (last_text name stop.OutOfMemory) × (status ≡ 1)
 
--- a text goes out, all of it, or a beginning of it before a fault, which is told as that of a run
+-- a text goes out, all of it, and is flushed, or a beginning of it before a fault, which is told as
+-- that of a run
 abbrev pub ShowsText : List ℕ → List ℕ → StreamState → StreamState → StreamState → StreamState → ℕ
     → Type 0
 ShowsText name text oo on eo en status =
-    (Appends oo.contents on.contents text × (en ≡ eo) × (status ≡ 0))
+    (Appends oo.contents on.contents text × (on.flushes ≡ plus oo.flushes 1)
+    × (on.is_flushed ≡ true) × (en ≡ eo) × (status ≡ 0))
     ⊎ ((why : Stop) × IsFault on why × WritesPrefix oo.contents on.contents text
     × Reports eo en (last_text name why) × (status ≡ status_at (exit_at why)))
 

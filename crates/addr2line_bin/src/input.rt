@@ -1,7 +1,7 @@
 //! Inputs that lines are read from.
 
 ghost use Rattle.std.specs.Prelude.{◌≡◌, IfOk, None, OnErr, Some, if◌then◌else◌};
-ghost use Rattle.std.specs.declared.io.ErrorKind.TheVariants as kind;
+ghost use Rattle.std.specs.declared.io.ErrorKind.TheVariants.{OutOfMemory};
 ghost use Rattle.std.specs.Io.BufRead.{ends_with_byte, strip_last};
 ghost use Rattle.addr2line_bin.specs.InputLines.{ReadsLine};
 
@@ -30,7 +30,7 @@ pub trait Input {
 pub fn next_line<I: Input>(input: &mut I, line: &mut Vec<u8>) -> Result<bool, AllocError>
     ensures gives { IfOk result (λ is_read.
         ReadsLine is_read (I.state input.old) (I.state input.new) line.new.items) }
-    ensures refused { OnErr result ((I.state input.new).fault ≡ Some kind.OutOfMemory) }
+    ensures refused { OnErr result ((I.state input.new).fault ≡ Some OutOfMemory) }
 {
     match input.read_line(line) {
         Ok(is_read) => Ok(is_read),

@@ -103,9 +103,9 @@ read_next Now Is oo om on eo em en ps all p why w a b is = (
 )
 
 -- the same where nothing more is asked for
-pub read_here : (Is : TextOf) (oo on eo en : StreamState) (ps : List (Option ℕ)) → PrintsOf Is oo on eo en ps → (b : EndsEarly Is oo on eo en ps stop.OutOfMemory []) × (length b.later ≤ 1)
+pub read_here : (Is : TextOf) (oo on eo en : StreamState) (ps : List (Option ℕ)) → PrintsOf Is oo on eo en ps → (b : EndsEarly Is oo on eo en ps stop.OutOfMemory []) × (length b.later ≡ 0)
 unfolding ends_here ends_next ends_at_once
-read_here Is oo on eo en ps a = (ends_here Is oo on eo en ps a, omega arith)
+read_here Is oo on eo en ps a = (ends_here Is oo on eo en ps a, refl)
 
 -- an early end, and then more is reported
 unfoldable pub ends_reported : (Is : TextOf) (oo on eo em en : StreamState) (ps : List (Option ℕ)) (why : Stop) (more : List ℕ) → EndsEarly Is oo on eo em ps why [] → Reports em en more

@@ -2,8 +2,9 @@
 -- Own: a failed write or flush of the output ends the run; so does a refused growth that no line of
 -- a lookup's fault tells. All texts before are whole, and of the one at which it ended a beginning
 -- went out where the output failed, and nothing where a growth was refused.
-use Rattle.std.specs.Prelude.{◌≡◌, ◌⊎◌, ◌≤◌, ℕ, List, [], ◌∷◌, ◌++◌, length, Option, Result, Ok, Err}
+use Rattle.std.specs.Prelude.{◌≡◌, ◌⊎◌, ℕ, List, [], ◌∷◌, ◌++◌, length, Option, Result, Ok, Err}
 use Rattle.std.specs.Io.KnownBytes.{Appends}
+use Rattle.addr2line_bin.specs.InputLines.{AreLines, AreLinesBefore, InputState, line_probes}
 use Rattle.addr2line_bin.specs.Put.{StreamState, Reports, plus}
 use Rattle.addr2line_bin.specs.Stopped.{Stops}
 use Rattle.addr2line_bin.specs.Print.{ProbeText, AllTexts, Prints, errs, exit_at, last_text, outs}
@@ -56,12 +57,14 @@ PrintsUnlessStopped IsText oo on eo en probes (Ok _) = PrintsOf IsText oo on eo 
 PrintsUnlessStopped IsText oo on eo en probes (Err why) =
     EndsEarly IsText oo on eo en probes why []
 
--- the same where nothing is asked for behind the one at which the run ended
-abbrev pub PrintsReadUnlessStopped : TextOf → StreamState → StreamState → StreamState → StreamState
-    → List (Option ℕ) → Result (Unit {0}) Stop → Type 0
-PrintsReadUnlessStopped IsText oo on eo en probes (Ok _) = PrintsOf IsText oo on eo en probes
-PrintsReadUnlessStopped IsText oo on eo en probes (Err why) =
-    (p : EndsEarly IsText oo on eo en probes why []) × (length p.later ≤ 1)
+-- the same for the lines that are read from an input, each answered before the next is read
+abbrev pub PrintsReadUnlessStopped : TextOf → InputState → InputState → List (List ℕ)
+    → StreamState → StreamState → StreamState → StreamState → Result (Unit {0}) Stop → Type 0
+PrintsReadUnlessStopped IsText io inn lines oo on eo en (Ok _) =
+    AreLines io inn lines × PrintsOf IsText oo on eo en (line_probes lines)
+PrintsReadUnlessStopped IsText io inn lines oo on eo en (Err why) =
+    (p : EndsEarly IsText oo on eo en (line_probes lines) why [])
+    × AreLinesBefore io inn lines why (length p.later)
 
 -- a run ended early, with a last line
 pub record IsCutOff

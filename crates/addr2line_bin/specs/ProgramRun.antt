@@ -1,14 +1,14 @@
 -- A run over a file: what goes to the two streams, and how it ends.
 -- Own: a section that isn't there, addresses that can't be collected, and debug information that
 -- can't be loaded are told on a line of standard error, and nothing is printed.
-use Rattle.std.specs.Prelude.{◌≡◌, ◌⊎◌, ◌≤◌, ℕ, List, length, map, Option, Some, None, option_map, Result, Ok, Err, string_bytes}
+use Rattle.std.specs.Prelude.{◌≡◌, ◌⊎◌, ℕ, List, length, map, Option, Some, None, option_map, Result, Ok, Err, string_bytes}
 use Rattle.gimli_read.specs.declared.range.Range.{Range}
 use Rattle.elf.specs.Loading.{Loading}
 use Rattle.elf.specs.declared.error.LoaderError.TheVariants.{OutOfMemory}
 use Rattle.addr2line_bin.specs.Put.{StreamState, Reports}
 use Rattle.addr2line_bin.specs.AllAddresses.{AreAllAddresses}
 use Rattle.addr2line_bin.specs.FileAnswers.{FileAnswers}
-use Rattle.addr2line_bin.specs.InputLines.{AreFirstLines, AreLines, InputState, line_probes}
+use Rattle.addr2line_bin.specs.InputLines.{AreLines, AreLinesBefore, InputState, line_probes}
 use Rattle.addr2line_bin.specs.Printing.{IsCutOff, PrintsOf, PrintsRun}
 use Rattle.addr2line_bin.specs.ProbeTexts.{IsText}
 use Rattle.addr2line_bin.specs.Address.{probes_in}
@@ -38,9 +38,8 @@ abbrev pub PrintsLines : FileAnswers → Setup → InputState → InputState →
 PrintsLines answers s io inn oo on eo en e = (lines : List (List ℕ))
     × ((AreLines io inn lines × PrintsOf (IsText answers s) oo on eo en (line_probes lines)
     × (e ≡ exit.Done))
-    ⊎ (AreFirstLines io inn lines
-    × ((cut : IsCutOff (IsText answers s) s.name.now oo on eo en (line_probes lines) e)
-    × (length cut.prints.later ≤ 1))))
+    ⊎ ((cut : IsCutOff (IsText answers s) s.name.now oo on eo en (line_probes lines) e)
+    × AreLinesBefore io inn lines cut.why (length cut.prints.later)))
 
 -- what the addresses of all rows ask for is printed; or memory was refused for them
 abbrev pub PrintsAllRows : FileAnswers → Setup → StreamState → StreamState → StreamState

@@ -26,7 +26,7 @@ kind_of (Ok x) = Ok x
 kind_of (Err e) = Err (error_kind e)
 
 -- the last fault, after a call with this answer
-abbrev pub fault_after : Option ErrorKind → Result (Unit {0}) ErrorKind → Option ErrorKind
+abbrev pub fault_after : {A : Type 0} → Option ErrorKind → Result A ErrorKind → Option ErrorKind
 fault_after before (Ok _) = before
 fault_after before (Err kind) = Some kind
 

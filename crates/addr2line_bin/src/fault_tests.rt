@@ -2,11 +2,12 @@
 
 use crate::engine::Exit;
 use crate::input::Lines;
-use crate::test_runs::{Fixed, Found, Refusing, run_lookups};
+use crate::test_runs::{Failing, Fixed, Found, run_lookups};
 use crate::test_streams::Streams;
 use addr2line::gimli::read::Error;
 use addr2line::{LoaderError, Location};
 use std::alloc::Global;
+use std::io::{BufReader, ErrorKind, Read};
 use std::test::Fail;
 
 // What each lookup gives, and the symbol's name.
@@ -246,17 +247,46 @@ fn each_fault_of_a_file_has_its_line(rt: HostRuntime) -> Result<(), Fail> {
     Ok(())
 }
 
-#[test]
-fn memory_that_is_refused_for_a_line_is_told(rt: HostRuntime) -> Result<(), Fail> {
-    let mut streams = Streams::sound(rt.alloc());
+// Whether a run writes these texts, and ends so, whose input has these bytes before a read fails.
+fn goes(
+    alloc: Global,
+    input: &'static [u8],
+    fault: ErrorKind,
+    want: (&str, &str, Exit),
+) -> Result<bool, Fail> {
+    let reader = BufReader::new(alloc, input.chain(Failing { fault }))?;
+    let mut streams = Streams::sound(alloc);
     let file = Fixed::new(Ok(None));
+    let given = ["a2l", "-e", "f"];
     let exit = run_lookups(
-        rt.alloc(),
-        &["a2l", "-e", "f"],
+        alloc,
+        &given,
         Ok(file),
-        &mut Refusing,
+        &mut Lines::new(reader),
         &mut streams,
     )?;
-    assert!(rt; exit == Exit::Failed && streams.have("", "a2l: out of memory\n"));
+    Ok(exit == want.2 && streams.have(want.0, want.1))
+}
+
+#[test]
+fn a_failed_read_ends_the_lines_unless_memory_was_refused(rt: HostRuntime) -> Result<(), Fail> {
+    let told = "a2l: out of memory\n";
+    let cases: [(&'static [u8], ErrorKind, (&str, &str, Exit)); 5] = [
+        (b"10\n2", ErrorKind::Other, ("??:0\n", "", Exit::Done)),
+        (b"10\n", ErrorKind::BrokenPipe, ("??:0\n", "", Exit::Done)),
+        (b"", ErrorKind::UnexpectedEof, ("", "", Exit::Done)),
+        (
+            b"10\n2",
+            ErrorKind::OutOfMemory,
+            ("??:0\n", told, Exit::Failed),
+        ),
+        (b"", ErrorKind::OutOfMemory, ("", told, Exit::Failed)),
+    ];
+    for (input, fault, want) in cases {
+        assert!(rt;
+            goes(rt.alloc(), input, fault, want)?,
+            "{input:?} {fault:?}"
+        );
+    }
     Ok(())
 }

@@ -1,6 +1,7 @@
 //! Inputs that lines are read from.
 
-ghost use Rattle.std.specs.Prelude.{◌≡◌, IfOk, OnErr, false, true, if◌then◌else◌};
+ghost use Rattle.std.specs.Prelude.{◌≡◌, IfOk, None, OnErr, Some, if◌then◌else◌};
+ghost use Rattle.std.specs.declared.io.ErrorKind.TheVariants.{OutOfMemory};
 ghost use Rattle.std.specs.Io.BufRead.{ends_with_byte, strip_last};
 ghost use Rattle.addr2line_bin.specs.InputLines.{ReadsLine};
 
@@ -10,26 +11,26 @@ use std::io::{BufRead, ErrorKind};
 /// An input that lines are read from.
 pub trait Input {
     ghost use Rattle.std.specs.Prelude.{◌≡◌, IfOk};
-    ghost use Rattle.addr2line_bin.specs.InputLines.{InputState, TakesLine, has_fault_after};
+    ghost use Rattle.addr2line_bin.specs.InputLines.{InputState, TakesLine};
+    ghost use Rattle.addr2line_bin.specs.Put.{fault_after};
 
-    /// The bytes that are left, and whether a read has failed.
+    /// The bytes that are left, and the last fault of a read.
     ghost state: { Self → InputState };
 
     /// Reads the next line, without its end, in place of what `line` has; whether there is one.
     fn read_line(&mut self, line: &mut Vec<u8>) -> Result<bool, ErrorKind>
         ensures gives { IfOk result (λ is_read.
             TakesLine is_read (state self.old).bytes (state self.new).bytes line.new.items) }
-        ensures fault { (state self.new).has_fault
-            ≡ has_fault_after (state self.old).has_fault result };
+        ensures fault { (state self.new).fault ≡ fault_after (state self.old).fault result };
 }
 
 /// Reads the next line as `read_line` does. There is none where the read fails.
 ///
-/// Refused where memory is refused for the line.
+/// Refused instead where it fails since memory was refused for the line.
 pub fn next_line<I: Input>(input: &mut I, line: &mut Vec<u8>) -> Result<bool, AllocError>
     ensures gives { IfOk result (λ is_read.
         ReadsLine is_read (I.state input.old) (I.state input.new) line.new.items) }
-    ensures refused { OnErr result ((I.state input.new).has_fault ≡ true) }
+    ensures refused { OnErr result ((I.state input.new).fault ≡ Some OutOfMemory) }
 {
     match input.read_line(line) {
         Ok(is_read) => Ok(is_read),
@@ -42,17 +43,17 @@ pub fn next_line<I: Input>(input: &mut I, line: &mut Vec<u8>) -> Result<bool, Al
 #[derive(Drop)]
 pub struct Lines<R: BufRead> {
     reader: R,
-    has_fault: bool,
+    fault: Option<ErrorKind>,
 }
 
 impl<R: BufRead> Lines<R> {
     /// An input no read of which has failed.
     pub fn new(reader: R) -> Lines<R>
-        ensures gives { result ≡ record { reader = reader; has_fault = false } }
+        ensures gives { result ≡ record { reader = reader; fault = None } }
     {
         Lines {
             reader,
-            has_fault: false,
+            fault: None,
         }
     }
 }
@@ -84,7 +85,7 @@ fn cut_line_end(line: &mut Vec<u8>)
 }
 
 impl<R: BufRead> Input for Lines<R> {
-    ghost state = { λ s. record { bytes = R.remaining s.reader; has_fault = s.has_fault } };
+    ghost state = { λ s. record { bytes = R.remaining s.reader; fault = s.fault } };
 
     fn read_line(&mut self, line: &mut Vec<u8>) -> Result<bool, ErrorKind> {
         line.clear();
@@ -95,8 +96,9 @@ impl<R: BufRead> Input for Lines<R> {
                 Ok(true)
             }
             Err(error) => {
-                self.has_fault = true;
-                Err(error.kind())
+                let kind = error.kind();
+                self.fault = Some(kind);
+                Err(kind)
             }
         }
     }

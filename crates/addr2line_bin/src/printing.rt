@@ -2,7 +2,6 @@
 
 ghost use Rattle.std.specs.Prelude.{◌≡◌, ◌∷◌, [], ℕ, List, Some, map};
 ghost use Rattle.addr2line_bin.specs.FileAnswers.{StaysAnswered};
-ghost use Rattle.addr2line_bin.specs.InputLines.{AreLinesUnlessStopped, line_probes};
 ghost use Rattle.addr2line_bin.specs.Printing.{PrintsReadUnlessStopped, PrintsUnlessStopped};
 ghost use Rattle.addr2line_bin.specs.ProbeTexts.{IsText};
 ghost use Rattle.addr2line_bin.specs.Address.{probes_in};
@@ -82,10 +81,9 @@ pub fn print_lines<L: Lookups, I: Input, W: Stream, E: Stream>(
     err: &mut E,
 ) -> Result<(), Stop>
     ensures gives { (lines : List (List ℕ))
-        × AreLinesUnlessStopped (I.state input.old) (I.state input.new) lines result
         × PrintsReadUnlessStopped (IsText (L.answers lookups.old) setup.now)
-        (W.state out.old) (W.state out.new) (E.state err.old) (E.state err.new)
-        (line_probes lines) result }
+        (I.state input.old) (I.state input.new) lines (W.state out.old) (W.state out.new)
+        (E.state err.old) (E.state err.new) result }
 {
     let mut texts = Texts::new(setup.alloc);
     let mut line = Vec::new(setup.alloc);

@@ -121,12 +121,13 @@ const CUT: Found = Err(LoaderError::Dwarf(Error::UnexpectedEof));
 fn told_code(
     alloc: Global,
     calls: u64,
+    fault: ErrorKind,
     given: &[&str],
     out: &str,
     lines: &str,
 ) -> Result<usize, Fail> {
     let mut streams = Streams::sound(alloc);
-    streams.err = failing(alloc, calls, ErrorKind::BrokenPipe);
+    streams.err = failing(alloc, calls, fault);
     let file = Fixed::new(CUT);
     let mut input = Lines::new(b"".as_slice());
     let exit = run_lookups(alloc, given, Ok(file), &mut input, &mut streams)?;
@@ -141,10 +142,16 @@ fn told_code(
 }
 
 // The same for no call to eight.
-fn told_codes(alloc: Global, given: &[&str], out: &str, lines: &str) -> Result<[usize; 9], Fail> {
+fn told_codes(
+    alloc: Global,
+    fault: ErrorKind,
+    given: &[&str],
+    out: &str,
+    lines: &str,
+) -> Result<[usize; 9], Fail> {
     let mut codes = [0; 9];
     for calls in 0..9usize {
-        codes[calls] = told_code(alloc, calls as u64, given, out, lines)?;
+        codes[calls] = told_code(alloc, calls as u64, fault, given, out, lines)?;
     }
     Ok(codes)
 }
@@ -152,24 +159,30 @@ fn told_codes(alloc: Global, given: &[&str], out: &str, lines: &str) -> Result<[
 // A line has 62 bytes or 60, so it takes four calls or three.
 #[test]
 fn nothing_is_told_after_a_failed_write(rt: HostRuntime) -> Result<(), Fail> {
-    let lines = "a2l: failed to find location for 0x10: unexpected end of data\n\
+    let locations = "a2l: failed to find location for 0x10: unexpected end of data\n\
         a2l: failed to find location for 0x20: unexpected end of data\n";
-    let got = told_codes(
-        rt.alloc(),
-        &["a2l", "-e", "f", "10", "20"],
-        "??:0\n??:0\n",
-        lines,
-    )?;
-    assert_eq!(rt; got, [0, 20, 40, 60, 62, 82, 102, 122, 124]);
-    let lines = "a2l: failed to find frames for 0x10: unexpected end of data\n\
+    let frames = "a2l: failed to find frames for 0x10: unexpected end of data\n\
         a2l: failed to find frames for 0x20: unexpected end of data\n";
-    let got = told_codes(
-        rt.alloc(),
-        &["a2l", "-f", "-e", "f", "10", "20"],
-        "??\n??:0\n??\n??:0\n",
-        lines,
-    )?;
-    assert_eq!(rt; got, [0, 20, 40, 60, 80, 100, 120, 120, 120]);
+    let cases: [(&[&str], &str, &str, [usize; 9]); 2] = [
+        (
+            &["a2l", "-e", "f", "10", "20"],
+            "??:0\n??:0\n",
+            locations,
+            [0, 20, 40, 60, 62, 82, 102, 122, 124],
+        ),
+        (
+            &["a2l", "-f", "-e", "f", "10", "20"],
+            "??\n??:0\n??\n??:0\n",
+            frames,
+            [0, 20, 40, 60, 80, 100, 120, 120, 120],
+        ),
+    ];
+    for (given, out, lines, want) in cases {
+        for fault in [ErrorKind::BrokenPipe, ErrorKind::StorageFull] {
+            let got = told_codes(rt.alloc(), fault, given, out, lines)?;
+            assert_eq!(rt; got, want);
+        }
+    }
     Ok(())
 }
 

@@ -1,6 +1,6 @@
 //! Runs over files and lookups that tests know.
 
-ghost use Rattle.std.specs.Prelude.{◌≡◌, [], None, Ok, true, option_map};
+ghost use Rattle.std.specs.Prelude.{◌≡◌, [], None, Ok, option_map};
 ghost use Rattle.addr2line_lines.specs.Rows.{result_map};
 ghost use Rattle.addr2line_lines.specs.SeenLocation.{seen_location};
 
@@ -14,7 +14,8 @@ use crate::test_streams::{Streams, words};
 use addr2line::gimli::read::EndianBytes;
 use addr2line::{FrameIter, LoaderError, Location, LocationRangeIter, MemoryFiles, Range};
 use std::alloc::Global;
-use std::io::ErrorKind;
+use std::io;
+use std::io::{ErrorKind, Read};
 use std::test::Fail;
 
 /// A location, none, or a fault.
@@ -82,15 +83,16 @@ impl Fixed {
     }
 }
 
-/// An input for whose lines memory is refused.
+/// A reader each read of which fails.
 #[derive(Drop)]
-pub struct Refusing;
+pub struct Failing {
+    /// By what.
+    pub fault: ErrorKind,
+}
 
-impl Input for Refusing {
-    ghost state = { λ _. record { bytes = None; has_fault = true } };
-
-    fn read_line(&mut self, _line: &mut Vec<u8>) -> Result<bool, ErrorKind> {
-        Err(ErrorKind::OutOfMemory)
+impl Read for Failing {
+    fn read(&mut self, _buf: &mut [u8]) -> io::Result<usize> {
+        Err(io::Error::from(self.fault))
     }
 }
 

@@ -101,11 +101,15 @@ impl Streams {
         }
     }
 
-    /// Whether these texts went to the output, flushed, and to standard error.
-    pub fn have(&self, out: &str, err: &str) -> bool {
+    /// Whether these texts went to the output and to standard error.
+    pub fn took(&self, out: &str, err: &str) -> bool {
         self.out.writer.taken.as_slice() == out.as_bytes()
-            && self.out.writer.flushed == out.len()
             && self.err.writer.taken.as_slice() == err.as_bytes()
+    }
+
+    /// The same, and all of the output was flushed.
+    pub fn have(&self, out: &str, err: &str) -> bool {
+        self.took(out, err) && self.out.writer.flushed == out.len()
     }
 }
 

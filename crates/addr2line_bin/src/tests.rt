@@ -4,7 +4,7 @@ use crate::command::name_of;
 use crate::command_line::command_line;
 use crate::engine::Exit;
 use crate::input::Lines;
-use crate::test_files::{LAST_LENGTH, PLAIN, SPLIT, WAITING};
+use crate::test_files::{LAST_LENGTH, NAMED_APART, PLAIN, SPLIT, SUPPLEMENTARY, WAITING};
 use crate::test_runs::{request_in, run_files};
 use crate::test_streams::{Streams, failing, words};
 use crate::{answer_fault, run_request};
@@ -108,7 +108,8 @@ fn a_run_over_a_file(rt: HostRuntime) -> Result<(), Fail> {
     Ok(())
 }
 
-// The first case is that of a split file which is there, the next ones of one that isn't.
+// The first case is that of a split file which is there, the next ones of one that isn't. The last
+// two are a function whose name stands in the supplementary file.
 #[test]
 fn split_and_supplementary_files_are_read(rt: HostRuntime) -> Result<(), Fail> {
     let h = ("h\n/w/a.c:1\n", "", Exit::Done);
@@ -118,28 +119,25 @@ fn split_and_supplementary_files_are_read(rt: HostRuntime) -> Result<(), Fail> {
         "a2l: failed to load debug info: the file cannot be read\n",
         Exit::Failed,
     );
-    let cases: [(&[&str], &[(&str, &[u8])], (&str, &str, Exit)); 5] = [
+    let alone: &[&str] = &["a2l", "-f", "-e", "f", "18"];
+    let beside: &[&str] = &["a2l", "-f", "-e", "f", "--sup", "g", "18"];
+    let cases: [(&[&str], &[(&str, &[u8])], (&str, &str, Exit)); 8] = [
+        (alone, &[("f", WAITING), ("/w/s.dwo", SPLIT)], h),
+        (alone, &[("f", WAITING)], missing),
         (
-            &["a2l", "-f", "-e", "f", "18"],
-            &[("f", WAITING), ("/w/s.dwo", SPLIT)],
-            h,
-        ),
-        (&["a2l", "-f", "-e", "f", "18"], &[("f", WAITING)], missing),
-        (
-            &["a2l", "-f", "-e", "f", "18"],
+            alone,
             &[("f", WAITING), ("/w/s.dwo", b"#!/bin/sh")],
             missing,
         ),
         (
-            &["a2l", "-f", "-e", "f", "--sup", "g", "18"],
+            beside,
             &[("f", WAITING), ("/w/s.dwo", SPLIT), ("g", &PLAIN)],
             h,
         ),
-        (
-            &["a2l", "-f", "-e", "f", "--sup", "g", "18"],
-            &[("f", WAITING), ("/w/s.dwo", SPLIT)],
-            unread,
-        ),
+        (beside, &[("f", WAITING), ("g", &PLAIN)], missing),
+        (beside, &[("f", WAITING), ("/w/s.dwo", SPLIT)], unread),
+        (beside, &[("f", NAMED_APART), ("g", SUPPLEMENTARY)], h),
+        (alone, &[("f", NAMED_APART), ("g", SUPPLEMENTARY)], missing),
     ];
     for (given, files, want) in cases {
         assert!(rt; goes(rt.alloc(), given, files, want)?, "{given:?}");
@@ -214,19 +212,23 @@ fn help_and_usage_go_to_their_streams(rt: HostRuntime) -> Result<(), Fail> {
     Ok(())
 }
 
+// A write and a flush: how many of these go well, and what went out then.
 #[test]
 fn help_that_cannot_be_written_is_told(rt: HostRuntime) -> Result<(), Fail> {
+    let line = "a2l: error writing output\n";
     let cases = [
-        (ErrorKind::BrokenPipe, "", 0),
-        (ErrorKind::StorageFull, "a2l: error writing output\n", 1),
+        (0, ErrorKind::BrokenPipe, "", "", 0),
+        (1, ErrorKind::BrokenPipe, "addr2line 0.27.1\n", "", 0),
+        (0, ErrorKind::StorageFull, "", line, 1),
+        (1, ErrorKind::StorageFull, "addr2line 0.27.1\n", line, 1),
     ];
-    for (fault, err, status) in cases {
+    for (calls, fault, out, err, status) in cases {
         let mut streams = Streams::sound(rt.alloc());
-        streams.out = failing(rt.alloc(), 0, fault);
+        streams.out = failing(rt.alloc(), calls, fault);
         let got = answer(rt.alloc(), &["a2l", "--version"], &mut streams)?;
         assert!(rt;
-            got == ExitCode::from(status) && streams.have("", err),
-            "{err}"
+            got == ExitCode::from(status) && streams.took(out, err),
+            "{calls} {err}"
         );
     }
     Ok(())

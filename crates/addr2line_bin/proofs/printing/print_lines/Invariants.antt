@@ -6,12 +6,14 @@ use Rattle.addr2line_bin.specs.ProbeTexts.{IsText}
 use Rattle.addr2line_bin.proofs.LineLemmas.{ReadSoFar}
 use Rattle.addr2line_bin.proofs.printing.print_lines.Given as goal
 
--- the lines that were read so far, and that what they ask for was printed
+-- the lines that were read so far, that no read has failed, and that what they ask for was printed
 abbrev pub invariant-loop : goal.invariant-loop
 invariant-loop g l =
     let first = g.L.Lookups.answers l.fn.lookups in
+    let i = g.I.Input.state in
     StaysAnswered first (g.L.Lookups.answers l.lookups)
     × ((lines : List (List ℕ))
     × (length lines ≡ l.counter)
-    × ReadSoFar (g.I.Input.state l.fn.input).bytes (g.I.Input.state l.input).bytes lines
+    × ((i l.input).fault ≡ (i l.fn.input).fault)
+    × ReadSoFar (i l.fn.input).bytes (i l.input).bytes lines
     × PrintsOf (IsText first l.setup) (g.W.Stream.state l.fn.out) (g.W.Stream.state l.out) (g.E.Stream.state l.fn.err) (g.E.Stream.state l.err) (line_probes lines))

@@ -1,7 +1,8 @@
 -- Loads that files answer, one after another (on specs/Loader.antt and specs/FramesByFiles.antt).
-use Rattle.std.proofs.Common.{◌≡◌, ◌≢◌, ◌≤◌, ◌⊎◌, inl, inr, ℕ, List, [], ◌∷◌, ◌++◌, Option, Some, None, Result, Ok, Err, false, arith, true, refl, sym, ap, subst, ◌∙◌}
+use Rattle.std.proofs.Common.{◌≡◌, ◌≢◌, ◌<◌, ◌≤◌, inl, inr, ℕ, List, [], ◌∷◌, ◌++◌, length, Option, Some, None, Result, Ok, Err, false, arith, true, refl, sym, ap, subst, ◌∙◌}
+use Rattle.std.proofs.lemmas.Bool.Decides.{eqb_tells}
 use Rattle.std.proofs.lemmas.List.{append_assoc}
-use Rattle.std.specs.Prelude.{IfSome}
+use Rattle.std.specs.Prelude.{IfSome, OnErr, OnOk}
 use Rattle.gimli_read.specs.declared.error.Error.{Error}
 use Rattle.gimli_read.specs.Reading.{◌>>=◌}
 use Rattle.gimli.specs.Sections.{Sections}
@@ -11,21 +12,23 @@ use Rattle.elf.specs.ObjectFile.{ObjectFile}
 use Rattle.elf.specs.Text.{loader_error_of}
 use Rattle.addr2line_units.specs.declared.frames_lookup.Faults.TheVariants.{End}
 use Rattle.addr2line_units.specs.Frames.{FrameRecord}
-use Rattle.addr2line_units.specs.FramesLookup.{Stop, Waits, Finds, FindsNothing, is_waiting}
+use Rattle.addr2line_units.specs.FramesLookup.{Stop, Waits, Finds, FindsNothing, answer_of, is_waiting}
 use Rattle.addr2line_units.specs.Parsed.{IsNotOom, has_parsed}
 use Rattle.addr2line_units.specs.Views.{SplitLoad}
 use Rattle.addr2line.specs.Answers.{AfterAnswer, answered}
 use Rattle.addr2line.specs.Context.{ContextState}
 use Rattle.addr2line.specs.Files.{Files}
-use Rattle.addr2line.specs.FramesByFiles.{frames_by, frames_by_files, stop_frames}
+use Rattle.addr2line.specs.FramesByFiles.{frames_by_files, stop_frames}
 use Rattle.addr2line.specs.History.{Given, Gives}
 use Rattle.addr2line.specs.KeptStops.{by_number, unit_stop}
-use Rattle.addr2line.specs.Loader.{AfterAnswers, AfterLoads, AfterNoLoad, AnswersInTurn, AnswersOne, IsFaultByFiles, LoaderState, StayAnswered, WaitsForNone}
-use Rattle.addr2line.specs.Lookups.{AfterFrames, IsLoadOf, frames_of, frames_told, lookup_stop}
+use Rattle.addr2line.specs.Loader.{AfterAnswers, AfterLoads, AnswersInTurn, AnswersOne, IsFaultByFiles, LoaderState, ReadsAsked, StayAnswered, WaitsForNone}
+use Rattle.addr2line.specs.Lookups.{AfterFrames, FirstAnswers, IsKnownFew, IsLoadOf, frames_of, frames_told, loads_of, lookup_stop}
 use Rattle.addr2line.specs.SplitFiles.{given_by}
-use Rattle.addr2line.proofs.FilesLookupLemmas.{first_answers_stay, frames_ended, frames_stay, refused_frames, stop_stays}
+use Rattle.addr2line.proofs.AskedLemmas.{reads_more, reads_nothing}
+use Rattle.addr2line.proofs.FilesLookupLemmas.{answer_changes, first_answers_stay, frames_ended, frames_stay, refused_frames, stop_stays}
 use Rattle.addr2line.proofs.HistoryLemmas.{HasGiven, given_all, given_more}
-use Rattle.addr2line.proofs.LoadingLemmas.{if_some_both, no_oom}
+use Rattle.addr2line.proofs.LoadingLemmas.{if_some_both, no_oom, not_told}
+use Rattle.addr2line.proofs.StayLemmas.{known_of_twice, same_stays_known}
 
 -- what holds of each files holds where they are known
 always : {X : Type 0} (o : Option X) {P : X → Type 0} → ((x : X) → P x) → IfSome o P
@@ -36,6 +39,15 @@ if_some_map : {X : Type 0} (o : Option X) {P Q : X → Type 0} → IfSome o P �
 if_some_map None p h = tt
 if_some_map (Some x) p h = h x p
 
+-- a first answer that is the same at last was the same in between
+same_between : (old mid new : FirstAnswers) → StayAnswered old mid → StayAnswered mid new → (n : ℕ) → answer_of new n ≡ answer_of old n → answer_of mid n ≡ answer_of old n
+same_between old mid new a b n same = by (answer_of old n) (answer_of mid n) refl refl
+  where
+    by : (x y : Option (Option Sections)) → answer_of old n ≡ x → answer_of mid n ≡ y → answer_of mid n ≡ answer_of old n
+    by None None p q = q ∙ sym p
+    by None (Some given) p q = let f : ◌≡◌ {A = Option (Option Sections)} (Some given) None = sym (b n given q) ∙ same ∙ p in absurd cc
+    by (Some given) y p q = a n given p ∙ sym p
+
 module _ (files : Option Files) where
   -- a lookup changes neither sections nor first answers
   pub after_look : {X : Type 0} (probe : ℕ) (r : Result X Error) (old new : ContextState) → AfterFrames End probe r old new → AfterAnswers files old new
@@ -45,6 +57,7 @@ module _ (files : Option Files) where
     frames = always files (λ held q. ap (λ d. frames_by_files held d new.answers q) a.sections ∙ ap (λ x. frames_by_files held old.sections x q) a.answers);
     ended = λ q w. ap (λ d. lookup_stop End d new.answers q) a.sections ∙ ap (λ x. lookup_stop End old.sections x q) a.answers;
     parsed = a.parsed;
+    known = λ n same. a.known n;
     raised = a.raised;
   }
 
@@ -55,6 +68,7 @@ module _ (files : Option Files) where
     frames = always files (λ held q. refl);
     ended = λ q w. refl;
     parsed = λ n e. e;
+    known = λ n same. same_stays_known n c.known c.known refl;
     raised = omega arith;
   }
 
@@ -65,6 +79,9 @@ module _ (files : Option Files) where
     frames = if_some_both files a.frames b.frames (λ held p q probe. q probe ∙ p probe);
     ended = λ q w. b.ended q (ap is_waiting (a.ended q w) ∙ w) ∙ a.ended q w;
     parsed = λ n e. b.parsed n (a.parsed n e);
+    known = λ n same.
+        let before = same_between old.answers mid.answers new.answers a.answers b.answers n same in
+        known_of_twice n old.known mid.known new.known (a.known n before) (b.known n (same ∙ sym before));
     raised = let x = a.raised in let y = b.raised in omega (arith, x, y);
   }
 
@@ -78,22 +95,32 @@ module _ (files : Option Files) where
 
   module _ (probe n : ℕ) (load : SplitLoad) (old : ContextState) (waits : lookup_stop End old.sections old.answers probe ≡ Ok (Waits n)) (is : IsLoadOf old.sections n load) where
     -- the load was answered by a file, or memory was refused for it
-    pub answered_by_file : (given : Option Sections) → IfSome files (λ held. given_by held load ≡ Ok given) → (r : Result (Unit {0}) Error) (new : ContextState) → AfterAnswer n given r old new → AfterAnswers files old new
-    answered_by_file given h (Ok x) new a = record {
+    pub answered_by_file : (given : Option Sections) → IfSome files (λ held. given_by held load ≡ Ok given) → (r : Result (Unit {0}) Error) (new : ContextState) → AfterAnswer n given r old new
+        → OnOk r (length (loads_of new.sections new.answers probe) < length (loads_of old.sections old.answers probe)) → AfterAnswers files old new
+    answered_by_file given h (Ok x) new a fewer = record {
       sections = a.sections;
       answers = subst (λ x. StayAnswered old.answers x) (sym a.answers) (first_answers_stay old.sections old.answers probe n load waits is given);
       frames = if_some_map files h (λ held e q. ap (λ d. frames_by_files held d new.answers q) a.sections ∙ ap (λ x. frames_by_files held old.sections x q) a.answers
           ∙ frames_stay old.sections old.answers probe n load waits is (given_by held) given e q);
       ended = λ q w. ap (λ d. lookup_stop End d new.answers q) a.sections ∙ ap (λ x. lookup_stop End old.sections x q) a.answers ∙ stop_stays old.sections old.answers probe n load waits is given q w;
       parsed = λ k e. subst (λ p. has_parsed p k ≡ true) (sym a.parsed) e;
+      known = λ k same. elim (eqb_tells k n) [ inl p ↦ absurd (changed k p.1 same) | inr q ↦ same_stays_known k old.known new.known (a.others k q.1) ];
       raised = subst (λ l. old.looks ≤ l) (sym a.looks) (omega arith);
     }
-    answered_by_file given h (Err e) new a = record {
+      where
+        changed : (k : ℕ) → k ≡ n → answer_of new.answers k ≢ answer_of old.answers k
+        changed k q same =
+            answer_changes old.sections old.answers probe n load waits is given
+            (subst (λ x. length (loads_of old.sections x probe) < length (loads_of old.sections old.answers probe)) a.answers
+            (subst (λ d. length (loads_of d new.answers probe) < length (loads_of old.sections old.answers probe)) a.sections fewer))
+            (subst (λ x. answer_of x n ≡ answer_of old.answers n) a.answers (subst (λ i. answer_of new.answers i ≡ answer_of old.answers i) q same))
+    answered_by_file given h (Err e) new a fewer = record {
       sections = a.sections;
       answers = subst (λ x. StayAnswered old.answers x) (sym a.refused.1) (λ n given e. e);
       frames = always files (λ held q. ap (λ d. frames_by_files held d new.answers q) a.sections ∙ ap (λ x. frames_by_files held old.sections x q) a.refused.1);
       ended = λ q w. ap (λ d. lookup_stop End d new.answers q) a.sections ∙ ap (λ x. lookup_stop End old.sections x q) a.refused.1;
       parsed = λ k e. subst (λ p. has_parsed p k ≡ true) (sym a.parsed) e;
+      known = λ k same. a.refused.2 k;
       raised = subst (λ l. old.looks ≤ l) (sym a.looks) (omega arith);
     }
 
@@ -106,32 +133,44 @@ pub one_answered : (n : ℕ) (given : Option Sections) (r : Result (Unit {0}) Er
 one_answered n given (Ok x) old new a = inr (given, a.answers)
 one_answered n given (Err e) old new a = inl a.refused.1
 
+-- a lookup that was refused an answer still waits
+pub waits_still : (probe n : ℕ) (given : Option Sections) (r : Result (Unit {0}) Error) (old new : ContextState) → lookup_stop End old.sections old.answers probe ≡ Ok (Waits n) → AfterAnswer n given r old new → OnErr r (lookup_stop End new.sections new.answers probe ≡ Ok (Waits n))
+waits_still probe n given (Ok x) old new waits a = tt
+waits_still probe n given (Err e) old new waits a = ap (λ d. lookup_stop End d new.answers probe) a.sections ∙ ap (λ x. lookup_stop End old.sections x probe) a.refused.1 ∙ waits
+
+pub waits_no_more : (probe n : ℕ) (c : ContextState) → WaitsForNone c probe → lookup_stop End c.sections c.answers probe ≡ Ok (Waits n) → ⊥
+waits_no_more probe n c w waits = let no = sym (ap is_waiting waits) ∙ w in absurd cc
+
 -- loads of a lookup were answered by files, in turn
 pub record HasAnswered (files : Option Files) (probe : ℕ) (first now : ContextState) : Type 0 where
   pub after : AfterAnswers files first now
+  pub only : ReadsAsked probe first now
   pub given : List Given
   pub so : HasGiven End first.sections probe first.answers given now.answers
 
 module _ (files : Option Files) (probe : ℕ) (first : ContextState) where
   pub has_answered_none : HasAnswered files probe first first
-  has_answered_none = record { after = unanswered files first; given = []; so = λ rest. refl }
+  has_answered_none = record { after = unanswered files first; only = reads_nothing probe first; given = []; so = λ rest. refl }
 
   module _ (now : ContextState) (h : HasAnswered files probe first now) where
     pub has_looked : {X : Type 0} (r : Result X Error) (new : ContextState) → AfterFrames End probe r now new → HasAnswered files probe first new
     has_looked r new a = record {
       after = then_answered files first now new h.after (after_look files probe r now new a);
+      only = reads_more probe r first now new a h.only;
       given = h.given;
       so = subst (λ x. HasGiven End first.sections probe first.answers h.given x) (sym a.answers) h.so;
     }
 
-    pub has_answered_one : (n : ℕ) (new : ContextState) → lookup_stop End now.sections now.answers probe ≡ Ok (Waits n) → AfterAnswers files now new → AnswersOne n now new → HasAnswered files probe first new
-    has_answered_one n new waits b (inl same) = record {
+    pub has_answered_one : (n : ℕ) (new : ContextState) → lookup_stop End now.sections now.answers probe ≡ Ok (Waits n) → AfterAnswers files now new → ((c : ContextState) → ReadsAsked probe c now → ReadsAsked probe c new) → AnswersOne n now new → HasAnswered files probe first new
+    has_answered_one n new waits b only (inl same) = record {
       after = then_answered files first now new h.after b;
+      only = only first h.only;
       given = h.given;
       so = subst (λ x. HasGiven End first.sections probe first.answers h.given x) (sym same) h.so;
     }
-    has_answered_one n new waits b (inr p) = record {
+    has_answered_one n new waits b only (inr p) = record {
       after = then_answered files first now new h.after b;
+      only = only first h.only;
       given = h.given ++ (Gives p.0 ∷ []);
       so = subst (λ x. HasGiven End first.sections probe first.answers (h.given ++ (Gives p.0 ∷ [])) x) (sym (p.1 ∙ ap (λ d. answered d now.answers n p.0) h.after.sections))
           (given_more End first.sections probe first.answers now.answers h.given h.so n p.0 (ap (λ d. lookup_stop End d now.answers probe) (sym h.after.sections) ∙ waits) (h.given ++ (Gives p.0 ∷ [])) (append_assoc h.given (Gives p.0 ∷ [])));
@@ -151,6 +190,13 @@ still_ended probe r old new a w =
     ap (λ d. is_waiting (lookup_stop End d new.answers probe)) a.sections
     ∙ ap (λ x. is_waiting (lookup_stop End old.sections x probe)) a.answers
     ∙ w
+
+-- what it reads takes memory only where something is left to read, or more than 16 inlined functions
+-- stand there
+pub looked_memory : {X : Type 0} (probe : ℕ) (e : Error) (r : Result X Error) (old new : ContextState) → r ≡ Err e → AfterFrames End probe r old new → WaitsForNone new probe → IsKnownFew End new probe → loader_error_of e ≢ OutOfMemory
+looked_memory {X = X} probe e r old new is a w few =
+    let ended = sym (ap (λ d. is_waiting (lookup_stop End d new.answers probe)) a.sections ∙ ap (λ x. is_waiting (lookup_stop End old.sections x probe)) a.answers) ∙ w in
+    not_told e (subst (λ (x : Result X Error). IsNotOom x) is (a.memory few ended))
 
 -- a fault that ends a lookup is one by the files
 pub stop_fault : (files : Option Files) (c : ContextState) (probe : ℕ) (e : Error) → (loader_error_of e ≢ OutOfMemory → unit_stop End c.sections c.answers probe ≡ Err e) → IsFaultByFiles files c probe (loader_error_of e)
@@ -189,28 +235,30 @@ module _ (files : Option Files) (probe : ℕ) (first mid : ContextState) (a : Af
         (λ held p ne. sym (p probe) ∙ frames_ended (given_by held) mid.sections mid.answers probe ended ∙ failed_told e (lookup_stop End mid.sections mid.answers probe) (h ne))
 
   -- the loader after its lookup
-  module _ {X : Type 0} (object : ObjectFile) (r : Result X Error) (new : ContextState) (b : AfterFrames End probe r mid new) (t : AnswersInTurn probe first mid) (ended : WaitsForNone mid probe) where
+  module _ {X : Type 0} (object : ObjectFile) (r : Result X Error) (new : ContextState) (b : AfterFrames End probe r mid new) (t : AnswersInTurn probe first mid) (o : ReadsAsked probe first mid) (ended : WaitsForNone mid probe) where
     abbrev loader : ContextState → LoaderState
     loader c = record { files = files; object = object; context = c }
 
-    pub loader_found : (x : X) → r ≡ Ok x → (WaitsForNone first probe → AfterNoLoad {X = X} probe (Ok x) first new) → AfterLoads {X = X} probe (Ok x) (loader first) (loader new)
-    loader_found x is no_load = record {
+    pub loader_found : (x : X) → r ≡ Ok x → AfterLoads {X = X} probe (Ok x) (loader first) (loader new)
+    loader_found x is = record {
       files = refl;
       object = refl;
       context = then_answered files first mid new a (after_look files probe r mid new b);
       in_turn = still_in_turn r new t b;
+      only = reads_more probe r first mid new b o;
       ended = λ _. still_ended probe r mid new b ended;
-      ready = b.ready (subst (λ (y : Result X Error). IsNotOom y) (sym is) tt);
-      no_load = no_load;
+      ready = λ _. b.ready (subst (λ (y : Result X Error). IsNotOom y) (sym is) tt);
+      memory = λ w few. tt;
     }
 
-    pub loader_failed : (e : LoaderError) → (WaitsForNone first probe → AfterNoLoad {X = X} probe (Err e) first new) → AfterLoads {X = X} probe (Err e) (loader first) (loader new)
-    loader_failed e no_load = record {
+    pub loader_failed : (e : Error) → r ≡ Err e → AfterLoads {X = X} probe (Err (loader_error_of e)) (loader first) (loader new)
+    loader_failed e is = record {
       files = refl;
       object = refl;
       context = then_answered files first mid new a (after_look files probe r mid new b);
       in_turn = still_in_turn r new t b;
+      only = reads_more probe r first mid new b o;
       ended = λ _. still_ended probe r mid new b ended;
-      ready = tt;
-      no_load = no_load;
+      ready = λ fault. b.ready (subst (λ (y : Result X Error). IsNotOom y) (sym is) (no_oom e fault.0));
+      memory = looked_memory probe e r mid new is b;
     }

@@ -1,5 +1,5 @@
 -- Lookups of frames where files answer loads (on specs/FramesByFiles.antt and specs/Loader.antt).
-use Rattle.std.proofs.Common.{◌≡◌, ◌≢◌, ◌⊎◌, inl, inr, ℕ, zero, suc, Bool, true, false, List, [], ◌∷◌, slice_get, Option, Some, None, option_map, Result, Ok, Err, refl, sym, ap, subst, ◌∙◌}
+use Rattle.std.proofs.Common.{◌≡◌, ◌≢◌, ◌⊎◌, inl, inr, ℕ, zero, suc, ◌<◌, arith, Bool, true, false, List, [], ◌∷◌, length, slice_get, Option, Some, None, option_map, Result, Ok, Err, refl, sym, ap, subst, ◌∙◌}
 use Rattle.std.proofs.lemmas.Bool.Decides.{eqb_tells}
 use Rattle.std.proofs.lemmas.Option.{slice_get-map}
 use Rattle.std.proofs.Math.ListN.{set}
@@ -11,16 +11,16 @@ use Rattle.gimli.specs.Unit.{UnitRecord}
 use Rattle.elf.specs.declared.error.LoaderError.{LoaderError}
 use Rattle.elf.specs.Loading.{Loading}
 use Rattle.addr2line_lines.specs.References.{Scope}
-use Rattle.addr2line_units.specs.Loads.{is_open_at}
+use Rattle.addr2line_units.specs.Loads.{before_others, is_open_at, load_of_number, loads_along}
 use Rattle.addr2line_units.specs.declared.frames_lookup.Faults.TheVariants.{End}
 use Rattle.addr2line_units.specs.declared.index.UnitRange.{UnitRange}
 use Rattle.addr2line_units.specs.Cover.{cover}
 use Rattle.addr2line_units.specs.Frames.{FrameRecord}
-use Rattle.addr2line_units.specs.FramesLookup.{Stop, Waits, Finds, FindsNothing, after_fault, answer_of, asked_frames, frames_of_number, is_waiting, main_scope, or_stop, stop_along, with_answer}
+use Rattle.addr2line_units.specs.FramesLookup.{Stop, Waits, after_fault, answer_of, asked_frames, frames_of_number, is_waiting, main_scope, or_stop, stop_along, with_answer}
 use Rattle.addr2line_units.specs.UnitFrames.{frames_in}
 use Rattle.addr2line_units.specs.UnitIndex.{IndexedUnit, UnitIndex, index_units, unit_records}
 use Rattle.addr2line_units.specs.Views.{SplitLoad, awaited_by, awaited_load, decided_answer, is_open, load_of_unit, verdict_by}
-use Rattle.addr2line_units.proofs.AnswerLemmas.{decided_if_not, decided_if_open, no_answer, others_stay}
+use Rattle.addr2line_units.proofs.AnswerLemmas.{decided_if_open, no_answer, others_stay}
 use Rattle.addr2line_units.proofs.LoadLawLemmas.{waits_listed}
 use Rattle.addr2line_units.proofs.LoadLemmas.{open_awaits}
 use Rattle.addr2line_units.proofs.WaitLemmas.{same_number}
@@ -28,7 +28,7 @@ use Rattle.addr2line.proofs.SkipLemmas.{settled_along}
 use Rattle.addr2line.specs.Answers.{answered}
 use Rattle.addr2line.specs.FramesByFiles.{GivesAnswers, answer_by, first_frames, frames_by, frames_in_units, frames_of_unit, frames_or_fault, frames_with, or_rest, stop_frames}
 use Rattle.addr2line.specs.Loader.{StayAnswered}
-use Rattle.addr2line.specs.Lookups.{FirstAnswers, IsLoadOf, lookup_stop, stop_in}
+use Rattle.addr2line.specs.Lookups.{FirstAnswers, IsLoadOf, loads_of, lookup_stop, stop_in}
 use Rattle.addr2line.specs.SplitFiles.{of_file}
 
 abbrev Reading : Type 0
@@ -160,7 +160,7 @@ module _ (give : GivesAnswers) (scope : Scope) (units : List IndexedUnit) (answe
       ap (λ o. elim o [ None ↦ answers | Some u ↦ set answers n (decided_answer scope.file.sections u (answer_of answers n) given) ]) (slice_get-map (λ (u : IndexedUnit). u.unit) units n ∙ ap (option_map (λ (u : IndexedUnit). u.unit)) w.there)
       ∙ ap (λ v. set answers n v) (decided_if_open scope.file.sections w.unit.unit (answer_of answers n) given w.open_is)
 
-  other_now : (given : Option Sections) (k : ℕ) → k ≢ n → answer_of (now given) k ≡ answer_of answers k
+  pub other_now : (given : Option Sections) (k : ℕ) → k ≢ n → answer_of (now given) k ≡ answer_of answers k
   other_now given k ne = ap (λ xs. answer_of xs k) (now_is given) ∙ ap (λ o. unwrap_or o None) (others_stay answers n k (Some given) ne)
 
   -- the unit has the frames with the answer that is given
@@ -198,7 +198,7 @@ module _ (give : GivesAnswers) (scope : Scope) (units : List IndexedUnit) (answe
       never j q h = let f : ◌≡◌ {A = Option (Option Sections)} None (Some a) = sym no_answer_yet ∙ ap (answer_of answers) (sym q) ∙ h in cc
 
   -- a unit that doesn't wait is asked for the same
-  same_asked : (given : Option Sections) (probe k : ℕ) → asked_frames End scope units answers probe k ≢ Ok None → asked_frames End scope units (now given) probe k ≡ asked_frames End scope units answers probe k
+  pub same_asked : (given : Option Sections) (probe k : ℕ) → asked_frames End scope units answers probe k ≢ Ok None → asked_frames End scope units (now given) probe k ≡ asked_frames End scope units answers probe k
   same_asked given probe k ne = elim (eqb_tells k n) [
     | inl p ↦ absurd (ne (waits_at k p.1))
     | inr q ↦ ap (λ a. after_fault End (asked_by a (slice_get units k))) (other_now given k q.1)
@@ -213,12 +213,17 @@ module _ (give : GivesAnswers) (scope : Scope) (units : List IndexedUnit) (answe
       waits_at : (j : ℕ) → j ≡ n → asked_frames End scope units answers probe j ≡ Ok None
       waits_at j q = subst (λ i. asked_frames End scope units answers probe i ≡ Ok None) (sym q) (ap (after_fault End) waits_here)
 
+-- loads that are the same of each unit are the same along ranges
+same_loads : (f g : ℕ → Option SplitLoad) → ((n : ℕ) → f n ≡ g n) → (ranges : List UnitRange) → loads_along f ranges ≡ loads_along g ranges
+same_loads f g same [] = refl
+same_loads f g same (r ∷ ranges) = ap (λ o. before_others o (loads_along f ranges)) (same r.unit) ∙ ap (before_others (g r.unit)) (same_loads f g same ranges)
+
 -- a lookup that waits for a unit, by the load of which the files are asked
 module _ (d : Sections) (answers : FirstAnswers) (probe n : ℕ) (load : SplitLoad) (waits : lookup_stop End d answers probe ≡ Ok (Waits n)) (is : IsLoadOf d n load) where
   stop_is : (m : UnitIndex) → index_units d ≡ Ok m → stop_in End d answers probe m ≡ Ok (Waits n)
   stop_is m e = sym (ap (λ r. r >>= stop_in End d answers probe) e) ∙ waits
 
-  awaits_in : (m : UnitIndex) → index_units d ≡ Ok m → Awaits d m.units answers n load
+  pub awaits_in : (m : UnitIndex) → index_units d ≡ Ok m → Awaits d m.units answers n load
   awaits_in m e = awaiting d m.units answers n load (waits_listed End (main_scope d m) m.units answers probe n (cover probe m.ranges) (stop_is m e)).0 (is m e)
 
   abbrev answers_by : Result UnitIndex Error → Option Sections → FirstAnswers
@@ -246,6 +251,33 @@ module _ (d : Sections) (answers : FirstAnswers) (probe n : ℕ) (load : SplitLo
       by : (r : Result UnitIndex Error) → index_units d ≡ r → is_waiting (r >>= stop_in End d answers q) ≡ false → (r >>= stop_in End d (answers_by r given) q) ≡ (r >>= stop_in End d answers q)
       by (Err e) k h = refl
       by (Ok m) k h = settled_along _ _ (same_asked (λ l. Ok None) (main_scope d m) m.units answers n load (awaits_in m k) given q) (cover q m.ranges) h
+
+  -- the unit has another first answer than before where fewer loads are left
+  pub answer_changes : (given : Option Sections) → length (loads_of d (answered d answers n given) probe) < length (loads_of d answers probe) → answer_of (answered d answers n given) n ≢ answer_of answers n
+  answer_changes given fewer = by (index_units d) refl fewer
+    where
+      loads_by : Result UnitIndex Error → FirstAnswers → List SplitLoad
+      loads_by r a = elim r [ Err e ↦ [] | Ok m ↦ loads_along (load_of_number d (unit_records m.units) a) (cover probe m.ranges) ]
+
+      by : (r : Result UnitIndex Error) → index_units d ≡ r → length (loads_by r (answers_by r given)) < length (loads_by r answers) → answer_of (answers_by r given) n ≢ answer_of answers n
+      by (Err e) k h same = absurd (omega (arith, h))
+      by (Ok m) k h same = absurd (omega (arith, h, ap length loads))
+        where
+          us : List UnitRecord
+          us = unit_records m.units
+
+          now : FirstAnswers
+          now = answers_by (Ok m) given
+
+          answer : (j : ℕ) → answer_of now j ≡ answer_of answers j
+          answer j = elim (eqb_tells j n) [
+            | inl p ↦ subst (λ i. answer_of now i ≡ answer_of answers i) (sym p.1) same
+            | inr q ↦ other_now (λ l. Ok None) (main_scope d m) m.units answers n load (awaits_in m k) given j q.1
+          ]
+
+          loads : loads_by (Ok m) now ≡ loads_by (Ok m) answers
+          loads = same_loads (load_of_number d us now) (load_of_number d us answers)
+              (λ j. ap (λ a. elim (slice_get us j) [ None ↦ None | Some u ↦ awaited_load d j u a ]) (answer j)) (cover probe m.ranges)
 
   -- where no answer is given, the lookup has that fault
   pub refused_frames : (give : GivesAnswers) (fault : LoaderError) → give load ≡ Err fault → frames_by give d answers probe ≡ Err fault

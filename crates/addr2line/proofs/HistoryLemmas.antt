@@ -1,19 +1,16 @@
 -- One answer more of a lookup, and one call more of a history (on specs/History.antt).
-use Rattle.std.proofs.Common.{◌≡◌, ◌≢◌, ◌⊎◌, inl, inr, ℕ, zero, suc, ◌+◌, ◌<◌, ◌≤◌, arith, add-one, append_assoc, Bool, true, false, List, [], ◌∷◌, ◌++◌, drop, get_or, length, map, take, Option, Some, None, Result, Ok, Err, refl, sym, ap, subst, ◌∙◌}
+use Rattle.std.proofs.Common.{◌≡◌, ◌⊎◌, inl, inr, ℕ, suc, ◌+◌, ◌<◌, add-one, append_assoc, true, false, List, [], ◌∷◌, ◌++◌, drop, get_or, length, map, take, Option, Result, Ok, Err, refl, sym, ap, subst, ◌∙◌}
 use Rattle.std.proofs.Math.Seq.{drop-cons}
 use Rattle.std.proofs.lemmas.List.{append-nil, get_or-map, length-map, take-append-drop, take_more}
-use Rattle.std.specs.Prelude.{IfErr, IfOk, OnOk}
 use Rattle.gimli_read.specs.declared.error.Error.{Error}
-use Rattle.gimli_read.specs.declared.error.Error.TheVariants.{OutOfMemory}
-use Rattle.gimli_read.specs.Reading.{◌>>=◌, ExactlyUnlessOom}
 use Rattle.gimli.specs.Sections.{Sections}
 use Rattle.addr2line_units.specs.declared.frames_lookup.Faults.{Faults}
 use Rattle.addr2line_units.specs.FramesLookup.{Stop, Waits, Finds, FindsNothing, is_waiting}
 use Rattle.addr2line_units.specs.Parsed.{IsNotOom, StaysParsed, has_parsed}
-use Rattle.addr2line.specs.Answers.{AfterAnswer, AfterResume, SuspendsAgain, answered}
+use Rattle.addr2line.specs.Answers.{AfterResume, answered}
 use Rattle.addr2line.specs.Context.{ContextState}
-use Rattle.addr2line.specs.History.{Given, Gives, GivesUp, HasBegun, HistoryCall, AsksLocation, AsksRange, AsksFrames, AsksUnit, AsksLoads, AnswersLoad, Forgets, ParsesLines, ParsesFunctions, IsCutShort, answers_given, answers_left, where_waiting}
-use Rattle.addr2line.specs.Lookups.{AfterFrames, FirstAnswers, frames_told, lookup_stop}
+use Rattle.addr2line.specs.History.{Given, Gives, GivesUp, answers_given, where_waiting}
+use Rattle.addr2line.specs.Lookups.{FirstAnswers, lookup_stop}
 
 -- where a lookup waits it goes on
 where_waits : {X : Type 0} (f : ℕ → X) (x : X) (s : Result Stop Error) (n : ℕ) → s ≡ Ok (Waits n) → where_waiting f x s ≡ f n

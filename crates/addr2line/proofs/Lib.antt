@@ -15,5 +15,6 @@ pub mod RunLemmas
 pub mod FilesLookupLemmas
 pub mod LoadingLemmas
 pub mod SplitFileLemmas
+pub mod AskedLemmas
 pub mod ByFilesLemmas
 pub mod NoLoadLemmas

@@ -97,9 +97,9 @@ module _ {R : Type 0} (d : Sections) (us : List UnitRecord) (old : List ResUnit)
       begun = elim begun [ inl e ↦ inl e | inr e ↦ inr (e ∙ sym (answers_are d us old held ranges sup i n given)) ];
       refused = λ ne. let r = refused (λ e. ne (e ∙ sym (load_is n given))) in (r.0, stays_known held entries r.1);
       known = λ m e. subst (λ x. is_open_at d (unit_records x.units) (answers_in held) n ≡ false → StaysKnown (known_in held) (known_in entries)) (ok_is _ _ (sym i.made_is ∙ e))
-          (λ shut. let still = subst (λ xs. is_open_at d xs (answers_in held) n ≡ false) same_units shut in record {
-            at = λ probe k q. known_is probe entries k ∙ shut_stays probe k still (same_or k) (sym (known_is probe held k) ∙ q);
-            whole = λ kind k q. shut_whole kind k still (same_or k) q;
+          (λ shut. let still = subst (λ xs. is_open_at d xs (answers_in held) n ≡ false) same_units shut in λ k. record {
+            at = λ probe q. known_is probe entries k ∙ shut_stays probe k still (same_or k) (sym (known_is probe held k) ∙ q);
+            whole = λ kind q. shut_whole kind k still (same_or k) q;
           });
       same = λ first e. ap known_in (same_decided (answered_is_decided held n first e));
       others = λ k ne. known_unchanged held entries k (others k ne);

@@ -1,11 +1,10 @@
 -- Answers about a file, by what its bytes give (on specs/Loading.antt of elf, specs/SplitFiles.antt
 -- and specs/Loaded.antt).
-use Rattle.std.proofs.Common.{◌≡◌, ◌≢◌, inl, Bool, true, Option, Some, None, Result, Ok, Err, ap, refl, sym, ◌∙◌}
-use Rattle.std.specs.Prelude.{IfErr, IfSome, option_map}
+use Rattle.std.proofs.Common.{◌≡◌, ◌≢◌, inl, Bool, Option, Some, None, Result, Ok, Err, ap, refl}
+use Rattle.std.specs.Prelude.{IfErr, IfSome}
 use Rattle.gimli_read.specs.declared.error.Error.{Error}
 use Rattle.gimli_read.specs.declared.error.Error.TheVariants as reading
-use Rattle.gimli_read.specs.Reading.{ExactlyUnlessOom, ExactlyUnlessOomIf, ◌>>=◌}
-use Rattle.elf.specs.declared.error.LoaderError.{LoaderError}
+use Rattle.gimli_read.specs.Reading.{ExactlyUnlessOom}
 use Rattle.elf.specs.declared.error.LoaderError.TheVariants.{OutOfMemory}
 use Rattle.elf.specs.Loading.{Loading, LoadsUnlessOom, LoadsUnlessOomFor}
 use Rattle.elf.specs.Text.{loader_error_of}
@@ -20,6 +19,11 @@ loads_for takes (Err e) given h = λ ne. h (λ _. ne)
 -- a refusal of DWARF that isn't told as OutOfMemory isn't OutOfMemory
 pub no_oom : (e : Error) → loader_error_of e ≢ OutOfMemory → e ≢ reading.OutOfMemory
 no_oom e ne q = ne (ap loader_error_of q)
+
+-- nor is one told as OutOfMemory that isn't
+pub not_told : (e : Error) → e ≢ reading.OutOfMemory → loader_error_of e ≢ OutOfMemory
+not_told reading.OutOfMemory ne = λ _. ne refl
+not_told _ ne = λ q. absurd cc
 
 -- an answer about DWARF as one about its file
 pub as_loading : {X Y : Type 0} (see : X → Y) (r : Result X Error) (given : Result Y Error) → ExactlyUnlessOom see r given → LoadsUnlessOom see (of_file r) (of_file given)

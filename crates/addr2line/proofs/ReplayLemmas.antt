@@ -1,7 +1,7 @@
 -- What recorded lookups are given, answer by answer, and the replies that they come to (on
 -- specs/History.antt).
-use Rattle.std.proofs.Common.{◌≡◌, ◌≢◌, ◌⊎◌, inl, inr, ℕ, zero, suc, ◌+◌, ◌<◌, ◌≤◌, arith, Bool, true, false, List, [], ◌∷◌, ◌++◌, drop, get_or, length, map, slice_get, take, Option, Some, None, option_map, Result, Ok, Err, refl, sym, ap, subst, ◌∙◌}
-use Rattle.std.proofs.lemmas.List.{length-map, take_all}
+use Rattle.std.proofs.Common.{◌≡◌, inl, inr, ℕ, ◌+◌, ◌≤◌, true, false, List, ◌∷◌, ◌++◌, length, slice_get, take, Option, Some, None, option_map, Result, Ok, Err, refl, sym, ap, subst, ◌∙◌}
+use Rattle.std.proofs.lemmas.List.{take_all}
 use Rattle.std.specs.Prelude.{IfErr, IfOk, OnOk}
 use Rattle.gimli_read.specs.declared.error.Error.{Error}
 use Rattle.gimli_read.specs.declared.error.Error.TheVariants.{OutOfMemory}
@@ -19,8 +19,8 @@ use Rattle.addr2line_units.specs.Parsed.{IsNotOom, StaysParsed, has_parsed}
 use Rattle.addr2line_units.specs.Suspended.{IfOutput}
 use Rattle.addr2line_units.specs.UnitIndex.{UnitIndex, index_units, unit_records}
 use Rattle.addr2line_units.specs.Views.{SplitLoad, load_by, load_of_unit, split_name_of}
-use Rattle.addr2line.proofs.HistoryLemmas.{HasGiven, given_all, given_ended, given_last, given_more, given_up, resumed_answers, resumed_begun, resumed_parsed, resumed_sections, take_drop_one, take_then}
-use Rattle.addr2line.specs.Answers.{AfterAnswer, AfterResume, SuspendsAgain, answered}
+use Rattle.addr2line.proofs.HistoryLemmas.{HasGiven, given_all, given_last, given_more, given_up, resumed_answers, resumed_begun, resumed_parsed, resumed_sections}
+use Rattle.addr2line.specs.Answers.{AfterResume, SuspendsAgain, answered}
 use Rattle.addr2line.specs.Context.{ContextState}
 use Rattle.addr2line.specs.History.{Given, Gives, GivesUp, Leaves, answers_given}
 use Rattle.addr2line.specs.Lookups.{AfterFrames, FirstAnswers, IsLoadOf, Suspends, lookup_stop, stop_in, unit_of, unit_told}

@@ -1,10 +1,8 @@
 -- Lookups of which none is answered to each load (on specs/Skips.antt).
-use Rattle.std.proofs.Common.{◌≡◌, ◌≢◌, ◌⊎◌, inl, inr, ℕ, zero, suc, ◌+◌, ◌-◌, ◌<◌, ◌≤◌, arith, Bool, true, false, List, [], ◌∷◌, ◌++◌, length, Option, Some, None, Result, Ok, Err, refl, sym, ap, subst, ◌∙◌}
+use Rattle.std.proofs.Common.{◌≡◌, ℕ, zero, suc, ◌+◌, ◌-◌, ◌<◌, ◌≤◌, arith, true, false, List, ◌∷◌, ◌++◌, length, Option, Some, None, Result, Ok, Err, refl, sym, ap, subst, ◌∙◌}
 use Rattle.std.proofs.lemmas.Bool.{eq-eqb}
 use Rattle.gimli_read.specs.declared.error.Error.{Error}
-use Rattle.gimli_read.specs.declared.error.Error.TheVariants.{OutOfMemory}
-use Rattle.gimli_read.specs.Reading.{◌>>=◌, ExactlyUnlessOom}
-use Rattle.gimli.specs.Sections.{Sections}
+use Rattle.gimli_read.specs.Reading.{◌>>=◌}
 use Rattle.addr2line_units.specs.declared.frames_lookup.Faults.{Faults}
 use Rattle.addr2line_units.specs.FramesLookup.{Stop, Waits, Finds, FindsNothing, is_waiting}
 use Rattle.addr2line_units.specs.Parsed.{IsNotOom, StaysParsed, has_parsed}
@@ -15,7 +13,7 @@ use Rattle.addr2line.specs.Answers.{AfterAnswer, answered}
 use Rattle.addr2line.specs.Context.{ContextState}
 use Rattle.addr2line.specs.History.{Given, Gives, answers_given}
 use Rattle.addr2line.specs.KeptStops.{by_number, unit_stop}
-use Rattle.addr2line.specs.Lookups.{AfterFrames, FirstAnswers, IsKnown, IsUnitOf, loads_of, lookup_stop, waits_for}
+use Rattle.addr2line.specs.Lookups.{AfterFrames, IsKnown, loads_of, lookup_stop, waits_for}
 use Rattle.addr2line.specs.Skips.{AfterSkip, found_stop, nones, skipped_answers}
 
 -- none as an answer, so often

@@ -1,5 +1,5 @@
 -- The answer to a load, by the file at its path (on specs/SplitFiles.antt).
-use Rattle.std.proofs.Common.{◌≡◌, ℕ, List, Some, None, Ok, Err, sym, ap, ◌∙◌}
+use Rattle.std.proofs.Common.{◌≡◌, ℕ, List, Some, None, Ok, sym, ap, ◌∙◌}
 use Rattle.std.specs.Prelude.{option_and_then}
 use Rattle.gimli_read.specs.Reading.{◌>>=◌}
 use Rattle.addr2line_units.specs.Views.{SplitLoad}

@@ -1,5 +1,6 @@
 -- What was known of units stays known (on specs/Lookups.antt).
-use Rattle.std.proofs.Common.{◌≡◌, ◌⊎◌, inl, inr, ℕ, zero, suc, ◌≤◌, arith, true, false, List, [], ◌∷◌, length, Option, Some, None, Result, Ok, Err, refl, sym, ◌∙◌, subst}
+use Rattle.std.proofs.Common.{◌≡◌, ◌⊎◌, inl, inr, ℕ, zero, suc, ◌≤◌, arith, true, false, List, [], ◌∷◌, length, slice_get, Option, Some, None, option_map, Result, Ok, Err, refl, sym, ◌∙◌, subst}
+use Rattle.std.specs.Prelude.{IfSome, unwrap_or}
 use Rattle.std.specs.List.{AllZip}
 use Rattle.gimli_read.specs.declared.error.Error.{Error}
 use Rattle.gimli.specs.Unit.{UnitRecord}
@@ -19,18 +20,28 @@ use Rattle.addr2line_units.specs.KeptFunctions.{StayFunctions}
 use Rattle.addr2line_units.specs.KeptLookups.{HaveEntriesOf, StayAllEntries, answers_in, decided_at}
 use Rattle.addr2line_units.specs.KeptParses.{StayDecided}
 use Rattle.addr2line_units.specs.KeptViews.{was_looked_at}
-use Rattle.addr2line_units.specs.KnownEntries.{KnownEntries, FunctionsKnown, known_answer, known_by, known_functions, known_in}
+use Rattle.addr2line_units.specs.KnownEntries.{KnownEntries, FunctionsKnown, is_known_at, known_answer, known_by, known_functions, known_in}
 use Rattle.addr2line_units.specs.Loads.{is_open_at}
 use Rattle.addr2line_units.proofs.AnswerLemmas.{looked_waits}
 use Rattle.addr2line_units.proofs.FoundLemmas.{looked_is_decided}
 use Rattle.addr2line_units.proofs.KeptLookupLemmas.{entries_more_at}
 use Rattle.addr2line_units.proofs.KnownLemmas.{known_is}
-use Rattle.addr2line.specs.Lookups.{IsReadyAt, StaysKnown}
+use Rattle.addr2line.specs.Lookups.{IsReadyAt, StaysKnown, StaysKnownOf}
+
+pub known_of_twice : (n : ℕ) (old mid new : List KnownEntries) → StaysKnownOf n old mid → StaysKnownOf n mid new → StaysKnownOf n old new
+known_of_twice n old mid new a b = record {
+  at = λ probe e. b.at probe (a.at probe e);
+  whole = λ reads h. b.whole reads (a.whole reads h);
+}
 
 pub known_twice : (old mid new : List KnownEntries) → StaysKnown old mid → StaysKnown mid new → StaysKnown old new
-known_twice old mid new a b = record {
-  at = λ probe n e. b.at probe n (a.at probe n e);
-  whole = λ reads n h. b.whole reads n (a.whole reads n h);
+known_twice old mid new a b n = known_of_twice n old mid new (a n) (b n)
+
+-- what is the same of a unit stays known
+pub same_stays_known : (n : ℕ) (old new : List KnownEntries) → slice_get new n ≡ slice_get old n → StaysKnownOf n old new
+same_stays_known n old new same = record {
+  at = λ probe e. subst (λ o. unwrap_or (option_map (is_known_at probe) o) true ≡ true) (sym same) e;
+  whole = λ reads h. subst (λ o. IfSome o (IsReadyFor reads)) (sym same) h;
 }
 
 -- details that were cached up to the first fault still are where more is cached
@@ -89,9 +100,9 @@ module _ {R : Type 0} where
 
   -- where what is kept stays, so does what is known
   pub stays_known : (vs ws : List (UnitEntries R)) → StayAllEntries vs ws → StaysKnown (known_in vs) (known_in ws)
-  stays_known vs ws a = record {
-    at = λ probe n e. known_is probe ws n ∙ entries_more_at probe vs ws a n (sym (known_is probe vs n) ∙ e);
-    whole = λ r n h. all_whole r vs ws a n h;
+  stays_known vs ws a n = record {
+    at = λ probe e. known_is probe ws n ∙ entries_more_at probe vs ws a n (sym (known_is probe vs n) ∙ e);
+    whole = λ r h. all_whole r vs ws a n h;
   }
 
   -- the same of units that aren't open

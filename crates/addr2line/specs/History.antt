@@ -3,7 +3,7 @@
 -- its sections and the first answers of its units decides a reply.
 -- Own: a lookup takes the answers that it is given in turn, one for each load that it waits for; it
 -- is left at its load where it is given up, or where no answer is left.
-use Rattle.std.specs.Prelude.{◌≡◌, ◌⊎◌, ℕ, List, [], ◌∷◌, map, take, Option, None, IfErr, OnOk, Result, Ok, Err}
+use Rattle.std.specs.Prelude.{◌≡◌, ◌⊎◌, ℕ, List, [], ◌∷◌, map, take, Option, IfErr, OnOk, Result, Ok, Err}
 use Rattle.gimli_read.specs.declared.error.Error.{Error}
 use Rattle.gimli_read.specs.declared.error.Error.TheVariants.{OutOfMemory}
 use Rattle.gimli.specs.Sections.{Sections}

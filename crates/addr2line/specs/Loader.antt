@@ -3,7 +3,8 @@
 -- Own: a lookup gives the frames that the files say at that call, whichever lookups were made
 -- before; the first answer of a unit stays, so a file counts that was there when its unit was first
 -- looked up.
-use Rattle.std.specs.Prelude.{◌≡◌, ◌≢◌, ◌≤◌, ◌⊎◌, ℕ, false, List, Option, Some, IfErr, IfOk, IfSome, Ok, Err}
+use Rattle.std.specs.Prelude.{◌≡◌, ◌≢◌, ◌≤◌, ◌⊎◌, ℕ, false, List, Option, Some, IfErr, IfSome, Result, Ok, Err}
+use Rattle.gimli_read.specs.declared.error.Error.{Error}
 use Rattle.gimli.specs.Sections.{Sections}
 use Rattle.elf.specs.declared.error.LoaderError.{LoaderError}
 use Rattle.elf.specs.declared.error.LoaderError.TheVariants.{OutOfMemory, PathNotUtf8}
@@ -15,11 +16,12 @@ use Rattle.addr2line_units.specs.FramesLookup.{answer_of, is_waiting}
 use Rattle.addr2line_units.specs.Parsed.{StaysParsed}
 use Rattle.addr2line.specs.declared.loader.LoaderOver.{LoaderOver}
 use Rattle.addr2line.specs.Answers.{answered}
-use Rattle.addr2line.specs.Context.{ContextState, Stays}
+use Rattle.addr2line.specs.Context.{AfterLookup, AfterRangeLookup, ContextState}
 use Rattle.addr2line.specs.Files.{Files}
 use Rattle.addr2line.specs.FramesByFiles.{frames_by_files, stop_frames}
 use Rattle.addr2line.specs.History.{Given, answers_given}
-use Rattle.addr2line.specs.Lookups.{FirstAnswers, IsKnown, IsKnownFew, StaysKnown, lookup_stop}
+use Rattle.addr2line.specs.Lookups.{FirstAnswers, IsKnown, IsKnownFew, LearnsAsked, ParsesAsked, StaysKnownOf, lookup_stop}
+use Rattle.addr2line.specs.SplitFiles.{of_file}
 
 -- the files, where they are known, the main file, and the context
 pub record LoaderState : Type 0 where
@@ -41,11 +43,6 @@ abbrev pub GivesSameFrames : Files → ContextState → ContextState → Type 0
 GivesSameFrames files old new = (probe : ℕ) → frames_by_files files new.sections new.answers probe
     ≡ frames_by_files files old.sections old.answers probe
 
--- sections and first answers are the same
-pub record StaysDecided (old new : ContextState) : Type 0 where
-  pub sections : new.sections ≡ old.sections
-  pub answers : new.answers ≡ old.answers
-
 -- a lookup of the probe waits for no answer
 abbrev pub WaitsForNone : ContextState → ℕ → Type 0
 WaitsForNone c probe = is_waiting (lookup_stop End c.sections c.answers probe) ≡ false
@@ -56,15 +53,21 @@ StayEnded old new = (probe : ℕ) → WaitsForNone old probe
     → lookup_stop End new.sections new.answers probe
     ≡ lookup_stop End old.sections old.answers probe
 
+-- what was known of each unit stays known that has the first answer that it had
+abbrev pub StayKnownUnanswered : ContextState → ContextState → Type 0
+StayKnownUnanswered old new = (n : ℕ) → answer_of new.answers n ≡ answer_of old.answers n
+    → StaysKnownOf n old.known new.known
+
 -- loads of a context were answered by files: the sections are the same, first answers stay, all
--- lookups of frames give the same, those that wait for none whatever the files are, and what was
--- parsed of lines stays parsed
+-- lookups of frames give the same, those that wait for none whatever the files are, what was parsed
+-- of lines stays parsed, and what was known of the units that weren't answered stays known
 pub record AfterAnswers (files : Option Files) (old new : ContextState) : Type 0 where
   pub sections : new.sections ≡ old.sections
   pub answers : StayAnswered old.answers new.answers
   pub frames : IfSome files (λ held. GivesSameFrames held old new)
   pub ended : StayEnded old new
   pub parsed : StaysParsed old.parsed new.parsed
+  pub known : StayKnownUnanswered old new
   pub raised : old.looks ≤ new.looks
 
 -- the unit of a number was answered, or nothing was
@@ -78,48 +81,66 @@ abbrev pub AnswersInTurn : ℕ → ContextState → ContextState → Type 0
 AnswersInTurn probe old new = (given : List Given)
     × (new.answers ≡ answers_given End old.sections probe old.answers given)
 
+-- nothing was read but what a lookup of the probe asks for by the first answers that are left: lines
+-- of units, and their entries
+pub record ReadsAsked (probe : ℕ) (old new : ContextState) : Type 0 where
+  pub lines : ParsesAsked End probe new old new
+  pub entries : LearnsAsked End probe new old new
+
 -- a refusal that leaves the unit open whose load it refuses
 abbrev pub LeavesOpen : LoaderError → Type 0
 LeavesOpen e = (e ≡ OutOfMemory) ⊎ (e ≡ PathNotUtf8)
 
--- any answer but these refusals: frames, or the fault of a unit
+-- a refusal that ends a lookup: the fault of a unit, and none of these
+abbrev pub IsUnitFault : LoaderError → Type 0
+IsUnitFault e = (e ≢ OutOfMemory) × (e ≢ PathNotUtf8)
+
+-- any answer that ends a lookup: frames, or the fault of a unit
 abbrev pub HasEnded : {X : Type 0} → Loading X → Type 0
 HasEnded (Ok x) = Unit {0}
-HasEnded (Err e) = (e ≢ OutOfMemory) × (e ≢ PathNotUtf8)
+HasEnded (Err e) = IsUnitFault e
 
 -- the frames of a lookup that waits for no answer, whatever the files are, or its fault
 abbrev pub ended_frames_of : ContextState → ℕ → Loading (List FrameRecord)
 ended_frames_of c probe = stop_frames (lookup_stop End c.sections c.answers probe)
 
--- after a lookup of the probe that has answered no load: first answers are the same, and what was
--- known stays known; memory is refused only where something is left to read, or more than 16
--- inlined functions stand there
-pub record AfterNoLoad {X : Type 0} (probe : ℕ) (result : Loading X) (old new : ContextState)
-    : Type 0 where
-  pub answers : new.answers ≡ old.answers
-  pub known : StaysKnown old.known new.known
-  pub memory : IsKnownFew End new probe → IfErr result (λ e. e ≢ OutOfMemory)
-
 -- a lookup of frames at the probe has answered the loads that it came to by files: the files and
--- the main file are the same; once it has ended, at a fault too, each unit that it came to is
--- decided; and, unless it was refused, all is known that the lookup asks for. One that waits for no
--- answer gives none
+-- the main file are the same, and nothing was read but what it asks for; once it has ended, at a
+-- fault too, each unit that it came to is decided, and all is known that it asks for. Memory is
+-- refused only where it waits, something is left to read, or more than 16 inlined functions stand
+-- there
 pub record AfterLoads {X : Type 0} (probe : ℕ) (result : Loading X) (old new : LoaderState)
     : Type 0 where
   pub files : new.files ≡ old.files
   pub object : new.object ≡ old.object
   pub context : AfterAnswers old.files old.context new.context
   pub in_turn : AnswersInTurn probe old.context new.context
+  pub only : ReadsAsked probe old.context new.context
   pub ended : HasEnded result → WaitsForNone new.context probe
-  pub ready : IfOk result (λ _. IsKnown End new.context probe)
-  pub no_load : WaitsForNone old.context probe
-      → AfterNoLoad probe result old.context new.context
+  pub ready : HasEnded result → IsKnown End new.context probe
+  pub memory : WaitsForNone new.context probe → IsKnownFew End new.context probe
+      → IfErr result (λ e. e ≢ OutOfMemory)
 
--- a lookup of locations has changed nothing but what is parsed and counted
-pub record StaysLoaded (old new : LoaderState) : Type 0 where
+-- a lookup of locations in the context has this answer, and has left the context as it leaves one;
+-- the files and the main file are the same
+pub record AfterContext {X : Type 0} (IsAfter : Result X Error → ContextState → ContextState
+    → Type 0) (result : Loading X) (old new : LoaderState) : Type 0 where
   pub files : new.files ≡ old.files
   pub object : new.object ≡ old.object
-  pub context : Stays old.context new.context
+  pub given : Result X Error
+  pub answer : result ≡ of_file given
+  pub context : IsAfter given old.context new.context
+
+-- after a lookup of the location at the probe
+abbrev pub AfterLocation : {X : Type 0} → ℕ → Loading (Option X) → LoaderState → LoaderState
+    → Type 0
+AfterLocation probe result old new = AfterContext (AfterLookup probe) result old new
+
+-- after a lookup of the rows that a range of addresses meets
+abbrev pub AfterLocationRange : {X : Type 0} → ℕ → ℕ → Loading X → LoaderState → LoaderState
+    → Type 0
+AfterLocationRange low high result old new =
+    AfterContext (AfterRangeLookup low high) result old new
 
 -- where the files are known, the refusal is the fault of the frames by them, or OutOfMemory
 abbrev pub IsFaultByFiles : Option Files → ContextState → ℕ → LoaderError → Type 0

@@ -93,10 +93,15 @@ IsLoadOf d n load = (m : UnitIndex) → index_units d ≡ Ok m
 abbrev pub IsReadyAt : Reads → List KnownEntries → ℕ → Type 0
 IsReadyAt reads known n = IfSome (slice_get known n) (IsReadyFor reads)
 
--- what was known of units stays known: what a lookup asks, and all that a parse of functions reads
-pub record StaysKnown (old new : List KnownEntries) : Type 0 where
-  pub at : (probe n : ℕ) → knows_at old probe n ≡ true → knows_at new probe n ≡ true
-  pub whole : (reads : Reads) (n : ℕ) → IsReadyAt reads old n → IsReadyAt reads new n
+-- what was known of the unit of a number stays known: what a lookup asks, and all that a parse of
+-- functions reads
+pub record StaysKnownOf (n : ℕ) (old new : List KnownEntries) : Type 0 where
+  pub at : (probe : ℕ) → knows_at old probe n ≡ true → knows_at new probe n ≡ true
+  pub whole : (reads : Reads) → IsReadyAt reads old n → IsReadyAt reads new n
+
+-- the same of all units
+abbrev pub StaysKnown : List KnownEntries → List KnownEntries → Type 0
+StaysKnown old new = (n : ℕ) → StaysKnownOf n old new
 
 -- whether all is known that a lookup asks the unit of a number for
 abbrev pub has_all_of : ContextState → ℕ → UnitIndex → ℕ → Bool
@@ -126,17 +131,17 @@ abbrev pub AsksUnit : Faults → ContextState → ℕ → UnitIndex → ℕ → 
 AsksUnit faults c probe m n =
     LookupAsks (asked_of faults c.sections c.answers probe m) (cover probe m.ranges) n
 
--- no lines are parsed but those that the lookup asks for
-abbrev pub ParsesAsked : Faults → ℕ → ContextState → ContextState → Type 0
-ParsesAsked faults probe old new = (m : UnitIndex) → index_units old.sections ≡ Ok m
-    → ParsesOnly (λ n. AsksUnit faults old probe m n
-    × (asks_lines_of (main_scope old.sections m) m.units old.answers probe n ≡ true))
+-- no lines are parsed but those that a lookup asks for in this context
+abbrev pub ParsesAsked : Faults → ℕ → ContextState → ContextState → ContextState → Type 0
+ParsesAsked faults probe c old new = (m : UnitIndex) → index_units c.sections ≡ Ok m
+    → ParsesOnly (λ n. AsksUnit faults c probe m n
+    × (asks_lines_of (main_scope c.sections m) m.units c.answers probe n ≡ true))
     old.parsed new.parsed
 
--- nothing is read of the entries of a unit that the lookup doesn't ask
-abbrev pub LearnsAsked : Faults → ℕ → ContextState → ContextState → Type 0
-LearnsAsked faults probe old new = (m : UnitIndex) → index_units old.sections ≡ Ok m
-    → (n : ℕ) → (slice_get new.known n ≡ slice_get old.known n) ⊎ AsksUnit faults old probe m n
+-- nothing is read of the entries of a unit that a lookup doesn't ask in this context
+abbrev pub LearnsAsked : Faults → ℕ → ContextState → ContextState → ContextState → Type 0
+LearnsAsked faults probe c old new = (m : UnitIndex) → index_units c.sections ≡ Ok m
+    → (n : ℕ) → (slice_get new.known n ≡ slice_get old.known n) ⊎ AsksUnit faults c probe m n
 
 -- after a lookup of the probe: the first answers are the same, what was read stays, and nothing was
 -- read that it doesn't ask for; the same lookup reads nothing more, but after OutOfMemory, where
@@ -147,8 +152,8 @@ pub record AfterFrames {X : Type 0} (faults : Faults) (probe : ℕ) (result : Re
   pub answers : new.answers ≡ old.answers
   pub parsed : StaysParsed old.parsed new.parsed
   pub known : StaysKnown old.known new.known
-  pub only : ParsesAsked faults probe old new
-  pub learns : LearnsAsked faults probe old new
+  pub only : ParsesAsked faults probe old old new
+  pub learns : LearnsAsked faults probe old old new
   pub raised : old.looks ≤ new.looks
   pub ready : IsNotOom result → IsKnown faults new probe
   pub memory : IsKnownFew faults new probe

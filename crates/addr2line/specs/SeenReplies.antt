@@ -1,6 +1,5 @@
 -- Owned copies of what calls give, as contracts see them.
-use Rattle.std.specs.Prelude.{List, map, Option, option_map, Result, Ok, Err, string_bytes}
-use Rattle.gimli_read.specs.declared.error.Error.{Error}
+use Rattle.std.specs.Prelude.{map, option_map, string_bytes}
 use Rattle.addr2line_lines.specs.Location.{Location}
 use Rattle.addr2line_lines.specs.RangeLocations.{LocatedSpan}
 use Rattle.addr2line_lines.specs.Rows.{result_map}

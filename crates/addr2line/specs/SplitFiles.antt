@@ -4,7 +4,7 @@
 -- name has no split file, and a path that isn't UTF-8 is a fault.
 -- Own: the first unit of the file has to have the identifier that the load has. A file that can't
 -- be read, another one, and a faulty one are answered none.
-use Rattle.std.specs.Prelude.{◌≡◌, ◌==◌, ◌++◌, ℕ, Bool, false, List, [], ◌∷◌, Option, Some, None, Result, Ok, Err, if◌then◌else◌, option_and_then, option_map, unwrap_or}
+use Rattle.std.specs.Prelude.{◌==◌, ◌++◌, ℕ, Bool, false, List, [], ◌∷◌, Option, Some, None, Result, Ok, Err, if◌then◌else◌, option_and_then, option_map}
 use Rattle.std.specs.Option.{option_map_or}
 use Rattle.gimli_read.specs.declared.error.Error.{Error}
 use Rattle.gimli_read.specs.Reading.{◌>>=◌}

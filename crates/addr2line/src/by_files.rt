@@ -1,12 +1,12 @@
 //! Lookups of frames where files answer loads.
 
-ghost use Rattle.std.specs.Prelude.{◌≡◌, ◌≢◌, ◌^◌, ◌-◌, ◌<◌, Err, IfErr, Ok, OnOk, length};
+ghost use Rattle.std.specs.Prelude.{◌≡◌, ◌≢◌, ◌^◌, ◌-◌, ◌<◌, Err, IfErr, Ok, OnErr, OnOk, length};
 ghost use Rattle.elf.specs.declared.error.LoaderError.TheVariants.{OutOfMemory};
 ghost use Rattle.addr2line_units.specs.declared.frames_lookup.Faults.TheVariants.{End};
 ghost use Rattle.addr2line_units.specs.FramesLookup.{Waits};
-ghost use Rattle.addr2line.specs.Context.{IsUncovered};
-ghost use Rattle.addr2line.specs.Loader.{AfterAnswers, AfterNoLoad, AnswersInTurn, AnswersOne, HasEnded, IsFaultByFiles, LeavesOpen, WaitsForNone, ended_frames_of};
-ghost use Rattle.addr2line.specs.Lookups.{IsKnown, loads_of, lookup_stop};
+ghost use Rattle.addr2line.specs.Context.{ContextState, IsUncovered};
+ghost use Rattle.addr2line.specs.Loader.{AfterAnswers, AnswersInTurn, AnswersOne, HasEnded, IsFaultByFiles, IsUnitFault, LeavesOpen, ReadsAsked, WaitsForNone, ended_frames_of};
+ghost use Rattle.addr2line.specs.Lookups.{IsKnown, IsKnownFew, loads_of, lookup_stop};
 
 use crate::context::Context;
 use crate::files::FileSource;
@@ -29,10 +29,14 @@ fn answer_load<F: FileSource>(
     requires known { IsKnown End ctx.old probe }
     ensures after { AfterAnswers (F.files files.now) ctx.old ctx.new }
     ensures one { AnswersOne number ctx.old ctx.new }
+    ensures only { (first : ContextState) → ReadsAsked probe first ctx.old
+        → ReadsAsked probe first ctx.new }
     ensures fewer { OnOk result (length (loads_of ctx.new.sections ctx.new.answers probe)
         < length (loads_of ctx.old.sections ctx.old.answers probe)) }
     ensures refused { IfErr result (IsFaultByFiles (F.files files.now) ctx.old probe) }
     ensures stays_open { IfErr result LeavesOpen }
+    ensures still_waits { OnErr result
+        (lookup_stop End ctx.new.sections ctx.new.answers probe ≡ Ok (Waits number)) }
 {
     let load = ctx.load_of(probe, Faults::End, number)?;
     let sections = answer_to(alloc, files, &load)?;
@@ -48,9 +52,12 @@ pub(crate) fn answer_loads<F: FileSource>(
 ) -> Result<(), LoaderError>
     ensures after { AfterAnswers (F.files files.now) ctx.old ctx.new }
     ensures in_turn { AnswersInTurn probe ctx.old ctx.new }
+    ensures only { ReadsAsked probe ctx.old ctx.new }
     ensures ended { HasEnded result → WaitsForNone ctx.new probe }
+    ensures ready { IfErr result (λ e. IsUnitFault e → IsKnown End ctx.new probe) }
+    ensures memory { WaitsForNone ctx.new probe → IsKnownFew End ctx.new probe
+        → IfErr result (λ e. e ≢ OutOfMemory) }
     ensures refused { IfErr result (IsFaultByFiles (F.files files.now) ctx.old probe) }
-    ensures no_load { WaitsForNone ctx.old probe → AfterNoLoad probe result ctx.old ctx.new }
     ensures fault { WaitsForNone ctx.old probe
         → IfErr result (λ e. e ≢ OutOfMemory → ended_frames_of ctx.old probe ≡ Err e) }
     ensures last { probe ≡ 2 ^ 64 - 1 → IsUncovered ctx.old probe }

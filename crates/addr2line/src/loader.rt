@@ -16,7 +16,7 @@ ghost use Rattle.addr2line_units.specs.LocationsLeft.{locations_left};
 ghost use Rattle.addr2line.specs.Context.{IsReady, IsReadyForRange};
 ghost use Rattle.addr2line.specs.FramesByFiles.{frames_by_files};
 ghost use Rattle.addr2line.specs.Loaded.{as_sup, context_at, dwarf_at, loaded, main_with_sup, object_at, sup_at};
-ghost use Rattle.addr2line.specs.Loader.{AfterLoads, StaysLoaded, WaitsForNone, ended_frames_of, seen_loader};
+ghost use Rattle.addr2line.specs.Loader.{AfterLoads, AfterLocation, AfterLocationRange, WaitsForNone, ended_frames_of, seen_loader};
 ghost use Rattle.addr2line.specs.Lookups.{IsKnownFew};
 ghost use Rattle.addr2line.specs.SplitFiles.{of_file};
 
@@ -179,7 +179,8 @@ impl<F: FileSource> LoaderOver<F> {
         0
     }
 
-    /// The location of an address, as `Context::find_location` gives it.
+    /// The location of an address, as `Context::find_location` gives it. No other lines are parsed,
+    /// and what was parsed stays parsed.
     ///
     /// Refused `Dwarf` as that is; may fail with `OutOfMemory` instead. Takes no memory where the
     /// lines that it asks for are parsed, nor where no unit covers `probe`.
@@ -190,7 +191,7 @@ impl<F: FileSource> LoaderOver<F> {
             (of_file (location_of self.old.context.sections probe)) }
         ensures last { probe ≡ 2 ^ 64 - 1 → result ≡ Ok None }
         ensures* kept { sem 𝓛 (LoaderEndsAs F.row F.files self.entry
-            (StaysLoaded (seen_loader F.files self.old))) }
+            (AfterLocation probe result (seen_loader F.files self.old))) }
     {
         match self.context.find_location(probe) {
             Ok(location) => Ok(location),
@@ -198,7 +199,8 @@ impl<F: FileSource> LoaderOver<F> {
         }
     }
 
-    /// The rows that a range of addresses meets, as `Context::find_location_range` gives them.
+    /// The rows that a range of addresses meets, as `Context::find_location_range` gives them. No
+    /// other lines are parsed, and what was parsed stays parsed.
     ///
     /// Refused `OutOfMemory` alone; takes no memory where the lines are parsed.
     pub fn find_location_range(
@@ -211,7 +213,7 @@ impl<F: FileSource> LoaderOver<F> {
         ensures refused { IfErr result (λ e. e ≡ OutOfMemory) }
         ensures exact { IsReadyForRange self.old.context low high → IsOk result }
         ensures* kept { sem 𝓛 (LoaderEndsAs F.row F.files self.entry
-            (StaysLoaded (seen_loader F.files self.old))) }
+            (AfterLocationRange low high result (seen_loader F.files self.old))) }
     {
         match self.context.find_location_range(low, high) {
             Ok(rows) => Ok(rows),

@@ -1,4 +1,4 @@
-use Rattle.std.proofs.Common.{Err, Ok, ap, drop, map, refl, rules, subst, sym, ◌+◌, ◌∙◌}
+use Rattle.std.proofs.Common.{ap, drop, map, refl, rules, subst, sym, ◌+◌, ◌∙◌}
 use Rattle.std.proofs.lemmas.List.{map-append}
 use Rattle.std.proofs.lemmas.Result.{err_from_is_err_and}
 use Rattle.gimli_read.specs.declared.error.Error.TheVariants.{OutOfMemory}

@@ -8,7 +8,7 @@ use Rattle.addr2line_units.specs.FramesLeft.{frames_left}
 use Rattle.addr2line.proofs.HistoryLemmas.{given_ended, take_drop_one, take_then}
 use Rattle.addr2line.proofs.ReplayLemmas.{begun_at, ended_by, goes_on, left_at_end, left_by, left_leaves, load_token, looked_leaves, refused_leaves, reply_by, resumed_leaves, suspended_by}
 use Rattle.addr2line.specs.Answers.{SuspendsAgain, answered}
-use Rattle.addr2line.specs.History.{Given, Gives, GivesUp, frames_replied, answers_given}
+use Rattle.addr2line.specs.History.{Given, frames_replied, answers_given}
 use Rattle.addr2line.specs.Lookups.{frames_of, lookup_stop}
 use Rattle.addr2line.specs.Replies.{reply_of_frames}
 use Rattle.addr2line.specs.SeenCalls.{given_by, seen_given}

@@ -1,4 +1,4 @@
-use Rattle.std.proofs.Common.{◌≡◌, ◌++◌, ◌∷◌, ◌+◌, ◌≤◌, List, Some, ap, drop, length, map, option_map, refl, rules, subst, sym, take, ◌∙◌}
+use Rattle.std.proofs.Common.{◌≡◌, ◌++◌, ◌∷◌, ◌+◌, ◌≤◌, List, ap, drop, length, map, option_map, refl, rules, subst, sym, take, ◌∙◌}
 use Rattle.std.proofs.lemmas.List.{length-map}
 use Rattle.gimli_read.specs.Reading.{ExactlyUnlessOom}
 use Rattle.addr2line_units.specs.declared.frames_lookup.Faults.TheVariants.{PassOver}
@@ -8,7 +8,7 @@ use Rattle.addr2line_units.specs.SeenUnit.{seen_found}
 use Rattle.addr2line.proofs.HistoryLemmas.{given_ended, take_drop_one, take_then}
 use Rattle.addr2line.proofs.ReplayLemmas.{begun_at, ended_by, goes_on, left_at_end, left_by, left_leaves, load_token, looked_leaves, refused_leaves, reply_by, resumed_leaves, suspended_by, unit_waiting}
 use Rattle.addr2line.specs.Answers.{SuspendsAgain, answered}
-use Rattle.addr2line.specs.History.{Given, Gives, GivesUp, unit_replied, answers_given}
+use Rattle.addr2line.specs.History.{Given, unit_replied, answers_given}
 use Rattle.addr2line.specs.Lookups.{unit_of, lookup_stop}
 use Rattle.addr2line.specs.Replies.{reply_of_unit}
 use Rattle.addr2line.specs.SeenCalls.{given_by, seen_given}

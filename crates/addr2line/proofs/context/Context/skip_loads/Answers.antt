@@ -1,4 +1,4 @@
-use Rattle.std.proofs.Common.{Err, None, Ok, Some, ◌≡◌, refl, rules}
+use Rattle.std.proofs.Common.{None, Some, rules}
 use Rattle.std.proofs.lemmas.Result.{err_from_is_err_and}
 use Rattle.addr2line.proofs.AnsweredLemmas.{unit_waited_for}
 use Rattle.addr2line.proofs.SkippedLemmas.{after_skip, skip_failed, skip_found, skipped_look, skipped_more, skipped_none, skipped_refused, then_failed, then_found, then_waits, waits_true}

@@ -1,16 +1,46 @@
-use Rattle.std.proofs.Common.{rules, ◌≡◌, Ok, Err, None, ap, refl, sym, ◌∙◌}
+use Rattle.std.proofs.Common.{Err, ap, refl, sym, ◌∙◌}
 use Rattle.addr2line.specs.SplitFiles.{of_file}
 use Rattle.addr2line.proofs.LoadingLemmas.{no_oom}
 use Rattle.addr2line.proofs.loader.LoaderOver.find_location.Goals as goal
 
--- src/loader.rt:180:5
+pub returns-in-Ok : goal.returns-in-Ok
+returns-in-Ok g c = (
+  (
+    refl,
+    (λ _. tt),
+    record {
+      files = refl;
+      object = refl;
+      given = c.find_location.result;
+      answer = ap of_file (sym c.in-Ok.is);
+      context = c.find_location.follows.holds-at-none;
+    },
+  ),
+  record {
+    gives = ap of_file c.in-Ok.ensures.gives;
+    exact = λ ready. ap of_file (c.in-Ok.ensures.exact ready);
+    last = λ q. let found = c.in-Ok.ensures.last q in cc;
+    kept = tt;
+  },
+)
+
 pub returns-in-Err : goal.returns-in-Err
 returns-in-Err g c = (
-  (refl, (λ _. tt), search),
+  (
+    refl,
+    (λ _. tt),
+    record {
+      files = refl;
+      object = refl;
+      given = c.find_location.result;
+      answer = ap Err c.from.ensures ∙ ap of_file (sym c.in-Err.is);
+      context = c.find_location.follows.holds-at-none;
+    },
+  ),
   record {
     gives = λ ne. ap of_file (c.in-Err.ensures.gives (no_oom c.in-Err.error (λ q. ne (c.from.ensures ∙ q)))) ∙ ap Err (sym c.from.ensures);
     exact = λ ready. ap of_file (c.in-Err.ensures.exact ready) ∙ ap Err (sym c.from.ensures);
     last = λ q. absurd (let no = c.in-Err.ensures.last q in cc);
-    kept = search;
+    kept = tt;
   },
 )

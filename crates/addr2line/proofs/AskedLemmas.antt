@@ -1,0 +1,143 @@
+-- What was asked for by a lookup that waits is asked for after an answer (on specs/Loader.antt).
+use Rattle.std.proofs.Common.{◌≡◌, ◌≢◌, ◌⊎◌, inl, inr, ℕ, Bool, true, false, ◌&&◌, not, List, [], ◌∷◌, slice_get, Option, Some, None, Result, Ok, Err, refl, sym, ap, subst, ◌∙◌}
+use Rattle.std.proofs.lemmas.Bool.Decides.{eqb_tells}
+use Rattle.std.specs.Prelude.{is_ok}
+use Rattle.gimli_read.specs.declared.error.Error.{Error}
+use Rattle.gimli_read.specs.Reading.{◌>>=◌}
+use Rattle.gimli.specs.Sections.{Sections}
+use Rattle.gimli.specs.Unit.{UnitRecord}
+use Rattle.addr2line_lines.specs.References.{Scope}
+use Rattle.addr2line_units.specs.declared.frames_lookup.Faults.TheVariants.{End}
+use Rattle.addr2line_units.specs.declared.index.UnitRange.{UnitRange}
+use Rattle.addr2line_units.specs.Cover.{cover}
+use Rattle.addr2line_units.specs.Frames.{FrameRecord}
+use Rattle.addr2line_units.specs.FramesLookup.{LookupAsks, Stop, Waits, answer_of, asked_frames, asks_lines_of, ends_lookup, main_scope, or_stop, stop_along, with_answer}
+use Rattle.addr2line_units.specs.KnownEntries.{KnownEntries}
+use Rattle.addr2line_units.specs.Parsed.{ParsesOnly, has_parsed}
+use Rattle.addr2line_units.specs.UnitFrames.{asks_lines_in, function_in}
+use Rattle.addr2line_units.specs.UnitIndex.{IndexedUnit, UnitIndex, index_units, unit_records}
+use Rattle.addr2line_units.specs.Views.{SplitLoad, is_open}
+use Rattle.addr2line_units.proofs.FramesLookupLemmas.{parses_more}
+use Rattle.addr2line_units.proofs.WaitLemmas.{same_number}
+use Rattle.addr2line.proofs.FilesLookupLemmas.{Awaits, awaits_in, other_now, same_asked}
+use Rattle.addr2line.specs.Answers.{AfterAnswer, answered}
+use Rattle.addr2line.specs.Context.{ContextState}
+use Rattle.addr2line.specs.Loader.{ReadsAsked}
+use Rattle.addr2line.specs.Lookups.{AfterFrames, FirstAnswers, IsLoadOf, asked_of, lookup_stop, stop_in}
+
+abbrev Reading : Type 0
+Reading = Result (Option (List FrameRecord)) Error
+
+-- what ends no lookup is no unit that waits
+never_waits : (x : Reading) → ends_lookup x ≡ false → x ≢ Ok None
+never_waits x e q = let f : true ≡ false = sym (ap ends_lookup q) ∙ e in cc
+
+-- no lines are asked for of a unit that waits
+no_lines_if_open : (scope : Scope) (u : UnitRecord) (answer : Option (Option Sections)) (probe : ℕ) → is_open scope.file.sections u answer ≡ true → asks_lines_in scope u answer probe ≡ false
+unfolding asks_lines_in
+no_lines_if_open scope u answer probe e = ap (λ b. not b && is_ok (function_in scope u answer probe)) e
+
+-- a lookup asks the unit that it waits for
+asks_waiting : (f : ℕ → Reading) (n : ℕ) (ranges : List UnitRange) → stop_along f ranges ≡ Ok (Waits n) → LookupAsks f ranges n
+asks_waiting f n [] e = absurd cc
+asks_waiting f n (r ∷ ranges) e = step (f r.unit) (stop_along f ranges) e (asks_waiting f n ranges)
+  where
+    step : (x : Reading) (rest : Result Stop Error) → (x >>= or_stop r.unit rest) ≡ Ok (Waits n) → (rest ≡ Ok (Waits n) → LookupAsks f ranges n) → (n ≡ r.unit) ⊎ ((ends_lookup x ≡ false) × LookupAsks f ranges n)
+    step (Ok None) rest w later = inl (sym (same_number r.unit n w))
+    step (Ok (Some [])) rest w later = inr (refl, later w)
+    step (Ok (Some (x ∷ xs))) rest w later = absurd cc
+    step (Err e) rest w later = absurd cc
+
+-- among units, of which one waits for a load
+module _ (scope : Scope) (units : List IndexedUnit) (answers : FirstAnswers) (n : ℕ) (load : SplitLoad) (w : Awaits scope.file.sections units answers n load) (given : Option Sections) (probe : ℕ) where
+  abbrev now : FirstAnswers
+  now = with_answer scope.file.sections (unit_records units) answers n given
+
+  still_asked : (ranges : List UnitRange) (k : ℕ) → LookupAsks (asked_frames End scope units answers probe) ranges k → LookupAsks (asked_frames End scope units now probe) ranges k
+  still_asked [] k asked = absurd asked
+  still_asked (r ∷ ranges) k asked = elim asked [
+    | inl e ↦ inl e
+    | inr more ↦ inr (
+      ap ends_lookup (same_asked (λ l. Ok None) scope units answers n load w given probe r.unit (never_waits (asked_frames End scope units answers probe r.unit) more.0)) ∙ more.0,
+      still_asked ranges k more.1,
+    )
+  ]
+
+  still_lines : (k : ℕ) → asks_lines_of scope units answers probe k ≡ true → asks_lines_of scope units now probe k ≡ true
+  still_lines k e = elim (eqb_tells k n) [
+    | inl p ↦ absurd (not_here k p.1 e)
+    | inr q ↦ ap (λ a. lines_by a (slice_get units k)) (other_now (λ l. Ok None) scope units answers n load w given k q.1) ∙ e
+  ]
+    where
+      lines_by : Option (Option Sections) → Option IndexedUnit → Bool
+      lines_by a o = elim o [ None ↦ false | Some u ↦ asks_lines_in scope u.unit a probe ]
+
+      not_here : (j : ℕ) → j ≡ n → asks_lines_of scope units answers probe j ≡ true → ⊥
+      not_here j q h =
+          let at : asks_lines_of scope units answers probe n ≡ true = subst (λ i. asks_lines_of scope units answers probe i ≡ true) q h in
+          let f : false ≡ true = sym (ap (lines_by (answer_of answers n)) w.there ∙ no_lines_if_open scope w.unit.unit (answer_of answers n) probe w.open_is) ∙ at in
+          cc
+
+-- what is read along a lookup of the probe, by sections and first answers
+module _ (probe : ℕ) where
+  abbrev Asks : Sections → FirstAnswers → UnitIndex → ℕ → Type 0
+  Asks d answers m k = LookupAsks (asked_of End d answers probe m) (cover probe m.ranges) k
+
+  abbrev AsksLines : Sections → FirstAnswers → UnitIndex → ℕ → Type 0
+  AsksLines d answers m k = Asks d answers m k × (asks_lines_of (main_scope d m) m.units answers probe k ≡ true)
+
+  abbrev LinesBy : Sections → FirstAnswers → List Bool → List Bool → Type 0
+  LinesBy d answers old new = (m : UnitIndex) → index_units d ≡ Ok m → ParsesOnly (AsksLines d answers m) old new
+
+  abbrev EntriesBy : Sections → FirstAnswers → List KnownEntries → List KnownEntries → Type 0
+  EntriesBy d answers old new = (m : UnitIndex) → index_units d ≡ Ok m → (k : ℕ) → (slice_get new k ≡ slice_get old k) ⊎ Asks d answers m k
+
+  reads_by : (d : Sections) (answers : FirstAnswers) (old new : ContextState) → new.sections ≡ d → new.answers ≡ answers → LinesBy d answers old.parsed new.parsed → EntriesBy d answers old.known new.known → ReadsAsked probe old new
+  reads_by d answers old new s a lines entries = record {
+    lines = subst (λ x. LinesBy x new.answers old.parsed new.parsed) (sym s) (subst (λ x. LinesBy d x old.parsed new.parsed) (sym a) lines);
+    entries = subst (λ x. EntriesBy x new.answers old.known new.known) (sym s) (subst (λ x. EntriesBy d x old.known new.known) (sym a) entries);
+  }
+
+  pub reads_nothing : (c : ContextState) → ReadsAsked probe c c
+  reads_nothing c = record { lines = λ m e n p. inl p; entries = λ m e n. inl refl }
+
+  -- one more step of the lookup
+  pub reads_more : {X : Type 0} (r : Result X Error) (first mid new : ContextState) → AfterFrames End probe r mid new → ReadsAsked probe first mid → ReadsAsked probe first new
+  reads_more r first mid new a h = reads_by mid.sections mid.answers first new a.sections a.answers
+      (λ m e. parses_more _ _ first.parsed mid.parsed new.parsed (h.lines m e) (a.only m e) (λ n q. q))
+      (λ m e k. elim (a.learns m e k) [
+        | inl x ↦ elim (h.entries m e k) [ inl y ↦ inl (x ∙ y) | inr q ↦ inr q ]
+        | inr q ↦ inr q
+      ])
+
+  -- the answer to the load that it waits for
+  module _ (n : ℕ) (load : SplitLoad) (first mid new : ContextState) (waits : lookup_stop End mid.sections mid.answers probe ≡ Ok (Waits n)) (is : IsLoadOf mid.sections n load) (h : ReadsAsked probe first mid) where
+    waits_in : (m : UnitIndex) → index_units mid.sections ≡ Ok m → Asks mid.sections mid.answers m n
+    waits_in m e = asks_waiting (asked_of End mid.sections mid.answers probe m) n (cover probe m.ranges) (sym (ap (λ r. r >>= stop_in End mid.sections mid.answers probe) e) ∙ waits)
+
+    -- what was asked for still is by these first answers
+    by_answers : (answers : FirstAnswers) → new.sections ≡ mid.sections → new.answers ≡ answers → new.parsed ≡ mid.parsed → ((k : ℕ) → k ≢ n → slice_get new.known k ≡ slice_get mid.known k)
+        → ((m : UnitIndex) → index_units mid.sections ≡ Ok m → (k : ℕ) → Asks mid.sections mid.answers m k → Asks mid.sections answers m k)
+        → ((m : UnitIndex) → index_units mid.sections ≡ Ok m → (k : ℕ) → asks_lines_of (main_scope mid.sections m) m.units mid.answers probe k ≡ true → asks_lines_of (main_scope mid.sections m) m.units answers probe k ≡ true)
+        → ReadsAsked probe first new
+    by_answers answers s a parsed others asks lines = reads_by mid.sections answers first new s a
+        (λ m e k p. elim (h.lines m e k (subst (λ x. has_parsed x k ≡ true) parsed p)) [
+          | inl before ↦ inl before
+          | inr q ↦ inr (asks m e k q.0, lines m e k q.1)
+        ])
+        (λ m e k. elim (eqb_tells k n) [
+          | inl p ↦ inr (asks m e k (subst (λ i. Asks mid.sections mid.answers m i) (sym p.1) (waits_in m e)))
+          | inr q ↦ elim (h.entries m e k) [ inl y ↦ inl (others k q.1 ∙ y) | inr asked ↦ inr (asks m e k asked) ]
+        ])
+
+    pub reads_answered : (given : Option Sections) (r : Result (Unit {0}) Error) → AfterAnswer n given r mid new → ReadsAsked probe first new
+    reads_answered given (Ok x) a = by_answers (answered mid.sections mid.answers n given) a.sections a.answers a.parsed a.others
+        (λ m e k q. subst (λ x. Asks mid.sections x m k) (sym (now_is m e)) (still_asked (main_scope mid.sections m) m.units mid.answers n load (awaits m e) given probe (cover probe m.ranges) k q))
+        (λ m e k q. subst (λ x. asks_lines_of (main_scope mid.sections m) m.units x probe k ≡ true) (sym (now_is m e)) (still_lines (main_scope mid.sections m) m.units mid.answers n load (awaits m e) given probe k q))
+      where
+        now_is : (m : UnitIndex) → index_units mid.sections ≡ Ok m → answered mid.sections mid.answers n given ≡ with_answer mid.sections (unit_records m.units) mid.answers n given
+        now_is m e = ap (λ (r : Result UnitIndex Error). elim r [ Err f ↦ mid.answers | Ok x ↦ with_answer mid.sections (unit_records x.units) mid.answers n given ]) e
+
+        awaits : (m : UnitIndex) → index_units mid.sections ≡ Ok m → Awaits mid.sections m.units mid.answers n load
+        awaits m e = awaits_in mid.sections mid.answers probe n load waits is m e
+    reads_answered given (Err f) a = by_answers mid.answers a.sections a.refused.1 a.parsed a.others (λ m e k q. q) (λ m e k q. q)

@@ -1,0 +1,41 @@
+use Rattle.std.proofs.Common.{Err, ap, refl, sym, ◌∙◌}
+use Rattle.elf.specs.Text.{loader_error_of}
+use Rattle.addr2line.specs.SplitFiles.{of_file}
+use Rattle.addr2line.proofs.loader.LoaderOver.find_location_range.Goals as goal
+
+pub returns-in-Ok : goal.returns-in-Ok
+returns-in-Ok g c = (
+  (
+    refl,
+    (λ _. tt),
+    record {
+      files = refl;
+      object = refl;
+      given = c.find_location_range.result;
+      answer = ap of_file (sym c.in-Ok.is);
+      context = c.find_location_range.follows.holds-at-none;
+    },
+  ),
+  record { gives = c.in-Ok.ensures.gives; refused = tt; exact = λ ready. refl; kept = tt },
+)
+
+pub returns-in-Err : goal.returns-in-Err
+returns-in-Err g c = (
+  (
+    refl,
+    (λ _. tt),
+    record {
+      files = refl;
+      object = refl;
+      given = c.find_location_range.result;
+      answer = ap Err c.from.ensures ∙ ap of_file (sym c.in-Err.is);
+      context = c.find_location_range.follows.holds-at-none;
+    },
+  ),
+  record {
+    gives = tt;
+    refused = c.from.ensures ∙ ap loader_error_of c.in-Err.ensures.refused;
+    exact = λ ready. absurd (let no = c.in-Err.ensures.exact ready in cc);
+    kept = tt;
+  },
+)

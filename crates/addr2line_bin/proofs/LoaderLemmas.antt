@@ -19,10 +19,10 @@ use Rattle.addr2line_units.specs.Located.{location_in, location_of}
 use Rattle.addr2line_units.specs.Parsed.{StaysParsed, decides, has_parsed, ready_along}
 use Rattle.addr2line_units.specs.UnitIndex.{IndexedUnit, index_units}
 use Rattle.addr2line.proofs.NoLoadLemmas.{last_frames}
-use Rattle.addr2line.specs.Context.{ContextState, IsReady, IsUncovered}
+use Rattle.addr2line.specs.Context.{ContextState, IsReady, IsUncovered, Stays}
 use Rattle.addr2line.specs.Files.{Files}
 use Rattle.addr2line.specs.FramesByFiles.{frames_by_files, stop_frames}
-use Rattle.addr2line.specs.Loader.{AfterLoads, GivesSameFrames, LoaderState, StayEnded, StaysLoaded, WaitsForNone, ended_frames_of}
+use Rattle.addr2line.specs.Loader.{AfterLoads, AfterLocation, AfterLocationRange, GivesSameFrames, LoaderState, StayEnded, WaitsForNone, ended_frames_of}
 use Rattle.addr2line.specs.Lookups.{IsKnownFew, lookup_stop}
 use Rattle.addr2line.specs.SplitFiles.{of_file}
 use Rattle.addr2line_bin.specs.FileAnswers.{StaysAnswered}
@@ -65,19 +65,26 @@ bare_later : (old new : ContextState) → new.sections ≡ old.sections → (add
 bare_later old new e address (inl last) = inl last
 bare_later old new e address (inr u) = inr (u.0, ap index_units e ∙ u.1, u.2)
 
-pub same_answers : (old new : LoaderState) → StaysLoaded old new → StaysAnswered (loader_answers old) (loader_answers new)
-same_answers old new s = record {
-  locations = found_before old.context new.context s.context.sections s.context.parsed;
+same_answers : (old new : LoaderState) → new.files ≡ old.files → new.object ≡ old.object → Stays old.context new.context → StaysAnswered (loader_answers old) (loader_answers new)
+same_answers old new files object s = record {
+  locations = found_before old.context new.context s.sections s.parsed;
   frames = λ address given h. (
-    subst (λ d. IfSome old.files (λ held. LoadsUnlessOom (λ frames. frames) given (frames_by_files held d old.context.answers address))) s.context.sections
-        (subst (λ x. IfSome old.files (λ held. LoadsUnlessOom (λ frames. frames) given (frames_by_files held new.context.sections x address))) s.context.answers
-        (subst (λ (f : Option Files). IfSome f (λ held. LoadsUnlessOom (λ frames. frames) given (frames_by_files held new.context.sections new.context.answers address))) s.files h.0)),
-    ended_before old.context new.context (λ q w. ap (λ d. lookup_stop End d new.context.answers q) s.context.sections ∙ ap (λ x. lookup_stop End old.context.sections x q) s.context.answers) address given h.1,
-    λ bare. h.2 (bare_later old.context new.context s.context.sections address bare),
+    subst (λ d. IfSome old.files (λ held. LoadsUnlessOom (λ frames. frames) given (frames_by_files held d old.context.answers address))) s.sections
+        (subst (λ x. IfSome old.files (λ held. LoadsUnlessOom (λ frames. frames) given (frames_by_files held new.context.sections x address))) s.answers
+        (subst (λ (f : Option Files). IfSome f (λ held. LoadsUnlessOom (λ frames. frames) given (frames_by_files held new.context.sections new.context.answers address))) files h.0)),
+    ended_before old.context new.context (λ q w. ap (λ d. lookup_stop End d new.context.answers q) s.sections ∙ ap (λ x. lookup_stop End old.context.sections x q) s.answers) address given h.1,
+    λ bare. h.2 (bare_later old.context new.context s.sections address bare),
   );
-  symbol_at = ap (λ (o : ObjectFile). λ (address : ℕ). option_map (λ (x : NamedAddress). x.name) (symbol_at address o)) s.object;
-  section_at = ap (λ (o : ObjectFile). λ (name : List ℕ). section_range_at name o) s.object;
+  symbol_at = ap (λ (o : ObjectFile). λ (address : ℕ). option_map (λ (x : NamedAddress). x.name) (symbol_at address o)) object;
+  section_at = ap (λ (o : ObjectFile). λ (name : List ℕ). section_range_at name o) object;
 }
+
+-- the same after a lookup of a location, and of the rows that a range meets
+pub same_after_location : {X : Type 0} (probe : ℕ) (result : Loading (Option X)) (old new : LoaderState) → AfterLocation probe result old new → StaysAnswered (loader_answers old) (loader_answers new)
+same_after_location probe result old new a = same_answers old new a.files a.object a.context.stays
+
+pub same_after_range : {X : Type 0} (low high : ℕ) (result : Loading X) (old new : LoaderState) → AfterLocationRange low high result old new → StaysAnswered (loader_answers old) (loader_answers new)
+same_after_range low high result old new a = same_answers old new a.files a.object a.context.stays
 
 same_frames : (files : Option Files) (old new : ContextState) → IfSome files (λ held. GivesSameFrames held old new) → (address : ℕ) (given : Loading (List FrameRecord))
     → IfSome files (λ held. LoadsUnlessOom (λ frames. frames) given (frames_by_files held new.sections new.answers address)) → IfSome files (λ held. LoadsUnlessOom (λ frames. frames) given (frames_by_files held old.sections old.answers address))

@@ -18,3 +18,4 @@ pub mod SplitFileLemmas
 pub mod AskedLemmas
 pub mod ByFilesLemmas
 pub mod NoLoadLemmas
+pub mod LoadedLemmas

@@ -3,7 +3,7 @@
 -- Own: the first fault in the order of the steps counts: the file can't be read, then what its
 -- bytes say, then a section in the order of their names; the same of the supplementary file, if one
 -- is named, in its own byte order; then the context's.
-use Rattle.std.specs.Prelude.{ℕ, List, Option, Some, None, Ok, Err}
+use Rattle.std.specs.Prelude.{◌≡◌, ℕ, Bool, List, Option, Some, None, is_some, Ok, Err}
 use Rattle.gimli_read.specs.Reading.{◌>>=◌}
 use Rattle.gimli.specs.declared.dwarf.DwarfFileType.TheVariants.{Main}
 use Rattle.gimli.specs.Sections.{Sections, SupSections}
@@ -41,10 +41,13 @@ sup_at files (Some path) = as_sup (object_at files path >>= sections_in)
 abbrev pub main_with_sup : SupSections → Loading (Option SupSections) → Loading Sections
 main_with_sup main sup = sup >>= λ s. Ok (as_file Main s main)
 
+-- the same, by the main file
+abbrev pub dwarf_with : ObjectFile → Loading (Option SupSections) → Loading Sections
+dwarf_with file sup = sections_in file >>= λ main. main_with_sup main sup
+
 -- the sections of a main file and of the supplementary one
 unfoldable pub dwarf_at : Files → ObjectFile → Option (List ℕ) → Loading Sections
-dwarf_at files file sup_path =
-    sections_in file >>= λ main. main_with_sup main (sup_at files sup_path)
+dwarf_at files file sup_path = dwarf_with file (sup_at files sup_path)
 
 -- the context of sections
 abbrev pub context_at : Loading Sections → Loading ContextState
@@ -56,3 +59,30 @@ loaded files path sup_path = do
   file ← object_at files path
   context ← context_at (dwarf_at files file sup_path)
   Ok (file, context)
+
+-- the sections of the supplementary file that bytes are, none where there are no bytes
+abbrev pub sup_of_bytes : Option (List ℕ) → Loading (Option SupSections)
+sup_of_bytes None = Ok None
+sup_of_bytes (Some bytes) = as_sup (object_file_of bytes >>= sections_in)
+
+-- there are bytes that are this file
+abbrev pub IsFileOfBytes : ObjectFile → Type 0
+IsFileOfBytes file = (bytes : List ℕ) × (object_file_of bytes ≡ Ok file)
+
+-- these are the sections of a supplementary file that some bytes are, or none, as there is such a
+-- file or not
+abbrev pub AreSupOfBytes : Bool → Option SupSections → Type 0
+AreSupOfBytes has_sup sections = (bytes : Option (List ℕ))
+    × (is_some bytes ≡ has_sup) × (sup_of_bytes bytes ≡ Ok sections)
+
+-- these are the sections of a main file with those of such a supplementary file, or with none
+abbrev pub AreSectionsOf : Bool → ObjectFile → Sections → Type 0
+AreSectionsOf has_sup file d = (sup : Option SupSections)
+    × AreSupOfBytes has_sup sup × (dwarf_with file (Ok sup) ≡ Ok d)
+
+-- this is a main file that some bytes are, and the new context of its sections
+pub record IsLoaded (has_sup : Bool) (file : ObjectFile) (context : ContextState) : Type 0 where
+  pub file_is : IsFileOfBytes file
+  pub sections : Sections
+  pub sections_are : AreSectionsOf has_sup file sections
+  pub context_is : new_context sections ≡ Ok context

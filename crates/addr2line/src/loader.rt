@@ -1,6 +1,6 @@
 //! Loaders: contexts of ELF files, with their symbols and their split files.
 
-ghost use Rattle.std.specs.Prelude.{◌≡◌, ◌^◌, ◌-◌, [], IfErr, IfOk, IfSome, IsOk, None, Ok, Option, Some, option_map};
+ghost use Rattle.std.specs.Prelude.{◌≡◌, ◌^◌, ◌-◌, [], IfErr, IfOk, IfSome, IsOk, None, Ok, Option, Some, false, is_some, option_map, true};
 ghost use Rattle.std.specs.Borrow.{sem};
 ghost use Rattle.elf.specs.declared.error.LoaderError.TheVariants.{OutOfMemory};
 ghost use Rattle.gimli_read.specs.Reading.{Exactly};
@@ -15,7 +15,7 @@ ghost use Rattle.addr2line_units.specs.Located.{location_of, spans_of};
 ghost use Rattle.addr2line_units.specs.LocationsLeft.{locations_left};
 ghost use Rattle.addr2line.specs.Context.{IsReady, IsReadyForRange};
 ghost use Rattle.addr2line.specs.FramesByFiles.{frames_by_files};
-ghost use Rattle.addr2line.specs.Loaded.{as_sup, context_at, dwarf_at, loaded, main_with_sup, object_at, sup_at};
+ghost use Rattle.addr2line.specs.Loaded.{AreSectionsOf, AreSupOfBytes, IsFileOfBytes, IsLoaded, as_sup, context_at, dwarf_at, loaded, main_with_sup, object_at, sup_at};
 ghost use Rattle.addr2line.specs.Loader.{AfterLoads, AfterLocation, AfterLocationRange, WaitsForNone, ended_frames_of, seen_loader};
 ghost use Rattle.addr2line.specs.Lookups.{IsKnownFew};
 ghost use Rattle.addr2line.specs.SplitFiles.{of_file};
@@ -39,6 +39,7 @@ use std::rc::Rc;
 fn open<F: FileSource>(alloc: Global, files: &F, path: &str) -> Result<ElfFile, LoaderError>
     ensures gives { IfSome (F.files files.now) (λ held. LoadsUnlessOom (λ f. f) result
         (object_at held path.now)) }
+    ensures made { IfOk result IsFileOfBytes }
 {
     match files.read(alloc, path)? {
         Some(bytes) => parse_file(alloc, bytes),
@@ -67,6 +68,8 @@ fn read_sup<F: FileSource>(
     ensures gives { IfSome (F.files files.now) (λ held.
         LoadsUnlessOom (option_map (λ s. s.value)) result
         (sup_at held (option_map (λ p. p.now) path.entry))) }
+    ensures made { IfOk result (λ s. AreSupOfBytes (is_some path.entry)
+        (option_map (λ x. x.value) s)) }
 {
     let Some(path) = path else {
         return Ok(None);
@@ -97,6 +100,7 @@ fn read_dwarf<F: FileSource>(
 ) -> Result<Dwarf<EndianBytes>, LoaderError>
     ensures gives { IfSome (F.files files.now) (λ held. LoadsUnlessOom (λ d. d) result
         (dwarf_at held object.now (option_map (λ p. p.now) sup_path.entry))) }
+    ensures made { IfOk result (AreSectionsOf (is_some sup_path.entry) object.now) }
 {
     let main = read_sections(&MainFile { object })?;
     with_sup(main, read_sup(alloc, files, sup_path))
@@ -152,6 +156,7 @@ impl<F: FileSource> LoaderOver<F> {
         ensures gives { IfSome (F.files files) (λ held.
             LoadsUnlessOom (λ l. (l.object, l.context)) result
             (loaded held path.now (option_map (λ p. p.now) sup_path.entry))) }
+        ensures made { IfOk result (λ l. IsLoaded (is_some sup_path.entry) l.object l.context) }
         ensures files { IfOk result (λ l. l.files ≡ files) }
     {
         let object = open(alloc, &files, path)?;
@@ -285,16 +290,16 @@ impl<F: FileSource> LoaderOver<F> {
 
 impl LoaderOver<HostFiles> {
     /// A loader of a file of the host, as `over` makes it.
-    pub fn new(rt: HostRuntime, path: &str) -> Result<Loader, LoaderError> {
+    pub fn new(rt: HostRuntime, path: &str) -> Result<Loader, LoaderError>
+        ensures made { IfOk result (λ l. IsLoaded false l.object l.context) }
+    {
         LoaderOver::over(rt.alloc(), HostFiles::new(rt), path, None)
     }
 
     /// The same with a supplementary file.
-    pub fn new_with_sup(
-        rt: HostRuntime,
-        path: &str,
-        sup_path: &str,
-    ) -> Result<Loader, LoaderError> {
+    pub fn new_with_sup(rt: HostRuntime, path: &str, sup_path: &str) -> Result<Loader, LoaderError>
+        ensures made { IfOk result (λ l. IsLoaded true l.object l.context) }
+    {
         LoaderOver::over(rt.alloc(), HostFiles::new(rt), path, Some(sup_path))
     }
 }

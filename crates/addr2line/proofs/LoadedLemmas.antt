@@ -1,0 +1,42 @@
+-- What a loader is made from, whatever its files hold (on specs/Loaded.antt).
+use Rattle.std.proofs.Common.{◌≡◌, Bool, true, List, ℕ, Option, Some, Result, Ok, Err, refl, ap, ◌∙◌}
+use Rattle.std.specs.Prelude.{IfOk}
+use Rattle.gimli_read.specs.Reading.{◌>>=◌}
+use Rattle.gimli.specs.Sections.{Sections, SupSections}
+use Rattle.elf.specs.Loading.{Loading, LoadsUnlessOom}
+use Rattle.elf.specs.ObjectFile.{ObjectFile, object_file_of}
+use Rattle.addr2line.specs.Context.{ContextState, new_context}
+use Rattle.addr2line.specs.Loaded.{AreSectionsOf, AreSupOfBytes, IsFileOfBytes, IsLoaded, as_sup, context_at, main_with_sup, sections_in}
+use Rattle.addr2line.specs.SplitFiles.{of_file}
+
+-- a file that was parsed
+pub parsed_file : (bytes : List ℕ) (r : Loading ObjectFile) → LoadsUnlessOom (λ f. f) r (object_file_of bytes) → IfOk r IsFileOfBytes
+parsed_file bytes (Ok file) h = (bytes, h)
+parsed_file bytes (Err e) h = tt
+
+-- the sections of a supplementary file that was opened
+pub sup_made : {X : Type 0} (see : X → Option SupSections) (file : ObjectFile) → IsFileOfBytes file → (r : Loading X) → LoadsUnlessOom see r (as_sup (sections_in file)) → IfOk r (λ s. AreSupOfBytes true (see s))
+sup_made see file is (Ok s) h = (Some is.0, refl, ap (λ f. as_sup (f >>= sections_in)) is.1 ∙ h)
+sup_made see file is (Err e) h = tt
+
+-- what is given to a step that goes on where there is no fault
+gives_step : {X Y : Type 0} (see : X → Y) (r : Loading X) → LoadsUnlessOom see r (r >>= λ x. Ok (see x))
+gives_step see (Ok x) = refl
+gives_step see (Err e) = λ ne. refl
+
+-- the sections of a main file with those of a supplementary one
+pub dwarf_made : {X : Type 0} (see : X → Option SupSections) (has_sup : Bool) (file : ObjectFile) (main : SupSections) → sections_in file ≡ Ok main → (sup : Loading X) → IfOk sup (λ s. AreSupOfBytes has_sup (see s))
+    → (r : Loading Sections) → ((given : Loading (Option SupSections)) → LoadsUnlessOom see sup given → LoadsUnlessOom (λ d. d) r (main_with_sup main given)) → IfOk r (AreSectionsOf has_sup file)
+dwarf_made see has_sup file main is (Ok s) made (Ok d) gives = (see s, made, ap (λ x. x >>= λ m. main_with_sup m (Ok (see s))) is ∙ gives (Ok (see s)) refl)
+dwarf_made see has_sup file main is (Err e) made (Ok d) gives = absurd (let no = gives (Err e) (λ ne. refl) in cc)
+dwarf_made see has_sup file main is sup made (Err f) gives = tt
+
+-- the context of sections
+pub loader_made : (has_sup : Bool) (file : ObjectFile) → IsFileOfBytes file → (dwarf : Loading Sections) → IfOk dwarf (AreSectionsOf has_sup file) → (c : ContextState)
+    → ((given : Loading Sections) → LoadsUnlessOom (λ d. d) dwarf given → context_at given ≡ Ok c) → IsLoaded has_sup file c
+loader_made has_sup file is (Ok d) are c gives = record { file_is = is; sections = d; sections_are = are; context_is = of_loading (new_context d) (gives (Ok d) refl) }
+  where
+    of_loading : (r : Result ContextState _) → of_file r ≡ Ok c → r ≡ Ok c
+    of_loading (Ok x) h = cc
+    of_loading (Err e) h = absurd cc
+loader_made has_sup file is (Err e) are c gives = absurd (let no = gives (Err e) (λ ne. refl) in cc)

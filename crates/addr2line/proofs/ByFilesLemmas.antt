@@ -21,13 +21,13 @@ use Rattle.addr2line.specs.Files.{Files}
 use Rattle.addr2line.specs.FramesByFiles.{frames_by_files, stop_frames}
 use Rattle.addr2line.specs.History.{Given, Gives}
 use Rattle.addr2line.specs.KeptStops.{by_number, unit_stop}
-use Rattle.addr2line.specs.Loader.{AfterAnswers, AfterLoads, AnswersInTurn, AnswersOne, IsFaultByFiles, LoaderState, ReadsAsked, StayAnswered, WaitsForNone}
+use Rattle.addr2line.specs.Loader.{AfterAnswers, AfterLoads, AnswersInTurn, AnswersOne, IsFaultByFiles, LoaderState, ReadsAsked, StayAnswered, WaitsForNone, ended_frames_of}
 use Rattle.addr2line.specs.Lookups.{AfterFrames, FirstAnswers, IsKnownFew, IsLoadOf, frames_of, frames_told, loads_of, lookup_stop}
 use Rattle.addr2line.specs.SplitFiles.{given_by}
 use Rattle.addr2line.proofs.AskedLemmas.{reads_more, reads_nothing}
 use Rattle.addr2line.proofs.FilesLookupLemmas.{answer_changes, first_answers_stay, frames_ended, frames_stay, refused_frames, stop_stays}
 use Rattle.addr2line.proofs.HistoryLemmas.{HasGiven, given_all, given_more}
-use Rattle.addr2line.proofs.LoadingLemmas.{if_some_both, no_oom, not_told}
+use Rattle.addr2line.proofs.LoadingLemmas.{if_some_both, no_oom, no_path, not_told}
 use Rattle.addr2line.proofs.StayLemmas.{known_of_twice, same_stays_known}
 
 -- what holds of each files holds where they are known
@@ -191,6 +191,16 @@ still_ended probe r old new a w =
     ∙ ap (λ x. is_waiting (lookup_stop End old.sections x probe)) a.answers
     ∙ w
 
+-- nor which frames it gives
+pub ended_later : {X : Type 0} (probe : ℕ) (r : Result X Error) (old new : ContextState) → AfterFrames End probe r old new → ended_frames_of new probe ≡ ended_frames_of old probe
+ended_later probe r old new a =
+    ap (λ d. stop_frames (lookup_stop End d new.answers probe)) a.sections
+    ∙ ap (λ x. stop_frames (lookup_stop End old.sections x probe)) a.answers
+
+-- the fault of a lookup that was read for is that of the frames afterwards
+pub stop_told : {X : Type 0} (probe : ℕ) (e : Error) (r : Result X Error) (old new : ContextState) → AfterFrames End probe r old new → unit_stop End old.sections old.answers probe ≡ Err e → ended_frames_of new probe ≡ Err (loader_error_of e)
+stop_told probe e r old new a h = ended_later probe r old new a ∙ (failed_stop e (lookup_stop End old.sections old.answers probe) h).1
+
 -- what it reads takes memory only where something is left to read, or more than 16 inlined functions
 -- stand there
 pub looked_memory : {X : Type 0} (probe : ℕ) (e : Error) (r : Result X Error) (old new : ContextState) → r ≡ Err e → AfterFrames End probe r old new → WaitsForNone new probe → IsKnownFew End new probe → loader_error_of e ≢ OutOfMemory
@@ -239,8 +249,8 @@ module _ (files : Option Files) (probe : ℕ) (first mid : ContextState) (a : Af
     abbrev loader : ContextState → LoaderState
     loader c = record { files = files; object = object; context = c }
 
-    pub loader_found : (x : X) → r ≡ Ok x → AfterLoads {X = X} probe (Ok x) (loader first) (loader new)
-    loader_found x is = record {
+    pub loader_found : (see : X → List FrameRecord) (x : X) → r ≡ Ok x → frames_of mid.sections mid.answers probe ≡ Ok (Some (see x)) → AfterLoads see probe (Ok x) (loader first) (loader new)
+    loader_found see x is h = record {
       files = refl;
       object = refl;
       context = then_answered files first mid new a (after_look files probe r mid new b);
@@ -248,11 +258,13 @@ module _ (files : Option Files) (probe : ℕ) (first mid : ContextState) (a : Af
       only = reads_more probe r first mid new b o;
       ended = λ _. still_ended probe r mid new b ended;
       ready = λ _. b.ready (subst (λ (y : Result X Error). IsNotOom y) (sym is) tt);
+      told = λ _. ended_later probe r mid new b ∙ found_told (see x) (lookup_stop End mid.sections mid.answers probe) h;
+      waits = tt;
       memory = λ w few. tt;
     }
 
-    pub loader_failed : (e : Error) → r ≡ Err e → AfterLoads {X = X} probe (Err (loader_error_of e)) (loader first) (loader new)
-    loader_failed e is = record {
+    pub loader_failed : (see : X → List FrameRecord) (e : Error) → r ≡ Err e → (loader_error_of e ≢ OutOfMemory → frames_of mid.sections mid.answers probe ≡ Err e) → AfterLoads see probe (Err (loader_error_of e)) (loader first) (loader new)
+    loader_failed see e is h = record {
       files = refl;
       object = refl;
       context = then_answered files first mid new a (after_look files probe r mid new b);
@@ -260,5 +272,7 @@ module _ (files : Option Files) (probe : ℕ) (first mid : ContextState) (a : Af
       only = reads_more probe r first mid new b o;
       ended = λ _. still_ended probe r mid new b ended;
       ready = λ fault. b.ready (subst (λ (y : Result X Error). IsNotOom y) (sym is) (no_oom e fault.0));
+      told = λ fault. ended_later probe r mid new b ∙ failed_told e (lookup_stop End mid.sections mid.answers probe) (h fault.0);
+      waits = λ q. absurd (no_path e q);
       memory = looked_memory probe e r mid new is b;
     }

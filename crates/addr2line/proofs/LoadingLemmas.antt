@@ -5,7 +5,7 @@ use Rattle.std.specs.Prelude.{IfErr, IfSome}
 use Rattle.gimli_read.specs.declared.error.Error.{Error}
 use Rattle.gimli_read.specs.declared.error.Error.TheVariants as reading
 use Rattle.gimli_read.specs.Reading.{ExactlyUnlessOom}
-use Rattle.elf.specs.declared.error.LoaderError.TheVariants.{OutOfMemory}
+use Rattle.elf.specs.declared.error.LoaderError.TheVariants.{OutOfMemory, PathNotUtf8}
 use Rattle.elf.specs.Loading.{Loading, LoadsUnlessOom, LoadsUnlessOomFor}
 use Rattle.elf.specs.Text.{loader_error_of}
 use Rattle.addr2line.specs.Loader.{LeavesOpen}
@@ -24,6 +24,11 @@ no_oom e ne q = ne (ap loader_error_of q)
 pub not_told : (e : Error) → e ≢ reading.OutOfMemory → loader_error_of e ≢ OutOfMemory
 not_told reading.OutOfMemory ne = λ _. ne refl
 not_told _ ne = λ q. absurd cc
+
+-- nor is one told as a path that isn't UTF-8
+pub no_path : (e : Error) → loader_error_of e ≢ PathNotUtf8
+no_path reading.OutOfMemory = λ q. absurd cc
+no_path _ = λ q. absurd cc
 
 -- an answer about DWARF as one about its file
 pub as_loading : {X Y : Type 0} (see : X → Y) (r : Result X Error) (given : Result Y Error) → ExactlyUnlessOom see r given → LoadsUnlessOom see (of_file r) (of_file given)

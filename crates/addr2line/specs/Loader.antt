@@ -3,8 +3,9 @@
 -- Own: a lookup gives the frames that the files say at that call, whichever lookups were made
 -- before; the first answer of a unit stays, so a file counts that was there when its unit was first
 -- looked up.
-use Rattle.std.specs.Prelude.{◌≡◌, ◌≢◌, ◌≤◌, ◌⊎◌, ℕ, false, List, Option, Some, IfErr, IfSome, Result, Ok, Err}
+use Rattle.std.specs.Prelude.{◌≡◌, ◌≢◌, ◌≤◌, ◌⊎◌, ℕ, false, true, List, Option, Some, IfErr, IfSome, Result, Ok, Err}
 use Rattle.gimli_read.specs.declared.error.Error.{Error}
+use Rattle.gimli_read.specs.Reading.{Exactly}
 use Rattle.gimli.specs.Sections.{Sections}
 use Rattle.elf.specs.declared.error.LoaderError.{LoaderError}
 use Rattle.elf.specs.declared.error.LoaderError.TheVariants.{OutOfMemory, PathNotUtf8}
@@ -46,6 +47,10 @@ GivesSameFrames files old new = (probe : ℕ) → frames_by_files files new.sect
 -- a lookup of the probe waits for no answer
 abbrev pub WaitsForNone : ContextState → ℕ → Type 0
 WaitsForNone c probe = is_waiting (lookup_stop End c.sections c.answers probe) ≡ false
+
+-- a lookup of the probe waits for an answer
+abbrev pub WaitsForOne : ContextState → ℕ → Type 0
+WaitsForOne c probe = is_waiting (lookup_stop End c.sections c.answers probe) ≡ true
 
 -- a lookup that waits for no answer comes to the same later
 abbrev pub StayEnded : ContextState → ContextState → Type 0
@@ -106,11 +111,12 @@ ended_frames_of c probe = stop_frames (lookup_stop End c.sections c.answers prob
 
 -- a lookup of frames at the probe has answered the loads that it came to by files: the files and
 -- the main file are the same, and nothing was read but what it asks for; once it has ended, at a
--- fault too, each unit that it came to is decided, and all is known that it asks for. Memory is
--- refused only where it waits, something is left to read, or more than 16 inlined functions stand
--- there
-pub record AfterLoads {X : Type 0} (probe : ℕ) (result : Loading X) (old new : LoaderState)
-    : Type 0 where
+-- fault too, each unit that it came to is decided, all is known that it asks for, and its answer is
+-- that of the first answers which are left, whatever the files are. A path that isn't UTF-8 leaves
+-- the unit open that it came to. Memory is refused only where it waits, something is left to read, or
+-- more than 16 inlined functions stand there
+pub record AfterLoads {X : Type 0} (see : X → List FrameRecord) (probe : ℕ) (result : Loading X)
+    (old new : LoaderState) : Type 0 where
   pub files : new.files ≡ old.files
   pub object : new.object ≡ old.object
   pub context : AfterAnswers old.files old.context new.context
@@ -118,6 +124,8 @@ pub record AfterLoads {X : Type 0} (probe : ℕ) (result : Loading X) (old new :
   pub only : ReadsAsked probe old.context new.context
   pub ended : HasEnded result → WaitsForNone new.context probe
   pub ready : HasEnded result → IsKnown End new.context probe
+  pub told : HasEnded result → Exactly see result (ended_frames_of new.context probe)
+  pub waits : IfErr result (λ e. e ≡ PathNotUtf8 → WaitsForOne new.context probe)
   pub memory : WaitsForNone new.context probe → IsKnownFew End new.context probe
       → IfErr result (λ e. e ≢ OutOfMemory)
 

@@ -1,11 +1,11 @@
 //! Lookups of frames where files answer loads.
 
 ghost use Rattle.std.specs.Prelude.{◌≡◌, ◌≢◌, ◌^◌, ◌-◌, ◌<◌, Err, IfErr, Ok, OnErr, OnOk, length};
-ghost use Rattle.elf.specs.declared.error.LoaderError.TheVariants.{OutOfMemory};
+ghost use Rattle.elf.specs.declared.error.LoaderError.TheVariants.{OutOfMemory, PathNotUtf8};
 ghost use Rattle.addr2line_units.specs.declared.frames_lookup.Faults.TheVariants.{End};
 ghost use Rattle.addr2line_units.specs.FramesLookup.{Waits};
 ghost use Rattle.addr2line.specs.Context.{ContextState, IsUncovered};
-ghost use Rattle.addr2line.specs.Loader.{AfterAnswers, AnswersInTurn, AnswersOne, HasEnded, IsFaultByFiles, IsUnitFault, LeavesOpen, ReadsAsked, WaitsForNone, ended_frames_of};
+ghost use Rattle.addr2line.specs.Loader.{AfterAnswers, AnswersInTurn, AnswersOne, HasEnded, IsFaultByFiles, IsUnitFault, LeavesOpen, ReadsAsked, WaitsForNone, WaitsForOne, ended_frames_of};
 ghost use Rattle.addr2line.specs.Lookups.{IsKnown, IsKnownFew, loads_of, lookup_stop};
 
 use crate::context::Context;
@@ -55,6 +55,8 @@ pub(crate) fn answer_loads<F: FileSource>(
     ensures only { ReadsAsked probe ctx.old ctx.new }
     ensures ended { HasEnded result → WaitsForNone ctx.new probe }
     ensures ready { IfErr result (λ e. IsUnitFault e → IsKnown End ctx.new probe) }
+    ensures told { IfErr result (λ e. IsUnitFault e → ended_frames_of ctx.new probe ≡ Err e) }
+    ensures waits { IfErr result (λ e. e ≡ PathNotUtf8 → WaitsForOne ctx.new probe) }
     ensures memory { WaitsForNone ctx.new probe → IsKnownFew End ctx.new probe
         → IfErr result (λ e. e ≢ OutOfMemory) }
     ensures refused { IfErr result (IsFaultByFiles (F.files files.now) ctx.old probe) }

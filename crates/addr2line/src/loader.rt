@@ -254,7 +254,7 @@ impl<F: FileSource> LoaderOver<F> {
             → Exactly frames_left result (ended_frames_of self.old.context probe) }
         ensures last { probe ≡ 2 ^ 64 - 1 → Exactly frames_left result (Ok []) }
         ensures* kept { sem 𝓛 (LoaderEndsAs F.row F.files self.entry
-            (AfterLoads probe result (seen_loader F.files self.old))) }
+            (AfterLoads frames_left probe result (seen_loader F.files self.old))) }
     {
         answer_loads(self.alloc, &self.files, &mut self.context, probe)?;
         match self.context.ended_frames(probe) {

@@ -92,8 +92,8 @@ same_frames None old new same address given h = tt
 same_frames (Some held) old new same address given h = subst (λ frames. LoadsUnlessOom (λ x. x) given frames) (same address) h
 
 -- the same after a lookup of frames, which adds first answers
-pub same_after_loads : {X : Type 0} (probe : ℕ) (result : Loading X) (old new : LoaderState) → AfterLoads probe result old new → StaysAnswered (loader_answers old) (loader_answers new)
-same_after_loads probe result old new a = record {
+pub same_after_loads : {X : Type 0} (see : X → List FrameRecord) (probe : ℕ) (result : Loading X) (old new : LoaderState) → AfterLoads see probe result old new → StaysAnswered (loader_answers old) (loader_answers new)
+same_after_loads see probe result old new a = record {
   locations = found_before old.context new.context a.context.sections a.context.parsed;
   frames = λ address given h. (
     same_frames old.files old.context new.context a.context.frames address given

@@ -1,8 +1,8 @@
 use Rattle.std.proofs.Common.{refl, rules}
 use Rattle.std.proofs.lemmas.Result.{err_from_is_err_and}
 use Rattle.addr2line_units.specs.declared.frames_lookup.Faults.TheVariants.{End}
-use Rattle.addr2line.proofs.ByFilesLemmas.{fault_before, has_answered_none, has_answered_one, has_looked, in_turn, looked_memory, stop_fault, waits_no_more}
-use Rattle.addr2line.proofs.LoadingLemmas.{no_oom}
+use Rattle.addr2line.proofs.ByFilesLemmas.{fault_before, has_answered_none, has_answered_one, has_looked, in_turn, looked_memory, stop_fault, stop_told, waits_no_more}
+use Rattle.addr2line.proofs.LoadingLemmas.{no_oom, no_path}
 use Rattle.addr2line.proofs.NoLoadLemmas.{stop_fault_is, waits_never}
 use Rattle.addr2line.proofs.SkippedLemmas.{stop_waits, then_waits}
 use Rattle.addr2line.proofs.by_files.answer_loads.Goals as goal
@@ -29,6 +29,17 @@ pub returns-in_err-number-clause-ready : goal.returns-in_err-number-clause-ready
 returns-in_err-number-clause-ready g c =
     let p = err_from_is_err_and c.from_residual.result c.from_residual.ensures.1 in
     rw (p.1, p.2) (λ fault. c.in_err-number.ensures.after.ready (no_oom c.in_err-number.field-0.0 fault.0))
+
+pub returns-in_err-number-clause-told : goal.returns-in_err-number-clause-told
+returns-in_err-number-clause-told g c =
+    let p = err_from_is_err_and c.from_residual.result c.from_residual.ensures.1 in
+    let e = c.in_err-number.field-0.0 in
+    rw (p.1, p.2) (λ fault. stop_told c.args.probe e _ c.loop-number.ctx c.stop.new.self c.in_err-number.ensures.after (c.in_err-number.ensures.gives (no_oom e fault.0)))
+
+pub returns-in_err-number-clause-waits : goal.returns-in_err-number-clause-waits
+returns-in_err-number-clause-waits g c =
+    let p = err_from_is_err_and c.from_residual.result c.from_residual.ensures.1 in
+    rw (p.1, p.2) (λ q. absurd (no_path c.in_err-number.field-0.0 q))
 
 pub returns-in_err-number-clause-memory : goal.returns-in_err-number-clause-memory
 returns-in_err-number-clause-memory g c =

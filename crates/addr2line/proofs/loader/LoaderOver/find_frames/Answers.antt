@@ -35,6 +35,8 @@ returns-in_err-answer_loads g c =
           only = c.answer_loads.ensures.only;
           ended = so.ended;
           ready = so.ready;
+          told = so.told;
+          waits = so.waits;
           memory = so.memory;
         },
       ),
@@ -60,7 +62,7 @@ returns-in-Ok g c =
     let frames = c.in-Ok.frames in
     let waits = c.in_ok-answer_loads.ensures.ended tt in
     let ended = λ (w : WaitsForNone first probe). found_ended files probe first mid a w (frames_left frames) c.in-Ok.ensures.gives in (
-      (refl, (λ _. tt), loader_found files probe first mid a c.args.self.now.object c.ended_frames.result new b t c.answer_loads.ensures.only waits frames c.in-Ok.is),
+      (refl, (λ _. tt), loader_found files probe first mid a c.args.self.now.object c.ended_frames.result new b t c.answer_loads.ensures.only waits frames_left frames c.in-Ok.is c.in-Ok.ensures.gives),
       record {
         gives = found_by_files files probe first mid a waits (frames_left frames) c.in-Ok.ensures.gives;
         ended = ended;
@@ -86,7 +88,7 @@ returns-in-Err g c =
     let gives = λ (ne : loader_error_of e ≢ OutOfMemory). c.in-Err.ensures.gives (no_oom e ne) in
     let exact = λ (w : WaitsForNone first probe) (few : IsKnownFew End first probe). failed_exactly files probe first mid a w r new t b e c.in-Err.is gives few in
     rw c.from.ensures (
-      (refl, (λ _. tt), loader_failed files probe first mid a c.args.self.now.object r new b t c.answer_loads.ensures.only waits e c.in-Err.is),
+      (refl, (λ _. tt), loader_failed files probe first mid a c.args.self.now.object r new b t c.answer_loads.ensures.only waits frames_left e c.in-Err.is gives),
       record {
         gives = failed_by_files files probe first mid a waits e gives;
         ended = λ w. failed_ended files probe first mid a w e gives;

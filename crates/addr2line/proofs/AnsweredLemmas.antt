@@ -34,7 +34,7 @@ use Rattle.addr2line.proofs.LookupLemmas.{as_many_lines, scope_is}
 use Rattle.addr2line.proofs.StayLemmas.{stays_known}
 use Rattle.addr2line.specs.Answers.{AfterAnswer, answered}
 use Rattle.addr2line.specs.Context.{IsContext, index_by}
-use Rattle.addr2line.specs.Lookups.{FirstAnswers, IsUnitOf, StaysKnown, loads_of, lookup_stop, stop_in, waits_for}
+use Rattle.addr2line.specs.Lookups.{FirstAnswers, IsUnitOf, StaysKnown, loads_at, lookup_stop, stop_in, waits_for}
 
 -- a lookup that waits for the unit of a number
 pub waits_is : (n : ℕ) (r : Result Stop Error) → waits_for n r ≡ true → r ≡ Ok (Waits n)
@@ -79,7 +79,7 @@ module _ {R : Type 0} (d : Sections) (us : List UnitRecord) (old : List ResUnit)
       ap (λ (r : Result UnitIndex Error). elim r [ Err e ↦ answers_in held | Ok m ↦ with_answer d (unit_records m.units) (answers_in held) n given ]) i.made_is
       ∙ ap (λ xs. with_answer d xs (answers_in held) n given) (records_beside d us old i.lines)
 
-  pub loads_are : (answers : FirstAnswers) (probe : ℕ) → loads_of d answers probe ≡ laws.loads_of d us answers (cover probe ranges)
+  pub loads_are : (answers : FirstAnswers) (probe : ℕ) → loads_at d answers probe ≡ laws.loads_of d us answers (cover probe ranges)
   loads_are answers probe =
       ap (λ (r : Result UnitIndex Error). elim r [ Err e ↦ [] | Ok m ↦ loads_along (load_of_number d (unit_records m.units) answers) (cover probe m.ranges) ]) i.made_is
       ∙ ap (λ xs. loads_along (load_of_number d xs answers) (cover probe ranges)) (records_beside d us old i.lines)
@@ -124,7 +124,7 @@ module _ {R : Type 0} (d : Sections) (us : List UnitRecord) (old : List ResUnit)
 
     -- fewer loads are left after an answer to one that a lookup waits for
     pub fewer_after : OnOk result (answers_in entries ≡ with_answer d us (answers_in held) n given) → (faults : Faults) (probe : ℕ) → waits_for n (lookup_stop faults d (answers_in held) probe) ≡ true
-        → OnOk result (length (loads_of d (answers_in entries) probe) < length (loads_of d (answers_in held) probe))
+        → OnOk result (length (loads_at d (answers_in entries) probe) < length (loads_at d (answers_in held) probe))
     fewer_after answers faults probe w = of_ok result answers
       where
         stop : stop_in faults d (answers_in held) probe made ≡ Ok (Waits n)
@@ -137,10 +137,10 @@ module _ {R : Type 0} (d : Sections) (us : List UnitRecord) (old : List ResUnit)
         many : length us ≡ length (answers_in held)
         many = as_many_entries (main_scope d made) us held i.entries ∙ sym (as_many_answers held)
 
-        of_ok : (r : Result (Unit {0}) Error) → OnOk r (answers_in entries ≡ with_answer d us (answers_in held) n given) → OnOk r (length (loads_of d (answers_in entries) probe) < length (loads_of d (answers_in held) probe))
+        of_ok : (r : Result (Unit {0}) Error) → OnOk r (answers_in entries ≡ with_answer d us (answers_in held) n given) → OnOk r (length (loads_at d (answers_in entries) probe) < length (loads_at d (answers_in held) probe))
         of_ok (Ok x) h =
-            let now : loads_of d (answers_in entries) probe ≡ laws.loads_of d us (with_answer d us (answers_in held) n given) (cover probe ranges) = loads_are (answers_in entries) probe ∙ ap (λ a. laws.loads_of d us a (cover probe ranges)) h in
-            subst (λ l. length l < length (loads_of d (answers_in held) probe)) (sym now)
+            let now : loads_at d (answers_in entries) probe ≡ laws.loads_of d us (with_answer d us (answers_in held) n given) (cover probe ranges) = loads_are (answers_in entries) probe ∙ ap (λ a. laws.loads_of d us a (cover probe ranges)) h in
+            subst (λ l. length l < length (loads_at d (answers_in held) probe)) (sym now)
             (subst (λ l. length (laws.loads_of d us (with_answer d us (answers_in held) n given) (cover probe ranges)) < length l) (sym (loads_are (answers_in held) probe))
             (fewer_left d us (answers_in held) n given (cover probe ranges) many listed))
         of_ok (Err e) h = tt

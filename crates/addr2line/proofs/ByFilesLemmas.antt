@@ -22,8 +22,8 @@ use Rattle.addr2line.specs.FramesByFiles.{frames_by_files, stop_frames}
 use Rattle.addr2line.specs.History.{Given, Gives}
 use Rattle.addr2line.specs.KeptStops.{by_number, unit_stop}
 use Rattle.addr2line.specs.Loader.{AfterAnswers, AfterLoads, AnswersInTurn, AnswersOne, IsFaultByFiles, LoaderState, ReadsAsked, StayAnswered, WaitsForNone, ended_frames_of}
-use Rattle.addr2line.specs.Lookups.{AfterFrames, FirstAnswers, IsKnownFew, IsLoadOf, frames_of, frames_told, loads_of, lookup_stop}
-use Rattle.addr2line.specs.SplitFiles.{given_by}
+use Rattle.addr2line.specs.Lookups.{AfterFrames, FirstAnswers, IsKnownFew, IsLoadOf, frames_of, frames_told, loads_at, lookup_stop}
+use Rattle.addr2line.specs.SplitFiles.{given_by_files}
 use Rattle.addr2line.proofs.AskedLemmas.{reads_more, reads_nothing}
 use Rattle.addr2line.proofs.FilesLookupLemmas.{answer_changes, first_answers_stay, frames_ended, frames_stay, refused_frames, stop_stays}
 use Rattle.addr2line.proofs.HistoryLemmas.{HasGiven, given_all, given_more}
@@ -95,13 +95,13 @@ module _ (files : Option Files) where
 
   module _ (probe n : ℕ) (load : SplitLoad) (old : ContextState) (waits : lookup_stop End old.sections old.answers probe ≡ Ok (Waits n)) (is : IsLoadOf old.sections n load) where
     -- the load was answered by a file, or memory was refused for it
-    pub answered_by_file : (given : Option Sections) → IfSome files (λ held. given_by held load ≡ Ok given) → (r : Result (Unit {0}) Error) (new : ContextState) → AfterAnswer n given r old new
-        → OnOk r (length (loads_of new.sections new.answers probe) < length (loads_of old.sections old.answers probe)) → AfterAnswers files old new
+    pub answered_by_file : (given : Option Sections) → IfSome files (λ held. given_by_files held load ≡ Ok given) → (r : Result (Unit {0}) Error) (new : ContextState) → AfterAnswer n given r old new
+        → OnOk r (length (loads_at new.sections new.answers probe) < length (loads_at old.sections old.answers probe)) → AfterAnswers files old new
     answered_by_file given h (Ok x) new a fewer = record {
       sections = a.sections;
       answers = subst (λ x. StayAnswered old.answers x) (sym a.answers) (first_answers_stay old.sections old.answers probe n load waits is given);
       frames = if_some_map files h (λ held e q. ap (λ d. frames_by_files held d new.answers q) a.sections ∙ ap (λ x. frames_by_files held old.sections x q) a.answers
-          ∙ frames_stay old.sections old.answers probe n load waits is (given_by held) given e q);
+          ∙ frames_stay old.sections old.answers probe n load waits is (given_by_files held) given e q);
       ended = λ q w. ap (λ d. lookup_stop End d new.answers q) a.sections ∙ ap (λ x. lookup_stop End old.sections x q) a.answers ∙ stop_stays old.sections old.answers probe n load waits is given q w;
       parsed = λ k e. subst (λ p. has_parsed p k ≡ true) (sym a.parsed) e;
       known = λ k same. elim (eqb_tells k n) [ inl p ↦ absurd (changed k p.1 same) | inr q ↦ same_stays_known k old.known new.known (a.others k q.1) ];
@@ -111,8 +111,8 @@ module _ (files : Option Files) where
         changed : (k : ℕ) → k ≡ n → answer_of new.answers k ≢ answer_of old.answers k
         changed k q same =
             answer_changes old.sections old.answers probe n load waits is given
-            (subst (λ x. length (loads_of old.sections x probe) < length (loads_of old.sections old.answers probe)) a.answers
-            (subst (λ d. length (loads_of d new.answers probe) < length (loads_of old.sections old.answers probe)) a.sections fewer))
+            (subst (λ x. length (loads_at old.sections x probe) < length (loads_at old.sections old.answers probe)) a.answers
+            (subst (λ d. length (loads_at d new.answers probe) < length (loads_at old.sections old.answers probe)) a.sections fewer))
             (subst (λ x. answer_of x n ≡ answer_of old.answers n) a.answers (subst (λ i. answer_of new.answers i ≡ answer_of old.answers i) q same))
     answered_by_file given h (Err e) new a fewer = record {
       sections = a.sections;
@@ -125,8 +125,8 @@ module _ (files : Option Files) where
     }
 
     -- the files refused the load
-    pub refused_by_file : (e : LoaderError) → IfSome files (λ held. e ≢ OutOfMemory → given_by held load ≡ Err e) → IsFaultByFiles files old probe e
-    refused_by_file e h = if_some_map files h (λ held k ne. refused_frames old.sections old.answers probe n load waits is (given_by held) e (k ne))
+    pub refused_by_file : (e : LoaderError) → IfSome files (λ held. e ≢ OutOfMemory → given_by_files held load ≡ Err e) → IsFaultByFiles files old probe e
+    refused_by_file e h = if_some_map files h (λ held k ne. refused_frames old.sections old.answers probe n load waits is (given_by_files held) e (k ne))
 
 -- of a load one answer is given at most
 pub one_answered : (n : ℕ) (given : Option Sections) (r : Result (Unit {0}) Error) (old new : ContextState) → AfterAnswer n given r old new → AnswersOne n old new
@@ -215,7 +215,7 @@ stop_fault files c probe e h = always files by
     by : (held : Files) → loader_error_of e ≢ OutOfMemory → frames_by_files held c.sections c.answers probe ≡ Err (loader_error_of e)
     by held ne =
         let p = failed_stop e (lookup_stop End c.sections c.answers probe) (h ne) in
-        frames_ended (given_by held) c.sections c.answers probe p.0 ∙ p.1
+        frames_ended (given_by_files held) c.sections c.answers probe p.0 ∙ p.1
 
 -- what the frames of a lookup say of what it comes to
 pub found_told : (frames : List FrameRecord) (stop : Result Stop Error) → (stop >>= λ s. Ok (frames_told s)) ≡ Ok (Some frames) → stop_frames stop ≡ Ok frames
@@ -237,12 +237,12 @@ module _ (files : Option Files) (probe : ℕ) (first mid : ContextState) (a : Af
   module _ (ended : is_waiting (lookup_stop End mid.sections mid.answers probe) ≡ false) where
     pub found_by_files : (frames : List FrameRecord) → frames_of mid.sections mid.answers probe ≡ Ok (Some frames) → IfSome files (λ held. frames_by_files held first.sections first.answers probe ≡ Ok frames)
     found_by_files frames h = if_some_map files a.frames
-        (λ held p. sym (p probe) ∙ frames_ended (given_by held) mid.sections mid.answers probe ended ∙ found_told frames (lookup_stop End mid.sections mid.answers probe) h)
+        (λ held p. sym (p probe) ∙ frames_ended (given_by_files held) mid.sections mid.answers probe ended ∙ found_told frames (lookup_stop End mid.sections mid.answers probe) h)
 
     pub failed_by_files : (e : Error) → (loader_error_of e ≢ OutOfMemory → frames_of mid.sections mid.answers probe ≡ Err e)
         → IfSome files (λ held. loader_error_of e ≢ OutOfMemory → frames_by_files held first.sections first.answers probe ≡ Err (loader_error_of e))
     failed_by_files e h = if_some_map files a.frames
-        (λ held p ne. sym (p probe) ∙ frames_ended (given_by held) mid.sections mid.answers probe ended ∙ failed_told e (lookup_stop End mid.sections mid.answers probe) (h ne))
+        (λ held p ne. sym (p probe) ∙ frames_ended (given_by_files held) mid.sections mid.answers probe ended ∙ failed_told e (lookup_stop End mid.sections mid.answers probe) (h ne))
 
   -- the loader after its lookup
   module _ {X : Type 0} (object : ObjectFile) (r : Result X Error) (new : ContextState) (b : AfterFrames End probe r mid new) (t : AnswersInTurn probe first mid) (o : ReadsAsked probe first mid) (ended : WaitsForNone mid probe) where

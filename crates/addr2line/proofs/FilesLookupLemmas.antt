@@ -26,9 +26,9 @@ use Rattle.addr2line_units.proofs.LoadLemmas.{open_awaits}
 use Rattle.addr2line_units.proofs.WaitLemmas.{same_number}
 use Rattle.addr2line.proofs.SkipLemmas.{settled_along}
 use Rattle.addr2line.specs.Answers.{answered}
-use Rattle.addr2line.specs.FramesByFiles.{GivesAnswers, answer_by, first_frames, frames_by, frames_in_units, frames_of_unit, frames_or_fault, frames_with, or_rest, stop_frames}
+use Rattle.addr2line.specs.FramesByFiles.{GivesAnswers, answer_by, first_frames, frames_by_answers, frames_in_units, frames_of_unit, frames_or_fault, frames_with, or_rest, stop_frames}
 use Rattle.addr2line.specs.Loader.{StayAnswered}
-use Rattle.addr2line.specs.Lookups.{FirstAnswers, IsLoadOf, loads_of, lookup_stop, stop_in}
+use Rattle.addr2line.specs.Lookups.{FirstAnswers, IsLoadOf, loads_at, lookup_stop, stop_in}
 use Rattle.addr2line.specs.SplitFiles.{of_file}
 
 abbrev Reading : Type 0
@@ -230,7 +230,7 @@ module _ (d : Sections) (answers : FirstAnswers) (probe n : ℕ) (load : SplitLo
   answers_by r given = elim r [ Err e ↦ answers | Ok m ↦ with_answer d (unit_records m.units) answers n given ]
 
   -- the answer that is given changes no lookup
-  pub frames_stay : (give : GivesAnswers) (given : Option Sections) → give load ≡ Ok given → (q : ℕ) → frames_by give d (answered d answers n given) q ≡ frames_by give d answers q
+  pub frames_stay : (give : GivesAnswers) (given : Option Sections) → give load ≡ Ok given → (q : ℕ) → frames_by_answers give d (answered d answers n given) q ≡ frames_by_answers give d answers q
   frames_stay give given h q = by (index_units d) refl
     where
       by : (r : Result UnitIndex Error) → index_units d ≡ r → (of_file r >>= frames_in_units give d (answers_by r given) q) ≡ (of_file r >>= frames_in_units give d answers q)
@@ -253,7 +253,7 @@ module _ (d : Sections) (answers : FirstAnswers) (probe n : ℕ) (load : SplitLo
       by (Ok m) k h = settled_along _ _ (same_asked (λ l. Ok None) (main_scope d m) m.units answers n load (awaits_in m k) given q) (cover q m.ranges) h
 
   -- the unit has another first answer than before where fewer loads are left
-  pub answer_changes : (given : Option Sections) → length (loads_of d (answered d answers n given) probe) < length (loads_of d answers probe) → answer_of (answered d answers n given) n ≢ answer_of answers n
+  pub answer_changes : (given : Option Sections) → length (loads_at d (answered d answers n given) probe) < length (loads_at d answers probe) → answer_of (answered d answers n given) n ≢ answer_of answers n
   answer_changes given fewer = by (index_units d) refl fewer
     where
       loads_by : Result UnitIndex Error → FirstAnswers → List SplitLoad
@@ -280,7 +280,7 @@ module _ (d : Sections) (answers : FirstAnswers) (probe n : ℕ) (load : SplitLo
               (λ j. ap (λ a. elim (slice_get us j) [ None ↦ None | Some u ↦ awaited_load d j u a ]) (answer j)) (cover probe m.ranges)
 
   -- where no answer is given, the lookup has that fault
-  pub refused_frames : (give : GivesAnswers) (fault : LoaderError) → give load ≡ Err fault → frames_by give d answers probe ≡ Err fault
+  pub refused_frames : (give : GivesAnswers) (fault : LoaderError) → give load ≡ Err fault → frames_by_answers give d answers probe ≡ Err fault
   refused_frames give fault h = by (index_units d) refl
     where
       by : (r : Result UnitIndex Error) → index_units d ≡ r → (of_file r >>= frames_in_units give d answers probe) ≡ Err fault
@@ -288,7 +288,7 @@ module _ (d : Sections) (answers : FirstAnswers) (probe n : ℕ) (load : SplitLo
       by (Ok m) k = refused_along give (main_scope d m) m.units answers probe n fault (refused_unit give (main_scope d m) m.units answers n load (awaits_in m k) probe fault h) (cover probe m.ranges) (stop_is m k)
 
 -- a lookup that doesn't wait has its frames, whatever is given
-pub frames_ended : (give : GivesAnswers) (d : Sections) (answers : FirstAnswers) (probe : ℕ) → is_waiting (lookup_stop End d answers probe) ≡ false → frames_by give d answers probe ≡ stop_frames (lookup_stop End d answers probe)
+pub frames_ended : (give : GivesAnswers) (d : Sections) (answers : FirstAnswers) (probe : ℕ) → is_waiting (lookup_stop End d answers probe) ≡ false → frames_by_answers give d answers probe ≡ stop_frames (lookup_stop End d answers probe)
 frames_ended give d answers probe w = by (index_units d) w
   where
     by : (r : Result UnitIndex Error) → is_waiting (r >>= stop_in End d answers probe) ≡ false → (of_file r >>= frames_in_units give d answers probe) ≡ stop_frames (r >>= stop_in End d answers probe)

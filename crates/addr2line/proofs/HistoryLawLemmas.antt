@@ -20,7 +20,7 @@ use Rattle.addr2line_units.proofs.LoadLawLemmas.{others_left, waits_listed}
 use Rattle.addr2line.specs.Answers.{answered}
 use Rattle.addr2line.specs.History.{Given, Gives, GivesUp, where_waiting}
 use Rattle.addr2line.specs.HistoryLaws.{AreDistinct, WaitsForEachOnce, waited_for}
-use Rattle.addr2line.specs.Lookups.{FirstAnswers, loads_of, lookup_stop, stop_in}
+use Rattle.addr2line.specs.Lookups.{FirstAnswers, loads_at, lookup_stop, stop_in}
 
 -- what is listed among the loads of other units
 listed_other : (n k : ℕ) (loads : List SplitLoad) → IsListed k (filter (is_of_other n) loads) → (k ≢ n) × IsListed k loads
@@ -51,7 +51,7 @@ module _ (faults : Faults) (d : Sections) (m : UnitIndex) (probe : ℕ) (e : ind
   abbrev listed : FirstAnswers → List SplitLoad
   listed answers = laws.loads_of d us answers (cover probe m.ranges)
 
-  loads_are : (answers : FirstAnswers) → loads_of d answers probe ≡ listed answers
+  loads_are : (answers : FirstAnswers) → loads_at d answers probe ≡ listed answers
   loads_are answers = ap (λ (r : Result UnitIndex Error). elim r [ Err x ↦ [] | Ok i ↦ loads_along (load_of_number d (unit_records i.units) answers) (cover probe i.ranges) ]) e
 
   answers_are : (answers : FirstAnswers) (n : ℕ) (x : Option Sections) → answered d answers n x ≡ with_answer d us answers n x

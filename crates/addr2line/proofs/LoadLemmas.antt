@@ -17,7 +17,7 @@ use Rattle.addr2line_units.specs.CachedLines.{parsed_units}
 use Rattle.addr2line_units.specs.Cover.{cover}
 use Rattle.addr2line_units.specs.FramesLookup.{answer_of, asked_frames, main_scope, stop_along, with_answer}
 use Rattle.addr2line_units.specs.FunctionParseLaws.{IsReached}
-use Rattle.addr2line_units.specs.FunctionParses.{AreFirstDecided, AreReadBefore, AreReadyFor, IsReadyFor, answers_after, read_of_units}
+use Rattle.addr2line_units.specs.FunctionParses.{AreFirstDecided, AreReadBefore, AreReadyFor, IsReadyFor, answers_after_parse, read_of_units}
 use Rattle.addr2line_units.specs.KeptEntries.{has_entries}
 use Rattle.addr2line_units.specs.KeptLookups.{StayAllEntries, answers_in, decided_at, has_entries_at, scope_in}
 use Rattle.addr2line_units.specs.KeptParses.{ChangesOnly, HaveRead, StayDecided}
@@ -39,7 +39,7 @@ use Rattle.addr2line.proofs.ParseLemmas.{answered_is_decided, decided_more, know
 use Rattle.addr2line.proofs.StayLemmas.{none_whole, stays_known, whole_decided, whole_is_decided}
 use Rattle.addr2line.specs.Context.{ContextState, IsContext, index_by}
 use Rattle.addr2line.specs.Loads.{AfterForget, AfterLoad, AfterParse, AfterPreload, AreSettledAt, IsAllKnown, IsReadyToRead, IsSettled, ReachesAllOf, StaysRead, forget_reply, load_reply, parse_reply, parsed_answers}
-use Rattle.addr2line.specs.Lookups.{IsReadyAt, StaysKnown, loads_of, lookup_stop}
+use Rattle.addr2line.specs.Lookups.{IsReadyAt, StaysKnown, loads_at, lookup_stop}
 
 module _ {R : Type 0} (d : Sections) (us : List UnitRecord) (old : List ResUnit) (held : List (UnitEntries R)) (ranges : List UnitRange) (sup : SupUnits R) (i : IsContext d us old held ranges sup.units.items sup.dwarf) where
   abbrev made : UnitIndex
@@ -56,7 +56,7 @@ module _ {R : Type 0} (d : Sections) (us : List UnitRecord) (old : List ResUnit)
   pub forget_is : (n : ℕ) → forget_reply d n ≡ forget_result us n
   forget_is n = ap (λ r. r >>= λ (m : UnitIndex). forget_result (unit_records m.units) n) i.made_is ∙ ap (λ xs. forget_result xs n) same_units
 
-  pub listed_are : (probe : ℕ) → loads_of d (answers_in held) probe ≡ loads_along (load_of_number d us (answers_in held)) (cover probe ranges)
+  pub listed_are : (probe : ℕ) → loads_at d (answers_in held) probe ≡ loads_along (load_of_number d us (answers_in held)) (cover probe ranges)
   listed_are probe = loads_are d us old held ranges sup i (answers_in held) probe
 
   pub settled_is : (n looks : ℕ) → IsSettled (record { sections = d; answers = answers_in held; parsed = parsed_units old; known = known_in held; looks = looks }) n → is_open_at d us (answers_in held) n ≡ false
@@ -71,11 +71,11 @@ module _ {R : Type 0} (d : Sections) (us : List UnitRecord) (old : List ResUnit)
       ∙ ap (λ xs. read_of_units reads (main_scope d made) xs (answers_in held)) same_units
       ∙ ap (λ s. read_of_units reads s us (answers_in held)) (sym (scope_is d us old held ranges sup i))
 
-  pub parsed_is : (reads : Reads) → parsed_answers reads d (answers_in held) ≡ answers_after reads (scope_in d us sup) us (answers_in held)
+  pub parsed_is : (reads : Reads) → parsed_answers reads d (answers_in held) ≡ answers_after_parse reads (scope_in d us sup) us (answers_in held)
   parsed_is reads =
-      ap (λ (r : Result UnitIndex Error). elim r [ Err e ↦ answers_in held | Ok m ↦ answers_after reads (main_scope d m) (unit_records m.units) (answers_in held) ]) i.made_is
-      ∙ ap (λ xs. answers_after reads (main_scope d made) xs (answers_in held)) same_units
-      ∙ ap (λ s. answers_after reads s us (answers_in held)) (sym (scope_is d us old held ranges sup i))
+      ap (λ (r : Result UnitIndex Error). elim r [ Err e ↦ answers_in held | Ok m ↦ answers_after_parse reads (main_scope d m) (unit_records m.units) (answers_in held) ]) i.made_is
+      ∙ ap (λ xs. answers_after_parse reads (main_scope d made) xs (answers_in held)) same_units
+      ∙ ap (λ s. answers_after_parse reads s us (answers_in held)) (sym (scope_is d us old held ranges sup i))
 
   module _ (new : List ResUnit) (same : new ≡ old) (entries : List (UnitEntries R)) (looks : ℕ) where
     abbrev before : ContextState
@@ -133,7 +133,7 @@ module _ {R : Type 0} (d : Sections) (us : List UnitRecord) (old : List ResUnit)
     pub after_preload : answers_in entries ≡ answers_in held → StayAllEntries held entries → AfterPreload before after
     after_preload answers stay = record { stays = stays_read; answers = answers; known = stays_known held entries stay }
 
-    pub after_parse : (reads : Reads) (result : Result (Unit {0}) Error) → (IsNotOom result → answers_in entries ≡ answers_after reads (scope_in d us sup) us (answers_in held)) → AreFirstDecided reads (scope_in d us sup) us (answers_in held) (answers_in entries)
+    pub after_parse : (reads : Reads) (result : Result (Unit {0}) Error) → (IsNotOom result → answers_in entries ≡ answers_after_parse reads (scope_in d us sup) us (answers_in held)) → AreFirstDecided reads (scope_in d us sup) us (answers_in held) (answers_in entries)
         → StayDecided held entries → OnOk result (HaveRead reads entries) → (HaveRead reads held → result ≡ Ok tt)
         → ChangesOnly (AreReadBefore reads (scope_in d us sup) us (answers_in held)) held entries → (IsNotOom result → AreReadyFor reads (scope_in d us sup) us (answers_in entries) (known_in entries))
         → (AreReadyFor reads (scope_in d us sup) us (answers_in held) (known_in held) → result ≡ read_of_units reads (scope_in d us sup) us (answers_in held))
@@ -172,7 +172,7 @@ module _ {R : Type 0} (d : Sections) (us : List UnitRecord) (old : List ResUnit)
     all_known reads (Err f) found e = tt
 
     pub all_reached : (reads : Reads) (result : Result (Unit {0}) Error) → ExactlyUnlessOom (λ x. x) result (read_of_units reads (scope_in d us sup) us (answers_in held))
-        → (IsNotOom result → answers_in entries ≡ answers_after reads (scope_in d us sup) us (answers_in held)) → reads ≡ kinds.Details → OnOk result (ReachesAllOf after)
+        → (IsNotOom result → answers_in entries ≡ answers_after_parse reads (scope_in d us sup) us (answers_in held)) → reads ≡ kinds.Details → OnOk result (ReachesAllOf after)
     all_reached reads (Err f) gives answers e = tt
     all_reached reads (Ok x) gives answers e = λ lines faults probe.
         subst IsReached (sym (stop_now faults probe))
@@ -188,15 +188,15 @@ module _ {R : Type 0} (d : Sections) (us : List UnitRecord) (old : List ResUnit)
             ∙ ap (λ k. read_of_units k (scope_in d us sup) us (answers_in held)) (sym e)
             ∙ gives
 
-        now : answers_in entries ≡ answers_after kinds.Details (main_scope d made) (unit_records made.units) (answers_in held)
+        now : answers_in entries ≡ answers_after_parse kinds.Details (main_scope d made) (unit_records made.units) (answers_in held)
         now =
             answers tt
-            ∙ ap (λ k. answers_after k (scope_in d us sup) us (answers_in held)) e
-            ∙ ap (λ s. answers_after kinds.Details s us (answers_in held)) (scope_is d us old held ranges sup i)
-            ∙ ap (λ xs. answers_after kinds.Details (main_scope d made) xs (answers_in held)) (sym same_units)
+            ∙ ap (λ k. answers_after_parse k (scope_in d us sup) us (answers_in held)) e
+            ∙ ap (λ s. answers_after_parse kinds.Details s us (answers_in held)) (scope_is d us old held ranges sup i)
+            ∙ ap (λ xs. answers_after_parse kinds.Details (main_scope d made) xs (answers_in held)) (sym same_units)
 
         stop_now : (faults : Faults) (probe : ℕ) → lookup_stop faults d (answers_in entries) probe
-            ≡ stop_along (asked_frames faults (main_scope d made) made.units (answers_after kinds.Details (main_scope d made) (unit_records made.units) (answers_in held)) probe) (cover probe ranges)
+            ≡ stop_along (asked_frames faults (main_scope d made) made.units (answers_after_parse kinds.Details (main_scope d made) (unit_records made.units) (answers_in held)) probe) (cover probe ranges)
         stop_now faults probe =
             ap (λ r. r >>= λ (m : UnitIndex). stop_along (asked_frames faults (main_scope d m) m.units (answers_in entries) probe) (cover probe m.ranges)) i.made_is
             ∙ ap (λ a. stop_along (asked_frames faults (main_scope d made) made.units a probe) (cover probe ranges)) now

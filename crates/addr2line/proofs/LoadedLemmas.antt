@@ -6,7 +6,7 @@ use Rattle.gimli.specs.Sections.{Sections, SupSections}
 use Rattle.elf.specs.Loading.{Loading, LoadsUnlessOom}
 use Rattle.elf.specs.ObjectFile.{ObjectFile, object_file_of}
 use Rattle.addr2line.specs.Context.{ContextState, new_context}
-use Rattle.addr2line.specs.Loaded.{AreSectionsOf, AreSupOfBytes, IsFileOfBytes, IsLoaded, as_sup, context_at, main_with_sup, sections_in}
+use Rattle.addr2line.specs.Loaded.{AreSectionsOf, AreSupOfBytes, IsFileOfBytes, IsLoaded, as_sup, context_at, main_with_sup, sections_of_file}
 use Rattle.addr2line.specs.SplitFiles.{of_file}
 
 -- a file that was parsed
@@ -15,8 +15,8 @@ parsed_file bytes (Ok file) h = (bytes, h)
 parsed_file bytes (Err e) h = tt
 
 -- the sections of a supplementary file that was opened
-pub sup_made : {X : Type 0} (see : X → Option SupSections) (file : ObjectFile) → IsFileOfBytes file → (r : Loading X) → LoadsUnlessOom see r (as_sup (sections_in file)) → IfOk r (λ s. AreSupOfBytes true (see s))
-sup_made see file is (Ok s) h = (Some is.0, refl, ap (λ f. as_sup (f >>= sections_in)) is.1 ∙ h)
+pub sup_made : {X : Type 0} (see : X → Option SupSections) (file : ObjectFile) → IsFileOfBytes file → (r : Loading X) → LoadsUnlessOom see r (as_sup (sections_of_file file)) → IfOk r (λ s. AreSupOfBytes true (see s))
+sup_made see file is (Ok s) h = (Some is.0, refl, ap (λ f. as_sup (f >>= sections_of_file)) is.1 ∙ h)
 sup_made see file is (Err e) h = tt
 
 -- what is given to a step that goes on where there is no fault
@@ -25,7 +25,7 @@ gives_step see (Ok x) = refl
 gives_step see (Err e) = λ ne. refl
 
 -- the sections of a main file with those of a supplementary one
-pub dwarf_made : {X : Type 0} (see : X → Option SupSections) (has_sup : Bool) (file : ObjectFile) (main : SupSections) → sections_in file ≡ Ok main → (sup : Loading X) → IfOk sup (λ s. AreSupOfBytes has_sup (see s))
+pub dwarf_made : {X : Type 0} (see : X → Option SupSections) (has_sup : Bool) (file : ObjectFile) (main : SupSections) → sections_of_file file ≡ Ok main → (sup : Loading X) → IfOk sup (λ s. AreSupOfBytes has_sup (see s))
     → (r : Loading Sections) → ((given : Loading (Option SupSections)) → LoadsUnlessOom see sup given → LoadsUnlessOom (λ d. d) r (main_with_sup main given)) → IfOk r (AreSectionsOf has_sup file)
 dwarf_made see has_sup file main is (Ok s) made (Ok d) gives = (see s, made, ap (λ x. x >>= λ m. main_with_sup m (Ok (see s))) is ∙ gives (Ok (see s)) refl)
 dwarf_made see has_sup file main is (Err e) made (Ok d) gives = absurd (let no = gives (Err e) (λ ne. refl) in cc)

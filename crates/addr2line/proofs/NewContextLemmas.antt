@@ -12,7 +12,7 @@ use Rattle.addr2line_units.specs.CachedLines.{HaveLinesOf, indexed_units, parsed
 use Rattle.addr2line_units.specs.Indexed.{IndexState, context_takes_memory, index_of, index_takes_memory, sup_takes_memory}
 use Rattle.addr2line_units.specs.KeptLookups.{AreFreshOf, answers_in}
 use Rattle.addr2line_units.specs.KnownEntries.{KnownEntries, NothingKnown, known_in}
-use Rattle.addr2line_units.specs.UnitIndex.{IndexedUnit, UnitIndex, RangedUnit, has_lines, indexed_of, index_units, ranged_units, ranges_from, sup_units, unit_records}
+use Rattle.addr2line_units.specs.UnitIndex.{IndexedUnit, UnitIndex, RangedUnit, has_lines, indexed_of, index_units, ranged_units, unit_ranges_from, sup_units, unit_records}
 use Rattle.addr2line_units.proofs.KnownLemmas.{nothing_known}
 use Rattle.addr2line_units.proofs.ScopeLemmas.{no_answers, records_beside}
 use Rattle.addr2line.specs.Context.{ContextState, new_context}
@@ -77,9 +77,9 @@ what_is_made d i sup e f = of_units (ranged_units d) e
     all units ranges s = Ok (record { units = units; ranges = ranges; sup_units = s })
 
     of_units : (r : Result (List RangedUnit) Error) → (r >>= λ units. Ok (index_of d units)) ≡ Ok i
-        → (r >>= λ units. sup_units d.sup >>= λ s. all (map indexed_of units) (ranges_from d 0 units) s) ≡ all i.units i.ranges sup
+        → (r >>= λ units. sup_units d.sup >>= λ s. all (map indexed_of units) (unit_ranges_from d 0 units) s) ≡ all i.units i.ranges sup
     of_units (Ok units) h =
-        ap (λ (r : Result (List UnitRecord) Error). r >>= λ s. all (map indexed_of units) (ranges_from d 0 units) s) f
+        ap (λ (r : Result (List UnitRecord) Error). r >>= λ s. all (map indexed_of units) (unit_ranges_from d 0 units) s) f
         ∙ ap (λ (x : IndexState). all x.units x.ranges sup) (ok_is (index_of d units) i h)
     of_units (Err x) h = absurd (err_ok h)
       where

@@ -13,7 +13,7 @@ use Rattle.addr2line.specs.Answers.{AfterAnswer, answered}
 use Rattle.addr2line.specs.Context.{ContextState}
 use Rattle.addr2line.specs.History.{Given, Gives, answers_given}
 use Rattle.addr2line.specs.KeptStops.{by_number, unit_stop}
-use Rattle.addr2line.specs.Lookups.{AfterFrames, IsKnown, loads_of, lookup_stop, waits_for}
+use Rattle.addr2line.specs.Lookups.{AfterFrames, IsKnown, loads_at, lookup_stop, waits_for}
 use Rattle.addr2line.specs.Skips.{AfterSkip, found_stop, nones, skipped_answers}
 
 -- none as an answer, so often
@@ -53,7 +53,7 @@ pub record HasSkipped (faults : Faults) (probe : ℕ) (first now : ContextState)
   pub sections : now.sections ≡ first.sections
   pub count : ℕ
   pub given : HasGiven faults first.sections probe first.answers (nones count) now.answers
-  pub left : count + length (loads_of now.sections now.answers probe) ≤ length (loads_of first.sections first.answers probe)
+  pub left : count + length (loads_at now.sections now.answers probe) ≤ length (loads_at first.sections first.answers probe)
   pub parsed : StaysParsed first.parsed now.parsed
   pub raised : first.looks ≤ now.looks
 
@@ -75,17 +75,17 @@ module _ (faults : Faults) (probe : ℕ) (first : ContextState) where
       sections = a.sections ∙ so.sections;
       count = so.count;
       given = subst (λ x. HasGiven faults first.sections probe first.answers (nones so.count) x) (sym a.answers) so.given;
-      left = subst (λ l. so.count + l ≤ length (loads_of first.sections first.answers probe)) (sym (same_left new a.sections a.answers)) so.left;
+      left = subst (λ l. so.count + l ≤ length (loads_at first.sections first.answers probe)) (sym (same_left new a.sections a.answers)) so.left;
       parsed = λ n e. a.parsed n (so.parsed n e);
       raised = let x = so.raised in let y = a.raised in omega (arith, x, y);
     }
       where
-        same_left : (new : ContextState) → new.sections ≡ now.sections → new.answers ≡ now.answers → length (loads_of new.sections new.answers probe) ≡ length (loads_of now.sections now.answers probe)
-        same_left n s e = ap (λ d. length (loads_of d n.answers probe)) s ∙ ap (λ x. length (loads_of now.sections x probe)) e
+        same_left : (new : ContextState) → new.sections ≡ now.sections → new.answers ≡ now.answers → length (loads_at new.sections new.answers probe) ≡ length (loads_at now.sections now.answers probe)
+        same_left n s e = ap (λ d. length (loads_at d n.answers probe)) s ∙ ap (λ x. length (loads_at now.sections x probe)) e
 
     -- none is the answer to one more load
     pub skipped_more : (n : ℕ) (new : ContextState) → lookup_stop faults now.sections now.answers probe ≡ Ok (Waits n) → AfterAnswer n None (Ok tt) now new
-        → length (loads_of new.sections new.answers probe) < length (loads_of now.sections now.answers probe) → HasSkipped faults probe first new
+        → length (loads_at new.sections new.answers probe) < length (loads_at now.sections now.answers probe) → HasSkipped faults probe first new
     skipped_more n new waits a fewer = record {
       sections = a.sections ∙ so.sections;
       count = suc so.count;
@@ -102,8 +102,8 @@ module _ (faults : Faults) (probe : ℕ) (first : ContextState) where
       sections = a.sections ∙ so.sections;
       count = so.count;
       given = subst (λ x. HasGiven faults first.sections probe first.answers (nones so.count) x) (sym a.refused.1) so.given;
-      left = subst (λ l. so.count + l ≤ length (loads_of first.sections first.answers probe))
-          (sym (ap (λ d. length (loads_of d new.answers probe)) a.sections ∙ ap (λ x. length (loads_of now.sections x probe)) a.refused.1)) so.left;
+      left = subst (λ l. so.count + l ≤ length (loads_at first.sections first.answers probe))
+          (sym (ap (λ d. length (loads_at d new.answers probe)) a.sections ∙ ap (λ x. length (loads_at now.sections x probe)) a.refused.1)) so.left;
       parsed = λ k q. subst (λ p. has_parsed p k ≡ true) (sym a.parsed) (so.parsed k q);
       raised = subst (λ l. first.looks ≤ l) (sym a.looks) so.raised;
     }
@@ -111,7 +111,7 @@ module _ (faults : Faults) (probe : ℕ) (first : ContextState) where
     -- a lookup that has ended was given none for each load
     pub skip_end : is_waiting (lookup_stop faults now.sections now.answers probe) ≡ false → skipped_answers faults first.sections probe first.answers ≡ now.answers
     skip_end ended =
-        let total = length (loads_of first.sections first.answers probe) in
+        let total = length (loads_at first.sections first.answers probe) in
         let h = so.left in
         let e : so.count + (total - so.count) ≡ total = omega (arith, h) in
         ap (λ t. answers_given faults first.sections probe first.answers (nones t)) (sym e)

@@ -14,8 +14,8 @@ abbrev pub with_file : Files → List ℕ → List ℕ → Files
 with_file files path bytes = λ other. if bytes_eq other path then Some bytes else files other
 
 -- the files of a list of paths with bytes, in which the first of a path counts
-abbrev pub files_in : List (List ℕ × List ℕ) → Files
-files_in entries = λ path. option_map (λ (e : _). e.1) (find (λ e. bytes_eq path e.0) entries)
+abbrev pub listed_files : List (List ℕ × List ℕ) → Files
+listed_files entries = λ path. option_map (λ (e : _). e.1) (find (λ e. bytes_eq path e.0) entries)
 
 -- a path and bytes that are kept
 abbrev pub seen_entry : String Global × Vec ℕ Global → List ℕ × List ℕ

@@ -17,7 +17,7 @@ use Rattle.addr2line_units.specs.UnitIndex.{IndexedUnit, UnitIndex, index_units}
 use Rattle.addr2line_units.specs.Views.{SplitLoad, awaited_load}
 use Rattle.addr2line.specs.Files.{Files}
 use Rattle.addr2line.specs.Lookups.{FirstAnswers}
-use Rattle.addr2line.specs.SplitFiles.{given_by, of_file}
+use Rattle.addr2line.specs.SplitFiles.{given_by_files, of_file}
 
 -- the frames of a lookup that has ended, or its fault
 abbrev pub stop_frames : Result Stop Error → Loading (List FrameRecord)
@@ -68,9 +68,11 @@ frames_in_units give d answers probe m =
     first_frames (frames_of_unit give (main_scope d m) m.units answers probe) (cover probe m.ranges)
 
 -- the frames at the probe, by the answers that are given
-abbrev pub frames_by : GivesAnswers → Sections → FirstAnswers → ℕ → Loading (List FrameRecord)
-frames_by give d answers probe = of_file (index_units d) >>= frames_in_units give d answers probe
+abbrev pub frames_by_answers : GivesAnswers → Sections → FirstAnswers → ℕ
+    → Loading (List FrameRecord)
+frames_by_answers give d answers probe =
+    of_file (index_units d) >>= frames_in_units give d answers probe
 
 -- the same, by files
 abbrev pub frames_by_files : Files → Sections → FirstAnswers → ℕ → Loading (List FrameRecord)
-frames_by_files files d answers probe = frames_by (given_by files) d answers probe
+frames_by_files files d answers probe = frames_by_answers (given_by_files files) d answers probe

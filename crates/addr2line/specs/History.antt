@@ -19,7 +19,7 @@ use Rattle.addr2line_units.specs.UnitIndex.{UnitIndex, index_units, unit_records
 use Rattle.addr2line.specs.Answers.{answered}
 use Rattle.addr2line.specs.Context.{ContextState, lines_of_all}
 use Rattle.addr2line.specs.Loads.{forget_reply, load_reply, parse_reply, parsed_answers}
-use Rattle.addr2line.specs.Lookups.{FirstAnswers, loads_of, lookup_stop, unit_of}
+use Rattle.addr2line.specs.Lookups.{FirstAnswers, loads_at, lookup_stop, unit_of}
 use Rattle.addr2line.specs.Replies.{CopiedReply, Located, Ended, Listed, copied_load, reply_of_frames, reply_of_range, reply_of_unit}
 
 -- what a lookup is given that waits: the sections of the split file, or none; or it is given up
@@ -83,7 +83,7 @@ reply_to d answers (AsksFrames probe given) =
     frames_replied d probe (answers_given End d probe answers given)
 reply_to d answers (AsksUnit probe given) =
     unit_replied d probe (answers_given PassOver d probe answers given)
-reply_to d answers (AsksLoads probe) = Listed (map copied_load (loads_of d answers probe))
+reply_to d answers (AsksLoads probe) = Listed (map copied_load (loads_at d answers probe))
 reply_to d answers (AnswersLoad n x) = Ended (load_reply d answers n x)
 reply_to d answers (Forgets n) = Ended (forget_reply d n)
 reply_to d answers ParsesLines = Ended (lines_of_all d)

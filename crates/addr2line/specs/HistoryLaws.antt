@@ -7,7 +7,7 @@ use Rattle.addr2line_units.specs.LoadLaws.{IsListed}
 use Rattle.addr2line_units.specs.UnitIndex.{UnitIndex, index_units}
 use Rattle.addr2line.specs.Answers.{answered}
 use Rattle.addr2line.specs.History.{Given, Gives, GivesUp, where_waiting}
-use Rattle.addr2line.specs.Lookups.{FirstAnswers, loads_of, lookup_stop}
+use Rattle.addr2line.specs.Lookups.{FirstAnswers, loads_at, lookup_stop}
 
 -- the units that a lookup waits for, one after another, where it is given these answers
 abbrev pub waited_for : Faults → Sections → ℕ → FirstAnswers → List Given → List ℕ
@@ -31,5 +31,5 @@ WaitsForEachOnce = (faults : Faults) (d : Sections) (m : UnitIndex) (probe : ℕ
     (answers : FirstAnswers) (given : List Given)
     → index_units d ≡ Ok m → length m.units ≡ length answers
     → AreDistinct (waited_for faults d probe answers given)
-    × AllByRecursion (λ n. IsListed n (loads_of d answers probe))
+    × AllByRecursion (λ n. IsListed n (loads_at d answers probe))
     (waited_for faults d probe answers given)

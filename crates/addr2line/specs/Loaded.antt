@@ -25,8 +25,8 @@ unfoldable pub object_at : Files → List ℕ → Loading ObjectFile
 object_at files path = object_in (files path)
 
 -- the sections of a file
-abbrev pub sections_in : ObjectFile → Loading SupSections
-sections_in file = sections_by (main_section file)
+abbrev pub sections_of_file : ObjectFile → Loading SupSections
+sections_of_file file = sections_by (main_section file)
 
 -- sections as those of a supplementary file that is there
 abbrev pub as_sup : Loading SupSections → Loading (Option SupSections)
@@ -35,7 +35,7 @@ as_sup sections = sections >>= λ sup. Ok (Some sup)
 -- the sections of a supplementary file, if one is named
 unfoldable pub sup_at : Files → Option (List ℕ) → Loading (Option SupSections)
 sup_at files None = Ok None
-sup_at files (Some path) = as_sup (object_at files path >>= sections_in)
+sup_at files (Some path) = as_sup (object_at files path >>= sections_of_file)
 
 -- the sections of a main file with those of a supplementary one, or none
 abbrev pub main_with_sup : SupSections → Loading (Option SupSections) → Loading Sections
@@ -43,7 +43,7 @@ main_with_sup main sup = sup >>= λ s. Ok (as_file Main s main)
 
 -- the same, by the main file
 abbrev pub dwarf_with : ObjectFile → Loading (Option SupSections) → Loading Sections
-dwarf_with file sup = sections_in file >>= λ main. main_with_sup main sup
+dwarf_with file sup = sections_of_file file >>= λ main. main_with_sup main sup
 
 -- the sections of a main file and of the supplementary one
 unfoldable pub dwarf_at : Files → ObjectFile → Option (List ℕ) → Loading Sections
@@ -63,7 +63,7 @@ loaded files path sup_path = do
 -- the sections of the supplementary file that bytes are, none where there are no bytes
 abbrev pub sup_of_bytes : Option (List ℕ) → Loading (Option SupSections)
 sup_of_bytes None = Ok None
-sup_of_bytes (Some bytes) = as_sup (object_file_of bytes >>= sections_in)
+sup_of_bytes (Some bytes) = as_sup (object_file_of bytes >>= sections_of_file)
 
 -- there are bytes that are this file
 abbrev pub IsFileOfBytes : ObjectFile → Type 0

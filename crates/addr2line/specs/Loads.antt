@@ -14,7 +14,7 @@ use Rattle.addr2line_units.specs.declared.parses.Reads.TheVariants as kinds
 use Rattle.addr2line_units.specs.Cover.{cover}
 use Rattle.addr2line_units.specs.FramesLookup.{answer_of, main_scope}
 use Rattle.addr2line_units.specs.FunctionParseLaws.{IsReached}
-use Rattle.addr2line_units.specs.FunctionParses.{AreFirstDecided, AreReadBefore, AreReadyFor, answers_after, read_of_units}
+use Rattle.addr2line_units.specs.FunctionParses.{AreFirstDecided, AreReadBefore, AreReadyFor, answers_after_parse, read_of_units}
 use Rattle.addr2line_units.specs.KnownEntries.{KnownEntries, NothingKnown, AllKnown, FunctionsKnown, knows_at}
 use Rattle.addr2line_units.specs.Loads.{AreSettled, forget_result, forgotten, is_open_at, load_result}
 use Rattle.addr2line_units.specs.Parsed.{IsNotOom}
@@ -42,7 +42,7 @@ parse_reply reads d answers =
 abbrev pub parsed_answers : Reads → Sections → FirstAnswers → FirstAnswers
 parsed_answers reads d answers = elim (index_units d) [
   | Err e ↦ answers
-  | Ok m ↦ answers_after reads (main_scope d m) (unit_records m.units) answers
+  | Ok m ↦ answers_after_parse reads (main_scope d m) (unit_records m.units) answers
 ]
 
 -- the unit of a number is decided, or there is none

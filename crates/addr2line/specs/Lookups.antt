@@ -69,8 +69,8 @@ waits_for k (Ok (Waits n)) = n == k
 waits_for k stop = false
 
 -- the loads of the units that a lookup may ask, of each unit that waits for one once, in order
-abbrev pub loads_of : Sections → FirstAnswers → ℕ → List SplitLoad
-loads_of d answers probe = elim (index_units d) [
+abbrev pub loads_at : Sections → FirstAnswers → ℕ → List SplitLoad
+loads_at d answers probe = elim (index_units d) [
   | Err e ↦ []
   | Ok m ↦ loads_along (load_of_number d (unit_records m.units) answers) (cover probe m.ranges)
 ]

@@ -54,12 +54,12 @@ pub data CopiedReply : Type 0 where
   SuspendedAt : ℕ → CopiedReply
 
 -- the bytes of a section
-abbrev pub bytes_of : Section → List ℕ
-bytes_of s = s.bytes
+abbrev pub section_bytes : Section → List ℕ
+section_bytes s = s.bytes
 
 -- a name
 abbrev pub copied_name : NameRecord → CopiedName
-copied_name n = record { name = bytes_of n.name; language = n.language }
+copied_name n = record { name = section_bytes n.name; language = n.language }
 
 -- a frame
 abbrev pub copied_frame : FrameRecord → CopiedFrame
@@ -78,8 +78,8 @@ abbrev pub copied_load : SplitLoad → CopiedLoad
 copied_load l = record {
   unit = l.unit;
   dwo_id = l.dwo_id;
-  comp_dir = option_map bytes_of l.comp_dir;
-  path = option_map bytes_of l.path;
+  comp_dir = option_map section_bytes l.comp_dir;
+  path = option_map section_bytes l.path;
 }
 
 -- the frames of a lookup that has come to this, none where it waits

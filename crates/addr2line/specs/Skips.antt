@@ -9,7 +9,7 @@ use Rattle.addr2line.specs.declared.stops.UnitStop.{UnitStop}
 use Rattle.addr2line.specs.declared.stops.UnitStop.TheVariants as stops
 use Rattle.addr2line.specs.Context.{ContextState}
 use Rattle.addr2line.specs.History.{Given, Gives, answers_given}
-use Rattle.addr2line.specs.Lookups.{FirstAnswers, IsKnown, loads_of}
+use Rattle.addr2line.specs.Lookups.{FirstAnswers, IsKnown, loads_at}
 
 -- none as the answer to each of so many loads
 abbrev pub nones : ℕ → List Given
@@ -18,7 +18,7 @@ nones n = replicate n (Gives None)
 -- the first answers after none to each load of a lookup
 abbrev pub skipped_answers : Faults → Sections → ℕ → FirstAnswers → FirstAnswers
 skipped_answers faults d probe answers =
-    answers_given faults d probe answers (nones (length (loads_of d answers probe)))
+    answers_given faults d probe answers (nones (length (loads_at d answers probe)))
 
 -- what a lookup comes to that has found something in the unit of a number, or nothing
 abbrev pub found_stop : Option ℕ → UnitStop

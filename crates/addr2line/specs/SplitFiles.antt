@@ -58,9 +58,9 @@ is_same_id wanted None = false
 is_same_id wanted (Some id) = id.0 == wanted.0
 
 -- whether a unit is there and has the identifier that is wanted
-abbrev pub is_wanted : DwoId → Option UnitRecord → Bool
-is_wanted wanted None = false
-is_wanted wanted (Some u) = is_same_id wanted u.dwo_id
+abbrev pub has_wanted_id : DwoId → Option UnitRecord → Bool
+has_wanted_id wanted None = false
+has_wanted_id wanted (Some u) = is_same_id wanted u.dwo_id
 
 -- the split sections of a load, by what each section is given as; none where they belong to another
 -- unit
@@ -68,7 +68,7 @@ unfoldable pub split_by : (SectionId → Loading Section) → SplitLoad → Load
 split_by given load = do
   ten ← sections_by given
   unit ← of_file (first_unit (as_file Dwo None ten))
-  Ok (if is_wanted load.dwo_id unit
+  Ok (if has_wanted_id load.dwo_id unit
       then Some (split_sections (as_file Dwo None ten) load.parent)
       else None)
 
@@ -86,14 +86,15 @@ abbrev pub utf8_path : List ℕ → Loading (List ℕ)
 utf8_path path = elim (utf8_from path) [ None ↦ Err PathNotUtf8 | Some text ↦ Ok text ]
 
 -- the split sections at a path, if they are there
-abbrev pub split_at : Files → SplitLoad → List ℕ → Option Sections
-split_at files load path = option_and_then (λ bytes. or_none (split_of load bytes)) (files path)
+abbrev pub split_at_path : Files → SplitLoad → List ℕ → Option Sections
+split_at_path files load path =
+    option_and_then (λ bytes. or_none (split_of load bytes)) (files path)
 
 -- the answer to the load of a unit by the file at a path
-abbrev pub given_at : Files → SplitLoad → List ℕ → Loading (Option Sections)
-given_at files load path = utf8_path path >>= λ text. Ok (split_at files load text)
+abbrev pub given_at_path : Files → SplitLoad → List ℕ → Loading (Option Sections)
+given_at_path files load path = utf8_path path >>= λ text. Ok (split_at_path files load text)
 
 -- the answer to the load of a unit
-unfoldable pub given_by : Files → SplitLoad → Loading (Option Sections)
-given_by files load = elim (split_path load)
-    [ None ↦ Ok None | Some path ↦ given_at files load path ]
+unfoldable pub given_by_files : Files → SplitLoad → Loading (Option Sections)
+given_by_files files load = elim (split_path load)
+    [ None ↦ Ok None | Some path ↦ given_at_path files load path ]

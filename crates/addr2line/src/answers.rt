@@ -3,7 +3,7 @@
 ghost use Rattle.std.specs.Prelude.{◌≡◌, ◌<◌, ℕ, OnOk, length, option_map, true};
 ghost use Rattle.addr2line_units.specs.declared.frames_lookup.Faults.{Faults};
 ghost use Rattle.addr2line.specs.Answers.{AfterAnswer};
-ghost use Rattle.addr2line.specs.Lookups.{IsUnitOf, loads_of, lookup_stop, waits_for};
+ghost use Rattle.addr2line.specs.Lookups.{IsUnitOf, loads_at, lookup_stop, waits_for};
 
 use crate::context::Context;
 use gimli::Dwarf;
@@ -22,8 +22,8 @@ impl<R: Reader> Context<R> {
             self.new }
         ensures fewer { (faults : Faults) (probe : ℕ) → waits_for number
             (lookup_stop faults self.old.sections self.old.answers probe) ≡ true → OnOk result
-            (length (loads_of self.new.sections self.new.answers probe)
-            < length (loads_of self.old.sections self.old.answers probe)) }
+            (length (loads_at self.new.sections self.new.answers probe)
+            < length (loads_at self.old.sections self.old.answers probe)) }
     {
         self.units
             .answer(self.alloc, &self.dwarf, &self.sup_units, number, sections)

@@ -6,7 +6,7 @@ ghost use Rattle.addr2line_units.specs.declared.frames_lookup.Faults.TheVariants
 ghost use Rattle.addr2line_units.specs.FramesLookup.{Waits};
 ghost use Rattle.addr2line.specs.Context.{ContextState, IsUncovered};
 ghost use Rattle.addr2line.specs.Loader.{AfterAnswers, AnswersInTurn, AnswersOne, HasEnded, IsFaultByFiles, IsUnitFault, LeavesOpen, ReadsAsked, WaitsForNone, WaitsForOne, ended_frames_of};
-ghost use Rattle.addr2line.specs.Lookups.{IsKnown, IsKnownFew, loads_of, lookup_stop};
+ghost use Rattle.addr2line.specs.Lookups.{IsKnown, IsKnownFew, loads_at, lookup_stop};
 
 use crate::context::Context;
 use crate::files::FileSource;
@@ -31,8 +31,8 @@ fn answer_load<F: FileSource>(
     ensures one { AnswersOne number ctx.old ctx.new }
     ensures only { (first : ContextState) → ReadsAsked probe first ctx.old
         → ReadsAsked probe first ctx.new }
-    ensures fewer { OnOk result (length (loads_of ctx.new.sections ctx.new.answers probe)
-        < length (loads_of ctx.old.sections ctx.old.answers probe)) }
+    ensures fewer { OnOk result (length (loads_at ctx.new.sections ctx.new.answers probe)
+        < length (loads_at ctx.old.sections ctx.old.answers probe)) }
     ensures refused { IfErr result (IsFaultByFiles (F.files files.now) ctx.old probe) }
     ensures stays_open { IfErr result LeavesOpen }
     ensures still_waits { OnErr result

@@ -13,10 +13,10 @@ ghost use Rattle.addr2line_units.specs.FramesLookup.{Stop, is_waiting};
 ghost use Rattle.addr2line_units.specs.KeptViews.{seen_load};
 ghost use Rattle.addr2line_units.specs.LocationsLeft.{locations_left};
 ghost use Rattle.addr2line_units.specs.Parsed.{IsNotOom};
-ghost use Rattle.addr2line_units.specs.RangeLookup.{seen_span};
+ghost use Rattle.addr2line_units.specs.RangeLookup.{seen_located_span};
 ghost use Rattle.addr2line_units.specs.SeenFrame.{seen_frame, seen_name};
 ghost use Rattle.addr2line_units.specs.SeenUnit.{seen_found, seen_unit};
-ghost use Rattle.addr2line.specs.Replies.{LocationAnswer, Located, Ranged, Listed, Ended, bytes_of, copied_frame, copied_load, copied_name, copied_unit, frames_at, reply_of_frames, reply_of_unit};
+ghost use Rattle.addr2line.specs.Replies.{LocationAnswer, Located, Ranged, Listed, Ended, section_bytes, copied_frame, copied_load, copied_name, copied_unit, frames_at, reply_of_frames, reply_of_unit};
 ghost use Rattle.addr2line.specs.SeenReplies.{seen_owned_frame, seen_owned_load, seen_owned_location, seen_owned_name, seen_owned_span, seen_owned_unit, seen_reply};
 
 use crate::reply::{FoundUnit, OwnedFrame, OwnedLoad, OwnedLocation, OwnedName, OwnedSpan, Reply};
@@ -31,7 +31,7 @@ use std::alloc::{AllocError, Global};
 // The bytes of a reader, if there is one.
 fn copy_bytes<R: Reader>(alloc: Global, reader: Option<&R>) -> Result<Option<Vec<u8>>, AllocError>
     ensures gives { IfOk result (λ copy. option_map (λ (v : _). v.items) copy
-        ≡ option_map (λ r. bytes_of (R.section r.now)) reader.entry) }
+        ≡ option_map (λ r. section_bytes (R.section r.now)) reader.entry) }
 {
     match reader {
         Some(reader) => Ok(Some(Vec::from_slice(alloc, reader.to_slice())?)),
@@ -105,7 +105,7 @@ fn copy_frames<R: Reader>(alloc: Global, frames: FrameIter<'_, R>) -> Result<Vec
 }
 
 fn copy_span(alloc: Global, span: (u64, u64, Location<'_>)) -> Result<OwnedSpan, AllocError>
-    ensures gives { IfOk result (λ copy. seen_owned_span copy ≡ seen_span span.entry) }
+    ensures gives { IfOk result (λ copy. seen_owned_span copy ≡ seen_located_span span.entry) }
 {
     let (address, length, location) = span;
     Ok(OwnedSpan {

@@ -1,7 +1,7 @@
 //! Where files come from.
 
 ghost use Rattle.std.specs.Prelude.{◌≡◌, ℕ, List, [], OnErr, OnOk};
-ghost use Rattle.addr2line.specs.Files.{files_in, with_file};
+ghost use Rattle.addr2line.specs.Files.{listed_files, with_file};
 
 use std::alloc::{AllocError, Global};
 use std::fs;
@@ -56,8 +56,8 @@ impl MemoryFiles {
     ///
     /// Fails where a growth was refused; then nothing is changed.
     pub fn put(&mut self, path: &str, bytes: &[u8]) -> Result<(), AllocError>
-        ensures after { OnOk result ((other : List ℕ) → files_in self.new other
-            ≡ with_file (files_in self.old) path.now bytes.now other) }
+        ensures after { OnOk result ((other : List ℕ) → listed_files self.new other
+            ≡ with_file (listed_files self.old) path.now bytes.now other) }
         ensures refused { OnErr result (self.new ≡ self.old) }
     {
         let path = String::from_str(self.alloc, path)?;
@@ -69,9 +69,9 @@ impl MemoryFiles {
 
 impl FileSource for MemoryFiles {
     ghost use Rattle.std.specs.Prelude.{Some};
-    ghost use Rattle.addr2line.specs.Files.{files_in};
+    ghost use Rattle.addr2line.specs.Files.{listed_files};
 
-    ghost files = { λ s. Some (files_in s) };
+    ghost files = { λ s. Some (listed_files s) };
 
     fn read(&self, alloc: Global, path: &str) -> Result<Option<Vec<u8>>, AllocError> {
         for (name, bytes) in self.entries.iter() {

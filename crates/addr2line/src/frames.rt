@@ -10,7 +10,7 @@ ghost use Rattle.addr2line_units.specs.KeptViews.{seen_load};
 ghost use Rattle.addr2line_units.specs.Suspended.{IfLoad, IfOutput, SkipsTo};
 ghost use Rattle.addr2line.specs.Answers.{AfterResume, SuspendsAgain, answered};
 ghost use Rattle.addr2line.specs.Borrowed.{EndsAs, RestsAs};
-ghost use Rattle.addr2line.specs.Lookups.{AfterFrames, Suspends, frames_of, loads_of, lookup_stop, waits_for, with_none};
+ghost use Rattle.addr2line.specs.Lookups.{AfterFrames, Suspends, frames_of, loads_at, lookup_stop, waits_for, with_none};
 ghost use Rattle.addr2line.specs.Skips.{AfterSkip, skipped_answers};
 
 use crate::context::Context;
@@ -97,8 +97,8 @@ fn go_on<R: Reader>(
         × (c.probe ≡ probe) × SuspendsAgain End probe number (option_map (λ d. d.value) input)
         c.number (seen_load R.section c.load) ctx.old c.ctx.now) }
     ensures fewer { IfLoad result (λ c.
-        length (loads_of c.ctx.now.sections c.ctx.now.answers c.probe)
-        < length (loads_of ctx.old.sections ctx.old.answers probe)) }
+        length (loads_at c.ctx.now.sections c.ctx.now.answers c.probe)
+        < length (loads_at ctx.old.sections ctx.old.answers probe)) }
     ensures output { IfOutput result (λ o. ExactlyUnlessOom (λ i. Some (frames_left i)) o
         (frames_of ctx.old.sections (answered ctx.old.sections ctx.old.answers number
         (option_map (λ d. d.value) input)) probe)) }
@@ -131,7 +131,7 @@ impl<'ctx, R: Reader> LookupContinuation for FramesLookup<'ctx, R> {
 
     type Sections = Rc<Dwarf<R>>;
 
-    ghost left = { λ c. length (loads_of c.ctx.now.sections c.ctx.now.answers c.probe) };
+    ghost left = { λ c. length (loads_at c.ctx.now.sections c.ctx.now.answers c.probe) };
 
     ghost skips_to = { λ c o. ExactlyUnlessOom (λ i. Some (frames_left i)) o
         (frames_of c.ctx.now.sections (with_none c.ctx.now.answers) c.probe) };
@@ -151,8 +151,8 @@ impl<'ctx, R: Reader> LookupContinuation for FramesLookup<'ctx, R> {
             (option_map (λ d. d.value) input) c.number (seen_load R.section c.load)
             self.entry.ctx.now c.ctx.now) }
         ensures fewer { IfLoad result (λ c.
-            length (loads_of c.ctx.now.sections c.ctx.now.answers c.probe)
-            < length (loads_of self.entry.ctx.now.sections self.entry.ctx.now.answers
+            length (loads_at c.ctx.now.sections c.ctx.now.answers c.probe)
+            < length (loads_at self.entry.ctx.now.sections self.entry.ctx.now.answers
             self.entry.probe)) }
         ensures output { IfOutput result (λ o. ExactlyUnlessOom (λ i. Some (frames_left i)) o
             (frames_of self.entry.ctx.now.sections (answered self.entry.ctx.now.sections

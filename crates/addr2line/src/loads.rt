@@ -6,7 +6,7 @@ ghost use Rattle.gimli_read.specs.Reading.{ExactlyUnlessOom};
 ghost use Rattle.addr2line_units.specs.KeptViews.{seen_load};
 ghost use Rattle.addr2line_units.specs.Loads.{token_number};
 ghost use Rattle.addr2line.specs.Loads.{AfterForget, AfterLoad, AfterPreload, AreSettledAt, IsSettled, forget_reply, load_reply};
-ghost use Rattle.addr2line.specs.Lookups.{loads_of};
+ghost use Rattle.addr2line.specs.Lookups.{loads_at};
 
 use crate::context::Context;
 use addr2line_units::view::{SplitDwarfLoad, UnitToken};
@@ -24,7 +24,7 @@ impl<R: Reader> Context<R> {
     /// Source: DWARF 5, section 7.3.2. Own: the order.
     pub fn preload_units(&mut self, probe: u64) -> Result<Vec<SplitDwarfLoad<R>>, Error>
         ensures gives { IfOk result (λ loads. map (seen_load R.section) loads.items
-            ≡ loads_of self.old.sections self.old.answers probe) }
+            ≡ loads_at self.old.sections self.old.answers probe) }
         ensures refused { IfErr result (λ e. e ≡ OutOfMemory) }
         ensures memory { AreSettledAt self.old probe → IsOk result }
         ensures after { AfterPreload self.old self.new }

@@ -9,7 +9,7 @@ ghost use Rattle.addr2line_units.specs.Located.{location_of, spans_of};
 ghost use Rattle.addr2line.specs.Context.{lines_of_all};
 ghost use Rattle.addr2line.specs.History.{AfterCall, AfterCalls, AnswersLoad, AsksFrames, AsksLoads, AsksLocation, AsksRange, AsksUnit, Forgets, ParsesFunctions, ParsesLines, answers_given, frames_replied, replies_to, reply_to, unit_replied};
 ghost use Rattle.addr2line.specs.Loads.{forget_reply, load_reply, parse_reply};
-ghost use Rattle.addr2line.specs.Lookups.{loads_of};
+ghost use Rattle.addr2line.specs.Lookups.{loads_at};
 ghost use Rattle.addr2line.specs.Replies.{Ended, Listed, Located, copied_load, reply_of_range};
 ghost use Rattle.addr2line.specs.SeenCalls.{given_by, seen_call, seen_given};
 ghost use Rattle.addr2line.specs.SeenReplies.{seen_reply};
@@ -199,7 +199,7 @@ fn replay_range<R: Reader>(context: &mut Context<R>, low: u64, high: u64) -> Res
 // `preload_units` of an address.
 fn replay_preload<R: Reader>(context: &mut Context<R>, probe: u64) -> Result<Reply, Error>
     ensures gives { IfOk result (λ r. seen_reply r ≡ Listed (map copied_load
-        (loads_of context.old.sections context.old.answers probe))) }
+        (loads_at context.old.sections context.old.answers probe))) }
     ensures after { AfterCall (AsksLoads probe) result context.old context.new }
 {
     let alloc = context.alloc;

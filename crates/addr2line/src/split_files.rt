@@ -9,7 +9,7 @@ ghost use Rattle.elf.specs.ObjectFile.{object_file_of};
 ghost use Rattle.addr2line_units.specs.KeptViews.{seen_load};
 ghost use Rattle.addr2line_units.specs.Views.{first_unit};
 ghost use Rattle.addr2line.specs.Loader.{LeavesOpen};
-ghost use Rattle.addr2line.specs.SplitFiles.{bytes_or_none, given_by, is_absolute, is_same_id, is_wanted, or_none, path_in, separated, split_by, split_of, split_path, utf8_path};
+ghost use Rattle.addr2line.specs.SplitFiles.{bytes_or_none, given_by_files, is_absolute, is_same_id, has_wanted_id, or_none, path_in, separated, split_by, split_of, split_path, utf8_path};
 
 use crate::file_sections::{SectionSource, SplitFile, as_dwarf, read_sections};
 use crate::files::FileSource;
@@ -122,7 +122,7 @@ fn is_same(wanted: DwoId, id: Option<DwoId>) -> bool
 
 // Whether a unit has the identifier that is wanted.
 fn has_wanted<R: Reader>(wanted: DwoId, unit: &Option<Unit<R>>) -> bool
-    ensures gives { result ≡ is_wanted wanted unit.now }
+    ensures gives { result ≡ has_wanted_id wanted unit.now }
 {
     match unit {
         Some(unit) => is_same(wanted, unit.dwo_id),
@@ -181,7 +181,7 @@ fn without_fault<R: Reader>(
 }
 
 // The answer to the load of a unit, by the files.
-#[tactic(auto, unfolding(crate::specs::SplitFiles::given_by))]
+#[tactic(auto, unfolding(crate::specs::SplitFiles::given_by_files))]
 pub(crate) fn answer_to<F: FileSource>(
     alloc: Global,
     files: &F,
@@ -189,7 +189,7 @@ pub(crate) fn answer_to<F: FileSource>(
 ) -> Result<Option<Rc<Dwarf<EndianBytes>>>, LoaderError>
     ensures gives { IfSome (F.files files.now) (λ held.
         LoadsUnlessOom (option_map (λ d. d.value)) result
-        (given_by held (seen_load (λ r. r) load.now))) }
+        (given_by_files held (seen_load (λ r. r) load.now))) }
     ensures stays_open { IfErr result LeavesOpen }
 {
     let Some(path) = path_of(alloc, load)? else {

@@ -12,7 +12,7 @@ ghost use Rattle.addr2line.specs.declared.stops.UnitStop.TheVariants.{Finds};
 ghost use Rattle.addr2line.specs.Answers.{AfterResume, SuspendsAgain, answered};
 ghost use Rattle.addr2line.specs.Borrowed.{RestsAs};
 ghost use Rattle.addr2line.specs.KeptStops.{unit_stop};
-ghost use Rattle.addr2line.specs.Lookups.{AfterFrames, IsKnown, Suspends, loads_of, lookup_stop, unit_of, waits_for, with_none};
+ghost use Rattle.addr2line.specs.Lookups.{AfterFrames, IsKnown, Suspends, loads_at, lookup_stop, unit_of, waits_for, with_none};
 ghost use Rattle.addr2line.specs.Skips.{AfterSkip, skipped_answers};
 
 use crate::context::Context;
@@ -88,8 +88,8 @@ fn go_on<R: Reader>(
         × (c.probe ≡ probe) × SuspendsAgain PassOver probe number (option_map (λ d. d.value) input)
         c.number (seen_load R.section c.load) ctx.old c.ctx.now) }
     ensures fewer { IfLoad result (λ c.
-        length (loads_of c.ctx.now.sections c.ctx.now.answers c.probe)
-        < length (loads_of ctx.old.sections ctx.old.answers probe)) }
+        length (loads_at c.ctx.now.sections c.ctx.now.answers c.probe)
+        < length (loads_at ctx.old.sections ctx.old.answers probe)) }
     ensures output { IfOutput result (λ o. ExactlyUnlessOom seen_found o
         (unit_of ctx.old.sections (answered ctx.old.sections ctx.old.answers number
         (option_map (λ d. d.value) input)) probe)) }
@@ -125,7 +125,7 @@ impl<'ctx, R: Reader> LookupContinuation for UnitLookup<'ctx, R> {
 
     type Sections = Rc<Dwarf<R>>;
 
-    ghost left = { λ c. length (loads_of c.ctx.now.sections c.ctx.now.answers c.probe) };
+    ghost left = { λ c. length (loads_at c.ctx.now.sections c.ctx.now.answers c.probe) };
 
     ghost skips_to = { λ c o. ExactlyUnlessOom seen_found o
         (unit_of c.ctx.now.sections (with_none c.ctx.now.answers) c.probe) };
@@ -146,8 +146,8 @@ impl<'ctx, R: Reader> LookupContinuation for UnitLookup<'ctx, R> {
             (option_map (λ d. d.value) input) c.number (seen_load R.section c.load)
             self.entry.ctx.now c.ctx.now) }
         ensures fewer { IfLoad result (λ c.
-            length (loads_of c.ctx.now.sections c.ctx.now.answers c.probe)
-            < length (loads_of self.entry.ctx.now.sections self.entry.ctx.now.answers
+            length (loads_at c.ctx.now.sections c.ctx.now.answers c.probe)
+            < length (loads_at self.entry.ctx.now.sections self.entry.ctx.now.answers
             self.entry.probe)) }
         ensures output { IfOutput result (λ o. ExactlyUnlessOom seen_found o
             (unit_of self.entry.ctx.now.sections (answered self.entry.ctx.now.sections

@@ -3,7 +3,7 @@ use Rattle.std.proofs.Common.{◌∙◌, ℕ, List, Option, Some, None, ap, refl
 use Rattle.addr2line_bin.specs.declared.options.Setup.{Setup}
 use Rattle.addr2line_bin.specs.declared.options.Style.{Style}
 use Rattle.addr2line_bin.specs.FileAnswers.{FileAnswers, StaysAnswered}
-use Rattle.addr2line_bin.specs.ProbeTexts.{Given, GivesFrames, GivesLocation, IsAnswerAt, IsText, MayBeGiven, asked_symbol, looked_up}
+use Rattle.addr2line_bin.specs.ProbeTexts.{ProbeAnswer, GivesFrames, GivesLocation, IsAnswerAt, IsText, MayBeGiven, asked_symbol, looked_up}
 use Rattle.addr2line_bin.proofs.PrintingLemmas.{Weaker}
 
 pub stays_itself : (a : FileAnswers) → StaysAnswered a a
@@ -22,7 +22,7 @@ stays_on a b c p q = record {
   section_at = q.section_at ∙ p.section_at;
 }
 
-may_before : (a b : FileAnswers) → StaysAnswered a b → (style : Style) (address : ℕ) (given : Given) → MayBeGiven b style address given → MayBeGiven a style address given
+may_before : (a b : FileAnswers) → StaysAnswered a b → (style : Style) (address : ℕ) (given : ProbeAnswer) → MayBeGiven b style address given → MayBeGiven a style address given
 may_before a b st style address (GivesLocation found) h = (h.0, st.locations address found h.1)
 may_before a b st style address (GivesFrames frames symbol) h = (h.0, st.frames address frames h.1, h.2 ∙ ap (λ f. asked_symbol style (f address)) st.symbol_at)
 

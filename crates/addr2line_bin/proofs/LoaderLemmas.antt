@@ -26,7 +26,7 @@ use Rattle.addr2line.specs.Loader.{AfterLoads, AfterLocation, AfterLocationRange
 use Rattle.addr2line.specs.Lookups.{IsKnownFew, lookup_stop}
 use Rattle.addr2line.specs.SplitFiles.{of_file}
 use Rattle.addr2line_bin.specs.FileAnswers.{StaysAnswered}
-use Rattle.addr2line_bin.specs.LoaderAnswers.{IsReadyAt, MayFindBy, MayGiveBy, loader_answers}
+use Rattle.addr2line_bin.specs.LoaderAnswers.{IsReadyAtAddress, MayFindBy, MayGiveBy, loader_answers}
 
 -- a lookup that parses nothing does so where more is parsed
 ready_more : (d : Sections) (us : List IndexedUnit) (p q : List Bool) → StaysParsed p q → (probe : ℕ) (ranges : List UnitRange) → ready_along d us p probe ranges ≡ true → ready_along d us q probe ranges ≡ true
@@ -42,7 +42,7 @@ ready_more d us p q stays probe (r ∷ ranges) ready =
         false_true : false ≡ true → ⊥
         false_true e = cc
 
-ready_later : (old new : ContextState) → new.sections ≡ old.sections → StaysParsed old.parsed new.parsed → (address : ℕ) → IsReadyAt old address → IsReadyAt new address
+ready_later : (old new : ContextState) → new.sections ≡ old.sections → StaysParsed old.parsed new.parsed → (address : ℕ) → IsReadyAtAddress old address → IsReadyAtAddress new address
 ready_later old new e p address (inl last) = inl last
 ready_later old new e p address (inr ready) =
     inr (λ m made. subst (λ d. ready_along d m.units new.parsed address (cover address m.ranges) ≡ true) (sym e)

@@ -14,7 +14,7 @@ pub plus_nothing : (a : Option ℕ) → a ≡ plus a 0
 plus_nothing None = refl
 plus_nothing (Some n) = let e : n ≡ n + 0 = omega arith in ap Some e
 
-plus_plus : (a : Option ℕ) (m n k : ℕ) → k ≡ m + n → plus (plus a m) n ≡ plus a k
+pub plus_plus : (a : Option ℕ) (m n k : ℕ) → k ≡ m + n → plus (plus a m) n ≡ plus a k
 plus_plus None m n k e = refl
 plus_plus (Some x) m n k e = let e : (x + m) + n ≡ x + k = omega (arith, e) in ap Some e
 

@@ -25,22 +25,22 @@ abbrev pub digits_text : Style → ℕ → List ℕ
 digits_text style n = if style.llvm then hex_digits n else wide_hex n
 
 -- what follows an address
-abbrev pub address_end : Style → List ℕ
-address_end style = if style.pretty then codes ": " else codes "\n"
+abbrev pub address_ending : Style → List ℕ
+address_ending style = if style.pretty then codes ": " else codes "\n"
 
 -- the address that is asked for, 0 for none, where addresses are printed
 abbrev pub address_text : Style → Option ℕ → List ℕ
 address_text style probe = if style.addresses
-    then codes "0x" ++ (digits_text style (unwrap_or probe 0) ++ address_end style) else []
+    then codes "0x" ++ (digits_text style (unwrap_or probe 0) ++ address_ending style) else []
 
 -- the last part of a path, or the path whole
 abbrev pub basename_of : List ℕ → List ℕ
 basename_of path = unwrap_or (path_file_name path) path
 
 -- a file
-abbrev pub file_text : Style → Option (List ℕ) → List ℕ
-file_text style None = codes "??"
-file_text style (Some path) = if style.basenames then basename_of path else path
+abbrev pub shown_file : Style → Option (List ℕ) → List ℕ
+shown_file style None = codes "??"
+shown_file style (Some path) = if style.basenames then basename_of path else path
 
 -- a line, or `?`
 abbrev pub line_text : Option ℕ → List ℕ
@@ -61,7 +61,7 @@ nowhere_text style = if style.llvm then codes "??:0:0\n" else codes "??:0\n"
 abbrev pub location_text : Style → Option Location → List ℕ
 location_text style None = nowhere_text style
 location_text style (Some p) =
-    file_text style p.file ++ (codes ":" ++ (place_text style p.line p.column ++ codes "\n"))
+    shown_file style p.file ++ (codes ":" ++ (place_text style p.line p.column ++ codes "\n"))
 
 -- what follows all else of an address
 abbrev pub probe_end : Style → List ℕ

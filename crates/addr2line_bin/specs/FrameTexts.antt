@@ -29,13 +29,13 @@ symbol_before symbol [] = symbol
 symbol_before symbol (f ∷ rest) = None
 
 -- what follows a function
-abbrev pub function_end : Style → List ℕ
-function_end style = if style.pretty then codes " at " else codes "\n"
+abbrev pub function_ending : Style → List ℕ
+function_ending style = if style.pretty then codes " at " else codes "\n"
 
 -- a function, where functions are printed
 abbrev pub function_text : Style → Option (List ℕ) → List ℕ
 function_text style name =
-    if style.functions then unwrap_or name (codes "??") ++ function_end style else []
+    if style.functions then unwrap_or name (codes "??") ++ function_ending style else []
 
 -- a frame, by the symbol's name if there is one
 abbrev pub frame_text : Style → Option (List ℕ) → FrameRecord → List ℕ

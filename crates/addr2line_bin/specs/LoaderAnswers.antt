@@ -17,14 +17,15 @@ use Rattle.addr2line_bin.specs.FileAnswers.{FileAnswers}
 
 -- a lookup of the location at an address takes no memory: no unit holds the last address, or the
 -- lines that it asks for are parsed
-abbrev pub IsReadyAt : ContextState → ℕ → Type 0
-IsReadyAt c address = (address ≡ 2 ^ 64 - 1) ⊎ IsReady c address
+abbrev pub IsReadyAtAddress : ContextState → ℕ → Type 0
+IsReadyAtAddress c address = (address ≡ 2 ^ 64 - 1) ⊎ IsReady c address
 
 -- it finds what its sections say, or OutOfMemory where it takes memory
 abbrev pub MayFindBy : ContextState → ℕ → Loading (Option Location) → Type 0
 MayFindBy c address found =
     LoadsUnlessOom (λ x. x) found (of_file (location_of c.sections address))
-    × (IsReadyAt c address → Exactly (λ x. x) found (of_file (location_of c.sections address)))
+    × (IsReadyAtAddress c address
+    → Exactly (λ x. x) found (of_file (location_of c.sections address)))
 
 -- a lookup of frames gives what the files say, where they are known; where it waits for no split
 -- file, what the sections say, whatever the files are; and none, without memory, where no unit

@@ -45,12 +45,12 @@ abbrev pub FoundFrames : Type 0
 FoundFrames = Loading (List FrameRecord)
 
 -- what the lookups of an address gave: its location; or its frames, and the name of its symbol
-pub data Given : Type 0 where
-  GivesLocation : Found → Given
-  GivesFrames : FoundFrames → Option (List ℕ) → Given
+pub data ProbeAnswer : Type 0 where
+  GivesLocation : Found → ProbeAnswer
+  GivesFrames : FoundFrames → Option (List ℕ) → ProbeAnswer
 
 -- the lookups of an address may give this
-abbrev pub MayBeGiven : FileAnswers → Style → ℕ → Given → Type 0
+abbrev pub MayBeGiven : FileAnswers → Style → ℕ → ProbeAnswer → Type 0
 MayBeGiven answers style address (GivesLocation found) =
     (asks_frames style ≡ false) × answers.MayFind address found
 MayBeGiven answers style address (GivesFrames frames symbol) =
@@ -63,7 +63,7 @@ given_or other (Ok x) = x
 given_or other (Err e) = other
 
 -- the text of what was given
-abbrev pub given_text : Style → Given → List ℕ
+abbrev pub given_text : Style → ProbeAnswer → List ℕ
 given_text style (GivesLocation found) = location_text style (given_or None found)
 given_text style (GivesFrames frames symbol) = frames_text style symbol (given_or [] frames)
 
@@ -73,7 +73,7 @@ fault_text name what address (Ok x) = []
 fault_text name what address (Err e) = fault_line name what address e
 
 -- the line of the fault that was given, if one was
-abbrev pub given_fault : List ℕ → ℕ → Given → List ℕ
+abbrev pub given_fault : List ℕ → ℕ → ProbeAnswer → List ℕ
 given_fault name address (GivesLocation found) = fault_text name (codes "location") address found
 given_fault name address (GivesFrames frames symbol) =
     fault_text name (codes "frames") address frames
@@ -81,7 +81,7 @@ given_fault name address (GivesFrames frames symbol) =
 -- the text and the line of a fault, by the address that is looked up, if there is one
 abbrev pub IsAnswerAt : FileAnswers → Setup → Option ℕ → List ℕ → List ℕ → Type 0
 IsAnswerAt answers s None found fault = (found ≡ missing_text s.style None) × (fault ≡ [])
-IsAnswerAt answers s (Some address) found fault = (given : Given)
+IsAnswerAt answers s (Some address) found fault = (given : ProbeAnswer)
     × MayBeGiven answers s.style address given
     × (found ≡ given_text s.style given) × (fault ≡ given_fault s.name.now address given)
 

@@ -21,9 +21,9 @@ abbrev pub has_fault : StreamState → Bool
 has_fault s = is_some s.fault
 
 -- the same answer, with its fault's kind
-abbrev pub kind_of : Result (Unit {0}) Error → Result (Unit {0}) ErrorKind
-kind_of (Ok x) = Ok x
-kind_of (Err e) = Err (error_kind e)
+abbrev pub with_kind : Result (Unit {0}) Error → Result (Unit {0}) ErrorKind
+with_kind (Ok x) = Ok x
+with_kind (Err e) = Err (error_kind e)
 
 -- the last fault, after a call with this answer
 abbrev pub fault_after : {A : Type 0} → Option ErrorKind → Result A ErrorKind → Option ErrorKind

@@ -3,9 +3,9 @@
 ghost use Rattle.std.specs.Prelude.{◌≡◌, ◌++◌, OnOk, option_map, string_bytes};
 ghost use Rattle.std.specs.Option.{option_copied};
 ghost use Rattle.addr2line_lines.specs.SeenLocation.{seen_location};
-ghost use Rattle.addr2line_bin.specs.AddressTexts.{address_end, address_text, basename_of, digits_text};
+ghost use Rattle.addr2line_bin.specs.AddressTexts.{address_ending, address_text, basename_of, digits_text};
 ghost use Rattle.addr2line_bin.specs.AddressTexts.{fault_line, fault_reason, fault_subject, fault_topic};
-ghost use Rattle.addr2line_bin.specs.AddressTexts.{file_text, hex_digits, line_text};
+ghost use Rattle.addr2line_bin.specs.AddressTexts.{shown_file, hex_digits, line_text};
 ghost use Rattle.addr2line_bin.specs.AddressTexts.{location_text, nowhere_text, place_text, probe_end};
 
 use crate::options::Style;
@@ -38,7 +38,7 @@ fn push_digits(text: &mut String, style: Style, address: u64) -> Result<(), Allo
 // Adds what follows an address.
 fn push_address_end(text: &mut String, style: Style) -> Result<(), AllocError>
     ensures gives { OnOk result (string_bytes text.new
-        ≡ string_bytes text.old ++ address_end style) }
+        ≡ string_bytes text.old ++ address_ending style) }
 {
     text.push_str(if style.pretty { ": " } else { "\n" })
 }
@@ -66,7 +66,7 @@ fn basename_of(path: &str) -> &str
 // Adds a file.
 fn push_file(text: &mut String, style: Style, file: Option<&str>) -> Result<(), AllocError>
     ensures gives { OnOk result (string_bytes text.new
-        ≡ string_bytes text.old ++ file_text style (option_copied file.entry)) }
+        ≡ string_bytes text.old ++ shown_file style (option_copied file.entry)) }
 {
     match file {
         None => text.push_str("??"),

@@ -7,7 +7,7 @@ ghost use Rattle.addr2line_units.specs.Frames.{FrameRecord};
 ghost use Rattle.addr2line_units.specs.FramesLeft.{frames_left};
 ghost use Rattle.addr2line_units.specs.SeenFrame.{seen_frame, seen_name};
 ghost use Rattle.addr2line_bin.specs.FrameTexts.{caller_mark, callers_text, frame_text, frames_text};
-ghost use Rattle.addr2line_bin.specs.FrameTexts.{function_end, function_name, function_text};
+ghost use Rattle.addr2line_bin.specs.FrameTexts.{function_ending, function_name, function_text};
 ghost use Rattle.addr2line_bin.specs.FrameTexts.{missing_text, next_and, symbol_before};
 ghost use Rattle.addr2line_bin.specs.FrameTexts.{symbol_name};
 
@@ -50,7 +50,7 @@ pub fn symbol_name(alloc: Global, style: Style, name: &str) -> Result<String, Al
 // Adds what follows a function.
 fn push_function_end(text: &mut String, style: Style) -> Result<(), AllocError>
     ensures gives { OnOk result (string_bytes text.new
-        ≡ string_bytes text.old ++ function_end style) }
+        ≡ string_bytes text.old ++ function_ending style) }
 {
     text.push_str(if style.pretty { " at " } else { "\n" })
 }

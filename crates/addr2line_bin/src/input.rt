@@ -1,36 +1,41 @@
 //! Inputs that lines are read from.
 
-ghost use Rattle.std.specs.Prelude.{◌≡◌, IfOk, None, OnErr, Some, if◌then◌else◌};
+ghost use Rattle.std.specs.Prelude.{◌≡◌, ◌×◌, IfOk, None, OnErr, Some, if◌then◌else◌};
 ghost use Rattle.std.specs.declared.io.ErrorKind.TheVariants.{OutOfMemory};
 ghost use Rattle.std.specs.Io.BufRead.{ends_with_byte, strip_last};
-ghost use Rattle.addr2line_bin.specs.InputLines.{ReadsLine};
+ghost use Rattle.addr2line_bin.specs.InputLines.{ReadsLine, TakesPart};
+ghost use Rattle.addr2line_bin.specs.Put.{plus};
 
 use std::alloc::AllocError;
 use std::io::{BufRead, ErrorKind};
 
 /// An input that lines are read from.
 pub trait Input {
-    ghost use Rattle.std.specs.Prelude.{◌≡◌, IfOk};
-    ghost use Rattle.addr2line_bin.specs.InputLines.{InputState, TakesLine};
-    ghost use Rattle.addr2line_bin.specs.Put.{fault_after};
+    ghost use Rattle.std.specs.Prelude.{◌≡◌, IfOk, OnErr};
+    ghost use Rattle.addr2line_bin.specs.InputLines.{InputState, TakesLine, TakesPart};
+    ghost use Rattle.addr2line_bin.specs.Put.{fault_after, plus};
 
-    /// The bytes that are left, and the last fault of a read.
+    /// The bytes that are left, how often a line was asked for, and the last fault of a read.
     ghost state: { Self → InputState };
 
     /// Reads the next line, without its end, in place of what `line` has; whether there is one.
     fn read_line(&mut self, line: &mut Vec<u8>) -> Result<bool, ErrorKind>
         ensures gives { IfOk result (λ is_read.
             TakesLine is_read (state self.old).bytes (state self.new).bytes line.new.items) }
+        ensures lost { OnErr result (TakesPart (state self.old).bytes (state self.new).bytes) }
+        ensures reads { (state self.new).reads ≡ plus (state self.old).reads 1 }
         ensures fault { (state self.new).fault ≡ fault_after (state self.old).fault result };
 }
 
-/// Reads the next line as `read_line` does. There is none where the read fails.
+/// Reads the next line as `read_line` does, once. There is none where the read fails.
 ///
 /// Refused instead where it fails since memory was refused for the line.
 pub fn next_line<I: Input>(input: &mut I, line: &mut Vec<u8>) -> Result<bool, AllocError>
     ensures gives { IfOk result (λ is_read.
         ReadsLine is_read (I.state input.old) (I.state input.new) line.new.items) }
-    ensures refused { OnErr result ((I.state input.new).fault ≡ Some OutOfMemory) }
+    ensures refused { OnErr result (((I.state input.new).fault ≡ Some OutOfMemory)
+        × TakesPart (I.state input.old).bytes (I.state input.new).bytes) }
+    ensures reads { (I.state input.new).reads ≡ plus (I.state input.old).reads 1 }
 {
     match input.read_line(line) {
         Ok(is_read) => Ok(is_read),
@@ -39,7 +44,7 @@ pub fn next_line<I: Input>(input: &mut I, line: &mut Vec<u8>) -> Result<bool, Al
     }
 }
 
-/// A reader as an input.
+/// A reader as an input. How often it is asked isn't known.
 #[derive(Drop)]
 pub struct Lines<R: BufRead> {
     reader: R,
@@ -85,7 +90,7 @@ fn cut_line_end(line: &mut Vec<u8>)
 }
 
 impl<R: BufRead> Input for Lines<R> {
-    ghost state = { λ s. record { bytes = R.remaining s.reader; fault = s.fault } };
+    ghost state = { λ s. record { bytes = R.remaining s.reader; reads = None; fault = s.fault } };
 
     fn read_line(&mut self, line: &mut Vec<u8>) -> Result<bool, ErrorKind> {
         line.clear();

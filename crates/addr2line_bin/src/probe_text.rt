@@ -8,7 +8,7 @@ ghost use Rattle.addr2line_units.specs.FramesLeft.{frames_left};
 ghost use Rattle.addr2line_bin.specs.AddressTexts.{location_text};
 ghost use Rattle.addr2line_bin.specs.FileAnswers.{StaysAnswered};
 ghost use Rattle.addr2line_bin.specs.FrameTexts.{frames_text};
-ghost use Rattle.addr2line_bin.specs.ProbeTexts.{Found, FoundFrames, Given, IsAnswerAt, IsText, MayBeGiven, asked_symbol, asks_frames};
+ghost use Rattle.addr2line_bin.specs.ProbeTexts.{Found, FoundFrames, ProbeAnswer, IsAnswerAt, IsText, MayBeGiven, asked_symbol, asks_frames};
 ghost use Rattle.addr2line_bin.specs.ProbeTexts.{fault_text, given_fault, given_or, given_text};
 ghost use Rattle.addr2line_bin.specs.ProbeTexts.{looked_up, offset_in};
 
@@ -211,7 +211,7 @@ fn push_given<L: Lookups>(
     lookups: &mut L,
     address: u64,
 ) -> Result<(), AllocError>
-    ensures gives { OnOk result ((given : Given)
+    ensures gives { OnOk result ((given : ProbeAnswer)
         × MayBeGiven (L.answers lookups.old) setup.now.style address given
         × (string_bytes texts.new.out ≡ string_bytes texts.old.out
         ++ given_text setup.now.style given)

@@ -2,7 +2,7 @@
 
 ghost use Rattle.std.specs.Prelude.{◌≡◌, ◌++◌, OnOk, IfErr, MatchResult, None, false, is_err, true};
 ghost use Rattle.std.specs.Io.KnownBytes.{Appends};
-ghost use Rattle.addr2line_bin.specs.Put.{WritesPrefix, Reports, fault_after, kind_of, plus};
+ghost use Rattle.addr2line_bin.specs.Put.{WritesPrefix, Reports, fault_after, with_kind, plus};
 ghost use Rattle.addr2line_bin.specs.Stopped.{IsFault, stop_of};
 ghost use Rattle.addr2line_bin.specs.declared.stream.Stop.TheVariants as stop;
 
@@ -124,9 +124,9 @@ fn noted(
     is_failing: &mut bool,
     answer: io::Result<()>,
 ) -> Result<(), ErrorKind>
-    ensures gives { result ≡ kind_of answer }
-    ensures fault { fault.new ≡ fault_after fault.old (kind_of answer) }
-    ensures failing { is_failing.new ≡ is_err (kind_of answer) }
+    ensures gives { result ≡ with_kind answer }
+    ensures fault { fault.new ≡ fault_after fault.old (with_kind answer) }
+    ensures failing { is_failing.new ≡ is_err (with_kind answer) }
 {
     match answer {
         Ok(()) => {

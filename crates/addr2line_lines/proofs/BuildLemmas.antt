@@ -14,8 +14,8 @@ use Rattle.addr2line_lines.specs.declared.row.Row.{Row}
 use Rattle.addr2line_lines.specs.Rows.{result_map}
 use Rattle.addr2line_lines.specs.Sequences.{Sequence, stored_row, sequence_of, sequences_of}
 use Rattle.addr2line_lines.specs.declared.sequence.LineSequence.{LineSequence}
-use Rattle.addr2line_lines.specs.Building.{Built, IsBuilder, all_taken, built, closed, ended, has_address, nothing_built, taken, with_row, without_last}
-use Rattle.addr2line_lines.specs.Packed.{IsWithin, address_at, packed_rows_in, unpacked}
+use Rattle.addr2line_lines.specs.Building.{Built, IsBuilder, all_taken, built, closed, built_ended, has_address, nothing_built, row_taken, with_row, without_last}
+use Rattle.addr2line_lines.specs.Packed.{RowsEndBy, row_address_at, packed_rows_in, unpacked}
 use Rattle.addr2line_lines.proofs.PackedLemmas.{all_push, all_same, all_within}
 use Rattle.addr2line_lines.proofs.SeekLemmas.{last_is}
 use Rattle.addr2line_lines.proofs.RowGroupLemmas.{IsPending, append_none, ended_is, falls_back, falls_replaced, none_open, pending_more, pending_replaced, replaced}
@@ -101,11 +101,11 @@ option_first : (o : Option Sequence) (ss : List Sequence) → option_to_list o +
 option_first None ss = refl
 option_first (Some s) ss = refl
 
-takes_end : (b : Built) (r : LineRow) → r.end_sequence ≡ true → taken b r ≡ ended b r
-takes_end b r e = ap (λ t. cond t (ended b r) (record { sequences = b.sequences; pending = with_row b.pending r })) e
+takes_end : (b : Built) (r : LineRow) → r.end_sequence ≡ true → row_taken b r ≡ built_ended b r
+takes_end b r e = ap (λ t. cond t (built_ended b r) (record { sequences = b.sequences; pending = with_row b.pending r })) e
 
-pub takes_row : (b : Built) (r : LineRow) → r.end_sequence ≡ false → taken b r ≡ record { sequences = b.sequences; pending = with_row b.pending r }
-takes_row b r e = ap (λ t. cond t (ended b r) (record { sequences = b.sequences; pending = with_row b.pending r })) e
+pub takes_row : (b : Built) (r : LineRow) → r.end_sequence ≡ false → row_taken b r ≡ record { sequences = b.sequences; pending = with_row b.pending r }
+takes_row b r e = ap (λ t. cond t (built_ended b r) (record { sequences = b.sequences; pending = with_row b.pending r })) e
 
 makes_more : (r : LineRow) (rows : List LineRow) (b : Bool) → r.end_sequence ≡ b
     → ((ss : List Sequence) (p : List LineRow) → IsPending p → NeverFalls (p ++ rows) → (all_taken (going ss p) rows).sequences ≡ ss ++ sequences_of (p ++ rows))
@@ -168,19 +168,19 @@ module _ (rows : List Row) (ss : List LineSequence) (first : ℕ) (is : IsBuilde
   pub finished_is : (xs : List LineSequence) → new ≡ take first rows → xs ≡ ss → map (unpacked new) xs ≡ map (unpacked rows) ss
   finished_is xs e f = ap (map (unpacked new)) f ∙ all_same rows new first ss (ap (take first) e ∙ take-take first first rows (omega arith)) is.each
 
-pub ended_none : (b : Built) (end : LineRow) → None ≡ closed b.pending end → ◌≡◌ {A = Built} (record { sequences = b.sequences; pending = [] }) (ended b end)
+pub ended_none : (b : Built) (end : LineRow) → None ≡ closed b.pending end → ◌≡◌ {A = Built} (record { sequences = b.sequences; pending = [] }) (built_ended b end)
 ended_none b end e = same_built _ _ _ _ (sym (ap (λ o. b.sequences ++ option_to_list o) (sym e) ∙ append-nil b.sequences)) refl
 
 -- whether the last row has an address
-pub ends_at_is : (rows : List Row) (first n x a : ℕ) → n ≡ length rows → first < n → x ≡ address_at rows (n - 1) → (x == a) ≡ has_address a (last (drop first rows))
+pub ends_at_is : (rows : List Row) (first n x a : ℕ) → n ≡ length rows → first < n → x ≡ row_address_at rows (n - 1) → (x == a) ≡ has_address a (last (drop first rows))
 ends_at_is rows first n x a len l is =
     let none : Row = record { address = 0; file_index = 0; line = 0; column = 0 } in
     let left = length-drop first rows in
     let place : first + (length (drop first rows) - 1) ≡ n - 1 = omega arith in
     let at : last (drop first rows) ≡ Some (get_or (drop first rows) (length (drop first rows) - 1) none) =
     last_is (drop first rows) ∙ slice_get-get_or (drop first rows) (length (drop first rows) - 1) none (omega arith) in
-    let row : (get_or (drop first rows) (length (drop first rows) - 1) none).address ≡ address_at rows (n - 1) =
-    ap (λ (r : Row). r.address) (get_or-drop first rows (length (drop first rows) - 1) none) ∙ ap (address_at rows) place in
+    let row : (get_or (drop first rows) (length (drop first rows) - 1) none).address ≡ row_address_at rows (n - 1) =
+    ap (λ (r : Row). r.address) (get_or-drop first rows (length (drop first rows) - 1) none) ∙ ap (row_address_at rows) place in
     ap (λ y. y == a) (is ∙ sym row) ∙ sym (ap (has_address a) at)
 
 pub without_is : (rows : List Row) (a : ℕ) → has_address a (last rows) ≡ true → without_last a rows ≡ take (length rows - 1) rows
@@ -200,11 +200,11 @@ ends_inside rows first a e =
 pub closes_is : (rows : List Row) (ss : List LineSequence) (first : ℕ) → IsBuilder rows ss first → (s : LineSequence) → s.first ≡ first → s.first + s.len ≡ length rows
     → (xs : List LineSequence) → xs ≡ ss ++ s ∷ [] → (n : ℕ) → n ≡ length rows → IsBuilder rows xs n
 closes_is rows ss first is s at all xs e n len =
-    let P : List LineSequence → Type 0 = λ ys. AllByRecursion (IsWithin n) ys in
+    let P : List LineSequence → Type 0 = λ ys. AllByRecursion (RowsEndBy n) ys in
     let upto = is.upto in let others = is.no_others in
     let more = ap packed_rows_in e ∙ sum_by_push (λ (t : LineSequence). t.len) ss s in
     record {
       upto = omega arith;
-      each = subst P (sym e) (all_push (IsWithin n) ss s (all_within first n ss (omega arith) is.each) (omega arith));
+      each = subst P (sym e) (all_push (RowsEndBy n) ss s (all_within first n ss (omega arith) is.each) (omega arith));
       no_others = omega arith;
     }

@@ -18,7 +18,7 @@ use Rattle.addr2line_lines.specs.FunctionCache.{HasPlace, place_read, read_at, s
 use Rattle.addr2line_lines.specs.FunctionTable.{CachedFunction, inlined_of_detail, name_of_detail}
 use Rattle.addr2line_lines.specs.Functions.{function_offset_at}
 use Rattle.addr2line_lines.specs.KeptDetails.{IsDetailPlace, KeptDetails, detail_of}
-use Rattle.addr2line_lines.specs.Segments.{function_at}
+use Rattle.addr2line_lines.specs.Segments.{shortest_function_at}
 use Rattle.addr2line_lines.proofs.FunctionOrder.{found_is, place_found}
 use Rattle.addr2line_lines.proofs.PlaceLemmas.{all_at}
 
@@ -89,14 +89,14 @@ entry_at d (f ∷ fs) (suc n) l = entry_at d fs n (omega arith)
 
 -- the function at an address, by its place and by its entry
 pub entry_found : (d : KeptDetails) (fs : List LazyFunction) (addresses : List FunctionAddress) (probe : ℕ) → AreFunctions (function_offsets fs) addresses
-    → option_and_then (λ n. option_map (λ (f : CachedFunction). f.offset) (slice_get (map (seen_function d) fs) n)) (function_at probe addresses) ≡ function_offset_at probe (map (function_range_of (function_offsets fs)) addresses)
-entry_found d fs addresses probe h = by_cases (function_at probe addresses) refl
+    → option_and_then (λ n. option_map (λ (f : CachedFunction). f.offset) (slice_get (map (seen_function d) fs) n)) (shortest_function_at probe addresses) ≡ function_offset_at probe (map (function_range_of (function_offsets fs)) addresses)
+entry_found d fs addresses probe h = by_cases (shortest_function_at probe addresses) refl
   where
-    by_cases : (o : Option ℕ) → function_at probe addresses ≡ o → option_and_then (λ n. option_map (λ (f : CachedFunction). f.offset) (slice_get (map (seen_function d) fs) n)) (function_at probe addresses) ≡ function_offset_at probe (map (function_range_of (function_offsets fs)) addresses)
+    by_cases : (o : Option ℕ) → shortest_function_at probe addresses ≡ o → option_and_then (λ n. option_map (λ (f : CachedFunction). f.offset) (slice_get (map (seen_function d) fs) n)) (shortest_function_at probe addresses) ≡ function_offset_at probe (map (function_range_of (function_offsets fs)) addresses)
     by_cases None e = ap (option_and_then (λ n. option_map (λ (f : CachedFunction). f.offset) (slice_get (map (seen_function d) fs) n))) e ∙ sym (found_is (function_offsets fs) addresses h probe ∙ ap (option_map (λ i. (slice_index_or (function_offsets fs) i (record { 0 = 0 })).0)) e)
     by_cases (Some i) e = ap (option_and_then (λ n. option_map (λ (f : CachedFunction). f.offset) (slice_get (map (seen_function d) fs) n))) e ∙ entry_at d fs i (place_found (function_offsets fs) addresses h probe i e) ∙ sym (found_is (function_offsets fs) addresses h probe ∙ ap (option_map (λ i. (slice_index_or (function_offsets fs) i (record { 0 = 0 })).0)) e)
 
-pub place_seen : (d : KeptDetails) (fs : List LazyFunction) (addresses : List FunctionAddress) (probe i : ℕ) → AreFunctions (function_offsets fs) addresses → function_at probe addresses ≡ Some i → i < length (map (seen_function d) fs)
+pub place_seen : (d : KeptDetails) (fs : List LazyFunction) (addresses : List FunctionAddress) (probe i : ℕ) → AreFunctions (function_offsets fs) addresses → shortest_function_at probe addresses ≡ Some i → i < length (map (seen_function d) fs)
 place_seen d fs addresses probe i h e =
     let l = place_found (function_offsets fs) addresses h probe i e in
     let a : length (function_offsets fs) ≡ length (map (seen_function d) fs) = same_length fs in
@@ -141,11 +141,11 @@ first_there d fs addresses h n l =
 
 -- the place of the function at an address is that of its entry
 pub place_is : (d : KeptDetails) (fs : List LazyFunction) (addresses : List FunctionAddress) (probe : ℕ) → AreFunctions (function_offsets fs) addresses
-    → function_at probe addresses ≡ option_and_then (λ offset. position (λ (f : CachedFunction). f.offset == offset) (map (seen_function d) fs))
+    → shortest_function_at probe addresses ≡ option_and_then (λ offset. position (λ (f : CachedFunction). f.offset == offset) (map (seen_function d) fs))
     (function_offset_at probe (map (function_range_of (function_offsets fs)) addresses))
-place_is d fs addresses probe h = by_cases (function_at probe addresses) refl
+place_is d fs addresses probe h = by_cases (shortest_function_at probe addresses) refl
   where
-    by_cases : (o : Option ℕ) → function_at probe addresses ≡ o → function_at probe addresses ≡ option_and_then (λ offset. position (λ (f : CachedFunction). f.offset == offset) (map (seen_function d) fs))
+    by_cases : (o : Option ℕ) → shortest_function_at probe addresses ≡ o → shortest_function_at probe addresses ≡ option_and_then (λ offset. position (λ (f : CachedFunction). f.offset == offset) (map (seen_function d) fs))
         (function_offset_at probe (map (function_range_of (function_offsets fs)) addresses))
     by_cases None e =
         e ∙ sym (ap (option_and_then (λ offset. position (λ (f : CachedFunction). f.offset == offset) (map (seen_function d) fs)))

@@ -17,8 +17,8 @@ use Rattle.gimli.proofs.ItemLemmas.{next_is}
 use Rattle.gimli.proofs.ItemReads.{items_more}
 use Rattle.addr2line_lines.specs.declared.function.RangeAttributes.{RangeAttributes}
 use Rattle.addr2line_lines.specs.declared.picks.InlinedFunctionAddress.{InlinedFunctionAddress}
-use Rattle.addr2line_lines.specs.Details.{InlinedAttributes, InlinedRange, PlacedItem, detail_at, detail_takes_memory, entry_of, inlined_attributes_of, inlined_entry, inlined_gives_a_range, inlined_ranges, is_in_function, is_inlined, item_has_children, items_take_memory, lists_a_range, number_of, open_after, placed, placed_inside, with_inlined, with_inlined_entry}
-use Rattle.addr2line_lines.specs.FoundDetails.{FoundAround, FoundInlined, abbreviation_of, closed_once, detail_found_at, detail_takes_at, entry_found_at, entry_lists_a_range, function_takes_at, inlined_address, inlined_more, inside_takes_memory, is_inlined_kind, is_taken, item_found_at, item_takes_memory, items_left_take_memory, kind_of, kinds_such, name_after, next_takes_memory, opened, read_lists_a_range, with_entry_found, with_inlined_found, with_inlined_ranges, with_item_found}
+use Rattle.addr2line_lines.specs.Details.{InlinedAttributes, InlinedRange, PlacedItem, detail_at, detail_takes_memory, item_entry, inlined_attributes_of, inlined_entry, inlined_gives_a_range, inlined_ranges, is_in_function, is_inlined, item_has_children, items_take_memory, lists_a_range, count_of, open_after, placed_items, placed_inside, with_inlined, with_inlined_entry}
+use Rattle.addr2line_lines.specs.FoundDetails.{FoundAround, FoundInlined, abbreviation_of, closed_once, detail_found_at, detail_takes_at, entry_found_at, entry_lists_a_range, function_takes_at, inlined_address, inlined_more, inside_takes_memory, is_inlined_kind, is_taken, item_found_at, inlined_item_takes_memory, items_left_take_memory, kind_of, kinds_such, name_after, next_takes_memory, opened, read_lists_a_range, with_entry_found, with_inlined_found, with_inlined_ranges, with_item_found}
 use Rattle.addr2line_lines.specs.Names.{name_of}
 use Rattle.addr2line_lines.specs.RangeAttributes.{attribute_ranges, gives_a_range}
 use Rattle.addr2line_lines.specs.References.{Scope}
@@ -79,12 +79,12 @@ module _ (scope : Scope) (u : UnitRecord) (unit : EntryUnit) where
   abbrev after_takes : EntryCursor → Result FoundAround Error → Bool
   after_takes t r = elim r [ Ok more ↦ inside_takes_memory scope u unit t more | Err e ↦ false ]
 
-  one_takes : (c t : EntryCursor) (state : FoundAround) (x : Item) → int_lt (pos 0) c.depth ≡ true → next_item_at unit c ≡ Ok (Some x, t) → inside_takes_memory scope u unit c state ≡ (item_takes_memory scope u state x || after_takes t (with_item_found scope u state x))
+  one_takes : (c t : EntryCursor) (state : FoundAround) (x : Item) → int_lt (pos 0) c.depth ≡ true → next_item_at unit c ≡ Ok (Some x, t) → inside_takes_memory scope u unit c state ≡ (inlined_item_takes_memory scope u state x || after_takes t (with_item_found scope u state x))
   one_takes c t state x h q =
       let next = next_is unit c t x q in
       ap (λ (r : Run Item EntryCursor). items_left_take_memory scope u state (items_inside (pos 0) c.depth r.items r.end).items) (items_more unit c t x q)
       ∙ ap (λ (r : Run Item (Unit {0})). items_left_take_memory scope u state r.items) (one_inside scope u unit c.depth x (items_from unit t) h)
-      ∙ ap (λ (z : ℤ). item_takes_memory scope u state x || after z (with_item_found scope u state x)) (sym next.after)
+      ∙ ap (λ (z : ℤ). inlined_item_takes_memory scope u state x || after z (with_item_found scope u state x)) (sym next.after)
     where
       after : ℤ → Result FoundAround Error → Bool
       after z r = elim r [ Ok more ↦ items_left_take_memory scope u more (items_inside (pos 0) z (items_from unit t).items (items_from unit t).end).items | Err e ↦ false ]
@@ -95,7 +95,7 @@ module _ (scope : Scope) (u : UnitRecord) (unit : EntryUnit) where
       by_cases : (r : Result (Option Item × EntryCursor) Error) → next_item_at unit c ≡ r → next_takes_memory scope u state r ≡ true → inside_takes_memory scope u unit c state ≡ true
       by_cases (Err e) q k = absurd cc
       by_cases (Ok (None, t)) q k = absurd cc
-      by_cases (Ok (Some x, t)) q k = one_takes c t state x h q ∙ or_first (item_takes_memory scope u state x) (after_takes t (with_item_found scope u state x)) k
+      by_cases (Ok (Some x, t)) q k = one_takes c t state x h q ∙ or_first (inlined_item_takes_memory scope u state x) (after_takes t (with_item_found scope u state x)) k
 
   pub inside_more : (c s : EntryCursor) (state more : FoundAround) → int_lt (pos 0) c.depth ≡ true → item_found_at scope u unit c state ≡ Ok (more, s) → inside_takes_memory scope u unit s more ≡ true → inside_takes_memory scope u unit c state ≡ true
   inside_more c s state more h k left = by_cases (next_item_at unit c) refl k
@@ -106,7 +106,7 @@ module _ (scope : Scope) (u : UnitRecord) (unit : EntryUnit) where
       by_cases (Ok (Some x, t)) q k =
           let one = one_found scope u unit (with_item_found scope u state x) more s t k in
           one_takes c t state x h q
-          ∙ or_second (item_takes_memory scope u state x) (after_takes t (with_item_found scope u state x)) (ap (after_takes t) one.0 ∙ ap (λ v. inside_takes_memory scope u unit v more) one.1 ∙ left)
+          ∙ or_second (inlined_item_takes_memory scope u state x) (after_takes t (with_item_found scope u state x)) (ap (after_takes t) one.0 ∙ ap (λ v. inside_takes_memory scope u unit v more) one.1 ∙ left)
 
   -- a function whose attributes follow
   pub function_takes : (c s : EntryCursor) (v : EntryUnit) (found : FoundInlined) (a : Abbrev) (name : Option Section) → name_after scope u (Ok None) (attributes_at u.header.encoding a.attributes c.left) ≡ Ok name
@@ -155,12 +155,12 @@ module _ (scope : Scope) (u : UnitRecord) where
       given : Result FoundInlined Error
       given = inlined_attributes_of scope u e.attributes >>= λ y. with_inlined_found scope.file.sections u x.offset depth found y
 
-      by_ranges : (a : InlinedAttributes) (r : Result (List Range) Error) → is_ok (◌>>=◌ {B = FoundInlined} r (λ ranges. Ok (inlined_more found (inlined_entry x.offset a) depth ranges))) ≡ is_ok (◌>>=◌ {B = List InlinedRange} r (λ ranges. Ok ([] ++ inlined_ranges (number_of is_inlined up) x.offset a ranges)))
+      by_ranges : (a : InlinedAttributes) (r : Result (List Range) Error) → is_ok (◌>>=◌ {B = FoundInlined} r (λ ranges. Ok (inlined_more found (inlined_entry x.offset a) depth ranges))) ≡ is_ok (◌>>=◌ {B = List InlinedRange} r (λ ranges. Ok ([] ++ inlined_ranges (count_of is_inlined up) x.offset a ranges)))
       by_ranges a (Ok ranges) = refl
       by_ranges a (Err f) = refl
 
       by_read : (r : Result InlinedAttributes Error) → is_ok (r >>= λ y. with_inlined_found scope.file.sections u x.offset depth found y)
-          ≡ is_ok (r >>= λ a. ◌>>=◌ {B = List InlinedRange} (attribute_ranges scope.file.sections u a.ranges) (λ ranges. Ok ([] ++ inlined_ranges (number_of is_inlined up) x.offset a ranges)))
+          ≡ is_ok (r >>= λ a. ◌>>=◌ {B = List InlinedRange} (attribute_ranges scope.file.sections u a.ranges) (λ ranges. Ok ([] ++ inlined_ranges (count_of is_inlined up) x.offset a ranges)))
       by_read (Ok a) = by_ranges a (attribute_ranges scope.file.sections u a.ranges)
       by_read (Err f) = refl
 
@@ -190,7 +190,7 @@ module _ (scope : Scope) (u : UnitRecord) where
       by_entry (Err f) h = absurd cc
 
   -- memory is taken for an item in both readings, or in neither
-  item_takes : (up : List Abbrev) (offset : ℕ) (depth : ℤ) (o : Option Entry) (found : FoundInlined) → let x = placed_of up (item_of offset depth o) in item_takes_memory scope u (state_of up found) x.item ≡ (lists_a_range scope u x || is_ok (with_inlined scope u [] x) && item_has_children x)
+  item_takes : (up : List Abbrev) (offset : ℕ) (depth : ℤ) (o : Option Entry) (found : FoundInlined) → let x = placed_of up (item_of offset depth o) in inlined_item_takes_memory scope u (state_of up found) x.item ≡ (lists_a_range scope u x || is_ok (with_inlined scope u [] x) && item_has_children x)
   item_takes up offset depth None found = refl
   item_takes up offset depth (Some e) found =
       let x = item_of offset depth (Some e) in
@@ -198,10 +198,10 @@ module _ (scope : Scope) (u : UnitRecord) where
       ap (λ b. (b && inlined_gives_a_range scope u e) || well && e.abbreviation.has_children) (listed_is e.abbreviation x up)
       ∙ ap (λ b. lists_a_range scope u (placed_of up x) || b && e.abbreviation.has_children) (entry_well up x e found)
 
-  items_take : (items : List Item) (up : List Abbrev) (found : FoundInlined) → items_left_take_memory scope u (state_of up found) items ≡ true → items_take_memory scope u (placed up items) ≡ true
+  items_take : (items : List Item) (up : List Abbrev) (found : FoundInlined) → items_left_take_memory scope u (state_of up found) items ≡ true → items_take_memory scope u (placed_items up items) ≡ true
   items_take [] up found h = h
   items_take (x ∷ xs) up found h =
-      combined (lists_a_range scope u y) (is_ok (with_inlined scope u [] y)) (item_has_children y) (after (with_item_found scope u (state_of up found) x)) (items_take_memory scope u (placed (open_after up x) xs))
+      combined (lists_a_range scope u y) (is_ok (with_inlined scope u [] y)) (item_has_children y) (after (with_item_found scope u (state_of up found) x)) (items_take_memory scope u (placed_items (open_after up x) xs))
       (ap (λ b. b || after (with_item_found scope u (state_of up found) x)) (sym (item_takes up x.offset x.depth x.entry found)) ∙ h)
       (by_step (with_item_found scope u (state_of up found) x) refl (λ more. items_take xs (open_after up x) more))
     where
@@ -211,8 +211,8 @@ module _ (scope : Scope) (u : UnitRecord) where
       after : Result FoundAround Error → Bool
       after r = elim r [ Ok more ↦ items_left_take_memory scope u more xs | Err e ↦ false ]
 
-      by_step : (r : Result FoundAround Error) → with_item_found scope u (state_of up found) x ≡ r → ((more : FoundInlined) → items_left_take_memory scope u (state_of (open_after up x) more) xs ≡ true → items_take_memory scope u (placed (open_after up x) xs) ≡ true)
-          → after r ≡ true → (is_ok (with_inlined scope u [] y) ≡ true) × (items_take_memory scope u (placed (open_after up x) xs) ≡ true)
+      by_step : (r : Result FoundAround Error) → with_item_found scope u (state_of up found) x ≡ r → ((more : FoundInlined) → items_left_take_memory scope u (state_of (open_after up x) more) xs ≡ true → items_take_memory scope u (placed_items (open_after up x) xs) ≡ true)
+          → after r ≡ true → (is_ok (with_inlined scope u [] y) ≡ true) × (items_take_memory scope u (placed_items (open_after up x) xs) ≡ true)
       by_step (Ok more) q rest t = (
         sym (item_well up x.offset x.depth x.entry found) ∙ ap is_ok q,
         rest more.found (ap (λ k. items_left_take_memory scope u (record { found = more.found; around = k }) xs) (sym (item_opens up x.offset x.depth x.entry found more q)) ∙ t),
@@ -229,19 +229,19 @@ module _ (scope : Scope) (u : UnitRecord) (offset : ℕ) (found : FoundInlined) 
   found_takes x h = or_first (is_ok (detail_at scope u offset)) (taken (placed_inside scope u offset)) (ap is_ok (subst (AgreesDetail scope u offset found (detail_at scope u offset)) h (detail_agrees scope u offset found)).0)
 
   abbrev placed_of_left : EntriesLeft → Result (Option Item × EntryCursor) Error → Result (List PlacedItem) Error
-  placed_of_left left r = r >>= λ next. entry_of offset next.0 >>= λ function. name_of scope u function.1.attributes >>= λ name. Ok (placed [] (subtree_of function.0 (items_from left.unit next.1)).items)
+  placed_of_left left r = r >>= λ next. item_entry offset next.0 >>= λ function. name_of scope u function.1.attributes >>= λ name. Ok (placed_items [] (subtree_of function.0 (items_from left.unit next.1)).items)
 
   abbrev takes_of_left : EntriesLeft → Result (Option Abbrev × EntryCursor) Error → Result Bool Error
   takes_of_left left r = r >>= λ code. abbreviation_of offset code.0 >>= λ a. function_takes_at scope u left.unit code.1 found a
 
   -- what stands inside a function whose entry was read
-  inside_taken : (unit : EntryUnit) (x : Item) (c : EntryCursor) → x.depth ≡ pos 0 → c.depth ≡ depth_after x → inside_takes_memory scope u unit c (record { found = found; around = [] }) ≡ true → items_take_memory scope u (placed [] (subtree_of x (items_from unit c)).items) ≡ true
+  inside_taken : (unit : EntryUnit) (x : Item) (c : EntryCursor) → x.depth ≡ pos 0 → c.depth ≡ depth_after x → inside_takes_memory scope u unit c (record { found = found; around = [] }) ≡ true → items_take_memory scope u (placed_items [] (subtree_of x (items_from unit c)).items) ≡ true
   inside_taken unit x c d e h =
       ap (λ z. inside_of z (depth_after x)) d ∙ ap (inside_of (pos 0)) (sym e)
       ∙ items_take scope u (items_inside (pos 0) c.depth (items_from unit c).items (items_from unit c).end).items [] found h
     where
       inside_of : ℤ → ℤ → Bool
-      inside_of z now = items_take_memory scope u (placed [] (items_inside z now (items_from unit c).items (items_from unit c).end).items)
+      inside_of z now = items_take_memory scope u (placed_items [] (items_inside z now (items_from unit c).items (items_from unit c).end).items)
 
   left_taken : (s : Section) → (length s.bytes == 0) ≡ false → let left = entries_at u.header u.abbreviations s in is_taken (takes_of_left left (entry_abbreviation_at left.unit.abbreviations left.cursor)) ≡ true → taken (placed_of_left left (next_item_at left.unit left.cursor)) ≡ true
   left_taken s some h = ap (λ r. taken (placed_of_left left r)) (coded scope u left.unit left.cursor some) ∙ by_code (entry_abbreviation_at left.unit.abbreviations left.cursor) refl h
@@ -250,7 +250,7 @@ module _ (scope : Scope) (u : UnitRecord) (offset : ℕ) (found : FoundInlined) 
       left = entries_at u.header u.abbreviations s
 
       by_name : (x : Item) (c : EntryCursor) → x.depth ≡ pos 0 → c.depth ≡ depth_after x → (r : Result (Option Section) Error) → is_taken (r >>= λ name. Ok (inside_takes_memory scope u left.unit c (record { found = found; around = [] }))) ≡ true
-          → taken (r >>= λ name. Ok (placed [] (subtree_of x (items_from left.unit c)).items)) ≡ true
+          → taken (r >>= λ name. Ok (placed_items [] (subtree_of x (items_from left.unit c)).items)) ≡ true
       by_name x c d e (Ok name) h = inside_taken left.unit x c d e h
       by_name x c d e (Err f) h = absurd cc
 

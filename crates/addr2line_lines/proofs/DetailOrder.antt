@@ -21,8 +21,8 @@ use Rattle.gimli.specs.Unit.{UnitRecord}
 use Rattle.gimli.proofs.ItemLemmas.{next_is}
 use Rattle.addr2line_lines.specs.declared.nesting.Kind.{Kind}
 use Rattle.addr2line_lines.specs.declared.nesting.Kind.TheVariants.{Inlined, Other, Subprogram}
-use Rattle.addr2line_lines.specs.Details.{Detail, InlinedAttributes, InlinedRange, detail_at, entry_of, inlined_attributes_of, inlined_entry, inlined_in, inlined_ranges, is_in_function, is_inlined, number_of, open_after, placed, with_inlined}
-use Rattle.addr2line_lines.specs.FoundDetails.{FoundAround, FoundInlined, abbreviation_of, closed_once, detail_found_at, function_found_at, inlined_more, range_among, inside_found, is_inlined_kind, is_listed, is_subprogram_kind, kind_of, kinds_such, name_after, opened, ranges_from, with_entry_found, with_inlined_found, with_item_found}
+use Rattle.addr2line_lines.specs.Details.{Detail, InlinedAttributes, InlinedRange, detail_at, item_entry, inlined_attributes_of, inlined_entry, inlined_in, inlined_ranges, is_in_function, is_inlined, count_of, open_after, placed_items, with_inlined}
+use Rattle.addr2line_lines.specs.FoundDetails.{FoundAround, FoundInlined, abbreviation_of, closed_once, detail_found_at, function_found_at, inlined_more, range_among, inside_found, is_inlined_kind, is_listed, is_subprogram_kind, kind_of, kinds_such, name_after, opened, found_ranges_from, with_entry_found, with_inlined_found, with_item_found}
 use Rattle.addr2line_lines.specs.Functions.{is_subprogram}
 use Rattle.addr2line_lines.specs.Names.{name_of}
 use Rattle.addr2line_lines.specs.RangeAttributes.{attribute_ranges}
@@ -53,11 +53,11 @@ subprogram_at n = by_tag (n == DW_TAG_subprogram.0) (n == DW_TAG_inlined_subrout
     by_tag false true = refl
     by_tag false false = refl
 
-counted : (such : Abbrev → Bool) (kind : Kind → Bool) → ((a : Abbrev) → kind (kind_of a) ≡ such a) → (up : List Abbrev) → count_by kind (map kind_of up) ≡ number_of such up
+counted : (such : Abbrev → Bool) (kind : Kind → Bool) → ((a : Abbrev) → kind (kind_of a) ≡ such a) → (up : List Abbrev) → count_by kind (map kind_of up) ≡ count_of such up
 counted such kind h [] = refl
 counted such kind h (a ∷ up) = one (such a) (h a) (counted such kind h up)
   where
-    one : (b : Bool) → kind (kind_of a) ≡ b → count_by kind (map kind_of up) ≡ number_of such up → count_by kind (kind_of a ∷ map kind_of up) ≡ length (cond b (a ∷ filter such up) (filter such up))
+    one : (b : Bool) → kind (kind_of a) ≡ b → count_by kind (map kind_of up) ≡ count_of such up → count_by kind (kind_of a ∷ map kind_of up) ≡ length (cond b (a ∷ filter such up) (filter such up))
     one true e k = grind (arith, common_steps, e, k)
     one false e k = grind (arith, common_steps, e, k)
 
@@ -68,11 +68,11 @@ listed_is a x up =
 
 -- the ranges are those of what was found from a place on; or both are faulty
 abbrev pub Agrees : ℕ → ℕ → Result (List InlinedRange) Error → Result FoundInlined Error → Type 0
-Agrees before n w (Ok more) = (w ≡ Ok (ranges_from n more)) × AreFrom before n more
+Agrees before n w (Ok more) = (w ≡ Ok (found_ranges_from n more)) × AreFrom before n more
 Agrees before n w (Err e) = w ≡ Err e
 
 abbrev AgreesAround : ℕ → ℕ → List Abbrev → Result (List InlinedRange) Error → Result FoundAround Error → Type 0
-AgreesAround before n up w (Ok more) = (w ≡ Ok (ranges_from n more.found)) × AreFrom before n more.found × (more.around ≡ map kind_of up)
+AgreesAround before n up w (Ok more) = (w ≡ Ok (found_ranges_from n more.found)) × AreFrom before n more.found × (more.around ≡ map kind_of up)
 AgreesAround before n up w (Err e) = w ≡ Err e
 
 pub closed_is : (up : List Abbrev) (x : Item) → x.entry ≡ None → closed_once (map kind_of up) ≡ map kind_of (open_after up x)
@@ -89,40 +89,40 @@ opened_is up a = by_children a.has_children
 module _ (scope : Scope) (u : UnitRecord) (before n : ℕ) where
   -- one more entry
   entry_agrees : (up : List Abbrev) (x : Item) (e : Entry) (found : FoundInlined) → AreFrom before n found
-      → Agrees before n (cond (is_inlined e.abbreviation && is_in_function (record { item = x; around = up })) (inlined_attributes_of scope u e.attributes >>= λ a. attribute_ranges scope.file.sections u a.ranges >>= λ ranges. Ok (ranges_from n found ++ inlined_ranges (number_of is_inlined up) x.offset a ranges)) (Ok (ranges_from n found)))
+      → Agrees before n (cond (is_inlined e.abbreviation && is_in_function (record { item = x; around = up })) (inlined_attributes_of scope u e.attributes >>= λ a. attribute_ranges scope.file.sections u a.ranges >>= λ ranges. Ok (found_ranges_from n found ++ inlined_ranges (count_of is_inlined up) x.offset a ranges)) (Ok (found_ranges_from n found)))
       (with_entry_found scope u (map kind_of up) x.offset found e)
   entry_agrees up x e found all =
-      subst (λ m. Agrees before n (wanted (is_inlined e.abbreviation && is_in_function (record { item = x; around = up })) (number_of is_inlined up)) (given (is_listed (kind_of e.abbreviation) (map kind_of up)) m)) (sym depth)
-      (subst (λ b. Agrees before n (wanted (is_inlined e.abbreviation && is_in_function (record { item = x; around = up })) (number_of is_inlined up)) (given b (number_of is_inlined up))) (sym (listed_is e.abbreviation x up))
+      subst (λ m. Agrees before n (wanted (is_inlined e.abbreviation && is_in_function (record { item = x; around = up })) (count_of is_inlined up)) (given (is_listed (kind_of e.abbreviation) (map kind_of up)) m)) (sym depth)
+      (subst (λ b. Agrees before n (wanted (is_inlined e.abbreviation && is_in_function (record { item = x; around = up })) (count_of is_inlined up)) (given b (count_of is_inlined up))) (sym (listed_is e.abbreviation x up))
       (by_test (is_inlined e.abbreviation && is_in_function (record { item = x; around = up }))))
     where
-      depth : kinds_such is_inlined_kind (map kind_of up) ≡ number_of is_inlined up
+      depth : kinds_such is_inlined_kind (map kind_of up) ≡ count_of is_inlined up
       depth = counted is_inlined is_inlined_kind (λ b. inlined_at b.tag.0) up
 
       read : Result InlinedAttributes Error
       read = inlined_attributes_of scope u e.attributes
 
       wanted : Bool → ℕ → Result (List InlinedRange) Error
-      wanted b m = cond b (read >>= λ a. attribute_ranges scope.file.sections u a.ranges >>= λ ranges. Ok (ranges_from n found ++ inlined_ranges m x.offset a ranges)) (Ok (ranges_from n found))
+      wanted b m = cond b (read >>= λ a. attribute_ranges scope.file.sections u a.ranges >>= λ ranges. Ok (found_ranges_from n found ++ inlined_ranges m x.offset a ranges)) (Ok (found_ranges_from n found))
 
       given : Bool → ℕ → Result FoundInlined Error
       given b m = cond b (read >>= λ y. with_inlined_found scope.file.sections u x.offset m found y) (Ok found)
 
-      by_ranges : (a : InlinedAttributes) (r : Result (List Range) Error) → Agrees before n (r >>= λ ranges. Ok (ranges_from n found ++ inlined_ranges (number_of is_inlined up) x.offset a ranges)) (r >>= λ ranges. Ok (inlined_more found (inlined_entry x.offset a) (number_of is_inlined up) ranges))
-      by_ranges a (Ok ranges) = (ap Ok (sym (more_ranges before n found (inlined_entry x.offset a) (number_of is_inlined up) ranges all)), more_places before n found (inlined_entry x.offset a) (number_of is_inlined up) ranges all)
+      by_ranges : (a : InlinedAttributes) (r : Result (List Range) Error) → Agrees before n (r >>= λ ranges. Ok (found_ranges_from n found ++ inlined_ranges (count_of is_inlined up) x.offset a ranges)) (r >>= λ ranges. Ok (inlined_more found (inlined_entry x.offset a) (count_of is_inlined up) ranges))
+      by_ranges a (Ok ranges) = (ap Ok (sym (more_ranges before n found (inlined_entry x.offset a) (count_of is_inlined up) ranges all)), more_places before n found (inlined_entry x.offset a) (count_of is_inlined up) ranges all)
       by_ranges a (Err f) = refl
 
-      by_read : (r : Result InlinedAttributes Error) → Agrees before n (r >>= λ a. attribute_ranges scope.file.sections u a.ranges >>= λ ranges. Ok (ranges_from n found ++ inlined_ranges (number_of is_inlined up) x.offset a ranges)) (r >>= λ y. with_inlined_found scope.file.sections u x.offset (number_of is_inlined up) found y)
+      by_read : (r : Result InlinedAttributes Error) → Agrees before n (r >>= λ a. attribute_ranges scope.file.sections u a.ranges >>= λ ranges. Ok (found_ranges_from n found ++ inlined_ranges (count_of is_inlined up) x.offset a ranges)) (r >>= λ y. with_inlined_found scope.file.sections u x.offset (count_of is_inlined up) found y)
       by_read (Ok a) = by_ranges a (attribute_ranges scope.file.sections u a.ranges)
       by_read (Err f) = refl
 
-      by_test : (b : Bool) → Agrees before n (wanted b (number_of is_inlined up)) (given b (number_of is_inlined up))
+      by_test : (b : Bool) → Agrees before n (wanted b (count_of is_inlined up)) (given b (count_of is_inlined up))
       by_test true = by_read read
       by_test false = (refl, all)
 
   -- one more item
   item_agrees : (up : List Abbrev) (offset : ℕ) (depth : ℤ) (o : Option Entry) (found : FoundInlined) → AreFrom before n found
-      → AgreesAround before n (open_after up (record { offset = offset; depth = depth; entry = o })) (with_inlined scope u (ranges_from n found) (record { item = record { offset = offset; depth = depth; entry = o }; around = up }))
+      → AgreesAround before n (open_after up (record { offset = offset; depth = depth; entry = o })) (with_inlined scope u (found_ranges_from n found) (record { item = record { offset = offset; depth = depth; entry = o }; around = up }))
       (with_item_found scope u (record { found = found; around = map kind_of up }) (record { offset = offset; depth = depth; entry = o }))
   item_agrees up offset depth None found all = (refl, all, closed_is up (record { offset = offset; depth = depth; entry = None }) refl)
   item_agrees up offset depth (Some e) found all = by_entry _ _ (entry_agrees up (record { offset = offset; depth = depth; entry = Some e }) e found all)
@@ -133,26 +133,26 @@ module _ (scope : Scope) (u : UnitRecord) (before n : ℕ) where
       by_entry w (Err f) h = h
 
   abbrev AgreesEnd : Result (List InlinedRange × Unit {0}) Error → Result (FoundAround × Unit {0}) Error → Type 0
-  AgreesEnd w (Ok m) = (w ≡ Ok (ranges_from n m.0.found, m.1)) × AreFrom before n m.0.found
+  AgreesEnd w (Ok m) = (w ≡ Ok (found_ranges_from n m.0.found, m.1)) × AreFrom before n m.0.found
   AgreesEnd w (Err e) = w ≡ Err e
 
   fold_agrees : (items : List Item) (end : Result (Unit {0}) Error) (up : List Abbrev) (found : FoundInlined) → AreFrom before n found
-      → AgreesEnd (fold_run (with_inlined scope u) (ranges_from n found) (placed up items) end) (fold_run (with_item_found scope u) (record { found = found; around = map kind_of up }) items end)
+      → AgreesEnd (fold_run (with_inlined scope u) (found_ranges_from n found) (placed_items up items) end) (fold_run (with_item_found scope u) (record { found = found; around = map kind_of up }) items end)
   unfolding fold_run
   fold_agrees [] (Ok z) up found all = (refl, all)
   fold_agrees [] (Err e) up found all = refl
   fold_agrees (x ∷ xs) end up found all = by_step _ _ (item_agrees up x.offset x.depth x.entry found all) (λ more. fold_agrees xs end (open_after up x) more)
     where
       by_step : (w : Result (List InlinedRange) Error) (m : Result FoundAround Error) → AgreesAround before n (open_after up x) w m
-          → ((more : FoundInlined) → AreFrom before n more → AgreesEnd (fold_run (with_inlined scope u) (ranges_from n more) (placed (open_after up x) xs) end) (fold_run (with_item_found scope u) (record { found = more; around = map kind_of (open_after up x) }) xs end))
-          → AgreesEnd (w >>= λ b. fold_run (with_inlined scope u) b (placed (open_after up x) xs) end) (m >>= λ b. fold_run (with_item_found scope u) b xs end)
+          → ((more : FoundInlined) → AreFrom before n more → AgreesEnd (fold_run (with_inlined scope u) (found_ranges_from n more) (placed_items (open_after up x) xs) end) (fold_run (with_item_found scope u) (record { found = more; around = map kind_of (open_after up x) }) xs end))
+          → AgreesEnd (w >>= λ b. fold_run (with_inlined scope u) b (placed_items (open_after up x) xs) end) (m >>= λ b. fold_run (with_item_found scope u) b xs end)
       by_step w (Ok more) h rest =
-          subst (λ v. AgreesEnd (v >>= λ b. fold_run (with_inlined scope u) b (placed (open_after up x) xs) end) (fold_run (with_item_found scope u) more xs end)) (sym h.0)
-          (subst (λ k. AgreesEnd (fold_run (with_inlined scope u) (ranges_from n more.found) (placed (open_after up x) xs) end) (fold_run (with_item_found scope u) (record { found = more.found; around = k }) xs end)) (sym h.2) (rest more.found h.1))
-      by_step w (Err e) h rest = ap (λ v. v >>= λ b. fold_run (with_inlined scope u) b (placed (open_after up x) xs) end) h
+          subst (λ v. AgreesEnd (v >>= λ b. fold_run (with_inlined scope u) b (placed_items (open_after up x) xs) end) (fold_run (with_item_found scope u) more xs end)) (sym h.0)
+          (subst (λ k. AgreesEnd (fold_run (with_inlined scope u) (found_ranges_from n more.found) (placed_items (open_after up x) xs) end) (fold_run (with_item_found scope u) (record { found = more.found; around = k }) xs end)) (sym h.2) (rest more.found h.1))
+      by_step w (Err e) h rest = ap (λ v. v >>= λ b. fold_run (with_inlined scope u) b (placed_items (open_after up x) xs) end) h
 
   abbrev inlined_run : FoundInlined → Run Item (Unit {0}) → Result (List InlinedRange) Error
-  inlined_run found inside = fold_run (with_inlined scope u) (ranges_from n found) (placed [] inside.items) inside.end >>= λ f. Ok f.0
+  inlined_run found inside = fold_run (with_inlined scope u) (found_ranges_from n found) (placed_items [] inside.items) inside.end >>= λ f. Ok f.0
 
   inside_agrees : (unit : EntryUnit) (c : EntryCursor) (found : FoundInlined) → AreFrom before n found
       → Agrees before n (inlined_run found (items_inside (pos 0) c.depth (items_from unit c).items (items_from unit c).end)) (inside_found scope u unit c (record { found = found; around = [] }))
@@ -182,7 +182,7 @@ some_left header offset s h = by_start (nat_lt offset header.header_length) refl
 module _ (scope : Scope) (u : UnitRecord) (offset : ℕ) (found : FoundInlined) where
   -- the details are those of what was found; or both are faulty
   abbrev pub AgreesDetail : Result Detail Error → Result (Option Section × FoundInlined) Error → Type 0
-  AgreesDetail w (Ok m) = (w ≡ Ok (record { name = m.0; inlined = ranges_from (length found.ranges) m.1 })) × AreFrom (length found.entries) (length found.ranges) m.1
+  AgreesDetail w (Ok m) = (w ≡ Ok (record { name = m.0; inlined = found_ranges_from (length found.ranges) m.1 })) × AreFrom (length found.entries) (length found.ranges) m.1
   AgreesDetail w (Err e) = w ≡ Err e
 
   abbrev n : ℕ
@@ -210,10 +210,10 @@ module _ (scope : Scope) (u : UnitRecord) (offset : ℕ) (found : FoundInlined) 
       inlined_of : List InlinedRange → ℤ → ℤ → Result (List InlinedRange) Error
       inlined_of xs d now =
           let inside = items_inside d now (items_from unit c).items (items_from unit c).end in
-          fold_run (with_inlined scope u) xs (placed [] inside.items) inside.end >>= λ f. Ok f.0
+          fold_run (with_inlined scope u) xs (placed_items [] inside.items) inside.end >>= λ f. Ok f.0
 
   abbrev detail_read : EntriesLeft → Result (Option Item × EntryCursor) Error → Result Detail Error
-  detail_read left r = r >>= λ next. entry_of offset next.0 >>= λ function. name_of scope u function.1.attributes >>= λ name. detailed name (inlined_in scope u (record { unit = left.unit; cursor = next.1 }) function.0)
+  detail_read left r = r >>= λ next. item_entry offset next.0 >>= λ function. name_of scope u function.1.attributes >>= λ name. detailed name (inlined_in scope u (record { unit = left.unit; cursor = next.1 }) function.0)
 
   abbrev found_of : EntriesLeft → Result (Option Abbrev × EntryCursor) Error → Result (Option Section × FoundInlined) Error
   found_of left r = r >>= λ code. abbreviation_of offset code.0 >>= λ a. function_found_at scope u left.unit code.1 found a

@@ -7,7 +7,7 @@ use Rattle.std.proofs.Math.Seq.{drop-length}
 use Rattle.gimli_read.specs.declared.range.Range.{Range}
 use Rattle.addr2line_lines.specs.declared.picks.InlinedFunctionAddress.{InlinedFunctionAddress}
 use Rattle.addr2line_lines.specs.Details.{InlinedEntry, InlinedRange}
-use Rattle.addr2line_lines.specs.FoundDetails.{FoundInlined, IsPlaceAmong, inlined_address, inlined_more, range_among, no_inlined, ranges_from}
+use Rattle.addr2line_lines.specs.FoundDetails.{FoundInlined, IsPlaceAmong, inlined_address, inlined_more, range_among, no_inlined, found_ranges_from}
 use Rattle.addr2line_lines.specs.InlinedOrder.{place}
 use Rattle.addr2line_lines.specs.KeptDetails.{IsOfEntryBetween}
 use Rattle.addr2line_lines.proofs.SeekLemmas.{Up}
@@ -69,14 +69,14 @@ module _ (m depth : ℕ) where
   up_after [] ranges all up = new_up ranges
   up_after (x ∷ xs) ranges all up = (all_after x xs ranges all.0 up.0, up_after xs ranges all.1 up.1)
 
-pub more_ranges : (before n : ℕ) (found : FoundInlined) (e : InlinedEntry) (depth : ℕ) (ranges : List Range) → AreFrom before n found → ranges_from n (inlined_more found e depth ranges) ≡ ranges_from n found ++ map (of_entry depth e) ranges
-more_ranges before n found e depth [] all = sym (append-nil (ranges_from n found))
+pub more_ranges : (before n : ℕ) (found : FoundInlined) (e : InlinedEntry) (depth : ℕ) (ranges : List Range) → AreFrom before n found → found_ranges_from n (inlined_more found e depth ranges) ≡ found_ranges_from n found ++ map (of_entry depth e) ranges
+more_ranges before n found e depth [] all = sym (append-nil (found_ranges_from n found))
 more_ranges before n found e depth (r ∷ ranges) all =
     let added = map (inlined_address depth (length found.entries)) (r ∷ ranges) in
     ap (λ xs. map (range_among (found.entries ++ e ∷ [])) xs) (drop-append-le n found.ranges added all.within)
     ∙ map-append (range_among (found.entries ++ e ∷ [])) (drop n found.ranges) added
     ∙ ap (λ xs. xs ++ map (range_among (found.entries ++ e ∷ [])) added) (ranges_stay found.entries (e ∷ []) (drop n found.ranges) (among before (length found.entries) found.entries (drop n found.ranges) (omega arith) all.places))
-    ∙ ap (λ xs. ranges_from n found ++ xs) (new_ranges found.entries e depth (r ∷ ranges))
+    ∙ ap (λ xs. found_ranges_from n found ++ xs) (new_ranges found.entries e depth (r ∷ ranges))
 
 pub more_places : (before n : ℕ) (found : FoundInlined) (e : InlinedEntry) (depth : ℕ) (ranges : List Range) → AreFrom before n found → AreFrom before n (inlined_more found e depth ranges)
 more_places before n found e depth [] all = all

@@ -14,7 +14,7 @@ use Rattle.addr2line_lines.specs.declared.function.RangeAttributes.{RangeAttribu
 use Rattle.addr2line_lines.specs.declared.segments.FunctionAddress.{FunctionAddress}
 use Rattle.addr2line_lines.specs.RangeAttributes.{all_ranges, attribute_ranges, begins_well, gives_a_range, range_attributes_of, range_list_of}
 use Rattle.addr2line_lines.specs.Functions.{FunctionRange, entry_gives_a_range, entry_ranges, has_function, have_function, is_subprogram, with_function}
-use Rattle.addr2line_lines.specs.FoundFunctions.{FoundFunctions, address_of, found_at, found_in, found_more, item_has_function, item_takes_memory, none_found, with_attributes, with_found, with_ranges}
+use Rattle.addr2line_lines.specs.FoundFunctions.{FoundFunctions, function_address, found_at, found_in, found_more, item_has_function, item_takes_memory, none_found, with_attributes, with_found, with_ranges}
 use Rattle.addr2line_lines.proofs.FunctionLemmas.{found_after, one_found, or_first, or_more, or_second, some_item}
 
 module _ (d : Sections) (u : UnitRecord) where
@@ -92,7 +92,7 @@ module _ (d : Sections) (u : UnitRecord) where
   pub pushed_well : (a : RangeAttributes) (function : ℕ) (old new : List FunctionAddress) → with_ranges d u a function old ≡ Ok new → length old < length new → gives_a_range d u a ≡ true
   pushed_well a function old new e l = by_ranges (attribute_ranges d u a) refl e
     where
-      by_ranges : (r : Result (List Range) Error) → attribute_ranges d u a ≡ r → (r >>= λ ranges. Ok (old ++ map (address_of function) ranges)) ≡ Ok new → gives_a_range d u a ≡ true
+      by_ranges : (r : Result (List Range) Error) → attribute_ranges d u a ≡ r → (r >>= λ ranges. Ok (old ++ map (function_address function) ranges)) ≡ Ok new → gives_a_range d u a ≡ true
       by_ranges (Ok []) q h = let same : old ++ [] ≡ new = cc in let m : length old ≡ length new = ap length (sym (append-nil old) ∙ same) in absurd (omega arith)
       by_ranges (Ok (x ∷ ranges)) q h = listed_well a x ranges q
       by_ranges (Err f) q h = absurd cc

@@ -23,8 +23,8 @@ use Rattle.addr2line_lines.specs.declared.function.RangeAttributes.{RangeAttribu
 use Rattle.addr2line_lines.specs.declared.segments.FunctionAddress.{FunctionAddress}
 use Rattle.addr2line_lines.specs.RangeAttributes.{attribute_ranges, range_attributes_of}
 use Rattle.addr2line_lines.specs.Functions.{FunctionRange, entries_of, entry_ranges, function_begin, function_end, function_offset, function_offset_at, functions_of, is_subprogram, with_function}
-use Rattle.addr2line_lines.specs.FoundFunctions.{FoundFunctions, AreFunctions, IsPlaceIn, address_of, found_in, found_more, function_range_of, none_found, with_attributes, with_found}
-use Rattle.addr2line_lines.specs.Segments.{address_begin, address_end, address_function, function_at}
+use Rattle.addr2line_lines.specs.FoundFunctions.{FoundFunctions, AreFunctions, IsPlaceIn, function_address, found_in, found_more, function_range_of, none_found, with_attributes, with_found}
+use Rattle.addr2line_lines.specs.Segments.{address_begin, address_end, address_function, shortest_function_at}
 use Rattle.addr2line_lines.specs.Shortest.{shortest, holds, IsNoLonger}
 use Rattle.addr2line_lines.proofs.ListedFunctions.{entries_more, ranges_below}
 use Rattle.addr2line_lines.proofs.OrderLemmas.{All-in}
@@ -55,19 +55,19 @@ same_ranges offsets o (a ∷ addresses) all =
     ap (λ (x : FunctionRange). x ∷ map (function_range_of (offsets ++ o ∷ [])) addresses) one
     ∙ ap (λ xs. function_range_of offsets a ∷ xs) (same_ranges offsets o addresses (All-tail (IsPlaceIn offsets) a addresses all))
 
-new_ranges : (offsets : List UnitOffset) (o : UnitOffset) (ranges : List Range) → map (function_range_of (offsets ++ o ∷ [])) (map (address_of (length offsets)) ranges) ≡ map (λ (r : Range). record { offset = o.0; range = r }) ranges
+new_ranges : (offsets : List UnitOffset) (o : UnitOffset) (ranges : List Range) → map (function_range_of (offsets ++ o ∷ [])) (map (function_address (length offsets)) ranges) ≡ map (λ (r : Range). record { offset = o.0; range = r }) ranges
 new_ranges offsets o [] = refl
 new_ranges offsets o (r ∷ ranges) =
-    let one : function_range_of (offsets ++ o ∷ []) (address_of (length offsets) r) ≡ record { offset = o.0; range = r } = ap (λ (p : UnitOffset). record { offset = p.0; range = r }) (last_offset offsets o (record { 0 = 0 })) in
-    ap (λ (x : FunctionRange). x ∷ map (function_range_of (offsets ++ o ∷ [])) (map (address_of (length offsets)) ranges)) one
+    let one : function_range_of (offsets ++ o ∷ []) (function_address (length offsets) r) ≡ record { offset = o.0; range = r } = ap (λ (p : UnitOffset). record { offset = p.0; range = r }) (last_offset offsets o (record { 0 = 0 })) in
+    ap (λ (x : FunctionRange). x ∷ map (function_range_of (offsets ++ o ∷ [])) (map (function_address (length offsets)) ranges)) one
     ∙ ap (λ xs. record { offset = o.0; range = r } ∷ xs) (new_ranges offsets o ranges)
 
 more_ranges : (found : FoundFunctions) (offset : ℕ) (ranges : List Range) → AreInPlace found → ranges_found (found_more found offset ranges) ≡ ranges_found found ++ map (λ (r : Range). record { offset = offset; range = r }) ranges
 more_ranges found offset [] all = sym (append-nil (ranges_found found))
 more_ranges found offset (r ∷ ranges) all =
     let o : UnitOffset = record { 0 = offset } in
-    map-append (function_range_of (found.offsets ++ o ∷ [])) found.addresses (map (address_of (length found.offsets)) (r ∷ ranges))
-    ∙ ap (λ xs. xs ++ map (function_range_of (found.offsets ++ o ∷ [])) (map (address_of (length found.offsets)) (r ∷ ranges))) (same_ranges found.offsets o found.addresses all)
+    map-append (function_range_of (found.offsets ++ o ∷ [])) found.addresses (map (function_address (length found.offsets)) (r ∷ ranges))
+    ∙ ap (λ xs. xs ++ map (function_range_of (found.offsets ++ o ∷ [])) (map (function_address (length found.offsets)) (r ∷ ranges))) (same_ranges found.offsets o found.addresses all)
     ∙ ap (λ xs. map (function_range_of found.offsets) found.addresses ++ xs) (new_ranges found.offsets o (r ∷ ranges))
 
 more_in_place : (found : FoundFunctions) (offset : ℕ) (ranges : List Range) → AreInPlace found → AreInPlace (found_more found offset ranges)
@@ -75,9 +75,9 @@ more_in_place found offset [] all = all
 more_in_place found offset (r ∷ ranges) all =
     let o : UnitOffset = record { 0 = offset } in
     let n : length (found.offsets ++ o ∷ []) ≡ length found.offsets + 1 = length-append found.offsets (o ∷ []) in
-    All-append (IsPlaceIn (found.offsets ++ o ∷ [])) found.addresses (map (address_of (length found.offsets)) (r ∷ ranges))
+    All-append (IsPlaceIn (found.offsets ++ o ∷ [])) found.addresses (map (function_address (length found.offsets)) (r ∷ ranges))
     (All-weaker (IsPlaceIn found.offsets) (IsPlaceIn (found.offsets ++ o ∷ [])) (λ a l. omega arith) found.addresses all)
-    (All-map (IsPlaceIn (found.offsets ++ o ∷ [])) (address_of (length found.offsets)) (r ∷ ranges) (λ k d l. omega arith))
+    (All-map (IsPlaceIn (found.offsets ++ o ∷ [])) (function_address (length found.offsets)) (r ∷ ranges) (λ k d l. omega arith))
 
 -- the ranges are those of what was found, whose places are those of functions; or both are faulty
 abbrev pub Agrees : Result (List FunctionRange) Error → Result FoundFunctions Error → Type 0
@@ -277,7 +277,7 @@ module _ (offsets : List UnitOffset) (addresses : List FunctionAddress) (h : Are
   no_longer w a l n = elim n [ inl s ↦ inl s | inr e ↦ inr (e.0, not_before w.function a.function e.1 l) ]
 
   -- the function at an address, by its place and by its entry
-  pub found_is : (probe : ℕ) → function_offset_at probe (map (function_range_of offsets) addresses) ≡ option_map offset_at (function_at probe addresses)
+  pub found_is : (probe : ℕ) → function_offset_at probe (map (function_range_of offsets) addresses) ≡ option_map offset_at (shortest_function_at probe addresses)
   found_is probe = by_cases (shortest address_begin address_end address_function probe addresses) refl
     where
       by_other : shortest address_begin address_end address_function probe addresses ≡ None → (o : Option FunctionRange) → shortest function_begin function_end function_offset probe (map (function_range_of offsets) addresses) ≡ o → option_map function_offset o ≡ None
@@ -290,7 +290,7 @@ module _ (offsets : List UnitOffset) (addresses : List FunctionAddress) (h : Are
           let no : ◌≡◌ {A = Option FunctionAddress} (Some s.0) None = sym s.1 ∙ e in
           absurd cc
 
-      by_cases : (o : Option FunctionAddress) → shortest address_begin address_end address_function probe addresses ≡ o → function_offset_at probe (map (function_range_of offsets) addresses) ≡ option_map offset_at (function_at probe addresses)
+      by_cases : (o : Option FunctionAddress) → shortest address_begin address_end address_function probe addresses ≡ o → function_offset_at probe (map (function_range_of offsets) addresses) ≡ option_map offset_at (shortest_function_at probe addresses)
       by_cases None e =
           by_other e (shortest function_begin function_end function_offset probe (map (function_range_of offsets) addresses)) refl
           ∙ sym (ap (λ o. option_map offset_at (option_map address_function o)) e)
@@ -304,7 +304,7 @@ module _ (offsets : List UnitOffset) (addresses : List FunctionAddress) (h : Are
           ap (option_map function_offset) s.1 ∙ ap Some s.2 ∙ sym (ap (λ o. option_map offset_at (option_map address_function o)) e)
 
   -- a function that is found has a place
-  pub place_found : (probe i : ℕ) → function_at probe addresses ≡ Some i → i < length offsets
+  pub place_found : (probe i : ℕ) → shortest_function_at probe addresses ≡ Some i → i < length offsets
   place_found probe i e = by_cases (shortest address_begin address_end address_function probe addresses) refl e
     where
       by_cases : (o : Option FunctionAddress) → shortest address_begin address_end address_function probe addresses ≡ o → option_map address_function o ≡ Some i → i < length offsets

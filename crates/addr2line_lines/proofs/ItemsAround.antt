@@ -20,7 +20,7 @@ use Rattle.gimli.specs.Items.{Entry, Item, depth_after, depth_behind, items_from
 use Rattle.gimli.specs.Unit.{UnitRecord}
 use Rattle.gimli.proofs.ItemTexts.{text_is}
 use Rattle.gimli.proofs.ItemLemmas.{run}
-use Rattle.addr2line_lines.specs.Details.{Detail, InlinedRange, PlacedItem, detail_at, entry_of, inlined_attributes_of, inlined_entry, inlined_in, inlined_ranges, is_in_function, is_inlined, number_of, open_after, placed, with_inlined, with_inlined_entry}
+use Rattle.addr2line_lines.specs.Details.{Detail, InlinedRange, PlacedItem, detail_at, item_entry, inlined_attributes_of, inlined_entry, inlined_in, inlined_ranges, is_in_function, is_inlined, count_of, open_after, placed_items, with_inlined, with_inlined_entry}
 use Rattle.addr2line_lines.specs.ItemsAround.{DepthsAreNumbers, InsideIsRead, OpenAreAround, abbreviations_of, have_item, inlined_depth, is_inlined_item, items_around, items_inside_at, nearest_inlined}
 use Rattle.addr2line_lines.specs.Names.{name_of}
 use Rattle.addr2line_lines.specs.RangeAttributes.{attribute_ranges}
@@ -279,16 +279,16 @@ pub record IsPlaced (items : List Item) (x : PlacedItem) : Type 0 where
   pub opens : AreOpen items (items_around x.item.offset items)
 
 placed_from : (low : ℕ) (now : ℤ) (items front rest up : List Item) → IsWalk low now items → front ++ rest ≡ items → opened_after [] front ≡ up → AreOpen items up
-    → AllByRecursion (IsPlaced items) (placed (abbreviations_of up) rest)
+    → AllByRecursion (IsPlaced items) (placed_items (abbreviations_of up) rest)
 placed_from low now items front [] up w whole is h = tt
 placed_from low now items front (x ∷ rest) up w whole is h =
     let here : up ≡ items_around x.offset items =
     sym is ∙ open_is_around low now front rest x (subst (IsWalk low now) (sym whole) w) ∙ ap (items_around x.offset) whole in
     let first : IsPlaced items (record { item = x; around = abbreviations_of up }) = record { around = ap abbreviations_of here; opens = subst (AreOpen items) here h } in
     let more = placed_from low now items (front ++ x ∷ []) rest (opened x.entry x up) w (append_assoc front (x ∷ []) rest ∙ whole) (opened_last [] front x ∙ ap (opened x.entry x) is) (stay_open items up x h (sym here)) in
-    (first, subst (λ abbreviations. AllByRecursion (IsPlaced items) (placed abbreviations rest)) (sym (same_open items up x h)) more)
+    (first, subst (λ abbreviations. AllByRecursion (IsPlaced items) (placed_items abbreviations rest)) (sym (same_open items up x h)) more)
 
-all_placed : (low : ℕ) (now : ℤ) (items : List Item) → IsWalk low now items → AllByRecursion (IsPlaced items) (placed [] items)
+all_placed : (low : ℕ) (now : ℤ) (items : List Item) → IsWalk low now items → AllByRecursion (IsPlaced items) (placed_items [] items)
 unfolding opened_after
 all_placed low now items w = placed_from low now items [] items [] w refl refl tt
 
@@ -323,14 +323,14 @@ record IsReadInside (u : UnitRecord) (offset : ℕ) (items : List Item) : Type 0
   next : Option Item × EntryCursor
   read : next_item_at left.unit left.cursor ≡ Ok next
   entry : Item × Entry
-  is : entry_of offset next.0 ≡ Ok entry
+  is : item_entry offset next.0 ≡ Ok entry
   items_are : (subtree_of entry.0 (items_from left.unit next.1)).items ≡ items
 
 read_inside : (u : UnitRecord) (offset : ℕ) (items : List Item) → items_inside_at u offset ≡ Ok items → IsReadInside u offset items
 read_inside u offset items h =
-    let a = bind_ok (entries_from u (Some offset)) (λ left. next_item_at left.unit left.cursor >>= λ next. entry_of offset next.0 >>= λ entry. Ok (subtree_of entry.0 (items_from left.unit next.1)).items) items h in
-    let b = bind_ok (next_item_at a.0.unit a.0.cursor) (λ next. entry_of offset next.0 >>= λ entry. Ok (subtree_of entry.0 (items_from a.0.unit next.1)).items) items a.2 in
-    let c = bind_ok (entry_of offset b.0.0) (λ entry. Ok (subtree_of entry.0 (items_from a.0.unit b.0.1)).items) items b.2 in
+    let a = bind_ok (entries_from u (Some offset)) (λ left. next_item_at left.unit left.cursor >>= λ next. item_entry offset next.0 >>= λ entry. Ok (subtree_of entry.0 (items_from left.unit next.1)).items) items h in
+    let b = bind_ok (next_item_at a.0.unit a.0.cursor) (λ next. item_entry offset next.0 >>= λ entry. Ok (subtree_of entry.0 (items_from a.0.unit next.1)).items) items a.2 in
+    let c = bind_ok (item_entry offset b.0.0) (λ entry. Ok (subtree_of entry.0 (items_from a.0.unit b.0.1)).items) items b.2 in
     record { left = a.0; from = a.1; next = b.0; read = b.1; entry = c.0; is = c.1; items_are = (let e = c.2 in cc) }
 
 -- no more bytes are left of a unit than it has
@@ -357,7 +357,7 @@ record IsSomeWalk (items : List Item) : Type 0 where
 inside_walk : (u : UnitRecord) (offset : ℕ) (items : List Item) → IsReadInside u offset items → IsSomeWalk items
 inside_walk u offset items h = by_next h.next h.read h.is h.items_are
   where
-    by_next : (next : Option Item × EntryCursor) → next_item_at h.left.unit h.left.cursor ≡ Ok next → entry_of offset next.0 ≡ Ok h.entry
+    by_next : (next : Option Item × EntryCursor) → next_item_at h.left.unit h.left.cursor ≡ Ok next → item_entry offset next.0 ≡ Ok h.entry
         → (subtree_of h.entry.0 (items_from h.left.unit next.1)).items ≡ items → IsSomeWalk items
     by_next (None, c) read is are = absurd cc
     by_next (Some x, c) read is are =
@@ -374,24 +374,24 @@ inside_walk u offset items h = by_next h.next h.read h.is h.items_are
               (inside_walks h.entry.0.depth (items_from h.left.unit c).end (next_offset_of h.left.unit c) c.depth (depth_after h.entry.0) (items_from h.left.unit c).items w);
         }
 
-placed_inside : (u : UnitRecord) (offset : ℕ) (items : List Item) → items_inside_at u offset ≡ Ok items → AllByRecursion (IsPlaced items) (placed [] items)
+placed_inside : (u : UnitRecord) (offset : ℕ) (items : List Item) → items_inside_at u offset ≡ Ok items → AllByRecursion (IsPlaced items) (placed_items [] items)
 placed_inside u offset items h = let w = inside_walk u offset items (read_inside u offset items h) in all_placed w.low w.now items w.walk
 
 pub open_are_around : OpenAreAround
-open_are_around u offset items h = λ k d l. (All-from_recursion (IsPlaced items) (placed [] items) (placed_inside u offset items h) k d l).around
+open_are_around u offset items h = λ k d l. (All-from_recursion (IsPlaced items) (placed_items [] items) (placed_inside u offset items h) k d l).around
 
 -- an entry is inlined where its abbreviation is one of an inlined entry
-same_number : (up : List Item) → number_of is_inlined (abbreviations_of up) ≡ length (filter is_inlined_item up)
+same_number : (up : List Item) → count_of is_inlined (abbreviations_of up) ≡ length (filter is_inlined_item up)
 same_number [] = refl
 same_number (z ∷ up) = by_entry z.entry (same_number up)
   where
-    by_test : (a : Abbrev) (b : Bool) → number_of is_inlined (abbreviations_of up) ≡ length (filter is_inlined_item up)
+    by_test : (a : Abbrev) (b : Bool) → count_of is_inlined (abbreviations_of up) ≡ length (filter is_inlined_item up)
         → length (cond b (a ∷ filter is_inlined (abbreviations_of up)) (filter is_inlined (abbreviations_of up))) ≡ length (cond b (z ∷ filter is_inlined_item up) (filter is_inlined_item up))
     by_test a true rest = ap suc rest
     by_test a false rest = rest
 
-    by_entry : (o : Option Entry) → number_of is_inlined (abbreviations_of up) ≡ length (filter is_inlined_item up)
-        → number_of is_inlined (cons_option (option_map (λ (e : Entry). e.abbreviation) o) (abbreviations_of up))
+    by_entry : (o : Option Entry) → count_of is_inlined (abbreviations_of up) ≡ length (filter is_inlined_item up)
+        → count_of is_inlined (cons_option (option_map (λ (e : Entry). e.abbreviation) o) (abbreviations_of up))
         ≡ length (cond (elim o [ None ↦ false | Some e ↦ is_inlined e.abbreviation ]) (z ∷ filter is_inlined_item up) (filter is_inlined_item up))
     by_entry None rest = rest
     by_entry (Some e) rest = by_test e.abbreviation (is_inlined e.abbreviation) rest
@@ -427,16 +427,16 @@ module _ (scope : Scope) (u : UnitRecord) (items : List Item) where
   step_listed : (found more : List InlinedRange) (p : PlacedItem) → IsPlaced items p → All (IsListed items) found → with_inlined scope u found p ≡ Ok more → All (IsListed items) more
   step_listed found more p h all e = by_entry p.item.entry e
     where
-      number : number_of is_inlined p.around ≡ inlined_depth p.item.offset items
-      number = ap (number_of is_inlined) h.around ∙ same_number (items_around p.item.offset items)
+      number : count_of is_inlined p.around ≡ inlined_depth p.item.offset items
+      number = ap (count_of is_inlined) h.around ∙ same_number (items_around p.item.offset items)
 
       read : (f : Entry) → with_inlined_entry scope u found p f ≡ Ok more → All (IsListed items) more
       read f e =
-          let a = bind_ok (inlined_attributes_of scope u f.attributes) (λ a. attribute_ranges scope.file.sections u a.ranges >>= λ ranges. Ok (found ++ inlined_ranges (number_of is_inlined p.around) p.item.offset a ranges)) more e in
-          let r = bind_ok (attribute_ranges scope.file.sections u a.0.ranges) (λ ranges. Ok (found ++ inlined_ranges (number_of is_inlined p.around) p.item.offset a.0 ranges)) more a.2 in
-          let same : found ++ inlined_ranges (number_of is_inlined p.around) p.item.offset a.0 r.0 ≡ more = (let q = r.2 in cc) in
-          subst (All (IsListed items)) same (All-append (IsListed items) found (inlined_ranges (number_of is_inlined p.around) p.item.offset a.0 r.0) all
-          (All-map (IsListed items) (λ (x : Range). record { depth = number_of is_inlined p.around; range = x; entry = inlined_entry p.item.offset a.0 }) r.0 (λ k d l. record { depth = number; opens = h.opens })))
+          let a = bind_ok (inlined_attributes_of scope u f.attributes) (λ a. attribute_ranges scope.file.sections u a.ranges >>= λ ranges. Ok (found ++ inlined_ranges (count_of is_inlined p.around) p.item.offset a ranges)) more e in
+          let r = bind_ok (attribute_ranges scope.file.sections u a.0.ranges) (λ ranges. Ok (found ++ inlined_ranges (count_of is_inlined p.around) p.item.offset a.0 ranges)) more a.2 in
+          let same : found ++ inlined_ranges (count_of is_inlined p.around) p.item.offset a.0 r.0 ≡ more = (let q = r.2 in cc) in
+          subst (All (IsListed items)) same (All-append (IsListed items) found (inlined_ranges (count_of is_inlined p.around) p.item.offset a.0 r.0) all
+          (All-map (IsListed items) (λ (x : Range). record { depth = count_of is_inlined p.around; range = x; entry = inlined_entry p.item.offset a.0 }) r.0 (λ k d l. record { depth = number; opens = h.opens })))
 
       by_test : (b : Bool) (f : Entry) → cond b (with_inlined_entry scope u found p f) (Ok found) ≡ Ok more → All (IsListed items) more
       by_test true f e = read f e
@@ -464,10 +464,10 @@ all_listed scope u offset items detail e f =
     let n = bind_ok (name_of scope u h.entry.1.attributes) (λ name. listed >>= λ inlined. Ok (record { name = name; inlined = inlined })) detail (sym whole ∙ f) in
     let l = bind_ok listed (λ inlined. Ok (record { name = n.0; inlined = inlined })) detail n.2 in
     let same : ◌≡◌ {A = Detail} (record { name = n.0; inlined = l.0 }) detail = (let q = l.2 in cc) in
-    let r = bind_ok (fold_run (with_inlined scope u) [] (placed [] inside_it.items) inside_it.end) (λ found. Ok found.0) l.0 l.1 in
+    let r = bind_ok (fold_run (with_inlined scope u) [] (placed_items [] inside_it.items) inside_it.end) (λ found. Ok found.0) l.0 l.1 in
     let last : r.0.0 ≡ l.0 = (let q = r.2 in cc) in
-    let placed_is = subst (λ xs. AllByRecursion (IsPlaced items) (placed [] xs)) (sym h.items_are) (placed_inside u offset items e) in
-    let all = fold_listed scope u items (placed [] inside_it.items) inside_it.end [] r.0.0 r.0.1 placed_is (λ k d l. absurd (omega arith)) r.1 in
+    let placed_is = subst (λ xs. AllByRecursion (IsPlaced items) (placed_items [] xs)) (sym h.items_are) (placed_inside u offset items e) in
+    let all = fold_listed scope u items (placed_items [] inside_it.items) inside_it.end [] r.0.0 r.0.1 placed_is (λ k d l. absurd (omega arith)) r.1 in
     subst (All (IsListed items)) (last ∙ ap (λ (d : Detail). d.inlined) same) all
   where
     h : IsReadInside u offset items
@@ -483,7 +483,7 @@ all_listed scope u offset items detail e f =
     of_entry left next r = r >>= λ function. name_of scope u function.1.attributes >>= λ name. inlined_in scope u (record { unit = left.unit; cursor = next.1 }) function.0 >>= λ inlined. Ok (record { name = name; inlined = inlined })
 
     of_next : EntriesLeft → Result (Option Item × EntryCursor) Error → Result Detail Error
-    of_next left r = r >>= λ next. of_entry left next (entry_of offset next.0)
+    of_next left r = r >>= λ next. of_entry left next (item_entry offset next.0)
 
     whole : detail_at scope u offset ≡ (name_of scope u h.entry.1.attributes >>= λ name. listed >>= λ inlined. Ok (record { name = name; inlined = inlined }))
     whole = ap (λ r. r >>= λ left. of_next left (next_item_at left.unit left.cursor)) h.from ∙ ap (of_next h.left) h.read ∙ ap (of_entry h.left h.next) h.is
@@ -508,10 +508,10 @@ pub inside_is_read : InsideIsRead
 unfolding detail_at
 inside_is_read scope u offset detail e =
     let a = bind_ok (entries_from u (Some offset)) (λ left. by_next left (next_item_at left.unit left.cursor)) detail e in
-    let b = bind_ok (next_item_at a.0.unit a.0.cursor) (λ next. by_entry a.0 next (entry_of offset next.0)) detail a.2 in
-    let c = bind_ok (entry_of offset b.0.0) (λ function. named a.0 b.0 function) detail b.2 in
-    ap is_ok (ap (λ r. r >>= λ left. next_item_at left.unit left.cursor >>= λ next. entry_of offset next.0 >>= λ entry. Ok (subtree_of entry.0 (items_from left.unit next.1)).items) a.1
-    ∙ ap (λ r. r >>= λ next. entry_of offset next.0 >>= λ entry. Ok (subtree_of entry.0 (items_from a.0.unit next.1)).items) b.1
+    let b = bind_ok (next_item_at a.0.unit a.0.cursor) (λ next. by_entry a.0 next (item_entry offset next.0)) detail a.2 in
+    let c = bind_ok (item_entry offset b.0.0) (λ function. named a.0 b.0 function) detail b.2 in
+    ap is_ok (ap (λ r. r >>= λ left. next_item_at left.unit left.cursor >>= λ next. item_entry offset next.0 >>= λ entry. Ok (subtree_of entry.0 (items_from left.unit next.1)).items) a.1
+    ∙ ap (λ r. r >>= λ next. item_entry offset next.0 >>= λ entry. Ok (subtree_of entry.0 (items_from a.0.unit next.1)).items) b.1
     ∙ ap (λ r. r >>= λ entry. Ok (subtree_of entry.0 (items_from a.0.unit b.0.1)).items) c.1)
   where
     named : EntriesLeft → Option Item × EntryCursor → Item × Entry → Result Detail Error
@@ -521,4 +521,4 @@ inside_is_read scope u offset detail e =
     by_entry left next r = r >>= λ function. named left next function
 
     by_next : EntriesLeft → Result (Option Item × EntryCursor) Error → Result Detail Error
-    by_next left r = r >>= λ next. by_entry left next (entry_of offset next.0)
+    by_next left r = r >>= λ next. by_entry left next (item_entry offset next.0)

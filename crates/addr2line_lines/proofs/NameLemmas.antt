@@ -22,7 +22,7 @@ use Rattle.gimli.specs.Entries.{entries_from}
 use Rattle.gimli.specs.Entry.{EntriesLeft, entry_abbreviation_at}
 use Rattle.gimli.specs.Unit.{UnitRecord, attr_string_of}
 use Rattle.addr2line_lines.specs.declared.name.NameOrOrigin.{NameOrOrigin as NameOrOriginOf}
-use Rattle.addr2line_lines.specs.FoundNames.{HasNoName, IsSplitAtName, is_name_attribute, seen_name, taken}
+use Rattle.addr2line_lines.specs.FoundNames.{HasNoName, IsSplitAtName, is_name_attribute, seen_name_or_origin, with_linkage}
 use Rattle.addr2line_lines.specs.Names.{NameOrOrigin, entry_specifications, is_linkage_name, is_origin, linkage_name_of, name_within, named_at, no_name, or_referred_name, readable, visited, with_name, with_name_or_origin}
 use Rattle.addr2line_lines.specs.References.{EntryPlace, Scope, referred}
 
@@ -44,12 +44,12 @@ linkage_alone s u found a h =
 
 -- a linkage name is answered
 pub linkage_taken : {R : Type 0} (see : R → Section) (may : Bool) (s : Scope) (u : UnitRecord) (found : NameOrOrigin) (a : NamedValue) (r : Result (Option R) Error) → is_linkage_name a.name ≡ true → ExactlyUnlessOomIf may (option_map see) r (Ok (readable s u a.value))
-    → ExactlyUnlessOomIf may (λ linkage. taken (option_map see linkage) found) r (Ok (taken (linkage_name_of s u a) (with_name_or_origin s u found a)))
+    → ExactlyUnlessOomIf may (λ linkage. with_linkage (option_map see linkage) found) r (Ok (with_linkage (linkage_name_of s u a) (with_name_or_origin s u found a)))
 linkage_taken see may s u found a (Ok x) h k =
     let string : readable s u a.value ≡ option_map see x = cc in
-    ap (λ b. Ok (taken (cond b (readable s u a.value) None) (with_name_or_origin s u found a))) h
-    ∙ ap (λ o. Ok (taken o (with_name_or_origin s u found a))) string
-    ∙ ap (λ f. Ok (taken (option_map see x) f)) (linkage_alone s u found a h)
+    ap (λ b. Ok (with_linkage (cond b (readable s u a.value) None) (with_name_or_origin s u found a))) h
+    ∙ ap (λ o. Ok (with_linkage o (with_name_or_origin s u found a))) string
+    ∙ ap (λ f. Ok (with_linkage (option_map see x) f)) (linkage_alone s u found a h)
 linkage_taken see may s u found a (Err e) h k = λ m. absurd (let q = k m in cc)
 
 -- where no place is the first of a test the test fails everywhere
@@ -157,10 +157,10 @@ unfolding named_at
 named_end s u xs left found h = ap (λ ys. named_at s u ys left found) (sym (append-nil xs)) ∙ named_over s u xs [] left found h
 
 -- what an attribute gives
-gives : (s : Scope) (u : UnitRecord) (found more : NameOrOrigin) (a : NamedValue) (linkage : Option Section) → ◌≡◌ {A = Result (Option Section × NameOrOrigin) Error} (Ok (taken (linkage_name_of s u a) (with_name_or_origin s u found a))) (Ok (taken linkage more))
+gives : (s : Scope) (u : UnitRecord) (found more : NameOrOrigin) (a : NamedValue) (linkage : Option Section) → ◌≡◌ {A = Result (Option Section × NameOrOrigin) Error} (Ok (with_linkage (linkage_name_of s u a) (with_name_or_origin s u found a))) (Ok (with_linkage linkage more))
     → (linkage_name_of s u a ≡ linkage) × (with_name_or_origin s u found a ≡ more)
 gives s u found more a linkage h =
-    let p : ◌≡◌ {A = Option Section × NameOrOrigin} (taken (linkage_name_of s u a) (with_name_or_origin s u found a)) (taken linkage more) = cc in
+    let p : ◌≡◌ {A = Option Section × NameOrOrigin} (with_linkage (linkage_name_of s u a) (with_name_or_origin s u found a)) (with_linkage linkage more) = cc in
     (ap (λ x. x.0) p, ap (λ x. x.1) p)
 
 abbrev by_linkage : Scope → UnitRecord → List Specification → NameOrOrigin → Section → NamedValue → Option Section → Result NameOrOrigin Error
@@ -170,12 +170,12 @@ by_linkage s u after found t a linkage = elim linkage [
 ]
 
 -- after an attribute that gives a linkage name
-pub named_linkage : (s : Scope) (u : UnitRecord) (after : List Specification) (found more : NameOrOrigin) (a : NamedValue) (t name : Section) → ◌≡◌ {A = Result (Option Section × NameOrOrigin) Error} (Ok (taken (linkage_name_of s u a) (with_name_or_origin s u found a))) (Ok (taken (Some name) more))
+pub named_linkage : (s : Scope) (u : UnitRecord) (after : List Specification) (found more : NameOrOrigin) (a : NamedValue) (t name : Section) → ◌≡◌ {A = Result (Option Section × NameOrOrigin) Error} (Ok (with_linkage (linkage_name_of s u a) (with_name_or_origin s u found a))) (Ok (with_linkage (Some name) more))
     → named_after s u after found (a, t) ≡ Ok (record { name = Some name; origin = None })
 named_linkage s u after found more a t name h = ap (by_linkage s u after found t a) (gives s u found more a (Some name) h).0
 
 -- after another
-pub named_other : (s : Scope) (u : UnitRecord) (after : List Specification) (found more : NameOrOrigin) (a : NamedValue) (t : Section) → ◌≡◌ {A = Result (Option Section × NameOrOrigin) Error} (Ok (taken (linkage_name_of s u a) (with_name_or_origin s u found a))) (Ok (taken None more))
+pub named_other : (s : Scope) (u : UnitRecord) (after : List Specification) (found more : NameOrOrigin) (a : NamedValue) (t : Section) → ◌≡◌ {A = Result (Option Section × NameOrOrigin) Error} (Ok (with_linkage (linkage_name_of s u a) (with_name_or_origin s u found a))) (Ok (with_linkage None more))
     → named_after s u after found (a, t) ≡ named_at s u after t more
 named_other s u after found more a t h = let p = gives s u found more a None h in ap (by_linkage s u after found t a) p.0 ∙ ap (named_at s u after t) p.1
 
@@ -236,7 +236,7 @@ unfolding name_within
 within_zero s u v m h = ap (λ k. name_within k s u v) h
 
 -- after an entry with a name
-pub visit_named : {R : Type 0} (see : R → Section) (n : ℕ) (place : EntryPlace) (x : NameOrOriginOf R) → true ≡ is_some x.name → after_visit n place (seen_name see x) ≡ Ok (option_map see x.name)
+pub visit_named : {R : Type 0} (see : R → Section) (n : ℕ) (place : EntryPlace) (x : NameOrOriginOf R) → true ≡ is_some x.name → after_visit n place (seen_name_or_origin see x) ≡ Ok (option_map see x.name)
 visit_named see n place x h = at x.name h
   where
     at : (o : Option _) → true ≡ is_some o → ◌≡◌ {A = Result (Option Section) Error} (elim (option_map see o) [ Some name ↦ Ok (Some name) | None ↦ elim (option_map (seen_value see) x.origin) [ None ↦ Ok None | Some next ↦ name_within n place.scope place.unit next ] ]) (Ok (option_map see o))
@@ -245,7 +245,7 @@ visit_named see n place x h = at x.name h
 
 -- after an entry without one
 visit_unnamed : {R : Type 0} (see : R → Section) (n : ℕ) (place : EntryPlace) (x : NameOrOriginOf R) → false ≡ is_some x.name
-    → after_visit n place (seen_name see x) ≡ elim (option_map (seen_value see) x.origin) [ None ↦ Ok None | Some next ↦ name_within n place.scope place.unit next ]
+    → after_visit n place (seen_name_or_origin see x) ≡ elim (option_map (seen_value see) x.origin) [ None ↦ Ok None | Some next ↦ name_within n place.scope place.unit next ]
 visit_unnamed see n place x h = at x.name h
   where
     at : (o : Option _) → false ≡ is_some o → ◌≡◌ {A = Result (Option Section) Error} (elim (option_map see o) [ Some name ↦ Ok (Some name) | None ↦ elim (option_map (seen_value see) x.origin) [ None ↦ Ok None | Some next ↦ name_within n place.scope place.unit next ] ]) (elim (option_map (seen_value see) x.origin) [ None ↦ Ok None | Some next ↦ name_within n place.scope place.unit next ])
@@ -253,11 +253,11 @@ visit_unnamed see n place x h = at x.name h
     at (Some name) h = absurd cc
 
 -- after an entry that says nothing
-pub visit_ends : {R : Type 0} (see : R → Section) (n : ℕ) (place : EntryPlace) (x : NameOrOriginOf R) → false ≡ is_some x.name → x.origin ≡ None → after_visit n place (seen_name see x) ≡ Ok None
+pub visit_ends : {R : Type 0} (see : R → Section) (n : ℕ) (place : EntryPlace) (x : NameOrOriginOf R) → false ≡ is_some x.name → x.origin ≡ None → after_visit n place (seen_name_or_origin see x) ≡ Ok None
 visit_ends see n place x h k = visit_unnamed see n place x h ∙ ap (λ o. elim (option_map (seen_value see) o) [ None ↦ Ok None | Some next ↦ name_within n place.scope place.unit next ]) k
 
 -- after an entry that refers to another one
-pub visit_goes_on : {R : Type 0} (see : R → Section) (n : ℕ) (place : EntryPlace) (x : NameOrOriginOf R) (v : AttributeValue R) → false ≡ is_some x.name → x.origin ≡ Some v → after_visit n place (seen_name see x) ≡ name_within n place.scope place.unit (seen_value see v)
+pub visit_goes_on : {R : Type 0} (see : R → Section) (n : ℕ) (place : EntryPlace) (x : NameOrOriginOf R) (v : AttributeValue R) → false ≡ is_some x.name → x.origin ≡ Some v → after_visit n place (seen_name_or_origin see x) ≡ name_within n place.scope place.unit (seen_value see v)
 visit_goes_on see n place x v h k = visit_unnamed see n place x h ∙ ap (λ o. elim (option_map (seen_value see) o) [ None ↦ Ok None | Some next ↦ name_within n place.scope place.unit next ]) k
 
 -- by the attribute's name

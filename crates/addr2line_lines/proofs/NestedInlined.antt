@@ -7,7 +7,7 @@ use Rattle.std.proofs.lemmas.Bool.Decides.{nat_tests}
 use Rattle.std.proofs.lemmas.List.Elements.{All-contains, All-contains_itself}
 use Rattle.gimli_read.specs.Topmost.{greatest, topmost}
 use Rattle.addr2line_lines.specs.Details.{InlinedEntry, InlinedRange, inlined_at, inlined_begin, inlined_end, inlined_within, of_depth}
-use Rattle.addr2line_lines.specs.NestedInlined.{ChainBeginsOutermost, ChainIsWhole, AreInEachOther, AreNested, IsAlone, IsFirstOutermost, IsHeldAround, IsNearest, IsNestedChain, IsOneAround, IsWithin, NestedChain, NestedInFunction, inlined_holds}
+use Rattle.addr2line_lines.specs.NestedInlined.{ChainBeginsOutermost, ChainIsWhole, AreInEachOther, AreNested, IsAlone, IsFirstOutermost, IsHeldAround, IsNearest, IsNestedChain, IsOneAround, IsHeldByListed, NestedChain, NestedInFunction, inlined_holds}
 use Rattle.addr2line_lines.specs.Pick.{IsDisjoint, at_or_below, candidate, if_past, pick}
 use Rattle.addr2line_lines.proofs.ItemsAround.{IsListed, all_listed, nearest_depth, none_nearest}
 use Rattle.addr2line_lines.proofs.LonePick.{from_contains, lone_is_picked}
@@ -75,7 +75,7 @@ chain_ends (suc n) probe depth ranges none = by_cases (inlined_at probe depth ra
 module _ (Around : InlinedEntry → InlinedEntry → Type 0) (ranges : List InlinedRange) (probe : ℕ) (nested : AreNested (IsOneAround Around) ranges) where
   -- the range around one that holds the probe
   outer_of : (x : InlinedRange) → In x ranges → inlined_holds probe x ≡ true → 0 < x.depth → IsHeldAround (IsOneAround Around) ranges x probe
-  outer_of x i h some = of_all (IsWithin (IsOneAround Around) ranges) ranges x nested.within i some probe h
+  outer_of x i h some = of_all (IsHeldByListed (IsOneAround Around) ranges) ranges x nested.within i some probe h
 
   listed_in : (z : InlinedRange) → Contains ranges z → In z ranges
   listed_in z c = from_contains ranges z c.0 c.1 c.2

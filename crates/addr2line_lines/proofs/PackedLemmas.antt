@@ -13,7 +13,7 @@ use Rattle.addr2line_lines.specs.InOrder.{put, in_order, begins_sooner, IsInOrde
 use Rattle.addr2line_lines.specs.Pick.{at_or_below}
 use Rattle.addr2line_lines.specs.Sequences.{Sequence, start_of, end_of}
 use Rattle.addr2line_lines.specs.Rises.{Climbs, IsRising, StartsAt}
-use Rattle.addr2line_lines.specs.Packed.{IsAmong, IsWithin, packed_rows_in, address_at, packed_start, packed_sooner, unpacked}
+use Rattle.addr2line_lines.specs.Packed.{IsAmong, RowsEndBy, packed_rows_in, row_address_at, packed_start, packed_sooner, unpacked}
 
 -- what stands before place n stays where that stays
 cut_inside : (first len n : ℕ) (xs : List Row) → first + len ≤ n → take len (drop first (take n xs)) ≡ take len (drop first xs)
@@ -22,19 +22,19 @@ cut_inside (suc first) len zero xs h = absurd (omega arith)
 cut_inside (suc first) len (suc n) [] h = refl
 cut_inside (suc first) len (suc n) (x ∷ xs) h = cut_inside first len n xs (omega arith)
 
-unpacked_same : (old new : List Row) (n : ℕ) (s : LineSequence) → take n new ≡ take n old → IsWithin n s → unpacked new s ≡ unpacked old s
+unpacked_same : (old new : List Row) (n : ℕ) (s : LineSequence) → take n new ≡ take n old → RowsEndBy n s → unpacked new s ≡ unpacked old s
 unpacked_same old new n s e h =
     ap (λ rows. record { start = s.start; end = s.end; rows = rows })
     (sym (cut_inside s.first s.len n new h) ∙ ap (λ rows. take s.len (drop s.first rows)) e ∙ cut_inside s.first s.len n old h)
 
-pub all_same : (old new : List Row) (n : ℕ) (ss : List LineSequence) → take n new ≡ take n old → AllByRecursion (IsWithin n) ss → map (unpacked new) ss ≡ map (unpacked old) ss
+pub all_same : (old new : List Row) (n : ℕ) (ss : List LineSequence) → take n new ≡ take n old → AllByRecursion (RowsEndBy n) ss → map (unpacked new) ss ≡ map (unpacked old) ss
 all_same old new n [] e all = refl
 all_same old new n (s ∷ ss) e all = cons_is _ _ _ _ (unpacked_same old new n s e all.0) (all_same old new n ss e all.1)
   where
     cons_is : (a b : Sequence) (xs ys : List Sequence) → a ≡ b → xs ≡ ys → a ∷ xs ≡ b ∷ ys
     cons_is a b xs ys g h = cc
 
-pub all_within : (m n : ℕ) (ss : List LineSequence) → m ≤ n → AllByRecursion (IsWithin m) ss → AllByRecursion (IsWithin n) ss
+pub all_within : (m n : ℕ) (ss : List LineSequence) → m ≤ n → AllByRecursion (RowsEndBy m) ss → AllByRecursion (RowsEndBy n) ss
 all_within m n [] le all = tt
 all_within m n (s ∷ ss) le all = ((let h = all.0 in omega arith), all_within m n ss le all.1)
 
@@ -42,7 +42,7 @@ pub all_push : (P : LineSequence → Type 0) (ss : List LineSequence) (s : LineS
 all_push P [] s all h = (h, tt)
 all_push P (t ∷ ss) s all h = (all.0, all_push P ss s all.1 h)
 
-pub all_among : (rows : List Row) (ss : List LineSequence) → AllByRecursion (IsWithin (length rows)) ss → AllByRecursion IsRising (map (unpacked rows) ss) → AllByRecursion (IsAmong rows) ss
+pub all_among : (rows : List Row) (ss : List LineSequence) → AllByRecursion (RowsEndBy (length rows)) ss → AllByRecursion IsRising (map (unpacked rows) ss) → AllByRecursion (IsAmong rows) ss
 all_among rows [] w r = tt
 all_among rows (s ∷ ss) w r = (record { within = w.0; rising = r.0 }, all_among rows ss w.1 r.1)
 
@@ -104,8 +104,8 @@ pub record Stretch (rows : List Row) (s : LineSequence) : Type 0 where
   pub inside : s.first + s.len ≤ length rows
   pub len_is : length (take s.len (drop s.first rows)) ≡ s.len
   pub at : (k : ℕ) (d : Row) → k < s.len → get_or (take s.len (drop s.first rows)) k d ≡ get_or rows (s.first + k) d
-  pub starts : address_at rows s.first ≡ s.start
-  pub rises : (i j : ℕ) → s.first ≤ i → i < j → j < s.first + s.len → address_at rows i < address_at rows j
+  pub starts : row_address_at rows s.first ≡ s.start
+  pub rises : (i j : ℕ) → s.first ≤ i → i < j → j < s.first + s.len → row_address_at rows i < row_address_at rows j
 
 pub stretch_of : (rows : List Row) (s : LineSequence) → IsAmong rows s → Stretch rows s
 stretch_of rows s h =
@@ -122,12 +122,12 @@ stretch_of rows s h =
       inside = within;
       len_is = len;
       at = at;
-      starts = sym (start.1 ∙ ap (λ (r : Row). r.address) (at 0 none some) ∙ ap (address_at rows) zeroth);
+      starts = sym (start.1 ∙ ap (λ (r : Row). r.address) (at 0 none some) ∙ ap (row_address_at rows) zeroth);
       rises = λ i j from lt upto.
           let low : s.first + (i - s.first) ≡ i = omega arith in
           let high : s.first + (j - s.first) ≡ j = omega arith in
-          let a = ap (λ (r : Row). r.address) (at (i - s.first) none (omega arith)) ∙ ap (address_at rows) low in
-          let b = ap (λ (r : Row). r.address) (at (j - s.first) none (omega arith)) ∙ ap (address_at rows) high in
+          let a = ap (λ (r : Row). r.address) (at (i - s.first) none (omega arith)) ∙ ap (row_address_at rows) low in
+          let b = ap (λ (r : Row). r.address) (at (j - s.first) none (omega arith)) ∙ ap (row_address_at rows) high in
           let c = climbs_at s.end (take s.len (drop s.first rows)) h.rising.rises (i - s.first) (j - s.first) none (omega arith) (omega arith) in
           omega arith;
     }

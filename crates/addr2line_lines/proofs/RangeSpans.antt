@@ -5,8 +5,8 @@ use Rattle.std.proofs.lemmas.List.{drop_more}
 use Rattle.std.proofs.lemmas.Option.{get_or_from_slice_get}
 use Rattle.addr2line_lines.specs.declared.row.Row.{Row}
 use Rattle.addr2line_lines.specs.declared.sequence.LineSequence.{LineSequence}
-use Rattle.addr2line_lines.specs.Packed.{IsAmong, address_at, unpacked}
-use Rattle.addr2line_lines.specs.RangeLocations.{meets, range_of}
+use Rattle.addr2line_lines.specs.Packed.{IsAmong, row_address_at, unpacked}
+use Rattle.addr2line_lines.specs.RangeLocations.{meets, sequence_range}
 use Rattle.addr2line_lines.specs.RangesLeft.{next_spans, packed_range, spans_left}
 use Rattle.addr2line_lines.specs.Spans.{spans}
 use Rattle.addr2line_lines.proofs.SpanLemmas.{spans_next}
@@ -33,7 +33,7 @@ module _ (end : ℕ) (rows : List Row) (place until : ℕ) (r : Row) (h : slice_
       first_of ∙ ap (λ k. next_spans end (r ∷ take k (drop (place + 1) rows))) n ∙ sym (ap (λ k. record { row = r; end = end } ∷ next_spans end (take k (drop (place + 1) rows))) n)
 
   -- another row
-  pub spans_more : place + 1 < until → (e : ℕ) → e ≡ address_at rows (place + 1) → spans_left end rows place until ≡ record { row = r; end = e } ∷ spans_left end rows (place + 1) until
+  pub spans_more : place + 1 < until → (e : ℕ) → e ≡ row_address_at rows (place + 1) → spans_left end rows place until ≡ record { row = r; end = e } ∷ spans_left end rows (place + 1) until
   spans_more lt e is =
       let s : Row = get_or rows (place + 1) none in
       let m : ℕ = until - (place + 1) - 1 in
@@ -51,6 +51,6 @@ whole_spans low high rows s among =
     ap (filter (meets low high)) (ap (λ k. next_spans s.end (take k (drop s.first rows))) n ∙ sym (spans_next s.end (take s.len (drop s.first rows)) among.rising.rises))
 
 -- the ranges of packed sequences
-pub ranges_are : (rows : List Row) (ss : List LineSequence) → map packed_range ss ≡ map range_of (map (unpacked rows) ss)
+pub ranges_are : (rows : List Row) (ss : List LineSequence) → map packed_range ss ≡ map sequence_range (map (unpacked rows) ss)
 ranges_are rows [] = refl
 ranges_are rows (s ∷ ss) = ap (λ rs. packed_range s ∷ rs) (ranges_are rows ss)

@@ -11,7 +11,7 @@ use Rattle.addr2line_lines.specs.declared.sequence.LineSequence.{LineSequence}
 use Rattle.addr2line_lines.specs.Pick.{at_or_below, if_past}
 use Rattle.addr2line_lines.specs.Sequences.{start_of, end_of}
 use Rattle.addr2line_lines.specs.Spans.{row_address, row_at, row_in}
-use Rattle.addr2line_lines.specs.Packed.{ArePastFrom, IsAmong, IsTable, address_at, packed_end, packed_sooner, packed_start, unpacked}
+use Rattle.addr2line_lines.specs.Packed.{ArePastFrom, IsAmong, IsTable, row_address_at, packed_end, packed_sooner, packed_start, unpacked}
 use Rattle.addr2line_lines.specs.InOrder.{IsInOrder}
 use Rattle.addr2line_lines.proofs.SeekLemmas.{begins_rise}
 use Rattle.addr2line_lines.proofs.PickLemmas.{In-filter, In-last, last-cond}
@@ -70,7 +70,7 @@ row_found rows probe s place row among from inside is low after =
     later z k d l h =
         let none : Row = record { address = 0; file_index = 0; line = 0; column = 0 } in
         let len = z.len_is in
-        let e : (get_or (take s.len (drop s.first rows)) k d).address ≡ address_at rows (s.first + k) =
+        let e : (get_or (take s.len (drop s.first rows)) k d).address ≡ row_address_at rows (s.first + k) =
         ap (λ (r : Row). r.address) (get_or_any (take s.len (drop s.first rows)) k d none (omega arith) ∙ z.at k none h) in
         let p = after (s.first + k) (omega arith) (omega arith) in omega arith
       where
@@ -112,9 +112,9 @@ pub read_at : {X : Type 0} (xs ys : List X) (i j : ℕ) (x d : X) → slice_get 
 read_at xs ys i j x d h e near = ap (λ k. get_or xs k d) near ∙ get_or_from_slice_get xs i x d (ap (λ zs. slice_get zs i) (sym e) ∙ h)
 
 -- from a row past the probe on all are
-pub past_from : (rows : List Row) (s : LineSequence) (i probe : ℕ) → Stretch rows s → s.first ≤ i → probe < address_at rows i → ArePastFrom probe rows s i
+pub past_from : (rows : List Row) (s : LineSequence) (i probe : ℕ) → Stretch rows s → s.first ≤ i → probe < row_address_at rows i → ArePastFrom probe rows s i
 past_from rows s i probe z from l = λ j low high.
-    elim (cases_lt i j) [ inl lt ↦ (let r = z.rises i j from lt high in omega arith) | inr ge ↦ (let e : i ≡ j = omega arith in let P : ℕ → Type 0 = λ k. probe < address_at rows k in subst P e l) ]
+    elim (cases_lt i j) [ inl lt ↦ (let r = z.rises i j from lt high in omega arith) | inr ge ↦ (let e : i ≡ j = omega arith in let P : ℕ → Type 0 = λ k. probe < row_address_at rows k in subst P e l) ]
 
 -- the best of the sequences before a place is the last of them that starts by the probe
 abbrev pub IsLastBefore : ℕ → List LineSequence → ℕ → Option LineSequence → Type 0

@@ -9,7 +9,7 @@ use Rattle.std.proofs.lemmas.List.Elements.{All-weaker}
 use Rattle.std.proofs.lemmas.List.Sorted.{All-permutation, Contains-permutation, IsPermutation-sym, length_permutation}
 use Rattle.addr2line_lines.specs.declared.segments.FunctionAddress.{FunctionAddress}
 use Rattle.addr2line_lines.specs.Shortest.{IsNoLonger}
-use Rattle.addr2line_lines.specs.Segments.{address_begin, address_end, address_function, address_holds, function_at, AreSegments, IsSegment}
+use Rattle.addr2line_lines.specs.Segments.{address_begin, address_end, address_function, address_holds, shortest_function_at, AreSegments, IsSegment}
 use Rattle.addr2line_lines.proofs.ShortestLemmas.{none_is_shorter, none_is_shortest}
 use Rattle.addr2line_lines.proofs.SegmentLemmas.{inside, outside}
 
@@ -42,14 +42,14 @@ segments_rise listed segments h i j d le l = by_place (nat_lt i j) refl
     by_place false e = let same : i ≡ j = (let u : j ≤ i = grind (arith, nat_tests) in omega arith) in let f : (slice_index_or segments i d).range.begin ≡ (slice_index_or segments j d).range.begin = ap (λ n. (slice_index_or segments n d).range.begin) same in omega arith
 
 -- the function of a segment that holds the probe
-pub segment_found : (listed segments : List FunctionAddress) (probe k : ℕ) (s : FunctionAddress) → AreSegments listed segments → k < length segments → slice_index_or segments k s ≡ s → s.range.begin ≤ probe → probe < s.range.end → function_at probe listed ≡ Some s.function
+pub segment_found : (listed segments : List FunctionAddress) (probe k : ℕ) (s : FunctionAddress) → AreSegments listed segments → k < length segments → slice_index_or segments k s ≡ s → s.range.begin ≤ probe → probe < s.range.end → shortest_function_at probe listed ≡ Some s.function
 segment_found listed segments probe k s h l is low high =
     let u = (subst (IsSegment listed) is (h.each k s l)).shortest_is probe (inside s.range.begin s.range.end probe low high) in
     let r = none_is_shorter address_begin address_end address_function probe listed u.address u.listed u.holds_it u.shorter in
     ap (option_map address_function) r.1 ∙ ap Some (r.2 ∙ u.is)
 
 -- where no segment holds the probe no range does
-pub none_found : (listed segments : List FunctionAddress) (probe : ℕ) → AreSegments listed segments → All (λ s. address_holds probe s ≡ false) segments → function_at probe listed ≡ None
+pub none_found : (listed segments : List FunctionAddress) (probe : ℕ) → AreSegments listed segments → All (λ s. address_holds probe s ≡ false) segments → shortest_function_at probe listed ≡ None
 none_found listed segments probe h out = ap (option_map address_function) (none_is_shortest address_begin address_end address_function probe listed (h.others probe out))
 
 -- whether a segment begins at or below the probe

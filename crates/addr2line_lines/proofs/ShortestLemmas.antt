@@ -4,7 +4,7 @@ use Rattle.std.specs.List.{All}
 use Rattle.std.proofs.lemmas.Bool.Decides.{nat_tests}
 use Rattle.std.proofs.lemmas.List.Elements.{recursion_from_All}
 use Rattle.addr2line_lines.specs.Pick.{IsDisjoint}
-use Rattle.addr2line_lines.specs.Shortest.{first, holding, holds, least, lowest, range_length, shortest, IsNoLonger, LoneIsShortest, NoneIsShorter}
+use Rattle.addr2line_lines.specs.Shortest.{first_listed, holding, holds, least, lowest, range_length, shortest, IsNoLonger, LoneIsShortest, NoneIsShorter}
 use Rattle.addr2line_lines.proofs.LonePick.{from_contains, lone_is_picked}
 use Rattle.addr2line_lines.proofs.OrderLemmas.{All-in}
 use Rattle.addr2line_lines.proofs.PickLemmas.{In, In-filter, In-passes}
@@ -55,11 +55,11 @@ module _ {X : Type 0} (f : X → ℕ) where
       equal : (a b : ℕ) → (a == b) ≡ true → a ≡ b
       equal a b e = grind (arith, nat_tests)
 
-first_in : {X : Type 0} (xs : List X) (z : X) → In z xs → (x : X) × (first xs ≡ Some x) × In x xs
+first_in : {X : Type 0} (xs : List X) (z : X) → In z xs → (x : X) × (first_listed xs ≡ Some x) × In x xs
 first_in [] z h = absurd h
 first_in (x ∷ xs) z h = (x, refl, inl refl)
 
-in_first : {X : Type 0} (xs : List X) (z : X) → first xs ≡ Some z → In z xs
+in_first : {X : Type 0} (xs : List X) (z : X) → first_listed xs ≡ Some z → In z xs
 in_first [] z h = cc
 in_first (x ∷ xs) z h = inl cc
 

@@ -8,7 +8,7 @@ use Rattle.gimli_line.specs.declared.row.LineRow.{LineRow}
 use Rattle.addr2line_lines.specs.declared.row.Row.{Row}
 use Rattle.addr2line_lines.specs.declared.sequence.LineSequence.{LineSequence}
 use Rattle.addr2line_lines.specs.Sequences.{Sequence, stored_row}
-use Rattle.addr2line_lines.specs.Packed.{IsWithin, packed_rows_in, unpacked}
+use Rattle.addr2line_lines.specs.Packed.{RowsEndBy, packed_rows_in, unpacked}
 
 -- the sequences, and the rows of the one that goes on
 pub record Built : Type 0 where
@@ -45,21 +45,21 @@ closed (r ∷ rows) end =
     else None
 
 -- an end row
-abbrev pub ended : Built → LineRow → Built
-ended b end = record {
+abbrev pub built_ended : Built → LineRow → Built
+built_ended b end = record {
   sequences = b.sequences ++ option_to_list (closed b.pending end);
   pending = [];
 }
 
 -- one row more
-abbrev pub taken : Built → LineRow → Built
-taken b r =
-    if r.end_sequence then ended b r
+abbrev pub row_taken : Built → LineRow → Built
+row_taken b r =
+    if r.end_sequence then built_ended b r
     else record { sequences = b.sequences; pending = with_row b.pending r }
 
 -- what rows make of what there is
 abbrev pub all_taken : Built → List LineRow → Built
-all_taken b rows = fold taken b rows
+all_taken b rows = fold row_taken b rows
 
 -- what the fields of a builder stand for
 abbrev pub built : List Row → List LineSequence → ℕ → Built
@@ -71,5 +71,5 @@ built rows sequences first = record {
 -- the rows before place first, which is no further than the rows go, are those of the sequences
 pub record IsBuilder (rows : List Row) (sequences : List LineSequence) (first : ℕ) : Type 0 where
   pub upto : first ≤ length rows
-  pub each : AllByRecursion (IsWithin first) sequences
+  pub each : AllByRecursion (RowsEndBy first) sequences
   pub no_others : first ≡ packed_rows_in sequences

@@ -21,11 +21,11 @@ HasRoom (Narrow v) n = (n < 2 ^ 16) × (vec_len v < vec_capacity v)
 HasRoom (Wide v) n = vec_len v < vec_capacity v
 
 -- the rows of columns, as far as each column goes
-abbrev pub rows_from : List ℕ → List ℕ → List ℕ → List ℕ → List Row
-rows_from (a ∷ addresses) (f ∷ files) (l ∷ lines) (c ∷ columns) =
+abbrev pub rows_of_columns : List ℕ → List ℕ → List ℕ → List ℕ → List Row
+rows_of_columns (a ∷ addresses) (f ∷ files) (l ∷ lines) (c ∷ columns) =
     record { address = a; file_index = f; line = l; column = c }
-    ∷ rows_from addresses files lines columns
-rows_from _ _ _ _ = []
+    ∷ rows_of_columns addresses files lines columns
+rows_of_columns _ _ _ _ = []
 
 -- the columns are equally long
 pub record AreEven (addresses files lines columns : List ℕ) : Type 0 where

@@ -4,6 +4,6 @@ use Rattle.addr2line_lines.specs.declared.count.Node.{Node}
 use Rattle.addr2line_lines.specs.declared.count.Node.TheVariants.{Zero, After}
 
 -- the number of a node
-abbrev pub number_of : Node → ℕ
-number_of Zero = 0
-number_of (After s) = s.value + 1
+abbrev pub node_number : Node → ℕ
+node_number Zero = 0
+node_number (After s) = s.value + 1

@@ -139,17 +139,18 @@ open_after around x = elim x.entry [
     without_first (a ∷ rest) = rest
 
 -- items with the entries that are open around each
-abbrev pub placed : List Abbrev → List Item → List PlacedItem
-placed around [] = []
-placed around (x ∷ xs) = record { item = x; around = around } ∷ placed (open_after around x) xs
+abbrev pub placed_items : List Abbrev → List Item → List PlacedItem
+placed_items around [] = []
+placed_items around (x ∷ xs) =
+    record { item = x; around = around } ∷ placed_items (open_after around x) xs
 
 -- how many of entries are such
-abbrev pub number_of : (Abbrev → Bool) → List Abbrev → ℕ
-number_of such entries = length (filter such entries)
+abbrev pub count_of : (Abbrev → Bool) → List Abbrev → ℕ
+count_of such entries = length (filter such entries)
 
 -- whether an item is in no nested subprogram
 abbrev pub is_in_function : PlacedItem → Bool
-is_in_function x = number_of is_subprogram x.around == 0
+is_in_function x = count_of is_subprogram x.around == 0
 
 -- the inlined ranges after an inlined entry
 abbrev pub with_inlined_entry : Scope → UnitRecord → List InlinedRange → PlacedItem → Entry
@@ -157,7 +158,7 @@ abbrev pub with_inlined_entry : Scope → UnitRecord → List InlinedRange → P
 with_inlined_entry scope u found x e =
     inlined_attributes_of scope u e.attributes >>= λ a.
     attribute_ranges scope.file.sections u a.ranges >>= λ ranges.
-    Ok (found ++ inlined_ranges (number_of is_inlined x.around) x.item.offset a ranges)
+    Ok (found ++ inlined_ranges (count_of is_inlined x.around) x.item.offset a ranges)
 
 -- those after one more item, if it is an inlined entry and in no nested subprogram
 abbrev pub with_inlined : Scope → UnitRecord → List InlinedRange → PlacedItem
@@ -174,12 +175,13 @@ with_inlined scope u found x = elim x.item.entry [
 abbrev pub inlined_in : Scope → UnitRecord → EntriesLeft → Item → Result (List InlinedRange) Error
 inlined_in scope u left x =
     let inside = subtree_of x (items_from left.unit left.cursor) in
-    fold_run (with_inlined scope u) [] (placed [] inside.items) inside.end >>= λ found. Ok found.0
+    fold_run (with_inlined scope u) [] (placed_items [] inside.items) inside.end
+    >>= λ found. Ok found.0
 
 -- the entry of an item, which a closing entry isn't
-abbrev pub entry_of : ℕ → Option Item → Result (Item × Entry) Error
-entry_of offset None = Err (NoEntryAtGivenOffset offset)
-entry_of offset (Some x) =
+abbrev pub item_entry : ℕ → Option Item → Result (Item × Entry) Error
+item_entry offset None = Err (NoEntryAtGivenOffset offset)
+item_entry offset (Some x) =
     elim x.entry [ None ↦ Err (NoEntryAtGivenOffset offset) | Some e ↦ Ok (x, e) ]
 
 -- the details of the function whose entry begins at an offset of its unit, or the first fault
@@ -187,7 +189,7 @@ unfoldable pub detail_at : Scope → UnitRecord → ℕ → Result Detail Error
 detail_at scope u offset = do
   left ← entries_from u (Some offset)
   next ← next_item_at left.unit left.cursor
-  function ← entry_of offset next.0
+  function ← item_entry offset next.0
   name ← name_of scope u function.1.attributes
   inlined ← inlined_in scope u (record left { cursor = next.1 }) function.0
   Ok (record { name = name; inlined = inlined })
@@ -198,9 +200,9 @@ unfoldable pub placed_inside : Scope → UnitRecord → ℕ → Result (List Pla
 placed_inside scope u offset = do
   left ← entries_from u (Some offset)
   next ← next_item_at left.unit left.cursor
-  function ← entry_of offset next.0
+  function ← item_entry offset next.0
   name ← name_of scope u function.1.attributes
-  Ok (placed [] (subtree_of function.0 (items_from left.unit next.1)).items)
+  Ok (placed_items [] (subtree_of function.0 (items_from left.unit next.1)).items)
 
 -- whether the attributes of an inlined entry give a range before any fault
 abbrev pub inlined_gives_a_range : Scope → UnitRecord → Entry → Bool

@@ -13,8 +13,8 @@ use Rattle.gimli.specs.Unit.{UnitRecord, attr_string_of}
 use Rattle.addr2line_lines.specs.Files.{file_text, own_text}
 
 -- the bytes of a section, where there is one
-abbrev pub bytes_of : Option Section → Option (List ℕ)
-bytes_of s = option_map (λ (t : Section). t.bytes) s
+abbrev pub bytes_if_some : Option Section → Option (List ℕ)
+bytes_if_some s = option_map (λ (t : Section). t.bytes) s
 
 -- the string of a value, where there is one
 abbrev pub optional_string
@@ -31,7 +31,7 @@ unfoldable pub text_of_file : Sections → UnitRecord → Header → File → Re
 text_of_file d u h f = do
   directory ← optional_string d u (file_directory h f)
   path ← attr_string_of d u f.path_name
-  Ok (file_text (bytes_of u.comp_dir) (bytes_of directory) path.bytes)
+  Ok (file_text (bytes_if_some u.comp_dir) (bytes_if_some directory) path.bytes)
 
 -- the texts of files, one after another
 unfoldable pub texts_of : Sections → UnitRecord → Header → List File → Result (List (List ℕ)) Error
@@ -52,7 +52,8 @@ at_least_one (text ∷ texts) = text ∷ texts
 abbrev pub own_name_first
     : Sections → UnitRecord → Header → List File → Result (List (List ℕ)) Error
 own_name_first d u h files =
-    texts_after (own_text (bytes_of u.comp_dir) (bytes_of u.name) ∷ []) (texts_of d u h files)
+    texts_after (own_text (bytes_if_some u.comp_dir) (bytes_if_some u.name) ∷ [])
+    (texts_of d u h files)
 
 -- the texts by index, from 0 on
 abbrev pub file_texts : Sections → UnitRecord → Header → List File → Result (List (List ℕ)) Error

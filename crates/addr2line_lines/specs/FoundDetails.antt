@@ -34,14 +34,14 @@ use Rattle.addr2line_lines.specs.RangeAttributes.{all_ranges, attribute_ranges}
 use Rattle.addr2line_lines.specs.References.{Scope}
 
 -- a call
-abbrev pub seen_call : declared_call.CallSite → CallSite
-seen_call c = record { file = c.file; line = c.line; column = c.column }
+abbrev pub seen_call_site : declared_call.CallSite → CallSite
+seen_call_site c = record { file = c.file; line = c.line; column = c.column }
 
 -- what attributes of an inlined entry say
 abbrev pub seen_attributes : {R : Type 0} → (R → Section) → declared_attributes.InlinedAttributes R
     → InlinedAttributes
 seen_attributes see x =
-    record { ranges = x.ranges; name = option_map see x.name; call = seen_call x.call }
+    record { ranges = x.ranges; name = option_map see x.name; call = seen_call_site x.call }
 
 -- whether an attribute says of an entry's ranges
 abbrev pub is_range_name : DwAt → Bool
@@ -260,8 +260,8 @@ inside_found scope u unit cursor state =
 
 -- whether memory is taken for an item: an inlined entry gives a range before any fault, or an entry
 -- without a fault has children
-abbrev pub item_takes_memory : Scope → UnitRecord → FoundAround → Item → Bool
-item_takes_memory scope u state x = elim x.entry [
+abbrev pub inlined_item_takes_memory : Scope → UnitRecord → FoundAround → Item → Bool
+inlined_item_takes_memory scope u state x = elim x.entry [
   | None ↦ false
   | Some e ↦ entry_lists_a_range scope u state.around e
       || is_ok (with_entry_found scope u state.around x.offset state.found e)
@@ -271,13 +271,13 @@ item_takes_memory scope u state x = elim x.entry [
 -- the same, of an item that is read
 abbrev pub next_takes_memory
     : Scope → UnitRecord → FoundAround → Result (Option Item × EntryCursor) Error → Bool
-next_takes_memory scope u state (Ok (Some x, cursor)) = item_takes_memory scope u state x
+next_takes_memory scope u state (Ok (Some x, cursor)) = inlined_item_takes_memory scope u state x
 next_takes_memory scope u state _ = false
 
 -- whether memory is taken for one of items, with no fault before it
 abbrev pub items_left_take_memory : Scope → UnitRecord → FoundAround → List Item → Bool
 items_left_take_memory scope u state [] = false
-items_left_take_memory scope u state (x ∷ items) = item_takes_memory scope u state x
+items_left_take_memory scope u state (x ∷ items) = inlined_item_takes_memory scope u state x
     || elim (with_item_found scope u state x)
     [ Ok more ↦ items_left_take_memory scope u more items | Err e ↦ false ]
 
@@ -351,8 +351,8 @@ abbrev pub IsPlaceAmong : List InlinedEntry → InlinedFunctionAddress → Type 
 IsPlaceAmong entries a = a.function < length entries
 
 -- the ranges from a place on, by their inlined entries
-abbrev pub ranges_from : ℕ → FoundInlined → List InlinedRange
-ranges_from n found = map (range_among found.entries) (drop n found.ranges)
+abbrev pub found_ranges_from : ℕ → FoundInlined → List InlinedRange
+found_ranges_from n found = map (range_among found.entries) (drop n found.ranges)
 
 -- a list, and the same with more at its end
 pub record IsGrown {X : Type 0} (xs ys : List X) : Type 0 where

@@ -29,27 +29,27 @@ abbrev pub none_found : FoundFunctions
 none_found = record { offsets = []; addresses = [] }
 
 -- a range of the function of a place
-abbrev pub address_of : ℕ → Range → FunctionAddress
-address_of function range = record { range = range; function = function }
+abbrev pub function_address : ℕ → Range → FunctionAddress
+function_address function range = record { range = range; function = function }
 
 -- the ranges of a range list after others
 abbrev pub with_range_list : Sections → UnitRecord → ℕ → ℕ → List FunctionAddress
     → Result (List FunctionAddress) Error
 with_range_list d u offset function addresses = all_ranges (ranges_at d u offset) >>= λ ranges.
-    Ok (addresses ++ map (address_of function) ranges)
+    Ok (addresses ++ map (function_address function) ranges)
 
 -- the ranges of range attributes after others
 abbrev pub with_ranges : Sections → UnitRecord → RangeAttributes → ℕ → List FunctionAddress
     → Result (List FunctionAddress) Error
 with_ranges d u attributes function addresses = attribute_ranges d u attributes >>= λ ranges.
-    Ok (addresses ++ map (address_of function) ranges)
+    Ok (addresses ++ map (function_address function) ranges)
 
 -- one more function, if it has a range
 abbrev pub found_more : FoundFunctions → ℕ → List Range → FoundFunctions
 found_more found offset [] = found
 found_more found offset (r ∷ ranges) = record {
   offsets = found.offsets ++ record { 0 = offset } ∷ [];
-  addresses = found.addresses ++ map (address_of (length found.offsets)) (r ∷ ranges);
+  addresses = found.addresses ++ map (function_address (length found.offsets)) (r ∷ ranges);
 }
 
 -- the function of an entry that begins at an offset, if its attributes give a range
@@ -103,8 +103,8 @@ abbrev pub function_offsets : List LazyFunction → List UnitOffset
 function_offsets functions = map (λ (f : LazyFunction). f.dw_die_offset) functions
 
 -- what was found
-abbrev pub seen_found : Found → FoundFunctions
-seen_found f =
+abbrev pub seen_functions : Found → FoundFunctions
+seen_functions f =
     record { offsets = function_offsets f.functions.items; addresses = f.addresses.items }
 
 -- the detail of a function isn't read

@@ -17,24 +17,24 @@ use Rattle.addr2line_lines.specs.References.{EntryPlace}
 use Rattle.addr2line_lines.specs.SeenScope.{seen_scope}
 
 -- whether a unit begins at or below an offset
-abbrev pub begins_by : ℕ → UnitRecord → Bool
-begins_by offset u = leb u.header.offset.0 offset
+abbrev pub unit_begins_by : ℕ → UnitRecord → Bool
+unit_begins_by offset u = leb u.header.offset.0 offset
 
 -- a unit begins at or below an offset
 abbrev pub BeginsBy : ℕ → UnitRecord → Type 0
-BeginsBy offset u = begins_by offset u ≡ true
+BeginsBy offset u = unit_begins_by offset u ≡ true
 
 -- a unit begins above an offset
 abbrev pub BeginsAbove : ℕ → UnitRecord → Type 0
-BeginsAbove offset u = begins_by offset u ≡ false
+BeginsAbove offset u = unit_begins_by offset u ≡ false
 
 -- an entry by its place
 abbrev pub seen_place : {R : Type 0} → EntryPlaceOf R → EntryPlace
 seen_place p = record { scope = seen_scope p.scope; unit = p.unit.now; offset = p.offset.0 }
 
 -- what an entry that is referred to says of its name
-abbrev pub seen_name : {R : Type 0} → (R → Section) → NameOrOriginOf R → NameOrOrigin
-seen_name see n =
+abbrev pub seen_name_or_origin : {R : Type 0} → (R → Section) → NameOrOriginOf R → NameOrOrigin
+seen_name_or_origin see n =
     record { name = option_map see n.name; origin = option_map (seen_value see) n.origin }
 
 -- whether an attribute may give its entry a name
@@ -55,8 +55,8 @@ abbrev pub IsSplitAtName : List Specification → List Specification → Specifi
 IsSplitAtName all before x after = (all ≡ before ++ x ∷ after) × HasNoName before
 
 -- the linkage name that an attribute gives, beside what is found after it
-abbrev pub taken : Option Section → NameOrOrigin → Option Section × NameOrOrigin
-taken linkage found = (linkage, found)
+abbrev pub with_linkage : Option Section → NameOrOrigin → Option Section × NameOrOrigin
+with_linkage linkage found = (linkage, found)
 
 -- a string after what was found, if there is one
 abbrev pub with_string : Option Section → NameOrOrigin → NameOrOrigin

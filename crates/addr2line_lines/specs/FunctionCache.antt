@@ -41,14 +41,14 @@ abbrev pub HasPlace : KeptDetails → LazyFunction → Type 0
 HasPlace d f = (p : FunctionDetail) → f.detail ≡ Read p → IsDetailPlace d p
 
 -- two runs of which neither has an element of the other
-abbrev pub AreApart : ℕ → ℕ → ℕ → ℕ → Type 0
-AreApart begin end begin' end' = (end ≤ begin') ⊎ (end' ≤ begin)
+abbrev pub RunsAreApart : ℕ → ℕ → ℕ → ℕ → Type 0
+RunsAreApart begin end begin' end' = (end ≤ begin') ⊎ (end' ≤ begin)
 
 -- the runs of two details are apart
 pub record AreDetailsApart (p q : FunctionDetail) : Type 0 where
   pub name : p.name ≢ q.name
-  pub inlined : AreApart p.inlined_begin p.inlined_end q.inlined_begin q.inlined_end
-  pub ranges : AreApart p.ranges_begin p.ranges_end q.ranges_begin q.ranges_end
+  pub inlined : RunsAreApart p.inlined_begin p.inlined_end q.inlined_begin q.inlined_end
+  pub ranges : RunsAreApart p.ranges_begin p.ranges_end q.ranges_begin q.ranges_end
 
 -- a function's number of something, none before its detail is read
 abbrev pub size_of : (FunctionDetail → ℕ) → LazyFunction → ℕ

@@ -31,8 +31,8 @@ abbrev pub AreListed : FunctionTable → Type 0
 AreListed t = map (λ (f : CachedFunction). f.offset) t.functions ≡ entries_of t.ranges
 
 -- where the entry of a function begins, by its place
-abbrev pub offset_at : FunctionTable → ℕ → Option ℕ
-offset_at t n = option_map (λ (f : CachedFunction). f.offset) (slice_get t.functions n)
+abbrev pub cached_offset_at : FunctionTable → ℕ → Option ℕ
+cached_offset_at t n = option_map (λ (f : CachedFunction). f.offset) (slice_get t.functions n)
 
 -- the place of the function at the probe
 abbrev pub function_place_at : ℕ → FunctionTable → Option ℕ
@@ -96,9 +96,9 @@ IsReadOnce scope u n f None old result new =
 
 -- whether memory may be taken for the detail of a function: nothing is cached of the function, and
 -- readers share their bytes, or memory is taken for what it has
-abbrev pub takes_memory : Bool → Scope → UnitRecord → Option CachedFunction → Bool
-takes_memory shares scope u None = false
-takes_memory shares scope u (Some f) =
+abbrev pub cached_takes_memory : Bool → Scope → UnitRecord → Option CachedFunction → Bool
+cached_takes_memory shares scope u None = false
+cached_takes_memory shares scope u (Some f) =
     not (is_some f.detail) && (shares || detail_takes_memory scope u f.offset)
 
 -- whether the detail of a function can be read, by what is cached of it or by its entries
@@ -153,7 +153,7 @@ details_fault scope u (f ∷ functions) =
 -- or for those after it where that of the first can be read
 abbrev pub details_take_memory : Bool → Scope → UnitRecord → List CachedFunction → Bool
 details_take_memory shares scope u [] = false
-details_take_memory shares scope u (f ∷ functions) = takes_memory shares scope u (Some f)
+details_take_memory shares scope u (f ∷ functions) = cached_takes_memory shares scope u (Some f)
     || is_ok (read_fault scope u (Some f)) && details_take_memory shares scope u functions
 
 -- the detail of a function is cached, and has no fault

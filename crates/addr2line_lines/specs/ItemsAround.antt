@@ -9,7 +9,7 @@ use Rattle.gimli_read.specs.Reading.{◌>>=◌}
 use Rattle.gimli.specs.Entries.{entries_from}
 use Rattle.gimli.specs.Items.{Item, items_from, next_item_at, subtree_of}
 use Rattle.gimli.specs.Unit.{UnitRecord}
-use Rattle.addr2line_lines.specs.Details.{Detail, detail_at, entry_of, is_inlined, placed}
+use Rattle.addr2line_lines.specs.Details.{Detail, detail_at, item_entry, is_inlined, placed_items}
 use Rattle.addr2line_lines.specs.References.{Scope}
 
 -- the items inside the entry that begins at an offset of its unit, up to its end or the first fault
@@ -17,7 +17,7 @@ abbrev pub items_inside_at : UnitRecord → ℕ → Result (List Item) Error
 items_inside_at u offset = do
   left ← entries_from u (Some offset)
   next ← next_item_at left.unit left.cursor
-  entry ← entry_of offset next.0
+  entry ← item_entry offset next.0
   Ok (subtree_of entry.0 (items_from left.unit next.1)).items
 
 -- the subtree of an item among the items after it
@@ -58,7 +58,8 @@ abbreviations_of items = filter_map (λ (x : Item). option_map (λ e. e.abbrevia
 abbrev pub OpenAreAround : Type 0
 OpenAreAround =
     (u : UnitRecord) (offset : ℕ) (items : List Item) → items_inside_at u offset ≡ Ok items
-    → All (λ x. x.around ≡ abbreviations_of (items_around x.item.offset items)) (placed [] items)
+    → All (λ x. x.around ≡ abbreviations_of (items_around x.item.offset items))
+    (placed_items [] items)
 
 -- the depth of a range is the number of inlined entries around the entry that it is of
 abbrev pub DepthsAreNumbers : Type 0

@@ -29,9 +29,9 @@ pub record IsHeldAround (Around : InlinedRange → InlinedRange → Type 0) (ran
   pub holds_it : inlined_holds probe outer ≡ true
 
 -- each address of a range whose entry is inside another is held by a listed range around it
-abbrev pub IsWithin : (InlinedRange → InlinedRange → Type 0) → List InlinedRange → InlinedRange
-    → Type 0
-IsWithin Around ranges x = 0 < x.depth → (probe : ℕ) → inlined_holds probe x ≡ true
+abbrev pub IsHeldByListed : (InlinedRange → InlinedRange → Type 0) → List InlinedRange
+    → InlinedRange → Type 0
+IsHeldByListed Around ranges x = 0 < x.depth → (probe : ℕ) → inlined_holds probe x ≡ true
     → IsHeldAround Around ranges x probe
 
 -- no other range of the same depth holds an address of z
@@ -42,7 +42,7 @@ IsAlone ranges z = All (λ x. x.depth ≡ z.depth → (probe : ℕ) → inlined_
 -- ranges lie within those that are around them, and those of a depth don't overlap
 pub record AreNested (Around : InlinedRange → InlinedRange → Type 0) (ranges : List InlinedRange)
     : Type 0 where
-  pub within : All (IsWithin Around ranges) ranges
+  pub within : All (IsHeldByListed Around ranges) ranges
   pub apart : All (IsAlone ranges) ranges
 
 -- each entry is the one around the next

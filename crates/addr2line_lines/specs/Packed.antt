@@ -34,17 +34,17 @@ abbrev pub packed_rows_in : List LineSequence → ℕ
 packed_rows_in sequences = sum_by (λ (s : LineSequence). s.len) sequences
 
 -- the rows of a sequence are before place n
-abbrev pub IsWithin : ℕ → LineSequence → Type 0
-IsWithin n s = s.first + s.len ≤ n
+abbrev pub RowsEndBy : ℕ → LineSequence → Type 0
+RowsEndBy n s = s.first + s.len ≤ n
 
 -- the rows of a sequence are among all rows, and rise
 pub record IsAmong (rows : List Row) (s : LineSequence) : Type 0 where
-  pub within : IsWithin (length rows) s
+  pub within : RowsEndBy (length rows) s
   pub rising : IsRising (unpacked rows s)
 
 -- the address of a row, 0 past the last one
-abbrev pub address_at : List Row → ℕ → ℕ
-address_at rows i =
+abbrev pub row_address_at : List Row → ℕ → ℕ
+row_address_at rows i =
     (slice_index_or rows i (record { address = 0; file_index = 0; line = 0; column = 0 })).address
 
 -- sequences by start, then by end, whose rows are among all rows
@@ -56,7 +56,7 @@ pub record IsTable (sequences : List LineSequence) (rows : List Row) : Type 0 wh
 -- from a place on the rows of the sequence are past the probe
 abbrev pub ArePastFrom : ℕ → List Row → LineSequence → ℕ → Type 0
 ArePastFrom probe rows s from =
-    (j : ℕ) → from ≤ j → j < s.first + s.len → probe < address_at rows j
+    (j : ℕ) → from ≤ j → j < s.first + s.len → probe < row_address_at rows j
 
 -- the rows, and the sequences in the program's order and as they are searched
 pub record Packed : Type 0 where
@@ -68,7 +68,7 @@ pub record Packed : Type 0 where
 pub record AreBlocks (rows : List Row) (addresses : List ℕ) : Type 0 where
   pub each : length addresses ≡ blocks (length rows)
   pub at : (k : ℕ) → block_rows * k < length rows
-      → slice_index addresses k ≡ address_at rows (block_rows * k)
+      → slice_index addresses k ≡ row_address_at rows (block_rows * k)
 
 -- the rows are those of the sequences, the searched sequences are the listed ones in
 -- order, and the coarse list has the first address of each block

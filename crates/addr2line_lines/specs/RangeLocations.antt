@@ -43,9 +43,10 @@ locations_in_range table unit low high =
     located_along table (max low unit.begin) (min high unit.end)
 
 -- the range of a sequence
-abbrev pub range_of : Sequence → Range
-range_of s = record { begin = s.start; end = s.end }
+abbrev pub sequence_range : Sequence → Range
+sequence_range s = record { begin = s.start; end = s.end }
 
 -- the ranges of the sequences, in order
 abbrev pub sequence_ranges : LineTable → List Range
-sequence_ranges table = map range_of (in_order (begins_sooner start_of end_of) table.sequences)
+sequence_ranges table =
+    map sequence_range (in_order (begins_sooner start_of end_of) table.sequences)

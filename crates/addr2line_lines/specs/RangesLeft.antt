@@ -44,8 +44,8 @@ spans_of_sequence s =
     filter (meets s.low s.high) (spans_left s.end s.packed.now.rows s.place s.until)
 
 -- the rows of a unit that are left and that a range meets
-abbrev pub rows_left : LineLocationRangeIter → List LocatedSpan
-rows_left i =
+abbrev pub located_rows_left : LineLocationRangeIter → List LocatedSpan
+located_rows_left i =
     located_left (map string_bytes i.files.now) i.low i.high (spans_of_sequence i.current)
     i.packed.now i.next
 

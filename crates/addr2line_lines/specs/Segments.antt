@@ -23,8 +23,8 @@ abbrev pub address_holds : ℕ → FunctionAddress → Bool
 address_holds probe a = holds address_begin address_end probe a
 
 -- the function with the shortest range that holds the probe
-abbrev pub function_at : ℕ → List FunctionAddress → Option ℕ
-function_at probe addresses =
+abbrev pub shortest_function_at : ℕ → List FunctionAddress → Option ℕ
+shortest_function_at probe addresses =
     option_map address_function
     (shortest address_begin address_end address_function probe addresses)
 

@@ -30,14 +30,14 @@ abbrev pub lowest : {X : Type 0} → (X → ℕ) → List X → List X
 lowest f xs = filter (λ x. f x == least f xs) xs
 
 -- the first one listed
-abbrev pub first : {X : Type 0} → List X → Option X
-first [] = None
-first (x ∷ xs) = Some x
+abbrev pub first_listed : {X : Type 0} → List X → Option X
+first_listed [] = None
+first_listed (x ∷ xs) = Some x
 
 -- of the ranges that hold the probe the shortest, of equal lengths the one of the least place
 abbrev pub shortest : {X : Type 0} → (X → ℕ) → (X → ℕ) → (X → ℕ) → ℕ → List X → Option X
 shortest begin end place probe xs =
-    first (lowest place (lowest (range_length begin end) (holding begin end probe xs)))
+    first_listed (lowest place (lowest (range_length begin end) (holding begin end probe xs)))
 
 -- a range is shorter than another, or as long and of no greater place
 abbrev pub IsNoLonger : {X : Type 0} → (X → ℕ) → (X → ℕ) → (X → ℕ) → X → X → Type 0

@@ -2,7 +2,7 @@
 
 ghost use Rattle.std.specs.Prelude.{◌≡◌, ◌<◌, [], ◌∷◌, ◌++◌, length, map, take, slice_get, slice_index, vec_len, vec_capacity, IfOk, OnOk, OnErr, Some};
 ghost use Rattle.addr2line_lines.specs.Columns.{indexes_of, is_beyond, HasRoom};
-ghost use Rattle.addr2line_lines.specs.Packed.{address_at};
+ghost use Rattle.addr2line_lines.specs.Packed.{row_address_at};
 
 use crate::row::Row;
 use std::alloc::{AllocError, Global};
@@ -119,11 +119,11 @@ pub(crate) struct Columns {
 impl Model for Columns {
     ghost use Rattle.std.specs.Prelude.{List};
     ghost use Rattle.addr2line_lines.specs.declared.row.Row.{Row};
-    ghost use Rattle.addr2line_lines.specs.Columns.{indexes_of, rows_from, AreEven};
+    ghost use Rattle.addr2line_lines.specs.Columns.{indexes_of, rows_of_columns, AreEven};
 
     ghost Value = { List Row };
 
-    ghost view = { λ c. rows_from c.addresses.items (indexes_of c.file_indexes) c.lines.items
+    ghost view = { λ c. rows_of_columns c.addresses.items (indexes_of c.file_indexes) c.lines.items
         c.columns.items };
 
     ghost invariant = { λ c. AreEven c.addresses.items (indexes_of c.file_indexes) c.lines.items
@@ -166,7 +166,7 @@ impl Columns {
     /// The address of a row by its place.
     pub(crate) fn address(&self, place: usize) -> u64
         requires there { place < length self.now }
-        ensures gives { result ≡ address_at self.now place }
+        ensures gives { result ≡ row_address_at self.now place }
     {
         self.addresses[place]
     }

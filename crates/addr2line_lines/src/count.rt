@@ -26,9 +26,9 @@ impl Model for Number {
 
     ghost Value = { ℕ };
 
-    ghost use Rattle.addr2line_lines.specs.Count.{number_of};
+    ghost use Rattle.addr2line_lines.specs.Count.{node_number};
 
-    ghost view = { λ a. number_of a.node };
+    ghost view = { λ a. node_number a.node };
 
     ghost size = { λ n. n };
 }

@@ -3,7 +3,7 @@
 ghost use Rattle.std.specs.Prelude.{◌≡◌, Ok, map, option_map, option_copied, string_bytes};
 ghost use Rattle.gimli_read.specs.Reading.{ExactlyUnlessOom};
 ghost use Rattle.gimli_read.specs.Form.{seen_value};
-ghost use Rattle.addr2line_lines.specs.FileTexts.{bytes_of, optional_string, file_directory, text_of_file, texts_of, at_least_one, texts_after, own_name_first, file_texts};
+ghost use Rattle.addr2line_lines.specs.FileTexts.{bytes_if_some, optional_string, file_directory, text_of_file, texts_of, at_least_one, texts_after, own_name_first, file_texts};
 
 use crate::path::{make_file_text, make_own_text};
 use gimli::line::{FileEntry, LineProgramHeader};
@@ -43,7 +43,7 @@ fn optional_string<R: Reader>(
 
 // The bytes of a reader, where there is one.
 fn bytes_of<R: Reader>(reader: &Option<R>) -> Option<&[u8]>
-    ensures gives { option_copied result ≡ bytes_of (option_map R.section reader.now) }
+    ensures gives { option_copied result ≡ bytes_if_some (option_map R.section reader.now) }
 {
     match reader {
         Some(reader) => Some(reader.to_slice()),

@@ -8,13 +8,13 @@ ghost use Rattle.addr2line_lines.specs.Details.{inlined_chain};
 ghost use Rattle.addr2line_lines.specs.FoundDetails.{entry_among, seen_inlined};
 ghost use Rattle.addr2line_lines.specs.FoundRanges.{is_function};
 ghost use Rattle.addr2line_lines.specs.FunctionCache.{read_at};
-ghost use Rattle.addr2line_lines.specs.FunctionTable.{AreCachedToFault, AreDetailsOf, AreListed, AreUnread, HasDetail, IsReadAt, IsTableMore, cached_inlined, cached_name, details_fault, details_take_memory, function_place_at, offset_at, read_fault, takes_memory};
+ghost use Rattle.addr2line_lines.specs.FunctionTable.{AreCachedToFault, AreDetailsOf, AreListed, AreUnread, HasDetail, IsReadAt, IsTableMore, cached_inlined, cached_name, details_fault, details_take_memory, function_place_at, cached_offset_at, read_fault, cached_takes_memory};
 ghost use Rattle.addr2line_lines.specs.Functions.{function_offset_at, functions_of, functions_take_memory, is_subprogram};
 ghost use Rattle.gimli.specs.Ranges.{ranges_at};
 ghost use Rattle.addr2line_lines.specs.RangeAttributes.{begins_well, gives_a_range};
 ghost use Rattle.addr2line_lines.specs.References.{IsScope};
 ghost use Rattle.addr2line_lines.specs.SeenScope.{seen_scope};
-ghost use Rattle.addr2line_lines.specs.FoundFunctions.{AreFoundUnread, found_at, found_in, item_takes_memory, none_found, seen_found, with_attributes, with_range_list, with_ranges};
+ghost use Rattle.addr2line_lines.specs.FoundFunctions.{AreFoundUnread, found_at, found_in, item_takes_memory, none_found, seen_functions, with_attributes, with_range_list, with_ranges};
 
 use crate::details::{Details, FunctionDetail};
 use crate::function::{RangeAttributes, has_range_attribute, read_range_attributes};
@@ -95,7 +95,7 @@ fn push_ranges<R: Reader>(
 
 impl Found {
     fn new(alloc: Global) -> Found
-        ensures gives { seen_found result ≡ none_found }
+        ensures gives { seen_functions result ≡ none_found }
         ensures unread { AreFoundUnread result }
     {
         Found {
@@ -113,8 +113,8 @@ impl Found {
     ) -> Result<(), Error>
         ensures gives { ExactlyUnlessOomIf
             (gives_a_range unit.entry.dwarf.now unit.entry.unit.now attributes.now)
-            (λ _. seen_found self.new) result (with_attributes unit.entry.dwarf.now
-            unit.entry.unit.now attributes.now offset.0 (seen_found self.old)) }
+            (λ _. seen_functions self.new) result (with_attributes unit.entry.dwarf.now
+            unit.entry.unit.now attributes.now offset.0 (seen_functions self.old)) }
         ensures unread { AreFoundUnread self.old → AreFoundUnread self.new }
     {
         let before = self.addresses.len();
@@ -154,9 +154,9 @@ fn read_item<R: Reader>(
     requires some { (length entries.old.cursor.left.bytes == 0) ≡ false }
     ensures gives { ExactlyUnlessOomIf (item_takes_memory R.shares unit.entry.dwarf.now
         unit.entry.unit.now entries.old.unit entries.old.cursor)
-        (λ _. (seen_found found.new, entries.new.cursor)) result
+        (λ _. (seen_functions found.new, entries.new.cursor)) result
         (found_at unit.entry.dwarf.now unit.entry.unit.now entries.old.unit entries.old.cursor
-        (seen_found found.old)) }
+        (seen_functions found.old)) }
     ensures unread { AreFoundUnread found.old → AreFoundUnread found.new }
     ensures unit { entries.new.unit ≡ entries.old.unit }
     ensures shorter { OnOk result
@@ -179,7 +179,7 @@ fn read_item<R: Reader>(
 // What is found of the functions of a unit, up to its end.
 fn read_functions<R: Reader>(alloc: Global, unit: UnitRef<'_, R>) -> Result<Found, Error>
     ensures gives { ExactlyUnlessOomIf (functions_take_memory R.shares unit.entry.dwarf.now
-        unit.entry.unit.now) seen_found result
+        unit.entry.unit.now) seen_functions result
         (found_in unit.entry.dwarf.now unit.entry.unit.now) }
     ensures unread { IfOk result AreFoundUnread }
 {
@@ -261,7 +261,7 @@ impl<R: Reader> Functions<R> {
     /// The place of the function at an address: of the function with the shortest range that holds
     /// `probe`, of equal lengths of the first; none where no range holds it. Takes no memory.
     pub fn find(&self, probe: u64) -> Option<usize>
-        ensures found { option_and_then (offset_at self.now) result
+        ensures found { option_and_then (cached_offset_at self.now) result
             ≡ function_offset_at probe self.now.ranges }
         ensures place { result ≡ function_place_at probe self.now }
         ensures there { IfSome result (λ n. n < length self.now.functions) }
@@ -272,7 +272,7 @@ impl<R: Reader> Functions<R> {
     /// Where the entry begins of the function of a place, in bytes from the start of the unit's
     /// length; none past the last function. Takes no memory.
     pub fn offset(&self, place: usize) -> Option<UnitOffset>
-        ensures gives { option_map (λ o. o.0) result ≡ offset_at self.now place }
+        ensures gives { option_map (λ o. o.0) result ≡ cached_offset_at self.now place }
     {
         let function = self.functions.get(place)?;
         Some(function.dw_die_offset)
@@ -292,8 +292,8 @@ impl<R: Reader> Functions<R> {
     pub fn read(&mut self, scope: Scope<'_, R>, unit: &Unit<R>, place: usize) -> Result<(), Error>
         requires in_order { IsScope (seen_scope scope) }
         ensures gives { IsReadAt (seen_scope scope.entry) unit.now place self.old result self.new }
-        ensures exact { ExactlyUnlessOomIf (takes_memory R.shares (seen_scope scope.entry) unit.now
-            (slice_get self.old.functions place)) (λ x. x) result
+        ensures exact { ExactlyUnlessOomIf (cached_takes_memory R.shares (seen_scope scope.entry)
+            unit.now (slice_get self.old.functions place)) (λ x. x) result
             (read_fault (seen_scope scope.entry) unit.now (slice_get self.old.functions place)) }
     {
         let Some(function) = self.functions.get(place) else {
@@ -353,8 +353,8 @@ impl<R: Reader> Functions<R> {
         requires unread { slice_get self.old.functions place
             ≡ Some (record { offset = offset.0; detail = None }) }
         ensures gives { IsReadAt (seen_scope scope.entry) unit.now place self.old result self.new }
-        ensures exact { ExactlyUnlessOomIf (takes_memory R.shares (seen_scope scope.entry) unit.now
-            (slice_get self.old.functions place)) (λ x. x) result
+        ensures exact { ExactlyUnlessOomIf (cached_takes_memory R.shares (seen_scope scope.entry)
+            unit.now (slice_get self.old.functions place)) (λ x. x) result
             (read_fault (seen_scope scope.entry) unit.now (slice_get self.old.functions place)) }
     {
         match self.details.read(scope, unit, offset) {

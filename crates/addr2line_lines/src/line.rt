@@ -7,7 +7,7 @@ ghost use Rattle.std.specs.String.{string_bytes};
 ghost use Rattle.addr2line_lines.specs.Packed.{IsAmong, packed_rows_in, unpacked};
 ghost use Rattle.addr2line_lines.specs.Counts.{most_looks_in};
 ghost use Rattle.addr2line_lines.specs.RangeLocations.{locations_in_range, sequence_ranges};
-ghost use Rattle.addr2line_lines.specs.RangesLeft.{rows_left};
+ghost use Rattle.addr2line_lines.specs.RangesLeft.{located_rows_left};
 ghost use Rattle.gimli_read.specs.Reading.{ExactlyUnlessOomIf, IsUnlessOom};
 ghost use Rattle.addr2line_lines.specs.UnitLines.{program_lines, unit_lines};
 ghost use Rattle.addr2line_lines.specs.Location.{location_at, location_of_row};
@@ -186,7 +186,7 @@ impl Lines {
     ///
     /// Source: DWARF 5, section 6.2.2. Own: the order, and what is met.
     pub fn find_location_range(&self, unit: Range, low: u64, high: u64) -> LineLocationRangeIter<'_>
-        ensures gives { rows_left result ≡ locations_in_range self.now unit low high }
+        ensures gives { located_rows_left result ≡ locations_in_range self.now unit low high }
     {
         self.packed.known();
         let low = low.max(unit.begin);

@@ -5,7 +5,7 @@ ghost use Rattle.std.specs.List.{position};
 ghost use Rattle.gimli_read.specs.Form.{rest_of, seen_value};
 ghost use Rattle.gimli_read.specs.Reading.{Exactly, ExactlyUnlessOomIf};
 ghost use Rattle.gimli.specs.Entry.{attributes_at};
-ghost use Rattle.addr2line_lines.specs.FoundNames.{HasNoName, IsSplitAtName, is_name_attribute, is_name_specification, seen_name, seen_place, taken, with_origin, with_string};
+ghost use Rattle.addr2line_lines.specs.FoundNames.{HasNoName, IsSplitAtName, is_name_attribute, is_name_specification, seen_name_or_origin, seen_place, with_linkage, with_origin, with_string};
 ghost use Rattle.addr2line_lines.specs.Names.{is_linkage_name, is_origin, linkage_name_of, named_at, no_name, readable, referred_name, visited, with_name, with_name_or_origin};
 ghost use Rattle.addr2line_lines.specs.References.{IsScope};
 ghost use Rattle.addr2line_lines.specs.SeenScope.{seen_scope};
@@ -99,7 +99,7 @@ struct NameOrOrigin<R: Reader> {
 impl<R: Reader> NameOrOrigin<R> {
     // Before the first attribute.
     fn new() -> NameOrOrigin<R>
-        ensures gives { seen_name R.section result ≡ no_name }
+        ensures gives { seen_name_or_origin R.section result ≡ no_name }
     {
         NameOrOrigin {
             name: None,
@@ -109,8 +109,8 @@ impl<R: Reader> NameOrOrigin<R> {
 
     // Sets the name to a string, if it is one.
     fn set_name(&mut self, string: Option<R>)
-        ensures gives { seen_name R.section self.new ≡ with_string (option_map R.section string)
-            (seen_name R.section self.old) }
+        ensures gives { seen_name_or_origin R.section self.new
+            ≡ with_string (option_map R.section string) (seen_name_or_origin R.section self.old) }
     {
         if string.is_some() {
             self.name = string;
@@ -119,8 +119,8 @@ impl<R: Reader> NameOrOrigin<R> {
 
     // Sets where else to look.
     fn set_origin(&mut self, value: AttributeValue<R>)
-        ensures gives { seen_name R.section self.new ≡ with_origin (seen_value R.section value)
-            (seen_name R.section self.old) }
+        ensures gives { seen_name_or_origin R.section self.new
+            ≡ with_origin (seen_value R.section value) (seen_name_or_origin R.section self.old) }
     {
         self.origin = Some(value);
     }
@@ -133,10 +133,11 @@ impl<R: Reader> NameOrOrigin<R> {
         attribute: Attribute<R>,
     ) -> Result<Option<R>, Error>
         ensures gives { ExactlyUnlessOomIf R.shares
-            (λ linkage. taken (option_map R.section linkage) (seen_name R.section self.new)) result
-            (Ok (taken (linkage_name_of (seen_scope scope.entry) unit.now attribute)
+            (λ linkage. with_linkage (option_map R.section linkage)
+            (seen_name_or_origin R.section self.new)) result
+            (Ok (with_linkage (linkage_name_of (seen_scope scope.entry) unit.now attribute)
             (with_name_or_origin (seen_scope scope.entry) unit.now
-            (seen_name R.section self.old) attribute))) }
+            (seen_name_or_origin R.section self.old) attribute))) }
     {
         let name = attribute.name();
         let value = attribute.value();
@@ -181,7 +182,7 @@ fn read_names<R: Reader>(
     specifications: &[AttributeSpecification],
 ) -> Result<NameOrOrigin<R>, Error>
     requires encoding { entries.old.unit.encoding ≡ place.unit.now.header.encoding }
-    ensures gives { ExactlyUnlessOomIf R.shares (seen_name R.section) result
+    ensures gives { ExactlyUnlessOomIf R.shares (seen_name_or_origin R.section) result
         (named_at (seen_scope place.entry.scope) place.entry.unit.now specifications.now
         entries.old.cursor.left no_name) }
 {
@@ -205,7 +206,7 @@ fn read_names<R: Reader>(
 // What the entry at a place says of its name.
 #[tactic(auto, unfolding(crate::specs::Names::visited))]
 fn visit<R: Reader>(place: EntryPlace<'_, R>) -> Result<NameOrOrigin<R>, Error>
-    ensures gives { ExactlyUnlessOomIf R.shares (seen_name R.section) result
+    ensures gives { ExactlyUnlessOomIf R.shares (seen_name_or_origin R.section) result
         (visited (seen_place place.entry)) }
 {
     let file = place.scope.file;

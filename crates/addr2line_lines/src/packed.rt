@@ -3,7 +3,7 @@
 ghost use Rattle.std.specs.Prelude.{◌≡◌, [], ◌<◌, ◌^◌, length, slice_get, Some, IfOk, OnOk, OnErr};
 ghost use Rattle.std.specs.List.{AllByRecursion};
 ghost use Rattle.addr2line_lines.specs.InOrder.{in_order};
-ghost use Rattle.addr2line_lines.specs.Packed.{AreBlocks, IsAmong, address_at, IsTable, packed_rows_in, packed_sooner};
+ghost use Rattle.addr2line_lines.specs.Packed.{AreBlocks, IsAmong, row_address_at, IsTable, packed_rows_in, packed_sooner};
 
 use crate::columns::Columns;
 use crate::count::Count;
@@ -108,7 +108,7 @@ impl PackedRows {
     /// The address of a row by its place.
     pub(crate) fn address(&self, place: usize) -> u64
         requires there { place < length self.now.rows }
-        ensures gives { result ≡ address_at self.now.rows place }
+        ensures gives { result ≡ row_address_at self.now.rows place }
     {
         self.rows.address(place)
     }

@@ -5,7 +5,7 @@ ghost use Rattle.std.specs.Iterator.{YieldsFirst, YieldsFirstBy, item_count};
 ghost use Rattle.std.specs.String.{string_bytes};
 ghost use Rattle.addr2line_lines.specs.Packed.{IsAmong, unpacked};
 ghost use Rattle.addr2line_lines.specs.RangeLocations.{located, located_in, meets};
-ghost use Rattle.addr2line_lines.specs.RangesLeft.{packed_range, rows_left, seen_located, seen_span, spans_left, spans_of_sequence};
+ghost use Rattle.addr2line_lines.specs.RangesLeft.{packed_range, located_rows_left, seen_located, seen_span, spans_left, spans_of_sequence};
 ghost use Rattle.addr2line_lines.specs.Spans.{spans};
 
 use crate::location::{Location, row_location};
@@ -126,7 +126,7 @@ impl<'a> LineLocationRangeIter<'a> {
         low: u64,
         high: u64,
     ) -> LineLocationRangeIter<'a>
-        ensures gives { rows_left result
+        ensures gives { located_rows_left result
             ≡ flat_map (located_in (map string_bytes files.now) low high)
             (map (unpacked packed.now.rows) packed.now.sequences) }
     {
@@ -144,9 +144,9 @@ impl<'a> LineLocationRangeIter<'a> {
 impl<'a> Iterator for LineLocationRangeIter<'a> {
     type Item = (u64, u64, Location<'a>);
 
-    ghost next_gives = { YieldsFirstBy seen_located rows_left };
+    ghost next_gives = { YieldsFirstBy seen_located located_rows_left };
 
-    ghost remaining = { item_count rows_left };
+    ghost remaining = { item_count located_rows_left };
 
     /// The next row: its address, the length of its span, and its location. Takes no memory.
     fn next(&mut self) -> Option<(u64, u64, Location<'a>)> {

@@ -4,7 +4,7 @@ ghost use Rattle.std.specs.Prelude.{◌≡◌, ℕ, ◌+◌, ◌-◌, ◌*◌, �
 ghost use Rattle.gimli_read.specs.Topmost.{last};
 ghost use Rattle.addr2line_lines.specs.Digits.{digits};
 ghost use Rattle.addr2line_lines.specs.InOrder.{IsInOrder};
-ghost use Rattle.addr2line_lines.specs.Packed.{ArePastFrom, IsAmong, IsTable, address_at, packed_sooner, packed_start, unpacked};
+ghost use Rattle.addr2line_lines.specs.Packed.{ArePastFrom, IsAmong, IsTable, row_address_at, packed_sooner, packed_start, unpacked};
 ghost use Rattle.addr2line_lines.specs.Counts.{block_rows, blocks, most_looks};
 ghost use Rattle.addr2line_lines.specs.Pick.{at_or_below};
 ghost use Rattle.addr2line_lines.specs.Spans.{row_address, row_at};
@@ -41,7 +41,7 @@ pub(crate) trait Table {
     /// A look at the first address of a block.
     fn block(&mut self, place: usize) -> u64
         requires there { block_rows * place < length (rows self.old) }
-        ensures gives { result ≡ address_at (rows self.old) (block_rows * place) }
+        ensures gives { result ≡ row_address_at (rows self.old) (block_rows * place) }
         ensures looks { looks self.new ≡ looks self.old + 1 }
         ensures sequences { sequences self.new ≡ sequences self.old }
         ensures rows { rows self.new ≡ rows self.old };
@@ -88,7 +88,7 @@ fn first_row<T: Table>(table: &mut T, sequence: LineSequence, probe: u64) -> usi
     requires below { sequence.start ≤ probe }
     ensures from { sequence.first ≤ result }
     ensures inside { result < sequence.first + sequence.len }
-    ensures below { address_at (T.rows table.old) result ≤ probe }
+    ensures below { row_address_at (T.rows table.old) result ≤ probe }
     ensures past { ArePastFrom probe (T.rows table.old) sequence
         (result - result % block_rows + block_rows) }
     ensures cost { T.looks table.new
@@ -118,7 +118,7 @@ fn last_row<T: Table>(table: &mut T, sequence: LineSequence, from: usize, probe:
     requires among { IsAmong (T.rows table.old) sequence }
     requires from { sequence.first ≤ from }
     requires inside { from < sequence.first + sequence.len }
-    requires below { address_at (T.rows table.old) from ≤ probe }
+    requires below { row_address_at (T.rows table.old) from ≤ probe }
     requires past { ArePastFrom probe (T.rows table.old) sequence
         (from - from % block_rows + block_rows) }
     ensures found { Some result ≡

@@ -6,7 +6,7 @@ ghost use Rattle.std.specs.List.Sorted.{IsNonDecreasingBy, IsPermutation};
 ghost use Rattle.std.specs.Option.{option_map};
 ghost use Rattle.gimli_read.specs.declared.error.Error.TheVariants.{OutOfMemory};
 ghost use Rattle.gimli_read.specs.Reading.{ExactlyUnlessOomIf};
-ghost use Rattle.addr2line_lines.specs.Segments.{AreSegments, address_begin, first_end, function_at, as_running, segment_to};
+ghost use Rattle.addr2line_lines.specs.Segments.{AreSegments, address_begin, first_end, shortest_function_at, as_running, segment_to};
 ghost use Rattle.addr2line_lines.specs.Sweep.{IsBegunFrom, IsGreatestFirst, IsSweptBy};
 
 use gimli::read::{Error, Range};
@@ -198,7 +198,7 @@ impl Segments {
     /// The function with the shortest range that holds `probe`, of equal lengths the first listed
     /// function; none where no range holds it. Takes no memory.
     pub fn find(&self, probe: u64) -> Option<usize>
-        ensures found { result ≡ function_at probe self.now }
+        ensures found { result ≡ shortest_function_at probe self.now }
     {
         let past = self.segments.partition_point(|s| s.range.begin <= probe);
         if past == 0 {

@@ -7,8 +7,8 @@ ghost use Rattle.gimli_read.specs.Reading.{ExactlyUnlessOom};
 ghost use Rattle.addr2line_lines.specs.Rows.{read_all, result_map};
 ghost use Rattle.addr2line_lines.specs.Sequences.{sequences_of};
 ghost use Rattle.gimli_line.specs.Rises.{NeverFalls};
-ghost use Rattle.addr2line_lines.specs.Packed.{IsAmong, IsWithin, packed_rows_in, unpacked};
-ghost use Rattle.addr2line_lines.specs.Building.{closed, ended, has_address, nothing_built, taken, without_last};
+ghost use Rattle.addr2line_lines.specs.Packed.{IsAmong, RowsEndBy, packed_rows_in, unpacked};
+ghost use Rattle.addr2line_lines.specs.Building.{closed, built_ended, has_address, nothing_built, row_taken, without_last};
 
 use crate::columns::Columns;
 use crate::row::stored_row;
@@ -92,7 +92,7 @@ impl Builder {
 
     // Ends the sequence that goes on; where it is none, its rows are dropped.
     fn close(&mut self, end: LineRow) -> Result<(), AllocError>
-        ensures gives { OnOk result (self.new ≡ ended self.old end) }
+        ensures gives { OnOk result (self.new ≡ built_ended self.old end) }
     {
         match closed(&self.rows, self.first, end) {
             Some(sequence) => {
@@ -117,7 +117,7 @@ impl Builder {
 
     // Takes a row: it ends the sequence that goes on, replaces the last row, or follows it.
     fn take_row(&mut self, alloc: Global, row: LineRow) -> Result<(), AllocError>
-        ensures gives { OnOk result (self.new ≡ taken self.old row) }
+        ensures gives { OnOk result (self.new ≡ row_taken self.old row) }
     {
         if row.end_sequence {
             return self.close(row);
@@ -130,7 +130,7 @@ impl Builder {
     // The rows and the sequences, without the rows that no end row follows.
     fn finish(self) -> UnitRows
         ensures gives { map (unpacked result.rows) result.sequences.items ≡ self.sequences }
-        ensures within { AllByRecursion (IsWithin (length result.rows)) result.sequences.items }
+        ensures within { AllByRecursion (RowsEndBy (length result.rows)) result.sequences.items }
         ensures no_others { length result.rows ≡ packed_rows_in result.sequences.items }
     {
         let mut rows = self.rows;

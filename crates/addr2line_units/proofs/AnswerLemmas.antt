@@ -18,7 +18,7 @@ use Rattle.addr2line_units.specs.FramesLookup.{answer_of, with_answer}
 use Rattle.addr2line_units.specs.KeptEntries.{AreEntriesOf, StayEntries, kept_answer}
 use Rattle.addr2line_units.specs.KeptFunctions.{AreFunctionsOf, were_read}
 use Rattle.addr2line_units.specs.KeptLookups.{StayAllEntries, answers_in, decided_at}
-use Rattle.addr2line_units.specs.KeptViews.{IsViewOf, is_decided, seen_answer, verdict_in, waits, was_looked_at}
+use Rattle.addr2line_units.specs.KeptViews.{IsViewOf, is_decided, seen_first_answer, verdict_in, waits, was_looked_at}
 use Rattle.addr2line_units.specs.Views.{View, decided_answer, is_open, verdict, view_scope}
 use Rattle.addr2line_units.proofs.KeptLookupLemmas.{stay_entries_set}
 
@@ -38,7 +38,7 @@ unread_are scope u (lazy.Faulty x) e = absurd cc
 -- where no functions were read the view is all that is kept
 pub unread_entries : {R : Type 0} (scope : Scope) (u : UnitRecord) (v : UnitView R) (f : LazyFunctions R) → IsViewOf scope.file.sections u v → were_read f ≡ false
     → AreEntriesOf scope u (record { view = v; functions = f })
-unread_entries {R} scope u v f h e = record { view = h; functions = by (verdict scope.file.sections u (seen_answer v)); unread = λ k. e }
+unread_entries {R} scope u v f h e = record { view = h; functions = by (verdict scope.file.sections u (seen_first_answer v)); unread = λ k. e }
   where
     by : (w : Option (Result View Error)) → IfSome w (λ view. IfOk view (λ x. AreFunctionsOf (view_scope scope x) x.unit f))
     by None = tt
@@ -56,8 +56,8 @@ no_answer None e = refl
 no_answer (Some x) e = absurd cc
 
 -- what was looked at waits where the unit is open
-pub looked_waits : {R : Type 0} (d : Sections) (u : UnitRecord) (v : UnitView R) → IsViewOf d u v → was_looked_at v.state ≡ true → waits v.state ≡ is_open d u (seen_answer v)
-looked_waits {R} d u v h k = by v.state (verdict d u (seen_answer v)) h.right k
+pub looked_waits : {R : Type 0} (d : Sections) (u : UnitRecord) (v : UnitView R) → IsViewOf d u v → was_looked_at v.state ≡ true → waits v.state ≡ is_open d u (seen_first_answer v)
+looked_waits {R} d u v h k = by v.state (verdict d u (seen_first_answer v)) h.right k
   where
     by : (s : ViewState R) (w : Option (Result View Error)) → IfSome (verdict_in d u s) (λ kept. kept ≡ w) → was_looked_at s ≡ true → waits s ≡ is_none w
     by states.Undecided w e l = absurd cc
@@ -88,8 +88,8 @@ decided_waits_not (states.Unnamed x) e = refl
 decided_waits_not (states.Answered a) e = refl
 
 -- whether the unit is open, by what waits after it was looked at
-pub open_by_look : {R : Type 0} (d : Sections) (u : UnitRecord) (v w : UnitView R) (b : Bool) → IsViewOf d u w → was_looked_at w.state ≡ true → seen_answer w ≡ seen_answer v → b ≡ waits w.state
-    → is_open d u (seen_answer v) ≡ b
+pub open_by_look : {R : Type 0} (d : Sections) (u : UnitRecord) (v w : UnitView R) (b : Bool) → IsViewOf d u w → was_looked_at w.state ≡ true → seen_first_answer w ≡ seen_first_answer v → b ≡ waits w.state
+    → is_open d u (seen_first_answer v) ≡ b
 open_by_look d u v w b h l same e = ap (λ a. is_open d u a) (sym same) ∙ sym (looked_waits d u w h l) ∙ sym e
 
 -- what was decided before a look doesn't wait after it

@@ -12,7 +12,7 @@ use Rattle.addr2line_units.specs.declared.view.ViewState.TheVariants as states
 use Rattle.addr2line_units.specs.FramesLookup.{answer_of, readable_view, view_of_number}
 use Rattle.addr2line_units.specs.KeptEntries.{kept_answer}
 use Rattle.addr2line_units.specs.KeptLookups.{HaveViewsOf, answers_in, decided_at}
-use Rattle.addr2line_units.specs.KeptViews.{IsViewOf, is_decided, kept_verdict, parts_or_fault, seen_answer}
+use Rattle.addr2line_units.specs.KeptViews.{IsViewOf, is_decided, kept_verdict, parts_or_fault, seen_first_answer}
 use Rattle.addr2line_units.specs.Views.{View, parts_of, verdict}
 use Rattle.addr2line_units.proofs.AnswerLemmas.{got_unit}
 use Rattle.addr2line_units.proofs.KeptLookupLemmas.{answer_at}
@@ -53,7 +53,7 @@ told_parts see (Some (Err g)) (Ok x) e h = absurd cc
 told_parts see (Some (Err g)) (Err f) e h = refl
 
 pub parts_at : {R T : Type 0} → (see : T → Sections × UnitRecord) (d : Sections) (us : List UnitRecord) (vs : List (UnitEntries R)) (n : ℕ) (u : UnitRecord) (v : UnitEntries R) (r : Result T Error)
-    → HaveViewsOf d us vs → decided_at vs n ≡ true → n < length us → n < length vs → u ≡ get_or us n u → v ≡ get_or vs n v → IfSome (verdict d u (seen_answer v.view)) (λ view. Exactly see r (parts_or_fault view))
+    → HaveViewsOf d us vs → decided_at vs n ≡ true → n < length us → n < length vs → u ≡ get_or us n u → v ≡ get_or vs n v → IfSome (verdict d u (seen_first_answer v.view)) (λ view. Exactly see r (parts_or_fault view))
     → option_map see (result_ok r) ≡ option_map parts_of (readable_view (view_of_number d us (answers_in vs) n))
 parts_at see d us vs n u v r own decided within there e f h =
     told_parts see (verdict d u (kept_answer v)) r (decided_has_verdict d u v is.0 is.1) h ∙ ap (λ w. option_map parts_of (readable_view w)) (sym same)

@@ -15,8 +15,8 @@ use Rattle.addr2line_units.specs.declared.view.ViewState.{ViewState}
 use Rattle.addr2line_units.specs.declared.view.ViewState.TheVariants as states
 use Rattle.addr2line_units.specs.Frames.{function_at}
 use Rattle.addr2line_units.specs.KeptEntries.{AreEntriesOf, StayEntries, has_answered, has_entries_by, kept_answer}
-use Rattle.addr2line_units.specs.KeptFunctions.{AreFunctionsOf, StayFunctions, has_function, is_kept, were_read}
-use Rattle.addr2line_units.specs.KeptViews.{IsViewOf, answer_in, is_decided, parts_or_fault, seen_answer, seen_sections, verdict_in, view_by, waits, was_looked_at}
+use Rattle.addr2line_units.specs.KeptFunctions.{AreFunctionsOf, StayFunctions, kept_has_function, is_kept, were_read}
+use Rattle.addr2line_units.specs.KeptViews.{IsViewOf, answer_in, is_decided, parts_or_fault, seen_first_answer, seen_sections, verdict_in, view_by, waits, was_looked_at}
 use Rattle.addr2line_units.specs.UnitFrames.{function_by, function_in, has_many, is_many}
 use Rattle.addr2line_units.specs.Views.{View, is_open, parts_of, verdict, view_scope}
 
@@ -46,7 +46,7 @@ module _ {R : Type 0} (scope : Scope) (u : UnitRecord) (old : UnitEntries R) (vi
   with_view v = record { view = v; functions = old.functions }
 
   -- what is kept stays right where the view is looked at
-  pub look_keeps : seen_answer view ≡ seen_answer old.view → AreEntriesOf scope u old → IsViewOf scope.file.sections u view → AreEntriesOf scope u (record { view = view; functions = old.functions })
+  pub look_keeps : seen_first_answer view ≡ seen_first_answer old.view → AreEntriesOf scope u old → IsViewOf scope.file.sections u view → AreEntriesOf scope u (record { view = view; functions = old.functions })
   look_keeps answer h right = record {
     view = right;
     functions = subst (λ a. IfSome (verdict scope.file.sections u a) (λ r. IfOk r (λ x. AreFunctionsOf (view_scope scope x) x.unit old.functions))) (sym answer) h.functions;
@@ -57,7 +57,7 @@ module _ {R : Type 0} (scope : Scope) (u : UnitRecord) (old : UnitEntries R) (vi
       by_look true e waiting = h.unread (ap (λ (v : UnitView R). is_decided v.state) (sym (kept e)) ∙ waiting)
       by_look false e waiting = h.unread (undecided old.view.state e)
 
-  pub look_stays : seen_answer view ≡ seen_answer old.view → StayEntries old (record { view = view; functions = old.functions })
+  pub look_stays : seen_first_answer view ≡ seen_first_answer old.view → StayEntries old (record { view = view; functions = old.functions })
   look_stays answer = record { answer = answer; view = kept; functions = functions_stay scope u old.functions }
 
 -- memory may be taken at any time
@@ -151,16 +151,16 @@ module _ {R : Type 0} (scope : Scope) (u : UnitRecord) (probe : ℕ) (old : Unit
     }
 
     -- what is known of the unit is what is known of the function
-    pub function_entries : (fs : LazyFunctions R) → has_entries_by probe old.view.state fs ≡ has_function probe fs
+    pub function_entries : (fs : LazyFunctions R) → has_entries_by probe old.view.state fs ≡ kept_has_function probe fs
     function_entries fs = by_kept old.view.state decided h.view.right
       where
-        by_kept : (s : ViewState R) → is_decided s ≡ true → IfSome (verdict_in scope.file.sections u s) (λ kept. kept ≡ here) → has_entries_by probe s fs ≡ has_function probe fs
+        by_kept : (s : ViewState R) → is_decided s ≡ true → IfSome (verdict_in scope.file.sections u s) (λ kept. kept ≡ here) → has_entries_by probe s fs ≡ kept_has_function probe fs
         by_kept states.Undecided d k = cc
         by_kept states.Open d k = cc
         by_kept states.Main d k = refl
         by_kept (states.Unnamed y) d k = let no = k ∙ v.is in absurd cc
         by_kept (states.Answered a) d k = by_unit a.unit (k ∙ v.is)
           where
-            by_unit : (r : Result (Option UnitRecord) Error) → Some (r >>= λ y. Ok (view_by scope.file.sections u (seen_sections a) y)) ≡ Some (Ok v.view) → has_answered probe r fs ≡ has_function probe fs
+            by_unit : (r : Result (Option UnitRecord) Error) → Some (r >>= λ y. Ok (view_by scope.file.sections u (seen_sections a) y)) ≡ Some (Ok v.view) → has_answered probe r fs ≡ kept_has_function probe fs
             by_unit (Ok y) k = refl
             by_unit (Err y) k = absurd cc

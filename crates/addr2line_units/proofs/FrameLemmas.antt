@@ -7,7 +7,7 @@ use Rattle.std.proofs.lemmas.Option.{slice_get-get_or}
 use Rattle.gimli_read.specs.declared.constants.DwLang.{DwLang}
 use Rattle.addr2line_lines.specs.Details.{InlinedEntry}
 use Rattle.addr2line_lines.specs.FoundDetails.{entry_among, no_inlined}
-use Rattle.addr2line_lines.specs.FunctionTable.{FunctionTable, cached_name, offset_at}
+use Rattle.addr2line_lines.specs.FunctionTable.{FunctionTable, cached_name, cached_offset_at}
 use Rattle.addr2line_lines.specs.Location.{Location}
 use Rattle.addr2line_units.specs.Frames.{call_location, frames_from, function_frame}
 use Rattle.addr2line_units.specs.FramesLeft.{entry_frame, frames_inside}
@@ -39,7 +39,7 @@ module _ (files : List (List ℕ)) (language : Option DwLang) (t : FunctionTable
       omega arith
 
   -- places that stand in the list are those of their entries
-  frames_by_entries : (offset : ℕ) → offset_at t place ≡ Some offset → (ns : List ℕ) → AllByRecursion (λ n. n < length t.inlined) ns → (location : Option Location)
+  frames_by_entries : (offset : ℕ) → cached_offset_at t place ≡ Some offset → (ns : List ℕ) → AllByRecursion (λ n. n < length t.inlined) ns → (location : Option Location)
       → frames_inside files language t place ns location ≡ frames_from files language offset (cached_name t place) (map (entry_among t.inlined) ns) location
   frames_by_entries offset at [] all location =
       ap (λ o. record { offset = o; function = option_map (λ n. record { name = n; language = language }) (cached_name t place); location = location } ∷ []) at
@@ -49,11 +49,11 @@ module _ (files : List (List ℕ)) (language : Option DwLang) (t : FunctionTable
 
   -- the same from the inside out, of the function of a place
   pub function_frames : (ns : List ℕ) → AllByRecursion (λ n. n < length t.inlined) ns → (location : Option Location)
-      → IfSome (offset_at t place) (λ offset. frames_inside files language t place (reverse ns) location
+      → IfSome (cached_offset_at t place) (λ offset. frames_inside files language t place (reverse ns) location
       ≡ frames_from files language offset (cached_name t place) (reverse (map (entry_among t.inlined) ns)) location)
-  function_frames ns all location = of_offset (offset_at t place) refl
+  function_frames ns all location = of_offset (cached_offset_at t place) refl
     where
-      of_offset : (o : Option ℕ) → offset_at t place ≡ o → IfSome o (λ offset. frames_inside files language t place (reverse ns) location
+      of_offset : (o : Option ℕ) → cached_offset_at t place ≡ o → IfSome o (λ offset. frames_inside files language t place (reverse ns) location
           ≡ frames_from files language offset (cached_name t place) (reverse (map (entry_among t.inlined) ns)) location)
       of_offset None at = tt
       of_offset (Some offset) at =

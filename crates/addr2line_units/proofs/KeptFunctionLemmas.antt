@@ -13,7 +13,7 @@ use Rattle.gimli.specs.Unit.{UnitRecord}
 use Rattle.addr2line_lines.specs.Details.{Detail, InlinedEntry, InlinedRange, detail_at, inlined_chain}
 use Rattle.addr2line_lines.specs.FoundDetails.{entry_among}
 use Rattle.addr2line_lines.specs.Functions.{FunctionRange, entries_of, function_offset_at, functions_of}
-use Rattle.addr2line_lines.specs.FunctionTable.{AreDetailsOf, AreListed, AreUnread, CachedFunction, FunctionTable, HasDetail, IsDetailOf, IsFunctionMore, IsReadAt, IsReadOf, IsReadOnce, IsTableMore, IsWithDetail, cached_detail, cached_inlined, cached_name, detail_fault, details_fault, details_take_memory, function_place_at, inlined_of_detail, name_of_detail, offset_at}
+use Rattle.addr2line_lines.specs.FunctionTable.{AreDetailsOf, AreListed, AreUnread, CachedFunction, FunctionTable, HasDetail, IsDetailOf, IsFunctionMore, IsReadAt, IsReadOf, IsReadOnce, IsTableMore, IsWithDetail, cached_detail, cached_inlined, cached_name, detail_fault, details_fault, details_take_memory, function_place_at, inlined_of_detail, name_of_detail, cached_offset_at}
 use Rattle.addr2line_lines.specs.Location.{Location}
 use Rattle.addr2line_lines.specs.References.{Scope}
 use Rattle.addr2line_lines.proofs.ListedFunctions.{more_listed}
@@ -23,7 +23,7 @@ use Rattle.addr2line_units.specs.declared.functions.FunctionPlace.{FunctionPlace
 use Rattle.addr2line_units.specs.declared.functions.LazyFunctions.{LazyFunctions}
 use Rattle.addr2line_units.specs.declared.functions.LazyFunctions.TheVariants as lazy
 use Rattle.addr2line_units.specs.Frames.{FrameRecord, found_frames, found_function, frames_from, function_at, function_from}
-use Rattle.addr2line_units.specs.KeptFunctions.{IsPlaceIn, IsTableOf, ReadsNoOther, StayFunctions, are_many, detail_takes_memory, details_at, find_takes_memory, function_of_place, functions_fault, kept_functions, place_takes_memory, reading_takes_memory, table_takes_memory, were_read}
+use Rattle.addr2line_units.specs.KeptFunctions.{IsPlaceIn, IsTableOf, ReadsNoOther, StayFunctions, are_many, kept_detail_takes_memory, details_at, find_takes_memory, function_of_place, functions_fault, kept_functions, place_takes_memory, reading_takes_memory, table_takes_memory, were_read}
 
 -- whether an error is that of memory
 pub memory_or_not : (e : Error) → (e ≡ OutOfMemory) ⊎ (e ≢ OutOfMemory)
@@ -89,7 +89,7 @@ place_stays probe old new more =
 -- where what is at the place of a function is cached, memory is taken for many inlined functions alone
 pub cached_ready : (probe n : ℕ) (t : FunctionTable) (v : Result Detail Error) → function_place_at probe t ≡ Some n → cached_detail t n ≡ Some v → table_takes_memory probe t ≡ are_many probe t
 cached_ready probe n t v at e =
-    ap (place_takes_memory probe t) at ∙ ap (detail_takes_memory probe) e
+    ap (place_takes_memory probe t) at ∙ ap (kept_detail_takes_memory probe) e
     ∙ sym (ap (λ (o : Option (Result Detail Error)). nat_lt 16 (length (inlined_chain probe (elim o [ None ↦ [] | Some d ↦ inlined_of_detail d ])))) e)
     ∙ sym (ap (λ (o : Option ℕ). elim o [ None ↦ false | Some m ↦ nat_lt 16 (length (inlined_chain probe (cached_inlined t m))) ]) at)
 
@@ -157,30 +157,30 @@ module _ (scope : Scope) (view : UnitRecord) (probe n : ℕ) (old new : Function
   cached_is v h = ap (λ (o : Option CachedFunction). option_and_then (λ (g : CachedFunction). g.detail) o) h.there
 
   -- the function at the address, by its detail or the fault of that
-  pub from_detail : IsTableOf scope view old → offset_at old n ≡ function_offset_at probe old.ranges → (v : Result Detail Error) → detail_at scope view f.offset ≡ v
+  pub from_detail : IsTableOf scope view old → cached_offset_at old n ≡ function_offset_at probe old.ranges → (v : Result Detail Error) → detail_at scope view f.offset ≡ v
       → function_at scope view probe ≡ (v >>= λ detail. Ok (Some (found_function probe f.offset detail)))
   from_detail h at v e =
       let offset : function_offset_at probe old.ranges ≡ Some f.offset = sym at ∙ ap (option_map (λ (g : CachedFunction). g.offset)) q in
       function_is scope view probe (Ok old.ranges) h.ranges ∙ ap (function_from scope view probe) offset
       ∙ ap (λ (r : Result Detail Error). r >>= λ detail. Ok (Some (found_function probe f.offset detail))) e
 
-  pub fault_found : IsTableOf scope view old → offset_at old n ≡ function_offset_at probe old.ranges → (x : Error) → IsCached (Err x) → function_at scope view probe ≡ Err x
+  pub fault_found : IsTableOf scope view old → cached_offset_at old n ≡ function_offset_at probe old.ranges → (x : Error) → IsCached (Err x) → function_at scope view probe ≡ Err x
   fault_found h at x k = from_detail h at (Err x) k.is
 
   -- the function by its place, and its inlined functions by theirs
-  pub place_found : IsTableOf scope view old → offset_at old n ≡ function_offset_at probe old.ranges → (d : Detail) → IsCached (Ok d) → (p : FunctionPlace) → p.place ≡ n
+  pub place_found : IsTableOf scope view old → cached_offset_at old n ≡ function_offset_at probe old.ranges → (d : Detail) → IsCached (Ok d) → (p : FunctionPlace) → p.place ≡ n
       → ◌≡◌ {A = Result (List InlinedEntry) Error} (Ok (inlined_chain probe (cached_inlined new n))) (Ok (map (entry_among new.inlined) p.inlined.items))
       → function_at scope view probe ≡ Ok (Some (function_of_place new p))
   place_found h at d k p same chain =
       let inlined : cached_inlined new n ≡ d.inlined = ap (λ (o : Option (Result Detail Error)). elim o [ None ↦ [] | Some x ↦ inlined_of_detail x ]) (cached_is (Ok d) k) in
       let entries : inlined_chain probe (cached_inlined new n) ≡ map (entry_among new.inlined) p.inlined.items = cc in
       let listed : inlined_chain probe d.inlined ≡ map (entry_among new.inlined) p.inlined.items = ap (inlined_chain probe) (sym inlined) ∙ entries in
-      let offset : unwrap_or (offset_at new p.place) 0 ≡ f.offset = ap (λ (m : ℕ). unwrap_or (offset_at new m) 0) same ∙ ap (λ (o : Option CachedFunction). unwrap_or (option_map (λ (g : CachedFunction). g.offset) o) 0) k.there in
+      let offset : unwrap_or (cached_offset_at new p.place) 0 ≡ f.offset = ap (λ (m : ℕ). unwrap_or (cached_offset_at new m) 0) same ∙ ap (λ (o : Option CachedFunction). unwrap_or (option_map (λ (g : CachedFunction). g.offset) o) 0) k.there in
       let name : cached_name new p.place ≡ d.name = ap (cached_name new) same ∙ ap (option_and_then name_of_detail) (cached_is (Ok d) k) in
       from_detail h at (Ok d) k.is
       ∙ ap (λ (es : List InlinedEntry). Ok (Some (record { offset = f.offset; name = d.name; inlined = es }))) listed
       ∙ ap (λ (o : ℕ). Ok (Some (record { offset = o; name = d.name; inlined = map (entry_among new.inlined) p.inlined.items }))) (sym offset)
-      ∙ ap (λ (m : Option Section). Ok (Some (record { offset = unwrap_or (offset_at new p.place) 0; name = m; inlined = map (entry_among new.inlined) p.inlined.items }))) (sym name)
+      ∙ ap (λ (m : Option Section). Ok (Some (record { offset = unwrap_or (cached_offset_at new p.place) 0; name = m; inlined = map (entry_among new.inlined) p.inlined.items }))) (sym name)
 
   -- memory may be taken before and after where it was refused for a detail
   both : (a b : Bool) → a ≡ true → b ≡ true → (a && b) ≡ true
@@ -191,10 +191,10 @@ module _ (scope : Scope) (view : UnitRecord) (probe n : ℕ) (old new : Function
   abbrev pub MemoryLacks : Error → Type 0
   MemoryLacks x = (table_takes_memory probe old && table_takes_memory probe new) ≡ true → x ≢ OutOfMemory
 
-  pub refused_detail : IsTableOf scope view old → function_place_at probe old ≡ Some n → offset_at old n ≡ function_offset_at probe old.ranges → (x : Error) → IsReadAt scope view n old (Err x) new → MemoryLacks x → function_at scope view probe ≡ Err x
+  pub refused_detail : IsTableOf scope view old → function_place_at probe old ≡ Some n → cached_offset_at old n ≡ function_offset_at probe old.ranges → (x : Error) → IsReadAt scope view n old (Err x) new → MemoryLacks x → function_at scope view probe ≡ Err x
   refused_detail h place at x k lacks = elim (read_err x (all_at (IsDetailOf scope view) old.functions n f h.details q) k) [
     | inl c ↦ fault_found h at x c
-    | inr m ↦ (let before : table_takes_memory probe old ≡ true = ap (place_takes_memory probe old) place ∙ ap (detail_takes_memory probe) (ap (λ (o : Option CachedFunction). option_and_then (λ (g : CachedFunction). g.detail) o) q ∙ m.1) in
+    | inr m ↦ (let before : table_takes_memory probe old ≡ true = ap (place_takes_memory probe old) place ∙ ap (kept_detail_takes_memory probe) (ap (λ (o : Option CachedFunction). option_and_then (λ (g : CachedFunction). g.detail) o) q ∙ m.1) in
         let after : table_takes_memory probe new ≡ true = ap (table_takes_memory probe) m.2 ∙ before in
         absurd (lacks (both _ _ before after) m.0))
   ]
@@ -217,19 +217,19 @@ module _ (scope : Scope) (view : UnitRecord) (probe n : ℕ) (old new : Function
     where
       after : (d : Detail) → IsCached (Ok d) → nat_lt 16 (length (inlined_chain probe (cached_inlined new n))) ≡ true → table_takes_memory probe new ≡ true
       after d c many =
-          ap (place_takes_memory probe new) (place_stays probe old new (read_more scope view n old new (Ok tt) k) ∙ place) ∙ ap (detail_takes_memory probe) (cached_is (Ok d) c)
+          ap (place_takes_memory probe new) (place_stays probe old new (read_more scope view n old new (Ok tt) k) ∙ place) ∙ ap (kept_detail_takes_memory probe) (cached_is (Ok d) c)
           ∙ sym (ap (λ (o : Option (Result Detail Error)). nat_lt 16 (length (inlined_chain probe (elim o [ None ↦ [] | Some y ↦ inlined_of_detail y ])))) (cached_is (Ok d) c)) ∙ many
 
       at_old : cached_detail old n ≡ f.detail
       at_old = ap (λ (o : Option CachedFunction). option_and_then (λ (g : CachedFunction). g.detail) o) q
 
       before : (d : Detail) → IsCached (Ok d) → nat_lt 16 (length (inlined_chain probe (cached_inlined new n))) ≡ true → table_takes_memory probe old ≡ true
-      before d c many = ap (place_takes_memory probe old) place ∙ ap (detail_takes_memory probe) at_old ∙ by_detail f.detail refl
+      before d c many = ap (place_takes_memory probe old) place ∙ ap (kept_detail_takes_memory probe) at_old ∙ by_detail f.detail refl
         where
           right : IsDetailOf scope view f
           right = all_at (IsDetailOf scope view) old.functions n f h.details q
 
-          by_detail : (y : Option (Result Detail Error)) → f.detail ≡ y → detail_takes_memory probe y ≡ true
+          by_detail : (y : Option (Result Detail Error)) → f.detail ≡ y → kept_detail_takes_memory probe y ≡ true
           by_detail None e = refl
           by_detail (Some v) e =
               let same : v ≡ Ok d = sym (right v e) ∙ c.is in
@@ -241,7 +241,7 @@ module _ (scope : Scope) (view : UnitRecord) (probe n : ℕ) (old new : Function
       let c = read_ok (all_at (IsDetailOf scope view) old.functions n f h.details q) k in
       cached_ready probe n new (Ok c.0) (place_stays probe old new (read_more scope view n old new (Ok tt) k) ∙ place) (cached_is (Ok c.0) c.1)
 
-  pub chain_found : IsTableOf scope view old → offset_at old n ≡ function_offset_at probe old.ranges → IsReadAt scope view n old (Ok tt) new → (p : FunctionPlace) → p.place ≡ n
+  pub chain_found : IsTableOf scope view old → cached_offset_at old n ≡ function_offset_at probe old.ranges → IsReadAt scope view n old (Ok tt) new → (p : FunctionPlace) → p.place ≡ n
       → ◌≡◌ {A = Result (List InlinedEntry) Error} (Ok (inlined_chain probe (cached_inlined new n))) (Ok (map (entry_among new.inlined) p.inlined.items))
       → function_at scope view probe ≡ Ok (Some (function_of_place new p))
   chain_found h at k p same chain =
@@ -408,11 +408,11 @@ module _ {R : Type 0} (old mid : LazyFunctions R) (kept : were_read old ≡ true
 
 -- the frames of a function by its place among those that are kept
 pub frames_of_place : (files : List (List ℕ)) (language : Option DwLang) (t : FunctionTable) (p : FunctionPlace) → IsPlaceIn t p → (location : Option Location) (left : List FrameRecord)
-    → IfSome (offset_at t p.place) (λ offset. left ≡ frames_from files language offset (cached_name t p.place) (reverse (map (entry_among t.inlined) p.inlined.items)) location)
+    → IfSome (cached_offset_at t p.place) (λ offset. left ≡ frames_from files language offset (cached_name t p.place) (reverse (map (entry_among t.inlined) p.inlined.items)) location)
     → left ≡ found_frames files language (Some (function_of_place t p)) location
 frames_of_place files language t p there location left h =
     let at = some_at t.functions p.place there.function in
-    by_offset (offset_at t p.place) (ap (option_map (λ (f : CachedFunction). f.offset)) at.1) h
+    by_offset (cached_offset_at t p.place) (ap (option_map (λ (f : CachedFunction). f.offset)) at.1) h
   where
     by_offset : {k : ℕ} (o : Option ℕ) → o ≡ Some k → IfSome o (λ offset. left ≡ frames_from files language offset (cached_name t p.place) (reverse (map (entry_among t.inlined) p.inlined.items)) location)
         → left ≡ frames_from files language (unwrap_or o 0) (cached_name t p.place) (reverse (map (entry_among t.inlined) p.inlined.items)) location

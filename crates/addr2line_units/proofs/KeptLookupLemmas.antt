@@ -17,7 +17,7 @@ use Rattle.addr2line_units.specs.declared.unit_frames.UnitEntries.{UnitEntries}
 use Rattle.addr2line_units.specs.declared.view.ViewState.{ViewState}
 use Rattle.addr2line_units.specs.declared.view.ViewState.TheVariants as states
 use Rattle.addr2line_units.specs.KeptEntries.{AreEntriesOf, ReadsEntriesOf, StayEntries, has_answered, has_entries, has_entries_by, kept_answer}
-use Rattle.addr2line_units.specs.KeptFunctions.{ReadsNoOther, StayFunctions, has_detail, has_function, has_place, kept_functions, no_functions}
+use Rattle.addr2line_units.specs.KeptFunctions.{ReadsNoOther, StayFunctions, has_detail, kept_has_function, has_place, kept_functions, no_functions}
 use Rattle.addr2line_units.specs.KeptLookups.{HaveEntriesOf, ReadsOnly, StayAllEntries, answers_in, has_entries_at}
 use Rattle.addr2line_units.specs.KeptViews.{was_looked_at}
 use Rattle.addr2line_units.proofs.KeptFunctionLemmas.{place_stays}
@@ -139,12 +139,12 @@ module _ {R : Type 0} where
   entries_set scope (x ∷ us) (y ∷ vs) (suc n) u w e own h = (own.0, entries_set scope us vs n u w e own.1 h)
 
   -- what is found by what is kept is found by it where more is kept
-  function_more : (probe : ℕ) (f g : LazyFunctions R) → StayFunctions f g → has_function probe f ≡ true → has_function probe g ≡ true
+  function_more : (probe : ℕ) (f g : LazyFunctions R) → StayFunctions f g → kept_has_function probe f ≡ true → kept_has_function probe g ≡ true
   function_more probe lazy.Unread g a e = cc
   function_more probe (lazy.Read t) (lazy.Read u) a e = ap (has_place u) (place_stays probe t u a) ∙ place_more t u a (function_place_at probe t) e
   function_more probe (lazy.Read t) lazy.Unread a e = absurd a
   function_more probe (lazy.Read t) (lazy.Faulty x) a e = absurd a
-  function_more probe (lazy.Faulty x) g a e = ap (has_function probe) a ∙ e
+  function_more probe (lazy.Faulty x) g a e = ap (kept_has_function probe) a ∙ e
 
   answered_more : {X : Type 0} (probe : ℕ) (r : Result X Error) (f g : LazyFunctions R) → StayFunctions f g → has_answered probe r f ≡ true → has_answered probe r g ≡ true
   answered_more probe (Ok x) f g a e = function_more probe f g a e

@@ -25,7 +25,7 @@ use Rattle.addr2line_units.specs.declared.view.ViewState.TheVariants as states
 use Rattle.addr2line_units.specs.FramesLookup.{answer_of}
 use Rattle.addr2line_units.specs.FunctionParses.{AreReadBefore, read_of_functions, read_of_number, read_of_unit, read_of_view}
 use Rattle.addr2line_units.specs.KeptEntries.{StayEntries, has_answered, has_entries_by, kept_answer}
-use Rattle.addr2line_units.specs.KeptFunctions.{AreFunctionsOf, StayFunctions, details_at, functions_fault, has_detail, has_function, has_place, kept_functions, reading_takes_memory, were_read}
+use Rattle.addr2line_units.specs.KeptFunctions.{AreFunctionsOf, StayFunctions, details_at, functions_fault, has_detail, kept_has_function, has_place, kept_functions, reading_takes_memory, were_read}
 use Rattle.addr2line_units.specs.KeptLookups.{HaveEntriesOf, StayAllEntries, answers_in, has_entries_at}
 use Rattle.addr2line_units.specs.KeptParses.{AreDecided, ChangesOnly, HasRead, HaveFunctions, HaveRead, StayDecided, has_view}
 use Rattle.addr2line_units.specs.KeptViews.{is_decided, seen_sections, verdict_in, view_by}
@@ -155,7 +155,7 @@ has_all probe t all (Some n) e =
     ap (λ (o : Option CachedFunction). has_detail (option_and_then (λ (g : CachedFunction). g.detail) o)) at.1 ∙ ap has_detail h.1
 
 module _ {R : Type 0} (probe : ℕ) where
-  has_functions : (f : LazyFunctions R) → HaveFunctions reads.Details f → has_function probe f ≡ true
+  has_functions : (f : LazyFunctions R) → HaveFunctions reads.Details f → kept_has_function probe f ≡ true
   has_functions lazy.Unread h = absurd h
   has_functions (lazy.Read t) h = has_all probe t h (function_place_at probe t) refl
   has_functions (lazy.Faulty e) h = absurd h

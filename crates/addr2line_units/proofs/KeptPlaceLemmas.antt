@@ -5,14 +5,14 @@ use Rattle.gimli_read.specs.declared.error.Error.TheVariants.{OutOfMemory}
 use Rattle.gimli.specs.Unit.{UnitRecord}
 use Rattle.addr2line_lines.specs.Details.{Detail, InlinedEntry, InlinedRange, inlined_chain}
 use Rattle.addr2line_lines.specs.Functions.{function_offset_at}
-use Rattle.addr2line_lines.specs.FunctionTable.{CachedFunction, FunctionTable, IsDetailOf, IsReadAt, IsReadOf, IsReadOnce, cached_detail, cached_inlined, function_place_at, inlined_of_detail, offset_at}
+use Rattle.addr2line_lines.specs.FunctionTable.{CachedFunction, FunctionTable, IsDetailOf, IsReadAt, IsReadOf, IsReadOnce, cached_detail, cached_inlined, function_place_at, inlined_of_detail, cached_offset_at}
 use Rattle.addr2line_lines.specs.References.{Scope}
 use Rattle.addr2line_lines.proofs.PlaceLemmas.{all_at}
 use Rattle.addr2line_lines.proofs.ReadLemmas.{read_more}
 use Rattle.addr2line_units.specs.declared.functions.LazyFunctions.{LazyFunctions}
 use Rattle.addr2line_units.specs.declared.functions.LazyFunctions.TheVariants as lazy
 use Rattle.addr2line_units.specs.Frames.{function_at}
-use Rattle.addr2line_units.specs.KeptFunctions.{IsTableOf, has_detail, has_function, has_place, has_table, is_kept, were_read}
+use Rattle.addr2line_units.specs.KeptFunctions.{IsTableOf, has_detail, kept_has_function, has_place, has_table, is_kept, were_read}
 use Rattle.addr2line_units.specs.UnitFrames.{is_many}
 use Rattle.addr2line_units.proofs.KeptFunctionLemmas.{cached_is, from_detail, place_stays, read_err, read_ok}
 
@@ -68,7 +68,7 @@ module _ (scope : Scope) (view : UnitRecord) (probe n : ℕ) (old new : Function
       known_by (Ok tt) k (Ok c.0) (cached_is scope view probe n old new f q (Ok c.0) c.1)
 
   -- and its inlined functions take no memory where they are at most 16
-  pub chain_fits : offset_at old n ≡ function_offset_at probe old.ranges → IsReadAt scope view n old (Ok tt) new → (x : Error)
+  pub chain_fits : cached_offset_at old n ≡ function_offset_at probe old.ranges → IsReadAt scope view n old (Ok tt) new → (x : Error)
       → ((nat_lt 16 (length (inlined_chain probe (cached_inlined new n))) ≡ true → x ≢ OutOfMemory) → ◌≡◌ {A = Result (List InlinedEntry) Error} (Ok (inlined_chain probe (cached_inlined new n))) (Err x))
       → is_many (function_at scope view probe) ≡ false → x ≢ OutOfMemory
   chain_fits at k x given few =
@@ -81,8 +81,8 @@ module _ (scope : Scope) (view : UnitRecord) (probe n : ℕ) (old new : Function
       absurd cc
 
 -- functions that were read stay as they are, and others are read
-module _ {R : Type 0} (old mid : LazyFunctions R) (kept : were_read old ≡ true → (mid ≡ old)) (probe : ℕ) (has : has_function probe old ≡ true) where
-  were_known : (x : LazyFunctions R) → has_function probe x ≡ true → were_read x ≡ true
+module _ {R : Type 0} (old mid : LazyFunctions R) (kept : were_read old ≡ true → (mid ≡ old)) (probe : ℕ) (has : kept_has_function probe old ≡ true) where
+  were_known : (x : LazyFunctions R) → kept_has_function probe x ≡ true → were_read x ≡ true
   were_known lazy.Unread h = cc
   were_known (lazy.Read t) h = refl
   were_known (lazy.Faulty e) h = refl
@@ -93,4 +93,4 @@ module _ {R : Type 0} (old mid : LazyFunctions R) (kept : were_read old ≡ true
 
   -- and they stay
   pub table_known : (t new : FunctionTable) → mid ≡ lazy.Read t → (has_table probe t ≡ true → new ≡ t) → lazy.Read new ≡ old
-  table_known t new e stays = ap lazy.Read (stays (ap (has_function probe) (sym e ∙ same_known) ∙ has)) ∙ sym e ∙ same_known
+  table_known t new e stays = ap lazy.Read (stays (ap (kept_has_function probe) (sym e ∙ same_known) ∙ has)) ∙ sym e ∙ same_known

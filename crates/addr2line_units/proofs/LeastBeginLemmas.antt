@@ -12,7 +12,7 @@ use Rattle.addr2line_lines.proofs.SeekLemmas.{Up, non_decreasing}
 use Rattle.addr2line_units.specs.declared.index.IndexedRange.{IndexedRange}
 use Rattle.addr2line_units.specs.declared.index.UnitRange.{UnitRange}
 use Rattle.addr2line_units.specs.Cover.{ends_sooner}
-use Rattle.addr2line_units.specs.LeastBegins.{AreIndexed, AreLeastBegins, EndFits, begins_by, is_between, least_begin, unit_range_of, with_least_begins}
+use Rattle.addr2line_units.specs.LeastBegins.{AreIndexed, AreLeastBegins, EndFits, range_begins_by, is_between, least_begin, unit_range_of, with_least_begins}
 use Rattle.addr2line_units.proofs.IndexLemmas.{ends_order}
 
 -- the ranges that were taken from the end, and what was made of them
@@ -65,10 +65,10 @@ pub rest_is : {X : Type 0} (n : ℕ) (ys xs : List X) → ys ≡ xs → take (le
 rest_is n ys xs e = let left = length-drop n ys in take_all (length ys - n) (drop n ys) (omega arith) ∙ ap (drop n) e
 
 -- where the least begin is past the last address of a search, none begins by it
-none_by : (last : ℕ) (ranges : List UnitRange) → last < least_begin ranges → filter (begins_by last) ranges ≡ []
+none_by : (last : ℕ) (ranges : List UnitRange) → last < least_begin ranges → filter (range_begins_by last) ranges ≡ []
 none_by last [] h = refl
 none_by last (r ∷ ranges) h =
-    ap (λ b. cond b (r ∷ filter (begins_by last) ranges) (filter (begins_by last) ranges)) (late r.range.begin (least_begin ranges) h) ∙ none_by last ranges (rest r.range.begin (least_begin ranges) h)
+    ap (λ b. cond b (r ∷ filter (range_begins_by last) ranges) (filter (range_begins_by last) ranges)) (late r.range.begin (least_begin ranges) h) ∙ none_by last ranges (rest r.range.begin (least_begin ranges) h)
   where
     late : (b m : ℕ) → last < min m b → nat_le b last ≡ false
     late b m l = grind (arith, nat_tests)
@@ -76,7 +76,7 @@ none_by last (r ∷ ranges) h =
     rest : (b m : ℕ) → last < min m b → last < m
     rest b m l = omega arith
 
-pub all_late : (last : ℕ) (x : IndexedRange) (xs : List IndexedRange) → AreLeastBegins (x ∷ xs) → last < x.least_begin → filter (begins_by last) (map unit_range_of (x ∷ xs)) ≡ []
+pub all_late : (last : ℕ) (x : IndexedRange) (xs : List IndexedRange) → AreLeastBegins (x ∷ xs) → last < x.least_begin → filter (range_begins_by last) (map unit_range_of (x ∷ xs)) ≡ []
 all_late last x xs least h =
     let is : x.least_begin ≡ least_begin (map unit_range_of (x ∷ xs)) = ap (first_least x.least_begin) least in
     none_by last (map unit_range_of (x ∷ xs)) (omega arith)
@@ -109,11 +109,11 @@ ends_by low y = leb y.unit_range.range.end low
 
 -- from the first range on that ends past low, those that begin by the last address
 from_point : (low last : ℕ) (xs : List IndexedRange) (n : ℕ) → n ≤ length xs → IsPartitionPoint (λ y. ends_by low y ≡ true) (λ y. ends_by low y ≡ false) xs n
-    → filter (begins_by last) (map unit_range_of (drop n xs)) ≡ filter (is_between low last) (map unit_range_of xs)
+    → filter (range_begins_by last) (map unit_range_of (drop n xs)) ≡ filter (is_between low last) (map unit_range_of xs)
 from_point low last [] zero le h = refl
 from_point low last [] (suc n) le h = refl
 from_point low last (x ∷ xs) zero le h =
-    ap (λ ys. cond (begins_by last x.unit_range) (x.unit_range ∷ ys) ys) (from_point low last xs zero (omega arith) ((λ k d from l. absurd (omega arith)), (λ k d from l. h.1 (suc k) d (omega arith) (omega arith))))
+    ap (λ ys. cond (range_begins_by last x.unit_range) (x.unit_range ∷ ys) ys) (from_point low last xs zero (omega arith) ((λ k d from l. absurd (omega arith)), (λ k d from l. h.1 (suc k) d (omega arith) (omega arith))))
     ∙ sym (ap (λ b. cond b (x.unit_range ∷ filter (is_between low last) (map unit_range_of xs)) (filter (is_between low last) (map unit_range_of xs))) (past x.unit_range.range.begin x.unit_range.range.end (h.1 0 x (omega arith) (omega arith))))
   where
     past : (b e : ℕ) → leb e low ≡ false → (nat_lt low e && nat_le b last) ≡ nat_le b last
@@ -126,10 +126,10 @@ from_point low last (x ∷ xs) (suc n) le h =
     before b e l = grind (arith, nat_tests)
 
 pub found_from : (low last : ℕ) (items xs ys : List IndexedRange) (n : ℕ) → xs ≡ items → ys ≡ items → n ≤ length xs → IsPartitionPoint (λ y. ends_by low y ≡ true) (λ y. ends_by low y ≡ false) xs n
-    → filter (begins_by last) (map unit_range_of (take (length ys - n) (drop n ys))) ≡ filter (is_between low last) (map unit_range_of items)
+    → filter (range_begins_by last) (map unit_range_of (take (length ys - n) (drop n ys))) ≡ filter (is_between low last) (map unit_range_of items)
 found_from low last items xs ys n e f le h =
-    ap (λ zs. filter (begins_by last) (map unit_range_of zs)) (rest_is n ys items f)
-    ∙ ap (λ zs. filter (begins_by last) (map unit_range_of (drop n zs))) (sym e)
+    ap (λ zs. filter (range_begins_by last) (map unit_range_of zs)) (rest_is n ys items f)
+    ∙ ap (λ zs. filter (range_begins_by last) (map unit_range_of (drop n zs))) (sym e)
     ∙ from_point low last xs n le h
     ∙ ap (λ zs. filter (is_between low last) (map unit_range_of zs)) e
 

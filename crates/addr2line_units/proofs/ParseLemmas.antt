@@ -9,7 +9,7 @@ use Rattle.gimli.specs.Unit.{UnitRecord}
 use Rattle.addr2line_lines.specs.References.{Scope}
 use Rattle.addr2line_units.specs.declared.parses.Reads.{Reads}
 use Rattle.addr2line_units.specs.FramesLookup.{answer_of, with_answer}
-use Rattle.addr2line_units.specs.FunctionParses.{AreReadBefore, answers_after, first_decided, read_of_number, read_of_unit, read_of_units, read_of_view, unless_fault}
+use Rattle.addr2line_units.specs.FunctionParses.{AreReadBefore, answers_after_parse, first_decided, read_of_number, read_of_unit, read_of_units, read_of_view, unless_fault}
 use Rattle.addr2line_units.specs.Views.{SplitLoad, View, decided_answer, is_open, load_of_unit, verdict, verdict_by}
 
 -- one of two numbers is not above the other
@@ -88,22 +88,22 @@ module _ (reads : Reads) (scope : Scope) where
 
   -- the answers then: up to the unit with the first fault, or all
   pub after_stop : (us : List UnitRecord) (answers : List (Option (Option Sections))) (n : ℕ) (e : Error) → length us ≡ length answers → AreReadBefore reads scope us answers n → read_of_number reads scope us answers n ≡ Err e
-      → answers_after reads scope us answers ≡ first_decided scope.file.sections (suc n) us answers
+      → answers_after_parse reads scope us answers ≡ first_decided scope.file.sections (suc n) us answers
   after_stop [] answers n e many before at = absurd cc
   after_stop (u ∷ us) [] n e many before at = absurd (omega arith)
   after_stop (u ∷ us) (a ∷ answers) zero e many before at =
-      ap (λ (r : Result (Unit {0}) Error). decided_answer scope.file.sections u a None ∷ unless_fault r (answers_after reads scope us answers) answers) at
+      ap (λ (r : Result (Unit {0}) Error). decided_answer scope.file.sections u a None ∷ unless_fault r (answers_after_parse reads scope us answers) answers) at
   after_stop (u ∷ us) (a ∷ answers) (suc n) e many before at =
-      ap (λ (r : Result (Unit {0}) Error). decided_answer scope.file.sections u a None ∷ unless_fault r (answers_after reads scope us answers) answers) (before 0 (omega arith))
+      ap (λ (r : Result (Unit {0}) Error). decided_answer scope.file.sections u a None ∷ unless_fault r (answers_after_parse reads scope us answers) answers) (before 0 (omega arith))
       ∙ ap (λ (xs : List (Option (Option Sections))). decided_answer scope.file.sections u a None ∷ xs) (after_stop us answers n e (omega arith) (λ m h. before (suc m) (omega arith)) at)
 
-  pub after_end : (us : List UnitRecord) (answers : List (Option (Option Sections))) (n : ℕ) → length us ≡ length answers → length us ≤ n → AreReadBefore reads scope us answers n → answers_after reads scope us answers ≡ first_decided scope.file.sections n us answers
+  pub after_end : (us : List UnitRecord) (answers : List (Option (Option Sections))) (n : ℕ) → length us ≡ length answers → length us ≤ n → AreReadBefore reads scope us answers n → answers_after_parse reads scope us answers ≡ first_decided scope.file.sections n us answers
   after_end [] answers zero many past before = refl
   after_end [] answers (suc n) many past before = refl
   after_end (u ∷ us) [] n many past before = absurd (omega arith)
   after_end (u ∷ us) (a ∷ answers) zero many past before = absurd (omega arith)
   after_end (u ∷ us) (a ∷ answers) (suc n) many past before =
-      ap (λ (r : Result (Unit {0}) Error). decided_answer scope.file.sections u a None ∷ unless_fault r (answers_after reads scope us answers) answers) (before 0 (omega arith))
+      ap (λ (r : Result (Unit {0}) Error). decided_answer scope.file.sections u a None ∷ unless_fault r (answers_after_parse reads scope us answers) answers) (before 0 (omega arith))
       ∙ ap (λ (xs : List (Option (Option Sections))). decided_answer scope.file.sections u a None ∷ xs) (after_end us answers n (omega arith) (omega arith) (λ m h. before (suc m) (omega arith)))
 
 -- a unit that is decided by none where it was open is decided
@@ -138,32 +138,32 @@ module _ (reads : Reads) (scope : Scope) where
       read_of_view_at : Option (Option Sections) → Result (Unit {0}) Error
       read_of_view_at a = read_of_view reads scope (verdict scope.file.sections u a)
 
-  pub units_again : (us : List UnitRecord) (answers : List (Option (Option Sections))) → read_of_units reads scope us (answers_after reads scope us answers) ≡ read_of_units reads scope us answers
+  pub units_again : (us : List UnitRecord) (answers : List (Option (Option Sections))) → read_of_units reads scope us (answers_after_parse reads scope us answers) ≡ read_of_units reads scope us answers
   units_again [] answers = refl
   units_again (u ∷ us) [] = refl
   units_again (u ∷ us) (a ∷ answers) = by_unit (units_again us answers) (read_of_unit reads scope u a) (unit_again u a)
     where
-      by_unit : read_of_units reads scope us (answers_after reads scope us answers) ≡ read_of_units reads scope us answers → (r : Result (Unit {0}) Error) → read_of_unit reads scope u (decided_answer scope.file.sections u a None) ≡ r
-          → (read_of_unit reads scope u (decided_answer scope.file.sections u a None) >>= λ _. read_of_units reads scope us (unless_fault r (answers_after reads scope us answers) answers)) ≡ (r >>= λ _. read_of_units reads scope us answers)
-      by_unit again (Ok x) e = ap (λ (r : Result (Unit {0}) Error). r >>= λ _. read_of_units reads scope us (answers_after reads scope us answers)) e ∙ again
+      by_unit : read_of_units reads scope us (answers_after_parse reads scope us answers) ≡ read_of_units reads scope us answers → (r : Result (Unit {0}) Error) → read_of_unit reads scope u (decided_answer scope.file.sections u a None) ≡ r
+          → (read_of_unit reads scope u (decided_answer scope.file.sections u a None) >>= λ _. read_of_units reads scope us (unless_fault r (answers_after_parse reads scope us answers) answers)) ≡ (r >>= λ _. read_of_units reads scope us answers)
+      by_unit again (Ok x) e = ap (λ (r : Result (Unit {0}) Error). r >>= λ _. read_of_units reads scope us (answers_after_parse reads scope us answers)) e ∙ again
       by_unit again (Err x) e = ap (λ (r : Result (Unit {0}) Error). r >>= λ _. read_of_units reads scope us answers) e
 
-  pub answers_again : (us : List UnitRecord) (answers : List (Option (Option Sections))) → answers_after reads scope us (answers_after reads scope us answers) ≡ answers_after reads scope us answers
+  pub answers_again : (us : List UnitRecord) (answers : List (Option (Option Sections))) → answers_after_parse reads scope us (answers_after_parse reads scope us answers) ≡ answers_after_parse reads scope us answers
   answers_again [] answers = refl
   answers_again (u ∷ us) [] = refl
   answers_again (u ∷ us) (a ∷ answers) =
-      ap (λ x. x ∷ unless_fault (read_of_unit reads scope u (decided_answer scope.file.sections u a None)) (answers_after reads scope us (rest (read_of_unit reads scope u a))) (rest (read_of_unit reads scope u a))) (decided_again scope.file.sections u a)
+      ap (λ x. x ∷ unless_fault (read_of_unit reads scope u (decided_answer scope.file.sections u a None)) (answers_after_parse reads scope us (rest (read_of_unit reads scope u a))) (rest (read_of_unit reads scope u a))) (decided_again scope.file.sections u a)
       ∙ ap (λ xs. decided_answer scope.file.sections u a None ∷ xs) (by_unit (answers_again us answers) (read_of_unit reads scope u a) (unit_again u a))
     where
       rest : Result (Unit {0}) Error → List (Option (Option Sections))
-      rest r = unless_fault r (answers_after reads scope us answers) answers
+      rest r = unless_fault r (answers_after_parse reads scope us answers) answers
 
-      by_unit : answers_after reads scope us (answers_after reads scope us answers) ≡ answers_after reads scope us answers → (r : Result (Unit {0}) Error) → read_of_unit reads scope u (decided_answer scope.file.sections u a None) ≡ r
-          → unless_fault (read_of_unit reads scope u (decided_answer scope.file.sections u a None)) (answers_after reads scope us (unless_fault r (answers_after reads scope us answers) answers)) (unless_fault r (answers_after reads scope us answers) answers)
-          ≡ unless_fault r (answers_after reads scope us answers) answers
-      by_unit again (Ok x) e = ap (λ (r : Result (Unit {0}) Error). unless_fault r (answers_after reads scope us (answers_after reads scope us answers)) (answers_after reads scope us answers)) e ∙ again
-      by_unit again (Err x) e = ap (λ (r : Result (Unit {0}) Error). unless_fault r (answers_after reads scope us answers) answers) e
+      by_unit : answers_after_parse reads scope us (answers_after_parse reads scope us answers) ≡ answers_after_parse reads scope us answers → (r : Result (Unit {0}) Error) → read_of_unit reads scope u (decided_answer scope.file.sections u a None) ≡ r
+          → unless_fault (read_of_unit reads scope u (decided_answer scope.file.sections u a None)) (answers_after_parse reads scope us (unless_fault r (answers_after_parse reads scope us answers) answers)) (unless_fault r (answers_after_parse reads scope us answers) answers)
+          ≡ unless_fault r (answers_after_parse reads scope us answers) answers
+      by_unit again (Ok x) e = ap (λ (r : Result (Unit {0}) Error). unless_fault r (answers_after_parse reads scope us (answers_after_parse reads scope us answers)) (answers_after_parse reads scope us answers)) e ∙ again
+      by_unit again (Err x) e = ap (λ (r : Result (Unit {0}) Error). unless_fault r (answers_after_parse reads scope us answers) answers) e
 
   pub reads_again : (us : List UnitRecord) (answers : List (Option (Option Sections)))
-      → (read_of_units reads scope us (answers_after reads scope us answers) ≡ read_of_units reads scope us answers) × (answers_after reads scope us (answers_after reads scope us answers) ≡ answers_after reads scope us answers)
+      → (read_of_units reads scope us (answers_after_parse reads scope us answers) ≡ read_of_units reads scope us answers) × (answers_after_parse reads scope us (answers_after_parse reads scope us answers) ≡ answers_after_parse reads scope us answers)
   reads_again us answers = (units_again us answers, answers_again us answers)

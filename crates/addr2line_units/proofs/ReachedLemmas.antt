@@ -21,7 +21,7 @@ use Rattle.addr2line_units.specs.declared.parses.Reads.TheVariants.{Details}
 use Rattle.addr2line_units.specs.Frames.{FoundFunction, FrameRecord, found_frames, found_function, function_at, function_from}
 use Rattle.addr2line_units.specs.FramesLookup.{after_fault, asked_frames, frames_of_number, or_stop, stop_along}
 use Rattle.addr2line_units.specs.FunctionParseLaws.{IsReached}
-use Rattle.addr2line_units.specs.FunctionParses.{answers_after, read_of_unit, read_of_units, read_of_view, unless_fault}
+use Rattle.addr2line_units.specs.FunctionParses.{answers_after_parse, read_of_unit, read_of_units, read_of_view, unless_fault}
 use Rattle.addr2line_units.specs.KeptFunctions.{details_at, functions_fault}
 use Rattle.addr2line_units.specs.Located.{all_lines, lines_fault, lines_of_unit}
 use Rattle.addr2line_units.specs.UnitFrames.{frames_by, frames_in, function_by, function_in}
@@ -103,20 +103,20 @@ module _ (scope : Scope) (probe : ℕ) where
       )
 
   number_reached : (units : List IndexedUnit) (answers : List (Option (Option Sections))) (n : ℕ) → length units ≡ length answers → read_of_units Details scope (unit_records units) answers ≡ Ok tt → lines_fault (all_lines scope.file.sections units) ≡ Ok tt
-      → (frames : List FrameRecord) × (frames_of_number scope units (answers_after Details scope (unit_records units) answers) probe n ≡ Ok (Some frames))
+      → (frames : List FrameRecord) × (frames_of_number scope units (answers_after_parse Details scope (unit_records units) answers) probe n ≡ Ok (Some frames))
   number_reached [] answers n many read lines = ([], refl)
   number_reached (u ∷ us) [] n many read lines = absurd (omega arith)
   number_reached (u ∷ us) (a ∷ answers) n many read lines = by_unit (λ rest k. number_reached us answers k (omega arith) rest (lines_first scope.file.sections u us lines).1) (read_of_unit Details scope u.unit a) refl read n
     where
-      by_unit : (read_of_units Details scope (unit_records us) answers ≡ Ok tt → (k : ℕ) → (frames : List FrameRecord) × (frames_of_number scope us (answers_after Details scope (unit_records us) answers) probe k ≡ Ok (Some frames))) → (r : Result (Unit {0}) Error) → read_of_unit Details scope u.unit a ≡ r → (r >>= λ _. read_of_units Details scope (unit_records us) answers) ≡ Ok tt → (n : ℕ)
-          → (frames : List FrameRecord) × (frames_of_number scope (u ∷ us) (answers_after Details scope (u.unit ∷ unit_records us) (a ∷ answers)) probe n ≡ Ok (Some frames))
+      by_unit : (read_of_units Details scope (unit_records us) answers ≡ Ok tt → (k : ℕ) → (frames : List FrameRecord) × (frames_of_number scope us (answers_after_parse Details scope (unit_records us) answers) probe k ≡ Ok (Some frames))) → (r : Result (Unit {0}) Error) → read_of_unit Details scope u.unit a ≡ r → (r >>= λ _. read_of_units Details scope (unit_records us) answers) ≡ Ok tt → (n : ℕ)
+          → (frames : List FrameRecord) × (frames_of_number scope (u ∷ us) (answers_after_parse Details scope (u.unit ∷ unit_records us) (a ∷ answers)) probe n ≡ Ok (Some frames))
       by_unit more (Ok x) e rest zero =
           let view = decided_verdict scope.file.sections u.unit a in
           let first = lines_first scope.file.sections u us lines in
           unit_reached u (decided_answer scope.file.sections u.unit a None) view.0 view.1 (sym (ap (read_of_view Details scope) view.1) ∙ e) first.0.0 first.0.1
       by_unit more (Ok x) e rest (suc n) =
           let frames = more rest n in
-          (frames.0, ap (λ (r : Result (Unit {0}) Error). frames_of_number scope us (unless_fault r (answers_after Details scope (unit_records us) answers) answers) probe n) e ∙ frames.1)
+          (frames.0, ap (λ (r : Result (Unit {0}) Error). frames_of_number scope us (unless_fault r (answers_after_parse Details scope (unit_records us) answers) answers) probe n) e ∙ frames.1)
       by_unit more (Err x) e rest n = absurd cc
 
 -- a lookup along units that all have frames, or none, neither waits nor has a fault
@@ -132,8 +132,8 @@ stop_reached frames all (r ∷ ranges) = subst (λ (x : Result (Option (List Fra
 -- lookup waits or has a fault
 pub reached_all : (faults : Faults) (scope : Scope) (units : List IndexedUnit) (answers : List (Option (Option Sections))) (probe : ℕ) (ranges : List UnitRange) → length units ≡ length answers
     → read_of_units Details scope (unit_records units) answers ≡ Ok tt → lines_fault (all_lines scope.file.sections units) ≡ Ok tt
-    → IsReached (stop_along (asked_frames faults scope units (answers_after Details scope (unit_records units) answers) probe) ranges)
+    → IsReached (stop_along (asked_frames faults scope units (answers_after_parse Details scope (unit_records units) answers) probe) ranges)
 reached_all faults scope units answers probe ranges many read lines = stop_reached _ each ranges
   where
-    each : (n : ℕ) → (frames : List FrameRecord) × (asked_frames faults scope units (answers_after Details scope (unit_records units) answers) probe n ≡ Ok (Some frames))
+    each : (n : ℕ) → (frames : List FrameRecord) × (asked_frames faults scope units (answers_after_parse Details scope (unit_records units) answers) probe n ≡ Ok (Some frames))
     each n = let s = number_reached scope probe units answers n many read lines in (s.0, ap (after_fault faults) s.1)

@@ -21,7 +21,7 @@ use Rattle.addr2line_units.specs.declared.unit_frames.UnitEntries.{UnitEntries}
 use Rattle.addr2line_units.specs.declared.view.ViewState.{ViewState}
 use Rattle.addr2line_units.specs.declared.view.ViewState.TheVariants as states
 use Rattle.addr2line_units.specs.FramesLookup.{answer_of}
-use Rattle.addr2line_units.specs.FunctionParses.{AreReadBefore, AreReadyFor, IsReadyFor, answers_after, read_of_number, read_of_unit, unless_fault}
+use Rattle.addr2line_units.specs.FunctionParses.{AreReadBefore, AreReadyFor, IsReadyFor, answers_after_parse, read_of_number, read_of_unit, unless_fault}
 use Rattle.addr2line_units.specs.KeptFunctions.{AreFunctionsOf, details_at, functions_fault, is_kept, were_read}
 use Rattle.addr2line_units.specs.KeptLookups.{HaveEntriesOf, answers_in}
 use Rattle.addr2line_units.specs.KeptParses.{AreReadyUnits, ChangesOnly, HasRead, HaveFunctions, IsReadyUnit, has_view}
@@ -115,14 +115,14 @@ module _ {R : Type 0} (d : Sections) (u : UnitRecord) (here : Option (Result Vie
       by_unit (Err y) q = absurd cc
 
 -- what is read of a unit is the same after a parse
-number_again : (r : Reads) (scope : Scope) (us : List UnitRecord) (answers : List (Option (Option Sections))) (m : ℕ) → read_of_number r scope us (answers_after r scope us answers) m ≡ read_of_number r scope us answers m
+number_again : (r : Reads) (scope : Scope) (us : List UnitRecord) (answers : List (Option (Option Sections))) (m : ℕ) → read_of_number r scope us (answers_after_parse r scope us answers) m ≡ read_of_number r scope us answers m
 number_again r scope [] answers m = refl
 number_again r scope (u ∷ us) [] m = refl
 number_again r scope (u ∷ us) (a ∷ answers) zero = unit_again r scope u a
 number_again r scope (u ∷ us) (a ∷ answers) (suc m) = by_unit (number_again r scope us answers m) (read_of_unit r scope u a)
   where
-    by_unit : read_of_number r scope us (answers_after r scope us answers) m ≡ read_of_number r scope us answers m → (x : Result (Unit {0}) Error)
-        → read_of_number r scope us (unless_fault x (answers_after r scope us answers) answers) m ≡ read_of_number r scope us answers m
+    by_unit : read_of_number r scope us (answers_after_parse r scope us answers) m ≡ read_of_number r scope us answers m → (x : Result (Unit {0}) Error)
+        → read_of_number r scope us (unless_fault x (answers_after_parse r scope us answers) answers) m ≡ read_of_number r scope us answers m
     by_unit rest (Ok y) = rest
     by_unit rest (Err e) = refl
 
@@ -154,7 +154,7 @@ module _ {R : Type 0} (r : Reads) where
   ready_units scope (u ∷ us) (v ∷ vs) own (suc n) shut h = ready_units scope us vs own.1 n shut h
 
   -- units of which all is known stay so by the first answers then
-  pub ready_after : (scope : Scope) (us : List UnitRecord) (answers : List (Option (Option Sections))) (vs : List (UnitEntries R)) → HaveEntriesOf scope us vs → answers_in vs ≡ answers_after r scope us answers → AreReadyUnits r scope us answers vs
+  pub ready_after : (scope : Scope) (us : List UnitRecord) (answers : List (Option (Option Sections))) (vs : List (UnitEntries R)) → HaveEntriesOf scope us vs → answers_in vs ≡ answers_after_parse r scope us answers → AreReadyUnits r scope us answers vs
       → AreReadyFor r scope us (answers_in vs) (known_in vs)
   ready_after scope us answers vs own same ready n before =
       shut_units scope us vs own n (ready n (λ m l. sym (number_again r scope us answers m) ∙ ap (λ (a : List (Option (Option Sections))). read_of_number r scope us a m) (sym same) ∙ before m l))

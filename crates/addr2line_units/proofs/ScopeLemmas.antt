@@ -27,7 +27,7 @@ use Rattle.addr2line_units.specs.KeptFunctions.{AreFunctionsOf, were_read}
 use Rattle.addr2line_units.specs.KeptLookups.{AreFreshOf, HaveEntriesOf, answers_in}
 use Rattle.addr2line_units.specs.KeptViews.{answer_in, verdict_in, was_looked_at}
 use Rattle.addr2line_units.specs.UnitAranges.{aranges_in}
-use Rattle.addr2line_units.specs.UnitIndex.{RangedUnit, UnitIndex, given_at, index_units, indexed_of, is_type_unit, ranged_units, ranges_from, sup_sections, sup_unit_of_header, sup_units, unit_of_header, unit_records, unless_faulty, units_of}
+use Rattle.addr2line_units.specs.UnitIndex.{RangedUnit, UnitIndex, given_in_unit, index_units, indexed_of, is_type_unit, ranged_units, unit_ranges_from, sup_sections, sup_unit_of_header, sup_units, unit_of_header, unit_records, unless_faulty, units_of}
 use Rattle.addr2line_units.specs.Views.{View, verdict, view_scope}
 
 -- the unit of a header has it
@@ -41,7 +41,7 @@ module _ (d : Sections) (aranges : List UnitArange) (h : UnitHeaderFields) (x : 
 
   of_record : (r : Result UnitRecord Error) → unit_record_of d h ≡ r → unless_faulty d aranges r ≡ Ok (Some x) → x.indexed.unit.header ≡ h
   of_record (Err f) e k = absurd cc
-  of_record (Ok u) e k = of_given u (record_header d h u e) (given_at d aranges u) k
+  of_record (Ok u) e k = of_given u (record_header d h u e) (given_in_unit d aranges u) k
 
   of_kind : (b : Bool) → (if b then Ok None else unless_faulty d aranges (unit_record_of d h)) ≡ Ok (Some x) → x.indexed.unit.header ≡ h
   of_kind true k = absurd cc
@@ -91,7 +91,7 @@ sup_in_order (Some s) units e = subst (λ (us : List UnitRecord). AreInOrder us)
 -- the units of a context stand in order, and those of the supplementary file
 module _ (d : Sections) (m : UnitIndex) where
   index : List RangedUnit → List UnitRecord → UnitIndex
-  index units sup = record { units = map indexed_of units; ranges = ranges_from d 0 units; sup_units = sup }
+  index units sup = record { units = map indexed_of units; ranges = unit_ranges_from d 0 units; sup_units = sup }
 
   AreBoth : UnitIndex → Type 0
   AreBoth n = AreInOrder (unit_records n.units) × AreInOrder n.sup_units

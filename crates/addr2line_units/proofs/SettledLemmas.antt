@@ -9,7 +9,7 @@ use Rattle.addr2line_units.specs.declared.view.UnitView.{UnitView}
 use Rattle.addr2line_units.specs.FramesLookup.{answer_of}
 use Rattle.addr2line_units.specs.KeptEntries.{kept_answer}
 use Rattle.addr2line_units.specs.KeptLookups.{StayAllEntries, answers_in}
-use Rattle.addr2line_units.specs.KeptViews.{IsViewOf, seen_answer, waits, was_looked_at}
+use Rattle.addr2line_units.specs.KeptViews.{IsViewOf, seen_first_answer, waits, was_looked_at}
 use Rattle.addr2line_units.specs.Loads.{AreSettled, is_open_at}
 use Rattle.addr2line_units.specs.Views.{is_open}
 use Rattle.addr2line_units.proofs.AnswerLemmas.{open_by_look}
@@ -24,7 +24,7 @@ settled_there d us vs n u v there within e settled =
     at o = elim o [ None ↦ false | Some x ↦ is_open d x (answer_of (answers_in vs) n) ]
 
 -- one that waits after a look is open
-pub waiting_is_unsettled : {R : Type 0} (d : Sections) (u : UnitRecord) (v w : UnitView R) → IsViewOf d u w → was_looked_at w.state ≡ true → seen_answer w ≡ seen_answer v → true ≡ waits w.state → is_open d u (seen_answer v) ≡ false → ⊥
+pub waiting_is_unsettled : {R : Type 0} (d : Sections) (u : UnitRecord) (v w : UnitView R) → IsViewOf d u w → was_looked_at w.state ≡ true → seen_first_answer w ≡ seen_first_answer v → true ≡ waits w.state → is_open d u (seen_first_answer v) ≡ false → ⊥
 waiting_is_unsettled d u v w own looked same waiting settled =
     let f : ◌≡◌ {A = Bool} true false = sym (open_by_look d u v w true own looked same waiting) ∙ settled in
     cc

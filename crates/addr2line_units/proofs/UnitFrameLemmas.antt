@@ -20,7 +20,7 @@ use Rattle.addr2line_units.specs.CachedLines.{AreLinesOf, cached_files, is_uncac
 use Rattle.addr2line_units.specs.Frames.{FoundFunction, FrameRecord, found_frames}
 use Rattle.addr2line_units.specs.KeptEntries.{AreRead, ReadsEntriesOf, StayEntries, has_entries, has_entries_by}
 use Rattle.addr2line_units.specs.KeptFunctions.{StayFunctions, kept_functions}
-use Rattle.addr2line_units.specs.KeptViews.{IsViewOf, answer_in, seen_answer, waits, was_looked_at}
+use Rattle.addr2line_units.specs.KeptViews.{IsViewOf, answer_in, seen_first_answer, waits, was_looked_at}
 use Rattle.addr2line_units.specs.Located.{location_in}
 use Rattle.addr2line_units.specs.UnitFrames.{asks_lines_in, frames_by, frames_in, function_in}
 use Rattle.addr2line_units.specs.UnitIndex.{IndexedUnit}
@@ -35,7 +35,7 @@ open_by d u (states.Unnamed e) w h = cc
 open_by d u (states.Answered a) w h = cc
 
 -- a unit whose view waits is open
-pub waiting_stays_open : {R : Type 0} (d : Sections) (u : UnitRecord) (v : UnitView R) → waits v.state ≡ true → IsViewOf d u v → is_open d u (seen_answer v) ≡ true
+pub waiting_stays_open : {R : Type 0} (d : Sections) (u : UnitRecord) (v : UnitView R) → waits v.state ≡ true → IsViewOf d u v → is_open d u (seen_first_answer v) ≡ true
 waiting_stays_open d u v w h = open_by d u v.state w h
 
 -- of a unit that waits all is known that a lookup asks

@@ -21,8 +21,8 @@ use Rattle.addr2line_lines.specs.RangeAttributes.{begins_well}
 use Rattle.addr2line_lines.specs.Rows.{read_all, result_map}
 use Rattle.addr2line_units.specs.declared.aranges.UnitArange.{UnitArange}
 use Rattle.addr2line_units.specs.declared.index.UnitRange.{UnitRange}
-use Rattle.addr2line_units.specs.Indexed.{IndexState, appended, has_abbreviations, index_of, index_takes_memory, indexed, indexed_with, or_with_ranged, some_take_memory, unit_takes_memory, units_take_memory, with_header, with_ranged}
-use Rattle.addr2line_units.specs.UnitIndex.{IndexedUnit, RangedUnit, has_lines, indexed_of, is_type_unit, range_of_unit, ranged_unit, ranges_from, sup_unit_of_header, unit_of_header, unit_ranges, units_of, unless_faulty}
+use Rattle.addr2line_units.specs.Indexed.{IndexState, appended, has_abbreviations, index_of, index_takes_memory, indexed, indexed_with, or_with_ranged, some_take_memory, indexed_unit_takes_memory, units_take_memory, with_header, with_ranged}
+use Rattle.addr2line_units.specs.UnitIndex.{IndexedUnit, RangedUnit, has_lines, indexed_of, is_type_unit, range_of_unit, ranged_unit, unit_ranges_from, sup_unit_of_header, unit_of_header, unit_ranges, units_of, unless_faulty}
 use Rattle.addr2line_units.specs.UnitAranges.{aranges_in, lists_aranges, set_aranges, some_lists}
 
 -- what was left, by what a call gave of it
@@ -95,7 +95,7 @@ module _ (d : Sections) (m : IndexState) where
   pub appended_more : (u : RangedUnit) (us : List RangedUnit) → appended d (with_ranged d m u) us ≡ appended d m (u ∷ us)
   appended_more u us =
       of_parts (append_assoc m.units (u.indexed ∷ []) (map indexed_of us))
-      (append_assoc m.ranges (map (range_of_unit (length m.units)) (unit_ranges d u)) (ranges_from d (length (m.units ++ u.indexed ∷ [])) us) ∙ ap (λ n. m.ranges ++ (map (range_of_unit (length m.units)) (unit_ranges d u) ++ ranges_from d n us)) (length-append m.units (u.indexed ∷ [])))
+      (append_assoc m.ranges (map (range_of_unit (length m.units)) (unit_ranges d u)) (unit_ranges_from d (length (m.units ++ u.indexed ∷ [])) us) ∙ ap (λ n. m.ranges ++ (map (range_of_unit (length m.units)) (unit_ranges d u) ++ unit_ranges_from d n us)) (length-append m.units (u.indexed ∷ [])))
       (append_assoc m.parsed (has_lines u ∷ []) (map has_lines us))
     where
       of_parts : {a b : List IndexedUnit} {p q : List UnitRange} {v w : List Bool} → a ≡ b → p ≡ q → v ≡ w → ◌≡◌ {A = IndexState} (record { units = a; ranges = p; parsed = v }) (record { units = b; ranges = q; parsed = w })
@@ -309,17 +309,17 @@ module _ (d : Sections) (h : UnitHeaderFields) where
       other : ◌≡◌ {A = Result (Option UnitRecord) Error} (Ok None) (Ok (Some u)) → ⊥
       other k = cc
 
-  pub takes_unit : is_type_unit h.unit_type ≡ false → has_abbreviations d h ≡ true → unit_takes_memory d h ≡ true
+  pub takes_unit : is_type_unit h.unit_type ≡ false → has_abbreviations d h ≡ true → indexed_unit_takes_memory d h ≡ true
   takes_unit e k = ap (λ b. not b && has_abbreviations d h) e ∙ k
 
-  pub where_kept : (aranges : List UnitArange) (u : RangedUnit) → unit_of_header d aranges h ≡ Ok (Some u) → unit_takes_memory d h ≡ true
+  pub where_kept : (aranges : List UnitArange) (u : RangedUnit) → unit_of_header d aranges h ≡ Ok (Some u) → indexed_unit_takes_memory d h ≡ true
   unfolding unit_of_header
   where_kept aranges u e = of_bool (is_type_unit h.unit_type) refl e
     where
       none_some : ◌≡◌ {A = Result (Option RangedUnit) Error} (Ok None) (Ok (Some u)) → ⊥
       none_some k = cc
 
-      of_bool : (b : Bool) → is_type_unit h.unit_type ≡ b → (if b then Ok None else unless_faulty d aranges (unit_record_of d h)) ≡ Ok (Some u) → unit_takes_memory d h ≡ true
+      of_bool : (b : Bool) → is_type_unit h.unit_type ≡ b → (if b then Ok None else unless_faulty d aranges (unit_record_of d h)) ≡ Ok (Some u) → indexed_unit_takes_memory d h ≡ true
       of_bool true same k = absurd (none_some k)
       of_bool false same k = takes_unit same (unless_outside (λ outside. none_some (sym (ap (unless_faulty d aranges) (no_record d h outside)) ∙ k)))
 
@@ -327,7 +327,7 @@ module _ (d : Sections) (h : UnitHeaderFields) where
   unfolding unit_of_header
   kept_fault aranges u f e rec k = ap (λ b. if b then Ok None else unless_faulty d aranges (unit_record_of d h)) e ∙ ap (unless_faulty d aranges) rec ∙ ap (λ r. r >>= λ x. Ok (Some x)) k
 
-  none_kept : (aranges : List UnitArange) → unit_takes_memory d h ≡ false → unit_of_header d aranges h ≡ Ok None
+  none_kept : (aranges : List UnitArange) → indexed_unit_takes_memory d h ≡ false → unit_of_header d aranges h ≡ Ok None
   unfolding unit_of_header
   none_kept aranges e = of_bool (is_type_unit h.unit_type) (has_abbreviations d h) refl refl e
     where
@@ -341,7 +341,7 @@ module _ (d : Sections) (h : UnitHeaderFields) where
 
 -- the ranges of units for which no memory may be taken: there are none
 module _ (d : Sections) (aranges : List UnitArange) where
-  no_units : (headers : List (Result UnitHeaderFields Error)) → some_take_memory (unit_takes_memory d) headers ≡ false → (us : List RangedUnit) → units_of (unit_of_header d aranges) headers ≡ Ok us → us ≡ []
+  no_units : (headers : List (Result UnitHeaderFields Error)) → some_take_memory (indexed_unit_takes_memory d) headers ≡ false → (us : List RangedUnit) → units_of (unit_of_header d aranges) headers ≡ Ok us → us ≡ []
   no_units [] e us k = sym (ok_is [] us k)
     where
       ok_is : (a b : List RangedUnit) → ◌≡◌ {A = Result (List RangedUnit) Error} (Ok a) (Ok b) → a ≡ b
@@ -351,7 +351,7 @@ module _ (d : Sections) (aranges : List UnitArange) where
       err_ok : ◌≡◌ {A = Result (List RangedUnit) Error} (Err x) (Ok us) → ⊥
       err_ok l = cc
   no_units (Ok h ∷ headers) e us k =
-      let both = or_false (unit_takes_memory d h) (some_take_memory (unit_takes_memory d) headers) e in
+      let both = or_false (indexed_unit_takes_memory d h) (some_take_memory (indexed_unit_takes_memory d) headers) e in
       no_units headers both.1 us (sym (units_none (unit_of_header d aranges) h headers (none_kept d h aranges both.0)) ∙ k)
     where
       or_false : (a b : Bool) → (a || b) ≡ false → (a ≡ false) × (b ≡ false)
@@ -361,7 +361,7 @@ module _ (d : Sections) (aranges : List UnitArange) where
           true_false m = cc
       or_false false b l = (refl, l)
 
-  no_ranges : (headers : List (Result UnitHeaderFields Error)) → some_take_memory (unit_takes_memory d) headers ≡ false → (i : IndexState) → (units_of (unit_of_header d aranges) headers >>= λ units. Ok (index_of d units)) ≡ Ok i → i.ranges ≡ []
+  no_ranges : (headers : List (Result UnitHeaderFields Error)) → some_take_memory (indexed_unit_takes_memory d) headers ≡ false → (i : IndexState) → (units_of (unit_of_header d aranges) headers >>= λ units. Ok (index_of d units)) ≡ Ok i → i.ranges ≡ []
   no_ranges headers e i k = of_units (units_of (unit_of_header d aranges) headers) refl k
     where
       ok_is : (a b : IndexState) → ◌≡◌ {A = Result IndexState Error} (Ok a) (Ok b) → a ≡ b
@@ -372,7 +372,7 @@ module _ (d : Sections) (aranges : List UnitArange) where
         where
           err_ok : ◌≡◌ {A = Result IndexState Error} (Err x) (Ok i) → ⊥
           err_ok l = cc
-      of_units (Ok us) same is = sym (ap (λ (s : IndexState). s.ranges) (ok_is (index_of d us) i is)) ∙ ap (ranges_from d 0) (no_units headers e us same)
+      of_units (Ok us) same is = sym (ap (λ (s : IndexState). s.ranges) (ok_is (index_of d us) i is)) ∙ ap (unit_ranges_from d 0) (no_units headers e us same)
 
   -- where the sets have no fault, memory may be taken where it may be for units
   pub units_take : (shares : Bool) → aranges_in d.debug_aranges ≡ Ok aranges → units_take_memory shares d ≡ true → index_takes_memory shares d ≡ true
@@ -383,13 +383,13 @@ module _ (d : Sections) (aranges : List UnitArange) where
       or_true false = refl
 
   pub ranges_take : (shares : Bool) (i : IndexState) → aranges_in d.debug_aranges ≡ Ok aranges → indexed_with d aranges ≡ Ok i → nat_lt 0 (length i.ranges) ≡ true → index_takes_memory shares d ≡ true
-  ranges_take shares i read k some = units_take shares read (of_bool (some_take_memory (unit_takes_memory d) (all_headers d.debug_info)) refl)
+  ranges_take shares i read k some = units_take shares read (of_bool (some_take_memory (indexed_unit_takes_memory d) (all_headers d.debug_info)) refl)
     where
       or_true : (b : Bool) → (b || true) ≡ true
       or_true true = refl
       or_true false = refl
 
-      of_bool : (b : Bool) → some_take_memory (unit_takes_memory d) (all_headers d.debug_info) ≡ b → (shares || some_take_memory (unit_takes_memory d) (all_headers d.debug_info)) ≡ true
+      of_bool : (b : Bool) → some_take_memory (indexed_unit_takes_memory d) (all_headers d.debug_info) ≡ b → (shares || some_take_memory (indexed_unit_takes_memory d) (all_headers d.debug_info)) ≡ true
       of_bool true same = ap (λ x. shares || x) same ∙ or_true shares
       of_bool false same = absurd (false_true (ap (λ (rs : List UnitRange). nat_lt 0 (length rs)) (sym (no_ranges (all_headers d.debug_info) same i k)) ∙ some))
         where

@@ -15,7 +15,7 @@ use Rattle.addr2line_units.specs.declared.view.Answer.{Answer}
 use Rattle.addr2line_units.specs.declared.view.UnitView.{UnitView}
 use Rattle.addr2line_units.specs.declared.view.ViewState.{ViewState}
 use Rattle.addr2line_units.specs.declared.view.ViewState.TheVariants as states
-use Rattle.addr2line_units.specs.KeptViews.{IsViewOf, answer_in, scope_by, seen_answer, seen_sections, split_file_by, split_file_in, split_unit, verdict_in, view_by, waits}
+use Rattle.addr2line_units.specs.KeptViews.{IsViewOf, answer_in, scope_by, seen_first_answer, seen_sections, split_file_by, split_file_in, split_unit, verdict_in, view_by, waits}
 use Rattle.addr2line_units.specs.Views.{SplitLoad, View, answered_view, first_unit, first_view, load_by, load_of_unit, main_view, split_name_of, string_if, verdict, verdict_by, view_scope}
 
 decided_by : (d : Sections) (u : UnitRecord) (load : Result (Option SplitLoad) Error) (r : Result View Error) (answer : Option (Option Sections)) → verdict_by d u load None ≡ Some r → verdict_by d u load answer ≡ Some r
@@ -162,8 +162,8 @@ scope_in scope d u (states.Unnamed e) h = unanswered_scope scope d u (load_of_un
 scope_in scope d u (states.Answered a) h = subst (λ w. IfSome w (λ view. IfOk view (λ v. scope_by scope (split_file_by (seen_sections a) a.unit) ≡ view_scope scope v))) h (answered_scope scope d u (seen_sections a) a.unit)
 
 -- references lead from a view as its split file says, if it is in one
-pub scope_of_split : {R : Type 0} (scope : Scope) (split : Option Sections) (v : UnitView R) → split ≡ split_file_in v.state → (d : Sections) (u : UnitRecord) → IsViewOf d u v → IfSome (verdict d u (seen_answer v)) (λ view. IfOk view (λ x. scope_by scope split ≡ view_scope scope x))
-scope_of_split scope split v e d u h = subst (λ p. IfSome (verdict d u (seen_answer v)) (λ view. IfOk view (λ x. scope_by scope p ≡ view_scope scope x))) (sym e) (scope_in scope d u v.state h.right)
+pub scope_of_split : {R : Type 0} (scope : Scope) (split : Option Sections) (v : UnitView R) → split ≡ split_file_in v.state → (d : Sections) (u : UnitRecord) → IsViewOf d u v → IfSome (verdict d u (seen_first_answer v)) (λ view. IfOk view (λ x. scope_by scope split ≡ view_scope scope x))
+scope_of_split scope split v e d u h = subst (λ p. IfSome (verdict d u (seen_first_answer v)) (λ view. IfOk view (λ x. scope_by scope p ≡ view_scope scope x))) (sym e) (scope_in scope d u v.state h.right)
 
 memory_or_not : (e : Error) → (e ≡ OutOfMemory) ⊎ (e ≢ OutOfMemory)
 memory_or_not OutOfMemory = inl refl

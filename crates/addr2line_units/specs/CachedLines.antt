@@ -45,8 +45,8 @@ is_uncached Unread = true
 is_uncached _ = false
 
 -- what is cached stays as it is: a parse, and a fault too
-abbrev pub StaysCached : LazyLines → LazyLines → Type 0
-StaysCached old new = is_uncached old ≡ false → new ≡ old
+abbrev pub LinesStayCached : LazyLines → LazyLines → Type 0
+LinesStayCached old new = is_uncached old ≡ false → new ≡ old
 
 -- after an answer the lines are cached, or their fault; after OutOfMemory they are as before
 abbrev pub CachesAnswer : {X : Type 0} → LazyLines → Result X Error → LazyLines → Type 0
@@ -125,7 +125,7 @@ lines_at units n = lines_in_cache (slice_get units n)
 -- what is kept of a unit stays: its language, and what is cached
 pub record StaysUnit (old new : ResUnit) : Type 0 where
   pub language : new.lang ≡ old.lang
-  pub lines : StaysCached old.lines new.lines
+  pub lines : LinesStayCached old.lines new.lines
 
 -- what is kept of each unit stays
 abbrev pub StayUnits : List ResUnit → List ResUnit → Type 0

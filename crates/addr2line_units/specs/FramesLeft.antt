@@ -2,7 +2,7 @@
 use Rattle.std.specs.Prelude.{ℕ, List, [], ◌∷◌, reverse, slice_get, Option, Some, None, option_map}
 use Rattle.gimli_read.specs.declared.constants.DwLang.{DwLang}
 use Rattle.addr2line_lines.specs.Details.{InlinedEntry}
-use Rattle.addr2line_lines.specs.FunctionTable.{FunctionTable, cached_name, offset_at}
+use Rattle.addr2line_lines.specs.FunctionTable.{FunctionTable, cached_name, cached_offset_at}
 use Rattle.addr2line_lines.specs.Location.{Location}
 use Rattle.addr2line_lines.specs.SeenLocation.{seen_location}
 use Rattle.addr2line_units.specs.declared.frame.FrameIter.{FrameIter}
@@ -19,7 +19,7 @@ entry_frame language (Some e) location = function_frame language e.offset e.name
 -- the frame of the function of a place
 abbrev pub place_frame : Option DwLang → FunctionTable → ℕ → Option Location → FrameRecord
 place_frame language t place location = record {
-  offset = offset_at t place;
+  offset = cached_offset_at t place;
   function = option_map (λ n. record { name = n; language = language }) (cached_name t place);
   location = location;
 }

@@ -9,7 +9,7 @@ use Rattle.addr2line_units.specs.declared.index.UnitRange.{UnitRange}
 use Rattle.addr2line_units.specs.declared.parses.Reads.{Reads}
 use Rattle.addr2line_units.specs.declared.parses.Reads.TheVariants.{Details}
 use Rattle.addr2line_units.specs.FramesLookup.{Stop, Waits, asked_frames, stop_along}
-use Rattle.addr2line_units.specs.FunctionParses.{answers_after, read_of_units}
+use Rattle.addr2line_units.specs.FunctionParses.{answers_after_parse, read_of_units}
 use Rattle.addr2line_units.specs.Located.{all_lines, lines_fault}
 use Rattle.addr2line_units.specs.UnitIndex.{IndexedUnit, unit_records}
 
@@ -28,13 +28,13 @@ ReachesAll = (faults : Faults) (scope : Scope) (units : List IndexedUnit)
     → read_of_units Details scope (unit_records units) answers ≡ Ok tt
     → lines_fault (all_lines scope.file.sections units) ≡ Ok tt
     → IsReached (stop_along (asked_frames faults scope units
-    (answers_after Details scope (unit_records units) answers) probe) ranges)
+    (answers_after_parse Details scope (unit_records units) answers) probe) ranges)
 
 -- a parse after a parse has the same first fault, and decides no more units
 abbrev pub ReadsAgain : Type 0
 ReadsAgain = (reads : Reads) (scope : Scope) (us : List UnitRecord)
     (answers : List (Option (Option Sections)))
-    → (read_of_units reads scope us (answers_after reads scope us answers)
+    → (read_of_units reads scope us (answers_after_parse reads scope us answers)
     ≡ read_of_units reads scope us answers)
-    × (answers_after reads scope us (answers_after reads scope us answers)
-    ≡ answers_after reads scope us answers)
+    × (answers_after_parse reads scope us (answers_after_parse reads scope us answers)
+    ≡ answers_after_parse reads scope us answers)

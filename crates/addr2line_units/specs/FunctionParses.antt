@@ -78,13 +78,13 @@ unless_fault (Err e) after before = before
 
 -- the first answers after a parse: each unit that was open is decided by none, up to the first unit
 -- with a fault, and that one too
-abbrev pub answers_after : Reads → Scope → List UnitRecord → List (Option (Option Sections))
+abbrev pub answers_after_parse : Reads → Scope → List UnitRecord → List (Option (Option Sections))
     → List (Option (Option Sections))
-answers_after reads scope (u ∷ us) (answer ∷ answers) =
+answers_after_parse reads scope (u ∷ us) (answer ∷ answers) =
     decided_answer scope.file.sections u answer None
     ∷ unless_fault (read_of_unit reads scope u answer)
-    (answers_after reads scope us answers) answers
-answers_after reads scope _ answers = answers
+    (answers_after_parse reads scope us answers) answers
+answers_after_parse reads scope _ answers = answers
 
 -- the first answers where those of the first units that were open, so many, are decided by none
 abbrev pub first_decided : Sections → ℕ → List UnitRecord → List (Option (Option Sections))

@@ -15,7 +15,7 @@ use Rattle.addr2line_units.specs.declared.unit.ResUnit.{ResUnit}
 use Rattle.addr2line_units.specs.declared.units.Index.{Index}
 use Rattle.addr2line_units.specs.declared.units.ResUnits.{ResUnits}
 use Rattle.addr2line_units.specs.CachedLines.{indexed_unit, indexed_units, parsed_units}
-use Rattle.addr2line_units.specs.UnitIndex.{IndexedUnit, RangedUnit, has_lines, indexed_of, is_type_unit, range_of_unit, ranged_units, ranges_from, sup_sections, unit_of_header, unit_ranges, units_of}
+use Rattle.addr2line_units.specs.UnitIndex.{IndexedUnit, RangedUnit, has_lines, indexed_of, is_type_unit, range_of_unit, ranged_units, unit_ranges_from, sup_sections, unit_of_header, unit_ranges, units_of}
 use Rattle.addr2line_units.specs.UnitAranges.{aranges_in, lists_aranges}
 
 -- units, the ranges that lead to them, and of which units the lines are parsed
@@ -32,7 +32,7 @@ no_index = record { units = []; ranges = []; parsed = [] }
 abbrev pub index_of : Sections → List RangedUnit → IndexState
 index_of d units = record {
   units = map indexed_of units;
-  ranges = ranges_from d 0 units;
+  ranges = unit_ranges_from d 0 units;
   parsed = map has_lines units;
 }
 
@@ -68,7 +68,7 @@ with_header d aranges m h = unit_of_header d aranges h >>= λ u. Ok (or_with_ran
 abbrev pub appended : Sections → IndexState → List RangedUnit → IndexState
 appended d m units = record {
   units = m.units ++ map indexed_of units;
-  ranges = m.ranges ++ ranges_from d (length m.units) units;
+  ranges = m.ranges ++ unit_ranges_from d (length m.units) units;
   parsed = m.parsed ++ map has_lines units;
 }
 
@@ -77,8 +77,8 @@ abbrev pub has_abbreviations : Sections → UnitHeaderFields → Bool
 has_abbreviations d h = is_ok (from_offset h.debug_abbrev_offset d.debug_abbrev)
 
 -- whether memory may be taken for the unit of a header: it is no type unit, and has abbreviations
-abbrev pub unit_takes_memory : Sections → UnitHeaderFields → Bool
-unit_takes_memory d h = not (is_type_unit h.unit_type) && has_abbreviations d h
+abbrev pub indexed_unit_takes_memory : Sections → UnitHeaderFields → Bool
+indexed_unit_takes_memory d h = not (is_type_unit h.unit_type) && has_abbreviations d h
 
 -- whether it may be for one of headers, up to the first fault
 abbrev pub some_take_memory : (UnitHeaderFields → Bool) → List (Result UnitHeaderFields Error)
@@ -90,7 +90,7 @@ some_take_memory takes (Err e ∷ headers) = false
 -- whether memory may be taken for units: for one of them, or where readers share their bytes
 abbrev pub units_take_memory : Bool → Sections → Bool
 units_take_memory shares d =
-    shares || some_take_memory (unit_takes_memory d) (all_headers d.debug_info)
+    shares || some_take_memory (indexed_unit_takes_memory d) (all_headers d.debug_info)
 
 -- whether memory may be taken for units and their ranges: for those of .debug_aranges, or for units
 -- where no set of it has a fault

@@ -18,13 +18,13 @@ use Rattle.addr2line_units.specs.declared.view.ViewState.{ViewState}
 use Rattle.addr2line_units.specs.declared.view.ViewState.TheVariants as states
 use Rattle.addr2line_units.specs.CachedLines.{cached_files}
 use Rattle.addr2line_units.specs.Frames.{FrameRecord, found_frames}
-use Rattle.addr2line_units.specs.KeptFunctions.{AreFunctionsOf, IsPlaceIn, ReadsNoOther, StayFunctions, function_of_place, has_function, is_kept, kept_functions, were_read}
-use Rattle.addr2line_units.specs.KeptViews.{IsViewOf, is_decided, seen_answer, was_looked_at}
+use Rattle.addr2line_units.specs.KeptFunctions.{AreFunctionsOf, IsPlaceIn, ReadsNoOther, StayFunctions, function_of_place, kept_has_function, is_kept, kept_functions, were_read}
+use Rattle.addr2line_units.specs.KeptViews.{IsViewOf, is_decided, seen_first_answer, was_looked_at}
 use Rattle.addr2line_units.specs.Views.{verdict, view_scope}
 
 -- the first answer of a unit
 abbrev pub kept_answer : {R : Type 0} → UnitEntries R → Option (Option Sections)
-kept_answer v = seen_answer v.view
+kept_answer v = seen_first_answer v.view
 
 -- what is kept are the view of the unit and the functions of that view, which are read only where
 -- the view is known
@@ -49,7 +49,7 @@ pub record StayEntries {R : Type 0} (old new : UnitEntries R) : Type 0 where
 -- whether the split unit of an answer has a fault that is kept, or else the function at the probe
 -- is found
 abbrev pub has_answered : {R : Type 0} → {X : Type 0} → ℕ → Result X Error → LazyFunctions R → Bool
-has_answered probe (Ok x) functions = has_function probe functions
+has_answered probe (Ok x) functions = kept_has_function probe functions
 has_answered probe (Err e) functions = is_kept e
 
 -- whether what a unit has at the probe is known, by what is kept of its view and its functions: it
@@ -57,7 +57,7 @@ has_answered probe (Err e) functions = is_kept e
 abbrev pub has_entries_by : {R : Type 0} → ℕ → ViewState R → LazyFunctions R → Bool
 has_entries_by probe states.Undecided functions = false
 has_entries_by probe states.Open functions = true
-has_entries_by probe states.Main functions = has_function probe functions
+has_entries_by probe states.Main functions = kept_has_function probe functions
 has_entries_by probe (states.Unnamed e) functions = is_kept e
 has_entries_by probe (states.Answered a) functions = has_answered probe a.unit functions
 

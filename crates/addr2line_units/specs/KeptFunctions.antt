@@ -9,7 +9,7 @@ use Rattle.gimli_read.specs.Reading.{◌>>=◌}
 use Rattle.gimli.specs.Unit.{UnitRecord}
 use Rattle.addr2line_lines.specs.Details.{Detail, detail_at, inlined_chain}
 use Rattle.addr2line_lines.specs.FoundDetails.{entry_among}
-use Rattle.addr2line_lines.specs.FunctionTable.{AreDetailsOf, AreListed, FunctionTable, IsTableMore, cached_detail, cached_inlined, cached_name, details_take_memory, function_place_at, inlined_of_detail, offset_at}
+use Rattle.addr2line_lines.specs.FunctionTable.{AreDetailsOf, AreListed, FunctionTable, IsTableMore, cached_detail, cached_inlined, cached_name, details_take_memory, function_place_at, inlined_of_detail, cached_offset_at}
 use Rattle.addr2line_lines.specs.Functions.{entries_of, functions_of}
 use Rattle.addr2line_lines.specs.References.{Scope}
 use Rattle.addr2line_units.specs.declared.functions.FunctionPlace.{FunctionPlace}
@@ -64,7 +64,7 @@ pub record IsPlaceIn (t : FunctionTable) (p : FunctionPlace) : Type 0 where
 -- the function of a place, and the inlined entries of places
 abbrev pub function_of_place : FunctionTable → FunctionPlace → FoundFunction
 function_of_place t p = record {
-  offset = unwrap_or (offset_at t p.place) 0;
+  offset = unwrap_or (cached_offset_at t p.place) 0;
   name = cached_name t p.place;
   inlined = map (entry_among t.inlined) p.inlined.items;
 }
@@ -78,14 +78,15 @@ are_many probe t = elim (function_place_at probe t) [
 
 -- whether memory may be taken to find a function by what is cached of it: nothing is, or there are
 -- more than 16 inlined functions
-abbrev pub detail_takes_memory : ℕ → Option (Result Detail Error) → Bool
-detail_takes_memory probe None = true
-detail_takes_memory probe (Some d) = nat_lt 16 (length (inlined_chain probe (inlined_of_detail d)))
+abbrev pub kept_detail_takes_memory : ℕ → Option (Result Detail Error) → Bool
+kept_detail_takes_memory probe None = true
+kept_detail_takes_memory probe (Some d) =
+    nat_lt 16 (length (inlined_chain probe (inlined_of_detail d)))
 
 -- the same of the function of a place; where there is none no memory is taken
 abbrev pub place_takes_memory : ℕ → FunctionTable → Option ℕ → Bool
 place_takes_memory probe t None = false
-place_takes_memory probe t (Some n) = detail_takes_memory probe (cached_detail t n)
+place_takes_memory probe t (Some n) = kept_detail_takes_memory probe (cached_detail t n)
 
 -- the same of the function at the probe
 abbrev pub table_takes_memory : ℕ → FunctionTable → Bool
@@ -118,10 +119,10 @@ abbrev pub has_table : ℕ → FunctionTable → Bool
 has_table probe t = has_place t (function_place_at probe t)
 
 -- the same by what is kept of a view: the functions, or their fault
-abbrev pub has_function : {R : Type 0} → ℕ → LazyFunctions R → Bool
-has_function probe lazy.Unread = false
-has_function probe (lazy.Read t) = has_table probe t
-has_function probe (lazy.Faulty e) = is_kept e
+abbrev pub kept_has_function : {R : Type 0} → ℕ → LazyFunctions R → Bool
+kept_has_function probe lazy.Unread = false
+kept_has_function probe (lazy.Read t) = has_table probe t
+kept_has_function probe (lazy.Faulty e) = is_kept e
 
 -- the first fault among the details of functions, by where their entries begin
 abbrev pub details_at : Scope → UnitRecord → List ℕ → Result (Unit {0}) Error

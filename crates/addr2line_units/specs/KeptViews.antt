@@ -36,8 +36,8 @@ answer_in (states.Answered a) = Some (seen_sections a)
 answer_in _ = None
 
 -- the first answer of a unit
-abbrev pub seen_answer : {R : Type 0} → UnitView R → Option (Option Sections)
-seen_answer v = answer_in v.state
+abbrev pub seen_first_answer : {R : Type 0} → UnitView R → Option (Option Sections)
+seen_first_answer v = answer_in v.state
 
 -- the split unit of an answer: the first unit, with what its main unit relocates
 abbrev pub split_unit : UnitRecord → Option Sections → Result (Option UnitRecord) Error
@@ -87,8 +87,8 @@ is_decided _ = true
 -- what is kept is what the bytes and the first answer give, and only a unit that waited for it has
 -- a first answer
 pub record IsViewOf {R : Type 0} (d : Sections) (u : UnitRecord) (v : UnitView R) : Type 0 where
-  pub right : IfSome (kept_verdict d u v) (λ kept. kept ≡ verdict d u (seen_answer v))
-  pub waited : is_some (seen_answer v) ≡ true → is_open d u None ≡ true
+  pub right : IfSome (kept_verdict d u v) (λ kept. kept ≡ verdict d u (seen_first_answer v))
+  pub waited : is_some (seen_first_answer v) ≡ true → is_open d u None ≡ true
 
 -- the sections of the split file that an answer's view is in, if it is in one
 abbrev pub split_file_by : Option Sections → Result (Option UnitRecord) Error → Option Sections

@@ -37,9 +37,9 @@ pub record AreIndexed (listed : List UnitRange) (ranges : List IndexedRange) : T
   pub fit : AllByRecursion EndFits (map unit_range_of ranges)
 
 -- the range begins at or below last
-abbrev pub begins_by : ℕ → UnitRange → Bool
-begins_by last r = nat_le r.range.begin last
+abbrev pub range_begins_by : ℕ → UnitRange → Bool
+range_begins_by last r = nat_le r.range.begin last
 
 -- the range ends past low and begins at or below last
 abbrev pub is_between : ℕ → ℕ → UnitRange → Bool
-is_between low last r = nat_lt low r.range.end && begins_by last r
+is_between low last r = nat_lt low r.range.end && range_begins_by last r

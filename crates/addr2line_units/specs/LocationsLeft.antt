@@ -2,7 +2,7 @@
 use Rattle.std.specs.Prelude.{List, ◌++◌, option_map, Result}
 use Rattle.gimli_read.specs.declared.error.Error.{Error}
 use Rattle.addr2line_lines.specs.RangeLocations.{LocatedSpan}
-use Rattle.addr2line_lines.specs.RangesLeft.{rows_left}
+use Rattle.addr2line_lines.specs.RangesLeft.{located_rows_left}
 use Rattle.addr2line_units.specs.declared.range.LocationRangeIter.{LocationRangeIter}
 use Rattle.addr2line_units.specs.RangeLookup.{cached_along, unit_rows_left}
 use Rattle.addr2line_units.specs.UnitRangesLeft.{ranges_left}
@@ -10,5 +10,5 @@ use Rattle.addr2line_units.specs.UnitRangesLeft.{ranges_left}
 -- the rows and faults that are left: of the unit range that is walked, and of those after it
 abbrev pub locations_left : {R : Type 0} → LocationRangeIter R → List (Result LocatedSpan Error)
 locations_left i =
-    unit_rows_left (option_map rows_left i.rows)
+    unit_rows_left (option_map located_rows_left i.rows)
     ++ cached_along i.units.now.items i.low i.high (ranges_left i.ranges)

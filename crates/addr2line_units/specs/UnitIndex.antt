@@ -78,9 +78,9 @@ given_ranges d aranges u a =
     else or_attribute_ranges d u a (aranges_at u.header.offset.0 aranges)
 
 -- the language of a unit and its given ranges; a partial unit has none
-unfoldable pub given_at : Sections → List UnitArange → UnitRecord
+unfoldable pub given_in_unit : Sections → List UnitArange → UnitRecord
     → Result (Option DwLang × List Range) Error
-given_at d aranges u =
+given_in_unit d aranges u =
     if is_partial u.header.unit_type then Ok (None, [])
     else do
       attributes ← unit_attributes d u
@@ -90,7 +90,7 @@ given_at d aranges u =
 -- a unit whose record can be read
 abbrev pub ranged_unit : Sections → List UnitArange → UnitRecord → Result RangedUnit Error
 ranged_unit d aranges u =
-    given_at d aranges u
+    given_in_unit d aranges u
     >>= λ x. Ok (record { indexed = record { unit = u; language = x.0 }; given = x.1 })
 
 -- a unit that is passed over, or whose record can be read
@@ -142,10 +142,10 @@ abbrev pub range_of_unit : ℕ → Range → UnitRange
 range_of_unit n r = record { unit = n; range = r }
 
 -- those of units from a number on
-abbrev pub ranges_from : Sections → ℕ → List RangedUnit → List UnitRange
-ranges_from d n [] = []
-ranges_from d n (u ∷ units) =
-    map (range_of_unit n) (unit_ranges d u) ++ ranges_from d (n + 1) units
+abbrev pub unit_ranges_from : Sections → ℕ → List RangedUnit → List UnitRange
+unit_ranges_from d n [] = []
+unit_ranges_from d n (u ∷ units) =
+    map (range_of_unit n) (unit_ranges d u) ++ unit_ranges_from d (n + 1) units
 
 -- the unit without its ranges
 abbrev pub indexed_of : RangedUnit → IndexedUnit
@@ -187,6 +187,6 @@ index_units d = do
   sup ← sup_units d.sup
   Ok (record {
     units = map indexed_of units;
-    ranges = ranges_from d 0 units;
+    ranges = unit_ranges_from d 0 units;
     sup_units = sup;
   })

@@ -9,7 +9,7 @@ ghost use Rattle.std.specs.Str.{IsUtf8};
 ghost use Rattle.gimli_read.specs.declared.constants.TheConstants.DwLang.{DW_LANG_Rust};
 ghost use Rattle.gimli_read.specs.declared.error.Error.TheVariants.{OutOfMemory};
 ghost use Rattle.addr2line_lines.specs.FoundDetails.{entry_among, seen_inlined};
-ghost use Rattle.addr2line_lines.specs.FunctionTable.{cached_name, offset_at};
+ghost use Rattle.addr2line_lines.specs.FunctionTable.{cached_name, cached_offset_at};
 ghost use Rattle.addr2line_lines.specs.Rows.{result_map};
 ghost use Rattle.addr2line_lines.specs.SeenLocation.{seen_location};
 ghost use Rattle.addr2line_units.specs.Frames.{call_location, found_frames, frames_from, if_counted, location_frames};
@@ -293,7 +293,7 @@ impl<'ctx, R: Reader> FrameIter<'ctx, R> {
         location: Option<Location<'ctx>>,
     ) -> FrameIter<'ctx, R>
         requires there { AllByRecursion (λ n. n < length functions.now.inlined) inlined.now }
-        ensures gives { IfSome (offset_at functions.now place) (λ offset. frames_left result
+        ensures gives { IfSome (cached_offset_at functions.now place) (λ offset. frames_left result
             ≡ frames_from lines.now.files language offset (cached_name functions.now place)
             (reverse (map (entry_among functions.now.inlined) inlined.now))
             (option_map seen_location location.entry)) }

@@ -10,7 +10,7 @@ ghost use Rattle.addr2line_lines.specs.SeenScope.{seen_scope};
 ghost use Rattle.addr2line_units.specs.declared.parses.Reads.TheVariants as kinds;
 ghost use Rattle.addr2line_units.specs.Frames.{function_at};
 ghost use Rattle.addr2line_units.specs.FunctionParses.{IsReadyFor};
-ghost use Rattle.addr2line_units.specs.KeptFunctions.{AreFunctionsOf, IsPlaceIn, IsTableOf, ReadsNoOther, StayFunctions, are_many, find_takes_memory, function_of_place, functions_fault, has_function, has_table, kept_functions, reading_takes_memory, table_takes_memory, were_read};
+ghost use Rattle.addr2line_units.specs.KeptFunctions.{AreFunctionsOf, IsPlaceIn, IsTableOf, ReadsNoOther, StayFunctions, are_many, find_takes_memory, function_of_place, functions_fault, kept_has_function, has_table, kept_functions, reading_takes_memory, table_takes_memory, were_read};
 ghost use Rattle.addr2line_units.specs.KnownEntries.{known_functions};
 ghost use Rattle.addr2line_units.specs.Parsed.{IsNotOom};
 ghost use Rattle.addr2line_units.specs.UnitFrames.{is_many};
@@ -148,9 +148,9 @@ impl<R: Reader> LazyFunctions<R> {
         ensures alone { ReadsNoOther probe (kept_functions self.old) (kept_functions self.new) }
         ensures ready { result ≢ Err OutOfMemory
             → find_takes_memory probe self.new ≡ are_many probe (kept_functions self.new) }
-        ensures kept { has_function probe self.old ≡ true → self.new ≡ self.old }
-        ensures known { IsNotOom result → has_function probe self.new ≡ true }
-        ensures memory { has_function probe self.new ≡ true
+        ensures kept { kept_has_function probe self.old ≡ true → self.new ≡ self.old }
+        ensures known { IsNotOom result → kept_has_function probe self.new ≡ true }
+        ensures memory { kept_has_function probe self.new ≡ true
             → is_many (function_at (seen_scope scope.entry) view.now probe) ≡ false
             → IsNotOom result }
     {

@@ -6,12 +6,12 @@ ghost use Rattle.addr2line_lines.specs.References.{IsScope};
 ghost use Rattle.addr2line_lines.specs.SeenScope.{seen_scope};
 ghost use Rattle.addr2line_units.specs.declared.parses.Reads.TheVariants.{Details, Functions};
 ghost use Rattle.addr2line_units.specs.FramesLookup.{with_answer};
-ghost use Rattle.addr2line_units.specs.FunctionParses.{AreFirstDecided, AreReadBefore, AreReadyFor, IsReadyFor, answers_after, read_of_functions, read_of_number, read_of_unit, read_of_units, read_of_view};
+ghost use Rattle.addr2line_units.specs.FunctionParses.{AreFirstDecided, AreReadBefore, AreReadyFor, IsReadyFor, answers_after_parse, read_of_functions, read_of_number, read_of_unit, read_of_units, read_of_view};
 ghost use Rattle.addr2line_units.specs.KeptEntries.{AreEntriesOf, StayEntries, kept_answer};
 ghost use Rattle.addr2line_units.specs.KeptFunctions.{AreFunctionsOf, StayFunctions};
 ghost use Rattle.addr2line_units.specs.KeptLookups.{HaveEntriesOf, StayAllEntries, answers_in, has_entries_at, scope_in};
 ghost use Rattle.addr2line_units.specs.KeptParses.{AreDecided, AreReadyUnits, ChangesOnly, HasRead, HaveFunctions, HaveRead, IsReadyUnit, StayDecided};
-ghost use Rattle.addr2line_units.specs.KeptViews.{is_decided, seen_answer};
+ghost use Rattle.addr2line_units.specs.KeptViews.{is_decided, seen_first_answer};
 ghost use Rattle.addr2line_units.specs.KnownEntries.{known_by, known_functions, known_in};
 ghost use Rattle.addr2line_units.specs.Parsed.{IsNotOom};
 ghost use Rattle.addr2line_units.specs.Views.{decided_answer, verdict};
@@ -108,7 +108,7 @@ fn read_in_view<'x, R: Reader>(
         (record { view = view.now; functions = functions.old }) }
     requires decided { is_decided view.now.state ≡ true }
     ensures gives { ExactlyUnlessOom (λ x. x) result (read_of_view reads (seen_scope scope.entry)
-        (verdict scope.entry.file.dwarf.now dw_unit.now (seen_answer view.now))) }
+        (verdict scope.entry.file.dwarf.now dw_unit.now (seen_first_answer view.now))) }
     ensures kept { AreEntriesOf (seen_scope scope.entry) dw_unit.now
         (record { view = view.now; functions = functions.new }) }
     ensures stay { StayFunctions functions.old functions.new }
@@ -120,7 +120,7 @@ fn read_in_view<'x, R: Reader>(
         → IsReadyFor reads (known_by view.now.state functions.new) }
     ensures exact { IsReadyFor reads (known_by view.now.state functions.old)
         → result ≡ read_of_view reads (seen_scope scope.entry)
-        (verdict scope.entry.file.dwarf.now dw_unit.now (seen_answer view.now)) }
+        (verdict scope.entry.file.dwarf.now dw_unit.now (seen_first_answer view.now)) }
     ensures same { IsReadyFor reads (known_by view.now.state functions.old)
         → functions.new ≡ functions.old }
 {
@@ -224,7 +224,7 @@ fn read_all_functions<R: Reader>(
     ensures kept { HaveEntriesOf (seen_scope scope.entry) scope.entry.file.units.now
         entries.new.items }
     ensures answers { IsNotOom result → answers_in entries.new.items
-        ≡ answers_after reads (seen_scope scope.entry) scope.entry.file.units.now
+        ≡ answers_after_parse reads (seen_scope scope.entry) scope.entry.file.units.now
         (answers_in entries.old.items) }
     ensures begun { AreFirstDecided reads (seen_scope scope.entry)
         scope.entry.file.units.now (answers_in entries.old.items)
@@ -278,7 +278,7 @@ impl<R: Reader> ResUnits<R> {
         ensures kept { HaveEntriesOf (scope_in dwarf.now self.new.dw_units.items sup.now)
             self.new.dw_units.items self.new.entries.items }
         ensures answers { IsNotOom result → answers_in self.new.entries.items
-            ≡ answers_after reads (scope_in dwarf.now self.old.dw_units.items sup.now)
+            ≡ answers_after_parse reads (scope_in dwarf.now self.old.dw_units.items sup.now)
             self.old.dw_units.items (answers_in self.old.entries.items) }
         ensures begun { AreFirstDecided reads
             (scope_in dwarf.now self.old.dw_units.items sup.now) self.old.dw_units.items

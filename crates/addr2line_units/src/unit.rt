@@ -6,10 +6,10 @@ ghost use Rattle.gimli_read.specs.declared.error.Error.TheVariants.{OutOfMemory}
 ghost use Rattle.gimli.specs.Sections.{Sections};
 ghost use Rattle.addr2line_lines.specs.Location.{location_of_row};
 ghost use Rattle.addr2line_lines.specs.SeenLocation.{seen_location};
-ghost use Rattle.addr2line_units.specs.UnitIndex.{is_partial, is_type_unit, given_at, given_ranges, has_lines, asks_lines, ranged_unit, unit_ranges};
+ghost use Rattle.addr2line_units.specs.UnitIndex.{is_partial, is_type_unit, given_in_unit, given_ranges, has_lines, asks_lines, ranged_unit, unit_ranges};
 ghost use Rattle.addr2line_units.specs.Located.{is_found, location_in, looks_in};
 ghost use Rattle.addr2line_units.specs.UnitAranges.{range_in};
-ghost use Rattle.addr2line_units.specs.CachedLines.{AreLinesOf, IsUnparsed, StaysCached, CachesAnswer, StaysUnit, cached_answer, cached_files, cached_looks, cached_ranges, cached_row, indexed_unit, lines_answer, cached_lines, is_parsed, is_uncached};
+ghost use Rattle.addr2line_units.specs.CachedLines.{AreLinesOf, IsUnparsed, LinesStayCached, CachesAnswer, StaysUnit, cached_answer, cached_files, cached_looks, cached_ranges, cached_row, indexed_unit, lines_answer, cached_lines, is_parsed, is_uncached};
 ghost use Rattle.addr2line_units.specs.Indexed.{ranged_seen};
 ghost use Rattle.addr2line_units.specs.Parsed.{IsNotOom};
 
@@ -87,7 +87,7 @@ fn read_given_ranges<R: Reader>(
 }
 
 // The language of a unit, and the ranges that `.debug_aranges` or its attributes give.
-#[tactic(auto, unfolding(crate::specs::UnitIndex::given_at))]
+#[tactic(auto, unfolding(crate::specs::UnitIndex::given_in_unit))]
 fn read_given<R: Reader>(
     alloc: Global,
     unit: UnitRef<'_, R>,
@@ -95,7 +95,7 @@ fn read_given<R: Reader>(
 ) -> Result<(Option<DwLang>, Vec<Range>), Error>
     ensures gives { ExactlyUnlessOomIf (not (is_partial unit.entry.unit.now.header.unit_type))
         (λ x. (x.0, x.1.items)) result
-        (given_at unit.entry.dwarf.now aranges.now unit.entry.unit.now) }
+        (given_in_unit unit.entry.dwarf.now aranges.now unit.entry.unit.now) }
 {
     let record = unit.unit;
     if is_partial(record.header.type_()) {
@@ -219,7 +219,7 @@ impl ResUnit {
         ensures cached { OnOk result (is_uncached self.new.lines ≡ false) }
         ensures fault { is_uncached self.old.lines ≡ true → OnOk result
             (cached_answer self.new.lines ≢ Err OutOfMemory) }
-        ensures stays { StaysCached self.old.lines self.new.lines }
+        ensures stays { LinesStayCached self.old.lines self.new.lines }
         ensures refused { IfErr result (λ e. e ≡ OutOfMemory) }
         ensures memory { OnErr result (self.new.lines ≡ self.old.lines) }
         ensures lang { self.new.lang ≡ self.old.lang }
@@ -244,7 +244,7 @@ impl ResUnit {
         ensures exact { is_uncached self.old.lines ≡ false →
             Exactly (λ _. cached_lines self.new.lines) result
             (lines_answer dwarf.now dw_unit.now) }
-        ensures stays { StaysCached self.old.lines self.new.lines }
+        ensures stays { LinesStayCached self.old.lines self.new.lines }
         ensures caches { CachesAnswer self.old.lines result self.new.lines }
         ensures memory { is_uncached self.new.lines ≡ false → IsNotOom result }
         ensures lang { self.new.lang ≡ self.old.lang }

@@ -8,7 +8,7 @@ ghost use Rattle.addr2line_lines.specs.SeenScope.{seen_scope};
 ghost use Rattle.addr2line_units.specs.CachedLines.{AreLinesOf, StaysUnit, indexed_unit, is_uncached};
 ghost use Rattle.addr2line_units.specs.KeptEntries.{AreEntriesOf, AreFramesIn, AreFresh, ReadsEntriesOf, StayEntries, frames_of_place, has_entries, has_entries_by, kept_answer};
 ghost use Rattle.addr2line_units.specs.KeptFunctions.{IsPlaceIn, ReadsNoOther, StayFunctions, function_of_place, kept_functions};
-ghost use Rattle.addr2line_units.specs.KeptViews.{is_decided, seen_answer, waits, was_looked_at};
+ghost use Rattle.addr2line_units.specs.KeptViews.{is_decided, seen_first_answer, waits, was_looked_at};
 ghost use Rattle.addr2line_units.specs.Parsed.{IsNotOom};
 ghost use Rattle.addr2line_units.specs.UnitFrames.{asks_lines_in, frames_in, function_in, has_many};
 ghost use Rattle.addr2line_units.specs.Views.{is_open};
@@ -55,7 +55,7 @@ fn find_in_view<'x, R: Reader>(
     requires decided { is_decided view.now.state ≡ true }
     ensures gives { ExactlyUnlessOom
         (option_map (function_of_place (kept_functions functions.new))) result
-        (function_in (seen_scope scope.entry) dw_unit.now (seen_answer view.now) probe) }
+        (function_in (seen_scope scope.entry) dw_unit.now (seen_first_answer view.now) probe) }
     ensures there { IfOk result (λ found. IfSome found
         (IsPlaceIn (kept_functions functions.new))) }
     ensures kept { AreEntriesOf (seen_scope scope.entry) dw_unit.now
@@ -68,7 +68,7 @@ fn find_in_view<'x, R: Reader>(
     ensures ready { IsNotOom result
         → has_entries_by probe view.now.state functions.new ≡ true }
     ensures memory { has_entries_by probe view.now.state functions.new ≡ true
-        → has_many (seen_scope scope.entry) dw_unit.now (seen_answer view.now) probe ≡ false
+        → has_many (seen_scope scope.entry) dw_unit.now (seen_first_answer view.now) probe ≡ false
         → IsNotOom result }
 {
     let unit = view.unit_ref(scope.file.dwarf, dw_unit)?;

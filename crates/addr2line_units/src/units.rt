@@ -4,7 +4,7 @@ ghost use Rattle.std.specs.Prelude.{◌≡◌, ◌+◌, ◌++◌, ◌-◌, ◌^�
 ghost use Rattle.gimli_read.specs.declared.error.Error.TheVariants.{OutOfMemory};
 ghost use Rattle.gimli_read.specs.Reading.{Exactly, ExactlyUnlessOom, ExactlyUnlessOomIf};
 ghost use Rattle.addr2line_units.specs.UnitIndex.{range_of_unit, unit_of_header};
-ghost use Rattle.addr2line_units.specs.Indexed.{index_seen, index_takes_memory, indexed, indexed_with, no_index, ranged_seen, unit_takes_memory, units_in, units_seen, units_take_memory, with_header, with_ranged};
+ghost use Rattle.addr2line_units.specs.Indexed.{index_seen, index_takes_memory, indexed, indexed_with, no_index, ranged_seen, indexed_unit_takes_memory, units_in, units_seen, units_take_memory, with_header, with_ranged};
 ghost use Rattle.addr2line_units.specs.CachedLines.{HaveLinesOf, IsUnparsed, StayUnits, cached_files, location_at_place, parsed_units};
 ghost use Rattle.addr2line_units.specs.KeptLookups.{AreFreshOf};
 ghost use Rattle.addr2line_units.specs.LocationsLeft.{locations_left};
@@ -73,7 +73,7 @@ fn read_unit<R: Reader>(
 ) -> Result<Option<(Unit<R>, ResUnit, Vec<Range>)>, Error>
     requires same { abbreviations.old.dwarf ≡ dwarf.now }
     ensures same { abbreviations.new.dwarf ≡ dwarf.now }
-    ensures gives { ExactlyUnlessOomIf (unit_takes_memory dwarf.now header)
+    ensures gives { ExactlyUnlessOomIf (indexed_unit_takes_memory dwarf.now header)
         (option_map (λ x. ranged_seen x.0 x.1 x.2.items)) result
         (unit_of_header dwarf.now aranges.now header) }
     ensures unparsed { IfOk result (λ x. IfSome x (λ y. IsUnparsed dwarf.now y.0 y.1)) }
@@ -163,7 +163,7 @@ impl<R: Reader> Index<R> {
         requires same { abbreviations.old.dwarf ≡ dwarf.now }
         requires read { HaveLinesOf dwarf.now self.old.dw_units.items self.old.units.items }
         requires fresh { AreFreshOf self.old.dw_units.items self.old.entries.items }
-        ensures gives { ExactlyUnlessOomIf (unit_takes_memory dwarf.now header)
+        ensures gives { ExactlyUnlessOomIf (indexed_unit_takes_memory dwarf.now header)
             (λ _. index_seen self.new) result
             (with_header dwarf.now aranges.now (index_seen self.old) header) }
         ensures same { abbreviations.new.dwarf ≡ dwarf.now }

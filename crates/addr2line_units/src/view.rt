@@ -7,7 +7,7 @@ ghost use Rattle.gimli.specs.Sections.{Sections};
 ghost use Rattle.gimli.specs.Unit.{UnitRecord};
 ghost use Rattle.addr2line_lines.specs.References.{IsScope};
 ghost use Rattle.addr2line_lines.specs.SeenScope.{seen_scope};
-ghost use Rattle.addr2line_units.specs.KeptViews.{IsViewOf, answer_in, is_decided, parts_or_fault, seen_answer, seen_load, seen_sections, split_file_by, split_file_in, split_unit, verdict_in, view_in, waits, was_looked_at};
+ghost use Rattle.addr2line_units.specs.KeptViews.{IsViewOf, answer_in, is_decided, parts_or_fault, seen_first_answer, seen_load, seen_sections, split_file_by, split_file_in, split_unit, verdict_in, view_in, waits, was_looked_at};
 ghost use Rattle.addr2line_units.specs.Views.{answered_view, first_unit, load_of_unit, split_name_of, verdict, view_scope};
 
 use addr2line_lines::{FileUnits, Scope};
@@ -193,7 +193,7 @@ impl<R: Reader> Answer<R> {
 impl<R: Reader> UnitView<R> {
     // A view of a unit that wasn't looked at yet. Takes no memory.
     pub(crate) fn new() -> UnitView<R>
-        ensures answer { seen_answer result ≡ None }
+        ensures answer { seen_first_answer result ≡ None }
         ensures unknown { was_looked_at result.state ≡ false }
     {
         UnitView {
@@ -207,7 +207,7 @@ impl<R: Reader> UnitView<R> {
         ensures view { IsViewOf dwarf.now dw_unit.now self.new }
         ensures looked { was_looked_at self.new.state ≡ true }
         ensures kept { was_looked_at self.old.state ≡ true → self.new ≡ self.old }
-        ensures answer { seen_answer self.new ≡ seen_answer self.old }
+        ensures answer { seen_first_answer self.new ≡ seen_first_answer self.old }
     {
         if matches!(self.state, ViewState::Undecided) {
             self.state = first_state(dwarf, dw_unit);
@@ -233,7 +233,7 @@ impl<R: Reader> UnitView<R> {
 
     // Whether the unit has an answer.
     pub(crate) fn is_answered(&self) -> bool
-        ensures gives { result ≡ is_some (seen_answer self.now) }
+        ensures gives { result ≡ is_some (seen_first_answer self.now) }
     {
         matches!(self.state, ViewState::Answered(_))
     }
@@ -269,12 +269,12 @@ impl<R: Reader> UnitView<R> {
         requires view { IsViewOf dwarf.now dw_unit.now self.old }
         requires waits { waits self.old.state ≡ true }
         ensures view { IsViewOf dwarf.now dw_unit.now self.new }
-        ensures answer { OnOk result (seen_answer self.new
+        ensures answer { OnOk result (seen_first_answer self.new
             ≡ Some (option_map (λ d. d.value) sections)) }
         ensures decided { OnOk result (is_decided self.new.state ≡ true) }
         ensures refused { IfErr result (λ e. (e ≡ OutOfMemory) × (self.new ≡ self.old)
             × (is_some sections ≡ true)) }
-        ensures verdict { OnOk result (verdict dwarf.now dw_unit.now (seen_answer self.new)
+        ensures verdict { OnOk result (verdict dwarf.now dw_unit.now (seen_first_answer self.new)
             ≡ Some (answered_view dwarf.now dw_unit.now
             (option_map (λ d. d.value) sections))) }
     {
@@ -291,8 +291,8 @@ impl<R: Reader> UnitView<R> {
     pub(crate) fn forget(&mut self, dwarf: &Dwarf<R>, dw_unit: &Unit<R>)
         requires view { IsViewOf dwarf.now dw_unit.now self.old }
         ensures view { IsViewOf dwarf.now dw_unit.now self.new }
-        ensures answer { seen_answer self.new ≡ None }
-        ensures kept { seen_answer self.old ≡ None → self.new ≡ self.old }
+        ensures answer { seen_first_answer self.new ≡ None }
+        ensures kept { seen_first_answer self.old ≡ None → self.new ≡ self.old }
     {
         if matches!(self.state, ViewState::Answered(_)) {
             self.state = ViewState::Open;
@@ -308,7 +308,7 @@ impl<R: Reader> UnitView<R> {
     ) -> Result<UnitRef<'x, R>, Error>
         requires view { IsViewOf dwarf.now dw_unit.now self.now }
         requires decided { is_decided self.now.state ≡ true }
-        ensures gives { IfSome (verdict dwarf.now dw_unit.now (seen_answer self.now)) (λ view.
+        ensures gives { IfSome (verdict dwarf.now dw_unit.now (seen_first_answer self.now)) (λ view.
             Exactly (λ r. (r.dwarf.now, r.unit.now)) result
             (parts_or_fault view)) }
     {
@@ -336,7 +336,7 @@ impl<R: Reader> UnitView<R> {
     // Where references lead from the view, from the main unit where `scope` says. Takes no memory.
     pub(crate) fn scope_of<'x>(&'x self, scope: Scope<'x, R>) -> Scope<'x, R>
         ensures gives { (d : Sections) (u : UnitRecord) → IsViewOf d u self.now
-            → IfSome (verdict d u (seen_answer self.now)) (λ view. IfOk view (λ v.
+            → IfSome (verdict d u (seen_first_answer self.now)) (λ view. IfOk view (λ v.
             seen_scope result ≡ view_scope (seen_scope scope.entry) v)) }
         ensures in_order { IsScope (seen_scope scope.entry) → IsScope (seen_scope result) }
     {

@@ -6,7 +6,7 @@ use Rattle.elf.specs.declared.layout.Layout.{Layout}
 use Rattle.elf.specs.declared.section.SectionHeader.{SectionHeader}
 use Rattle.elf.specs.declared.symbol.Entry.{Entry}
 use Rattle.elf.specs.Header.{section_in, sections_in}
-use Rattle.elf.specs.Symbols.{entry_in, entries_in}
+use Rattle.elf.specs.Symbols.{symbol_entry_in, entries_in}
 
 -- room for the things that are left, once one is read
 pub room_next : (n k size a b : ℕ) → n ≡ suc k → n * size ≤ a → b + size ≡ a → k * size ≤ b
@@ -26,12 +26,12 @@ sections_end o l n rest read all is done = sym (append-nil read) ∙ (rw is at d
 
 -- one more entry
 pub entries_next : (o : RunTimeEndian) (l : Layout) (p : Entry → Bool) (n k : ℕ) (rest after : List ℕ) (read more all : List Entry) (e : Entry) → n ≡ suc k
-    → read ++ filter p (entries_in o l n rest) ≡ all → after ≡ drop l.symbol_size rest → more ≡ read ++ filter p (e ∷ []) → e ≡ entry_in o l rest → more ++ filter p (entries_in o l k after) ≡ all
+    → read ++ filter p (entries_in o l n rest) ≡ all → after ≡ drop l.symbol_size rest → more ≡ read ++ filter p (e ∷ []) → e ≡ symbol_entry_in o l rest → more ++ filter p (entries_in o l k after) ≡ all
 entries_next o l p n k rest after read more all e is done cut pushed head =
     let left = entries_in o l k (drop l.symbol_size rest) in
-    let step : read ++ filter p ((entry_in o l rest ∷ []) ++ left) ≡ all = rw is at done in
-    let apart : read ++ (filter p (entry_in o l rest ∷ []) ++ filter p left) ≡ all = rw (filter-append p (entry_in o l rest ∷ []) left) at step in
-    rw (pushed, cut, head) (append_assoc read (filter p (entry_in o l rest ∷ [])) (filter p left) ∙ apart)
+    let step : read ++ filter p ((symbol_entry_in o l rest ∷ []) ++ left) ≡ all = rw is at done in
+    let apart : read ++ (filter p (symbol_entry_in o l rest ∷ []) ++ filter p left) ≡ all = rw (filter-append p (symbol_entry_in o l rest ∷ []) left) at step in
+    rw (pushed, cut, head) (append_assoc read (filter p (symbol_entry_in o l rest ∷ [])) (filter p left) ∙ apart)
 
 -- all entries
 pub entries_end : (o : RunTimeEndian) (l : Layout) (p : Entry → Bool) (n : ℕ) (rest : List ℕ) (read all : List Entry) → n ≡ 0 → read ++ filter p (entries_in o l n rest) ≡ all → read ≡ all

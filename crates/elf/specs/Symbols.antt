@@ -50,8 +50,8 @@ abbrev pub symbol_names_of : ObjectFile → List ℕ
 symbol_names_of file = string_table_in file.bytes file.sections (symbol_names_number file.sections)
 
 -- the entry at the front
-abbrev pub entry_in : RunTimeEndian → Layout → List ℕ → Entry
-entry_in endian l bytes = record {
+abbrev pub symbol_entry_in : RunTimeEndian → Layout → List ℕ → Entry
+symbol_entry_in endian l bytes = record {
   name = number_at endian l.st_name WORD_SIZE bytes;
   info = slice_index bytes l.st_info;
   section = number_at endian l.st_shndx HALF_SIZE bytes;
@@ -62,7 +62,7 @@ entry_in endian l bytes = record {
 -- so many entries, one after another
 abbrev pub entries_in : RunTimeEndian → Layout → ℕ → List ℕ → List Entry
 entries_in endian l zero bytes = []
-entries_in endian l (suc n) bytes = entry_in endian l bytes
+entries_in endian l (suc n) bytes = symbol_entry_in endian l bytes
     ∷ entries_in endian l n (drop l.symbol_size bytes)
 
 -- the bytes, if they are UTF-8
@@ -74,8 +74,8 @@ abbrev pub name_from : List ℕ → Option (List ℕ)
 name_from text = if length text == 0 then None else utf8_from text
 
 -- the name of an entry
-abbrev pub name_of : List ℕ → Entry → Option (List ℕ)
-name_of names e = option_and_then name_from (table_text_at names e.name)
+abbrev pub symbol_entry_name : List ℕ → Entry → Option (List ℕ)
+symbol_entry_name names e = option_and_then name_from (table_text_at names e.name)
 
 -- whether the type is one that a usable symbol has
 abbrev pub is_usable_type : ℕ → Bool
@@ -84,7 +84,7 @@ is_usable_type t = t == STT_NOTYPE || t == STT_OBJECT || t == STT_FUNC
 -- whether an entry is a usable symbol
 abbrev pub is_usable : List ℕ → Entry → Bool
 is_usable names e = not (e.section == SHN_UNDEF)
-    && (is_usable_type (e.info % 16) && is_some (name_of names e))
+    && (is_usable_type (e.info % 16) && is_some (symbol_entry_name names e))
 
 -- the usable symbols of a table
 abbrev pub usable_in : RunTimeEndian → Layout → List ℕ → List ℕ → List Entry
@@ -120,5 +120,5 @@ unfoldable pub symbol_at : ℕ → ObjectFile → Option NamedAddress
 symbol_at probe file = option_and_then (λ e.
     if covers probe e
     then option_map (λ name. record { name = name; address = e.address })
-    (name_of (symbol_names_of file) e)
+    (symbol_entry_name (symbol_names_of file) e)
     else None) (nearest_symbol probe (symbols_of file))

@@ -3,7 +3,7 @@
 ghost use Rattle.std.specs.Prelude.{◌≡◌, ◌≤◌, ◌==◌, ℕ, List, [], ◌∷◌, ◌++◌, length, filter, is_some, option_map, OnOk, IfOk, IsOk};
 ghost use Rattle.std.specs.List.{find, slice_get};
 ghost use Rattle.elf.specs.Layout.{layout_of};
-ghost use Rattle.elf.specs.Symbols.{named_address, symbol_table, symbol_bytes, symbol_names_number, entry_in, utf8_from, name_from, name_of, is_usable_type, is_usable, usable_in, is_preferred_bind, preference, covers, nearest_symbol};
+ghost use Rattle.elf.specs.Symbols.{named_address, symbol_table, symbol_bytes, symbol_names_number, symbol_entry_in, utf8_from, name_from, symbol_entry_name, is_usable_type, is_usable, usable_in, is_preferred_bind, preference, covers, nearest_symbol};
 ghost use Rattle.std.specs.List.Sorted.{IsNonDecreasingBy, IsPartitionPoint};
 ghost use Rattle.elf.specs.declared.symbol.Entry.{Entry as SymbolEntry};
 ghost use Rattle.elf.specs.TextStarts.{text_starts};
@@ -61,7 +61,7 @@ pub(crate) struct Entry {
 // The entry at the front.
 fn entry_at(bytes: &[u8], ident: Ident) -> Entry
     requires whole { (layout_of ident.class).symbol_size ≤ length bytes.now }
-    ensures gives { result ≡ entry_in ident.endian (layout_of ident.class) bytes.now }
+    ensures gives { result ≡ symbol_entry_in ident.endian (layout_of ident.class) bytes.now }
 {
     let layout = ident.class.layout();
     Entry {
@@ -96,7 +96,8 @@ fn name_in(text: &[u8]) -> Option<&str>
 impl Entry {
     /// The entry's name.
     pub(crate) fn name<'a>(&self, names: &'a [u8]) -> Option<&'a str>
-        ensures gives { option_map (λ name. name.now) result ≡ name_of names.now self.now }
+        ensures gives { option_map (λ name. name.now) result
+            ≡ symbol_entry_name names.now self.now }
     {
         name_in(section::text_at(names, u64::from(self.name))?)
     }
@@ -104,7 +105,7 @@ impl Entry {
     // Whether the entry has a name, by the places where texts begin.
     fn has_name(&self, names: &[u8], starts: &[bool]) -> bool
         requires starts { starts.now ≡ text_starts names.now }
-        ensures gives { result ≡ is_some (name_of names.now self.now) }
+        ensures gives { result ≡ is_some (symbol_entry_name names.now self.now) }
     {
         let at = self.name as usize;
         at < names.len() && (names[at] != 0 && starts[at])

@@ -16,8 +16,8 @@ use Rattle.gimli_read.proofs.Shorter.{Shorter, TakesBytes, takes_by, shorter_bin
 use Rattle.gimli.specs.declared.constants.TheConstants.{DW_RLE_end_of_list, DW_RLE_base_addressx, DW_RLE_startx_endx, DW_RLE_startx_length, DW_RLE_offset_pair, DW_RLE_base_address, DW_RLE_start_end, DW_RLE_start_length}
 use Rattle.gimli.specs.declared.rnglists.RangeListEntry.{RangeListEntry}
 use Rattle.gimli.specs.declared.rnglists.RangeListEntry.TheVariants.{BaseAddressx, StartxEndx, StartxLength, OffsetPair, BaseAddress, StartEnd, StartLength}
-use Rattle.gimli.specs.AddressSize.{greatest_address}
-use Rattle.gimli.specs.RangeListEntries.{entry_of, entry_of_two, rnglists_fields_at, rnglists_entry_at, ranges_entry_at, is_before_5, range_list_entry_at, range_list_entries}
+use Rattle.gimli_line.specs.AddressSize.{greatest_address}
+use Rattle.gimli.specs.RangeListEntries.{one_field_entry, entry_of_two, rnglists_fields_at, rnglists_entry_at, ranges_entry_at, is_before_5, range_list_entry_at, range_list_entries}
 use Rattle.gimli.specs.Ranges.{sum_of_size, range_of_entry, with_range_first, ranges_of_entries, ranges_from}
 use Rattle.gimli.specs.Sections.{Sections}
 use Rattle.gimli.specs.Unit.{UnitRecord}
@@ -39,7 +39,7 @@ address_shorter : (size : ℕ) (s : Section) → Shorter (length s.bytes) (addre
 address_shorter zero s = record { by = tt }
 address_shorter (suc n) s = shorter_if (is_address_size (suc n)) (fixed-shorter (suc n) s (omega arith)) shorter_err
 
-one_shorter : (make : ℕ → RangeListEntry) (field : Section → Reading ℕ) → ((s : Section) → Shorter (length s.bytes) (field s)) → (s : Section) → Shorter (length s.bytes) (entry_of make field s)
+one_shorter : (make : ℕ → RangeListEntry) (field : Section → Reading ℕ) → ((s : Section) → Shorter (length s.bytes) (field s)) → (s : Section) → Shorter (length s.bytes) (one_field_entry make field s)
 one_shorter make field h s = shorter_bind (h s) (λ x k. shorter_ok k)
 
 two_shorter : (make : ℕ → ℕ → RangeListEntry) (first second : Section → Reading ℕ) → ((s : Section) → Shorter (length s.bytes) (first s)) → ((s : Section) → Shorter (length s.bytes) (second s))

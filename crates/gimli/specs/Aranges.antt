@@ -15,7 +15,7 @@ use Rattle.gimli_read.specs.Reading.{Reading, ◌>>=◌, refused_if}
 use Rattle.gimli_read.specs.Number.{address_at, fixed_at, offset_at, skipped_at, split_at, initial_length_at}
 use Rattle.gimli_read.specs.Run.{run_of, listed}
 use Rattle.gimli.specs.declared.constants.TheConstants.{ARANGES_VERSION}
-use Rattle.gimli.specs.AddressSize.{greatest_address}
+use Rattle.gimli_line.specs.AddressSize.{greatest_address}
 use Rattle.gimli.specs.Header.{unit_address_size_at}
 
 -- a set: where its unit begins in .debug_info, the size of its addresses, and the bytes of its

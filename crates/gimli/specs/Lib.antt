@@ -1,4 +1,3 @@
-pub mod AddressSize
 pub mod Header
 pub mod UnitsLeft
 pub mod Sections

@@ -11,14 +11,14 @@ use Rattle.gimli_read.specs.Number.{fixed_at, address_at}
 use Rattle.gimli_read.specs.Leb128.{uleb128_at}
 use Rattle.gimli_read.specs.Run.{Run, run_of}
 use Rattle.gimli.specs.declared.constants.TheConstants.{DW_RLE_end_of_list, DW_RLE_base_addressx, DW_RLE_startx_endx, DW_RLE_startx_length, DW_RLE_offset_pair, DW_RLE_base_address, DW_RLE_start_end, DW_RLE_start_length}
-use Rattle.gimli.specs.AddressSize.{greatest_address}
+use Rattle.gimli_line.specs.AddressSize.{greatest_address}
 use Rattle.gimli.specs.declared.rnglists.RangeListEntry.{RangeListEntry}
 use Rattle.gimli.specs.declared.rnglists.RangeListEntry.TheVariants.{BaseAddressx, StartxEndx, StartxLength, OffsetPair, BaseAddress, StartEnd, StartLength}
 
 -- an entry of one field
-abbrev pub entry_of : (ℕ → RangeListEntry) → (Section → Reading ℕ) → Section
+abbrev pub one_field_entry : (ℕ → RangeListEntry) → (Section → Reading ℕ) → Section
     → Reading RangeListEntry
-entry_of make field s = field s >>= λ x. Ok (make x.0, x.1)
+one_field_entry make field s = field s >>= λ x. Ok (make x.0, x.1)
 
 -- an entry of two fields, one after the other
 abbrev pub entry_of_two : (ℕ → ℕ → RangeListEntry) → (Section → Reading ℕ)
@@ -28,11 +28,11 @@ entry_of_two make first second s = first s >>= λ x. second x.1 >>= λ y. Ok (ma
 -- the fields of an entry of .debug_rnglists that has this kind
 unfoldable pub rnglists_fields_at : ℕ → ℕ → Section → Reading RangeListEntry
 rnglists_fields_at size kind s =
-    if kind == DW_RLE_base_addressx then entry_of BaseAddressx uleb128_at s
+    if kind == DW_RLE_base_addressx then one_field_entry BaseAddressx uleb128_at s
     else if kind == DW_RLE_startx_endx then entry_of_two StartxEndx uleb128_at uleb128_at s
     else if kind == DW_RLE_startx_length then entry_of_two StartxLength uleb128_at uleb128_at s
     else if kind == DW_RLE_offset_pair then entry_of_two OffsetPair uleb128_at uleb128_at s
-    else if kind == DW_RLE_base_address then entry_of BaseAddress (address_at size) s
+    else if kind == DW_RLE_base_address then one_field_entry BaseAddress (address_at size) s
     else if kind == DW_RLE_start_end
     then entry_of_two StartEnd (address_at size) (address_at size) s
     else if kind == DW_RLE_start_length then entry_of_two StartLength (address_at size) uleb128_at s

@@ -3,7 +3,7 @@
 -- reversed, or begins at all ones or all ones less one, and so are offsets from such a base.
 -- Own: an offset past the section's end is OffsetOutOfBounds. An entry is read whole before the
 -- addresses of its indexes are, and each of these is read, also where the range is passed over.
-use Rattle.std.specs.Prelude.{ℕ, ◌+◌, ◌-◌, ◌%◌, ◌==◌, ◌||◌, not, nat_lt, Bool, List, [], ◌∷◌, Option, Some, None, Result, Ok, Err, if◌then◌else◌}
+use Rattle.std.specs.Prelude.{ℕ, ◌+◌, ◌-◌, ◌%◌, not, nat_lt, Bool, List, [], ◌∷◌, Option, Some, None, Result, Ok, Err, if◌then◌else◌}
 use Rattle.gimli_read.specs.declared.error.Error.{Error}
 use Rattle.gimli_read.specs.declared.error.Error.TheVariants.{UnsupportedAddressSize}
 use Rattle.gimli_read.specs.declared.range.Range.{Range}
@@ -12,7 +12,7 @@ use Rattle.gimli_read.specs.Reading.{◌>>=◌, refused_if}
 use Rattle.gimli_read.specs.Number.{is_address_size}
 use Rattle.gimli.specs.declared.rnglists.RangeListEntry.{RangeListEntry}
 use Rattle.gimli.specs.declared.rnglists.RangeListEntry.TheVariants.{BaseAddressx, StartxEndx, StartxLength, OffsetPair, BaseAddress, StartEnd, StartLength}
-use Rattle.gimli.specs.AddressSize.{address_limit, greatest_address}
+use Rattle.gimli_line.specs.AddressSize.{address_limit, is_tombstone}
 use Rattle.gimli.specs.RangeListEntries.{is_before_5, range_list_entries}
 use Rattle.gimli.specs.Sections.{Sections}
 use Rattle.gimli.specs.Text.{from_offset, indexed_number}
@@ -21,10 +21,6 @@ use Rattle.gimli.specs.Unit.{UnitRecord}
 -- a sum, as an address of a size
 abbrev pub sum_of_size : ℕ → ℕ → ℕ → ℕ
 sum_of_size size a b = (a + b) % address_limit size
-
--- all ones and all ones less one stand for code that is not there
-abbrev pub is_tombstone : ℕ → ℕ → Bool
-is_tombstone size a = a == greatest_address size || a == greatest_address size - 1
 
 -- a range of addresses, unless it is passed over
 abbrev pub range_of : ℕ → ℕ → ℕ → Option Range

@@ -4,8 +4,8 @@ use Rattle.gimli_read.specs.declared.error.Error.{Error}
 use Rattle.gimli_read.specs.declared.range.Range.{Range}
 
 -- what a search found of the ranges that were left, and which are left after that range
-abbrev pub Finds : List (Result Range Error) → Result (Option Range) Error
+abbrev pub FindsRange : List (Result Range Error) → Result (Option Range) Error
     → List (Result Range Error) → Type 0
-Finds old (Ok None) new = old ≡ []
-Finds old (Ok (Some range)) new = old ≡ Ok range ∷ new
-Finds old (Err e) new = old ≡ Err e ∷ []
+FindsRange old (Ok None) new = old ≡ []
+FindsRange old (Ok (Some range)) new = old ≡ Ok range ∷ new
+FindsRange old (Err e) new = old ≡ Err e ∷ []

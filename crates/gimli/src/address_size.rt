@@ -2,7 +2,7 @@
 
 ghost use Rattle.std.specs.Prelude.{◌≡◌, true};
 ghost use Rattle.gimli_read.specs.Number.{is_address_size};
-ghost use Rattle.gimli.specs.AddressSize.{greatest_address};
+ghost use Rattle.gimli_line.specs.AddressSize.{greatest_address};
 
 /// The greatest address of a size: all ones.
 pub(crate) fn greatest_address(size: u8) -> u64

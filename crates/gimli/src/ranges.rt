@@ -4,8 +4,9 @@ ghost use Rattle.std.specs.Prelude.{◌≡◌, true};
 ghost use Rattle.gimli_read.specs.Number.{is_address_size};
 ghost use Rattle.gimli_read.specs.Reading.{Exactly};
 ghost use Rattle.gimli_read.specs.Yields.{Yields};
-ghost use Rattle.gimli.specs.Ranges.{sum_of_size, is_tombstone, range_of, range_of_length, range_from_base, range_of_entry, ranges_from, range_lists_of, ranges_at};
-ghost use Rattle.gimli.specs.RangesLeft.{Finds};
+ghost use Rattle.gimli_line.specs.AddressSize.{is_tombstone};
+ghost use Rattle.gimli.specs.Ranges.{sum_of_size, range_of, range_of_length, range_from_base, range_of_entry, ranges_from, range_lists_of, ranges_at};
+ghost use Rattle.gimli.specs.RangesLeft.{FindsRange};
 
 use crate::address_size::greatest_address;
 use crate::rnglists::{RangeListEntry, read_range_list_entry};
@@ -28,8 +29,7 @@ fn is_tombstone(size: u8, address: u64) -> bool
     requires size { is_address_size size ≡ true }
     ensures gives { result ≡ is_tombstone size address }
 {
-    let greatest = greatest_address(size);
-    address == greatest || address == greatest - 1
+    greatest_address(size) <= address.saturating_add(1)
 }
 
 // A range of addresses, unless it is passed over.
@@ -119,7 +119,7 @@ fn find_range<R: Reader>(
     input: &mut EndianSlice<'_>,
 ) -> Result<Option<Range>, Error>
     requires size { is_address_size unit.unit.now.header.encoding.address_size ≡ true }
-    ensures gives { Finds
+    ensures gives { FindsRange
         (ranges_from unit.entry.dwarf.now unit.entry.unit.now base.old input.old) result
         (ranges_from unit.entry.dwarf.now unit.entry.unit.now base.new input.new) }
 {
@@ -169,7 +169,8 @@ impl<'a, R: Reader> Model for RngListIter<'a, R> {
     ghost use Rattle.gimli_read.specs.declared.error.Error.{Error};
     ghost use Rattle.gimli_read.specs.declared.range.Range.{Range};
     ghost use Rattle.gimli_read.specs.Number.{is_address_size};
-    ghost use Rattle.gimli.specs.Ranges.{ranges_from};
+    ghost use Rattle.gimli_line.specs.AddressSize.{is_tombstone};
+ghost use Rattle.gimli.specs.Ranges.{ranges_from};
 
     ghost Value = { List (Result Range Error) };
 

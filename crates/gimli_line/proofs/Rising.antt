@@ -11,7 +11,8 @@ use Rattle.gimli_line.specs.declared.registers.Registers.{Registers}
 use Rattle.gimli_line.specs.declared.row.LineRow.{LineRow}
 use Rattle.gimli_line.specs.Encoding.{limit}
 use Rattle.gimli_line.specs.Opcode.{opcodes_in}
-use Rattle.gimli_line.specs.Rows.{line_advance, moved, is_tombstone, is_end, makes_row, ended}
+use Rattle.gimli_line.specs.AddressSize.{is_tombstone}
+use Rattle.gimli_line.specs.Rows.{line_advance, moved, is_end, makes_row, ended}
 use Rattle.gimli_line.specs.Steps.{start, advanced, placed, fixed_advanced, step, fitting, row, row_of, next, executed}
 use Rattle.gimli_line.specs.Left.{with_row_first, continued_rows, rows_from}
 use Rattle.gimli_line.specs.Rises.{rows_before, NeverFalls, RowsRise}
@@ -36,7 +37,7 @@ fixed_advanced_grows n r = by_cases r.dropping
     by_cases false = omega arith
 
 placed_grows : (e : LineEncoding) (a : ℕ) (r : Registers) → r.address ≤ (placed e a r).address
-placed_grows e a r = by_cases (is_tombstone e a || nat_lt a r.address) refl
+placed_grows e a r = by_cases (is_tombstone e.address_size a || nat_lt a r.address) refl
   where
     not_below : (t b : Bool) → (t || b) ≡ false → b ≡ false
     not_below true b k = cc
@@ -45,9 +46,9 @@ placed_grows e a r = by_cases (is_tombstone e a || nat_lt a r.address) refl
     reaches : {x y : ℕ} → nat_lt x y ≡ false → y ≤ x
     reaches {x} {y} k = grind (arith, nat_tests)
 
-    by_cases : (b : Bool) → (is_tombstone e a || nat_lt a r.address) ≡ b → r.address ≤ (cond b (record r { dropping = true }) (record r { address = a; op_index = 0; dropping = false })).address
+    by_cases : (b : Bool) → (is_tombstone e.address_size a || nat_lt a r.address) ≡ b → r.address ≤ (cond b (record r { dropping = true }) (record r { address = a; op_index = 0; dropping = false })).address
     by_cases true k = omega arith
-    by_cases false k = reaches (not_below (is_tombstone e a) _ k)
+    by_cases false k = reaches (not_below (is_tombstone e.address_size a) _ k)
 
 step_grows : (e : LineEncoding) (r : Registers) (op : Opcode) → r.address ≤ (step e r op).address
 step_grows e r (Special n) = advanced_grows e (n / e.line_range) (record r { line = moved r.line (line_advance e n) })

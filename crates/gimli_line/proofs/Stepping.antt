@@ -6,7 +6,8 @@ use Rattle.gimli_line.specs.declared.encoding.LineEncoding.{LineEncoding}
 use Rattle.gimli_line.specs.declared.opcode.Opcode.{Opcode}
 use Rattle.gimli_line.specs.declared.opcode.Opcode.TheVariants.{Special, Copy, AdvancePc, AdvanceLine, SetFile, SetColumn, ConstAddPc, FixedAdvancePc, EndSequence, SetAddress, Other}
 use Rattle.gimli_line.specs.declared.registers.Registers.{Registers}
-use Rattle.gimli_line.specs.Rows.{AddressState, address_state, based, address_of, address_after, advance, line_advance, moved, line_after, file_after, column_after, is_tombstone}
+use Rattle.gimli_line.specs.AddressSize.{is_tombstone}
+use Rattle.gimli_line.specs.Rows.{AddressState, address_state, based, address_of, address_after, advance, line_advance, moved, line_after, file_after, column_after}
 use Rattle.gimli_line.specs.Steps.{start, advanced, placed, fixed_advanced, step}
 use Rattle.gimli_line.proofs.Division.{div_sum, mod_sum}
 
@@ -135,7 +136,7 @@ module _ (e : LineEncoding) (past : List Opcode) (r : Registers) (s : StandsFor 
 
   -- an address that is set
   sets : (a : ℕ) → StandsFor e (placed e a r) (SetAddress a ∷ past)
-  sets a = by_cases (is_tombstone e a || nat_lt a r.address) refl
+  sets a = by_cases (is_tombstone e.address_size a || nat_lt a r.address) refl
     where
       at : (b : Bool) → address_state e (SetAddress a ∷ past) ≡ cond b (record (address_state e past) { dropping = true }) (based a) → StandsFor e (cond b (record r { dropping = true }) (record r { address = a; op_index = 0; dropping = false })) (SetAddress a ∷ past)
       at true same = record {
@@ -148,10 +149,10 @@ module _ (e : LineEncoding) (past : List Opcode) (r : Registers) (s : StandsFor 
       }
       at false same = based_stands (SetAddress a) a same (record r { address = a; op_index = 0; dropping = false }) refl refl refl s.file s.line s.column
 
-      by_cases : (b : Bool) → (is_tombstone e a || nat_lt a r.address) ≡ b → StandsFor e (cond b (record r { dropping = true }) (record r { address = a; op_index = 0; dropping = false })) (SetAddress a ∷ past)
+      by_cases : (b : Bool) → (is_tombstone e.address_size a || nat_lt a r.address) ≡ b → StandsFor e (cond b (record r { dropping = true }) (record r { address = a; op_index = 0; dropping = false })) (SetAddress a ∷ past)
       by_cases b t =
           let same : address_state e (SetAddress a ∷ past) ≡ cond b (record (address_state e past) { dropping = true }) (based a) =
-          ap (λ k. cond (is_tombstone e a || nat_lt a k) (record (address_state e past) { dropping = true }) (based a)) (sym s.address) ∙ ap (λ k. cond k (record (address_state e past) { dropping = true }) (based a)) t in
+          ap (λ k. cond (is_tombstone e.address_size a || nat_lt a k) (record (address_state e past) { dropping = true }) (based a)) (sym s.address) ∙ ap (λ k. cond k (record (address_state e past) { dropping = true }) (based a)) t in
           at b same
 
   -- bytes that are passed over

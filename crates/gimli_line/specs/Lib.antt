@@ -1,3 +1,4 @@
+pub mod AddressSize
 pub mod Encoding
 pub mod Header
 pub mod Opcode

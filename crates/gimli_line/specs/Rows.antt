@@ -3,7 +3,7 @@
 -- Own: AddressOverflow stands at the first opcode after which the address passes the address size.
 -- Own: an address of all ones, of all ones less one, or below the current one starts dropping: no
 -- rows, and no changes of the address, until one that is none of these, or the sequence's end.
-use Rattle.std.specs.Prelude.{ℕ, ◌+◌, ◌-◌, ◌*◌, ◌/◌, ◌%◌, ◌^◌, ℤ, pos, negsuc, ◌+ℤ◌, Bool, true, false, ◌||◌, ◌&&◌, not, List, [], ◌∷◌, Result, Ok, Err, sum_by, nat_lt, nat_le, if◌then◌else◌}
+use Rattle.std.specs.Prelude.{ℕ, ◌+◌, ◌-◌, ◌*◌, ◌/◌, ◌%◌, ◌^◌, ℤ, pos, negsuc, ◌+ℤ◌, Bool, true, false, ◌||◌, ◌&&◌, not, List, [], ◌∷◌, Result, Ok, Err, sum_by, nat_lt, if◌then◌else◌}
 use Rattle.gimli_read.specs.declared.error.Error.{Error}
 use Rattle.gimli_read.specs.declared.error.Error.TheVariants.{AddressOverflow}
 use Rattle.gimli_read.specs.Run.{Run}
@@ -12,6 +12,7 @@ use Rattle.gimli_line.specs.declared.opcode.Opcode.{Opcode}
 use Rattle.gimli_line.specs.declared.opcode.Opcode.TheVariants.{Special, Copy, AdvancePc, AdvanceLine, SetFile, SetColumn, ConstAddPc, FixedAdvancePc, EndSequence, SetAddress}
 use Rattle.gimli_line.specs.declared.opcode.LineInstruction.{LineInstruction}
 use Rattle.gimli_line.specs.declared.row.LineRow.{LineRow}
+use Rattle.gimli_line.specs.AddressSize.{is_tombstone}
 use Rattle.gimli_line.specs.Encoding.{limit}
 use Rattle.gimli_line.specs.Opcode.{opcodes_in}
 
@@ -30,10 +31,6 @@ line_advance e n = e.line_base +ℤ pos (n % e.line_range)
 abbrev pub moved : ℕ → ℤ → ℕ
 moved line (pos n) = (line + n) % 2 ^ 64
 moved line (negsuc n) = line - (n + 1)
-
--- the two greatest addresses of the size stand for code that is not there
-abbrev pub is_tombstone : LineEncoding → ℕ → Bool
-is_tombstone e a = nat_le (limit e) (a + 2)
 
 -- In what follows, past are the opcodes of a sequence so far, the newest first.
 
@@ -77,7 +74,7 @@ based a = record { base = a; counting = []; dropping = false }
 abbrev pub address_state : LineEncoding → List Opcode → AddressState
 address_state e [] = based 0
 address_state e (SetAddress a ∷ past) =
-    if is_tombstone e a || nat_lt a (address_of e (address_state e past))
+    if is_tombstone e.address_size a || nat_lt a (address_of e (address_state e past))
     then record (address_state e past) { dropping = true } else based a
 address_state e (FixedAdvancePc n ∷ past) =
     if (address_state e past).dropping then address_state e past

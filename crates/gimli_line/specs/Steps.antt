@@ -12,10 +12,11 @@ use Rattle.gimli_line.specs.declared.opcode.LineInstruction.{LineInstruction}
 use Rattle.gimli_line.specs.declared.opcode.LineInstruction.TheVariants.{Changes, Defines}
 use Rattle.gimli_line.specs.declared.registers.Registers.{Registers}
 use Rattle.gimli_line.specs.declared.row.LineRow.{LineRow}
+use Rattle.gimli_line.specs.AddressSize.{is_tombstone}
 use Rattle.gimli_line.specs.Encoding.{limit}
 use Rattle.gimli_line.specs.Header.{File, Header}
 use Rattle.gimli_line.specs.Opcode.{standard_at, extended_at}
-use Rattle.gimli_line.specs.Rows.{line_advance, moved, is_tombstone, is_end, makes_row}
+use Rattle.gimli_line.specs.Rows.{line_advance, moved, is_end, makes_row}
 
 -- the registers at the start of a sequence
 abbrev pub start : Registers
@@ -41,7 +42,7 @@ advanced e n r =
 -- the address is set
 abbrev pub placed : LineEncoding → ℕ → Registers → Registers
 placed e a r =
-    if is_tombstone e a || nat_lt a r.address then record r { dropping = true }
+    if is_tombstone e.address_size a || nat_lt a r.address then record r { dropping = true }
     else record r { address = a; op_index = 0; dropping = false }
 
 -- advanced by bytes

@@ -3,7 +3,8 @@
 ghost use Rattle.std.specs.Prelude.{◌≡◌, ◌+◌, ◌/◌, ◌%◌, ◌^◌, ◌*◌, ◌<◌, ◌≤◌, true, ◌||◌, ◌&&◌, not, nat_lt, pos, ◌+ℤ◌, IfOk, OnOk};
 ghost use Rattle.gimli_read.specs.Reading.{Exactly};
 ghost use Rattle.gimli_line.specs.Encoding.{limit};
-ghost use Rattle.gimli_line.specs.Rows.{moved, line_advance, is_tombstone, is_end, makes_row};
+ghost use Rattle.gimli_line.specs.AddressSize.{is_tombstone};
+ghost use Rattle.gimli_line.specs.Rows.{moved, line_advance, is_end, makes_row};
 ghost use Rattle.gimli_line.specs.Steps.{IsRunning, start, advanced, placed, fixed_advanced, step, fitting, row, row_of, next, executed};
 
 use crate::opcode::Opcode;
@@ -65,7 +66,8 @@ fn instructions(parameters: &LineParameters, op_index: u8, operations: u64) -> (
 // Whether an address stands for code that isn't there, or is below the current one.
 fn starts_dropping(parameters: &LineParameters, address: u64, current: u64) -> bool
     ensures gives { result
-        ≡ (is_tombstone parameters.now.encoding address || nat_lt address current) }
+        ≡ (is_tombstone parameters.now.encoding.address_size address
+        || nat_lt address current) }
 {
     parameters.greatest <= address.saturating_add(1) || address < current
 }

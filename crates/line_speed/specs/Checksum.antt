@@ -30,13 +30,13 @@ fields row =
     + wrapped (row.column * 5)) + wrapped (row.file_index * 7)) + wrapped (marks row * 11))
 
 -- a sum with one row more
-abbrev pub with_row : ℕ → LineRow → ℕ
-with_row sum row = wrapped (wrapped (sum * 31) + fields row)
+abbrev pub with_row_sum : ℕ → LineRow → ℕ
+with_row_sum sum row = wrapped (wrapped (sum * 31) + fields row)
 
 -- a sum with the rows of a list, or the fault after them
 unfoldable pub with_rows : ℕ → List (Result LineRow Error) → Result ℕ Error
 with_rows sum [] = Ok sum
-with_rows sum (Ok row ∷ rest) = with_rows (with_row sum row) rest
+with_rows sum (Ok row ∷ rest) = with_rows (with_row_sum sum row) rest
 with_rows sum (Err e ∷ rest) = Err e
 
 -- a program and where the next one stands, none at the end; addresses have 8 bytes where version 2

@@ -2,7 +2,7 @@
 
 ghost use Rattle.std.specs.Prelude.{◌≡◌};
 ghost use Rattle.gimli_read.specs.Reading.{ExactlyUnlessOom};
-ghost use Rattle.line_speed.specs.Checksum.{with_row, with_rows, program_at, with_program, checksum};
+ghost use Rattle.line_speed.specs.Checksum.{with_row_sum, with_rows, program_at, with_program, checksum};
 
 use gimli_line::{IncompleteLineProgram, LineRow, LineRows, read_line_program};
 use gimli_read::{Error, Reader, read_initial_length};
@@ -10,7 +10,7 @@ use std::alloc::Global;
 
 // A sum with one row more.
 fn with_row(sum: u64, row: LineRow) -> u64
-    ensures gives { result ≡ with_row sum row }
+    ensures gives { result ≡ with_row_sum sum row }
 {
     let marks = u64::from(row.end_sequence) + 2 * u64::from(row.dropped);
     let fields = row

@@ -1,5 +1,5 @@
 use Rattle.std.proofs.Common.{length}
-use Rattle.addr2line.specs.Lookups.{loads_of}
+use Rattle.addr2line.specs.Lookups.{loads_at}
 use Rattle.addr2line.proofs.ByFilesLemmas.{HasAnswered}
 use Rattle.addr2line.proofs.by_files.answer_loads.Given as goal
 
@@ -7,4 +7,4 @@ abbrev pub invariant-loop-number : goal.invariant-loop-number
 invariant-loop-number g l = HasAnswered (g.F.FileSource.files l.fn.files) l.fn.probe l.fn.ctx l.ctx
 
 abbrev pub decreases-loop-number : goal.decreases-loop-number
-decreases-loop-number g l = length (loads_of l.ctx.sections l.ctx.answers l.fn.probe)
+decreases-loop-number g l = length (loads_at l.ctx.sections l.ctx.answers l.fn.probe)

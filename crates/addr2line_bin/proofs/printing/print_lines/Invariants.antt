@@ -2,11 +2,12 @@ use Rattle.std.proofs.Common.{◌≡◌, List, ℕ, length}
 use Rattle.addr2line_bin.specs.FileAnswers.{StaysAnswered}
 use Rattle.addr2line_bin.specs.InputLines.{line_probes}
 use Rattle.addr2line_bin.specs.Printing.{PrintsOf}
+use Rattle.addr2line_bin.specs.Put.{plus}
 use Rattle.addr2line_bin.specs.ProbeTexts.{IsText}
 use Rattle.addr2line_bin.proofs.LineLemmas.{ReadSoFar}
 use Rattle.addr2line_bin.proofs.printing.print_lines.Given as goal
 
--- the lines that were read so far, that no read has failed, and that what they ask for was printed
+-- the lines that were read so far, that each was asked for once and no read has failed, and that what they ask for was printed
 abbrev pub invariant-loop : goal.invariant-loop
 invariant-loop g l =
     let first = g.L.Lookups.answers l.fn.lookups in
@@ -15,5 +16,6 @@ invariant-loop g l =
     × ((lines : List (List ℕ))
     × (length lines ≡ l.counter)
     × ((i l.input).fault ≡ (i l.fn.input).fault)
+    × ((i l.input).reads ≡ plus (i l.fn.input).reads (length lines))
     × ReadSoFar (i l.fn.input).bytes (i l.input).bytes lines
     × PrintsOf (IsText first l.setup) (g.W.Stream.state l.fn.out) (g.W.Stream.state l.out) (g.E.Stream.state l.fn.err) (g.E.Stream.state l.err) (line_probes lines))

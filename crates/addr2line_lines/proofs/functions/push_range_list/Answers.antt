@@ -4,7 +4,7 @@ use Rattle.gimli_read.specs.Reading.{◌>>=◌}
 use Rattle.gimli_read.specs.declared.error.Error.{Error as Fault}
 use Rattle.gimli_read.specs.declared.range.Range.{Range}
 use Rattle.addr2line_lines.specs.declared.segments.FunctionAddress.{FunctionAddress}
-use Rattle.addr2line_lines.specs.FoundFunctions.{address_of}
+use Rattle.addr2line_lines.specs.FoundFunctions.{function_address}
 use Rattle.addr2line_lines.specs.Rows.{result_map, read_all}
 use Rattle.addr2line_lines.specs.RangeAttributes.{all_ranges, begins_well}
 use Rattle.addr2line_lines.proofs.FunctionLemmas.{one_added, one_read}
@@ -18,7 +18,7 @@ abbrev after : List Range → List (Result Range Fault) → Result (List (Result
 after items left = Ok (map Ok items ++ left)
 
 abbrev added : (List FunctionAddress) → ℕ → Result (List Range) Fault → Result (List FunctionAddress) Fault
-added old function read = read >>= λ ranges. Ok (old ++ map (address_of function) ranges)
+added old function read = read >>= λ ranges. Ok (old ++ map (function_address function) ranges)
 
 pub returns-in_err-range : goal.returns-in_err-range
 returns-in_err-range g c =
@@ -43,7 +43,7 @@ loop-range-preserved g c =
     record {
       read = i.read ++ range ∷ [];
       list = i.list ∙ ap (after i.read) (one_left _ _ _ one) ∙ ap Ok (one_read Ok i.read range c.next.new.self);
-      added = c.in_ok-push.ensures.items ∙ ap (λ xs. xs ++ address_of c.args.function range ∷ []) i.added ∙ one_added (address_of c.args.function) c.args.addresses.now.items i.read range;
+      added = c.in_ok-push.ensures.items ∙ ap (λ xs. xs ++ function_address c.args.function range ∷ []) i.added ∙ one_added (function_address c.args.function) c.args.addresses.now.items i.read range;
     }
 
 pub returns : goal.returns

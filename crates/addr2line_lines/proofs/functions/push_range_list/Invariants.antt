@@ -1,14 +1,14 @@
 use Rattle.std.proofs.Common.{◌≡◌, ◌++◌, List, length, map, Ok}
 use Rattle.gimli_read.specs.declared.range.Range.{Range}
 use Rattle.gimli.specs.Ranges.{ranges_at}
-use Rattle.addr2line_lines.specs.FoundFunctions.{address_of}
+use Rattle.addr2line_lines.specs.FoundFunctions.{function_address}
 use Rattle.addr2line_lines.proofs.functions.push_range_list.Given as goal
 
 abbrev pub invariant-loop-range : goal.invariant-loop-range
 invariant-loop-range g l = record {
   read : List Range;
   list : ranges_at l.fn.unit.dwarf.now l.fn.unit.unit.now l.fn.offset ≡ Ok (map Ok read ++ l.list);
-  added : l.addresses.items ≡ l.fn.addresses.items ++ map (address_of l.fn.function) read;
+  added : l.addresses.items ≡ l.fn.addresses.items ++ map (function_address l.fn.function) read;
 }
 
 abbrev pub decreases-loop-range : goal.decreases-loop-range

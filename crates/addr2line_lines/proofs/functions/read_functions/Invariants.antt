@@ -1,7 +1,7 @@
 use Rattle.std.proofs.Common.{◌≡◌, true, length}
 use Rattle.gimli.specs.Items.{items_from, items_of}
 use Rattle.addr2line_lines.specs.Functions.{have_function}
-use Rattle.addr2line_lines.specs.FoundFunctions.{AreFoundUnread, found_from, found_in, seen_found}
+use Rattle.addr2line_lines.specs.FoundFunctions.{AreFoundUnread, found_from, found_in, seen_functions}
 use Rattle.addr2line_lines.proofs.functions.read_functions.Given as goal
 
 abbrev pub invariant-loop-unit : goal.invariant-loop-unit
@@ -9,7 +9,7 @@ invariant-loop-unit g l =
     let d = l.fn.unit.dwarf.now in
     let u = l.fn.unit.unit.now in
     record {
-      gives : found_from d u l.entries.unit l.entries.cursor (seen_found l.found) ≡ found_in d u;
+      gives : found_from d u l.entries.unit l.entries.cursor (seen_functions l.found) ≡ found_in d u;
       unit : l.entries.unit.encoding ≡ u.header.encoding;
       has : have_function d u (items_from l.entries.unit l.entries.cursor).items ≡ true → have_function d u (items_of u).items ≡ true;
       unread : AreFoundUnread l.found;

@@ -1,5 +1,5 @@
 use Rattle.std.proofs.Common.{◌≡◌, length}
-use Rattle.addr2line_lines.specs.FoundNames.{seen_name}
+use Rattle.addr2line_lines.specs.FoundNames.{seen_name_or_origin}
 use Rattle.addr2line_lines.specs.Names.{named_at, no_name}
 use Rattle.addr2line_lines.specs.SeenScope.{seen_scope}
 use Rattle.addr2line_lines.proofs.name.read_names.Given as goal
@@ -9,7 +9,7 @@ invariant-loop-next g l =
     let s = seen_scope l.fn.place.scope in
     let u = l.fn.place.unit.now in
     record {
-      gives : named_at s u l.rest l.entries.cursor.left (seen_name g.R.Reader.section l.found) ≡ named_at s u l.fn.specifications l.fn.entries.cursor.left no_name;
+      gives : named_at s u l.rest l.entries.cursor.left (seen_name_or_origin g.R.Reader.section l.found) ≡ named_at s u l.fn.specifications l.fn.entries.cursor.left no_name;
       encoding : l.entries.unit.encoding ≡ u.header.encoding;
     }
 

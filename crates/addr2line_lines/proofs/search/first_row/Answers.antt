@@ -1,5 +1,5 @@
 use Rattle.std.proofs.Common.{ℕ, ◌≡◌, ◌+◌, ◌-◌, ◌*◌, ◌/◌, ◌≤◌, List, length, arith, ◌∙◌, ap, sym, refl, subst}
-use Rattle.addr2line_lines.specs.Packed.{address_at}
+use Rattle.addr2line_lines.specs.Packed.{row_address_at}
 use Rattle.addr2line_lines.specs.Counts.{blocks}
 use Rattle.addr2line_lines.specs.declared.row.Row.{Row}
 use Rattle.addr2line_lines.proofs.DigitLemmas.{digits_half, digits_le}
@@ -36,13 +36,13 @@ loop-size-preserved g c =
     let m : ℕ = c.loop-size.best / 64 + c.loop-size.size / 2 in
     let cost = digits_half (c.loop-size.size - c.loop-size.size / 2 - 1) (c.loop-size.size - 1) (omega arith) (omega arith) in
     let count = c.block.ensures.looks in
-    let here : address_at rows (64 * m) ≡ c.block.result = ap (λ (xs : List Row). address_at xs (64 * m)) (sym i.rows) ∙ sym c.block.ensures.gives in
+    let here : row_address_at rows (64 * m) ≡ c.block.result = ap (λ (xs : List Row). row_address_at xs (64 * m)) (sym i.rows) ∙ sym c.block.ensures.gives in
     let some = z.some in
     let upto = i.upto in let was = i.cost in let from = i.from in
     elim c.if-block-probe.branch [
       | then-block-probe w ↦ (
           let e = w.best-is in
-          let P : ℕ → Type 0 = λ k. address_at rows k ≤ c.args.probe in
+          let P : ℕ → Type 0 = λ k. row_address_at rows k ≤ c.args.probe in
           record {
             some = omega arith;
             upto = omega arith;
@@ -57,7 +57,7 @@ loop-size-preserved g c =
           })
       | else-block-probe w ↦ (
           let e = w.best-is in
-          let P : ℕ → Type 0 = λ k. address_at rows k ≤ c.args.probe in
+          let P : ℕ → Type 0 = λ k. row_address_at rows k ≤ c.args.probe in
           let later = past_from rows c.args.sequence (64 * m) c.args.probe z (omega arith) (let t = w.if-block-probe in omega arith) in
           record {
             some = omega arith;

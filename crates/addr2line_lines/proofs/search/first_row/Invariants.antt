@@ -1,6 +1,6 @@
 use Rattle.std.proofs.Common.{◌-◌, ◌≡◌, ◌+◌, ◌*◌, ◌/◌, ◌<◌, ◌≤◌, length}
 use Rattle.addr2line_lines.specs.Digits.{digits}
-use Rattle.addr2line_lines.specs.Packed.{ArePastFrom, address_at}
+use Rattle.addr2line_lines.specs.Packed.{ArePastFrom, row_address_at}
 use Rattle.addr2line_lines.specs.Counts.{blocks}
 use Rattle.addr2line_lines.proofs.search.first_row.Given as goal
 
@@ -16,7 +16,7 @@ invariant-loop-size g l =
       raised : g.T.Table.looks l.fn.table ≤ g.T.Table.looks l.table;
       from : l.fn.sequence.first ≤ l.best;
       inside : l.best < l.fn.sequence.first + l.fn.sequence.len;
-      below : address_at listed l.best ≤ l.probe;
+      below : row_address_at listed l.best ≤ l.probe;
       past : ArePastFrom l.probe listed l.fn.sequence (64 * (l.best / 64 + l.size));
     }
 

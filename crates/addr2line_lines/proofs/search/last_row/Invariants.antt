@@ -1,5 +1,5 @@
 use Rattle.std.proofs.Common.{◌-◌, ◌≡◌, ◌+◌, ◌≤◌}
-use Rattle.addr2line_lines.specs.Packed.{address_at}
+use Rattle.addr2line_lines.specs.Packed.{row_address_at}
 use Rattle.addr2line_lines.proofs.search.last_row.Given as goal
 
 abbrev pub invariant-loop-next : goal.invariant-loop-next
@@ -9,5 +9,5 @@ invariant-loop-next g l =
       sequences : g.T.Table.sequences l.table ≡ g.T.Table.sequences l.fn.table;
       rows : g.T.Table.rows l.table ≡ listed;
       cost : g.T.Table.looks l.table + l.from + 1 ≡ g.T.Table.looks l.fn.table + l.next;
-      below : address_at listed (l.next - 1) ≤ l.probe;
+      below : row_address_at listed (l.next - 1) ≤ l.probe;
     }

@@ -1,7 +1,7 @@
 use Rattle.std.proofs.Common.{◌≡◌, Ok, length, true}
 use Rattle.gimli_read.specs.Reading.{◌>>=◌}
 use Rattle.addr2line_units.specs.CachedLines.{HaveLinesOf}
-use Rattle.addr2line_units.specs.Indexed.{appended, index_seen, indexed_with, some_take_memory, unit_takes_memory, units_take_memory}
+use Rattle.addr2line_units.specs.Indexed.{appended, index_seen, indexed_with, some_take_memory, indexed_unit_takes_memory, units_take_memory}
 use Rattle.addr2line_units.specs.KeptLookups.{AreFreshOf}
 use Rattle.addr2line_units.specs.UnitIndex.{unit_of_header, units_of}
 use Rattle.addr2line_units.proofs.units.read_units.Given as goal
@@ -11,7 +11,7 @@ invariant-loop-index g l =
     let d = l.dwarf in
     record {
       gives : (units_of (unit_of_header d l.aranges) l.headers >>= λ units. Ok (appended d (index_seen l.index) units)) ≡ indexed_with d l.aranges;
-      some : some_take_memory (unit_takes_memory d) l.headers ≡ true → units_take_memory g.R.Reader.shares d ≡ true;
+      some : some_take_memory (indexed_unit_takes_memory d) l.headers ≡ true → units_take_memory g.R.Reader.shares d ≡ true;
       same : l.abbreviations.dwarf ≡ d;
       read : HaveLinesOf d l.index.dw_units.items l.index.units.items;
       fresh : AreFreshOf l.index.dw_units.items l.index.entries.items;

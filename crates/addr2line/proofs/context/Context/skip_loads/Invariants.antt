@@ -1,10 +1,10 @@
 use Rattle.std.proofs.Common.{length}
 use Rattle.addr2line.proofs.SkippedLemmas.{HasSkipped}
-use Rattle.addr2line.specs.Lookups.{loads_of}
+use Rattle.addr2line.specs.Lookups.{loads_at}
 use Rattle.addr2line.proofs.context.Context.skip_loads.Given as goal
 
 abbrev pub invariant-loop-number : goal.invariant-loop-number
 invariant-loop-number g l = HasSkipped l.fn.faults l.fn.probe l.fn.self l.self
 
 abbrev pub decreases-loop-number : goal.decreases-loop-number
-decreases-loop-number g l = length (loads_of l.self.sections l.self.answers l.fn.probe)
+decreases-loop-number g l = length (loads_at l.self.sections l.self.answers l.fn.probe)

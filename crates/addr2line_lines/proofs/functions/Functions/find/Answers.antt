@@ -3,14 +3,14 @@ use Rattle.addr2line_lines.specs.declared.functions.LazyFunction.{LazyFunction}
 use Rattle.addr2line_lines.specs.declared.segments.FunctionAddress.{FunctionAddress}
 use Rattle.addr2line_lines.specs.Functions.{function_offset_at}
 use Rattle.addr2line_lines.specs.FoundFunctions.{AreFunctions, function_offsets}
-use Rattle.addr2line_lines.specs.FunctionTable.{FunctionTable, function_place_at, offset_at}
+use Rattle.addr2line_lines.specs.FunctionTable.{FunctionTable, function_place_at, cached_offset_at}
 use Rattle.addr2line_lines.specs.KeptDetails.{KeptDetails, seen_details}
-use Rattle.addr2line_lines.specs.Segments.{function_at}
+use Rattle.addr2line_lines.specs.Segments.{shortest_function_at}
 use Rattle.addr2line_lines.proofs.CachedPlaces.{entry_found, place_is, place_seen}
 use Rattle.addr2line_lines.proofs.FunctionCacheLemmas.{table_of}
 use Rattle.addr2line_lines.proofs.functions.Functions.find.Goals as goal
 
-there : (d : KeptDetails) (fs : List LazyFunction) (addresses : List FunctionAddress) (probe : ℕ) (found : Option ℕ) → AreFunctions (function_offsets fs) addresses → found ≡ function_at probe addresses → IfSome found (λ n. n < length (table_of fs addresses d).functions)
+there : (d : KeptDetails) (fs : List LazyFunction) (addresses : List FunctionAddress) (probe : ℕ) (found : Option ℕ) → AreFunctions (function_offsets fs) addresses → found ≡ shortest_function_at probe addresses → IfSome found (λ n. n < length (table_of fs addresses d).functions)
 there d fs addresses probe None h e = tt
 there d fs addresses probe (Some n) h e = place_seen d fs addresses probe n h (sym e)
 
@@ -20,8 +20,8 @@ returns-clause-found g c =
     let fs = c.self.inside.functions.items in
     let addresses = c.self.inside.addresses in
     let d = seen_details g.R.Reader.section c.self.inside.details in
-    subst (λ (t : FunctionTable). option_and_then (offset_at t) c.find.result ≡ function_offset_at probe t.ranges) c.self.view_is
-    (ap (option_and_then (offset_at (table_of fs addresses d))) c.find.ensures.found ∙ entry_found d fs addresses probe c.self.invariant.in_order)
+    subst (λ (t : FunctionTable). option_and_then (cached_offset_at t) c.find.result ≡ function_offset_at probe t.ranges) c.self.view_is
+    (ap (option_and_then (cached_offset_at (table_of fs addresses d))) c.find.ensures.found ∙ entry_found d fs addresses probe c.self.invariant.in_order)
 
 pub returns-clause-place : goal.returns-clause-place
 returns-clause-place g c =

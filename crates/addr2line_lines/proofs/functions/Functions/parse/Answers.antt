@@ -5,7 +5,7 @@ use Rattle.gimli.specs.Items.{items_of}
 use Rattle.addr2line_lines.specs.declared.segments.FunctionAddress.{FunctionAddress}
 use Rattle.addr2line_lines.specs.declared.functions.LazyFunction.{LazyFunction}
 use Rattle.addr2line_lines.specs.Functions.{entries_of, functions_of, have_function}
-use Rattle.addr2line_lines.specs.FoundFunctions.{AreFunctions, function_range_of, seen_found}
+use Rattle.addr2line_lines.specs.FoundFunctions.{AreFunctions, function_range_of, seen_functions}
 use Rattle.addr2line_lines.specs.FunctionCache.{seen_function}
 use Rattle.addr2line_lines.specs.FunctionTable.{CachedFunction}
 use Rattle.addr2line_lines.specs.KeptDetails.{seen_details}
@@ -35,12 +35,12 @@ returns-in_err-addresses-clause-gives g c =
     let p = err_from_is_err_and c.from_residual-in_err-addresses.result c.from_residual-in_err-addresses.ensures.1 in
     let d = c.args.unit.dwarf.now in
     let u = c.args.unit.unit.now in
-    let found = seen_found c.in_ok-functions.field-0 in
+    let found = seen_functions c.in_ok-functions.field-0 in
     rw (p.1, p.2) (λ ne. (let no = c.in_err-addresses.ensures.gives (λ some. ne (or_second g.R.Reader.shares (have_function d u (items_of u).items) (found_has d u found c.in_ok-functions.ensures.gives some))) in absurd cc))
 
 pub invariant_of-result : goal.invariant_of-result
 invariant_of-result g c =
-    let found = seen_found c.in_ok-functions.field-0 in
+    let found = seen_functions c.in_ok-functions.field-0 in
     let listed = ok_is _ _ c.in_ok-addresses.ensures.gives in
     record {
       in_order = subst (AreFunctions found.offsets) listed (are_functions c.args.unit.dwarf.now c.args.unit.unit.now found c.in_ok-functions.ensures.gives);
@@ -51,7 +51,7 @@ pub returns : goal.returns
 returns g c =
     let d = c.args.unit.dwarf.now in
     let u = c.args.unit.unit.now in
-    let found = seen_found c.in_ok-functions.field-0 in
+    let found = seen_functions c.in_ok-functions.field-0 in
     let listed = ok_is _ _ c.in_ok-addresses.ensures.gives in
     let a = subst (Agrees (functions_of d u)) c.in_ok-functions.ensures.gives (functions_agree d u) in
     record {

@@ -3,7 +3,7 @@ use Rattle.std.proofs.lemmas.Option.{get_or_from_slice_get, slice_get_within}
 use Rattle.addr2line_lines.specs.declared.functions.LazyDetail.TheVariants.{Read, Faulty}
 use Rattle.addr2line_lines.specs.declared.functions.LazyFunction.{LazyFunction}
 use Rattle.addr2line_lines.specs.Details.{detail_at}
-use Rattle.addr2line_lines.specs.FunctionTable.{FunctionTable, IsReadAt, detail_fault, read_fault, takes_memory}
+use Rattle.addr2line_lines.specs.FunctionTable.{FunctionTable, IsReadAt, detail_fault, read_fault, cached_takes_memory}
 use Rattle.addr2line_lines.specs.KeptDetails.{seen_details}
 use Rattle.addr2line_lines.specs.SeenScope.{seen_scope}
 use Rattle.addr2line_lines.proofs.FunctionCacheLemmas.{fault_cached, read_cached, reads, table_fault, table_of, table_read, unread_at}
@@ -89,4 +89,4 @@ pub returns-in-OutOfMemory-clause-exact : goal.returns-in-OutOfMemory-clause-exa
 returns-in-OutOfMemory-clause-exact g c =
     let scope = seen_scope c.args.scope in
     let u = c.args.unit.now in
-    λ h. ap (read_fault scope u) c.requires.unread ∙ ap detail_fault (c.in-Err.ensures.gives (λ t. h (ap (takes_memory g.R.Reader.shares scope u) c.requires.unread ∙ t)))
+    λ h. ap (read_fault scope u) c.requires.unread ∙ ap detail_fault (c.in-Err.ensures.gives (λ t. h (ap (cached_takes_memory g.R.Reader.shares scope u) c.requires.unread ∙ t)))

@@ -2,7 +2,7 @@ use Rattle.std.proofs.Common.{rules, true, false, List, length, ◌≡◌, ◌�
 use Rattle.std.specs.List.Sorted.{IsNonDecreasingBy, IsPartitionPoint}
 use Rattle.std.proofs.lemmas.List.Sorted.{IsPartitionPoint-from_clause, IsPartitionedBy-leb}
 use Rattle.addr2line_lines.specs.declared.segments.FunctionAddress.{FunctionAddress}
-use Rattle.addr2line_lines.specs.Segments.{address_begin, function_at}
+use Rattle.addr2line_lines.specs.Segments.{address_begin, shortest_function_at}
 use Rattle.addr2line_lines.proofs.SegmentSearch.{begins_by, last_begins, last_ends, none_found, out_of_all, segment_found, segments_rise}
 use Rattle.addr2line_lines.proofs.segments.Segments.find.Goals as goal
 
@@ -18,7 +18,7 @@ returns-then-past-eq0 c =
     let none = c.if-past-eq0.true in
     let bound = c.partition_point-past.ensures.bound in
     let out = out_of_all listed segments probe c.partition_point-past.result c.self.invariant (omega arith) here (λ d some. absurd (omega arith)) in
-    record { found = sym (none_found listed segments probe c.self.invariant out) ∙ ap (function_at probe) c.self.view_is }
+    record { found = sym (none_found listed segments probe c.self.invariant out) ∙ ap (shortest_function_at probe) c.self.view_is }
 
 pub returns-then-probe-segment : goal.returns-then-probe-segment
 returns-then-probe-segment c =
@@ -35,7 +35,7 @@ returns-then-probe-segment c =
     let bound = c.partition_point-past.ensures.bound in
     let count = ap length c.deref.ensures.value in
     let low = last_begins segments probe past s (omega arith) (omega arith) here (sym c.index-segment.ensures) in
-    record { found = sym (segment_found listed segments probe (past - 1) s c.self.invariant (omega arith) (sym c.index-segment.ensures) low c.if-probe-segment.true) ∙ ap (function_at probe) c.self.view_is }
+    record { found = sym (segment_found listed segments probe (past - 1) s c.self.invariant (omega arith) (sym c.index-segment.ensures) low c.if-probe-segment.true) ∙ ap (shortest_function_at probe) c.self.view_is }
 
 pub returns-else-probe-segment : goal.returns-else-probe-segment
 returns-else-probe-segment c =
@@ -53,4 +53,4 @@ returns-else-probe-segment c =
     let some = c.if-past-eq0.false in
     let ends = c.if-probe-segment.false in
     let out = out_of_all listed segments probe past c.self.invariant (omega arith) here (λ d l. last_ends segments probe past s d (omega arith) (omega arith) (sym c.index-segment.ensures) (omega arith)) in
-    record { found = sym (none_found listed segments probe c.self.invariant out) ∙ ap (function_at probe) c.self.view_is }
+    record { found = sym (none_found listed segments probe c.self.invariant out) ∙ ap (shortest_function_at probe) c.self.view_is }

@@ -9,7 +9,8 @@ use Rattle.addr2line_units.specs.declared.continuation.LookupResult.TheVariants.
 use Rattle.addr2line_units.specs.declared.frames_lookup.Faults.{Faults}
 use Rattle.addr2line_units.specs.Cover.{cover}
 use Rattle.addr2line_units.specs.FramesLookup.{Stop, Waits, Finds, FindsNothing, LookupAsks, asked_frames, asks_lines_of, is_waiting, main_scope}
-use Rattle.addr2line_units.specs.Parsed.{IsNotOom, ParsesOnly}
+use Rattle.gimli_read.specs.Alike.{HadMemory}
+use Rattle.addr2line_units.specs.Parsed.{ParsesOnly}
 use Rattle.addr2line_units.specs.Suspended.{IfLoad, IfOutput}
 use Rattle.addr2line_units.specs.UnitIndex.{UnitIndex, index_units}
 use Rattle.addr2line_units.proofs.FramesLookupLemmas.{parses_more}
@@ -91,7 +92,7 @@ pub found_same : (faults : Faults) (probe n : ℕ) (old mid : ContextState) → 
 found_same faults probe n old mid s a e = ap (λ x. unit_stop faults x mid.answers probe) s ∙ ap (λ x. unit_stop faults old.sections x probe) a ∙ e
 
 -- the same of another result that is refused memory where this one is
-pub same_after : {X Y : Type 0} (faults : Faults) (probe : ℕ) (old new : ContextState) (r : Result Y Error) (s : Result X Error) → (IsNotOom s → IsNotOom r) → (IsNotOom r → IsNotOom s) → AfterFrames faults probe r old new → AfterFrames faults probe s old new
+pub same_after : {X Y : Type 0} (faults : Faults) (probe : ℕ) (old new : ContextState) (r : Result Y Error) (s : Result X Error) → (HadMemory s → HadMemory r) → (HadMemory r → HadMemory s) → AfterFrames faults probe r old new → AfterFrames faults probe s old new
 same_after faults probe old new r s back on a = record {
   sections = a.sections;
   answers = a.answers;

@@ -17,14 +17,14 @@ use Rattle.addr2line_units.specs.declared.unit_frames.UnitEntries.{UnitEntries}
 use Rattle.addr2line_units.specs.CachedLines.{parsed_units}
 use Rattle.addr2line_units.specs.Cover.{cover}
 use Rattle.addr2line_units.specs.FramesLookup.{Stop, Waits, Finds, FindsNothing, answer_of, main_scope, with_answer}
-use Rattle.addr2line_units.specs.KeptLookups.{HaveEntriesOf, StayAllEntries, answers_in, scope_in}
+use Rattle.addr2line_units.specs.CachedLookups.{HaveEntriesOf, StayAllEntries, answers_in, scope_in}
 use Rattle.addr2line_units.specs.KnownEntries.{known_in}
 use Rattle.addr2line_units.specs.LoadLaws.{IsListed}
 use Rattle.addr2line_units.specs.LoadLaws as laws
 use Rattle.addr2line_units.specs.Loads.{is_open_at, load_of_number, loads_along}
 use Rattle.addr2line_units.specs.UnitIndex.{IndexedUnit, UnitIndex, unit_records}
 use Rattle.addr2line_units.specs.Views.{is_open}
-use Rattle.addr2line_units.proofs.KeptLookupLemmas.{as_many_entries}
+use Rattle.addr2line_units.proofs.CachedLookupLemmas.{as_many_entries}
 use Rattle.addr2line_units.proofs.KnownLemmas.{known_unchanged}
 use Rattle.addr2line_units.proofs.LoadLawLemmas.{fewer_left, waits_listed}
 use Rattle.addr2line_units.proofs.LoadLemmas.{as_many_answers}

@@ -13,7 +13,8 @@ use Rattle.elf.specs.Text.{loader_error_of}
 use Rattle.addr2line_units.specs.declared.frames_lookup.Faults.TheVariants.{End}
 use Rattle.addr2line_units.specs.Frames.{FrameRecord}
 use Rattle.addr2line_units.specs.FramesLookup.{Stop, Waits, Finds, FindsNothing, answer_of, is_waiting}
-use Rattle.addr2line_units.specs.Parsed.{IsNotOom, has_parsed}
+use Rattle.gimli_read.specs.Alike.{HadMemory}
+use Rattle.addr2line_units.specs.Parsed.{has_parsed}
 use Rattle.addr2line_units.specs.Views.{SplitLoad}
 use Rattle.addr2line.specs.Answers.{AfterAnswer, answered}
 use Rattle.addr2line.specs.Context.{ContextState}
@@ -206,7 +207,7 @@ stop_told probe e r old new a h = ended_later probe r old new a ∙ (failed_stop
 pub looked_memory : {X : Type 0} (probe : ℕ) (e : Error) (r : Result X Error) (old new : ContextState) → r ≡ Err e → AfterFrames End probe r old new → WaitsForNone new probe → IsKnownFew End new probe → loader_error_of e ≢ OutOfMemory
 looked_memory {X = X} probe e r old new is a w few =
     let ended = sym (ap (λ d. is_waiting (lookup_stop End d new.answers probe)) a.sections ∙ ap (λ x. is_waiting (lookup_stop End old.sections x probe)) a.answers) ∙ w in
-    not_told e (subst (λ (x : Result X Error). IsNotOom x) is (a.memory few ended))
+    not_told e (subst (λ (x : Result X Error). HadMemory x) is (a.memory few ended))
 
 -- a fault that ends a lookup is one by the files
 pub stop_fault : (files : Option Files) (c : ContextState) (probe : ℕ) (e : Error) → (loader_error_of e ≢ OutOfMemory → unit_stop End c.sections c.answers probe ≡ Err e) → IsFaultByFiles files c probe (loader_error_of e)
@@ -257,7 +258,7 @@ module _ (files : Option Files) (probe : ℕ) (first mid : ContextState) (a : Af
       in_turn = still_in_turn r new t b;
       only = reads_more probe r first mid new b o;
       ended = λ _. still_ended probe r mid new b ended;
-      ready = λ _. b.ready (subst (λ (y : Result X Error). IsNotOom y) (sym is) tt);
+      ready = λ _. b.ready (subst (λ (y : Result X Error). HadMemory y) (sym is) tt);
       told = λ _. ended_later probe r mid new b ∙ found_told (see x) (lookup_stop End mid.sections mid.answers probe) h;
       waits = tt;
       memory = λ w few. tt;
@@ -271,7 +272,7 @@ module _ (files : Option Files) (probe : ℕ) (first mid : ContextState) (a : Af
       in_turn = still_in_turn r new t b;
       only = reads_more probe r first mid new b o;
       ended = λ _. still_ended probe r mid new b ended;
-      ready = λ fault. b.ready (subst (λ (y : Result X Error). IsNotOom y) (sym is) (no_oom e fault.0));
+      ready = λ fault. b.ready (subst (λ (y : Result X Error). HadMemory y) (sym is) (no_oom e fault.0));
       told = λ fault. ended_later probe r mid new b ∙ failed_told e (lookup_stop End mid.sections mid.answers probe) (h fault.0);
       waits = λ q. absurd (no_path e q);
       memory = looked_memory probe e r mid new is b;

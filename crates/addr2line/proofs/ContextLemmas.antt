@@ -17,11 +17,13 @@ use Rattle.addr2line_units.specs.declared.unit.ResUnit.{ResUnit}
 use Rattle.addr2line_units.specs.declared.unit_frames.UnitEntries.{UnitEntries}
 use Rattle.addr2line_units.specs.CachedLines.{AreLinesOf, HaveLinesOf, StayUnits, cached_spans, indexed_units, is_parsed, is_uncached, lines_at, parsed_units}
 use Rattle.addr2line_units.specs.FramesLookup.{main_scope}
-use Rattle.addr2line_units.specs.KeptLookups.{HaveEntriesOf, answers_in}
+use Rattle.addr2line_units.specs.CachedLookups.{HaveEntriesOf, answers_in}
 use Rattle.addr2line_units.specs.KnownEntries.{known_in}
-use Rattle.addr2line_units.specs.Located.{along, all_lines, is_found, lines_fault, lines_of_unit, location_in, location_of, or_along, spans_in, spans_or_fault, looks_along, spans_along, spans_of}
+use Rattle.gimli_line.specs.Opcode.{fault_of}
+use Rattle.addr2line_units.specs.Located.{along, all_lines, is_found, lines_of_unit, location_in, location_of, or_along, spans_in, spans_or_fault, looks_along, spans_along, spans_of}
 use Rattle.addr2line_units.specs.UnitIndex.{IndexedUnit, UnitIndex, index_units}
-use Rattle.addr2line_units.specs.Parsed.{AllAskFor, AreAllParsed, AreParsed, AreReadyForAll, AsksFor, IsNotOom, LeadTo, ParsesOnly, StaysParsed, decides, has_parsed, ready_along}
+use Rattle.gimli_read.specs.Alike.{HadMemory}
+use Rattle.addr2line_units.specs.Parsed.{AllAskFor, AreAllParsed, AreParsed, AreReadyForAll, AsksFor, LeadTo, ParsesOnly, StaysParsed, decides, has_parsed, ready_along}
 use Rattle.addr2line_units.specs.RangeLookup.{cached_along}
 use Rattle.addr2line_units.specs.Cover.{cover, cover_range}
 use Rattle.addr2line_units.proofs.UnitsLemmas.{ready_both, ready_first, stay_indexed, stay_parsed}
@@ -72,8 +74,8 @@ module _ (d : Sections) (us : List UnitRecord) (old : List ResUnit) (ranges : Li
   pub spans_are : (low high : ℕ) → spans_of d low high ≡ Ok (spans_along d (indexed_units us old) low high (cover_range low high ranges))
   spans_are low high = ap (λ r. r >>= λ (m : UnitIndex). Ok (spans_along d m.units low high (cover_range low high m.ranges))) made_is
 
-  pub lines_are : lines_of_all d ≡ lines_fault (all_lines d (indexed_units us old))
-  lines_are = ap (λ r. r >>= λ (m : UnitIndex). lines_fault (all_lines d m.units)) made_is
+  pub lines_are : lines_of_all d ≡ fault_of (all_lines d (indexed_units us old))
+  lines_are = ap (λ r. r >>= λ (m : UnitIndex). fault_of (all_lines d m.units)) made_is
 
   -- what holds of all that may be made holds of what is made
   of_made : (P : UnitIndex → Type 0) → P (record { units = indexed_units us old; ranges = ranges; sup_units = sup }) → (m : UnitIndex) → index_units d ≡ Ok m → P m
@@ -90,7 +92,7 @@ module _ (d : Sections) (us : List UnitRecord) (old : List ResUnit) (ranges : Li
     all_stays = record { sections = refl; answers = ap answers_in same; known = ap known_in same; parsed = stay_parsed old new stay }
 
     pub after_lookup : {X : Type 0} (probe : ℕ) (result : Result (Option X) Error)
-        → (IsNotOom result → ready_along d (indexed_units us old) (parsed_units new) probe (cover probe ranges) ≡ true) → (ready_along d (indexed_units us old) (parsed_units new) probe (cover probe ranges) ≡ true → IsNotOom result) → ParsesOnly (AsksFor d (indexed_units us old) probe (cover probe ranges)) (parsed_units old) (parsed_units new) → looks ≤ now → (is_found result ≡ true → looks < now) → now ≤ looks + looks_along d (indexed_units us old) (cover probe ranges)
+        → (HadMemory result → ready_along d (indexed_units us old) (parsed_units new) probe (cover probe ranges) ≡ true) → (ready_along d (indexed_units us old) (parsed_units new) probe (cover probe ranges) ≡ true → HadMemory result) → ParsesOnly (AsksFor d (indexed_units us old) probe (cover probe ranges)) (parsed_units old) (parsed_units new) → looks ≤ now → (is_found result ≡ true → looks < now) → now ≤ looks + looks_along d (indexed_units us old) (cover probe ranges)
         → AfterLookup probe result before after
     after_lookup probe result ready memory only raised counted cost = record {
       stays = all_stays;
@@ -114,7 +116,7 @@ module _ (d : Sections) (us : List UnitRecord) (old : List ResUnit) (ranges : Li
     pub ready_after_parse : AreReadyForAll d (indexed_units us old) (parsed_units new) → IsReadyForAll after
     ready_after_parse ready = of_made (λ m. AreReadyForAll d m.units (parsed_units new)) ready
 
-  pub after_range_lookup : {R : Type 0} (new : List ResUnit) → StayUnits old new → (held then : List (UnitEntries R)) → then ≡ held → (looks : ℕ) → {X : Type 0} (low high : ℕ) (result : Result X Error) → (IsNotOom result → AreParsed (parsed_units new) (cover_range low high ranges)) → (AreParsed (parsed_units new) (cover_range low high ranges) → IsNotOom result) → ParsesOnly (LeadTo (cover_range low high ranges)) (parsed_units old) (parsed_units new)
+  pub after_range_lookup : {R : Type 0} (new : List ResUnit) → StayUnits old new → (held then : List (UnitEntries R)) → then ≡ held → (looks : ℕ) → {X : Type 0} (low high : ℕ) (result : Result X Error) → (HadMemory result → AreParsed (parsed_units new) (cover_range low high ranges)) → (AreParsed (parsed_units new) (cover_range low high ranges) → HadMemory result) → ParsesOnly (LeadTo (cover_range low high ranges)) (parsed_units old) (parsed_units new)
       → AfterRangeLookup low high result (record { sections = d; answers = answers_in held; parsed = parsed_units old; known = known_in held; looks = looks }) (record { sections = d; answers = answers_in then; parsed = parsed_units new; known = known_in then; looks = looks })
   after_range_lookup new stay held then kept looks low high result ready memory only = record {
     stays = all_stays new stay held then kept looks looks;
@@ -150,21 +152,21 @@ still_a_context {R} d us old held ranges sup sup_dwarf c vs whole new stay entri
 
 -- whether lines can be read, of each unit and along ranges
 module _ (d : Sections) where
-  first_ok : (u : IndexedUnit) (us : List IndexedUnit) → lines_fault (all_lines d (u ∷ us)) ≡ Ok tt → (is_ok (lines_of_unit d u) ≡ true) × (lines_fault (all_lines d us) ≡ Ok tt)
+  first_ok : (u : IndexedUnit) (us : List IndexedUnit) → fault_of (all_lines d (u ∷ us)) ≡ Ok tt → (is_ok (lines_of_unit d u) ≡ true) × (fault_of (all_lines d us) ≡ Ok tt)
   first_ok u us e = of_lines (lines_of_unit d u) (map (lines_of_unit d) us) e
     where
-      of_rest : (x : LineTable) (r : Result (List LineTable) Error) → lines_fault (result_map (λ xs. x ∷ xs) r) ≡ Ok tt → lines_fault r ≡ Ok tt
+      of_rest : (x : LineTable) (r : Result (List LineTable) Error) → fault_of (result_map (λ xs. x ∷ xs) r) ≡ Ok tt → fault_of r ≡ Ok tt
       of_rest x (Ok xs) h = refl
       of_rest x (Err f) h = h
 
       err_ok : (f : Error) → ◌≡◌ {A = Result (Unit {0}) Error} (Err f) (Ok tt) → ⊥
       err_ok f k = cc
 
-      of_lines : (l : Result LineTable Error) (rest : List (Result LineTable Error)) → lines_fault (read_all (l ∷ rest)) ≡ Ok tt → (is_ok l ≡ true) × (lines_fault (read_all rest) ≡ Ok tt)
+      of_lines : (l : Result LineTable Error) (rest : List (Result LineTable Error)) → fault_of (read_all (l ∷ rest)) ≡ Ok tt → (is_ok l ≡ true) × (fault_of (read_all rest) ≡ Ok tt)
       of_lines (Ok x) rest h = (refl, of_rest x (read_all rest) h)
       of_lines (Err x) rest h = absurd (err_ok x h)
 
-  each_ok : (us : List IndexedUnit) (probe n : ℕ) → lines_fault (all_lines d us) ≡ Ok tt → is_ok (location_in d probe (slice_get us n)) ≡ true
+  each_ok : (us : List IndexedUnit) (probe n : ℕ) → fault_of (all_lines d us) ≡ Ok tt → is_ok (location_in d probe (slice_get us n)) ≡ true
   each_ok [] probe n e = refl
   each_ok (u ∷ us) probe zero e = of_lines (lines_of_unit d u) (first_ok u us e).0
     where
@@ -173,7 +175,7 @@ module _ (d : Sections) where
       of_lines (Err x) h = h
   each_ok (u ∷ us) probe (suc n) e = each_ok us probe n (first_ok u us e).1
 
-  pub along_ok : (us : List IndexedUnit) (probe : ℕ) (ranges : List UnitRange) → lines_fault (all_lines d us) ≡ Ok tt → is_ok (along d us probe ranges) ≡ true
+  pub along_ok : (us : List IndexedUnit) (probe : ℕ) (ranges : List UnitRange) → fault_of (all_lines d us) ≡ Ok tt → is_ok (along d us probe ranges) ≡ true
   along_ok us probe [] e = refl
   along_ok us probe (r ∷ ranges) e = of_location (location_in d probe (slice_get us r.unit)) (each_ok us probe r.unit e) (along_ok us probe ranges e)
     where

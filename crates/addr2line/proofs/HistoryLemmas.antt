@@ -6,7 +6,8 @@ use Rattle.gimli_read.specs.declared.error.Error.{Error}
 use Rattle.gimli.specs.Sections.{Sections}
 use Rattle.addr2line_units.specs.declared.frames_lookup.Faults.{Faults}
 use Rattle.addr2line_units.specs.FramesLookup.{Stop, Waits, Finds, FindsNothing, is_waiting}
-use Rattle.addr2line_units.specs.Parsed.{IsNotOom, StaysParsed, has_parsed}
+use Rattle.gimli_read.specs.Alike.{HadMemory}
+use Rattle.addr2line_units.specs.Parsed.{StaysParsed, has_parsed}
 use Rattle.addr2line.specs.Answers.{AfterResume, answered}
 use Rattle.addr2line.specs.Context.{ContextState}
 use Rattle.addr2line.specs.History.{Given, Gives, GivesUp, answers_given, where_waiting}
@@ -87,10 +88,10 @@ module _ {X : Type 0} (faults : Faults) (probe n : ℕ) (x : Option Sections) (o
     | inr (e, a) ↦ λ k h. subst (λ p. has_parsed p k ≡ true) (sym a.parsed) h
   ]
 
-  pub resumed_answers : IsNotOom o → new.answers ≡ answered old.sections old.answers n x
+  pub resumed_answers : HadMemory o → new.answers ≡ answered old.sections old.answers n x
   resumed_answers told = elim after [
     | inl (mid, a, b) ↦ b.answers ∙ a.answers
-    | inr (e, a) ↦ absurd (subst IsNotOom e told refl)
+    | inr (e, a) ↦ absurd (subst HadMemory e told refl)
   ]
 
   pub resumed_begun : (new.answers ≡ old.answers) ⊎ (new.answers ≡ answered old.sections old.answers n x)

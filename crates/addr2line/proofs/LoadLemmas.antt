@@ -18,14 +18,14 @@ use Rattle.addr2line_units.specs.Cover.{cover}
 use Rattle.addr2line_units.specs.FramesLookup.{answer_of, asked_frames, main_scope, stop_along, with_answer}
 use Rattle.addr2line_units.specs.FunctionParseLaws.{IsReached}
 use Rattle.addr2line_units.specs.FunctionParses.{AreFirstDecided, AreReadBefore, AreReadyFor, IsReadyFor, answers_after_parse, read_of_units}
-use Rattle.addr2line_units.specs.KeptEntries.{has_entries}
-use Rattle.addr2line_units.specs.KeptLookups.{StayAllEntries, answers_in, decided_at, has_entries_at, scope_in}
-use Rattle.addr2line_units.specs.KeptParses.{ChangesOnly, HaveRead, StayDecided}
+use Rattle.addr2line_units.specs.CachedEntries.{has_entries}
+use Rattle.addr2line_units.specs.CachedLookups.{StayAllEntries, answers_in, decided_at, has_entries_at, scope_in}
+use Rattle.addr2line_units.specs.CachedParses.{ChangesOnly, HaveRead, StayDecided}
 use Rattle.addr2line_units.specs.KnownEntries.{known_in, knows_at}
 use Rattle.addr2line_units.specs.Loads.{AreSettled, forget_result, forgotten, is_open_at, load_of_number, load_result, loads_along}
-use Rattle.addr2line_units.specs.Parsed.{IsNotOom}
+use Rattle.gimli_read.specs.Alike.{HadMemory}
 use Rattle.addr2line_units.specs.UnitIndex.{UnitIndex, unit_records}
-use Rattle.addr2line_units.proofs.KeptLookupLemmas.{as_many_entries}
+use Rattle.addr2line_units.proofs.CachedLookupLemmas.{as_many_entries}
 use Rattle.addr2line_units.proofs.KnownLemmas.{known_is, known_unchanged}
 use Rattle.addr2line_units.proofs.LoadLemmas.{as_many_answers}
 use Rattle.addr2line_units.proofs.ReachedLemmas.{reached_all}
@@ -87,7 +87,7 @@ module _ {R : Type 0} (d : Sections) (us : List UnitRecord) (old : List ResUnit)
     stays_read : StaysRead before after
     stays_read = record { sections = refl; parsed = ap parsed_units same; looks = refl }
 
-    pub after_load : (n : ℕ) (given : Option Sections) (result : Result (Unit {0}) Error) → (IsNotOom result → answers_in entries ≡ with_answer d us (answers_in held) n given)
+    pub after_load : (n : ℕ) (given : Option Sections) (result : Result (Unit {0}) Error) → (HadMemory result → answers_in entries ≡ with_answer d us (answers_in held) n given)
         → (answers_in entries ≡ answers_in held) ⊎ (answers_in entries ≡ with_answer d us (answers_in held) n given)
         → (result ≢ load_result d us (answers_in held) n given → (answers_in entries ≡ answers_in held) × StayAllEntries held entries) → ((k : ℕ) → k ≢ n → slice_get entries k ≡ slice_get held k)
         → (decided_at held n ≡ true → entries ≡ held) → length us ≡ length entries → AfterLoad n given result before after
@@ -133,9 +133,9 @@ module _ {R : Type 0} (d : Sections) (us : List UnitRecord) (old : List ResUnit)
     pub after_preload : answers_in entries ≡ answers_in held → StayAllEntries held entries → AfterPreload before after
     after_preload answers stay = record { stays = stays_read; answers = answers; known = stays_known held entries stay }
 
-    pub after_parse : (reads : Reads) (result : Result (Unit {0}) Error) → (IsNotOom result → answers_in entries ≡ answers_after_parse reads (scope_in d us sup) us (answers_in held)) → AreFirstDecided reads (scope_in d us sup) us (answers_in held) (answers_in entries)
+    pub after_parse : (reads : Reads) (result : Result (Unit {0}) Error) → (HadMemory result → answers_in entries ≡ answers_after_parse reads (scope_in d us sup) us (answers_in held)) → AreFirstDecided reads (scope_in d us sup) us (answers_in held) (answers_in entries)
         → StayDecided held entries → OnOk result (HaveRead reads entries) → (HaveRead reads held → result ≡ Ok tt)
-        → ChangesOnly (AreReadBefore reads (scope_in d us sup) us (answers_in held)) held entries → (IsNotOom result → AreReadyFor reads (scope_in d us sup) us (answers_in entries) (known_in entries))
+        → ChangesOnly (AreReadBefore reads (scope_in d us sup) us (answers_in held)) held entries → (HadMemory result → AreReadyFor reads (scope_in d us sup) us (answers_in entries) (known_in entries))
         → (AreReadyFor reads (scope_in d us sup) us (answers_in held) (known_in held) → result ≡ read_of_units reads (scope_in d us sup) us (answers_in held))
         → (AreReadyFor reads (scope_in d us sup) us (answers_in held) (known_in held) → entries ≡ held) → AfterParse reads result before after
     after_parse reads result answers begun stay read memory only ready exact unchanged = record {
@@ -172,7 +172,7 @@ module _ {R : Type 0} (d : Sections) (us : List UnitRecord) (old : List ResUnit)
     all_known reads (Err f) found e = tt
 
     pub all_reached : (reads : Reads) (result : Result (Unit {0}) Error) → ExactlyUnlessOom (λ x. x) result (read_of_units reads (scope_in d us sup) us (answers_in held))
-        → (IsNotOom result → answers_in entries ≡ answers_after_parse reads (scope_in d us sup) us (answers_in held)) → reads ≡ kinds.Details → OnOk result (ReachesAllOf after)
+        → (HadMemory result → answers_in entries ≡ answers_after_parse reads (scope_in d us sup) us (answers_in held)) → reads ≡ kinds.Details → OnOk result (ReachesAllOf after)
     all_reached reads (Err f) gives answers e = tt
     all_reached reads (Ok x) gives answers e = λ lines faults probe.
         subst IsReached (sym (stop_now faults probe))

@@ -19,14 +19,15 @@ use Rattle.addr2line_units.specs.CachedLines.{HaveLinesOf, StayUnits, indexed_un
 use Rattle.addr2line_units.specs.Cover.{cover}
 use Rattle.addr2line_units.specs.Frames.{FrameRecord}
 use Rattle.addr2line_units.specs.FramesLookup.{LookupAsks, Stop, Waits, Finds, FindsNothing, after_fault, asked_frames, asks_lines_of, ends_lookup, frames_found, frames_of_number, has_many_of, holds_along, is_waiting, main_scope, or_stop, readable_view, stop_along, view_of_number}
-use Rattle.addr2line_units.specs.KeptLookups.{HaveEntriesOf, HaveViewsOf, ReadsOnly, StayAllEntries, answers_in, decided_along, decided_at, has_frames_at, scope_in, seen_stop, waits_at}
+use Rattle.addr2line_units.specs.CachedLookups.{HaveEntriesOf, HaveViewsOf, ReadsOnly, StayAllEntries, answers_in, decided_along, decided_at, has_frames_at, scope_in, seen_stop, waits_at}
 use Rattle.addr2line_units.specs.KnownEntries.{known_in}
-use Rattle.addr2line_units.specs.Parsed.{IsNotOom, ParsesOnly, has_parsed}
+use Rattle.gimli_read.specs.Alike.{HadMemory}
+use Rattle.addr2line_units.specs.Parsed.{ParsesOnly, has_parsed}
 use Rattle.addr2line_units.specs.UnitIndex.{IndexedUnit, UnitIndex, index_units, sup_sections, unit_records}
 use Rattle.addr2line_units.specs.Views.{SplitLoad, load_of_unit, parts_of}
 use Rattle.addr2line_units.proofs.EndedLemmas.{ended_where_decided}
 use Rattle.addr2line_units.proofs.FoundLemmas.{known_where_found}
-use Rattle.addr2line_units.proofs.KeptLookupLemmas.{same_answers}
+use Rattle.addr2line_units.proofs.CachedLookupLemmas.{same_answers}
 use Rattle.addr2line_units.proofs.KnownLemmas.{known_is, known_unchanged}
 use Rattle.addr2line_units.proofs.ScopeLemmas.{main_scope_in_order, records_beside}
 use Rattle.addr2line_units.proofs.UnitsLemmas.{stay_indexed, stay_parsed}
@@ -228,8 +229,8 @@ module _ {R : Type 0} where
         ShowsAfter x result =
             ReadsOnly (LookupAsks (asked_in (scope_in x us sup) (answers_in held)) (cover probe ranges)) probe held entries
             → ParsesOnly (λ n. LookupAsks (asked_in (scope_in x us sup) (answers_in held)) (cover probe ranges) n × (asks_in (scope_in x us sup) (answers_in held) n ≡ true)) (parsed_units old) (parsed_units new)
-            → (IsNotOom result → holds_along (has_in (scope_in x us sup) (answers_in held)) (asked_in (scope_in x us sup) (answers_in held)) (cover probe ranges) ≡ true)
-            → (holds_along (few_in (scope_in x us sup) (answers_in held)) (asked_in (scope_in x us sup) (answers_in held)) (cover probe ranges) ≡ true → IsNotOom result)
+            → (HadMemory result → holds_along (has_in (scope_in x us sup) (answers_in held)) (asked_in (scope_in x us sup) (answers_in held)) (cover probe ranges) ≡ true)
+            → (holds_along (few_in (scope_in x us sup) (answers_in held)) (asked_in (scope_in x us sup) (answers_in held)) (cover probe ranges) ≡ true → HadMemory result)
             → looks ≤ now → AfterFrames faults probe result before after
 
         shows_after : {X : Type 0} (result : Result X Error) → ShowsAfter d result
@@ -277,11 +278,11 @@ module _ {R : Type 0} (units : List ResUnit) (views : List (UnitEntries R)) wher
       by FindsNothing k = refl
 
 -- it is refused memory where the lookup is
-pub oom_told : {X Y : Type 0} (f : X → Y) (r : Result X Error) → IsNotOom (r >>= λ x. Ok (f x)) → IsNotOom r
+pub oom_told : {X Y : Type 0} (f : X → Y) (r : Result X Error) → HadMemory (r >>= λ x. Ok (f x)) → HadMemory r
 oom_told f (Ok x) h = h
 oom_told f (Err e) h = h
 
-pub told_oom : {X Y : Type 0} (f : X → Y) (r : Result X Error) → IsNotOom r → IsNotOom (r >>= λ x. Ok (f x))
+pub told_oom : {X Y : Type 0} (f : X → Y) (r : Result X Error) → HadMemory r → HadMemory (r >>= λ x. Ok (f x))
 told_oom f (Ok x) h = h
 told_oom f (Err e) h = h
 

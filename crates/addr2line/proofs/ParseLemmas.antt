@@ -15,15 +15,15 @@ use Rattle.addr2line_units.specs.declared.parses.Reads.TheVariants as kinds
 use Rattle.addr2line_units.specs.declared.unit_frames.UnitEntries.{UnitEntries}
 use Rattle.addr2line_units.specs.declared.view.ViewState.{ViewState}
 use Rattle.addr2line_units.specs.declared.view.ViewState.TheVariants as states
-use Rattle.addr2line_units.specs.KeptFunctions.{is_kept}
-use Rattle.addr2line_units.specs.KeptLookups.{HaveEntriesOf, answers_in, decided_at, has_entries_at}
+use Rattle.addr2line_units.specs.CachedFunctions.{is_kept}
+use Rattle.addr2line_units.specs.CachedLookups.{HaveEntriesOf, answers_in, decided_at, has_entries_at}
 use Rattle.addr2line_units.specs.FramesLookup.{answer_of}
-use Rattle.addr2line_units.specs.KeptViews.{answer_in, is_decided}
-use Rattle.addr2line_units.specs.KeptParses.{HaveFunctions, HaveRead, StayDecided, has_view}
+use Rattle.addr2line_units.specs.CachedViews.{answer_in, is_decided}
+use Rattle.addr2line_units.specs.CachedParses.{HaveFunctions, HaveRead, StayDecided, has_view}
 use Rattle.addr2line_units.specs.KnownEntries.{NothingKnown, AllKnown, known_answer, known_by, known_functions, known_in}
 use Rattle.addr2line_units.proofs.AnswerLemmas.{looked_waits}
 use Rattle.addr2line_units.proofs.FoundLemmas.{looked_is_decided}
-use Rattle.addr2line_units.proofs.KeptLookupLemmas.{entries_more}
+use Rattle.addr2line_units.proofs.CachedLookupLemmas.{entries_more}
 use Rattle.addr2line_units.proofs.WaitLemmas.{known_was_looked_at}
 use Rattle.addr2line.specs.Loads.{IsReadBy}
 
@@ -58,20 +58,20 @@ module _ {R : Type 0} where
   read_after reads (Ok x) vs h = all_read reads vs h
   read_after reads (Err e) vs h = tt
 
-  kept_functions : (reads : Reads) (f : LazyFunctions R) → IsReadBy reads (known_functions f) → HaveFunctions reads f
-  kept_functions reads lazy.Unread h = absurd h
-  kept_functions reads (lazy.Faulty e) h = absurd (never_fault reads (is_kept e) h)
-  kept_functions kinds.Functions (lazy.Read t) h = tt
-  kept_functions kinds.Details (lazy.Read t) h = h
+  cached_functions : (reads : Reads) (f : LazyFunctions R) → IsReadBy reads (known_functions f) → HaveFunctions reads f
+  cached_functions reads lazy.Unread h = absurd h
+  cached_functions reads (lazy.Faulty e) h = absurd (never_fault reads (is_kept e) h)
+  cached_functions kinds.Functions (lazy.Read t) h = tt
+  cached_functions kinds.Details (lazy.Read t) h = h
 
   kept_in_answer : {X : Type 0} (reads : Reads) (r : Result X Error) (f : LazyFunctions R) → IsReadBy reads (known_answer r f) → (is_ok r ≡ true) × HaveFunctions reads f
-  kept_in_answer reads (Ok x) f h = (refl, kept_functions reads f h)
+  kept_in_answer reads (Ok x) f h = (refl, cached_functions reads f h)
   kept_in_answer reads (Err e) f h = absurd (never_fault reads (is_kept e) h)
 
   kept_view : (reads : Reads) (s : ViewState R) (f : LazyFunctions R) → IsReadBy reads (known_by s f) → (has_view s ≡ true) × HaveFunctions reads f
   kept_view reads states.Undecided f h = absurd h
   kept_view reads states.Open f h = absurd h
-  kept_view reads states.Main f h = (refl, kept_functions reads f h)
+  kept_view reads states.Main f h = (refl, cached_functions reads f h)
   kept_view reads (states.Unnamed e) f h = absurd (never_fault reads (is_kept e) h)
   kept_view reads (states.Answered a) f h = kept_in_answer reads a.unit f h
 

@@ -15,7 +15,8 @@ use Rattle.addr2line_units.specs.declared.continuation.LookupResult.TheVariants.
 use Rattle.addr2line_units.specs.declared.frames_lookup.Faults.{Faults}
 use Rattle.addr2line_units.specs.declared.frames_lookup.Faults.TheVariants.{PassOver}
 use Rattle.addr2line_units.specs.FramesLookup.{Stop, Waits, Finds, FindsNothing, is_waiting}
-use Rattle.addr2line_units.specs.Parsed.{IsNotOom, StaysParsed, has_parsed}
+use Rattle.gimli_read.specs.Alike.{HadMemory}
+use Rattle.addr2line_units.specs.Parsed.{StaysParsed, has_parsed}
 use Rattle.addr2line_units.specs.Suspended.{IfOutput}
 use Rattle.addr2line_units.specs.UnitIndex.{UnitIndex, index_units, unit_records}
 use Rattle.addr2line_units.specs.Views.{SplitLoad, load_by, load_of_unit, split_name_of}
@@ -154,7 +155,7 @@ module _ (faults : Faults) (probe : ℕ) (first : ContextState) (all : List Give
 
     -- it has ended with an answer
     pub resumed_leaves : {L D S X Y ended : Type 0} (result : LookupResult L (Result X Error) D S) (x : Option Sections) → ((rest : List Given) → take (i + 1) all ++ rest ≡ take i all ++ (Gives x ∷ rest)) → (o : Result X Error) (new : ContextState) (asked : ℕ) → asked ≡ probe → result ≡ Output o → (lender : ContextState) → new ≡ lender → IfOutput result (λ p. AfterResume faults asked number x p now lender) → (r : Result Y Error)
-        → (P : Y → Type 0) → IfOk r (λ y. P y × ended) → (ended → all_given ≡ answered now.sections now.answers number x) → OnOk r (IsNotOom o) → IfErr r (λ e. e ≡ OutOfMemory) → Leaves all_given SomeGiven r first new
+        → (P : Y → Type 0) → IfOk r (λ y. P y × ended) → (ended → all_given ≡ answered now.sections now.answers number x) → OnOk r (HadMemory o) → IfErr r (λ e. e ≡ OutOfMemory) → Leaves all_given SomeGiven r first new
     resumed_leaves {ended = ended} result x more o new asked same_probe is lender ends rests r P h same told oom = record {
       sections = resumed_sections faults asked number x o now new after ∙ so.sections;
       answers = of_ok r P h told;
@@ -165,7 +166,7 @@ module _ (faults : Faults) (probe : ℕ) (first : ContextState) (all : List Give
         after : AfterResume faults asked number x o now new
         after = subst (λ s. AfterResume faults asked number x o now s) (sym ends) (of_output result o (λ p. AfterResume faults asked number x p now lender) is rests)
 
-        of_ok : {Y : Type 0} (r : Result Y Error) (P : Y → Type 0) → IfOk r (λ y. P y × ended) → OnOk r (IsNotOom o) → OnOk r (new.answers ≡ all_given)
+        of_ok : {Y : Type 0} (r : Result Y Error) (P : Y → Type 0) → IfOk r (λ y. P y × ended) → OnOk r (HadMemory o) → OnOk r (new.answers ≡ all_given)
         of_ok (Err e) P h t = tt
         of_ok (Ok y) P h t = resumed_answers faults asked number x o now new after t ∙ sym (same h.1)
 

@@ -5,7 +5,8 @@ use Rattle.gimli_read.specs.declared.error.Error.{Error}
 use Rattle.gimli_read.specs.Reading.{◌>>=◌}
 use Rattle.addr2line_units.specs.declared.frames_lookup.Faults.{Faults}
 use Rattle.addr2line_units.specs.FramesLookup.{Stop, Waits, Finds, FindsNothing, is_waiting}
-use Rattle.addr2line_units.specs.Parsed.{IsNotOom, StaysParsed, has_parsed}
+use Rattle.gimli_read.specs.Alike.{HadMemory}
+use Rattle.addr2line_units.specs.Parsed.{StaysParsed, has_parsed}
 use Rattle.addr2line.proofs.HistoryLemmas.{HasGiven, given_all, given_ended, given_more}
 use Rattle.addr2line.specs.declared.stops.UnitStop.{UnitStop}
 use Rattle.addr2line.specs.declared.stops.UnitStop.TheVariants as units
@@ -129,7 +130,7 @@ module _ (faults : Faults) (probe : ℕ) (first : ContextState) where
     skip_failed f e = skip_stop (stop_failed f (lookup_stop faults now.sections now.answers probe) e) ∙ e
 
     -- the state that is left
-    pub after_skip : {X : Type 0} (r : Result X Error) → (IsNotOom r → is_waiting (lookup_stop faults now.sections now.answers probe) ≡ false) → (IsNotOom r → IsKnown faults now probe) → AfterSkip faults probe r first now
+    pub after_skip : {X : Type 0} (r : Result X Error) → (HadMemory r → is_waiting (lookup_stop faults now.sections now.answers probe) ≡ false) → (HadMemory r → IsKnown faults now probe) → AfterSkip faults probe r first now
     after_skip r ended ready = record {
       sections = so.sections;
       answers = λ told. sym (skip_end (ended told));

@@ -15,16 +15,16 @@ use Rattle.addr2line_units.specs.declared.unit_frames.UnitEntries.{UnitEntries}
 use Rattle.addr2line_units.specs.declared.view.ViewState.{ViewState}
 use Rattle.addr2line_units.specs.declared.view.ViewState.TheVariants as states
 use Rattle.addr2line_units.specs.FunctionParses.{IsReadyFor}
-use Rattle.addr2line_units.specs.KeptEntries.{StayEntries}
-use Rattle.addr2line_units.specs.KeptFunctions.{StayFunctions}
-use Rattle.addr2line_units.specs.KeptLookups.{HaveEntriesOf, StayAllEntries, answers_in, decided_at}
-use Rattle.addr2line_units.specs.KeptParses.{StayDecided}
-use Rattle.addr2line_units.specs.KeptViews.{was_looked_at}
+use Rattle.addr2line_units.specs.CachedEntries.{StayEntries}
+use Rattle.addr2line_units.specs.CachedFunctions.{StayFunctions}
+use Rattle.addr2line_units.specs.CachedLookups.{HaveEntriesOf, StayAllEntries, answers_in, decided_at}
+use Rattle.addr2line_units.specs.CachedParses.{StayDecided}
+use Rattle.addr2line_units.specs.CachedViews.{was_looked_at}
 use Rattle.addr2line_units.specs.KnownEntries.{KnownEntries, FunctionsKnown, is_known_at, known_answer, known_by, known_functions, known_in}
 use Rattle.addr2line_units.specs.Loads.{is_open_at}
 use Rattle.addr2line_units.proofs.AnswerLemmas.{looked_waits}
 use Rattle.addr2line_units.proofs.FoundLemmas.{looked_is_decided}
-use Rattle.addr2line_units.proofs.KeptLookupLemmas.{entries_more_at}
+use Rattle.addr2line_units.proofs.CachedLookupLemmas.{entries_more_at}
 use Rattle.addr2line_units.proofs.KnownLemmas.{known_is}
 use Rattle.addr2line.specs.Lookups.{IsReadyAt, StaysKnown, StaysKnownOf}
 

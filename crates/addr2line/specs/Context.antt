@@ -15,11 +15,13 @@ use Rattle.addr2line_units.specs.declared.unit.ResUnit.{ResUnit}
 use Rattle.addr2line_units.specs.declared.unit_frames.UnitEntries.{UnitEntries}
 use Rattle.addr2line_units.specs.CachedLines.{HaveLinesOf, indexed_units}
 use Rattle.addr2line_units.specs.FramesLookup.{main_scope}
-use Rattle.addr2line_units.specs.KeptLookups.{HaveEntriesOf}
+use Rattle.addr2line_units.specs.CachedLookups.{HaveEntriesOf}
 use Rattle.addr2line_units.specs.KnownEntries.{KnownEntries, NothingKnown}
-use Rattle.addr2line_units.specs.Located.{all_lines, is_found, lines_fault, looks_along}
+use Rattle.gimli_line.specs.Opcode.{fault_of}
+use Rattle.addr2line_units.specs.Located.{all_lines, is_found, looks_along}
 use Rattle.addr2line_units.specs.UnitIndex.{UnitIndex, has_lines, index_units, ranged_units, sup_sections, sup_units}
-use Rattle.addr2line_units.specs.Parsed.{AllAskFor, AreParsed, AreReadyForAll, AsksFor, IsNotOom, LeadTo, ParsesOnly, StaysParsed, ready_along}
+use Rattle.gimli_read.specs.Alike.{HadMemory}
+use Rattle.addr2line_units.specs.Parsed.{AllAskFor, AreParsed, AreReadyForAll, AsksFor, LeadTo, ParsesOnly, StaysParsed, ready_along}
 use Rattle.addr2line_units.specs.Cover.{cover, cover_range}
 
 -- the sections, the first answer of each unit, none before it has one, of which units the lines are
@@ -97,8 +99,8 @@ pub record Stays (old new : ContextState) : Type 0 where
 pub record AfterLookup {X : Type 0} (probe : ℕ) (result : Result (Option X) Error)
     (old new : ContextState) : Type 0 where
   pub stays : Stays old new
-  pub ready : IsNotOom result → IsReady new probe
-  pub memory : IsReady new probe → IsNotOom result
+  pub ready : HadMemory result → IsReady new probe
+  pub memory : IsReady new probe → HadMemory result
   pub only : LookupParses probe old new
   pub same : IsReady old probe → new.parsed ≡ old.parsed
   pub raised : old.looks ≤ new.looks
@@ -110,15 +112,15 @@ pub record AfterLookup {X : Type 0} (probe : ℕ) (result : Result (Option X) Er
 pub record AfterRangeLookup {X : Type 0} (low high : ℕ) (result : Result X Error)
     (old new : ContextState) : Type 0 where
   pub stays : Stays old new
-  pub ready : IsNotOom result → IsReadyForRange new low high
-  pub memory : IsReadyForRange new low high → IsNotOom result
+  pub ready : HadMemory result → IsReadyForRange new low high
+  pub memory : IsReadyForRange new low high → HadMemory result
   pub only : RangeLookupParses low high old new
   pub same : IsReadyForRange old low high → new.parsed ≡ old.parsed
   pub looks : new.looks ≡ old.looks
 
 -- whether the lines of all units can be read, or the first fault
 abbrev pub lines_of_all : Sections → Result (Unit {0}) Error
-lines_of_all d = index_units d >>= λ m. lines_fault (all_lines d m.units)
+lines_of_all d = index_units d >>= λ m. fault_of (all_lines d m.units)
 
 -- what a context is made of, by its parts
 abbrev pub index_by : List UnitRecord → List ResUnit → List UnitRange → List UnitRecord

@@ -14,6 +14,7 @@ use Rattle.gimli.specs.Sections.{Sections, SupSections}
 use Rattle.elf.specs.Loading.{Loading}
 use Rattle.elf.specs.ObjectFile.{ObjectFile}
 use Rattle.elf.specs.Sections.{section_at}
+use Rattle.gimli_read.specs.StringForm.{no_bytes}
 
 -- the ten sections, by what each is given as, or the first fault
 unfoldable pub sections_by : (SectionId → Loading Section) → Loading SupSections
@@ -45,13 +46,9 @@ sections_by given = do
 abbrev pub main_section : ObjectFile → SectionId → Loading Section
 main_section file id = section_at (section_name id) file
 
--- no bytes
-abbrev pub empty_section : Section
-empty_section = record { bytes = []; endian = Little }
-
 -- the section of a name in a split file, if split files have it
 abbrev pub section_if : ObjectFile → Option (List ℕ) → Loading Section
-section_if file None = Ok empty_section
+section_if file None = Ok no_bytes
 section_if file (Some name) = section_at name file
 
 -- a section of a split file

@@ -17,7 +17,7 @@ use Rattle.addr2line_units.specs.FunctionParseLaws.{IsReached}
 use Rattle.addr2line_units.specs.FunctionParses.{AreFirstDecided, AreReadBefore, AreReadyFor, answers_after_parse, read_of_units}
 use Rattle.addr2line_units.specs.KnownEntries.{KnownEntries, NothingKnown, AllKnown, FunctionsKnown, knows_at}
 use Rattle.addr2line_units.specs.Loads.{AreSettled, forget_result, forgotten, is_open_at, load_result}
-use Rattle.addr2line_units.specs.Parsed.{IsNotOom}
+use Rattle.gimli_read.specs.Alike.{HadMemory}
 use Rattle.addr2line_units.specs.UnitIndex.{UnitIndex, index_units, unit_records}
 use Rattle.addr2line.specs.Answers.{answered}
 use Rattle.addr2line.specs.Context.{ContextState, lines_of_all}
@@ -67,7 +67,7 @@ pub record StaysRead (old new : ContextState) : Type 0 where
 pub record AfterLoad (n : ℕ) (given : Option Sections) (result : Result (Unit {0}) Error)
     (old new : ContextState) : Type 0 where
   pub stays : StaysRead old new
-  pub answers : IsNotOom result → new.answers ≡ answered old.sections old.answers n given
+  pub answers : HadMemory result → new.answers ≡ answered old.sections old.answers n given
   pub begun : (new.answers ≡ old.answers)
       ⊎ (new.answers ≡ answered old.sections old.answers n given)
   pub refused : result ≢ load_reply old.sections old.answers n given
@@ -117,7 +117,7 @@ IsReadyToRead reads c = (m : UnitIndex) → index_units c.sections ≡ Ok m
 pub record AfterParse (reads : Reads) (result : Result (Unit {0}) Error) (old new : ContextState)
     : Type 0 where
   pub stays : StaysRead old new
-  pub answers : IsNotOom result → new.answers ≡ parsed_answers reads old.sections old.answers
+  pub answers : HadMemory result → new.answers ≡ parsed_answers reads old.sections old.answers
   pub begun : (m : UnitIndex) → index_units old.sections ≡ Ok m
       → AreFirstDecided reads (main_scope old.sections m) (unit_records m.units) old.answers
       new.answers
@@ -132,7 +132,7 @@ pub record AfterParse (reads : Reads) (result : Result (Unit {0}) Error) (old ne
       ⊎ AreReadBefore reads (main_scope old.sections m) (unit_records m.units) old.answers n
   pub read : OnOk result (AreReadBy reads new)
   pub memory : AreReadBy reads old → result ≡ Ok tt
-  pub ready : IsNotOom result → IsReadyToRead reads new
+  pub ready : HadMemory result → IsReadyToRead reads new
   pub exact : IsReadyToRead reads old → result ≡ parse_reply reads old.sections old.answers
   pub same : IsReadyToRead reads old → new ≡ old
 

@@ -16,7 +16,8 @@ use Rattle.addr2line_units.specs.FramesLookup.{Stop, Waits, Finds, FindsNothing,
 use Rattle.addr2line_units.specs.FunctionParses.{IsReadyFor}
 use Rattle.addr2line_units.specs.KnownEntries.{KnownEntries, knows_at}
 use Rattle.addr2line_units.specs.Loads.{load_of_number, loads_along}
-use Rattle.addr2line_units.specs.Parsed.{IsNotOom, ParsesOnly, StaysParsed, has_parsed}
+use Rattle.gimli_read.specs.Alike.{HadMemory}
+use Rattle.addr2line_units.specs.Parsed.{ParsesOnly, StaysParsed, has_parsed}
 use Rattle.addr2line_units.specs.UnitIndex.{UnitIndex, index_units, unit_records}
 use Rattle.addr2line_units.specs.Views.{SplitLoad, load_of_unit}
 use Rattle.addr2line.specs.Context.{ContextState}
@@ -155,9 +156,9 @@ pub record AfterFrames {X : Type 0} (faults : Faults) (probe : ℕ) (result : Re
   pub only : ParsesAsked faults probe old old new
   pub learns : LearnsAsked faults probe old old new
   pub raised : old.looks ≤ new.looks
-  pub ready : IsNotOom result → IsKnown faults new probe
+  pub ready : HadMemory result → IsKnown faults new probe
   pub memory : IsKnownFew faults new probe
-      → is_waiting (lookup_stop faults old.sections old.answers probe) ≡ false → IsNotOom result
+      → is_waiting (lookup_stop faults old.sections old.answers probe) ≡ false → HadMemory result
 
 -- a lookup that waits for the unit of a number has this load
 pub record Suspends (faults : Faults) (probe number : ℕ) (wanted : SplitLoad)

@@ -4,7 +4,8 @@ use Rattle.std.specs.Prelude.{◌≡◌, ℕ, ◌≤◌, length, replicate, List
 use Rattle.gimli_read.specs.declared.error.Error.{Error}
 use Rattle.gimli.specs.Sections.{Sections}
 use Rattle.addr2line_units.specs.declared.frames_lookup.Faults.{Faults}
-use Rattle.addr2line_units.specs.Parsed.{IsNotOom, StaysParsed}
+use Rattle.gimli_read.specs.Alike.{HadMemory}
+use Rattle.addr2line_units.specs.Parsed.{StaysParsed}
 use Rattle.addr2line.specs.declared.stops.UnitStop.{UnitStop}
 use Rattle.addr2line.specs.declared.stops.UnitStop.TheVariants as stops
 use Rattle.addr2line.specs.Context.{ContextState}
@@ -30,10 +31,10 @@ found_stop None = stops.FindsNothing
 pub record AfterSkip {X : Type 0} (faults : Faults) (probe : ℕ) (result : Result X Error)
     (old new : ContextState) : Type 0 where
   pub sections : new.sections ≡ old.sections
-  pub answers : IsNotOom result
+  pub answers : HadMemory result
       → new.answers ≡ skipped_answers faults old.sections probe old.answers
   pub begun : (n : ℕ)
       × (new.answers ≡ answers_given faults old.sections probe old.answers (nones n))
   pub parsed : StaysParsed old.parsed new.parsed
   pub raised : old.looks ≤ new.looks
-  pub ready : IsNotOom result → IsKnown faults new probe
+  pub ready : HadMemory result → IsKnown faults new probe

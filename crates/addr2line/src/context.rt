@@ -9,7 +9,8 @@ ghost use Rattle.addr2line_lines.specs.SeenLocation.{seen_location};
 ghost use Rattle.addr2line_units.specs.Indexed.{context_takes_memory};
 ghost use Rattle.addr2line_units.specs.Located.{location_of, spans_of};
 ghost use Rattle.addr2line_units.specs.LocationsLeft.{locations_left};
-ghost use Rattle.addr2line_units.specs.Parsed.{AreAllParsed, IsNotOom};
+ghost use Rattle.gimli_read.specs.Alike.{HadMemory};
+ghost use Rattle.addr2line_units.specs.Parsed.{AreAllParsed};
 ghost use Rattle.addr2line.specs.Context.{new_context, lines_of_all, AfterLookup, AfterRangeLookup, IsReady, IsReadyForAll, IsReadyForRange, ParsesToFault, Stays};
 
 use addr2line_lines::{Count, Location};
@@ -39,7 +40,7 @@ pub struct Context<R: Reader> {
 
 impl<R: Reader> Model for Context<R> {
     ghost use Rattle.addr2line_units.specs.CachedLines.{parsed_units};
-    ghost use Rattle.addr2line_units.specs.KeptLookups.{answers_in};
+    ghost use Rattle.addr2line_units.specs.CachedLookups.{answers_in};
     ghost use Rattle.addr2line_units.specs.KnownEntries.{known_in};
     ghost use Rattle.addr2line.specs.Context.{ContextState, IsContext};
 
@@ -215,8 +216,8 @@ impl<R: Reader> Context<R> {
     /// they stay parsed, and that fault is kept too. The lines of the units behind it are left as
     /// they are.
     ///
-    /// Refused by the first fault; may fail with `OutOfMemory` instead, which is never kept. Takes
-    /// no memory where the lines up to the first fault are parsed. Once it isn't refused,
+    /// Refused by the first fault; may fail with `OutOfMemory` instead, which is never cached.
+    /// Takes no memory where the lines up to the first fault are parsed. Once it isn't refused,
     /// `find_location` takes no memory and finds no fault.
     pub fn parse_lines(&mut self) -> Result<(), Error>
         ensures gives { ExactlyUnlessOom (λ x. x) result (lines_of_all self.old.sections) }
@@ -224,8 +225,8 @@ impl<R: Reader> Context<R> {
             → Exactly (λ x. x) result (lines_of_all self.old.sections) }
         ensures stays { Stays self.old self.new }
         ensures looks { self.new.looks ≡ self.old.looks }
-        ensures ready_for_all { IsNotOom result → IsReadyForAll self.new }
-        ensures memory { IsReadyForAll self.new → IsNotOom result }
+        ensures ready_for_all { HadMemory result → IsReadyForAll self.new }
+        ensures memory { IsReadyForAll self.new → HadMemory result }
         ensures only { ParsesToFault self.old self.new }
         ensures same { IsReadyForAll self.old → self.new.parsed ≡ self.old.parsed }
         ensures parsed { OnOk result (AreAllParsed self.new.parsed) }

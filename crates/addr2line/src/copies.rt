@@ -10,10 +10,10 @@ ghost use Rattle.addr2line_lines.specs.Rows.{result_map};
 ghost use Rattle.addr2line_lines.specs.SeenLocation.{seen_location};
 ghost use Rattle.addr2line_units.specs.FramesLeft.{frames_left};
 ghost use Rattle.addr2line_units.specs.FramesLookup.{Stop, is_waiting};
-ghost use Rattle.addr2line_units.specs.KeptViews.{seen_load};
+ghost use Rattle.addr2line_units.specs.CachedViews.{seen_load};
 ghost use Rattle.addr2line_units.specs.LocationsLeft.{locations_left};
-ghost use Rattle.addr2line_units.specs.Parsed.{IsNotOom};
-ghost use Rattle.addr2line_units.specs.RangeLookup.{seen_located_span};
+ghost use Rattle.gimli_read.specs.Alike.{HadMemory};
+ghost use Rattle.addr2line_lines.specs.RangesLeft.{seen_located};
 ghost use Rattle.addr2line_units.specs.SeenFrame.{seen_frame, seen_name};
 ghost use Rattle.addr2line_units.specs.SeenUnit.{seen_found, seen_unit};
 ghost use Rattle.addr2line.specs.Replies.{LocationAnswer, Located, Ranged, Listed, Ended, section_bytes, copied_frame, copied_load, copied_name, copied_unit, frames_at, reply_of_frames, reply_of_unit};
@@ -105,7 +105,7 @@ fn copy_frames<R: Reader>(alloc: Global, frames: FrameIter<'_, R>) -> Result<Vec
 }
 
 fn copy_span(alloc: Global, span: (u64, u64, Location<'_>)) -> Result<OwnedSpan, AllocError>
-    ensures gives { IfOk result (λ copy. seen_owned_span copy ≡ seen_located_span span.entry) }
+    ensures gives { IfOk result (λ copy. seen_owned_span copy ≡ seen_located span.entry) }
 {
     let (address, length, location) = span;
     Ok(OwnedSpan {
@@ -135,7 +135,7 @@ pub(crate) fn location_reply(
     ensures gives { (given : LocationAnswer)
         → ExactlyUnlessOom (option_map seen_location) location.entry given
         → IfOk result (λ r. seen_reply r ≡ Located given) }
-    ensures told { OnOk result (IsNotOom location.entry) }
+    ensures told { OnOk result (HadMemory location.entry) }
     ensures fault { IfErr location.entry (λ e. e ≢ OutOfMemory → IsOk result) }
     ensures refused { IfErr result (λ e. e ≡ OutOfMemory) }
 {
@@ -190,7 +190,7 @@ pub(crate) fn frames_reply<R: Reader>(
     ensures gives { (stop : Result Stop Error)
         → ExactlyUnlessOom (λ i. Some (frames_left i)) frames.entry (frames_at stop)
         → IfOk result (λ r. (seen_reply r ≡ reply_of_frames stop) × (is_waiting stop ≡ false)) }
-    ensures told { OnOk result (IsNotOom frames.entry) }
+    ensures told { OnOk result (HadMemory frames.entry) }
     ensures fault { IfErr frames.entry (λ e. e ≢ OutOfMemory → IsOk result) }
     ensures refused { IfErr result (λ e. e ≡ OutOfMemory) }
 {
@@ -223,7 +223,7 @@ pub(crate) fn unit_reply<R: Reader>(
         → (is_waiting stop ≡ true → given ≡ Ok None)
         → IfOk result (λ r. (seen_reply r ≡ reply_of_unit stop given)
         × (is_waiting stop ≡ false)) }
-    ensures told { OnOk result (IsNotOom unit.entry) }
+    ensures told { OnOk result (HadMemory unit.entry) }
     ensures refused { IfErr result (λ e. e ≡ OutOfMemory) }
 {
     match unit {
@@ -253,7 +253,7 @@ pub(crate) fn loads_reply<R: Reader>(
 pub(crate) fn done_reply(done: Result<(), Error>) -> Result<Reply, Error>
     ensures gives { (given : Result (Unit {0}) Error) → ExactlyUnlessOom (λ x. x) done given
         → IfOk result (λ r. seen_reply r ≡ Ended given) }
-    ensures told { OnOk result (IsNotOom done) }
+    ensures told { OnOk result (HadMemory done) }
     ensures refused { IfErr result (λ e. (e ≡ OutOfMemory) × (done ≡ Err OutOfMemory)) }
 {
     match done {

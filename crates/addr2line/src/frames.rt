@@ -6,7 +6,7 @@ ghost use Rattle.gimli_read.specs.Reading.{ExactlyUnlessOom};
 ghost use Rattle.addr2line_units.specs.declared.frames_lookup.Faults.TheVariants.{End};
 ghost use Rattle.addr2line_units.specs.FramesLeft.{frames_left};
 ghost use Rattle.addr2line_units.specs.FramesLookup.{is_waiting};
-ghost use Rattle.addr2line_units.specs.KeptViews.{seen_load};
+ghost use Rattle.addr2line_units.specs.CachedViews.{seen_load};
 ghost use Rattle.addr2line_units.specs.Suspended.{IfLoad, IfOutput, SkipsTo};
 ghost use Rattle.addr2line.specs.Answers.{AfterResume, SuspendsAgain, answered};
 ghost use Rattle.addr2line.specs.Borrowed.{EndsAs, RestsAs};
@@ -259,7 +259,7 @@ impl<R: Reader> Context<R> {
     /// is kept, faults too, and nothing is read of units that it doesn't ask.
     ///
     /// Refused by the first fault of the view, the functions, the detail or the lines of a unit
-    /// that it asks; may fail with `OutOfMemory` instead, which is never kept. An output takes no
+    /// that it asks; may fail with `OutOfMemory` instead, which is never cached. An output takes no
     /// memory where all that it asks for is kept and at most 16 inlined functions stand there.
     ///
     /// Source: DWARF 5, sections 2.17, 3.3, 3.1.2 and 7.3.2. Own: which unit counts, and what a

@@ -27,8 +27,9 @@ impl<R: Reader> Context<R> {
     /// first fault are left as they are.
     ///
     /// Refused by the first fault of a view or its functions; may fail with `OutOfMemory` instead,
-    /// which is never kept. Takes no memory where the functions up to the first fault are kept, and
-    /// that fault: so the same call after it gives the same, until a unit is forgotten or answered.
+    /// which is never cached. Takes no memory where the functions up to the first fault are
+    /// cached, and that fault: so the same call after it gives the same, until a unit is forgotten
+    /// or answered.
     ///
     /// Source: DWARF 5, section 3.3.
     pub fn parse_functions(&mut self) -> Result<(), Error>
@@ -42,11 +43,11 @@ impl<R: Reader> Context<R> {
     /// Parses the functions of all units and the details of these, as `parse_functions` does.
     ///
     /// Refused by the first fault of a view, its functions or, in the order of the entries, a
-    /// detail; may fail with `OutOfMemory` instead, which is never kept. Takes no memory where these
-    /// are kept up to the first fault, and that fault: so the same call after it gives the same,
-    /// until a unit is forgotten or answered. Once it isn't refused, and where `parse_lines` isn't
-    /// either, lookups of frames don't wait and have no fault, and take no memory where at most 16
-    /// inlined functions stand at the address, until a unit is forgotten.
+    /// detail; may fail with `OutOfMemory` instead, which is never cached. Takes no memory where
+    /// these are cached up to the first fault, and that fault: so the same call after it gives the
+    /// same, until a unit is forgotten or answered. Once it isn't refused, and where `parse_lines`
+    /// isn't either, lookups of frames don't wait and have no fault, and take no memory where at
+    /// most 16 inlined functions stand at the address, until a unit is forgotten.
     ///
     /// Source: DWARF 5, sections 3.3 and 3.3.8.
     pub fn parse_inlined_functions(&mut self) -> Result<(), Error>

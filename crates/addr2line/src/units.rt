@@ -5,7 +5,7 @@ ghost use Rattle.std.specs.Borrow.{sem};
 ghost use Rattle.gimli_read.specs.declared.error.Error.TheVariants.{OutOfMemory};
 ghost use Rattle.gimli_read.specs.Reading.{ExactlyUnlessOom};
 ghost use Rattle.addr2line_units.specs.declared.frames_lookup.Faults.TheVariants.{PassOver};
-ghost use Rattle.addr2line_units.specs.KeptViews.{seen_load};
+ghost use Rattle.addr2line_units.specs.CachedViews.{seen_load};
 ghost use Rattle.addr2line_units.specs.SeenUnit.{seen_found};
 ghost use Rattle.addr2line_units.specs.Suspended.{IfLoad, IfOutput, SkipsTo};
 ghost use Rattle.addr2line.specs.declared.stops.UnitStop.TheVariants.{Finds};
@@ -236,7 +236,7 @@ impl<R: Reader> Context<R> {
     /// and that has no answer yet. What it reads of a unit is kept, faults too, and nothing is read
     /// of units that it doesn't ask.
     ///
-    /// Refused `OutOfMemory` alone, which is never kept. An output takes no memory where all that
+    /// Refused `OutOfMemory` alone, which is never cached. An output takes no memory where all that
     /// it asks for is kept and at most 16 inlined functions stand there.
     ///
     /// Source: DWARF 5, sections 2.17, 3.3, 3.1.2 and 7.3.2. Own: which unit counts, and what a

@@ -6,16 +6,11 @@ use Rattle.std.specs.List.{fold}
 use Rattle.gimli_read.specs.declared.error.Error.{Error}
 use Rattle.addr2line_lines.specs.RangeLocations.{LocatedSpan}
 use Rattle.addr2line_bin.specs.FileAnswers.{FileAnswers}
-
--- the rows before the first fault
-abbrev pub rows_before_fault : List (Result LocatedSpan Error) → List LocatedSpan
-rows_before_fault [] = []
-rows_before_fault (Ok s ∷ rest) = s ∷ rows_before_fault rest
-rows_before_fault (Err e ∷ rest) = []
+use Rattle.gimli_line.specs.Rises.{rows_before}
 
 -- their addresses
 abbrev pub addresses_in : List (Result LocatedSpan Error) → List ℕ
-addresses_in rows = map (λ s. s.address) (rows_before_fault rows)
+addresses_in rows = map (λ s. s.address) (rows_before rows)
 
 -- whether an address is above the last that was kept, if there is one
 abbrev pub is_above : Option ℕ → ℕ → Bool

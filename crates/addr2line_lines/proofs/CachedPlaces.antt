@@ -17,7 +17,7 @@ use Rattle.addr2line_lines.specs.FoundFunctions.{AreFunctions, function_offsets,
 use Rattle.addr2line_lines.specs.FunctionCache.{HasPlace, place_read, read_at, seen_function, seen_lazy}
 use Rattle.addr2line_lines.specs.FunctionTable.{CachedFunction, inlined_of_detail, name_of_detail}
 use Rattle.addr2line_lines.specs.Functions.{function_offset_at}
-use Rattle.addr2line_lines.specs.KeptDetails.{IsDetailPlace, KeptDetails, detail_of}
+use Rattle.addr2line_lines.specs.CachedDetails.{IsDetailPlace, CachedDetails, detail_of}
 use Rattle.addr2line_lines.specs.Segments.{shortest_function_at}
 use Rattle.addr2line_lines.proofs.FunctionOrder.{found_is, place_found}
 use Rattle.addr2line_lines.proofs.PlaceLemmas.{all_at}
@@ -26,7 +26,7 @@ use Rattle.addr2line_lines.proofs.PlaceLemmas.{all_at}
 abbrev pub cached_at : List CachedFunction → ℕ → Option (Result Detail Error)
 cached_at fs n = option_and_then (λ (f : CachedFunction). f.detail) (slice_get fs n)
 
-seen_at : (d : KeptDetails) (fs : List LazyFunction) (n : ℕ) → cached_at (map (seen_function d) fs) n ≡ option_and_then (λ (f : LazyFunction). seen_lazy d f.detail) (slice_get fs n)
+seen_at : (d : CachedDetails) (fs : List LazyFunction) (n : ℕ) → cached_at (map (seen_function d) fs) n ≡ option_and_then (λ (f : LazyFunction). seen_lazy d f.detail) (slice_get fs n)
 seen_at d fs n = ap (option_and_then (λ (f : CachedFunction). f.detail)) (slice_get-map (seen_function d) fs n) ∙ by_cases (slice_get fs n)
   where
     by_cases : (o : Option LazyFunction) → option_and_then (λ (f : CachedFunction). f.detail) (option_map (seen_function d) o) ≡ option_and_then (λ (f : LazyFunction). seen_lazy d f.detail) o
@@ -34,7 +34,7 @@ seen_at d fs n = ap (option_and_then (λ (f : CachedFunction). f.detail)) (slice
     by_cases (Some f) = refl
 
 -- the detail of a function, where its place is known
-pub read_is : (d : KeptDetails) (fs : List LazyFunction) (n : ℕ) (p : FunctionDetail) → read_at fs n ≡ Some p → cached_at (map (seen_function d) fs) n ≡ Some (Ok (detail_of d p))
+pub read_is : (d : CachedDetails) (fs : List LazyFunction) (n : ℕ) (p : FunctionDetail) → read_at fs n ≡ Some p → cached_at (map (seen_function d) fs) n ≡ Some (Ok (detail_of d p))
 read_is d fs n p e = seen_at d fs n ∙ by_cases (slice_get fs n) e
   where
     by_lazy : (x : LazyDetail) → place_read x ≡ Some p → seen_lazy d x ≡ Some (Ok (detail_of d p))
@@ -55,7 +55,7 @@ abbrev pub HasNone : Option (Result Detail Error) → Type 0
 HasNone v = (option_and_then name_of_detail v ≡ None) × (inlined_cached v ≡ [])
 
 -- where the detail of a function isn't read it has no name and no inlined ranges
-pub none_read : (d : KeptDetails) (fs : List LazyFunction) (n : ℕ) → read_at fs n ≡ None
+pub none_read : (d : CachedDetails) (fs : List LazyFunction) (n : ℕ) → read_at fs n ≡ None
     → HasNone (cached_at (map (seen_function d) fs) n)
 none_read d fs n e = subst HasNone (sym (seen_at d fs n)) (by_cases (slice_get fs n) e)
   where
@@ -69,7 +69,7 @@ none_read d fs n e = subst HasNone (sym (seen_at d fs n)) (by_cases (slice_get f
     by_cases (Some f) h = by_lazy f.detail h
 
 -- the place of a detail that was read is one in the lists
-pub place_kept : (d : KeptDetails) (fs : List LazyFunction) (n : ℕ) (p : FunctionDetail) → AllByRecursion (HasPlace d) fs → read_at fs n ≡ Some p → IsDetailPlace d p
+pub place_kept : (d : CachedDetails) (fs : List LazyFunction) (n : ℕ) (p : FunctionDetail) → AllByRecursion (HasPlace d) fs → read_at fs n ≡ Some p → IsDetailPlace d p
 place_kept d fs n p all e = by_cases (slice_get fs n) refl e
   where
     by_lazy : (x : LazyDetail) → place_read x ≡ Some p → x ≡ Read p
@@ -82,13 +82,13 @@ place_kept d fs n p all e = by_cases (slice_get fs n) refl e
     by_cases (Some f) q h = all_at (HasPlace d) fs n f all q p (by_lazy f.detail h)
 
 -- where the entry of a function begins, by its place
-pub entry_at : (d : KeptDetails) (fs : List LazyFunction) (n : ℕ) → n < length (function_offsets fs) → option_map (λ (f : CachedFunction). f.offset) (slice_get (map (seen_function d) fs) n) ≡ Some (slice_index_or (function_offsets fs) n (record { 0 = 0 })).0
+pub entry_at : (d : CachedDetails) (fs : List LazyFunction) (n : ℕ) → n < length (function_offsets fs) → option_map (λ (f : CachedFunction). f.offset) (slice_get (map (seen_function d) fs) n) ≡ Some (slice_index_or (function_offsets fs) n (record { 0 = 0 })).0
 entry_at d [] n l = absurd (omega arith)
 entry_at d (f ∷ fs) zero l = refl
 entry_at d (f ∷ fs) (suc n) l = entry_at d fs n (omega arith)
 
 -- the function at an address, by its place and by its entry
-pub entry_found : (d : KeptDetails) (fs : List LazyFunction) (addresses : List FunctionAddress) (probe : ℕ) → AreFunctions (function_offsets fs) addresses
+pub entry_found : (d : CachedDetails) (fs : List LazyFunction) (addresses : List FunctionAddress) (probe : ℕ) → AreFunctions (function_offsets fs) addresses
     → option_and_then (λ n. option_map (λ (f : CachedFunction). f.offset) (slice_get (map (seen_function d) fs) n)) (shortest_function_at probe addresses) ≡ function_offset_at probe (map (function_range_of (function_offsets fs)) addresses)
 entry_found d fs addresses probe h = by_cases (shortest_function_at probe addresses) refl
   where
@@ -96,7 +96,7 @@ entry_found d fs addresses probe h = by_cases (shortest_function_at probe addres
     by_cases None e = ap (option_and_then (λ n. option_map (λ (f : CachedFunction). f.offset) (slice_get (map (seen_function d) fs) n))) e ∙ sym (found_is (function_offsets fs) addresses h probe ∙ ap (option_map (λ i. (slice_index_or (function_offsets fs) i (record { 0 = 0 })).0)) e)
     by_cases (Some i) e = ap (option_and_then (λ n. option_map (λ (f : CachedFunction). f.offset) (slice_get (map (seen_function d) fs) n))) e ∙ entry_at d fs i (place_found (function_offsets fs) addresses h probe i e) ∙ sym (found_is (function_offsets fs) addresses h probe ∙ ap (option_map (λ i. (slice_index_or (function_offsets fs) i (record { 0 = 0 })).0)) e)
 
-pub place_seen : (d : KeptDetails) (fs : List LazyFunction) (addresses : List FunctionAddress) (probe i : ℕ) → AreFunctions (function_offsets fs) addresses → shortest_function_at probe addresses ≡ Some i → i < length (map (seen_function d) fs)
+pub place_seen : (d : CachedDetails) (fs : List LazyFunction) (addresses : List FunctionAddress) (probe i : ℕ) → AreFunctions (function_offsets fs) addresses → shortest_function_at probe addresses ≡ Some i → i < length (map (seen_function d) fs)
 place_seen d fs addresses probe i h e =
     let l = place_found (function_offsets fs) addresses h probe i e in
     let a : length (function_offsets fs) ≡ length (map (seen_function d) fs) = same_length fs in
@@ -107,7 +107,7 @@ place_seen d fs addresses probe i h e =
     same_length (x ∷ xs) = ap suc (same_length xs)
 
 -- where the entry of a function begins, as it is cached and as it stands among all
-offset_seen : (d : KeptDetails) (fs : List LazyFunction) (n : ℕ) (x : CachedFunction) → n < length fs
+offset_seen : (d : CachedDetails) (fs : List LazyFunction) (n : ℕ) (x : CachedFunction) → n < length fs
     → (get_or (map (seen_function d) fs) n x).offset ≡ (slice_index_or (function_offsets fs) n (record { 0 = 0 })).0
 offset_seen d [] n x l = absurd (omega arith)
 offset_seen d (f ∷ fs) zero x l = refl
@@ -119,7 +119,7 @@ map_long f [] = refl
 map_long f (x ∷ xs) = ap suc (map_long f xs)
 
 -- entries begin one after another, so that each is the first one that begins there
-first_there : (d : KeptDetails) (fs : List LazyFunction) (addresses : List FunctionAddress) → AreFunctions (function_offsets fs) addresses → (n : ℕ) → n < length fs
+first_there : (d : CachedDetails) (fs : List LazyFunction) (addresses : List FunctionAddress) → AreFunctions (function_offsets fs) addresses → (n : ℕ) → n < length fs
     → position (λ (f : CachedFunction). f.offset == (slice_index_or (function_offsets fs) n (record { 0 = 0 })).0) (map (seen_function d) fs) ≡ Some n
 first_there d fs addresses h n l =
     let none : CachedFunction = record { offset = 0; detail = None } in
@@ -140,7 +140,7 @@ first_there d fs addresses h n l =
     itself a = grind (arith, nat_tests)
 
 -- the place of the function at an address is that of its entry
-pub place_is : (d : KeptDetails) (fs : List LazyFunction) (addresses : List FunctionAddress) (probe : ℕ) → AreFunctions (function_offsets fs) addresses
+pub place_is : (d : CachedDetails) (fs : List LazyFunction) (addresses : List FunctionAddress) (probe : ℕ) → AreFunctions (function_offsets fs) addresses
     → shortest_function_at probe addresses ≡ option_and_then (λ offset. position (λ (f : CachedFunction). f.offset == offset) (map (seen_function d) fs))
     (function_offset_at probe (map (function_range_of (function_offsets fs)) addresses))
 place_is d fs addresses probe h = by_cases (shortest_function_at probe addresses) refl

@@ -1,4 +1,4 @@
--- Places of details, and what adding details leaves of them (on specs/KeptDetails.antt).
+-- Places of details, and what adding details leaves of them (on specs/CachedDetails.antt).
 use Rattle.std.proofs.Common.{◌≡◌, ℕ, ◌+◌, ◌-◌, ◌<◌, ◌≤◌, ◌==◌, Bool, true, false, cond, nat_lt, List, [], ◌∷◌, ◌++◌, drop, map, length, slice_index_or, take, Option, Some, None, option_and_then, option_map, Result, Ok, Err, IfOk, refl, ap, sym, subst, ◌∙◌, arith, length-append, length-drop, zero, suc}
 use Rattle.std.specs.List.{All, AllByRecursion}
 use Rattle.std.specs.List.Sorted.{IsNonDecreasingBy}
@@ -16,7 +16,7 @@ use Rattle.addr2line_lines.specs.Details.{Detail, InlinedEntry, InlinedRange, de
 use Rattle.addr2line_lines.specs.FoundDetails.{FoundInlined, IsFoundMore, IsGrown, detail_found_at, entry_among, first_found, range_among}
 use Rattle.addr2line_lines.specs.InlinedOrder.{inlined_sooner, place, place_begin, place_end, places_chain, places_of_depth, places_within}
 use Rattle.addr2line_lines.specs.InOrder.{IsInOrder, in_order}
-use Rattle.addr2line_lines.specs.KeptDetails.{AreDetailsMore, IsDetailPlace, IsOfEntryBetween, KeptDetails, between, detail_of, listed_ranges}
+use Rattle.addr2line_lines.specs.CachedDetails.{AreDetailsMore, IsDetailPlace, IsOfEntryBetween, CachedDetails, between, detail_of, listed_ranges}
 use Rattle.addr2line_lines.specs.Pick.{at_or_below, candidate, if_past, pick}
 use Rattle.addr2line_lines.specs.References.{Scope}
 use Rattle.addr2line_lines.proofs.DetailOrder.{AgreesDetail, detail_agrees}
@@ -60,7 +60,7 @@ between_sorted start end xs l e =
     ∙ ap (λ n. take n run) count ∙ take-length run
 
 -- details that were found, and where they are kept
-pub record AreKeptAt (name : Option Section) (found listed : FoundInlined) (d : KeptDetails) (p : FunctionDetail) : Type 0 where
+pub record AreKeptAt (name : Option Section) (found listed : FoundInlined) (d : CachedDetails) (p : FunctionDetail) : Type 0 where
   pub name_is : slice_index_or d.names p.name None ≡ name
   pub name_there : p.name < length d.names
   pub inlined_begin : p.inlined_begin ≡ length found.entries
@@ -72,7 +72,7 @@ pub record AreKeptAt (name : Option Section) (found listed : FoundInlined) (d : 
   pub ranges : d.found.ranges ≡ sorted_from p.ranges_begin listed.ranges
 
 module _ (scope : Scope) (u : UnitRecord) (offset : ℕ) (name : Option Section) (found listed : FoundInlined) (read : detail_found_at scope u offset found ≡ Ok (name, listed))
-    (d : KeptDetails) (p : FunctionDetail) (at : AreKeptAt name found listed d p) where
+    (d : CachedDetails) (p : FunctionDetail) (at : AreKeptAt name found listed d p) where
   agrees : AgreesDetail scope u offset found (detail_at scope u offset) (Ok (name, listed))
   agrees = subst (AgreesDetail scope u offset found (detail_at scope u offset)) read (detail_agrees scope u offset found)
 
@@ -127,11 +127,11 @@ pub sorted_more : (start : ℕ) (xs listed : List InlinedFunctionAddress) → st
 sorted_more start xs listed e h = record { more = in_order inlined_sooner (drop start listed); is = ap (λ ys. ys ++ in_order inlined_sooner (drop start listed)) (first_of start xs listed h e) }
 
 -- what is kept stays where nothing changes
-pub details_same : (kept more : KeptDetails) → more ≡ kept → AreDetailsMore kept more
+pub details_same : (kept more : CachedDetails) → more ≡ kept → AreDetailsMore kept more
 details_same kept more h = subst (AreDetailsMore kept) (sym h) (record { names = grown_not kept.names; found = found_same kept.found })
 
 -- what is added changes nothing of the details that are kept, and their places are places still
-pub detail_stays : (kept more : KeptDetails) (p : FunctionDetail) → AreDetailsMore kept more → IsDetailPlace kept p → (detail_of more p ≡ detail_of kept p) × IsDetailPlace more p
+pub detail_stays : (kept more : CachedDetails) (p : FunctionDetail) → AreDetailsMore kept more → IsDetailPlace kept p → (detail_of more p ≡ detail_of kept p) × IsDetailPlace more p
 detail_stays kept more p h at = (same, still)
   where
     made : Option Section → List InlinedRange → Detail
@@ -218,7 +218,7 @@ module _ (P : ℕ → Type 0) (probe : ℕ) (xs : List InlinedFunctionAddress) (
           (All-in (λ x. P (place x)) xs z all i.0, r)
 
 -- the run of a place, and the chain of an address in it
-module _ (d : KeptDetails) (p : FunctionDetail) (at : IsDetailPlace d p) where
+module _ (d : CachedDetails) (p : FunctionDetail) (at : IsDetailPlace d p) where
   abbrev pub run : List InlinedFunctionAddress
   run = between p.ranges_begin p.ranges_end d.found.ranges
 

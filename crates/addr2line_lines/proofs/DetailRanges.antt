@@ -9,7 +9,7 @@ use Rattle.addr2line_lines.specs.declared.picks.InlinedFunctionAddress.{InlinedF
 use Rattle.addr2line_lines.specs.Details.{InlinedEntry, InlinedRange}
 use Rattle.addr2line_lines.specs.FoundDetails.{FoundInlined, IsPlaceAmong, inlined_address, inlined_more, range_among, no_inlined, found_ranges_from}
 use Rattle.addr2line_lines.specs.InlinedOrder.{place}
-use Rattle.addr2line_lines.specs.KeptDetails.{IsOfEntryBetween}
+use Rattle.addr2line_lines.specs.CachedDetails.{IsOfEntryBetween}
 use Rattle.addr2line_lines.proofs.SeekLemmas.{Up}
 
 -- a range of an inlined entry

@@ -19,7 +19,7 @@ use Rattle.addr2line_lines.specs.FoundDetails.{IsGrown, none_inlined}
 use Rattle.addr2line_lines.specs.FoundFunctions.{AreFunctions, IsUnread, function_offsets, function_range_of}
 use Rattle.addr2line_lines.specs.FunctionCache.{AreCachedFunctions, AreDetailsApart, AreRuns, HasPlace, inlined_size, name_size, ranges_size, seen_function, seen_lazy, size_of}
 use Rattle.addr2line_lines.specs.FunctionTable.{CachedFunction, FunctionTable, IsCachedThen, IsReadAt, IsReadOf, IsWithDetail}
-use Rattle.addr2line_lines.specs.KeptDetails.{AreDetailsMore, IsDetailPlace, IsNextPlace, KeptDetails, detail_of}
+use Rattle.addr2line_lines.specs.CachedDetails.{AreDetailsMore, IsDetailPlace, IsNextPlace, CachedDetails, detail_of}
 use Rattle.addr2line_lines.specs.References.{Scope}
 use Rattle.addr2line_lines.proofs.DetailPlaces.{detail_stays}
 use Rattle.addr2line_lines.proofs.PlaceLemmas.{all_at, all_set, all_weaker, at_set}
@@ -31,28 +31,28 @@ no_more xs = record { more = []; is = sym (append-nil xs) }
 longer : {X : Type 0} (xs ys : List X) → IsGrown xs ys → length xs ≤ length ys
 longer xs ys g = let a : length ys ≡ length (xs ++ g.more) = ap (λ v. length v) g.is in let b = length-append xs g.more in omega arith
 
-pub details_stay : (kept : KeptDetails) → AreDetailsMore kept kept
+pub details_stay : (kept : CachedDetails) → AreDetailsMore kept kept
 details_stay kept = record { names = no_more kept.names; found = record { entries = no_more kept.found.entries; ranges = no_more kept.found.ranges } }
 
 -- a detail that is read is as before where more is read
-lazy_stays : (kept more : KeptDetails) → AreDetailsMore kept more → (x : LazyDetail) → ((p : FunctionDetail) → x ≡ Read p → IsDetailPlace kept p) → seen_lazy more x ≡ seen_lazy kept x
+lazy_stays : (kept more : CachedDetails) → AreDetailsMore kept more → (x : LazyDetail) → ((p : FunctionDetail) → x ≡ Read p → IsDetailPlace kept p) → seen_lazy more x ≡ seen_lazy kept x
 lazy_stays kept more grown Unread h = refl
 lazy_stays kept more grown (Read p) h = ap (λ (d : Detail). Some (Ok d)) (detail_stays kept more p grown (h p refl)).0
 lazy_stays kept more grown (Faulty e) h = refl
 
-seen_stays : (kept more : KeptDetails) → AreDetailsMore kept more → (f : LazyFunction) → HasPlace kept f → seen_function more f ≡ seen_function kept f
+seen_stays : (kept more : CachedDetails) → AreDetailsMore kept more → (f : LazyFunction) → HasPlace kept f → seen_function more f ≡ seen_function kept f
 seen_stays kept more grown f h = ap made (lazy_stays kept more grown f.detail h)
   where
     made : Option (Result Detail Error) → CachedFunction
     made x = record { offset = f.dw_die_offset.0; detail = x }
 
-all_seen_stay : (kept more : KeptDetails) → AreDetailsMore kept more → (fs : List LazyFunction) → AllByRecursion (HasPlace kept) fs → map (seen_function more) fs ≡ map (seen_function kept) fs
+all_seen_stay : (kept more : CachedDetails) → AreDetailsMore kept more → (fs : List LazyFunction) → AllByRecursion (HasPlace kept) fs → map (seen_function more) fs ≡ map (seen_function kept) fs
 all_seen_stay kept more grown [] all = refl
 all_seen_stay kept more grown (f ∷ fs) all =
     ap (λ (x : CachedFunction). x ∷ map (seen_function more) fs) (seen_stays kept more grown f all.0)
     ∙ ap (λ xs. seen_function kept f ∷ xs) (all_seen_stay kept more grown fs all.1)
 
-place_stays : (kept more : KeptDetails) → AreDetailsMore kept more → (f : LazyFunction) → HasPlace kept f → HasPlace more f
+place_stays : (kept more : CachedDetails) → AreDetailsMore kept more → (f : LazyFunction) → HasPlace kept f → HasPlace more f
 place_stays kept more grown f h = λ p e. (detail_stays kept more p grown (h p e)).1
 
 pub size_unread : (size : FunctionDetail → ℕ) (f : LazyFunction) → f.detail ≡ Unread → size_of size f ≡ 0
@@ -70,7 +70,7 @@ not_read : (f : LazyFunction) (p : FunctionDetail) → f.detail ≡ Unread → f
 not_read f p a b = let no : Unread ≡ Read p = sym a ∙ b in absurd cc
 
 -- before a detail is read
-pub runs_unread : (fs : List LazyFunction) (d : KeptDetails) → AllByRecursion IsUnread fs → d ≡ record { names = []; found = none_inlined } → AreRuns fs d
+pub runs_unread : (fs : List LazyFunction) (d : CachedDetails) → AllByRecursion IsUnread fs → d ≡ record { names = []; found = none_inlined } → AreRuns fs d
 runs_unread fs d all e =
     subst (AreRuns fs) (sym e) (record {
       places = all_weaker IsUnread (HasPlace (record { names = []; found = none_inlined })) (λ f u. λ p r. absurd (not_read f p u r)) fs all;
@@ -80,17 +80,17 @@ runs_unread fs d all e =
       ranges = sum_unread ranges_size fs all;
     })
 
-pub seen_unread : (d : KeptDetails) (fs : List LazyFunction) → AllByRecursion IsUnread fs → AllByRecursion (λ (f : CachedFunction). f.detail ≡ None) (map (seen_function d) fs)
+pub seen_unread : (d : CachedDetails) (fs : List LazyFunction) → AllByRecursion IsUnread fs → AllByRecursion (λ (f : CachedFunction). f.detail ≡ None) (map (seen_function d) fs)
 seen_unread d [] all = tt
 seen_unread d (f ∷ fs) all = (ap (seen_lazy d) all.0, seen_unread d fs all.1)
 
 -- a function of which nothing is cached isn't read
-unread_lazy : (d : KeptDetails) (x : LazyDetail) → seen_lazy d x ≡ None → x ≡ Unread
+unread_lazy : (d : CachedDetails) (x : LazyDetail) → seen_lazy d x ≡ None → x ≡ Unread
 unread_lazy d Unread e = refl
 unread_lazy d (Read p) e = absurd cc
 unread_lazy d (Faulty f) e = absurd cc
 
-pub unread_at : (d : KeptDetails) (fs : List LazyFunction) (n offset : ℕ) → slice_get (map (seen_function d) fs) n ≡ Some (record { offset = offset; detail = None }) → (f : LazyFunction) × (slice_get fs n ≡ Some f) × (f.dw_die_offset.0 ≡ offset) × (f.detail ≡ Unread)
+pub unread_at : (d : CachedDetails) (fs : List LazyFunction) (n offset : ℕ) → slice_get (map (seen_function d) fs) n ≡ Some (record { offset = offset; detail = None }) → (f : LazyFunction) × (slice_get fs n ≡ Some f) × (f.dw_die_offset.0 ≡ offset) × (f.detail ≡ Unread)
 unread_at d fs n offset e = by_cases (slice_get fs n) refl (sym (slice_get-map (seen_function d) fs n) ∙ e)
   where
     by_cases : (o : Option LazyFunction) → slice_get fs n ≡ o → option_map (seen_function d) o ≡ Some (record { offset = offset; detail = None }) → (f : LazyFunction) × (slice_get fs n ≡ Some f) × (f.dw_die_offset.0 ≡ offset) × (f.detail ≡ Unread)
@@ -100,7 +100,7 @@ unread_at d fs n offset e = by_cases (slice_get fs n) refl (sym (slice_get-map (
         (f, q, ap (λ (x : CachedFunction). x.offset) same, unread_lazy d f.detail (ap (λ (x : CachedFunction). x.detail) same))
 
 -- the functions as callers see them
-abbrev pub table_of : List LazyFunction → List FunctionAddress → KeptDetails → FunctionTable
+abbrev pub table_of : List LazyFunction → List FunctionAddress → CachedDetails → FunctionTable
 table_of fs addresses d = record {
   ranges = map (function_range_of (function_offsets fs)) addresses;
   functions = map (seen_function d) fs;
@@ -124,7 +124,7 @@ module _ (fs : List LazyFunction) (n : ℕ) (f y : LazyFunction) (at : slice_get
   ranges_stay addresses = ap (λ os. map (function_range_of os) addresses) offsets_stay
 
   -- one more detail, or a fault, is cached
-  module _ (addresses : List FunctionAddress) (kept more : KeptDetails) (h : AreCachedFunctions fs addresses kept) (unread : f.detail ≡ Unread) (grown : AreDetailsMore kept more) where
+  module _ (addresses : List FunctionAddress) (kept more : CachedDetails) (h : AreCachedFunctions fs addresses kept) (unread : f.detail ≡ Unread) (grown : AreDetailsMore kept more) where
     pub seen_set : map (seen_function more) (slice_set fs n y) ≡ slice_set (map (seen_function kept) fs) n (seen_function more y)
     seen_set = map-set (seen_function more) fs n y ∙ ap (λ xs. slice_set xs n (seen_function more y)) (all_seen_stay kept more grown fs h.runs.places)
 

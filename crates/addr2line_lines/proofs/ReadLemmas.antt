@@ -8,7 +8,8 @@ use Rattle.gimli_read.specs.Reading.{◌>>=◌, ExactlyUnlessOomIf}
 use Rattle.gimli.specs.Unit.{UnitRecord}
 use Rattle.addr2line_lines.specs.Details.{Detail, detail_at}
 use Rattle.addr2line_lines.specs.FoundDetails.{IsGrown}
-use Rattle.addr2line_lines.specs.FunctionTable.{AreCachedToFault, AreDetailsOf, AreUnread, CachedFunction, FunctionTable, HasDetail, IsCachedToFault, IsDetailOf, IsFunctionMore, IsReadAt, IsReadOf, IsReadOnce, IsTableMore, IsWithDetail, detail_fault, details_fault, details_take_memory, read_fault, cached_takes_memory}
+use Rattle.gimli_line.specs.Opcode.{fault_of}
+use Rattle.addr2line_lines.specs.FunctionTable.{AreCachedToFault, AreDetailsOf, AreUnread, CachedFunction, FunctionTable, HasDetail, IsCachedToFault, IsDetailOf, IsFunctionMore, IsReadAt, IsReadOf, IsReadOnce, IsTableMore, IsWithDetail, details_fault, details_take_memory, read_fault, cached_takes_memory}
 use Rattle.addr2line_lines.specs.References.{Scope}
 use Rattle.addr2line_lines.proofs.FunctionCacheLemmas.{no_more}
 use Rattle.addr2line_lines.proofs.FunctionLemmas.{or_first, or_second}
@@ -107,12 +108,12 @@ record IsStep (scope : Scope) (u : UnitRecord) (n : ℕ) (f : CachedFunction) (o
   pub now : CachedFunction
   pub has : HasDetail now
   pub functions : new.functions ≡ slice_set old.functions n now
-  pub well : IsDetailOf scope u f → detail_fault (detail_at scope u f.offset) ≡ Ok tt
+  pub well : IsDetailOf scope u f → fault_of (detail_at scope u f.offset) ≡ Ok tt
 
 read_step : (scope : Scope) (u : UnitRecord) (n : ℕ) (f : CachedFunction) (old new : FunctionTable) → slice_get old.functions n ≡ Some f → IsReadAt scope u n old (Ok tt) new → IsStep scope u n f old new
 read_step scope u n f old new q h = by_detail f.detail refl (subst (λ o. IsReadOf scope u n o old (Ok tt) new) q h)
   where
-    unfaulty : (r : Result Detail Error) → detail_fault r ≡ Ok tt → (d : Detail) × (r ≡ Ok d)
+    unfaulty : (r : Result Detail Error) → fault_of r ≡ Ok tt → (d : Detail) × (r ≡ Ok d)
     unfaulty (Ok d) e = (d, refl)
     unfaulty (Err e) k = absurd cc
 
@@ -129,17 +130,17 @@ read_step scope u n f old new q h = by_detail f.detail refl (subst (λ o. IsRead
       now = f;
       has = (d, e);
       functions = ap (λ (t : FunctionTable). t.functions) k.1 ∙ sym (set_same old.functions n f q);
-      well = λ right. ap detail_fault (right (Ok d) e);
+      well = λ right. ap fault_of (right (Ok d) e);
     }
     by_detail (Some (Err x)) e k = absurd cc
 
 -- what is cached of a function, where it is right, doesn't change whether its detail can be read
-fault_is : (scope : Scope) (u : UnitRecord) (f : CachedFunction) → IsDetailOf scope u f → read_fault scope u (Some f) ≡ detail_fault (detail_at scope u f.offset)
+fault_is : (scope : Scope) (u : UnitRecord) (f : CachedFunction) → IsDetailOf scope u f → read_fault scope u (Some f) ≡ fault_of (detail_at scope u f.offset)
 fault_is scope u f right = by_detail f.detail refl
   where
-    by_detail : (d : Option (Result Detail Error)) → f.detail ≡ d → read_fault scope u (Some (record { offset = f.offset; detail = d })) ≡ detail_fault (detail_at scope u f.offset)
+    by_detail : (d : Option (Result Detail Error)) → f.detail ≡ d → read_fault scope u (Some (record { offset = f.offset; detail = d })) ≡ fault_of (detail_at scope u f.offset)
     by_detail None e = refl
-    by_detail (Some d) e = ap detail_fault (sym (right d e))
+    by_detail (Some d) e = ap fault_of (sym (right d e))
 
 -- details that are all cached, or up to a fault
 pub all_to_fault : (fs : List CachedFunction) → AllByRecursion HasDetail fs → AreCachedToFault fs
@@ -199,7 +200,7 @@ before_set P (y ∷ xs) (suc n) x all = (all.0, before_set P xs n x all.1)
 fault_step : (scope : Scope) (u : UnitRecord) (n : ℕ) (f : CachedFunction) (old new : FunctionTable) (e : Error) → n < length old.functions → slice_get old.functions n ≡ Some f → e ≢ OutOfMemory → IsReadAt scope u n old (Err e) new → IsFault n e old new
 fault_step scope u n f old new e l at ne k = by_detail f.detail refl (subst (λ o. IsReadOf scope u n o old (Err e) new) at k)
   where
-    faulty : (r : Result Detail Error) → detail_fault r ≡ Err e → r ≡ Err e
+    faulty : (r : Result Detail Error) → fault_of r ≡ Err e → r ≡ Err e
     faulty (Ok d) q = absurd cc
     faulty (Err x) q = let same : x ≡ e = cc in ap Err same
 

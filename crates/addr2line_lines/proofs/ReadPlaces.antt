@@ -7,16 +7,17 @@ use Rattle.gimli.specs.Unit.{UnitRecord}
 use Rattle.addr2line_lines.specs.declared.functions.LazyFunction.{LazyFunction}
 use Rattle.addr2line_lines.specs.Details.{Detail}
 use Rattle.addr2line_lines.specs.FunctionCache.{seen_function, seen_lazy}
-use Rattle.addr2line_lines.specs.FunctionTable.{CachedFunction, FunctionTable, IsReadAt, IsReadOf, IsReadOnce, detail_fault, read_fault}
-use Rattle.addr2line_lines.specs.KeptDetails.{KeptDetails}
+use Rattle.gimli_line.specs.Opcode.{fault_of}
+use Rattle.addr2line_lines.specs.FunctionTable.{CachedFunction, FunctionTable, IsReadAt, IsReadOf, IsReadOnce, read_fault}
+use Rattle.addr2line_lines.specs.CachedDetails.{CachedDetails}
 use Rattle.addr2line_lines.specs.References.{Scope}
 
 -- past the last function there is none
-pub none_at : (d : KeptDetails) (fs : List LazyFunction) (n : ℕ) → length fs ≤ n → slice_get (map (seen_function d) fs) n ≡ None
+pub none_at : (d : CachedDetails) (fs : List LazyFunction) (n : ℕ) → length fs ≤ n → slice_get (map (seen_function d) fs) n ≡ None
 none_at d fs n l = slice_get-map (seen_function d) fs n ∙ ap (option_map (seen_function d)) (slice_get_past fs n l)
 
 -- a function of a place
-pub some_at : (d : KeptDetails) (fs : List LazyFunction) (n : ℕ) (f : LazyFunction) → slice_get fs n ≡ Some f → slice_get (map (seen_function d) fs) n ≡ Some (seen_function d f)
+pub some_at : (d : CachedDetails) (fs : List LazyFunction) (n : ℕ) (f : LazyFunction) → slice_get fs n ≡ Some f → slice_get (map (seen_function d) fs) n ≡ Some (seen_function d f)
 some_at d fs n f e = slice_get-map (seen_function d) fs n ∙ ap (option_map (seen_function d)) e
 
 module _ (scope : Scope) (u : UnitRecord) (n : ℕ) (t : FunctionTable) where
@@ -25,12 +26,12 @@ module _ (scope : Scope) (u : UnitRecord) (n : ℕ) (t : FunctionTable) where
   read_past e = subst (λ o. IsReadOf scope u n o t (Ok tt) t) (sym e) (refl, refl)
 
   -- what is cached is given again
-  pub read_again : (f : CachedFunction) (v : Result Detail Error) → slice_get t.functions n ≡ Some f → f.detail ≡ Some v → IsReadAt scope u n t (detail_fault v) t
-  read_again f v e h = subst (λ o. IsReadOf scope u n o t (detail_fault v) t) (sym e) (subst (λ w. IsReadOnce scope u n f w t (detail_fault v) t) (sym h) (refl, refl))
+  pub read_again : (f : CachedFunction) (v : Result Detail Error) → slice_get t.functions n ≡ Some f → f.detail ≡ Some v → IsReadAt scope u n t (fault_of v) t
+  read_again f v e h = subst (λ o. IsReadOf scope u n o t (fault_of v) t) (sym e) (subst (λ w. IsReadOnce scope u n f w t (fault_of v) t) (sym h) (refl, refl))
 
   -- and it is the fault that is told
-  pub fault_again : (f : CachedFunction) (v : Result Detail Error) → slice_get t.functions n ≡ Some f → f.detail ≡ Some v → read_fault scope u (slice_get t.functions n) ≡ detail_fault v
+  pub fault_again : (f : CachedFunction) (v : Result Detail Error) → slice_get t.functions n ≡ Some f → f.detail ≡ Some v → read_fault scope u (slice_get t.functions n) ≡ fault_of v
   fault_again f v e h = ap (read_fault scope u) e ∙ by_detail f.offset f.detail h
     where
-      by_detail : (offset : ℕ) (o : Option (Result Detail Error)) → o ≡ Some v → read_fault scope u (Some (record { offset = offset; detail = o })) ≡ detail_fault v
+      by_detail : (offset : ℕ) (o : Option (Result Detail Error)) → o ≡ Some v → read_fault scope u (Some (record { offset = offset; detail = o })) ≡ fault_of v
       by_detail offset o k = ap (λ w. read_fault scope u (Some (record { offset = offset; detail = w }))) k

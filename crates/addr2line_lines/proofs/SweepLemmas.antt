@@ -10,7 +10,7 @@ use Rattle.std.proofs.lemmas.List.Elements.{All-cons, All-tail, All-weaker, Cont
 use Rattle.std.proofs.lemmas.List.Sorted.{All-permutation, Contains-permutation, length_permutation}
 use Rattle.addr2line_lines.specs.declared.segments.FunctionAddress.{FunctionAddress}
 use Rattle.addr2line_lines.specs.Segments.{RunningRange, address_begin, address_holds, first_end, running_end, as_running, segment_to, AreApart, AreSegments, AreSegmentsBelow, IsSegment}
-use Rattle.addr2line_lines.specs.Sweep.{running_cmp, IsBegunFrom, IsGreatestFirst, IsRunning, IsSwept}
+use Rattle.addr2line_lines.specs.Sweep.{running_cmp, IsBegunFrom, IsGreatestFirst, IsRunningRange, IsSwept}
 use Rattle.addr2line_lines.proofs.SegmentLemmas.{has_first, has_later, first_or_later, from_inside, cut_more, segment_of}
 
 -- the walk goes on to an address
@@ -34,7 +34,7 @@ module _ (addresses : List FunctionAddress) (next at until : ℕ) (segments : Li
   later_runs running h l s cut = record {
     heap = h.heap;
     cut = cut;
-    only = All-weaker (IsRunning addresses at) (IsRunning addresses until) (λ o r. (let b = r.begun in record { address = r.address; listed = r.listed; begun = omega arith; is = r.is })) running h.only;
+    only = All-weaker (IsRunningRange addresses at) (IsRunningRange addresses until) (λ o r. (let b = r.begun in record { address = r.address; listed = r.listed; begun = omega arith; is = r.is })) running h.only;
     still = λ j d k m p low held. h.still j d k m p (omega arith) held;
   }
 
@@ -151,7 +151,7 @@ pub ended : (addresses : List FunctionAddress) (next at : ℕ) (running rest : L
 ended addresses next at running rest segments o h past moved heap = record {
   heap = heap;
   cut = h.cut;
-  only = All-tail (IsRunning addresses at) o rest (All-permutation (IsRunning addresses at) running (o ∷ rest) moved h.only);
+  only = All-tail (IsRunningRange addresses at) o rest (All-permutation (IsRunningRange addresses at) running (o ∷ rest) moved h.only);
   still = λ j d k m p low held. other (slice_index_or addresses j d) p low held (first_or_later rest o (as_running (slice_index_or addresses j d)) (Contains-permutation running (o ∷ rest) (as_running (slice_index_or addresses j d)) moved (h.still j d k m p low held)));
 }
   where
@@ -167,7 +167,7 @@ pub entered : (addresses : List FunctionAddress) (next at : ℕ) (running more :
 entered addresses next at running more segments a d inside_it is h begun moved heap = record {
   heap = heap;
   cut = h.cut;
-  only = All-permutation (IsRunning addresses at) (as_running a ∷ running) more moved (All-cons (IsRunning addresses at) (as_running a) running
+  only = All-permutation (IsRunningRange addresses at) (as_running a ∷ running) more moved (All-cons (IsRunningRange addresses at) (as_running a) running
       (record { address = a; listed = subst (Contains addresses) is (Contains-get_or addresses next d inside_it); begun = begun; is = refl }) h.only);
   still = λ j e k m p low held. Contains-permutation (as_running a ∷ running) more (as_running (slice_index_or addresses j e)) moved (by_place j e k m p low held (nat_lt j next) refl);
 }

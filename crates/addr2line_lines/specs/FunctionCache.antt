@@ -12,16 +12,16 @@ use Rattle.addr2line_lines.specs.declared.functions.LazyFunction.{LazyFunction}
 use Rattle.addr2line_lines.specs.Details.{Detail}
 use Rattle.addr2line_lines.specs.FoundFunctions.{AreFunctions, function_offsets}
 use Rattle.addr2line_lines.specs.FunctionTable.{CachedFunction}
-use Rattle.addr2line_lines.specs.KeptDetails.{IsDetailPlace, KeptDetails, detail_of}
+use Rattle.addr2line_lines.specs.CachedDetails.{IsDetailPlace, CachedDetails, detail_of}
 
 -- what is cached of a function
-abbrev pub seen_lazy : KeptDetails → LazyDetail → Option (Result Detail Error)
+abbrev pub seen_lazy : CachedDetails → LazyDetail → Option (Result Detail Error)
 seen_lazy d Unread = None
 seen_lazy d (Read p) = Some (Ok (detail_of d p))
 seen_lazy d (Faulty e) = Some (Err e)
 
 -- a function
-abbrev pub seen_function : KeptDetails → LazyFunction → CachedFunction
+abbrev pub seen_function : CachedDetails → LazyFunction → CachedFunction
 seen_function d f =
     record { offset = f.dw_die_offset.0; detail = seen_lazy d f.detail }
 
@@ -37,7 +37,7 @@ read_at functions n =
     option_and_then (λ (f : LazyFunction). place_read f.detail) (slice_get functions n)
 
 -- a place of a detail that was read is one in the lists
-abbrev pub HasPlace : KeptDetails → LazyFunction → Type 0
+abbrev pub HasPlace : CachedDetails → LazyFunction → Type 0
 HasPlace d f = (p : FunctionDetail) → f.detail ≡ Read p → IsDetailPlace d p
 
 -- two runs of which neither has an element of the other
@@ -67,7 +67,7 @@ abbrev pub ranges_size : FunctionDetail → ℕ
 ranges_size p = p.ranges_end - p.ranges_begin
 
 -- the details that were read stand in the lists without overlap, and cover them
-pub record AreRuns (functions : List LazyFunction) (d : KeptDetails) : Type 0 where
+pub record AreRuns (functions : List LazyFunction) (d : CachedDetails) : Type 0 where
   pub places : AllByRecursion (HasPlace d) functions
   pub apart : (i j : ℕ) → (f g : LazyFunction) → (p q : FunctionDetail) → i ≢ j
       → slice_get functions i ≡ Some f → slice_get functions j ≡ Some g
@@ -78,6 +78,6 @@ pub record AreRuns (functions : List LazyFunction) (d : KeptDetails) : Type 0 wh
 
 -- functions in the order of their entries, the ranges by their places, and the details in the lists
 pub record AreCachedFunctions (functions : List LazyFunction) (addresses : List FunctionAddress)
-    (d : KeptDetails) : Type 0 where
+    (d : CachedDetails) : Type 0 where
   pub in_order : AreFunctions (function_offsets functions) addresses
   pub runs : AreRuns functions d

@@ -12,6 +12,7 @@ use Rattle.addr2line_lines.specs.Details.{Detail, InlinedEntry, InlinedRange, de
 use Rattle.addr2line_lines.specs.FoundDetails.{IsGrown}
 use Rattle.addr2line_lines.specs.Functions.{FunctionRange, entries_of, function_offset_at}
 use Rattle.addr2line_lines.specs.References.{Scope}
+use Rattle.gimli_line.specs.Opcode.{fault_of}
 
 -- a function: where its entry begins, in bytes from the start of the unit's length, and its detail
 -- or the fault of that, none before it is read
@@ -63,10 +64,6 @@ cached_name t n = option_and_then name_of_detail (cached_detail t n)
 abbrev pub cached_inlined : FunctionTable → ℕ → List InlinedRange
 cached_inlined t n = elim (cached_detail t n) [ None ↦ [] | Some d ↦ inlined_of_detail d ]
 
--- whether a detail can be read
-abbrev pub detail_fault : Result Detail Error → Result (Unit {0}) Error
-detail_fault detail = detail >>= λ _. Ok tt
-
 -- the detail of the function of a place is cached too, and nothing else changes, but that more
 -- inlined entries stand after those before
 pub record IsWithDetail (n : ℕ) (f : CachedFunction) (detail : Result Detail Error)
@@ -81,16 +78,16 @@ pub record IsWithDetail (n : ℕ) (f : CachedFunction) (detail : Result Detail E
 abbrev pub IsCachedThen : ℕ → CachedFunction → Result Detail Error → FunctionTable
     → Result (Unit {0}) Error → FunctionTable → Type 0
 IsCachedThen n f detail old (Ok x) new =
-    (detail_fault detail ≡ Ok x) × IsWithDetail n f detail old new
+    (fault_of detail ≡ Ok x) × IsWithDetail n f detail old new
 IsCachedThen n f detail old (Err e) new =
-    (e ≢ OutOfMemory → (detail_fault detail ≡ Err e) × IsWithDetail n f detail old new)
+    (e ≢ OutOfMemory → (fault_of detail ≡ Err e) × IsWithDetail n f detail old new)
     × (e ≡ OutOfMemory → new ≡ old)
 
 -- an answer, and the table then, by what is cached of the function: a cached detail, or its fault,
 -- is the answer, and nothing changes
 abbrev pub IsReadOnce : Scope → UnitRecord → ℕ → CachedFunction → Option (Result Detail Error)
     → FunctionTable → Result (Unit {0}) Error → FunctionTable → Type 0
-IsReadOnce scope u n f (Some detail) old result new = (result ≡ detail_fault detail) × (new ≡ old)
+IsReadOnce scope u n f (Some detail) old result new = (result ≡ fault_of detail) × (new ≡ old)
 IsReadOnce scope u n f None old result new =
     IsCachedThen n f (detail_at scope u f.offset) old result new
 
@@ -105,7 +102,7 @@ cached_takes_memory shares scope u (Some f) =
 abbrev pub read_fault : Scope → UnitRecord → Option CachedFunction → Result (Unit {0}) Error
 read_fault scope u None = Ok tt
 read_fault scope u (Some f) =
-    elim f.detail [ None ↦ detail_fault (detail_at scope u f.offset) | Some d ↦ detail_fault d ]
+    elim f.detail [ None ↦ fault_of (detail_at scope u f.offset) | Some d ↦ fault_of d ]
 
 -- the same of the function of a place, by the function; past the last one nothing is read
 abbrev pub IsReadOf : Scope → UnitRecord → ℕ → Option CachedFunction → FunctionTable
@@ -147,7 +144,7 @@ ReadKeepsDetails = (scope : Scope) (u : UnitRecord) (n : ℕ) (old new : Functio
 abbrev pub details_fault : Scope → UnitRecord → List CachedFunction → Result (Unit {0}) Error
 details_fault scope u [] = Ok tt
 details_fault scope u (f ∷ functions) =
-    detail_fault (detail_at scope u f.offset) >>= λ _. details_fault scope u functions
+    fault_of (detail_at scope u f.offset) >>= λ _. details_fault scope u functions
 
 -- whether memory may be taken for the details of functions, in their order: for that of the first,
 -- or for those after it where that of the first can be read

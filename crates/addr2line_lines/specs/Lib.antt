@@ -35,6 +35,6 @@ pub mod FoundNames
 pub mod NameChains
 pub mod FoundDetails
 pub mod FoundRanges
-pub mod KeptDetails
+pub mod CachedDetails
 pub mod FunctionTable
 pub mod FunctionCache

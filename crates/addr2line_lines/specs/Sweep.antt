@@ -26,7 +26,7 @@ IsBegunFrom addresses next at = (j : ℕ) (d : FunctionAddress) → next ≤ j �
     → at ≤ (slice_index_or addresses j d).range.begin
 
 -- a running range is one of the ranges, and has begun
-pub record IsRunning (addresses : List FunctionAddress) (at : ℕ) (running : RunningRange)
+pub record IsRunningRange (addresses : List FunctionAddress) (at : ℕ) (running : RunningRange)
     : Type 0 where
   pub address : FunctionAddress
   pub listed : Contains addresses address
@@ -39,7 +39,7 @@ pub record IsSwept (addresses : List FunctionAddress) (next at : ℕ) (running :
     (segments : List FunctionAddress) : Type 0 where
   pub heap : IsHeap running_cmp running
   pub cut : AreSegmentsBelow addresses segments at
-  pub only : All (IsRunning addresses at) running
+  pub only : All (IsRunningRange addresses at) running
   pub still : (j : ℕ) (d : FunctionAddress) → j < next → j < length addresses
       → (probe : ℕ) → at ≤ probe → address_holds probe (slice_index_or addresses j d) ≡ true
       → Contains running (as_running (slice_index_or addresses j d))

@@ -217,7 +217,7 @@ impl<R: Reader> Model for Functions<R> {
     ghost use Rattle.addr2line_lines.specs.FunctionCache.{AreCachedFunctions, seen_function};
     ghost use Rattle.addr2line_lines.specs.FunctionCache.{read_at};
     ghost use Rattle.addr2line_lines.specs.FunctionTable.{FunctionTable};
-    ghost use Rattle.addr2line_lines.specs.KeptDetails.{seen_details};
+    ghost use Rattle.addr2line_lines.specs.CachedDetails.{seen_details};
 
     ghost Value = { FunctionTable };
 

@@ -1,4 +1,4 @@
--- Answers to the loads of units, and what is kept of their entries (on specs/KeptEntries.antt).
+-- Answers to the loads of units, and what is kept of their entries (on specs/CachedEntries.antt).
 use Rattle.std.proofs.Common.{◌≡◌, ◌≢◌, ℕ, zero, suc, ◌<◌, Bool, true, false, List, [], ◌∷◌, length, get_or, slice_get, arith, subst, Option, Some, None, Result, Ok, Err, ap, refl, sym, ◌∙◌}
 use Rattle.std.proofs.Math.ListN.{set}
 use Rattle.std.proofs.lemmas.List.{set-get_or}
@@ -15,12 +15,12 @@ use Rattle.addr2line_units.specs.declared.view.UnitView.{UnitView}
 use Rattle.addr2line_units.specs.declared.view.ViewState.{ViewState}
 use Rattle.addr2line_units.specs.declared.view.ViewState.TheVariants as states
 use Rattle.addr2line_units.specs.FramesLookup.{answer_of, with_answer}
-use Rattle.addr2line_units.specs.KeptEntries.{AreEntriesOf, StayEntries, kept_answer}
-use Rattle.addr2line_units.specs.KeptFunctions.{AreFunctionsOf, were_read}
-use Rattle.addr2line_units.specs.KeptLookups.{StayAllEntries, answers_in, decided_at}
-use Rattle.addr2line_units.specs.KeptViews.{IsViewOf, is_decided, seen_first_answer, verdict_in, waits, was_looked_at}
+use Rattle.addr2line_units.specs.CachedEntries.{AreEntriesOf, StayEntries, kept_answer}
+use Rattle.addr2line_units.specs.CachedFunctions.{AreFunctionsOf, were_read}
+use Rattle.addr2line_units.specs.CachedLookups.{StayAllEntries, answers_in, decided_at}
+use Rattle.addr2line_units.specs.CachedViews.{IsViewOf, is_decided, seen_first_answer, verdict_in, waits, was_looked_at}
 use Rattle.addr2line_units.specs.Views.{View, decided_answer, is_open, verdict, view_scope}
-use Rattle.addr2line_units.proofs.KeptLookupLemmas.{stay_entries_set}
+use Rattle.addr2line_units.proofs.CachedLookupLemmas.{stay_entries_set}
 
 -- what waits isn't decided
 pub waiting_is_undecided : {R : Type 0} (s : ViewState R) → waits s ≡ true → is_decided s ≡ false

@@ -1,4 +1,4 @@
--- The view of a unit that is known (on specs/KeptLookups.antt and specs/FramesLookup.antt).
+-- The view of a unit that is known (on specs/CachedLookups.antt and specs/FramesLookup.antt).
 use Rattle.std.proofs.Common.{◌≡◌, ℕ, zero, suc, ◌<◌, arith, get_or, Bool, true, false, List, [], ◌∷◌, length, slice_get, Option, Some, None, option_and_then, option_map, unwrap_or, is_some, Result, Ok, Err, ap, refl, sym, subst, ◌∙◌}
 use Rattle.std.specs.Prelude.{IfSome}
 use Rattle.std.specs.Result.{result_ok}
@@ -10,12 +10,12 @@ use Rattle.addr2line_units.specs.declared.unit_frames.UnitEntries.{UnitEntries}
 use Rattle.addr2line_units.specs.declared.view.ViewState.{ViewState}
 use Rattle.addr2line_units.specs.declared.view.ViewState.TheVariants as states
 use Rattle.addr2line_units.specs.FramesLookup.{answer_of, readable_view, view_of_number}
-use Rattle.addr2line_units.specs.KeptEntries.{kept_answer}
-use Rattle.addr2line_units.specs.KeptLookups.{HaveViewsOf, answers_in, decided_at}
-use Rattle.addr2line_units.specs.KeptViews.{IsViewOf, is_decided, kept_verdict, parts_or_fault, seen_first_answer}
+use Rattle.addr2line_units.specs.CachedEntries.{kept_answer}
+use Rattle.addr2line_units.specs.CachedLookups.{HaveViewsOf, answers_in, decided_at}
+use Rattle.addr2line_units.specs.CachedViews.{IsViewOf, is_decided, cached_verdict, parts_or_fault, seen_first_answer}
 use Rattle.addr2line_units.specs.Views.{View, parts_of, verdict}
 use Rattle.addr2line_units.proofs.AnswerLemmas.{got_unit}
-use Rattle.addr2line_units.proofs.KeptLookupLemmas.{answer_at}
+use Rattle.addr2line_units.proofs.CachedLookupLemmas.{answer_at}
 
 -- the number of a unit whose view is known is one of a unit
 pub decided_within : {R : Type 0} → (vs : List (UnitEntries R)) (n : ℕ) → decided_at vs n ≡ true → n < length vs
@@ -36,7 +36,7 @@ decided_view d (x ∷ us) (y ∷ vs) (suc n) u v own w e f = decided_view d us v
 pub decided_has_verdict : {R : Type 0} → (d : Sections) (u : UnitRecord) (v : UnitEntries R) → IsViewOf d u v.view → is_decided v.view.state ≡ true → is_some (verdict d u (kept_answer v)) ≡ true
 decided_has_verdict {R} d u v is decided = by v.view.state (verdict d u (kept_answer v)) decided is.right
   where
-    by : (s : ViewState R) (w : Option (Result View Error)) → is_decided s ≡ true → IfSome (kept_verdict d u (record { state = s })) (λ kept. kept ≡ w) → is_some w ≡ true
+    by : (s : ViewState R) (w : Option (Result View Error)) → is_decided s ≡ true → IfSome (cached_verdict d u (record { state = s })) (λ kept. kept ≡ w) → is_some w ≡ true
     by states.Undecided w k e = absurd cc
     by states.Open w k e = absurd cc
     by states.Main w k e = ap is_some (sym e)

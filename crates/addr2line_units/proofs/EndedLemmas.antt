@@ -1,5 +1,5 @@
 -- A lookup of frames among units whose views are known waits for none (on
--- specs/FramesLookup.antt and specs/KeptLookups.antt).
+-- specs/FramesLookup.antt and specs/CachedLookups.antt).
 use Rattle.std.proofs.Common.{◌≡◌, ◌≢◌, ℕ, zero, suc, Bool, true, false, List, [], ◌∷◌, Option, Some, None, is_some, Result, Ok, Err, refl, ◌∙◌}
 use Rattle.std.specs.Prelude.{is_none}
 use Rattle.gimli_read.specs.declared.error.Error.{Error}
@@ -13,8 +13,8 @@ use Rattle.addr2line_units.specs.declared.unit_frames.UnitEntries.{UnitEntries}
 use Rattle.addr2line_units.specs.CachedLines.{indexed_units}
 use Rattle.addr2line_units.specs.Frames.{FrameRecord}
 use Rattle.addr2line_units.specs.FramesLookup.{Stop, asked_frames, frames_of_number, is_waiting, or_stop, stop_along}
-use Rattle.addr2line_units.specs.KeptEntries.{kept_answer}
-use Rattle.addr2line_units.specs.KeptLookups.{HaveEntriesOf, answers_in, decided_along, decided_at}
+use Rattle.addr2line_units.specs.CachedEntries.{kept_answer}
+use Rattle.addr2line_units.specs.CachedLookups.{HaveEntriesOf, answers_in, decided_along, decided_at}
 use Rattle.addr2line_units.specs.Views.{View, verdict}
 use Rattle.addr2line_units.proofs.DecidedLemmas.{decided_has_verdict}
 use Rattle.addr2line_units.proofs.WaitLemmas.{and_first, and_second, open_of_none, told_by_unit}

@@ -1,4 +1,4 @@
--- What is kept of the entries of a unit (on specs/KeptEntries.antt and specs/UnitFrames.antt).
+-- What is kept of the entries of a unit (on specs/CachedEntries.antt and specs/UnitFrames.antt).
 use Rattle.std.proofs.Common.{◌≡◌, ◌≢◌, ◌∙◌, ℕ, ap, sym, refl, subst, Bool, true, false, Option, Some, None, IfErr, IfOk, IfSome, is_none, Result, Ok, Err}
 use Rattle.gimli_read.specs.declared.error.Error.{Error}
 use Rattle.gimli_read.specs.declared.error.Error.TheVariants.{OutOfMemory}
@@ -14,9 +14,9 @@ use Rattle.addr2line_units.specs.declared.view.UnitView.{UnitView}
 use Rattle.addr2line_units.specs.declared.view.ViewState.{ViewState}
 use Rattle.addr2line_units.specs.declared.view.ViewState.TheVariants as states
 use Rattle.addr2line_units.specs.Frames.{function_at}
-use Rattle.addr2line_units.specs.KeptEntries.{AreEntriesOf, StayEntries, has_answered, has_entries_by, kept_answer}
-use Rattle.addr2line_units.specs.KeptFunctions.{AreFunctionsOf, StayFunctions, kept_has_function, is_kept, were_read}
-use Rattle.addr2line_units.specs.KeptViews.{IsViewOf, answer_in, is_decided, parts_or_fault, seen_first_answer, seen_sections, verdict_in, view_by, waits, was_looked_at}
+use Rattle.addr2line_units.specs.CachedEntries.{AreEntriesOf, StayEntries, has_answered, has_entries_by, kept_answer}
+use Rattle.addr2line_units.specs.CachedFunctions.{AreFunctionsOf, StayFunctions, cached_has_function, is_kept, were_read}
+use Rattle.addr2line_units.specs.CachedViews.{IsViewOf, answer_in, is_decided, parts_or_fault, seen_first_answer, seen_sections, verdict_in, view_by, waits, was_looked_at}
 use Rattle.addr2line_units.specs.UnitFrames.{function_by, function_in, has_many, is_many}
 use Rattle.addr2line_units.specs.Views.{View, is_open, parts_of, verdict, view_scope}
 
@@ -151,16 +151,16 @@ module _ {R : Type 0} (scope : Scope) (u : UnitRecord) (probe : ℕ) (old : Unit
     }
 
     -- what is known of the unit is what is known of the function
-    pub function_entries : (fs : LazyFunctions R) → has_entries_by probe old.view.state fs ≡ kept_has_function probe fs
+    pub function_entries : (fs : LazyFunctions R) → has_entries_by probe old.view.state fs ≡ cached_has_function probe fs
     function_entries fs = by_kept old.view.state decided h.view.right
       where
-        by_kept : (s : ViewState R) → is_decided s ≡ true → IfSome (verdict_in scope.file.sections u s) (λ kept. kept ≡ here) → has_entries_by probe s fs ≡ kept_has_function probe fs
+        by_kept : (s : ViewState R) → is_decided s ≡ true → IfSome (verdict_in scope.file.sections u s) (λ kept. kept ≡ here) → has_entries_by probe s fs ≡ cached_has_function probe fs
         by_kept states.Undecided d k = cc
         by_kept states.Open d k = cc
         by_kept states.Main d k = refl
         by_kept (states.Unnamed y) d k = let no = k ∙ v.is in absurd cc
         by_kept (states.Answered a) d k = by_unit a.unit (k ∙ v.is)
           where
-            by_unit : (r : Result (Option UnitRecord) Error) → Some (r >>= λ y. Ok (view_by scope.file.sections u (seen_sections a) y)) ≡ Some (Ok v.view) → has_answered probe r fs ≡ kept_has_function probe fs
+            by_unit : (r : Result (Option UnitRecord) Error) → Some (r >>= λ y. Ok (view_by scope.file.sections u (seen_sections a) y)) ≡ Some (Ok v.view) → has_answered probe r fs ≡ cached_has_function probe fs
             by_unit (Ok y) k = refl
             by_unit (Err y) k = absurd cc

@@ -1,5 +1,5 @@
 -- The unit in which a lookup of frames has found something (on specs/FramesLookup.antt and
--- specs/KeptLookups.antt).
+-- specs/CachedLookups.antt).
 use Rattle.std.proofs.Common.{◌≡◌, ℕ, zero, suc, Bool, true, false, ◌&&◌, ◌||◌, List, [], ◌∷◌, Option, Some, None, Result, Ok, Err, ap, refl, sym, subst, ◌∙◌}
 use Rattle.std.specs.Prelude.{if◌then◌else◌}
 use Rattle.gimli_read.specs.declared.error.Error.{Error}
@@ -17,9 +17,9 @@ use Rattle.addr2line_units.specs.declared.view.ViewState.TheVariants as states
 use Rattle.addr2line_units.specs.CachedLines.{indexed_units}
 use Rattle.addr2line_units.specs.Frames.{FrameRecord}
 use Rattle.addr2line_units.specs.FramesLookup.{Stop, Waits, Finds, FindsNothing, after_fault, asked_frames, ends_lookup, frames_of_number, holds_along, or_stop, stop_along}
-use Rattle.addr2line_units.specs.KeptEntries.{kept_answer}
-use Rattle.addr2line_units.specs.KeptLookups.{HaveEntriesOf, answers_in, decided_at, has_entries_at, has_frames_at}
-use Rattle.addr2line_units.specs.KeptViews.{is_decided, waits, was_looked_at}
+use Rattle.addr2line_units.specs.CachedEntries.{kept_answer}
+use Rattle.addr2line_units.specs.CachedLookups.{HaveEntriesOf, answers_in, decided_at, has_entries_at, has_frames_at}
+use Rattle.addr2line_units.specs.CachedViews.{is_decided, waits, was_looked_at}
 use Rattle.addr2line_units.specs.UnitFrames.{frames_by, frames_in, function_in}
 use Rattle.addr2line_units.specs.UnitIndex.{IndexedUnit}
 use Rattle.addr2line_units.specs.Views.{is_open}

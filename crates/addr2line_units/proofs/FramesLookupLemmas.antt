@@ -1,4 +1,4 @@
--- Lookups of frames along ranges (on specs/FramesLookup.antt and specs/KeptLookups.antt).
+-- Lookups of frames along ranges (on specs/FramesLookup.antt and specs/CachedLookups.antt).
 use Rattle.std.proofs.Common.{◌≡◌, ◌≢◌, ℕ, suc, zero, ◌<◌, ◌≤◌, ◌⊎◌, inl, inr, Bool, true, false, ◌&&◌, ◌||◌, not, List, [], ◌∷◌, length, get_or, slice_get, Option, Some, None, option_map, Result, Ok, Err, refl, ap, sym, subst, ◌∙◌, arith, reverse}
 use Rattle.std.proofs.Math.ListN.{set}
 use Rattle.std.specs.Prelude.{IfOk, IfSome}
@@ -24,8 +24,9 @@ use Rattle.addr2line_units.specs.declared.unit_frames.UnitFrames.TheVariants as 
 use Rattle.addr2line_units.specs.CachedLines.{cached_files, lines_at}
 use Rattle.addr2line_units.specs.Frames.{FrameRecord, found_frames, frames_from}
 use Rattle.addr2line_units.specs.FramesLookup.{Stop, Waits, Finds, FindsNothing, LookupAsks, after_fault, ends_lookup, holds_along, or_stop, stop_along}
-use Rattle.addr2line_units.specs.KeptLookups.{AreFoundAt, IsStopIn, found_after_fault, frames_found_at, has_entries_at, has_frames_at, seen_stop, stop_of_found}
-use Rattle.addr2line_units.specs.Parsed.{IsNotOom, ParsesOnly, StaysParsed, has_parsed}
+use Rattle.addr2line_units.specs.CachedLookups.{AreFoundAt, IsStopIn, found_after_fault, frames_found_at, has_entries_at, has_frames_at, seen_stop, stop_of_found}
+use Rattle.gimli_read.specs.Alike.{HadMemory}
+use Rattle.addr2line_units.specs.Parsed.{ParsesOnly, StaysParsed, has_parsed}
 
 -- a fault that a lookup passes over
 module _ (faults : Faults) where
@@ -43,27 +44,27 @@ module _ (faults : Faults) where
       of_faults PassOver (Ok x) h = ap (after_fault PassOver) h
       of_faults PassOver (Err e) h = passed e h
 
-  pub oom_before : (r : Result UnitFrames Error) → IsNotOom (found_after_fault faults r) → IsNotOom r
+  pub oom_before : (r : Result UnitFrames Error) → HadMemory (found_after_fault faults r) → HadMemory r
   oom_before r h = of_faults faults r h
     where
-      passed : (e : Error) → IsNotOom (found_after_fault PassOver (Err e)) → e ≢ OutOfMemory
+      passed : (e : Error) → HadMemory (found_after_fault PassOver (Err e)) → e ≢ OutOfMemory
       passed OutOfMemory h = h
       passed _ h = λ q. absurd cc
 
-      of_faults : (f : Faults) (r : Result UnitFrames Error) → IsNotOom (found_after_fault f r) → IsNotOom r
+      of_faults : (f : Faults) (r : Result UnitFrames Error) → HadMemory (found_after_fault f r) → HadMemory r
       of_faults End (Ok x) h = tt
       of_faults End (Err e) h = h
       of_faults PassOver (Ok x) h = tt
       of_faults PassOver (Err e) h = passed e h
 
-  pub oom_after : (r : Result UnitFrames Error) → IsNotOom r → IsNotOom (found_after_fault faults r)
+  pub oom_after : (r : Result UnitFrames Error) → HadMemory r → HadMemory (found_after_fault faults r)
   oom_after r h = of_faults faults r h
     where
-      passed : (e : Error) → e ≢ OutOfMemory → IsNotOom (found_after_fault PassOver (Err e))
+      passed : (e : Error) → e ≢ OutOfMemory → HadMemory (found_after_fault PassOver (Err e))
       passed OutOfMemory h = h
       passed _ h = tt
 
-      of_faults : (f : Faults) (r : Result UnitFrames Error) → IsNotOom r → IsNotOom (found_after_fault f r)
+      of_faults : (f : Faults) (r : Result UnitFrames Error) → HadMemory r → HadMemory (found_after_fault f r)
       of_faults End (Ok x) h = tt
       of_faults End (Err e) h = h
       of_faults PassOver (Ok x) h = tt

@@ -8,10 +8,10 @@ use Rattle.addr2line_units.specs.declared.functions.LazyFunctions.TheVariants as
 use Rattle.addr2line_units.specs.declared.unit_frames.UnitEntries.{UnitEntries}
 use Rattle.addr2line_units.specs.declared.view.ViewState.{ViewState}
 use Rattle.addr2line_units.specs.declared.view.ViewState.TheVariants as states
-use Rattle.addr2line_units.specs.KeptEntries.{has_answered, has_entries, has_entries_by}
-use Rattle.addr2line_units.specs.KeptFunctions.{kept_has_function, is_kept}
-use Rattle.addr2line_units.specs.KeptLookups.{AreFreshOf, has_entries_at}
-use Rattle.addr2line_units.specs.KeptViews.{was_looked_at}
+use Rattle.addr2line_units.specs.CachedEntries.{has_answered, has_entries, has_entries_by}
+use Rattle.addr2line_units.specs.CachedFunctions.{cached_has_function, is_kept}
+use Rattle.addr2line_units.specs.CachedLookups.{AreFreshOf, has_entries_at}
+use Rattle.addr2line_units.specs.CachedViews.{was_looked_at}
 use Rattle.addr2line_units.specs.KnownEntries.{AllKnown, KnownEntries, NothingKnown, is_known_at, known_answer, known_by, known_fault, known_functions, known_in, knows_at}
 
 fault_known : (probe : ℕ) (e : Error) → is_known_at probe (known_fault e) ≡ is_kept e
@@ -22,7 +22,7 @@ fault_known probe e = by (is_kept e)
     by false = refl
 
 module _ {R : Type 0} (probe : ℕ) where
-  functions_known : (f : LazyFunctions R) → is_known_at probe (known_functions f) ≡ kept_has_function probe f
+  functions_known : (f : LazyFunctions R) → is_known_at probe (known_functions f) ≡ cached_has_function probe f
   functions_known lazy.Unread = refl
   functions_known (lazy.Read t) = refl
   functions_known (lazy.Faulty e) = fault_known probe e

@@ -11,8 +11,8 @@ pub mod UnitLemmas
 pub mod IndexLemmas
 pub mod LeastBeginLemmas
 pub mod FrameLemmas
-pub mod KeptFunctionLemmas
-pub mod KeptPlaceLemmas
+pub mod CachedFunctionLemmas
+pub mod CachedPlaceLemmas
 pub mod EntryLemmas
 pub mod UnitFrameLemmas
 pub mod ViewLemmas
@@ -23,9 +23,9 @@ pub mod FoundLemmas
 pub mod DecidedLemmas
 pub mod EndedLemmas
 pub mod KnownLemmas
-pub mod KeptLookupLemmas
+pub mod CachedLookupLemmas
 pub mod ParseLemmas
-pub mod KeptParseLemmas
+pub mod CachedParseLemmas
 pub mod ReadyLemmas
 pub mod ReachedLemmas
 pub mod NumberedFrames

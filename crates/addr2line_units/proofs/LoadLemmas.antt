@@ -15,9 +15,9 @@ use Rattle.gimli.specs.Unit.{UnitRecord}
 use Rattle.addr2line_units.specs.declared.index.UnitRange.{UnitRange}
 use Rattle.addr2line_units.specs.declared.unit_frames.UnitEntries.{UnitEntries}
 use Rattle.addr2line_units.specs.FramesLookup.{answer_of, with_answer}
-use Rattle.addr2line_units.specs.KeptEntries.{kept_answer}
-use Rattle.addr2line_units.specs.KeptLookups.{StayAllEntries, answers_in, decided_at}
-use Rattle.addr2line_units.specs.KeptViews.{is_decided, parts_or_fault}
+use Rattle.addr2line_units.specs.CachedEntries.{kept_answer}
+use Rattle.addr2line_units.specs.CachedLookups.{StayAllEntries, answers_in, decided_at}
+use Rattle.addr2line_units.specs.CachedViews.{is_decided, parts_or_fault}
 use Rattle.addr2line_units.specs.ListedLoads.{MarksLoad, MarksUnit, if_new, is_marked, is_new}
 use Rattle.addr2line_units.specs.Loads.{before_others, forget_result, is_of_other, load_of_number, load_result, loads_along, unit_of_token, view_fault}
 use Rattle.addr2line_units.specs.Views.{SplitLoad, View, awaited_by, awaited_load, decided_answer, is_open, load_by, load_of_unit, split_name_of, verdict, verdict_by}

@@ -22,12 +22,13 @@ use Rattle.addr2line_units.specs.Frames.{FoundFunction, FrameRecord, found_frame
 use Rattle.addr2line_units.specs.FramesLookup.{after_fault, asked_frames, frames_of_number, or_stop, stop_along}
 use Rattle.addr2line_units.specs.FunctionParseLaws.{IsReached}
 use Rattle.addr2line_units.specs.FunctionParses.{answers_after_parse, read_of_unit, read_of_units, read_of_view, unless_fault}
-use Rattle.addr2line_units.specs.KeptFunctions.{details_at, functions_fault}
-use Rattle.addr2line_units.specs.Located.{all_lines, lines_fault, lines_of_unit}
+use Rattle.addr2line_units.specs.CachedFunctions.{details_at, functions_fault}
+use Rattle.gimli_line.specs.Opcode.{fault_of}
+use Rattle.addr2line_units.specs.Located.{all_lines, lines_of_unit}
 use Rattle.addr2line_units.specs.UnitFrames.{frames_by, frames_in, function_by, function_in}
 use Rattle.addr2line_units.specs.UnitIndex.{IndexedUnit, unit_records}
 use Rattle.addr2line_units.specs.Views.{View, decided_answer, is_open, verdict, view_scope}
-use Rattle.addr2line_units.proofs.KeptFunctionLemmas.{function_is}
+use Rattle.addr2line_units.proofs.CachedFunctionLemmas.{function_is}
 use Rattle.addr2line_units.proofs.ParseLemmas.{decided_verdict}
 
 -- where the entry of a range begins is among those of all
@@ -72,17 +73,17 @@ module _ (scope : Scope) (view : UnitRecord) where
       by_functions (Err x) q e = absurd cc
 
 -- where no lines have a fault those of each unit can be read
-lines_first : (d : Sections) (u : IndexedUnit) (us : List IndexedUnit) → lines_fault (all_lines d (u ∷ us)) ≡ Ok tt → ((table : LineTable) × (unit_lines d u.unit ≡ Ok table)) × (lines_fault (all_lines d us) ≡ Ok tt)
+lines_first : (d : Sections) (u : IndexedUnit) (us : List IndexedUnit) → fault_of (all_lines d (u ∷ us)) ≡ Ok tt → ((table : LineTable) × (unit_lines d u.unit ≡ Ok table)) × (fault_of (all_lines d us) ≡ Ok tt)
 lines_first d u us e = by_lines (lines_of_unit d u) refl (map (lines_of_unit d) us) e
   where
-    by_rest : (x : LineTable) (r : Result (List LineTable) Error) → lines_fault (result_map (λ xs. x ∷ xs) r) ≡ Ok tt → lines_fault r ≡ Ok tt
+    by_rest : (x : LineTable) (r : Result (List LineTable) Error) → fault_of (result_map (λ xs. x ∷ xs) r) ≡ Ok tt → fault_of r ≡ Ok tt
     by_rest x (Ok xs) h = refl
     by_rest x (Err f) h = h
 
     err_ok : (f : Error) → ◌≡◌ {A = Result (Unit {0}) Error} (Err f) (Ok tt) → ⊥
     err_ok f k = cc
 
-    by_lines : (l : Result LineTable Error) → lines_of_unit d u ≡ l → (rest : List (Result LineTable Error)) → lines_fault (read_all (l ∷ rest)) ≡ Ok tt → ((table : LineTable) × (unit_lines d u.unit ≡ Ok table)) × (lines_fault (read_all rest) ≡ Ok tt)
+    by_lines : (l : Result LineTable Error) → lines_of_unit d u ≡ l → (rest : List (Result LineTable Error)) → fault_of (read_all (l ∷ rest)) ≡ Ok tt → ((table : LineTable) × (unit_lines d u.unit ≡ Ok table)) × (fault_of (read_all rest) ≡ Ok tt)
     by_lines (Ok x) q rest h = ((x, q), by_rest x (read_all rest) h)
     by_lines (Err x) q rest h = absurd (err_ok x h)
 
@@ -102,7 +103,7 @@ module _ (scope : Scope) (probe : ℕ) where
             ∙ ap (λ (r : Result LineTable Error). (r >>= λ t. Ok (found_frames t.files u.language found.0 (location_at probe t))) >>= λ frames. Ok (Some frames)) lines,
       )
 
-  number_reached : (units : List IndexedUnit) (answers : List (Option (Option Sections))) (n : ℕ) → length units ≡ length answers → read_of_units Details scope (unit_records units) answers ≡ Ok tt → lines_fault (all_lines scope.file.sections units) ≡ Ok tt
+  number_reached : (units : List IndexedUnit) (answers : List (Option (Option Sections))) (n : ℕ) → length units ≡ length answers → read_of_units Details scope (unit_records units) answers ≡ Ok tt → fault_of (all_lines scope.file.sections units) ≡ Ok tt
       → (frames : List FrameRecord) × (frames_of_number scope units (answers_after_parse Details scope (unit_records units) answers) probe n ≡ Ok (Some frames))
   number_reached [] answers n many read lines = ([], refl)
   number_reached (u ∷ us) [] n many read lines = absurd (omega arith)
@@ -131,7 +132,7 @@ stop_reached frames all (r ∷ ranges) = subst (λ (x : Result (Option (List Fra
 -- after a parse of all functions and details without a fault, where all lines can be read too, no
 -- lookup waits or has a fault
 pub reached_all : (faults : Faults) (scope : Scope) (units : List IndexedUnit) (answers : List (Option (Option Sections))) (probe : ℕ) (ranges : List UnitRange) → length units ≡ length answers
-    → read_of_units Details scope (unit_records units) answers ≡ Ok tt → lines_fault (all_lines scope.file.sections units) ≡ Ok tt
+    → read_of_units Details scope (unit_records units) answers ≡ Ok tt → fault_of (all_lines scope.file.sections units) ≡ Ok tt
     → IsReached (stop_along (asked_frames faults scope units (answers_after_parse Details scope (unit_records units) answers) probe) ranges)
 reached_all faults scope units answers probe ranges many read lines = stop_reached _ each ranges
   where

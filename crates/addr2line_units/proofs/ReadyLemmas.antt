@@ -1,5 +1,5 @@
 -- Parses of the functions of units of which all is known that they read, up to the first fault (on
--- specs/FunctionParses.antt and specs/KeptParses.antt).
+-- specs/FunctionParses.antt and specs/CachedParses.antt).
 use Rattle.std.proofs.Common.{◌≡◌, ◌≢◌, ◌∙◌, ℕ, zero, suc, ◌≤◌, ◌<◌, arith, inl, inr, Bool, true, false, List, [], ◌∷◌, length, get_or, slice_get, Option, Some, None, Result, Ok, Err, is_ok, refl, ap, sym, subst}
 use Rattle.std.proofs.Math.ListN.{set}
 use Rattle.std.specs.Prelude.{IfErr, IfSome, if◌then◌else◌}
@@ -22,23 +22,23 @@ use Rattle.addr2line_units.specs.declared.view.ViewState.{ViewState}
 use Rattle.addr2line_units.specs.declared.view.ViewState.TheVariants as states
 use Rattle.addr2line_units.specs.FramesLookup.{answer_of}
 use Rattle.addr2line_units.specs.FunctionParses.{AreReadBefore, AreReadyFor, IsReadyFor, answers_after_parse, read_of_number, read_of_unit, unless_fault}
-use Rattle.addr2line_units.specs.KeptFunctions.{AreFunctionsOf, details_at, functions_fault, is_kept, were_read}
-use Rattle.addr2line_units.specs.KeptLookups.{HaveEntriesOf, answers_in}
-use Rattle.addr2line_units.specs.KeptParses.{AreReadyUnits, ChangesOnly, HasRead, HaveFunctions, IsReadyUnit, has_view}
-use Rattle.addr2line_units.specs.KeptViews.{is_decided, seen_sections, verdict_in, view_by, was_looked_at}
+use Rattle.addr2line_units.specs.CachedFunctions.{AreFunctionsOf, details_at, functions_fault, is_kept, were_read}
+use Rattle.addr2line_units.specs.CachedLookups.{HaveEntriesOf, answers_in}
+use Rattle.addr2line_units.specs.CachedParses.{AreReadyUnits, ChangesOnly, HasRead, HaveFunctions, IsReadyUnit, has_view}
+use Rattle.addr2line_units.specs.CachedViews.{is_decided, seen_sections, verdict_in, view_by, was_looked_at}
 use Rattle.addr2line_units.specs.KnownEntries.{AllKnown, NothingKnown, known_answer, known_by, known_fault, known_functions, known_in}
 use Rattle.addr2line_units.specs.Loads.{is_open_at}
-use Rattle.addr2line_units.specs.Parsed.{IsNotOom}
+use Rattle.gimli_read.specs.Alike.{HadMemory}
 use Rattle.addr2line_units.specs.Views.{View}
 use Rattle.addr2line_units.proofs.AnswerLemmas.{looked_waits}
 use Rattle.addr2line_units.proofs.EntryLemmas.{not_open}
 use Rattle.addr2line_units.proofs.FoundLemmas.{looked_is_decided}
-use Rattle.addr2line_units.proofs.KeptFunctionLemmas.{fault_is}
-use Rattle.addr2line_units.proofs.KeptParseLemmas.{got_entry, got_set, read_decided}
-use Rattle.addr2line_units.proofs.KeptPlaceLemmas.{kept_unless_oom}
+use Rattle.addr2line_units.proofs.CachedFunctionLemmas.{fault_is}
+use Rattle.addr2line_units.proofs.CachedParseLemmas.{got_entry, got_set, read_decided}
+use Rattle.addr2line_units.proofs.CachedPlaceLemmas.{kept_unless_oom}
 use Rattle.addr2line_units.proofs.ParseLemmas.{at_or_behind, below_next, unit_again}
 
-pub not_oom : {X : Type 0} (r : Result X Error) → IsNotOom r → r ≢ Err OutOfMemory
+pub not_oom : {X : Type 0} (r : Result X Error) → HadMemory r → r ≢ Err OutOfMemory
 not_oom (Ok x) h = λ e. cc
 not_oom (Err e) h = λ q. h (let same : e ≡ OutOfMemory = cc in same)
 

@@ -1,5 +1,5 @@
 -- The units that references lead to in a context, and what is kept of their entries at first (on
--- specs/UnitIndexLaws.antt, specs/FramesLookup.antt and specs/KeptLookups.antt).
+-- specs/UnitIndexLaws.antt, specs/FramesLookup.antt and specs/CachedLookups.antt).
 use Rattle.std.proofs.Common.{◌≡◌, ◌∙◌, ap, sym, refl, subst, Bool, true, false, List, [], ◌∷◌, ◌++◌, map, Option, Some, None, option_map, is_some, IfSome, IfOk, Result, Ok, Err, if◌then◌else◌}
 use Rattle.std.specs.Result.{result_ok}
 use Rattle.gimli_read.specs.declared.constants.DwLang.{DwLang}
@@ -22,10 +22,10 @@ use Rattle.addr2line_units.specs.declared.view.ViewState.{ViewState}
 use Rattle.addr2line_units.specs.declared.view.ViewState.TheVariants as states
 use Rattle.addr2line_units.specs.CachedLines.{HaveLinesOf, indexed_units}
 use Rattle.addr2line_units.specs.FramesLookup.{main_scope}
-use Rattle.addr2line_units.specs.KeptEntries.{AreEntriesOf, AreFresh, kept_answer}
-use Rattle.addr2line_units.specs.KeptFunctions.{AreFunctionsOf, were_read}
-use Rattle.addr2line_units.specs.KeptLookups.{AreFreshOf, HaveEntriesOf, answers_in}
-use Rattle.addr2line_units.specs.KeptViews.{answer_in, verdict_in, was_looked_at}
+use Rattle.addr2line_units.specs.CachedEntries.{AreEntriesOf, AreFresh, kept_answer}
+use Rattle.addr2line_units.specs.CachedFunctions.{AreFunctionsOf, were_read}
+use Rattle.addr2line_units.specs.CachedLookups.{AreFreshOf, HaveEntriesOf, answers_in}
+use Rattle.addr2line_units.specs.CachedViews.{answer_in, verdict_in, was_looked_at}
 use Rattle.addr2line_units.specs.UnitAranges.{aranges_in}
 use Rattle.addr2line_units.specs.UnitIndex.{RangedUnit, UnitIndex, given_in_unit, index_units, indexed_of, is_type_unit, ranged_units, unit_ranges_from, sup_sections, sup_unit_of_header, sup_units, unit_of_header, unit_records, unless_faulty, units_of}
 use Rattle.addr2line_units.specs.Views.{View, verdict, view_scope}

@@ -7,13 +7,13 @@ use Rattle.addr2line_units.specs.declared.index.UnitRange.{UnitRange}
 use Rattle.addr2line_units.specs.declared.unit_frames.UnitEntries.{UnitEntries}
 use Rattle.addr2line_units.specs.declared.view.UnitView.{UnitView}
 use Rattle.addr2line_units.specs.FramesLookup.{answer_of}
-use Rattle.addr2line_units.specs.KeptEntries.{kept_answer}
-use Rattle.addr2line_units.specs.KeptLookups.{StayAllEntries, answers_in}
-use Rattle.addr2line_units.specs.KeptViews.{IsViewOf, seen_first_answer, waits, was_looked_at}
+use Rattle.addr2line_units.specs.CachedEntries.{kept_answer}
+use Rattle.addr2line_units.specs.CachedLookups.{StayAllEntries, answers_in}
+use Rattle.addr2line_units.specs.CachedViews.{IsViewOf, seen_first_answer, waits, was_looked_at}
 use Rattle.addr2line_units.specs.Loads.{AreSettled, is_open_at}
 use Rattle.addr2line_units.specs.Views.{is_open}
 use Rattle.addr2line_units.proofs.AnswerLemmas.{open_by_look}
-use Rattle.addr2line_units.proofs.KeptLookupLemmas.{answer_at, same_answers}
+use Rattle.addr2line_units.proofs.CachedLookupLemmas.{answer_at, same_answers}
 
 -- the unit of a number among those that are kept
 pub settled_there : {R : Type 0} (d : Sections) (us : List UnitRecord) (vs : List (UnitEntries R)) (n : ℕ) (u : UnitRecord) (v : UnitEntries R) → slice_get us n ≡ Some u → n < length vs → v ≡ get_or vs n v → is_open_at d us (answers_in vs) n ≡ false → is_open d u (kept_answer v) ≡ false

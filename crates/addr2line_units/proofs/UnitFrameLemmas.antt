@@ -18,9 +18,9 @@ use Rattle.addr2line_units.specs.declared.view.ViewState.{ViewState}
 use Rattle.addr2line_units.specs.declared.view.ViewState.TheVariants as states
 use Rattle.addr2line_units.specs.CachedLines.{AreLinesOf, cached_files, is_uncached}
 use Rattle.addr2line_units.specs.Frames.{FoundFunction, FrameRecord, found_frames}
-use Rattle.addr2line_units.specs.KeptEntries.{AreRead, ReadsEntriesOf, StayEntries, has_entries, has_entries_by}
-use Rattle.addr2line_units.specs.KeptFunctions.{StayFunctions, kept_functions}
-use Rattle.addr2line_units.specs.KeptViews.{IsViewOf, answer_in, seen_first_answer, waits, was_looked_at}
+use Rattle.addr2line_units.specs.CachedEntries.{AreRead, ReadsEntriesOf, StayEntries, has_entries, has_entries_by}
+use Rattle.addr2line_units.specs.CachedFunctions.{StayFunctions, cached_functions}
+use Rattle.addr2line_units.specs.CachedViews.{IsViewOf, answer_in, seen_first_answer, waits, was_looked_at}
 use Rattle.addr2line_units.specs.Located.{location_in}
 use Rattle.addr2line_units.specs.UnitFrames.{asks_lines_in, frames_by, frames_in, function_in}
 use Rattle.addr2line_units.specs.UnitIndex.{IndexedUnit}
@@ -57,14 +57,14 @@ module _ {R : Type 0} (probe : ℕ) (old mid : UnitEntries R) (functions : mid.f
   -- a look reads no functions
   pub look_only : ReadsEntriesOf probe old mid
   look_only = record {
-    alone = λ n ne. ap (λ (fs : LazyFunctions R). cached_detail (kept_functions fs) n) functions;
+    alone = λ n ne. ap (λ (fs : LazyFunctions R). cached_detail (cached_functions fs) n) functions;
     kept = λ has. same (known_looks probe old.view.state old.functions has);
   }
 
   -- after a look no more is read
   pub only_after : (new : UnitEntries R) → ReadsEntriesOf probe mid new → ReadsEntriesOf probe old new
   only_after new h = record {
-    alone = λ n ne. h.alone n ne ∙ ap (λ (fs : LazyFunctions R). cached_detail (kept_functions fs) n) functions;
+    alone = λ n ne. h.alone n ne ∙ ap (λ (fs : LazyFunctions R). cached_detail (cached_functions fs) n) functions;
     kept = λ has. (let is = same (known_looks probe old.view.state old.functions has) in h.kept (ap (has_entries probe) is ∙ has) ∙ is);
   }
 

@@ -19,8 +19,10 @@ use Rattle.addr2line_units.specs.declared.unit.ResUnit.{ResUnit}
 use Rattle.addr2line_units.specs.declared.index.UnitRange.{UnitRange}
 use Rattle.addr2line_units.specs.Indexed.{IndexState, ranged_seen, with_ranged}
 use Rattle.addr2line_units.specs.UnitIndex.{IndexedUnit, has_lines, range_of_unit, unit_ranges}
-use Rattle.addr2line_units.specs.Located.{all_lines, along, lines_fault, lines_of_unit, location_in, looks_along, looks_in, or_along}
-use Rattle.addr2line_units.specs.Parsed.{AllAskFor, AreReadyForAll, IsNotOom, ParsesOnly, StaysParsed, can_be_read, decides, has_parsed, ready_along}
+use Rattle.gimli_line.specs.Opcode.{fault_of}
+use Rattle.addr2line_units.specs.Located.{all_lines, along, lines_of_unit, location_in, looks_along, looks_in, or_along}
+use Rattle.gimli_read.specs.Alike.{HadMemory}
+use Rattle.addr2line_units.specs.Parsed.{AllAskFor, AreReadyForAll, ParsesOnly, StaysParsed, can_be_read, decides, has_parsed, ready_along}
 use Rattle.addr2line_units.specs.CachedLines.{AreLinesOf, CachesAnswer, HaveLinesOf, StayUnits, StaysUnit, cached_files, indexed_unit, indexed_units, is_parsed, is_uncached, lines_answer, lines_answer_at, lines_at, location_at_place, parsed_units, place_of_row}
 
 -- what is cached is no longer uncached
@@ -126,7 +128,7 @@ set_parsed (x ∷ rs) zero s h e = parsed_is s.lines e
 set_parsed (x ∷ rs) (suc n) s h e = set_parsed rs n s (omega arith) e
 
 -- a call that left lines as they were, and takes no memory where they are cached, isn't refused where they are
-pub not_refused : (old new : LazyLines) (result : Result (Unit {0}) Error) → (is_uncached old ≡ false → result ≡ Ok tt) → OnErr result (new ≡ old) → is_uncached new ≡ false → IsNotOom result
+pub not_refused : (old new : LazyLines) (result : Result (Unit {0}) Error) → (is_uncached old ≡ false → result ≡ Ok tt) → OnErr result (new ≡ old) → is_uncached new ≡ false → HadMemory result
 not_refused old new (Ok x) exact same e = tt
 not_refused old new (Err x) exact same e = absurd (let ok = exact (sym (ap is_uncached same) ∙ e) in cc)
 
@@ -210,7 +212,7 @@ module _ (d : Sections) (probe : ℕ) (us : List UnitRecord) (rs : List ResUnit)
   row_found_exactly k = rw (lines_set rs n s h, unit_at us rs n u r in_both h e f) k
 
 -- an answer is cached, unless it is OutOfMemory
-pub answer_cached : {X : Type 0} (old : LazyLines) (result : Result X Error) (new : LazyLines) → CachesAnswer old result new → IsNotOom result → is_uncached new ≡ false
+pub answer_cached : {X : Type 0} (old : LazyLines) (result : Result X Error) (new : LazyLines) → CachesAnswer old result new → HadMemory result → is_uncached new ≡ false
 answer_cached old (Ok x) new h n = h
 answer_cached old (Err e) new h n = h.0 n
 
@@ -268,26 +270,26 @@ module _ (d : Sections) (units : List IndexedUnit) (probe : ℕ) (r : UnitRange)
 
 -- the lines of a unit, or their fault
 module _ (d : Sections) (us : List UnitRecord) (rs : List ResUnit) (n : ℕ) (u : UnitRecord) (r : ResUnit) (lines : Option LineTable) (result : Result (Unit {0}) Error) (own : HaveLinesOf d us rs) (h : n < length rs) (e : u ≡ get_or us n u) (f : r ≡ get_or rs n r) where
-  same_fault : (a : Result LineTable Error) → lines_fault a ≡ lines_fault (a >>= λ l. Ok (Some l))
+  same_fault : (a : Result LineTable Error) → fault_of a ≡ fault_of (a >>= λ l. Ok (Some l))
   same_fault (Ok l) = refl
   same_fault (Err x) = refl
 
-  at_unit : lines_answer_at d (slice_get (indexed_units us rs) n) ≡ lines_fault (lines_answer d u)
+  at_unit : lines_answer_at d (slice_get (indexed_units us rs) n) ≡ fault_of (lines_answer d u)
   at_unit = ap (lines_answer_at d) (unit_at us rs n u r (subst (λ k. n < k) (sym (as_many d us rs own)) h) h e f) ∙ same_fault (unit_lines d u)
 
   pub lines_read : ExactlyUnlessOom (λ _. lines) result (lines_answer d u) → ExactlyUnlessOom (λ x. x) result (lines_answer_at d (slice_get (indexed_units us rs) n))
   lines_read k = rw at_unit (given result (lines_answer d u) k)
     where
-      given : (q : Result (Unit {0}) Error) (a : Result (Option LineTable) Error) → ExactlyUnlessOom (λ _. lines) q a → ExactlyUnlessOom (λ x. x) q (lines_fault a)
-      given (Ok tt) a i = ap lines_fault i
-      given (Err x) a i = λ ne. ap lines_fault (i ne)
+      given : (q : Result (Unit {0}) Error) (a : Result (Option LineTable) Error) → ExactlyUnlessOom (λ _. lines) q a → ExactlyUnlessOom (λ x. x) q (fault_of a)
+      given (Ok tt) a i = ap fault_of i
+      given (Err x) a i = λ ne. ap fault_of (i ne)
 
   pub lines_read_exactly : Exactly (λ _. lines) result (lines_answer d u) → Exactly (λ x. x) result (lines_answer_at d (slice_get (indexed_units us rs) n))
   lines_read_exactly k = rw at_unit (given result (lines_answer d u) k)
     where
-      given : (q : Result (Unit {0}) Error) (a : Result (Option LineTable) Error) → Exactly (λ _. lines) q a → Exactly (λ x. x) q (lines_fault a)
-      given (Ok tt) a i = ap lines_fault i
-      given (Err x) a i = ap lines_fault i
+      given : (q : Result (Unit {0}) Error) (a : Result (Option LineTable) Error) → Exactly (λ _. lines) q a → Exactly (λ x. x) q (fault_of a)
+      given (Ok tt) a i = ap fault_of i
+      given (Err x) a i = ap fault_of i
 
 -- the looks along ranges
 pub looks_first : (d : Sections) (units : List IndexedUnit) (r : UnitRange) (rest : List UnitRange) → looks_along d units (r ∷ rest) ≡ looks_in d (slice_get units r.unit) + looks_along d units rest
@@ -311,10 +313,10 @@ below_or_at n k h = elim (three n k) [ inl l ↦ inl l | inr m ↦ elim m [ inl 
 
 -- the lines of units, one unit after another
 module _ (d : Sections) where
-  first_read : (u : Result LineTable Error) (rest : List (Result LineTable Error)) → lines_fault u ≡ Ok tt → lines_fault (read_all (u ∷ rest)) ≡ lines_fault (read_all rest)
+  first_read : (u : Result LineTable Error) (rest : List (Result LineTable Error)) → fault_of u ≡ Ok tt → fault_of (read_all (u ∷ rest)) ≡ fault_of (read_all rest)
   first_read (Ok l) rest e = more (read_all rest)
     where
-      more : (r : Result (List LineTable) Error) → lines_fault (result_map (λ ls. l ∷ ls) r) ≡ lines_fault r
+      more : (r : Result (List LineTable) Error) → fault_of (result_map (λ ls. l ∷ ls) r) ≡ fault_of r
       more (Ok ls) = refl
       more (Err x) = refl
   first_read (Err x) rest e = absurd (err_ok e)
@@ -322,35 +324,35 @@ module _ (d : Sections) where
       err_ok : ◌≡◌ {A = Result (Unit {0}) Error} (Err x) (Ok tt) → ⊥
       err_ok k = cc
 
-  first_fault : (u : Result LineTable Error) (rest : List (Result LineTable Error)) (f : Error) → lines_fault u ≡ Err f → lines_fault (read_all (u ∷ rest)) ≡ Err f
+  first_fault : (u : Result LineTable Error) (rest : List (Result LineTable Error)) (f : Error) → fault_of u ≡ Err f → fault_of (read_all (u ∷ rest)) ≡ Err f
   first_fault (Ok l) rest f e = absurd (ok_err e)
     where
       ok_err : ◌≡◌ {A = Result (Unit {0}) Error} (Ok tt) (Err f) → ⊥
       ok_err k = cc
   first_fault (Err x) rest f e = e
 
-  lines_after : (us : List IndexedUnit) (n : ℕ) → n < length us → lines_answer_at d (slice_get us n) ≡ Ok tt → lines_fault (all_lines d (drop n us)) ≡ lines_fault (all_lines d (drop (suc n) us))
+  lines_after : (us : List IndexedUnit) (n : ℕ) → n < length us → lines_answer_at d (slice_get us n) ≡ Ok tt → fault_of (all_lines d (drop n us)) ≡ fault_of (all_lines d (drop (suc n) us))
   lines_after [] n h e = absurd (omega arith)
   lines_after (u ∷ us) zero h e = first_read (lines_of_unit d u) (map (lines_of_unit d) us) e
   lines_after (u ∷ us) (suc n) h e = lines_after us n (omega arith) e
 
-  pub lines_more : (us : List IndexedUnit) (n : ℕ) → n < length us → lines_answer_at d (slice_get us n) ≡ Ok tt → lines_fault (all_lines d (drop n us)) ≡ lines_fault (all_lines d (drop (n + 1) us))
+  pub lines_more : (us : List IndexedUnit) (n : ℕ) → n < length us → lines_answer_at d (slice_get us n) ≡ Ok tt → fault_of (all_lines d (drop n us)) ≡ fault_of (all_lines d (drop (n + 1) us))
   lines_more us n h e = rw add-one (lines_after us n h e)
 
-  pub lines_stop : (us : List IndexedUnit) (n : ℕ) (f : Error) → n < length us → lines_answer_at d (slice_get us n) ≡ Err f → lines_fault (all_lines d (drop n us)) ≡ Err f
+  pub lines_stop : (us : List IndexedUnit) (n : ℕ) (f : Error) → n < length us → lines_answer_at d (slice_get us n) ≡ Err f → fault_of (all_lines d (drop n us)) ≡ Err f
   lines_stop [] n f h e = absurd (omega arith)
   lines_stop (u ∷ us) zero f h e = first_fault (lines_of_unit d u) (map (lines_of_unit d) us) f e
   lines_stop (u ∷ us) (suc n) f h e = lines_stop us n f (omega arith) e
 
-  pub lines_end : (us : List IndexedUnit) (n : ℕ) → length us ≤ n → lines_fault (all_lines d (drop n us)) ≡ Ok tt
-  lines_end us n h = ap (λ xs. lines_fault (all_lines d xs)) (drop_of_length-le us h)
+  pub lines_end : (us : List IndexedUnit) (n : ℕ) → length us ≤ n → fault_of (all_lines d (drop n us)) ≡ Ok tt
+  lines_end us n h = ap (λ xs. fault_of (all_lines d xs)) (drop_of_length-le us h)
 
   -- whether the lines of a unit can be read, by the answer that they give
   pub readable : (u : Option IndexedUnit) → lines_answer_at d u ≡ Ok tt → can_be_read d u ≡ true
   readable None e = refl
   readable (Some u) e = of_lines (lines_of_unit d u) e
     where
-      of_lines : (l : Result LineTable Error) → lines_fault l ≡ Ok tt → is_ok l ≡ true
+      of_lines : (l : Result LineTable Error) → fault_of l ≡ Ok tt → is_ok l ≡ true
       of_lines (Ok x) h = refl
       of_lines (Err x) h = absurd (err_ok h)
         where
@@ -364,7 +366,7 @@ module _ (d : Sections) where
       ok_err k = cc
   unreadable (Some u) f e h = of_lines (lines_of_unit d u) e h
     where
-      of_lines : (l : Result LineTable Error) → lines_fault l ≡ Err f → is_ok l ≡ true → ⊥
+      of_lines : (l : Result LineTable Error) → fault_of l ≡ Err f → is_ok l ≡ true → ⊥
       of_lines (Ok x) h k = ok_err h
         where
           ok_err : ◌≡◌ {A = Result (Unit {0}) Error} (Ok tt) (Err f) → ⊥

@@ -1,4 +1,4 @@
--- The views of units (on specs/Views.antt and specs/KeptViews.antt).
+-- The views of units (on specs/Views.antt and specs/CachedViews.antt).
 use Rattle.std.proofs.Common.{◌≡◌, ◌≢◌, ◌∙◌, ℕ, ap, sym, refl, subst, not, ◌⊎◌, inl, inr, ⊎_elim, Bool, true, false, [], Option, Some, None, is_some, is_none, option_map, IfSome, IfOk, Result, Ok, Err, if◌then◌else◌}
 use Rattle.gimli_read.specs.declared.error.Error.{Error}
 use Rattle.gimli_read.specs.declared.error.Error.TheVariants.{OutOfMemory}
@@ -8,14 +8,14 @@ use Rattle.gimli_read.specs.Section.{Section}
 use Rattle.gimli.specs.declared.unit.DwoId.{DwoId}
 use Rattle.gimli.specs.Sections.{Sections}
 use Rattle.gimli.specs.Split.{dwo_name_fault, dwo_name_of, relocated, string_fault_if}
-use Rattle.gimli.specs.Text.{string_fault}
+use Rattle.gimli_line.specs.Opcode.{fault_of}
 use Rattle.gimli.specs.Unit.{UnitRecord, attr_string_of}
 use Rattle.addr2line_lines.specs.References.{IsScope, Scope}
 use Rattle.addr2line_units.specs.declared.view.Answer.{Answer}
 use Rattle.addr2line_units.specs.declared.view.UnitView.{UnitView}
 use Rattle.addr2line_units.specs.declared.view.ViewState.{ViewState}
 use Rattle.addr2line_units.specs.declared.view.ViewState.TheVariants as states
-use Rattle.addr2line_units.specs.KeptViews.{IsViewOf, answer_in, scope_by, seen_first_answer, seen_sections, split_file_by, split_file_in, split_unit, verdict_in, view_by, waits}
+use Rattle.addr2line_units.specs.CachedViews.{IsViewOf, answer_in, scope_by, seen_first_answer, seen_sections, split_file_by, split_file_in, split_unit, verdict_in, view_by, waits}
 use Rattle.addr2line_units.specs.Views.{SplitLoad, View, answered_view, first_unit, first_view, load_by, load_of_unit, main_view, split_name_of, string_if, verdict, verdict_by, view_scope}
 
 decided_by : (d : Sections) (u : UnitRecord) (load : Result (Option SplitLoad) Error) (r : Result View Error) (answer : Option (Option Sections)) → verdict_by d u load None ≡ Some r → verdict_by d u load answer ≡ Some r
@@ -68,7 +68,7 @@ name_fault : (d : Sections) (u : UnitRecord) → (split_name_of d u >>= λ _. Ok
 unfolding split_name_of
 name_fault d u = by_value (dwo_name_of u)
   where
-    by_string : (r : Result Section Error) → ((r >>= λ string. Ok (Some string)) >>= λ _. Ok tt) ≡ string_fault r
+    by_string : (r : Result Section Error) → ((r >>= λ string. Ok (Some string)) >>= λ _. Ok tt) ≡ fault_of r
     by_string (Ok s) = refl
     by_string (Err e) = refl
 

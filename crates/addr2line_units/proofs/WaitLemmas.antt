@@ -1,5 +1,5 @@
 -- The unit that a lookup of frames waits for has no answer yet (on specs/FramesLookup.antt and
--- specs/KeptLookups.antt).
+-- specs/CachedLookups.antt).
 use Rattle.std.proofs.Common.{◌≡◌, ℕ, zero, suc, ◌<◌, arith, get_or, Bool, true, false, ◌&&◌, ◌||◌, not, List, [], ◌∷◌, length, map, slice_get, Option, Some, None, option_map, Result, Ok, Err, ap, refl, sym, subst, ◌∙◌}
 use Rattle.std.specs.Prelude.{IfOk, IfSome, is_none, unwrap_or, if◌then◌else◌}
 use Rattle.gimli_read.specs.declared.error.Error.{Error}
@@ -19,10 +19,10 @@ use Rattle.addr2line_units.specs.declared.view.ViewState.TheVariants as states
 use Rattle.addr2line_units.specs.CachedLines.{indexed_units}
 use Rattle.addr2line_units.specs.Frames.{FoundFunction, FrameRecord}
 use Rattle.addr2line_units.specs.FramesLookup.{Stop, Waits, Finds, FindsNothing, after_fault, answer_of, asked_frames, ends_lookup, frames_of_number, holds_along, or_stop, stop_along}
-use Rattle.addr2line_units.specs.KeptEntries.{has_entries, kept_answer}
-use Rattle.addr2line_units.specs.KeptLookups.{HaveEntriesOf, HaveViewsOf, answers_in, has_entries_at, WaitsIn, has_frames_at, seen_stop, waits_at}
-use Rattle.addr2line_units.specs.KeptViews.{IsViewOf, was_looked_at, waits}
-use Rattle.addr2line_units.specs.Parsed.{IsNotOom}
+use Rattle.addr2line_units.specs.CachedEntries.{has_entries, kept_answer}
+use Rattle.addr2line_units.specs.CachedLookups.{HaveEntriesOf, HaveViewsOf, answers_in, has_entries_at, WaitsIn, has_frames_at, seen_stop, waits_at}
+use Rattle.addr2line_units.specs.CachedViews.{IsViewOf, was_looked_at, waits}
+use Rattle.gimli_read.specs.Alike.{HadMemory}
 use Rattle.addr2line_units.specs.UnitFrames.{frames_by, frames_in, function_in}
 use Rattle.addr2line_units.specs.UnitIndex.{IndexedUnit}
 use Rattle.addr2line_units.specs.Views.{is_open}
@@ -114,7 +114,7 @@ module _ {R : Type 0} (scope : Scope) (probe : ℕ) where
   pub waits_if_found : (faults : Faults) (us : List UnitRecord) (rs : List ResUnit) (vs : List (UnitEntries R)) (units : List IndexedUnit) (answers : List (Option (Option Sections))) (asks_lines : ℕ → Bool)
       (parsed : List Bool) (ranges : List UnitRange) (r : Result FramesStop Error) → HaveEntriesOf scope us vs → units ≡ indexed_units us rs → answers ≡ answers_in vs
       → ExactlyUnlessOom (seen_stop rs vs) r (stop_along (asked_frames faults scope units answers probe) ranges)
-      → (IsNotOom r → holds_along (has_frames_at asks_lines probe parsed vs) (asked_frames faults scope units answers probe) ranges ≡ true) → IfOk r (WaitsIn vs)
+      → (HadMemory r → holds_along (has_frames_at asks_lines probe parsed vs) (asked_frames faults scope units answers probe) ranges ≡ true) → IfOk r (WaitsIn vs)
   waits_if_found faults us rs vs units answers asks_lines parsed ranges (Err x) own e f gives ready = tt
   waits_if_found faults us rs vs units answers asks_lines parsed ranges (Ok (stops.Finds p)) own e f gives ready = tt
   waits_if_found faults us rs vs units answers asks_lines parsed ranges (Ok stops.FindsNothing) own e f gives ready = tt

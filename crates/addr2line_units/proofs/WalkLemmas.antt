@@ -1,5 +1,5 @@
 -- What a step of a lookup of frames says, by the units and answers at its start (on
--- specs/FramesLookup.antt and specs/KeptLookups.antt).
+-- specs/FramesLookup.antt and specs/CachedLookups.antt).
 use Rattle.std.proofs.Common.{◌≡◌, ℕ, Bool, true, false, ◌&&◌, not, List, [], ◌∷◌, Option, Result, Ok, Err, ap, refl, sym, subst, ◌∙◌, inl}
 use Rattle.std.specs.Prelude.{IfOk}
 use Rattle.gimli_read.specs.declared.error.Error.{Error}
@@ -13,9 +13,9 @@ use Rattle.addr2line_units.specs.declared.unit_frames.UnitEntries.{UnitEntries}
 use Rattle.addr2line_units.specs.CachedLines.{StayUnits, indexed_units}
 use Rattle.addr2line_units.specs.Frames.{FrameRecord}
 use Rattle.addr2line_units.specs.FramesLookup.{LookupAsks, holds_along, stop_along}
-use Rattle.addr2line_units.specs.KeptLookups.{StayAllEntries, answers_in}
+use Rattle.addr2line_units.specs.CachedLookups.{StayAllEntries, answers_in}
 use Rattle.addr2line_units.specs.UnitIndex.{IndexedUnit}
-use Rattle.addr2line_units.proofs.KeptLookupLemmas.{same_answers}
+use Rattle.addr2line_units.proofs.CachedLookupLemmas.{same_answers}
 use Rattle.addr2line_units.proofs.UnitsLemmas.{stay_indexed}
 
 -- what is said of units and answers that stayed is so of those at the start

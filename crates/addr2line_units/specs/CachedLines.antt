@@ -19,7 +19,8 @@ use Rattle.addr2line_units.specs.declared.unit.LazyLines.{LazyLines}
 use Rattle.addr2line_units.specs.declared.unit.LazyLines.TheVariants.{Unread, Read, Faulty}
 use Rattle.addr2line_units.specs.declared.unit.ResUnit.{ResUnit}
 use Rattle.addr2line_units.specs.UnitIndex.{IndexedUnit}
-use Rattle.addr2line_units.specs.Located.{all_read, lines_fault}
+use Rattle.gimli_line.specs.Opcode.{fault_of}
+use Rattle.addr2line_units.specs.Located.{all_read}
 
 -- the cached lines are those that the unit's bytes give, or their fault, which is never
 -- OutOfMemory
@@ -136,7 +137,7 @@ StayUnits _ _ = ⊥
 -- whether the lines of a unit can be read, none where there is no such unit
 abbrev pub lines_answer_at : Sections → Option IndexedUnit → Result (Unit {0}) Error
 lines_answer_at d None = Ok tt
-lines_answer_at d (Some u) = lines_fault (unit_lines d u.unit)
+lines_answer_at d (Some u) = fault_of (unit_lines d u.unit)
 
 -- a row in the lines of a unit
 abbrev pub place_of_row : ℕ → Row → Place

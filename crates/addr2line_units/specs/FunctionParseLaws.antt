@@ -10,7 +10,8 @@ use Rattle.addr2line_units.specs.declared.parses.Reads.{Reads}
 use Rattle.addr2line_units.specs.declared.parses.Reads.TheVariants.{Details}
 use Rattle.addr2line_units.specs.FramesLookup.{Stop, Waits, asked_frames, stop_along}
 use Rattle.addr2line_units.specs.FunctionParses.{answers_after_parse, read_of_units}
-use Rattle.addr2line_units.specs.Located.{all_lines, lines_fault}
+use Rattle.gimli_line.specs.Opcode.{fault_of}
+use Rattle.addr2line_units.specs.Located.{all_lines}
 use Rattle.addr2line_units.specs.UnitIndex.{IndexedUnit, unit_records}
 
 -- what a lookup comes to is no fault, and it waits for no unit
@@ -26,7 +27,7 @@ ReachesAll = (faults : Faults) (scope : Scope) (units : List IndexedUnit)
     (answers : List (Option (Option Sections))) (probe : ℕ) (ranges : List UnitRange)
     → length units ≡ length answers
     → read_of_units Details scope (unit_records units) answers ≡ Ok tt
-    → lines_fault (all_lines scope.file.sections units) ≡ Ok tt
+    → fault_of (all_lines scope.file.sections units) ≡ Ok tt
     → IsReached (stop_along (asked_frames faults scope units
     (answers_after_parse Details scope (unit_records units) answers) probe) ranges)
 

@@ -9,7 +9,7 @@ use Rattle.addr2line_units.specs.declared.functions.LazyFunctions.TheVariants as
 use Rattle.addr2line_units.specs.declared.unit_frames.UnitEntries.{UnitEntries}
 use Rattle.addr2line_units.specs.declared.view.ViewState.{ViewState}
 use Rattle.addr2line_units.specs.declared.view.ViewState.TheVariants as states
-use Rattle.addr2line_units.specs.KeptFunctions.{has_table, is_kept}
+use Rattle.addr2line_units.specs.CachedFunctions.{has_table, is_kept}
 
 -- what is known of a unit's entries
 pub data KnownEntries : Type 0 where

@@ -81,10 +81,6 @@ spans_of d low high =
 abbrev pub all_lines : Sections → List IndexedUnit → Result (List LineTable) Error
 all_lines d units = read_all (map (lines_of_unit d) units)
 
--- whether they can be read
-abbrev pub lines_fault : {X : Type 0} → Result X Error → Result (Unit {0}) Error
-lines_fault lines = lines >>= λ x. Ok tt
-
 -- the most looks at the lines of a unit
 abbrev pub looks_in : Sections → Option IndexedUnit → ℕ
 looks_in d None = 0

@@ -70,11 +70,6 @@ abbrev pub ParsesOnly : (ℕ → Type 0) → List Bool → List Bool → Type 0
 ParsesOnly IsAsked old new =
     (n : ℕ) → has_parsed new n ≡ true → (has_parsed old n ≡ true) ⊎ IsAsked n
 
--- any answer but OutOfMemory
-abbrev pub IsNotOom : {X : Type 0} → Result X Error → Type 0
-IsNotOom (Ok x) = Unit {0}
-IsNotOom (Err e) = e ≢ OutOfMemory
-
 -- what was parsed stays parsed
 abbrev pub StaysParsed : List Bool → List Bool → Type 0
 StaysParsed old new = (n : ℕ) → has_parsed old n ≡ true → has_parsed new n ≡ true

@@ -11,10 +11,6 @@ use Rattle.addr2line_units.specs.declared.unit.ResUnit.{ResUnit}
 use Rattle.addr2line_units.specs.CachedLines.{cached_spans, lines_at}
 use Rattle.addr2line_units.specs.Located.{all_read}
 
--- a row with its address and the length of its span
-abbrev pub seen_located_span : ℕ × ℕ × SourceLocation → LocatedSpan
-seen_located_span x = record { address = x.0; length = x.1; location = seen_location x.2 }
-
 -- the call gave the first row or fault that was left, and the others are left
 abbrev pub YieldsOn : {X : Type 0} → List (Result X Error) → Result (Option X) Error
     → List (Result X Error) → Type 0

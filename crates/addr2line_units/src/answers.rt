@@ -3,8 +3,8 @@
 ghost use Rattle.std.specs.Prelude.{◌≡◌, IfErr, IfOk, None, OnOk, Ok, Some, false, is_some, option_map, true};
 ghost use Rattle.gimli_read.specs.declared.error.Error.TheVariants.{OutOfMemory};
 ghost use Rattle.addr2line_lines.specs.SeenScope.{seen_scope};
-ghost use Rattle.addr2line_units.specs.KeptEntries.{AreEntriesOf, StayEntries, kept_answer};
-ghost use Rattle.addr2line_units.specs.KeptViews.{IsViewOf, is_decided, seen_load, waits};
+ghost use Rattle.addr2line_units.specs.CachedEntries.{AreEntriesOf, StayEntries, kept_answer};
+ghost use Rattle.addr2line_units.specs.CachedViews.{IsViewOf, is_decided, seen_load, waits};
 ghost use Rattle.addr2line_units.specs.Views.{decided_answer, is_open, load_of_unit};
 
 use crate::functions::LazyFunctions;

@@ -14,7 +14,7 @@ ghost use Rattle.addr2line_lines.specs.Rows.{result_map};
 ghost use Rattle.addr2line_lines.specs.SeenLocation.{seen_location};
 ghost use Rattle.addr2line_units.specs.Frames.{call_location, found_frames, frames_from, if_counted, location_frames};
 ghost use Rattle.addr2line_units.specs.FramesLeft.{entry_frame, frames_left, place_frame};
-ghost use Rattle.addr2line_units.specs.KeptFunctions.{IsPlaceIn, function_of_place, kept_functions};
+ghost use Rattle.addr2line_units.specs.CachedFunctions.{ArePlacesIn, function_of_place, cached_functions};
 ghost use Rattle.addr2line_units.specs.LegacyText.{demangled, demangled_auto};
 ghost use Rattle.addr2line_units.specs.SeenFrame.{YieldsFrame, language_text, name_text, raw_text, seen_frame, seen_name};
 
@@ -353,9 +353,9 @@ pub(crate) fn frames_of<'ctx, R: Reader>(
     language: Option<DwLang>,
     location: Option<Location<'ctx>>,
 ) -> FrameIter<'ctx, R>
-    requires there { IfSome place.now (IsPlaceIn (kept_functions functions.now)) }
+    requires there { IfSome place.now (ArePlacesIn (cached_functions functions.now)) }
     ensures gives { frames_left result ≡ found_frames lines.now.files language
-        (option_map (function_of_place (kept_functions functions.now)) place.now)
+        (option_map (function_of_place (cached_functions functions.now)) place.now)
         (option_map seen_location location.entry) }
 {
     let Some(found) = place else {

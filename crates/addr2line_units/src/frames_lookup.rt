@@ -6,8 +6,9 @@ ghost use Rattle.addr2line_lines.specs.References.{IsScope};
 ghost use Rattle.addr2line_lines.specs.SeenScope.{seen_scope};
 ghost use Rattle.addr2line_units.specs.CachedLines.{HaveLinesOf, StayUnits, indexed_units, parsed_units};
 ghost use Rattle.addr2line_units.specs.FramesLookup.{LookupAsks, asked_frames, asks_lines_of, frames_of_number, has_many_of, holds_along, stop_along};
-ghost use Rattle.addr2line_units.specs.KeptLookups.{AreFoundAt, HaveEntriesOf, IsStopIn, ReadsOnly, StayAllEntries, answers_in, found_after_fault, frames_found_at, has_frames_at, seen_stop, stop_of_found, unit_of_place};
-ghost use Rattle.addr2line_units.specs.Parsed.{IsNotOom, ParsesOnly};
+ghost use Rattle.addr2line_units.specs.CachedLookups.{AreFoundAt, HaveEntriesOf, IsStopIn, ReadsOnly, StayAllEntries, answers_in, found_after_fault, frames_found_at, has_frames_at, seen_stop, stop_of_found, unit_of_place};
+ghost use Rattle.gimli_read.specs.Alike.{HadMemory};
+ghost use Rattle.addr2line_units.specs.Parsed.{ParsesOnly};
 ghost use Rattle.addr2line_units.specs.UnitRangesLeft.{ranges_left};
 
 use crate::functions::FunctionPlace;
@@ -81,7 +82,7 @@ fn find_frames_at<R: Reader>(
         (indexed_units scope.entry.file.units.now units.old.items)
         (answers_in entries.old.items) probe n ≡ true))
         (parsed_units units.old.items) (parsed_units units.new.items) }
-    ensures ready { IsNotOom result → has_frames_at (asks_lines_of (seen_scope scope.entry)
+    ensures ready { HadMemory result → has_frames_at (asks_lines_of (seen_scope scope.entry)
         (indexed_units scope.entry.file.units.now units.old.items)
         (answers_in entries.old.items) probe) probe (parsed_units units.new.items)
         entries.new.items number ≡ true }
@@ -92,7 +93,7 @@ fn find_frames_at<R: Reader>(
         → has_many_of (seen_scope scope.entry)
         (indexed_units scope.entry.file.units.now units.old.items)
         (answers_in entries.old.items) probe number ≡ false
-        → IsNotOom result }
+        → HadMemory result }
     ensures raised { looks.old ≤ looks.new }
 {
     let Some(dw_unit) = scope.file.units.get(number) else {
@@ -179,7 +180,7 @@ pub(crate) fn find_frames_along<R: Reader>(
         (indexed_units scope.entry.file.units.now units.old.items)
         (answers_in entries.old.items) probe n ≡ true))
         (parsed_units units.old.items) (parsed_units units.new.items) }
-    ensures ready { IsNotOom result → holds_along
+    ensures ready { HadMemory result → holds_along
         (has_frames_at (asks_lines_of (seen_scope scope.entry)
         (indexed_units scope.entry.file.units.now units.old.items)
         (answers_in entries.old.items) probe) probe (parsed_units units.new.items)
@@ -198,7 +199,7 @@ pub(crate) fn find_frames_along<R: Reader>(
         (asked_frames faults (seen_scope scope.entry)
         (indexed_units scope.entry.file.units.now units.old.items)
         (answers_in entries.old.items) probe) (ranges_left ranges.entry) ≡ true
-        → IsNotOom result }
+        → HadMemory result }
     ensures raised { looks.old ≤ looks.new }
 {
     while let Some(range) = ranges.next() {

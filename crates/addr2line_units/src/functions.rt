@@ -10,9 +10,9 @@ ghost use Rattle.addr2line_lines.specs.SeenScope.{seen_scope};
 ghost use Rattle.addr2line_units.specs.declared.parses.Reads.TheVariants as kinds;
 ghost use Rattle.addr2line_units.specs.Frames.{function_at};
 ghost use Rattle.addr2line_units.specs.FunctionParses.{IsReadyFor};
-ghost use Rattle.addr2line_units.specs.KeptFunctions.{AreFunctionsOf, IsPlaceIn, IsTableOf, ReadsNoOther, StayFunctions, are_many, find_takes_memory, function_of_place, functions_fault, kept_has_function, has_table, kept_functions, reading_takes_memory, table_takes_memory, were_read};
+ghost use Rattle.addr2line_units.specs.CachedFunctions.{AreFunctionsOf, ArePlacesIn, IsTableOf, ReadsNoOther, StayFunctions, are_many, find_takes_memory, function_of_place, functions_fault, cached_has_function, has_table, cached_functions, reading_takes_memory, table_takes_memory, were_read};
 ghost use Rattle.addr2line_units.specs.KnownEntries.{known_functions};
-ghost use Rattle.addr2line_units.specs.Parsed.{IsNotOom};
+ghost use Rattle.gimli_read.specs.Alike.{HadMemory};
 ghost use Rattle.addr2line_units.specs.UnitFrames.{is_many};
 
 use addr2line_lines::{Functions, Scope};
@@ -48,7 +48,7 @@ fn read_functions<R: Reader>(
 ) -> Result<LazyFunctions<R>, Error>
     ensures right { IfOk result (AreFunctionsOf (seen_scope scope.entry) view.now) }
     ensures read { IfOk result (λ f. were_read f ≡ true) }
-    ensures unread { IfOk result (λ f. AreUnread (kept_functions f)) }
+    ensures unread { IfOk result (λ f. AreUnread (cached_functions f)) }
     ensures refused { IfErr result (λ e. e ≡ OutOfMemory) }
 {
     match Functions::parse(alloc, UnitRef::new(scope.file.dwarf, view)) {
@@ -75,17 +75,17 @@ fn find_place<R: Reader>(
         (table_takes_memory probe functions.old && table_takes_memory probe functions.new)
         (option_map (function_of_place functions.new)) result
         (function_at (seen_scope scope.entry) view.now probe) }
-    ensures there { IfOk result (λ found. IfSome found (IsPlaceIn functions.new)) }
+    ensures there { IfOk result (λ found. IfSome found (ArePlacesIn functions.new)) }
     ensures right { IsTableOf (seen_scope scope.entry) view.now functions.new }
     ensures stay { IsTableMore functions.old functions.new }
     ensures alone { ReadsNoOther probe functions.old functions.new }
     ensures ready { result ≢ Err OutOfMemory
         → table_takes_memory probe functions.new ≡ are_many probe functions.new }
     ensures kept { has_table probe functions.old ≡ true → functions.new ≡ functions.old }
-    ensures known { IsNotOom result → has_table probe functions.new ≡ true }
+    ensures known { HadMemory result → has_table probe functions.new ≡ true }
     ensures memory { has_table probe functions.new ≡ true
         → is_many (function_at (seen_scope scope.entry) view.now probe) ≡ false
-        → IsNotOom result }
+        → HadMemory result }
 {
     let Some(place) = functions.find(probe) else {
         return Ok(None);
@@ -114,7 +114,7 @@ impl<R: Reader> LazyFunctions<R> {
         requires right { AreFunctionsOf (seen_scope scope) view.now self.old }
         ensures right { AreFunctionsOf (seen_scope scope.entry) view.now self.new }
         ensures read { OnOk result (were_read self.new ≡ true) }
-        ensures unread { were_read self.old ≡ false → AreUnread (kept_functions self.new) }
+        ensures unread { were_read self.old ≡ false → AreUnread (cached_functions self.new) }
         ensures kept { were_read self.old ≡ true → (self.new ≡ self.old) × (result ≡ Ok tt) }
         ensures refused { IfErr result (λ e. (e ≡ OutOfMemory) × (self.new ≡ self.old)) }
     {
@@ -140,19 +140,20 @@ impl<R: Reader> LazyFunctions<R> {
         requires right { AreFunctionsOf (seen_scope scope) view.now self.old }
         ensures gives { ExactlyUnlessOomIf
             (find_takes_memory probe self.old && find_takes_memory probe self.new)
-            (option_map (function_of_place (kept_functions self.new))) result
+            (option_map (function_of_place (cached_functions self.new))) result
             (function_at (seen_scope scope.entry) view.now probe) }
-        ensures there { IfOk result (λ found. IfSome found (IsPlaceIn (kept_functions self.new))) }
+        ensures there { IfOk result (λ found.
+            IfSome found (ArePlacesIn (cached_functions self.new))) }
         ensures right { AreFunctionsOf (seen_scope scope.entry) view.now self.new }
         ensures stay { StayFunctions self.old self.new }
-        ensures alone { ReadsNoOther probe (kept_functions self.old) (kept_functions self.new) }
+        ensures alone { ReadsNoOther probe (cached_functions self.old) (cached_functions self.new) }
         ensures ready { result ≢ Err OutOfMemory
-            → find_takes_memory probe self.new ≡ are_many probe (kept_functions self.new) }
-        ensures kept { kept_has_function probe self.old ≡ true → self.new ≡ self.old }
-        ensures known { IsNotOom result → kept_has_function probe self.new ≡ true }
-        ensures memory { kept_has_function probe self.new ≡ true
+            → find_takes_memory probe self.new ≡ are_many probe (cached_functions self.new) }
+        ensures kept { cached_has_function probe self.old ≡ true → self.new ≡ self.old }
+        ensures known { HadMemory result → cached_has_function probe self.new ≡ true }
+        ensures memory { cached_has_function probe self.new ≡ true
             → is_many (function_at (seen_scope scope.entry) view.now probe) ≡ false
-            → IsNotOom result }
+            → HadMemory result }
     {
         self.cache(alloc, scope, view)?;
         match self {
@@ -181,10 +182,10 @@ impl<R: Reader> LazyFunctions<R> {
         ensures stay { StayFunctions self.old self.new }
         ensures read { OnOk result (were_read self.new ≡ true) }
         ensures details { OnOk result
-            (AllByRecursion HasDetail (kept_functions self.new).functions) }
+            (AllByRecursion HasDetail (cached_functions self.new).functions) }
         ensures ready { OnOk result ((probe : ℕ)
-            → find_takes_memory probe self.new ≡ are_many probe (kept_functions self.new)) }
-        ensures ready_for_all { IsNotOom result
+            → find_takes_memory probe self.new ≡ are_many probe (cached_functions self.new)) }
+        ensures ready_for_all { HadMemory result
             → IsReadyFor kinds.Details (known_functions self.new) }
         ensures exact { IsReadyFor kinds.Details (known_functions self.old)
             → result ≡ functions_fault (seen_scope scope.entry) view.now }

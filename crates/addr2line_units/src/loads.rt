@@ -9,12 +9,12 @@ ghost use Rattle.gimli.specs.Unit.{UnitRecord};
 ghost use Rattle.addr2line_lines.specs.SeenScope.{seen_scope};
 ghost use Rattle.addr2line_units.specs.Cover.{cover};
 ghost use Rattle.addr2line_units.specs.FramesLookup.{answer_of, with_answer};
-ghost use Rattle.addr2line_units.specs.KeptEntries.{AreEntriesOf, StayEntries, kept_answer};
-ghost use Rattle.addr2line_units.specs.KeptLookups.{HaveEntriesOf, StayAllEntries, answers_in, decided_at, scope_in};
-ghost use Rattle.addr2line_units.specs.KeptViews.{is_decided, seen_load};
+ghost use Rattle.addr2line_units.specs.CachedEntries.{AreEntriesOf, StayEntries, kept_answer};
+ghost use Rattle.addr2line_units.specs.CachedLookups.{HaveEntriesOf, StayAllEntries, answers_in, decided_at, scope_in};
+ghost use Rattle.addr2line_units.specs.CachedViews.{is_decided, seen_load};
 ghost use Rattle.addr2line_units.specs.ListedLoads.{MarksLoad, MarksUnit, if_new, is_marked};
 ghost use Rattle.addr2line_units.specs.Loads.{AreSettled, forget_result, forgotten, is_open_at, load_of_number, load_result, loads_along, view_fault};
-ghost use Rattle.addr2line_units.specs.Parsed.{IsNotOom};
+ghost use Rattle.gimli_read.specs.Alike.{HadMemory};
 ghost use Rattle.addr2line_units.specs.UnitRangesLeft.{ranges_left};
 ghost use Rattle.addr2line_units.specs.Views.{awaited_load, is_open, verdict};
 
@@ -82,7 +82,7 @@ impl<R: Reader> ResUnits<R> {
         ensures gives { ExactlyUnlessOom (λ x. x) result (load_result dwarf.now
             self.old.dw_units.items (answers_in self.old.entries.items) token.number
             (option_map (λ d. d.value) sections)) }
-        ensures answers { IsNotOom result → answers_in self.new.entries.items
+        ensures answers { HadMemory result → answers_in self.new.entries.items
             ≡ with_answer dwarf.now self.old.dw_units.items (answers_in self.old.entries.items)
             token.number (option_map (λ d. d.value) sections) }
         ensures begun { (answers_in self.new.entries.items ≡ answers_in self.old.entries.items)

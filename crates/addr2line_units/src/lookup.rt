@@ -3,8 +3,10 @@
 ghost use Rattle.std.specs.Prelude.{◌≡◌, ◌+◌, ◌<◌, ◌≤◌, [], None, true, IfErr, OnOk, Ok, option_map, slice_get};
 ghost use Rattle.gimli_read.specs.declared.error.Error.TheVariants.{OutOfMemory};
 ghost use Rattle.gimli_read.specs.Reading.{Exactly, ExactlyUnlessOom};
-ghost use Rattle.addr2line_units.specs.Located.{all_lines, along, is_found, lines_fault, location_in, looks_along, looks_in};
-ghost use Rattle.addr2line_units.specs.Parsed.{AllAskFor, AreAllParsed, AreParsed, AreReadyForAll, AsksFor, IsNotOom, LeadTo, ParsesOnly, has_parsed, ready_along};
+ghost use Rattle.gimli_line.specs.Opcode.{fault_of};
+ghost use Rattle.addr2line_units.specs.Located.{all_lines, along, is_found, location_in, looks_along, looks_in};
+ghost use Rattle.gimli_read.specs.Alike.{HadMemory};
+ghost use Rattle.addr2line_units.specs.Parsed.{AllAskFor, AreAllParsed, AreParsed, AreReadyForAll, AsksFor, LeadTo, ParsesOnly, has_parsed, ready_along};
 ghost use Rattle.addr2line_units.specs.UnitRangesLeft.{ranges_left};
 ghost use Rattle.addr2line_units.specs.CachedLines.{HaveLinesOf, StayUnits, indexed_units, lines_answer_at, location_at_place, parsed_units, place_of_row};
 
@@ -35,8 +37,8 @@ fn find_row_in<R: Reader>(
         (option_map (λ row. location_at_place units.new.items (place_of_row number row))) result
         (location_in dwarf.now probe
         (slice_get (indexed_units dw_units.now units.old.items) number)) }
-    ensures parsed { IsNotOom result → has_parsed (parsed_units units.new.items) number ≡ true }
-    ensures memory { has_parsed (parsed_units units.new.items) number ≡ true → IsNotOom result }
+    ensures parsed { HadMemory result → has_parsed (parsed_units units.new.items) number ≡ true }
+    ensures memory { has_parsed (parsed_units units.new.items) number ≡ true → HadMemory result }
     ensures only { ParsesOnly (λ n. n ≡ number)
         (parsed_units units.old.items) (parsed_units units.new.items) }
     ensures stay { StayUnits units.old.items units.new.items }
@@ -73,11 +75,11 @@ pub(crate) fn find_place_along<R: Reader>(
         (option_map (location_at_place units.new.items)) result
         (along dwarf.now (indexed_units dw_units.now units.old.items) probe
         (ranges_left ranges.entry)) }
-    ensures ready { IsNotOom result → ready_along dwarf.now
+    ensures ready { HadMemory result → ready_along dwarf.now
         (indexed_units dw_units.now units.old.items) (parsed_units units.new.items) probe
         (ranges_left ranges.entry) ≡ true }
     ensures memory { ready_along dwarf.now (indexed_units dw_units.now units.old.items)
-        (parsed_units units.new.items) probe (ranges_left ranges.entry) ≡ true → IsNotOom result }
+        (parsed_units units.new.items) probe (ranges_left ranges.entry) ≡ true → HadMemory result }
     ensures only { ParsesOnly (AsksFor dwarf.now (indexed_units dw_units.now units.old.items) probe
         (ranges_left ranges.entry))
         (parsed_units units.old.items) (parsed_units units.new.items) }
@@ -112,7 +114,7 @@ fn cache_lines_in<R: Reader>(
     requires read { HaveLinesOf dwarf.now dw_units.now units.old.items }
     ensures exact { has_parsed (parsed_units units.old.items) number ≡ true → result ≡ Ok tt }
     ensures parsed { OnOk result (has_parsed (parsed_units units.new.items) number ≡ true) }
-    ensures memory { has_parsed (parsed_units units.new.items) number ≡ true → IsNotOom result }
+    ensures memory { has_parsed (parsed_units units.new.items) number ≡ true → HadMemory result }
     ensures only { ParsesOnly (λ n. n ≡ number)
         (parsed_units units.old.items) (parsed_units units.new.items) }
     ensures refused { IfErr result (λ e. e ≡ OutOfMemory) }
@@ -141,7 +143,7 @@ pub(crate) fn cache_lines_along<R: Reader>(
     ensures parsed { OnOk result
         (AreParsed (parsed_units units.new.items) (ranges_left ranges.entry)) }
     ensures memory { AreParsed (parsed_units units.new.items) (ranges_left ranges.entry)
-        → IsNotOom result }
+        → HadMemory result }
     ensures only { ParsesOnly (LeadTo (ranges_left ranges.entry))
         (parsed_units units.old.items) (parsed_units units.new.items) }
     ensures refused { IfErr result (λ e. e ≡ OutOfMemory) }
@@ -169,8 +171,8 @@ fn read_lines_in<R: Reader>(
     ensures exact { has_parsed (parsed_units units.old.items) number ≡ true → Exactly (λ x. x)
         result (lines_answer_at dwarf.now
         (slice_get (indexed_units dw_units.now units.old.items) number)) }
-    ensures parsed { IsNotOom result → has_parsed (parsed_units units.new.items) number ≡ true }
-    ensures memory { has_parsed (parsed_units units.new.items) number ≡ true → IsNotOom result }
+    ensures parsed { HadMemory result → has_parsed (parsed_units units.new.items) number ≡ true }
+    ensures memory { has_parsed (parsed_units units.new.items) number ≡ true → HadMemory result }
     ensures only { ParsesOnly (λ n. n ≡ number)
         (parsed_units units.old.items) (parsed_units units.new.items) }
     ensures stay { StayUnits units.old.items units.new.items }
@@ -193,14 +195,14 @@ pub(crate) fn read_all_lines<R: Reader>(
 ) -> Result<(), Error>
     requires read { HaveLinesOf dwarf.now dw_units.now units.old.items }
     ensures gives { ExactlyUnlessOom (λ x. x) result
-        (lines_fault (all_lines dwarf.now (indexed_units dw_units.now units.old.items))) }
+        (fault_of (all_lines dwarf.now (indexed_units dw_units.now units.old.items))) }
     ensures exact { AreReadyForAll dwarf.now (indexed_units dw_units.now units.old.items)
         (parsed_units units.old.items) → Exactly (λ x. x) result
-        (lines_fault (all_lines dwarf.now (indexed_units dw_units.now units.old.items))) }
-    ensures ready { IsNotOom result → AreReadyForAll dwarf.now
+        (fault_of (all_lines dwarf.now (indexed_units dw_units.now units.old.items))) }
+    ensures ready { HadMemory result → AreReadyForAll dwarf.now
         (indexed_units dw_units.now units.old.items) (parsed_units units.new.items) }
     ensures memory { AreReadyForAll dwarf.now (indexed_units dw_units.now units.old.items)
-        (parsed_units units.new.items) → IsNotOom result }
+        (parsed_units units.new.items) → HadMemory result }
     ensures parsed { OnOk result (AreAllParsed (parsed_units units.new.items)) }
     ensures only { ParsesOnly (AllAskFor dwarf.now (indexed_units dw_units.now units.old.items))
         (parsed_units units.old.items) (parsed_units units.new.items) }

@@ -13,14 +13,15 @@ ghost use Rattle.addr2line_units.specs.Indexed.{units_in};
 ghost use Rattle.addr2line_lines.specs.Location.{location_of_row};
 ghost use Rattle.addr2line_units.specs.CachedLines.{cached_files};
 ghost use Rattle.addr2line_units.specs.Frames.{found_frames};
-ghost use Rattle.addr2line_units.specs.KeptEntries.{AreRead};
-ghost use Rattle.addr2line_units.specs.KeptFunctions.{IsPlaceIn, function_of_place, kept_functions};
-ghost use Rattle.addr2line_units.specs.KeptLookups.{HaveEntriesOf, HaveViewsOf, IsFramePlaceIn, IsStopIn, ReadsOnly, StayAllEntries, WaitsIn, answers_in, decided_at, frames_at_place, has_frames_at, scope_in, seen_stop, sup_file, waits_at};
-ghost use Rattle.addr2line_units.specs.KeptViews.{seen_load};
+ghost use Rattle.addr2line_units.specs.CachedEntries.{AreRead};
+ghost use Rattle.addr2line_units.specs.CachedFunctions.{ArePlacesIn, function_of_place, cached_functions};
+ghost use Rattle.addr2line_units.specs.CachedLookups.{HaveEntriesOf, HaveViewsOf, IsFramePlaceIn, IsStopIn, ReadsOnly, StayAllEntries, WaitsIn, answers_in, decided_at, frames_at_place, has_frames_at, scope_in, seen_stop, sup_file, waits_at};
+ghost use Rattle.addr2line_units.specs.CachedViews.{seen_load};
 ghost use Rattle.addr2line_units.specs.SeenUnit.{seen_unit};
 ghost use Rattle.addr2line_units.specs.Loads.{is_open_at};
 ghost use Rattle.addr2line_units.specs.Views.{load_of_unit, parts_of};
-ghost use Rattle.addr2line_units.specs.Parsed.{IsNotOom, ParsesOnly};
+ghost use Rattle.gimli_read.specs.Alike.{HadMemory};
+ghost use Rattle.addr2line_units.specs.Parsed.{ParsesOnly};
 
 use crate::frame::{FrameIter, frames_of};
 use crate::frames_lookup::{Faults, FramePlace, FramesStop, find_frames_along};
@@ -58,10 +59,10 @@ fn frames_in_unit<'ctx, R: Reader>(
     function: &'ctx Option<FunctionPlace>,
     row: Option<Row>,
 ) -> FrameIter<'ctx, R>
-    requires function { IfSome function.now (IsPlaceIn (kept_functions entries.now.functions)) }
+    requires function { IfSome function.now (ArePlacesIn (cached_functions entries.now.functions)) }
     requires read { AreRead unit.now.lines }
     ensures gives { frames_left result ≡ found_frames (cached_files unit.now.lines) unit.now.lang
-        (option_map (function_of_place (kept_functions entries.now.functions)) function.now)
+        (option_map (function_of_place (cached_functions entries.now.functions)) function.now)
         (option_map (location_of_row (cached_files unit.now.lines)) row) }
 {
     let LazyLines::Read(lines) = &unit.lines else {
@@ -152,7 +153,7 @@ impl<R: Reader> ResUnits<R> {
             × (asks_lines_of (scope_in dwarf.now self.old.dw_units.items sup.now)
             (units_in self.old) (answers_in self.old.entries.items) probe n ≡ true))
             (parsed_units self.old.units.items) (parsed_units self.new.units.items) }
-        ensures ready { IsNotOom result → holds_along
+        ensures ready { HadMemory result → holds_along
             (has_frames_at (asks_lines_of (scope_in dwarf.now self.old.dw_units.items sup.now)
             (units_in self.old) (answers_in self.old.entries.items) probe) probe
             (parsed_units self.new.units.items) self.new.entries.items)
@@ -167,7 +168,7 @@ impl<R: Reader> ResUnits<R> {
             (units_in self.old) (answers_in self.old.entries.items) probe n))
             (asked_frames faults (scope_in dwarf.now self.old.dw_units.items sup.now)
             (units_in self.old) (answers_in self.old.entries.items) probe)
-            (cover probe self.old.ranges) ≡ true → IsNotOom result }
+            (cover probe self.old.ranges) ≡ true → HadMemory result }
         ensures raised { looks.old ≤ looks.new }
     {
         let scope = Scope {

@@ -7,13 +7,13 @@ ghost use Rattle.addr2line_lines.specs.SeenScope.{seen_scope};
 ghost use Rattle.addr2line_units.specs.declared.parses.Reads.TheVariants.{Details, Functions};
 ghost use Rattle.addr2line_units.specs.FramesLookup.{with_answer};
 ghost use Rattle.addr2line_units.specs.FunctionParses.{AreFirstDecided, AreReadBefore, AreReadyFor, IsReadyFor, answers_after_parse, read_of_functions, read_of_number, read_of_unit, read_of_units, read_of_view};
-ghost use Rattle.addr2line_units.specs.KeptEntries.{AreEntriesOf, StayEntries, kept_answer};
-ghost use Rattle.addr2line_units.specs.KeptFunctions.{AreFunctionsOf, StayFunctions};
-ghost use Rattle.addr2line_units.specs.KeptLookups.{HaveEntriesOf, StayAllEntries, answers_in, has_entries_at, scope_in};
-ghost use Rattle.addr2line_units.specs.KeptParses.{AreDecided, AreReadyUnits, ChangesOnly, HasRead, HaveFunctions, HaveRead, IsReadyUnit, StayDecided};
-ghost use Rattle.addr2line_units.specs.KeptViews.{is_decided, seen_first_answer};
+ghost use Rattle.addr2line_units.specs.CachedEntries.{AreEntriesOf, StayEntries, kept_answer};
+ghost use Rattle.addr2line_units.specs.CachedFunctions.{AreFunctionsOf, StayFunctions};
+ghost use Rattle.addr2line_units.specs.CachedLookups.{HaveEntriesOf, StayAllEntries, answers_in, has_entries_at, scope_in};
+ghost use Rattle.addr2line_units.specs.CachedParses.{AreDecided, AreReadyUnits, ChangesOnly, HasRead, HaveFunctions, HaveRead, IsReadyUnit, StayDecided};
+ghost use Rattle.addr2line_units.specs.CachedViews.{is_decided, seen_first_answer};
 ghost use Rattle.addr2line_units.specs.KnownEntries.{known_by, known_functions, known_in};
-ghost use Rattle.addr2line_units.specs.Parsed.{IsNotOom};
+ghost use Rattle.gimli_read.specs.Alike.{HadMemory};
 ghost use Rattle.addr2line_units.specs.Views.{decided_answer, verdict};
 
 use crate::functions::LazyFunctions;
@@ -52,7 +52,7 @@ impl<R: Reader> LazyFunctions<R> {
         ensures stay { StayFunctions self.old self.new }
         ensures read { OnOk result (HaveFunctions Functions self.new) }
         ensures memory { HaveFunctions Functions self.old → result ≡ Ok tt }
-        ensures ready_for_all { IsNotOom result
+        ensures ready_for_all { HadMemory result
             → IsReadyFor Functions (known_functions self.new) }
         ensures exact { IsReadyFor Functions (known_functions self.old)
             → result ≡ read_of_functions Functions (seen_scope scope.entry) view.now }
@@ -82,7 +82,7 @@ impl<R: Reader> LazyFunctions<R> {
         ensures stay { StayFunctions self.old self.new }
         ensures read { OnOk result (HaveFunctions reads self.new) }
         ensures memory { HaveFunctions reads self.old → result ≡ Ok tt }
-        ensures ready_for_all { IsNotOom result → IsReadyFor reads (known_functions self.new) }
+        ensures ready_for_all { HadMemory result → IsReadyFor reads (known_functions self.new) }
         ensures exact { IsReadyFor reads (known_functions self.old)
             → result ≡ read_of_functions reads (seen_scope scope.entry) view.now }
         ensures same { IsReadyFor reads (known_functions self.old) → self.new ≡ self.old }
@@ -116,7 +116,7 @@ fn read_in_view<'x, R: Reader>(
         (record { view = view.now; functions = functions.new })) }
     ensures memory { HasRead reads (record { view = view.now; functions = functions.old })
         → result ≡ Ok tt }
-    ensures ready_for_all { IsNotOom result
+    ensures ready_for_all { HadMemory result
         → IsReadyFor reads (known_by view.now.state functions.new) }
     ensures exact { IsReadyFor reads (known_by view.now.state functions.old)
         → result ≡ read_of_view reads (seen_scope scope.entry)
@@ -148,7 +148,7 @@ impl<R: Reader> UnitEntries<R> {
         ensures gives { ExactlyUnlessOom (λ x. x) result (read_of_unit reads
             (seen_scope scope.entry) dw_unit.now (kept_answer self.old)) }
         ensures kept { AreEntriesOf (seen_scope scope.entry) dw_unit.now self.new }
-        ensures answer { IsNotOom result → kept_answer self.new ≡ decided_answer
+        ensures answer { HadMemory result → kept_answer self.new ≡ decided_answer
             scope.entry.file.dwarf.now dw_unit.now (kept_answer self.old) None }
         ensures memory_answer { (kept_answer self.new ≡ kept_answer self.old)
             ⊎ (kept_answer self.new ≡ decided_answer scope.entry.file.dwarf.now dw_unit.now
@@ -156,7 +156,7 @@ impl<R: Reader> UnitEntries<R> {
         ensures stay { is_decided self.old.view.state ≡ true → StayEntries self.old self.new }
         ensures read { OnOk result (HasRead reads self.new) }
         ensures memory { HasRead reads self.old → result ≡ Ok tt }
-        ensures ready_for_all { IsNotOom result → IsReadyUnit reads self.new }
+        ensures ready_for_all { HadMemory result → IsReadyUnit reads self.new }
         ensures exact { IsReadyUnit reads self.old → result ≡ read_of_unit reads
             (seen_scope scope.entry) dw_unit.now (kept_answer self.old) }
         ensures same { IsReadyUnit reads self.old → self.new ≡ self.old }
@@ -183,7 +183,7 @@ fn read_functions_in<R: Reader>(
         number) }
     ensures kept { HaveEntriesOf (seen_scope scope.entry) scope.entry.file.units.now
         entries.new.items }
-    ensures answers { IsNotOom result → answers_in entries.new.items
+    ensures answers { HadMemory result → answers_in entries.new.items
         ≡ with_answer scope.entry.file.dwarf.now scope.entry.file.units.now
         (answers_in entries.old.items) number None }
     ensures memory_answers { (answers_in entries.new.items ≡ answers_in entries.old.items)
@@ -194,7 +194,7 @@ fn read_functions_in<R: Reader>(
     ensures read { OnOk result (IfSome (slice_get entries.new.items number) (HasRead reads)) }
     ensures memory { IfSome (slice_get entries.old.items number) (HasRead reads)
         → result ≡ Ok tt }
-    ensures ready_for_all { IsNotOom result
+    ensures ready_for_all { HadMemory result
         → IfSome (slice_get entries.new.items number) (IsReadyUnit reads) }
     ensures exact { IfSome (slice_get entries.old.items number) (IsReadyUnit reads)
         → result ≡ read_of_number reads (seen_scope scope.entry) scope.entry.file.units.now
@@ -223,7 +223,7 @@ fn read_all_functions<R: Reader>(
         (seen_scope scope.entry) scope.entry.file.units.now (answers_in entries.old.items)) }
     ensures kept { HaveEntriesOf (seen_scope scope.entry) scope.entry.file.units.now
         entries.new.items }
-    ensures answers { IsNotOom result → answers_in entries.new.items
+    ensures answers { HadMemory result → answers_in entries.new.items
         ≡ answers_after_parse reads (seen_scope scope.entry) scope.entry.file.units.now
         (answers_in entries.old.items) }
     ensures begun { AreFirstDecided reads (seen_scope scope.entry)
@@ -235,7 +235,7 @@ fn read_all_functions<R: Reader>(
         entries.old.items entries.new.items }
     ensures read { OnOk result (HaveRead reads entries.new.items) }
     ensures memory { HaveRead reads entries.old.items → result ≡ Ok tt }
-    ensures ready_for_all { IsNotOom result → AreReadyUnits reads (seen_scope scope.entry)
+    ensures ready_for_all { HadMemory result → AreReadyUnits reads (seen_scope scope.entry)
         scope.entry.file.units.now (answers_in entries.old.items) entries.new.items }
     ensures exact { AreReadyUnits reads (seen_scope scope.entry) scope.entry.file.units.now
         (answers_in entries.old.items) entries.old.items
@@ -259,7 +259,7 @@ impl<R: Reader> ResUnits<R> {
     /// as they are.
     ///
     /// Refused by the first fault of a view, its functions and the details; may fail with
-    /// `OutOfMemory` instead, which is never kept: then some of the first units that it would
+    /// `OutOfMemory` instead, which is never cached: then some of the first units that it would
     /// decide are decided. Takes no memory, and changes nothing, where all that it reads is kept,
     /// up to the first fault, and that fault. Source: DWARF 5, sections 3.3.1 and 3.3.8.
     pub fn read_functions(
@@ -277,7 +277,7 @@ impl<R: Reader> ResUnits<R> {
             (answers_in self.old.entries.items)) }
         ensures kept { HaveEntriesOf (scope_in dwarf.now self.new.dw_units.items sup.now)
             self.new.dw_units.items self.new.entries.items }
-        ensures answers { IsNotOom result → answers_in self.new.entries.items
+        ensures answers { HadMemory result → answers_in self.new.entries.items
             ≡ answers_after_parse reads (scope_in dwarf.now self.old.dw_units.items sup.now)
             self.old.dw_units.items (answers_in self.old.entries.items) }
         ensures begun { AreFirstDecided reads
@@ -294,7 +294,7 @@ impl<R: Reader> ResUnits<R> {
         ensures memory { HaveRead reads self.old.entries.items → result ≡ Ok tt }
         ensures same { HaveRead reads self.old.entries.items
             → StayAllEntries self.old.entries.items self.new.entries.items }
-        ensures ready_for_all { IsNotOom result → AreReadyFor reads
+        ensures ready_for_all { HadMemory result → AreReadyFor reads
             (scope_in dwarf.now self.old.dw_units.items sup.now) self.old.dw_units.items
             (answers_in self.new.entries.items) (known_in self.new.entries.items) }
         ensures exact { AreReadyFor reads (scope_in dwarf.now self.old.dw_units.items sup.now)

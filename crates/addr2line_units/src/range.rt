@@ -3,9 +3,9 @@
 ghost use Rattle.std.specs.Prelude.{◌≡◌, option_map};
 ghost use Rattle.addr2line_lines.specs.Rows.{result_map};
 ghost use Rattle.addr2line_units.specs.CachedLines.{cached_spans, lines_at};
-ghost use Rattle.addr2line_lines.specs.RangesLeft.{located_rows_left};
+ghost use Rattle.addr2line_lines.specs.RangesLeft.{located_rows_left, seen_located};
 ghost use Rattle.addr2line_units.specs.LocationsLeft.{locations_left};
-ghost use Rattle.addr2line_units.specs.RangeLookup.{YieldsOn, YieldsRow, cached_along, rows_or_fault, seen_located_span};
+ghost use Rattle.addr2line_units.specs.RangeLookup.{YieldsOn, YieldsRow, cached_along, rows_or_fault};
 ghost use Rattle.addr2line_units.specs.UnitRangesLeft.{ranges_left};
 
 use crate::index::UnitRange;
@@ -91,7 +91,7 @@ impl<'ctx, R: Reader> LocationRangeIter<'ctx, R> {
     /// the next unit range. Source: DWARF 5, section 6.2.2.
     pub fn next_loc(&mut self) -> Result<Option<(u64, u64, Location<'ctx>)>, Error>
         ensures gives { YieldsOn (locations_left self.old)
-            (result_map (option_map seen_located_span) result) (locations_left self.new) }
+            (result_map (option_map seen_located) result) (locations_left self.new) }
     {
         loop {
             if let Some(rows) = &mut self.rows {
@@ -113,7 +113,7 @@ impl<'ctx, R: Reader> Iterator for LocationRangeIter<'ctx, R> {
     ghost use Rattle.std.specs.Iterator.{item_count};
 
     ghost next_gives = { λ old result new. YieldsRow (locations_left old)
-        (option_map seen_located_span result) (locations_left new) };
+        (option_map seen_located result) (locations_left new) };
 
     ghost remaining = { item_count locations_left };
 

@@ -11,7 +11,7 @@ ghost use Rattle.addr2line_units.specs.Located.{is_found, location_in, looks_in}
 ghost use Rattle.addr2line_units.specs.UnitAranges.{range_in};
 ghost use Rattle.addr2line_units.specs.CachedLines.{AreLinesOf, IsUnparsed, LinesStayCached, CachesAnswer, StaysUnit, cached_answer, cached_files, cached_looks, cached_ranges, cached_row, indexed_unit, lines_answer, cached_lines, is_parsed, is_uncached};
 ghost use Rattle.addr2line_units.specs.Indexed.{ranged_seen};
-ghost use Rattle.addr2line_units.specs.Parsed.{IsNotOom};
+ghost use Rattle.gimli_read.specs.Alike.{HadMemory};
 
 use crate::aranges::{UnitArange, UnitAranges};
 use crate::attributes::read_unit_attributes;
@@ -246,7 +246,7 @@ impl ResUnit {
             (lines_answer dwarf.now dw_unit.now) }
         ensures stays { LinesStayCached self.old.lines self.new.lines }
         ensures caches { CachesAnswer self.old.lines result self.new.lines }
-        ensures memory { is_uncached self.new.lines ≡ false → IsNotOom result }
+        ensures memory { is_uncached self.new.lines ≡ false → HadMemory result }
         ensures lang { self.new.lang ≡ self.old.lang }
         ensures read { AreLinesOf dwarf.now dw_unit.now self.new.lines }
     {
@@ -299,7 +299,7 @@ impl ResUnit {
             (location_in dwarf.now probe (Some (indexed_unit dw_unit.now self.old))) }
         ensures stays { StaysUnit self.old self.new }
         ensures caches { CachesAnswer self.old.lines result self.new.lines }
-        ensures memory { is_uncached self.new.lines ≡ false → IsNotOom result }
+        ensures memory { is_uncached self.new.lines ≡ false → HadMemory result }
         ensures read { AreLinesOf dwarf.now dw_unit.now self.new.lines }
         ensures cost { looks.new ≤ looks.old
             + looks_in dwarf.now (Some (indexed_unit dw_unit.now self.old)) }

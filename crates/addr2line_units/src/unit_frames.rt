@@ -6,10 +6,10 @@ ghost use Rattle.gimli_read.specs.Reading.{ExactlyUnlessOom};
 ghost use Rattle.addr2line_lines.specs.References.{IsScope};
 ghost use Rattle.addr2line_lines.specs.SeenScope.{seen_scope};
 ghost use Rattle.addr2line_units.specs.CachedLines.{AreLinesOf, StaysUnit, indexed_unit, is_uncached};
-ghost use Rattle.addr2line_units.specs.KeptEntries.{AreEntriesOf, AreFramesIn, AreFresh, ReadsEntriesOf, StayEntries, frames_of_place, has_entries, has_entries_by, kept_answer};
-ghost use Rattle.addr2line_units.specs.KeptFunctions.{IsPlaceIn, ReadsNoOther, StayFunctions, function_of_place, kept_functions};
-ghost use Rattle.addr2line_units.specs.KeptViews.{is_decided, seen_first_answer, waits, was_looked_at};
-ghost use Rattle.addr2line_units.specs.Parsed.{IsNotOom};
+ghost use Rattle.addr2line_units.specs.CachedEntries.{AreEntriesOf, AreFramesIn, AreFresh, ReadsEntriesOf, StayEntries, frames_of_place, has_entries, has_entries_by, kept_answer};
+ghost use Rattle.addr2line_units.specs.CachedFunctions.{ArePlacesIn, ReadsNoOther, StayFunctions, function_of_place, cached_functions};
+ghost use Rattle.addr2line_units.specs.CachedViews.{is_decided, seen_first_answer, waits, was_looked_at};
+ghost use Rattle.gimli_read.specs.Alike.{HadMemory};
 ghost use Rattle.addr2line_units.specs.UnitFrames.{asks_lines_in, frames_in, function_in, has_many};
 ghost use Rattle.addr2line_units.specs.Views.{is_open};
 
@@ -54,22 +54,22 @@ fn find_in_view<'x, R: Reader>(
         (record { view = view.now; functions = functions.old }) }
     requires decided { is_decided view.now.state ≡ true }
     ensures gives { ExactlyUnlessOom
-        (option_map (function_of_place (kept_functions functions.new))) result
+        (option_map (function_of_place (cached_functions functions.new))) result
         (function_in (seen_scope scope.entry) dw_unit.now (seen_first_answer view.now) probe) }
     ensures there { IfOk result (λ found. IfSome found
-        (IsPlaceIn (kept_functions functions.new))) }
+        (ArePlacesIn (cached_functions functions.new))) }
     ensures kept { AreEntriesOf (seen_scope scope.entry) dw_unit.now
         (record { view = view.now; functions = functions.new }) }
     ensures stay { StayFunctions functions.old functions.new }
-    ensures alone { ReadsNoOther probe (kept_functions functions.old)
-        (kept_functions functions.new) }
+    ensures alone { ReadsNoOther probe (cached_functions functions.old)
+        (cached_functions functions.new) }
     ensures same { has_entries_by probe view.now.state functions.old ≡ true
         → functions.new ≡ functions.old }
-    ensures ready { IsNotOom result
+    ensures ready { HadMemory result
         → has_entries_by probe view.now.state functions.new ≡ true }
     ensures memory { has_entries_by probe view.now.state functions.new ≡ true
         → has_many (seen_scope scope.entry) dw_unit.now (seen_first_answer view.now) probe ≡ false
-        → IsNotOom result }
+        → HadMemory result }
 {
     let unit = view.unit_ref(scope.file.dwarf, dw_unit)?;
     functions.find(alloc, view.scope_of(scope), unit.unit, probe)
@@ -117,17 +117,17 @@ impl<R: Reader> UnitEntries<R> {
         requires looked { was_looked_at self.old.view.state ≡ true }
         requires decided { waits self.old.view.state ≡ false }
         ensures gives { ExactlyUnlessOom
-            (option_map (function_of_place (kept_functions self.new.functions))) result
+            (option_map (function_of_place (cached_functions self.new.functions))) result
             (function_in (seen_scope scope.entry) dw_unit.now (kept_answer self.old) probe) }
         ensures there { IfOk result (λ found. IfSome found
-            (IsPlaceIn (kept_functions self.new.functions))) }
+            (ArePlacesIn (cached_functions self.new.functions))) }
         ensures kept { AreEntriesOf (seen_scope scope.entry) dw_unit.now self.new }
         ensures stay { StayEntries self.old self.new }
         ensures only { ReadsEntriesOf probe self.old self.new }
-        ensures ready { IsNotOom result → has_entries probe self.new ≡ true }
+        ensures ready { HadMemory result → has_entries probe self.new ≡ true }
         ensures memory { has_entries probe self.new ≡ true
             → has_many (seen_scope scope.entry) dw_unit.now (kept_answer self.old) probe ≡ false
-            → IsNotOom result }
+            → HadMemory result }
     {
         let UnitEntries { view, functions } = self;
         find_in_view(alloc, view, functions, scope, dw_unit, probe)
@@ -164,15 +164,15 @@ pub(crate) fn find_frames_in<'x, R: Reader>(
     ensures only { ReadsEntriesOf probe entries.old entries.new }
     ensures lines { asks_lines_in (seen_scope scope.entry) dw_unit.now (kept_answer entries.old)
         probe ≡ false → unit.new ≡ unit.old }
-    ensures ready { IsNotOom result → has_entries probe entries.new ≡ true }
-    ensures parsed { IsNotOom result
+    ensures ready { HadMemory result → has_entries probe entries.new ≡ true }
+    ensures parsed { HadMemory result
         → asks_lines_in (seen_scope scope.entry) dw_unit.now (kept_answer entries.old) probe ≡ true
         → is_uncached unit.new.lines ≡ false }
     ensures memory { has_entries probe entries.new ≡ true
         → (asks_lines_in (seen_scope scope.entry) dw_unit.now (kept_answer entries.old) probe ≡ true
         → is_uncached unit.new.lines ≡ false)
         → has_many (seen_scope scope.entry) dw_unit.now (kept_answer entries.old) probe ≡ false
-        → IsNotOom result }
+        → HadMemory result }
     ensures raised { looks.old ≤ looks.new }
 {
     entries.look(scope, dw_unit);

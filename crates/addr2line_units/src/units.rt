@@ -6,10 +6,12 @@ ghost use Rattle.gimli_read.specs.Reading.{Exactly, ExactlyUnlessOom, ExactlyUnl
 ghost use Rattle.addr2line_units.specs.UnitIndex.{range_of_unit, unit_of_header};
 ghost use Rattle.addr2line_units.specs.Indexed.{index_seen, index_takes_memory, indexed, indexed_with, no_index, ranged_seen, indexed_unit_takes_memory, units_in, units_seen, units_take_memory, with_header, with_ranged};
 ghost use Rattle.addr2line_units.specs.CachedLines.{HaveLinesOf, IsUnparsed, StayUnits, cached_files, location_at_place, parsed_units};
-ghost use Rattle.addr2line_units.specs.KeptLookups.{AreFreshOf};
+ghost use Rattle.addr2line_units.specs.CachedLookups.{AreFreshOf};
 ghost use Rattle.addr2line_units.specs.LocationsLeft.{locations_left};
-ghost use Rattle.addr2line_units.specs.Located.{all_lines, along, is_found, lines_fault, looks_along};
-ghost use Rattle.addr2line_units.specs.Parsed.{AllAskFor, AreAllParsed, AreParsed, AreReadyForAll, AsksFor, IsNotOom, LeadTo, ParsesOnly, ready_along};
+ghost use Rattle.gimli_line.specs.Opcode.{fault_of};
+ghost use Rattle.addr2line_units.specs.Located.{all_lines, along, is_found, looks_along};
+ghost use Rattle.gimli_read.specs.Alike.{HadMemory};
+ghost use Rattle.addr2line_units.specs.Parsed.{AllAskFor, AreAllParsed, AreParsed, AreReadyForAll, AsksFor, LeadTo, ParsesOnly, ready_along};
 ghost use Rattle.addr2line_units.specs.RangeLookup.{cached_along};
 ghost use Rattle.addr2line_units.specs.Cover.{cover, cover_range};
 ghost use Rattle.addr2line_lines.specs.Location.{location_of_row};
@@ -262,12 +264,12 @@ impl<R: Reader> ResUnits<R> {
             → Exactly (option_map (location_at_place self.new.units.items)) result
             (along dwarf.now (units_in self.old) probe
             (cover probe self.old.ranges)) }
-        ensures ready { IsNotOom result → ready_along dwarf.now
+        ensures ready { HadMemory result → ready_along dwarf.now
             (units_in self.old) (parsed_units self.new.units.items) probe
             (cover probe self.old.ranges) ≡ true }
         ensures memory { ready_along dwarf.now (units_in self.old)
             (parsed_units self.new.units.items) probe (cover probe self.old.ranges) ≡ true
-            → IsNotOom result }
+            → HadMemory result }
         ensures only { ParsesOnly (AsksFor dwarf.now (units_in self.old) probe
             (cover probe self.old.ranges))
             (parsed_units self.old.units.items) (parsed_units self.new.units.items) }
@@ -320,7 +322,7 @@ impl<R: Reader> ResUnits<R> {
         ensures parsed { OnOk result (AreParsed (parsed_units self.new.units.items)
             (cover_range low high self.old.ranges)) }
         ensures memory { AreParsed (parsed_units self.new.units.items)
-            (cover_range low high self.old.ranges) → IsNotOom result }
+            (cover_range low high self.old.ranges) → HadMemory result }
         ensures only { ParsesOnly (LeadTo (cover_range low high self.old.ranges))
             (parsed_units self.old.units.items) (parsed_units self.new.units.items) }
         ensures refused { IfErr result (λ e. e ≡ OutOfMemory) }
@@ -355,14 +357,14 @@ impl<R: Reader> ResUnits<R> {
     pub fn parse_lines(&mut self, alloc: Global, dwarf: &Dwarf<R>) -> Result<(), Error>
         requires read { HaveLinesOf dwarf.now self.old.dw_units.items self.old.units.items }
         ensures gives { ExactlyUnlessOom (λ x. x) result
-            (lines_fault (all_lines dwarf.now (units_in self.old))) }
+            (fault_of (all_lines dwarf.now (units_in self.old))) }
         ensures exact { AreReadyForAll dwarf.now (units_in self.old)
             (parsed_units self.old.units.items) → Exactly (λ x. x) result
-            (lines_fault (all_lines dwarf.now (units_in self.old))) }
-        ensures ready { IsNotOom result → AreReadyForAll dwarf.now
+            (fault_of (all_lines dwarf.now (units_in self.old))) }
+        ensures ready { HadMemory result → AreReadyForAll dwarf.now
             (units_in self.old) (parsed_units self.new.units.items) }
         ensures memory { AreReadyForAll dwarf.now (units_in self.old)
-            (parsed_units self.new.units.items) → IsNotOom result }
+            (parsed_units self.new.units.items) → HadMemory result }
         ensures parsed { OnOk result (AreAllParsed (parsed_units self.new.units.items)) }
         ensures only { ParsesOnly (AllAskFor dwarf.now (units_in self.old))
             (parsed_units self.old.units.items) (parsed_units self.new.units.items) }

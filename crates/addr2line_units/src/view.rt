@@ -7,7 +7,7 @@ ghost use Rattle.gimli.specs.Sections.{Sections};
 ghost use Rattle.gimli.specs.Unit.{UnitRecord};
 ghost use Rattle.addr2line_lines.specs.References.{IsScope};
 ghost use Rattle.addr2line_lines.specs.SeenScope.{seen_scope};
-ghost use Rattle.addr2line_units.specs.KeptViews.{IsViewOf, answer_in, is_decided, parts_or_fault, seen_first_answer, seen_load, seen_sections, split_file_by, split_file_in, split_unit, verdict_in, view_in, waits, was_looked_at};
+ghost use Rattle.addr2line_units.specs.CachedViews.{IsViewOf, answer_in, is_decided, parts_or_fault, seen_first_answer, seen_load, seen_sections, split_file_by, split_file_in, split_unit, verdict_in, view_in, waits, was_looked_at};
 ghost use Rattle.addr2line_units.specs.Views.{answered_view, first_unit, load_of_unit, split_name_of, verdict, view_scope};
 
 use addr2line_lines::{FileUnits, Scope};

@@ -7,7 +7,7 @@ use Rattle.gimli_read.specs.Reading.{◌>>=◌}
 use Rattle.gimli.specs.declared.dwarf.DwarfFileType.TheVariants.{Dwo}
 use Rattle.gimli.specs.Sections.{Sections}
 use Rattle.gimli.specs.Record.{root_values_of}
-use Rattle.gimli.specs.Text.{string_fault}
+use Rattle.gimli_line.specs.Opcode.{fault_of}
 use Rattle.gimli.specs.Unit.{UnitRecord, attr_string_of}
 
 -- the sections of a split file of a parent: addresses, range lists of versions 2 to 4 and the
@@ -29,7 +29,7 @@ dwo_name_of u =
 abbrev pub string_fault_if : Sections → UnitRecord → Option (AttributeValue Section)
     → Result (Unit {0}) Error
 string_fault_if d u None = Ok tt
-string_fault_if d u (Some value) = string_fault (attr_string_of d u value)
+string_fault_if d u (Some value) = fault_of (attr_string_of d u value)
 
 -- the fault of the name of a unit's split file, if it has one
 abbrev pub dwo_name_fault : Sections → UnitRecord → Result (Unit {0}) Error

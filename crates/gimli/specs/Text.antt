@@ -30,10 +30,6 @@ string_at offset s = do
 abbrev pub string_length_at : ℕ → Section → Result ℕ Error
 string_length_at offset s = string_at offset s >>= λ string. Ok (length string.bytes)
 
--- the fault of a string, if it has one
-abbrev pub string_fault : Result Section Error → Result (Unit {0}) Error
-string_fault string = string >>= λ _. Ok tt
-
 -- the number of an index in a table of numbers of a size, which begins at a base
 unfoldable pub indexed_number : ℕ → ℕ → ℕ → Section → Result ℕ Error
 indexed_number size base index s =

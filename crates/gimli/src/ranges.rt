@@ -169,8 +169,7 @@ impl<'a, R: Reader> Model for RngListIter<'a, R> {
     ghost use Rattle.gimli_read.specs.declared.error.Error.{Error};
     ghost use Rattle.gimli_read.specs.declared.range.Range.{Range};
     ghost use Rattle.gimli_read.specs.Number.{is_address_size};
-    ghost use Rattle.gimli_line.specs.AddressSize.{is_tombstone};
-ghost use Rattle.gimli.specs.Ranges.{ranges_from};
+    ghost use Rattle.gimli.specs.Ranges.{ranges_from};
 
     ghost Value = { List (Result Range Error) };
 

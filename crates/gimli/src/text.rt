@@ -5,7 +5,8 @@ ghost use Rattle.gimli_read.specs.Reading.{Exactly, ExactlyUnlessOomFor};
 ghost use Rattle.gimli_read.specs.Form.{seen_value};
 ghost use Rattle.gimli_read.specs.Number.{offset_size};
 ghost use Rattle.gimli.specs.Unit.{attr_string_of};
-ghost use Rattle.gimli.specs.Text.{from_offset, string_at, string_fault, string_length_at, indexed_number, indexed_string, sup_string_at, string_of, string_takes_memory};
+ghost use Rattle.gimli_line.specs.Opcode.{fault_of};
+ghost use Rattle.gimli.specs.Text.{from_offset, string_at, string_length_at, indexed_number, indexed_string, sup_string_at, string_of, string_takes_memory};
 
 use crate::dwarf::Dwarf;
 use crate::unit_record::Unit;
@@ -155,7 +156,7 @@ pub(crate) fn read_string<R: Reader>(
 // Refused as the string at an offset is. Takes no memory.
 fn check_string_at<R: Reader>(section: &R, offset: u64) -> Result<(), Error>
     ensures gives { Exactly (λ x. x) result
-        (string_fault (string_at offset (R.section section.now))) }
+        (fault_of (string_at offset (R.section section.now))) }
 {
     read_string_length(section, offset)?;
     Ok(())
@@ -169,7 +170,7 @@ fn check_indexed_string<R: Reader>(
     index: u64,
 ) -> Result<(), Error>
     ensures gives { Exactly (λ x. x) result
-        (string_fault (indexed_string dwarf.now format base index)) }
+        (fault_of (indexed_string dwarf.now format base index)) }
 {
     let size = size_of_offset(format);
     let offset = read_indexed_number(&dwarf.debug_str_offsets.section, size, base, index)?;
@@ -178,7 +179,7 @@ fn check_indexed_string<R: Reader>(
 
 // Refused as the string at an offset of the supplementary file's strings is. Takes no memory.
 fn check_sup_string<R: Reader>(dwarf: &Dwarf<R>, offset: u64) -> Result<(), Error>
-    ensures gives { Exactly (λ x. x) result (string_fault (sup_string_at offset dwarf.now.sup)) }
+    ensures gives { Exactly (λ x. x) result (fault_of (sup_string_at offset dwarf.now.sup)) }
 {
     match &dwarf.sup {
         Some(sup) => check_string_at(&sup.debug_str.section, offset),
@@ -194,7 +195,7 @@ pub(crate) fn check_string<R: Reader, S: Reader>(
     base: u64,
     value: AttributeValue<S>,
 ) -> Result<(), Error>
-    ensures gives { Exactly (λ x. x) result (string_fault (string_of dwarf.now format base
+    ensures gives { Exactly (λ x. x) result (fault_of (string_of dwarf.now format base
         (seen_value S.section value))) }
 {
     match value {

@@ -11,7 +11,7 @@ use Rattle.gimli_line.specs.Rows.{rows_of}
 use Rattle.gimli_line.specs.Header.{File}
 
 -- the rows before the fault
-abbrev pub rows_before : List (Result LineRow Error) → List LineRow
+abbrev pub rows_before : {X : Type 0} → List (Result X Error) → List X
 rows_before [] = []
 rows_before (Ok x ∷ rest) = x ∷ rows_before rest
 rows_before (Err e ∷ rest) = []

@@ -1,7 +1,7 @@
 use Rattle.std.proofs.Common.{option_map}
 use Rattle.std.proofs.lemmas.Result.{err_from_is_err_and}
 use Rattle.addr2line_units.specs.declared.frames_lookup.Faults.TheVariants.{End}
-use Rattle.addr2line_units.specs.KeptViews.{seen_load}
+use Rattle.addr2line_units.specs.CachedViews.{seen_load}
 use Rattle.addr2line.proofs.AnsweredLemmas.{unit_waited_for}
 use Rattle.addr2line.proofs.AskedLemmas.{reads_answered}
 use Rattle.addr2line.proofs.ByFilesLemmas.{answered_by_file, one_answered, refused_by_file}

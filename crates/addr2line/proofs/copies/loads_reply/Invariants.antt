@@ -1,5 +1,5 @@
 use Rattle.std.proofs.Common.{◌≡◌, ◌++◌, drop, map}
-use Rattle.addr2line_units.specs.KeptViews.{seen_load}
+use Rattle.addr2line_units.specs.CachedViews.{seen_load}
 use Rattle.addr2line.specs.Replies.{copied_load}
 use Rattle.addr2line.specs.SeenReplies.{seen_owned_load}
 use Rattle.addr2line.proofs.copies.loads_reply.Given as goal

@@ -2,7 +2,7 @@ use Rattle.std.proofs.Common.{◌≡◌, ◌++◌, ◌∷◌, ◌+◌, ◌≤◌
 use Rattle.std.proofs.lemmas.List.{length-map}
 use Rattle.gimli_read.specs.Reading.{ExactlyUnlessOom}
 use Rattle.addr2line_units.specs.declared.frames_lookup.Faults.TheVariants.{End}
-use Rattle.addr2line_units.specs.KeptViews.{seen_load}
+use Rattle.addr2line_units.specs.CachedViews.{seen_load}
 use Rattle.addr2line_units.specs.Loads.{token_number}
 use Rattle.addr2line_units.specs.FramesLeft.{frames_left}
 use Rattle.addr2line.proofs.HistoryLemmas.{given_ended, take_drop_one, take_then}

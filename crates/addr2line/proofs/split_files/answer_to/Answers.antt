@@ -1,6 +1,6 @@
 use Rattle.std.proofs.Common.{option_map, subst, sym, Some, ap, ◌∙◌}
 use Rattle.std.proofs.lemmas.Option.{IfSome_then}
-use Rattle.addr2line_units.specs.KeptViews.{seen_load}
+use Rattle.addr2line_units.specs.CachedViews.{seen_load}
 use Rattle.elf.specs.Loading.{LoadsUnlessOom}
 use Rattle.addr2line.proofs.LoadingLemmas.{or_oom}
 use Rattle.addr2line.proofs.SplitFileLemmas.{given_is}

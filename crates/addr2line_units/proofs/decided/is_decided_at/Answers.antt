@@ -1,6 +1,6 @@
 use Rattle.std.proofs.Common.{◌≡◌, Some, None, ap, false, ltb-false, ltb-true, option_map, refl, slice_get, sym, unwrap_or, ◌∙◌}
 use Rattle.std.proofs.lemmas.Option.{slice_get_past, slice_get_read}
-use Rattle.addr2line_units.specs.KeptViews.{is_decided}
+use Rattle.addr2line_units.specs.CachedViews.{is_decided}
 use Rattle.addr2line_units.proofs.decided.is_decided_at.Goals as goal
 
 pub returns-in-Some : goal.returns-in-Some

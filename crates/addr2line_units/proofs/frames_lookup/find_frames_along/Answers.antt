@@ -5,11 +5,12 @@ use Rattle.gimli_read.specs.Reading.{◌>>=◌, ExactlyUnlessOom}
 use Rattle.addr2line_lines.specs.SeenScope.{seen_scope}
 use Rattle.addr2line_units.specs.CachedLines.{indexed_units, parsed_units}
 use Rattle.addr2line_units.specs.FramesLookup.{LookupAsks, asked_frames, asks_lines_of, ends_lookup, frames_of_number, has_many_of, holds_along, or_stop, stop_along}
-use Rattle.addr2line_units.specs.KeptLookups.{AreFoundAt, answers_in, found_after_fault, frames_found_at, has_frames_at}
-use Rattle.addr2line_units.specs.Parsed.{IsNotOom, ParsesOnly}
+use Rattle.addr2line_units.specs.CachedLookups.{AreFoundAt, answers_in, found_after_fault, frames_found_at, has_frames_at}
+use Rattle.gimli_read.specs.Alike.{HadMemory}
+use Rattle.addr2line_units.specs.Parsed.{ParsesOnly}
 use Rattle.addr2line_units.specs.UnitRangesLeft.{ranges_left}
 use Rattle.addr2line_units.proofs.FramesLookupLemmas.{faults_there, gives_after, goes_on, has_more, holds_both, holds_ended, holds_first, holds_rest, no_stop, oom_after, oom_before, parses_more, stop_ends, stop_is, stop_there, there_after}
-use Rattle.addr2line_units.proofs.KeptLookupLemmas.{entries_more_at, reads_more, stay_entries, stay_entries_over}
+use Rattle.addr2line_units.proofs.CachedLookupLemmas.{entries_more_at, reads_more, stay_entries, stay_entries_over}
 use Rattle.addr2line_units.proofs.UnitsLemmas.{stay_all, stay_over, stay_parsed}
 use Rattle.addr2line_units.proofs.WalkLemmas.{and_first, and_not, asked_first, at_first}
 use Rattle.addr2line_units.proofs.frames_lookup.find_frames_along.Goals as goal
@@ -98,11 +99,11 @@ returns-in_err-found-clause-ready g c =
     let see = frames_found_at found.new.units.items found.new.entries.items r.unit in
     let known = has_frames_at asks c.args.probe (parsed_units found.new.units.items) found.new.entries.items in
     let gives = at_first us c.args.units.now.items rs c.args.entries.now.items vs (λ xs a. ExactlyUnlessOom see found.result (frames_of_number S xs a c.args.probe r.unit)) i.stay_units i.stay found.ensures.gives in
-    let ready = at_first us c.args.units.now.items rs c.args.entries.now.items vs (λ xs a. IsNotOom found.result → has_frames_at (asks_lines_of S xs a c.args.probe) c.args.probe (parsed_units found.new.units.items) found.new.entries.items r.unit ≡ true) i.stay_units i.stay found.ensures.ready in
+    let ready = at_first us c.args.units.now.items rs c.args.entries.now.items vs (λ xs a. HadMemory found.result → has_frames_at (asks_lines_of S xs a c.args.probe) c.args.probe (parsed_units found.new.units.items) found.new.entries.items r.unit ≡ true) i.stay_units i.stay found.ensures.ready in
     let after = subst (λ q. ExactlyUnlessOom see q (frames r.unit)) (sym c.in_err-found.ensures.gives) (gives_after c.args.faults see found.result _ refl gives) in
     let before = oom_before c.args.faults found.result in
     rw (p.1, p.2) (λ ne.
-    let first = ready (before (subst IsNotOom c.in_err-found.ensures.gives ne)) in
+    let first = ready (before (subst HadMemory c.in_err-found.ensures.gives ne)) in
     i.more known (has_more asks c.args.probe (parsed_units rs) (parsed_units found.new.units.items) vs found.new.entries.items (stay_parsed rs found.new.units.items found.ensures.stay_units) (entries_more_at c.args.probe vs found.new.entries.items found.ensures.stay))
     (subst (λ xs. holds_along known frames xs ≡ true) (sym c.in-Some.ensures.steps) (holds_ended frames r rest known first (ap ends_lookup (after ne)))))
 
@@ -121,11 +122,11 @@ returns-in_err-found-clause-memory g c =
     let r = c.in-Some.range in
     let rest = ranges_left c.next.new.self in
     let known = has_frames_at asks c.args.probe (parsed_units found.new.units.items) found.new.entries.items in
-    let memory = at_first us c.args.units.now.items c.loop-range.units.items c.args.entries.now.items c.loop-range.entries.items (λ xs a. has_frames_at (asks_lines_of S xs a c.args.probe) c.args.probe (parsed_units found.new.units.items) found.new.entries.items r.unit ≡ true → has_many_of S xs a c.args.probe r.unit ≡ false → IsNotOom found.result) i.stay_units i.stay found.ensures.memory in
+    let memory = at_first us c.args.units.now.items c.loop-range.units.items c.args.entries.now.items c.loop-range.entries.items (λ xs a. has_frames_at (asks_lines_of S xs a c.args.probe) c.args.probe (parsed_units found.new.units.items) found.new.entries.items r.unit ≡ true → has_many_of S xs a c.args.probe r.unit ≡ false → HadMemory found.result) i.stay_units i.stay found.ensures.memory in
     rw (p.1, p.2) (λ holds.
     let at = subst (λ xs. holds_along (λ n. known n && not (many n)) frames xs ≡ true) c.in-Some.ensures.steps (i.less (λ n. known n && not (many n)) holds) in
     let first = holds_first frames r rest (λ n. known n && not (many n)) at in
-    subst IsNotOom (sym c.in_err-found.ensures.gives) (oom_after c.args.faults found.result (memory (and_first (known r.unit) (not (many r.unit)) first) (and_not (known r.unit) (many r.unit) first))))
+    subst HadMemory (sym c.in_err-found.ensures.gives) (oom_after c.args.faults found.result (memory (and_first (known r.unit) (not (many r.unit)) first) (and_not (known r.unit) (many r.unit) first))))
 
 pub returns-in-Some-stop_at-clause-gives : goal.returns-in-Some-stop_at-clause-gives
 returns-in-Some-stop_at-clause-gives g c =
@@ -204,11 +205,11 @@ returns-in-Some-stop_at-clause-ready g c =
     let see = frames_found_at found.new.units.items found.new.entries.items r.unit in
     let known = has_frames_at asks c.args.probe (parsed_units found.new.units.items) found.new.entries.items in
     let gives = at_first us c.args.units.now.items rs c.args.entries.now.items vs (λ xs a. ExactlyUnlessOom see found.result (frames_of_number S xs a c.args.probe r.unit)) i.stay_units i.stay found.ensures.gives in
-    let ready = at_first us c.args.units.now.items rs c.args.entries.now.items vs (λ xs a. IsNotOom found.result → has_frames_at (asks_lines_of S xs a c.args.probe) c.args.probe (parsed_units found.new.units.items) found.new.entries.items r.unit ≡ true) i.stay_units i.stay found.ensures.ready in
+    let ready = at_first us c.args.units.now.items rs c.args.entries.now.items vs (λ xs a. HadMemory found.result → has_frames_at (asks_lines_of S xs a c.args.probe) c.args.probe (parsed_units found.new.units.items) found.new.entries.items r.unit ≡ true) i.stay_units i.stay found.ensures.ready in
     let after = subst (λ q. ExactlyUnlessOom see q (frames r.unit)) (sym c.in_ok-found.ensures.gives) (gives_after c.args.faults see found.result _ refl gives) in
     let before = oom_before c.args.faults found.result in
     λ ne.
-    let first = ready (before (subst IsNotOom c.in_ok-found.ensures.gives tt)) in
+    let first = ready (before (subst HadMemory c.in_ok-found.ensures.gives tt)) in
     i.more known (has_more asks c.args.probe (parsed_units rs) (parsed_units found.new.units.items) vs found.new.entries.items (stay_parsed rs found.new.units.items found.ensures.stay_units) (entries_more_at c.args.probe vs found.new.entries.items found.ensures.stay))
     (subst (λ xs. holds_along known frames xs ≡ true) (sym c.in-Some.ensures.steps) (holds_ended frames r rest known first (ap ends_lookup after ∙ stop_ends found.new.units.items found.new.entries.items r.unit c.in_ok-found.found c.in-Some-stop_at.stop (sym c.in-Some-stop_at.ensures.gives))))
 
@@ -232,10 +233,10 @@ loop-range-preserved g c =
     let see = frames_found_at found.new.units.items found.new.entries.items r.unit in
     let asked = asked_first frames r rest (ranges_left c.loop-range.ranges) all c.in-Some.ensures.steps i.asked in
     let gives = at_first us c.args.units.now.items rs c.args.entries.now.items vs (λ xs a. ExactlyUnlessOom see found.result (frames_of_number S xs a c.args.probe r.unit)) i.stay_units i.stay found.ensures.gives in
-    let ready = at_first us c.args.units.now.items rs c.args.entries.now.items vs (λ xs a. IsNotOom found.result → has_frames_at (asks_lines_of S xs a c.args.probe) c.args.probe now found.new.entries.items r.unit ≡ true) i.stay_units i.stay found.ensures.ready in
+    let ready = at_first us c.args.units.now.items rs c.args.entries.now.items vs (λ xs a. HadMemory found.result → has_frames_at (asks_lines_of S xs a c.args.probe) c.args.probe now found.new.entries.items r.unit ≡ true) i.stay_units i.stay found.ensures.ready in
     let step = at_first us c.args.units.now.items rs c.args.entries.now.items vs (λ xs a. ParsesOnly (λ n. (n ≡ r.unit) × (asks_lines_of S xs a c.args.probe n ≡ true)) mid now) i.stay_units i.stay found.ensures.lines in
     let after = subst (λ q. ExactlyUnlessOom see q (frames r.unit)) (sym c.in_ok-found.ensures.gives) (gives_after c.args.faults see found.result _ refl gives) in
-    let first = ready (oom_before c.args.faults found.result (subst IsNotOom c.in_ok-found.ensures.gives tt)) in
+    let first = ready (oom_before c.args.faults found.result (subst HadMemory c.in_ok-found.ensures.gives tt)) in
     let nothing : frames r.unit ≡ Ok (Some []) = after ∙ ap (λ x. Ok x) (no_stop found.new.units.items found.new.entries.items r.unit c.in_ok-found.found (sym c.stop_at.ensures.gives ∙ c.in_default-stop_at.is)) in
     let goes : ends_lookup (frames r.unit) ≡ false = ap ends_lookup nothing in
     record {

@@ -3,8 +3,8 @@ use Rattle.std.proofs.lemmas.Result.{err_from_is_err_and}
 use Rattle.addr2line_lines.specs.SeenScope.{seen_scope}
 use Rattle.addr2line_lines.proofs.PlaceLemmas.{some_at}
 use Rattle.addr2line_lines.proofs.ReadLemmas.{read_more, table_same}
-use Rattle.addr2line_units.proofs.KeptFunctionLemmas.{chain_found, chain_ready, none_found, number_stays, reads_one, refused_chain, refused_detail, refused_ready, table_stays}
-use Rattle.addr2line_units.proofs.KeptPlaceLemmas.{chain_fits, chain_known, known_stays, refused_fault, refused_known}
+use Rattle.addr2line_units.proofs.CachedFunctionLemmas.{chain_found, chain_ready, none_found, number_stays, reads_one, refused_chain, refused_detail, refused_ready, table_stays}
+use Rattle.addr2line_units.proofs.CachedPlaceLemmas.{chain_fits, chain_known, known_stays, refused_fault, refused_known}
 use Rattle.addr2line_units.proofs.functions.find_place.Goals as goal
 
 pub returns-in_default-clause-gives : goal.returns-in_default-clause-gives

@@ -1,6 +1,6 @@
 use Rattle.std.proofs.Common.{refl}
 use Rattle.addr2line_lines.specs.SeenScope.{seen_scope}
-use Rattle.addr2line_units.proofs.KeptFunctionLemmas.{read_fault_of, read_table}
+use Rattle.addr2line_units.proofs.CachedFunctionLemmas.{read_fault_of, read_table}
 use Rattle.addr2line_units.proofs.functions.read_functions.Goals as goal
 
 pub returns-in-Ok-clause-right : goal.returns-in-Ok-clause-right

@@ -5,7 +5,7 @@ use Rattle.addr2line_lines.specs.SeenScope.{seen_scope}
 use Rattle.addr2line_units.specs.declared.unit_frames.UnitEntries.{UnitEntries}
 use Rattle.addr2line_units.specs.FunctionParses.{IsReadyFor, read_of_view}
 use Rattle.addr2line_units.proofs.EntryLemmas.{fault_known, functions_keep, functions_right, functions_stay, here, view_known}
-use Rattle.addr2line_units.proofs.KeptParseLemmas.{known_view, no_view, read_if_view, view_read}
+use Rattle.addr2line_units.proofs.CachedParseLemmas.{known_view, no_view, read_if_view, view_read}
 use Rattle.addr2line_units.proofs.ReadyLemmas.{fault_by_view, functions_by_view, ready_fault}
 use Rattle.addr2line_units.proofs.parses.read_in_view.Goals as goal
 

@@ -4,8 +4,8 @@ use Rattle.addr2line_lines.specs.Location.{location_of_row}
 use Rattle.addr2line_lines.specs.SeenScope.{seen_scope}
 use Rattle.addr2line_units.specs.CachedLines.{cached_files, indexed_unit}
 use Rattle.addr2line_units.specs.Frames.{found_frames}
-use Rattle.addr2line_units.specs.KeptEntries.{kept_answer}
-use Rattle.addr2line_units.specs.KeptFunctions.{function_of_place, kept_functions}
+use Rattle.addr2line_units.specs.CachedEntries.{kept_answer}
+use Rattle.addr2line_units.specs.CachedFunctions.{function_of_place, cached_functions}
 use Rattle.addr2line_units.specs.UnitFrames.{function_in}
 use Rattle.addr2line_units.specs.Views.{is_open}
 use Rattle.addr2line_units.proofs.EntryLemmas.{looked_decides, not_open}
@@ -115,7 +115,7 @@ returns-in_err-row-clause-gives g c =
     let answer = kept_answer old in
     let decided = looked_decides mid.view.state c.look.ensures.looked (sym c.is_open.ensures.gives ∙ c.if-is_open.false) in
     let closed : is_open scope.file.sections u answer ≡ false = ap (is_open scope.file.sections u) (sym c.look.ensures.stay.answer) ∙ not_open scope u probe mid c.look.ensures.kept decided in
-    let f = option_map (function_of_place (kept_functions c.find_function.new.self.functions)) c.in_ok-function.function in
+    let f = option_map (function_of_place (cached_functions c.find_function.new.self.functions)) c.in_ok-function.function in
     let found : function_in scope u answer probe ≡ Ok f = ap (λ a. function_in scope u a probe) (sym c.look.ensures.stay.answer) ∙ c.in_ok-function.ensures.gives in
     let p = err_from_is_err_and c.from_residual-in_err-row.result c.from_residual-in_err-row.ensures.1 in
     rw (p.1, p.2) (λ ne. lines_fault_frames scope x answer probe closed f found c.in_err-row.field-0.0 (c.in_err-row.ensures.gives ne))
@@ -153,7 +153,7 @@ returns-in_err-row-clause-lines g c =
     let answer = kept_answer old in
     let decided = looked_decides mid.view.state c.look.ensures.looked (sym c.is_open.ensures.gives ∙ c.if-is_open.false) in
     let closed : is_open scope.file.sections u answer ≡ false = ap (is_open scope.file.sections u) (sym c.look.ensures.stay.answer) ∙ not_open scope u probe mid c.look.ensures.kept decided in
-    let f = option_map (function_of_place (kept_functions c.find_function.new.self.functions)) c.in_ok-function.function in
+    let f = option_map (function_of_place (cached_functions c.find_function.new.self.functions)) c.in_ok-function.function in
     let found : function_in scope u answer probe ≡ Ok f = ap (λ a. function_in scope u a probe) (sym c.look.ensures.stay.answer) ∙ c.in_ok-function.ensures.gives in
     λ none. (let no : true ≡ false = sym (closed_asks scope x answer probe closed (Ok f) found) ∙ none in absurd cc)
 
@@ -168,7 +168,7 @@ returns-in_err-row-clause-memory g c =
     let answer = kept_answer old in
     let decided = looked_decides mid.view.state c.look.ensures.looked (sym c.is_open.ensures.gives ∙ c.if-is_open.false) in
     let closed : is_open scope.file.sections u answer ≡ false = ap (is_open scope.file.sections u) (sym c.look.ensures.stay.answer) ∙ not_open scope u probe mid c.look.ensures.kept decided in
-    let f = option_map (function_of_place (kept_functions c.find_function.new.self.functions)) c.in_ok-function.function in
+    let f = option_map (function_of_place (cached_functions c.find_function.new.self.functions)) c.in_ok-function.function in
     let found : function_in scope u answer probe ≡ Ok f = ap (λ a. function_in scope u a probe) (sym c.look.ensures.stay.answer) ∙ c.in_ok-function.ensures.gives in
     let p = err_from_is_err_and c.from_residual-in_err-row.result c.from_residual-in_err-row.ensures.1 in
     rw (p.1, p.2) (λ has. λ parsed. λ few. c.in_err-row.ensures.memory (parsed (closed_asks scope x answer probe closed (Ok f) found)))
@@ -184,7 +184,7 @@ returns-clause-gives g c =
     let answer = kept_answer old in
     let decided = looked_decides mid.view.state c.look.ensures.looked (sym c.is_open.ensures.gives ∙ c.if-is_open.false) in
     let closed : is_open scope.file.sections u answer ≡ false = ap (is_open scope.file.sections u) (sym c.look.ensures.stay.answer) ∙ not_open scope u probe mid c.look.ensures.kept decided in
-    let f = option_map (function_of_place (kept_functions c.find_function.new.self.functions)) c.in_ok-function.function in
+    let f = option_map (function_of_place (cached_functions c.find_function.new.self.functions)) c.in_ok-function.function in
     let found : function_in scope u answer probe ≡ Ok f = ap (λ a. function_in scope u a probe) (sym c.look.ensures.stay.answer) ∙ c.in_ok-function.ensures.gives in
     let here = lines_frames scope x answer probe closed f found c.find_row.new.self.lines c.in_ok-row.row c.find_row.ensures.read c.in_ok-row.ensures.caches c.in_ok-row.ensures.gives in
     let l = c.find_row.new.self.lines in
@@ -201,7 +201,7 @@ returns-clause-there g c =
     let answer = kept_answer old in
     let decided = looked_decides mid.view.state c.look.ensures.looked (sym c.is_open.ensures.gives ∙ c.if-is_open.false) in
     let closed : is_open scope.file.sections u answer ≡ false = ap (is_open scope.file.sections u) (sym c.look.ensures.stay.answer) ∙ not_open scope u probe mid c.look.ensures.kept decided in
-    let f = option_map (function_of_place (kept_functions c.find_function.new.self.functions)) c.in_ok-function.function in
+    let f = option_map (function_of_place (cached_functions c.find_function.new.self.functions)) c.in_ok-function.function in
     let found : function_in scope u answer probe ≡ Ok f = ap (λ a. function_in scope u a probe) (sym c.look.ensures.stay.answer) ∙ c.in_ok-function.ensures.gives in
     let here = lines_frames scope x answer probe closed f found c.find_row.new.self.lines c.in_ok-row.row c.find_row.ensures.read c.in_ok-row.ensures.caches c.in_ok-row.ensures.gives in
     (c.in_ok-function.ensures.there, here.0)
@@ -239,6 +239,6 @@ returns-clause-lines g c =
     let answer = kept_answer old in
     let decided = looked_decides mid.view.state c.look.ensures.looked (sym c.is_open.ensures.gives ∙ c.if-is_open.false) in
     let closed : is_open scope.file.sections u answer ≡ false = ap (is_open scope.file.sections u) (sym c.look.ensures.stay.answer) ∙ not_open scope u probe mid c.look.ensures.kept decided in
-    let f = option_map (function_of_place (kept_functions c.find_function.new.self.functions)) c.in_ok-function.function in
+    let f = option_map (function_of_place (cached_functions c.find_function.new.self.functions)) c.in_ok-function.function in
     let found : function_in scope u answer probe ≡ Ok f = ap (λ a. function_in scope u a probe) (sym c.look.ensures.stay.answer) ∙ c.in_ok-function.ensures.gives in
     λ none. (let no : true ≡ false = sym (closed_asks scope x answer probe closed (Ok f) found) ∙ none in absurd cc)

@@ -3,9 +3,9 @@ use Rattle.std.proofs.lemmas.Result.{err_from_is_err_and}
 use Rattle.gimli_read.specs.Reading.{ExactlyUnlessOom}
 use Rattle.addr2line_lines.specs.SeenScope.{seen_scope}
 use Rattle.addr2line_units.specs.declared.unit_frames.UnitEntries.{UnitEntries}
-use Rattle.addr2line_units.specs.KeptFunctions.{function_of_place, kept_functions}
+use Rattle.addr2line_units.specs.CachedFunctions.{function_of_place, cached_functions}
 use Rattle.addr2line_units.proofs.EntryLemmas.{exactly_unless_oom, fault_entries, fault_known, few_in, function_entries, function_is_in, functions_keep, functions_right, functions_stay, view_known}
-use Rattle.addr2line_units.proofs.KeptPlaceLemmas.{kept_is_not_oom, kept_unless_oom}
+use Rattle.addr2line_units.proofs.CachedPlaceLemmas.{kept_is_not_oom, kept_unless_oom}
 use Rattle.addr2line_units.proofs.unit_frames.find_in_view.Goals as goal
 
 pub returns-in_err-unit-clause-stay : goal.returns-in_err-unit-clause-stay
@@ -58,7 +58,7 @@ returns-clause-gives g c =
     let inner = seen_scope c.scope_of.result in
     let x = c.in_ok-unit.unit.unit.now in
     let v = view_known scope u probe old c.requires.kept c.requires.decided c.in_ok-unit.unit.dwarf.now x inner c.in_ok-unit.ensures.gives (c.scope_of.ensures.gives scope.file.sections u c.requires.kept.view) in
-    subst (λ given. ExactlyUnlessOom (option_map (function_of_place (kept_functions c.find.new.self))) c.find.result given) (sym (function_is_in scope u probe old c.requires.kept c.requires.decided inner x v)) (exactly_unless_oom _ _ _ _ c.find.ensures.gives)
+    subst (λ given. ExactlyUnlessOom (option_map (function_of_place (cached_functions c.find.new.self))) c.find.result given) (sym (function_is_in scope u probe old c.requires.kept c.requires.decided inner x v)) (exactly_unless_oom _ _ _ _ c.find.ensures.gives)
 
 pub returns-clause-kept : goal.returns-clause-kept
 returns-clause-kept g c =

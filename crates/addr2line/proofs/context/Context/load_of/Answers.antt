@@ -1,5 +1,5 @@
 use Rattle.std.proofs.Common.{sym}
-use Rattle.addr2line_units.specs.KeptViews.{seen_load}
+use Rattle.addr2line_units.specs.CachedViews.{seen_load}
 use Rattle.addr2line.proofs.LookupLemmas.{load_told, views_are, waits_told}
 use Rattle.addr2line.proofs.context.Context.load_of.Goals as goal
 

@@ -2,10 +2,10 @@ use Rattle.std.proofs.Common.{◌≡◌, ◌≢◌, ◌⊎◌, ◌∙◌, ap, fa
 use Rattle.std.specs.Prelude.{option_map}
 use Rattle.gimli_read.specs.Reading.{ExactlyUnlessOom}
 use Rattle.addr2line_units.specs.FramesLookup.{with_answer}
-use Rattle.addr2line_units.specs.KeptLookups.{StayAllEntries, answers_in, scope_in}
+use Rattle.addr2line_units.specs.CachedLookups.{StayAllEntries, answers_in, scope_in}
 use Rattle.addr2line_units.specs.Loads.{is_open_at, load_result}
-use Rattle.addr2line_units.specs.Parsed.{IsNotOom}
-use Rattle.addr2line_units.proofs.KeptLookupLemmas.{as_many_entries}
+use Rattle.gimli_read.specs.Alike.{HadMemory}
+use Rattle.addr2line_units.proofs.CachedLookupLemmas.{as_many_entries}
 use Rattle.addr2line.proofs.AnsweredLemmas.{still_answered}
 use Rattle.addr2line.proofs.LoadLemmas.{after_load, load_is, settled_is}
 use Rattle.addr2line.proofs.LookupLemmas.{entries_in_scope}
@@ -36,7 +36,7 @@ returns-clause-after g c =
     let now = c.load_unit.new.self in
     let n = c.args.unit.number in
     let given = option_map (λ x. x.value) c.args.sections in
-    let answers = subst (λ d. IsNotOom c.load_unit.result → answers_in now.entries.items ≡ with_answer d s.units.dw_units.items (answers_in s.units.entries.items) n given) c.deref.ensures e.answers in
+    let answers = subst (λ d. HadMemory c.load_unit.result → answers_in now.entries.items ≡ with_answer d s.units.dw_units.items (answers_in s.units.entries.items) n given) c.deref.ensures e.answers in
     let begun = subst (λ d. (answers_in now.entries.items ≡ answers_in s.units.entries.items) ⊎ (answers_in now.entries.items ≡ with_answer d s.units.dw_units.items (answers_in s.units.entries.items) n given)) c.deref.ensures e.begun in
     let many = ap length (sym e.dw_units) ∙ as_many_entries (scope_in c.deref.result.now now.dw_units.items s.sup_units) now.dw_units.items now.entries.items e.kept in
     let refused = subst (λ d. c.load_unit.result ≢ load_result d s.units.dw_units.items (answers_in s.units.entries.items) n given → (answers_in now.entries.items ≡ answers_in s.units.entries.items) × StayAllEntries s.units.entries.items now.entries.items) c.deref.ensures e.refused in

@@ -1,6 +1,6 @@
 use Rattle.std.proofs.Common.{map, sym, subst}
 use Rattle.std.specs.Prelude.{IfOk, ◌≡◌}
-use Rattle.addr2line_units.specs.KeptViews.{seen_load}
+use Rattle.addr2line_units.specs.CachedViews.{seen_load}
 use Rattle.addr2line.proofs.AnsweredLemmas.{still_answered}
 use Rattle.addr2line.proofs.LoadLemmas.{after_preload, listed_are, settled_are}
 use Rattle.addr2line.proofs.LookupLemmas.{entries_in_scope}

@@ -1,10 +1,10 @@
 use Rattle.std.proofs.Common.{◌≡◌, sym, subst}
 use Rattle.gimli_read.specs.Reading.{ExactlyUnlessOom}
 use Rattle.addr2line_units.specs.FunctionParses.{AreFirstDecided, AreReadBefore, AreReadyFor, answers_after_parse, read_of_units}
-use Rattle.addr2line_units.specs.KeptLookups.{answers_in, scope_in}
-use Rattle.addr2line_units.specs.KeptParses.{ChangesOnly}
+use Rattle.addr2line_units.specs.CachedLookups.{answers_in, scope_in}
+use Rattle.addr2line_units.specs.CachedParses.{ChangesOnly}
 use Rattle.addr2line_units.specs.KnownEntries.{known_in}
-use Rattle.addr2line_units.specs.Parsed.{IsNotOom}
+use Rattle.gimli_read.specs.Alike.{HadMemory}
 use Rattle.addr2line.proofs.AnsweredLemmas.{still_answered}
 use Rattle.addr2line.proofs.LoadLemmas.{after_parse, all_known, all_reached, parse_is}
 use Rattle.addr2line.proofs.LookupLemmas.{entries_in_scope, scope_in_order}
@@ -37,10 +37,10 @@ returns-clause-after g c =
     let s = c.self.inside in
     let e = c.read_functions.ensures in
     let now = c.read_functions.new.self in
-    let answers = subst (λ d. IsNotOom c.read_functions.result → answers_in now.entries.items ≡ answers_after_parse c.args.reads (scope_in d s.units.dw_units.items s.sup_units) s.units.dw_units.items (answers_in s.units.entries.items)) c.deref.ensures e.answers in
+    let answers = subst (λ d. HadMemory c.read_functions.result → answers_in now.entries.items ≡ answers_after_parse c.args.reads (scope_in d s.units.dw_units.items s.sup_units) s.units.dw_units.items (answers_in s.units.entries.items)) c.deref.ensures e.answers in
     let only = subst (λ d. ChangesOnly (AreReadBefore c.args.reads (scope_in d s.units.dw_units.items s.sup_units) s.units.dw_units.items (answers_in s.units.entries.items)) s.units.entries.items now.entries.items) c.deref.ensures e.only in
     let begun = subst (λ d. AreFirstDecided c.args.reads (scope_in d s.units.dw_units.items s.sup_units) s.units.dw_units.items (answers_in s.units.entries.items) (answers_in now.entries.items)) c.deref.ensures e.begun in
-    let ready = subst (λ d. IsNotOom c.read_functions.result → AreReadyFor c.args.reads (scope_in d s.units.dw_units.items s.sup_units) s.units.dw_units.items (answers_in now.entries.items) (known_in now.entries.items)) c.deref.ensures e.ready_for_all in
+    let ready = subst (λ d. HadMemory c.read_functions.result → AreReadyFor c.args.reads (scope_in d s.units.dw_units.items s.sup_units) s.units.dw_units.items (answers_in now.entries.items) (known_in now.entries.items)) c.deref.ensures e.ready_for_all in
     let exact = subst (λ d. AreReadyFor c.args.reads (scope_in d s.units.dw_units.items s.sup_units) s.units.dw_units.items (answers_in s.units.entries.items) (known_in s.units.entries.items)
     → c.read_functions.result ≡ read_of_units c.args.reads (scope_in d s.units.dw_units.items s.sup_units) s.units.dw_units.items (answers_in s.units.entries.items)) c.deref.ensures e.exact in
     let unchanged = subst (λ d. AreReadyFor c.args.reads (scope_in d s.units.dw_units.items s.sup_units) s.units.dw_units.items (answers_in s.units.entries.items) (known_in s.units.entries.items) → now.entries.items ≡ s.units.entries.items) c.deref.ensures e.unchanged in
@@ -59,5 +59,5 @@ returns-clause-reaches g c =
     let e = c.read_functions.ensures in
     let now = c.read_functions.new.self in
     let gives = subst (λ d. ExactlyUnlessOom (λ x. x) c.read_functions.result (read_of_units c.args.reads (scope_in d s.units.dw_units.items s.sup_units) s.units.dw_units.items (answers_in s.units.entries.items))) c.deref.ensures e.gives in
-    let answers = subst (λ d. IsNotOom c.read_functions.result → answers_in now.entries.items ≡ answers_after_parse c.args.reads (scope_in d s.units.dw_units.items s.sup_units) s.units.dw_units.items (answers_in s.units.entries.items)) c.deref.ensures e.answers in
+    let answers = subst (λ d. HadMemory c.read_functions.result → answers_in now.entries.items ≡ answers_after_parse c.args.reads (scope_in d s.units.dw_units.items s.sup_units) s.units.dw_units.items (answers_in s.units.entries.items)) c.deref.ensures e.answers in
     all_reached s.dwarf.value s.units.dw_units.items s.units.units.items s.units.entries.items s.units.ranges s.sup_units c.self.invariant now.units.items e.units now.entries.items s.looks c.args.reads c.read_functions.result gives answers

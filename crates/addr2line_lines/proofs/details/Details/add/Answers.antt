@@ -3,7 +3,7 @@ use Rattle.std.proofs.lemmas.List.{length-map, map-append}
 use Rattle.std.proofs.lemmas.Result.{err_from_is_err_and}
 use Rattle.addr2line_lines.specs.declared.details.FunctionDetail.{FunctionDetail}
 use Rattle.addr2line_lines.specs.FoundDetails.{FoundInlined, IsGrown, seen_inlined, seen_lists}
-use Rattle.addr2line_lines.specs.KeptDetails.{KeptDetails, seen_details}
+use Rattle.addr2line_lines.specs.CachedDetails.{CachedDetails, seen_details}
 use Rattle.addr2line_lines.specs.SeenScope.{seen_scope}
 use Rattle.addr2line_lines.proofs.DetailMemory.{detail_takes, found_takes}
 use Rattle.addr2line_lines.proofs.DetailOrder.{detail_refused}
@@ -26,13 +26,13 @@ returns-in_err-push-clause-gives g c =
     rw (p.1, p.2) (λ ne. absurd (ne (or_second g.R.Reader.shares _ whole) refl))
 
 module _ (g : Over) (c : goal.After-len-2 g) where
-  abbrev old : KeptDetails
+  abbrev old : CachedDetails
   old = seen_details g.R.Reader.section c.args.self.now
 
   abbrev listed : FoundInlined
   listed = seen_lists g.R.Reader.section c.read_detail.new.found
 
-  abbrev more : KeptDetails
+  abbrev more : CachedDetails
   more = record {
     names = map (option_map g.R.Reader.section) c.push.new.self.items;
     found = record { entries = listed.entries; ranges = c.sort_inlined_from.new.ranges.items };

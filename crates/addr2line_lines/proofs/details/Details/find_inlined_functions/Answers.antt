@@ -1,7 +1,7 @@
 use Rattle.std.proofs.Common.{ap, subst, sym}
 use Rattle.addr2line_lines.specs.InlinedOrder.{inlined_sooner}
 use Rattle.addr2line_lines.specs.InOrder.{IsInOrder}
-use Rattle.addr2line_lines.specs.KeptDetails.{between, seen_details}
+use Rattle.addr2line_lines.specs.CachedDetails.{between, seen_details}
 use Rattle.addr2line_lines.proofs.DetailPlaces.{chain_gives, chain_items, run_ordered}
 use Rattle.addr2line_lines.proofs.details.Details.find_inlined_functions.Goals as goal
 

@@ -2,13 +2,13 @@ use Rattle.std.proofs.Common.{◌≡◌, List, Option, length, ap, sym, ◌∙�
 use Rattle.std.proofs.lemmas.List.{length-map}
 use Rattle.gimli_read.specs.Section.{Section}
 use Rattle.addr2line_lines.specs.FoundDetails.{FoundInlined, seen_inlined, seen_lists}
-use Rattle.addr2line_lines.specs.KeptDetails.{KeptDetails, seen_details}
+use Rattle.addr2line_lines.specs.CachedDetails.{CachedDetails, seen_details}
 use Rattle.addr2line_lines.proofs.DetailPlaces.{details_same, first_is}
 use Rattle.addr2line_lines.proofs.details.Details.read.Goals as goal
 
 pub returns-in-Err-clause-refused : goal.returns-in-Err-clause-refused
 returns-in-Err-clause-refused g c =
-    let made : List (Option Section) → FoundInlined → KeptDetails = λ xs f. record { names = xs; found = f } in
+    let made : List (Option Section) → FoundInlined → CachedDetails = λ xs f. record { names = xs; found = f } in
     let old = seen_details g.R.Reader.section c.args.self.now in
     let entries : c.len-functions.result ≡ length old.found.entries = c.len-functions.ensures ∙ c.args.self.now.inlined.functions.ok.0 ∙ sym (length-map c.args.self.now.inlined.functions.items (seen_inlined g.R.Reader.section)) in
     let found = first_is c.len-functions.result c.len-ranges.result old.found (seen_lists g.R.Reader.section c.add.new.self.inlined) c.in-Err.ensures.kept.found entries (c.len-ranges.ensures ∙ c.args.self.now.inlined.ranges.ok.0) in

@@ -4,13 +4,13 @@ use Rattle.addr2line_lines.specs.declared.segments.FunctionAddress.{FunctionAddr
 use Rattle.addr2line_lines.specs.Functions.{function_offset_at}
 use Rattle.addr2line_lines.specs.FoundFunctions.{AreFunctions, function_offsets}
 use Rattle.addr2line_lines.specs.FunctionTable.{FunctionTable, function_place_at, cached_offset_at}
-use Rattle.addr2line_lines.specs.KeptDetails.{KeptDetails, seen_details}
+use Rattle.addr2line_lines.specs.CachedDetails.{CachedDetails, seen_details}
 use Rattle.addr2line_lines.specs.Segments.{shortest_function_at}
 use Rattle.addr2line_lines.proofs.CachedPlaces.{entry_found, place_is, place_seen}
 use Rattle.addr2line_lines.proofs.FunctionCacheLemmas.{table_of}
 use Rattle.addr2line_lines.proofs.functions.Functions.find.Goals as goal
 
-there : (d : KeptDetails) (fs : List LazyFunction) (addresses : List FunctionAddress) (probe : ℕ) (found : Option ℕ) → AreFunctions (function_offsets fs) addresses → found ≡ shortest_function_at probe addresses → IfSome found (λ n. n < length (table_of fs addresses d).functions)
+there : (d : CachedDetails) (fs : List LazyFunction) (addresses : List FunctionAddress) (probe : ℕ) (found : Option ℕ) → AreFunctions (function_offsets fs) addresses → found ≡ shortest_function_at probe addresses → IfSome found (λ n. n < length (table_of fs addresses d).functions)
 there d fs addresses probe None h e = tt
 there d fs addresses probe (Some n) h e = place_seen d fs addresses probe n h (sym e)
 

@@ -5,7 +5,7 @@ use Rattle.addr2line_lines.specs.Details.{InlinedRange, inlined_chain}
 use Rattle.addr2line_lines.specs.FoundDetails.{entry_among}
 use Rattle.addr2line_lines.specs.FunctionCache.{read_at}
 use Rattle.addr2line_lines.specs.FunctionTable.{FunctionTable, cached_inlined}
-use Rattle.addr2line_lines.specs.KeptDetails.{seen_details}
+use Rattle.addr2line_lines.specs.CachedDetails.{seen_details}
 use Rattle.addr2line_lines.proofs.CachedPlaces.{inlined_cached, none_read, place_kept, read_is}
 use Rattle.addr2line_lines.proofs.functions.Functions.find_inlined_functions.Goals as goal
 

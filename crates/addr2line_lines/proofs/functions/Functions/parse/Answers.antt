@@ -8,7 +8,7 @@ use Rattle.addr2line_lines.specs.Functions.{entries_of, functions_of, have_funct
 use Rattle.addr2line_lines.specs.FoundFunctions.{AreFunctions, function_range_of, seen_functions}
 use Rattle.addr2line_lines.specs.FunctionCache.{seen_function}
 use Rattle.addr2line_lines.specs.FunctionTable.{CachedFunction}
-use Rattle.addr2line_lines.specs.KeptDetails.{seen_details}
+use Rattle.addr2line_lines.specs.CachedDetails.{seen_details}
 use Rattle.addr2line_lines.proofs.FunctionCacheLemmas.{runs_unread, seen_unread}
 use Rattle.addr2line_lines.proofs.FunctionLemmas.{or_second}
 use Rattle.addr2line_lines.proofs.FunctionMemory.{found_has}

@@ -2,7 +2,7 @@ use Rattle.std.proofs.Common.{rules, ◌≡◌, ◌≤◌, length, Some, None, O
 use Rattle.std.proofs.lemmas.Option.{gets}
 use Rattle.addr2line_lines.specs.FunctionTable.{FunctionTable, read_fault}
 use Rattle.addr2line_lines.specs.FunctionCache.{seen_function, seen_lazy}
-use Rattle.addr2line_lines.specs.KeptDetails.{detail_of, seen_details}
+use Rattle.addr2line_lines.specs.CachedDetails.{detail_of, seen_details}
 use Rattle.addr2line_lines.specs.SeenScope.{seen_scope}
 use Rattle.addr2line_lines.proofs.ReadPlaces.{fault_again, none_at, read_again, read_past, some_at}
 use Rattle.addr2line_lines.proofs.functions.Functions.read.Given.{Over}

@@ -2,7 +2,7 @@ use Rattle.std.proofs.Common.{◌≡◌, true, false, List, [], ◌∷◌, Err, 
 use Rattle.std.proofs.lemmas.Result.{err_from_is_err_and}
 use Rattle.addr2line_lines.specs.FunctionTable.{FunctionTable}
 use Rattle.addr2line_lines.specs.FunctionCache.{seen_function}
-use Rattle.addr2line_lines.specs.KeptDetails.{seen_details}
+use Rattle.addr2line_lines.specs.CachedDetails.{seen_details}
 use Rattle.addr2line_lines.specs.SeenScope.{seen_scope}
 use Rattle.addr2line_lines.proofs.ReadLemmas.{all_read, all_ready, fault_kept, fault_read, fault_ready, no_memory_to_fault, none_read, one_read, reads_nothing}
 use Rattle.addr2line_lines.proofs.functions.Functions.read_all.Goals as goal

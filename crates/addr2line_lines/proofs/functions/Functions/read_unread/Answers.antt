@@ -3,8 +3,9 @@ use Rattle.std.proofs.lemmas.Option.{get_or_from_slice_get, slice_get_within}
 use Rattle.addr2line_lines.specs.declared.functions.LazyDetail.TheVariants.{Read, Faulty}
 use Rattle.addr2line_lines.specs.declared.functions.LazyFunction.{LazyFunction}
 use Rattle.addr2line_lines.specs.Details.{detail_at}
-use Rattle.addr2line_lines.specs.FunctionTable.{FunctionTable, IsReadAt, detail_fault, read_fault, cached_takes_memory}
-use Rattle.addr2line_lines.specs.KeptDetails.{seen_details}
+use Rattle.gimli_line.specs.Opcode.{fault_of}
+use Rattle.addr2line_lines.specs.FunctionTable.{FunctionTable, IsReadAt, read_fault, cached_takes_memory}
+use Rattle.addr2line_lines.specs.CachedDetails.{seen_details}
 use Rattle.addr2line_lines.specs.SeenScope.{seen_scope}
 use Rattle.addr2line_lines.proofs.FunctionCacheLemmas.{fault_cached, read_cached, reads, table_fault, table_of, table_read, unread_at}
 use Rattle.addr2line_lines.proofs.functions.Functions.read_unread.Goals as goal
@@ -58,8 +59,8 @@ returns-in-Ok g c =
     let with_detail = table_read fs n at.0 y at.1 entry addresses kept more c.self.invariant at.3 c.read.ensures.kept c.in-Ok.detail refl c.in-Ok.ensures.place c.in-Ok.ensures.next c.args.offset.0 (detail_at scope u c.args.offset.0) at.2 c.in-Ok.ensures.gives in
     record {
       gives = subst (λ (t : FunctionTable). IsReadAt scope u n t (Ok tt) new) c.self.view_is
-          (reads scope u n c.args.offset.0 (table_of fs addresses kept) new (Ok tt) unread (ap detail_fault c.in-Ok.ensures.gives, with_detail));
-      exact = ap (read_fault scope u) c.requires.unread ∙ ap detail_fault c.in-Ok.ensures.gives;
+          (reads scope u n c.args.offset.0 (table_of fs addresses kept) new (Ok tt) unread (ap fault_of c.in-Ok.ensures.gives, with_detail));
+      exact = ap (read_fault scope u) c.requires.unread ∙ ap fault_of c.in-Ok.ensures.gives;
     }
 
 pub returns-in_default : goal.returns-in_default
@@ -81,12 +82,12 @@ returns-in_default g c =
     record {
       gives = subst (λ (t : FunctionTable). IsReadAt scope u n t (Err e) (table_of (slice_set fs n y) addresses more)) c.self.view_is
           (reads scope u n c.args.offset.0 (table_of fs addresses kept) (table_of (slice_set fs n y) addresses more) (Err e) unread
-          (λ ne. (ap detail_fault faulty, with_fault), λ oom. absurd (c.in_default.not-OutOfMemory oom)));
-      exact = λ t. ap (read_fault scope u) c.requires.unread ∙ ap detail_fault faulty;
+          (λ ne. (ap fault_of faulty, with_fault), λ oom. absurd (c.in_default.not-OutOfMemory oom)));
+      exact = λ t. ap (read_fault scope u) c.requires.unread ∙ ap fault_of faulty;
     }
 
 pub returns-in-OutOfMemory-clause-exact : goal.returns-in-OutOfMemory-clause-exact
 returns-in-OutOfMemory-clause-exact g c =
     let scope = seen_scope c.args.scope in
     let u = c.args.unit.now in
-    λ h. ap (read_fault scope u) c.requires.unread ∙ ap detail_fault (c.in-Err.ensures.gives (λ t. h (ap (cached_takes_memory g.R.Reader.shares scope u) c.requires.unread ∙ t)))
+    λ h. ap (read_fault scope u) c.requires.unread ∙ ap fault_of (c.in-Err.ensures.gives (λ t. h (ap (cached_takes_memory g.R.Reader.shares scope u) c.requires.unread ∙ t)))

@@ -1,9 +1,9 @@
 use Rattle.std.proofs.Common.{Err, ◌&&◌, ◌∙◌, option_map, subst, sym}
 use Rattle.addr2line_lines.specs.SeenScope.{seen_scope}
 use Rattle.addr2line_units.specs.Frames.{function_at}
-use Rattle.addr2line_units.specs.KeptFunctions.{AreFunctionsOf, find_takes_memory, function_of_place, table_takes_memory}
-use Rattle.addr2line_units.proofs.KeptFunctionLemmas.{and_weaker, details_before, exactly_weaker, function_is, memory_before, none_before, stay_faulty}
-use Rattle.addr2line_units.proofs.KeptPlaceLemmas.{same_known, table_known}
+use Rattle.addr2line_units.specs.CachedFunctions.{AreFunctionsOf, find_takes_memory, function_of_place, table_takes_memory}
+use Rattle.addr2line_units.proofs.CachedFunctionLemmas.{and_weaker, details_before, exactly_weaker, function_is, memory_before, none_before, stay_faulty}
+use Rattle.addr2line_units.proofs.CachedPlaceLemmas.{same_known, table_known}
 use Rattle.addr2line_units.proofs.functions.LazyFunctions.find.Goals as goal
 
 pub returns-in-Read-clause-gives : goal.returns-in-Read-clause-gives

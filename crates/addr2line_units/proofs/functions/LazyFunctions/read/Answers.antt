@@ -2,11 +2,11 @@ use Rattle.std.proofs.Common.{OnOk, ◌∙◌, ap, subst, sym}
 use Rattle.gimli_read.specs.Reading.{ExactlyUnlessOom}
 use Rattle.addr2line_lines.specs.SeenScope.{seen_scope}
 use Rattle.addr2line_units.specs.FunctionParses.{IsReadyFor, read_of_functions}
-use Rattle.addr2line_units.specs.KeptParses.{HaveFunctions}
-use Rattle.addr2line_units.specs.KeptFunctions.{functions_fault, reading_takes_memory}
+use Rattle.addr2line_units.specs.CachedParses.{HaveFunctions}
+use Rattle.addr2line_units.specs.CachedFunctions.{functions_fault, reading_takes_memory}
 use Rattle.addr2line_units.specs.KnownEntries.{known_functions}
 use Rattle.addr2line_units.proofs.EntryLemmas.{exactly_unless_oom}
-use Rattle.addr2line_units.proofs.KeptParseLemmas.{details_have, details_kept}
+use Rattle.addr2line_units.proofs.CachedParseLemmas.{details_have, details_kept}
 use Rattle.addr2line_units.proofs.functions.LazyFunctions.read.Goals as goal
 
 pub returns-in-Details-clause-gives : goal.returns-in-Details-clause-gives

@@ -5,8 +5,8 @@ use Rattle.addr2line_lines.specs.FunctionTable.{details_take_memory}
 use Rattle.addr2line_lines.specs.SeenScope.{seen_scope}
 use Rattle.addr2line_units.specs.declared.functions.LazyFunctions.TheVariants as lazy
 use Rattle.addr2line_units.specs.declared.parses.Reads.TheVariants as reads
-use Rattle.addr2line_units.specs.KeptFunctions.{AreFunctionsOf, functions_fault, reading_takes_memory}
-use Rattle.addr2line_units.proofs.KeptFunctionLemmas.{all_ready, exactly_weaker, fault_is, on_ok, reading_before, stay_faulty, stay_read, table_more}
+use Rattle.addr2line_units.specs.CachedFunctions.{AreFunctionsOf, functions_fault, reading_takes_memory}
+use Rattle.addr2line_units.proofs.CachedFunctionLemmas.{all_ready, exactly_weaker, fault_is, on_ok, reading_before, stay_faulty, stay_read, table_more}
 use Rattle.addr2line_units.proofs.ReadyLemmas.{fault_of_functions, not_oom, ready_fault, ready_same, ready_then, ready_were_read}
 use Rattle.addr2line_units.proofs.functions.LazyFunctions.read_all.Goals as goal
 

@@ -1,6 +1,6 @@
 use Rattle.std.proofs.Common.{◌≡◌, ◌∙◌, option_map, refl, subst, sym, true, false, rules}
 use Rattle.std.proofs.lemmas.Result.{err_from_is_err_and}
-use Rattle.addr2line_units.specs.KeptEntries.{StayEntries, kept_answer}
+use Rattle.addr2line_units.specs.CachedEntries.{StayEntries, kept_answer}
 use Rattle.addr2line_units.specs.Views.{is_open}
 use Rattle.addr2line_units.proofs.AnswerLemmas.{decided_if_not, decided_if_open, decided_was_looked_at, never_waits, open_by_look}
 use Rattle.addr2line_units.proofs.EntryLemmas.{looked_decides}

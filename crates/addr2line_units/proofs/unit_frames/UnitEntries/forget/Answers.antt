@@ -1,7 +1,7 @@
 use Rattle.std.proofs.Common.{refl, rules}
 use Rattle.addr2line_lines.specs.SeenScope.{seen_scope}
 use Rattle.addr2line_units.specs.declared.functions.LazyFunctions.TheVariants.{Unread}
-use Rattle.addr2line_units.specs.KeptEntries.{kept_answer}
+use Rattle.addr2line_units.specs.CachedEntries.{kept_answer}
 use Rattle.addr2line_units.proofs.AnswerLemmas.{no_answer, unread_entries}
 use Rattle.addr2line_units.proofs.unit_frames.UnitEntries.forget.Goals as goal
 

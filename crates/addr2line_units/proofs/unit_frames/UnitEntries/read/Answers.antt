@@ -4,11 +4,11 @@ use Rattle.addr2line_lines.specs.SeenScope.{seen_scope}
 use Rattle.addr2line_units.specs.declared.functions.LazyFunctions.{LazyFunctions}
 use Rattle.addr2line_units.specs.declared.unit_frames.UnitEntries.{UnitEntries}
 use Rattle.addr2line_units.specs.FunctionParses.{read_of_view}
-use Rattle.addr2line_units.specs.KeptEntries.{StayEntries}
-use Rattle.addr2line_units.specs.KeptParses.{HasRead, IsReadyUnit}
+use Rattle.addr2line_units.specs.CachedEntries.{StayEntries}
+use Rattle.addr2line_units.specs.CachedParses.{HasRead, IsReadyUnit}
 use Rattle.addr2line_units.specs.Views.{verdict}
-use Rattle.addr2line_units.proofs.KeptLookupLemmas.{entries_same}
-use Rattle.addr2line_units.proofs.KeptParseLemmas.{entries_then, read_decided}
+use Rattle.addr2line_units.proofs.CachedLookupLemmas.{entries_same}
+use Rattle.addr2line_units.proofs.CachedParseLemmas.{entries_then, read_decided}
 use Rattle.addr2line_units.proofs.unit_frames.UnitEntries.read.Goals as goal
 
 pub returns-in_err-answer-clause-stay : goal.returns-in_err-answer-clause-stay

@@ -1,11 +1,11 @@
 use Rattle.std.proofs.Common.{◌≡◌, ap, arith, option_map, rules, sym, ◌∙◌}
 use Rattle.addr2line_lines.specs.SeenScope.{seen_file}
-use Rattle.addr2line_units.specs.KeptEntries.{kept_answer}
-use Rattle.addr2line_units.specs.KeptLookups.{scope_in, sup_file}
+use Rattle.addr2line_units.specs.CachedEntries.{kept_answer}
+use Rattle.addr2line_units.specs.CachedLookups.{scope_in, sup_file}
 use Rattle.addr2line_units.specs.Loads.{view_fault}
 use Rattle.addr2line_units.specs.Views.{verdict}
 use Rattle.addr2line_units.proofs.AnswerLemmas.{answer_at, decided_there, decided_within, got_unit, in_same_scope, unit_same}
-use Rattle.addr2line_units.proofs.KeptLookupLemmas.{as_many_entries, entries_at}
+use Rattle.addr2line_units.proofs.CachedLookupLemmas.{as_many_entries, entries_at}
 use Rattle.addr2line_units.proofs.units.ResUnits.check_view.Goals as goal
 
 pub index-requires : goal.index-requires

@@ -5,10 +5,11 @@ use Rattle.addr2line_units.specs.CachedLines.{indexed_units, parsed_units}
 use Rattle.addr2line_units.specs.Cover.{cover}
 use Rattle.addr2line_units.specs.FramesLookup.{LookupAsks, asked_frames, asks_lines_of, has_many_of, holds_along, stop_along}
 use Rattle.addr2line_units.specs.Indexed.{units_in}
-use Rattle.addr2line_units.specs.KeptLookups.{HaveEntriesOf, ReadsOnly, answers_in, has_frames_at, scope_in, seen_stop, sup_file}
-use Rattle.addr2line_units.specs.Parsed.{IsNotOom, ParsesOnly}
+use Rattle.addr2line_units.specs.CachedLookups.{HaveEntriesOf, ReadsOnly, answers_in, has_frames_at, scope_in, seen_stop, sup_file}
+use Rattle.gimli_read.specs.Alike.{HadMemory}
+use Rattle.addr2line_units.specs.Parsed.{ParsesOnly}
 use Rattle.addr2line_units.specs.UnitRangesLeft.{ranges_left}
-use Rattle.addr2line_units.proofs.KeptLookupLemmas.{same_answers}
+use Rattle.addr2line_units.proofs.CachedLookupLemmas.{same_answers}
 use Rattle.addr2line_units.proofs.UnitsLemmas.{stay_indexed}
 use Rattle.addr2line_units.proofs.WaitLemmas.{waits_if_found}
 use Rattle.addr2line_units.proofs.WalkLemmas.{in_scope}
@@ -42,7 +43,7 @@ returns-clause-ready g c =
     let probe = c.args.probe in
     let answers = answers_in s.entries.items in
     let at = in_scope c.args.dwarf.now c.deref.result.now s.dw_units.items (option_map seen_file c.file.result) (sup_file c.args.sup.now) (ranges_left c.find.result) (cover probe s.ranges) in
-    at (λ S us qs. IsNotOom along.result → holds_along (has_frames_at (asks_lines_of S (indexed_units us s.units.items) answers probe) probe (parsed_units along.new.units.items) along.new.entries.items) (asked_frames faults S (indexed_units us s.units.items) answers probe) qs ≡ true) (search rules) c.file.ensures.gives c.find.ensures.gives along.ensures.ready
+    at (λ S us qs. HadMemory along.result → holds_along (has_frames_at (asks_lines_of S (indexed_units us s.units.items) answers probe) probe (parsed_units along.new.units.items) along.new.entries.items) (asked_frames faults S (indexed_units us s.units.items) answers probe) qs ≡ true) (search rules) c.file.ensures.gives c.find.ensures.gives along.ensures.ready
 
 pub returns-clause-memory : goal.returns-clause-memory
 returns-clause-memory g c =
@@ -52,7 +53,7 @@ returns-clause-memory g c =
     let probe = c.args.probe in
     let answers = answers_in s.entries.items in
     let at = in_scope c.args.dwarf.now c.deref.result.now s.dw_units.items (option_map seen_file c.file.result) (sup_file c.args.sup.now) (ranges_left c.find.result) (cover probe s.ranges) in
-    at (λ S us qs. holds_along (λ n. (has_frames_at (asks_lines_of S (indexed_units us s.units.items) answers probe) probe (parsed_units along.new.units.items) along.new.entries.items) n && not (has_many_of S (indexed_units us s.units.items) answers probe n)) (asked_frames faults S (indexed_units us s.units.items) answers probe) qs ≡ true → IsNotOom along.result) (search rules) c.file.ensures.gives c.find.ensures.gives along.ensures.memory
+    at (λ S us qs. holds_along (λ n. (has_frames_at (asks_lines_of S (indexed_units us s.units.items) answers probe) probe (parsed_units along.new.units.items) along.new.entries.items) n && not (has_many_of S (indexed_units us s.units.items) answers probe n)) (asked_frames faults S (indexed_units us s.units.items) answers probe) qs ≡ true → HadMemory along.result) (search rules) c.file.ensures.gives c.find.ensures.gives along.ensures.memory
 
 pub returns-clause-waits : goal.returns-clause-waits
 returns-clause-waits g c =

@@ -1,5 +1,5 @@
 use Rattle.std.proofs.Common.{◌≡◌, Ok, Some, arith, rules}
-use Rattle.addr2line_units.specs.KeptViews.{seen_load}
+use Rattle.addr2line_units.specs.CachedViews.{seen_load}
 use Rattle.addr2line_units.specs.Views.{load_of_unit}
 use Rattle.addr2line_units.proofs.WaitLemmas.{as_many_views, of_unit_at, waiting_view, waits_within}
 use Rattle.addr2line_units.proofs.units.ResUnits.load.Goals as goal

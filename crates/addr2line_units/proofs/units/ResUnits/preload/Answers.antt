@@ -1,10 +1,10 @@
 use Rattle.std.proofs.Common.{◌≡◌, map, subst}
 use Rattle.std.specs.Prelude.{IfOk, IsOk}
 use Rattle.addr2line_units.specs.Cover.{cover}
-use Rattle.addr2line_units.specs.KeptLookups.{answers_in}
-use Rattle.addr2line_units.specs.KeptViews.{seen_load}
+use Rattle.addr2line_units.specs.CachedLookups.{answers_in}
+use Rattle.addr2line_units.specs.CachedViews.{seen_load}
 use Rattle.addr2line_units.specs.Loads.{AreSettled, load_of_number, loads_along}
-use Rattle.addr2line_units.proofs.KeptLookupLemmas.{same_answers}
+use Rattle.addr2line_units.proofs.CachedLookupLemmas.{same_answers}
 use Rattle.addr2line_units.proofs.units.ResUnits.preload.Goals as goal
 
 pub returns-clause-gives : goal.returns-clause-gives

@@ -1,11 +1,11 @@
 use Rattle.std.proofs.Common.{◌≡◌, [], option_map, refl, rules}
 use Rattle.addr2line_lines.specs.SeenScope.{seen_file}
 use Rattle.addr2line_units.specs.FunctionParses.{AreFirstDecided, AreReadBefore, AreReadyFor, answers_after_parse, read_of_units}
-use Rattle.addr2line_units.specs.KeptLookups.{answers_in, sup_file}
-use Rattle.addr2line_units.specs.KeptParses.{ChangesOnly}
-use Rattle.addr2line_units.proofs.KeptParseLemmas.{all_stay, decided_if_ok, found_if_ok}
+use Rattle.addr2line_units.specs.CachedLookups.{answers_in, sup_file}
+use Rattle.addr2line_units.specs.CachedParses.{ChangesOnly}
+use Rattle.addr2line_units.proofs.CachedParseLemmas.{all_stay, decided_if_ok, found_if_ok}
 use Rattle.addr2line_units.specs.KnownEntries.{known_in}
-use Rattle.addr2line_units.specs.Parsed.{IsNotOom}
+use Rattle.gimli_read.specs.Alike.{HadMemory}
 use Rattle.addr2line_units.proofs.ReadyLemmas.{ready_after, ready_before}
 use Rattle.addr2line_units.proofs.WalkLemmas.{in_scope}
 use Rattle.addr2line_units.proofs.units.ResUnits.read_functions.Goals as goal
@@ -61,4 +61,4 @@ returns-clause-answers g c =
     let s = c.args.self.now in
     let new = c.read_all_functions.new.entries.items in
     let at = in_scope c.args.dwarf.now c.deref.result.now s.dw_units.items (option_map seen_file c.file.result) (sup_file c.args.sup.now) [] [] in
-    at (λ S us qs. IsNotOom c.read_all_functions.result → answers_in new ≡ answers_after_parse c.args.reads S us (answers_in s.entries.items)) (search rules) c.file.ensures.gives refl c.read_all_functions.ensures.answers
+    at (λ S us qs. HadMemory c.read_all_functions.result → answers_in new ≡ answers_after_parse c.args.reads S us (answers_in s.entries.items)) (search rules) c.file.ensures.gives refl c.read_all_functions.ensures.answers

@@ -1,5 +1,5 @@
 use Rattle.std.proofs.Common.{rules, ◌≡◌, ◌∙◌, sym, None, Ok, Err, option_map}
-use Rattle.addr2line_units.specs.KeptViews.{split_unit}
+use Rattle.addr2line_units.specs.CachedViews.{split_unit}
 use Rattle.addr2line_units.specs.Views.{verdict}
 use Rattle.addr2line_units.proofs.ViewLemmas.{answered_is_right, verdict_of_open, waiting_is_open}
 use Rattle.addr2line_units.proofs.view.UnitView.decide.Goals as goal

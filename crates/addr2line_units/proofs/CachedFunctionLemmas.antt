@@ -1,4 +1,4 @@
--- The function at an address by what is kept of a view (on specs/KeptFunctions.antt).
+-- The function at an address by what is kept of a view (on specs/CachedFunctions.antt).
 use Rattle.std.proofs.Common.{◌≡◌, ◌≢◌, ℕ, ◌+◌, ◌<◌, ◌==◌, ◌&&◌, ◌⊎◌, inl, inr, nat_lt, not, Bool, true, false, cond, List, [], ◌∷◌, length, map, slice_get, slice_set, Option, Some, None, option_and_then, option_map, unwrap_or, Result, Ok, Err, refl, ap, sym, subst, ◌∙◌, arith, zero, suc}
 use Rattle.std.specs.Prelude.{IfSome, OnOk, position, reverse}
 use Rattle.std.specs.List.{AllByRecursion, AllZip, position_or_len}
@@ -13,7 +13,8 @@ use Rattle.gimli.specs.Unit.{UnitRecord}
 use Rattle.addr2line_lines.specs.Details.{Detail, InlinedEntry, InlinedRange, detail_at, inlined_chain}
 use Rattle.addr2line_lines.specs.FoundDetails.{entry_among}
 use Rattle.addr2line_lines.specs.Functions.{FunctionRange, entries_of, function_offset_at, functions_of}
-use Rattle.addr2line_lines.specs.FunctionTable.{AreDetailsOf, AreListed, AreUnread, CachedFunction, FunctionTable, HasDetail, IsDetailOf, IsFunctionMore, IsReadAt, IsReadOf, IsReadOnce, IsTableMore, IsWithDetail, cached_detail, cached_inlined, cached_name, detail_fault, details_fault, details_take_memory, function_place_at, inlined_of_detail, name_of_detail, cached_offset_at}
+use Rattle.gimli_line.specs.Opcode.{fault_of}
+use Rattle.addr2line_lines.specs.FunctionTable.{AreDetailsOf, AreListed, AreUnread, CachedFunction, FunctionTable, HasDetail, IsDetailOf, IsFunctionMore, IsReadAt, IsReadOf, IsReadOnce, IsTableMore, IsWithDetail, cached_detail, cached_inlined, cached_name, details_fault, details_take_memory, function_place_at, inlined_of_detail, name_of_detail, cached_offset_at}
 use Rattle.addr2line_lines.specs.Location.{Location}
 use Rattle.addr2line_lines.specs.References.{Scope}
 use Rattle.addr2line_lines.proofs.ListedFunctions.{more_listed}
@@ -23,7 +24,7 @@ use Rattle.addr2line_units.specs.declared.functions.FunctionPlace.{FunctionPlace
 use Rattle.addr2line_units.specs.declared.functions.LazyFunctions.{LazyFunctions}
 use Rattle.addr2line_units.specs.declared.functions.LazyFunctions.TheVariants as lazy
 use Rattle.addr2line_units.specs.Frames.{FrameRecord, found_frames, found_function, frames_from, function_at, function_from}
-use Rattle.addr2line_units.specs.KeptFunctions.{IsPlaceIn, IsTableOf, ReadsNoOther, StayFunctions, are_many, kept_detail_takes_memory, details_at, find_takes_memory, function_of_place, functions_fault, kept_functions, place_takes_memory, reading_takes_memory, table_takes_memory, were_read}
+use Rattle.addr2line_units.specs.CachedFunctions.{ArePlacesIn, IsTableOf, ReadsNoOther, StayFunctions, are_many, cached_detail_takes_memory, details_at, find_takes_memory, function_of_place, functions_fault, cached_functions, place_takes_memory, reading_takes_memory, table_takes_memory, were_read}
 
 -- whether an error is that of memory
 pub memory_or_not : (e : Error) → (e ≡ OutOfMemory) ⊎ (e ≢ OutOfMemory)
@@ -89,7 +90,7 @@ place_stays probe old new more =
 -- where what is at the place of a function is cached, memory is taken for many inlined functions alone
 pub cached_ready : (probe n : ℕ) (t : FunctionTable) (v : Result Detail Error) → function_place_at probe t ≡ Some n → cached_detail t n ≡ Some v → table_takes_memory probe t ≡ are_many probe t
 cached_ready probe n t v at e =
-    ap (place_takes_memory probe t) at ∙ ap (kept_detail_takes_memory probe) e
+    ap (place_takes_memory probe t) at ∙ ap (cached_detail_takes_memory probe) e
     ∙ sym (ap (λ (o : Option (Result Detail Error)). nat_lt 16 (length (inlined_chain probe (elim o [ None ↦ [] | Some d ↦ inlined_of_detail d ])))) e)
     ∙ sym (ap (λ (o : Option ℕ). elim o [ None ↦ false | Some m ↦ nat_lt 16 (length (inlined_chain probe (cached_inlined t m))) ]) at)
 
@@ -122,11 +123,11 @@ module _ (scope : Scope) (view : UnitRecord) (probe n : ℕ) (old new : Function
     pub is : detail_at scope view f.offset ≡ v
     pub there : slice_get new.functions n ≡ Some (record { offset = f.offset; detail = Some v })
 
-  unfaulty : (r : Result Detail Error) → detail_fault r ≡ Ok tt → (d : Detail) × (r ≡ Ok d)
+  unfaulty : (r : Result Detail Error) → fault_of r ≡ Ok tt → (d : Detail) × (r ≡ Ok d)
   unfaulty (Ok d) e = (d, refl)
   unfaulty (Err e) k = absurd cc
 
-  faulty : (r : Result Detail Error) (e : Error) → detail_fault r ≡ Err e → r ≡ Err e
+  faulty : (r : Result Detail Error) (e : Error) → fault_of r ≡ Err e → r ≡ Err e
   faulty (Ok d) e k = absurd cc
   faulty (Err x) e k = let same : x ≡ e = cc in ap Err same
 
@@ -194,7 +195,7 @@ module _ (scope : Scope) (view : UnitRecord) (probe n : ℕ) (old new : Function
   pub refused_detail : IsTableOf scope view old → function_place_at probe old ≡ Some n → cached_offset_at old n ≡ function_offset_at probe old.ranges → (x : Error) → IsReadAt scope view n old (Err x) new → MemoryLacks x → function_at scope view probe ≡ Err x
   refused_detail h place at x k lacks = elim (read_err x (all_at (IsDetailOf scope view) old.functions n f h.details q) k) [
     | inl c ↦ fault_found h at x c
-    | inr m ↦ (let before : table_takes_memory probe old ≡ true = ap (place_takes_memory probe old) place ∙ ap (kept_detail_takes_memory probe) (ap (λ (o : Option CachedFunction). option_and_then (λ (g : CachedFunction). g.detail) o) q ∙ m.1) in
+    | inr m ↦ (let before : table_takes_memory probe old ≡ true = ap (place_takes_memory probe old) place ∙ ap (cached_detail_takes_memory probe) (ap (λ (o : Option CachedFunction). option_and_then (λ (g : CachedFunction). g.detail) o) q ∙ m.1) in
         let after : table_takes_memory probe new ≡ true = ap (table_takes_memory probe) m.2 ∙ before in
         absurd (lacks (both _ _ before after) m.0))
   ]
@@ -217,19 +218,19 @@ module _ (scope : Scope) (view : UnitRecord) (probe n : ℕ) (old new : Function
     where
       after : (d : Detail) → IsCached (Ok d) → nat_lt 16 (length (inlined_chain probe (cached_inlined new n))) ≡ true → table_takes_memory probe new ≡ true
       after d c many =
-          ap (place_takes_memory probe new) (place_stays probe old new (read_more scope view n old new (Ok tt) k) ∙ place) ∙ ap (kept_detail_takes_memory probe) (cached_is (Ok d) c)
+          ap (place_takes_memory probe new) (place_stays probe old new (read_more scope view n old new (Ok tt) k) ∙ place) ∙ ap (cached_detail_takes_memory probe) (cached_is (Ok d) c)
           ∙ sym (ap (λ (o : Option (Result Detail Error)). nat_lt 16 (length (inlined_chain probe (elim o [ None ↦ [] | Some y ↦ inlined_of_detail y ])))) (cached_is (Ok d) c)) ∙ many
 
       at_old : cached_detail old n ≡ f.detail
       at_old = ap (λ (o : Option CachedFunction). option_and_then (λ (g : CachedFunction). g.detail) o) q
 
       before : (d : Detail) → IsCached (Ok d) → nat_lt 16 (length (inlined_chain probe (cached_inlined new n))) ≡ true → table_takes_memory probe old ≡ true
-      before d c many = ap (place_takes_memory probe old) place ∙ ap (kept_detail_takes_memory probe) at_old ∙ by_detail f.detail refl
+      before d c many = ap (place_takes_memory probe old) place ∙ ap (cached_detail_takes_memory probe) at_old ∙ by_detail f.detail refl
         where
           right : IsDetailOf scope view f
           right = all_at (IsDetailOf scope view) old.functions n f h.details q
 
-          by_detail : (y : Option (Result Detail Error)) → f.detail ≡ y → kept_detail_takes_memory probe y ≡ true
+          by_detail : (y : Option (Result Detail Error)) → f.detail ≡ y → cached_detail_takes_memory probe y ≡ true
           by_detail None e = refl
           by_detail (Some v) e =
               let same : v ≡ Ok d = sym (right v e) ∙ c.is in
@@ -284,9 +285,9 @@ table_stays scope view n old new r h k =
 pub details_by_entries : (scope : Scope) (view : UnitRecord) (fs : List CachedFunction) → details_fault scope view fs ≡ details_at scope view (map (λ (f : CachedFunction). f.offset) fs)
 details_by_entries scope view [] = refl
 details_by_entries scope view (f ∷ fs) =
-    ap (λ (r : Result (Unit {0}) Error). detail_fault (detail_at scope view f.offset) >>= λ _. r) (details_by_entries scope view fs) ∙ by_detail (detail_at scope view f.offset)
+    ap (λ (r : Result (Unit {0}) Error). fault_of (detail_at scope view f.offset) >>= λ _. r) (details_by_entries scope view fs) ∙ by_detail (detail_at scope view f.offset)
   where
-    by_detail : (r : Result Detail Error) → (detail_fault r >>= λ _. details_at scope view (map (λ (f : CachedFunction). f.offset) fs)) ≡ (r >>= λ _. details_at scope view (map (λ (f : CachedFunction). f.offset) fs))
+    by_detail : (r : Result Detail Error) → (fault_of r >>= λ _. details_at scope view (map (λ (f : CachedFunction). f.offset) fs)) ≡ (r >>= λ _. details_at scope view (map (λ (f : CachedFunction). f.offset) fs))
     by_detail (Ok d) = refl
     by_detail (Err e) = refl
 
@@ -387,27 +388,27 @@ module _ {R : Type 0} (old mid : LazyFunctions R) (kept : were_read old ≡ true
   unread_at (f ∷ fs) (suc n) all = unread_at fs n all.1
 
   -- no detail is cached where functions are read
-  pub details_before : (t : FunctionTable) → (were_read old ≡ false → AreUnread (kept_functions mid)) → mid ≡ lazy.Read t → (n : ℕ) → cached_detail t n ≡ cached_detail (kept_functions old) n
+  pub details_before : (t : FunctionTable) → (were_read old ≡ false → AreUnread (cached_functions mid)) → mid ≡ lazy.Read t → (n : ℕ) → cached_detail t n ≡ cached_detail (cached_functions old) n
   details_before t unread e n = by_old old refl
     where
-      by_old : (x : LazyFunctions R) → old ≡ x → cached_detail t n ≡ cached_detail (kept_functions x) n
-      by_old lazy.Unread q = unread_at t.functions n (subst (λ (y : LazyFunctions R). AreUnread (kept_functions y)) e (unread (ap were_read q)))
+      by_old : (x : LazyFunctions R) → old ≡ x → cached_detail t n ≡ cached_detail (cached_functions x) n
+      by_old lazy.Unread q = unread_at t.functions n (subst (λ (y : LazyFunctions R). AreUnread (cached_functions y)) e (unread (ap were_read q)))
       by_old (lazy.Read s) q =
           let is : lazy.Read t ≡ lazy.Read s = sym e ∙ kept (ap were_read q) ∙ q in
           let same : t ≡ s = cc in
           ap (λ (u : FunctionTable). cached_detail u n) same
       by_old (lazy.Faulty x) q = let is : lazy.Read t ≡ lazy.Faulty x = sym e ∙ kept (ap were_read q) ∙ q in absurd cc
 
-  pub none_before : (e : Error) → mid ≡ lazy.Faulty e → (n : ℕ) → None ≡ cached_detail (kept_functions old) n
+  pub none_before : (e : Error) → mid ≡ lazy.Faulty e → (n : ℕ) → None ≡ cached_detail (cached_functions old) n
   none_before e at n = by_old old refl
     where
-      by_old : (x : LazyFunctions R) → old ≡ x → None ≡ cached_detail (kept_functions x) n
+      by_old : (x : LazyFunctions R) → old ≡ x → None ≡ cached_detail (cached_functions x) n
       by_old lazy.Unread q = refl
       by_old (lazy.Read s) q = let is : lazy.Faulty e ≡ lazy.Read s = sym at ∙ kept (ap were_read q) ∙ q in absurd cc
       by_old (lazy.Faulty x) q = refl
 
 -- the frames of a function by its place among those that are kept
-pub frames_of_place : (files : List (List ℕ)) (language : Option DwLang) (t : FunctionTable) (p : FunctionPlace) → IsPlaceIn t p → (location : Option Location) (left : List FrameRecord)
+pub frames_of_place : (files : List (List ℕ)) (language : Option DwLang) (t : FunctionTable) (p : FunctionPlace) → ArePlacesIn t p → (location : Option Location) (left : List FrameRecord)
     → IfSome (cached_offset_at t p.place) (λ offset. left ≡ frames_from files language offset (cached_name t p.place) (reverse (map (entry_among t.inlined) p.inlined.items)) location)
     → left ≡ found_frames files language (Some (function_of_place t p)) location
 frames_of_place files language t p there location left h =

@@ -1,6 +1,6 @@
 -- What is kept of a unit's view, as the private functions see it.
 -- Own: whether a unit needs an answer is kept once it was looked at; its first answer, and what
--- that decides, since the unit was last forgotten. OutOfMemory is never kept.
+-- that decides, since the unit was last forgotten. OutOfMemory is never cached.
 use Rattle.std.specs.Prelude.{◌≡◌, Bool, true, false, [], is_some, Option, Some, None, option_map, IfSome, Result, Ok, Err}
 use Rattle.gimli_read.specs.declared.error.Error.{Error}
 use Rattle.gimli_read.specs.Reading.{◌>>=◌}
@@ -64,9 +64,9 @@ verdict_in d u (states.Unnamed e) = Some (Some (Err e))
 verdict_in d u (states.Answered a) = Some (Some (view_in d u a))
 
 -- the same of a unit's view
-abbrev pub kept_verdict : {R : Type 0} → Sections → UnitRecord → UnitView R
+abbrev pub cached_verdict : {R : Type 0} → Sections → UnitRecord → UnitView R
     → Option (Option (Result View Error))
-kept_verdict d u v = verdict_in d u v.state
+cached_verdict d u v = verdict_in d u v.state
 
 -- whether the unit was looked at
 abbrev pub was_looked_at : {R : Type 0} → ViewState R → Bool
@@ -87,7 +87,7 @@ is_decided _ = true
 -- what is kept is what the bytes and the first answer give, and only a unit that waited for it has
 -- a first answer
 pub record IsViewOf {R : Type 0} (d : Sections) (u : UnitRecord) (v : UnitView R) : Type 0 where
-  pub right : IfSome (kept_verdict d u v) (λ kept. kept ≡ verdict d u (seen_first_answer v))
+  pub right : IfSome (cached_verdict d u v) (λ kept. kept ≡ verdict d u (seen_first_answer v))
   pub waited : is_some (seen_first_answer v) ≡ true → is_open d u None ≡ true
 
 -- the sections of the split file that an answer's view is in, if it is in one

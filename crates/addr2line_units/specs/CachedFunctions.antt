@@ -1,6 +1,6 @@
 -- What is kept of the functions of a view, as the private functions see it.
 -- Own: functions are read when they are first asked for, and kept then, their fault too; so is each
--- detail. OutOfMemory is never kept.
+-- detail. OutOfMemory is never cached.
 use Rattle.std.specs.Prelude.{◌≡◌, ◌≢◌, ◌<◌, ℕ, Bool, true, false, nat_lt, List, [], ◌∷◌, length, map, Option, Some, None, unwrap_or, Result, Ok, Err}
 use Rattle.std.specs.List.{AllByRecursion}
 use Rattle.gimli_read.specs.declared.error.Error.{Error}
@@ -40,9 +40,9 @@ abbrev pub no_functions : FunctionTable
 no_functions = record { ranges = []; functions = []; inlined = [] }
 
 -- the functions that are kept, none before they are read and where they have a fault
-abbrev pub kept_functions : {R : Type 0} → LazyFunctions R → FunctionTable
-kept_functions (lazy.Read t) = t
-kept_functions _ = no_functions
+abbrev pub cached_functions : {R : Type 0} → LazyFunctions R → FunctionTable
+cached_functions (lazy.Read t) = t
+cached_functions _ = no_functions
 
 -- what is kept stays, and more details may be
 abbrev pub StayFunctions : {R : Type 0} → LazyFunctions R → LazyFunctions R → Type 0
@@ -57,7 +57,7 @@ ReadsNoOther probe old new =
     (n : ℕ) → function_place_at probe new ≢ Some n → cached_detail new n ≡ cached_detail old n
 
 -- a place is that of a function, and those of its inlined functions are of inlined entries
-pub record IsPlaceIn (t : FunctionTable) (p : FunctionPlace) : Type 0 where
+pub record ArePlacesIn (t : FunctionTable) (p : FunctionPlace) : Type 0 where
   pub function : p.place < length t.functions
   pub inlined : AllByRecursion (λ n. n < length t.inlined) p.inlined.items
 
@@ -78,15 +78,15 @@ are_many probe t = elim (function_place_at probe t) [
 
 -- whether memory may be taken to find a function by what is cached of it: nothing is, or there are
 -- more than 16 inlined functions
-abbrev pub kept_detail_takes_memory : ℕ → Option (Result Detail Error) → Bool
-kept_detail_takes_memory probe None = true
-kept_detail_takes_memory probe (Some d) =
+abbrev pub cached_detail_takes_memory : ℕ → Option (Result Detail Error) → Bool
+cached_detail_takes_memory probe None = true
+cached_detail_takes_memory probe (Some d) =
     nat_lt 16 (length (inlined_chain probe (inlined_of_detail d)))
 
 -- the same of the function of a place; where there is none no memory is taken
 abbrev pub place_takes_memory : ℕ → FunctionTable → Option ℕ → Bool
 place_takes_memory probe t None = false
-place_takes_memory probe t (Some n) = kept_detail_takes_memory probe (cached_detail t n)
+place_takes_memory probe t (Some n) = cached_detail_takes_memory probe (cached_detail t n)
 
 -- the same of the function at the probe
 abbrev pub table_takes_memory : ℕ → FunctionTable → Bool
@@ -119,10 +119,10 @@ abbrev pub has_table : ℕ → FunctionTable → Bool
 has_table probe t = has_place t (function_place_at probe t)
 
 -- the same by what is kept of a view: the functions, or their fault
-abbrev pub kept_has_function : {R : Type 0} → ℕ → LazyFunctions R → Bool
-kept_has_function probe lazy.Unread = false
-kept_has_function probe (lazy.Read t) = has_table probe t
-kept_has_function probe (lazy.Faulty e) = is_kept e
+abbrev pub cached_has_function : {R : Type 0} → ℕ → LazyFunctions R → Bool
+cached_has_function probe lazy.Unread = false
+cached_has_function probe (lazy.Read t) = has_table probe t
+cached_has_function probe (lazy.Faulty e) = is_kept e
 
 -- the first fault among the details of functions, by where their entries begin
 abbrev pub details_at : Scope → UnitRecord → List ℕ → Result (Unit {0}) Error

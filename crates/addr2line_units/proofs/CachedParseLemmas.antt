@@ -1,5 +1,5 @@
 -- What is kept of the entries of units after a parse of their functions (on
--- specs/KeptParses.antt).
+-- specs/CachedParses.antt).
 use Rattle.std.proofs.Common.{◌≡◌, ℕ, zero, suc, ◌≤◌, ◌<◌, inl, inr, Bool, true, false, not, ◌&&◌, ◌||◌, ◌==◌, cond, nat_lt, List, [], ◌∷◌, length, get_or, slice_get, Option, Some, None, option_and_then, Result, Ok, Err, is_ok, is_some, refl, ap, sym, subst, ◌∙◌, arith}
 use Rattle.std.proofs.Math.ListN.{set}
 use Rattle.std.specs.Prelude.{IfSome, OnOk, position}
@@ -11,7 +11,8 @@ use Rattle.gimli.specs.Sections.{Sections}
 use Rattle.gimli.specs.Unit.{UnitRecord}
 use Rattle.addr2line_lines.specs.Details.{Detail, detail_takes_memory as takes}
 use Rattle.addr2line_lines.specs.Functions.{FunctionRange, entries_of, function_offset_at, functions_of}
-use Rattle.addr2line_lines.specs.FunctionTable.{CachedFunction, FunctionTable, HasDetail, IsDetailOf, detail_fault, details_fault, details_take_memory, function_place_at, read_fault}
+use Rattle.gimli_line.specs.Opcode.{fault_of}
+use Rattle.addr2line_lines.specs.FunctionTable.{CachedFunction, FunctionTable, HasDetail, IsDetailOf, details_fault, details_take_memory, function_place_at, read_fault}
 use Rattle.addr2line_lines.specs.References.{Scope}
 use Rattle.addr2line_lines.proofs.PlaceLemmas.{all_at, some_at}
 use Rattle.addr2line_units.specs.declared.functions.LazyFunctions.{LazyFunctions}
@@ -24,16 +25,16 @@ use Rattle.addr2line_units.specs.declared.view.ViewState.{ViewState}
 use Rattle.addr2line_units.specs.declared.view.ViewState.TheVariants as states
 use Rattle.addr2line_units.specs.FramesLookup.{answer_of}
 use Rattle.addr2line_units.specs.FunctionParses.{AreReadBefore, read_of_functions, read_of_number, read_of_unit, read_of_view}
-use Rattle.addr2line_units.specs.KeptEntries.{StayEntries, has_answered, has_entries_by, kept_answer}
-use Rattle.addr2line_units.specs.KeptFunctions.{AreFunctionsOf, StayFunctions, details_at, functions_fault, has_detail, kept_has_function, has_place, kept_functions, reading_takes_memory, were_read}
-use Rattle.addr2line_units.specs.KeptLookups.{HaveEntriesOf, StayAllEntries, answers_in, has_entries_at}
-use Rattle.addr2line_units.specs.KeptParses.{AreDecided, ChangesOnly, HasRead, HaveFunctions, HaveRead, StayDecided, has_view}
-use Rattle.addr2line_units.specs.KeptViews.{is_decided, seen_sections, verdict_in, view_by}
+use Rattle.addr2line_units.specs.CachedEntries.{StayEntries, has_answered, has_entries_by, kept_answer}
+use Rattle.addr2line_units.specs.CachedFunctions.{AreFunctionsOf, StayFunctions, details_at, functions_fault, has_detail, cached_has_function, has_place, cached_functions, reading_takes_memory, were_read}
+use Rattle.addr2line_units.specs.CachedLookups.{HaveEntriesOf, StayAllEntries, answers_in, has_entries_at}
+use Rattle.addr2line_units.specs.CachedParses.{AreDecided, ChangesOnly, HasRead, HaveFunctions, HaveRead, StayDecided, has_view}
+use Rattle.addr2line_units.specs.CachedViews.{is_decided, seen_sections, verdict_in, view_by}
 use Rattle.addr2line_units.specs.Views.{View, view_scope}
 use Rattle.addr2line_units.proofs.AnswerLemmas.{answer_at, decided_was_looked_at, got_unit}
 use Rattle.addr2line_units.proofs.EntryLemmas.{functions_stay}
-use Rattle.addr2line_units.proofs.KeptFunctionLemmas.{fault_is}
-use Rattle.addr2line_units.proofs.KeptLookupLemmas.{entries_on, entries_same}
+use Rattle.addr2line_units.proofs.CachedFunctionLemmas.{fault_is}
+use Rattle.addr2line_units.proofs.CachedLookupLemmas.{entries_on, entries_same}
 use Rattle.addr2line_units.proofs.ParseLemmas.{at_or_behind, below_next}
 
 -- functions that are kept were read
@@ -63,7 +64,7 @@ alone_fault scope view e h = ap (λ (r : Result (List FunctionRange) Error). r >
 
 -- functions that were read with all details are kept with them
 pub details_have : {R : Type 0} (scope : Scope) (view : UnitRecord) (may : Bool) (f : LazyFunctions R) (r : Result (Unit {0}) Error) → AreFunctionsOf scope view f → ExactlyUnlessOomIf may (λ x. x) r (functions_fault scope view)
-    → OnOk r (were_read f ≡ true) → OnOk r (AllByRecursion HasDetail (kept_functions f).functions) → OnOk r (HaveFunctions reads.Details f)
+    → OnOk r (were_read f ≡ true) → OnOk r (AllByRecursion HasDetail (cached_functions f).functions) → OnOk r (HaveFunctions reads.Details f)
 details_have scope view may f (Err e) right gives read details = tt
 details_have scope view may lazy.Unread (Ok x) right gives read details = absurd cc
 details_have scope view may (lazy.Read t) (Ok x) right gives read details = details
@@ -74,7 +75,7 @@ details_have scope view may (lazy.Faulty e) (Ok x) right gives read details =
 no_detail_fault : (scope : Scope) (view : UnitRecord) (fs : List CachedFunction) → AllByRecursion HasDetail fs → AllByRecursion (IsDetailOf scope view) fs → details_fault scope view fs ≡ Ok tt
 no_detail_fault scope view [] all right = refl
 no_detail_fault scope view (f ∷ fs) all right =
-    ap (λ (r : Result Detail Error). detail_fault r >>= λ _. details_fault scope view fs) (right.0 (Ok all.0.0) all.0.1)
+    ap (λ (r : Result Detail Error). fault_of r >>= λ _. details_fault scope view fs) (right.0 (Ok all.0.0) all.0.1)
     ∙ no_detail_fault scope view fs all.1 right.1
 
 no_detail_memory : (shares : Bool) (scope : Scope) (view : UnitRecord) (fs : List CachedFunction) → AllByRecursion HasDetail fs → details_take_memory shares scope view fs ≡ false
@@ -155,7 +156,7 @@ has_all probe t all (Some n) e =
     ap (λ (o : Option CachedFunction). has_detail (option_and_then (λ (g : CachedFunction). g.detail) o)) at.1 ∙ ap has_detail h.1
 
 module _ {R : Type 0} (probe : ℕ) where
-  has_functions : (f : LazyFunctions R) → HaveFunctions reads.Details f → kept_has_function probe f ≡ true
+  has_functions : (f : LazyFunctions R) → HaveFunctions reads.Details f → cached_has_function probe f ≡ true
   has_functions lazy.Unread h = absurd h
   has_functions (lazy.Read t) h = has_all probe t h (function_place_at probe t) refl
   has_functions (lazy.Faulty e) h = absurd h

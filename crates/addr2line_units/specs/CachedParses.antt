@@ -14,8 +14,8 @@ use Rattle.addr2line_units.specs.declared.unit_frames.UnitEntries.{UnitEntries}
 use Rattle.addr2line_units.specs.declared.view.ViewState.{ViewState}
 use Rattle.addr2line_units.specs.declared.view.ViewState.TheVariants as states
 use Rattle.addr2line_units.specs.FunctionParses.{AreReadBefore, IsReadyFor}
-use Rattle.addr2line_units.specs.KeptEntries.{StayEntries}
-use Rattle.addr2line_units.specs.KeptViews.{is_decided}
+use Rattle.addr2line_units.specs.CachedEntries.{StayEntries}
+use Rattle.addr2line_units.specs.CachedViews.{is_decided}
 use Rattle.addr2line_units.specs.KnownEntries.{known_by}
 
 -- whether the view is known, and has no fault

@@ -1,6 +1,6 @@
 -- What is kept of the views of units and of the functions in them, as the private functions see it.
 -- Own: the functions of a view that is known are read when they are first asked for, and kept then,
--- their fault too, until the unit is forgotten; so is each detail. OutOfMemory is never kept.
+-- their fault too, until the unit is forgotten; so is each detail. OutOfMemory is never cached.
 use Rattle.std.specs.Prelude.{◌≡◌, ℕ, Bool, true, false, List, Option, Some, None, Result, Ok, Err, IfOk, IfSome, option_map}
 use Rattle.gimli_read.specs.declared.error.Error.{Error}
 use Rattle.gimli.specs.Sections.{Sections}
@@ -18,8 +18,8 @@ use Rattle.addr2line_units.specs.declared.view.ViewState.{ViewState}
 use Rattle.addr2line_units.specs.declared.view.ViewState.TheVariants as states
 use Rattle.addr2line_units.specs.CachedLines.{cached_files}
 use Rattle.addr2line_units.specs.Frames.{FrameRecord, found_frames}
-use Rattle.addr2line_units.specs.KeptFunctions.{AreFunctionsOf, IsPlaceIn, ReadsNoOther, StayFunctions, function_of_place, kept_has_function, is_kept, kept_functions, were_read}
-use Rattle.addr2line_units.specs.KeptViews.{IsViewOf, is_decided, seen_first_answer, was_looked_at}
+use Rattle.addr2line_units.specs.CachedFunctions.{AreFunctionsOf, ArePlacesIn, ReadsNoOther, StayFunctions, function_of_place, cached_has_function, is_kept, cached_functions, were_read}
+use Rattle.addr2line_units.specs.CachedViews.{IsViewOf, is_decided, seen_first_answer, was_looked_at}
 use Rattle.addr2line_units.specs.Views.{verdict, view_scope}
 
 -- the first answer of a unit
@@ -49,7 +49,7 @@ pub record StayEntries {R : Type 0} (old new : UnitEntries R) : Type 0 where
 -- whether the split unit of an answer has a fault that is kept, or else the function at the probe
 -- is found
 abbrev pub has_answered : {R : Type 0} → {X : Type 0} → ℕ → Result X Error → LazyFunctions R → Bool
-has_answered probe (Ok x) functions = kept_has_function probe functions
+has_answered probe (Ok x) functions = cached_has_function probe functions
 has_answered probe (Err e) functions = is_kept e
 
 -- whether what a unit has at the probe is known, by what is kept of its view and its functions: it
@@ -57,7 +57,7 @@ has_answered probe (Err e) functions = is_kept e
 abbrev pub has_entries_by : {R : Type 0} → ℕ → ViewState R → LazyFunctions R → Bool
 has_entries_by probe states.Undecided functions = false
 has_entries_by probe states.Open functions = true
-has_entries_by probe states.Main functions = kept_has_function probe functions
+has_entries_by probe states.Main functions = cached_has_function probe functions
 has_entries_by probe (states.Unnamed e) functions = is_kept e
 has_entries_by probe (states.Answered a) functions = has_answered probe a.unit functions
 
@@ -67,7 +67,7 @@ has_entries probe v = has_entries_by probe v.view.state v.functions
 
 -- no detail is read but that of the function at the probe, and nothing where all was kept
 pub record ReadsEntriesOf {R : Type 0} (probe : ℕ) (old new : UnitEntries R) : Type 0 where
-  pub alone : ReadsNoOther probe (kept_functions old.functions) (kept_functions new.functions)
+  pub alone : ReadsNoOther probe (cached_functions old.functions) (cached_functions new.functions)
   pub kept : has_entries probe old ≡ true → new ≡ old
 
 -- the frames of the function of a place and the row of an address, by what is kept
@@ -76,7 +76,7 @@ abbrev pub frames_of_place : {R : Type 0} → ResUnit → UnitEntries R → Unit
 frames_of_place u v found.Open = None
 frames_of_place u v (found.Here function row) =
     Some (found_frames (cached_files u.lines) u.lang
-    (option_map (function_of_place (kept_functions v.functions)) function)
+    (option_map (function_of_place (cached_functions v.functions)) function)
     (option_map (location_of_row (cached_files u.lines)) row))
 
 -- lines were read, and have no fault
@@ -89,4 +89,4 @@ AreRead _ = ⊥
 abbrev pub AreFramesIn : {R : Type 0} → ResUnit → UnitEntries R → UnitFrames → Type 0
 AreFramesIn u v found.Open = Unit {0}
 AreFramesIn u v (found.Here function row) =
-    IfSome function (IsPlaceIn (kept_functions v.functions)) × AreRead u.lines
+    IfSome function (ArePlacesIn (cached_functions v.functions)) × AreRead u.lines

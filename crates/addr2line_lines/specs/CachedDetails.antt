@@ -14,12 +14,12 @@ use Rattle.addr2line_lines.specs.InOrder.{in_order}
 use Rattle.addr2line_lines.specs.InlinedOrder.{inlined_sooner, place}
 
 -- names, inlined entries and ranges
-pub record KeptDetails : Type 0 where
+pub record CachedDetails : Type 0 where
   pub names : List (Option Section)
   pub found : FoundInlined
 
 -- what is kept
-abbrev pub seen_details : {R : Type 0} → (R → Section) → Details R → KeptDetails
+abbrev pub seen_details : {R : Type 0} → (R → Section) → Details R → CachedDetails
 seen_details see d =
     record { names = map (option_map see) d.names.items; found = seen_lists see d.inlined }
 
@@ -32,14 +32,14 @@ abbrev pub between : {X : Type 0} → ℕ → ℕ → List X → List X
 between begin end xs = take (end - begin) (drop begin xs)
 
 -- the details of a place
-abbrev pub detail_of : KeptDetails → FunctionDetail → Detail
+abbrev pub detail_of : CachedDetails → FunctionDetail → Detail
 detail_of d p = record {
   name = slice_index_or d.names p.name None;
   inlined = map (range_among d.found.entries) (listed_ranges p);
 }
 
 -- what was kept before stays, with more at its end
-pub record AreDetailsMore (kept more : KeptDetails) : Type 0 where
+pub record AreDetailsMore (kept more : CachedDetails) : Type 0 where
   pub names : IsGrown kept.names more.names
   pub found : IsFoundMore kept.found more.found
 
@@ -48,7 +48,7 @@ abbrev pub IsOfEntryBetween : ℕ → ℕ → InlinedFunctionAddress → Type 0
 IsOfEntryBetween begin end a = (begin ≤ a.function) × (a.function < end)
 
 -- a place of details that are kept: its ranges are in order, and of its entries alone
-pub record IsDetailPlace (d : KeptDetails) (p : FunctionDetail) : Type 0 where
+pub record IsDetailPlace (d : CachedDetails) (p : FunctionDetail) : Type 0 where
   pub name : p.name < length d.names
   pub inlined_begin : p.inlined_begin ≤ p.inlined_end
   pub inlined_end : p.inlined_end ≤ length d.found.entries
@@ -61,7 +61,7 @@ pub record IsDetailPlace (d : KeptDetails) (p : FunctionDetail) : Type 0 where
 
 -- a place is the one after what is kept: the next name, and what follows in the other lists, up to
 -- the end of the lists with it
-pub record IsNextPlace (kept more : KeptDetails) (p : FunctionDetail) : Type 0 where
+pub record IsNextPlace (kept more : CachedDetails) (p : FunctionDetail) : Type 0 where
   pub name : p.name ≡ length kept.names
   pub names : length more.names ≡ length kept.names + 1
   pub inlined_begin : p.inlined_begin ≡ length kept.found.entries

@@ -1,5 +1,5 @@
--- What is kept of the entries of all units, one unit after another (on specs/KeptEntries.antt and
--- specs/KeptLookups.antt).
+-- What is kept of the entries of all units, one unit after another (on specs/CachedEntries.antt and
+-- specs/CachedLookups.antt).
 use Rattle.std.proofs.Common.{◌≡◌, ◌≢◌, ℕ, zero, suc, ◌≤◌, ◌<◌, ◌⊎◌, inl, inr, Bool, true, false, ◌&&◌, not, List, [], ◌∷◌, length, map, get_or, slice_get, Option, Some, None, option_and_then, option_map, unwrap_or, Result, Ok, Err, refl, ap, sym, subst, ◌∙◌, arith}
 use Rattle.std.proofs.Math.ListN.{set}
 use Rattle.std.specs.Prelude.{IfOk, IfSome}
@@ -16,11 +16,11 @@ use Rattle.addr2line_units.specs.declared.functions.LazyFunctions.TheVariants as
 use Rattle.addr2line_units.specs.declared.unit_frames.UnitEntries.{UnitEntries}
 use Rattle.addr2line_units.specs.declared.view.ViewState.{ViewState}
 use Rattle.addr2line_units.specs.declared.view.ViewState.TheVariants as states
-use Rattle.addr2line_units.specs.KeptEntries.{AreEntriesOf, ReadsEntriesOf, StayEntries, has_answered, has_entries, has_entries_by, kept_answer}
-use Rattle.addr2line_units.specs.KeptFunctions.{ReadsNoOther, StayFunctions, has_detail, kept_has_function, has_place, kept_functions, no_functions}
-use Rattle.addr2line_units.specs.KeptLookups.{HaveEntriesOf, ReadsOnly, StayAllEntries, answers_in, has_entries_at}
-use Rattle.addr2line_units.specs.KeptViews.{was_looked_at}
-use Rattle.addr2line_units.proofs.KeptFunctionLemmas.{place_stays}
+use Rattle.addr2line_units.specs.CachedEntries.{AreEntriesOf, ReadsEntriesOf, StayEntries, has_answered, has_entries, has_entries_by, kept_answer}
+use Rattle.addr2line_units.specs.CachedFunctions.{ReadsNoOther, StayFunctions, has_detail, cached_has_function, has_place, cached_functions, no_functions}
+use Rattle.addr2line_units.specs.CachedLookups.{HaveEntriesOf, ReadsOnly, StayAllEntries, answers_in, has_entries_at}
+use Rattle.addr2line_units.specs.CachedViews.{was_looked_at}
+use Rattle.addr2line_units.proofs.CachedFunctionLemmas.{place_stays}
 
 -- functions with their cached details stay over both of two steps
 functions_same : (fs : List CachedFunction) → AllZip IsFunctionMore fs fs
@@ -139,12 +139,12 @@ module _ {R : Type 0} where
   entries_set scope (x ∷ us) (y ∷ vs) (suc n) u w e own h = (own.0, entries_set scope us vs n u w e own.1 h)
 
   -- what is found by what is kept is found by it where more is kept
-  function_more : (probe : ℕ) (f g : LazyFunctions R) → StayFunctions f g → kept_has_function probe f ≡ true → kept_has_function probe g ≡ true
+  function_more : (probe : ℕ) (f g : LazyFunctions R) → StayFunctions f g → cached_has_function probe f ≡ true → cached_has_function probe g ≡ true
   function_more probe lazy.Unread g a e = cc
   function_more probe (lazy.Read t) (lazy.Read u) a e = ap (has_place u) (place_stays probe t u a) ∙ place_more t u a (function_place_at probe t) e
   function_more probe (lazy.Read t) lazy.Unread a e = absurd a
   function_more probe (lazy.Read t) (lazy.Faulty x) a e = absurd a
-  function_more probe (lazy.Faulty x) g a e = ap (kept_has_function probe) a ∙ e
+  function_more probe (lazy.Faulty x) g a e = ap (cached_has_function probe) a ∙ e
 
   answered_more : {X : Type 0} (probe : ℕ) (r : Result X Error) (f g : LazyFunctions R) → StayFunctions f g → has_answered probe r f ≡ true → has_answered probe r g ≡ true
   answered_more probe (Ok x) f g a e = function_more probe f g a e
@@ -175,7 +175,7 @@ module _ {R : Type 0} where
   entries_more_at probe (v ∷ vs) (w ∷ ws) a (suc n) e = entries_more_at probe vs ws a.1 n e
 
   -- what one step reads and what the next one reads is what both read
-  place_after : (probe : ℕ) (f g : LazyFunctions R) → StayFunctions f g → (n : ℕ) → function_place_at probe (kept_functions g) ≢ Some n → function_place_at probe (kept_functions f) ≢ Some n
+  place_after : (probe : ℕ) (f g : LazyFunctions R) → StayFunctions f g → (n : ℕ) → function_place_at probe (cached_functions g) ≢ Some n → function_place_at probe (cached_functions f) ≢ Some n
   place_after probe lazy.Unread g a n ne = none_at probe n
   place_after probe (lazy.Read t) (lazy.Read u) a n ne = λ e. ne (place_stays probe t u a ∙ e)
   place_after probe (lazy.Read t) lazy.Unread a n ne = absurd a

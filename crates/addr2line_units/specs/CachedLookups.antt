@@ -23,10 +23,10 @@ use Rattle.addr2line_units.specs.declared.unit_frames.UnitFrames.TheVariants as 
 use Rattle.addr2line_units.specs.CachedLines.{cached_files, lines_at}
 use Rattle.addr2line_units.specs.Frames.{FrameRecord, found_frames}
 use Rattle.addr2line_units.specs.FramesLookup.{Stop, Waits, Finds, FindsNothing}
-use Rattle.addr2line_units.specs.KeptFunctions.{IsPlaceIn, function_of_place, kept_functions, no_functions}
-use Rattle.addr2line_units.specs.KeptViews.{IsViewOf, is_decided, waits}
+use Rattle.addr2line_units.specs.CachedFunctions.{ArePlacesIn, function_of_place, cached_functions, no_functions}
+use Rattle.addr2line_units.specs.CachedViews.{IsViewOf, is_decided, waits}
 use Rattle.addr2line_units.specs.Parsed.{has_parsed}
-use Rattle.addr2line_units.specs.KeptEntries.{AreEntriesOf, AreFresh, AreRead, ReadsEntriesOf, StayEntries, has_entries, kept_answer}
+use Rattle.addr2line_units.specs.CachedEntries.{AreEntriesOf, AreFresh, AreRead, ReadsEntriesOf, StayEntries, has_entries, kept_answer}
 
 -- beside each unit stands what is kept of its entries, which is its own
 abbrev pub HaveEntriesOf : {R : Type 0} → Scope → List UnitRecord → List (UnitEntries R) → Type 0
@@ -72,7 +72,7 @@ ReadsOnly IsAsked probe old new = (n : ℕ) → (slice_get new n ≡ slice_get o
 -- the functions that are kept of the unit of a number, none where there is no such unit
 abbrev pub functions_at : {R : Type 0} → List (UnitEntries R) → ℕ → FunctionTable
 functions_at views n = elim (slice_get views n)
-    [ None ↦ no_functions | Some v ↦ kept_functions v.functions ]
+    [ None ↦ no_functions | Some v ↦ cached_functions v.functions ]
 
 -- the language of the unit of a number
 abbrev pub language_at : List ResUnit → ℕ → Option DwLang
@@ -101,7 +101,7 @@ seen_stop units views stops.FindsNothing = FindsNothing
 pub record IsFramePlaceIn {R : Type 0} (units : List ResUnit) (views : List (UnitEntries R))
     (p : FramePlace) : Type 0 where
   pub unit : p.unit < length units
-  pub function : IfSome p.function (IsPlaceIn (functions_at views p.unit))
+  pub function : IfSome p.function (ArePlacesIn (functions_at views p.unit))
   pub lines : AreRead (lines_at units p.unit)
 
 -- the same of what a lookup comes to

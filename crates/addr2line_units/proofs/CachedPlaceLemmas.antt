@@ -1,4 +1,4 @@
--- What is known of the function at an address by what is cached (on specs/KeptFunctions.antt).
+-- What is known of the function at an address by what is cached (on specs/CachedFunctions.antt).
 use Rattle.std.proofs.Common.{◌≡◌, ◌≢◌, ℕ, inl, inr, nat_lt, true, false, List, [], length, slice_get, Option, Some, None, option_and_then, Result, Ok, Err, refl, ap, sym, ◌∙◌}
 use Rattle.gimli_read.specs.declared.error.Error.{Error}
 use Rattle.gimli_read.specs.declared.error.Error.TheVariants.{OutOfMemory}
@@ -12,9 +12,9 @@ use Rattle.addr2line_lines.proofs.ReadLemmas.{read_more}
 use Rattle.addr2line_units.specs.declared.functions.LazyFunctions.{LazyFunctions}
 use Rattle.addr2line_units.specs.declared.functions.LazyFunctions.TheVariants as lazy
 use Rattle.addr2line_units.specs.Frames.{function_at}
-use Rattle.addr2line_units.specs.KeptFunctions.{IsTableOf, has_detail, kept_has_function, has_place, has_table, is_kept, were_read}
+use Rattle.addr2line_units.specs.CachedFunctions.{IsTableOf, has_detail, cached_has_function, has_place, has_table, is_kept, were_read}
 use Rattle.addr2line_units.specs.UnitFrames.{is_many}
-use Rattle.addr2line_units.proofs.KeptFunctionLemmas.{cached_is, from_detail, place_stays, read_err, read_ok}
+use Rattle.addr2line_units.proofs.CachedFunctionLemmas.{cached_is, from_detail, place_stays, read_err, read_ok}
 
 -- any fault but OutOfMemory is kept
 pub kept_unless_oom : (x : Error) → x ≢ OutOfMemory → is_kept x ≡ true
@@ -81,8 +81,8 @@ module _ (scope : Scope) (view : UnitRecord) (probe n : ℕ) (old new : Function
       absurd cc
 
 -- functions that were read stay as they are, and others are read
-module _ {R : Type 0} (old mid : LazyFunctions R) (kept : were_read old ≡ true → (mid ≡ old)) (probe : ℕ) (has : kept_has_function probe old ≡ true) where
-  were_known : (x : LazyFunctions R) → kept_has_function probe x ≡ true → were_read x ≡ true
+module _ {R : Type 0} (old mid : LazyFunctions R) (kept : were_read old ≡ true → (mid ≡ old)) (probe : ℕ) (has : cached_has_function probe old ≡ true) where
+  were_known : (x : LazyFunctions R) → cached_has_function probe x ≡ true → were_read x ≡ true
   were_known lazy.Unread h = cc
   were_known (lazy.Read t) h = refl
   were_known (lazy.Faulty e) h = refl
@@ -93,4 +93,4 @@ module _ {R : Type 0} (old mid : LazyFunctions R) (kept : were_read old ≡ true
 
   -- and they stay
   pub table_known : (t new : FunctionTable) → mid ≡ lazy.Read t → (has_table probe t ≡ true → new ≡ t) → lazy.Read new ≡ old
-  table_known t new e stays = ap lazy.Read (stays (ap (kept_has_function probe) (sym e ∙ same_known) ∙ has)) ∙ sym e ∙ same_known
+  table_known t new e stays = ap lazy.Read (stays (ap (cached_has_function probe) (sym e ∙ same_known) ∙ has)) ∙ sym e ∙ same_known

@@ -16,13 +16,15 @@ fn text_in(loader: Result<Loader, LoaderError>) -> [u64; 3] {
     }
 }
 
-// What loaders over the host's files say: of that file, of no file, and of both beside each other.
-fn told(rt: HostRuntime, file: &str) -> [[u64; 3]; 5] {
+// What loaders over the host's files say: of that file, of no file, of an empty one, and of these
+// beside each other.
+fn told(rt: HostRuntime, file: &str) -> [[u64; 3]; 6] {
     let empty = "/dev/null";
     let none = "/there/is/none";
     [
         text_in(Loader::new(rt, file)),
         text_in(Loader::new(rt, none)),
+        text_in(Loader::new(rt, empty)),
         text_in(Loader::new_with_sup(rt, file, file)),
         text_in(Loader::new_with_sup(rt, file, none)),
         // The main file is read first.
@@ -38,6 +40,8 @@ fn files_of_the_host_are_loaded_or_refused(rt: HostRuntime) -> Result<(), Fail> 
     let told = told(rt, path.to_str().unwrap_or(""));
     fs::remove_file(&rt, path.as_path())?;
     let text = [0x10, 0x30, 3];
-    assert_eq!(rt; told, [text, [21, 0, 9], text, [21, 0, 9], [22, 0, 9]]);
+    let no_file = [21, 0, 9];
+    let no_elf = [22, 0, 9];
+    assert_eq!(rt; told, [text, no_file, no_elf, text, no_file, no_elf]);
     Ok(())
 }

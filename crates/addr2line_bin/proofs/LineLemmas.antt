@@ -1,14 +1,12 @@
 -- Lines that are read from an input one after another.
-use Rattle.std.proofs.Common.{◌≡◌, ◌∙◌, ◌+◌, ◌-◌, ◌^◌, ◌<◌, ◌≤◌, inl, inr, ℕ, true, false, List, [], ◌∷◌, ◌++◌, length, ap, refl, Option, Some, None, IfSome}
+use Rattle.std.proofs.Common.{◌≡◌, ◌∙◌, ◌+◌, ◌-◌, ◌^◌, ◌<◌, inl, inr, ℕ, true, false, List, [], ◌∷◌, ◌++◌, length, ap, refl, Option, Some, None, IfSome}
 use Rattle.std.proofs.lemmas.List.{length-append, map-append}
 use Rattle.std.specs.Io.BufRead.{first_line, drop_through}
 use Rattle.std.specs.Io.KnownBytes.{IsAtEnd}
 use Rattle.std.specs.Str.{IsUtf8}
 use Rattle.addr2line_bin.specs.Address.{address_in}
-use Rattle.addr2line_bin.specs.InputLines.{AreLines, AreLinesBefore, AreLinesToFault, InputState, IsInputEnd, ReadsLine, StartKnown, StartWith, TakesLine, TakesPart, line_probes}
+use Rattle.addr2line_bin.specs.InputLines.{AreFirstLines, AreLines, AreLinesToFault, InputState, IsInputEnd, ReadsLine, StartKnown, StartWith, TakesLine, TakesPart, line_probes}
 use Rattle.addr2line_bin.specs.Put.{plus}
-use Rattle.addr2line_bin.specs.declared.stream.Stop.{Stop}
-use Rattle.addr2line_bin.specs.declared.stream.Stop.TheVariants as stop
 use Rattle.addr2line_bin.proofs.Runs.{plus_plus}
 
 -- the lines that were read, where these bytes are left of all
@@ -40,7 +38,7 @@ begins (Some bytes) None new lines s part = absurd s
 begins (Some bytes) (Some rest) new lines s part = (rest, s, part)
 
 -- nothing behind it was read
-pub begins_before : (all left : Option (List ℕ)) (lines : List (List ℕ)) → ReadSoFar all left lines → StartKnown all lines (λ rest. left ≡ Some rest)
+begins_before : (all left : Option (List ℕ)) (lines : List (List ℕ)) → ReadSoFar all left lines → StartKnown all lines (λ rest. left ≡ Some rest)
 begins_before None left lines s = tt
 begins_before (Some bytes) None lines s = absurd s
 begins_before (Some bytes) (Some rest) lines s = (rest, s, refl)
@@ -83,16 +81,13 @@ pub all_before_foreign : (old mid new : InputState) (lines : List (List ℕ)) (l
 all_before_foreign old mid new lines line same reads s one read u =
     inl (read.0 ∙ same, asked_more old.reads mid.reads new.reads _ reads one, ends_at_foreign old.bytes mid.bytes new.bytes lines line s read.1 u)
 
+pub are_first : (old new : InputState) (lines : List (List ℕ)) → new.fault ≡ old.fault → new.reads ≡ plus old.reads (length lines) → ReadSoFar old.bytes new.bytes lines → AreFirstLines old new lines
+are_first old new lines same reads s = (same, reads, begins_before old.bytes new.bytes lines s)
+
 -- they are where no more can be counted
 pub all_counted : (old new : InputState) (lines : List (List ℕ)) → new.fault ≡ old.fault → new.reads ≡ plus old.reads (length lines) → ReadSoFar old.bytes new.bytes lines → length lines ≡ 2 ^ 64 - 1
     → AreLines old new lines
-all_counted old new lines same reads s full = inr (inr ((same, reads, begins_before old.bytes new.bytes lines s), full))
-
--- a run may end early at the last line that was read, whatever for
-pub first_before : (old new : InputState) (lines : List (List ℕ)) (why : Stop) (left : ℕ) → new.fault ≡ old.fault → new.reads ≡ plus old.reads (length lines) → ReadSoFar old.bytes new.bytes lines → left ≤ 1
-    → AreLinesBefore old new lines why left
-first_before old new lines stop.OutOfMemory left same reads s one = inl ((same, reads, begins_before old.bytes new.bytes lines s), one)
-first_before old new lines (stop.Output b) left same reads s one = ((same, reads, begins_before old.bytes new.bytes lines s), one)
+all_counted old new lines same reads s full = inr (inr (are_first old new lines same reads s, full))
 
 pub probes_more : (lines : List (List ℕ)) (line : List ℕ) → line_probes (lines ++ line ∷ []) ≡ line_probes lines ++ address_in line ∷ []
 probes_more lines line = map-append address_in lines (line ∷ [])

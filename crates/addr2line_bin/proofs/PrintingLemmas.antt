@@ -1,13 +1,15 @@
 -- A run prints what is asked for one after another.
-use Rattle.std.proofs.Common.{◌≡◌, ◌∙◌, inl, inr, ℕ, List, [], ◌∷◌, ◌++◌, Option, Some, Result, Ok, Err, refl, sym, ap, append-nil, append_assoc, OnOk, IfErr, MatchResult, true, map, drop, drop-cons, length, get_or, add-one, arith, subst, ◌<◌, ◌≤◌, ◌+◌}
+use Rattle.std.proofs.Common.{◌≡◌, ◌∙◌, ◌⊎◌, inl, inr, ℕ, List, [], ◌∷◌, ◌++◌, Option, Some, Result, Ok, Err, refl, sym, ap, append-nil, append_assoc, OnOk, IfErr, MatchResult, true, map, drop, drop-cons, length, get_or, add-one, arith, subst, ◌<◌, ◌+◌}
 use Rattle.std.specs.Io.KnownBytes.{Appends}
 use Rattle.std.proofs.lemmas.Grind.{flat_map-append}
 use Rattle.std.proofs.lemmas.List.{length-append}
 use Rattle.addr2line_bin.specs.Put.{StreamState, WritesPrefix, Reports, has_fault, plus}
 use Rattle.addr2line_bin.specs.Stopped.{IsFault}
-use Rattle.addr2line_bin.specs.Print.{ProbeText, AllTexts, errs, last_text, outs}
-use Rattle.addr2line_bin.specs.Printing.{TextOf, EndsAt, EndsEarly, PrintsOf, PrintsRun, PrintsUnlessStopped}
+use Rattle.addr2line_bin.specs.Print.{ProbeText, AllTexts, errs, exit_at, last_text, outs}
+use Rattle.addr2line_bin.specs.Printing.{TextOf, EndsAt, EndsEarly, IsCutAtRead, IsCutOff, PrintsOf, PrintsReadUnlessStopped, PrintsRun, PrintsUnlessStopped}
+use Rattle.addr2line_bin.specs.InputLines.{AreFirstLines, AreLinesToRefusal, InputState, line_probes}
 use Rattle.addr2line_bin.specs.declared.engine.Exit.{Exit}
+use Rattle.addr2line_bin.specs.declared.engine.Exit.TheVariants as exit
 use Rattle.addr2line_bin.specs.declared.stream.Stop.{Stop}
 use Rattle.addr2line_bin.specs.declared.stream.Stop.TheVariants as stop
 use Rattle.addr2line_bin.proofs.Parts.{appends_both, appends_nothing, keeps_itself, sends_nothing, sends_on}
@@ -42,7 +44,8 @@ prints_next Now Is oo om on eo em en ps qs w a b = record {
 }
 
 pub ends_weaker : (Now Is : TextOf) → Weaker Now Is → (why : Stop) (later rest : List (Option ℕ)) (written told : List ℕ) → EndsAt Now why later written told → EndsAt Is why (later ++ rest) written told
-ends_weaker Now Is w stop.OutOfMemory later rest written told e = e
+ends_weaker Now Is w stop.OutOfMemory [] rest written told e = absurd e
+ends_weaker Now Is w stop.OutOfMemory (p ∷ later) rest written told e = e
 ends_weaker Now Is w (stop.Output b) [] rest written told e = absurd e
 ends_weaker Now Is w (stop.Output b) (p ∷ later) rest written told e = (e.0, w p e.0 e.1, e.2, e.3)
 
@@ -67,10 +70,10 @@ ends_next Now Is oo om on eo em en ps qs rest all why w a b is = record {
 }
 
 -- a refused growth, before anything was printed
-unfoldable pub ends_at_once : (Is : TextOf) (o e : StreamState) (ps : List (Option ℕ)) → EndsEarly Is o o e e ps stop.OutOfMemory []
-ends_at_once Is o e ps = record {
+unfoldable pub ends_at_once : (Is : TextOf) (o e : StreamState) (p : Option ℕ) → EndsEarly Is o o e e (p ∷ []) stop.OutOfMemory []
+ends_at_once Is o e p = record {
   done = [];
-  later = ps;
+  later = p ∷ [];
   joins = refl;
   texts = [];
   each = tt;
@@ -83,29 +86,27 @@ ends_at_once Is o e ps = record {
   err = sends_nothing e.contents (has_fault e) (keeps_itself e.contents);
 }
 
--- a refused growth, after all was printed
-unfoldable pub ends_here : (Is : TextOf) (oo on eo en : StreamState) (ps : List (Option ℕ)) → PrintsOf Is oo on eo en ps → EndsEarly Is oo on eo en ps stop.OutOfMemory []
-ends_here Is oo on eo en ps a = ends_next Is Is oo on on eo en en ps [] [] ps stop.OutOfMemory (λ p t h. h) a (ends_at_once Is on en []) (sym (append-nil ps))
+-- where a run ends early, something is left
+has_left : (Is : TextOf) (why : Stop) (later : List (Option ℕ)) (written told : List ℕ) → EndsAt Is why later written told → 0 < length later
+has_left Is stop.OutOfMemory [] written told e = absurd e
+has_left Is stop.OutOfMemory (p ∷ later) written told e = omega arith
+has_left Is (stop.Output b) [] written told e = absurd e
+has_left Is (stop.Output b) (p ∷ later) written told e = omega arith
 
--- of one that is asked for at most one is left
-left_of_one : (p : Option ℕ) (done later : List (Option ℕ)) → p ∷ [] ≡ done ++ later → length later ≤ 1
-left_of_one p done later e =
+-- of one that is asked for, that one
+left_of_one : (p : Option ℕ) (done later : List (Option ℕ)) → p ∷ [] ≡ done ++ later → 0 < length later → length later ≡ 1
+left_of_one p done later e left =
     let both : 1 ≡ length done + length later = ap length e ∙ length-append done later in
-    omega (arith, both)
+    omega (arith, both, left)
 
 -- what was printed, and then an early end at the next
 pub read_next : (Now Is : TextOf) (oo om on eo em en : StreamState) (ps all : List (Option ℕ)) (p : Option ℕ) (why : Stop) → Weaker Now Is → PrintsOf Is oo om eo em ps → EndsEarly Now om on em en (p ∷ []) why []
-    → all ≡ ps ++ p ∷ [] → (b : EndsEarly Is oo on eo en all why []) × (length b.later ≤ 1)
+    → all ≡ ps ++ p ∷ [] → (b : EndsEarly Is oo on eo en all why []) × (length b.later ≡ 1)
 unfolding ends_next
 read_next Now Is oo om on eo em en ps all p why w a b is = (
   ends_next Now Is oo om on eo em en ps (p ∷ []) [] all why w a b is,
-  subst (λ xs. length xs ≤ 1) (sym (append-nil b.later)) (left_of_one p b.done b.later b.joins),
+  subst (λ xs. length xs ≡ 1) (sym (append-nil b.later)) (left_of_one p b.done b.later b.joins (has_left Now why b.later b.written b.told b.ends)),
 )
-
--- the same where nothing more is asked for
-pub read_here : (Is : TextOf) (oo on eo en : StreamState) (ps : List (Option ℕ)) → PrintsOf Is oo on eo en ps → (b : EndsEarly Is oo on eo en ps stop.OutOfMemory []) × (length b.later ≡ 0)
-unfolding ends_here ends_next ends_at_once
-read_here Is oo on eo en ps a = (ends_here Is oo on eo en ps a, refl)
 
 -- an early end, and then more is reported
 unfoldable pub ends_reported : (Is : TextOf) (oo on eo em en : StreamState) (ps : List (Option ℕ)) (why : Stop) (more : List ℕ) → EndsEarly Is oo on eo em ps why [] → Reports em en more
@@ -124,6 +125,30 @@ ends_reported Is oo on eo em en ps why more p t = record {
   stops = p.stops;
   err = sends_on eo.contents em.contents en.contents (has_fault eo) (has_fault em) (has_fault en) (errs p.texts ++ p.told) more (rw append-nil at p.err) t;
 }
+
+-- the lines of a run that ended early, and its last line
+pub lines_reported : (Is : TextOf) (name : List ℕ) (io inn : InputState) (lines : List (List ℕ)) (oo on eo em en : StreamState) (why : Stop) (e : Exit)
+    → PrintsReadUnlessStopped Is io inn lines oo on eo em (Err why) → Reports em en (last_text name why) → e ≡ exit_at why
+    → ((cut : IsCutOff Is name oo on eo en (line_probes lines) e) × AreFirstLines io inn lines × (length cut.prints.later ≡ 1))
+    ⊎ (AreLinesToRefusal io inn lines × IsCutAtRead Is name oo on eo en (line_probes lines) e)
+unfolding ends_reported
+lines_reported Is name io inn lines oo on eo em en why e (inl p) t x =
+    inl (record { why = why; prints = ends_reported Is oo on eo em en (line_probes lines) why (last_text name why) p.0 t; exit = x }, p.1, p.2)
+lines_reported Is name io inn lines oo on eo em en why e (inr p) t x =
+    let told : Reports em en (last_text name stop.OutOfMemory) = rw p.0 at t in
+    let failed : e ≡ exit.Failed = rw p.0 at x in
+    inr (
+      p.1,
+      record {
+        texts = p.2.texts;
+        each = p.2.each;
+        out = p.2.prints.out;
+        flushes = p.2.prints.flushes;
+        stops = (p.2.prints.fault, p.2.prints.flushed);
+        err = sends_on eo.contents em.contents en.contents (has_fault eo) (has_fault em) (has_fault en) (errs p.2.texts) (last_text name stop.OutOfMemory) p.2.prints.err told;
+        exit = failed;
+      },
+    )
 
 -- a text that is reported, and one that is sent
 pub sends_one : (Is : TextOf) (oo on eo en : StreamState) (p : Option ℕ) (t : ProbeText) → Is p t → Reports eo en t.err
@@ -164,7 +189,8 @@ prints_before : (Now Is : TextOf) → Weaker Now Is → (oo on eo en : StreamSta
 prints_before Now Is w oo on eo en ps a = record { texts = a.texts; each = all_weaker Now Is w ps a.texts a.each; prints = a.prints }
 
 ends_before : (Now Is : TextOf) → Weaker Now Is → (why : Stop) (later : List (Option ℕ)) (written told : List ℕ) → EndsAt Now why later written told → EndsAt Is why later written told
-ends_before Now Is w stop.OutOfMemory later written told e = e
+ends_before Now Is w stop.OutOfMemory [] written told e = absurd e
+ends_before Now Is w stop.OutOfMemory (p ∷ later) written told e = e
 ends_before Now Is w (stop.Output b) [] written told e = absurd e
 ends_before Now Is w (stop.Output b) (p ∷ later) written told e = (e.0, w p e.0 e.1, e.2, e.3)
 

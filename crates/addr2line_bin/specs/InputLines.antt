@@ -2,7 +2,7 @@
 -- Own: a line ends at a line feed, and a carriage return before it is cut; a line that isn't UTF-8
 -- ends the input, and so does a read that fails, unless memory was refused for it, or the number of
 -- lines that 64 bits hold.
-use Rattle.std.specs.Prelude.{◌≡◌, ◌≢◌, ◌⊎◌, ◌<◌, ◌≤◌, ◌+◌, ◌-◌, ◌^◌, ℕ, Bool, true, false, List, [], ◌∷◌, length, map, Option, Some, IfSome, IsSomeAnd}
+use Rattle.std.specs.Prelude.{◌≡◌, ◌≢◌, ◌⊎◌, ◌<◌, ◌+◌, ◌-◌, ◌^◌, ℕ, Bool, true, false, List, [], ◌∷◌, length, map, Option, Some, IfSome, IsSomeAnd}
 use Rattle.std.specs.declared.io.ErrorKind.{ErrorKind}
 use Rattle.std.specs.declared.io.ErrorKind.TheVariants.{OutOfMemory}
 use Rattle.std.specs.Io.BufRead.{drop_through, first_line}
@@ -11,8 +11,6 @@ use Rattle.std.specs.Io.KnownBytes.{Consumes, IsAtEnd}
 use Rattle.std.specs.Str.{IsUtf8}
 use Rattle.addr2line_bin.specs.Address.{address_in}
 use Rattle.addr2line_bin.specs.Put.{plus}
-use Rattle.addr2line_bin.specs.declared.stream.Stop.{Stop}
-use Rattle.addr2line_bin.specs.declared.stream.Stop.TheVariants as stop
 
 -- an input: the bytes that are left and how often a line was asked for, where these are known, and
 -- the last fault of a read
@@ -82,12 +80,10 @@ AreLines old new lines = AreAllLines old new lines
     ⊎ ((EndsInput new.fault × AreLinesToFault old new lines)
     ⊎ (AreFirstLines old new lines × (length lines ≡ 2 ^ 64 - 1)))
 
--- the lines that were read where a run ended early with so many unanswered: the first ones, at most
--- one of them unanswered; or none is, and memory was refused for the line behind them
-abbrev pub AreLinesBefore : InputState → InputState → List (List ℕ) → Stop → ℕ → Type 0
-AreLinesBefore old new lines stop.OutOfMemory left = (AreFirstLines old new lines × (left ≤ 1))
-    ⊎ ((new.fault ≡ Some OutOfMemory) × AreLinesToFault old new lines × (left ≡ 0))
-AreLinesBefore old new lines (stop.Output b) left = AreFirstLines old new lines × (left ≤ 1)
+-- the lines are all before the one for which memory was refused
+abbrev pub AreLinesToRefusal : InputState → InputState → List (List ℕ) → Type 0
+AreLinesToRefusal old new lines =
+    (new.fault ≡ Some OutOfMemory) × AreLinesToFault old new lines
 
 -- the addresses that lines are
 abbrev pub line_probes : List (List ℕ) → List (Option ℕ)

@@ -8,8 +8,8 @@ use Rattle.elf.specs.declared.error.LoaderError.TheVariants.{OutOfMemory}
 use Rattle.addr2line_bin.specs.Put.{StreamState, Reports}
 use Rattle.addr2line_bin.specs.AllAddresses.{AreAllAddresses}
 use Rattle.addr2line_bin.specs.FileAnswers.{FileAnswers}
-use Rattle.addr2line_bin.specs.InputLines.{AreLines, AreLinesBefore, InputState, line_probes}
-use Rattle.addr2line_bin.specs.Printing.{IsCutOff, PrintsOf, PrintsRun}
+use Rattle.addr2line_bin.specs.InputLines.{AreFirstLines, AreLines, AreLinesToRefusal, InputState, line_probes}
+use Rattle.addr2line_bin.specs.Printing.{IsCutAtRead, IsCutOff, PrintsOf, PrintsRun}
 use Rattle.addr2line_bin.specs.ProbeTexts.{IsText}
 use Rattle.addr2line_bin.specs.Address.{probes_in}
 use Rattle.addr2line_bin.specs.Told.{addresses_fault_text, load_fault_text, section_fault_text}
@@ -31,15 +31,18 @@ abbrev pub OnlyTells : StreamState → StreamState → StreamState → StreamSta
     → Type 0
 OnlyTells oo on eo en line e = (on ≡ oo) × Reports eo en line × (e ≡ exit.Failed)
 
--- what the lines of an input ask for is printed: of all, or of the first ones where the run ended
--- early; no line was read before the text of the one before it was written
+-- what the lines of an input ask for is printed: of all; or of the first ones where the run ended
+-- early, at the last that was read or where memory was refused for one. No line was read before the
+-- text of the one before it was written
 abbrev pub PrintsLines : FileAnswers → Setup → InputState → InputState → StreamState → StreamState
     → StreamState → StreamState → Exit → Type 0
 PrintsLines answers s io inn oo on eo en e = (lines : List (List ℕ))
     × ((AreLines io inn lines × PrintsOf (IsText answers s) oo on eo en (line_probes lines)
     × (e ≡ exit.Done))
-    ⊎ ((cut : IsCutOff (IsText answers s) s.name.now oo on eo en (line_probes lines) e)
-    × AreLinesBefore io inn lines cut.why (length cut.prints.later)))
+    ⊎ (((cut : IsCutOff (IsText answers s) s.name.now oo on eo en (line_probes lines) e)
+    × AreFirstLines io inn lines × (length cut.prints.later ≡ 1))
+    ⊎ (AreLinesToRefusal io inn lines
+    × IsCutAtRead (IsText answers s) s.name.now oo on eo en (line_probes lines) e)))
 
 -- what the addresses of all rows ask for is printed; or memory was refused for them
 abbrev pub PrintsAllRows : FileAnswers → Setup → StreamState → StreamState → StreamState

@@ -1,4 +1,4 @@
-use Rattle.std.proofs.Common.{◌≡◌, ◌∙◌, ◌+◌, inr, [], ◌∷◌, ◌++◌, ap, arith, refl, subst, sym}
+use Rattle.std.proofs.Common.{◌≡◌, ◌∙◌, ◌+◌, inl, inr, [], ◌∷◌, ◌++◌, ap, arith, refl, subst, sym}
 use Rattle.std.proofs.lemmas.Result.{err_from_is_err_and}
 use Rattle.std.proofs.lemmas.List.{length-append}
 use Rattle.addr2line_bin.specs.Address.{address_in}
@@ -6,9 +6,9 @@ use Rattle.addr2line_bin.specs.InputLines.{line_probes}
 use Rattle.addr2line_bin.specs.Printing.{PrintsOf}
 use Rattle.addr2line_bin.specs.ProbeTexts.{IsText}
 use Rattle.addr2line_bin.proofs.AnswerLemmas.{stays_itself, stays_on, text_before}
-use Rattle.addr2line_bin.proofs.LineLemmas.{all_before_foreign, all_counted, all_without, counted_more, first_before, probes_more, read_more, read_nothing, to_fault}
+use Rattle.addr2line_bin.proofs.LineLemmas.{all_before_foreign, all_counted, all_without, are_first, counted_more, probes_more, read_more, read_nothing, to_fault}
 use Rattle.addr2line_bin.proofs.Runs.{plus_nothing}
-use Rattle.addr2line_bin.proofs.PrintingLemmas.{prints_next, prints_none, read_here, read_next}
+use Rattle.addr2line_bin.proofs.PrintingLemmas.{prints_next, prints_none, read_next}
 use Rattle.addr2line_bin.proofs.printing.print_lines.Goals as goal
 
 pub loop-init : goal.loop-init
@@ -21,13 +21,9 @@ loop-init g c =
 pub returns-in_err-next_line : goal.returns-in_err-next_line
 returns-in_err-next_line g c =
     let inv = c.loop.invariant.1 in
-    let first = g.L.Lookups.answers c.args.lookups.now in
-    let o = g.W.Stream.state in
-    let e = g.E.Stream.state in
     let i = g.I.Input.state in
     let p = err_from_is_err_and c.from_residual.result c.from_residual.ensures.1 in
-    let b = read_here (IsText first c.args.setup.now) (o c.args.out.now) (o c.loop.out) (e c.args.err.now) (e c.loop.err) (line_probes inv.0) inv.5 in
-    record { gives = rw (p.1, p.2) (inv.0, (b.0, inr (c.in_err-next_line.ensures.refused.0, to_fault (i c.args.input.now) (i c.loop.input) (i c.next_line.new.input) inv.0 inv.3 inv.4 c.next_line.ensures.reads c.in_err-next_line.ensures.refused.1, b.1))) }
+    record { gives = rw (p.1, p.2) (inv.0, inr (refl, (c.in_err-next_line.ensures.refused.0, to_fault (i c.args.input.now) (i c.loop.input) (i c.next_line.new.input) inv.0 inv.3 inv.4 c.next_line.ensures.reads c.in_err-next_line.ensures.refused.1), inv.5)) }
 
 pub returns-then-not-branch : goal.returns-then-not-branch
 returns-then-not-branch g c =
@@ -67,7 +63,7 @@ returns-in_err-step g c =
     let p = err_from_is_err_and c.from_residual-in_err-step.result c.from_residual-in_err-step.ensures.1 in
     let b = read_next (IsText now setup) (IsText first setup) (o c.args.out.now) (o c.loop.out) (o c.step.new.out) (e c.args.err.now) (e c.loop.err) (e c.step.new.err)
     (line_probes inv.0) (line_probes lines) c.address_of.result _ (text_before first now c.loop.invariant.0 setup) inv.5 c.in_err-step.ensures.gives more in
-    record { gives = rw (p.1, p.2) (lines, (b.0, first_before (i c.args.input.now) (i c.next_line.new.input) lines _ _ (read.0 ∙ inv.2) asked so_far b.1)) }
+    record { gives = rw (p.1, p.2) (lines, inl (b.0, are_first (i c.args.input.now) (i c.next_line.new.input) lines (read.0 ∙ inv.2) asked so_far, b.1)) }
 
 pub loop-preserved : goal.loop-preserved
 loop-preserved g c =

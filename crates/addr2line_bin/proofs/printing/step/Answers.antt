@@ -9,7 +9,7 @@ pub returns-in_err-make_texts-clause-gives : goal.returns-in_err-make_texts-clau
 returns-in_err-make_texts-clause-gives g c =
     let Is = IsText (g.L.Lookups.answers c.args.lookups.now) c.args.setup.now in
     let p = err_from_is_err_and c.from_residual.result c.from_residual.ensures.1 in
-    rw (p.1, p.2) (ends_at_once Is (g.W.Stream.state c.args.out.now) (g.E.Stream.state c.args.err.now) (c.args.probe ∷ []))
+    rw (p.1, p.2) (ends_at_once Is (g.W.Stream.state c.args.out.now) (g.E.Stream.state c.args.err.now) c.args.probe)
 
 pub returns-clause-gives : goal.returns-clause-gives
 returns-clause-gives g c =

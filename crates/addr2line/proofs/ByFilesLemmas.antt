@@ -16,6 +16,7 @@ use Rattle.addr2line_units.specs.FramesLookup.{Stop, Waits, Finds, FindsNothing,
 use Rattle.gimli_read.specs.Alike.{HadMemory}
 use Rattle.addr2line_units.specs.Parsed.{has_parsed}
 use Rattle.addr2line_units.specs.Views.{SplitLoad}
+use Rattle.addr2line.specs.declared.stops.UnitStop.TheVariants as units
 use Rattle.addr2line.specs.Answers.{AfterAnswer, answered}
 use Rattle.addr2line.specs.Context.{ContextState}
 use Rattle.addr2line.specs.Files.{Files}
@@ -29,6 +30,7 @@ use Rattle.addr2line.proofs.AskedLemmas.{reads_more, reads_nothing}
 use Rattle.addr2line.proofs.FilesLookupLemmas.{answer_changes, first_answers_stay, frames_ended, frames_stay, refused_frames, stop_stays}
 use Rattle.addr2line.proofs.HistoryLemmas.{HasGiven, given_all, given_more}
 use Rattle.addr2line.proofs.LoadingLemmas.{if_some_both, no_oom, no_path, not_told}
+use Rattle.addr2line.proofs.SkippedLemmas.{then_waits}
 use Rattle.addr2line.proofs.StayLemmas.{known_of_twice, same_stays_known}
 
 -- what holds of each files holds where they are known
@@ -179,6 +181,12 @@ module _ (files : Option Files) (probe : ℕ) (first : ContextState) where
 
     pub in_turn : AnswersInTurn probe first now
     in_turn = (h.given, sym (given_all End first.sections probe first.answers now.answers h.given h.so))
+
+  -- the unit that a lookup waits for by then was answered
+  pub has_answered_after : {X : Type 0} (now : ContextState) → HasAnswered files probe first now → (r : Result X Error) (mid : ContextState) → AfterFrames End probe r now mid → (n : ℕ) → unit_stop End now.sections now.answers probe ≡ Ok (units.Waits n)
+      → (new : ContextState) → AfterAnswers files mid new → ((c : ContextState) → ReadsAsked probe c mid → ReadsAsked probe c new) → AnswersOne n mid new → HasAnswered files probe first new
+  has_answered_after now h r mid a n stop new b only one =
+      has_answered_one mid (has_looked now h r mid a) n new (then_waits End probe r now mid a n stop) b only one
 
 -- what a fault says of the lookup that it ends
 pub failed_stop : (e : Error) (r : Result Stop Error) → (r >>= λ s. Ok (by_number s)) ≡ Err e → (is_waiting r ≡ false) × (stop_frames r ≡ Err (loader_error_of e))

@@ -7,8 +7,11 @@ use Rattle.gimli_read.specs.declared.error.Error.TheVariants as reading
 use Rattle.gimli_read.specs.Reading.{ExactlyUnlessOom}
 use Rattle.elf.specs.declared.error.LoaderError.TheVariants.{OutOfMemory, PathNotUtf8}
 use Rattle.elf.specs.Loading.{Loading, LoadsUnlessOom, LoadsUnlessOomFor}
+use Rattle.elf.specs.ObjectFile.{ObjectFile}
 use Rattle.elf.specs.Text.{loader_error_of}
-use Rattle.addr2line.specs.Loader.{LeavesOpen}
+use Rattle.addr2line.specs.Context.{ContextState}
+use Rattle.addr2line.specs.Files.{Files}
+use Rattle.addr2line.specs.Loader.{AfterContext, LeavesOpen}
 use Rattle.addr2line.specs.SplitFiles.{of_file}
 
 -- whatever takes memory
@@ -44,3 +47,9 @@ or_oom (Err e) h = inl h
 pub if_some_both : {X : Type 0} (o : Option X) {P Q R : X → Type 0} → IfSome o P → IfSome o Q → ((x : X) → P x → Q x → R x) → IfSome o R
 if_some_both None p q f = tt
 if_some_both (Some x) p q f = f x p q
+
+-- after a lookup of locations in its context, a loader
+pub looked_in_context : {X : Type 0} (IsAfter : Result X Error → ContextState → ContextState → Type 0) (files : Option Files) (object : ObjectFile) (r : Result X Error) (result : Loading X) (old new : ContextState) → result ≡ of_file r → IsAfter r old new
+    → AfterContext IsAfter result (record { files = files; object = object; context = old }) (record { files = files; object = object; context = new })
+looked_in_context IsAfter files object r result old new is after =
+    record { files = refl; object = refl; given = r; answer = is; context = after }

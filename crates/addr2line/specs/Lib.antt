@@ -7,6 +7,7 @@ pub mod Loads
 pub mod Replies
 pub mod History
 pub mod Skips
+pub mod WaitingLookups
 pub mod HistoryLaws
 pub mod SeenReplies
 pub mod SeenCalls

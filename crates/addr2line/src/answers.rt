@@ -1,9 +1,10 @@
 //! Answers to the loads of units.
 
-ghost use Rattle.std.specs.Prelude.{◌≡◌, ◌<◌, ℕ, OnOk, length, option_map, true};
+ghost use Rattle.std.specs.Prelude.{◌≡◌, ◌<◌, ℕ, OnOk, option_map, true};
 ghost use Rattle.addr2line_units.specs.declared.frames_lookup.Faults.{Faults};
 ghost use Rattle.addr2line.specs.Answers.{AfterAnswer};
-ghost use Rattle.addr2line.specs.Lookups.{IsUnitOf, loads_at, lookup_stop, waits_for};
+ghost use Rattle.addr2line.specs.Lookups.{IsUnitOf, lookup_stop, waits_for};
+ghost use Rattle.addr2line.specs.WaitingLookups.{count_loads};
 
 use crate::context::Context;
 use gimli::Dwarf;
@@ -21,9 +22,8 @@ impl<R: Reader> Context<R> {
         ensures after { AfterAnswer number (option_map (λ d. d.value) sections) result self.old
             self.new }
         ensures fewer { (faults : Faults) (probe : ℕ) → waits_for number
-            (lookup_stop faults self.old.sections self.old.answers probe) ≡ true → OnOk result
-            (length (loads_at self.new.sections self.new.answers probe)
-            < length (loads_at self.old.sections self.old.answers probe)) }
+            (lookup_stop faults self.old.sections self.old.answers probe) ≡ true
+            → OnOk result (count_loads self.new probe < count_loads self.old probe) }
     {
         self.units
             .answer(self.alloc, &self.dwarf, &self.sup_units, number, sections)

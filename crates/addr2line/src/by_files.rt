@@ -1,12 +1,13 @@
 //! Lookups of frames where files answer loads.
 
-ghost use Rattle.std.specs.Prelude.{◌≡◌, ◌≢◌, ◌^◌, ◌-◌, ◌<◌, Err, IfErr, Ok, OnErr, OnOk, length};
+ghost use Rattle.std.specs.Prelude.{◌≡◌, ◌≢◌, ◌^◌, ◌-◌, ◌<◌, Err, IfErr, Ok, OnErr, OnOk};
 ghost use Rattle.elf.specs.declared.error.LoaderError.TheVariants.{OutOfMemory, PathNotUtf8};
 ghost use Rattle.addr2line_units.specs.declared.frames_lookup.Faults.TheVariants.{End};
 ghost use Rattle.addr2line_units.specs.FramesLookup.{Waits};
 ghost use Rattle.addr2line.specs.Context.{ContextState, IsUncovered};
 ghost use Rattle.addr2line.specs.Loader.{AfterAnswers, AnswersInTurn, AnswersOne, HasEnded, IsFaultByFiles, IsUnitFault, LeavesOpen, ReadsAsked, WaitsForNone, WaitsForOne, ended_frames_of};
-ghost use Rattle.addr2line.specs.Lookups.{IsKnown, IsKnownFew, loads_at, lookup_stop};
+ghost use Rattle.addr2line.specs.Lookups.{IsKnown, IsKnownFew, lookup_stop};
+ghost use Rattle.addr2line.specs.WaitingLookups.{count_loads};
 
 use crate::context::Context;
 use crate::files::FileSource;
@@ -31,8 +32,7 @@ fn answer_load<F: FileSource>(
     ensures one { AnswersOne number ctx.old ctx.new }
     ensures only { (first : ContextState) → ReadsAsked probe first ctx.old
         → ReadsAsked probe first ctx.new }
-    ensures fewer { OnOk result (length (loads_at ctx.new.sections ctx.new.answers probe)
-        < length (loads_at ctx.old.sections ctx.old.answers probe)) }
+    ensures fewer { OnOk result (count_loads ctx.new probe < count_loads ctx.old probe) }
     ensures refused { IfErr result (IsFaultByFiles (F.files files.now) ctx.old probe) }
     ensures stays_open { IfErr result LeavesOpen }
     ensures still_waits { OnErr result

@@ -1,6 +1,6 @@
 //! Lookups of frames, which may wait for split files.
 
-ghost use Rattle.std.specs.Prelude.{◌≡◌, ◌<◌, None, Some, false, length, option_map, true};
+ghost use Rattle.std.specs.Prelude.{◌≡◌, ◌<◌, None, Some, false, option_map, true};
 ghost use Rattle.std.specs.Borrow.{sem};
 ghost use Rattle.gimli_read.specs.Reading.{ExactlyUnlessOom};
 ghost use Rattle.addr2line_units.specs.declared.frames_lookup.Faults.TheVariants.{End};
@@ -8,10 +8,11 @@ ghost use Rattle.addr2line_units.specs.FramesLeft.{frames_left};
 ghost use Rattle.addr2line_units.specs.FramesLookup.{is_waiting};
 ghost use Rattle.addr2line_units.specs.CachedViews.{seen_load};
 ghost use Rattle.addr2line_units.specs.Suspended.{IfLoad, IfOutput, SkipsTo};
-ghost use Rattle.addr2line.specs.Answers.{AfterResume, SuspendsAgain, answered};
+ghost use Rattle.addr2line.specs.Answers.{AfterResume};
 ghost use Rattle.addr2line.specs.Borrowed.{EndsAs, RestsAs};
-ghost use Rattle.addr2line.specs.Lookups.{AfterFrames, Suspends, frames_of, loads_at, lookup_stop, waits_for, with_none};
-ghost use Rattle.addr2line.specs.Skips.{AfterSkip, skipped_answers};
+ghost use Rattle.addr2line.specs.Lookups.{AfterFrames, lookup_stop, waits_for};
+ghost use Rattle.addr2line.specs.Skips.{AfterSkip};
+ghost use Rattle.addr2line.specs.WaitingLookups.{WaitsAgainIn, WaitsIn, count_loads, frames_answered, frames_in, frames_skipped, frames_with_none};
 
 use crate::context::Context;
 use crate::continuation::{FramesLookup, FramesLookupWith};
@@ -32,7 +33,7 @@ fn end<R: Reader>(ctx: &mut Context<R>, probe: u64) -> LookupResult<FramesLookup
         (λ o n. AfterFrames End probe o ctx.old n)) }
     ensures load { IfLoad result (λ c. ⊥) }
     ensures output { IfOutput result (λ o. ExactlyUnlessOom (λ i. Some (frames_left i)) o
-        (frames_of ctx.old.sections ctx.old.answers probe)) }
+        (frames_in ctx.old probe)) }
 {
     LookupResult::Output(ctx.ended_frames(probe))
 }
@@ -41,11 +42,10 @@ fn end<R: Reader>(ctx: &mut Context<R>, probe: u64) -> LookupResult<FramesLookup
 fn ask_units<R: Reader>(ctx: &mut Context<R>, probe: u64) -> LookupResult<FramesLookup<'_, R>>
     ensures* ends { sem 𝓛 (RestsAs (λ c. c.ctx.ghost_name) R.row R.Reader ctx.entry result
         (λ o n. AfterFrames End probe o ctx.old n)) }
-    ensures load { IfLoad result (λ c. (c.ctx.ghost_name ≡ ctx.entry.ghost_name)
-        × (c.probe ≡ probe)
-        × Suspends End probe c.number (seen_load R.section c.load) ctx.old c.ctx.now) }
+    ensures load { IfLoad result (λ c.
+        WaitsIn End ctx.entry probe c.ctx c.probe c.number (seen_load R.section c.load)) }
     ensures output { IfOutput result (λ o. ExactlyUnlessOom (λ i. Some (frames_left i)) o
-        (frames_of ctx.old.sections ctx.old.answers probe)) }
+        (frames_in ctx.old probe)) }
 {
     match ctx.stop(probe, Faults::End) {
         Ok(UnitStop::Waits(number)) => match ctx.load_of(probe, Faults::End, number) {
@@ -69,11 +69,10 @@ fn ask_units<R: Reader>(ctx: &mut Context<R>, probe: u64) -> LookupResult<Frames
 fn go<R: Reader>(ctx: &mut Context<R>, probe: u64) -> LookupResult<FramesLookup<'_, R>>
     ensures* ends { sem 𝓛 (RestsAs (λ c. c.ctx.ghost_name) R.row R.Reader ctx.entry result
         (λ o n. AfterFrames End probe o ctx.old n)) }
-    ensures load { IfLoad result (λ c. (c.ctx.ghost_name ≡ ctx.entry.ghost_name)
-        × (c.probe ≡ probe)
-        × Suspends End probe c.number (seen_load R.section c.load) ctx.old c.ctx.now) }
+    ensures load { IfLoad result (λ c.
+        WaitsIn End ctx.entry probe c.ctx c.probe c.number (seen_load R.section c.load)) }
     ensures output { IfOutput result (λ o. ExactlyUnlessOom (λ i. Some (frames_left i)) o
-        (frames_of ctx.old.sections ctx.old.answers probe)) }
+        (frames_in ctx.old probe)) }
 {
     if ctx.may_wait(probe) {
         ask_units(ctx, probe)
@@ -93,15 +92,11 @@ fn go_on<R: Reader>(
         ≡ true }
     ensures* ends { sem 𝓛 (RestsAs (λ c. c.ctx.ghost_name) R.row R.Reader ctx.entry result
         (λ o n. AfterResume End probe number (option_map (λ d. d.value) input) o ctx.old n)) }
-    ensures load { IfLoad result (λ c. (c.ctx.ghost_name ≡ ctx.entry.ghost_name)
-        × (c.probe ≡ probe) × SuspendsAgain End probe number (option_map (λ d. d.value) input)
-        c.number (seen_load R.section c.load) ctx.old c.ctx.now) }
-    ensures fewer { IfLoad result (λ c.
-        length (loads_at c.ctx.now.sections c.ctx.now.answers c.probe)
-        < length (loads_at ctx.old.sections ctx.old.answers probe)) }
+    ensures load { IfLoad result (λ c. WaitsAgainIn End ctx.entry probe number
+        (option_map (λ d. d.value) input) c.ctx c.probe c.number (seen_load R.section c.load)) }
+    ensures fewer { IfLoad result (λ c. count_loads c.ctx.now c.probe < count_loads ctx.old probe) }
     ensures output { IfOutput result (λ o. ExactlyUnlessOom (λ i. Some (frames_left i)) o
-        (frames_of ctx.old.sections (answered ctx.old.sections ctx.old.answers number
-        (option_map (λ d. d.value) input)) probe)) }
+        (frames_answered ctx.old number (option_map (λ d. d.value) input) probe)) }
 {
     match ctx.answer(number, input) {
         Ok(()) => go(ctx, probe),
@@ -115,8 +110,7 @@ fn skip<R: Reader>(ctx: &mut Context<R>, probe: u64) -> LookupResult<FramesLooku
         (λ o n. AfterSkip End probe o ctx.old n)) }
     ensures load { IfLoad result (λ c. ⊥) }
     ensures output { IfOutput result (λ o. ExactlyUnlessOom (λ i. Some (frames_left i)) o
-        (frames_of ctx.old.sections
-        (skipped_answers End ctx.old.sections probe ctx.old.answers) probe)) }
+        (frames_skipped ctx.old probe)) }
 {
     match ctx.skip_loads(probe, Faults::End) {
         Ok(_) => end(ctx, probe),
@@ -131,10 +125,10 @@ impl<'ctx, R: Reader> LookupContinuation for FramesLookup<'ctx, R> {
 
     type Sections = Rc<Dwarf<R>>;
 
-    ghost left = { λ c. length (loads_at c.ctx.now.sections c.ctx.now.answers c.probe) };
+    ghost left = { λ c. count_loads c.ctx.now c.probe };
 
     ghost skips_to = { λ c o. ExactlyUnlessOom (λ i. Some (frames_left i)) o
-        (frames_of c.ctx.now.sections (with_none c.ctx.now.answers) c.probe) };
+        (frames_with_none c.ctx.now c.probe) };
 
     fn load(&self) -> &SplitDwarfLoad<R>
         ensures gives { result.now ≡ self.now.load }
@@ -146,23 +140,18 @@ impl<'ctx, R: Reader> LookupContinuation for FramesLookup<'ctx, R> {
         ensures* ends { sem 𝓛 (RestsAs (λ c. c.ctx.ghost_name) R.row R.Reader
             self.entry.ctx result (λ o n. AfterResume End self.entry.probe self.entry.number
             (option_map (λ d. d.value) input) o self.entry.ctx.now n)) }
-        ensures load { IfLoad result (λ c. (c.ctx.ghost_name ≡ self.entry.ctx.ghost_name)
-            × (c.probe ≡ self.entry.probe) × SuspendsAgain End self.entry.probe self.entry.number
-            (option_map (λ d. d.value) input) c.number (seen_load R.section c.load)
-            self.entry.ctx.now c.ctx.now) }
-        ensures fewer { IfLoad result (λ c.
-            length (loads_at c.ctx.now.sections c.ctx.now.answers c.probe)
-            < length (loads_at self.entry.ctx.now.sections self.entry.ctx.now.answers
-            self.entry.probe)) }
+        ensures load { IfLoad result (λ c. WaitsAgainIn End self.entry.ctx self.entry.probe
+            self.entry.number (option_map (λ d. d.value) input)
+            c.ctx c.probe c.number (seen_load R.section c.load)) }
+        ensures fewer { IfLoad result (λ c. count_loads c.ctx.now c.probe < count_loads
+            self.entry.ctx.now self.entry.probe) }
         ensures output { IfOutput result (λ o. ExactlyUnlessOom (λ i. Some (frames_left i)) o
-            (frames_of self.entry.ctx.now.sections (answered self.entry.ctx.now.sections
-            self.entry.ctx.now.answers self.entry.number (option_map (λ d. d.value) input))
+            (frames_answered self.entry.ctx.now self.entry.number (option_map (λ d. d.value) input)
             self.entry.probe)) }
-        ensures skips { input ≡ None → (o : _)
-            → SkipsTo (λ c p. ExactlyUnlessOom (λ i. Some (frames_left i)) p
-            (frames_of c.ctx.now.sections (with_none c.ctx.now.answers) c.probe)) result o
-            → ExactlyUnlessOom (λ i. Some (frames_left i)) o (frames_of self.entry.ctx.now.sections
-            (with_none self.entry.ctx.now.answers) self.entry.probe) }
+        ensures skips { input ≡ None → (o : _) → SkipsTo (λ c p. ExactlyUnlessOom
+            (λ i. Some (frames_left i)) p (frames_with_none c.ctx.now c.probe)) result o
+            → ExactlyUnlessOom (λ i. Some (frames_left i)) o
+            (frames_with_none self.entry.ctx.now self.entry.probe) }
     {
         let FramesLookupWith {
             ctx,
@@ -186,9 +175,7 @@ impl<'ctx, R: Reader> FramesLookup<'ctx, R> {
             self.entry.ctx.now n)) }
         ensures load { IfLoad result (λ c. ⊥) }
         ensures output { IfOutput result (λ o. ExactlyUnlessOom (λ i. Some (frames_left i)) o
-            (frames_of self.entry.ctx.now.sections (skipped_answers End
-            self.entry.ctx.now.sections self.entry.probe self.entry.ctx.now.answers)
-            self.entry.probe)) }
+            (frames_skipped self.entry.ctx.now self.entry.probe)) }
     {
         let FramesLookupWith {
             ctx,
@@ -234,7 +221,7 @@ impl<R: Reader> Context<R> {
         requires ended { is_waiting (lookup_stop End self.old.sections self.old.answers probe)
             ≡ false }
         ensures gives { ExactlyUnlessOom (λ i. Some (frames_left i)) result
-            (frames_of self.old.sections self.old.answers probe) }
+            (frames_in self.old probe) }
         ensures* kept { sem 𝓛 (EndsAs R.row R.Reader self.entry
             (AfterFrames End probe result self.old)) }
     {
@@ -267,11 +254,10 @@ impl<R: Reader> Context<R> {
     pub fn find_frames(&mut self, probe: u64) -> LookupResult<FramesLookup<'_, R>>
         ensures* ends { sem 𝓛 (RestsAs (λ c. c.ctx.ghost_name) R.row R.Reader self.entry
             result (λ o n. AfterFrames End probe o self.old n)) }
-        ensures load { IfLoad result (λ c. (c.ctx.ghost_name ≡ self.entry.ghost_name)
-            × (c.probe ≡ probe)
-            × Suspends End probe c.number (seen_load R.section c.load) self.old c.ctx.now) }
+        ensures load { IfLoad result (λ c.
+            WaitsIn End self.entry probe c.ctx c.probe c.number (seen_load R.section c.load)) }
         ensures output { IfOutput result (λ o. ExactlyUnlessOom (λ i. Some (frames_left i)) o
-            (frames_of self.old.sections self.old.answers probe)) }
+            (frames_in self.old probe)) }
     {
         go(self, probe)
     }

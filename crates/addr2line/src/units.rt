@@ -1,6 +1,6 @@
 //! Lookups of units, which may wait for split files.
 
-ghost use Rattle.std.specs.Prelude.{◌≡◌, ◌<◌, None, IfErr, IfOk, Ok, length, option_map, true};
+ghost use Rattle.std.specs.Prelude.{◌≡◌, ◌<◌, None, IfErr, IfOk, Ok, option_map, true};
 ghost use Rattle.std.specs.Borrow.{sem};
 ghost use Rattle.gimli_read.specs.declared.error.Error.TheVariants.{OutOfMemory};
 ghost use Rattle.gimli_read.specs.Reading.{ExactlyUnlessOom};
@@ -9,11 +9,12 @@ ghost use Rattle.addr2line_units.specs.CachedViews.{seen_load};
 ghost use Rattle.addr2line_units.specs.SeenUnit.{seen_found};
 ghost use Rattle.addr2line_units.specs.Suspended.{IfLoad, IfOutput, SkipsTo};
 ghost use Rattle.addr2line.specs.declared.stops.UnitStop.TheVariants.{Finds};
-ghost use Rattle.addr2line.specs.Answers.{AfterResume, SuspendsAgain, answered};
+ghost use Rattle.addr2line.specs.Answers.{AfterResume};
 ghost use Rattle.addr2line.specs.Borrowed.{RestsAs};
 ghost use Rattle.addr2line.specs.KeptStops.{unit_stop};
-ghost use Rattle.addr2line.specs.Lookups.{AfterFrames, IsKnown, Suspends, loads_at, lookup_stop, unit_of, waits_for, with_none};
-ghost use Rattle.addr2line.specs.Skips.{AfterSkip, skipped_answers};
+ghost use Rattle.addr2line.specs.Lookups.{AfterFrames, IsKnown, lookup_stop, unit_of, waits_for};
+ghost use Rattle.addr2line.specs.Skips.{AfterSkip};
+ghost use Rattle.addr2line.specs.WaitingLookups.{WaitsAgainIn, WaitsIn, count_loads, unit_answered, unit_in, unit_skipped, unit_with_none};
 
 use crate::context::Context;
 use crate::continuation::{UnitLookup, UnitLookupWith};
@@ -48,11 +49,9 @@ fn end<R: Reader>(
 fn go<R: Reader>(ctx: &mut Context<R>, probe: u64) -> LookupResult<UnitLookup<'_, R>>
     ensures* ends { sem 𝓛 (RestsAs (λ c. c.ctx.ghost_name) R.row R.Reader ctx.entry result
         (λ o n. AfterFrames PassOver probe o ctx.old n)) }
-    ensures load { IfLoad result (λ c. (c.ctx.ghost_name ≡ ctx.entry.ghost_name)
-        × (c.probe ≡ probe)
-        × Suspends PassOver probe c.number (seen_load R.section c.load) ctx.old c.ctx.now) }
-    ensures output { IfOutput result (λ o. ExactlyUnlessOom seen_found o
-        (unit_of ctx.old.sections ctx.old.answers probe)) }
+    ensures load { IfLoad result (λ c.
+        WaitsIn PassOver ctx.entry probe c.ctx c.probe c.number (seen_load R.section c.load)) }
+    ensures output { IfOutput result (λ o. ExactlyUnlessOom seen_found o (unit_in ctx.old probe)) }
     ensures refused { IfOutput result (λ o. IfErr o (λ e. e ≡ OutOfMemory)) }
 {
     match ctx.stop(probe, Faults::PassOver) {
@@ -84,15 +83,11 @@ fn go_on<R: Reader>(
         ≡ true }
     ensures* ends { sem 𝓛 (RestsAs (λ c. c.ctx.ghost_name) R.row R.Reader ctx.entry result
         (λ o n. AfterResume PassOver probe number (option_map (λ d. d.value) input) o ctx.old n)) }
-    ensures load { IfLoad result (λ c. (c.ctx.ghost_name ≡ ctx.entry.ghost_name)
-        × (c.probe ≡ probe) × SuspendsAgain PassOver probe number (option_map (λ d. d.value) input)
-        c.number (seen_load R.section c.load) ctx.old c.ctx.now) }
-    ensures fewer { IfLoad result (λ c.
-        length (loads_at c.ctx.now.sections c.ctx.now.answers c.probe)
-        < length (loads_at ctx.old.sections ctx.old.answers probe)) }
-    ensures output { IfOutput result (λ o. ExactlyUnlessOom seen_found o
-        (unit_of ctx.old.sections (answered ctx.old.sections ctx.old.answers number
-        (option_map (λ d. d.value) input)) probe)) }
+    ensures load { IfLoad result (λ c. WaitsAgainIn PassOver ctx.entry probe number
+        (option_map (λ d. d.value) input) c.ctx c.probe c.number (seen_load R.section c.load)) }
+    ensures fewer { IfLoad result (λ c. count_loads c.ctx.now c.probe < count_loads ctx.old probe) }
+    ensures output { IfOutput result (λ o. ExactlyUnlessOom seen_found o (unit_answered ctx.old
+        number (option_map (λ d. d.value) input) probe)) }
     ensures refused { IfOutput result (λ o. IfErr o (λ e. e ≡ OutOfMemory)) }
 {
     match ctx.answer(number, input) {
@@ -107,8 +102,7 @@ fn skip<R: Reader>(ctx: &mut Context<R>, probe: u64) -> LookupResult<UnitLookup<
         (λ o n. AfterSkip PassOver probe o ctx.old n)) }
     ensures load { IfLoad result (λ c. ⊥) }
     ensures output { IfOutput result (λ o. ExactlyUnlessOom seen_found o
-        (unit_of ctx.old.sections
-        (skipped_answers PassOver ctx.old.sections probe ctx.old.answers) probe)) }
+        (unit_skipped ctx.old probe)) }
     ensures refused { IfOutput result (λ o. IfErr o (λ e. e ≡ OutOfMemory)) }
 {
     match ctx.skip_loads(probe, Faults::PassOver) {
@@ -125,10 +119,9 @@ impl<'ctx, R: Reader> LookupContinuation for UnitLookup<'ctx, R> {
 
     type Sections = Rc<Dwarf<R>>;
 
-    ghost left = { λ c. length (loads_at c.ctx.now.sections c.ctx.now.answers c.probe) };
+    ghost left = { λ c. count_loads c.ctx.now c.probe };
 
-    ghost skips_to = { λ c o. ExactlyUnlessOom seen_found o
-        (unit_of c.ctx.now.sections (with_none c.ctx.now.answers) c.probe) };
+    ghost skips_to = { λ c o. ExactlyUnlessOom seen_found o (unit_with_none c.ctx.now c.probe) };
 
     fn load(&self) -> &SplitDwarfLoad<R>
         ensures gives { result.now ≡ self.now.load }
@@ -140,25 +133,18 @@ impl<'ctx, R: Reader> LookupContinuation for UnitLookup<'ctx, R> {
         ensures* ends { sem 𝓛 (RestsAs (λ c. c.ctx.ghost_name) R.row R.Reader
             self.entry.ctx result (λ o n. AfterResume PassOver self.entry.probe self.entry.number
             (option_map (λ d. d.value) input) o self.entry.ctx.now n)) }
-        ensures load { IfLoad result (λ c. (c.ctx.ghost_name ≡ self.entry.ctx.ghost_name)
-            × (c.probe ≡ self.entry.probe)
-            × SuspendsAgain PassOver self.entry.probe self.entry.number
-            (option_map (λ d. d.value) input) c.number (seen_load R.section c.load)
-            self.entry.ctx.now c.ctx.now) }
-        ensures fewer { IfLoad result (λ c.
-            length (loads_at c.ctx.now.sections c.ctx.now.answers c.probe)
-            < length (loads_at self.entry.ctx.now.sections self.entry.ctx.now.answers
-            self.entry.probe)) }
-        ensures output { IfOutput result (λ o. ExactlyUnlessOom seen_found o
-            (unit_of self.entry.ctx.now.sections (answered self.entry.ctx.now.sections
-            self.entry.ctx.now.answers self.entry.number (option_map (λ d. d.value) input))
+        ensures load { IfLoad result (λ c. WaitsAgainIn PassOver self.entry.ctx self.entry.probe
+            self.entry.number (option_map (λ d. d.value) input)
+            c.ctx c.probe c.number (seen_load R.section c.load)) }
+        ensures fewer { IfLoad result (λ c. count_loads c.ctx.now c.probe < count_loads
+            self.entry.ctx.now self.entry.probe) }
+        ensures output { IfOutput result (λ o. ExactlyUnlessOom seen_found o (unit_answered
+            self.entry.ctx.now self.entry.number (option_map (λ d. d.value) input)
             self.entry.probe)) }
         ensures refused { IfOutput result (λ o. IfErr o (λ e. e ≡ OutOfMemory)) }
-        ensures skips { input ≡ None → (o : _)
-            → SkipsTo (λ c p. ExactlyUnlessOom seen_found p
-            (unit_of c.ctx.now.sections (with_none c.ctx.now.answers) c.probe)) result o
-            → ExactlyUnlessOom seen_found o (unit_of self.entry.ctx.now.sections
-            (with_none self.entry.ctx.now.answers) self.entry.probe) }
+        ensures skips { input ≡ None → (o : _) → SkipsTo (λ c p. ExactlyUnlessOom seen_found p
+            (unit_with_none c.ctx.now c.probe)) result o → ExactlyUnlessOom seen_found o
+            (unit_with_none self.entry.ctx.now self.entry.probe) }
     {
         let UnitLookupWith {
             ctx,
@@ -182,9 +168,7 @@ impl<'ctx, R: Reader> UnitLookup<'ctx, R> {
             self.entry.ctx.now n)) }
         ensures load { IfLoad result (λ c. ⊥) }
         ensures output { IfOutput result (λ o. ExactlyUnlessOom seen_found o
-            (unit_of self.entry.ctx.now.sections (skipped_answers PassOver
-            self.entry.ctx.now.sections self.entry.probe self.entry.ctx.now.answers)
-            self.entry.probe)) }
+            (unit_skipped self.entry.ctx.now self.entry.probe)) }
         ensures refused { IfOutput result (λ o. IfErr o (λ e. e ≡ OutOfMemory)) }
     {
         let UnitLookupWith {
@@ -244,11 +228,10 @@ impl<R: Reader> Context<R> {
     pub fn find_dwarf_and_unit(&mut self, probe: u64) -> LookupResult<UnitLookup<'_, R>>
         ensures* ends { sem 𝓛 (RestsAs (λ c. c.ctx.ghost_name) R.row R.Reader self.entry
             result (λ o n. AfterFrames PassOver probe o self.old n)) }
-        ensures load { IfLoad result (λ c. (c.ctx.ghost_name ≡ self.entry.ghost_name)
-            × (c.probe ≡ probe)
-            × Suspends PassOver probe c.number (seen_load R.section c.load) self.old c.ctx.now) }
-        ensures output { IfOutput result (λ o. ExactlyUnlessOom seen_found o
-            (unit_of self.old.sections self.old.answers probe)) }
+        ensures load { IfLoad result (λ c.
+            WaitsIn PassOver self.entry probe c.ctx c.probe c.number (seen_load R.section c.load)) }
+        ensures output { IfOutput result
+            (λ o. ExactlyUnlessOom seen_found o (unit_in self.old probe)) }
         ensures refused { IfOutput result (λ o. IfErr o (λ e. e ≡ OutOfMemory)) }
     {
         go(self, probe)

@@ -1,7 +1,7 @@
 use Rattle.std.proofs.Common.{refl, rules}
 use Rattle.std.proofs.lemmas.Result.{err_from_is_err_and}
 use Rattle.addr2line_units.specs.declared.frames_lookup.Faults.TheVariants.{End}
-use Rattle.addr2line.proofs.ByFilesLemmas.{fault_before, has_answered_none, has_answered_one, has_looked, in_turn, looked_memory, stop_fault, stop_told, waits_no_more}
+use Rattle.addr2line.proofs.ByFilesLemmas.{fault_before, has_answered_after, has_answered_none, has_looked, in_turn, looked_memory, stop_fault, stop_told, waits_no_more}
 use Rattle.addr2line.proofs.LoadingLemmas.{no_oom, no_path}
 use Rattle.addr2line.proofs.NoLoadLemmas.{stop_fault_is, waits_never}
 use Rattle.addr2line.proofs.SkippedLemmas.{stop_waits, then_waits}
@@ -71,42 +71,26 @@ answer_load-requires g c =
 pub loop-number-preserved : goal.loop-number-preserved
 loop-number-preserved g c =
     let files = g.F.FileSource.files c.args.files.now in
-    let a = c.in_ok-number.ensures.after in
-    let mid = c.stop.new.self in
-    let n = c.in-Waits.number in
-    let waits = then_waits End c.args.probe _ c.loop-number.ctx mid a n (search rules) in
     let e = c.answer_load.ensures in
-    has_answered_one files c.args.probe c.args.ctx.now mid (has_looked files c.args.probe c.args.ctx.now c.loop-number.ctx c.loop-number.invariant _ mid a) n c.answer_load.new.ctx waits e.after e.only e.one
+    has_answered_after files c.args.probe c.args.ctx.now c.loop-number.ctx c.loop-number.invariant _ c.stop.new.self c.in_ok-number.ensures.after c.in-Waits.number (search rules) c.answer_load.new.ctx e.after e.only e.one
 
 pub returns-in_err-answer_load-in-Waits-clause-after : goal.returns-in_err-answer_load-in-Waits-clause-after
 returns-in_err-answer_load-in-Waits-clause-after g c =
     let files = g.F.FileSource.files c.args.files.now in
-    let a = c.in_ok-number.ensures.after in
-    let mid = c.stop.new.self in
-    let n = c.in-Waits.number in
-    let waits = then_waits End c.args.probe _ c.loop-number.ctx mid a n (search rules) in
     let e = c.answer_load.ensures in
-    (has_answered_one files c.args.probe c.args.ctx.now mid (has_looked files c.args.probe c.args.ctx.now c.loop-number.ctx c.loop-number.invariant _ mid a) n c.answer_load.new.ctx waits e.after e.only e.one).after
+    (has_answered_after files c.args.probe c.args.ctx.now c.loop-number.ctx c.loop-number.invariant _ c.stop.new.self c.in_ok-number.ensures.after c.in-Waits.number (search rules) c.answer_load.new.ctx e.after e.only e.one).after
 
 pub returns-in_err-answer_load-in-Waits-clause-in_turn : goal.returns-in_err-answer_load-in-Waits-clause-in_turn
 returns-in_err-answer_load-in-Waits-clause-in_turn g c =
     let files = g.F.FileSource.files c.args.files.now in
-    let a = c.in_ok-number.ensures.after in
-    let mid = c.stop.new.self in
-    let n = c.in-Waits.number in
-    let waits = then_waits End c.args.probe _ c.loop-number.ctx mid a n (search rules) in
     let e = c.answer_load.ensures in
-    in_turn files c.args.probe c.args.ctx.now c.answer_load.new.ctx (has_answered_one files c.args.probe c.args.ctx.now mid (has_looked files c.args.probe c.args.ctx.now c.loop-number.ctx c.loop-number.invariant _ mid a) n c.answer_load.new.ctx waits e.after e.only e.one)
+    in_turn files c.args.probe c.args.ctx.now c.answer_load.new.ctx (has_answered_after files c.args.probe c.args.ctx.now c.loop-number.ctx c.loop-number.invariant _ c.stop.new.self c.in_ok-number.ensures.after c.in-Waits.number (search rules) c.answer_load.new.ctx e.after e.only e.one)
 
 pub returns-in_err-answer_load-in-Waits-clause-only : goal.returns-in_err-answer_load-in-Waits-clause-only
 returns-in_err-answer_load-in-Waits-clause-only g c =
     let files = g.F.FileSource.files c.args.files.now in
-    let a = c.in_ok-number.ensures.after in
-    let mid = c.stop.new.self in
-    let n = c.in-Waits.number in
-    let waits = then_waits End c.args.probe _ c.loop-number.ctx mid a n (search rules) in
     let e = c.answer_load.ensures in
-    (has_answered_one files c.args.probe c.args.ctx.now mid (has_looked files c.args.probe c.args.ctx.now c.loop-number.ctx c.loop-number.invariant _ mid a) n c.answer_load.new.ctx waits e.after e.only e.one).only
+    (has_answered_after files c.args.probe c.args.ctx.now c.loop-number.ctx c.loop-number.invariant _ c.stop.new.self c.in_ok-number.ensures.after c.in-Waits.number (search rules) c.answer_load.new.ctx e.after e.only e.one).only
 
 pub returns-in_err-answer_load-in-Waits-clause-memory : goal.returns-in_err-answer_load-in-Waits-clause-memory
 returns-in_err-answer_load-in-Waits-clause-memory g c =

@@ -1,6 +1,6 @@
 use Rattle.std.proofs.Common.{Err, ap, refl, sym, ◌∙◌}
 use Rattle.addr2line.specs.SplitFiles.{of_file}
-use Rattle.addr2line.proofs.LoadingLemmas.{no_oom}
+use Rattle.addr2line.proofs.LoadingLemmas.{looked_in_context, no_oom}
 use Rattle.addr2line.proofs.loader.LoaderOver.find_location.Goals as goal
 
 pub returns-in-Ok : goal.returns-in-Ok
@@ -8,13 +8,7 @@ returns-in-Ok g c = (
   (
     refl,
     (λ _. tt),
-    record {
-      files = refl;
-      object = refl;
-      given = c.find_location.result;
-      answer = ap of_file (sym c.in-Ok.is);
-      context = c.find_location.follows.holds-at-none;
-    },
+    looked_in_context _ _ _ c.find_location.result _ _ _ (ap of_file (sym c.in-Ok.is)) c.find_location.follows.holds-at-none,
   ),
   record {
     gives = ap of_file c.in-Ok.ensures.gives;
@@ -29,13 +23,7 @@ returns-in-Err g c = (
   (
     refl,
     (λ _. tt),
-    record {
-      files = refl;
-      object = refl;
-      given = c.find_location.result;
-      answer = ap Err c.from.ensures ∙ ap of_file (sym c.in-Err.is);
-      context = c.find_location.follows.holds-at-none;
-    },
+    looked_in_context _ _ _ c.find_location.result _ _ _ (ap Err c.from.ensures ∙ ap of_file (sym c.in-Err.is)) c.find_location.follows.holds-at-none,
   ),
   record {
     gives = λ ne. ap of_file (c.in-Err.ensures.gives (no_oom c.in-Err.error (λ q. ne (c.from.ensures ∙ q)))) ∙ ap Err (sym c.from.ensures);

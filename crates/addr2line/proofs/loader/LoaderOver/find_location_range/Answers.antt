@@ -1,6 +1,7 @@
 use Rattle.std.proofs.Common.{Err, ap, refl, sym, ◌∙◌}
 use Rattle.elf.specs.Text.{loader_error_of}
 use Rattle.addr2line.specs.SplitFiles.{of_file}
+use Rattle.addr2line.proofs.LoadingLemmas.{looked_in_context}
 use Rattle.addr2line.proofs.loader.LoaderOver.find_location_range.Goals as goal
 
 pub returns-in-Ok : goal.returns-in-Ok
@@ -8,13 +9,7 @@ returns-in-Ok g c = (
   (
     refl,
     (λ _. tt),
-    record {
-      files = refl;
-      object = refl;
-      given = c.find_location_range.result;
-      answer = ap of_file (sym c.in-Ok.is);
-      context = c.find_location_range.follows.holds-at-none;
-    },
+    looked_in_context _ _ _ c.find_location_range.result _ _ _ (ap of_file (sym c.in-Ok.is)) c.find_location_range.follows.holds-at-none,
   ),
   record { gives = c.in-Ok.ensures.gives; refused = tt; exact = λ ready. refl; kept = tt },
 )
@@ -24,13 +19,7 @@ returns-in-Err g c = (
   (
     refl,
     (λ _. tt),
-    record {
-      files = refl;
-      object = refl;
-      given = c.find_location_range.result;
-      answer = ap Err c.from.ensures ∙ ap of_file (sym c.in-Err.is);
-      context = c.find_location_range.follows.holds-at-none;
-    },
+    looked_in_context _ _ _ c.find_location_range.result _ _ _ (ap Err c.from.ensures ∙ ap of_file (sym c.in-Err.is)) c.find_location_range.follows.holds-at-none,
   ),
   record {
     gives = tt;

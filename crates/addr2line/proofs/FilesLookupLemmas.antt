@@ -24,7 +24,7 @@ use Rattle.addr2line_units.proofs.AnswerLemmas.{decided_if_open, no_answer, othe
 use Rattle.addr2line_units.proofs.LoadLawLemmas.{waits_listed}
 use Rattle.addr2line_units.proofs.LoadLemmas.{open_awaits}
 use Rattle.addr2line_units.proofs.WaitLemmas.{same_number}
-use Rattle.addr2line.proofs.SkipLemmas.{settled_along}
+use Rattle.addr2line.proofs.SkipLemmas.{decided_stop_along}
 use Rattle.addr2line.specs.Answers.{answered}
 use Rattle.addr2line.specs.FramesByFiles.{GivesAnswers, answer_by, first_frames, frames_by_answers, frames_in_units, frames_of_unit, frames_or_fault, frames_with, or_rest, stop_frames}
 use Rattle.addr2line.specs.Loader.{StayAnswered}
@@ -250,7 +250,7 @@ module _ (d : Sections) (answers : FirstAnswers) (probe n : ℕ) (load : SplitLo
     where
       by : (r : Result UnitIndex Error) → index_units d ≡ r → is_waiting (r >>= stop_in End d answers q) ≡ false → (r >>= stop_in End d (answers_by r given) q) ≡ (r >>= stop_in End d answers q)
       by (Err e) k h = refl
-      by (Ok m) k h = settled_along _ _ (same_asked (λ l. Ok None) (main_scope d m) m.units answers n load (awaits_in m k) given q) (cover q m.ranges) h
+      by (Ok m) k h = decided_stop_along _ _ (same_asked (λ l. Ok None) (main_scope d m) m.units answers n load (awaits_in m k) given q) (cover q m.ranges) h
 
   -- the unit has another first answer than before where fewer loads are left
   pub answer_changes : (given : Option Sections) → length (loads_at d (answered d answers n given) probe) < length (loads_at d answers probe) → answer_of (answered d answers n given) n ≢ answer_of answers n

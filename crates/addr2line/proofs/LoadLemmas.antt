@@ -22,7 +22,7 @@ use Rattle.addr2line_units.specs.CachedEntries.{has_entries}
 use Rattle.addr2line_units.specs.CachedLookups.{StayAllEntries, answers_in, decided_at, has_entries_at, scope_in}
 use Rattle.addr2line_units.specs.CachedParses.{ChangesOnly, HaveRead, StayDecided}
 use Rattle.addr2line_units.specs.KnownEntries.{known_in, knows_at}
-use Rattle.addr2line_units.specs.Loads.{AreSettled, forget_result, forgotten, is_open_at, load_of_number, load_result, loads_along}
+use Rattle.addr2line_units.specs.Loads.{NoneOpen, forget_result, forgotten, is_open_at, load_of_number, load_result, loads_along}
 use Rattle.gimli_read.specs.Alike.{HadMemory}
 use Rattle.addr2line_units.specs.UnitIndex.{UnitIndex, unit_records}
 use Rattle.addr2line_units.proofs.CachedLookupLemmas.{as_many_entries}
@@ -38,7 +38,7 @@ use Rattle.addr2line.proofs.NewContextLemmas.{ok_is}
 use Rattle.addr2line.proofs.ParseLemmas.{answered_is_decided, decided_more, known_is_decided, none_asked, read_after, read_before}
 use Rattle.addr2line.proofs.StayLemmas.{none_whole, stays_known, whole_decided, whole_is_decided}
 use Rattle.addr2line.specs.Context.{ContextState, IsContext, index_by}
-use Rattle.addr2line.specs.Loads.{AfterForget, AfterLoad, AfterParse, AfterPreload, AreSettledAt, IsAllKnown, IsReadyToRead, IsSettled, ReachesAllOf, StaysRead, forget_reply, load_reply, parse_reply, parsed_answers}
+use Rattle.addr2line.specs.Loads.{AfterForget, AfterLoad, AfterParse, AfterPreload, IsAllKnown, IsNotOpen, IsReadyToRead, NoneOpenAt, ReachesAllOf, StaysRead, forget_reply, load_reply, parse_reply, parsed_answers}
 use Rattle.addr2line.specs.Lookups.{IsReadyAt, StaysKnown, loads_at, lookup_stop}
 
 module _ {R : Type 0} (d : Sections) (us : List UnitRecord) (old : List ResUnit) (held : List (UnitEntries R)) (ranges : List UnitRange) (sup : SupUnits R) (i : IsContext d us old held ranges sup.units.items sup.dwarf) where
@@ -59,11 +59,11 @@ module _ {R : Type 0} (d : Sections) (us : List UnitRecord) (old : List ResUnit)
   pub listed_are : (probe : ℕ) → loads_at d (answers_in held) probe ≡ loads_along (load_of_number d us (answers_in held)) (cover probe ranges)
   listed_are probe = loads_are d us old held ranges sup i (answers_in held) probe
 
-  pub settled_is : (n looks : ℕ) → IsSettled (record { sections = d; answers = answers_in held; parsed = parsed_units old; known = known_in held; looks = looks }) n → is_open_at d us (answers_in held) n ≡ false
-  settled_is n looks h = subst (λ xs. is_open_at d xs (answers_in held) n ≡ false) same_units (h made i.made_is)
+  pub not_open_is : (n looks : ℕ) → IsNotOpen (record { sections = d; answers = answers_in held; parsed = parsed_units old; known = known_in held; looks = looks }) n → is_open_at d us (answers_in held) n ≡ false
+  not_open_is n looks h = subst (λ xs. is_open_at d xs (answers_in held) n ≡ false) same_units (h made i.made_is)
 
-  pub settled_are : (probe looks : ℕ) → AreSettledAt (record { sections = d; answers = answers_in held; parsed = parsed_units old; known = known_in held; looks = looks }) probe → AreSettled d us (answers_in held) (cover probe ranges)
-  settled_are probe looks h = subst (λ xs. AreSettled d xs (answers_in held) (cover probe ranges)) same_units (h made i.made_is)
+  pub none_open_are : (probe looks : ℕ) → NoneOpenAt (record { sections = d; answers = answers_in held; parsed = parsed_units old; known = known_in held; looks = looks }) probe → NoneOpen d us (answers_in held) (cover probe ranges)
+  none_open_are probe looks h = subst (λ xs. NoneOpen d xs (answers_in held) (cover probe ranges)) same_units (h made i.made_is)
 
   pub parse_is : (reads : Reads) → parse_reply reads d (answers_in held) ≡ read_of_units reads (scope_in d us sup) us (answers_in held)
   parse_is reads =

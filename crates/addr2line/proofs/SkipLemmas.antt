@@ -30,26 +30,26 @@ abbrev Reading : Type 0
 Reading = Result (Option (List FrameRecord)) Error
 
 -- a unit that is decided has its verdict where none is answered to the others
-settled_by : (d : Sections) (u : UnitRecord) (l : Result (Option SplitLoad) Error) (a : Option (Option Sections)) (v : Result View Error) → verdict_by d u l a ≡ Some v → verdict_by d u l (Some (unwrap_or a None)) ≡ Some v
-settled_by d u l (Some x) v e = e
-settled_by d u (Err f) None v e = e
-settled_by d u (Ok None) None v e = e
-settled_by d u (Ok (Some load)) None v e = absurd cc
+decided_by : (d : Sections) (u : UnitRecord) (l : Result (Option SplitLoad) Error) (a : Option (Option Sections)) (v : Result View Error) → verdict_by d u l a ≡ Some v → verdict_by d u l (Some (unwrap_or a None)) ≡ Some v
+decided_by d u l (Some x) v e = e
+decided_by d u (Err f) None v e = e
+decided_by d u (Ok None) None v e = e
+decided_by d u (Ok (Some load)) None v e = absurd cc
 
-settled_unit : (scope : Scope) (probe : ℕ) (u : IndexedUnit) (a : Option (Option Sections)) → frames_in scope u a probe ≢ Ok None → frames_in scope u (Some (unwrap_or a None)) probe ≡ frames_in scope u a probe
+decided_unit : (scope : Scope) (probe : ℕ) (u : IndexedUnit) (a : Option (Option Sections)) → frames_in scope u a probe ≢ Ok None → frames_in scope u (Some (unwrap_or a None)) probe ≡ frames_in scope u a probe
 unfolding frames_in
-settled_unit scope probe u a ne = by (verdict scope.file.sections u.unit a) refl
+decided_unit scope probe u a ne = by (verdict scope.file.sections u.unit a) refl
   where
     frames_at : Option (Result View Error) → Reading
     frames_at w = if is_none w then Ok None else (frames_by scope u probe (function_by scope probe w) >>= λ frames. Ok (Some frames))
 
     by : (w : Option (Result View Error)) → verdict scope.file.sections u.unit a ≡ w → frames_at (verdict scope.file.sections u.unit (Some (unwrap_or a None))) ≡ frames_at (verdict scope.file.sections u.unit a)
     by None e = absurd (ne (ap frames_at e))
-    by (Some v) e = ap frames_at (settled_by scope.file.sections u.unit (load_of_unit scope.file.sections 0 u.unit) a v e ∙ sym e)
+    by (Some v) e = ap frames_at (decided_by scope.file.sections u.unit (load_of_unit scope.file.sections 0 u.unit) a v e ∙ sym e)
 
-settled_number : (scope : Scope) (units : List IndexedUnit) (answers : FirstAnswers) (probe n : ℕ) → frames_of_number scope units answers probe n ≢ Ok None
+decided_number : (scope : Scope) (units : List IndexedUnit) (answers : FirstAnswers) (probe n : ℕ) → frames_of_number scope units answers probe n ≢ Ok None
     → frames_of_number scope units (with_none answers) probe n ≡ frames_of_number scope units answers probe n
-settled_number scope units answers probe n ne = of_unit (slice_get units n) ne
+decided_number scope units answers probe n ne = of_unit (slice_get units n) ne
   where
     frames_at : Option IndexedUnit → Option (Option Sections) → Reading
     frames_at o a = elim o [ None ↦ Ok (Some []) | Some u ↦ frames_in scope u a probe ]
@@ -57,7 +57,7 @@ settled_number scope units answers probe n ne = of_unit (slice_get units n) ne
     of_answer : (u : IndexedUnit) (o : Option (Option (Option Sections))) → frames_in scope u (unwrap_or o None) probe ≢ Ok None
         → frames_in scope u (unwrap_or (option_map (λ a. Some (unwrap_or a None)) o) None) probe ≡ frames_in scope u (unwrap_or o None) probe
     of_answer u None h = refl
-    of_answer u (Some a) h = settled_unit scope probe u a h
+    of_answer u (Some a) h = decided_unit scope probe u a h
 
     of_unit : (o : Option IndexedUnit) → frames_at o (answer_of answers n) ≢ Ok None → frames_at o (answer_of (with_none answers) n) ≡ frames_at o (answer_of answers n)
     of_unit None h = refl
@@ -65,32 +65,32 @@ settled_number scope units answers probe n ne = of_unit (slice_get units n) ne
         ap (λ o. frames_in scope u (unwrap_or o None) probe) (slice_get-map (λ (a : Option (Option Sections)). Some (unwrap_or a None)) answers n)
         ∙ of_answer u (slice_get answers n) h
 
-settled_asked : (faults : Faults) (scope : Scope) (units : List IndexedUnit) (answers : FirstAnswers) (probe n : ℕ) → asked_frames faults scope units answers probe n ≢ Ok None
+decided_asked : (faults : Faults) (scope : Scope) (units : List IndexedUnit) (answers : FirstAnswers) (probe n : ℕ) → asked_frames faults scope units answers probe n ≢ Ok None
     → asked_frames faults scope units (with_none answers) probe n ≡ asked_frames faults scope units answers probe n
-settled_asked faults scope units answers probe n ne =
-    ap (after_fault faults) (settled_number scope units answers probe n (λ e. ne (ap (after_fault faults) e)))
+decided_asked faults scope units answers probe n ne =
+    ap (after_fault faults) (decided_number scope units answers probe n (λ e. ne (ap (after_fault faults) e)))
 
 -- along ranges
-settled_step : (n : ℕ) (a b : Result Stop Error) (r s : Reading) → (r ≢ Ok None → s ≡ r) → is_waiting (r >>= or_stop n a) ≡ false → (is_waiting a ≡ false → b ≡ a) → (s >>= or_stop n b) ≡ (r >>= or_stop n a)
-settled_step n a b (Err e) s same w rest = ap (λ x. x >>= or_stop n b) (same (λ q. absurd cc))
-settled_step n a b (Ok None) s same w rest = absurd cc
-settled_step n a b (Ok (Some [])) s same w rest = ap (λ x. x >>= or_stop n b) (same (λ q. absurd cc)) ∙ rest w
-settled_step n a b (Ok (Some (x ∷ xs))) s same w rest = ap (λ x. x >>= or_stop n b) (same (λ q. absurd cc))
+decided_step : (n : ℕ) (a b : Result Stop Error) (r s : Reading) → (r ≢ Ok None → s ≡ r) → is_waiting (r >>= or_stop n a) ≡ false → (is_waiting a ≡ false → b ≡ a) → (s >>= or_stop n b) ≡ (r >>= or_stop n a)
+decided_step n a b (Err e) s same w rest = ap (λ x. x >>= or_stop n b) (same (λ q. absurd cc))
+decided_step n a b (Ok None) s same w rest = absurd cc
+decided_step n a b (Ok (Some [])) s same w rest = ap (λ x. x >>= or_stop n b) (same (λ q. absurd cc)) ∙ rest w
+decided_step n a b (Ok (Some (x ∷ xs))) s same w rest = ap (λ x. x >>= or_stop n b) (same (λ q. absurd cc))
 
-pub settled_along : (f h : ℕ → Reading) → ((n : ℕ) → f n ≢ Ok None → h n ≡ f n) → (ranges : List UnitRange) → is_waiting (stop_along f ranges) ≡ false → stop_along h ranges ≡ stop_along f ranges
-settled_along f h same [] w = refl
-settled_along f h same (r ∷ ranges) w = settled_step r.unit (stop_along f ranges) (stop_along h ranges) (f r.unit) (h r.unit) (same r.unit) w (settled_along f h same ranges)
+pub decided_stop_along : (f h : ℕ → Reading) → ((n : ℕ) → f n ≢ Ok None → h n ≡ f n) → (ranges : List UnitRange) → is_waiting (stop_along f ranges) ≡ false → stop_along h ranges ≡ stop_along f ranges
+decided_stop_along f h same [] w = refl
+decided_stop_along f h same (r ∷ ranges) w = decided_step r.unit (stop_along f ranges) (stop_along h ranges) (f r.unit) (h r.unit) (same r.unit) w (decided_stop_along f h same ranges)
 
-settled_stop : (faults : Faults) (d : Sections) (answers : FirstAnswers) (probe : ℕ) → is_waiting (lookup_stop faults d answers probe) ≡ false → lookup_stop faults d (with_none answers) probe ≡ lookup_stop faults d answers probe
-settled_stop faults d answers probe w = of_index (index_units d) w
+decided_stop : (faults : Faults) (d : Sections) (answers : FirstAnswers) (probe : ℕ) → is_waiting (lookup_stop faults d answers probe) ≡ false → lookup_stop faults d (with_none answers) probe ≡ lookup_stop faults d answers probe
+decided_stop faults d answers probe w = of_index (index_units d) w
   where
     of_index : (r : Result UnitIndex Error) → is_waiting (r >>= stop_in faults d answers probe) ≡ false → (r >>= stop_in faults d (with_none answers) probe) ≡ (r >>= stop_in faults d answers probe)
     of_index (Err e) h = refl
-    of_index (Ok m) h = settled_along _ _ (settled_asked faults (main_scope d m) m.units answers probe) (cover probe m.ranges) h
+    of_index (Ok m) h = decided_stop_along _ _ (decided_asked faults (main_scope d m) m.units answers probe) (cover probe m.ranges) h
 
 -- the frames of a lookup that ended
-pub settled_frames : (d : Sections) (answers : FirstAnswers) (probe : ℕ) → frames_of d answers probe ≢ Ok None → frames_of d (with_none answers) probe ≡ frames_of d answers probe
-settled_frames d answers probe ne = ap (λ r. r >>= λ s. Ok (frames_told s)) (settled_stop End d answers probe (ended (lookup_stop End d answers probe) ne))
+pub decided_frames : (d : Sections) (answers : FirstAnswers) (probe : ℕ) → frames_of d answers probe ≢ Ok None → frames_of d (with_none answers) probe ≡ frames_of d answers probe
+decided_frames d answers probe ne = ap (λ r. r >>= λ s. Ok (frames_told s)) (decided_stop End d answers probe (ended (lookup_stop End d answers probe) ne))
   where
     ended : (r : Result Stop Error) → (r >>= λ s. Ok (frames_told s)) ≢ Ok None → is_waiting r ≡ false
     ended (Err e) h = refl
@@ -108,26 +108,26 @@ found_view d m answers probe n (Some u) h e =
     let f : ◌≡◌ {A = Bool} true false = sym (ap is_none e) ∙ closed in
     cc
 
-settled_verdict : (d : Sections) (u : UnitRecord) (o : Option (Option (Option Sections))) → verdict d u (unwrap_or o None) ≢ None → verdict d u (unwrap_or (option_map (λ a. Some (unwrap_or a None)) o) None) ≡ verdict d u (unwrap_or o None)
-settled_verdict d u None ne = refl
-settled_verdict d u (Some a) ne = by (verdict d u a) refl
+decided_verdict : (d : Sections) (u : UnitRecord) (o : Option (Option (Option Sections))) → verdict d u (unwrap_or o None) ≢ None → verdict d u (unwrap_or (option_map (λ a. Some (unwrap_or a None)) o) None) ≡ verdict d u (unwrap_or o None)
+decided_verdict d u None ne = refl
+decided_verdict d u (Some a) ne = by (verdict d u a) refl
   where
     by : (w : Option (Result View Error)) → verdict d u a ≡ w → verdict d u (Some (unwrap_or a None)) ≡ verdict d u a
     by None e = absurd (ne e)
-    by (Some v) e = settled_by d u (load_of_unit d 0 u) a v e ∙ sym e
+    by (Some v) e = decided_by d u (load_of_unit d 0 u) a v e ∙ sym e
 
-settled_view : (d : Sections) (us : List UnitRecord) (answers : FirstAnswers) (n : ℕ) → view_of_number d us answers n ≢ None → view_of_number d us (with_none answers) n ≡ view_of_number d us answers n
-settled_view d us answers n ne = by (slice_get us n) ne
+decided_view : (d : Sections) (us : List UnitRecord) (answers : FirstAnswers) (n : ℕ) → view_of_number d us answers n ≢ None → view_of_number d us (with_none answers) n ≡ view_of_number d us answers n
+decided_view d us answers n ne = by (slice_get us n) ne
   where
     by : (o : Option UnitRecord) → option_and_then (λ u. verdict d u (answer_of answers n)) o ≢ None → option_and_then (λ u. verdict d u (answer_of (with_none answers) n)) o ≡ option_and_then (λ u. verdict d u (answer_of answers n)) o
     by None h = refl
     by (Some u) h =
         ap (λ o. verdict d u (unwrap_or o None)) (slice_get-map (λ (a : Option (Option Sections)). Some (unwrap_or a None)) answers n)
-        ∙ settled_verdict d u (slice_get answers n) h
+        ∙ decided_verdict d u (slice_get answers n) h
 
 -- the unit of a lookup that ended
-pub settled_unit_of : (d : Sections) (answers : FirstAnswers) (probe : ℕ) → unit_of d answers probe ≢ Ok None → unit_of d (with_none answers) probe ≡ unit_of d answers probe
-settled_unit_of d answers probe ne = of_index (index_units d) ne
+pub decided_unit_of : (d : Sections) (answers : FirstAnswers) (probe : ℕ) → unit_of d answers probe ≢ Ok None → unit_of d (with_none answers) probe ≡ unit_of d answers probe
+decided_unit_of d answers probe ne = of_index (index_units d) ne
   where
     of_stop : (m : UnitIndex) (r : Result Stop Error) → stop_in PassOver d answers probe m ≡ r → (r >>= λ s. Ok (unit_told d answers m s)) ≢ Ok None
         → (r >>= λ s. Ok (unit_told d (with_none answers) m s)) ≡ (r >>= λ s. Ok (unit_told d answers m s))
@@ -139,7 +139,7 @@ settled_unit_of d answers probe ne = of_index (index_units d) ne
         let told = found_along (λ _. true) asked n frames (cover probe m.ranges) (always_along asked (cover probe m.ranges)) is in
         let there = found_by_unit PassOver (frames_of_number (main_scope d m) m.units answers probe n) told.0 in
         let known = subst (λ o. option_and_then (λ u. verdict d u (answer_of answers n)) o ≢ None) (sym (slice_get-map (λ (u : IndexedUnit). u.unit) m.units n)) (found_view d m answers probe n (slice_get m.units n) there) in
-        ap (λ (w : Option (Result View Error)). Ok (Some (option_map parts_of (readable_view w)))) (settled_view d (unit_records m.units) answers n known)
+        ap (λ (w : Option (Result View Error)). Ok (Some (option_map parts_of (readable_view w)))) (decided_view d (unit_records m.units) answers n known)
 
     ended : (m : UnitIndex) (r : Result Stop Error) → (r >>= λ s. Ok (unit_told d answers m s)) ≢ Ok None → is_waiting r ≡ false
     ended m (Err e) h = refl
@@ -151,7 +151,7 @@ settled_unit_of d answers probe ne = of_index (index_units d) ne
         → (r >>= λ m. stop_in PassOver d (with_none answers) probe m >>= λ s. Ok (unit_told d (with_none answers) m s)) ≡ (r >>= λ m. stop_in PassOver d answers probe m >>= λ s. Ok (unit_told d answers m s))
     of_index (Err e) h = refl
     of_index (Ok m) h =
-        ap (λ r. r >>= λ s. Ok (unit_told d (with_none answers) m s)) (settled_along _ _ (settled_asked PassOver (main_scope d m) m.units answers probe) (cover probe m.ranges) (ended m (stop_in PassOver d answers probe m) h))
+        ap (λ r. r >>= λ s. Ok (unit_told d (with_none answers) m s)) (decided_stop_along _ _ (decided_asked PassOver (main_scope d m) m.units answers probe) (cover probe m.ranges) (ended m (stop_in PassOver d answers probe m) h))
         ∙ of_stop m (stop_in PassOver d answers probe m) refl h
 
 -- none as the answer of one more unit
@@ -189,7 +189,7 @@ none_after d answers n = of_index (index_units d)
     of_index (Ok m) = of_unit (slice_get (unit_records m.units) n)
 
 -- what a lookup may give after none as an answer it may give before it
-module _ {V X : Type 0} (reading : Sections → FirstAnswers → ℕ → Result (Option V) Error) (settled : (d : Sections) (answers : FirstAnswers) (probe : ℕ) → reading d answers probe ≢ Ok None → reading d (with_none answers) probe ≡ reading d answers probe) (see : X → V) where
+module _ {V X : Type 0} (reading : Sections → FirstAnswers → ℕ → Result (Option V) Error) (decided : (d : Sections) (answers : FirstAnswers) (probe : ℕ) → reading d answers probe ≢ Ok None → reading d (with_none answers) probe ≡ reading d answers probe) (see : X → V) where
   pub skip_told : {L D S : Type 0} (d : Sections) (answers : FirstAnswers) (probe n : ℕ) (sections_of : L → Sections) (answers_of : L → FirstAnswers) (probe_of : L → ℕ) (r : LookupResult L (Result X Error) D S)
       → IfLoad r (λ c. (sections_of c ≡ d) × (answers_of c ≡ answered d answers n None) × (probe_of c ≡ probe))
       → IfOutput r (λ o. ExactlyUnlessOom (λ x. Some (see x)) o (reading d (answered d answers n None) probe))
@@ -204,7 +204,7 @@ module _ {V X : Type 0} (reading : Sections → FirstAnswers → ℕ → Result 
       subst (λ q. ExactlyUnlessOom (λ x. Some (see x)) q (reading d (with_none answers) probe)) skips (of_output p output)
     where
       then_none : reading d (answered d answers n None) probe ≢ Ok None → reading d (with_none answers) probe ≡ reading d (answered d answers n None) probe
-      then_none ne = ap (λ a. reading d a probe) (sym (none_after d answers n)) ∙ settled d (answered d answers n None) probe ne
+      then_none ne = ap (λ a. reading d a probe) (sym (none_after d answers n)) ∙ decided d (answered d answers n None) probe ne
 
       of_output : (q : Result X Error) → ExactlyUnlessOom (λ x. Some (see x)) q (reading d (answered d answers n None) probe) → ExactlyUnlessOom (λ x. Some (see x)) q (reading d (with_none answers) probe)
       of_output (Ok x) h = then_none (λ e. ok_none (sym h ∙ e)) ∙ h

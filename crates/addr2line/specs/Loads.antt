@@ -16,7 +16,7 @@ use Rattle.addr2line_units.specs.FramesLookup.{answer_of, main_scope}
 use Rattle.addr2line_units.specs.FunctionParseLaws.{IsReached}
 use Rattle.addr2line_units.specs.FunctionParses.{AreFirstDecided, AreReadBefore, AreReadyFor, answers_after_parse, read_of_units}
 use Rattle.addr2line_units.specs.KnownEntries.{KnownEntries, NothingKnown, AllKnown, FunctionsKnown, knows_at}
-use Rattle.addr2line_units.specs.Loads.{AreSettled, forget_result, forgotten, is_open_at, load_result}
+use Rattle.addr2line_units.specs.Loads.{NoneOpen, forget_result, forgotten, is_open_at, load_result}
 use Rattle.gimli_read.specs.Alike.{HadMemory}
 use Rattle.addr2line_units.specs.UnitIndex.{UnitIndex, index_units, unit_records}
 use Rattle.addr2line.specs.Answers.{answered}
@@ -45,15 +45,15 @@ parsed_answers reads d answers = elim (index_units d) [
   | Ok m ↦ answers_after_parse reads (main_scope d m) (unit_records m.units) answers
 ]
 
--- the unit of a number is decided, or there is none
-abbrev pub IsSettled : ContextState → ℕ → Type 0
-IsSettled c n = (m : UnitIndex) → index_units c.sections ≡ Ok m
+-- the unit of a number isn't open, or there is none
+abbrev pub IsNotOpen : ContextState → ℕ → Type 0
+IsNotOpen c n = (m : UnitIndex) → index_units c.sections ≡ Ok m
     → is_open_at c.sections (unit_records m.units) c.answers n ≡ false
 
 -- none of the units that cover the probe is open
-abbrev pub AreSettledAt : ContextState → ℕ → Type 0
-AreSettledAt c probe = (m : UnitIndex) → index_units c.sections ≡ Ok m
-    → AreSettled c.sections (unit_records m.units) c.answers (cover probe m.ranges)
+abbrev pub NoneOpenAt : ContextState → ℕ → Type 0
+NoneOpenAt c probe = (m : UnitIndex) → index_units c.sections ≡ Ok m
+    → NoneOpen c.sections (unit_records m.units) c.answers (cover probe m.ranges)
 
 -- nothing is changed but what is known of units' entries, and first answers
 pub record StaysRead (old new : ContextState) : Type 0 where

@@ -5,7 +5,7 @@ ghost use Rattle.gimli_read.specs.declared.error.Error.TheVariants.{OutOfMemory}
 ghost use Rattle.gimli_read.specs.Reading.{ExactlyUnlessOom};
 ghost use Rattle.addr2line_units.specs.CachedViews.{seen_load};
 ghost use Rattle.addr2line_units.specs.Loads.{token_number};
-ghost use Rattle.addr2line.specs.Loads.{AfterForget, AfterLoad, AfterPreload, AreSettledAt, IsSettled, forget_reply, load_reply};
+ghost use Rattle.addr2line.specs.Loads.{AfterForget, AfterLoad, AfterPreload, IsNotOpen, NoneOpenAt, forget_reply, load_reply};
 ghost use Rattle.addr2line.specs.Lookups.{loads_at};
 
 use crate::context::Context;
@@ -26,7 +26,7 @@ impl<R: Reader> Context<R> {
         ensures gives { IfOk result (λ loads. map (seen_load R.section) loads.items
             ≡ loads_at self.old.sections self.old.answers probe) }
         ensures refused { IfErr result (λ e. e ≡ OutOfMemory) }
-        ensures memory { AreSettledAt self.old probe → IsOk result }
+        ensures memory { NoneOpenAt self.old probe → IsOk result }
         ensures after { AfterPreload self.old self.new }
     {
         self.units
@@ -49,7 +49,7 @@ impl<R: Reader> Context<R> {
     ) -> Result<(), Error>
         ensures gives { ExactlyUnlessOom (λ x. x) result (load_reply self.old.sections
             self.old.answers (token_number unit) (option_map (λ d. d.value) sections)) }
-        ensures memory { IsSettled self.old (token_number unit) → result ≡ load_reply
+        ensures memory { IsNotOpen self.old (token_number unit) → result ≡ load_reply
             self.old.sections self.old.answers (token_number unit)
             (option_map (λ d. d.value) sections) }
         ensures after { AfterLoad (token_number unit) (option_map (λ d. d.value) sections) result

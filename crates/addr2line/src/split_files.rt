@@ -1,22 +1,21 @@
 //! The split files of units, which answer their loads.
 
 ghost use Rattle.std.specs.Prelude.{◌≡◌, IfErr, IfOk, IfSome, List, ℕ, None, Ok, OnOk, Option, Some, option_map};
-ghost use Rattle.gimli_read.specs.Reading.{Exactly, ExactlyUnlessOom};
+ghost use Rattle.gimli_read.specs.Reading.{Exactly};
 ghost use Rattle.gimli.specs.Sections.{Sections};
 ghost use Rattle.elf.specs.declared.error.LoaderError.TheVariants.{OutOfMemory, PathNotUtf8};
 ghost use Rattle.elf.specs.Loading.{Loading, LoadsUnlessOom};
 ghost use Rattle.elf.specs.ObjectFile.{object_file_of};
 ghost use Rattle.addr2line_units.specs.CachedViews.{seen_load};
-ghost use Rattle.addr2line_units.specs.Views.{first_unit};
 ghost use Rattle.addr2line.specs.Loader.{LeavesOpen};
 ghost use Rattle.addr2line.specs.SplitFiles.{bytes_or_none, given_by_files, is_absolute, is_same_id, has_wanted_id, or_none, path_in, separated, split_by, split_of, split_path, utf8_path};
 
 use crate::file_sections::{SectionSource, SplitFile, as_dwarf, read_sections};
 use crate::files::FileSource;
-use addr2line_units::view::SplitDwarfLoad;
+use addr2line_units::view::{SplitDwarfLoad, read_first_unit};
 use bytes::Bytes;
 use elf::{ElfFile, LoaderError};
-use gimli::read::{EndianBytes, Error, Reader, RunTimeEndian};
+use gimli::read::{EndianBytes, Reader, RunTimeEndian};
 use gimli::{Dwarf, DwarfFileType, DwoId, Unit};
 use std::alloc::{AllocError, Global};
 use std::rc::Rc;
@@ -96,17 +95,6 @@ fn text_of(path: &[u8]) -> Result<&str, LoaderError>
     match str::from_utf8(path) {
         Ok(text) => Ok(text),
         Err(_) => Err(LoaderError::PathNotUtf8),
-    }
-}
-
-// The first unit of sections, none where they have no unit.
-fn read_first_unit<R: Reader>(alloc: Global, dwarf: &Dwarf<R>) -> Result<Option<Unit<R>>, Error>
-    ensures gives { ExactlyUnlessOom (λ u. u) result (first_unit dwarf.now) }
-{
-    let mut headers = dwarf.units()?;
-    match headers.next()? {
-        Some(header) => Ok(Some(dwarf.unit(alloc, header)?)),
-        None => Ok(None),
     }
 }
 

@@ -38,3 +38,5 @@ pub mod FoundRanges
 pub mod CachedDetails
 pub mod FunctionTable
 pub mod FunctionCache
+pub mod ManyInlined
+pub mod LastAddress

@@ -1,11 +1,12 @@
 //! The details of the functions of a view, kept one after another.
 
 ghost use Rattle.std.specs.List.{AllByRecursion};
-ghost use Rattle.std.specs.Prelude.{◌≡◌, ◌<◌, ◌||◌, [], IfOk, OnErr, Ok, length, map, nat_lt, option_map, slice_get};
+ghost use Rattle.std.specs.Prelude.{◌≡◌, ◌<◌, ◌||◌, [], IfOk, OnErr, Ok, length, map, option_map, slice_get};
 ghost use Rattle.gimli_read.specs.Reading.{ExactlyUnlessOomIf};
 ghost use Rattle.addr2line_lines.specs.Details.{detail_at, detail_takes_memory, inlined_chain};
 ghost use Rattle.addr2line_lines.specs.FoundDetails.{entry_among, none_inlined, seen_inlined};
 ghost use Rattle.addr2line_lines.specs.CachedDetails.{AreDetailsMore, IsDetailPlace, IsNextPlace, detail_of, seen_details};
+ghost use Rattle.addr2line_lines.specs.ManyInlined.{are_many};
 ghost use Rattle.addr2line_lines.specs.References.{IsScope};
 ghost use Rattle.addr2line_lines.specs.SeenScope.{seen_scope};
 
@@ -161,8 +162,8 @@ impl<R: Reader> Details<R> {
         probe: u64,
     ) -> Result<SmallVec<usize, 16>, Error>
         requires place { IsDetailPlace (seen_details R.section self.now) detail.now }
-        ensures gives { ExactlyUnlessOomIf (nat_lt 16 (length (inlined_chain probe
-            (detail_of (seen_details R.section self.now) detail.now).inlined)))
+        ensures gives { ExactlyUnlessOomIf (are_many (inlined_chain probe
+            (detail_of (seen_details R.section self.now) detail.now).inlined))
             (λ chain. map (entry_among (seen_details R.section self.now).found.entries) chain.items)
             result (Ok (inlined_chain probe
             (detail_of (seen_details R.section self.now) detail.now).inlined)) }

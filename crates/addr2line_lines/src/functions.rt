@@ -1,7 +1,7 @@
 //! The functions of a unit.
 
 ghost use Rattle.std.specs.List.{AllByRecursion};
-ghost use Rattle.std.specs.Prelude.{◌≡◌, ◌≢◌, ◌<◌, ◌==◌, Err, false, length, map, nat_lt, option_and_then, option_map, slice_get, IfOk, IfSome, None, Ok, OnOk, Some};
+ghost use Rattle.std.specs.Prelude.{◌≡◌, ◌≢◌, ◌<◌, ◌==◌, Err, false, length, map, option_and_then, option_map, slice_get, IfOk, IfSome, None, Ok, OnOk, Some};
 ghost use Rattle.gimli_read.specs.declared.error.Error.TheVariants.{OutOfMemory};
 ghost use Rattle.gimli_read.specs.Reading.{ExactlyUnlessOomIf};
 ghost use Rattle.addr2line_lines.specs.Details.{inlined_chain};
@@ -10,6 +10,7 @@ ghost use Rattle.addr2line_lines.specs.FoundRanges.{is_function};
 ghost use Rattle.addr2line_lines.specs.FunctionCache.{read_at};
 ghost use Rattle.addr2line_lines.specs.FunctionTable.{AreCachedToFault, AreDetailsOf, AreListed, AreUnread, HasDetail, IsReadAt, IsTableMore, cached_inlined, cached_name, details_fault, details_take_memory, function_place_at, cached_offset_at, read_fault, cached_takes_memory};
 ghost use Rattle.addr2line_lines.specs.Functions.{function_offset_at, functions_of, functions_take_memory, is_subprogram};
+ghost use Rattle.addr2line_lines.specs.ManyInlined.{are_many};
 ghost use Rattle.gimli.specs.Ranges.{ranges_at};
 ghost use Rattle.addr2line_lines.specs.RangeAttributes.{begins_well, gives_a_range};
 ghost use Rattle.addr2line_lines.specs.References.{IsScope};
@@ -392,7 +393,7 @@ impl<R: Reader> Functions<R> {
         probe: u64,
     ) -> Result<SmallVec<usize, 16>, Error>
         ensures gives { ExactlyUnlessOomIf
-            (nat_lt 16 (length (inlined_chain probe (cached_inlined self.now place))))
+            (are_many (inlined_chain probe (cached_inlined self.now place)))
             (λ chain. map (entry_among self.now.inlined) chain.items) result
             (Ok (inlined_chain probe (cached_inlined self.now place))) }
         ensures there { IfOk result (λ chain. AllByRecursion

@@ -1,11 +1,12 @@
 //! The inlined functions at an address.
 
-ghost use Rattle.std.specs.Prelude.{◌≡◌, ◌≤◌, ◌++◌, ℕ, IfOk, List, Ok, drop, length, map, nat_lt, take};
+ghost use Rattle.std.specs.Prelude.{◌≡◌, ◌≤◌, ◌++◌, ℕ, IfOk, List, Ok, drop, length, map, take};
 ghost use Rattle.std.specs.List.Sorted.{IsNonDecreasingBy};
 ghost use Rattle.gimli_read.specs.Reading.{ExactlyUnlessOomIf};
 ghost use Rattle.addr2line_lines.specs.InOrder.{IsInOrder, in_order};
 ghost use Rattle.addr2line_lines.specs.Details.{InlinedEntry, inlined_chain};
 ghost use Rattle.addr2line_lines.specs.InlinedOrder.{inlined_range_of, inlined_sooner, place, place_at, places_chain};
+ghost use Rattle.addr2line_lines.specs.ManyInlined.{are_many};
 
 use gimli::read::{Error, Range};
 use smallvec::SmallVec;
@@ -76,7 +77,7 @@ pub(crate) fn find_chain(
     probe: u64,
 ) -> Result<SmallVec<usize, 16>, Error>
     requires ordered { IsInOrder inlined_sooner ranges.now }
-    ensures gives { ExactlyUnlessOomIf (nat_lt 16 (length (places_chain probe ranges.now)))
+    ensures gives { ExactlyUnlessOomIf (are_many (places_chain probe ranges.now))
         (λ chain. chain.items) result (Ok (places_chain probe ranges.now)) }
     ensures listed { (listed : List InlinedFunctionAddress) → (entry_of : ℕ → InlinedEntry)
         → IsNonDecreasingBy place listed → ranges.now ≡ in_order inlined_sooner listed

@@ -6,6 +6,7 @@ ghost use Rattle.std.specs.List.Sorted.{IsNonDecreasingBy, IsPermutation};
 ghost use Rattle.std.specs.Option.{option_map};
 ghost use Rattle.gimli_read.specs.declared.error.Error.TheVariants.{OutOfMemory};
 ghost use Rattle.gimli_read.specs.Reading.{ExactlyUnlessOomIf};
+ghost use Rattle.addr2line_lines.specs.LastAddress.{last_address};
 ghost use Rattle.addr2line_lines.specs.Segments.{AreSegments, address_begin, first_end, shortest_function_at, as_running, segment_to};
 ghost use Rattle.addr2line_lines.specs.Sweep.{IsBegunFrom, IsGreatestFirst, IsSweptBy};
 
@@ -59,7 +60,7 @@ impl Sweep {
     // The end of the shortest running range, where it is no greater than `limit`.
     fn first_end(&self, limit: u64) -> Option<u64>
         ensures gives { result ≡ first_end limit (heap_items self.now.running) }
-        ensures all { limit ≡ 2 ^ 64 - 1 → result ≡ None → heap_items self.now.running ≡ [] }
+        ensures all { limit ≡ last_address → result ≡ None → heap_items self.now.running ≡ [] }
     {
         match self.running.peek() {
             Some(Reverse((_, _, end))) if *end <= limit => Some(*end),
@@ -100,7 +101,7 @@ impl Sweep {
             → IsBegunFrom addresses next limit → IsSweptBy addresses next self.old
             → OnOk result (IsSweptBy addresses next self.new) }
         ensures closed { OnOk result (first_end limit (heap_items self.new.running) ≡ None) }
-        ensures all { limit ≡ 2 ^ 64 - 1 → OnOk result (heap_items self.new.running ≡ []) }
+        ensures all { limit ≡ last_address → OnOk result (heap_items self.new.running ≡ []) }
         ensures few { OnOk result (length self.new.segments.items
             + length (heap_items self.new.running)
             ≤ length self.old.segments.items + length (heap_items self.old.running)) }

@@ -3,11 +3,12 @@ use Rattle.std.proofs.Common.{◌≡◌, ◌∙◌, ◌<◌, ◌+◌, ℕ, zero,
 use Rattle.std.specs.Prelude.{nat_lt, if◌then◌else◌}
 use Rattle.std.specs.Char.{is_ascii, is_ascii_digit}
 use Rattle.std.specs.List.{list_all, prefix_len}
+use Rattle.std.specs.Str.{byte}
 use Rattle.std.specs.Str.Parse.{digits_value}
 use Rattle.std.proofs.Math.Seq.{take-append_seam, drop-append_seam}
 use Rattle.std.proofs.lemmas.List.Folds.{length-prefix_len}
 use Rattle.addr2line_units.proofs.LegacySteps.{and_left, and_right, some_if, front_parts, elements_some, elements_none}
-use Rattle.addr2line_units.specs.LegacyName.{NoDigitFirst, IsElement, AreElements}
+use Rattle.addr2line_units.specs.LegacyName.{is_first, IsElement, AreElements}
 use Rattle.addr2line_units.specs.LegacyText.{ascii_front, element_at, elements_by, elements_within, elements_at}
 
 -- all digits that stand first, and none after them
@@ -21,19 +22,19 @@ digits_first (b ∷ bs) =
       | false ↦ λ _. refl
     ] refl
 
-no_digit_then : (text : List ℕ) → NoDigitFirst (drop (prefix_len is_ascii_digit text) text)
-no_digit_then [] = tt
+no_digit_then : (text : List ℕ) → is_first is_ascii_digit (drop (prefix_len is_ascii_digit text) text) ≡ false
+no_digit_then [] = refl
 no_digit_then (b ∷ bs) =
-    elim (is_ascii_digit b) as (λ q. is_ascii_digit b ≡ q → NoDigitFirst (drop (cond q (1 + prefix_len is_ascii_digit bs) 0) (b ∷ bs))) [
+    elim (is_ascii_digit b) as (λ q. is_ascii_digit b ≡ q → is_first is_ascii_digit (drop (cond q (1 + prefix_len is_ascii_digit bs) 0) (b ∷ bs)) ≡ false) [
       | true ↦ λ h.
           let one : suc (prefix_len is_ascii_digit bs) ≡ 1 + prefix_len is_ascii_digit bs = omega arith in
-          let P : ℕ → Type 0 = λ n. NoDigitFirst (drop n (b ∷ bs)) in
+          let P : ℕ → Type 0 = λ n. is_first is_ascii_digit (drop n (b ∷ bs)) ≡ false in
           subst P one (no_digit_then bs)
       | false ↦ λ h. h
     ] refl
 
 -- the length of the digits, where no digit follows them
-digits_len_of : (digits rest : List ℕ) → list_all is_ascii_digit digits ≡ true → NoDigitFirst rest → prefix_len is_ascii_digit (digits ++ rest) ≡ length digits
+digits_len_of : (digits rest : List ℕ) → list_all is_ascii_digit digits ≡ true → is_first is_ascii_digit rest ≡ false → prefix_len is_ascii_digit (digits ++ rest) ≡ length digits
 digits_len_of [] [] h none = refl
 digits_len_of [] (b ∷ bs) h none = ap (λ q. cond q (1 + prefix_len is_ascii_digit bs) 0) none
 digits_len_of (d ∷ ds) rest h none =
@@ -53,7 +54,7 @@ element_found text element rest h =
       record {
         some = omega arith;
         only_digits = digits_first text;
-        all_digits = subst NoDigitFirst parts.0 (no_digit_then text);
+        all_digits = subst (λ s. is_first is_ascii_digit s ≡ false) parts.0 (no_digit_then text);
         counted = sym parts.1;
         is_text = parts.2;
       },
@@ -97,13 +98,13 @@ element_read digits element rest is =
     ∙ front_is element rest (digits_value 10 digits) is.counted is.is_text
 
 -- no element begins with an `E`
-pub element_none : (rest : List ℕ) → element_at (69 ∷ rest) ≡ None
+pub element_none : (rest : List ℕ) → element_at (byte "E" ∷ rest) ≡ None
 unfolding element_at
 element_none rest = refl
 
 -- the function finds the elements
-pub elements_read : (elements : List (List ℕ)) (text rest : List ℕ) → AreElements elements text (69 ∷ rest) → elements_at text ≡ (elements, 69 ∷ rest)
-elements_read [] text rest h = ap elements_at h ∙ elements_none (69 ∷ rest) (element_none rest)
+pub elements_read : (elements : List (List ℕ)) (text rest : List ℕ) → AreElements elements text (byte "E" ∷ rest) → elements_at text ≡ (elements, byte "E" ∷ rest)
+elements_read [] text rest h = ap elements_at h ∙ elements_none (byte "E" ∷ rest) (element_none rest)
 elements_read (e ∷ es) text rest h =
     ap elements_at h.3
     ∙ elements_some (h.0 ++ (e ++ h.1)) e h.1 (element_read h.0 e h.1 h.2)

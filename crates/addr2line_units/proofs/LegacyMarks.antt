@@ -1,24 +1,26 @@
 -- Marks of LLVM, prefixes, hashes and suffixes: the relation and the function agree.
-use Rattle.std.proofs.Common.{◌≡◌, ◌∙◌, ◌≤◌, inl, inr, ⊎_elim, ℕ, suc, Bool, true, false, ◌&&◌, Option, Some, None, List, [], ◌∷◌, ◌++◌, drop, length, ap, sym, subst, refl, arith}
-use Rattle.std.specs.Prelude.{nat_eq, if◌then◌else◌, codes, ◌==◌}
-use Rattle.std.specs.List.{list_all, starts_with}
+use Rattle.std.proofs.Common.{◌≡◌, ◌∙◌, ◌≤◌, ◌<◌, ℕ, zero, suc, Bool, true, false, ◌&&◌, Some, None, List, [], ◌∷◌, ◌++◌, drop, length, ap, sym, refl, arith}
+use Rattle.std.specs.Prelude.{nat_eq, if◌then◌else◌, ◌==◌, slice_index_or}
+use Rattle.std.specs.List.{Contains, list_all, starts_with}
+use Rattle.std.specs.Str.{byte}
+use Rattle.std.proofs.lemmas.List.Elements.{All-contains}
 use Rattle.std.proofs.lemmas.Slice.Eq.{starts_is}
-use Rattle.std.proofs.lemmas.Bool.{eqb-true, eq-eqb}
+use Rattle.std.proofs.lemmas.Bool.{eqb-true}
 use Rattle.std.proofs.lemmas.Bool.Decides.{Decides-eqb}
 use Rattle.addr2line_units.proofs.LegacySteps.{and_left, and_right, some_if, some_inj}
-use Rattle.addr2line_units.specs.LegacyName.{llvm_mark, is_llvm_byte, is_suffix_byte, is_hash, IsFirstMark, IsKept, cut, whole, IsPrefix, AreShown, hashed, all, IsSuffix}
-use Rattle.addr2line_units.specs.LegacyText.{without_llvm, without_prefix, without_hash, is_suffix, suffix_at}
+use Rattle.addr2line_units.specs.LegacyName.{llvm_mark, is_llvm_byte, is_hash, IsFirstMark, IsKept, cut, whole, prefixes, AreShown, hashed, all, is_suffix}
+use Rattle.addr2line_units.specs.LegacyText.{without_llvm, after_first, without_prefix, without_hash, suffix_at}
 
 -- a mark stands first
-mark_here : (bytes : List ℕ) → starts_with nat_eq bytes llvm_mark ≡ true → bytes ≡ llvm_mark ++ drop 6 bytes
+mark_here : (bytes : List ℕ) → starts_with nat_eq bytes llvm_mark ≡ true → bytes ≡ llvm_mark ++ drop (length llvm_mark) bytes
 mark_here bytes h = (starts_is Decides-eqb bytes llvm_mark _ refl).0 h
 
 mark_there : (bytes rest : List ℕ) → bytes ≡ llvm_mark ++ rest → starts_with nat_eq bytes llvm_mark ≡ true
 mark_there bytes rest h = (starts_is Decides-eqb bytes llvm_mark _ refl).1 rest h
 
 -- what follows the mark
-mark_rest : (bytes rest : List ℕ) → bytes ≡ llvm_mark ++ rest → drop 6 bytes ≡ rest
-mark_rest bytes rest h = ap (λ s. drop 6 s) h
+mark_rest : (bytes rest : List ℕ) → bytes ≡ llvm_mark ++ rest → drop (length llvm_mark) bytes ≡ rest
+mark_rest bytes rest h = ap (λ s. drop (length llvm_mark) s) h
 
 two_tests : (q : Bool) → q ≡ true → q ≡ false → ⊥
 two_tests q a b = cc
@@ -53,7 +55,7 @@ mark_sooner b c bs front rest m = record {
 }
 
 -- a mark that stands first is the first
-mark_first : (bytes : List ℕ) → starts_with nat_eq bytes llvm_mark ≡ true → IsFirstMark bytes [] (drop 6 bytes)
+mark_first : (bytes : List ℕ) → starts_with nat_eq bytes llvm_mark ≡ true → IsFirstMark bytes [] (drop (length llvm_mark) bytes)
 mark_first bytes h = record {
   whole = mark_here bytes h;
   first = λ earlier later _. omega arith;
@@ -67,7 +69,7 @@ no_mark_in_nothing (f ∷ fs) rest m = let e : [] ≡ f ∷ (fs ++ (llvm_mark ++
 nothing_before : (bytes front rest : List ℕ) → starts_with nat_eq bytes llvm_mark ≡ true → IsFirstMark bytes front rest → front ≡ []
 nothing_before bytes [] rest here m = refl
 nothing_before bytes (f ∷ fs) rest here m =
-    let none : suc (length fs) ≤ 0 = m.first [] (drop 6 bytes) (mark_here bytes here) in
+    let none : suc (length fs) ≤ 0 = m.first [] (drop (length llvm_mark) bytes) (mark_here bytes here) in
     absurd (omega arith)
 
 none_later : (b : ℕ) (bs : List ℕ) → starts_with nat_eq (b ∷ bs) llvm_mark ≡ false
@@ -80,7 +82,7 @@ kept_later : (b : ℕ) (bs kept : List ℕ) → starts_with nat_eq (b ∷ bs) ll
 kept_later b bs kept apart (cut rest m own) = cut rest (mark_later b bs kept rest apart m) own
 kept_later b bs kept apart (whole same none) = whole (ap (λ s. b ∷ s) same) (none_later b bs apart none)
 
-rest_is : (bytes front rest : List ℕ) → starts_with nat_eq bytes llvm_mark ≡ true → IsFirstMark bytes front rest → drop 6 bytes ≡ rest
+rest_is : (bytes front rest : List ℕ) → starts_with nat_eq bytes llvm_mark ≡ true → IsFirstMark bytes front rest → drop (length llvm_mark) bytes ≡ rest
 rest_is bytes front rest here m =
     mark_rest bytes rest (m.whole ∙ ap (λ s. s ++ (llvm_mark ++ rest)) (nothing_before bytes front rest here m))
 
@@ -89,10 +91,10 @@ pub kept_is : (name : List ℕ) → IsKept name (without_llvm name)
 kept_is [] = whole refl (λ front rest m. absurd (no_mark_in_nothing front rest m))
 kept_is (b ∷ bs) =
     elim (starts_with nat_eq (b ∷ bs) llvm_mark) as (λ q. starts_with nat_eq (b ∷ bs) llvm_mark ≡ q
-    → IsKept (b ∷ bs) (if q then (if list_all is_llvm_byte (drop 6 (b ∷ bs)) then [] else b ∷ bs) else b ∷ without_llvm bs)) [
-      | true ↦ λ here. elim (list_all is_llvm_byte (drop 6 (b ∷ bs))) as (λ r. list_all is_llvm_byte (drop 6 (b ∷ bs)) ≡ r
+    → IsKept (b ∷ bs) (if q then (if list_all is_llvm_byte (drop (length llvm_mark) (b ∷ bs)) then [] else b ∷ bs) else b ∷ without_llvm bs)) [
+      | true ↦ λ here. elim (list_all is_llvm_byte (drop (length llvm_mark) (b ∷ bs))) as (λ r. list_all is_llvm_byte (drop (length llvm_mark) (b ∷ bs)) ≡ r
           → IsKept (b ∷ bs) (if r then [] else b ∷ bs)) [
-            | true ↦ λ own. cut (drop 6 (b ∷ bs)) (mark_first (b ∷ bs) here) own
+            | true ↦ λ own. cut (drop (length llvm_mark) (b ∷ bs)) (mark_first (b ∷ bs) here) own
             | false ↦ λ other. whole refl (λ front rest m. sym (ap (λ s. list_all is_llvm_byte s) (rest_is (b ∷ bs) front rest here m)) ∙ other)
           ] refl
       | false ↦ λ apart. kept_later b bs (without_llvm bs) apart (kept_is bs)
@@ -103,11 +105,11 @@ cut_is : (front rest name : List ℕ) → IsFirstMark name front rest → list_a
 cut_is front rest [] m own = absurd (no_mark_in_nothing front rest m)
 cut_is [] rest (b ∷ bs) m own =
     let here : starts_with nat_eq (b ∷ bs) llvm_mark ≡ true = mark_there (b ∷ bs) rest m.whole in
-    sym (ap (λ q. if q then (if list_all is_llvm_byte (drop 6 (b ∷ bs)) then [] else b ∷ bs) else b ∷ without_llvm bs) here
+    sym (ap (λ q. if q then (if list_all is_llvm_byte (drop (length llvm_mark) (b ∷ bs)) then [] else b ∷ bs) else b ∷ without_llvm bs) here
     ∙ ap (λ q. if q then [] else b ∷ bs) (ap (λ s. list_all is_llvm_byte s) (mark_rest (b ∷ bs) rest m.whole) ∙ own))
 cut_is (f ∷ fs) rest (b ∷ bs) m own =
     elim (starts_with nat_eq (b ∷ bs) llvm_mark) as (λ q. starts_with nat_eq (b ∷ bs) llvm_mark ≡ q
-    → f ∷ fs ≡ (if q then (if list_all is_llvm_byte (drop 6 (b ∷ bs)) then [] else b ∷ bs) else b ∷ without_llvm bs)) [
+    → f ∷ fs ≡ (if q then (if list_all is_llvm_byte (drop (length llvm_mark) (b ∷ bs)) then [] else b ∷ bs) else b ∷ without_llvm bs)) [
       | true ↦ λ here. let e : f ∷ fs ≡ [] = nothing_before (b ∷ bs) (f ∷ fs) rest here m in let bad : ⊥ = cc in absurd bad
       | false ↦ λ apart.
           ap (λ c. c ∷ fs) (sym (head_is _ _ _ _ m.whole)) ∙ ap (λ s. b ∷ s) (cut_is fs rest bs (mark_sooner b f bs fs rest m) own)
@@ -118,8 +120,8 @@ whole_is : (name : List ℕ) → ((front rest : List ℕ) → IsFirstMark name f
 whole_is [] none = refl
 whole_is (b ∷ bs) none =
     elim (starts_with nat_eq (b ∷ bs) llvm_mark) as (λ q. starts_with nat_eq (b ∷ bs) llvm_mark ≡ q
-    → b ∷ bs ≡ (if q then (if list_all is_llvm_byte (drop 6 (b ∷ bs)) then [] else b ∷ bs) else b ∷ without_llvm bs)) [
-      | true ↦ λ here. sym (ap (λ q. if q then [] else b ∷ bs) (none [] (drop 6 (b ∷ bs)) (mark_first (b ∷ bs) here)))
+    → b ∷ bs ≡ (if q then (if list_all is_llvm_byte (drop (length llvm_mark) (b ∷ bs)) then [] else b ∷ bs) else b ∷ without_llvm bs)) [
+      | true ↦ λ here. sym (ap (λ q. if q then [] else b ∷ bs) (none [] (drop (length llvm_mark) (b ∷ bs)) (mark_first (b ∷ bs) here)))
       | false ↦ λ apart. ap (λ s. b ∷ s) (whole_is bs (λ front rest m. none (b ∷ front) rest (mark_later b bs front rest apart m)))
     ] refl
 
@@ -131,34 +133,35 @@ kept_only name kept (whole same none) = sym same ∙ whole_is name none
 starts_first : (name prefix : List ℕ) → starts_with nat_eq name prefix ≡ true → name ≡ prefix ++ drop (length prefix) name
 starts_first name prefix h = (starts_is Decides-eqb name prefix _ refl).0 h
 
-prefix_case : (name prefix rest : List ℕ) (other : Option (List ℕ)) → IsPrefix prefix
-    → (other ≡ Some rest → (p : List ℕ) × IsPrefix p × (name ≡ p ++ rest))
-    → (if starts_with nat_eq name prefix then Some (drop (length prefix) name) else other) ≡ Some rest
-    → (p : List ℕ) × IsPrefix p × (name ≡ p ++ rest)
-prefix_case name prefix rest other is next h =
-    elim (starts_with nat_eq name prefix) as (λ q. starts_with nat_eq name prefix ≡ q → (if q then Some (drop (length prefix) name) else other) ≡ Some rest
-    → (p : List ℕ) × IsPrefix p × (name ≡ p ++ rest)) [
-      | true ↦ λ here same. (prefix, is, starts_first name prefix here ∙ ap (λ s. prefix ++ s) (some_inj _ _ same))
-      | false ↦ λ _ same. next same
+-- what follows one of such texts, as the function finds it
+after_found : (texts : List (List ℕ)) (name rest : List ℕ) → after_first texts name ≡ Some rest → (p : List ℕ) × Contains texts p × (name ≡ p ++ rest)
+after_found [] name rest h = let bad : ⊥ = cc in absurd bad
+after_found (text ∷ texts) name rest h =
+    elim (starts_with nat_eq name text) as (λ q. starts_with nat_eq name text ≡ q → (if q then Some (drop (length text) name) else after_first texts name) ≡ Some rest
+    → (p : List ℕ) × Contains (text ∷ texts) p × (name ≡ p ++ rest)) [
+      | true ↦ λ here same. (text, (0, omega arith, refl), starts_first name text here ∙ ap (λ s. text ++ s) (some_inj _ _ same))
+      | false ↦ λ _ same.
+          let found : (p : List ℕ) × Contains texts p × (name ≡ p ++ rest) = after_found texts name rest same in
+          let there : Contains texts found.0 = found.1 in
+          (found.0, (suc there.0, omega (arith, there.1), there.2), found.2)
     ] refl h
 
-no_some : (rest : List ℕ) (P : Type 0) → None ≡ Some rest → P
-no_some rest P h = let bad : ⊥ = cc in absurd bad
-
 -- what follows a prefix, as the function finds it
-pub prefix_found : (name rest : List ℕ) → without_prefix name ≡ Some rest → (p : List ℕ) × IsPrefix p × (name ≡ p ++ rest)
+pub prefix_found : (name rest : List ℕ) → without_prefix name ≡ Some rest → (p : List ℕ) × Contains prefixes p × (name ≡ p ++ rest)
 unfolding without_prefix
-prefix_found name rest h =
-    prefix_case name (codes "_ZN") rest _ (inl refl)
-    (prefix_case name (codes "ZN") rest _ (inr (inl refl))
-    (prefix_case name (codes "__ZN") rest None (inr (inr refl)) (no_some rest _))) h
+prefix_found name rest h = after_found prefixes name rest h
+
+-- the function finds what follows each prefix
+each_prefix_read : (rest : List ℕ) (k : ℕ) (d : List ℕ) → k < length prefixes → without_prefix (slice_index_or prefixes k d ++ rest) ≡ Some rest
+unfolding without_prefix
+each_prefix_read rest zero d lt = refl
+each_prefix_read rest (suc zero) d lt = refl
+each_prefix_read rest (suc (suc zero)) d lt = refl
+each_prefix_read rest (suc (suc (suc k))) d lt = absurd (omega arith)
 
 -- the function finds what follows a prefix
-pub prefix_read : (prefix rest : List ℕ) → IsPrefix prefix → without_prefix (prefix ++ rest) ≡ Some rest
-unfolding without_prefix
-prefix_read prefix rest is =
-    ⊎_elim (λ e. ap (λ p. without_prefix (p ++ rest)) e)
-    (λ more. ⊎_elim (λ e. ap (λ p. without_prefix (p ++ rest)) e) (λ e. ap (λ p. without_prefix (p ++ rest)) e) more) is
+pub prefix_read : (prefix rest : List ℕ) → Contains prefixes prefix → without_prefix (prefix ++ rest) ≡ Some rest
+prefix_read prefix rest is = All-contains (λ p. without_prefix (p ++ rest) ≡ Some rest) prefixes prefix (each_prefix_read rest) is
 
 lists_tail : (e f : List ℕ) (es fs : List (List ℕ)) → e ∷ es ≡ f ∷ fs → es ≡ fs
 lists_tail e f es fs h = cc
@@ -208,24 +211,16 @@ pub shown_only : (elements shown : List (List ℕ)) → AreShown elements shown 
 shown_only elements shown (hashed hash same is) = hashed_is shown hash is ∙ sym (ap without_hash same)
 shown_only elements shown (all same none) = sym same ∙ all_is elements none
 
-suffix_is : (bytes : List ℕ) → is_suffix bytes ≡ true → IsSuffix bytes
-suffix_is [] h = tt
-suffix_is (b ∷ bs) h = (eqb-true b 46 (and_left _ _ h), and_right _ _ h)
-
-suffix_test : (bytes : List ℕ) → IsSuffix bytes → is_suffix bytes ≡ true
-suffix_test [] h = refl
-suffix_test (b ∷ bs) h = ap (λ q. q && list_all is_suffix_byte (b ∷ bs)) (eq-eqb b 46 h.0) ∙ h.1
-
 -- the suffix that the function finds
-pub suffix_found : (bytes suffix : List ℕ) → suffix_at bytes ≡ Some suffix → (bytes ≡ 69 ∷ suffix) × IsSuffix suffix
+pub suffix_found : (bytes suffix : List ℕ) → suffix_at bytes ≡ Some suffix → (bytes ≡ byte "E" ∷ suffix) × (is_suffix suffix ≡ true)
 unfolding suffix_at
 suffix_found [] suffix h = let bad : ⊥ = cc in absurd bad
 suffix_found (b ∷ bs) suffix h =
-    let chosen : ((b == 69 && is_suffix bs) ≡ true) × (Some bs ≡ Some suffix) = some_if _ _ _ h in
+    let chosen : ((b == byte "E" && is_suffix bs) ≡ true) × (Some bs ≡ Some suffix) = some_if _ _ _ h in
     let same : bs ≡ suffix = some_inj _ _ chosen.1 in
-    (ap (λ c. c ∷ bs) (eqb-true b 69 (and_left _ _ chosen.0)) ∙ ap (λ s. 69 ∷ s) same, subst IsSuffix same (suffix_is bs (and_right _ _ chosen.0)))
+    (ap (λ c. c ∷ bs) (eqb-true b (byte "E") (and_left _ _ chosen.0)) ∙ ap (λ s. byte "E" ∷ s) same, sym (ap is_suffix same) ∙ and_right _ _ chosen.0)
 
 -- the function finds the suffix
-pub suffix_read : (suffix : List ℕ) → IsSuffix suffix → suffix_at (69 ∷ suffix) ≡ Some suffix
+pub suffix_read : (suffix : List ℕ) → is_suffix suffix ≡ true → suffix_at (byte "E" ∷ suffix) ≡ Some suffix
 unfolding suffix_at
-suffix_read suffix h = ap (λ q. if q then Some suffix else None) (suffix_test suffix h)
+suffix_read suffix h = ap (λ q. if q then Some suffix else None) h

@@ -1,16 +1,17 @@
 -- The steps by which the functions of *LegacyText* go through a name.
 use Rattle.std.proofs.Common.{◌≡◌, ◌∙◌, ◌≤◌, ◌<◌, ◌+◌, ◌*◌, ℕ, zero, suc, Bool, true, false, ◌&&◌, Option, Some, None, List, [], ◌∷◌, ◌++◌, take, drop, length, length-take, length-drop, length-append, take-append-drop, append_assoc, append-nil, get_or, map, ap, sym, refl, arith, add-one, leb-true, ltb-true}
-use Rattle.std.specs.Prelude.{nat_eq, nat_lt, nat_le, is_none, encode_utf8, if◌then◌else◌, ◌==◌}
+use Rattle.std.specs.Prelude.{nat_eq, nat_lt, nat_le, is_none, encode_utf8, codes, if◌then◌else◌, ◌==◌}
 use Rattle.std.specs.Char.{digit_value, is_ascii, is_ascii_digit}
 use Rattle.std.specs.List.{list_all, prefix_len, starts_with}
 use Rattle.std.proofs.lemmas.Bool.Decides.{nat_tests}
 use Rattle.std.proofs.lemmas.List.{drop_all}
 use Rattle.std.proofs.lemmas.List.Sums.{prefix_len-le-length}
+use Rattle.std.specs.Str.{byte}
 use Rattle.std.specs.Str.Parse.{digits_value}
 use Rattle.std.proofs.lemmas.Str.Parse.{digits_value-take-le}
 use Rattle.std.proofs.lemmas.Int.Digits.{digits_value_more}
-use Rattle.addr2line_units.specs.LegacyName.{llvm_mark, is_llvm_byte, is_suffix_byte, is_hash, joined, after_colons}
-use Rattle.addr2line_units.specs.LegacyText.{without_llvm, element_at, ascii_front, elements_by, elements_within, elements_at, without_hash, element_text, joint_text, escape_in, escape_text, is_dot_first, plain_from, is_suffix}
+use Rattle.addr2line_units.specs.LegacyName.{llvm_mark, is_llvm_byte, is_suffix_byte, is_hash, is_first, is_dot, is_suffix, joined, after_colons}
+use Rattle.addr2line_units.specs.LegacyText.{without_llvm, element_at, ascii_front, elements_by, elements_within, elements_at, without_hash, element_text, joint_text, escape_in, escape_text, plain_from}
 
 -- both sides of a test
 pub and_left : (a b : Bool) → (a && b) ≡ true → a ≡ true
@@ -39,7 +40,7 @@ some_if false o x h = let bad : ⊥ = cc in absurd bad
 mark_after : (name : List ℕ) (i : ℕ) → i < length name → starts_with nat_eq (drop i name) llvm_mark ≡ false
     → take i name ++ without_llvm (drop i name) ≡ take (suc i) name ++ without_llvm (drop (suc i) name)
 mark_after [] i lt apart = absurd (omega arith)
-mark_after (b ∷ bs) zero lt apart = ap (λ q. if q then (if list_all is_llvm_byte (drop 6 (b ∷ bs)) then [] else b ∷ bs) else b ∷ without_llvm bs) apart
+mark_after (b ∷ bs) zero lt apart = ap (λ q. if q then (if list_all is_llvm_byte (drop (length llvm_mark) (b ∷ bs)) then [] else b ∷ bs) else b ∷ without_llvm bs) apart
 mark_after (b ∷ bs) (suc i) lt apart = ap (λ s. b ∷ s) (mark_after bs i (omega arith) apart)
 
 pub mark_more : (name : List ℕ) (i : ℕ) → i < length name → starts_with nat_eq (drop i name) llvm_mark ≡ false
@@ -48,9 +49,9 @@ mark_more name i lt apart = rw add-one (mark_after name i lt apart)
 
 -- a mark at a place
 pub mark_found : (bytes : List ℕ) → starts_with nat_eq bytes llvm_mark ≡ true
-    → without_llvm bytes ≡ (if list_all is_llvm_byte (drop 6 bytes) then [] else bytes)
+    → without_llvm bytes ≡ (if list_all is_llvm_byte (drop (length llvm_mark) bytes) then [] else bytes)
 mark_found [] here = cc
-mark_found (b ∷ bs) here = ap (λ q. if q then (if list_all is_llvm_byte (drop 6 (b ∷ bs)) then [] else b ∷ bs) else b ∷ without_llvm bs) here
+mark_found (b ∷ bs) here = ap (λ q. if q then (if list_all is_llvm_byte (drop (length llvm_mark) (b ∷ bs)) then [] else b ∷ bs) else b ∷ without_llvm bs) here
 
 -- the number of one digit more
 pub number_more : (radix i : ℕ) (digits : List ℕ) (n m : ℕ) → i < length digits → n ≡ digits_value radix (take i digits)
@@ -147,7 +148,7 @@ plain_skip (suc n) (b ∷ bs) = plain_skip n bs
 
 -- an escape after a dollar
 pub escape_shown : (old new rest : List ℕ) (c n : ℕ) → escape_in rest ≡ Some (c, n) → new ≡ old ++ encode_utf8 c
-    → new ++ plain_from 0 (drop n rest) ≡ old ++ plain_from 0 (36 ∷ rest)
+    → new ++ plain_from 0 (drop n rest) ≡ old ++ plain_from 0 (byte "$" ∷ rest)
 escape_shown old new rest c n e h =
     ap (λ s. s ++ plain_from 0 (drop n rest)) h
     ∙ append_assoc old (encode_utf8 c) (plain_from 0 (drop n rest))
@@ -155,30 +156,30 @@ escape_shown old new rest c n e h =
     ∙ sym (ap (λ o. old ++ escape_text o rest (λ k. plain_from k rest)) e)
 
 -- no escape after a dollar
-pub escape_none : (old mid new rest : List ℕ) → escape_in rest ≡ None → mid ≡ old ++ (36 ∷ []) → new ≡ mid ++ rest
-    → new ++ plain_from 0 (drop (length rest) rest) ≡ old ++ plain_from 0 (36 ∷ rest)
+pub escape_none : (old mid new rest : List ℕ) → escape_in rest ≡ None → mid ≡ old ++ (byte "$" ∷ []) → new ≡ mid ++ rest
+    → new ++ plain_from 0 (drop (length rest) rest) ≡ old ++ plain_from 0 (byte "$" ∷ rest)
 escape_none old mid new rest e a b =
     let nothing : drop (length rest) rest ≡ [] = drop_all (length rest) rest (omega arith) in
     ap (λ s. new ++ plain_from 0 s) nothing
-    ∙ append-nil new ∙ b ∙ ap (λ s. s ++ rest) a ∙ append_assoc old (36 ∷ []) rest
+    ∙ append-nil new ∙ b ∙ ap (λ s. s ++ rest) a ∙ append_assoc old (byte "$" ∷ []) rest
     ∙ sym (ap (λ o. old ++ escape_text o rest (λ k. plain_from k rest)) e)
 
 -- two dots
-pub dots_shown : (old new rest : List ℕ) → is_dot_first rest ≡ true → new ≡ old ++ (58 ∷ 58 ∷ [])
-    → new ++ plain_from 0 (drop 1 rest) ≡ old ++ plain_from 0 (46 ∷ rest)
+pub dots_shown : (old new rest : List ℕ) → is_first is_dot rest ≡ true → new ≡ old ++ (codes "::")
+    → new ++ plain_from 0 (drop 1 rest) ≡ old ++ plain_from 0 (byte "." ∷ rest)
 dots_shown old new [] e h = cc
 dots_shown old new (b ∷ bs) e h =
-    ap (λ s. s ++ plain_from 0 bs) h ∙ append_assoc old (58 ∷ 58 ∷ []) (plain_from 0 bs)
-    ∙ sym (ap (λ q. old ++ (if q then 58 ∷ 58 ∷ plain_from 1 (b ∷ bs) else 46 ∷ plain_from 0 (b ∷ bs))) e)
+    ap (λ s. s ++ plain_from 0 bs) h ∙ append_assoc old (codes "::") (plain_from 0 bs)
+    ∙ sym (ap (λ q. old ++ (if q then codes "::" ++ plain_from 1 (b ∷ bs) else byte "." ∷ plain_from 0 (b ∷ bs))) e)
 
 -- any other byte
-pub byte_shown : (old new rest : List ℕ) (b : ℕ) → (b == 36) ≡ false → (b == 46 && is_dot_first rest) ≡ false → new ≡ old ++ (b ∷ [])
+pub byte_shown : (old new rest : List ℕ) (b : ℕ) → (b == byte "$") ≡ false → (is_dot b && is_first is_dot rest) ≡ false → new ≡ old ++ (b ∷ [])
     → new ++ plain_from 0 rest ≡ old ++ plain_from 0 (b ∷ rest)
 byte_shown old new rest b d e h =
     ap (λ s. s ++ plain_from 0 rest) h ∙ append_assoc old (b ∷ []) (plain_from 0 rest)
-    ∙ sym (ap (λ q. old ++ (if q then 58 ∷ 58 ∷ plain_from 1 rest else b ∷ plain_from 0 rest)) e)
+    ∙ sym (ap (λ q. old ++ (if q then codes "::" ++ plain_from 1 rest else b ∷ plain_from 0 rest)) e)
     ∙ sym (ap (λ q. old ++ (if q then escape_text (escape_in rest) rest (λ n. plain_from n rest)
-    else if b == 46 && is_dot_first rest then 58 ∷ 58 ∷ plain_from 1 rest else b ∷ plain_from 0 rest)) d)
+    else if is_dot b && is_first is_dot rest then codes "::" ++ plain_from 1 rest else b ∷ plain_from 0 rest)) d)
 
 pub plain_end : (old bytes all : List ℕ) → length bytes ≡ 0 → old ++ plain_from 0 bytes ≡ all → old ≡ all
 plain_end old [] all e h = sym (append-nil old) ∙ h

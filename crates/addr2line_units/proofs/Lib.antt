@@ -31,6 +31,6 @@ pub mod ReachedLemmas
 pub mod NumberedFrames
 pub mod FramesLookupLemmas
 pub mod WalkLemmas
-pub mod SettledLemmas
+pub mod OpenLemmas
 pub mod LoadLemmas
 pub mod LoadLawLemmas

@@ -1,7 +1,7 @@
 -- What is kept of the functions of a view, as the private functions see it.
 -- Own: functions are read when they are first asked for, and kept then, their fault too; so is each
 -- detail. OutOfMemory is never cached.
-use Rattle.std.specs.Prelude.{◌≡◌, ◌≢◌, ◌<◌, ℕ, Bool, true, false, nat_lt, List, [], ◌∷◌, length, map, Option, Some, None, unwrap_or, Result, Ok, Err}
+use Rattle.std.specs.Prelude.{◌≡◌, ◌≢◌, ◌<◌, ℕ, Bool, true, false, List, [], ◌∷◌, length, map, Option, Some, None, unwrap_or, Result, Ok, Err}
 use Rattle.std.specs.List.{AllByRecursion}
 use Rattle.gimli_read.specs.declared.error.Error.{Error}
 use Rattle.gimli_read.specs.declared.error.Error.TheVariants.{OutOfMemory}
@@ -11,6 +11,7 @@ use Rattle.addr2line_lines.specs.Details.{Detail, detail_at, inlined_chain}
 use Rattle.addr2line_lines.specs.FoundDetails.{entry_among}
 use Rattle.addr2line_lines.specs.FunctionTable.{AreDetailsOf, AreListed, FunctionTable, IsTableMore, cached_detail, cached_inlined, cached_name, details_take_memory, function_place_at, inlined_of_detail, cached_offset_at}
 use Rattle.addr2line_lines.specs.Functions.{entries_of, functions_of}
+use Rattle.addr2line_lines.specs.ManyInlined.{are_many}
 use Rattle.addr2line_lines.specs.References.{Scope}
 use Rattle.addr2line_units.specs.declared.functions.FunctionPlace.{FunctionPlace}
 use Rattle.addr2line_units.specs.declared.functions.LazyFunctions.{LazyFunctions}
@@ -69,19 +70,19 @@ function_of_place t p = record {
   inlined = map (entry_among t.inlined) p.inlined.items;
 }
 
--- whether there are more than 16 inlined functions at the probe, as far as details are cached
-abbrev pub are_many : ℕ → FunctionTable → Bool
-are_many probe t = elim (function_place_at probe t) [
+-- whether there are many inlined functions at the probe, as far as details are cached
+abbrev pub table_has_many : ℕ → FunctionTable → Bool
+table_has_many probe t = elim (function_place_at probe t) [
   | None ↦ false
-  | Some n ↦ nat_lt 16 (length (inlined_chain probe (cached_inlined t n)))
+  | Some n ↦ are_many (inlined_chain probe (cached_inlined t n))
 ]
 
 -- whether memory may be taken to find a function by what is cached of it: nothing is, or there are
--- more than 16 inlined functions
+-- many inlined functions
 abbrev pub cached_detail_takes_memory : ℕ → Option (Result Detail Error) → Bool
 cached_detail_takes_memory probe None = true
 cached_detail_takes_memory probe (Some d) =
-    nat_lt 16 (length (inlined_chain probe (inlined_of_detail d)))
+    are_many (inlined_chain probe (inlined_of_detail d))
 
 -- the same of the function of a place; where there is none no memory is taken
 abbrev pub place_takes_memory : ℕ → FunctionTable → Option ℕ → Bool

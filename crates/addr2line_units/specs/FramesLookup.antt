@@ -121,7 +121,7 @@ abbrev pub asks_lines_of : Scope → List IndexedUnit → List (Option (Option S
 asks_lines_of scope units answers probe n = elim (slice_get units n)
     [ None ↦ false | Some u ↦ asks_lines_in scope u.unit (answer_of answers n) probe ]
 
--- whether more than 16 inlined functions stand at the probe in the unit of a number
+-- whether many inlined functions stand at the probe in the unit of a number
 abbrev pub has_many_of : Scope → List IndexedUnit → List (Option (Option Sections)) → ℕ → ℕ → Bool
 has_many_of scope units answers probe n = elim (slice_get units n)
     [ None ↦ false | Some u ↦ has_many scope u.unit (answer_of answers n) probe ]

@@ -3,10 +3,11 @@
 -- `E`, a suffix.
 -- Own: one element at least; a suffix is empty, or begins with a dot and has only ASCII letters,
 -- digits and punctuation.
-use Rattle.std.specs.Prelude.{◌≡◌, ◌≢◌, ◌<◌, ◌≤◌, ◌==◌, ◌||◌, ◌&&◌, ◌⊎◌, ℕ, Bool, true, false, List, [], ◌∷◌, ◌++◌, length, codes, encode_utf8}
+use Rattle.std.specs.Prelude.{◌≡◌, ◌≢◌, ◌<◌, ◌≤◌, ◌==◌, ◌||◌, ◌&&◌, ℕ, Bool, true, false, List, [], ◌∷◌, ◌++◌, length, codes, encode_utf8}
 use Rattle.std.specs.Int.{is_in_range}
 use Rattle.std.specs.Char.{IsScalar, is_control, is_ascii, is_ascii_digit, is_ascii_hexdigit, is_ascii_alphanumeric, is_ascii_punctuation}
-use Rattle.std.specs.List.{list_all}
+use Rattle.std.specs.List.{Contains, list_all}
+use Rattle.std.specs.Str.{byte}
 use Rattle.std.specs.Str.Parse.{digits_value}
 
 -- what LLVM puts between a name and a mark of its own
@@ -15,7 +16,7 @@ llvm_mark = codes ".llvm."
 
 -- `A` to `F`, `0` to `9`, `@`
 abbrev pub is_llvm_byte : ℕ → Bool
-is_llvm_byte b = is_in_range 65 70 b || (is_in_range 48 57 b || b == 64)
+is_llvm_byte b = is_in_range (byte "A") (byte "F") b || (is_ascii_digit b || b == byte "@")
 
 -- a letter, a digit or punctuation of ASCII
 abbrev pub is_suffix_byte : ℕ → Bool
@@ -23,12 +24,12 @@ is_suffix_byte b = is_ascii_alphanumeric b || is_ascii_punctuation b
 
 -- `0` to `9`, `a` to `f`
 abbrev pub is_lower_hex : ℕ → Bool
-is_lower_hex b = is_in_range 48 57 b || is_in_range 97 102 b
+is_lower_hex b = is_ascii_digit b || is_in_range (byte "a") (byte "f") b
 
 -- `h`, and then hexadecimal digits alone
 abbrev pub is_hash : List ℕ → Bool
 is_hash [] = false
-is_hash (b ∷ bs) = b == 104 && list_all is_ascii_hexdigit bs
+is_hash (b ∷ bs) = b == byte "h" && list_all is_ascii_hexdigit bs
 
 -- the front of the name up to its first mark, and the rest after it
 pub record IsFirstMark (name front rest : List ℕ) : Type 0 where
@@ -44,21 +45,21 @@ pub data IsKept (name kept : List ℕ) : Type 0 where
       → ((front rest : List ℕ) → IsFirstMark name front rest → list_all is_llvm_byte rest ≡ false)
       → IsKept name kept
 
--- what a name begins with
-abbrev pub IsPrefix : List ℕ → Type 0
-IsPrefix prefix = (prefix ≡ codes "_ZN") ⊎ ((prefix ≡ codes "ZN") ⊎ (prefix ≡ codes "__ZN"))
+-- what a name may begin with
+abbrev pub prefixes : List (List ℕ)
+prefixes = codes "_ZN" ∷ codes "ZN" ∷ codes "__ZN" ∷ []
 
--- no digit stands first
-abbrev pub NoDigitFirst : List ℕ → Type 0
-NoDigitFirst [] = Unit {0}
-NoDigitFirst (b ∷ bs) = is_ascii_digit b ≡ false
+-- whether a byte that passes the test stands first
+abbrev pub is_first : (ℕ → Bool) → List ℕ → Bool
+is_first test [] = false
+is_first test (b ∷ bs) = test b
 
 -- a decimal length, which takes all digits that stand there, then that many ASCII bytes, the
 -- element
 pub record IsElement (digits element rest : List ℕ) : Type 0 where
   pub some : 0 < length digits
   pub only_digits : list_all is_ascii_digit digits ≡ true
-  pub all_digits : NoDigitFirst (element ++ rest)
+  pub all_digits : is_first is_ascii_digit (element ++ rest) ≡ false
   pub counted : digits_value 10 digits ≡ length element
   pub is_text : list_all is_ascii element ≡ true
 
@@ -78,44 +79,51 @@ pub data AreShown (elements shown : List (List ℕ)) : Type 0 where
       → is_hash last ≡ false)
       → AreShown elements shown
 
+-- the names of characters, and the characters
+abbrev pub escapes : List (List ℕ × ℕ)
+escapes =
+    (codes "SP", byte "@")
+    ∷ (codes "BP", byte "*")
+    ∷ (codes "RF", byte "&")
+    ∷ (codes "LT", byte "<")
+    ∷ (codes "GT", byte ">")
+    ∷ (codes "LP", byte "(")
+    ∷ (codes "RP", byte ")")
+    ∷ (codes "C", byte ",")
+    ∷ []
+
 -- what stands between two dollars, and the character that it means
 pub data IsEscape : List ℕ → ℕ → Type 0 where
-  at_sign : IsEscape (codes "SP") 64
-  star : IsEscape (codes "BP") 42
-  ampersand : IsEscape (codes "RF") 38
-  less : IsEscape (codes "LT") 60
-  greater : IsEscape (codes "GT") 62
-  opening : IsEscape (codes "LP") 40
-  closing : IsEscape (codes "RP") 41
-  comma : IsEscape (codes "C") 44
+  by_name : (name : List ℕ) (c : ℕ) → Contains escapes (name, c) → IsEscape name c
   by_number : (digits : List ℕ) → 0 < length digits → list_all is_lower_hex digits ≡ true
       → IsScalar (digits_value 16 digits) → is_control (digits_value 16 digits) ≡ false
-      → IsEscape (117 ∷ digits) (digits_value 16 digits)
+      → IsEscape (byte "u" ∷ digits) (digits_value 16 digits)
 
 -- what follows a dollar begins with no escape
 abbrev pub NoEscape : List ℕ → Type 0
-NoEscape bytes = (escape rest : List ℕ) (c : ℕ) → IsEscape escape c → bytes ≢ escape ++ (36 ∷ rest)
+NoEscape bytes = (escape rest : List ℕ) (c : ℕ) → IsEscape escape c → bytes ≢ escape ++ (byte "$" ∷ rest)
 
--- no dot stands first
-abbrev pub NoDotFirst : List ℕ → Type 0
-NoDotFirst [] = Unit {0}
-NoDotFirst (b ∷ bs) = b ≢ 46
+-- a dot
+abbrev pub is_dot : ℕ → Bool
+is_dot b = b == byte "."
 
 -- bytes of an element, read from the left up to its end, and their text
 pub data IsPlain : List ℕ → List ℕ → Type 0 where
   nothing : IsPlain [] []
-  dots : (rest text : List ℕ) → IsPlain rest text → IsPlain (46 ∷ 46 ∷ rest) (58 ∷ 58 ∷ text)
+  dots : (rest text : List ℕ) → IsPlain rest text
+      → IsPlain (codes ".." ++ rest) (codes "::" ++ text)
   escape : (escape rest text : List ℕ) (c : ℕ) → IsEscape escape c → IsPlain rest text
-      → IsPlain (36 ∷ (escape ++ (36 ∷ rest))) (encode_utf8 c ++ text)
-  as_it_stands : (rest : List ℕ) → NoEscape rest → IsPlain (36 ∷ rest) (36 ∷ rest)
-  byte : (b : ℕ) (rest text : List ℕ) → b ≢ 36 → (b ≡ 46 → NoDotFirst rest) → IsPlain rest text
+      → IsPlain (byte "$" ∷ (escape ++ (byte "$" ∷ rest))) (encode_utf8 c ++ text)
+  as_it_stands : (rest : List ℕ) → NoEscape rest → IsPlain (byte "$" ∷ rest) (byte "$" ∷ rest)
+  any_other : (b : ℕ) (rest text : List ℕ) → b ≢ byte "$"
+      → (b ≡ byte "." → is_first is_dot rest ≡ false) → IsPlain rest text
       → IsPlain (b ∷ rest) (b ∷ text)
 
 -- an element and its text: a leading `_$` loses the underscore
 pub data IsElementText (element text : List ℕ) : Type 0 where
-  bare : (rest : List ℕ) → element ≡ 95 ∷ 36 ∷ rest → IsPlain (36 ∷ rest) text
+  bare : (rest : List ℕ) → element ≡ codes "_$" ++ rest → IsPlain (byte "$" ∷ rest) text
       → IsElementText element text
-  other : ((rest : List ℕ) → element ≢ 95 ∷ 36 ∷ rest) → IsPlain element text
+  other : ((rest : List ℕ) → element ≢ codes "_$" ++ rest) → IsPlain element text
       → IsElementText element text
 
 -- a text for each element, in order
@@ -128,17 +136,17 @@ AreTexts (element ∷ elements) (text ∷ texts) = IsElementText element text ×
 -- two colons before each of the texts
 abbrev pub after_colons : List (List ℕ) → List ℕ
 after_colons [] = []
-after_colons (text ∷ texts) = 58 ∷ 58 ∷ (text ++ after_colons texts)
+after_colons (text ∷ texts) = codes "::" ++ (text ++ after_colons texts)
 
 -- the texts, with two colons between them
 abbrev pub joined : List (List ℕ) → List ℕ
 joined [] = []
 joined (text ∷ texts) = text ++ after_colons texts
 
--- what may follow the `E`
-abbrev pub IsSuffix : List ℕ → Type 0
-IsSuffix [] = Unit {0}
-IsSuffix (b ∷ bs) = (b ≡ 46) × (list_all is_suffix_byte (b ∷ bs) ≡ true)
+-- whether a text may follow the `E`
+abbrev pub is_suffix : List ℕ → Bool
+is_suffix [] = true
+is_suffix (b ∷ bs) = is_dot b && list_all is_suffix_byte (b ∷ bs)
 
 -- a legacy name, and its text
 pub record IsLegacyName (name text : List ℕ) : Type 0 where
@@ -150,11 +158,11 @@ pub record IsLegacyName (name text : List ℕ) : Type 0 where
   pub texts : List (List ℕ)
   pub suffix : List ℕ
   pub is_kept : IsKept name kept
-  pub is_prefix : IsPrefix prefix
+  pub is_prefix : Contains prefixes prefix
   pub whole : kept ≡ prefix ++ spelled
-  pub are_elements : AreElements elements spelled (69 ∷ suffix)
+  pub are_elements : AreElements elements spelled (byte "E" ∷ suffix)
   pub some : 0 < length elements
   pub are_shown : AreShown elements shown
   pub are_texts : AreTexts shown texts
-  pub is_suffix : IsSuffix suffix
+  pub may_follow : is_suffix suffix ≡ true
   pub is_text : text ≡ joined texts ++ suffix

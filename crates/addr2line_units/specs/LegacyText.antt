@@ -4,24 +4,30 @@
 use Rattle.std.specs.Prelude.{ℕ, zero, suc, ◌+◌, ◌==◌, ◌&&◌, ◌||◌, Bool, true, false, List, [], ◌∷◌, ◌++◌, length, take, drop, map, not, nat_lt, nat_le, nat_eq, if◌then◌else◌, Option, Some, None, option_map, option_and_then, codes, encode_utf8}
 use Rattle.std.specs.Char.{is_ascii, is_ascii_digit, is_control}
 use Rattle.std.specs.List.{list_all, prefix_len, position, starts_with}
-use Rattle.std.specs.Str.{bytes_eq}
+use Rattle.std.specs.Map.{lookup}
+use Rattle.std.specs.Option.{option_or}
+use Rattle.std.specs.Str.{byte, bytes_eq}
 use Rattle.std.specs.Str.Parse.{digits_value}
 use Rattle.gimli_read.specs.declared.constants.TheConstants.DwLang.{DW_LANG_Rust}
-use Rattle.addr2line_units.specs.LegacyName.{llvm_mark, is_llvm_byte, is_suffix_byte, is_lower_hex, is_hash, joined}
+use Rattle.addr2line_units.specs.LegacyName.{llvm_mark, is_llvm_byte, is_lower_hex, is_hash, prefixes, escapes, is_first, is_dot, is_suffix, joined}
 
 -- the name up to the first mark of LLVM, where only such bytes follow it
 abbrev pub without_llvm : List ℕ → List ℕ
 without_llvm [] = []
 without_llvm (b ∷ bs) = if starts_with nat_eq (b ∷ bs) llvm_mark
-    then (if list_all is_llvm_byte (drop 6 (b ∷ bs)) then [] else b ∷ bs)
+    then (if list_all is_llvm_byte (drop (length llvm_mark) (b ∷ bs)) then [] else b ∷ bs)
     else b ∷ without_llvm bs
+
+-- what follows the first of such texts that the name begins with
+abbrev pub after_first : List (List ℕ) → List ℕ → Option (List ℕ)
+after_first [] name = None
+after_first (text ∷ texts) name =
+    if starts_with nat_eq name text then Some (drop (length text) name)
+    else after_first texts name
 
 -- the name after its prefix
 unfoldable pub without_prefix : List ℕ → Option (List ℕ)
-without_prefix name = if starts_with nat_eq name (codes "_ZN") then Some (drop 3 name)
-    else if starts_with nat_eq name (codes "ZN") then Some (drop 2 name)
-    else if starts_with nat_eq name (codes "__ZN") then Some (drop 4 name)
-    else None
+without_prefix name = after_first prefixes name
 
 -- the first bytes, if they are ASCII and there are so many, and those after them
 abbrev pub ascii_front : ℕ → List ℕ → Option (List ℕ × List ℕ)
@@ -66,43 +72,31 @@ shown_char n =
 abbrev pub numbered_char : List ℕ → Option ℕ
 numbered_char [] = None
 numbered_char (b ∷ digits) =
-    if b == 117 && (nat_lt 0 (length digits) && list_all is_lower_hex digits)
+    if b == byte "u" && (nat_lt 0 (length digits) && list_all is_lower_hex digits)
     then shown_char (digits_value 16 digits) else None
 
 -- the character that stands between two dollars
 unfoldable pub escape_char : List ℕ → Option ℕ
-escape_char body = if bytes_eq body (codes "SP") then Some 64
-    else if bytes_eq body (codes "BP") then Some 42
-    else if bytes_eq body (codes "RF") then Some 38
-    else if bytes_eq body (codes "LT") then Some 60
-    else if bytes_eq body (codes "GT") then Some 62
-    else if bytes_eq body (codes "LP") then Some 40
-    else if bytes_eq body (codes "RP") then Some 41
-    else if bytes_eq body (codes "C") then Some 44
-    else numbered_char body
+escape_char body = option_or (lookup (bytes_eq body) escapes) (numbered_char body)
 
 -- the escape after a dollar: its character, and how many bytes it takes
 unfoldable pub escape_in : List ℕ → Option (ℕ × ℕ)
 escape_in rest =
     option_and_then (λ k. option_map (λ c. (c, k + 1)) (escape_char (take k rest)))
-    (position (λ b. b == 36) rest)
-
--- whether a dot stands first
-abbrev pub is_dot_first : List ℕ → Bool
-is_dot_first [] = false
-is_dot_first (b ∷ bs) = b == 46
+    (position (λ b. b == byte "$") rest)
 
 -- the character of an escape and what stands after it, or a dollar and the rest as they stand
 abbrev pub escape_text : Option (ℕ × ℕ) → List ℕ → (ℕ → List ℕ) → List ℕ
-escape_text None rest next = 36 ∷ rest
+escape_text None rest next = byte "$" ∷ rest
 escape_text (Some e) rest next = encode_utf8 e.0 ++ next e.1
 
 -- the text of an element's bytes, read from the left, without the first so many
 abbrev pub plain_from : ℕ → List ℕ → List ℕ
 plain_from skip [] = []
 plain_from (suc skip) (b ∷ bs) = plain_from skip bs
-plain_from zero (b ∷ bs) = if b == 36 then escape_text (escape_in bs) bs (λ n. plain_from n bs)
-    else if b == 46 && is_dot_first bs then 58 ∷ 58 ∷ plain_from 1 bs
+plain_from zero (b ∷ bs) =
+    if b == byte "$" then escape_text (escape_in bs) bs (λ n. plain_from n bs)
+    else if is_dot b && is_first is_dot bs then codes "::" ++ plain_from 1 bs
     else b ∷ plain_from 0 bs
 
 -- the element without the underscore of a leading `_$`
@@ -116,21 +110,16 @@ element_text element = plain_from 0 (bare_of element)
 -- a text, after two colons unless it is the first
 abbrev pub joint_text : Bool → List ℕ → List ℕ
 joint_text true text = text
-joint_text false text = 58 ∷ 58 ∷ text
+joint_text false text = codes "::" ++ text
 
 -- the text of the elements
 unfoldable pub elements_text : List ℕ → List ℕ
 elements_text text = joined (map element_text (without_hash (elements_at text).0))
 
--- whether a text may follow the `E`
-abbrev pub is_suffix : List ℕ → Bool
-is_suffix [] = true
-is_suffix (b ∷ bs) = b == 46 && list_all is_suffix_byte (b ∷ bs)
-
 -- the suffix after the `E`
 unfoldable pub suffix_at : List ℕ → Option (List ℕ)
 suffix_at [] = None
-suffix_at (b ∷ bs) = if b == 69 && is_suffix bs then Some bs else None
+suffix_at (b ∷ bs) = if b == byte "E" && is_suffix bs then Some bs else None
 
 -- the text of what follows the prefix
 unfoldable pub spelled_text : List ℕ → Option (List ℕ)

@@ -47,9 +47,9 @@ is_open_at d us answers n = elim (slice_get us n)
     [ None ↦ false | Some u ↦ is_open d u (answer_of answers n) ]
 
 -- none of the units that ranges lead to is open
-abbrev pub AreSettled : Sections → List UnitRecord → List (Option (Option Sections))
+abbrev pub NoneOpen : Sections → List UnitRecord → List (Option (Option Sections))
     → List UnitRange → Type 0
-AreSettled d us answers ranges =
+NoneOpen d us answers ranges =
     AllByRecursion (λ r. is_open_at d us answers r.unit ≡ false) ranges
 
 -- the load that the unit of a number waits for, none where it is decided or there is no such unit

@@ -97,7 +97,7 @@ impl<R: Reader> UnitEntries<R> {
             ≡ false → self.new.functions ≡ self.old.functions }
         ensures same { is_decided self.old.view.state ≡ true
             → (self.new ≡ self.old) × (result ≡ Ok tt) }
-        ensures settled { is_open scope.entry.file.dwarf.now dw_unit.now (kept_answer self.old)
+        ensures not_open { is_open scope.entry.file.dwarf.now dw_unit.now (kept_answer self.old)
             ≡ false → result ≡ Ok tt }
     {
         self.look(scope, dw_unit);

@@ -10,7 +10,7 @@ ghost use Rattle.addr2line_lines.specs.SeenScope.{seen_scope};
 ghost use Rattle.addr2line_units.specs.declared.parses.Reads.TheVariants as kinds;
 ghost use Rattle.addr2line_units.specs.Frames.{function_at};
 ghost use Rattle.addr2line_units.specs.FunctionParses.{IsReadyFor};
-ghost use Rattle.addr2line_units.specs.CachedFunctions.{AreFunctionsOf, ArePlacesIn, IsTableOf, ReadsNoOther, StayFunctions, are_many, find_takes_memory, function_of_place, functions_fault, cached_has_function, has_table, cached_functions, reading_takes_memory, table_takes_memory, were_read};
+ghost use Rattle.addr2line_units.specs.CachedFunctions.{AreFunctionsOf, ArePlacesIn, IsTableOf, ReadsNoOther, StayFunctions, table_has_many, find_takes_memory, function_of_place, functions_fault, cached_has_function, has_table, cached_functions, reading_takes_memory, table_takes_memory, were_read};
 ghost use Rattle.addr2line_units.specs.KnownEntries.{known_functions};
 ghost use Rattle.gimli_read.specs.Alike.{HadMemory};
 ghost use Rattle.addr2line_units.specs.UnitFrames.{is_many};
@@ -80,7 +80,7 @@ fn find_place<R: Reader>(
     ensures stay { IsTableMore functions.old functions.new }
     ensures alone { ReadsNoOther probe functions.old functions.new }
     ensures ready { result ≢ Err OutOfMemory
-        → table_takes_memory probe functions.new ≡ are_many probe functions.new }
+        → table_takes_memory probe functions.new ≡ table_has_many probe functions.new }
     ensures kept { has_table probe functions.old ≡ true → functions.new ≡ functions.old }
     ensures known { HadMemory result → has_table probe functions.new ≡ true }
     ensures memory { has_table probe functions.new ≡ true
@@ -148,7 +148,7 @@ impl<R: Reader> LazyFunctions<R> {
         ensures stay { StayFunctions self.old self.new }
         ensures alone { ReadsNoOther probe (cached_functions self.old) (cached_functions self.new) }
         ensures ready { result ≢ Err OutOfMemory
-            → find_takes_memory probe self.new ≡ are_many probe (cached_functions self.new) }
+            → find_takes_memory probe self.new ≡ table_has_many probe (cached_functions self.new) }
         ensures kept { cached_has_function probe self.old ≡ true → self.new ≡ self.old }
         ensures known { HadMemory result → cached_has_function probe self.new ≡ true }
         ensures memory { cached_has_function probe self.new ≡ true
@@ -184,7 +184,7 @@ impl<R: Reader> LazyFunctions<R> {
         ensures details { OnOk result
             (AllByRecursion HasDetail (cached_functions self.new).functions) }
         ensures ready { OnOk result ((probe : ℕ)
-            → find_takes_memory probe self.new ≡ are_many probe (cached_functions self.new)) }
+            → find_takes_memory probe self.new ≡ table_has_many probe (cached_functions self.new)) }
         ensures ready_for_all { HadMemory result
             → IsReadyFor kinds.Details (known_functions self.new) }
         ensures exact { IsReadyFor kinds.Details (known_functions self.old)

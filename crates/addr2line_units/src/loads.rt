@@ -13,7 +13,7 @@ ghost use Rattle.addr2line_units.specs.CachedEntries.{AreEntriesOf, StayEntries,
 ghost use Rattle.addr2line_units.specs.CachedLookups.{HaveEntriesOf, StayAllEntries, answers_in, decided_at, scope_in};
 ghost use Rattle.addr2line_units.specs.CachedViews.{is_decided, seen_load};
 ghost use Rattle.addr2line_units.specs.ListedLoads.{MarksLoad, MarksUnit, if_new, is_marked};
-ghost use Rattle.addr2line_units.specs.Loads.{AreSettled, forget_result, forgotten, is_open_at, load_of_number, load_result, loads_along, view_fault};
+ghost use Rattle.addr2line_units.specs.Loads.{NoneOpen, forget_result, forgotten, is_open_at, load_of_number, load_result, loads_along, view_fault};
 ghost use Rattle.gimli_read.specs.Alike.{HadMemory};
 ghost use Rattle.addr2line_units.specs.UnitRangesLeft.{ranges_left};
 ghost use Rattle.addr2line_units.specs.Views.{awaited_load, is_open, verdict};
@@ -98,7 +98,7 @@ impl<R: Reader> ResUnits<R> {
             × (result ≡ load_result dwarf.now self.old.dw_units.items
             (answers_in self.old.entries.items) token.number
             (option_map (λ d. d.value) sections)) }
-        ensures settled { is_open_at dwarf.now self.old.dw_units.items
+        ensures not_open { is_open_at dwarf.now self.old.dw_units.items
             (answers_in self.old.entries.items) token.number ≡ false
             → result ≡ load_result dwarf.now self.old.dw_units.items
             (answers_in self.old.entries.items) token.number
@@ -190,7 +190,7 @@ impl<R: Reader> UnitEntries<R> {
             (awaited_load dwarf.now.value number dw_unit.now (kept_answer self.old))
             marks.old.items marks.new.items) }
         ensures decided { is_decided self.old.view.state ≡ true → result ≡ Ok None }
-        ensures settled { is_open dwarf.now.value dw_unit.now (kept_answer self.old) ≡ false
+        ensures not_open { is_open dwarf.now.value dw_unit.now (kept_answer self.old) ≡ false
             → result ≡ Ok None }
         ensures refused { IfErr result (λ e. e ≡ OutOfMemory) }
         ensures kept { AreEntriesOf (seen_scope scope.entry) dw_unit.now self.new }
@@ -227,7 +227,7 @@ fn new_load_at<R: Reader>(
         (load_of_number dwarf.now.value dw_units.now (answers_in entries.old.items) number)
         marks.old.items marks.new.items) }
     ensures decided { decided_at entries.old.items number ≡ true → result ≡ Ok None }
-    ensures settled { is_open_at dwarf.now.value dw_units.now (answers_in entries.old.items) number
+    ensures not_open { is_open_at dwarf.now.value dw_units.now (answers_in entries.old.items) number
         ≡ false → result ≡ Ok None }
     ensures refused { IfErr result (λ e. e ≡ OutOfMemory) }
     ensures kept { HaveEntriesOf (scope_in dwarf.now.value dw_units.now sup.now) dw_units.now
@@ -283,7 +283,7 @@ fn read_loads<R: Reader>(
     ensures refused { IfErr result (λ e. e ≡ OutOfMemory) }
     ensures memory { AllByRecursion (λ r. decided_at entries.old.items r.unit ≡ true)
         (ranges_left ranges.entry) → IsOk result }
-    ensures settled { AreSettled dwarf.now.value dw_units.now (answers_in entries.old.items)
+    ensures none_open { NoneOpen dwarf.now.value dw_units.now (answers_in entries.old.items)
         (ranges_left ranges.entry) → IsOk result }
     ensures kept { HaveEntriesOf (scope_in dwarf.now.value dw_units.now sup.now) dw_units.now
         entries.new.items }
@@ -318,7 +318,7 @@ impl<R: Reader> ResUnits<R> {
         ensures refused { IfErr result (λ e. e ≡ OutOfMemory) }
         ensures memory { AllByRecursion (λ r. decided_at self.old.entries.items r.unit ≡ true)
             (cover probe self.old.ranges) → IsOk result }
-        ensures settled { AreSettled dwarf.now.value self.old.dw_units.items
+        ensures none_open { NoneOpen dwarf.now.value self.old.dw_units.items
             (answers_in self.old.entries.items) (cover probe self.old.ranges) → IsOk result }
         ensures answers { answers_in self.new.entries.items
             ≡ answers_in self.old.entries.items }

@@ -245,7 +245,7 @@ impl<R: Reader> ResUnits<R> {
         ensures decided { OnOk result (decided_at self.new.entries.items number ≡ true) }
         ensures same { decided_at self.old.entries.items number ≡ true
             → (self.new.entries.items ≡ self.old.entries.items) × (result ≡ Ok tt) }
-        ensures settled { is_open_at dwarf.now self.old.dw_units.items
+        ensures not_open { is_open_at dwarf.now self.old.dw_units.items
             (answers_in self.old.entries.items) number ≡ false → result ≡ Ok tt }
         ensures others { (n : ℕ) → n ≢ number → slice_get self.new.entries.items n
             ≡ slice_get self.old.entries.items n }

@@ -115,8 +115,14 @@ fn read_load<R: Reader>(
     }))
 }
 
-// The first unit of sections, none where they have no unit.
-fn read_first_unit<R: Reader>(alloc: Global, dwarf: &Dwarf<R>) -> Result<Option<Unit<R>>, Error>
+/// The first unit of sections, `None` where they have no unit.
+///
+/// Refused for its header, else as `Dwarf::unit` is. May fail with `OutOfMemory` instead. Source:
+/// DWARF 5, section 7.5.1.
+pub fn read_first_unit<R: Reader>(
+    alloc: Global,
+    dwarf: &Dwarf<R>,
+) -> Result<Option<Unit<R>>, Error>
     ensures gives { ExactlyUnlessOom (λ u. u) result (first_unit dwarf.now) }
 {
     let mut headers = dwarf.units()?;

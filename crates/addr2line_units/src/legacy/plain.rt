@@ -3,14 +3,16 @@
 ghost use Rattle.std.specs.Prelude.{◌≡◌, ◌≤◌, ◌<◌, ◌+◌, ◌++◌, ◌==◌, ◌∷◌, length, take, IfSome, IfOk, OnOk, string_bytes, true};
 ghost use Rattle.std.specs.Char.{is_ascii};
 ghost use Rattle.std.specs.List.{list_all, position};
-ghost use Rattle.addr2line_units.specs.LegacyText.{bare_of, joint_text, element_text, escape_char, escape_in, is_dot_first, numbered_char, plain_from, shown_char};
+ghost use Rattle.std.specs.Str.{byte};
+ghost use Rattle.addr2line_units.specs.LegacyName.{is_dot, is_first};
+ghost use Rattle.addr2line_units.specs.LegacyText.{bare_of, joint_text, element_text, escape_char, escape_in, numbered_char, plain_from, shown_char};
 
 use super::digits::{is_lower_hex_text, number_up_to};
 use std::alloc::AllocError;
 
 /// Whether a dot stands first.
 fn starts_with_dot(bytes: &[u8]) -> bool
-    ensures { result ≡ is_dot_first bytes.now }
+    ensures { result ≡ is_first is_dot bytes.now }
 {
     match bytes.first() {
         Some(first) => *first == b'.',
@@ -69,7 +71,7 @@ fn escaped(body: &[u8]) -> Option<char>
 
 /// The place of the first dollar.
 fn dollar_in(bytes: &[u8]) -> Option<usize>
-    ensures gives { result ≡ position (λ b. b == 36) bytes.now }
+    ensures gives { result ≡ position (λ b. b == byte "$") bytes.now }
     ensures within { IfSome result (λ k. k < length bytes.now) }
 {
     bytes.iter().position(|b| *b == b'$')
@@ -103,7 +105,7 @@ pub(super) fn push_ascii(out: &mut String, bytes: &[u8]) -> Result<(), AllocErro
 fn push_escape<'a>(out: &mut String, rest: &'a [u8]) -> Result<&'a [u8], AllocError>
     requires { list_all is_ascii rest.now ≡ true }
     ensures added { IfOk result (λ left. string_bytes out.new ++ plain_from 0 left.now
-        ≡ string_bytes out.old ++ plain_from 0 (36 ∷ rest.now)) }
+        ≡ string_bytes out.old ++ plain_from 0 (byte "$" ∷ rest.now)) }
     ensures left { IfOk result (λ left. (length left.now ≤ length rest.now)
         × (list_all is_ascii left.now ≡ true)) }
 {

@@ -10,7 +10,7 @@ use Rattle.addr2line_units.specs.Loads.{load_of_number}
 use Rattle.addr2line_units.proofs.AnswerLemmas.{decided_there, in_same_scope}
 use Rattle.addr2line_units.proofs.CachedLookupLemmas.{as_many_entries, entries_at, entries_set, stay_entries, stay_entries_set}
 use Rattle.addr2line_units.proofs.LoadLemmas.{load_there, marks_none, no_load}
-use Rattle.addr2line_units.proofs.SettledLemmas.{settled_there}
+use Rattle.addr2line_units.proofs.OpenLemmas.{not_open_there}
 use Rattle.addr2line_units.proofs.loads.new_load_at.Goals as goal
 
 pub returns-in_default-clause-gives : goal.returns-in_default-clause-gives
@@ -104,8 +104,8 @@ returns-clause-stay g c =
     let within = subst (λ m. n < m) (as_many_entries scope us vs c.requires.kept) (slice_get_within us n u there) in
     stay_entries_set vs n v c.new_load.new.self within c.index_mut-entries.ensures.value c.new_load.ensures.stay
 
-pub returns-clause-settled : goal.returns-clause-settled
-returns-clause-settled g c h =
+pub returns-clause-not_open : goal.returns-clause-not_open
+returns-clause-not_open g c h =
     let us = c.args.dw_units.now in
     let vs = c.args.entries.now.items in
     let n = c.args.number in
@@ -113,4 +113,4 @@ returns-clause-settled g c h =
     let there : slice_get us n ≡ Some u = slice_get_read us _ n u refl (ltb-true _ _ (sym c.in-Some.ensures.lookup.0)) c.in-Some.ensures.lookup.1 in
     let scope = scope_in c.args.dwarf.now.value us c.args.sup.now in
     let within = subst (λ m. n < m) (as_many_entries scope us vs c.requires.kept) (slice_get_within us n u there) in
-    c.new_load.ensures.settled (settled_there c.args.dwarf.now.value us vs n u c.index_mut-entries.result.now there within c.index_mut-entries.ensures.value h)
+    c.new_load.ensures.not_open (not_open_there c.args.dwarf.now.value us vs n u c.index_mut-entries.result.now there within c.index_mut-entries.ensures.value h)

@@ -5,11 +5,11 @@ use Rattle.addr2line_units.specs.declared.index.UnitRange.{UnitRange}
 use Rattle.addr2line_units.specs.CachedLookups.{answers_in, decided_at}
 use Rattle.addr2line_units.specs.CachedViews.{seen_load}
 use Rattle.addr2line_units.specs.ListedLoads.{is_new}
-use Rattle.addr2line_units.specs.Loads.{AreSettled, load_of_number, loads_along}
+use Rattle.addr2line_units.specs.Loads.{NoneOpen, load_of_number, loads_along}
 use Rattle.addr2line_units.specs.UnitRangesLeft.{ranges_left}
 use Rattle.addr2line_units.proofs.CachedLookupLemmas.{same_answers, stay_entries, stay_entries_over}
 use Rattle.addr2line_units.proofs.LoadLemmas.{decided_stays, found_same, listed_step, none_marked}
-use Rattle.addr2line_units.proofs.SettledLemmas.{settled_first}
+use Rattle.addr2line_units.proofs.OpenLemmas.{first_not_open}
 use Rattle.addr2line_units.proofs.loads.read_loads.Goals as goal
 
 pub loop-range-init : goal.loop-range-init
@@ -22,7 +22,7 @@ loop-range-init g c =
       kept = c.requires.kept;
       listed = ap (λ ls. map (seen_load g.R.Reader.section) ls ++ filter (is_new c.new-marks.result.items) all) none ∙ ap (λ m. filter (is_new m) all) blank ∙ none_marked all;
       decided = λ h. h;
-      settled = λ h. h;
+      none_open = λ h. h;
     }
 
 pub returns-in_err-load-clause-memory : goal.returns-in_err-load-clause-memory
@@ -63,7 +63,7 @@ loop-range-preserved g c =
           ∙ listed_step see c.loop-range.loads.items d us (answers_in vs) (answers_in ws) c.in-Some.range old now (ranges_left c.next.new.self) (ranges_left c.loop-range.ranges) (loads_along (load_of_number d us (answers_in vs)) (ranges_left c.args.ranges))
           c.in_ok-load.load (same_answers vs ws i.stay) c.in-Some.ensures.steps c.in_ok-load.ensures.gives c.in_ok-load.ensures.marked i.listed;
       decided = λ h. (subst (AllByRecursion (λ (r : UnitRange). decided_at vs r.unit ≡ true)) c.in-Some.ensures.steps (i.decided h)).1;
-      settled = λ h. (subst (AreSettled c.args.dwarf.now.value us (answers_in vs)) c.in-Some.ensures.steps (i.settled h)).1;
+      none_open = λ h. (subst (NoneOpen c.args.dwarf.now.value us (answers_in vs)) c.in-Some.ensures.steps (i.none_open h)).1;
     }
 
 pub returns-clause-gives : goal.returns-clause-gives
@@ -74,14 +74,14 @@ returns-clause-gives g c =
     ∙ ap (λ rs. map see c.loop-range.loads.items ++ filter (is_new c.loop-range.marks.items) (loads_along load rs)) (sym c.in_default.ensures.steps.0)
     ∙ c.loop-range.invariant.listed
 
-pub returns-in_err-load-clause-settled : goal.returns-in_err-load-clause-settled
-returns-in_err-load-clause-settled g c h =
+pub returns-in_err-load-clause-none_open : goal.returns-in_err-load-clause-none_open
+returns-in_err-load-clause-none_open g c h =
     let i = c.loop-range.invariant in
-    let now = settled_first c.args.dwarf.now.value c.args.dw_units.now c.args.entries.now.items c.loop-range.entries.items _ c.in-Some.range _ c.in-Some.ensures.steps i.stay (i.settled h) in
-    absurd (let e = c.in_err-load.ensures.settled now in cc)
+    let now = first_not_open c.args.dwarf.now.value c.args.dw_units.now c.args.entries.now.items c.loop-range.entries.items _ c.in-Some.range _ c.in-Some.ensures.steps i.stay (i.none_open h) in
+    absurd (let e = c.in_err-load.ensures.not_open now in cc)
 
-pub returns-in_err-push_if-clause-settled : goal.returns-in_err-push_if-clause-settled
-returns-in_err-push_if-clause-settled g c h =
+pub returns-in_err-push_if-clause-none_open : goal.returns-in_err-push_if-clause-none_open
+returns-in_err-push_if-clause-none_open g c h =
     let i = c.loop-range.invariant in
-    let now = settled_first c.args.dwarf.now.value c.args.dw_units.now c.args.entries.now.items c.loop-range.entries.items _ c.in-Some.range _ c.in-Some.ensures.steps i.stay (i.settled h) in
-    absurd (let e = c.in_ok-load.ensures.settled now in let f = c.in_err-push_if.ensures.none (found_same _ _ e) in cc)
+    let now = first_not_open c.args.dwarf.now.value c.args.dw_units.now c.args.entries.now.items c.loop-range.entries.items _ c.in-Some.range _ c.in-Some.ensures.steps i.stay (i.none_open h) in
+    absurd (let e = c.in_ok-load.ensures.not_open now in let f = c.in_err-push_if.ensures.none (found_same _ _ e) in cc)

@@ -7,7 +7,7 @@ use Rattle.addr2line_units.specs.Loads.{is_open_at, load_result}
 use Rattle.gimli_read.specs.Alike.{HadMemory}
 use Rattle.addr2line_units.proofs.CachedLookupLemmas.{as_many_entries}
 use Rattle.addr2line.proofs.AnsweredLemmas.{still_answered}
-use Rattle.addr2line.proofs.LoadLemmas.{after_load, load_is, settled_is}
+use Rattle.addr2line.proofs.LoadLemmas.{after_load, load_is, not_open_is}
 use Rattle.addr2line.proofs.LookupLemmas.{entries_in_scope}
 use Rattle.addr2line.proofs.context.Context.load_unit.Goals as goal
 
@@ -47,5 +47,5 @@ returns-clause-memory g c =
     let s = c.self.inside in
     let n = c.args.unit.number in
     let given = option_map (λ x. x.value) c.args.sections in
-    let settled = subst (λ d. is_open_at d s.units.dw_units.items (answers_in s.units.entries.items) n ≡ false → c.load_unit.result ≡ load_result d s.units.dw_units.items (answers_in s.units.entries.items) n given) c.deref.ensures c.load_unit.ensures.settled in
-    rw (sym c.self.view_is) (λ h. settled (settled_is s.dwarf.value s.units.dw_units.items s.units.units.items s.units.entries.items s.units.ranges s.sup_units c.self.invariant n s.looks h) ∙ sym (load_is s.dwarf.value s.units.dw_units.items s.units.units.items s.units.entries.items s.units.ranges s.sup_units c.self.invariant n given))
+    let not_open = subst (λ d. is_open_at d s.units.dw_units.items (answers_in s.units.entries.items) n ≡ false → c.load_unit.result ≡ load_result d s.units.dw_units.items (answers_in s.units.entries.items) n given) c.deref.ensures c.load_unit.ensures.not_open in
+    rw (sym c.self.view_is) (λ h. not_open (not_open_is s.dwarf.value s.units.dw_units.items s.units.units.items s.units.entries.items s.units.ranges s.sup_units c.self.invariant n s.looks h) ∙ sym (load_is s.dwarf.value s.units.dw_units.items s.units.units.items s.units.entries.items s.units.ranges s.sup_units c.self.invariant n given))

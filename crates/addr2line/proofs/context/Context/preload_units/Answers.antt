@@ -2,7 +2,7 @@ use Rattle.std.proofs.Common.{map, sym, subst}
 use Rattle.std.specs.Prelude.{IfOk, ◌≡◌}
 use Rattle.addr2line_units.specs.CachedViews.{seen_load}
 use Rattle.addr2line.proofs.AnsweredLemmas.{still_answered}
-use Rattle.addr2line.proofs.LoadLemmas.{after_preload, listed_are, settled_are}
+use Rattle.addr2line.proofs.LoadLemmas.{after_preload, listed_are, none_open_are}
 use Rattle.addr2line.proofs.LookupLemmas.{entries_in_scope}
 use Rattle.addr2line.proofs.context.Context.preload_units.Goals as goal
 
@@ -32,4 +32,4 @@ returns-clause-after g c =
 pub returns-clause-memory : goal.returns-clause-memory
 returns-clause-memory g c =
     let s = c.self.inside in
-    rw (sym c.self.view_is) (λ settled. c.preload.ensures.settled (settled_are s.dwarf.value s.units.dw_units.items s.units.units.items s.units.entries.items s.units.ranges s.sup_units c.self.invariant c.args.probe s.looks settled))
+    rw (sym c.self.view_is) (λ none_open. c.preload.ensures.none_open (none_open_are s.dwarf.value s.units.dw_units.items s.units.units.items s.units.entries.items s.units.ranges s.sup_units c.self.invariant c.args.probe s.looks none_open))

@@ -3,7 +3,7 @@ use Rattle.gimli_read.specs.Reading.{ExactlyUnlessOom}
 use Rattle.addr2line_units.specs.FramesLeft.{frames_left}
 use Rattle.addr2line_units.specs.Suspended.{IfOutput}
 use Rattle.addr2line.proofs.AfterLemmas.{if_load}
-use Rattle.addr2line.proofs.SkipLemmas.{settled_frames, skip_told}
+use Rattle.addr2line.proofs.SkipLemmas.{decided_frames, skip_told}
 use Rattle.addr2line.specs.Answers.{answered}
 use Rattle.addr2line.specs.Lookups.{frames_of}
 use Rattle.addr2line.proofs.frames.FramesLookupLookupContinuation.resume.Goals as goal
@@ -22,7 +22,7 @@ returns g c =
         output = c.go_on.ensures.output;
         skips = λ none.
             let given = ap (λ o. option_map (λ x. x.value) o) none in
-            skip_told frames_of settled_frames frames_left d answers l.probe l.number (λ x. x.ctx.now.sections) (λ x. x.ctx.now.answers) (λ x. x.probe) c.go_on.result
+            skip_told frames_of decided_frames frames_left d answers l.probe l.number (λ x. x.ctx.now.sections) (λ x. x.ctx.now.answers) (λ x. x.probe) c.go_on.result
             (if_load _ _ c.go_on.result (λ x h. (h.2.2.after.sections ∙ h.2.1.sections, h.2.2.after.answers ∙ h.2.1.answers ∙ ap (answered d answers l.number) given, h.1)) c.go_on.ensures.load)
             (subst (λ x. IfOutput c.go_on.result (λ o. ExactlyUnlessOom (λ i. Some (frames_left i)) o (frames_of d (answered d answers l.number x) l.probe))) given c.go_on.ensures.output);
       },

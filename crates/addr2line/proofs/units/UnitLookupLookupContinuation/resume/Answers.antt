@@ -3,7 +3,7 @@ use Rattle.gimli_read.specs.Reading.{ExactlyUnlessOom}
 use Rattle.addr2line_units.specs.SeenUnit.{seen_found, seen_unit}
 use Rattle.addr2line_units.specs.Suspended.{IfOutput}
 use Rattle.addr2line.proofs.AfterLemmas.{if_load}
-use Rattle.addr2line.proofs.SkipLemmas.{settled_unit_of, skip_told}
+use Rattle.addr2line.proofs.SkipLemmas.{decided_unit_of, skip_told}
 use Rattle.addr2line.specs.Answers.{answered}
 use Rattle.addr2line.specs.Lookups.{unit_of}
 use Rattle.addr2line.proofs.units.UnitLookupLookupContinuation.resume.Goals as goal
@@ -23,7 +23,7 @@ returns g c =
         refused = c.go_on.ensures.refused;
         skips = λ none.
             let given = ap (λ o. option_map (λ x. x.value) o) none in
-            skip_told unit_of settled_unit_of (option_map seen_unit) d answers l.probe l.number (λ x. x.ctx.now.sections) (λ x. x.ctx.now.answers) (λ x. x.probe) c.go_on.result
+            skip_told unit_of decided_unit_of (option_map seen_unit) d answers l.probe l.number (λ x. x.ctx.now.sections) (λ x. x.ctx.now.answers) (λ x. x.probe) c.go_on.result
             (if_load _ _ c.go_on.result (λ x h. (h.2.2.after.sections ∙ h.2.1.sections, h.2.2.after.answers ∙ h.2.1.answers ∙ ap (answered d answers l.number) given, h.1)) c.go_on.ensures.load)
             (subst (λ x. IfOutput c.go_on.result (λ o. ExactlyUnlessOom seen_found o (unit_of d (answered d answers l.number x) l.probe))) given c.go_on.ensures.output);
       },

@@ -4,7 +4,7 @@ use Rattle.addr2line_units.specs.CachedEntries.{StayEntries, kept_answer}
 use Rattle.addr2line_units.specs.Views.{is_open}
 use Rattle.addr2line_units.proofs.AnswerLemmas.{decided_if_not, decided_if_open, decided_was_looked_at, never_waits, open_by_look}
 use Rattle.addr2line_units.proofs.EntryLemmas.{looked_decides}
-use Rattle.addr2line_units.proofs.SettledLemmas.{waiting_is_unsettled}
+use Rattle.addr2line_units.proofs.OpenLemmas.{waits_only_open}
 use Rattle.addr2line_units.proofs.unit_frames.UnitEntries.answer.Goals as goal
 
 pub returns-in_err-decide-clause-refused : goal.returns-in_err-decide-clause-refused
@@ -55,6 +55,6 @@ pub returns-else-is_open-clause-same : goal.returns-else-is_open-clause-same
 returns-else-is_open-clause-same g c h =
     (c.look.ensures.same (decided_was_looked_at c.args.self.now.view.state h), refl)
 
-pub returns-in_err-decide-clause-settled : goal.returns-in_err-decide-clause-settled
-returns-in_err-decide-clause-settled g c h =
-    absurd (waiting_is_unsettled c.args.scope.file.dwarf.now c.args.dw_unit.now c.args.self.now.view c.look.new.self.view c.look.ensures.kept.view c.look.ensures.looked c.look.ensures.stay.answer (search rules) h)
+pub returns-in_err-decide-clause-not_open : goal.returns-in_err-decide-clause-not_open
+returns-in_err-decide-clause-not_open g c h =
+    absurd (waits_only_open c.args.scope.file.dwarf.now c.args.dw_unit.now c.args.self.now.view c.look.new.self.view c.look.ensures.kept.view c.look.ensures.looked c.look.ensures.stay.answer (search rules) h)

@@ -5,7 +5,7 @@ use Rattle.addr2line_units.specs.ListedLoads.{if_new, is_marked}
 use Rattle.addr2line_units.specs.Views.{awaited_load, is_open}
 use Rattle.addr2line_units.proofs.AnswerLemmas.{never_waits, no_answer, open_by_look}
 use Rattle.addr2line_units.proofs.LoadLemmas.{awaited_unit, awaits_this, is_new_load, marks_load, marks_none, not_new, open_awaits}
-use Rattle.addr2line_units.proofs.SettledLemmas.{waiting_is_unsettled}
+use Rattle.addr2line_units.proofs.OpenLemmas.{waits_only_open}
 use Rattle.addr2line_units.proofs.unit_frames.UnitEntries.new_load.Goals as goal
 
 pub returns-then-not-is_open-clause-gives : goal.returns-then-not-is_open-clause-gives
@@ -80,17 +80,17 @@ pub returns-clause-decided : goal.returns-clause-decided
 returns-clause-decided g c h =
     absurd (never_waits c.args.self.now c.look.new.self true h c.look.ensures.same (search rules) refl)
 
-pub returns-in_err-mark_unit-clause-settled : goal.returns-in_err-mark_unit-clause-settled
-returns-in_err-mark_unit-clause-settled g c h =
-    absurd (waiting_is_unsettled c.args.scope.file.dwarf.now c.args.dw_unit.now c.args.self.now.view c.look.new.self.view c.look.ensures.kept.view c.look.ensures.looked c.look.ensures.stay.answer (search rules) (subst (λ x. is_open x c.args.dw_unit.now (kept_answer c.args.self.now) ≡ false) (sym c.requires.same) h))
+pub returns-in_err-mark_unit-clause-not_open : goal.returns-in_err-mark_unit-clause-not_open
+returns-in_err-mark_unit-clause-not_open g c h =
+    absurd (waits_only_open c.args.scope.file.dwarf.now c.args.dw_unit.now c.args.self.now.view c.look.new.self.view c.look.ensures.kept.view c.look.ensures.looked c.look.ensures.stay.answer (search rules) (subst (λ x. is_open x c.args.dw_unit.now (kept_answer c.args.self.now) ≡ false) (sym c.requires.same) h))
 
-pub returns-in_err-load-clause-settled : goal.returns-in_err-load-clause-settled
-returns-in_err-load-clause-settled g c h =
-    absurd (waiting_is_unsettled c.args.scope.file.dwarf.now c.args.dw_unit.now c.args.self.now.view c.look.new.self.view c.look.ensures.kept.view c.look.ensures.looked c.look.ensures.stay.answer (search rules) (subst (λ x. is_open x c.args.dw_unit.now (kept_answer c.args.self.now) ≡ false) (sym c.requires.same) h))
+pub returns-in_err-load-clause-not_open : goal.returns-in_err-load-clause-not_open
+returns-in_err-load-clause-not_open g c h =
+    absurd (waits_only_open c.args.scope.file.dwarf.now c.args.dw_unit.now c.args.self.now.view c.look.new.self.view c.look.ensures.kept.view c.look.ensures.looked c.look.ensures.stay.answer (search rules) (subst (λ x. is_open x c.args.dw_unit.now (kept_answer c.args.self.now) ≡ false) (sym c.requires.same) h))
 
-pub returns-clause-settled : goal.returns-clause-settled
-returns-clause-settled g c h =
-    absurd (waiting_is_unsettled c.args.scope.file.dwarf.now c.args.dw_unit.now c.args.self.now.view c.look.new.self.view c.look.ensures.kept.view c.look.ensures.looked c.look.ensures.stay.answer (search rules) (subst (λ x. is_open x c.args.dw_unit.now (kept_answer c.args.self.now) ≡ false) (sym c.requires.same) h))
+pub returns-clause-not_open : goal.returns-clause-not_open
+returns-clause-not_open g c h =
+    absurd (waits_only_open c.args.scope.file.dwarf.now c.args.dw_unit.now c.args.self.now.view c.look.new.self.view c.look.ensures.kept.view c.look.ensures.looked c.look.ensures.stay.answer (search rules) (subst (λ x. is_open x c.args.dw_unit.now (kept_answer c.args.self.now) ≡ false) (sym c.requires.same) h))
 
 pub returns-in_err-load-clause-decided : goal.returns-in_err-load-clause-decided
 returns-in_err-load-clause-decided g c h =

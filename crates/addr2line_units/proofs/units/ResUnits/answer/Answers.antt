@@ -3,7 +3,7 @@ use Rattle.addr2line_lines.specs.SeenScope.{seen_file}
 use Rattle.addr2line_units.specs.CachedLookups.{scope_in, sup_file}
 use Rattle.addr2line_units.proofs.AnswerLemmas.{answered_if_ok, answers_if_refused, decided_if_ok, decided_there, in_same_scope, got_unit, others_stay, same_set}
 use Rattle.addr2line_units.proofs.CachedLookupLemmas.{as_many_entries, entries_at, entries_set}
-use Rattle.addr2line_units.proofs.SettledLemmas.{settled_there}
+use Rattle.addr2line_units.proofs.OpenLemmas.{not_open_there}
 use Rattle.addr2line_units.proofs.units.ResUnits.answer.Goals as goal
 
 pub index_mut-entries-requires : goal.index_mut-entries-requires
@@ -59,9 +59,9 @@ returns-clause-same g c h =
 pub returns-clause-others : goal.returns-clause-others
 returns-clause-others g c n ne = others_stay c.args.self.now.entries.items c.args.number n c.answer.new.self ne
 
-pub returns-clause-settled : goal.returns-clause-settled
-returns-clause-settled g c h =
+pub returns-clause-not_open : goal.returns-clause-not_open
+returns-clause-not_open g c h =
     let s = c.args.self.now in
     let many = as_many_entries (scope_in c.args.dwarf.now s.dw_units.items c.args.sup.now) s.dw_units.items s.entries.items c.requires.kept in
     let there = c.requires.there in
-    c.answer.ensures.settled (settled_there c.args.dwarf.now s.dw_units.items s.entries.items c.args.number c.index.result.now c.index_mut-entries.result.now (got_unit s.dw_units.items c.args.number c.index.result.now there (search rules)) (omega (arith, many, there)) c.index_mut-entries.ensures.value h)
+    c.answer.ensures.not_open (not_open_there c.args.dwarf.now s.dw_units.items s.entries.items c.args.number c.index.result.now c.index_mut-entries.result.now (got_unit s.dw_units.items c.args.number c.index.result.now there (search rules)) (omega (arith, many, there)) c.index_mut-entries.ensures.value h)

@@ -75,17 +75,17 @@ returns-clause-same g c h =
     let within : c.args.token.number < length s.dw_units.items = search rules in
     ((c.answer.ensures.same h).0, load_gives_within c.args.dwarf.now s.dw_units.items c.answer.new.self.dw_units.items s.entries.items c.answer.new.self.entries.items c.args.token.number given c.check_view.result within many c.answer.ensures.dw_units c.in_ok-answer.ensures.answers c.check_view.ensures.gives)
 
-pub returns-then-token-len-clause-settled : goal.returns-then-token-len-clause-settled
-returns-then-token-len-clause-settled g c h =
+pub returns-then-token-len-clause-not_open : goal.returns-then-token-len-clause-not_open
+returns-then-token-len-clause-not_open g c h =
     let s = c.args.self.now in
     let past : length s.dw_units.items ≤ c.args.token.number = search rules in
     sym (unknown_load c.args.dwarf.now s.dw_units.items (answers_in s.entries.items) c.args.token.number (option_map (λ x. x.value) c.args.sections) (slice_get_past s.dw_units.items c.args.token.number past))
 
-pub returns-in_err-answer-clause-settled : goal.returns-in_err-answer-clause-settled
-returns-in_err-answer-clause-settled g c h = absurd (let e = c.in_err-answer.ensures.settled h in cc)
+pub returns-in_err-answer-clause-not_open : goal.returns-in_err-answer-clause-not_open
+returns-in_err-answer-clause-not_open g c h = absurd (let e = c.in_err-answer.ensures.not_open h in cc)
 
-pub returns-clause-settled : goal.returns-clause-settled
-returns-clause-settled g c h =
+pub returns-clause-not_open : goal.returns-clause-not_open
+returns-clause-not_open g c h =
     let s = c.args.self.now in
     let given = option_map (λ x. x.value) c.args.sections in
     let many = as_many_entries (scope_in c.args.dwarf.now s.dw_units.items c.args.sup.now) s.dw_units.items s.entries.items c.requires.kept in

@@ -3,7 +3,7 @@ use Rattle.std.specs.Prelude.{IfOk, IsOk}
 use Rattle.addr2line_units.specs.Cover.{cover}
 use Rattle.addr2line_units.specs.CachedLookups.{answers_in}
 use Rattle.addr2line_units.specs.CachedViews.{seen_load}
-use Rattle.addr2line_units.specs.Loads.{AreSettled, load_of_number, loads_along}
+use Rattle.addr2line_units.specs.Loads.{NoneOpen, load_of_number, loads_along}
 use Rattle.addr2line_units.proofs.CachedLookupLemmas.{same_answers}
 use Rattle.addr2line_units.proofs.units.ResUnits.preload.Goals as goal
 
@@ -19,9 +19,9 @@ pub returns-clause-answers : goal.returns-clause-answers
 returns-clause-answers g c =
     same_answers c.args.self.now.entries.items c.read_loads.new.entries.items c.read_loads.ensures.stay
 
-pub returns-clause-settled : goal.returns-clause-settled
-returns-clause-settled g c =
+pub returns-clause-none_open : goal.returns-clause-none_open
+returns-clause-none_open g c =
     let s = c.args.self.now in
     let answers = answers_in s.entries.items in
-    subst (λ us. AreSettled c.args.dwarf.now.value us answers (cover c.args.probe s.ranges) → IsOk c.read_loads.result) c.deref.ensures.value
-    (subst (λ rs. AreSettled c.args.dwarf.now.value c.deref.result.now answers rs → IsOk c.read_loads.result) c.find.ensures.gives c.read_loads.ensures.settled)
+    subst (λ us. NoneOpen c.args.dwarf.now.value us answers (cover c.args.probe s.ranges) → IsOk c.read_loads.result) c.deref.ensures.value
+    (subst (λ rs. NoneOpen c.args.dwarf.now.value c.deref.result.now answers rs → IsOk c.read_loads.result) c.find.ensures.gives c.read_loads.ensures.none_open)

@@ -1,0 +1,36 @@
+-- Units that aren't open (on specs/Loads.antt).
+use Rattle.std.proofs.Common.{◌≡◌, ℕ, get_or, Bool, true, false, List, ◌∷◌, length, ◌<◌, slice_get, Option, Some, None, sym, subst, ap, ◌∙◌}
+use Rattle.std.specs.Prelude.{unwrap_or}
+use Rattle.gimli.specs.Sections.{Sections}
+use Rattle.gimli.specs.Unit.{UnitRecord}
+use Rattle.addr2line_units.specs.declared.index.UnitRange.{UnitRange}
+use Rattle.addr2line_units.specs.declared.unit_frames.UnitEntries.{UnitEntries}
+use Rattle.addr2line_units.specs.declared.view.UnitView.{UnitView}
+use Rattle.addr2line_units.specs.FramesLookup.{answer_of}
+use Rattle.addr2line_units.specs.CachedEntries.{kept_answer}
+use Rattle.addr2line_units.specs.CachedLookups.{StayAllEntries, answers_in}
+use Rattle.addr2line_units.specs.CachedViews.{IsViewOf, seen_first_answer, waits, was_looked_at}
+use Rattle.addr2line_units.specs.Loads.{NoneOpen, is_open_at}
+use Rattle.addr2line_units.specs.Views.{is_open}
+use Rattle.addr2line_units.proofs.AnswerLemmas.{open_by_look}
+use Rattle.addr2line_units.proofs.CachedLookupLemmas.{answer_at, same_answers}
+
+-- the unit of a number among those that are kept
+pub not_open_there : {R : Type 0} (d : Sections) (us : List UnitRecord) (vs : List (UnitEntries R)) (n : ℕ) (u : UnitRecord) (v : UnitEntries R) → slice_get us n ≡ Some u → n < length vs → v ≡ get_or vs n v → is_open_at d us (answers_in vs) n ≡ false → is_open d u (kept_answer v) ≡ false
+not_open_there d us vs n u v there within e not_open =
+    sym (ap (λ o. is_open d u (unwrap_or o None)) (answer_at vs n v within e)) ∙ sym (ap (λ o. at o) there) ∙ not_open
+  where
+    at : Option UnitRecord → Bool
+    at o = elim o [ None ↦ false | Some x ↦ is_open d x (answer_of (answers_in vs) n) ]
+
+-- one that waits after a look is open
+pub waits_only_open : {R : Type 0} (d : Sections) (u : UnitRecord) (v w : UnitView R) → IsViewOf d u w → was_looked_at w.state ≡ true → seen_first_answer w ≡ seen_first_answer v → true ≡ waits w.state → is_open d u (seen_first_answer v) ≡ false → ⊥
+waits_only_open d u v w own looked same waiting not_open =
+    let f : ◌≡◌ {A = Bool} true false = sym (open_by_look d u v w true own looked same waiting) ∙ not_open in
+    cc
+
+-- the first unit along ranges, by what is kept later
+pub first_not_open : {R : Type 0} (d : Sections) (us : List UnitRecord) (vs ws : List (UnitEntries R)) (ranges : List UnitRange) (r : UnitRange) (rest : List UnitRange) → ranges ≡ r ∷ rest → StayAllEntries vs ws → NoneOpen d us (answers_in vs) ranges
+    → is_open_at d us (answers_in ws) r.unit ≡ false
+first_not_open d us vs ws ranges r rest steps stay all =
+    subst (λ a. is_open_at d us a r.unit ≡ false) (sym (same_answers vs ws stay)) (subst (NoneOpen d us (answers_in vs)) steps all).0

@@ -17,7 +17,7 @@ use Rattle.addr2line.specs.SplitFiles.{of_file}
 -- whatever takes memory
 pub loads_for : {X : Type 0} (takes : Loading X → Bool) (r given : Loading X) → LoadsUnlessOomFor takes r given → LoadsUnlessOom (λ x. x) r given
 loads_for takes (Ok x) given h = h
-loads_for takes (Err e) given h = λ ne. h (λ _. ne)
+loads_for takes (Err e) given h = λ ne. h (λ _. λ _. ne)
 
 -- a refusal of DWARF that isn't told as OutOfMemory isn't OutOfMemory
 pub no_oom : (e : Error) → loader_error_of e ≢ OutOfMemory → e ≢ reading.OutOfMemory

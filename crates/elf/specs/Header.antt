@@ -3,7 +3,7 @@
 -- Own: a file without the whole magic is NotElf; one that has it, but no class or data byte,
 -- another value of these, or not the whole header of its class, is BadElf, and so are section
 -- headers outside the file or of another size than the class's.
-use Rattle.std.specs.Prelude.{ℕ, zero, suc, ◌+◌, ◌*◌, ◌==◌, Bool, not, List, [], ◌∷◌, Ok, Err, if◌then◌else◌, drop, take, length, slice_index, nat_lt}
+use Rattle.std.specs.Prelude.{ℕ, zero, suc, ◌+◌, ◌*◌, ◌==◌, Bool, not, List, [], ◌∷◌, Ok, Err, if◌then◌else◌, drop, take, length, slice_index, nat_lt, codes}
 use Rattle.std.specs.Str.{bytes_eq}
 use Rattle.gimli_read.specs.declared.endian.RunTimeEndian.{RunTimeEndian}
 use Rattle.gimli_read.specs.declared.endian.RunTimeEndian.TheVariants.{Little, Big}
@@ -19,9 +19,13 @@ use Rattle.elf.specs.declared.section.SectionHeader.{SectionHeader}
 use Rattle.elf.specs.Layout.{number_at}
 use Rattle.elf.specs.Loading.{Loading}
 
+-- the bytes that an ELF file begins with
+abbrev pub magic : List ℕ
+magic = 0x7f ∷ codes "ELF"
+
 -- whether the bytes begin as those of an ELF file do
 abbrev pub has_magic : List ℕ → Bool
-has_magic bytes = bytes_eq (take 4 bytes) (0x7f ∷ 0x45 ∷ 0x4c ∷ 0x46 ∷ [])
+has_magic bytes = bytes_eq (take (length magic) bytes) magic
 
 -- the class that a byte names
 abbrev pub class_of : ℕ → Loading Class

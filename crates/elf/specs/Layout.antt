@@ -72,7 +72,8 @@ FieldsInHeader l = (l.e_type + HALF_SIZE ≤ l.header_size)
 
 -- each field of a section header is within it
 abbrev pub FieldsInSection : Layout → Type 0
-FieldsInSection l = (40 ≤ l.section_size) × (l.section_size ≤ 64)
+FieldsInSection l = ((layout_of Elf32).section_size ≤ l.section_size)
+    × (l.section_size ≤ (layout_of Elf64).section_size)
     × (l.sh_name + WORD_SIZE ≤ l.section_size) × (l.sh_type + WORD_SIZE ≤ l.section_size)
     × (l.sh_flags + l.address_size ≤ l.section_size) × (l.sh_addr + l.address_size ≤ l.section_size)
     × (l.sh_offset + l.address_size ≤ l.section_size)
@@ -81,7 +82,8 @@ FieldsInSection l = (40 ≤ l.section_size) × (l.section_size ≤ 64)
 
 -- each field of a symbol is within it
 abbrev pub FieldsInSymbol : Layout → Type 0
-FieldsInSymbol l = (16 ≤ l.symbol_size) × (l.symbol_size ≤ 24)
+FieldsInSymbol l = ((layout_of Elf32).symbol_size ≤ l.symbol_size)
+    × (l.symbol_size ≤ (layout_of Elf64).symbol_size)
     × (l.st_name + WORD_SIZE ≤ l.symbol_size) × (l.st_info + 1 ≤ l.symbol_size)
     × (l.st_shndx + HALF_SIZE ≤ l.symbol_size) × (l.st_value + l.address_size ≤ l.symbol_size)
     × (l.st_size + l.address_size ≤ l.symbol_size)

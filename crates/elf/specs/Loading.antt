@@ -1,8 +1,8 @@
 -- What a loading of an ELF file gives, and what an answer has to do with it.
 -- A loading gives a value, or the first fault in the order of its steps.
 -- Own: no loading gives OutOfMemory, which only a refused growth answers.
-use Rattle.std.specs.Prelude.{◌≡◌, ◌≢◌, Bool, true, Result, Ok, Err}
-use Rattle.gimli_read.specs.Reading.{ExactlyUnless}
+use Rattle.std.specs.Prelude.{Bool, true, Result}
+use Rattle.gimli_read.specs.Reading.{ExactlyUnless, ExactlyUnlessFor}
 use Rattle.elf.specs.declared.error.LoaderError.{LoaderError}
 use Rattle.elf.specs.declared.error.LoaderError.TheVariants.{OutOfMemory}
 
@@ -17,5 +17,5 @@ LoadsUnlessOom view result given = ExactlyUnless OutOfMemory view result given
 -- the answer is what is given, or OutOfMemory, which is an answer only if what is given takes
 -- memory
 abbrev pub LoadsUnlessOomFor : {X : Type 0} → (Loading X → Bool) → Loading X → Loading X → Type 0
-LoadsUnlessOomFor takes (Ok x) given = given ≡ Ok x
-LoadsUnlessOomFor takes (Err e) given = (takes given ≡ true → e ≢ OutOfMemory) → given ≡ Err e
+LoadsUnlessOomFor takes result given =
+    ExactlyUnlessFor OutOfMemory true takes (λ x. x) result given

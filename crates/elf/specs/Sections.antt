@@ -3,11 +3,12 @@
 -- Own: refused, in this order, are a section outside the file, a compressed one, and one that
 -- still needs relocations; a missing one is compressed where .zdebug_ stands in place of the
 -- .debug_ of its name.
-use Rattle.std.specs.Prelude.{ℕ, ◌+◌, ◌==◌, ◌&&◌, ◌||◌, ◌^◌, Bool, false, not, List, [], Option, Some, None, Ok, Err, if◌then◌else◌, drop, take, length, nat_lt, codes, bit_and, option_map, option_and_then}
+use Rattle.std.specs.Prelude.{ℕ, ◌+◌, ◌==◌, ◌&&◌, ◌||◌, Bool, false, not, List, [], Option, Some, None, Ok, Err, if◌then◌else◌, drop, take, length, nat_lt, codes, bit_and, option_map, option_and_then}
 use Rattle.std.specs.Str.{bytes_eq}
 use Rattle.std.specs.List.{position, slice_get, list_any}
 use Rattle.std.specs.Option.{option_map_or}
 use Rattle.gimli_read.specs.Section.{Section}
+use Rattle.gimli_read.specs.Number.{fits_u64}
 use Rattle.gimli_read.specs.declared.range.Range.{Range}
 use Rattle.elf.specs.declared.constants.TheConstants.{SHT_NOBITS, SHT_REL, SHT_RELA, SHF_COMPRESSED}
 use Rattle.elf.specs.declared.error.LoaderError.TheVariants.{BadElf, CompressedSection, RelocationsNeeded}
@@ -35,7 +36,7 @@ first_named name file = option_and_then (λ n.
 
 -- the addresses of a section; none where they pass 64 bits
 abbrev pub addresses_of : SectionHeader → Option Range
-addresses_of s = if nat_lt (s.address + s.size) (2 ^ 64)
+addresses_of s = if fits_u64 (s.address + s.size)
     then Some (record { begin = s.address; end = s.address + s.size })
     else None
 

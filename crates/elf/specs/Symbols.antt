@@ -77,6 +77,14 @@ name_from text = if length text == 0 then None else utf8_from text
 abbrev pub symbol_entry_name : List ℕ → Entry → Option (List ℕ)
 symbol_entry_name names e = option_and_then name_from (table_text_at names e.name)
 
+-- the type of a symbol
+abbrev pub symbol_type : Entry → ℕ
+symbol_type e = e.info % 16
+
+-- the bind of a symbol
+abbrev pub symbol_bind : Entry → ℕ
+symbol_bind e = e.info / 16
+
 -- whether the type is one that a usable symbol has
 abbrev pub is_usable_type : ℕ → Bool
 is_usable_type t = t == STT_NOTYPE || t == STT_OBJECT || t == STT_FUNC
@@ -84,7 +92,7 @@ is_usable_type t = t == STT_NOTYPE || t == STT_OBJECT || t == STT_FUNC
 -- whether an entry is a usable symbol
 abbrev pub is_usable : List ℕ → Entry → Bool
 is_usable names e = not (e.section == SHN_UNDEF)
-    && (is_usable_type (e.info % 16) && is_some (symbol_entry_name names e))
+    && (is_usable_type (symbol_type e) && is_some (symbol_entry_name names e))
 
 -- the usable symbols of a table
 abbrev pub usable_in : RunTimeEndian → Layout → List ℕ → List ℕ → List Entry
@@ -102,8 +110,8 @@ is_preferred_bind b = b == STB_GLOBAL || b == STB_WEAK
 
 -- the rank of a symbol among those at its address: by its type, then by its bind
 abbrev pub preference : Entry → ℕ
-preference e = (if e.info % 16 == STT_NOTYPE then 0 else 2)
-    + (if is_preferred_bind (e.info / 16) then 1 else 0)
+preference e = (if symbol_type e == STT_NOTYPE then 0 else 2)
+    + (if is_preferred_bind (symbol_bind e) then 1 else 0)
 
 -- of the symbols at or below the probe those with the greatest address, of these the preferred
 -- ones, of these the last

@@ -12,7 +12,7 @@ use crate::error::LoaderError;
 use crate::layout::{self, Class};
 use gimli_read::RunTimeEndian;
 
-const MAGIC: [u8; 4] = [0x7f, 0x45, 0x4c, 0x46];
+const MAGIC: [u8; 4] = [0x7f, b'E', b'L', b'F'];
 
 /// The class and the byte order of a file.
 #[derive(Clone, Copy)]

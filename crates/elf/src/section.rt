@@ -1,7 +1,7 @@
 //! Section headers, and the bytes of a section (System V ABI, Object Files: Sections).
 
 ghost use Rattle.std.specs.Prelude.{◌≡◌, ◌≤◌, ◌+◌, ◌*◌, ◌==◌, ℕ, List, length, not, nat_lt, bit_and, drop, option_map, IfOk, IsOk};
-ghost use Rattle.std.specs.List.{list_any, position};
+ghost use Rattle.std.specs.List.{list_any};
 ghost use Rattle.elf.specs.declared.constants.TheConstants.{SHT_NOBITS};
 ghost use Rattle.elf.specs.Layout.{layout_of};
 ghost use Rattle.elf.specs.Header.{section_in, sections_in};
@@ -11,7 +11,7 @@ ghost use Rattle.elf.specs.Sections.{addresses_of, is_compressed, is_named, is_z
 use crate::constants::{SHF_COMPRESSED, SHN_UNDEF, SHT_NOBITS, SHT_REL, SHT_RELA, WORD_SIZE};
 use crate::header::{self, Ident};
 use crate::layout;
-use gimli_read::Range;
+use gimli_read::{Range, zero_of};
 use std::alloc::{AllocError, Global};
 
 /// A section header of either class.
@@ -183,13 +183,6 @@ pub(crate) fn string_table<'a>(file: &'a [u8], sections: &[SectionHeader], numbe
         Some(table) => table,
         None => &file[..0],
     }
-}
-
-// The place of the first zero byte.
-fn zero_of(bytes: &[u8]) -> Option<usize>
-    ensures found { result ≡ position (λ b. b == 0) bytes.now }
-{
-    bytes.iter().position(|byte| *byte == 0)
 }
 
 // The text at the front, up to its zero byte.

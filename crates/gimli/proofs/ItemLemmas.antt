@@ -1,18 +1,18 @@
 -- Items, one at a time, and subtrees (on specs/Items.antt).
-use Rattle.std.proofs.Common.{◌≡◌, ℕ, zero, suc, ◌+◌, ◌-◌, ◌<◌, ◌≤◌, ◌==◌, Bool, true, false, cond, List, [], ◌∷◌, length, IfOk, Option, Some, None, Result, Ok, Err, refl, sym, ap, subst, ◌∙◌, arith, ℤ}
+use Rattle.std.proofs.Common.{◌≡◌, ℕ, zero, suc, ◌+◌, ◌==◌, Bool, true, false, cond, List, [], length, IfOk, Option, Some, None, Result, Ok, Err, refl, sym, ap, subst, arith, ℤ}
 use Rattle.std.specs.Prelude.{int_lt, ◌<ℤ◌}
 use Rattle.std.specs.List.{AllByRecursion}
 use Rattle.std.proofs.lemmas.Int.{ints}
 use Rattle.gimli_read.specs.declared.error.Error.{Error}
-use Rattle.gimli_read.specs.declared.error.Error.TheVariants.{UnexpectedEof, UnknownAbbreviation}
+use Rattle.gimli_read.specs.declared.error.Error.TheVariants.{UnexpectedEof}
 use Rattle.gimli_read.specs.Section.{Section}
 use Rattle.gimli_read.specs.Reading.{Reading, ◌>>=◌}
 use Rattle.gimli_read.specs.Leb128.{uleb128_at}
 use Rattle.gimli_read.specs.Abbreviations.{Abbrev, with_code}
 use Rattle.gimli_read.specs.Form.{NamedValue, attributes_at}
-use Rattle.gimli_read.specs.Run.{Run, Next, More, Stop, next_of, cons, continued, run_within}
+use Rattle.gimli_read.specs.Run.{Run, next_of, cons, continued, run_within}
 use Rattle.gimli.specs.Entry.{EntryCursor, EntryUnit, depth_after_entry, depth_after_closing, opening_entry, entry_abbreviation_at}
-use Rattle.gimli.specs.Items.{Entry, Item, depth_after, depth_behind, item_at, item_from, next_item_at, items_from, items_inside, subtree_of}
+use Rattle.gimli.specs.Items.{Item, depth_after, item_at, item_from, next_item_at, items_from, items_inside}
 use Rattle.gimli.specs.ItemLaws.{SubtreesLieDeeper}
 
 -- an item that is read lies at the depth where it begins, and the next one at the depth after it

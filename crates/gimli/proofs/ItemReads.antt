@@ -1,5 +1,5 @@
 -- Each list of items whose texts are the bytes is what is read (on specs/ItemLaws.antt).
-use Rattle.std.proofs.Common.{◌≡◌, ◌≢◌, ℕ, ◌+◌, ◌-◌, ◌<◌, ◌≤◌, ◌==◌, Bool, true, false, cond, List, [], ◌∷◌, ◌++◌, length, Option, Some, None, Result, Ok, Err, refl, sym, ap, subst, ◌∙◌, arith, ℤ, length-append, append_assoc, eq-eqb}
+use Rattle.std.proofs.Common.{◌≡◌, ◌≢◌, ℕ, ◌+◌, ◌<◌, ◌≤◌, ◌==◌, cond, List, [], ◌∷◌, ◌++◌, length, Option, Some, None, Result, Ok, Err, refl, sym, ap, subst, ◌∙◌, arith, ℤ, length-append, append_assoc}
 use Rattle.std.specs.Prelude.{IsOk}
 use Rattle.std.proofs.lemmas.Bool.{ne_eqb}
 use Rattle.gimli_read.specs.declared.error.Error.{Error}
@@ -7,10 +7,10 @@ use Rattle.gimli_read.specs.declared.endian.RunTimeEndian.{RunTimeEndian}
 use Rattle.gimli_read.specs.declared.endian.Encoding.{Encoding}
 use Rattle.gimli_read.specs.Section.{Section}
 use Rattle.gimli_read.specs.Reading.{Reading, ◌>>=◌}
-use Rattle.gimli_read.specs.Leb128.{IsUleb128, uleb128_in, uleb128_at}
+use Rattle.gimli_read.specs.Leb128.{IsUleb128, uleb128_at}
 use Rattle.gimli_read.specs.Abbreviations.{Abbrev, Specification, with_code}
 use Rattle.gimli_read.specs.Form.{NamedValue, attribute_at, attributes_at}
-use Rattle.gimli_read.specs.Run.{Run, Next, More, Stop, next_of, cons, continued, run_within}
+use Rattle.gimli_read.specs.Run.{Run, More, next_of, cons, continued}
 use Rattle.gimli_read.specs.Value.{section_of}
 use Rattle.gimli_read.proofs.RunLemmas.{Shrinks, run_step}
 use Rattle.gimli_read.proofs.Leb128Texts.{uleb128_reads}

@@ -1,24 +1,22 @@
 -- The texts of items, one after another (on specs/ItemLaws.antt).
-use Rattle.std.proofs.Common.{◌≡◌, ◌≢◌, ℕ, zero, suc, ◌+◌, ◌-◌, ◌<◌, ◌≤◌, ◌==◌, Bool, true, false, cond, List, [], ◌∷◌, ◌++◌, length, IfOk, Option, Some, None, Result, Ok, Err, refl, sym, ap, subst, ◌∙◌, arith, ℤ, length-append, append_assoc}
+use Rattle.std.proofs.Common.{◌≡◌, ℕ, zero, suc, ◌+◌, ◌≤◌, ◌==◌, Bool, true, false, cond, List, [], ◌∷◌, ◌++◌, length, IfOk, Option, Some, None, Result, Ok, Err, refl, sym, ap, subst, ◌∙◌, arith, length-append, append_assoc}
 use Rattle.std.proofs.lemmas.Bool.{eqb-true, eqb-false}
 use Rattle.std.proofs.lemmas.List.{nil_from_length}
-use Rattle.std.proofs.lemmas.Bool.Decides.{nat_tests}
 use Rattle.gimli_read.specs.declared.error.Error.{Error}
-use Rattle.gimli_read.specs.declared.error.Error.TheVariants.{UnknownAbbreviation}
 use Rattle.gimli_read.specs.declared.endian.Encoding.{Encoding}
 use Rattle.gimli_read.specs.Section.{Section}
 use Rattle.gimli_read.specs.Reading.{Reading, ◌>>=◌}
 use Rattle.gimli_read.specs.Leb128.{IsUleb128, uleb128_in, uleb128_at}
 use Rattle.gimli_read.specs.Abbreviations.{Abbrev, Specification, with_code}
 use Rattle.gimli_read.specs.Form.{NamedValue, attribute_at, attributes_at}
-use Rattle.gimli_read.specs.Run.{Run, Next, More, Stop, next_of, cons, continued, run_within}
+use Rattle.gimli_read.specs.Run.{next_of, continued, run_within}
 use Rattle.gimli_read.specs.Value.{section_of}
 use Rattle.gimli_read.specs.ValueLaws.{IsTextAndRest}
 use Rattle.gimli_read.proofs.Steps.{bind_ok, same_rest, same_value}
 use Rattle.gimli_read.proofs.Leb128Texts.{uleb128_alone}
 use Rattle.gimli_read.proofs.AttributeTexts.{attribute_alone}
 use Rattle.gimli.specs.Entry.{EntryCursor, EntryUnit, depth_after_entry, depth_after_closing, opening_entry, entry_abbreviation_at}
-use Rattle.gimli.specs.Items.{Entry, Item, depth_after, depth_behind, next_offset_of, item_at, item_from, next_item_at, items_from}
+use Rattle.gimli.specs.Items.{Item, depth_after, next_offset_of, item_at, item_from, next_item_at}
 use Rattle.gimli.proofs.ItemLemmas.{run}
 use Rattle.gimli.specs.ItemLaws.{AreAttributes, IsEntryText, AreItems, ItemsCover}
 

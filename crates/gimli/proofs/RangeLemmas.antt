@@ -5,9 +5,10 @@ use Rattle.std.proofs.lemmas.Nat.{and_mask}
 use lib.Pow.{mod-mod-pow}
 use Rattle.gimli_read.specs.declared.error.Error.{Error}
 use Rattle.gimli_read.specs.declared.endian.Encoding.{Encoding}
+use Rattle.gimli_read.specs.Version.{is_before_5}
 use Rattle.gimli_read.specs.declared.range.Range.{Range}
 use Rattle.gimli_read.specs.Section.{Section}
-use Rattle.gimli_read.specs.Reading.{Reading}
+use Rattle.gimli_read.specs.Reading.{Reading, mapped}
 use Rattle.gimli_read.specs.Number.{is_address_size, address_at}
 use Rattle.gimli_read.specs.Leb128.{uleb128_at}
 use Rattle.gimli_read.specs.Run.{Run, next_of, continued}
@@ -17,7 +18,7 @@ use Rattle.gimli.specs.declared.constants.TheConstants.{DW_RLE_end_of_list, DW_R
 use Rattle.gimli.specs.declared.rnglists.RangeListEntry.{RangeListEntry}
 use Rattle.gimli.specs.declared.rnglists.RangeListEntry.TheVariants.{BaseAddressx, StartxEndx, StartxLength, OffsetPair, BaseAddress, StartEnd, StartLength}
 use Rattle.gimli_line.specs.AddressSize.{greatest_address}
-use Rattle.gimli.specs.RangeListEntries.{one_field_entry, entry_of_two, rnglists_fields_at, rnglists_entry_at, ranges_entry_at, is_before_5, range_list_entry_at, range_list_entries}
+use Rattle.gimli.specs.RangeListEntries.{entry_of_two, rnglists_fields_at, rnglists_entry_at, ranges_entry_at, range_list_entry_at, range_list_entries}
 use Rattle.gimli.specs.Ranges.{sum_of_size, range_of_entry, with_range_first, ranges_of_entries, ranges_from}
 use Rattle.gimli.specs.Sections.{Sections}
 use Rattle.gimli.specs.Unit.{UnitRecord}
@@ -39,7 +40,7 @@ address_shorter : (size : ℕ) (s : Section) → Shorter (length s.bytes) (addre
 address_shorter zero s = record { by = tt }
 address_shorter (suc n) s = shorter_if (is_address_size (suc n)) (fixed-shorter (suc n) s (omega arith)) shorter_err
 
-one_shorter : (make : ℕ → RangeListEntry) (field : Section → Reading ℕ) → ((s : Section) → Shorter (length s.bytes) (field s)) → (s : Section) → Shorter (length s.bytes) (one_field_entry make field s)
+one_shorter : (make : ℕ → RangeListEntry) (field : Section → Reading ℕ) → ((s : Section) → Shorter (length s.bytes) (field s)) → (s : Section) → Shorter (length s.bytes) (mapped make (field s))
 one_shorter make field h s = shorter_bind (h s) (λ x k. shorter_ok k)
 
 two_shorter : (make : ℕ → ℕ → RangeListEntry) (first second : Section → Reading ℕ) → ((s : Section) → Shorter (length s.bytes) (first s)) → ((s : Section) → Shorter (length s.bytes) (second s))
@@ -72,7 +73,7 @@ ranges_entry_shorter size s =
 entry_shorter : (encoding : Encoding) (s : Section) → Shorter (length s.bytes) (range_list_entry_at encoding s)
 unfolding range_list_entry_at
 entry_shorter encoding s =
-    shorter_if (is_before_5 encoding) (ranges_entry_shorter encoding.address_size s) (rnglists_entry_shorter encoding.address_size s)
+    shorter_if (is_before_5 encoding.version) (ranges_entry_shorter encoding.address_size s) (rnglists_entry_shorter encoding.address_size s)
 
 pub entry_takes : (encoding : Encoding) → TakesBytes (range_list_entry_at encoding)
 entry_takes encoding = takes_by (range_list_entry_at encoding) (entry_shorter encoding)

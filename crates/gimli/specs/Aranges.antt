@@ -11,7 +11,7 @@ use Rattle.gimli_read.specs.declared.endian.Format.{Format}
 use Rattle.gimli_read.specs.declared.range.Range.{Range}
 use Rattle.gimli_read.specs.declared.value.DebugInfoOffset.{DebugInfoOffset}
 use Rattle.gimli_read.specs.Section.{Section}
-use Rattle.gimli_read.specs.Reading.{Reading, ◌>>=◌, refused_if}
+use Rattle.gimli_read.specs.Reading.{Reading, mapped, ◌>>=◌, refused_if}
 use Rattle.gimli_read.specs.Number.{address_at, fixed_at, offset_at, skipped_at, split_at, initial_length_at}
 use Rattle.gimli_read.specs.Run.{run_of, listed}
 use Rattle.gimli.specs.declared.constants.TheConstants.{ARANGES_VERSION}
@@ -59,7 +59,7 @@ arange_set_at s = do
 unfoldable pub next_set_at : Section → Reading (Option ArangeSet)
 next_set_at s =
     if length s.bytes == 0 then Ok (None, s)
-    else (arange_set_at s >>= λ set. Ok (Some set.0, set.1))
+    else mapped Some (arange_set_at s)
 
 -- the sets of a section: it is its sets, one after another, up to its end or the first fault
 abbrev pub arange_sets_of : Section → List (Result ArangeSet Error)
@@ -70,7 +70,7 @@ unfoldable pub next_pair_at : ℕ → Section → Reading (Option (ℕ × ℕ))
 next_pair_at size s =
     if nat_lt (length s.bytes) (2 * size) then Ok (None, s)
     else (address_at size s >>= λ address.
-    address_at size address.1 >>= λ span. Ok (Some (address.0, span.0), span.1))
+    mapped (λ span. Some (address.0, span)) (address_at size address.1))
 
 -- the addresses of a pair of addresses of a size, where it has some and all are of that size
 abbrev pub arange_of : ℕ → ℕ × ℕ → Option Range

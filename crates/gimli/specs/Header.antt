@@ -6,7 +6,7 @@ use Rattle.gimli_read.specs.declared.error.Error.{Error}
 use Rattle.gimli_read.specs.declared.error.Error.TheVariants.{UnknownVersion, UnknownUnitType, UnsupportedAddressSize}
 use Rattle.gimli_read.specs.declared.endian.Format.{Format}
 use Rattle.gimli_read.specs.Section.{Section}
-use Rattle.gimli_read.specs.Reading.{Reading, ◌>>=◌, refused_if}
+use Rattle.gimli_read.specs.Reading.{Reading, mapped, ◌>>=◌, refused_if}
 use Rattle.gimli_read.specs.Number.{fixed_at, offset_at, skipped_at, split_at, initial_length_at, is_address_size}
 use Rattle.gimli_read.specs.Run.{Run, run_of}
 use Rattle.gimli.specs.declared.constants.TheConstants.{DW_UT_compile, DW_UT_type, DW_UT_partial, DW_UT_skeleton, DW_UT_split_compile, DW_UT_split_type}
@@ -54,7 +54,7 @@ unit_type_at s = do
 
 -- an identifier of a split unit
 abbrev pub dwo_id_at : Section → Reading (Option DwoId)
-dwo_id_at s = fixed_at 8 s >>= λ id. Ok (Some (record { 0 = id.0 }), id.1)
+dwo_id_at s = mapped (λ id. Some (record { 0 = id })) (fixed_at 8 s)
 
 -- a type's signature, and the type's offset in the unit
 abbrev pub signature_at : Format → Section → Reading (Option DwoId)
@@ -127,7 +127,7 @@ unit_header_at section_length s = do
 unfoldable pub next_header_at : ℕ → Section → Reading (Option UnitHeaderFields)
 next_header_at section_length s =
     if length s.bytes == 0 then Ok (None, s)
-    else (unit_header_at section_length s >>= λ header. Ok (Some header.0, header.1))
+    else mapped Some (unit_header_at section_length s)
 
 -- the headers of a section: it is its units, one after another, up to its end or the first fault
 abbrev pub headers_of : Section → Run UnitHeaderFields Section

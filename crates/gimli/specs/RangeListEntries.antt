@@ -2,11 +2,12 @@
 -- 7.23).
 -- Own: a kind that section 7.25 doesn't list is UnknownRangeListEntry. A list that the section's
 -- end cuts is UnexpectedEof.
-use Rattle.std.specs.Prelude.{ℕ, ◌==◌, ◌&&◌, nat_lt, Bool, Option, Some, None, Ok, Err, if◌then◌else◌}
+use Rattle.std.specs.Prelude.{ℕ, ◌==◌, ◌&&◌, Option, Some, None, Ok, Err, if◌then◌else◌}
 use Rattle.gimli_read.specs.declared.error.Error.TheVariants.{UnknownRangeListEntry}
 use Rattle.gimli_read.specs.declared.endian.Encoding.{Encoding}
 use Rattle.gimli_read.specs.Section.{Section}
-use Rattle.gimli_read.specs.Reading.{Reading, ◌>>=◌}
+use Rattle.gimli_read.specs.Version.{is_before_5}
+use Rattle.gimli_read.specs.Reading.{Reading, mapped, ◌>>=◌}
 use Rattle.gimli_read.specs.Number.{fixed_at, address_at}
 use Rattle.gimli_read.specs.Leb128.{uleb128_at}
 use Rattle.gimli_read.specs.Run.{Run, run_of}
@@ -15,24 +16,19 @@ use Rattle.gimli_line.specs.AddressSize.{greatest_address}
 use Rattle.gimli.specs.declared.rnglists.RangeListEntry.{RangeListEntry}
 use Rattle.gimli.specs.declared.rnglists.RangeListEntry.TheVariants.{BaseAddressx, StartxEndx, StartxLength, OffsetPair, BaseAddress, StartEnd, StartLength}
 
--- an entry of one field
-abbrev pub one_field_entry : (ℕ → RangeListEntry) → (Section → Reading ℕ) → Section
-    → Reading RangeListEntry
-one_field_entry make field s = field s >>= λ x. Ok (make x.0, x.1)
-
 -- an entry of two fields, one after the other
 abbrev pub entry_of_two : (ℕ → ℕ → RangeListEntry) → (Section → Reading ℕ)
     → (Section → Reading ℕ) → Section → Reading RangeListEntry
-entry_of_two make first second s = first s >>= λ x. second x.1 >>= λ y. Ok (make x.0 y.0, y.1)
+entry_of_two make first second s = first s >>= λ x. mapped (make x.0) (second x.1)
 
 -- the fields of an entry of .debug_rnglists that has this kind
 unfoldable pub rnglists_fields_at : ℕ → ℕ → Section → Reading RangeListEntry
 rnglists_fields_at size kind s =
-    if kind == DW_RLE_base_addressx then one_field_entry BaseAddressx uleb128_at s
+    if kind == DW_RLE_base_addressx then mapped BaseAddressx (uleb128_at s)
     else if kind == DW_RLE_startx_endx then entry_of_two StartxEndx uleb128_at uleb128_at s
     else if kind == DW_RLE_startx_length then entry_of_two StartxLength uleb128_at uleb128_at s
     else if kind == DW_RLE_offset_pair then entry_of_two OffsetPair uleb128_at uleb128_at s
-    else if kind == DW_RLE_base_address then one_field_entry BaseAddress (address_at size) s
+    else if kind == DW_RLE_base_address then mapped BaseAddress (address_at size s)
     else if kind == DW_RLE_start_end
     then entry_of_two StartEnd (address_at size) (address_at size) s
     else if kind == DW_RLE_start_length then entry_of_two StartLength (address_at size) uleb128_at s
@@ -43,7 +39,7 @@ unfoldable pub rnglists_entry_at : ℕ → Section → Reading (Option RangeList
 rnglists_entry_at size s = do
   kind ← fixed_at 1 s
   if kind.0 == DW_RLE_end_of_list then Ok (None, kind.1)
-      else (rnglists_fields_at size kind.0 kind.1 >>= λ entry. Ok (Some entry.0, entry.1))
+      else mapped Some (rnglists_fields_at size kind.0 kind.1)
 
 -- what a pair of addresses of .debug_ranges is: the list's end, a base, or offsets from the base
 abbrev pub entry_of_pair : ℕ → ℕ → ℕ → Option RangeListEntry
@@ -59,14 +55,10 @@ ranges_entry_at size s = do
   end ← address_at size begin.1
   Ok (entry_of_pair size begin.0 end.0, end.1)
 
--- whether the range lists of a version stand in .debug_ranges
-abbrev pub is_before_5 : Encoding → Bool
-is_before_5 encoding = nat_lt encoding.version 5
-
 -- the next entry of a list, none at the list's end
 unfoldable pub range_list_entry_at : Encoding → Section → Reading (Option RangeListEntry)
 range_list_entry_at encoding s =
-    if is_before_5 encoding then ranges_entry_at encoding.address_size s
+    if is_before_5 encoding.version then ranges_entry_at encoding.address_size s
     else rnglists_entry_at encoding.address_size s
 
 -- the entries of a list that can be read, and then its end or the fault

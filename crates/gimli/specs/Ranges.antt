@@ -3,17 +3,18 @@
 -- reversed, or begins at all ones or all ones less one, and so are offsets from such a base.
 -- Own: an offset past the section's end is OffsetOutOfBounds. An entry is read whole before the
 -- addresses of its indexes are, and each of these is read, also where the range is passed over.
-use Rattle.std.specs.Prelude.{ℕ, ◌+◌, ◌-◌, ◌%◌, not, nat_lt, Bool, List, [], ◌∷◌, Option, Some, None, Result, Ok, Err, if◌then◌else◌}
+use Rattle.std.specs.Prelude.{ℕ, ◌+◌, ◌%◌, not, nat_lt, List, [], ◌∷◌, Option, Some, None, Result, Ok, Err, if◌then◌else◌}
 use Rattle.gimli_read.specs.declared.error.Error.{Error}
 use Rattle.gimli_read.specs.declared.error.Error.TheVariants.{UnsupportedAddressSize}
 use Rattle.gimli_read.specs.declared.range.Range.{Range}
 use Rattle.gimli_read.specs.Section.{Section}
+use Rattle.gimli_read.specs.Version.{is_before_5}
 use Rattle.gimli_read.specs.Reading.{◌>>=◌, refused_if}
 use Rattle.gimli_read.specs.Number.{is_address_size}
 use Rattle.gimli.specs.declared.rnglists.RangeListEntry.{RangeListEntry}
 use Rattle.gimli.specs.declared.rnglists.RangeListEntry.TheVariants.{BaseAddressx, StartxEndx, StartxLength, OffsetPair, BaseAddress, StartEnd, StartLength}
 use Rattle.gimli_line.specs.AddressSize.{address_limit, is_tombstone}
-use Rattle.gimli.specs.RangeListEntries.{is_before_5, range_list_entries}
+use Rattle.gimli.specs.RangeListEntries.{range_list_entries}
 use Rattle.gimli.specs.Sections.{Sections}
 use Rattle.gimli.specs.Text.{from_offset, indexed_number}
 use Rattle.gimli.specs.Unit.{UnitRecord}
@@ -87,7 +88,7 @@ ranges_from d u base s =
 
 -- the section of a unit's range lists
 abbrev pub range_lists_of : Sections → UnitRecord → Section
-range_lists_of d u = if is_before_5 u.header.encoding then d.debug_ranges else d.debug_rnglists
+range_lists_of d u = if is_before_5 u.header.encoding.version then d.debug_ranges else d.debug_rnglists
 
 -- the ranges of a unit's list at an offset, and the fault after them, if there is one; the base is
 -- at first the unit's low_pc

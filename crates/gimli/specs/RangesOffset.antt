@@ -3,31 +3,31 @@
 -- Own: the forms of a section offset are those under stmt_list. In a split file below version 5 it
 -- counts from the unit's rnglists_base.
 -- Own: an offset of 2^64 or more is OffsetOutOfBounds.
-use Rattle.std.specs.Prelude.{ℕ, ◌+◌, ◌^◌, nat_lt, Option, Some, None, Result, Ok, Err, if◌then◌else◌}
+use Rattle.std.specs.Prelude.{ℕ, ◌+◌, Option, Some, None, Result, Ok, Err, if◌then◌else◌}
 use Rattle.gimli_read.specs.declared.error.Error.{Error}
 use Rattle.gimli_read.specs.declared.error.Error.TheVariants.{OffsetOutOfBounds}
 use Rattle.gimli_read.specs.declared.value.AttributeValue.{AttributeValue}
 use Rattle.gimli_read.specs.declared.value.AttributeValue.TheVariants as values
 use Rattle.gimli_read.specs.Section.{Section}
+use Rattle.gimli_read.specs.Version.{is_before_5}
 use Rattle.gimli_read.specs.Reading.{◌>>=◌}
-use Rattle.gimli_read.specs.Number.{offset_size}
+use Rattle.gimli_read.specs.Number.{fits_u64, offset_size}
 use Rattle.gimli.specs.declared.dwarf.DwarfFileType.{DwarfFileType}
 use Rattle.gimli.specs.declared.dwarf.DwarfFileType.TheVariants.{Main, Dwo}
 use Rattle.gimli.specs.Sections.{Sections}
 use Rattle.gimli.specs.Text.{indexed_number}
 use Rattle.gimli.specs.Record.{line_offset}
 use Rattle.gimli.specs.Unit.{UnitRecord}
-use Rattle.gimli.specs.RangeListEntries.{is_before_5}
 
 -- an offset that counts from a base
 abbrev pub offset_from_base : ℕ → ℕ → Result (Option ℕ) Error
 offset_from_base base offset =
-    if nat_lt (base + offset) (2 ^ 64) then Ok (Some (base + offset)) else Err OffsetOutOfBounds
+    if fits_u64 (base + offset) then Ok (Some (base + offset)) else Err OffsetOutOfBounds
 
 -- where the section offsets of a unit's range lists count from
 abbrev pub ranges_base : DwarfFileType → UnitRecord → ℕ
 ranges_base Main u = 0
-ranges_base Dwo u = if is_before_5 u.header.encoding then u.rnglists_base else 0
+ranges_base Dwo u = if is_before_5 u.header.encoding.version then u.rnglists_base else 0
 
 -- the offset of a list by its index in the unit's table of offsets
 abbrev pub rnglists_offset : Sections → UnitRecord → ℕ → Result (Option ℕ) Error

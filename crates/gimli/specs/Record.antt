@@ -4,7 +4,7 @@
 -- data4 and data8 of the offset's width under stmt_list in versions 2 and 3; GNU_dwo_id is a
 -- constant. A name or a directory that can't be read counts as none. GNU_dwo_name names a split
 -- file below version 5, dwo_name from then on, in any form.
-use Rattle.std.specs.Prelude.{ℕ, ◌==◌, ◌||◌, nat_le, nat_lt, Bool, List, fold, Option, Some, None, Result, Ok, if◌then◌else◌}
+use Rattle.std.specs.Prelude.{ℕ, ◌==◌, ◌||◌, List, fold, Option, Some, None, Result, Ok, if◌then◌else◌}
 use Rattle.std.specs.Option.{option_or}
 use Rattle.gimli_read.specs.declared.error.Error.{Error}
 use Rattle.gimli_read.specs.declared.constants.TheConstants.DwAt.{DW_AT_name, DW_AT_comp_dir, DW_AT_low_pc, DW_AT_stmt_list, DW_AT_str_offsets_base, DW_AT_addr_base, DW_AT_GNU_addr_base, DW_AT_rnglists_base, DW_AT_GNU_ranges_base, DW_AT_GNU_dwo_id, DW_AT_GNU_dwo_name, DW_AT_dwo_name}
@@ -15,6 +15,7 @@ use Rattle.gimli_read.specs.declared.endian.Format.TheVariants.{Dwarf32, Dwarf64
 use Rattle.gimli_read.specs.declared.value.AttributeValue.{AttributeValue}
 use Rattle.gimli_read.specs.declared.value.AttributeValue.TheVariants as values
 use Rattle.gimli_read.specs.Section.{Section}
+use Rattle.gimli_read.specs.Version.{is_before_4, is_before_5}
 use Rattle.gimli_read.specs.Reading.{Reading, ◌>>=◌}
 use Rattle.gimli_read.specs.Form.{NamedValue, constant_of}
 use Rattle.gimli_read.specs.Abbreviations.{Abbrev}
@@ -45,29 +46,25 @@ abbrev pub section_offset : AttributeValue Section → Option ℕ
 section_offset (values.SecOffset n) = Some n
 section_offset _ = None
 
--- whether a version has no form of its own for section offsets
-abbrev pub is_before_4 : Encoding → Bool
-is_before_4 encoding = nat_le encoding.version 3
-
 -- an offset of the format's width
 abbrev pub of_width : Format → Format → ℕ → Option ℕ
 of_width Dwarf32 Dwarf32 n = Some n
 of_width Dwarf64 Dwarf64 n = Some n
 of_width _ _ n = None
 
--- a value of the class section offset under stmt_list
+-- a value of the class section offset under stmt_list; below version 4 it has no form of its own
 abbrev pub line_offset : Encoding → AttributeValue Section → Option ℕ
 line_offset encoding (values.SecOffset n) = Some n
 line_offset encoding (values.Data4 n) =
-    if is_before_4 encoding then of_width Dwarf32 encoding.format n else None
+    if is_before_4 encoding.version then of_width Dwarf32 encoding.format n else None
 line_offset encoding (values.Data8 n) =
-    if is_before_4 encoding then of_width Dwarf64 encoding.format n else None
+    if is_before_4 encoding.version then of_width Dwarf64 encoding.format n else None
 line_offset encoding _ = None
 
 -- the attribute that names a split file
 abbrev pub dwo_name_attribute : Encoding → DwAt
 dwo_name_attribute encoding =
-    if nat_lt encoding.version 5 then DW_AT_GNU_dwo_name else DW_AT_dwo_name
+    if is_before_5 encoding.version then DW_AT_GNU_dwo_name else DW_AT_dwo_name
 
 -- the values with one more attribute
 abbrev pub with_root_attribute : Encoding → RootValues → NamedValue → RootValues

@@ -1,8 +1,9 @@
 -- Split files and what they take from the file that they belong to (DWARF 5, section 7.3.2).
-use Rattle.std.specs.Prelude.{ℕ, nat_lt, Option, Some, None, Result, Ok, if◌then◌else◌}
+use Rattle.std.specs.Prelude.{ℕ, Option, Some, None, Result, Ok, if◌then◌else◌}
 use Rattle.gimli_read.specs.declared.error.Error.{Error}
 use Rattle.gimli_read.specs.declared.value.AttributeValue.{AttributeValue}
 use Rattle.gimli_read.specs.Section.{Section}
+use Rattle.gimli_read.specs.Version.{is_before_5}
 use Rattle.gimli_read.specs.Reading.{◌>>=◌}
 use Rattle.gimli.specs.declared.dwarf.DwarfFileType.TheVariants.{Dwo}
 use Rattle.gimli.specs.Sections.{Sections}
@@ -38,7 +39,7 @@ dwo_name_fault d u = dwo_name_of u >>= string_fault_if d u
 -- the base of range lists of a split unit: below version 5 its main unit's
 abbrev pub relocated_rnglists_base : UnitRecord → UnitRecord → ℕ
 relocated_rnglists_base u main =
-    if nat_lt u.header.encoding.version 5 then main.rnglists_base else u.rnglists_base
+    if is_before_5 u.header.encoding.version then main.rnglists_base else u.rnglists_base
 
 -- a split unit with the addresses and bases that its main unit relocates
 abbrev pub relocated : UnitRecord → UnitRecord → UnitRecord

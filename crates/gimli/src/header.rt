@@ -10,7 +10,9 @@ use crate::constants::{
     DW_UT_compile, DW_UT_partial, DW_UT_skeleton, DW_UT_split_compile, DW_UT_split_type, DW_UT_type,
 };
 use crate::unit::{DwoId, UnitHeader, UnitType};
-use gimli_read::{DebugInfoOffset, Encoding, Error, Format, Reader, read_initial_length};
+use gimli_read::{
+    DebugInfoOffset, Encoding, Error, Format, Reader, is_address_size, read_initial_length,
+};
 
 // An address size.
 #[tactic(auto, unfolding(crate::specs::Header::unit_address_size_at))]
@@ -19,10 +21,10 @@ pub(crate) fn read_address_size<R: Reader>(input: &mut R) -> Result<u8, Error>
     ensures known { IfOk result (λ size. is_address_size size ≡ true) }
 {
     let size = input.read_u8()?;
-    match size {
-        1 | 2 | 4 | 8 => Ok(size),
-        _ => Err(Error::UnsupportedAddressSize),
+    if !is_address_size(size) {
+        return Err(Error::UnsupportedAddressSize);
     }
+    Ok(size)
 }
 
 // A unit type.

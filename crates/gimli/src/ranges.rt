@@ -12,7 +12,7 @@ use crate::address_size::greatest_address;
 use crate::rnglists::{RangeListEntry, read_range_list_entry};
 use crate::text::read_from;
 use crate::unit_ref::UnitRef;
-use gimli_read::{EndianSlice, Error, Range, Reader};
+use gimli_read::{EndianSlice, Error, Range, Reader, is_address_size};
 use std::marker::Model;
 
 // A sum, as an address of a size.
@@ -130,13 +130,6 @@ fn find_range<R: Reader>(
         }
     }
     Ok(None)
-}
-
-// Whether an address may have this size.
-fn is_address_size(size: u8) -> bool
-    ensures gives { result ≡ is_address_size size }
-{
-    matches!(size, 1 | 2 | 4 | 8)
 }
 
 // The section of a unit's range lists.

@@ -7,7 +7,7 @@ ghost use Rattle.gimli.specs.RangesOffset.{offset_from_base, ranges_base, rnglis
 
 use crate::dwarf::{Dwarf, DwarfFileType};
 use crate::record::line_offset;
-use crate::text::{read_indexed_number, size_of_offset};
+use crate::text::read_indexed_number;
 use crate::unit_record::Unit;
 use gimli_read::{AttributeValue, Error, Reader};
 
@@ -45,7 +45,7 @@ fn rnglists_offset<R: Reader>(
 ) -> Result<Option<u64>, Error>
     ensures gives { Exactly (λ n. n) result (rnglists_offset dwarf.now unit.now index) }
 {
-    let size = size_of_offset(unit.header.encoding.format);
+    let size = unit.header.encoding.format.word_size();
     let base = unit.rnglists_base;
     let offset = read_indexed_number(&dwarf.debug_rnglists.section, size, base, index)?;
     offset_from_base(base, offset)

@@ -86,14 +86,14 @@ pub(crate) fn line_offset<R: Reader>(encoding: Encoding, value: &AttributeValue<
     match value {
         AttributeValue::SecOffset(offset) => Some(*offset),
         AttributeValue::Data4(offset) => {
-            if encoding.version <= 3 && encoding.format == Format::Dwarf32 {
+            if encoding.version < 4 && encoding.format == Format::Dwarf32 {
                 Some(u64::from(*offset))
             } else {
                 None
             }
         }
         AttributeValue::Data8(offset) => {
-            if encoding.version <= 3 && encoding.format == Format::Dwarf64 {
+            if encoding.version < 4 && encoding.format == Format::Dwarf64 {
                 Some(*offset)
             } else {
                 None

@@ -3,7 +3,6 @@
 ghost use Rattle.std.specs.Prelude.{◌≡◌, is_ok};
 ghost use Rattle.gimli_read.specs.Reading.{Exactly, ExactlyUnlessOomFor};
 ghost use Rattle.gimli_read.specs.Form.{seen_value};
-ghost use Rattle.gimli_read.specs.Number.{offset_size};
 ghost use Rattle.gimli.specs.Unit.{attr_string_of};
 ghost use Rattle.gimli_line.specs.Opcode.{fault_of};
 ghost use Rattle.gimli.specs.Text.{from_offset, string_at, string_length_at, indexed_number, indexed_string, sup_string_at, string_of, string_takes_memory};
@@ -55,16 +54,6 @@ fn read_string_at<R: Reader>(section: &R, offset: u64) -> Result<R, Error>
     Ok(string)
 }
 
-/// How many bytes an offset has.
-pub(crate) fn size_of_offset(format: Format) -> u8
-    ensures gives { result ≡ offset_size format }
-{
-    match format {
-        Format::Dwarf32 => 4,
-        Format::Dwarf64 => 8,
-    }
-}
-
 /// The number of an index in a table of numbers of `size` bytes, which begins at `base`. Takes no
 /// memory.
 ///
@@ -105,7 +94,7 @@ fn read_indexed_string<R: Reader>(
     ensures gives { ExactlyUnlessOomFor R.shares is_ok R.section result
         (indexed_string dwarf.now format base index) }
 {
-    let size = size_of_offset(format);
+    let size = format.word_size();
     let offset = read_indexed_number(&dwarf.debug_str_offsets.section, size, base, index)?;
     read_string_at(&dwarf.debug_str.section, offset)
 }
@@ -172,7 +161,7 @@ fn check_indexed_string<R: Reader>(
     ensures gives { Exactly (λ x. x) result
         (fault_of (indexed_string dwarf.now format base index)) }
 {
-    let size = size_of_offset(format);
+    let size = format.word_size();
     let offset = read_indexed_number(&dwarf.debug_str_offsets.section, size, base, index)?;
     check_string_at(&dwarf.debug_str.section, offset)
 }

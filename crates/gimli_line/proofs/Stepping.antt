@@ -1,5 +1,5 @@
 -- Registers hold what the opcodes of the sequence so far make (on specs/Rows.antt and specs/Steps.antt).
-use Rattle.std.proofs.Common.{ℕ, ◌≡◌, ◌+◌, ◌-◌, ◌*◌, ◌/◌, ◌%◌, ◌<◌, Bool, true, false, cond, ◌||◌, nat_lt, List, [], ◌∷◌, arith, ◌∙◌, ap, sym, refl, sum_by}
+use Rattle.std.proofs.Common.{ℕ, ◌≡◌, ◌+◌, ◌*◌, ◌/◌, ◌%◌, ◌<◌, Bool, true, false, cond, ◌||◌, nat_lt, List, [], ◌∷◌, arith, ◌∙◌, ap, sym, refl, sum_by}
 use Rattle.std.proofs.Math.Nat.{mod-eq_of_lt, div-eq_of_lt, mod-lt}
 use Rattle.std.proofs.lemmas.List.Sums.{sum_by-cons}
 use Rattle.gimli_line.specs.declared.encoding.LineEncoding.{LineEncoding}
@@ -182,7 +182,7 @@ module _ (e : LineEncoding) (past : List Opcode) (r : Registers) (s : StandsFor 
   step_stands (AdvanceLine z) = quiet (AdvanceLine z) refl (record r { line = moved r.line z }) refl refl refl refl s.file (ap (λ l. moved l z) s.line) s.column
   step_stands (SetFile n) = quiet (SetFile n) refl (record r { file_index = n }) refl refl refl refl refl s.line s.column
   step_stands (SetColumn n) = quiet (SetColumn n) refl (record r { column = n }) refl refl refl refl s.file s.line refl
-  step_stands ConstAddPc = passes ConstAddPc refl r ((255 - e.opcode_base) / e.line_range) refl refl refl refl s.file s.line s.column
+  step_stands ConstAddPc = passes ConstAddPc refl r (advance e ConstAddPc) refl refl refl refl s.file s.line s.column
   step_stands (FixedAdvancePc n) = pushes n
   step_stands EndSequence = quiet EndSequence refl r refl refl refl refl s.file s.line s.column
   step_stands (SetAddress a) = sets a

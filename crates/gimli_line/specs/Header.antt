@@ -1,8 +1,9 @@
 -- What a line program's header and its tables say (DWARF 5, section 6.2.4), and what a program has.
-use Rattle.std.specs.Prelude.{ℕ, ◌-◌, ◌==◌, Bool, false, List, slice_get, Option, Some, None, nat_lt, if◌then◌else◌}
+use Rattle.std.specs.Prelude.{ℕ, ◌-◌, ◌==◌, Bool, false, List, slice_get, Option, Some, None, if◌then◌else◌}
 use Rattle.gimli_read.specs.declared.endian.Encoding.{Encoding}
 use Rattle.gimli_read.specs.declared.value.AttributeValue.{AttributeValue}
 use Rattle.gimli_read.specs.Section.{Section}
+use Rattle.gimli_read.specs.Version.{is_before_5}
 use Rattle.gimli_read.specs.HeldBytes.{holds_bytes}
 use Rattle.gimli_line.specs.declared.encoding.LineEncoding.{LineEncoding}
 
@@ -27,7 +28,7 @@ pub record Program : Type 0 where
 -- an entry of a table, counted from 1 below version 5 and from 0 in it
 abbrev pub entry_of : {A : Type 0} → ℕ → ℕ → List A → Option A
 entry_of version n entries =
-    if nat_lt version 5 then (if n == 0 then None else slice_get entries (n - 1))
+    if is_before_5 version then (if n == 0 then None else slice_get entries (n - 1))
     else slice_get entries n
 
 -- a file by its index

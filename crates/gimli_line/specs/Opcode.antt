@@ -1,11 +1,12 @@
 -- The opcodes of a line program (DWARF 5, sections 6.2.5 and 7.22).
 -- Own: a standard opcode that isn't known has as many LEB128 numbers as the header says.
 -- Own: bytes of an extended opcode that follow its operand are skipped.
-use Rattle.std.specs.Prelude.{ℕ, zero, suc, ◌-◌, ◌==◌, ◌&&◌, List, [], ◌∷◌, length, slice_index, Option, Some, None, Result, Ok, Err, nat_lt, nat_le, if◌then◌else◌, Bool, true, false}
+use Rattle.std.specs.Prelude.{ℕ, zero, suc, ◌-◌, ◌==◌, ◌&&◌, List, [], ◌∷◌, length, slice_index, Option, Some, None, Result, Ok, Err, nat_le, if◌then◌else◌, Bool, true, false}
 use Rattle.gimli_read.specs.declared.value.AttributeValue.TheVariants.{String}
 use Rattle.gimli_read.specs.declared.error.Error.{Error}
 use Rattle.gimli_read.specs.Section.{Section}
-use Rattle.gimli_read.specs.Reading.{Reading, ◌>>=◌}
+use Rattle.gimli_read.specs.Version.{is_before_5}
+use Rattle.gimli_read.specs.Reading.{Reading, mapped, ◌>>=◌}
 use Rattle.gimli_read.specs.Number.{fixed_at, address_at, split_at, null_terminated_at}
 use Rattle.gimli_read.specs.Leb128.{uleb128_at, sleb128_at}
 use Rattle.gimli_read.specs.Run.{Run, run_of}
@@ -31,10 +32,6 @@ file_entry_at s = do
   path ← null_terminated_at s
   file_with_path_at path.0 path.1
 
--- an opcode made of what a reading gives
-abbrev pub as_opcode : {A : Type 0} → (A → Opcode) → Reading A → Reading Opcode
-as_opcode make read = read >>= λ x. Ok (make x.0, x.1)
-
 -- n numbers, which are skipped
 unfoldable pub numbers_skipped : ℕ → Section → Reading (Unit {0})
 numbers_skipped zero s = Ok (tt, s)
@@ -44,38 +41,38 @@ numbers_skipped (suc n) s = uleb128_at s >>= λ x. numbers_skipped n x.1
 unfoldable pub standard_at : Header → ℕ → Section → Reading Opcode
 standard_at h code s =
     if code == DW_LNS_copy then Ok (Copy, s)
-    else if code == DW_LNS_advance_pc then as_opcode AdvancePc (uleb128_at s)
-    else if code == DW_LNS_advance_line then as_opcode AdvanceLine (sleb128_at s)
-    else if code == DW_LNS_set_file then as_opcode SetFile (uleb128_at s)
-    else if code == DW_LNS_set_column then as_opcode SetColumn (uleb128_at s)
+    else if code == DW_LNS_advance_pc then mapped AdvancePc (uleb128_at s)
+    else if code == DW_LNS_advance_line then mapped AdvanceLine (sleb128_at s)
+    else if code == DW_LNS_set_file then mapped SetFile (uleb128_at s)
+    else if code == DW_LNS_set_column then mapped SetColumn (uleb128_at s)
     else if code == DW_LNS_negate_stmt then Ok (Other, s)
     else if code == DW_LNS_set_basic_block then Ok (Other, s)
     else if code == DW_LNS_const_add_pc then Ok (ConstAddPc, s)
-    else if code == DW_LNS_fixed_advance_pc then as_opcode FixedAdvancePc (fixed_at 2 s)
+    else if code == DW_LNS_fixed_advance_pc then mapped FixedAdvancePc (fixed_at 2 s)
     else if code == DW_LNS_set_prologue_end then Ok (Other, s)
     else if code == DW_LNS_set_epilogue_begin then Ok (Other, s)
-    else if code == DW_LNS_set_isa then as_opcode (λ n. Other) (uleb128_at s)
-    else as_opcode (λ x. Other)
+    else if code == DW_LNS_set_isa then mapped (λ n. Other) (uleb128_at s)
+    else mapped (λ x. Other)
     (numbers_skipped (slice_index h.standard_opcode_lengths.bytes (code - 1)) s)
 
 -- the operand of an extended opcode that defines no file
 unfoldable pub operand_at : ℕ → ℕ → Section → Reading Opcode
 operand_at address_size code s =
     if code == DW_LNE_end_sequence then Ok (EndSequence, s)
-    else if code == DW_LNE_set_address then as_opcode SetAddress (address_at address_size s)
-    else if code == DW_LNE_set_discriminator then as_opcode (λ n. Other) (uleb128_at s)
+    else if code == DW_LNE_set_address then mapped SetAddress (address_at address_size s)
+    else if code == DW_LNE_set_discriminator then mapped (λ n. Other) (uleb128_at s)
     else Ok (Other, s)
 
 -- whether an extended opcode defines a file, which version 5 no longer does
 abbrev pub defines : Header → ℕ → Bool
-defines h code = code == DW_LNE_define_file && nat_lt h.encoding.version 5
+defines h code = code == DW_LNE_define_file && is_before_5 h.encoding.version
 
 -- the bytes of an extended opcode, its code first
 unfoldable pub extended_in : Header → Section → Reading (LineInstruction File)
 extended_in h s = do
   code ← fixed_at 1 s
-  if defines h code.0 then (file_entry_at code.1 >>= λ f. Ok (Defines f.0, f.1))
-      else (operand_at h.line_encoding.address_size code.0 code.1 >>= λ op. Ok (Changes op.0, op.1))
+  if defines h code.0 then mapped Defines (file_entry_at code.1)
+      else mapped Changes (operand_at h.line_encoding.address_size code.0 code.1)
 
 -- a length, and an extended opcode in as many bytes
 unfoldable pub extended_at : Header → Section → Reading (LineInstruction File)
@@ -105,14 +102,13 @@ coded_instruction_at h code s =
     if code == 0 then extended_at h s
     else if nat_le h.line_encoding.opcode_base code
     then Ok (Changes (Special (code - h.line_encoding.opcode_base)), s)
-    else (standard_at h code s >>= λ op. Ok (Changes op.0, op.1))
+    else mapped Changes (standard_at h code s)
 
 -- an instruction, none at the end
 unfoldable pub instruction_at : Header → Section → Reading (Option (LineInstruction File))
 instruction_at h s = if length s.bytes == 0 then Ok (None, s) else do
   code ← fixed_at 1 s
-  instruction ← coded_instruction_at h code.0 code.1
-  Ok (Some instruction.0, instruction.1)
+  mapped Some (coded_instruction_at h code.0 code.1)
 
 -- the instructions of a program that can be read, and then its end or the fault
 abbrev pub instructions_of : Header → Section → Run (LineInstruction File) Section

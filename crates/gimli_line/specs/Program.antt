@@ -7,6 +7,7 @@ use Rattle.gimli_read.specs.declared.error.Error.TheVariants.{UnknownVersion, Un
 use Rattle.gimli_read.specs.declared.endian.Encoding.{Encoding}
 use Rattle.gimli_read.specs.declared.endian.Format.{Format}
 use Rattle.gimli_read.specs.Section.{Section}
+use Rattle.gimli_read.specs.Version.{is_before_4, is_before_5}
 use Rattle.gimli_read.specs.Reading.{Reading, ◌>>=◌, refused_if}
 use Rattle.gimli_read.specs.Number.{fixed_at, signed_byte_at, offset_at, split_at, initial_length_at, is_address_size}
 use Rattle.gimli_line.specs.declared.encoding.LineEncoding.{LineEncoding}
@@ -17,7 +18,7 @@ use Rattle.gimli_line.specs.Tables.{tables_at}
 -- of 0
 unfoldable pub address_size_at : ℕ → ℕ → Section → Reading ℕ
 address_size_at version unit_size s =
-    if nat_lt version 5
+    if is_before_5 version
     then (refused_if (not (is_address_size unit_size)) UnsupportedAddressSize
     >>= λ _. Ok (unit_size, s))
     else do
@@ -36,7 +37,7 @@ nonzero_at s = do
 
 -- how many operations an instruction may have, which versions below 4 do not say
 unfoldable pub operations_at : ℕ → Section → Reading ℕ
-operations_at version s = if nat_lt version 4 then Ok (1, s) else nonzero_at s
+operations_at version s = if is_before_4 version then Ok (1, s) else nonzero_at s
 
 -- the numbers that a program is run by
 unfoldable pub numbers_at : Encoding → Section → Reading LineEncoding

@@ -12,6 +12,7 @@ use Rattle.gimli_line.specs.declared.opcode.Opcode.{Opcode}
 use Rattle.gimli_line.specs.declared.opcode.Opcode.TheVariants.{Special, Copy, AdvancePc, AdvanceLine, SetFile, SetColumn, ConstAddPc, FixedAdvancePc, EndSequence, SetAddress}
 use Rattle.gimli_line.specs.declared.opcode.LineInstruction.{LineInstruction}
 use Rattle.gimli_line.specs.declared.row.LineRow.{LineRow}
+use Rattle.gimli_line.specs.declared.constants.TheConstants.{LAST_SPECIAL_OPCODE}
 use Rattle.gimli_line.specs.AddressSize.{is_tombstone}
 use Rattle.gimli_line.specs.Encoding.{limit}
 use Rattle.gimli_line.specs.Opcode.{opcodes_in}
@@ -20,7 +21,7 @@ use Rattle.gimli_line.specs.Opcode.{opcodes_in}
 abbrev pub advance : LineEncoding → Opcode → ℕ
 advance e (Special n) = n / e.line_range
 advance e (AdvancePc n) = n
-advance e ConstAddPc = (255 - e.opcode_base) / e.line_range
+advance e ConstAddPc = (LAST_SPECIAL_OPCODE - e.opcode_base) / e.line_range
 advance e _ = 0
 
 -- by how many lines a special opcode moves the line

@@ -16,7 +16,7 @@ use Rattle.gimli_line.specs.AddressSize.{is_tombstone}
 use Rattle.gimli_line.specs.Encoding.{limit}
 use Rattle.gimli_line.specs.Header.{File, Header}
 use Rattle.gimli_line.specs.Opcode.{standard_at, extended_at}
-use Rattle.gimli_line.specs.Rows.{line_advance, moved, is_end, makes_row}
+use Rattle.gimli_line.specs.Rows.{advance, line_advance, moved, is_end, makes_row}
 
 -- the registers at the start of a sequence
 abbrev pub start : Registers
@@ -58,7 +58,7 @@ step e r (AdvancePc n) = advanced e n r
 step e r (AdvanceLine z) = record r { line = moved r.line z }
 step e r (SetFile n) = record r { file_index = n }
 step e r (SetColumn n) = record r { column = n }
-step e r ConstAddPc = advanced e ((255 - e.opcode_base) / e.line_range) r
+step e r ConstAddPc = advanced e (advance e ConstAddPc) r
 step e r (FixedAdvancePc n) = fixed_advanced n r
 step e r EndSequence = r
 step e r (SetAddress a) = placed e a r

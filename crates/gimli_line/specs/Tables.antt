@@ -1,9 +1,10 @@
 -- The tables of a line program's header (DWARF 5, section 6.2.4; DWARF 2 to 4, section 6.2.4).
-use Rattle.std.specs.Prelude.{◌==◌, List, length, map, Option, Some, None, Ok, nat_lt, if◌then◌else◌}
+use Rattle.std.specs.Prelude.{◌==◌, List, length, map, Option, Some, None, Ok, if◌then◌else◌}
 use Rattle.gimli_read.specs.declared.endian.Encoding.{Encoding}
 use Rattle.gimli_read.specs.declared.value.AttributeValue.{AttributeValue}
 use Rattle.gimli_read.specs.declared.value.AttributeValue.TheVariants.{String}
 use Rattle.gimli_read.specs.Section.{Section}
+use Rattle.gimli_read.specs.Version.{is_before_5}
 use Rattle.gimli_read.specs.Reading.{Reading, ◌>>=◌}
 use Rattle.gimli_read.specs.Number.{null_terminated_at}
 use Rattle.gimli_read.specs.Run.{run_of, collected}
@@ -52,4 +53,4 @@ new_tables_at e s = do
 
 -- the tables of a version
 unfoldable pub tables_at : Encoding → Section → Reading Tables
-tables_at e s = if nat_lt e.version 5 then old_tables_at s else new_tables_at e s
+tables_at e s = if is_before_5 e.version then old_tables_at s else new_tables_at e s

@@ -1,6 +1,9 @@
 //! The opcodes and content types of line programs, in the standard's spelling (DWARF 5, section
 //! 7.22).
 
+/// The last special opcode.
+pub(crate) const LAST_SPECIAL_OPCODE: u8 = 255;
+
 /// Appends a row.
 pub(crate) const DW_LNS_copy: u8 = 0x01;
 
@@ -22,7 +25,7 @@ pub(crate) const DW_LNS_negate_stmt: u8 = 0x06;
 /// Marks the begin of a basic block.
 pub(crate) const DW_LNS_set_basic_block: u8 = 0x07;
 
-/// Advances by the operations of special opcode 255.
+/// Advances by the operations of the last special opcode.
 pub(crate) const DW_LNS_const_add_pc: u8 = 0x08;
 
 /// Adds bytes to the address.

@@ -1,7 +1,6 @@
 //! The opcodes of line programs.
 
 ghost use Rattle.std.specs.Prelude.{◌≡◌, ◌==◌, ◌&&◌, false, nat_lt, IfErr, Err};
-ghost use Rattle.std.specs.List.{position};
 ghost use Rattle.gimli_read.specs.Reading.{Exactly, ExactlyUnlessOomIf, ExactlyUnlessOomFor, Reads};
 ghost use Rattle.gimli_read.specs.Number.{null_terminated_at};
 ghost use Rattle.gimli_line.specs.Opcode.{file_with_path_at, file_entry_at, operand_at, defines, extended_in, extended_at, gives_file, fault_of};
@@ -10,7 +9,7 @@ use crate::constants::{
     DW_LNE_define_file, DW_LNE_end_sequence, DW_LNE_set_address, DW_LNE_set_discriminator,
 };
 use crate::header::{FileEntry, LineProgramHeader};
-use gimli_read::{AttributeValue, EndianSlice, Error, Reader, RunTimeEndian};
+use gimli_read::{AttributeValue, EndianSlice, Error, Reader, RunTimeEndian, zero_of};
 
 /// An opcode with its operands (DWARF 5, section 6.2.5).
 #[derive(Clone, Copy, Debug, PartialEq, Eq)]
@@ -27,7 +26,7 @@ pub enum Opcode {
     SetFile(u64),
     /// Sets the column.
     SetColumn(u64),
-    /// Advances by the operations of special opcode 255.
+    /// Advances by the operations of the last special opcode, 255.
     ConstAddPc,
     /// Adds bytes to the address.
     FixedAdvancePc(u16),
@@ -71,13 +70,6 @@ fn read_file_entry<R: Reader>(input: &mut R) -> Result<FileEntry<R>, Error>
 {
     let path = input.read_null_terminated()?;
     read_file_with_path(path, input)
-}
-
-// The place of the first zero byte.
-fn zero_of(bytes: &[u8]) -> Option<usize>
-    ensures found { result ≡ position (λ b. b == 0) bytes.now }
-{
-    bytes.iter().position(|byte| *byte == 0)
 }
 
 // A text that a zero byte ends, and what follows that byte.

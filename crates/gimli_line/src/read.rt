@@ -12,16 +12,11 @@ use crate::parameters::LineParameters;
 use crate::program::IncompleteLineProgram;
 use crate::tables::read_tables;
 use gimli_read::{
-    Encoding, EndianSlice, Error, Format, Reader, RunTimeEndian, read_initial_length,
+    Encoding, EndianSlice, Error, Format, Reader, RunTimeEndian, is_address_size,
+    read_initial_length,
 };
 use std::alloc::Global;
 use std::marker::Model;
-
-fn known_size(size: u8) -> bool
-    ensures gives { result ≡ is_address_size size }
-{
-    size == 1 || size == 2 || size == 4 || size == 8
-}
 
 // The address size of a program.
 #[tactic(auto, unfolding(crate::specs::Program::address_size_at))]
@@ -30,13 +25,13 @@ fn read_address_size<R: Reader>(version: u16, unit_size: u8, input: &mut R) -> R
     ensures known { IfOk result (λ size. is_address_size size ≡ true) }
 {
     if version < 5 {
-        if !known_size(unit_size) {
+        if !is_address_size(unit_size) {
             return Err(Error::UnsupportedAddressSize);
         }
         return Ok(unit_size);
     }
     let size = input.read_u8()?;
-    if !known_size(size) {
+    if !is_address_size(size) {
         return Err(Error::UnsupportedAddressSize);
     }
     if input.read_u8()? != 0 {

@@ -7,6 +7,7 @@ ghost use Rattle.gimli_line.specs.AddressSize.{is_tombstone};
 ghost use Rattle.gimli_line.specs.Rows.{moved, line_advance, is_end, makes_row};
 ghost use Rattle.gimli_line.specs.Steps.{IsRunning, start, advanced, placed, fixed_advanced, step, fitting, row, row_of, next, executed};
 
+use crate::constants::LAST_SPECIAL_OPCODE;
 use crate::opcode::Opcode;
 use crate::parameters::LineParameters;
 use crate::row::LineRow;
@@ -173,8 +174,8 @@ impl Registers {
             }
             Opcode::AdvancePc(n) => return self.advance(parameters, n),
             Opcode::ConstAddPc => {
-                let last = u64::from(parameters.quotient(255 - parameters.encoding.opcode_base));
-                return self.advance(parameters, last);
+                let last = LAST_SPECIAL_OPCODE - parameters.encoding.opcode_base;
+                return self.advance(parameters, u64::from(parameters.quotient(last)));
             }
             Opcode::FixedAdvancePc(n) => return self.fixed_advance(parameters, n),
             Opcode::AdvanceLine(by) => self.line = move_line(self.line, by),

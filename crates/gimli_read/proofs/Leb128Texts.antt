@@ -7,7 +7,8 @@ use Rattle.std.proofs.lemmas.List.Sums.{position_or_len_is}
 use Rattle.std.proofs.lemmas.List.Quantifiers.{position-Some}
 use Rattle.std.proofs.lemmas.Grind.{common_steps}
 use Rattle.gimli_read.specs.declared.error.Error.TheVariants.{BadLeb128}
-use Rattle.gimli_read.specs.Leb128.{uleb128_value, sleb128_value, fits_i64, cut_after, leb128_text, uleb128_in, sleb128_in, IsLeb128Text, ReadsUleb128, ReadsUleb128Alone, ReadsSleb128, ReadsSleb128Alone}
+use Rattle.gimli_read.specs.Number.{fits_i64}
+use Rattle.gimli_read.specs.Leb128.{uleb128_value, sleb128_value, cut_after, leb128_text, uleb128_in, sleb128_in, IsLeb128Text, ReadsUleb128, ReadsUleb128Alone, ReadsSleb128, ReadsSleb128Alone}
 use Rattle.gimli_read.proofs.Steps.{bind_ok, branch_taken, same_rest, same_value}
 
 position_at : (p : ℕ → Bool) (xs : List ℕ) (i : ℕ) → i < length xs → ((k : ℕ) → k < i → p (get_or xs k 0) ≡ false) → p (get_or xs i 0) ≡ true → position p xs ≡ Some i

@@ -11,8 +11,8 @@ use Rattle.gimli_read.specs.declared.endian.Format.{Format}
 use Rattle.gimli_read.specs.declared.endian.Format.TheVariants.{Dwarf32, Dwarf64}
 use Rattle.gimli_read.specs.Section.{Section, first, after}
 use Rattle.gimli_read.specs.Reading.{Reading, ◌>>=◌}
-use Rattle.gimli_read.specs.Number.{number_of, fixed_at, skipped_at, split_at, offset_at, long_length_at, initial_length_at}
-use Rattle.gimli_read.specs.Leb128.{uleb128_value, sleb128_value, fits_i64, cut_after, leb128_text, uleb128_in, sleb128_in, uleb128_at, sleb128_at}
+use Rattle.gimli_read.specs.Number.{fits_i64, number_of, fixed_at, skipped_at, split_at, offset_at, long_length_at, initial_length_at}
+use Rattle.gimli_read.specs.Leb128.{uleb128_value, sleb128_value, cut_after, leb128_text, uleb128_in, sleb128_in, uleb128_at, sleb128_at}
 
 -- each value of a reading leaves fewer than n bytes
 pub record Shorter {A : Type 0} (n : ℕ) (r : Reading A) : Type 0 where

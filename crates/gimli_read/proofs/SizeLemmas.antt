@@ -14,9 +14,9 @@ use Rattle.gimli_read.specs.declared.size.CountedSize.{CountedSize}
 use Rattle.gimli_read.specs.declared.size.TotalSize.{TotalSize}
 use Rattle.gimli_read.specs.Abbreviations.{Specification}
 use Rattle.gimli_read.specs.Section.{Section, after}
-use Rattle.gimli_read.specs.Reading.{Reading, ◌>>=◌}
+use Rattle.gimli_read.specs.Reading.{Reading, mapped, ◌>>=◌}
 use Rattle.gimli_read.specs.Number.{number_of, fixed_at, skipped_at, address_at, offset_at, is_address_size, offset_size}
-use Rattle.gimli_read.specs.FormEncoding.{FormEncoding, Fixed, Address, Offset, AddressOrOffset, Unsigned, Signed, Block1, Block2, Block4, Block, Text, Empty, form_encoding_of, as_value, address_or_offset_at, encoded_at}
+use Rattle.gimli_read.specs.FormEncoding.{FormEncoding, Fixed, Address, Offset, AddressOrOffset, Unsigned, Signed, Block1, Block2, Block4, Block, Text, Empty, form_encoding_of, address_or_offset_at, encoded_at}
 use Rattle.gimli_read.specs.Form.{NamedValue, rest_of, direct_at, form_at, value_at, implicit_of, named_value, attribute_at, attributes_at}
 use Rattle.gimli_read.specs.ValueSize.{encoded_size, constant_size, address_bytes, bytes_of, attribute_size, address_or_offset_bytes, counted_bytes, no_size, is_usual, total_bytes, LeavesItsSize}
 use Rattle.gimli_read.specs.Skip.{rest_after}
@@ -50,32 +50,37 @@ skipped_more n m s = at (ltb (length s.bytes) n) refl
     at true h = ap then h ∙ sym (missing (n + m) s (let l = ltb-true _ _ h in omega (arith, l)))
     at false h = ap then h ∙ left (ltb (length (drop n s.bytes)) m) refl (ltb-false _ _ h)
 
+-- a value that is made of what a reading gives leaves what the reading leaves
+pub mapped_leaves : {A B : Type 0} (make : A → B) (r : Reading A) → rest_of (mapped make r) ≡ rest_of r
+mapped_leaves make (Ok x) = refl
+mapped_leaves make (Err d) = refl
+
 -- a fixed number leaves what passing over as many bytes leaves
-fixed_rest : (make : ℕ → AttributeValue Section) (n : ℕ) (s : Section) → rest_of (as_value make (fixed_at n s)) ≡ rest_of (skipped_at n s)
+fixed_rest : (make : ℕ → AttributeValue Section) (n : ℕ) (s : Section) → rest_of (mapped make (fixed_at n s)) ≡ rest_of (skipped_at n s)
 fixed_rest make n s = at (ltb (length s.bytes) n)
   where
-    at : (b : Bool) → rest_of (as_value make (cond b (Err UnexpectedEof) (Ok (number_of s.endian n s.bytes, after n s)))) ≡ rest_of {A = Unit {0}} (cond b (Err UnexpectedEof) (Ok (tt, after n s)))
+    at : (b : Bool) → rest_of (mapped make (cond b (Err UnexpectedEof) (Ok (number_of s.endian n s.bytes, after n s)))) ≡ rest_of {A = Unit {0}} (cond b (Err UnexpectedEof) (Ok (tt, after n s)))
     at true = refl
     at false = refl
 
-address_rest : (e : Encoding) (make : ℕ → AttributeValue Section) (n : ℕ) (s : Section) → address_bytes e ≡ Some n → rest_of (as_value make (address_at e.address_size s)) ≡ rest_of (skipped_at n s)
+address_rest : (e : Encoding) (make : ℕ → AttributeValue Section) (n : ℕ) (s : Section) → address_bytes e ≡ Some n → rest_of (mapped make (address_at e.address_size s)) ≡ rest_of (skipped_at n s)
 address_rest e make n s = at (is_address_size e.address_size)
   where
-    at : (b : Bool) → cond b (Some e.address_size) None ≡ Some n → rest_of (as_value make (cond b (fixed_at e.address_size s) (Err UnsupportedAddressSize))) ≡ rest_of (skipped_at n s)
+    at : (b : Bool) → cond b (Some e.address_size) None ≡ Some n → rest_of (mapped make (cond b (fixed_at e.address_size s) (Err UnsupportedAddressSize))) ≡ rest_of (skipped_at n s)
     at true h = let is : e.address_size ≡ n = cc in fixed_rest make e.address_size s ∙ ap (λ k. rest_of (skipped_at k s)) is
     at false h = absurd cc
 
-offset_rest : (f : Format) (make : ℕ → AttributeValue Section) (s : Section) → rest_of (as_value make (offset_at f s)) ≡ rest_of (skipped_at (offset_size f) s)
+offset_rest : (f : Format) (make : ℕ → AttributeValue Section) (s : Section) → rest_of (mapped make (offset_at f s)) ≡ rest_of (skipped_at (offset_size f) s)
 offset_rest Dwarf32 make s = fixed_rest make 4 s
 offset_rest Dwarf64 make s = fixed_rest make 8 s
 
-same_offset : (f : Format) (make : ℕ → AttributeValue Section) (n : ℕ) (s : Section) → Some (offset_size f) ≡ Some n → rest_of (as_value make (offset_at f s)) ≡ rest_of (skipped_at n s)
+same_offset : (f : Format) (make : ℕ → AttributeValue Section) (n : ℕ) (s : Section) → Some (offset_size f) ≡ Some n → rest_of (mapped make (offset_at f s)) ≡ rest_of (skipped_at n s)
 same_offset f make n s h = let is : offset_size f ≡ n = cc in offset_rest f make s ∙ ap (λ k. rest_of (skipped_at k s)) is
 
-either_rest : (e : Encoding) (make : ℕ → AttributeValue Section) (n : ℕ) (s : Section) → cond (e.version == 2) (address_bytes e) (Some (offset_size e.format)) ≡ Some n → rest_of (as_value make (address_or_offset_at e s)) ≡ rest_of (skipped_at n s)
+either_rest : (e : Encoding) (make : ℕ → AttributeValue Section) (n : ℕ) (s : Section) → cond (e.version == 2) (address_bytes e) (Some (offset_size e.format)) ≡ Some n → rest_of (mapped make (address_or_offset_at e s)) ≡ rest_of (skipped_at n s)
 either_rest e make n s = at (e.version == 2)
   where
-    at : (b : Bool) → cond b (address_bytes e) (Some (offset_size e.format)) ≡ Some n → rest_of (as_value make (cond b (address_at e.address_size s) (offset_at e.format s))) ≡ rest_of (skipped_at n s)
+    at : (b : Bool) → cond b (address_bytes e) (Some (offset_size e.format)) ≡ Some n → rest_of (mapped make (cond b (address_at e.address_size s) (offset_at e.format s))) ≡ rest_of (skipped_at n s)
     at true h = address_rest e make n s h
     at false h = same_offset e.format make n s h
 
@@ -115,14 +120,10 @@ attribute_leaves_size e x n s = at (x.form.0 == DW_FORM_implicit_const.0)
     constant None h = absurd cc
     constant (Some z) h = let is : 0 ≡ n = cc in sym (none_skipped s) ∙ ap (λ j. rest_of (skipped_at j s)) is
 
-    named : (r : Reading (AttributeValue Section)) → rest_of (r >>= λ v. Ok (named_value x v.0, v.1)) ≡ rest_of r
-    named (Ok v) = refl
-    named (Err d) = refl
-
     at : (b : Bool) → bytes_of e (cond b (constant_size x.constant) (encoded_size (form_encoding_of x.form.0))) ≡ Some n
-        → rest_of (cond b (implicit_of x.constant >>= λ value. Ok (named_value x value, s)) (value_at e x.form.0 s >>= λ v. Ok (named_value x v.0, v.1))) ≡ rest_of (skipped_at n s)
+        → rest_of (cond b (implicit_of x.constant >>= λ value. Ok (named_value x value, s)) (mapped (named_value x) (value_at e x.form.0 s))) ≡ rest_of (skipped_at n s)
     at true h = constant x.constant h
-    at false h = named (value_at e x.form.0 s) ∙ value_leaves e x.form.0 n s h
+    at false h = mapped_leaves (named_value x) (value_at e x.form.0 s) ∙ value_leaves e x.form.0 n s h
 
 -- an attribute, and those after it
 pub rests_more : (e : Encoding) (x : Specification) (xs : List Specification) (s : Section) → rest_of (attributes_at e (x ∷ xs) s) ≡ (rest_of (attribute_at e x s) >>= λ t. rest_of (attributes_at e xs t))

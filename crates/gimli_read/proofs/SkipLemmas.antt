@@ -1,4 +1,4 @@
--- What a reading leaves is what passing over as many bytes leaves (on specs/Form.antt and specs/Skip.antt).
+-- What a reading leaves is what passing over as many bytes leaves (on specs/Form.antt and specs/ValueSize.antt).
 use Rattle.std.proofs.Common.{◌≡◌, ◌≢◌, ℕ, ◌-◌, ◌≤◌, ◌==◌, Bool, true, false, cond, List, [], ◌∷◌, ◌++◌, length, Option, Some, None, Result, Ok, Err, refl, sym, ap, ◌∙◌, arith}
 use Rattle.std.proofs.lemmas.Bool.{eqb-true}
 use Rattle.std.proofs.lemmas.List.{length-append, append_assoc}
@@ -6,22 +6,22 @@ use Rattle.std.proofs.Math.Seq.{drop-append_seam}
 use Rattle.gimli_read.specs.declared.endian.Encoding.{Encoding}
 use Rattle.gimli_read.specs.declared.constants.TheConstants.DwForm.{DW_FORM_indirect, DW_FORM_implicit_const}
 use Rattle.gimli_read.specs.declared.value.AttributeValue.{AttributeValue}
-use Rattle.gimli_read.specs.declared.skip.ValueEnd.{ValueEnd}
-use Rattle.gimli_read.specs.declared.skip.ValueEnd.TheVariants as ends
+use Rattle.gimli_read.specs.declared.size.ValueSize.{ValueSize}
+use Rattle.gimli_read.specs.declared.size.ValueSize.TheVariants as sizes
 use Rattle.gimli_read.specs.Section.{Section}
 use Rattle.gimli_read.specs.Abbreviations.{Specification}
 use Rattle.gimli_read.specs.Number.{skipped_at, null_terminated_at}
 use Rattle.gimli_read.specs.Leb128.{uleb128_at}
-use Rattle.gimli_read.specs.FormEncoding.{FormEncoding, Fixed, Address, Offset, AddressOrOffset, Unsigned, Signed, Block1, Block2, Block4, Block, Text, Empty, form_encoding_of, as_value, block_at, encoded_at}
-use Rattle.gimli_read.specs.Skip.{encoded_end}
+use Rattle.gimli_read.specs.FormEncoding.{FormEncoding, Fixed, Address, Offset, AddressOrOffset, Unsigned, Signed, Block1, Block2, Block4, Block, Text, Empty, form_encoding_of, block_at, encoded_at}
+use Rattle.gimli_read.specs.ValueSize.{encoded_size}
 use Rattle.gimli_read.specs.declared.error.Error.{Error}
-use Rattle.gimli_read.specs.Reading.{Reading, ◌>>=◌, Exactly}
+use Rattle.gimli_read.specs.Reading.{Reading, mapped, ◌>>=◌, Exactly}
 use Rattle.gimli_read.specs.Form.{NamedValue, rest_of, direct_at, form_at, value_at, implicit_of, named_value, attribute_at, attributes_at}
 use Rattle.gimli_read.specs.Value.{section_of}
 use Rattle.gimli_read.specs.ValueLaws.{IsTextAndRest}
 use Rattle.gimli_read.proofs.FixedTexts.{not_short}
 use Rattle.gimli_read.proofs.AttributeTexts.{attribute_alone}
-use Rattle.gimli_read.proofs.SizeLemmas.{rests_more}
+use Rattle.gimli_read.proofs.SizeLemmas.{mapped_leaves, rests_more}
 
 cut_skipped : (s rest : Section) (text : List ℕ) (n : ℕ) → IsTextAndRest s text rest → n ≡ length text → skipped_at n s ≡ Ok (tt, rest)
 cut_skipped s rest text n cut is =
@@ -69,69 +69,60 @@ pub skipped_exactly : (r : Result (Unit {0}) Error) (t : Section) (given : Readi
 skipped_exactly (Ok x) t given whole h k = h ∙ ap rest_of k
 skipped_exactly (Err e) t given whole h k = h ∙ ap rest_of k
 
--- a value that is made of what a reading gives leaves what the reading leaves
-made_left : {A : Type 0} (make : A → AttributeValue Section) (r : Reading A) → rest_of (as_value make r) ≡ rest_of r
-made_left make (Ok x) = refl
-made_left make (Err d) = refl
+-- what a value leaves, by what says how many bytes it has
+abbrev left_by : ValueSize → Reading (AttributeValue Section) → Section → Result Section Error
+left_by sizes.Number value s = rest_of (uleb128_at s)
+left_by sizes.Block value s = rest_of (block_at (uleb128_at s))
+left_by sizes.Text value s = rest_of (null_terminated_at s)
+left_by _ value s = rest_of value
 
--- what a value leaves, by where it ends
-abbrev left_by : ValueEnd → Reading (AttributeValue Section) → Section → Result Section Error
-left_by ends.Number value s = rest_of (uleb128_at s)
-left_by ends.Block value s = rest_of (block_at (uleb128_at s))
-left_by ends.Text value s = rest_of (null_terminated_at s)
-left_by ends.Other value s = rest_of value
-
-encoded_left : (e : Encoding) (f : Option FormEncoding) (s : Section) → rest_of (encoded_at e f s) ≡ left_by (encoded_end f) (encoded_at e f s) s
+encoded_left : (e : Encoding) (f : Option FormEncoding) (s : Section) → rest_of (encoded_at e f s) ≡ left_by (encoded_size f) (encoded_at e f s) s
 encoded_left e None s = refl
 encoded_left e (Some (Fixed n make)) s = refl
 encoded_left e (Some (Address make)) s = refl
 encoded_left e (Some (Offset make)) s = refl
 encoded_left e (Some (AddressOrOffset make)) s = refl
-encoded_left e (Some (Unsigned make)) s = made_left make (uleb128_at s)
+encoded_left e (Some (Unsigned make)) s = mapped_leaves make (uleb128_at s)
 encoded_left e (Some (Signed make)) s = refl
 encoded_left e (Some (Block1 make)) s = refl
 encoded_left e (Some (Block2 make)) s = refl
 encoded_left e (Some (Block4 make)) s = refl
-encoded_left e (Some (Block make)) s = made_left make (block_at (uleb128_at s))
-encoded_left e (Some (Text make)) s = made_left make (null_terminated_at s)
+encoded_left e (Some (Block make)) s = mapped_leaves make (block_at (uleb128_at s))
+encoded_left e (Some (Text make)) s = mapped_leaves make (null_terminated_at s)
 encoded_left e (Some (Empty made)) s = refl
 
 -- the forms that have no value of their own
-indirect_end : encoded_end (form_encoding_of DW_FORM_indirect.0) ≡ ends.Other
+indirect_other : encoded_size (form_encoding_of DW_FORM_indirect.0) ≡ sizes.Other
 unfolding form_encoding_of
-indirect_end = refl
+indirect_other = refl
 
-constant_end : encoded_end (form_encoding_of DW_FORM_implicit_const.0) ≡ ends.Other
+constant_other : encoded_size (form_encoding_of DW_FORM_implicit_const.0) ≡ sizes.Other
 unfolding form_encoding_of
-constant_end = refl
+constant_other = refl
 
 -- an attribute leaves what its value leaves
-value_left : (e : Encoding) (x : Specification) (s : Section) → encoded_end (form_encoding_of x.form.0) ≢ ends.Other → rest_of (attribute_at e x s) ≡ rest_of (direct_at e x.form.0 s)
+value_left : (e : Encoding) (x : Specification) (s : Section) → encoded_size (form_encoding_of x.form.0) ≢ sizes.Other → rest_of (attribute_at e x s) ≡ rest_of (direct_at e x.form.0 s)
 unfolding attribute_at value_at
 value_left e x s h = at (x.form.0 == DW_FORM_implicit_const.0) refl
   where
-    named : (r : Reading (AttributeValue Section)) → rest_of (r >>= λ v. Ok (named_value x v.0, v.1)) ≡ rest_of r
-    named (Ok v) = refl
-    named (Err d) = refl
-
     direct : (b : Bool) → (x.form.0 == DW_FORM_indirect.0) ≡ b → rest_of (cond b (form_at s >>= λ real. direct_at e real.0 real.1) (direct_at e x.form.0 s)) ≡ rest_of (direct_at e x.form.0 s)
-    direct true k = absurd (h (ap (λ f. encoded_end (form_encoding_of f)) (eqb-true _ _ k) ∙ indirect_end))
+    direct true k = absurd (h (ap (λ f. encoded_size (form_encoding_of f)) (eqb-true _ _ k) ∙ indirect_other))
     direct false k = refl
 
     at : (b : Bool) → (x.form.0 == DW_FORM_implicit_const.0) ≡ b
-        → rest_of (cond b (implicit_of x.constant >>= λ value. Ok (named_value x value, s)) (value_at e x.form.0 s >>= λ v. Ok (named_value x v.0, v.1))) ≡ rest_of (direct_at e x.form.0 s)
-    at true k = absurd (h (ap (λ f. encoded_end (form_encoding_of f)) (eqb-true _ _ k) ∙ constant_end))
-    at false k = named (value_at e x.form.0 s) ∙ direct (x.form.0 == DW_FORM_indirect.0) refl
+        → rest_of (cond b (implicit_of x.constant >>= λ value. Ok (named_value x value, s)) (mapped (named_value x) (value_at e x.form.0 s))) ≡ rest_of (direct_at e x.form.0 s)
+    at true k = absurd (h (ap (λ f. encoded_size (form_encoding_of f)) (eqb-true _ _ k) ∙ constant_other))
+    at false k = mapped_leaves (named_value x) (value_at e x.form.0 s) ∙ direct (x.form.0 == DW_FORM_indirect.0) refl
 
--- what an attribute leaves, by where its value ends
-ended_left : (e : Encoding) (x : Specification) (s : Section) (end : ValueEnd) → encoded_end (form_encoding_of x.form.0) ≡ end → end ≢ ends.Other → rest_of (attribute_at e x s) ≡ left_by end (direct_at e x.form.0 s) s
-ended_left e x s end h k = value_left e x s (λ other. k (sym h ∙ other)) ∙ encoded_left e (form_encoding_of x.form.0) s ∙ ap (λ d. left_by d (direct_at e x.form.0 s) s) h
+-- what an attribute leaves, by what says how many bytes its value has
+sized_left : (e : Encoding) (x : Specification) (s : Section) (size : ValueSize) → encoded_size (form_encoding_of x.form.0) ≡ size → size ≢ sizes.Other → rest_of (attribute_at e x s) ≡ left_by size (direct_at e x.form.0 s) s
+sized_left e x s size h k = value_left e x s (λ other. k (sym h ∙ other)) ∙ encoded_left e (form_encoding_of x.form.0) s ∙ ap (λ d. left_by d (direct_at e x.form.0 s) s) h
 
-pub number_left : (e : Encoding) (x : Specification) (s : Section) → encoded_end (form_encoding_of x.form.0) ≡ ends.Number → rest_of (attribute_at e x s) ≡ rest_of (uleb128_at s)
-number_left e x s h = ended_left e x s ends.Number h (λ k. absurd cc)
+pub number_left : (e : Encoding) (x : Specification) (s : Section) → encoded_size (form_encoding_of x.form.0) ≡ sizes.Number → rest_of (attribute_at e x s) ≡ rest_of (uleb128_at s)
+number_left e x s h = sized_left e x s sizes.Number h (λ k. absurd cc)
 
-pub block_left : (e : Encoding) (x : Specification) (s : Section) → encoded_end (form_encoding_of x.form.0) ≡ ends.Block → rest_of (attribute_at e x s) ≡ rest_of (block_at (uleb128_at s))
-block_left e x s h = ended_left e x s ends.Block h (λ k. absurd cc)
+pub block_left : (e : Encoding) (x : Specification) (s : Section) → encoded_size (form_encoding_of x.form.0) ≡ sizes.Block → rest_of (attribute_at e x s) ≡ rest_of (block_at (uleb128_at s))
+block_left e x s h = sized_left e x s sizes.Block h (λ k. absurd cc)
 
-pub text_left : (e : Encoding) (x : Specification) (s : Section) → encoded_end (form_encoding_of x.form.0) ≡ ends.Text → rest_of (attribute_at e x s) ≡ rest_of (null_terminated_at s)
-text_left e x s h = ended_left e x s ends.Text h (λ k. absurd cc)
+pub text_left : (e : Encoding) (x : Specification) (s : Section) → encoded_size (form_encoding_of x.form.0) ≡ sizes.Text → rest_of (attribute_at e x s) ≡ rest_of (null_terminated_at s)
+text_left e x s h = sized_left e x s sizes.Text h (λ k. absurd cc)

@@ -39,7 +39,10 @@ usual_bytes e size h = at size
     at sizes.Address = rw eight refl
     at sizes.Offset = ap Some four
     at sizes.AddressOrOffset = rw later (ap Some four)
-    at sizes.Variable = refl
+    at sizes.Number = refl
+    at sizes.Block = refl
+    at sizes.Text = refl
+    at sizes.Other = refl
 
 -- an address of a usual unit has a size that can be read
 pub usual_address : (e : Encoding) → is_usual e ≡ true → is_address_size e.address_size ≡ true

@@ -13,12 +13,12 @@ use Rattle.gimli_read.specs.declared.endian.Format.TheVariants.{Dwarf32, Dwarf64
 use Rattle.gimli_read.specs.declared.endian.Encoding.{Encoding}
 use Rattle.gimli_read.specs.declared.value.AttributeValue.{AttributeValue}
 use Rattle.gimli_read.specs.Section.{Section, first, after}
-use Rattle.gimli_read.specs.Reading.{Reading, ◌>>=◌}
+use Rattle.gimli_read.specs.Reading.{Reading, mapped, ◌>>=◌}
 use Rattle.gimli_read.specs.Number.{fixed_at, address_at, offset_at, split_at, ended_at, null_terminated_at, is_address_size, offset_size}
 use Rattle.gimli_read.specs.Leb128.{IsUleb128, IsSleb128, uleb128_in, sleb128_in, uleb128_at, sleb128_at}
 use Rattle.gimli_read.specs.Form.{direct_at, form_within, form_at, value_at}
 use Rattle.gimli_read.specs.declared.constants.TheConstants.DwForm.{DW_FORM_indirect}
-use Rattle.gimli_read.specs.FormEncoding.{FormEncoding, Fixed, Address, Offset, AddressOrOffset, Unsigned, Signed, Block1, Block2, Block4, Block, Text, Empty, form_encoding_of, as_value, block_at, address_or_offset_at, encoded_at}
+use Rattle.gimli_read.specs.FormEncoding.{FormEncoding, Fixed, Address, Offset, AddressOrOffset, Unsigned, Signed, Block1, Block2, Block4, Block, Text, Empty, form_encoding_of, block_at, address_or_offset_at, encoded_at}
 use Rattle.gimli_read.specs.Value.{IsFixed, IsAddress, IsOffset, IsAddressOrOffset, IsMadeOf, IsBlock, IsEnded, section_of, IsListedValue, IsIndirectValue}
 use Rattle.gimli_read.specs.ValueLaws.{IsTextAndRest, ReadsValue, ReadsValueAlone}
 use Rattle.gimli_read.proofs.Steps.{guard_ok, bind_ok, branch_taken, same_rest, same_value}
@@ -165,10 +165,10 @@ ended_from : (order : RunTimeEndian) → OnlyRead order (IsEnded order) null_ter
 ended_from order bytes x rest e = ended_is order bytes x rest (position (λ b. b == 0) bytes) refl e
 
 -- a value that is made of what is read
-made_of : {A : Type 0} (order : RunTimeEndian) (is : List ℕ → A → Type 0) (read : Section → Reading A) (make : A → AttributeValue Section) → AllRead order is read → AllRead order (IsMadeOf is make) (λ s. as_value make (read s))
-made_of order is read make reads text rest v u = ap (as_value make) (reads text rest u.0 u.1) ∙ ap (λ w. Ok (w, section_of order rest)) (sym u.2)
+made_of : {A : Type 0} (order : RunTimeEndian) (is : List ℕ → A → Type 0) (read : Section → Reading A) (make : A → AttributeValue Section) → AllRead order is read → AllRead order (IsMadeOf is make) (λ s. mapped make (read s))
+made_of order is read make reads text rest v u = ap (mapped make) (reads text rest u.0 u.1) ∙ ap (λ w. Ok (w, section_of order rest)) (sym u.2)
 
-made_from : {A : Type 0} (order : RunTimeEndian) (is : List ℕ → A → Type 0) (read : Section → Reading A) (make : A → AttributeValue Section) → OnlyRead order is read → OnlyRead order (IsMadeOf is make) (λ s. as_value make (read s))
+made_from : {A : Type 0} (order : RunTimeEndian) (is : List ℕ → A → Type 0) (read : Section → Reading A) (make : A → AttributeValue Section) → OnlyRead order is read → OnlyRead order (IsMadeOf is make) (λ s. mapped make (read s))
 made_from order is read make alone bytes v rest e =
     let b = bind_ok (read (section_of order bytes)) (λ x. Ok (make x.0, x.1)) (v, rest) e in
     let f = alone bytes b.0.0 b.0.1 b.1 in

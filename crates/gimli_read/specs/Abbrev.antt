@@ -8,7 +8,7 @@ use Rattle.gimli_read.specs.declared.error.Error.{Error}
 use Rattle.gimli_read.specs.declared.error.Error.TheVariants.{BadAbbreviation, UnexpectedEof}
 use Rattle.gimli_read.specs.declared.constants.TheConstants.DwForm.{DW_FORM_implicit_const}
 use Rattle.gimli_read.specs.Section.{Section}
-use Rattle.gimli_read.specs.Reading.{Reading, ◌>>=◌, refused_if}
+use Rattle.gimli_read.specs.Reading.{Reading, mapped, ◌>>=◌, refused_if}
 use Rattle.gimli_read.specs.Number.{fixed_at}
 use Rattle.gimli_read.specs.Leb128.{uleb128_at, sleb128_at}
 use Rattle.gimli_read.specs.Run.{collected, run_of}
@@ -17,7 +17,7 @@ use Rattle.gimli_read.specs.Abbreviations.{Specification, Abbrev, with_code}
 -- the value that an abbreviation itself has, of the form implicit_const
 abbrev pub constant_at : ℕ → Section → Reading (Option ℤ)
 constant_at form s =
-    if form == DW_FORM_implicit_const.0 then (sleb128_at s >>= λ value. Ok (Some value.0, value.1))
+    if form == DW_FORM_implicit_const.0 then mapped Some (sleb128_at s)
     else Ok (None, s)
 
 -- a name, a form and a constant
@@ -32,7 +32,7 @@ specification_at s = do
   form ← uleb128_at name.1
   if name.0 == 0 && form.0 == 0 then Ok (None, form.1)
       else if name.0 == 0 || form.0 == 0 then Err BadAbbreviation
-      else (constant_at form.0 form.1 >>= λ c. Ok (Some (specified name.0 form.0 c.0), c.1))
+      else mapped (λ c. Some (specified name.0 form.0 c)) (constant_at form.0 form.1)
 
 -- the pairs up to the two zeros
 abbrev pub specifications_at : Section → Reading (List Specification)
@@ -80,8 +80,7 @@ abbreviation_at table s = if length s.bytes == 0 then Ok (None, s) else do
   code ← uleb128_at s
   if code.0 == 0 then Ok (None, code.1) else do
     new ← refused_if (is_some (with_code code.0 table)) BadAbbreviation
-    a ← declaration_at code.0 code.1
-    Ok (Some a.0, a.1)
+    mapped Some (declaration_at code.0 code.1)
 
 -- the table, if nothing more is read, or what goes on with one more abbreviation
 abbrev pub extended : (List Abbrev → Section → Result (List Abbrev) Error) → List Abbrev

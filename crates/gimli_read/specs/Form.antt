@@ -11,7 +11,7 @@ use Rattle.gimli_read.specs.declared.value.AttributeValue.{AttributeValue}
 use Rattle.gimli_read.specs.declared.value.AttributeValue.TheVariants as values
 use Rattle.gimli_read.specs.Abbreviations.{Specification}
 use Rattle.gimli_read.specs.Section.{Section}
-use Rattle.gimli_read.specs.Reading.{Reading, ◌>>=◌}
+use Rattle.gimli_read.specs.Reading.{Reading, mapped, ◌>>=◌}
 use Rattle.gimli_read.specs.Leb128.{uleb128_at}
 use Rattle.gimli_read.specs.FormEncoding.{form_encoding_of, encoded_at}
 
@@ -85,14 +85,14 @@ unfoldable pub attribute_at : Encoding → Specification → Section → Reading
 attribute_at encoding specification s =
     if specification.form.0 == DW_FORM_implicit_const.0 then
     (implicit_of specification.constant >>= λ value. Ok (named_value specification value, s))
-    else (value_at encoding specification.form.0 s >>= λ v. Ok (named_value specification v.0, v.1))
+    else mapped (named_value specification) (value_at encoding specification.form.0 s)
 
 -- the attributes of the specifications, one after another
 unfoldable pub attributes_at : Encoding → List Specification → Section → Reading (List NamedValue)
 attributes_at encoding [] s = Ok ([], s)
 attributes_at encoding (x ∷ xs) s =
     attribute_at encoding x s >>= λ a.
-    attributes_at encoding xs a.1 >>= λ more. Ok (a.0 ∷ more.0, more.1)
+    mapped (λ more. a.0 ∷ more) (attributes_at encoding xs a.1)
 
 -- a signed number that isn't negative
 abbrev pub unsigned_of : ℤ → Option ℕ

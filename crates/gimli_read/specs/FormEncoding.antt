@@ -10,7 +10,7 @@ use Rattle.gimli_read.specs.declared.error.Error.TheVariants.{UnknownForm}
 use Rattle.gimli_read.specs.declared.value.AttributeValue.{AttributeValue}
 use Rattle.gimli_read.specs.declared.value.AttributeValue.TheVariants as values
 use Rattle.gimli_read.specs.Section.{Section}
-use Rattle.gimli_read.specs.Reading.{Reading, ◌>>=◌}
+use Rattle.gimli_read.specs.Reading.{Reading, mapped, ◌>>=◌}
 use Rattle.gimli_read.specs.Number.{fixed_at, offset_at, address_at, split_at, null_terminated_at}
 use Rattle.gimli_read.specs.Leb128.{uleb128_at, sleb128_at}
 
@@ -109,11 +109,6 @@ form_in (f ∷ table) form = if form == f.0.0 then Some f.1 else form_in table f
 unfoldable pub form_encoding_of : ℕ → Option FormEncoding
 form_encoding_of form = form_in (plain_forms ++ reference_forms) form
 
--- a value made of what a reading gives
-abbrev pub as_value : {A : Type 0} → (A → AttributeValue Section) → Reading A
-    → Reading (AttributeValue Section)
-as_value make read = read >>= λ x. Ok (make x.0, x.1)
-
 -- a length, and as many bytes
 abbrev pub block_at : Reading ℕ → Reading Section
 block_at length = length >>= λ n. split_at n.0 n.1
@@ -127,16 +122,16 @@ address_or_offset_at encoding s =
 -- the value that is encoded so
 abbrev pub encoded_at : Encoding → Option FormEncoding → Section → Reading (AttributeValue Section)
 encoded_at encoding None s = Err UnknownForm
-encoded_at encoding (Some (Fixed n make)) s = as_value make (fixed_at n s)
-encoded_at encoding (Some (Address make)) s = as_value make (address_at encoding.address_size s)
-encoded_at encoding (Some (Offset make)) s = as_value make (offset_at encoding.format s)
+encoded_at encoding (Some (Fixed n make)) s = mapped make (fixed_at n s)
+encoded_at encoding (Some (Address make)) s = mapped make (address_at encoding.address_size s)
+encoded_at encoding (Some (Offset make)) s = mapped make (offset_at encoding.format s)
 encoded_at encoding (Some (AddressOrOffset make)) s =
-    as_value make (address_or_offset_at encoding s)
-encoded_at encoding (Some (Unsigned make)) s = as_value make (uleb128_at s)
-encoded_at encoding (Some (Signed make)) s = as_value make (sleb128_at s)
-encoded_at encoding (Some (Block1 make)) s = as_value make (block_at (fixed_at 1 s))
-encoded_at encoding (Some (Block2 make)) s = as_value make (block_at (fixed_at 2 s))
-encoded_at encoding (Some (Block4 make)) s = as_value make (block_at (fixed_at 4 s))
-encoded_at encoding (Some (Block make)) s = as_value make (block_at (uleb128_at s))
-encoded_at encoding (Some (Text make)) s = as_value make (null_terminated_at s)
+    mapped make (address_or_offset_at encoding s)
+encoded_at encoding (Some (Unsigned make)) s = mapped make (uleb128_at s)
+encoded_at encoding (Some (Signed make)) s = mapped make (sleb128_at s)
+encoded_at encoding (Some (Block1 make)) s = mapped make (block_at (fixed_at 1 s))
+encoded_at encoding (Some (Block2 make)) s = mapped make (block_at (fixed_at 2 s))
+encoded_at encoding (Some (Block4 make)) s = mapped make (block_at (fixed_at 4 s))
+encoded_at encoding (Some (Block make)) s = mapped make (block_at (uleb128_at s))
+encoded_at encoding (Some (Text make)) s = mapped make (null_terminated_at s)
 encoded_at encoding (Some (Empty made)) s = Ok (made, s)

@@ -1,13 +1,14 @@
 -- LEB128 numbers (DWARF 5, section 7.6): seven bits of the number in each byte, the lowest first,
 -- and the last byte alone is below 128.
 -- Own: at most ten bytes, and a value of 64 bits; anything else is BadLeb128.
-use Rattle.std.specs.Prelude.{◌≡◌, ℕ, suc, ◌+◌, ◌-◌, ◌*◌, ◌%◌, ◌^◌, ◌<◌, ◌≤◌, List, [], ◌∷◌, ◌++◌, length, take, drop, slice_index, Bool, true, Option, Some, None, Result, Ok, Err, nat_lt, if◌then◌else◌, ℤ, pos, negsuc, ◌-ℤ◌}
+use Rattle.std.specs.Prelude.{◌≡◌, ℕ, suc, ◌+◌, ◌-◌, ◌*◌, ◌%◌, ◌^◌, ◌<◌, ◌≤◌, List, [], ◌∷◌, ◌++◌, length, take, drop, slice_index, true, Option, Some, None, Result, Ok, Err, nat_lt, if◌then◌else◌, ℤ, pos, ◌-ℤ◌}
 use Rattle.std.specs.List.{position}
 use Rattle.gimli_read.specs.declared.leb128.TheConstants.{MAX_LEB128_LEN}
 use Rattle.gimli_read.specs.declared.error.Error.{Error}
 use Rattle.gimli_read.specs.declared.error.Error.TheVariants.{UnexpectedEof, BadLeb128}
 use Rattle.gimli_read.specs.Section.{Section}
 use Rattle.gimli_read.specs.Reading.{Reading, ◌>>=◌}
+use Rattle.gimli_read.specs.Number.{fits_u64, fits_i64}
 
 -- the sum of the low seven bits of byte i times 128 ^ (from + i)
 unfoldable pub sum_from : ℕ → List ℕ → ℕ
@@ -23,11 +24,6 @@ abbrev pub sleb128_value : List ℕ → ℤ
 sleb128_value text =
     if nat_lt (slice_index text (length text - 1)) 64 then pos (uleb128_value text)
     else pos (uleb128_value text) -ℤ pos (128 ^ length text)
-
--- whether a number has signed 64 bits
-abbrev pub fits_i64 : ℤ → Bool
-fits_i64 (pos n) = nat_lt n (2 ^ 63)
-fits_i64 (negsuc n) = nat_lt n (2 ^ 63)
 
 -- the text is one number: at most ten bytes, the last one alone below 128
 pub record IsLeb128Text (text : List ℕ) : Type 0 where
@@ -58,7 +54,7 @@ leb128_text bytes = cut_after bytes (position (λ b. nat_lt b 128) (take MAX_LEB
 unfoldable pub uleb128_in : List ℕ → Result (ℕ × List ℕ) Error
 uleb128_in bytes = do
   text ← leb128_text bytes
-  if nat_lt (uleb128_value text.0) (2 ^ 64) then Ok (uleb128_value text.0, text.1)
+  if fits_u64 (uleb128_value text.0) then Ok (uleb128_value text.0, text.1)
       else Err BadLeb128
 
 -- the signed number at the front of bytes, and the bytes after it

@@ -1,4 +1,5 @@
 pub mod Section
+pub mod Version
 pub mod Reading
 pub mod Topmost
 pub mod Number

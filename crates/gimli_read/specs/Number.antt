@@ -2,7 +2,7 @@
 -- 7.32).
 -- Own: a reading past the end of the section is UnexpectedEof.
 -- Own: an address size other than 1, 2, 4 and 8 is UnsupportedAddressSize.
-use Rattle.std.specs.Prelude.{ℕ, ◌+◌, ◌==◌, ◌||◌, Bool, List, length, slice_index, Option, Some, None, Ok, Err, nat_lt, if◌then◌else◌, ℤ}
+use Rattle.std.specs.Prelude.{ℕ, ◌+◌, ◌^◌, ◌==◌, ◌||◌, Bool, List, length, slice_index, Option, Some, None, Ok, Err, nat_lt, if◌then◌else◌, ℤ, pos, negsuc}
 use Rattle.std.specs.Int.{w8, cast_signed}
 use Rattle.std.specs.List.{position}
 use Rattle.byteorder.specs.Endian.{big_number, little_number}
@@ -14,6 +14,15 @@ use Rattle.gimli_read.specs.declared.endian.Format.{Format}
 use Rattle.gimli_read.specs.declared.endian.Format.TheVariants.{Dwarf32, Dwarf64}
 use Rattle.gimli_read.specs.Section.{Section, first, after}
 use Rattle.gimli_read.specs.Reading.{Reading, ◌>>=◌}
+
+-- whether a number has 64 bits
+abbrev pub fits_u64 : ℕ → Bool
+fits_u64 n = nat_lt n (2 ^ 64)
+
+-- whether a number has signed 64 bits
+abbrev pub fits_i64 : ℤ → Bool
+fits_i64 (pos n) = nat_lt n (2 ^ 63)
+fits_i64 (negsuc n) = nat_lt n (2 ^ 63)
 
 -- the base 256 value of the first n bytes in their order
 abbrev pub number_of : RunTimeEndian → ℕ → List ℕ → ℕ

@@ -22,6 +22,10 @@ abbrev pub ◌>>=◌ : {A B E : Type 0} → Result A E → (A → Result B E) �
 abbrev pub done : {A : Type 0} → A → Result A Error
 done x = Ok x
 
+-- what a reading gives, made into another value
+abbrev pub mapped : {A B : Type 0} → (A → B) → Reading A → Reading B
+mapped make read = read >>= λ x. Ok (make x.0, x.1)
+
 -- a test, at the place where its fault stands
 abbrev pub refused_if : {E : Type 0} → Bool → E → Result (Unit {0}) E
 refused_if bad e = if bad then Err e else Ok tt
@@ -39,6 +43,13 @@ IsFaultUnless oom e given = e ≢ oom → given ≡ Err e
 abbrev pub ExactlyUnless : {X Y E : Type 0} → E → (X → Y) → Result X E → Result Y E → Type 0
 ExactlyUnless oom view (Ok x) given = given ≡ Ok (view x)
 ExactlyUnless oom view (Err e) given = IsFaultUnless oom e given
+
+-- the same, where this fault is an answer only if memory may be taken, and only for what is given
+abbrev pub ExactlyUnlessFor : {X Y E : Type 0} → E → Bool → (Result Y E → Bool) → (X → Y)
+    → Result X E → Result Y E → Type 0
+ExactlyUnlessFor oom may takes view (Ok x) given = given ≡ Ok (view x)
+ExactlyUnlessFor oom may takes view (Err e) given =
+    (may ≡ true → takes given ≡ true → e ≢ oom) → given ≡ Err e
 
 -- the refusal is the fault that is given, or OutOfMemory
 abbrev pub IsFaultUnlessOom : {Y : Type 0} → Error → Result Y Error → Type 0
@@ -61,9 +72,8 @@ ExactlyUnlessOomIf may view (Err e) given = (may ≡ true → e ≢ OutOfMemory)
 -- the same, where memory may be taken only for what is given
 abbrev pub ExactlyUnlessOomFor : {X Y : Type 0} → Bool → (Result Y Error → Bool) → (X → Y)
     → Result X Error → Result Y Error → Type 0
-ExactlyUnlessOomFor may takes view (Ok x) given = given ≡ Ok (view x)
-ExactlyUnlessOomFor may takes view (Err e) given =
-    (may ≡ true → takes given ≡ true → e ≢ OutOfMemory) → given ≡ Err e
+ExactlyUnlessOomFor may takes view result given =
+    ExactlyUnlessFor OutOfMemory may takes view result given
 
 -- a call that moves a reader gave what is read from it, and left what the reading leaves
 abbrev pub Reads : {R X : Type 0} → (R → Section) → R → R → Result X Error → (Section → Reading X)

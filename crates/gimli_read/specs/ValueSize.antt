@@ -15,23 +15,23 @@ use Rattle.gimli_read.specs.FormEncoding.{FormEncoding, Fixed, Address, Offset, 
 
 -- what says how many bytes a value has that is encoded so
 abbrev pub encoded_size : Option FormEncoding → ValueSize
-encoded_size None = sizes.Variable
+encoded_size None = sizes.Other
 encoded_size (Some (Fixed n make)) = sizes.Bytes n
 encoded_size (Some (Address make)) = sizes.Address
 encoded_size (Some (Offset make)) = sizes.Offset
 encoded_size (Some (AddressOrOffset make)) = sizes.AddressOrOffset
-encoded_size (Some (Unsigned make)) = sizes.Variable
-encoded_size (Some (Signed make)) = sizes.Variable
-encoded_size (Some (Block1 make)) = sizes.Variable
-encoded_size (Some (Block2 make)) = sizes.Variable
-encoded_size (Some (Block4 make)) = sizes.Variable
-encoded_size (Some (Block make)) = sizes.Variable
-encoded_size (Some (Text make)) = sizes.Variable
+encoded_size (Some (Unsigned make)) = sizes.Number
+encoded_size (Some (Signed make)) = sizes.Other
+encoded_size (Some (Block1 make)) = sizes.Other
+encoded_size (Some (Block2 make)) = sizes.Other
+encoded_size (Some (Block4 make)) = sizes.Other
+encoded_size (Some (Block make)) = sizes.Block
+encoded_size (Some (Text make)) = sizes.Text
 encoded_size (Some (Empty made)) = sizes.Bytes 0
 
 -- the same of a value that the abbreviation has: an entry has no bytes of it
 abbrev pub constant_size : Option ℤ → ValueSize
-constant_size None = sizes.Variable
+constant_size None = sizes.Other
 constant_size (Some z) = sizes.Bytes 0
 
 -- what says how many bytes an attribute's value has
@@ -52,7 +52,7 @@ bytes_of encoding sizes.Address = address_bytes encoding
 bytes_of encoding sizes.Offset = Some (offset_size encoding.format)
 bytes_of encoding sizes.AddressOrOffset =
     if encoding.version == 2 then address_bytes encoding else Some (offset_size encoding.format)
-bytes_of encoding sizes.Variable = None
+bytes_of encoding _ = None
 
 -- the bytes of an attribute's value, where its form alone says so
 abbrev pub attribute_size : Encoding → Specification → Option ℕ

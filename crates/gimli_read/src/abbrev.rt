@@ -70,7 +70,7 @@ impl AttributeSpecification {
         if self.form == DwForm::DW_FORM_implicit_const {
             return match self.constant {
                 Some(_) => ValueSize::Bytes(0),
-                None => ValueSize::Variable,
+                None => ValueSize::Other,
             };
         }
         size_of_form(self.form)

@@ -1,5 +1,8 @@
 //! Byte orders, and the two formats of DWARF.
 
+ghost use Rattle.std.specs.Prelude.{◌≡◌};
+ghost use Rattle.gimli_read.specs.Number.{offset_size};
+
 /// The order of a number's bytes.
 #[derive(Clone, Copy, Debug, PartialEq, Eq)]
 pub enum RunTimeEndian {
@@ -16,6 +19,18 @@ pub enum Format {
     Dwarf32,
     /// Eight bytes.
     Dwarf64,
+}
+
+impl Format {
+    /// The number of bytes of an offset or a length. Takes no memory.
+    pub fn word_size(self) -> u8
+        ensures gives { result ≡ offset_size self }
+    {
+        match self {
+            Format::Dwarf32 => 4,
+            Format::Dwarf64 => 8,
+        }
+    }
 }
 
 /// What of a unit the length of its values depends on.

@@ -23,7 +23,8 @@ pub use crate::endian_slice::EndianSlice;
 pub use crate::error::Error;
 pub use crate::laws::{alike_laws, leb128_laws, sharing_laws, size_laws, value_laws};
 pub use crate::range::Range;
-pub use crate::reader::{Reader, read_initial_length};
+pub use crate::reader::{Reader, read_initial_length, zero_of};
+pub use crate::size::is_address_size;
 pub use crate::skip::{skip_attribute, skip_attributes, skip_attributes_of};
 pub use crate::value::{
     Attribute, AttributeValue, DebugInfoOffset, UnitOffset, read_attribute, read_value,

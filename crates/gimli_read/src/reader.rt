@@ -261,8 +261,8 @@ pub fn read_initial_length<R: Reader>(input: &mut R) -> Result<(u64, Format), Er
     }
 }
 
-/// Where the first zero byte stands.
-pub(crate) fn zero_of(bytes: &[u8]) -> Option<usize>
+/// The place of the first zero byte. Takes no memory.
+pub fn zero_of(bytes: &[u8]) -> Option<usize>
     ensures found { result ≡ position (λ b. b == 0) bytes.now }
 {
     bytes.find_byte(0)

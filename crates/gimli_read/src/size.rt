@@ -2,7 +2,7 @@
 
 ghost use Rattle.std.specs.Prelude.{◌≡◌, ◌+◌, Some, IfSome, true};
 ghost use Rattle.gimli_read.specs.FormEncoding.{form_encoding_of};
-ghost use Rattle.gimli_read.specs.Number.{is_address_size, offset_size};
+ghost use Rattle.gimli_read.specs.Number.{is_address_size};
 ghost use Rattle.gimli_read.specs.ValueSize.{encoded_size, address_bytes, bytes_of, counted_bytes, no_size, is_usual, total_bytes, AddsCounted, AddsSize};
 
 use crate::constants::DwForm;
@@ -19,8 +19,14 @@ pub enum ValueSize {
     Offset,
     /// In version 2 the size of an address, else the width of an offset.
     AddressOrOffset,
-    /// The value itself, or nothing where the form has none.
-    Variable,
+    /// The value itself, an unsigned LEB128 number.
+    Number,
+    /// An unsigned LEB128 number before it: how many bytes follow.
+    Block,
+    /// The zero byte that ends it.
+    Text,
+    /// Something else, or nothing where the form has no value of its own.
+    Other,
 }
 
 // The encoding of a usual unit.
@@ -31,6 +37,7 @@ const USUAL: Encoding = Encoding {
 };
 
 // What says how many bytes a value of a form has. DW_FORM_implicit_const has none in an entry.
+#[inline(always)]
 #[tactic(auto, unfolding(crate::specs::FormEncoding::form_encoding_of))]
 pub(crate) fn size_of_form(form: DwForm) -> ValueSize
     ensures gives { result ≡ encoded_size (form_encoding_of form.0) }
@@ -65,28 +72,35 @@ pub(crate) fn size_of_form(form: DwForm) -> ValueSize
         | DwForm::DW_FORM_GNU_strp_alt
         | DwForm::DW_FORM_GNU_ref_alt => ValueSize::Offset,
         DwForm::DW_FORM_ref_addr => ValueSize::AddressOrOffset,
-        _ => ValueSize::Variable,
+        DwForm::DW_FORM_addrx
+        | DwForm::DW_FORM_GNU_addr_index
+        | DwForm::DW_FORM_udata
+        | DwForm::DW_FORM_loclistx
+        | DwForm::DW_FORM_rnglistx
+        | DwForm::DW_FORM_strx
+        | DwForm::DW_FORM_GNU_str_index
+        | DwForm::DW_FORM_ref_udata => ValueSize::Number,
+        DwForm::DW_FORM_block | DwForm::DW_FORM_exprloc => ValueSize::Block,
+        DwForm::DW_FORM_string => ValueSize::Text,
+        _ => ValueSize::Other,
     }
 }
 
-// The bytes of an offset.
-fn offset_bytes(format: Format) -> u8
-    ensures gives { result ≡ offset_size format }
+/// Whether an address may have so many bytes: 1, 2, 4 or 8. Takes no memory.
+pub fn is_address_size(size: u8) -> bool
+    ensures gives { result ≡ is_address_size size }
 {
-    match format {
-        Format::Dwarf32 => 4,
-        Format::Dwarf64 => 8,
-    }
+    matches!(size, 1 | 2 | 4 | 8)
 }
 
 // The bytes of an address, none where no address has that size.
 pub(crate) fn address_bytes(encoding: Encoding) -> Option<u8>
     ensures gives { result ≡ address_bytes encoding }
 {
-    match encoding.address_size {
-        1 | 2 | 4 | 8 => Some(encoding.address_size),
-        _ => None,
+    if !is_address_size(encoding.address_size) {
+        return None;
     }
+    Some(encoding.address_size)
 }
 
 impl ValueSize {
@@ -98,15 +112,15 @@ impl ValueSize {
         match self {
             ValueSize::Bytes(bytes) => Some(bytes),
             ValueSize::Address => address_bytes(encoding),
-            ValueSize::Offset => Some(offset_bytes(encoding.format)),
+            ValueSize::Offset => Some(encoding.format.word_size()),
             ValueSize::AddressOrOffset => {
                 if encoding.version == 2 {
                     address_bytes(encoding)
                 } else {
-                    Some(offset_bytes(encoding.format))
+                    Some(encoding.format.word_size())
                 }
             }
-            ValueSize::Variable => None,
+            ValueSize::Number | ValueSize::Block | ValueSize::Text | ValueSize::Other => None,
         }
     }
 }
@@ -117,7 +131,7 @@ impl ValueSize {
 pub(crate) fn is_usual(encoding: Encoding) -> bool
     ensures gives { result ≡ is_usual encoding }
 {
-    encoding.address_size == 8 && encoding.version > 2 && offset_bytes(encoding.format) == 4
+    encoding.address_size == 8 && encoding.version > 2 && encoding.format.word_size() == 4
 }
 
 // The bytes, addresses and offsets of values.
@@ -146,7 +160,9 @@ impl CountedSize {
             ValueSize::AddressOrOffset => {
                 total.addresses_or_offsets = total.addresses_or_offsets.checked_add(1)?;
             }
-            ValueSize::Variable => return None,
+            ValueSize::Number | ValueSize::Block | ValueSize::Text | ValueSize::Other => {
+                return None;
+            }
         }
         Some(total)
     }
@@ -156,7 +172,7 @@ impl CountedSize {
         ensures gives { result ≡ counted_bytes encoding self }
     {
         let address = u64::from(encoding.address_size);
-        let offset = u64::from(offset_bytes(encoding.format));
+        let offset = u64::from(encoding.format.word_size());
         let either = if encoding.version == 2 {
             address
         } else {

@@ -4,18 +4,17 @@ ghost use Rattle.std.specs.Prelude.{◌≡◌, OnErr};
 ghost use Rattle.gimli_read.specs.Reading.{Exactly};
 ghost use Rattle.gimli_read.specs.Number.{null_terminated_at};
 ghost use Rattle.gimli_read.specs.Leb128.{uleb128_at};
-ghost use Rattle.gimli_read.specs.FormEncoding.{form_encoding_of, block_at};
+ghost use Rattle.gimli_read.specs.FormEncoding.{block_at};
 ghost use Rattle.gimli_read.specs.Form.{rest_of, attribute_at, attributes_at};
 ghost use Rattle.gimli_read.specs.SizedRuns.{run_rest, rest_after_runs};
-ghost use Rattle.gimli_read.specs.Skip.{encoded_end, rest_after, IsStillToSkip};
+ghost use Rattle.gimli_read.specs.Skip.{rest_after, IsStillToSkip};
 
 use crate::abbrev::{Abbreviation, AttributeSpecification, SizedRun};
-use crate::constants::DwForm;
 use crate::endian::Encoding;
 use crate::endian_slice::EndianSlice;
 use crate::error::Error;
 use crate::reader::{Reader, zero_of};
-use crate::size::{TotalSize, address_bytes, is_usual};
+use crate::size::{TotalSize, ValueSize, address_bytes, is_usual, size_of_form};
 use crate::value::read_attribute;
 
 // A reader that borrows what another one has left.
@@ -45,40 +44,6 @@ pub fn skip_attribute<R: Reader>(
     read_attribute(&mut bytes, encoding, specification)?;
     let taken = before - bytes.len();
     input.skip(taken)
-}
-
-// What says where a value of variable size ends.
-#[derive(Clone, Copy)]
-enum ValueEnd {
-    // The last byte of an unsigned LEB128 number.
-    Number,
-    // An unsigned LEB128 number before it: how many bytes follow.
-    Block,
-    // A zero byte.
-    Text,
-    // Something else.
-    Other,
-}
-
-// What says where a value of a form ends.
-#[inline(always)]
-#[tactic(auto, unfolding(crate::specs::FormEncoding::form_encoding_of))]
-fn end_of_form(form: DwForm) -> ValueEnd
-    ensures gives { result ≡ encoded_end (form_encoding_of form.0) }
-{
-    match form {
-        DwForm::DW_FORM_addrx
-        | DwForm::DW_FORM_GNU_addr_index
-        | DwForm::DW_FORM_udata
-        | DwForm::DW_FORM_loclistx
-        | DwForm::DW_FORM_rnglistx
-        | DwForm::DW_FORM_strx
-        | DwForm::DW_FORM_GNU_str_index
-        | DwForm::DW_FORM_ref_udata => ValueEnd::Number,
-        DwForm::DW_FORM_block | DwForm::DW_FORM_exprloc => ValueEnd::Block,
-        DwForm::DW_FORM_string => ValueEnd::Text,
-        _ => ValueEnd::Other,
-    }
 }
 
 // Passes over a text, and the zero byte that ends it.
@@ -113,14 +78,14 @@ fn skip_value(
     ensures gives { Exactly (λ _. bytes.new) result
         (rest_of (attribute_at encoding specification.now bytes.old)) }
 {
-    match end_of_form(specification.form()) {
-        ValueEnd::Number => {
+    match size_of_form(specification.form()) {
+        ValueSize::Number => {
             bytes.read_uleb128()?;
             Ok(())
         }
-        ValueEnd::Block => skip_block(bytes),
-        ValueEnd::Text => skip_text(bytes),
-        ValueEnd::Other => {
+        ValueSize::Block => skip_block(bytes),
+        ValueSize::Text => skip_text(bytes),
+        _ => {
             // By a reader of its own, so that `bytes` need not stand in memory.
             let mut rest = bytes.duplicate()?;
             read_attribute(&mut rest, encoding, *specification)?;

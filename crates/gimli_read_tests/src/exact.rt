@@ -2,12 +2,11 @@
 
 ghost use Rattle.std.specs.Prelude.{◌≡◌, ◌≤◌, length};
 ghost use Rattle.gimli_read.specs.Section.{first};
-ghost use Rattle.gimli_read.specs.Reading.{Exactly};
+ghost use Rattle.gimli_read.specs.Reading.{Exactly, mapped};
 ghost use Rattle.gimli_read.specs.Number.{fixed_at, split_at, null_terminated_at};
 ghost use Rattle.gimli_read.specs.Form.{seen_value, value_at, attribute_at};
 ghost use Rattle.gimli_read.specs.declared.constants.TheConstants.DwForm.{DW_FORM_data1};
 ghost use Rattle.gimli_read.specs.declared.value.AttributeValue.TheVariants.{Data1};
-ghost use Rattle.gimli_read.specs.FormEncoding.{as_value};
 
 use gimli_read::{
     Attribute, AttributeSpecification, AttributeValue, DwForm, Encoding, EndianBytes, EndianSlice,
@@ -80,7 +79,7 @@ pub fn constant_of(
     encoding: Encoding,
 ) -> Result<AttributeValue<EndianBytes>, Error>
     ensures gives { Exactly (λ v. (seen_value (λ r. r) v, input.new)) result
-        (as_value Data1 (fixed_at 1 input.old)) }
+        (mapped Data1 (fixed_at 1 input.old)) }
 {
     read_value(input, encoding, DwForm::DW_FORM_data1)
 }

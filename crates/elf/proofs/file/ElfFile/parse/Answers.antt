@@ -15,7 +15,7 @@ returns-in_err-sections c =
     let takes = takes_memory c.to_slice-file.result.now c.in_ok-ident.ident header c.in_ok-ident.ensures.gives c.in_ok-header.ensures.gives some in
     let P : List ℕ → Type 0 = λ bytes. gives_sections (object_file_of bytes) ≡ true in
     let given = subst P c.to_slice-file.ensures.gives takes in
-    rw (p.1, p.2) (record { gives = λ h. absurd (h given refl) })
+    rw (p.1, p.2) (record { gives = λ h. absurd (h refl given refl) })
 
 pub returns-in_err-symbols : goal.returns-in_err-symbols
 returns-in_err-symbols c =
@@ -29,4 +29,4 @@ returns-in_err-symbols c =
     let takes = takes_memory file c.in_ok-ident.ident header c.in_ok-ident.ensures.gives c.in_ok-header.ensures.gives some in
     let P : List ℕ → Type 0 = λ bytes. gives_sections (object_file_of bytes) ≡ true in
     let given = subst P c.to_slice-file.ensures.gives takes in
-    rw (p.1, p.2) (record { gives = λ h. absurd (h given refl) })
+    rw (p.1, p.2) (record { gives = λ h. absurd (h refl given refl) })

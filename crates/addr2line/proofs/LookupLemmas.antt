@@ -170,16 +170,16 @@ module _ {R : Type 0} where
     within_some (x ∷ xs) (suc n) h e = within_some xs n (omega (arith, h)) e
 
     -- its load
-    pub load_told : {X : Type 0} (see : X → SplitLoad) (r : Result X Error) (n : ℕ) → waits_at held n ≡ true → IfOk r (λ l. IfSome (slice_get us n) (λ u. load_of_unit d n u ≡ Ok (Some (see l)))) → IfOk r (λ l. IsLoadOf d n (see l))
-    load_told see (Err e) n w h = tt
-    load_told see (Ok l) n w h =
-        of_made (λ m. option_map (load_of_unit d n) (slice_get (unit_records m.units) n) ≡ Some (Ok (Some (see l))))
+    pub load_told : (r : Result SplitLoad Error) (n : ℕ) → waits_at held n ≡ true → IfOk r (λ l. IfSome (slice_get us n) (λ u. load_of_unit d n u ≡ Ok (Some l))) → IfOk r (λ l. IsLoadOf d n l)
+    load_told (Err e) n w h = tt
+    load_told (Ok l) n w h =
+        of_made (λ m. option_map (load_of_unit d n) (slice_get (unit_records m.units) n) ≡ Some (Ok (Some l)))
         (ap (λ (xs : List UnitRecord). option_map (load_of_unit d n) (slice_get xs n)) (records_beside d us old i.lines) ∙ of (slice_get us n) refl h)
       where
         there : n < length us
         there = let k = waits_within held n w in let m = as_many_views d us held views_are in omega (arith, k, m)
 
-        of : (o : Option UnitRecord) → slice_get us n ≡ o → IfSome o (λ u. load_of_unit d n u ≡ Ok (Some (see l))) → option_map (load_of_unit d n) o ≡ Some (Ok (Some (see l)))
+        of : (o : Option UnitRecord) → slice_get us n ≡ o → IfSome o (λ u. load_of_unit d n u ≡ Ok (Some l)) → option_map (load_of_unit d n) o ≡ Some (Ok (Some l))
         of None e k = absurd (within_some us n there e)
         of (Some u) e k = ap Some k
 

@@ -10,7 +10,6 @@ ghost use Rattle.addr2line_lines.specs.Rows.{result_map};
 ghost use Rattle.addr2line_lines.specs.SeenLocation.{seen_location};
 ghost use Rattle.addr2line_units.specs.FramesLeft.{frames_left};
 ghost use Rattle.addr2line_units.specs.FramesLookup.{Stop, is_waiting};
-ghost use Rattle.addr2line_units.specs.CachedViews.{seen_load};
 ghost use Rattle.addr2line_units.specs.LocationsLeft.{locations_left};
 ghost use Rattle.gimli_read.specs.Alike.{HadMemory};
 ghost use Rattle.addr2line_lines.specs.RangesLeft.{seen_located};
@@ -116,8 +115,7 @@ fn copy_span(alloc: Global, span: (u64, u64, Location<'_>)) -> Result<OwnedSpan,
 }
 
 fn copy_load<R: Reader>(alloc: Global, load: &SplitDwarfLoad<R>) -> Result<OwnedLoad, AllocError>
-    ensures gives { IfOk result (λ copy. seen_owned_load copy
-        ≡ copied_load (seen_load R.section load.now)) }
+    ensures gives { IfOk result (λ copy. seen_owned_load copy ≡ copied_load load.now) }
 {
     Ok(OwnedLoad {
         unit: load.unit,
@@ -238,8 +236,7 @@ pub(crate) fn loads_reply<R: Reader>(
     alloc: Global,
     loads: &[SplitDwarfLoad<R>],
 ) -> Result<Reply, Error>
-    ensures gives { IfOk result (λ r. seen_reply r
-        ≡ Listed (map copied_load (map (seen_load R.section) loads.now))) }
+    ensures gives { IfOk result (λ r. seen_reply r ≡ Listed (map copied_load loads.now)) }
     ensures refused { IfErr result (λ e. e ≡ OutOfMemory) }
 {
     let mut copies = Vec::new(alloc);

@@ -6,7 +6,6 @@ ghost use Rattle.gimli_read.specs.Reading.{ExactlyUnlessOom};
 ghost use Rattle.addr2line_units.specs.declared.frames_lookup.Faults.TheVariants.{End};
 ghost use Rattle.addr2line_units.specs.FramesLeft.{frames_left};
 ghost use Rattle.addr2line_units.specs.FramesLookup.{is_waiting};
-ghost use Rattle.addr2line_units.specs.CachedViews.{seen_load};
 ghost use Rattle.addr2line_units.specs.Suspended.{IfLoad, IfOutput, SkipsTo};
 ghost use Rattle.addr2line.specs.Answers.{AfterResume};
 ghost use Rattle.addr2line.specs.Borrowed.{EndsAs, RestsAs};
@@ -42,8 +41,7 @@ fn end<R: Reader>(ctx: &mut Context<R>, probe: u64) -> LookupResult<FramesLookup
 fn ask_units<R: Reader>(ctx: &mut Context<R>, probe: u64) -> LookupResult<FramesLookup<'_, R>>
     ensures* ends { sem 𝓛 (RestsAs (λ c. c.ctx.ghost_name) R.row R.Reader ctx.entry result
         (λ o n. AfterFrames End probe o ctx.old n)) }
-    ensures load { IfLoad result (λ c.
-        WaitsIn End ctx.entry probe c.ctx c.probe c.number (seen_load R.section c.load)) }
+    ensures load { IfLoad result (λ c. WaitsIn End ctx.entry probe c.ctx c.probe c.number c.load) }
     ensures output { IfOutput result (λ o. ExactlyUnlessOom (λ i. Some (frames_left i)) o
         (frames_in ctx.old probe)) }
 {
@@ -69,8 +67,7 @@ fn ask_units<R: Reader>(ctx: &mut Context<R>, probe: u64) -> LookupResult<Frames
 fn go<R: Reader>(ctx: &mut Context<R>, probe: u64) -> LookupResult<FramesLookup<'_, R>>
     ensures* ends { sem 𝓛 (RestsAs (λ c. c.ctx.ghost_name) R.row R.Reader ctx.entry result
         (λ o n. AfterFrames End probe o ctx.old n)) }
-    ensures load { IfLoad result (λ c.
-        WaitsIn End ctx.entry probe c.ctx c.probe c.number (seen_load R.section c.load)) }
+    ensures load { IfLoad result (λ c. WaitsIn End ctx.entry probe c.ctx c.probe c.number c.load) }
     ensures output { IfOutput result (λ o. ExactlyUnlessOom (λ i. Some (frames_left i)) o
         (frames_in ctx.old probe)) }
 {
@@ -93,7 +90,7 @@ fn go_on<R: Reader>(
     ensures* ends { sem 𝓛 (RestsAs (λ c. c.ctx.ghost_name) R.row R.Reader ctx.entry result
         (λ o n. AfterResume End probe number (option_map (λ d. d.value) input) o ctx.old n)) }
     ensures load { IfLoad result (λ c. WaitsAgainIn End ctx.entry probe number
-        (option_map (λ d. d.value) input) c.ctx c.probe c.number (seen_load R.section c.load)) }
+        (option_map (λ d. d.value) input) c.ctx c.probe c.number c.load) }
     ensures fewer { IfLoad result (λ c. count_loads c.ctx.now c.probe < count_loads ctx.old probe) }
     ensures output { IfOutput result (λ o. ExactlyUnlessOom (λ i. Some (frames_left i)) o
         (frames_answered ctx.old number (option_map (λ d. d.value) input) probe)) }
@@ -141,8 +138,7 @@ impl<'ctx, R: Reader> LookupContinuation for FramesLookup<'ctx, R> {
             self.entry.ctx result (λ o n. AfterResume End self.entry.probe self.entry.number
             (option_map (λ d. d.value) input) o self.entry.ctx.now n)) }
         ensures load { IfLoad result (λ c. WaitsAgainIn End self.entry.ctx self.entry.probe
-            self.entry.number (option_map (λ d. d.value) input)
-            c.ctx c.probe c.number (seen_load R.section c.load)) }
+            self.entry.number (option_map (λ d. d.value) input) c.ctx c.probe c.number c.load) }
         ensures fewer { IfLoad result (λ c. count_loads c.ctx.now c.probe < count_loads
             self.entry.ctx.now self.entry.probe) }
         ensures output { IfOutput result (λ o. ExactlyUnlessOom (λ i. Some (frames_left i)) o
@@ -254,8 +250,8 @@ impl<R: Reader> Context<R> {
     pub fn find_frames(&mut self, probe: u64) -> LookupResult<FramesLookup<'_, R>>
         ensures* ends { sem 𝓛 (RestsAs (λ c. c.ctx.ghost_name) R.row R.Reader self.entry
             result (λ o n. AfterFrames End probe o self.old n)) }
-        ensures load { IfLoad result (λ c.
-            WaitsIn End self.entry probe c.ctx c.probe c.number (seen_load R.section c.load)) }
+        ensures load { IfLoad result (λ c. WaitsIn End self.entry probe c.ctx c.probe c.number
+            c.load) }
         ensures output { IfOutput result (λ o. ExactlyUnlessOom (λ i. Some (frames_left i)) o
             (frames_in self.old probe)) }
     {

@@ -1,9 +1,8 @@
 //! Answers to loads outside a lookup, and what forgets them.
 
-ghost use Rattle.std.specs.Prelude.{◌≡◌, IfErr, IfOk, IsOk, map, option_map};
+ghost use Rattle.std.specs.Prelude.{◌≡◌, IfErr, IfOk, IsOk, option_map};
 ghost use Rattle.gimli_read.specs.declared.error.Error.TheVariants.{OutOfMemory};
 ghost use Rattle.gimli_read.specs.Reading.{ExactlyUnlessOom};
-ghost use Rattle.addr2line_units.specs.CachedViews.{seen_load};
 ghost use Rattle.addr2line_units.specs.Loads.{token_number};
 ghost use Rattle.addr2line.specs.Loads.{AfterForget, AfterLoad, AfterPreload, IsNotOpen, NoneOpenAt, forget_reply, load_reply};
 ghost use Rattle.addr2line.specs.Lookups.{loads_at};
@@ -23,7 +22,7 @@ impl<R: Reader> Context<R> {
     ///
     /// Source: DWARF 5, section 7.3.2. Own: the order.
     pub fn preload_units(&mut self, probe: u64) -> Result<Vec<SplitDwarfLoad<R>>, Error>
-        ensures gives { IfOk result (λ loads. map (seen_load R.section) loads.items
+        ensures gives { IfOk result (λ loads. loads.items
             ≡ loads_at self.old.sections self.old.answers probe) }
         ensures refused { IfErr result (λ e. e ≡ OutOfMemory) }
         ensures memory { NoneOpenAt self.old probe → IsOk result }

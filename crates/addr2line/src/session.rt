@@ -117,7 +117,8 @@ fn replay_frames<R: Reader>(
                 };
             }
             Ok(None) => {
-                let unit = next.load().unit;
+                let wanted = next.load();
+                let unit = wanted.unit;
                 next.abandon();
                 return Ok(Reply::Suspended(unit));
             }
@@ -127,7 +128,8 @@ fn replay_frames<R: Reader>(
             }
         }
     }
-    let unit = next.load().unit;
+    let wanted = next.load();
+    let unit = wanted.unit;
     next.abandon();
     Ok(Reply::Suspended(unit))
 }
@@ -161,7 +163,8 @@ fn replay_unit<R: Reader>(
                 };
             }
             Ok(None) => {
-                let unit = next.load().unit;
+                let wanted = next.load();
+                let unit = wanted.unit;
                 next.abandon();
                 return Ok(Reply::Suspended(unit));
             }
@@ -171,7 +174,8 @@ fn replay_unit<R: Reader>(
             }
         }
     }
-    let unit = next.load().unit;
+    let wanted = next.load();
+    let unit = wanted.unit;
     next.abandon();
     Ok(Reply::Suspended(unit))
 }

@@ -6,7 +6,6 @@ ghost use Rattle.gimli.specs.Sections.{Sections};
 ghost use Rattle.elf.specs.declared.error.LoaderError.TheVariants.{OutOfMemory, PathNotUtf8};
 ghost use Rattle.elf.specs.Loading.{Loading, LoadsUnlessOom};
 ghost use Rattle.elf.specs.ObjectFile.{object_file_of};
-ghost use Rattle.addr2line_units.specs.CachedViews.{seen_load};
 ghost use Rattle.addr2line.specs.Loader.{LeavesOpen};
 ghost use Rattle.addr2line.specs.SplitFiles.{bytes_or_none, given_by_files, is_absolute, is_same_id, has_wanted_id, or_none, path_in, separated, split_by, split_of, split_path, utf8_path};
 
@@ -79,7 +78,7 @@ fn path_of<R: Reader>(
     load: &SplitDwarfLoad<R>,
 ) -> Result<Option<Vec<u8>>, AllocError>
     ensures gives { IfOk result (λ path. option_map (λ (v : _). v.items) path
-        ≡ split_path (seen_load R.section load.now)) }
+        ≡ split_path load.now) }
 {
     match &load.path {
         Some(name) => Ok(Some(join(alloc, bytes_of(&load.comp_dir), name.to_slice())?)),
@@ -127,7 +126,7 @@ fn read_split<R: Reader, S: SectionSource<R>>(
     load: &SplitDwarfLoad<R>,
 ) -> Result<Option<Rc<Dwarf<R>>>, LoaderError>
     ensures gives { LoadsUnlessOom (option_map (λ d. d.value)) result
-        (split_by (S.given file.now) (seen_load R.section load.now)) }
+        (split_by (S.given file.now) load.now) }
 {
     let mut dwarf = as_dwarf(read_sections(file)?, DwarfFileType::Dwo, None);
     let unit = read_first_unit(alloc, &dwarf)?;
@@ -146,7 +145,7 @@ fn read_split_file(
     bytes: Vec<u8>,
 ) -> Result<Option<Rc<Dwarf<EndianBytes>>>, LoaderError>
     ensures gives { LoadsUnlessOom (option_map (λ d. d.value)) result
-        (split_of (seen_load (λ r. r) load.now) bytes.items) }
+        (split_of load.now bytes.items) }
 {
     let object = parse_file(alloc, bytes)?;
     read_split(alloc, &SplitFile { object: &object }, load)
@@ -176,8 +175,7 @@ pub(crate) fn answer_to<F: FileSource>(
     load: &SplitDwarfLoad<EndianBytes>,
 ) -> Result<Option<Rc<Dwarf<EndianBytes>>>, LoaderError>
     ensures gives { IfSome (F.files files.now) (λ held.
-        LoadsUnlessOom (option_map (λ d. d.value)) result
-        (given_by_files held (seen_load (λ r. r) load.now))) }
+        LoadsUnlessOom (option_map (λ d. d.value)) result (given_by_files held load.now)) }
     ensures stays_open { IfErr result LeavesOpen }
 {
     let Some(path) = path_of(alloc, load)? else {

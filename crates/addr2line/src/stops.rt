@@ -6,7 +6,6 @@ ghost use Rattle.gimli_read.specs.Reading.{ExactlyUnlessOom};
 ghost use Rattle.addr2line_units.specs.declared.frames_lookup.Faults.{Faults};
 ghost use Rattle.addr2line_units.specs.declared.frames_lookup.Faults.TheVariants.{PassOver};
 ghost use Rattle.addr2line_units.specs.FramesLookup.{Waits, is_waiting};
-ghost use Rattle.addr2line_units.specs.CachedViews.{seen_load};
 ghost use Rattle.addr2line_units.specs.SeenUnit.{seen_found};
 ghost use Rattle.addr2line.specs.Context.{IsUncovered};
 ghost use Rattle.addr2line.specs.declared.stops.UnitStop.TheVariants.{Finds};
@@ -79,8 +78,7 @@ impl<R: Reader> Context<R> {
         requires waits { lookup_stop faults self.now.sections self.now.answers probe
             ≡ Ok (Waits number) }
         requires known { IsKnown faults self.now probe }
-        ensures gives { IfOk result (λ l. IsLoadOf self.now.sections number
-            (seen_load R.section l)) }
+        ensures gives { IfOk result (λ l. IsLoadOf self.now.sections number l) }
         ensures refused { IfErr result (λ e. e ≡ OutOfMemory) }
     {
         self.units.load(&self.dwarf, number)

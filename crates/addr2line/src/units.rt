@@ -5,7 +5,6 @@ ghost use Rattle.std.specs.Borrow.{sem};
 ghost use Rattle.gimli_read.specs.declared.error.Error.TheVariants.{OutOfMemory};
 ghost use Rattle.gimli_read.specs.Reading.{ExactlyUnlessOom};
 ghost use Rattle.addr2line_units.specs.declared.frames_lookup.Faults.TheVariants.{PassOver};
-ghost use Rattle.addr2line_units.specs.CachedViews.{seen_load};
 ghost use Rattle.addr2line_units.specs.SeenUnit.{seen_found};
 ghost use Rattle.addr2line_units.specs.Suspended.{IfLoad, IfOutput, SkipsTo};
 ghost use Rattle.addr2line.specs.declared.stops.UnitStop.TheVariants.{Finds};
@@ -49,8 +48,8 @@ fn end<R: Reader>(
 fn go<R: Reader>(ctx: &mut Context<R>, probe: u64) -> LookupResult<UnitLookup<'_, R>>
     ensures* ends { sem 𝓛 (RestsAs (λ c. c.ctx.ghost_name) R.row R.Reader ctx.entry result
         (λ o n. AfterFrames PassOver probe o ctx.old n)) }
-    ensures load { IfLoad result (λ c.
-        WaitsIn PassOver ctx.entry probe c.ctx c.probe c.number (seen_load R.section c.load)) }
+    ensures load { IfLoad result (λ c. WaitsIn PassOver ctx.entry probe c.ctx c.probe c.number
+        c.load) }
     ensures output { IfOutput result (λ o. ExactlyUnlessOom seen_found o (unit_in ctx.old probe)) }
     ensures refused { IfOutput result (λ o. IfErr o (λ e. e ≡ OutOfMemory)) }
 {
@@ -84,7 +83,7 @@ fn go_on<R: Reader>(
     ensures* ends { sem 𝓛 (RestsAs (λ c. c.ctx.ghost_name) R.row R.Reader ctx.entry result
         (λ o n. AfterResume PassOver probe number (option_map (λ d. d.value) input) o ctx.old n)) }
     ensures load { IfLoad result (λ c. WaitsAgainIn PassOver ctx.entry probe number
-        (option_map (λ d. d.value) input) c.ctx c.probe c.number (seen_load R.section c.load)) }
+        (option_map (λ d. d.value) input) c.ctx c.probe c.number c.load) }
     ensures fewer { IfLoad result (λ c. count_loads c.ctx.now c.probe < count_loads ctx.old probe) }
     ensures output { IfOutput result (λ o. ExactlyUnlessOom seen_found o (unit_answered ctx.old
         number (option_map (λ d. d.value) input) probe)) }
@@ -134,8 +133,7 @@ impl<'ctx, R: Reader> LookupContinuation for UnitLookup<'ctx, R> {
             self.entry.ctx result (λ o n. AfterResume PassOver self.entry.probe self.entry.number
             (option_map (λ d. d.value) input) o self.entry.ctx.now n)) }
         ensures load { IfLoad result (λ c. WaitsAgainIn PassOver self.entry.ctx self.entry.probe
-            self.entry.number (option_map (λ d. d.value) input)
-            c.ctx c.probe c.number (seen_load R.section c.load)) }
+            self.entry.number (option_map (λ d. d.value) input) c.ctx c.probe c.number c.load) }
         ensures fewer { IfLoad result (λ c. count_loads c.ctx.now c.probe < count_loads
             self.entry.ctx.now self.entry.probe) }
         ensures output { IfOutput result (λ o. ExactlyUnlessOom seen_found o (unit_answered
@@ -228,8 +226,8 @@ impl<R: Reader> Context<R> {
     pub fn find_dwarf_and_unit(&mut self, probe: u64) -> LookupResult<UnitLookup<'_, R>>
         ensures* ends { sem 𝓛 (RestsAs (λ c. c.ctx.ghost_name) R.row R.Reader self.entry
             result (λ o n. AfterFrames PassOver probe o self.old n)) }
-        ensures load { IfLoad result (λ c.
-            WaitsIn PassOver self.entry probe c.ctx c.probe c.number (seen_load R.section c.load)) }
+        ensures load { IfLoad result (λ c. WaitsIn PassOver self.entry probe c.ctx c.probe c.number
+            c.load) }
         ensures output { IfOutput result
             (λ o. ExactlyUnlessOom seen_found o (unit_in self.old probe)) }
         ensures refused { IfOutput result (λ o. IfErr o (λ e. e ≡ OutOfMemory)) }

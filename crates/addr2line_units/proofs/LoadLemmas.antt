@@ -201,16 +201,11 @@ next_listed (Some l) old now loads e = by (is_new old l) (filter_twice (is_new o
     by false k = k
 
 -- the loads that are listed so far and those that are new make up all
-module _ {L : Type 0} (see : L → SplitLoad) (listed : List L) (o : Option SplitLoad) (old now : List Bool) (loads all : List SplitLoad) where
-  pub listed_more : (found : Option L) → option_map see found ≡ if_new old o → MarksLoad o old now → map see listed ++ filter (is_new old) (before_others o loads) ≡ all → map see (listed ++ option_to_list found) ++ filter (is_new now) loads ≡ all
+module _ (listed : List SplitLoad) (o : Option SplitLoad) (old now : List Bool) (loads all : List SplitLoad) where
+  pub listed_more : (found : Option SplitLoad) → found ≡ if_new old o → MarksLoad o old now → listed ++ filter (is_new old) (before_others o loads) ≡ all → (listed ++ option_to_list found) ++ filter (is_new now) loads ≡ all
   listed_more found f m h =
-      ap (λ z. z ++ filter (is_new now) loads) (map-append see listed (option_to_list found))
-      ∙ append_assoc (map see listed) (map see (option_to_list found)) (filter (is_new now) loads)
-      ∙ ap (λ z. map see listed ++ z) (ap (λ z. z ++ filter (is_new now) loads) (by found ∙ ap option_to_list f) ∙ sym (next_listed o old now loads m)) ∙ h
-    where
-      by : (x : Option L) → map see (option_to_list x) ≡ option_to_list (option_map see x)
-      by None = refl
-      by (Some y) = refl
+      append_assoc listed (option_to_list found) (filter (is_new now) loads)
+      ∙ ap (λ z. listed ++ z) (ap (λ z. option_to_list z ++ filter (is_new now) loads) f ∙ sym (next_listed o old now loads m)) ∙ h
 
 -- the load of the unit of a number, by what is kept of it
 pub load_there : {R : Type 0} (d : Sections) (us : List UnitRecord) (vs : List (UnitEntries R)) (n : ℕ) (u : UnitRecord) (v : UnitEntries R) → slice_get us n ≡ Some u → n < length vs → v ≡ get_or vs n v
@@ -232,15 +227,15 @@ pub found_same : {L : Type 0} (a b : Option L) → ◌≡◌ {A = Result (Option
 found_same a b e = cc
 
 -- one more load along ranges
-pub listed_step : {L : Type 0} (see : L → SplitLoad) (listed : List L) (d : Sections) (us : List UnitRecord) (answers later : List (Option (Option Sections))) (r : UnitRange) (old now : List Bool)
-    (rest ranges : List UnitRange) (all : List SplitLoad) (found : Option L) → later ≡ answers → ranges ≡ r ∷ rest → option_map see found ≡ if_new old (load_of_number d us later r.unit)
-    → MarksLoad (load_of_number d us later r.unit) old now → map see listed ++ filter (is_new old) (loads_along (load_of_number d us answers) ranges) ≡ all
-    → map see (listed ++ option_to_list found) ++ filter (is_new now) (loads_along (load_of_number d us answers) rest) ≡ all
-listed_step see listed d us answers later r old now rest ranges all found e steps f m h =
-    listed_more see listed (load_of_number d us answers r.unit) old now (loads_along (load_of_number d us answers) rest) all found
+pub listed_step : (listed : List SplitLoad) (d : Sections) (us : List UnitRecord) (answers later : List (Option (Option Sections))) (r : UnitRange) (old now : List Bool)
+    (rest ranges : List UnitRange) (all : List SplitLoad) (found : Option SplitLoad) → later ≡ answers → ranges ≡ r ∷ rest → found ≡ if_new old (load_of_number d us later r.unit)
+    → MarksLoad (load_of_number d us later r.unit) old now → listed ++ filter (is_new old) (loads_along (load_of_number d us answers) ranges) ≡ all
+    → (listed ++ option_to_list found) ++ filter (is_new now) (loads_along (load_of_number d us answers) rest) ≡ all
+listed_step listed d us answers later r old now rest ranges all found e steps f m h =
+    listed_more listed (load_of_number d us answers r.unit) old now (loads_along (load_of_number d us answers) rest) all found
     (f ∙ ap (λ a. if_new old (load_of_number d us a r.unit)) e)
     (subst (λ a. MarksLoad (load_of_number d us a r.unit) old now) e m)
-    (subst (λ rs. map see listed ++ filter (is_new old) (loads_along (load_of_number d us answers) rs) ≡ all) steps h)
+    (subst (λ rs. listed ++ filter (is_new old) (loads_along (load_of_number d us answers) rs) ≡ all) steps h)
 
 -- what was decided is decided where more is kept
 pub decided_stays : {R : Type 0} (vs ws : List (UnitEntries R)) (n : ℕ) → StayAllEntries vs ws → decided_at vs n ≡ true → decided_at ws n ≡ true

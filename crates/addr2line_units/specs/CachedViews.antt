@@ -10,21 +10,10 @@ use Rattle.gimli.specs.Split.{relocated}
 use Rattle.gimli.specs.Unit.{UnitRecord}
 use Rattle.addr2line_lines.specs.References.{Scope}
 use Rattle.addr2line_units.specs.declared.view.Answer.{Answer}
-use Rattle.addr2line_units.specs.declared.view.SplitDwarfLoad.{SplitDwarfLoad}
 use Rattle.addr2line_units.specs.declared.view.UnitView.{UnitView}
 use Rattle.addr2line_units.specs.declared.view.ViewState.{ViewState}
 use Rattle.addr2line_units.specs.declared.view.ViewState.TheVariants as states
-use Rattle.addr2line_units.specs.Views.{SplitLoad, View, first_unit, is_open, main_view, parts_of, split_view, verdict}
-
--- a load
-abbrev pub seen_load : {R : Type 0} → (R → Section) → SplitDwarfLoad R → SplitLoad
-seen_load see l = record {
-  unit = l.unit.number;
-  dwo_id = l.dwo_id;
-  comp_dir = option_map see l.comp_dir;
-  path = option_map see l.path;
-  parent = l.parent.value;
-}
+use Rattle.addr2line_units.specs.Views.{View, first_unit, is_open, main_view, parts_of, split_view, verdict}
 
 -- an answer
 abbrev pub seen_sections : {R : Type 0} → Answer R → Option Sections

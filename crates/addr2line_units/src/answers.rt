@@ -4,7 +4,7 @@ ghost use Rattle.std.specs.Prelude.{◌≡◌, IfErr, IfOk, None, OnOk, Ok, Some
 ghost use Rattle.gimli_read.specs.declared.error.Error.TheVariants.{OutOfMemory};
 ghost use Rattle.addr2line_lines.specs.SeenScope.{seen_scope};
 ghost use Rattle.addr2line_units.specs.CachedEntries.{AreEntriesOf, StayEntries, kept_answer};
-ghost use Rattle.addr2line_units.specs.CachedViews.{IsViewOf, is_decided, seen_load, waits};
+ghost use Rattle.addr2line_units.specs.CachedViews.{IsViewOf, is_decided, waits};
 ghost use Rattle.addr2line_units.specs.Views.{decided_answer, is_open, load_of_unit};
 
 use crate::functions::LazyFunctions;
@@ -69,7 +69,7 @@ impl<R: Reader> UnitEntries<R> {
         requires view { IsViewOf dwarf.now.value dw_unit.now self.now.view }
         requires waits { waits self.now.view.state ≡ true }
         ensures gives { IfOk result (λ l. load_of_unit dwarf.now.value number dw_unit.now
-            ≡ Ok (Some (seen_load R.section l))) }
+            ≡ Ok (Some l)) }
         ensures refused { IfErr result (λ e. e ≡ OutOfMemory) }
     {
         self.view.load(dwarf, dw_unit, number)

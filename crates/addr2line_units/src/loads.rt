@@ -1,6 +1,6 @@
 //! Answers to the loads of units that no lookup waits for, and the loads that an address waits for.
 
-ghost use Rattle.std.specs.Prelude.{◌≡◌, ◌≢◌, ◌⊎◌, ◌++◌, ◌<◌, ℕ, IfErr, IfOk, IsOk, None, Ok, OnOk, Some, false, length, map, not, option_map, slice_get, true};
+ghost use Rattle.std.specs.Prelude.{◌≡◌, ◌≢◌, ◌⊎◌, ◌++◌, ◌<◌, ℕ, IfErr, IfOk, IsOk, None, Ok, OnOk, Some, false, length, not, option_map, slice_get, true};
 ghost use Rattle.std.specs.List.{AllByRecursion};
 ghost use Rattle.std.specs.Option.{option_to_list};
 ghost use Rattle.gimli_read.specs.declared.error.Error.TheVariants.{OutOfMemory};
@@ -11,7 +11,7 @@ ghost use Rattle.addr2line_units.specs.Cover.{cover};
 ghost use Rattle.addr2line_units.specs.FramesLookup.{answer_of, with_answer};
 ghost use Rattle.addr2line_units.specs.CachedEntries.{AreEntriesOf, StayEntries, kept_answer};
 ghost use Rattle.addr2line_units.specs.CachedLookups.{HaveEntriesOf, StayAllEntries, answers_in, decided_at, scope_in};
-ghost use Rattle.addr2line_units.specs.CachedViews.{is_decided, seen_load};
+ghost use Rattle.addr2line_units.specs.CachedViews.{is_decided};
 ghost use Rattle.addr2line_units.specs.ListedLoads.{MarksLoad, MarksUnit, if_new, is_marked};
 ghost use Rattle.addr2line_units.specs.Loads.{NoneOpen, forget_result, forgotten, is_open_at, load_of_number, load_result, loads_along, view_fault};
 ghost use Rattle.gimli_read.specs.Alike.{HadMemory};
@@ -183,8 +183,7 @@ impl<R: Reader> UnitEntries<R> {
         requires same { scope.file.dwarf.now ≡ dwarf.now.value }
         requires there { number < length scope.file.units.now }
         requires kept { AreEntriesOf (seen_scope scope) dw_unit.now self.old }
-        ensures gives { IfOk result (λ load. option_map (seen_load R.section) load
-            ≡ if_new marks.old.items
+        ensures gives { IfOk result (λ load. load ≡ if_new marks.old.items
             (awaited_load dwarf.now.value number dw_unit.now (kept_answer self.old))) }
         ensures marked { OnOk result (MarksLoad
             (awaited_load dwarf.now.value number dw_unit.now (kept_answer self.old))
@@ -220,8 +219,7 @@ fn new_load_at<R: Reader>(
 ) -> Result<Option<SplitDwarfLoad<R>>, Error>
     requires kept { HaveEntriesOf (scope_in dwarf.now.value dw_units.now sup.now) dw_units.now
         entries.old.items }
-    ensures gives { IfOk result (λ load. option_map (seen_load R.section) load
-        ≡ if_new marks.old.items
+    ensures gives { IfOk result (λ load. load ≡ if_new marks.old.items
         (load_of_number dwarf.now.value dw_units.now (answers_in entries.old.items) number)) }
     ensures marked { OnOk result (MarksLoad
         (load_of_number dwarf.now.value dw_units.now (answers_in entries.old.items) number)
@@ -277,7 +275,7 @@ fn read_loads<R: Reader>(
 ) -> Result<Vec<SplitDwarfLoad<R>>, Error>
     requires kept { HaveEntriesOf (scope_in dwarf.now.value dw_units.now sup.now) dw_units.now
         entries.old.items }
-    ensures gives { IfOk result (λ loads. map (seen_load R.section) loads.items ≡ loads_along
+    ensures gives { IfOk result (λ loads. loads.items ≡ loads_along
         (load_of_number dwarf.now.value dw_units.now (answers_in entries.old.items))
         (ranges_left ranges.entry)) }
     ensures refused { IfErr result (λ e. e ≡ OutOfMemory) }
@@ -312,7 +310,7 @@ impl<R: Reader> ResUnits<R> {
     ) -> Result<Vec<SplitDwarfLoad<R>>, Error>
         requires kept { HaveEntriesOf (scope_in dwarf.now.value self.old.dw_units.items sup.now)
             self.old.dw_units.items self.old.entries.items }
-        ensures gives { IfOk result (λ loads. map (seen_load R.section) loads.items ≡ loads_along
+        ensures gives { IfOk result (λ loads. loads.items ≡ loads_along
             (load_of_number dwarf.now.value self.old.dw_units.items
             (answers_in self.old.entries.items)) (cover probe self.old.ranges)) }
         ensures refused { IfErr result (λ e. e ≡ OutOfMemory) }

@@ -16,7 +16,6 @@ ghost use Rattle.addr2line_units.specs.Frames.{found_frames};
 ghost use Rattle.addr2line_units.specs.CachedEntries.{AreRead};
 ghost use Rattle.addr2line_units.specs.CachedFunctions.{ArePlacesIn, function_of_place, cached_functions};
 ghost use Rattle.addr2line_units.specs.CachedLookups.{HaveEntriesOf, HaveViewsOf, IsFramePlaceIn, IsStopIn, ReadsOnly, StayAllEntries, WaitsIn, answers_in, decided_at, frames_at_place, has_frames_at, scope_in, seen_stop, sup_file, waits_at};
-ghost use Rattle.addr2line_units.specs.CachedViews.{seen_load};
 ghost use Rattle.addr2line_units.specs.SeenUnit.{seen_unit};
 ghost use Rattle.addr2line_units.specs.Loads.{is_open_at};
 ghost use Rattle.addr2line_units.specs.Views.{load_of_unit, parts_of};
@@ -200,7 +199,7 @@ impl<R: Reader> ResUnits<R> {
             self.now.entries.items }
         requires waits { waits_at self.now.entries.items number ≡ true }
         ensures gives { IfOk result (λ l. IfSome (slice_get self.now.dw_units.items number) (λ u.
-            load_of_unit dwarf.now.value number u ≡ Ok (Some (seen_load R.section l)))) }
+            load_of_unit dwarf.now.value number u ≡ Ok (Some l))) }
         ensures refused { IfErr result (λ e. e ≡ OutOfMemory) }
     {
         self.entries[number].load(dwarf, &self.dw_units[number], number)

@@ -7,13 +7,14 @@ ghost use Rattle.gimli.specs.Sections.{Sections};
 ghost use Rattle.gimli.specs.Unit.{UnitRecord};
 ghost use Rattle.addr2line_lines.specs.References.{IsScope};
 ghost use Rattle.addr2line_lines.specs.SeenScope.{seen_scope};
-ghost use Rattle.addr2line_units.specs.CachedViews.{IsViewOf, answer_in, is_decided, parts_or_fault, seen_first_answer, seen_load, seen_sections, split_file_by, split_file_in, split_unit, verdict_in, view_in, waits, was_looked_at};
+ghost use Rattle.addr2line_units.specs.CachedViews.{IsViewOf, answer_in, is_decided, parts_or_fault, seen_first_answer, seen_sections, split_file_by, split_file_in, split_unit, verdict_in, view_in, waits, was_looked_at};
 ghost use Rattle.addr2line_units.specs.Views.{answered_view, first_unit, load_of_unit, split_name_of, verdict, view_scope};
 
 use addr2line_lines::{FileUnits, Scope};
 use gimli::read::{Error, Reader};
 use gimli::{Dwarf, DwoId, Unit, UnitRef};
 use std::alloc::Global;
+use std::marker::Model;
 use std::rc::Rc;
 
 /// Names a unit of a context by its number, of another context the unit of the same number.
@@ -35,6 +36,21 @@ pub struct SplitDwarfLoad<R: Reader> {
     pub parent: Rc<Dwarf<R>>,
     /// The unit.
     pub unit: UnitToken,
+}
+
+impl<R: Reader> Model for SplitDwarfLoad<R> {
+    ghost use Rattle.std.specs.Prelude.{option_map};
+    ghost use Rattle.addr2line_units.specs.Views.{SplitLoad};
+
+    ghost Value = { SplitLoad };
+
+    ghost view = { λ l. record {
+      unit = l.unit.number;
+      dwo_id = l.dwo_id;
+      comp_dir = option_map R.section l.comp_dir;
+      path = option_map R.section l.path;
+      parent = l.parent.value;
+    } };
 }
 
 // The first answer to the load of a unit, and the split unit that it gives: none where it has no
@@ -96,8 +112,7 @@ fn read_load<R: Reader>(
     number: usize,
     unit: &Unit<R>,
 ) -> Result<Option<SplitDwarfLoad<R>>, Error>
-    ensures gives { ExactlyUnlessOomIf (is_some unit.now.dwo_id)
-        (option_map (seen_load R.section)) result
+    ensures gives { ExactlyUnlessOomIf (is_some unit.now.dwo_id) (λ l. l) result
         (load_of_unit dwarf.now.value number unit.now) }
 {
     let Some(dwo_id) = unit.dwo_id else {
@@ -119,10 +134,7 @@ fn read_load<R: Reader>(
 ///
 /// Refused for its header, else as `Dwarf::unit` is. May fail with `OutOfMemory` instead. Source:
 /// DWARF 5, section 7.5.1.
-pub fn read_first_unit<R: Reader>(
-    alloc: Global,
-    dwarf: &Dwarf<R>,
-) -> Result<Option<Unit<R>>, Error>
+pub fn read_first_unit<R: Reader>(alloc: Global, dwarf: &Dwarf<R>) -> Result<Option<Unit<R>>, Error>
     ensures gives { ExactlyUnlessOom (λ u. u) result (first_unit dwarf.now) }
 {
     let mut headers = dwarf.units()?;
@@ -254,7 +266,7 @@ impl<R: Reader> UnitView<R> {
         requires view { IsViewOf dwarf.now.value dw_unit.now self.now }
         requires waits { waits self.now.state ≡ true }
         ensures gives { IfOk result (λ l. load_of_unit dwarf.now.value number dw_unit.now
-            ≡ Ok (Some (seen_load R.section l))) }
+            ≡ Ok (Some l)) }
         ensures refused { IfErr result (λ e. e ≡ OutOfMemory) }
     {
         match read_load(dwarf, number, dw_unit)? {

@@ -2,8 +2,6 @@ use Rattle.std.proofs.Common.{◌≡◌, ◌++◌, ◌∷◌, ◌+◌, ◌≤◌
 use Rattle.std.proofs.lemmas.List.{length-map}
 use Rattle.gimli_read.specs.Reading.{ExactlyUnlessOom}
 use Rattle.addr2line_units.specs.declared.frames_lookup.Faults.TheVariants.{PassOver}
-use Rattle.addr2line_units.specs.CachedViews.{seen_load}
-use Rattle.addr2line_units.specs.Loads.{token_number}
 use Rattle.addr2line_units.specs.SeenUnit.{seen_found}
 use Rattle.addr2line.proofs.HistoryLemmas.{given_ended, take_drop_one, take_then}
 use Rattle.addr2line.proofs.ReplayLemmas.{begun_at, ended_by, goes_on, left_at_end, left_by, left_leaves, load_token, looked_leaves, refused_leaves, reply_by, resumed_leaves, suspended_by, unit_waiting}
@@ -41,7 +39,7 @@ loop-answer-init g c =
     record {
       name = refl;
       probe = load.1;
-      token = load_token PassOver first.sections first.answers c.args.probe next.number (seen_load g.R.Reader.section next.load) load.2.waits load.2.load;
+      token = load_token PassOver first.sections first.answers c.args.probe next.number next.load load.2.waits load.2.load;
       so = begun_at PassOver c.args.probe first (map seen_given c.args.answers.now) next.number _ next.ctx.now load.2;
     }
 
@@ -91,7 +89,7 @@ returns-in-Ok-None-clause-gives g c =
     let inv = c.loop-answer.invariant in
     let given = sym c.in-Ok-None.ensures.gives ∙ ap (λ o. given_by (option_map (option_map (λ r. r.value)) o)) c.in-Ok-None.field-0-is in
     let whole = subst (λ y. take i all ++ (y ∷ drop (i + 1) all) ≡ all) given (take_drop_one seen_given c.args.answers.now i c.answer-item.result (search rules) c.answer-item.is) in
-    suspended_by PassOver p first all i l.number l.ctx.now inv.so (unit_replied first.sections p) (λ w. ap (λ r. reply_of_unit r (unit_of first.sections l.ctx.now.answers p)) w) _ (ap (λ r. token_number r.unit) c.load.ensures.gives ∙ inv.token)
+    suspended_by PassOver p first all i l.number l.ctx.now inv.so (unit_replied first.sections p) (λ w. ap (λ r. reply_of_unit r (unit_of first.sections l.ctx.now.answers p)) w) _ (ap (λ r. r.unit) (c.wanted.view_is ∙ c.load-wanted.ensures.gives) ∙ inv.token)
     (left_by PassOver p first all i l.number l.ctx.now inv.so (drop (i + 1) all) whole)
 
 pub returns-in-Ok-None-clause-after : goal.returns-in-Ok-None-clause-after
@@ -124,7 +122,7 @@ loop-answer-preserved g c =
     let x = option_map (λ r. r.value) c.in-Ok-Some.input in
     let given = sym c.in-Ok-Some.ensures.gives ∙ ap (λ o. given_by (option_map (option_map (λ r. r.value)) o)) c.in-Ok-Some.field-0-is in
     let more = λ (rest : List Given). take_then seen_given c.args.answers.now i c.answer-item.result (search rules) c.answer-item.is rest ∙ ap (λ y. take i all ++ (y ∷ rest)) given in
-    let wanted = seen_load g.R.Reader.section next.load in
+    let wanted = next.load in
     let again = subst (λ q. SuspendsAgain PassOver q l.number x next.number wanted l.ctx.now next.ctx.now) inv.probe load.2 in
     record {
       name = load.0 ∙ inv.name;
@@ -142,7 +140,7 @@ returns-clause-gives g c =
     let l = c.loop-answer.next in
     let inv = c.loop-answer.invariant in
     let past : length c.args.answers.now ≤ i = (search rules) in
-    suspended_by PassOver p first all i l.number l.ctx.now inv.so (unit_replied first.sections p) (λ w. ap (λ r. reply_of_unit r (unit_of first.sections l.ctx.now.answers p)) w) _ (ap (λ r. token_number r.unit) c.load-2.ensures.gives ∙ inv.token)
+    suspended_by PassOver p first all i l.number l.ctx.now inv.so (unit_replied first.sections p) (λ w. ap (λ r. reply_of_unit r (unit_of first.sections l.ctx.now.answers p)) w) _ (ap (λ r. r.unit) (c.wanted-2.view_is ∙ c.load-wanted-2.ensures.gives) ∙ inv.token)
     (left_at_end PassOver p first all i l.number l.ctx.now inv.so (subst (λ n. n ≤ i) (sym (length-map c.args.answers.now seen_given)) past))
 
 pub returns-clause-after : goal.returns-clause-after

@@ -4,7 +4,6 @@ use Rattle.std.proofs.lemmas.Option.{get_or_from_slice_get, slice_get_past, slic
 use Rattle.addr2line_lines.specs.SeenScope.{seen_file}
 use Rattle.addr2line_units.specs.CachedEntries.{AreEntriesOf}
 use Rattle.addr2line_units.specs.CachedLookups.{answers_in, scope_in, sup_file}
-use Rattle.addr2line_units.specs.CachedViews.{seen_load}
 use Rattle.addr2line_units.specs.ListedLoads.{MarksLoad, if_new}
 use Rattle.addr2line_units.specs.Loads.{load_of_number}
 use Rattle.addr2line_units.proofs.AnswerLemmas.{decided_there, in_same_scope}
@@ -61,7 +60,7 @@ returns-clause-gives g c =
     let there : slice_get us n ≡ Some u = slice_get_read us _ n u refl (ltb-true _ _ (sym c.in-Some.ensures.lookup.0)) c.in-Some.ensures.lookup.1 in
     let scope = scope_in c.args.dwarf.now.value us c.args.sup.now in
     let within = subst (λ m. n < m) (as_many_entries scope us vs c.requires.kept) (slice_get_within us n u there) in
-    subst (λ o. IfOk c.new_load.result (λ load. option_map (seen_load g.R.Reader.section) load ≡ if_new c.args.marks.now.items o)) (sym (load_there c.args.dwarf.now.value us vs n u v there within c.index_mut-entries.ensures.value)) c.new_load.ensures.gives
+    subst (λ o. IfOk c.new_load.result (λ load. load ≡ if_new c.args.marks.now.items o)) (sym (load_there c.args.dwarf.now.value us vs n u v there within c.index_mut-entries.ensures.value)) c.new_load.ensures.gives
 
 pub returns-clause-marked : goal.returns-clause-marked
 returns-clause-marked g c =

@@ -1,9 +1,8 @@
-use Rattle.std.proofs.Common.{◌≡◌, ◌∙◌, ◌++◌, [], ap, filter, map, rules, subst, sym, true}
+use Rattle.std.proofs.Common.{◌≡◌, ◌∙◌, ◌++◌, [], ap, filter, rules, subst, sym, true}
 use Rattle.std.specs.List.{AllByRecursion}
 use Rattle.std.proofs.lemmas.List.{append-nil}
 use Rattle.addr2line_units.specs.declared.index.UnitRange.{UnitRange}
 use Rattle.addr2line_units.specs.CachedLookups.{answers_in, decided_at}
-use Rattle.addr2line_units.specs.CachedViews.{seen_load}
 use Rattle.addr2line_units.specs.ListedLoads.{is_new}
 use Rattle.addr2line_units.specs.Loads.{NoneOpen, load_of_number, loads_along}
 use Rattle.addr2line_units.specs.UnitRangesLeft.{ranges_left}
@@ -20,7 +19,7 @@ loop-range-init g c =
     record {
       stay = stay_entries c.args.entries.now.items;
       kept = c.requires.kept;
-      listed = ap (λ ls. map (seen_load g.R.Reader.section) ls ++ filter (is_new c.new-marks.result.items) all) none ∙ ap (λ m. filter (is_new m) all) blank ∙ none_marked all;
+      listed = ap (λ ls. ls ++ filter (is_new c.new-marks.result.items) all) none ∙ ap (λ m. filter (is_new m) all) blank ∙ none_marked all;
       decided = λ h. h;
       none_open = λ h. h;
     }
@@ -53,14 +52,13 @@ loop-range-preserved g c =
     let vs = c.args.entries.now.items in
     let ws = c.loop-range.entries.items in
     let n = c.in-Some.range.unit in
-    let see = seen_load g.R.Reader.section in
     let old = c.loop-range.marks.items in
     let now = c.new_load_at.new.marks.items in
     record {
       stay = stay_entries_over vs ws c.new_load_at.new.entries.items i.stay c.new_load_at.ensures.stay;
       kept = c.new_load_at.ensures.kept;
-      listed = ap (λ ls. map see ls ++ filter (is_new now) (loads_along (load_of_number d us (answers_in vs)) (ranges_left c.next.new.self))) c.in_ok-push_if.ensures.gives
-          ∙ listed_step see c.loop-range.loads.items d us (answers_in vs) (answers_in ws) c.in-Some.range old now (ranges_left c.next.new.self) (ranges_left c.loop-range.ranges) (loads_along (load_of_number d us (answers_in vs)) (ranges_left c.args.ranges))
+      listed = ap (λ ls. ls ++ filter (is_new now) (loads_along (load_of_number d us (answers_in vs)) (ranges_left c.next.new.self))) c.in_ok-push_if.ensures.gives
+          ∙ listed_step c.loop-range.loads.items d us (answers_in vs) (answers_in ws) c.in-Some.range old now (ranges_left c.next.new.self) (ranges_left c.loop-range.ranges) (loads_along (load_of_number d us (answers_in vs)) (ranges_left c.args.ranges))
           c.in_ok-load.load (same_answers vs ws i.stay) c.in-Some.ensures.steps c.in_ok-load.ensures.gives c.in_ok-load.ensures.marked i.listed;
       decided = λ h. (subst (AllByRecursion (λ (r : UnitRange). decided_at vs r.unit ≡ true)) c.in-Some.ensures.steps (i.decided h)).1;
       none_open = λ h. (subst (NoneOpen c.args.dwarf.now.value us (answers_in vs)) c.in-Some.ensures.steps (i.none_open h)).1;
@@ -69,9 +67,8 @@ loop-range-preserved g c =
 pub returns-clause-gives : goal.returns-clause-gives
 returns-clause-gives g c =
     let load = load_of_number c.args.dwarf.now.value c.args.dw_units.now (answers_in c.args.entries.now.items) in
-    let see = seen_load g.R.Reader.section in
-    sym (append-nil (map see c.loop-range.loads.items))
-    ∙ ap (λ rs. map see c.loop-range.loads.items ++ filter (is_new c.loop-range.marks.items) (loads_along load rs)) (sym c.in_default.ensures.steps.0)
+    sym (append-nil c.loop-range.loads.items)
+    ∙ ap (λ rs. c.loop-range.loads.items ++ filter (is_new c.loop-range.marks.items) (loads_along load rs)) (sym c.in_default.ensures.steps.0)
     ∙ c.loop-range.invariant.listed
 
 pub returns-in_err-load-clause-none_open : goal.returns-in_err-load-clause-none_open

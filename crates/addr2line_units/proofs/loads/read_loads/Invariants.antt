@@ -1,8 +1,7 @@
-use Rattle.std.proofs.Common.{◌≡◌, ◌++◌, filter, length, map, true}
+use Rattle.std.proofs.Common.{◌≡◌, ◌++◌, filter, length, true}
 use Rattle.std.specs.List.{AllByRecursion}
 use Rattle.addr2line_units.specs.declared.index.UnitRange.{UnitRange}
 use Rattle.addr2line_units.specs.CachedLookups.{HaveEntriesOf, StayAllEntries, answers_in, decided_at, scope_in}
-use Rattle.addr2line_units.specs.CachedViews.{seen_load}
 use Rattle.addr2line_units.specs.ListedLoads.{is_new}
 use Rattle.addr2line_units.specs.Loads.{NoneOpen, load_of_number, loads_along}
 use Rattle.addr2line_units.specs.UnitRangesLeft.{ranges_left}
@@ -15,7 +14,7 @@ invariant-loop-range g l =
     record {
       stay : StayAllEntries l.fn.entries.items l.entries.items;
       kept : HaveEntriesOf (scope_in l.dwarf.value l.dw_units l.sup) l.dw_units l.entries.items;
-      listed : map (seen_load g.R.Reader.section) l.loads.items ++ filter (is_new l.marks.items) (loads_along load (ranges_left l.ranges)) ≡ loads_along load (ranges_left l.fn.ranges);
+      listed : l.loads.items ++ filter (is_new l.marks.items) (loads_along load (ranges_left l.ranges)) ≡ loads_along load (ranges_left l.fn.ranges);
       decided : AllByRecursion (λ (r : UnitRange). decided_at l.fn.entries.items r.unit ≡ true) (ranges_left l.fn.ranges) → AllByRecursion (λ (r : UnitRange). decided_at l.fn.entries.items r.unit ≡ true) (ranges_left l.ranges);
       none_open : NoneOpen l.dwarf.value l.dw_units (answers_in l.fn.entries.items) (ranges_left l.fn.ranges) → NoneOpen l.dwarf.value l.dw_units (answers_in l.fn.entries.items) (ranges_left l.ranges);
     }

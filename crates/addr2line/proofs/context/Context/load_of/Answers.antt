@@ -1,5 +1,4 @@
 use Rattle.std.proofs.Common.{sym}
-use Rattle.addr2line_units.specs.CachedViews.{seen_load}
 use Rattle.addr2line.proofs.LookupLemmas.{load_told, views_are, waits_told}
 use Rattle.addr2line.proofs.context.Context.load_of.Goals as goal
 
@@ -19,4 +18,4 @@ returns-clause-gives g c =
     let s = c.self.inside in
     let r = rw (sym c.self.view_is) at c.requires in
     let w = waits_told s.dwarf.value s.units.dw_units.items s.units.units.items s.units.entries.items s.units.ranges s.sup_units c.self.invariant c.args.faults c.args.probe c.args.number s.looks r.waits r.known in
-    rw (sym c.self.view_is) (load_told s.dwarf.value s.units.dw_units.items s.units.units.items s.units.entries.items s.units.ranges s.sup_units c.self.invariant (seen_load g.R.Reader.section) c.load.result c.args.number w c.load.ensures.gives)
+    rw (sym c.self.view_is) (load_told s.dwarf.value s.units.dw_units.items s.units.units.items s.units.entries.items s.units.ranges s.sup_units c.self.invariant c.load.result c.args.number w c.load.ensures.gives)

@@ -1,6 +1,5 @@
-use Rattle.std.proofs.Common.{map, sym, subst}
+use Rattle.std.proofs.Common.{sym, subst}
 use Rattle.std.specs.Prelude.{IfOk, ◌≡◌}
-use Rattle.addr2line_units.specs.CachedViews.{seen_load}
 use Rattle.addr2line.proofs.AnsweredLemmas.{still_answered}
 use Rattle.addr2line.proofs.LoadLemmas.{after_preload, listed_are, none_open_are}
 use Rattle.addr2line.proofs.LookupLemmas.{entries_in_scope}
@@ -20,7 +19,7 @@ invariant_of-self g c =
 pub returns-clause-gives : goal.returns-clause-gives
 returns-clause-gives g c =
     let s = c.self.inside in
-    rw (sym c.self.view_is) (subst (λ l. IfOk c.preload.result (λ loads. map (seen_load g.R.Reader.section) loads.items ≡ l)) (sym (listed_are s.dwarf.value s.units.dw_units.items s.units.units.items s.units.entries.items s.units.ranges s.sup_units c.self.invariant c.args.probe)) c.preload.ensures.gives)
+    rw (sym c.self.view_is) (subst (λ l. IfOk c.preload.result (λ loads. loads.items ≡ l)) (sym (listed_are s.dwarf.value s.units.dw_units.items s.units.units.items s.units.entries.items s.units.ranges s.sup_units c.self.invariant c.args.probe)) c.preload.ensures.gives)
 
 pub returns-clause-after : goal.returns-clause-after
 returns-clause-after g c =

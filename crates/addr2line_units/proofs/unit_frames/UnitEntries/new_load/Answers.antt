@@ -1,6 +1,5 @@
 use Rattle.std.proofs.Common.{◌≡◌, ◌∙◌, None, Some, ap, false, is_some, not, refl, rules, subst, sym, true}
 use Rattle.addr2line_units.specs.CachedEntries.{kept_answer}
-use Rattle.addr2line_units.specs.CachedViews.{seen_load}
 use Rattle.addr2line_units.specs.ListedLoads.{if_new, is_marked}
 use Rattle.addr2line_units.specs.Views.{awaited_load, is_open}
 use Rattle.addr2line_units.proofs.AnswerLemmas.{never_waits, no_answer, open_by_look}
@@ -58,7 +57,7 @@ returns-clause-gives g c =
     let u = c.args.dw_unit.now in
     let s = c.args.self.now in
     let n = c.args.number in
-    let l = seen_load g.R.Reader.section c.in_ok-load.field-0 in
+    let l = c.in_ok-load.field-0 in
     let was : is_open d u (kept_answer s) ≡ true = open_by_look d u s.view c.look.new.self.view true c.look.ensures.kept.view c.look.ensures.looked c.look.ensures.stay.answer (search rules) in
     let some : is_some (awaited_load e n u (kept_answer s)) ≡ true = sym (open_awaits e n u (kept_answer s)) ∙ subst (λ x. is_open x u (kept_answer s) ≡ true) c.requires.same was in
     let this : awaited_load e n u (kept_answer s) ≡ Some l = awaits_this e n u (kept_answer s) l c.in_ok-load.ensures.gives some in

@@ -1,5 +1,4 @@
 use Rattle.std.proofs.Common.{◌≡◌, Ok, Some, arith, rules}
-use Rattle.addr2line_units.specs.CachedViews.{seen_load}
 use Rattle.addr2line_units.specs.Views.{load_of_unit}
 use Rattle.addr2line_units.proofs.WaitLemmas.{as_many_views, of_unit_at, waiting_view, waits_within}
 use Rattle.addr2line_units.proofs.units.ResUnits.load.Goals as goal
@@ -26,4 +25,4 @@ returns-clause-gives g c =
     let s = c.args.self.now in
     let many = as_many_views c.args.dwarf.now.value s.dw_units.items s.entries.items c.requires.views in
     let within = waits_within s.entries.items c.args.number c.requires.waits in
-    of_unit_at s.dw_units.items c.args.number c.index-2.result.now c.load.result (λ l u. load_of_unit c.args.dwarf.now.value c.args.number u ≡ Ok (Some (seen_load g.R.Reader.section l))) (omega (arith, many, within)) (search rules) c.load.ensures.gives
+    of_unit_at s.dw_units.items c.args.number c.index-2.result.now c.load.result (λ l u. load_of_unit c.args.dwarf.now.value c.args.number u ≡ Ok (Some l)) (omega (arith, many, within)) (search rules) c.load.ensures.gives

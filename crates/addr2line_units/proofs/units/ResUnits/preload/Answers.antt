@@ -1,8 +1,7 @@
-use Rattle.std.proofs.Common.{◌≡◌, map, subst}
+use Rattle.std.proofs.Common.{◌≡◌, subst}
 use Rattle.std.specs.Prelude.{IfOk, IsOk}
 use Rattle.addr2line_units.specs.Cover.{cover}
 use Rattle.addr2line_units.specs.CachedLookups.{answers_in}
-use Rattle.addr2line_units.specs.CachedViews.{seen_load}
 use Rattle.addr2line_units.specs.Loads.{NoneOpen, load_of_number, loads_along}
 use Rattle.addr2line_units.proofs.CachedLookupLemmas.{same_answers}
 use Rattle.addr2line_units.proofs.units.ResUnits.preload.Goals as goal
@@ -12,8 +11,8 @@ returns-clause-gives g c =
     let s = c.args.self.now in
     let d = c.args.dwarf.now.value in
     let answers = answers_in s.entries.items in
-    subst (λ us. IfOk c.read_loads.result (λ loads. map (seen_load g.R.Reader.section) loads.items ≡ loads_along (load_of_number d us answers) (cover c.args.probe s.ranges))) c.deref.ensures.value
-    (subst (λ rs. IfOk c.read_loads.result (λ loads. map (seen_load g.R.Reader.section) loads.items ≡ loads_along (load_of_number d c.deref.result.now answers) rs)) c.find.ensures.gives c.read_loads.ensures.gives)
+    subst (λ us. IfOk c.read_loads.result (λ loads. loads.items ≡ loads_along (load_of_number d us answers) (cover c.args.probe s.ranges))) c.deref.ensures.value
+    (subst (λ rs. IfOk c.read_loads.result (λ loads. loads.items ≡ loads_along (load_of_number d c.deref.result.now answers) rs)) c.find.ensures.gives c.read_loads.ensures.gives)
 
 pub returns-clause-answers : goal.returns-clause-answers
 returns-clause-answers g c =

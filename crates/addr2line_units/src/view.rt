@@ -119,10 +119,7 @@ fn read_load<R: Reader>(
 ///
 /// Refused for its header, else as `Dwarf::unit` is. May fail with `OutOfMemory` instead. Source:
 /// DWARF 5, section 7.5.1.
-pub fn read_first_unit<R: Reader>(
-    alloc: Global,
-    dwarf: &Dwarf<R>,
-) -> Result<Option<Unit<R>>, Error>
+pub fn read_first_unit<R: Reader>(alloc: Global, dwarf: &Dwarf<R>) -> Result<Option<Unit<R>>, Error>
     ensures gives { ExactlyUnlessOom (λ u. u) result (first_unit dwarf.now) }
 {
     let mut headers = dwarf.units()?;

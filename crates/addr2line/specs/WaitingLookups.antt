@@ -14,16 +14,16 @@ use Rattle.addr2line.specs.Lookups.{Suspends, frames_of, loads_at, unit_of, with
 use Rattle.addr2line.specs.Skips.{skipped_answers}
 
 -- a lookup of this context at this probe waits for the unit of a number, with this load
-abbrev pub WaitsIn : Faults → MutBor ContextState → ℕ → MutBor ContextState → ℕ → ℕ → SplitLoad
+abbrev pub SuspendsIn : Faults → MutBor ContextState → ℕ → MutBor ContextState → ℕ → ℕ → SplitLoad
     → Type 0
-WaitsIn faults context probe held at number load =
+SuspendsIn faults context probe held at number load =
     (held.ghost_name ≡ context.ghost_name) × (at ≡ probe)
     × Suspends faults probe number load context.now held.now
 
 -- the same once the unit of another number was answered
-abbrev pub WaitsAgainIn : Faults → MutBor ContextState → ℕ → ℕ → Option Sections
+abbrev pub SuspendsAgainIn : Faults → MutBor ContextState → ℕ → ℕ → Option Sections
     → MutBor ContextState → ℕ → ℕ → SplitLoad → Type 0
-WaitsAgainIn faults context probe n given held at number load =
+SuspendsAgainIn faults context probe n given held at number load =
     (held.ghost_name ≡ context.ghost_name) × (at ≡ probe)
     × SuspendsAgain faults probe n given number load context.now held.now
 
@@ -36,8 +36,8 @@ abbrev pub LookedUpFrames : Type 0
 LookedUpFrames = Result (Option (List FrameRecord)) Error
 
 -- the frames at the probe in a context
-abbrev pub frames_in : ContextState → ℕ → LookedUpFrames
-frames_in c probe = frames_of c.sections c.answers probe
+abbrev pub frames_of_context : ContextState → ℕ → LookedUpFrames
+frames_of_context c probe = frames_of c.sections c.answers probe
 
 -- the same once the unit of a number was answered
 abbrev pub frames_answered : ContextState → ℕ → Option Sections → ℕ → LookedUpFrames
@@ -58,8 +58,8 @@ abbrev pub LookedUpUnit : Type 0
 LookedUpUnit = Result (Option (Option (Sections × UnitRecord))) Error
 
 -- the sections and the unit at the probe in a context
-abbrev pub unit_in : ContextState → ℕ → LookedUpUnit
-unit_in c probe = unit_of c.sections c.answers probe
+abbrev pub unit_of_context : ContextState → ℕ → LookedUpUnit
+unit_of_context c probe = unit_of c.sections c.answers probe
 
 -- the same once the unit of a number was answered
 abbrev pub unit_answered : ContextState → ℕ → Option Sections → ℕ → LookedUpUnit

@@ -11,7 +11,7 @@ ghost use Rattle.addr2line.specs.Answers.{AfterResume};
 ghost use Rattle.addr2line.specs.Borrowed.{EndsAs, RestsAs};
 ghost use Rattle.addr2line.specs.Lookups.{AfterFrames, lookup_stop, waits_for};
 ghost use Rattle.addr2line.specs.Skips.{AfterSkip};
-ghost use Rattle.addr2line.specs.WaitingLookups.{WaitsAgainIn, WaitsIn, count_loads, frames_answered, frames_in, frames_skipped, frames_with_none};
+ghost use Rattle.addr2line.specs.WaitingLookups.{SuspendsAgainIn, SuspendsIn, count_loads, frames_answered, frames_of_context, frames_skipped, frames_with_none};
 
 use crate::context::Context;
 use crate::continuation::{FramesLookup, FramesLookupWith};
@@ -32,7 +32,7 @@ fn end<R: Reader>(ctx: &mut Context<R>, probe: u64) -> LookupResult<FramesLookup
         (λ o n. AfterFrames End probe o ctx.old n)) }
     ensures load { IfLoad result (λ c. ⊥) }
     ensures output { IfOutput result (λ o. ExactlyUnlessOom (λ i. Some (frames_left i)) o
-        (frames_in ctx.old probe)) }
+        (frames_of_context ctx.old probe)) }
 {
     LookupResult::Output(ctx.ended_frames(probe))
 }
@@ -41,9 +41,10 @@ fn end<R: Reader>(ctx: &mut Context<R>, probe: u64) -> LookupResult<FramesLookup
 fn ask_units<R: Reader>(ctx: &mut Context<R>, probe: u64) -> LookupResult<FramesLookup<'_, R>>
     ensures* ends { sem 𝓛 (RestsAs (λ c. c.ctx.ghost_name) R.row R.Reader ctx.entry result
         (λ o n. AfterFrames End probe o ctx.old n)) }
-    ensures load { IfLoad result (λ c. WaitsIn End ctx.entry probe c.ctx c.probe c.number c.load) }
+    ensures load { IfLoad result (λ c.
+        SuspendsIn End ctx.entry probe c.ctx c.probe c.number c.load) }
     ensures output { IfOutput result (λ o. ExactlyUnlessOom (λ i. Some (frames_left i)) o
-        (frames_in ctx.old probe)) }
+        (frames_of_context ctx.old probe)) }
 {
     match ctx.stop(probe, Faults::End) {
         Ok(UnitStop::Waits(number)) => match ctx.load_of(probe, Faults::End, number) {
@@ -67,9 +68,10 @@ fn ask_units<R: Reader>(ctx: &mut Context<R>, probe: u64) -> LookupResult<Frames
 fn go<R: Reader>(ctx: &mut Context<R>, probe: u64) -> LookupResult<FramesLookup<'_, R>>
     ensures* ends { sem 𝓛 (RestsAs (λ c. c.ctx.ghost_name) R.row R.Reader ctx.entry result
         (λ o n. AfterFrames End probe o ctx.old n)) }
-    ensures load { IfLoad result (λ c. WaitsIn End ctx.entry probe c.ctx c.probe c.number c.load) }
+    ensures load { IfLoad result (λ c.
+        SuspendsIn End ctx.entry probe c.ctx c.probe c.number c.load) }
     ensures output { IfOutput result (λ o. ExactlyUnlessOom (λ i. Some (frames_left i)) o
-        (frames_in ctx.old probe)) }
+        (frames_of_context ctx.old probe)) }
 {
     if ctx.may_wait(probe) {
         ask_units(ctx, probe)
@@ -89,7 +91,7 @@ fn go_on<R: Reader>(
         ≡ true }
     ensures* ends { sem 𝓛 (RestsAs (λ c. c.ctx.ghost_name) R.row R.Reader ctx.entry result
         (λ o n. AfterResume End probe number (option_map (λ d. d.value) input) o ctx.old n)) }
-    ensures load { IfLoad result (λ c. WaitsAgainIn End ctx.entry probe number
+    ensures load { IfLoad result (λ c. SuspendsAgainIn End ctx.entry probe number
         (option_map (λ d. d.value) input) c.ctx c.probe c.number c.load) }
     ensures fewer { IfLoad result (λ c. count_loads c.ctx.now c.probe < count_loads ctx.old probe) }
     ensures output { IfOutput result (λ o. ExactlyUnlessOom (λ i. Some (frames_left i)) o
@@ -137,8 +139,9 @@ impl<'ctx, R: Reader> LookupContinuation for FramesLookup<'ctx, R> {
         ensures* ends { sem 𝓛 (RestsAs (λ c. c.ctx.ghost_name) R.row R.Reader
             self.entry.ctx result (λ o n. AfterResume End self.entry.probe self.entry.number
             (option_map (λ d. d.value) input) o self.entry.ctx.now n)) }
-        ensures load { IfLoad result (λ c. WaitsAgainIn End self.entry.ctx self.entry.probe
-            self.entry.number (option_map (λ d. d.value) input) c.ctx c.probe c.number c.load) }
+        ensures load { IfLoad result (λ c. SuspendsAgainIn End self.entry.ctx self.entry.probe
+            self.entry.number (option_map (λ d. d.value) input)
+            c.ctx c.probe c.number c.load) }
         ensures fewer { IfLoad result (λ c. count_loads c.ctx.now c.probe < count_loads
             self.entry.ctx.now self.entry.probe) }
         ensures output { IfOutput result (λ o. ExactlyUnlessOom (λ i. Some (frames_left i)) o
@@ -217,7 +220,7 @@ impl<R: Reader> Context<R> {
         requires ended { is_waiting (lookup_stop End self.old.sections self.old.answers probe)
             ≡ false }
         ensures gives { ExactlyUnlessOom (λ i. Some (frames_left i)) result
-            (frames_in self.old probe) }
+            (frames_of_context self.old probe) }
         ensures* kept { sem 𝓛 (EndsAs R.row R.Reader self.entry
             (AfterFrames End probe result self.old)) }
     {
@@ -250,10 +253,10 @@ impl<R: Reader> Context<R> {
     pub fn find_frames(&mut self, probe: u64) -> LookupResult<FramesLookup<'_, R>>
         ensures* ends { sem 𝓛 (RestsAs (λ c. c.ctx.ghost_name) R.row R.Reader self.entry
             result (λ o n. AfterFrames End probe o self.old n)) }
-        ensures load { IfLoad result (λ c. WaitsIn End self.entry probe c.ctx c.probe c.number
-            c.load) }
+        ensures load { IfLoad result (λ c.
+            SuspendsIn End self.entry probe c.ctx c.probe c.number c.load) }
         ensures output { IfOutput result (λ o. ExactlyUnlessOom (λ i. Some (frames_left i)) o
-            (frames_in self.old probe)) }
+            (frames_of_context self.old probe)) }
     {
         go(self, probe)
     }

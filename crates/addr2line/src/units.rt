@@ -13,7 +13,7 @@ ghost use Rattle.addr2line.specs.Borrowed.{RestsAs};
 ghost use Rattle.addr2line.specs.KeptStops.{unit_stop};
 ghost use Rattle.addr2line.specs.Lookups.{AfterFrames, IsKnown, lookup_stop, unit_of, waits_for};
 ghost use Rattle.addr2line.specs.Skips.{AfterSkip};
-ghost use Rattle.addr2line.specs.WaitingLookups.{WaitsAgainIn, WaitsIn, count_loads, unit_answered, unit_in, unit_skipped, unit_with_none};
+ghost use Rattle.addr2line.specs.WaitingLookups.{SuspendsAgainIn, SuspendsIn, count_loads, unit_answered, unit_of_context, unit_skipped, unit_with_none};
 
 use crate::context::Context;
 use crate::continuation::{UnitLookup, UnitLookupWith};
@@ -48,9 +48,10 @@ fn end<R: Reader>(
 fn go<R: Reader>(ctx: &mut Context<R>, probe: u64) -> LookupResult<UnitLookup<'_, R>>
     ensures* ends { sem 𝓛 (RestsAs (λ c. c.ctx.ghost_name) R.row R.Reader ctx.entry result
         (λ o n. AfterFrames PassOver probe o ctx.old n)) }
-    ensures load { IfLoad result (λ c. WaitsIn PassOver ctx.entry probe c.ctx c.probe c.number
-        c.load) }
-    ensures output { IfOutput result (λ o. ExactlyUnlessOom seen_found o (unit_in ctx.old probe)) }
+    ensures load { IfLoad result (λ c.
+        SuspendsIn PassOver ctx.entry probe c.ctx c.probe c.number c.load) }
+    ensures output { IfOutput result (λ o. ExactlyUnlessOom seen_found o
+        (unit_of_context ctx.old probe)) }
     ensures refused { IfOutput result (λ o. IfErr o (λ e. e ≡ OutOfMemory)) }
 {
     match ctx.stop(probe, Faults::PassOver) {
@@ -82,7 +83,7 @@ fn go_on<R: Reader>(
         ≡ true }
     ensures* ends { sem 𝓛 (RestsAs (λ c. c.ctx.ghost_name) R.row R.Reader ctx.entry result
         (λ o n. AfterResume PassOver probe number (option_map (λ d. d.value) input) o ctx.old n)) }
-    ensures load { IfLoad result (λ c. WaitsAgainIn PassOver ctx.entry probe number
+    ensures load { IfLoad result (λ c. SuspendsAgainIn PassOver ctx.entry probe number
         (option_map (λ d. d.value) input) c.ctx c.probe c.number c.load) }
     ensures fewer { IfLoad result (λ c. count_loads c.ctx.now c.probe < count_loads ctx.old probe) }
     ensures output { IfOutput result (λ o. ExactlyUnlessOom seen_found o (unit_answered ctx.old
@@ -132,8 +133,9 @@ impl<'ctx, R: Reader> LookupContinuation for UnitLookup<'ctx, R> {
         ensures* ends { sem 𝓛 (RestsAs (λ c. c.ctx.ghost_name) R.row R.Reader
             self.entry.ctx result (λ o n. AfterResume PassOver self.entry.probe self.entry.number
             (option_map (λ d. d.value) input) o self.entry.ctx.now n)) }
-        ensures load { IfLoad result (λ c. WaitsAgainIn PassOver self.entry.ctx self.entry.probe
-            self.entry.number (option_map (λ d. d.value) input) c.ctx c.probe c.number c.load) }
+        ensures load { IfLoad result (λ c. SuspendsAgainIn PassOver self.entry.ctx self.entry.probe
+            self.entry.number (option_map (λ d. d.value) input)
+            c.ctx c.probe c.number c.load) }
         ensures fewer { IfLoad result (λ c. count_loads c.ctx.now c.probe < count_loads
             self.entry.ctx.now self.entry.probe) }
         ensures output { IfOutput result (λ o. ExactlyUnlessOom seen_found o (unit_answered
@@ -226,10 +228,11 @@ impl<R: Reader> Context<R> {
     pub fn find_dwarf_and_unit(&mut self, probe: u64) -> LookupResult<UnitLookup<'_, R>>
         ensures* ends { sem 𝓛 (RestsAs (λ c. c.ctx.ghost_name) R.row R.Reader self.entry
             result (λ o n. AfterFrames PassOver probe o self.old n)) }
-        ensures load { IfLoad result (λ c. WaitsIn PassOver self.entry probe c.ctx c.probe c.number
+        ensures load { IfLoad result (λ c.
+            SuspendsIn PassOver self.entry probe c.ctx c.probe c.number
             c.load) }
         ensures output { IfOutput result
-            (λ o. ExactlyUnlessOom seen_found o (unit_in self.old probe)) }
+            (λ o. ExactlyUnlessOom seen_found o (unit_of_context self.old probe)) }
         ensures refused { IfOutput result (λ o. IfErr o (λ e. e ≡ OutOfMemory)) }
     {
         go(self, probe)

@@ -3,7 +3,7 @@ use Rattle.std.proofs.Common.{◌≡◌, ◌∙◌, ◌+◌, ◌-◌, ◌^◌, �
 use Rattle.std.proofs.lemmas.List.{length-append, map-append}
 use Rattle.std.specs.Io.BufRead.{first_line, drop_through}
 use Rattle.std.specs.Io.KnownBytes.{IsAtEnd}
-use Rattle.std.specs.Str.{IsUtf8}
+use Rattle.std.specs.Str.{IsUtf8, byte}
 use Rattle.addr2line_bin.specs.Address.{address_in}
 use Rattle.addr2line_bin.specs.InputLines.{AreFirstLines, AreLines, AreLinesToFault, InputState, IsInputEnd, ReadsLine, StartKnown, StartWith, TakesLine, TakesPart, line_probes}
 use Rattle.addr2line_bin.specs.Put.{plus}
@@ -20,13 +20,13 @@ read_nothing None = tt
 read_nothing (Some bytes) = refl
 
 line_more : (bytes : List ℕ) (lines : List (List ℕ)) (mid line : List ℕ) → StartWith bytes lines mid → 0 < length mid → line ≡ first_line mid → IsUtf8 line
-    → StartWith bytes (lines ++ line ∷ []) (drop_through 10 mid)
+    → StartWith bytes (lines ++ line ∷ []) (drop_through (byte "\n") mid)
 line_more bytes [] mid line s lt e u = rw s (lt, e, u, refl)
-line_more bytes (l ∷ lines) mid line s lt e u = (s.0, s.1, s.2, line_more (drop_through 10 bytes) lines mid line s.3 lt e u)
+line_more bytes (l ∷ lines) mid line s lt e u = (s.0, s.1, s.2, line_more (drop_through (byte "\n") bytes) lines mid line s.3 lt e u)
 
 -- one more line is read
 pub read_more : (all old new : Option (List ℕ)) (lines : List (List ℕ)) (line : List ℕ) → ReadSoFar all old lines
-    → IfSome old (λ xs. (0 < length xs) × (line ≡ first_line xs) × (new ≡ Some (drop_through 10 xs))) → IsUtf8 line → ReadSoFar all new (lines ++ line ∷ [])
+    → IfSome old (λ xs. (0 < length xs) × (line ≡ first_line xs) × (new ≡ Some (drop_through (byte "\n") xs))) → IsUtf8 line → ReadSoFar all new (lines ++ line ∷ [])
 read_more None old new lines line s h u = tt
 read_more (Some bytes) None new lines line s h u = absurd s
 read_more (Some bytes) (Some xs) new lines line s h u = rw h.2 (line_more bytes lines xs line s h.0 h.1 u)

@@ -1,6 +1,6 @@
 -- What a loader answers after lookups, which leave its files, its main file and its sections
 -- (on specs/LoaderAnswers.antt).
-use Rattle.std.proofs.Common.{◌≡◌, ◌-◌, ◌^◌, ◌∙◌, inl, inr, ◌⊎◌, ℕ, Bool, true, false, ◌&&◌, ◌||◌, List, [], ◌∷◌, Option, Some, None, Ok, Err, option_map, ap, refl, subst, sym}
+use Rattle.std.proofs.Common.{◌≡◌, ◌∙◌, inl, inr, ◌⊎◌, ℕ, Bool, true, false, ◌&&◌, ◌||◌, List, [], ◌∷◌, Option, Some, None, Ok, Err, option_map, ap, refl, subst, sym}
 use Rattle.std.specs.Prelude.{IfSome, slice_get}
 use Rattle.gimli_read.specs.Reading.{Exactly}
 use Rattle.gimli.specs.Sections.{Sections}
@@ -8,6 +8,7 @@ use Rattle.elf.specs.Loading.{Loading, LoadsUnlessOom}
 use Rattle.elf.specs.ObjectFile.{ObjectFile}
 use Rattle.elf.specs.Sections.{section_range_at}
 use Rattle.elf.specs.Symbols.{NamedAddress, symbol_at}
+use Rattle.addr2line_lines.specs.LastAddress.{last_address}
 use Rattle.addr2line_lines.specs.Location.{Location}
 use Rattle.addr2line_lines.specs.Rows.{result_map}
 use Rattle.addr2line_units.specs.declared.index.UnitRange.{UnitRange}
@@ -61,7 +62,7 @@ ended_before : (old new : ContextState) → StayEnded old new → (address : ℕ
 ended_before old new stays address given h w = subst (λ stop. LoadsUnlessOom (λ frames. frames) given (stop_frames stop)) (stays address w) (h (ap is_waiting (stays address w) ∙ w))
 
 -- where no unit covers an address, none does later
-bare_later : (old new : ContextState) → new.sections ≡ old.sections → (address : ℕ) → (address ≡ 2 ^ 64 - 1) ⊎ IsUncovered old address → (address ≡ 2 ^ 64 - 1) ⊎ IsUncovered new address
+bare_later : (old new : ContextState) → new.sections ≡ old.sections → (address : ℕ) → (address ≡ last_address) ⊎ IsUncovered old address → (address ≡ last_address) ⊎ IsUncovered new address
 bare_later old new e address (inl last) = inl last
 bare_later old new e address (inr u) = inr (u.0, ap index_units e ∙ u.1, u.2)
 
@@ -127,7 +128,7 @@ gives_none view c address (Err e) u exact = last_frames address c u (Err e) exac
 
 -- frames, as they are seen
 pub gives_frames : {X : Type 0} (view : X → List FrameRecord) (l : LoaderState) (address : ℕ) (r : Loading X) → IfSome l.files (λ held. LoadsUnlessOom view r (frames_by_files held l.context.sections l.context.answers address))
-    → (WaitsForNone l.context address → LoadsUnlessOom view r (ended_frames_of l.context address)) → (address ≡ 2 ^ 64 - 1 → Exactly view r (Ok []))
+    → (WaitsForNone l.context address → LoadsUnlessOom view r (ended_frames_of l.context address)) → (address ≡ last_address → Exactly view r (Ok []))
     → (WaitsForNone l.context address → IsKnownFew End l.context address → Exactly view r (ended_frames_of l.context address)) → MayGiveBy l address (result_map view r)
 gives_frames view l address r h ended last exact = (
   by_files view l.files l.context address r h,
@@ -145,7 +146,7 @@ exactly_none view (Err x) given e h = absurd (cc)
 
 -- a lookup finds what it may find
 pub finds : {X : Type 0} (view : X → Location) (c : ContextState) (address : ℕ) (r : Loading (Option X)) → LoadsUnlessOom (option_map view) r (of_file (location_of c.sections address))
-    → (IsReady c address → Exactly (option_map view) r (of_file (location_of c.sections address))) → (address ≡ 2 ^ 64 - 1 → r ≡ Ok None) → MayFindBy c address (result_map (option_map view) r)
+    → (IsReady c address → Exactly (option_map view) r (of_file (location_of c.sections address))) → (address ≡ last_address → r ≡ Ok None) → MayFindBy c address (result_map (option_map view) r)
 finds view c address r gives exact last = (
   seen_unless (option_map view) r (of_file (location_of c.sections address)) gives,
   λ ready. elim ready [

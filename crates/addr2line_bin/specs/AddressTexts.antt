@@ -7,6 +7,7 @@
 use Rattle.std.specs.Prelude.{ℕ, ◌-◌, List, [], ◌++◌, Option, Some, None, codes, length, replicate, unwrap_or, if◌then◌else◌, false}
 use Rattle.std.specs.Fmt.{decimal, radix_digits}
 use Rattle.std.specs.Path.{path_file_name}
+use Rattle.std.specs.Str.{byte}
 use Rattle.elf.specs.declared.error.LoaderError.{LoaderError}
 use Rattle.elf.specs.Text.{loader_text_of}
 use Rattle.addr2line_lines.specs.Location.{Location}
@@ -18,7 +19,7 @@ hex_digits n = radix_digits 16 false n
 
 -- the same after zeros, 16 digits
 abbrev pub wide_hex : ℕ → List ℕ
-wide_hex n = replicate (16 - length (hex_digits n)) 48 ++ hex_digits n
+wide_hex n = replicate (16 - length (hex_digits n)) (byte "0") ++ hex_digits n
 
 -- the digits of an address
 abbrev pub digits_text : Style → ℕ → List ℕ

@@ -1,9 +1,10 @@
 -- The addresses of all rows of a file.
 -- Own: rows come in the order of a lookup of all addresses, up to the first fault; an address that
 -- isn't above all that were kept before it is left out.
-use Rattle.std.specs.Prelude.{◌≡◌, ◌-◌, ◌^◌, ℕ, Bool, true, List, [], ◌∷◌, ◌++◌, length, map, nat_lt, slice_get, Option, Some, None, Result, Ok, Err, if◌then◌else◌}
+use Rattle.std.specs.Prelude.{◌≡◌, ◌-◌, ℕ, Bool, true, List, [], ◌∷◌, ◌++◌, length, map, nat_lt, slice_get, Option, Some, None, Result, Ok, if◌then◌else◌}
 use Rattle.std.specs.List.{fold}
 use Rattle.gimli_read.specs.declared.error.Error.{Error}
+use Rattle.addr2line_lines.specs.LastAddress.{last_address}
 use Rattle.addr2line_lines.specs.RangeLocations.{LocatedSpan}
 use Rattle.addr2line_bin.specs.FileAnswers.{FileAnswers}
 use Rattle.gimli_line.specs.Rises.{rows_before}
@@ -29,5 +30,5 @@ rising_after kept addresses = fold keep_rising kept addresses
 -- the addresses are those of all rows
 pub record AreAllAddresses (answers : FileAnswers) (addresses : List ℕ) : Type 0 where
   pub rows : List (Result LocatedSpan Error)
-  pub found : answers.spans_in 0 (2 ^ 64 - 1) ≡ Ok rows
+  pub found : answers.spans_in 0 last_address ≡ Ok rows
   pub kept : addresses ≡ rising_after [] (addresses_in rows)

@@ -4,7 +4,7 @@
 use Rattle.std.specs.Prelude.{◌≡◌, ◌≢◌, ◌⊎◌, ℕ, Bool, true, false, ◌&&◌, not, List, [], map}
 use Rattle.std.specs.Prelude.{Some, None, is_some, option_map, codes, string_bytes}
 use Rattle.std.specs.Option.{option_map_or}
-use Rattle.std.specs.Str.{bytes_eq}
+use Rattle.std.specs.Str.{byte, bytes_eq}
 use Rattle.std.specs.declared.string.String.{String}
 use Rattle.std.specs.declared.alloc.Global.{Global}
 use Rattle.clap.specs.Words.{App, Rule, Text, app_of, new_app, new_rule, with_rule}
@@ -48,20 +48,20 @@ address_words = record (new_rule (codes "probes")) { value_names = 1; action = S
 abbrev pub bare_command : App
 bare_command = on_top (λ s. record s { has_version = true }) (new_app (codes "addr2line"))
 
--- the command; its letters are e, j, f, p, i, a, s and C
+-- the command
 abbrev pub whole_command : App
 whole_command =
     let c = bare_command in
-    let c = with_rule c (option (codes "exe") 101) in
+    let c = with_rule c (option (codes "exe") (byte "e")) in
     let c = with_rule c (long_option (codes "sup")) in
-    let c = with_rule c (option (codes "section") 106) in
+    let c = with_rule c (option (codes "section") (byte "j")) in
     let c = with_rule c (long_switch (codes "all")) in
-    let c = with_rule c (switch (codes "functions") 102) in
-    let c = with_rule c (switch (codes "pretty-print") 112) in
-    let c = with_rule c (switch (codes "inlines") 105) in
-    let c = with_rule c (switch (codes "addresses") 97) in
-    let c = with_rule c (switch (codes "basenames") 115) in
-    let c = with_rule c (switch (codes "demangle") 67) in
+    let c = with_rule c (switch (codes "functions") (byte "f")) in
+    let c = with_rule c (switch (codes "pretty-print") (byte "p")) in
+    let c = with_rule c (switch (codes "inlines") (byte "i")) in
+    let c = with_rule c (switch (codes "addresses") (byte "a")) in
+    let c = with_rule c (switch (codes "basenames") (byte "s")) in
+    let c = with_rule c (switch (codes "demangle") (byte "C")) in
     let c = with_rule c (long_switch (codes "llvm")) in
     with_rule c address_words
 

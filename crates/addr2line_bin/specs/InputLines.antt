@@ -8,7 +8,7 @@ use Rattle.std.specs.declared.io.ErrorKind.TheVariants.{OutOfMemory}
 use Rattle.std.specs.Io.BufRead.{drop_through, first_line}
 use Rattle.std.specs.Io.{StopsAt}
 use Rattle.std.specs.Io.KnownBytes.{Consumes, IsAtEnd}
-use Rattle.std.specs.Str.{IsUtf8}
+use Rattle.std.specs.Str.{IsUtf8, byte}
 use Rattle.addr2line_bin.specs.Address.{address_in}
 use Rattle.addr2line_bin.specs.Put.{plus}
 
@@ -26,12 +26,12 @@ EndsInput fault = IsSomeAnd fault (λ kind. kind ≢ OutOfMemory)
 -- a call takes a line from the bytes that are left, or there are none
 abbrev pub TakesLine : Bool → Option (List ℕ) → Option (List ℕ) → List ℕ → Type 0
 TakesLine true old new line = IfSome old (λ xs. (0 < length xs) × (line ≡ first_line xs)
-    × (new ≡ Some (drop_through 10 xs)))
+    × (new ≡ Some (drop_through (byte "\n") xs)))
 TakesLine false old new line = IsAtEnd old
 
 -- a read that failed took bytes of the next line at most, its line feed among them
 abbrev pub TakesPart : Option (List ℕ) → Option (List ℕ) → Type 0
-TakesPart old new = (part : List ℕ) × Consumes old new part × StopsAt part 10
+TakesPart old new = (part : List ℕ) × Consumes old new part × StopsAt part (byte "\n")
 
 -- the same and no read fails, or there is none since a fault of the read ends the input
 abbrev pub ReadsLine : Bool → InputState → InputState → List ℕ → Type 0
@@ -45,7 +45,7 @@ abbrev pub StartWith : List ℕ → List (List ℕ) → List ℕ → Type 0
 StartWith bytes [] rest = bytes ≡ rest
 StartWith bytes (line ∷ lines) rest = (0 < length bytes)
     × (line ≡ first_line bytes) × IsUtf8 line
-    × StartWith (drop_through 10 bytes) lines rest
+    × StartWith (drop_through (byte "\n") bytes) lines rest
 
 -- the same of bytes that may not be known, and this is so of the rest
 abbrev pub StartKnown : Option (List ℕ) → List (List ℕ) → (List ℕ → Type 0) → Type 0

@@ -1,11 +1,12 @@
 -- What a loader answers to the lookups of a run.
 -- Own: where its files aren't known, any frames may be given at an address of a unit that waits for
 -- a split file.
-use Rattle.std.specs.Prelude.{◌≡◌, ◌-◌, ◌^◌, ◌⊎◌, ℕ, List, [], IfSome, Ok, Option, option_map}
+use Rattle.std.specs.Prelude.{◌≡◌, ◌⊎◌, ℕ, List, [], IfSome, Ok, Option, option_map}
 use Rattle.gimli_read.specs.Reading.{Exactly}
 use Rattle.elf.specs.Loading.{Loading, LoadsUnlessOom}
 use Rattle.elf.specs.Sections.{section_range_at}
 use Rattle.elf.specs.Symbols.{NamedAddress, symbol_at}
+use Rattle.addr2line_lines.specs.LastAddress.{last_address}
 use Rattle.addr2line_lines.specs.Location.{Location}
 use Rattle.addr2line_units.specs.Frames.{FrameRecord}
 use Rattle.addr2line_units.specs.Located.{location_of, spans_of}
@@ -18,7 +19,7 @@ use Rattle.addr2line_bin.specs.FileAnswers.{FileAnswers}
 -- a lookup of the location at an address takes no memory: no unit holds the last address, or the
 -- lines that it asks for are parsed
 abbrev pub IsReadyAtAddress : ContextState → ℕ → Type 0
-IsReadyAtAddress c address = (address ≡ 2 ^ 64 - 1) ⊎ IsReady c address
+IsReadyAtAddress c address = (address ≡ last_address) ⊎ IsReady c address
 
 -- it finds what its sections say, or OutOfMemory where it takes memory
 abbrev pub MayFindBy : ContextState → ℕ → Loading (Option Location) → Type 0
@@ -36,7 +37,7 @@ MayGiveBy l address given =
     (frames_by_files held l.context.sections l.context.answers address))
     × (WaitsForNone l.context address
     → LoadsUnlessOom (λ frames. frames) given (ended_frames_of l.context address))
-    × ((address ≡ 2 ^ 64 - 1) ⊎ IsUncovered l.context address
+    × ((address ≡ last_address) ⊎ IsUncovered l.context address
     → Exactly (λ frames. frames) given (Ok []))
 
 -- what it answers by its sections, its main file, and its files

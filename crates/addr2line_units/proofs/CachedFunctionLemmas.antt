@@ -10,7 +10,7 @@ use Rattle.gimli_read.specs.Reading.{◌>>=◌, ExactlyUnlessOomIf}
 use Rattle.gimli_read.specs.Section.{Section}
 use Rattle.gimli.specs.Sections.{Sections}
 use Rattle.gimli.specs.Unit.{UnitRecord}
-use Rattle.addr2line_lines.specs.Details.{Detail, InlinedEntry, InlinedRange, detail_at, inlined_chain}
+use Rattle.addr2line_lines.specs.Details.{Detail, InlinedEntry, detail_at, inlined_chain}
 use Rattle.addr2line_lines.specs.FoundDetails.{entry_among}
 use Rattle.addr2line_lines.specs.Functions.{FunctionRange, entries_of, function_offset_at, functions_of}
 use Rattle.gimli_line.specs.Opcode.{fault_of}
@@ -19,7 +19,7 @@ use Rattle.addr2line_lines.specs.Location.{Location}
 use Rattle.addr2line_lines.specs.ManyInlined.{are_many}
 use Rattle.addr2line_lines.specs.References.{Scope}
 use Rattle.addr2line_lines.proofs.ListedFunctions.{more_listed}
-use Rattle.addr2line_lines.proofs.PlaceLemmas.{all_at, get_set_other, get_set_same, some_at}
+use Rattle.addr2line_lines.proofs.PlaceLemmas.{all_at, get_set_other, some_at}
 use Rattle.addr2line_lines.proofs.ReadLemmas.{read_more, read_right, unread_right}
 use Rattle.addr2line_units.specs.declared.functions.FunctionPlace.{FunctionPlace}
 use Rattle.addr2line_units.specs.declared.functions.LazyFunctions.{LazyFunctions}

@@ -1,11 +1,10 @@
 -- What is kept of the entries of all units, one unit after another (on specs/CachedEntries.antt and
 -- specs/CachedLookups.antt).
-use Rattle.std.proofs.Common.{◌≡◌, ◌≢◌, ℕ, zero, suc, ◌≤◌, ◌<◌, ◌⊎◌, inl, inr, Bool, true, false, ◌&&◌, not, List, [], ◌∷◌, length, map, get_or, slice_get, Option, Some, None, option_and_then, option_map, unwrap_or, Result, Ok, Err, refl, ap, sym, subst, ◌∙◌, arith}
+use Rattle.std.proofs.Common.{◌≡◌, ◌≢◌, ℕ, zero, suc, ◌<◌, inl, inr, true, List, [], ◌∷◌, length, get_or, slice_get, Option, Some, None, option_and_then, Result, Ok, Err, refl, ap, sym, subst, ◌∙◌, arith}
 use Rattle.std.proofs.Math.ListN.{set}
-use Rattle.std.specs.Prelude.{IfOk, IfSome}
+use Rattle.std.specs.Prelude.{IfSome}
 use Rattle.std.specs.List.{AllZip}
 use Rattle.gimli_read.specs.declared.error.Error.{Error}
-use Rattle.gimli.specs.Sections.{Sections}
 use Rattle.gimli.specs.Unit.{UnitRecord}
 use Rattle.addr2line_lines.specs.Details.{Detail}
 use Rattle.addr2line_lines.specs.FunctionTable.{CachedFunction, FunctionTable, IsFunctionMore, IsTableMore, cached_detail, function_place_at}
@@ -17,7 +16,7 @@ use Rattle.addr2line_units.specs.declared.unit_frames.UnitEntries.{UnitEntries}
 use Rattle.addr2line_units.specs.declared.view.ViewState.{ViewState}
 use Rattle.addr2line_units.specs.declared.view.ViewState.TheVariants as states
 use Rattle.addr2line_units.specs.CachedEntries.{AreEntriesOf, ReadsEntriesOf, StayEntries, has_answered, has_entries, has_entries_by, kept_answer}
-use Rattle.addr2line_units.specs.CachedFunctions.{ReadsNoOther, StayFunctions, has_detail, cached_has_function, has_place, cached_functions, no_functions}
+use Rattle.addr2line_units.specs.CachedFunctions.{StayFunctions, has_detail, cached_has_function, has_place, cached_functions, no_functions}
 use Rattle.addr2line_units.specs.CachedLookups.{HaveEntriesOf, ReadsOnly, StayAllEntries, answers_in, has_entries_at}
 use Rattle.addr2line_units.specs.CachedViews.{was_looked_at}
 use Rattle.addr2line_units.proofs.CachedFunctionLemmas.{place_stays}

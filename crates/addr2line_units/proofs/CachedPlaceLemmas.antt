@@ -1,5 +1,5 @@
 -- What is known of the function at an address by what is cached (on specs/CachedFunctions.antt).
-use Rattle.std.proofs.Common.{◌≡◌, ◌≢◌, ℕ, inl, inr, nat_lt, true, false, List, [], length, slice_get, Option, Some, None, option_and_then, Result, Ok, Err, refl, ap, sym, ◌∙◌}
+use Rattle.std.proofs.Common.{◌≡◌, ◌≢◌, ℕ, inl, inr, true, false, List, [], slice_get, Option, Some, None, option_and_then, Result, Ok, Err, refl, ap, sym, ◌∙◌}
 use Rattle.gimli_read.specs.declared.error.Error.{Error}
 use Rattle.gimli_read.specs.declared.error.Error.TheVariants.{OutOfMemory}
 use Rattle.gimli.specs.Unit.{UnitRecord}

@@ -1,5 +1,5 @@
 -- The view of a unit that is known (on specs/CachedLookups.antt and specs/FramesLookup.antt).
-use Rattle.std.proofs.Common.{◌≡◌, ℕ, zero, suc, ◌<◌, arith, get_or, Bool, true, false, List, [], ◌∷◌, length, slice_get, Option, Some, None, option_and_then, option_map, unwrap_or, is_some, Result, Ok, Err, ap, refl, sym, subst, ◌∙◌}
+use Rattle.std.proofs.Common.{◌≡◌, ℕ, zero, suc, ◌<◌, arith, get_or, true, List, [], ◌∷◌, length, Option, Some, None, option_and_then, option_map, unwrap_or, is_some, Result, Ok, Err, ap, refl, sym, subst, ◌∙◌}
 use Rattle.std.specs.Prelude.{IfSome}
 use Rattle.std.specs.Result.{result_ok}
 use Rattle.gimli_read.specs.declared.error.Error.{Error}

@@ -1,7 +1,6 @@
 -- What is kept of the entries of a unit (on specs/CachedEntries.antt and specs/UnitFrames.antt).
-use Rattle.std.proofs.Common.{◌≡◌, ◌≢◌, ◌∙◌, ℕ, ap, sym, refl, subst, Bool, true, false, Option, Some, None, IfErr, IfOk, IfSome, is_none, Result, Ok, Err}
+use Rattle.std.proofs.Common.{◌≡◌, ◌∙◌, ℕ, ap, sym, refl, subst, Bool, true, false, Option, Some, IfOk, IfSome, is_none, Result, Ok, Err}
 use Rattle.gimli_read.specs.declared.error.Error.{Error}
-use Rattle.gimli_read.specs.declared.error.Error.TheVariants.{OutOfMemory}
 use Rattle.gimli_read.specs.Reading.{◌>>=◌, ExactlyUnlessOom, ExactlyUnlessOomIf}
 use Rattle.gimli.specs.Sections.{Sections}
 use Rattle.gimli.specs.Unit.{UnitRecord}
@@ -16,7 +15,7 @@ use Rattle.addr2line_units.specs.declared.view.ViewState.TheVariants as states
 use Rattle.addr2line_units.specs.Frames.{function_at}
 use Rattle.addr2line_units.specs.CachedEntries.{AreEntriesOf, StayEntries, has_answered, has_entries_by, kept_answer}
 use Rattle.addr2line_units.specs.CachedFunctions.{AreFunctionsOf, StayFunctions, cached_has_function, is_kept, were_read}
-use Rattle.addr2line_units.specs.CachedViews.{IsViewOf, answer_in, is_decided, parts_or_fault, seen_first_answer, seen_sections, verdict_in, view_by, waits, was_looked_at}
+use Rattle.addr2line_units.specs.CachedViews.{IsViewOf, is_decided, parts_or_fault, seen_first_answer, seen_sections, verdict_in, view_by, waits, was_looked_at}
 use Rattle.addr2line_units.specs.UnitFrames.{function_by, function_in, has_many, is_many}
 use Rattle.addr2line_units.specs.Views.{View, is_open, parts_of, verdict, view_scope}
 

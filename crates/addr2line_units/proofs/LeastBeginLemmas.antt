@@ -1,5 +1,5 @@
 -- Least begins beside ranges (on specs/LeastBegins.antt).
-use Rattle.std.proofs.Common.{ℕ, ◌≡◌, ◌^◌, ◌-◌, ◌<◌, ◌≤◌, Bool, true, false, cond, ◌&&◌, nat_le, nat_lt, nat_cmp, leb, min, List, [], ◌∷◌, ◌++◌, Result, Ok, map, length, take, drop, reverse, arith, ◌∙◌, ap, sym, subst, refl, zero, suc}
+use Rattle.std.proofs.Common.{ℕ, ◌≡◌, ◌-◌, ◌<◌, ◌≤◌, Bool, true, false, cond, ◌&&◌, nat_le, nat_lt, nat_cmp, leb, min, List, [], ◌∷◌, ◌++◌, Result, Ok, map, length, take, drop, reverse, arith, ◌∙◌, ap, sym, subst, refl, zero, suc}
 use Rattle.std.specs.List.{filter, AllByRecursion}
 use Rattle.std.specs.List.Sorted.{IsNonDecreasingBy, IsPartitionPoint}
 use Rattle.std.specs.Ordering.{is_lt, ordering_then}
@@ -9,6 +9,7 @@ use Rattle.gimli_read.specs.declared.error.Error.{Error}
 use Rattle.addr2line_lines.specs.InOrder.{IsInOrder, in_order}
 use Rattle.addr2line_lines.proofs.OrderLemmas.{in_order_ordered}
 use Rattle.addr2line_lines.proofs.SeekLemmas.{Up, non_decreasing}
+use Rattle.addr2line_lines.specs.LastAddress.{last_address}
 use Rattle.addr2line_units.specs.declared.index.IndexedRange.{IndexedRange}
 use Rattle.addr2line_units.specs.declared.index.UnitRange.{UnitRange}
 use Rattle.addr2line_units.specs.Cover.{ends_sooner}
@@ -23,7 +24,7 @@ pub record IsMade (all left : List UnitRange) (made : List IndexedRange) (least 
   pub least_is : least ≡ least_begin taken
   pub fit : AllByRecursion EndFits taken
 
-pub none_made : (all : List UnitRange) → IsMade all all [] (2 ^ 64 - 1)
+pub none_made : (all : List UnitRange) → IsMade all all [] last_address
 none_made all = record { taken = []; all_are = append-nil all; made_are = refl; least_is = refl; fit = tt }
 
 pub one_made : (all left rest : List UnitRange) (made : List IndexedRange) (least : ℕ) (x : UnitRange) → IsMade all left made least → left ≡ rest ++ x ∷ []
@@ -151,10 +152,10 @@ indexed_is listed ordered made e h fit =
     }
 
 -- no range ends past the greatest address
-pub none_past_greatest : (low last : ℕ) → low ≡ 2 ^ 64 - 1 → (ranges : List UnitRange) → AllByRecursion EndFits ranges → filter (is_between low last) ranges ≡ []
+pub none_past_greatest : (low last : ℕ) → low ≡ last_address → (ranges : List UnitRange) → AllByRecursion EndFits ranges → filter (is_between low last) ranges ≡ []
 none_past_greatest low last e [] fit = refl
 none_past_greatest low last e (r ∷ ranges) fit =
     ap (λ b. cond b (r ∷ filter (is_between low last) ranges) (filter (is_between low last) ranges)) (of_numbers r.range.begin r.range.end fit.0) ∙ none_past_greatest low last e ranges fit.1
   where
-    of_numbers : (b d : ℕ) → d < 2 ^ 64 → (nat_lt low d && nat_le b last) ≡ false
+    of_numbers : (b d : ℕ) → d ≤ last_address → (nat_lt low d && nat_le b last) ≡ false
     of_numbers b d h = grind (arith, nat_tests)

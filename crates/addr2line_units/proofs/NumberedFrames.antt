@@ -1,10 +1,10 @@
 -- What the unit of a number has at an address, of all units (on specs/FramesLookup.antt and
 -- specs/CachedLookups.antt).
-use Rattle.std.proofs.Common.{◌≡◌, ℕ, suc, zero, ◌<◌, ◌≤◌, ◌⊎◌, inl, inr, Bool, true, false, ◌&&◌, ◌||◌, not, List, [], ◌∷◌, length, get_or, slice_get, Option, Some, None, option_map, unwrap_or, Result, Ok, Err, refl, ap, sym, subst, ◌∙◌, arith}
+use Rattle.std.proofs.Common.{◌≡◌, ℕ, suc, zero, ◌<◌, ◌≤◌, ◌⊎◌, inl, inr, Bool, true, false, ◌&&◌, ◌||◌, not, List, [], ◌∷◌, length, get_or, slice_get, Some, None, option_map, unwrap_or, Result, Ok, Err, refl, ap, sym, subst, ◌∙◌, arith}
 use Rattle.std.proofs.Math.ListN.{set}
 use Rattle.std.proofs.lemmas.List.{set-get_or}
 use Rattle.std.proofs.lemmas.Option.{slice_get_past}
-use Rattle.std.specs.Prelude.{IfOk, IfSome}
+use Rattle.std.specs.Prelude.{IfOk}
 use Rattle.gimli_read.specs.declared.error.Error.{Error}
 use Rattle.gimli_read.specs.Reading.{ExactlyUnlessOom}
 use Rattle.gimli.specs.Sections.{Sections}
@@ -17,7 +17,7 @@ use Rattle.addr2line_units.specs.declared.unit_frames.UnitFrames.TheVariants as 
 use Rattle.addr2line_units.specs.CachedLines.{HaveLinesOf, indexed_unit, indexed_units, is_uncached, parsed_units}
 use Rattle.addr2line_units.specs.FramesLookup.{asks_lines_of, frames_of_number, has_many_of}
 use Rattle.addr2line_units.specs.CachedEntries.{AreFramesIn, frames_of_place, has_entries, kept_answer}
-use Rattle.addr2line_units.specs.CachedLookups.{AreFoundAt, HaveEntriesOf, IsFramePlaceIn, answers_in, frames_found_at, functions_at, has_entries_at, has_frames_at, language_at}
+use Rattle.addr2line_units.specs.CachedLookups.{AreFoundAt, HaveEntriesOf, answers_in, frames_found_at, functions_at, has_entries_at, has_frames_at, language_at}
 use Rattle.addr2line_units.specs.Parsed.{ParsesOnly, has_parsed}
 use Rattle.addr2line_units.specs.UnitFrames.{asks_lines_in, frames_in, has_many}
 use Rattle.addr2line_units.proofs.UnitsLemmas.{in_units, no_parsed, no_unit, only_set, parsed_set, set_parsed, unit_at}

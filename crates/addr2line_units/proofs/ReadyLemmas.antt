@@ -2,15 +2,13 @@
 -- specs/FunctionParses.antt and specs/CachedParses.antt).
 use Rattle.std.proofs.Common.{◌≡◌, ◌≢◌, ◌∙◌, ℕ, zero, suc, ◌≤◌, ◌<◌, arith, inl, inr, Bool, true, false, List, [], ◌∷◌, length, get_or, slice_get, Option, Some, None, Result, Ok, Err, is_ok, refl, ap, sym, subst}
 use Rattle.std.proofs.Math.ListN.{set}
-use Rattle.std.specs.Prelude.{IfErr, IfSome, if◌then◌else◌}
-use Rattle.std.specs.List.{AllByRecursion}
+use Rattle.std.specs.Prelude.{IfSome, if◌then◌else◌}
 use Rattle.gimli_read.specs.declared.error.Error.{Error}
 use Rattle.gimli_read.specs.declared.error.Error.TheVariants.{OutOfMemory}
 use Rattle.gimli_read.specs.Reading.{◌>>=◌}
 use Rattle.gimli.specs.Sections.{Sections}
 use Rattle.gimli.specs.Unit.{UnitRecord}
 use Rattle.addr2line_lines.specs.Functions.{FunctionRange, entries_of, functions_of}
-use Rattle.addr2line_lines.specs.FunctionTable.{AreCachedToFault, AreDetailsOf, FunctionTable, HasDetail, details_fault}
 use Rattle.addr2line_lines.specs.References.{Scope}
 use Rattle.addr2line_lines.proofs.ReadLemmas.{all_to_fault}
 use Rattle.addr2line_units.specs.declared.functions.LazyFunctions.{LazyFunctions}
@@ -20,9 +18,8 @@ use Rattle.addr2line_units.specs.declared.parses.Reads.TheVariants as reads
 use Rattle.addr2line_units.specs.declared.unit_frames.UnitEntries.{UnitEntries}
 use Rattle.addr2line_units.specs.declared.view.ViewState.{ViewState}
 use Rattle.addr2line_units.specs.declared.view.ViewState.TheVariants as states
-use Rattle.addr2line_units.specs.FramesLookup.{answer_of}
-use Rattle.addr2line_units.specs.FunctionParses.{AreReadBefore, AreReadyFor, IsReadyFor, answers_after_parse, read_of_number, read_of_unit, unless_fault}
-use Rattle.addr2line_units.specs.CachedFunctions.{AreFunctionsOf, details_at, functions_fault, is_kept, were_read}
+use Rattle.addr2line_units.specs.FunctionParses.{AreReadyFor, IsReadyFor, answers_after_parse, read_of_number, read_of_unit, unless_fault}
+use Rattle.addr2line_units.specs.CachedFunctions.{details_at, functions_fault, were_read}
 use Rattle.addr2line_units.specs.CachedLookups.{HaveEntriesOf, answers_in}
 use Rattle.addr2line_units.specs.CachedParses.{AreReadyUnits, ChangesOnly, HasRead, HaveFunctions, IsReadyUnit, has_view}
 use Rattle.addr2line_units.specs.CachedViews.{is_decided, seen_sections, verdict_in, view_by, was_looked_at}
@@ -33,7 +30,6 @@ use Rattle.addr2line_units.specs.Views.{View}
 use Rattle.addr2line_units.proofs.AnswerLemmas.{looked_waits}
 use Rattle.addr2line_units.proofs.EntryLemmas.{not_open}
 use Rattle.addr2line_units.proofs.FoundLemmas.{looked_is_decided}
-use Rattle.addr2line_units.proofs.CachedFunctionLemmas.{fault_is}
 use Rattle.addr2line_units.proofs.CachedParseLemmas.{got_entry, got_set, read_decided}
 use Rattle.addr2line_units.proofs.CachedPlaceLemmas.{kept_unless_oom}
 use Rattle.addr2line_units.proofs.ParseLemmas.{at_or_behind, below_next, unit_again}

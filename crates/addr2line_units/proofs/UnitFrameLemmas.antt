@@ -17,7 +17,7 @@ use Rattle.addr2line_units.specs.declared.view.UnitView.{UnitView}
 use Rattle.addr2line_units.specs.declared.view.ViewState.{ViewState}
 use Rattle.addr2line_units.specs.declared.view.ViewState.TheVariants as states
 use Rattle.addr2line_units.specs.CachedLines.{AreLinesOf, cached_files, is_uncached}
-use Rattle.addr2line_units.specs.Frames.{FoundFunction, FrameRecord, found_frames}
+use Rattle.addr2line_units.specs.Frames.{FoundFunction, found_frames}
 use Rattle.addr2line_units.specs.CachedEntries.{AreRead, ReadsEntriesOf, StayEntries, has_entries, has_entries_by}
 use Rattle.addr2line_units.specs.CachedFunctions.{StayFunctions, cached_functions}
 use Rattle.addr2line_units.specs.CachedViews.{IsViewOf, answer_in, seen_first_answer, waits, was_looked_at}

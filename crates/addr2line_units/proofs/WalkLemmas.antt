@@ -1,9 +1,7 @@
 -- What a step of a lookup of frames says, by the units and answers at its start (on
 -- specs/FramesLookup.antt and specs/CachedLookups.antt).
-use Rattle.std.proofs.Common.{◌≡◌, ℕ, Bool, true, false, ◌&&◌, not, List, [], ◌∷◌, Option, Result, Ok, Err, ap, refl, sym, subst, ◌∙◌, inl}
-use Rattle.std.specs.Prelude.{IfOk}
+use Rattle.std.proofs.Common.{◌≡◌, ℕ, Bool, true, false, ◌&&◌, not, List, ◌∷◌, Option, Result, refl, sym, subst, inl}
 use Rattle.gimli_read.specs.declared.error.Error.{Error}
-use Rattle.gimli_read.specs.Reading.{◌>>=◌, ExactlyUnlessOom}
 use Rattle.gimli.specs.Sections.{Sections}
 use Rattle.gimli.specs.Unit.{UnitRecord}
 use Rattle.addr2line_lines.specs.References.{FileRecord, Scope}
@@ -12,7 +10,7 @@ use Rattle.addr2line_units.specs.declared.unit.ResUnit.{ResUnit}
 use Rattle.addr2line_units.specs.declared.unit_frames.UnitEntries.{UnitEntries}
 use Rattle.addr2line_units.specs.CachedLines.{StayUnits, indexed_units}
 use Rattle.addr2line_units.specs.Frames.{FrameRecord}
-use Rattle.addr2line_units.specs.FramesLookup.{LookupAsks, holds_along, stop_along}
+use Rattle.addr2line_units.specs.FramesLookup.{LookupAsks}
 use Rattle.addr2line_units.specs.CachedLookups.{StayAllEntries, answers_in}
 use Rattle.addr2line_units.specs.UnitIndex.{IndexedUnit}
 use Rattle.addr2line_units.proofs.CachedLookupLemmas.{same_answers}

@@ -8,13 +8,11 @@ use Rattle.gimli_read.specs.declared.constants.DwLang.{DwLang}
 use Rattle.gimli_read.specs.declared.error.Error.{Error}
 use Rattle.gimli_read.specs.Reading.{◌>>=◌}
 use Rattle.gimli_read.specs.Section.{Section}
-use Rattle.gimli.specs.Sections.{Sections}
 use Rattle.gimli.specs.Unit.{UnitRecord}
 use Rattle.addr2line_lines.specs.Details.{CallSite, Detail, InlinedEntry, detail_at, inlined_chain}
 use Rattle.addr2line_lines.specs.Functions.{function_offset_at, functions_of}
-use Rattle.addr2line_lines.specs.Location.{LineTable, Location, location_at}
+use Rattle.addr2line_lines.specs.Location.{Location}
 use Rattle.addr2line_lines.specs.References.{Scope}
-use Rattle.addr2line_lines.specs.UnitLines.{unit_lines}
 
 -- the name of a function, and the language of the main unit
 pub record NameRecord : Type 0 where

@@ -1,14 +1,15 @@
 -- The least begins beside ranges in order, as the private functions see them.
-use Rattle.std.specs.Prelude.{ℕ, ◌≡◌, ◌-◌, ◌<◌, ◌^◌, Bool, ◌&&◌, nat_le, nat_lt, min, List, [], ◌∷◌, map}
+use Rattle.std.specs.Prelude.{ℕ, ◌≡◌, ◌≤◌, Bool, ◌&&◌, nat_le, nat_lt, min, List, [], ◌∷◌, map}
 use Rattle.std.specs.List.{AllByRecursion}
 use Rattle.addr2line_lines.specs.InOrder.{IsInOrder, in_order}
+use Rattle.addr2line_lines.specs.LastAddress.{last_address}
 use Rattle.addr2line_units.specs.declared.index.IndexedRange.{IndexedRange}
 use Rattle.addr2line_units.specs.declared.index.UnitRange.{UnitRange}
 use Rattle.addr2line_units.specs.Cover.{ends_sooner}
 
--- the least begin of ranges, the greatest address where there is none
+-- the least begin of ranges, the last address where there is none
 abbrev pub least_begin : List UnitRange → ℕ
-least_begin [] = 2 ^ 64 - 1
+least_begin [] = last_address
 least_begin (r ∷ ranges) = min (least_begin ranges) r.range.begin
 
 -- each range beside the least begin of it and of all after it
@@ -25,9 +26,9 @@ unit_range_of r = r.unit_range
 abbrev pub AreLeastBegins : List IndexedRange → Type 0
 AreLeastBegins ranges = ranges ≡ with_least_begins (map unit_range_of ranges)
 
--- the range ends at or below the greatest address
+-- the range ends at or below the last address
 abbrev pub EndFits : UnitRange → Type 0
-EndFits r = r.range.end < 2 ^ 64
+EndFits r = r.range.end ≤ last_address
 
 -- the ranges are those that are listed, in order, and their least begins are right
 pub record AreIndexed (listed : List UnitRange) (ranges : List IndexedRange) : Type 0 where

@@ -101,9 +101,10 @@ pub data IsEscape : List ℕ → ℕ → Type 0 where
 
 -- what follows a dollar begins with no escape
 abbrev pub NoEscape : List ℕ → Type 0
-NoEscape bytes = (escape rest : List ℕ) (c : ℕ) → IsEscape escape c → bytes ≢ escape ++ (byte "$" ∷ rest)
+NoEscape bytes =
+    (escape rest : List ℕ) (c : ℕ) → IsEscape escape c → bytes ≢ escape ++ (byte "$" ∷ rest)
 
--- a dot
+-- whether a byte is a dot
 abbrev pub is_dot : ℕ → Bool
 is_dot b = b == byte "."
 

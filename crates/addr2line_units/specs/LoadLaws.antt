@@ -1,12 +1,12 @@
 -- Laws of the loads that an address waits for, and of lookups that wait (on Loads and
 -- FramesLookup).
-use Rattle.std.specs.Prelude.{◌≡◌, ◌≢◌, ◌⊎◌, ◌<◌, ℕ, Bool, true, false, filter, length, List, [], ◌∷◌, slice_get, Option, Some, None, Ok}
+use Rattle.std.specs.Prelude.{◌≡◌, ◌≢◌, ◌⊎◌, ◌<◌, ℕ, true, filter, length, List, [], ◌∷◌, Option, Ok}
 use Rattle.gimli.specs.Sections.{Sections}
 use Rattle.gimli.specs.Unit.{UnitRecord}
 use Rattle.addr2line_lines.specs.References.{Scope}
 use Rattle.addr2line_units.specs.declared.frames_lookup.Faults.{Faults}
 use Rattle.addr2line_units.specs.declared.index.UnitRange.{UnitRange}
-use Rattle.addr2line_units.specs.FramesLookup.{Waits, answer_of, asked_frames, stop_along, with_answer}
+use Rattle.addr2line_units.specs.FramesLookup.{Waits, asked_frames, stop_along, with_answer}
 use Rattle.addr2line_units.specs.Loads.{is_of_other, is_open_at, load_of_number, loads_along}
 use Rattle.addr2line_units.specs.UnitIndex.{IndexedUnit, unit_records}
 use Rattle.addr2line_units.specs.Views.{SplitLoad}

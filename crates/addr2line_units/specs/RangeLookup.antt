@@ -3,9 +3,7 @@
 -- in the place of a fault.
 use Rattle.std.specs.Prelude.{◌≡◌, ℕ, List, [], ◌∷◌, flat_map, Option, Some, None, Result, Ok, Err}
 use Rattle.gimli_read.specs.declared.error.Error.{Error}
-use Rattle.addr2line_lines.specs.declared.location.Location.{Location as SourceLocation}
 use Rattle.addr2line_lines.specs.RangeLocations.{LocatedSpan}
-use Rattle.addr2line_lines.specs.SeenLocation.{seen_location}
 use Rattle.addr2line_units.specs.declared.index.UnitRange.{UnitRange}
 use Rattle.addr2line_units.specs.declared.unit.ResUnit.{ResUnit}
 use Rattle.addr2line_units.specs.CachedLines.{cached_spans, lines_at}

@@ -1,6 +1,7 @@
 //! Whether lookups of frames may wait for answers.
 
-ghost use Rattle.std.specs.Prelude.{◌≡◌, ◌^◌, ◌-◌, [], not};
+ghost use Rattle.std.specs.Prelude.{◌≡◌, [], not};
+ghost use Rattle.addr2line_lines.specs.LastAddress.{last_address};
 ghost use Rattle.addr2line_units.specs.Cover.{cover};
 ghost use Rattle.addr2line_units.specs.CachedLookups.{decided_along, decided_at};
 ghost use Rattle.addr2line_units.specs.UnitRangesLeft.{ranges_left};
@@ -38,7 +39,7 @@ impl<R: Reader> ResUnits<R> {
     pub fn may_wait(&self, probe: u64) -> bool
         ensures gives { result
             ≡ not (decided_along self.now.entries.items (cover probe self.now.ranges)) }
-        ensures last { probe ≡ 2 ^ 64 - 1 → cover probe self.now.ranges ≡ [] }
+        ensures last { probe ≡ last_address → cover probe self.now.ranges ≡ [] }
     {
         !are_decided_along(&self.entries, self.ranges.find(probe))
     }

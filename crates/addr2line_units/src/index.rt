@@ -1,10 +1,11 @@
 //! The ranges of a context's units, and the search for those that hold an address.
 
-ghost use Rattle.std.specs.Prelude.{◌≡◌, ◌-◌, ◌^◌, [], Ok, OnOk, filter, length, min, nat_lt};
+ghost use Rattle.std.specs.Prelude.{◌≡◌, [], Ok, OnOk, filter, length, min, nat_lt};
 ghost use Rattle.std.specs.List.{AllByRecursion};
 ghost use Rattle.std.specs.Iterator.{YieldsFirst, item_count};
 ghost use Rattle.gimli_read.specs.Reading.{ExactlyUnlessOomIf};
 ghost use Rattle.addr2line_lines.specs.InOrder.{in_order};
+ghost use Rattle.addr2line_lines.specs.LastAddress.{last_address};
 ghost use Rattle.addr2line_units.specs.LeastBegins.{EndFits, is_between, with_least_begins};
 ghost use Rattle.addr2line_units.specs.Cover.{cover, cover_range, ends_sooner};
 ghost use Rattle.addr2line_units.specs.UnitRangesLeft.{ranges_left};
@@ -110,7 +111,7 @@ impl UnitRanges {
     fn find_between(&self, low: u64, last: u64) -> UnitRangeIter<'_>
         ensures gives { ranges_left result
             ≡ filter (is_between low last) (in_order ends_sooner self.now) }
-        ensures last { low ≡ 2 ^ 64 - 1 → ranges_left result ≡ [] }
+        ensures last { low ≡ last_address → ranges_left result ≡ [] }
     {
         let first = self
             .ranges
@@ -143,7 +144,7 @@ impl UnitRanges {
     #[tactic(auto, using(crate::proofs::IndexLemmas::covers_found))]
     pub fn find(&self, probe: u64) -> UnitRangeIter<'_>
         ensures gives { ranges_left result ≡ cover probe self.now }
-        ensures last { probe ≡ 2 ^ 64 - 1 → ranges_left result ≡ [] }
+        ensures last { probe ≡ last_address → ranges_left result ≡ [] }
     {
         self.find_between(probe, probe)
     }

@@ -1,6 +1,6 @@
 //! The units of a context, and the ranges that lead to them.
 
-ghost use Rattle.std.specs.Prelude.{◌≡◌, ◌+◌, ◌++◌, ◌-◌, ◌^◌, ◌<◌, ◌≤◌, [], None, IfErr, IfOk, IfSome, IsOk, Ok, OnOk, map, option_map, true};
+ghost use Rattle.std.specs.Prelude.{◌≡◌, ◌+◌, ◌++◌, ◌<◌, ◌≤◌, [], None, IfErr, IfOk, IfSome, IsOk, Ok, OnOk, map, option_map, true};
 ghost use Rattle.gimli_read.specs.declared.error.Error.TheVariants.{OutOfMemory};
 ghost use Rattle.gimli_read.specs.Reading.{Exactly, ExactlyUnlessOom, ExactlyUnlessOomIf};
 ghost use Rattle.addr2line_units.specs.UnitIndex.{range_of_unit, unit_of_header};
@@ -14,6 +14,7 @@ ghost use Rattle.gimli_read.specs.Alike.{HadMemory};
 ghost use Rattle.addr2line_units.specs.Parsed.{AllAskFor, AreAllParsed, AreParsed, AreReadyForAll, AsksFor, LeadTo, ParsesOnly, ready_along};
 ghost use Rattle.addr2line_units.specs.RangeLookup.{cached_along};
 ghost use Rattle.addr2line_units.specs.Cover.{cover, cover_range};
+ghost use Rattle.addr2line_lines.specs.LastAddress.{last_address};
 ghost use Rattle.addr2line_lines.specs.Location.{location_of_row};
 ghost use Rattle.addr2line_lines.specs.SeenLocation.{seen_location};
 
@@ -273,7 +274,7 @@ impl<R: Reader> ResUnits<R> {
         ensures only { ParsesOnly (AsksFor dwarf.now (units_in self.old) probe
             (cover probe self.old.ranges))
             (parsed_units self.old.units.items) (parsed_units self.new.units.items) }
-        ensures last { probe ≡ 2 ^ 64 - 1 → result ≡ Ok None }
+        ensures last { probe ≡ last_address → result ≡ Ok None }
         ensures stay { StayUnits self.old.units.items self.new.units.items }
         ensures dw_units { self.new.dw_units.items ≡ self.old.dw_units.items }
         ensures entries { self.new.entries.items ≡ self.old.entries.items }

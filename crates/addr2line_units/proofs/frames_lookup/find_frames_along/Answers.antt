@@ -1,11 +1,11 @@
-use Rattle.std.proofs.Common.{ℕ, ap, false, inl, inr, refl, subst, sym, true, ◌&&◌, ◌∙◌, ◌≡◌, ◌≤◌, arith, not, Ok, Err, Result, Some, []}
+use Rattle.std.proofs.Common.{ap, false, inl, inr, refl, subst, sym, true, ◌&&◌, ◌∙◌, ◌≡◌, arith, not, Ok, Some, []}
 use Rattle.std.specs.Prelude.{IfOk}
 use Rattle.std.proofs.lemmas.Result.{err_from_is_err_and}
 use Rattle.gimli_read.specs.Reading.{◌>>=◌, ExactlyUnlessOom}
 use Rattle.addr2line_lines.specs.SeenScope.{seen_scope}
 use Rattle.addr2line_units.specs.CachedLines.{indexed_units, parsed_units}
 use Rattle.addr2line_units.specs.FramesLookup.{LookupAsks, asked_frames, asks_lines_of, ends_lookup, frames_of_number, has_many_of, holds_along, or_stop, stop_along}
-use Rattle.addr2line_units.specs.CachedLookups.{AreFoundAt, answers_in, found_after_fault, frames_found_at, has_frames_at}
+use Rattle.addr2line_units.specs.CachedLookups.{AreFoundAt, answers_in, frames_found_at, has_frames_at}
 use Rattle.gimli_read.specs.Alike.{HadMemory}
 use Rattle.addr2line_units.specs.Parsed.{ParsesOnly}
 use Rattle.addr2line_units.specs.UnitRangesLeft.{ranges_left}

@@ -1,4 +1,4 @@
-use Rattle.std.proofs.Common.{ap, arith, inl, length, ltb-false, ltb-true, refl, rules, subst, sym, slice_get, None, Some, ◌<◌, ◌≤◌, ◌∙◌, ◌≡◌}
+use Rattle.std.proofs.Common.{arith, length, ltb-false, ltb-true, refl, rules, subst, sym, slice_get, None, Some, ◌<◌, ◌≤◌, ◌∙◌, ◌≡◌}
 use Rattle.addr2line_lines.specs.SeenScope.{seen_scope}
 use Rattle.addr2line_units.proofs.CachedLookupLemmas.{as_many_entries, entries_at, entries_set, reads_set, stay_entries, stay_entries_set}
 use Rattle.std.proofs.lemmas.Option.{get_or_from_slice_get, slice_get_past, slice_get_read, slice_get_within}

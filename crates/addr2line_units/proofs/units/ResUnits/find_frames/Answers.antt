@@ -1,4 +1,4 @@
-use Rattle.std.proofs.Common.{ℕ, ap, option_map, rules, sym, true, ◌&&◌, ◌≡◌, not}
+use Rattle.std.proofs.Common.{option_map, rules, sym, true, ◌&&◌, ◌≡◌, not}
 use Rattle.gimli_read.specs.Reading.{ExactlyUnlessOom}
 use Rattle.addr2line_lines.specs.SeenScope.{seen_file}
 use Rattle.addr2line_units.specs.CachedLines.{indexed_units, parsed_units}

@@ -1,5 +1,4 @@
-use Rattle.std.proofs.Common.{◌≡◌, ◌∙◌, ap, arith, option_map, rules}
-use Rattle.std.specs.Result.{result_ok}
+use Rattle.std.proofs.Common.{◌∙◌, ap, arith, option_map, rules}
 use Rattle.addr2line_units.proofs.DecidedLemmas.{decided_view, decided_within, parts_at}
 use Rattle.addr2line_units.proofs.WaitLemmas.{as_many_views}
 use Rattle.addr2line_units.proofs.units.ResUnits.unit_ref.Goals as goal

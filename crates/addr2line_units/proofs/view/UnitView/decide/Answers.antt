@@ -1,4 +1,4 @@
-use Rattle.std.proofs.Common.{rules, ◌≡◌, ◌∙◌, sym, None, Ok, Err, option_map}
+use Rattle.std.proofs.Common.{rules, ◌≡◌, ◌∙◌, sym, None, Err, option_map}
 use Rattle.addr2line_units.specs.CachedViews.{split_unit}
 use Rattle.addr2line_units.specs.Views.{verdict}
 use Rattle.addr2line_units.proofs.ViewLemmas.{answered_is_right, verdict_of_open, waiting_is_open}

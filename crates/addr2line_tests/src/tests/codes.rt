@@ -1,12 +1,13 @@
-//! Frames, units, loads and faults as numbers.
+//! Locations, rows, frames, units, loads and faults as numbers.
 
 use addr2line::gimli::read::{Error, Reader};
 use addr2line::gimli::{UnitRef, UnitType};
-use addr2line::{Frame, FrameIter, FunctionName, SplitDwarfLoad};
+use addr2line::{Frame, FrameIter, FunctionName, Location, LocationRangeIter, SplitDwarfLoad};
 use addr2line_lines_tests::sections::{fault_code, location_code};
 
 /// Three frames: of each where its entry begins, the first byte of its name with its language, and
-/// its location; 0 for none. Any other answer stands in the first place.
+/// its location; 0 for none. Or three rows: of each its address, its length and its location. Any
+/// other answer stands in the first place, a location and a fault in its last number.
 #[derive(Clone, Copy, Debug, PartialEq, Eq)]
 pub struct Codes(pub [u64; 3], pub [u64; 3], pub [u64; 3]);
 
@@ -33,6 +34,50 @@ pub fn done_codes(done: Result<(), Error>) -> Codes {
         Ok(()) => DONE,
         Err(error) => fault_codes(error),
     }
+}
+
+pub fn located_codes(found: Result<Option<Location<'_>>, Error>) -> Codes {
+    match found {
+        Ok(Some(location)) => first([0, 0, u64::from(location_code(location))]),
+        Ok(None) => NONE,
+        Err(error) => fault_codes(error),
+    }
+}
+
+fn row_code(row: Option<(u64, u64, Location<'_>)>) -> [u64; 3] {
+    match row {
+        Some((address, length, location)) => [address, length, u64::from(location_code(location))],
+        None => [0; 3],
+    }
+}
+
+// The next row, or a fault in its place where faults are told.
+fn next_row_code<R: Reader>(rows: &mut LocationRangeIter<'_, R>, tells_faults: bool) -> [u64; 3] {
+    if !tells_faults {
+        return row_code(rows.next());
+    }
+    match rows.next_loc() {
+        Ok(row) => row_code(row),
+        Err(error) => [0, 0, u64::from(fault_code(error))],
+    }
+}
+
+/// Three rows from this one on.
+pub fn rows_codes<R: Reader>(
+    rows: Result<LocationRangeIter<'_, R>, Error>,
+    from: usize,
+    tells_faults: bool,
+) -> Codes {
+    let mut rows = match rows {
+        Ok(rows) => rows,
+        Err(error) => return fault_codes(error),
+    };
+    for _ in 0..from {
+        let _skipped = next_row_code(&mut rows, tells_faults);
+    }
+    let first = next_row_code(&mut rows, tells_faults);
+    let second = next_row_code(&mut rows, tells_faults);
+    Codes(first, second, next_row_code(&mut rows, tells_faults))
 }
 
 // The first byte of a name, and 256 for each number of its language.
@@ -117,12 +162,7 @@ pub fn load_codes<R: Reader>(load: &SplitDwarfLoad<R>) -> Codes {
 }
 
 // How many loads there are, and the identifiers of the first two.
-pub fn loads_codes<R: Reader>(loads: Result<Vec<SplitDwarfLoad<R>>, Error>) -> Codes {
-    match loads {
-        Ok(loads) => {
-            let [a, b] = [0, 1].map(|i: usize| loads.get(i).map_or(0, |load| load.dwo_id.0));
-            first([loads.len() as u64, a, b])
-        }
-        Err(error) => fault_codes(error),
-    }
+pub fn loads_codes<R: Reader>(loads: &[SplitDwarfLoad<R>]) -> Codes {
+    let [a, b] = [0, 1].map(|i: usize| loads.get(i).map_or(0, |load| load.dwo_id.0));
+    first([loads.len() as u64, a, b])
 }

@@ -1,13 +1,11 @@
 //! Contexts: which sections make one, and what its lookups answer at each call.
 
-use super::sections::{code_of, codes_of, context_of};
-use addr2line::Context;
-use addr2line::gimli::read::{EndianSlice, Error};
-use addr2line_lines_tests::sections::dwarf_of;
+use super::codes::{Codes, first};
+use super::replies::Call;
+use super::sections::{Way, three_sections};
+use super::told::{alone, numbers, told_borrowed, told_each};
 use addr2line_lines_tests::vectors::{ABBREV, INFO, INFO_WIDE, LINE, LINE_V5};
 use std::alloc::Global;
-use std::rc::Rc;
-use std::test::Fail;
 
 // The same unit, version 5.
 const INFO_V5: [u8; 32] = [
@@ -22,25 +20,37 @@ const INFO_64: [u8; 47] = [
     0x2f, 0x77, 0x00, 0x10, 0x00, 0x00, 0x00, 0x00, 0x00, 0x00, 0x00, 0x20, 0x00, 0x00, 0x00,
 ];
 
-const PROBES: [u64; 8] = [0xf, 0x10, 0x1f, 0x20, 0x2f, 0x30, 0x10, u64::MAX];
+const CALLS: [Call; 8] = [
+    Call::Location(0xf),
+    Call::Location(0x10),
+    Call::Location(0x1f),
+    Call::Location(0x20),
+    Call::Location(0x2f),
+    Call::Location(0x30),
+    Call::Location(0x10),
+    Call::Location(u64::MAX),
+];
 
 // Lines 1 and 3 of "/w/a.c" at column 0.
-const FOUND: [u32; 8] = [
+const FOUND: [u64; 8] = [
     0, 1_001_000, 1_001_000, 1_003_000, 1_003_000, 0, 1_001_000, 0,
 ];
 
-const NOTHING: [u32; 8] = [0; 8];
+const NOTHING: [u64; 8] = [0; 8];
+
+// The fault UnexpectedEof.
+const EOF: Codes = Codes([0, 0, 9_000_000], [0; 3], [0; 3]);
 
 // A fault of the unit's lines is given at each address of the unit, and again.
-const FAULT: [u32; 8] = [
+const FAULT: [u64; 8] = [
     0, 9_000_000, 9_000_000, 9_000_000, 9_000_000, 0, 9_000_000, 0,
 ];
 
 #[test]
-fn lookups_over_three_sections(rt: HostRuntime) -> Result<(), Fail> {
+fn lookups_over_three_sections(rt: HostRuntime) {
     let mut cut = LINE;
     cut[53] = 0x7f;
-    let cases: [(&[u8], &[u8], &[u8], [u32; 8]); 6] = [
+    let cases: [(&[u8], &[u8], &[u8], [u64; 8]); 6] = [
         (&ABBREV, &INFO, &LINE, FOUND),
         (&ABBREV, &INFO_V5, &LINE_V5, FOUND),
         (&ABBREV, &INFO_64, &LINE, FOUND),
@@ -50,69 +60,67 @@ fn lookups_over_three_sections(rt: HostRuntime) -> Result<(), Fail> {
         (&ABBREV, &INFO, &cut, FAULT),
     ];
     for (abbrev, info, line, want) in cases {
-        let context = context_of(rt.alloc(), abbrev, info, line)?;
-        assert_eq!(rt; codes_of(context, PROBES), want);
+        let told = told_each(rt.alloc(), three_sections(abbrev, info, line), CALLS);
+        assert_eq!(rt; numbers(told), (want, 0));
     }
-    Ok(())
 }
 
 #[test]
-fn sections_in_one_value_answer_alike(rt: HostRuntime) -> Result<(), Fail> {
-    let context = Context::from_dwarf(rt.alloc(), dwarf_of(&ABBREV, &INFO, &LINE))?;
-    assert_eq!(rt; codes_of(context, PROBES), FOUND);
-    let held = Rc::new(rt.alloc(), dwarf_of(&ABBREV, &INFO, &LINE))?;
-    let context = Context::from_arc_dwarf(rt.alloc(), held)?;
-    assert_eq!(rt; codes_of(context, PROBES), FOUND);
-    Ok(())
+fn sections_in_one_value_answer_alike(rt: HostRuntime) {
+    for way in [Way::Whole, Way::Held] {
+        let told = told_borrowed(rt.alloc(), alone(&ABBREV, &INFO, &LINE), way, CALLS);
+        assert_eq!(rt; numbers(told), (FOUND, 0));
+    }
 }
 
-// Whether the section, cut to each number of bytes from 1 on, is refused UnexpectedEof.
-fn each_cut_is_refused(alloc: Global) -> bool {
-    let mut refused = true;
+// What making a context of one unit says.
+fn made(alloc: Global, info: &[u8]) -> Codes {
+    let ([codes], _) = told_each(alloc, three_sections(&ABBREV, info, &LINE), [Call::Made]);
+    codes
+}
+
+// How often the section, cut to each number of bytes from 1 on, is refused UnexpectedEof.
+fn refused_cuts(alloc: Global) -> u64 {
+    let mut refused = 0u64;
     for len in 1..INFO.len() {
-        match context_of(alloc, &ABBREV, &INFO[..len], &LINE) {
-            Err(Error::UnexpectedEof) => {}
-            _ => refused = false,
-        }
+        refused = refused.wrapping_add(u64::from(made(alloc, &INFO[..len]) == EOF));
     }
     refused
 }
 
 #[test]
 fn a_unit_that_is_cut_refuses_the_context(rt: HostRuntime) {
-    assert_eq!(rt; each_cut_is_refused(rt.alloc()), true);
+    assert_eq!(rt; refused_cuts(rt.alloc()), 30);
 }
 
 #[test]
 fn a_reserved_length_refuses_the_context(rt: HostRuntime) {
     let mut reserved = INFO_64;
     reserved[0] = 0xf0;
-    let refused = context_of(rt.alloc(), &ABBREV, &reserved, &LINE);
-    assert!(rt; matches!(refused, Err(Error::UnknownReservedLength)));
+    assert_eq!(rt; made(rt.alloc(), &reserved), first([0, 0, 9_200_000]));
 }
 
 #[test]
-fn growths_that_are_granted_give_locations(rt: HostRuntime) -> Result<(), Fail> {
-    let context = context_of(rt.alloc(), &ABBREV, &INFO, &LINE)?;
-    assert_eq!(rt; codes_of(context, PROBES), FOUND);
-    Ok(())
+fn growths_that_are_granted_give_locations(rt: HostRuntime) {
+    let told = told_each(rt.alloc(), three_sections(&ABBREV, &INFO, &LINE), CALLS);
+    assert_eq!(rt; numbers(told), (FOUND, 0));
 }
 
-// A context's second answers at two addresses: the first may be refused memory, as each growth is
-// in turn by `tools/refuse_growths`.
-fn retried(context: &mut Context<EndianSlice<'_>>) -> [u32; 2] {
-    let mut codes = [0; 2];
-    for (code, probe) in codes.iter_mut().zip([0x10, 0x20]) {
-        let _first = context.find_location(probe).is_ok();
-        *code = code_of(context, probe);
+// The answers of a context that is made once more where it was refused, each address asked twice.
+fn told_again(alloc: Global) -> [u64; 4] {
+    let wide = three_sections(&ABBREV, &INFO_WIDE, &LINE);
+    let [first, second] = [Call::Location(0x10), Call::Location(0x20)];
+    let calls = [first, first, second, second];
+    let (codes, _) = numbers(told_each(alloc, wide, calls));
+    if codes == [9_100_000; 4] {
+        return numbers(told_each(alloc, wide, calls)).0;
     }
     codes
 }
 
+// Each growth is refused in turn by `tools/refuse_growths`.
 #[test]
 fn a_refused_growth_is_never_cached(rt: HostRuntime) {
-    match context_of(rt.alloc(), &ABBREV, &INFO_WIDE, &LINE) {
-        Ok(mut context) => assert_eq!(rt; retried(&mut context), [1_001_000, 1_003_000]),
-        Err(error) => assert_eq!(rt; error, Error::OutOfMemory),
-    }
+    let want = [1_001_000, 1_001_000, 1_003_000, 1_003_000];
+    assert_eq!(rt; told_again(rt.alloc()), want);
 }

@@ -1,10 +1,11 @@
 //! Locations by the lines of one unit.
 
-use super::sections::{codes_of, context_of};
+use super::replies::Call;
+use super::sections::three_sections;
+use super::told::{numbers, told_each};
 use addr2line_lines_tests::vectors::{
     ABBREV, FOUR_SEQUENCES, INFO_WIDE, SAME_ADDRESS, THREE_SEQUENCES,
 };
-use std::test::Fail;
 
 // Line 1 of file 65536 from 0x10 on, and the end at 0x30.
 const WIDE_FILE: [u8; 58] = [
@@ -94,21 +95,21 @@ const TOMBSTONE: [u8; 55] = [
 ];
 
 // Lines of "/w/a.c" at column 0.
-const LINE_1: u32 = 1_001_000;
+const LINE_1: u64 = 1_001_000;
 
-const LINE_2: u32 = 1_002_000;
+const LINE_2: u64 = 1_002_000;
 
-const LINE_3: u32 = 1_003_000;
+const LINE_3: u64 = 1_003_000;
 
-const LINE_4: u32 = 1_004_000;
+const LINE_4: u64 = 1_004_000;
 
-const LINE_131: u32 = 1_131_000;
+const LINE_131: u64 = 1_131_000;
 
-const LINE_200: u32 = 1_200_000;
+const LINE_200: u64 = 1_200_000;
 
 #[test]
-fn each_address_has_the_line_of_its_span(rt: HostRuntime) -> Result<(), Fail> {
-    let cases: [(&[u8], [u64; 4], [u32; 4]); 10] = [
+fn each_address_has_the_line_of_its_span(rt: HostRuntime) {
+    let cases: [(&[u8], [u64; 4], [u64; 4]); 10] = [
         (
             &SAME_ADDRESS,
             [0xf, 0x10, 0x2f, 0x30],
@@ -146,9 +147,14 @@ fn each_address_has_the_line_of_its_span(rt: HostRuntime) -> Result<(), Fail> {
         ),
         (&TOMBSTONE, [0, 0x10, 0x20, u64::MAX], [0, 0, 0, 0]),
     ];
-    for (line, probes, want) in cases {
-        let context = context_of(rt.alloc(), &ABBREV, &INFO_WIDE, line)?;
-        assert_eq!(rt; codes_of(context, probes), want);
+    for (line, [a, b, c, d], want) in cases {
+        let calls = [
+            Call::Location(a),
+            Call::Location(b),
+            Call::Location(c),
+            Call::Location(d),
+        ];
+        let told = told_each(rt.alloc(), three_sections(&ABBREV, &INFO_WIDE, line), calls);
+        assert_eq!(rt; numbers(told), (want, 0));
     }
-    Ok(())
 }

@@ -1,11 +1,9 @@
 //! Worked cases: lookups of frames and of units in one file.
 
 use super::codes::{Codes, DONE, NONE, first};
-use super::replies::{Answer, Call, told};
-use super::sections::{shared, shared_dwarf_of};
-use addr2line::gimli::read::Reader;
-use addr2line::gimli::{DebugRanges, Dwarf};
-use addr2line_lines_tests::sections::{dwarf_of, little};
+use super::replies::{Answer, Call};
+use super::sections::{Sections, Way};
+use super::told::{Files, Replies, alone, told_both};
 use addr2line_lines_tests::vectors::{
     LINE, LIST, NAMED, NAMED_INFO, OPEN_FUNCTION, OPEN_UNIT, TWO_FUNCTIONS,
 };
@@ -34,19 +32,13 @@ fn unit(probe: u64) -> Call {
     Call::Unit(probe, Answer::Drop)
 }
 
-// The answers of a context of the three sections, over borrowed and over shared bytes.
-fn told_both<const N: usize>(
+// The answers of a context of a unit with its lines, over borrowed and over shared bytes.
+fn told_named<const N: usize>(
     alloc: Global,
     info: &'static [u8],
     calls: [Call; N],
-) -> [([Codes; N], u64); 2] {
-    let split = dwarf_of(&[], &[], &[]);
-    let borrowed = told(alloc, dwarf_of(NAMED, info, &LINE), split, calls);
-    let split = shared_dwarf_of(&[], &[], &[]);
-    [
-        borrowed,
-        told(alloc, shared_dwarf_of(NAMED, info, &LINE), split, calls),
-    ]
+) -> [Replies<N>; 2] {
+    told_both(alloc, alone(NAMED, info, &LINE), Way::Held, calls)
 }
 
 #[test]
@@ -70,7 +62,7 @@ fn inlined_functions_stand_before_their_callers(rt: HostRuntime) {
     ];
     // The unit is whole, or lacks its closing entry.
     for info in [NAMED_INFO, OPEN_UNIT] {
-        assert_eq!(rt; told_both(rt.alloc(), info, calls), [(want, 0); 2]);
+        assert_eq!(rt; told_named(rt.alloc(), info, calls), [(want, 0); 2]);
     }
 }
 
@@ -83,7 +75,10 @@ fn functions_are_found_in_any_order(rt: HostRuntime) {
         ([Call::ParseInlined, second, first], [DONE, SECOND, INLINED]),
     ];
     for (calls, want) in cases {
-        assert_eq!(rt; told_both(rt.alloc(), TWO_FUNCTIONS, calls), [(want, 0); 2]);
+        assert_eq!(rt;
+            told_named(rt.alloc(), TWO_FUNCTIONS, calls),
+            [(want, 0); 2]
+        );
     }
 }
 
@@ -98,7 +93,10 @@ fn a_function_without_its_end_refuses_frames(rt: HostRuntime) {
     ];
     let line_1 = first([0, 0, 1_001_000]);
     let want = [line_1, EOF, EOF, NONE];
-    assert_eq!(rt; told_both(rt.alloc(), OPEN_FUNCTION, calls), [(want, 0); 2]);
+    assert_eq!(rt;
+        told_named(rt.alloc(), OPEN_FUNCTION, calls),
+        [(want, 0); 2]
+    );
 }
 
 // A root entry and functions and inlined functions, all with children, DW_AT_low_pc and
@@ -123,36 +121,27 @@ const SIBLINGS: &[u8] = b"\x20\0\0\0\x04\0\0\0\0\0\x02\x01\0\0\x64\x02\0\0\x30\x
 // A call whose file, line and column aren't said.
 const UNSAID: u64 = 2_000_999;
 
-fn alone(offset: u64) -> Codes {
+fn only(offset: u64) -> Codes {
     first([offset, 0, 0])
 }
 
-// The sections with ranges of functions.
-fn with_ranges<R: Reader>(dwarf: Dwarf<R>, ranges: R) -> Dwarf<R> {
-    let mut dwarf = dwarf;
-    dwarf.debug_ranges = DebugRanges::from(ranges);
-    dwarf
-}
-
 // The frames at three addresses of a unit without lines, over borrowed and over shared bytes.
-fn told_ranged(alloc: Global, info: &'static [u8], probes: [u64; 3]) -> [([Codes; 3], u64); 2] {
-    let calls = probes.map(frames);
-    let main = with_ranges(dwarf_of(RANGED, info, &[]), little(&LIST));
-    let borrowed = told(alloc, main, dwarf_of(&[], &[], &[]), calls);
-    let main = with_ranges(shared_dwarf_of(RANGED, info, &[]), shared(&LIST));
-    [
-        borrowed,
-        told(alloc, main, shared_dwarf_of(&[], &[], &[]), calls),
-    ]
+fn told_ranged(alloc: Global, info: &'static [u8], probes: [u64; 3]) -> [Replies<3>; 2] {
+    let Files { main, split } = alone(RANGED, info, &[]);
+    let main = Sections {
+        ranges: &LIST,
+        ..main
+    };
+    told_both(alloc, Files { main, split }, Way::Held, probes.map(frames))
 }
 
 #[test]
 fn functions_that_overlap_have_one_at_each_address(rt: HostRuntime) {
     let gap = Codes([0x1c, 0, 0], [0x13, 0, UNSAID], [0xf, 0, UNSAID]);
     let cases: [(&'static [u8], [u64; 3], [Codes; 3]); 4] = [
-        (NESTED, [0x24, 0x2a, 0x30], [alone(0x14), alone(0xf), NONE]),
-        (EQUAL, [0x10, 0x1f, 0x20], [alone(0xf), alone(0xf), NONE]),
-        (LISTED, [47, 52, 60], [alone(0xf), alone(0x14), alone(0xf)]),
+        (NESTED, [0x24, 0x2a, 0x30], [only(0x14), only(0xf), NONE]),
+        (EQUAL, [0x10, 0x1f, 0x20], [only(0xf), only(0xf), NONE]),
+        (LISTED, [47, 52, 60], [only(0xf), only(0x14), only(0xf)]),
         (SIBLINGS, [7, 0x30, u64::MAX], [gap, NONE, NONE]),
     ];
     for (info, probes, want) in cases {

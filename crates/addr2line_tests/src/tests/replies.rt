@@ -1,23 +1,13 @@
-//! What the calls of a context answer that may wait for split files, as numbers.
+//! Calls of a context as data, each made by itself, and their answers as numbers.
 
 use super::codes::{
-    Codes, NONE, REFUSED, done_codes, fault_codes, first, frames_or_fault, load_codes, loads_codes,
-    unit_codes,
+    Codes, DONE, done_codes, fault_codes, first, frames_or_fault, load_codes, loads_codes,
+    located_codes, rows_codes, unit_codes,
 };
-use super::sections::code_of;
+use addr2line::gimli::Dwarf;
 use addr2line::gimli::read::{Error, Reader};
-use addr2line::gimli::{Dwarf, DwarfFileType};
 use addr2line::{Context, LookupContinuation, LookupResult, UnitToken};
-use addr2line_lines_tests::sections::dwarf_of;
-use addr2line_lines_tests::vectors::{LINE, WAITING_ABBREV};
-use std::alloc::Global;
 use std::rc::Rc;
-
-/// The units [0, 100) and [10, 20), which wait for split files with the identifiers 1 and 2.
-pub const TWO_WAITING_INFO: &[u8] = b"\x2a\0\0\0\x05\0\x04\x08\0\0\0\0\x01\0\0\0\0\0\0\0\
-    \x01\0\0\0\0/w\0s.dwo\0\0\0\0\0\0\0\0\0\x64\0\0\0\
-    \x2a\0\0\0\x05\0\x04\x08\0\0\0\0\x02\0\0\0\0\0\0\0\
-    \x01\0\0\0\0/w\0s.dwo\0\x0a\0\0\0\0\0\0\0\x0a\0\0\0";
 
 /// How a lookup goes on that waits for a split file.
 #[derive(Clone, Copy)]
@@ -37,9 +27,15 @@ pub enum Answer {
 /// A call of a context.
 #[derive(Clone, Copy)]
 pub enum Call {
+    /// None: the context is made.
+    Made,
     Frames(u64, Answer),
     Unit(u64, Answer),
     Location(u64),
+    /// Three rows of a range, from this one on, with the faults of units in their places.
+    Rows(u64, u64, usize),
+    /// The same without faults.
+    RowsAlone(u64, u64, usize),
     Preload(u64),
     /// Answers the load of the unit of a number by the split file.
     Load(usize),
@@ -51,24 +47,45 @@ pub enum Call {
     ParseInlined,
 }
 
-/// What calls are made with: the tokens of the units 0 and 1, and the sections of the split file.
+/// The tokens of the units 0 and 1, if calls name them.
+pub type Tokens = [Option<UnitToken>; 2];
+
+/// What calls are made with: tokens, and the sections of the split file, if calls give them.
 #[derive(Drop)]
-pub struct Given<R: Reader> {
-    pub tokens: [UnitToken; 2],
-    pub split: Rc<Dwarf<R>>,
+pub struct Given<'a, R: Reader> {
+    pub tokens: Tokens,
+    pub split: Option<&'a Rc<Dwarf<R>>>,
+}
+
+impl<R: Reader> Given<'_, R> {
+    /// The token of a unit, refused where there is none.
+    pub fn token(&self, number: usize) -> Result<UnitToken, Error> {
+        self.tokens[number.min(1)].ok_or(Error::UnknownToken)
+    }
+
+    /// The sections of the split file, shared.
+    pub fn share(&self) -> Result<Rc<Dwarf<R>>, Error> {
+        match self.split {
+            Some(split) => match split.clone() {
+                Ok(split) => Ok(split),
+                Err(_) => Err(Error::OutOfMemory),
+            },
+            None => Err(Error::MissingUnitDie),
+        }
+    }
 }
 
 // A lookup that has ended, or its load; then it is dropped.
 fn drop_frames<R: Reader>(context: &mut Context<R>, probe: u64) -> Codes {
     match context.find_frames(probe) {
-        LookupResult::Output(frames) => frames_or_fault(frames),
+        LookupResult::Output(found) => frames_or_fault(found),
         LookupResult::Load { continuation } => load_codes(continuation.load()),
     }
 }
 
 fn abandon_frames<R: Reader>(context: &mut Context<R>, probe: u64) -> Codes {
     match context.find_frames(probe) {
-        LookupResult::Output(frames) => frames_or_fault(frames),
+        LookupResult::Output(found) => frames_or_fault(found),
         LookupResult::Load { continuation } => {
             let codes = load_codes(continuation.load());
             continuation.abandon();
@@ -79,7 +96,7 @@ fn abandon_frames<R: Reader>(context: &mut Context<R>, probe: u64) -> Codes {
 
 fn load_of_frames<R: Reader>(context: &mut Context<R>, probe: u64) -> Codes {
     match context.find_frames(probe) {
-        LookupResult::Output(frames) => frames_or_fault(frames),
+        LookupResult::Output(found) => frames_or_fault(found),
         LookupResult::Load { continuation } => load_codes(&continuation.into_load()),
     }
 }
@@ -90,9 +107,9 @@ fn resume_frames<R: Reader>(
     input: Option<Rc<Dwarf<R>>>,
 ) -> Codes {
     match context.find_frames(probe) {
-        LookupResult::Output(frames) => frames_or_fault(frames),
+        LookupResult::Output(found) => frames_or_fault(found),
         LookupResult::Load { continuation } => match continuation.resume(input) {
-            LookupResult::Output(frames) => frames_or_fault(frames),
+            LookupResult::Output(found) => frames_or_fault(found),
             LookupResult::Load { continuation } => load_codes(continuation.load()),
         },
     }
@@ -104,18 +121,18 @@ fn skip_frames<R: Reader>(context: &mut Context<R>, probe: u64) -> Codes {
 
 fn frames_reply<R: Reader>(
     context: &mut Context<R>,
+    given: &Given<'_, R>,
     probe: u64,
     answer: Answer,
-    split: &Rc<Dwarf<R>>,
 ) -> Codes {
     match answer {
         Answer::Drop => drop_frames(context, probe),
         Answer::Abandon => abandon_frames(context, probe),
         Answer::IntoLoad => load_of_frames(context, probe),
         Answer::Nothing => resume_frames(context, probe, None),
-        Answer::Split => match split.clone() {
+        Answer::Split => match given.share() {
             Ok(split) => resume_frames(context, probe, Some(split)),
-            Err(_) => REFUSED,
+            Err(error) => fault_codes(error),
         },
         Answer::Skip => skip_frames(context, probe),
     }
@@ -123,14 +140,14 @@ fn frames_reply<R: Reader>(
 
 fn drop_unit<R: Reader>(context: &mut Context<R>, probe: u64) -> Codes {
     match context.find_dwarf_and_unit(probe) {
-        LookupResult::Output(unit) => unit_codes(unit),
+        LookupResult::Output(found) => unit_codes(found),
         LookupResult::Load { continuation } => load_codes(continuation.load()),
     }
 }
 
 fn abandon_unit<R: Reader>(context: &mut Context<R>, probe: u64) -> Codes {
     match context.find_dwarf_and_unit(probe) {
-        LookupResult::Output(unit) => unit_codes(unit),
+        LookupResult::Output(found) => unit_codes(found),
         LookupResult::Load { continuation } => {
             let codes = load_codes(continuation.load());
             continuation.abandon();
@@ -141,7 +158,7 @@ fn abandon_unit<R: Reader>(context: &mut Context<R>, probe: u64) -> Codes {
 
 fn load_of_unit<R: Reader>(context: &mut Context<R>, probe: u64) -> Codes {
     match context.find_dwarf_and_unit(probe) {
-        LookupResult::Output(unit) => unit_codes(unit),
+        LookupResult::Output(found) => unit_codes(found),
         LookupResult::Load { continuation } => load_codes(&continuation.into_load()),
     }
 }
@@ -152,9 +169,9 @@ fn resume_unit<R: Reader>(
     input: Option<Rc<Dwarf<R>>>,
 ) -> Codes {
     match context.find_dwarf_and_unit(probe) {
-        LookupResult::Output(unit) => unit_codes(unit),
+        LookupResult::Output(found) => unit_codes(found),
         LookupResult::Load { continuation } => match continuation.resume(input) {
-            LookupResult::Output(unit) => unit_codes(unit),
+            LookupResult::Output(found) => unit_codes(found),
             LookupResult::Load { continuation } => load_codes(continuation.load()),
         },
     }
@@ -166,118 +183,82 @@ fn skip_unit<R: Reader>(context: &mut Context<R>, probe: u64) -> Codes {
 
 fn unit_reply<R: Reader>(
     context: &mut Context<R>,
+    given: &Given<'_, R>,
     probe: u64,
     answer: Answer,
-    split: &Rc<Dwarf<R>>,
 ) -> Codes {
     match answer {
         Answer::Drop => drop_unit(context, probe),
         Answer::Abandon => abandon_unit(context, probe),
         Answer::IntoLoad => load_of_unit(context, probe),
         Answer::Nothing => resume_unit(context, probe, None),
-        Answer::Split => match split.clone() {
+        Answer::Split => match given.share() {
             Ok(split) => resume_unit(context, probe, Some(split)),
-            Err(_) => REFUSED,
+            Err(error) => fault_codes(error),
         },
         Answer::Skip => skip_unit(context, probe),
     }
 }
 
-fn load_reply<R: Reader>(
-    context: &mut Context<R>,
-    token: UnitToken,
-    split: &Rc<Dwarf<R>>,
-) -> Codes {
-    match split.clone() {
-        Ok(split) => done_codes(context.load_unit(token, Some(split))),
-        Err(_) => REFUSED,
+// The tokens of the first two loads are kept.
+fn preload_reply<R: Reader>(context: &mut Context<R>, probe: u64, listed: &mut Tokens) -> Codes {
+    match context.preload_units(probe) {
+        Ok(loads) => {
+            *listed = [0, 1].map(|i: usize| loads.get(i).map(|load| load.unit));
+            loads_codes(loads.as_slice())
+        }
+        Err(error) => fault_codes(error),
     }
 }
 
-// The answer of one call.
-fn reply<R: Reader>(context: &mut Context<R>, given: &Given<R>, call: Call) -> Codes {
-    let [zero, one] = given.tokens;
-    let token = |number: usize| if number == 0 { zero } else { one };
+fn load_reply<R: Reader>(context: &mut Context<R>, given: &Given<'_, R>, number: usize) -> Codes {
+    let token = match given.token(number) {
+        Ok(token) => token,
+        Err(error) => return fault_codes(error),
+    };
+    match given.share() {
+        Ok(split) => done_codes(context.load_unit(token, Some(split))),
+        Err(error) => fault_codes(error),
+    }
+}
+
+// The answer of a call that takes nothing but a unit.
+fn token_reply<R: Reader>(
+    context: &mut Context<R>,
+    token: Result<UnitToken, Error>,
+    forgets: bool,
+) -> Codes {
+    match token {
+        Ok(token) if forgets => done_codes(context.forget(token)),
+        Ok(token) => done_codes(context.load_unit(token, None)),
+        Err(error) => fault_codes(error),
+    }
+}
+
+/// The answer of one call, made by itself.
+pub fn reply<R: Reader>(
+    context: &mut Context<R>,
+    given: &Given<'_, R>,
+    call: Call,
+    listed: &mut Tokens,
+) -> Codes {
     match call {
-        Call::Frames(probe, answer) => frames_reply(context, probe, answer, &given.split),
-        Call::Unit(probe, answer) => unit_reply(context, probe, answer, &given.split),
-        Call::Location(probe) => first([0, 0, u64::from(code_of(context, probe))]),
-        Call::Preload(probe) => loads_codes(context.preload_units(probe)),
-        Call::Load(number) => load_reply(context, token(number), &given.split),
-        Call::LoadNothing(number) => done_codes(context.load_unit(token(number), None)),
-        Call::Forget(number) => done_codes(context.forget(token(number))),
+        Call::Made => DONE,
+        Call::Frames(probe, answer) => frames_reply(context, given, probe, answer),
+        Call::Unit(probe, answer) => unit_reply(context, given, probe, answer),
+        Call::Location(probe) => located_codes(context.find_location(probe)),
+        Call::Rows(low, high, from) => {
+            rows_codes(context.find_location_range(low, high), from, true)
+        }
+        Call::RowsAlone(low, high, from) => {
+            rows_codes(context.find_location_range(low, high), from, false)
+        }
+        Call::Preload(probe) => preload_reply(context, probe, listed),
+        Call::Load(number) => load_reply(context, given, number),
+        Call::LoadNothing(number) => token_reply(context, given.token(number), false),
+        Call::Forget(number) => token_reply(context, given.token(number), true),
         Call::ParseLines => done_codes(context.parse_lines()),
         Call::ParseFunctions => done_codes(context.parse_functions()),
         Call::ParseInlined => done_codes(context.parse_inlined_functions()),
-    }
-}
-
-// The answers of the calls, the second where the first found no memory; and how often one did.
-fn replies<R: Reader, const N: usize>(
-    context: Context<R>,
-    given: &Given<R>,
-    calls: [Call; N],
-) -> ([Codes; N], u64) {
-    let mut context = context;
-    let mut refused = 0u64;
-    let mut codes = [NONE; N];
-    for i in 0..N {
-        codes[i] = reply(&mut context, given, calls[i]);
-        if codes[i] == REFUSED {
-            refused = refused.wrapping_add(1);
-            codes[i] = reply(&mut context, given, calls[i]);
-        }
-    }
-    (codes, refused)
-}
-
-// The tokens of the units 0 and 1, from a context of two units that wait.
-fn tokens(alloc: Global) -> Result<[UnitToken; 2], Error> {
-    let mut context = Context::from_dwarf(
-        alloc,
-        dwarf_of(WAITING_ABBREV, TWO_WAITING_INFO, &LINE),
-    )?;
-    let loads = context.preload_units(15)?;
-    match loads.as_slice() {
-        [one, zero] => Ok([zero.unit, one.unit]),
-        _ => Err(Error::UnknownToken),
-    }
-}
-
-/// What calls are made with, with these sections of the split file.
-pub fn given_of<R: Reader>(alloc: Global, split: Dwarf<R>) -> Result<Given<R>, Error> {
-    let mut split = split;
-    split.file_type = DwarfFileType::Dwo;
-    let split = Rc::new(alloc, split)?;
-    Ok(Given {
-        tokens: tokens(alloc)?,
-        split,
-    })
-}
-
-// The answers of a context that is made once more where it was refused.
-fn told_in<R: Reader, const N: usize>(
-    alloc: Global,
-    main: Rc<Dwarf<R>>,
-    given: &Given<R>,
-    calls: [Call; N],
-) -> ([Codes; N], u64) {
-    match Context::from_arc_dwarf(alloc, main) {
-        Ok(context) => replies(context, given, calls),
-        Err(error) => ([fault_codes(error); N], 1),
-    }
-}
-
-/// The answers of the calls of a context of its own, the second where the first found no memory;
-/// and how often one did.
-pub fn told<R: Reader, const N: usize>(
-    alloc: Global,
-    main: Dwarf<R>,
-    split: Dwarf<R>,
-    calls: [Call; N],
-) -> ([Codes; N], u64) {
-    match (Rc::new(alloc, main), given_of(alloc, split)) {
-        (Ok(main), Ok(given)) => told_in(alloc, main, &given, calls),
-        _ => ([REFUSED; N], 1),
     }
 }

@@ -1,4 +1,4 @@
-//! The sections of one unit, and the answers of a context over them as numbers.
+//! The sections of files, and the contexts over them.
 
 use addr2line::Context;
 use addr2line::gimli::read::{EndianBytes, EndianSlice, Error, Reader, RunTimeEndian};
@@ -6,64 +6,87 @@ use addr2line::gimli::{
     DebugAbbrev, DebugAddr, DebugAranges, DebugInfo, DebugLine, DebugLineStr, DebugRanges,
     DebugRngLists, DebugStr, DebugStrOffsets, Dwarf, DwarfFileType,
 };
-use addr2line_lines_tests::sections::{fault_code, little, location_code};
+use addr2line_lines_tests::sections::little;
 use bytes::Bytes;
 use std::alloc::Global;
+use std::rc::Rc;
 
-/// A reader of shared bytes in little endian.
-pub fn shared(bytes: &'static [u8]) -> EndianBytes {
-    EndianBytes::new(Bytes::from_static(bytes), RunTimeEndian::Little)
+/// The sections of a file; the others are empty.
+#[derive(Clone, Copy)]
+pub struct Sections<'a> {
+    pub abbrev: &'a [u8],
+    pub info: &'a [u8],
+    pub line: &'a [u8],
+    pub aranges: &'a [u8],
+    pub ranges: &'a [u8],
 }
 
-/// The same sections over shared bytes.
-pub fn shared_dwarf_of(
-    abbrev: &'static [u8],
-    info: &'static [u8],
-    line: &'static [u8],
-) -> Dwarf<EndianBytes> {
+/// Three sections.
+pub fn three_sections<'a>(abbrev: &'a [u8], info: &'a [u8], line: &'a [u8]) -> Sections<'a> {
+    Sections {
+        abbrev,
+        info,
+        line,
+        aranges: &[],
+        ranges: &[],
+    }
+}
+
+/// The sections over borrowed bytes.
+pub fn borrowed(sections: Sections<'_>, file_type: DwarfFileType) -> Dwarf<EndianSlice<'_>> {
     Dwarf {
-        debug_abbrev: DebugAbbrev::from(shared(abbrev)),
-        debug_addr: DebugAddr::from(shared(&[])),
-        debug_aranges: DebugAranges::from(shared(&[])),
-        debug_info: DebugInfo::from(shared(info)),
-        debug_line: DebugLine::from(shared(line)),
-        debug_line_str: DebugLineStr::from(shared(&[])),
-        debug_ranges: DebugRanges::from(shared(&[])),
-        debug_rnglists: DebugRngLists::from(shared(&[])),
-        debug_str: DebugStr::from(shared(&[])),
-        debug_str_offsets: DebugStrOffsets::from(shared(&[])),
-        file_type: DwarfFileType::Main,
+        debug_abbrev: DebugAbbrev::from(little(sections.abbrev)),
+        debug_addr: DebugAddr::from(little(&[])),
+        debug_aranges: DebugAranges::from(little(sections.aranges)),
+        debug_info: DebugInfo::from(little(sections.info)),
+        debug_line: DebugLine::from(little(sections.line)),
+        debug_line_str: DebugLineStr::from(little(&[])),
+        debug_ranges: DebugRanges::from(little(sections.ranges)),
+        debug_rnglists: DebugRngLists::from(little(&[])),
+        debug_str: DebugStr::from(little(&[])),
+        debug_str_offsets: DebugStrOffsets::from(little(&[])),
+        file_type,
         sup: None,
     }
 }
 
-/// A context of three sections, each by itself; the others are empty.
-pub fn context_of<'a>(
-    alloc: Global,
-    abbrev: &'a [u8],
-    info: &'a [u8],
-    line: &'a [u8],
-) -> Result<Context<EndianSlice<'a>>, Error> {
-    context_with(alloc, abbrev, info, line, &[])
+// A reader of shared bytes in little endian.
+fn little_shared(bytes: &'static [u8]) -> EndianBytes {
+    EndianBytes::new(Bytes::from_static(bytes), RunTimeEndian::Little)
 }
 
-/// The same with sets of address ranges.
-pub fn context_with<'a>(
+/// The same over shared bytes.
+pub fn shared(sections: Sections<'static>, file_type: DwarfFileType) -> Dwarf<EndianBytes> {
+    Dwarf {
+        debug_abbrev: DebugAbbrev::from(little_shared(sections.abbrev)),
+        debug_addr: DebugAddr::from(little_shared(&[])),
+        debug_aranges: DebugAranges::from(little_shared(sections.aranges)),
+        debug_info: DebugInfo::from(little_shared(sections.info)),
+        debug_line: DebugLine::from(little_shared(sections.line)),
+        debug_line_str: DebugLineStr::from(little_shared(&[])),
+        debug_ranges: DebugRanges::from(little_shared(sections.ranges)),
+        debug_rnglists: DebugRngLists::from(little_shared(&[])),
+        debug_str: DebugStr::from(little_shared(&[])),
+        debug_str_offsets: DebugStrOffsets::from(little_shared(&[])),
+        file_type,
+        sup: None,
+    }
+}
+
+/// A context of the sections, each by itself.
+pub fn by_sections(
     alloc: Global,
-    abbrev: &'a [u8],
-    info: &'a [u8],
-    line: &'a [u8],
-    aranges: &'a [u8],
-) -> Result<Context<EndianSlice<'a>>, Error> {
+    sections: Sections<'_>,
+) -> Result<Context<EndianSlice<'_>>, Error> {
     Context::from_sections(
         alloc,
-        DebugAbbrev::from(little(abbrev)),
+        DebugAbbrev::from(little(sections.abbrev)),
         DebugAddr::from(little(&[])),
-        DebugAranges::from(little(aranges)),
-        DebugInfo::from(little(info)),
-        DebugLine::from(little(line)),
+        DebugAranges::from(little(sections.aranges)),
+        DebugInfo::from(little(sections.info)),
+        DebugLine::from(little(sections.line)),
         DebugLineStr::from(little(&[])),
-        DebugRanges::from(little(&[])),
+        DebugRanges::from(little(sections.ranges)),
         DebugRngLists::from(little(&[])),
         DebugStr::from(little(&[])),
         DebugStrOffsets::from(little(&[])),
@@ -71,21 +94,24 @@ pub fn context_with<'a>(
     )
 }
 
-/// The location of an address as a number: 0 where there is none, and a fault's number.
-pub fn code_of<R: Reader>(context: &mut Context<R>, probe: u64) -> u32 {
-    match context.find_location(probe) {
-        Ok(None) => 0,
-        Ok(Some(location)) => location_code(location),
-        Err(error) => fault_code(error),
-    }
+/// How a context is made of the sections of a file, and how its calls are made.
+#[derive(Clone, Copy)]
+pub enum Way {
+    /// By `from_dwarf`, and each call by itself.
+    Whole,
+    /// By `from_arc_dwarf`, and each call by itself.
+    Held,
+    /// By `from_dwarf`, and all calls by `replay`.
+    Replayed,
 }
 
-/// The locations of addresses as numbers.
-pub fn codes_of<R: Reader, const N: usize>(context: Context<R>, probes: [u64; N]) -> [u32; N] {
-    let mut context = context;
-    let mut codes = [0; N];
-    for i in 0..N {
-        codes[i] = code_of(&mut context, probes[i]);
+/// A context that is made this way.
+pub fn made<R: Reader>(alloc: Global, way: Way, dwarf: Dwarf<R>) -> Result<Context<R>, Error> {
+    match way {
+        Way::Held => match Rc::new(alloc, dwarf) {
+            Ok(dwarf) => Context::from_arc_dwarf(alloc, dwarf),
+            Err(_) => Err(Error::OutOfMemory),
+        },
+        Way::Whole | Way::Replayed => Context::from_dwarf(alloc, dwarf),
     }
-    codes
 }

@@ -1,9 +1,9 @@
 //! Worked cases: lookups that wait for split files, and the calls that answer them elsewhere.
 
 use super::codes::{Codes, DONE, NONE, REFUSED, first};
-use super::replies::{Answer, Call, TWO_WAITING_INFO, told};
-use super::sections::shared_dwarf_of;
-use addr2line_lines_tests::sections::dwarf_of;
+use super::replies::{Answer, Call};
+use super::sections::{Way, three_sections};
+use super::told::{Files, Replies, TWO_WAITING_INFO, alone, told_borrowed, told_both};
 use addr2line_lines_tests::vectors::{
     LINE_V5, MAIN_INFO, SPLIT_ABBREV, SPLIT_INFO, WAITING_ABBREV,
 };
@@ -36,21 +36,12 @@ fn unit(answer: Answer) -> Call {
     Call::Unit(0x18, answer)
 }
 
-// The answers of a context of the unit over borrowed bytes.
-fn told_borrowed<const N: usize>(alloc: Global, calls: [Call; N]) -> ([Codes; N], u64) {
-    let main = dwarf_of(WAITING_ABBREV, MAIN_INFO, &LINE_V5);
-    told(alloc, main, dwarf_of(SPLIT_ABBREV, SPLIT_INFO, &[]), calls)
-}
-
-// The same over shared bytes.
-fn told_shared<const N: usize>(alloc: Global, calls: [Call; N]) -> ([Codes; N], u64) {
-    let main = shared_dwarf_of(WAITING_ABBREV, MAIN_INFO, &LINE_V5);
-    told(
-        alloc,
-        main,
-        shared_dwarf_of(SPLIT_ABBREV, SPLIT_INFO, &[]),
-        calls,
-    )
+// The unit and its split file.
+fn files() -> Files<'static> {
+    Files {
+        main: three_sections(WAITING_ABBREV, MAIN_INFO, &LINE_V5),
+        split: three_sections(SPLIT_ABBREV, SPLIT_INFO, &[]),
+    }
 }
 
 #[test]
@@ -116,9 +107,8 @@ fn a_split_unit_is_decided_by_its_first_answer(rt: HostRuntime) {
     ];
     for case in cases {
         let want = (case.map(|(_, want)| want), 0);
-        let calls = case.map(|(call, _)| call);
-        assert_eq!(rt; told_borrowed(rt.alloc(), calls), want);
-        assert_eq!(rt; told_shared(rt.alloc(), calls), want);
+        let told = told_both(rt.alloc(), files(), Way::Held, case.map(|(call, _)| call));
+        assert_eq!(rt; told, [want; 2]);
     }
 }
 
@@ -126,12 +116,9 @@ fn a_split_unit_is_decided_by_its_first_answer(rt: HostRuntime) {
 fn loads_are_listed_in_the_order_of_units(rt: HostRuntime) {
     let calls = [Call::Preload(15), Call::Preload(5)];
     let want = ([first([2, 2, 1]), first([1, 1, 0])], 0);
-    let main = dwarf_of(WAITING_ABBREV, TWO_WAITING_INFO, &LINE_V5);
-    let split = dwarf_of(&[], &[], &[]);
-    assert_eq!(rt; told(rt.alloc(), main, split, calls), want);
-    let main = shared_dwarf_of(WAITING_ABBREV, TWO_WAITING_INFO, &LINE_V5);
-    let split = shared_dwarf_of(&[], &[], &[]);
-    assert_eq!(rt; told(rt.alloc(), main, split, calls), want);
+    let waiting = alone(WAITING_ABBREV, TWO_WAITING_INFO, &LINE_V5);
+    let told = told_both(rt.alloc(), waiting, Way::Held, calls);
+    assert_eq!(rt; told, [want; 2]);
 }
 
 // Calls that ask for memory, and what they give.
@@ -146,11 +133,15 @@ const GROWING: [Call; 6] = [
 
 const GROWN: [Codes; 6] = [DONE, H, SPLIT, DONE, NONE, LINE_3];
 
+fn told(alloc: Global) -> Replies<6> {
+    told_borrowed(alloc, files(), Way::Held, GROWING)
+}
+
 // The answers of a context that is made once more where it was refused.
 fn told_again(alloc: Global) -> [Codes; 6] {
-    let (codes, _) = told_borrowed(alloc, GROWING);
+    let (codes, _) = told(alloc);
     if codes == [REFUSED; 6] {
-        return told_borrowed(alloc, GROWING).0;
+        return told(alloc).0;
     }
     codes
 }
@@ -163,5 +154,5 @@ fn a_refused_growth_leaves_lookups(rt: HostRuntime) {
 
 #[test]
 fn each_growth_of_lookups_is_granted(rt: HostRuntime) {
-    assert_eq!(rt; told_borrowed(rt.alloc(), GROWING), (GROWN, 0));
+    assert_eq!(rt; told(rt.alloc()), (GROWN, 0));
 }

@@ -1,7 +1,8 @@
 //! Lookups of frames where files answer loads.
 
-ghost use Rattle.std.specs.Prelude.{◌≡◌, ◌≢◌, ◌^◌, ◌-◌, ◌<◌, Err, IfErr, Ok, OnErr, OnOk};
+ghost use Rattle.std.specs.Prelude.{◌≡◌, ◌≢◌, ◌<◌, Err, IfErr, Ok, OnErr, OnOk};
 ghost use Rattle.elf.specs.declared.error.LoaderError.TheVariants.{OutOfMemory, PathNotUtf8};
+ghost use Rattle.addr2line_lines.specs.LastAddress.{last_address};
 ghost use Rattle.addr2line_units.specs.declared.frames_lookup.Faults.TheVariants.{End};
 ghost use Rattle.addr2line_units.specs.FramesLookup.{Waits};
 ghost use Rattle.addr2line.specs.Context.{ContextState, IsUncovered};
@@ -62,7 +63,7 @@ pub(crate) fn answer_loads<F: FileSource>(
     ensures refused { IfErr result (IsFaultByFiles (F.files files.now) ctx.old probe) }
     ensures fault { WaitsForNone ctx.old probe
         → IfErr result (λ e. e ≢ OutOfMemory → ended_frames_of ctx.old probe ≡ Err e) }
-    ensures last { probe ≡ 2 ^ 64 - 1 → IsUncovered ctx.old probe }
+    ensures last { probe ≡ last_address → IsUncovered ctx.old probe }
 {
     if !ctx.may_wait(probe) {
         return Ok(());

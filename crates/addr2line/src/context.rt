@@ -1,10 +1,11 @@
 //! Contexts: what lookups are made in.
 
-ghost use Rattle.std.specs.Prelude.{◌≡◌, ◌^◌, ◌-◌, ℕ, None, IfErr, IfOk, IsOk, Ok, OnOk, is_ok, option_map, true};
+ghost use Rattle.std.specs.Prelude.{◌≡◌, ℕ, None, IfErr, IfOk, IsOk, Ok, OnOk, is_ok, option_map, true};
 ghost use Rattle.std.specs.Borrow.{sem};
 ghost use Rattle.gimli_read.specs.declared.error.Error.TheVariants.{OutOfMemory};
 ghost use Rattle.gimli_read.specs.Reading.{Exactly, ExactlyUnlessOom, ExactlyUnlessOomIf};
 ghost use Rattle.gimli.specs.declared.dwarf.DwarfFileType.TheVariants.{Main};
+ghost use Rattle.addr2line_lines.specs.LastAddress.{last_address};
 ghost use Rattle.addr2line_lines.specs.SeenLocation.{seen_location};
 ghost use Rattle.addr2line_units.specs.Indexed.{context_takes_memory};
 ghost use Rattle.addr2line_units.specs.Located.{location_of, spans_of};
@@ -172,7 +173,7 @@ impl<R: Reader> Context<R> {
             (location_of self.old.sections probe) }
         ensures exact { IsReady self.old probe → Exactly (option_map seen_location) result
             (location_of self.old.sections probe) }
-        ensures last { probe ≡ 2 ^ 64 - 1 → result ≡ Ok None }
+        ensures last { probe ≡ last_address → result ≡ Ok None }
         ensures* kept { sem 𝓛 (EndsAs R.row R.Reader self.entry
             (AfterLookup probe result self.old)) }
     {

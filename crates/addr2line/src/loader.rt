@@ -1,6 +1,6 @@
 //! Loaders: contexts of ELF files, with their symbols and their split files.
 
-ghost use Rattle.std.specs.Prelude.{◌≡◌, ◌^◌, ◌-◌, [], IfErr, IfOk, IfSome, IsOk, None, Ok, Option, Some, false, is_some, option_map, true};
+ghost use Rattle.std.specs.Prelude.{◌≡◌, [], IfErr, IfOk, IfSome, IsOk, None, Ok, Option, Some, false, is_some, option_map, true};
 ghost use Rattle.std.specs.Borrow.{sem};
 ghost use Rattle.elf.specs.declared.error.LoaderError.TheVariants.{OutOfMemory};
 ghost use Rattle.gimli_read.specs.Reading.{Exactly};
@@ -8,6 +8,7 @@ ghost use Rattle.elf.specs.Loading.{Loading, LoadsUnlessOom};
 ghost use Rattle.elf.specs.Sections.{section_range_at};
 ghost use Rattle.elf.specs.Symbols.{NamedAddress, named_address, symbol_at};
 ghost use Rattle.gimli.specs.Sections.{Sections, SupSections};
+ghost use Rattle.addr2line_lines.specs.LastAddress.{last_address};
 ghost use Rattle.addr2line_lines.specs.SeenLocation.{seen_location};
 ghost use Rattle.addr2line_units.specs.declared.frames_lookup.Faults.TheVariants.{End};
 ghost use Rattle.addr2line_units.specs.FramesLeft.{frames_left};
@@ -194,7 +195,7 @@ impl<F: FileSource> LoaderOver<F> {
             (of_file (location_of self.old.context.sections probe)) }
         ensures exact { IsReady self.old.context probe → Exactly (option_map seen_location) result
             (of_file (location_of self.old.context.sections probe)) }
-        ensures last { probe ≡ 2 ^ 64 - 1 → result ≡ Ok None }
+        ensures last { probe ≡ last_address → result ≡ Ok None }
         ensures* kept { sem 𝓛 (LoaderEndsAs F.row F.files self.entry
             (AfterLocation probe result (seen_loader F.files self.old))) }
     {
@@ -252,7 +253,7 @@ impl<F: FileSource> LoaderOver<F> {
         ensures exact { WaitsForNone self.old.context probe
             → IsKnownFew End self.old.context probe
             → Exactly frames_left result (ended_frames_of self.old.context probe) }
-        ensures last { probe ≡ 2 ^ 64 - 1 → Exactly frames_left result (Ok []) }
+        ensures last { probe ≡ last_address → Exactly frames_left result (Ok []) }
         ensures* kept { sem 𝓛 (LoaderEndsAs F.row F.files self.entry
             (AfterLoads frames_left probe result (seen_loader F.files self.old))) }
     {

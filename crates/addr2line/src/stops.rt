@@ -1,8 +1,9 @@
 //! What lookups come to, by the number of a unit.
 
-ghost use Rattle.std.specs.Prelude.{◌≡◌, ◌^◌, ◌-◌, IfErr, IfOk, Ok, false};
+ghost use Rattle.std.specs.Prelude.{◌≡◌, IfErr, IfOk, Ok, false};
 ghost use Rattle.gimli_read.specs.declared.error.Error.TheVariants.{OutOfMemory};
 ghost use Rattle.gimli_read.specs.Reading.{ExactlyUnlessOom};
+ghost use Rattle.addr2line_lines.specs.LastAddress.{last_address};
 ghost use Rattle.addr2line_units.specs.declared.frames_lookup.Faults.{Faults};
 ghost use Rattle.addr2line_units.specs.declared.frames_lookup.Faults.TheVariants.{PassOver};
 ghost use Rattle.addr2line_units.specs.FramesLookup.{Waits, is_waiting};
@@ -63,7 +64,7 @@ impl<R: Reader> Context<R> {
     pub(crate) fn may_wait(&self, probe: u64) -> bool
         ensures ends { result ≡ false → (faults : Faults)
             → is_waiting (lookup_stop faults self.now.sections self.now.answers probe) ≡ false }
-        ensures last { probe ≡ 2 ^ 64 - 1 → IsUncovered self.now probe }
+        ensures last { probe ≡ last_address → IsUncovered self.now probe }
     {
         self.units.may_wait(probe)
     }

@@ -16,7 +16,7 @@ use gimli::{EntriesRaw, UnitRef};
 use std::alloc::Global;
 
 /// What the attributes of an entry say of its addresses, the last of each counting.
-#[derive(Clone, Copy, Debug, PartialEq, Eq)]
+#[derive(Clone, Copy)]
 pub struct RangeAttributes {
     /// The first address.
     pub low_pc: Option<u64>,

@@ -18,7 +18,7 @@ use gimli::read::{Attribute, AttributeSpecification, DwAt, Error, Reader, UnitOf
 use gimli::{EntriesRaw, Unit, UnitRef};
 
 /// Where a function was called that is inlined.
-#[derive(Clone, Copy, Debug, PartialEq, Eq)]
+#[derive(Clone, Copy)]
 pub struct CallSite {
     /// The index of the file, if there is one that counts.
     pub file: Option<u64>,

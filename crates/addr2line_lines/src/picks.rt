@@ -13,7 +13,7 @@ use smallvec::SmallVec;
 use std::alloc::Global;
 
 /// A range of an inlined function.
-#[derive(Clone, Copy, Debug, PartialEq, Eq)]
+#[derive(Clone, Copy)]
 pub(crate) struct InlinedFunctionAddress {
     /// The number of inlined entries around the function's entry.
     pub depth: usize,

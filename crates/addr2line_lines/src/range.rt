@@ -17,7 +17,7 @@ use gimli_read::Range;
 use std::marker::Model;
 
 // A row and the end of its span.
-#[derive(Clone, Copy, Debug)]
+#[derive(Clone, Copy)]
 struct LineSpan {
     row: Row,
     end: u64,

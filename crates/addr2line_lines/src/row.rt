@@ -6,7 +6,7 @@ ghost use Rattle.addr2line_lines.specs.Sequences.{stored_row};
 use gimli_line::LineRow;
 
 /// A row of a sequence, as it is stored.
-#[derive(Clone, Copy, Debug, PartialEq, Eq)]
+#[derive(Clone, Copy)]
 pub struct Row {
     /// The address, as the file has it.
     pub address: u64,

@@ -18,7 +18,7 @@ use std::marker::Model;
 use std::snapshot::Snapshot;
 
 /// A range of a function.
-#[derive(Clone, Copy, Debug, PartialEq, Eq)]
+#[derive(Clone, Copy)]
 pub struct FunctionAddress {
     /// The addresses.
     pub range: Range,

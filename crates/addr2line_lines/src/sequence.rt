@@ -18,7 +18,7 @@ use std::alloc::{AllocError, Global};
 use std::marker::Model;
 
 /// The rows up to an end row, of each address one, by address: a place among the unit's rows.
-#[derive(Clone, Copy, Debug, PartialEq, Eq)]
+#[derive(Clone, Copy)]
 pub struct LineSequence {
     /// The address of the first row.
     pub start: u64,

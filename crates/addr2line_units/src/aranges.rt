@@ -13,7 +13,7 @@ use std::marker::Model;
 use std::snapshot::Snapshot;
 
 /// A range of addresses that `.debug_aranges` lists for a unit.
-#[derive(Clone, Copy, Debug)]
+#[derive(Clone, Copy)]
 pub struct UnitArange {
     /// Where the unit begins, in bytes from the start of `.debug_info`.
     pub unit_offset: DebugInfoOffset,

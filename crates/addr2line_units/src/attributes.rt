@@ -10,7 +10,7 @@ use gimli::read::{Attribute, AttributeSpecification, DwAt, DwLang, Error, Reader
 use gimli::{EntriesRaw, UnitRef};
 
 /// What the attributes of a root entry say, the last of each counting.
-#[derive(Clone, Copy, Debug)]
+#[derive(Clone, Copy)]
 pub struct UnitAttributes {
     /// The addresses.
     pub ranges: RangeAttributes,

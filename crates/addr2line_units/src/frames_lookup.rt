@@ -20,7 +20,7 @@ use gimli::read::{Error, Reader};
 use std::alloc::Global;
 
 // Whether a fault of a unit ends a lookup.
-#[derive(Clone, Copy, Debug, PartialEq, Eq)]
+#[derive(Clone, Copy)]
 pub enum Faults {
     End,
     PassOver,

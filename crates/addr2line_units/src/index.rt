@@ -17,7 +17,7 @@ use std::marker::Model;
 use std::snapshot::Snapshot;
 
 /// A range of addresses that leads to a unit.
-#[derive(Clone, Copy, Debug, PartialEq, Eq)]
+#[derive(Clone, Copy)]
 pub struct UnitRange {
     /// The place of the unit in the list of units.
     pub unit: usize,
@@ -26,7 +26,7 @@ pub struct UnitRange {
 }
 
 // A range, and the least begin of it and of all after it.
-#[derive(Clone, Copy, Debug)]
+#[derive(Clone, Copy)]
 pub(crate) struct IndexedRange {
     pub(crate) unit_range: UnitRange,
     pub(crate) least_begin: u64,

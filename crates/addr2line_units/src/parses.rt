@@ -27,7 +27,7 @@ use gimli::{Dwarf, Unit};
 use std::alloc::Global;
 
 /// What is read of each unit.
-#[derive(Clone, Copy, Debug, PartialEq, Eq)]
+#[derive(Clone, Copy)]
 pub enum Reads {
     /// Its functions.
     Functions,

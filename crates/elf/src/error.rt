@@ -1,15 +1,15 @@
 //! Why a file was refused.
 
-ghost use Rattle.std.specs.Prelude.{◌≡◌};
+ghost use Rattle.std.specs.Prelude.{◌≡◌, Some};
 ghost use Rattle.elf.specs.declared.error.LoaderError.TheVariants.{OutOfMemory};
 ghost use Rattle.elf.specs.Text.{loader_text_of, loader_error_of};
 
 use gimli_read::Error;
 use std::alloc::{AllocError, AllocFailed};
+use std::fmt;
 
 /// Why a file, its debug information or a lookup in it was refused.
 #[derive(Clone, Copy, Debug, PartialEq, Eq, thiserror::Error)]
-#[error("{}", self.text())]
 pub enum LoaderError {
     /// The file can't be read.
     Io,
@@ -44,6 +44,14 @@ impl LoaderError {
             LoaderError::Dwarf(error) => error.text(),
             LoaderError::OutOfMemory => "out of memory",
         }
+    }
+}
+
+impl fmt::Display for LoaderError {
+    ghost output = { λ e. Some (loader_text_of e) };
+
+    fn fmt<W: fmt::Write>(&self, f: &mut fmt::Formatter<W>) -> fmt::Result {
+        f.write_str(self.text())
     }
 }
 

@@ -84,6 +84,20 @@ abbrev pub dwo_id_of : Option DwoId → Option ℕ → Option DwoId
 dwo_id_of (Some id) given = Some id
 dwo_id_of None given = option_map (λ (n : ℕ). record { 0 = n }) given
 
+-- the name and the directory that a root entry's values lead to, none where they can't be read
+abbrev pub name_and_directory_of : Sections → Format → ℕ → RootValues
+    → Option Section × Option Section
+name_and_directory_of d format base root =
+    (readable_string d format base root.name, readable_string d format base root.comp_dir)
+
+-- the line program and the low_pc that a root entry's values lead to
+abbrev pub program_and_low_pc_of : Sections → Encoding → ℕ → RootValues
+    → Result (Option Program × ℕ) Error
+program_and_low_pc_of d encoding addr_base root = do
+  program ← line_program_of d encoding root.stmt_list
+  low_pc ← low_pc_of d encoding addr_base root.low_pc
+  Ok (program, low_pc)
+
 -- the unit of a header, whose root entry has these values
 unfoldable pub completed_record : Sections → UnitHeaderFields → List Abbrev → RootValues
     → Result UnitRecord Error
@@ -93,20 +107,19 @@ completed_record d header table root =
     (first_base STR_OFFSETS_HEADER_32 STR_OFFSETS_HEADER_64 d.file_type header.encoding) in
     let addr_base = unwrap_or root.addr_base 0 in
     do
-      program ← line_program_of d header.encoding root.stmt_list
-      low_pc ← low_pc_of d header.encoding addr_base root.low_pc
+      start ← program_and_low_pc_of d header.encoding addr_base root
       Ok (record {
         header = header;
         abbreviations = table;
         name = readable_string d header.encoding.format str_offsets_base root.name;
         comp_dir = readable_string d header.encoding.format str_offsets_base root.comp_dir;
-        low_pc = low_pc;
+        low_pc = start.1;
         str_offsets_base = str_offsets_base;
         addr_base = addr_base;
         rnglists_base = unwrap_or root.rnglists_base
             (first_base RNGLISTS_HEADER_32 RNGLISTS_HEADER_64 d.file_type header.encoding);
         dwo_id = dwo_id_of header.dwo_id root.dwo_id;
-        line_program = program;
+        line_program = start.0;
       })
 
 -- the unit of a header, whose table is read

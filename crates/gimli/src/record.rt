@@ -15,7 +15,7 @@ use gimli_read::{
 use std::marker::Model;
 
 /// A value of the class address (DWARF 5, section 7.5.5).
-#[derive(Clone, Copy, Debug, PartialEq, Eq)]
+#[derive(Clone, Copy)]
 pub enum AddressValue {
     /// The address.
     Address(u64),

@@ -13,7 +13,7 @@ use crate::constants::{
 use gimli_read::{Encoding, EndianSlice, Error, Reader};
 
 /// An entry of a range list, but for the list's end (DWARF 5, section 2.17.3).
-#[derive(Clone, Copy, Debug, PartialEq, Eq)]
+#[derive(Clone, Copy)]
 pub enum RangeListEntry {
     /// The base from here on, by its index in `.debug_addr`.
     BaseAddressx { index: u64 },

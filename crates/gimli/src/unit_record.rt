@@ -1,10 +1,10 @@
 //! Units: headers with what their root entry says.
 
 ghost use Rattle.std.specs.Prelude.{◌≡◌, Ok, is_some, option_map};
-ghost use Rattle.gimli_read.specs.Reading.{Exactly, ExactlyUnlessOomFor, ExactlyUnlessOomIf, IsUnlessOom};
+ghost use Rattle.gimli_read.specs.Reading.{Exactly, ExactlyUnlessOom, ExactlyUnlessOomFor, ExactlyUnlessOomIf, IsUnlessOom};
 ghost use Rattle.gimli_read.specs.Form.{seen_value};
 ghost use Rattle.gimli.specs.Split.{dwo_name_fault, dwo_name_of, relocated};
-ghost use Rattle.gimli.specs.Unit.{first_base, low_pc_of, line_program_of, readable_string, gives_string, dwo_id_of, completed_record, unit_record_of, unit_takes_memory};
+ghost use Rattle.gimli.specs.Unit.{first_base, low_pc_of, line_program_of, name_and_directory_of, program_and_low_pc_of, readable_string, gives_string, dwo_id_of, completed_record, unit_record_of, unit_takes_memory};
 
 use crate::constants::{
     RNGLISTS_HEADER_32, RNGLISTS_HEADER_64, STR_OFFSETS_HEADER_32, STR_OFFSETS_HEADER_64,
@@ -158,6 +158,37 @@ fn dwo_id_of(in_header: Option<DwoId>, given: Option<u64>) -> Option<DwoId>
     }
 }
 
+// The line program, and then the address of low_pc.
+fn read_program_and_low_pc<R: Reader>(
+    alloc: Global,
+    dwarf: &Dwarf<R>,
+    encoding: Encoding,
+    addr_base: u64,
+    root: &RootAttributes<R>,
+) -> Result<(Option<IncompleteLineProgram<R>>, u64), Error>
+    ensures gives { IsUnlessOom result (program_and_low_pc_of dwarf.now encoding addr_base
+        root.now) }
+{
+    let line_program = read_program(alloc, dwarf, encoding, root.stmt_list)?;
+    let low_pc = read_low_pc(dwarf, encoding, addr_base, root.low_pc)?;
+    Ok((line_program, low_pc))
+}
+
+// The name and the directory, none where they can't be read. Refused `OutOfMemory` alone.
+fn read_name_and_directory<R: Reader>(
+    dwarf: &Dwarf<R>,
+    format: Format,
+    base: u64,
+    root: RootAttributes<R>,
+) -> Result<(Option<R>, Option<R>), Error>
+    ensures gives { ExactlyUnlessOom (λ x. (option_map R.section x.0, option_map R.section x.1))
+        result (Ok (name_and_directory_of dwarf.now format base root)) }
+{
+    let name = read_readable_string(dwarf, format, base, root.name)?;
+    let comp_dir = read_readable_string(dwarf, format, base, root.comp_dir)?;
+    Ok((name, comp_dir))
+}
+
 /// The unit of a header, whose root entry has these values.
 #[tactic(auto, unfolding(crate::specs::Unit::completed_record))]
 pub(crate) fn complete<R: Reader>(
@@ -185,11 +216,9 @@ pub(crate) fn complete<R: Reader>(
         file_type,
         encoding,
     ));
-    let line_program = read_program(alloc, dwarf, encoding, root.stmt_list)?;
-    let low_pc = read_low_pc(dwarf, encoding, addr_base, root.low_pc)?;
+    let (line_program, low_pc) = read_program_and_low_pc(alloc, dwarf, encoding, addr_base, &root)?;
     let dwo_id = dwo_id_of(header.dwo_id, root.dwo_id);
-    let name = read_readable_string(dwarf, encoding.format, str_offsets_base, root.name)?;
-    let comp_dir = read_readable_string(dwarf, encoding.format, str_offsets_base, root.comp_dir)?;
+    let (name, comp_dir) = read_name_and_directory(dwarf, encoding.format, str_offsets_base, root)?;
     Ok(Unit {
         header,
         abbreviations,

@@ -1,7 +1,7 @@
 //! The numbers that a line program is run by.
 
 /// What of a header the registers of a program depend on.
-#[derive(Clone, Copy, Debug, PartialEq, Eq)]
+#[derive(Clone, Copy)]
 pub struct LineEncoding {
     /// The number of bytes of an address.
     pub address_size: u8,

@@ -12,7 +12,7 @@ use std::alloc::Global;
 use std::marker::Model;
 
 /// What a value of a table's entries is, and its form.
-#[derive(Clone, Copy, Debug, PartialEq, Eq)]
+#[derive(Clone, Copy)]
 pub struct EntryFormat {
     /// The content type.
     pub content_type: u64,

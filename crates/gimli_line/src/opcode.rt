@@ -12,7 +12,7 @@ use crate::header::{FileEntry, LineProgramHeader};
 use gimli_read::{AttributeValue, EndianSlice, Error, Reader, RunTimeEndian, zero_of};
 
 /// An opcode with its operands (DWARF 5, section 6.2.5).
-#[derive(Clone, Copy, Debug, PartialEq, Eq)]
+#[derive(Clone, Copy)]
 pub enum Opcode {
     /// A special opcode, less the opcode base.
     Special(u8),

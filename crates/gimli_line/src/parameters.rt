@@ -7,7 +7,7 @@ ghost use Rattle.gimli_line.specs.Encoding.{limit};
 use crate::encoding::LineEncoding;
 
 /// What opcodes are run by, prepared so that no special opcode divides.
-#[derive(Clone, Copy, Debug)]
+#[derive(Clone, Copy)]
 pub struct LineParameters {
     /// The numbers of the header.
     pub encoding: LineEncoding,

@@ -14,7 +14,7 @@ use crate::row::LineRow;
 use gimli_read::Error;
 
 /// What the next row of a program shows, but for its end.
-#[derive(Clone, Copy, Debug, PartialEq, Eq)]
+#[derive(Clone, Copy)]
 pub struct Registers {
     /// The address of the instruction.
     pub address: u64,

@@ -45,9 +45,9 @@ info_ref n = values.DebugInfoRef (record { 0 = n })
 abbrev pub info_ref_sup : ℕ → AttributeValue Section
 info_ref_sup n = values.DebugInfoRefSup (record { 0 = n })
 
--- the forms of addresses, blocks, constants, flags, offsets and lists
-abbrev pub plain_forms : List (DwForm × FormEncoding)
-plain_forms =
+-- the forms of addresses
+abbrev pub address_forms : List (DwForm × FormEncoding)
+address_forms =
     (DW_FORM_addr, Address values.Addr)
     ∷ (DW_FORM_addrx, Unsigned values.DebugAddrIndex)
     ∷ (DW_FORM_GNU_addr_index, Unsigned values.DebugAddrIndex)
@@ -55,28 +55,43 @@ plain_forms =
     ∷ (DW_FORM_addrx2, Fixed 2 values.DebugAddrIndex)
     ∷ (DW_FORM_addrx3, Fixed 3 values.DebugAddrIndex)
     ∷ (DW_FORM_addrx4, Fixed 4 values.DebugAddrIndex)
-    ∷ (DW_FORM_block1, Block1 values.Block)
+    ∷ []
+
+-- the forms of blocks and expressions
+abbrev pub block_forms : List (DwForm × FormEncoding)
+block_forms =
+    (DW_FORM_block1, Block1 values.Block)
     ∷ (DW_FORM_block2, Block2 values.Block)
     ∷ (DW_FORM_block4, Block4 values.Block)
     ∷ (DW_FORM_block, Block values.Block)
     ∷ (DW_FORM_exprloc, Block values.Exprloc)
-    ∷ (DW_FORM_data1, Fixed 1 values.Data1)
+    ∷ []
+
+-- the forms of constants
+abbrev pub constant_forms : List (DwForm × FormEncoding)
+constant_forms =
+    (DW_FORM_data1, Fixed 1 values.Data1)
     ∷ (DW_FORM_data2, Fixed 2 values.Data2)
     ∷ (DW_FORM_data4, Fixed 4 values.Data4)
     ∷ (DW_FORM_data8, Fixed 8 values.Data8)
     ∷ (DW_FORM_data16, Fixed 16 values.Data16)
     ∷ (DW_FORM_sdata, Signed values.Sdata)
     ∷ (DW_FORM_udata, Unsigned values.Udata)
-    ∷ (DW_FORM_flag, Fixed 1 flag_of)
+    ∷ []
+
+-- the forms of flags, and of what stands in other sections
+abbrev pub flag_and_list_forms : List (DwForm × FormEncoding)
+flag_and_list_forms =
+    (DW_FORM_flag, Fixed 1 flag_of)
     ∷ (DW_FORM_flag_present, Empty (values.Flag true))
     ∷ (DW_FORM_sec_offset, Offset values.SecOffset)
     ∷ (DW_FORM_loclistx, Unsigned values.DebugLocListsIndex)
     ∷ (DW_FORM_rnglistx, Unsigned values.DebugRngListsIndex)
     ∷ []
 
--- the forms of strings and of references
-abbrev pub reference_forms : List (DwForm × FormEncoding)
-reference_forms =
+-- the forms of strings
+abbrev pub string_forms : List (DwForm × FormEncoding)
+string_forms =
     (DW_FORM_string, Text values.String)
     ∷ (DW_FORM_strp, Offset values.DebugStrRef)
     ∷ (DW_FORM_line_strp, Offset values.DebugLineStrRef)
@@ -88,7 +103,12 @@ reference_forms =
     ∷ (DW_FORM_strx2, Fixed 2 values.DebugStrOffsetsIndex)
     ∷ (DW_FORM_strx3, Fixed 3 values.DebugStrOffsetsIndex)
     ∷ (DW_FORM_strx4, Fixed 4 values.DebugStrOffsetsIndex)
-    ∷ (DW_FORM_ref1, Fixed 1 unit_ref)
+    ∷ []
+
+-- the forms of references
+abbrev pub reference_forms : List (DwForm × FormEncoding)
+reference_forms =
+    (DW_FORM_ref1, Fixed 1 unit_ref)
     ∷ (DW_FORM_ref2, Fixed 2 unit_ref)
     ∷ (DW_FORM_ref4, Fixed 4 unit_ref)
     ∷ (DW_FORM_ref8, Fixed 8 unit_ref)
@@ -100,6 +120,22 @@ reference_forms =
     ∷ (DW_FORM_ref_sig8, Fixed 8 values.DebugTypesRef)
     ∷ []
 
+-- the forms from those of strings on
+abbrev pub forms_from_strings : List (DwForm × FormEncoding)
+forms_from_strings = string_forms ++ reference_forms
+
+-- the forms from those of flags on
+abbrev pub forms_from_flags : List (DwForm × FormEncoding)
+forms_from_flags = flag_and_list_forms ++ forms_from_strings
+
+-- the forms from those of constants on
+abbrev pub forms_from_constants : List (DwForm × FormEncoding)
+forms_from_constants = constant_forms ++ forms_from_flags
+
+-- the forms from those of blocks on
+abbrev pub forms_from_blocks : List (DwForm × FormEncoding)
+forms_from_blocks = block_forms ++ forms_from_constants
+
 -- what a table of forms has for a form
 abbrev pub form_in : List (DwForm × FormEncoding) → ℕ → Option FormEncoding
 form_in [] form = None
@@ -107,7 +143,7 @@ form_in (f ∷ table) form = if form == f.0.0 then Some f.1 else form_in table f
 
 -- how the value of a form is encoded, if the form is listed
 unfoldable pub form_encoding_of : ℕ → Option FormEncoding
-form_encoding_of form = form_in (plain_forms ++ reference_forms) form
+form_encoding_of form = form_in (address_forms ++ forms_from_blocks) form
 
 -- a length, and as many bytes
 abbrev pub block_at : Reading ℕ → Reading Section

@@ -1,14 +1,14 @@
 //! Why a reading was refused.
 
-ghost use Rattle.std.specs.Prelude.{◌≡◌};
+ghost use Rattle.std.specs.Prelude.{◌≡◌, Some};
 ghost use Rattle.gimli_read.specs.declared.error.Error.TheVariants.{OutOfMemory};
 ghost use Rattle.gimli_read.specs.Text.{text_of};
 
 use std::alloc::{AllocError, AllocFailed};
+use std::fmt;
 
 /// Why a reading of DWARF bytes, or a lookup, was refused.
 #[derive(Clone, Copy, Debug, PartialEq, Eq, thiserror::Error)]
-#[error("{}", self.text())]
 pub enum Error {
     /// A refused growth. Each call says where it may stand in place of its answer.
     OutOfMemory,
@@ -79,6 +79,14 @@ impl Error {
             Error::AddressOverflow => "address overflow",
             Error::UnknownToken => "unknown unit token",
         }
+    }
+}
+
+impl fmt::Display for Error {
+    ghost output = { λ e. Some (text_of e) };
+
+    fn fmt<W: fmt::Write>(&self, f: &mut fmt::Formatter<W>) -> fmt::Result {
+        f.write_str(self.text())
     }
 }
 

@@ -9,7 +9,7 @@ use crate::constants::DwForm;
 use crate::endian::{Encoding, Format};
 
 /// What says how many bytes a value has (DWARF 5, section 7.5.6).
-#[derive(Clone, Copy, Debug, PartialEq, Eq)]
+#[derive(Clone, Copy)]
 pub enum ValueSize {
     /// The form: so many in every unit.
     Bytes(u8),
@@ -135,7 +135,7 @@ pub(crate) fn is_usual(encoding: Encoding) -> bool
 }
 
 // The bytes, addresses and offsets of values.
-#[derive(Clone, Copy, Debug, PartialEq, Eq)]
+#[derive(Clone, Copy)]
 struct CountedSize {
     // The bytes of the values that have as many in every unit.
     bytes: u32,
@@ -186,7 +186,7 @@ impl CountedSize {
 }
 
 /// How many bytes the values of an entry have together, where the forms alone say so.
-#[derive(Clone, Copy, Debug, PartialEq, Eq)]
+#[derive(Clone, Copy)]
 pub struct TotalSize {
     // In a usual unit, so that nothing has to be counted there.
     usual: u32,

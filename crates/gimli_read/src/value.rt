@@ -4,7 +4,7 @@ ghost use Rattle.std.specs.Prelude.{◌≡◌, OnErr};
 ghost use Rattle.gimli_read.specs.Reading.{Exactly, Reads, ReadsUnlessOomFor};
 ghost use Rattle.gimli_read.specs.HeldBytes.{gives_attribute_bytes, ReadsValueUnlessOom};
 ghost use Rattle.gimli_read.specs.Number.{fixed_at};
-ghost use Rattle.gimli_read.specs.FormEncoding.{address_or_offset_at, reference_forms, form_in, encoded_at};
+ghost use Rattle.gimli_read.specs.FormEncoding.{address_or_offset_at, forms_from_blocks, forms_from_constants, forms_from_flags, forms_from_strings, reference_forms, form_in, encoded_at};
 ghost use Rattle.gimli_read.specs.Form.{seen_value, direct_at, form_at, value_at, attribute_at, constant_of};
 
 use crate::abbrev::AttributeSpecification;
@@ -139,7 +139,7 @@ fn read_ref_addr<R: Reader>(input: &mut R, encoding: Encoding) -> Result<u64, Er
     }
 }
 
-// A string, or a reference of any kind.
+// A reference of any kind.
 fn read_reference<R: Reader>(
     input: &mut R,
     encoding: Encoding,
@@ -147,6 +147,44 @@ fn read_reference<R: Reader>(
 ) -> Result<AttributeValue<R>, Error>
     ensures gives { ReadsValueUnlessOom R.shares R.section input.old input.new result
         (encoded_at encoding (form_in reference_forms form.0)) }
+{
+    match form {
+        DwForm::DW_FORM_ref1 => Ok(AttributeValue::UnitRef(UnitOffset(u64::from(
+            input.read_u8()?,
+        )))),
+        DwForm::DW_FORM_ref2 => {
+            Ok(AttributeValue::UnitRef(UnitOffset(u64::from(input.read_u16()?))))
+        }
+        DwForm::DW_FORM_ref4 => {
+            Ok(AttributeValue::UnitRef(UnitOffset(u64::from(input.read_u32()?))))
+        }
+        DwForm::DW_FORM_ref8 => Ok(AttributeValue::UnitRef(UnitOffset(input.read_u64()?))),
+        DwForm::DW_FORM_ref_udata => Ok(AttributeValue::UnitRef(UnitOffset(input.read_uleb128()?))),
+        DwForm::DW_FORM_ref_addr => {
+            Ok(AttributeValue::DebugInfoRef(DebugInfoOffset(read_ref_addr(input, encoding)?)))
+        }
+        DwForm::DW_FORM_ref_sup4 => {
+            Ok(AttributeValue::DebugInfoRefSup(DebugInfoOffset(u64::from(input.read_u32()?))))
+        }
+        DwForm::DW_FORM_ref_sup8 => {
+            Ok(AttributeValue::DebugInfoRefSup(DebugInfoOffset(input.read_u64()?)))
+        }
+        DwForm::DW_FORM_GNU_ref_alt => Ok(AttributeValue::DebugInfoRefSup(DebugInfoOffset(
+            input.read_offset(encoding.format)?,
+        ))),
+        DwForm::DW_FORM_ref_sig8 => Ok(AttributeValue::DebugTypesRef(input.read_u64()?)),
+        _ => Err(Error::UnknownForm),
+    }
+}
+
+// A value of a form from those of strings on: a string, or a reference.
+fn read_from_strings<R: Reader>(
+    input: &mut R,
+    encoding: Encoding,
+    form: DwForm,
+) -> Result<AttributeValue<R>, Error>
+    ensures gives { ReadsValueUnlessOom R.shares R.section input.old input.new result
+        (encoded_at encoding (form_in forms_from_strings form.0)) }
 {
     match form {
         DwForm::DW_FORM_string => Ok(AttributeValue::String(input.read_null_terminated()?)),
@@ -178,54 +216,62 @@ fn read_reference<R: Reader>(
         DwForm::DW_FORM_strx4 => {
             Ok(AttributeValue::DebugStrOffsetsIndex(u64::from(input.read_u32()?)))
         }
-        DwForm::DW_FORM_ref1 => Ok(AttributeValue::UnitRef(UnitOffset(u64::from(
-            input.read_u8()?,
-        )))),
-        DwForm::DW_FORM_ref2 => {
-            Ok(AttributeValue::UnitRef(UnitOffset(u64::from(input.read_u16()?))))
-        }
-        DwForm::DW_FORM_ref4 => {
-            Ok(AttributeValue::UnitRef(UnitOffset(u64::from(input.read_u32()?))))
-        }
-        DwForm::DW_FORM_ref8 => Ok(AttributeValue::UnitRef(UnitOffset(input.read_u64()?))),
-        DwForm::DW_FORM_ref_udata => Ok(AttributeValue::UnitRef(UnitOffset(input.read_uleb128()?))),
-        DwForm::DW_FORM_ref_addr => {
-            Ok(AttributeValue::DebugInfoRef(DebugInfoOffset(read_ref_addr(input, encoding)?)))
-        }
-        DwForm::DW_FORM_ref_sup4 => {
-            Ok(AttributeValue::DebugInfoRefSup(DebugInfoOffset(u64::from(input.read_u32()?))))
-        }
-        DwForm::DW_FORM_ref_sup8 => {
-            Ok(AttributeValue::DebugInfoRefSup(DebugInfoOffset(input.read_u64()?)))
-        }
-        DwForm::DW_FORM_GNU_ref_alt => Ok(AttributeValue::DebugInfoRefSup(DebugInfoOffset(
-            input.read_offset(encoding.format)?,
-        ))),
-        DwForm::DW_FORM_ref_sig8 => Ok(AttributeValue::DebugTypesRef(input.read_u64()?)),
-        _ => Err(Error::UnknownForm),
+        _ => read_reference(input, encoding, form),
     }
 }
 
-// A value of a form other than indirect and implicit_const.
-#[tactic(auto, unfolding(crate::specs::FormEncoding::form_encoding_of))]
-fn read_direct<R: Reader>(
+// A value of a form from those of flags on: a flag, an offset, or the index of a list.
+fn read_from_flags<R: Reader>(
     input: &mut R,
     encoding: Encoding,
     form: DwForm,
 ) -> Result<AttributeValue<R>, Error>
     ensures gives { ReadsValueUnlessOom R.shares R.section input.old input.new result
-        (direct_at encoding form.0) }
+        (encoded_at encoding (form_in forms_from_flags form.0)) }
 {
     match form {
-        DwForm::DW_FORM_addr => Ok(AttributeValue::Addr(input.read_address(
-            encoding.address_size,
-        )?)),
-        DwForm::DW_FORM_addrx => Ok(AttributeValue::DebugAddrIndex(input.read_uleb128()?)),
-        DwForm::DW_FORM_GNU_addr_index => Ok(AttributeValue::DebugAddrIndex(input.read_uleb128()?)),
-        DwForm::DW_FORM_addrx1 => Ok(AttributeValue::DebugAddrIndex(u64::from(input.read_u8()?))),
-        DwForm::DW_FORM_addrx2 => Ok(AttributeValue::DebugAddrIndex(u64::from(input.read_u16()?))),
-        DwForm::DW_FORM_addrx3 => Ok(AttributeValue::DebugAddrIndex(u64::from(read_u24(input)?))),
-        DwForm::DW_FORM_addrx4 => Ok(AttributeValue::DebugAddrIndex(u64::from(input.read_u32()?))),
+        DwForm::DW_FORM_flag => Ok(AttributeValue::Flag(input.read_u8()? != 0)),
+        DwForm::DW_FORM_flag_present => Ok(AttributeValue::Flag(true)),
+        DwForm::DW_FORM_sec_offset => {
+            Ok(AttributeValue::SecOffset(input.read_offset(encoding.format)?))
+        }
+        DwForm::DW_FORM_loclistx => Ok(AttributeValue::DebugLocListsIndex(input.read_uleb128()?)),
+        DwForm::DW_FORM_rnglistx => Ok(AttributeValue::DebugRngListsIndex(input.read_uleb128()?)),
+        _ => read_from_strings(input, encoding, form),
+    }
+}
+
+// A value of a form from those of constants on.
+fn read_from_constants<R: Reader>(
+    input: &mut R,
+    encoding: Encoding,
+    form: DwForm,
+) -> Result<AttributeValue<R>, Error>
+    ensures gives { ReadsValueUnlessOom R.shares R.section input.old input.new result
+        (encoded_at encoding (form_in forms_from_constants form.0)) }
+{
+    match form {
+        DwForm::DW_FORM_data1 => Ok(AttributeValue::Data1(input.read_u8()?)),
+        DwForm::DW_FORM_data2 => Ok(AttributeValue::Data2(input.read_u16()?)),
+        DwForm::DW_FORM_data4 => Ok(AttributeValue::Data4(input.read_u32()?)),
+        DwForm::DW_FORM_data8 => Ok(AttributeValue::Data8(input.read_u64()?)),
+        DwForm::DW_FORM_data16 => Ok(AttributeValue::Data16(read_u128(input)?)),
+        DwForm::DW_FORM_sdata => Ok(AttributeValue::Sdata(input.read_sleb128()?)),
+        DwForm::DW_FORM_udata => Ok(AttributeValue::Udata(input.read_uleb128()?)),
+        _ => read_from_flags(input, encoding, form),
+    }
+}
+
+// A value of a form from those of blocks on: a block, or an expression.
+fn read_from_blocks<R: Reader>(
+    input: &mut R,
+    encoding: Encoding,
+    form: DwForm,
+) -> Result<AttributeValue<R>, Error>
+    ensures gives { ReadsValueUnlessOom R.shares R.section input.old input.new result
+        (encoded_at encoding (form_in forms_from_blocks form.0)) }
+{
+    match form {
         DwForm::DW_FORM_block1 => {
             let len = u64::from(input.read_u8()?);
             Ok(AttributeValue::Block(input.split(len)?))
@@ -246,21 +292,32 @@ fn read_direct<R: Reader>(
             let len = input.read_uleb128()?;
             Ok(AttributeValue::Exprloc(input.split(len)?))
         }
-        DwForm::DW_FORM_data1 => Ok(AttributeValue::Data1(input.read_u8()?)),
-        DwForm::DW_FORM_data2 => Ok(AttributeValue::Data2(input.read_u16()?)),
-        DwForm::DW_FORM_data4 => Ok(AttributeValue::Data4(input.read_u32()?)),
-        DwForm::DW_FORM_data8 => Ok(AttributeValue::Data8(input.read_u64()?)),
-        DwForm::DW_FORM_data16 => Ok(AttributeValue::Data16(read_u128(input)?)),
-        DwForm::DW_FORM_sdata => Ok(AttributeValue::Sdata(input.read_sleb128()?)),
-        DwForm::DW_FORM_udata => Ok(AttributeValue::Udata(input.read_uleb128()?)),
-        DwForm::DW_FORM_flag => Ok(AttributeValue::Flag(input.read_u8()? != 0)),
-        DwForm::DW_FORM_flag_present => Ok(AttributeValue::Flag(true)),
-        DwForm::DW_FORM_sec_offset => {
-            Ok(AttributeValue::SecOffset(input.read_offset(encoding.format)?))
-        }
-        DwForm::DW_FORM_loclistx => Ok(AttributeValue::DebugLocListsIndex(input.read_uleb128()?)),
-        DwForm::DW_FORM_rnglistx => Ok(AttributeValue::DebugRngListsIndex(input.read_uleb128()?)),
-        _ => read_reference(input, encoding, form),
+        _ => read_from_constants(input, encoding, form),
+    }
+}
+
+// A value of a form other than indirect and implicit_const. The classes of forms have a function
+// each, since the proof of one match grows faster than its arms.
+#[tactic(auto, unfolding(crate::specs::FormEncoding::form_encoding_of))]
+fn read_direct<R: Reader>(
+    input: &mut R,
+    encoding: Encoding,
+    form: DwForm,
+) -> Result<AttributeValue<R>, Error>
+    ensures gives { ReadsValueUnlessOom R.shares R.section input.old input.new result
+        (direct_at encoding form.0) }
+{
+    match form {
+        DwForm::DW_FORM_addr => Ok(AttributeValue::Addr(input.read_address(
+            encoding.address_size,
+        )?)),
+        DwForm::DW_FORM_addrx => Ok(AttributeValue::DebugAddrIndex(input.read_uleb128()?)),
+        DwForm::DW_FORM_GNU_addr_index => Ok(AttributeValue::DebugAddrIndex(input.read_uleb128()?)),
+        DwForm::DW_FORM_addrx1 => Ok(AttributeValue::DebugAddrIndex(u64::from(input.read_u8()?))),
+        DwForm::DW_FORM_addrx2 => Ok(AttributeValue::DebugAddrIndex(u64::from(input.read_u16()?))),
+        DwForm::DW_FORM_addrx3 => Ok(AttributeValue::DebugAddrIndex(u64::from(read_u24(input)?))),
+        DwForm::DW_FORM_addrx4 => Ok(AttributeValue::DebugAddrIndex(u64::from(input.read_u32()?))),
+        _ => read_from_blocks(input, encoding, form),
     }
 }
 

@@ -11,7 +11,7 @@ use Rattle.gimli.specs.Header.{UnitHeaderFields}
 use Rattle.gimli.specs.HeaderOrder.{AreHeadersInOrder, BeginFrom}
 use Rattle.gimli.specs.Record.{RootValues, root_values_of}
 use Rattle.gimli.specs.Sections.{Sections}
-use Rattle.gimli.specs.Unit.{UnitRecord, completed_record, line_program_of, low_pc_of, table_from, unit_by, unit_record_of}
+use Rattle.gimli.specs.Unit.{UnitRecord, completed_record, program_and_low_pc_of, table_from, unit_by, unit_record_of}
 use Rattle.addr2line_lines.specs.References.{AreInOrder, IsBefore}
 use Rattle.addr2line_lines.specs.Rows.{read_all, result_map}
 
@@ -29,8 +29,7 @@ header_is {h} {v} e = record { by = λ u p. let same : ◌≡◌ {A = UnitRecord
 completed_header : (d : Sections) (h : UnitHeaderFields) (table : List Abbrev) (root : RootValues) → HasHeader h (completed_record d h table root)
 unfolding completed_record
 completed_header d h table root =
-    header_then (line_program_of d h.encoding root.stmt_list) (λ program.
-    header_then (low_pc_of d h.encoding (unwrap_or root.addr_base 0) root.low_pc) (λ low_pc. header_is refl))
+    header_then (program_and_low_pc_of d h.encoding (unwrap_or root.addr_base 0) root) (λ start. header_is refl)
 
 -- the unit of a header has it
 pub record_header : (d : Sections) (h : UnitHeaderFields) (u : UnitRecord) → unit_record_of d h ≡ Ok u → u.header ≡ h

@@ -12,6 +12,7 @@ pub mod SubtreeLemmas
 pub mod UnitTexts
 pub mod RecordLemmas
 pub mod StringLemmas
+pub mod StringPlaces
 pub mod UnitLemmas
 pub mod CachedTableLemmas
 pub mod HeaderOrder

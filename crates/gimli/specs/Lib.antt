@@ -2,6 +2,7 @@ pub mod Header
 pub mod UnitsLeft
 pub mod Sections
 pub mod Text
+pub mod StringPlaces
 pub mod Entry
 pub mod Record
 pub mod Unit

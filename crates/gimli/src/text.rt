@@ -1,11 +1,12 @@
 //! Strings and addresses by offset and by index (DWARF 5, sections 7.26 and 7.27).
 
-ghost use Rattle.std.specs.Prelude.{◌≡◌, is_ok};
+ghost use Rattle.std.specs.Prelude.{◌≡◌, is_ok, option_map};
 ghost use Rattle.gimli_read.specs.Reading.{Exactly, ExactlyUnlessOomFor};
 ghost use Rattle.gimli_read.specs.Form.{seen_value};
 ghost use Rattle.gimli.specs.Unit.{attr_string_of};
 ghost use Rattle.gimli_line.specs.Opcode.{fault_of};
-ghost use Rattle.gimli.specs.Text.{from_offset, string_at, string_length_at, indexed_number, indexed_string, sup_string_at, string_of, string_takes_memory};
+ghost use Rattle.gimli.specs.StringPlaces.{held_string, string_place_of, sup_strings};
+ghost use Rattle.gimli.specs.Text.{from_offset, string_at, string_length_at, indexed_number, string_of, string_takes_memory};
 
 use crate::dwarf::Dwarf;
 use crate::unit_record::Unit;
@@ -84,29 +85,55 @@ pub(crate) fn read_indexed_number<R: Reader>(
     EndianSlice::new(&bytes[offset as usize..], section.endian()).read_address(size)
 }
 
-// A string by its index.
-fn read_indexed_string<R: Reader>(
-    dwarf: &Dwarf<R>,
-    format: Format,
-    base: u64,
-    index: u64,
-) -> Result<R, Error>
-    ensures gives { ExactlyUnlessOomFor R.shares is_ok R.section result
-        (indexed_string dwarf.now format base index) }
-{
-    let size = format.word_size();
-    let offset = read_indexed_number(&dwarf.debug_str_offsets.section, size, base, index)?;
-    read_string_at(&dwarf.debug_str.section, offset)
+// Where a string begins: a section, and an offset in it.
+struct StringPlace<'a, R: Reader> {
+    section: &'a R,
+    offset: u64,
 }
 
-// The string at an offset of the supplementary file's strings.
-fn read_sup_string<R: Reader>(dwarf: &Dwarf<R>, offset: u64) -> Result<R, Error>
-    ensures gives { ExactlyUnlessOomFor R.shares is_ok R.section result
-        (sup_string_at offset dwarf.now.sup) }
+// The strings of the supplementary file.
+fn sup_strings<R: Reader>(dwarf: &Dwarf<R>) -> Result<&R, Error>
+    ensures gives { Exactly (λ s. R.section s.now) result (sup_strings dwarf.now.sup) }
 {
     match &dwarf.sup {
-        Some(sup) => read_string_at(&sup.debug_str.section, offset),
+        Some(sup) => Ok(&sup.debug_str.section),
         None => Err(Error::NoSupplementary),
+    }
+}
+
+// Where the string of a value begins, none where the value holds it. Takes no memory.
+#[tactic(auto, unfolding(crate::specs::StringPlaces::string_place_of))]
+fn string_place<'a, R: Reader, S: Reader>(
+    dwarf: &'a Dwarf<R>,
+    format: Format,
+    base: u64,
+    value: &AttributeValue<S>,
+) -> Result<Option<StringPlace<'a, R>>, Error>
+    ensures gives { Exactly (option_map (λ p. (R.section p.section.now, p.offset))) result
+        (string_place_of dwarf.now format base (seen_value S.section value.now)) }
+{
+    let (section, offset) = match value {
+        AttributeValue::String(_) => return Ok(None),
+        AttributeValue::DebugStrRef(offset) => (&dwarf.debug_str.section, *offset),
+        AttributeValue::DebugLineStrRef(offset) => (&dwarf.debug_line_str.section, *offset),
+        AttributeValue::DebugStrRefSup(offset) => (sup_strings(dwarf)?, *offset),
+        AttributeValue::DebugStrOffsetsIndex(index) => {
+            let offsets = &dwarf.debug_str_offsets.section;
+            let offset = read_indexed_number(offsets, format.word_size(), base, *index)?;
+            (&dwarf.debug_str.section, offset)
+        }
+        _ => return Err(Error::ExpectedString),
+    };
+    Ok(Some(StringPlace { section, offset }))
+}
+
+// The string that a value holds, without a section.
+fn held_string<R: Reader>(value: AttributeValue<R>) -> Result<R, Error>
+    ensures gives { Exactly R.section result (held_string (seen_value R.section value)) }
+{
+    match value {
+        AttributeValue::String(string) => Ok(string),
+        _ => Err(Error::ExpectedString),
     }
 }
 
@@ -117,7 +144,7 @@ fn read_sup_string<R: Reader>(dwarf: &Dwarf<R>, offset: u64) -> Result<R, Error>
 /// where no zero byte ends it, and `NoSupplementary` for a string of a supplementary file that
 /// isn't there; else `OutOfMemory` where bytes are shared and the value doesn't hold the string
 /// itself.
-#[tactic(auto, unfolding(crate::specs::Text::string_of))]
+#[tactic(auto, using(crate::proofs::StringPlaces::string_there, crate::proofs::StringPlaces::string_held, crate::proofs::StringPlaces::string_unplaced, crate::proofs::StringPlaces::there_takes))]
 pub(crate) fn read_string<R: Reader>(
     dwarf: &Dwarf<R>,
     format: Format,
@@ -128,17 +155,9 @@ pub(crate) fn read_string<R: Reader>(
         (string_takes_memory R.shares (seen_value R.section value)) is_ok R.section result
         (string_of dwarf.now format base (seen_value R.section value)) }
 {
-    match value {
-        AttributeValue::String(string) => Ok(string),
-        AttributeValue::DebugStrRef(offset) => read_string_at(&dwarf.debug_str.section, offset),
-        AttributeValue::DebugLineStrRef(offset) => {
-            read_string_at(&dwarf.debug_line_str.section, offset)
-        }
-        AttributeValue::DebugStrRefSup(offset) => read_sup_string(dwarf, offset),
-        AttributeValue::DebugStrOffsetsIndex(index) => {
-            read_indexed_string(dwarf, format, base, index)
-        }
-        _ => Err(Error::ExpectedString),
+    match string_place(dwarf, format, base, &value)? {
+        Some(StringPlace { section, offset }) => read_string_at(section, offset),
+        None => held_string(value),
     }
 }
 
@@ -151,33 +170,8 @@ fn check_string_at<R: Reader>(section: &R, offset: u64) -> Result<(), Error>
     Ok(())
 }
 
-// Refused as the string of an index is. Takes no memory.
-fn check_indexed_string<R: Reader>(
-    dwarf: &Dwarf<R>,
-    format: Format,
-    base: u64,
-    index: u64,
-) -> Result<(), Error>
-    ensures gives { Exactly (λ x. x) result
-        (fault_of (indexed_string dwarf.now format base index)) }
-{
-    let size = format.word_size();
-    let offset = read_indexed_number(&dwarf.debug_str_offsets.section, size, base, index)?;
-    check_string_at(&dwarf.debug_str.section, offset)
-}
-
-// Refused as the string at an offset of the supplementary file's strings is. Takes no memory.
-fn check_sup_string<R: Reader>(dwarf: &Dwarf<R>, offset: u64) -> Result<(), Error>
-    ensures gives { Exactly (λ x. x) result (fault_of (sup_string_at offset dwarf.now.sup)) }
-{
-    match &dwarf.sup {
-        Some(sup) => check_string_at(&sup.debug_str.section, offset),
-        None => Err(Error::NoSupplementary),
-    }
-}
-
 /// Refused as the string that a value stands for is (`read_string`), but that it takes no memory.
-#[tactic(auto, unfolding(crate::specs::Text::string_of))]
+#[tactic(auto, using(crate::proofs::StringPlaces::string_there, crate::proofs::StringPlaces::held_well, crate::proofs::StringPlaces::fault_unplaced))]
 pub(crate) fn check_string<R: Reader, S: Reader>(
     dwarf: &Dwarf<R>,
     format: Format,
@@ -187,17 +181,9 @@ pub(crate) fn check_string<R: Reader, S: Reader>(
     ensures gives { Exactly (λ x. x) result (fault_of (string_of dwarf.now format base
         (seen_value S.section value))) }
 {
-    match value {
-        AttributeValue::String(_) => Ok(()),
-        AttributeValue::DebugStrRef(offset) => check_string_at(&dwarf.debug_str.section, offset),
-        AttributeValue::DebugLineStrRef(offset) => {
-            check_string_at(&dwarf.debug_line_str.section, offset)
-        }
-        AttributeValue::DebugStrRefSup(offset) => check_sup_string(dwarf, offset),
-        AttributeValue::DebugStrOffsetsIndex(index) => {
-            check_indexed_string(dwarf, format, base, index)
-        }
-        _ => Err(Error::ExpectedString),
+    match string_place(dwarf, format, base, &value)? {
+        Some(StringPlace { section, offset }) => check_string_at(section, offset),
+        None => Ok(()),
     }
 }
 

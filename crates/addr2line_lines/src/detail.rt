@@ -188,7 +188,6 @@ fn read_function<R: Reader>(
 }
 
 // Reads the name of the function whose entry begins at an offset, and adds its inlined entries.
-#[tactic(auto, unfolding(crate::specs::FoundDetails::detail_found_at, crate::specs::FoundDetails::detail_takes_at), using(crate::proofs::NestingLemmas::found_same, crate::proofs::NestingLemmas::found_on))]
 pub(crate) fn read_detail<R: Reader>(
     scope: Scope<'_, R>,
     unit: &Unit<R>,

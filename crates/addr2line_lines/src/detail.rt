@@ -66,7 +66,6 @@ fn read_name<R: Reader>(
 
 // Adds the inlined entry whose attributes follow, if it is in no nested subprogram; passes over
 // the attributes of any other entry.
-#[tactic(auto, using(crate::proofs::NestingLemmas::found_same, crate::proofs::NestingLemmas::found_on))]
 fn read_entry<R: Reader>(
     scope: Scope<'_, R>,
     unit: &Unit<R>,
@@ -98,7 +97,6 @@ fn read_entry<R: Reader>(
 }
 
 // Reads the next item inside a function, and adds its inlined entry, if it is one.
-#[tactic(auto, using(crate::proofs::NestingLemmas::found_same, crate::proofs::NestingLemmas::found_on))]
 fn read_item<R: Reader>(
     scope: Scope<'_, R>,
     unit: &Unit<R>,

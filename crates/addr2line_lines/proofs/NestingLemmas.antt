@@ -54,6 +54,11 @@ pub entered : {X Y : Type 0} (may opens : Bool) (r : Result (Unit {0}) Error) (f
 entered may opens (Ok z) f x y whole t h k m = h ∙ ap (λ v. Ok (f v)) (sym k)
 entered may opens (Err e) f x y whole t h k m = λ ne. absurd (ne (t m.1) (let same : ◌≡◌ {A = Result (Unit {0}) Error} (Err e) (Err OutOfMemory) = m.0 in cc))
 
+-- one more entry is open
+pub opened_more : (kinds more : List Kind) (kind : Kind) (has_children : Bool) (around : List Kind) → has_children ≡ true → more ≡ kinds ++ kind ∷ [] → reverse kinds ≡ around → reverse more ≡ opened kind has_children around
+opened_more kinds more kind has_children around b h k =
+    ap reverse h ∙ reverse-append kinds (kind ∷ []) ∙ ap (λ xs. kind ∷ xs) k ∙ sym (ap (λ c. opened kind c around) b)
+
 -- the items inside a function, one at a time
 module _ (scope : Scope) (u : UnitRecord) (unit : EntryUnit) where
   abbrev pub item_read : FoundAround → Result (Option Item × EntryCursor) Error → Result (FoundAround × EntryCursor) Error

@@ -56,8 +56,7 @@ entered may opens (Err e) f x y whole t h k m = λ ne. absurd (ne (t m.1) (let s
 
 -- one more entry is open
 pub opened_more : (kinds more : List Kind) (kind : Kind) (has_children : Bool) (around : List Kind) → has_children ≡ true → more ≡ kinds ++ kind ∷ [] → reverse kinds ≡ around → reverse more ≡ opened kind has_children around
-opened_more kinds more kind has_children around b h k =
-    ap reverse h ∙ reverse-append kinds (kind ∷ []) ∙ ap (λ xs. kind ∷ xs) k ∙ sym (ap (λ c. opened kind c around) b)
+opened_more kinds more kind has_children around b h k = ap reverse h ∙ reverse-append kinds (kind ∷ []) ∙ ap (λ xs. kind ∷ xs) k ∙ sym (ap (λ c. opened kind c around) b)
 
 -- the items inside a function, one at a time
 module _ (scope : Scope) (u : UnitRecord) (unit : EntryUnit) where

@@ -1,4 +1,4 @@
-use Rattle.std.proofs.Common.{◌≡◌, ℕ, ◌+◌, ◌*◌, ◌<◌, List, [], ◌∷◌, ◌++◌, get_or, length, slice_index, ap, sym, subst, ◌∙◌}
+use Rattle.std.proofs.Common.{◌≡◌, ℕ, ◌+◌, ◌*◌, ◌<◌, List, [], ◌∷◌, ◌++◌, length, slice_index, ap, sym, subst, ◌∙◌}
 use Rattle.std.proofs.lemmas.List.{get_or_append_left, get_or_push, length_push}
 use borrow.Author.Count.{below_more}
 use Rattle.addr2line_lines.specs.Packed.{row_address_at}

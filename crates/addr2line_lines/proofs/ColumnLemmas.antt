@@ -46,6 +46,10 @@ rows_from-take (suc n) (x ∷ xs) (y ∷ fs) [] cs = refl
 rows_from-take (suc n) (x ∷ xs) (y ∷ fs) (z ∷ ls) [] = refl
 rows_from-take (suc n) (x ∷ xs) (y ∷ fs) (z ∷ ls) (w ∷ cs) = ap (λ rs. row_of x y z w ∷ rs) (rows_from-take n xs fs ls cs)
 
+-- the same columns show the same rows
+pub same_rows : (ys gs ms ds xs fs ls cs : List ℕ) → ys ≡ xs → gs ≡ fs → ms ≡ ls → ds ≡ cs → rows_of_columns ys gs ms ds ≡ rows_of_columns xs fs ls cs
+same_rows ys gs ms ds xs fs ls cs a f l c = rw (a, f, l, c) refl
+
 module _ (xs fs ls cs : List ℕ) (even : AreEven xs fs ls cs) where
   -- one row more
   pub pushed_rows : (ys gs ms ds : List ℕ) (r : Row) → ys ≡ xs ++ r.address ∷ [] → gs ≡ fs ++ r.file_index ∷ [] → ms ≡ ls ++ r.line ∷ [] → ds ≡ cs ++ r.column ∷ []

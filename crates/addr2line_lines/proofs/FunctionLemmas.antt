@@ -1,7 +1,8 @@
 -- The functions of a unit, one item at a time (on specs/FoundFunctions.antt).
-use Rattle.std.proofs.Common.{◌≡◌, ℕ, ◌<◌, ◌==◌, ◌&&◌, ◌||◌, Bool, true, false, cond, List, [], ◌∷◌, ◌++◌, map, length, Option, Some, None, Result, Ok, Err, OnOk, refl, ap, sym, ◌∙◌, arith, append-nil, append_assoc}
+use Rattle.std.proofs.Common.{◌≡◌, ℕ, ◌<◌, ◌≤◌, ◌==◌, ◌&&◌, ◌||◌, Bool, true, false, cond, List, [], ◌∷◌, ◌++◌, map, length, Option, Some, None, Result, Ok, Err, OnOk, refl, ap, sym, ◌∙◌, arith, append-nil, append_assoc, length-append}
 use Rattle.gimli_read.specs.declared.error.Error.{Error}
 use Rattle.gimli_read.specs.declared.endian.Encoding.{Encoding}
+use Rattle.gimli_read.specs.declared.range.Range.{Range}
 use Rattle.gimli_read.specs.Abbreviations.{Abbrev}
 use Rattle.gimli_read.specs.Section.{Section}
 use Rattle.gimli_read.specs.Reading.{Reading, ◌>>=◌, Exactly, ExactlyUnlessOomIf}
@@ -15,9 +16,10 @@ use Rattle.gimli.specs.Unit.{UnitRecord}
 use Rattle.gimli.proofs.EntryLemmas.{abbreviation_takes}
 use Rattle.gimli.proofs.ItemReads.{items_end, items_fault, items_more}
 use Rattle.addr2line_lines.specs.declared.function.RangeAttributes.{RangeAttributes}
-use Rattle.addr2line_lines.specs.RangeAttributes.{gives_a_range, no_range_attributes, range_attributes_after, range_attributes_of}
+use Rattle.addr2line_lines.specs.declared.segments.FunctionAddress.{FunctionAddress}
+use Rattle.addr2line_lines.specs.RangeAttributes.{attribute_ranges, gives_a_range, no_range_attributes, range_attributes_after, range_attributes_of}
 use Rattle.addr2line_lines.specs.Functions.{is_subprogram}
-use Rattle.addr2line_lines.specs.FoundFunctions.{FoundFunctions, found_at, found_from, item_has_function, with_attributes, with_found}
+use Rattle.addr2line_lines.specs.FoundFunctions.{FoundFunctions, found_at, found_from, found_more, function_address, item_has_function, with_attributes, with_found, with_ranges}
 
 -- lists with one more element
 pub one_read : {X Y : Type 0} (f : X → Y) (read : List X) (x : X) (rest : List Y) → map f read ++ f x ∷ rest ≡ map f (read ++ x ∷ []) ++ rest
@@ -220,3 +222,53 @@ module _ (d : Sections) (u : UnitRecord) (unit : EntryUnit) where
       by_cases (Ok (Some x, t)) q k =
           ap (found_run found) (items_more unit c t x q) ∙ found_with found x (items_from unit t)
           ∙ ap (λ r. r >>= λ v. found_run v (items_from unit t)) (none_one (with_found d u found x) t e k)
+
+-- the function of an entry, by the ranges of its attributes
+module _ (d : Sections) (u : UnitRecord) (attributes : RangeAttributes) (offset function : ℕ) (found : FoundFunctions) where
+  abbrev pushed : Result (List Range) Error → Result (List FunctionAddress) Error
+  pushed r = r >>= λ ranges. Ok (found.addresses ++ map (function_address function) ranges)
+
+  abbrev added : Result (List Range) Error → Result FoundFunctions Error
+  added r = r >>= λ ranges. Ok (found_more found offset ranges)
+
+  -- a fault of the ranges
+  pub ranges_refused : (e : Error) → with_ranges d u attributes function found.addresses ≡ Err e → with_attributes d u attributes offset found ≡ Err e
+  ranges_refused e h = by_ranges (attribute_ranges d u attributes) h
+    where
+      by_ranges : (r : Result (List Range) Error) → pushed r ≡ Err e → added r ≡ Err e
+      by_ranges (Err f) h = let same : f ≡ e = cc in ap Err same
+      by_ranges (Ok ranges) h = absurd cc
+
+  -- no range was added
+  pub none_added : (addresses : List FunctionAddress) → with_ranges d u attributes function found.addresses ≡ Ok addresses → length addresses ≤ length found.addresses
+      → with_attributes d u attributes offset found ≡ Ok (record { offsets = found.offsets; addresses = addresses })
+  none_added addresses h l = by_ranges (attribute_ranges d u attributes) h
+    where
+      by_ranges : (r : Result (List Range) Error) → pushed r ≡ Ok addresses → added r ≡ Ok (record { offsets = found.offsets; addresses = addresses })
+      by_ranges (Err f) h = absurd cc
+      by_ranges (Ok []) h =
+          let same : found.addresses ++ [] ≡ addresses = cc in
+          ap (λ (v : List FunctionAddress). Ok (record { offsets = found.offsets; addresses = v })) (sym (append-nil found.addresses) ∙ same)
+      by_ranges (Ok (r ∷ ranges)) h =
+          let same : found.addresses ++ map (function_address function) (r ∷ ranges) ≡ addresses = cc in
+          let long : length addresses ≡ length (found.addresses ++ map (function_address function) (r ∷ ranges)) = ap (λ (v : List FunctionAddress). length v) (sym same) in
+          let sum = length-append found.addresses (map (function_address function) (r ∷ ranges)) in
+          absurd (omega arith)
+
+  -- a range was added
+  pub some_added : (addresses : List FunctionAddress) → with_ranges d u attributes function found.addresses ≡ Ok addresses → length found.addresses < length addresses → function ≡ length found.offsets
+      → with_attributes d u attributes offset found ≡ Ok (record { offsets = found.offsets ++ record { 0 = offset } ∷ []; addresses = addresses })
+  some_added addresses h l n = by_ranges (attribute_ranges d u attributes) h
+    where
+      more : List FunctionAddress → FoundFunctions
+      more v = record { offsets = found.offsets ++ record { 0 = offset } ∷ []; addresses = v }
+
+      by_ranges : (r : Result (List Range) Error) → pushed r ≡ Ok addresses → added r ≡ Ok (more addresses)
+      by_ranges (Err f) h = absurd cc
+      by_ranges (Ok []) h =
+          let same : found.addresses ++ [] ≡ addresses = cc in
+          let long : length found.addresses ≡ length addresses = ap (λ (v : List FunctionAddress). length v) (sym (append-nil found.addresses) ∙ same) in
+          absurd (omega arith)
+      by_ranges (Ok (r ∷ ranges)) h =
+          let same : found.addresses ++ map (function_address function) (r ∷ ranges) ≡ addresses = cc in
+          ap (λ m. Ok (more (found.addresses ++ map (function_address m) (r ∷ ranges)))) (sym n) ∙ ap (λ v. Ok (more v)) same

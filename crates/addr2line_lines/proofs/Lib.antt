@@ -26,6 +26,7 @@ pub mod FunctionMemory
 pub mod PlaceLemmas
 pub mod FunctionCacheLemmas
 pub mod ReadLemmas
+pub mod LentLemmas
 pub mod ListedFunctions
 pub mod FunctionOrder
 pub mod CachedPlaces

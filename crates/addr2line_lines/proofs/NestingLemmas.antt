@@ -11,7 +11,7 @@ use Rattle.gimli_read.specs.Form.{NamedValue, rest_of}
 use Rattle.gimli_read.specs.Reading.{Reading, ◌>>=◌, ExactlyUnlessOomIf}
 use Rattle.gimli_read.specs.Run.{Run, cons, fold_of, fold_run}
 use Rattle.gimli_read.specs.Section.{Section}
-use Rattle.gimli.specs.Entries.{entries_from}
+use Rattle.gimli.specs.Entries.{entries_at, entries_from, entry_bytes_from}
 use Rattle.gimli.specs.Entry.{EntriesLeft, EntryCursor, EntryUnit, attributes_at, depth_after_closing, entry_abbreviation_at, opening_entry}
 use Rattle.gimli.specs.Items.{Item, depth_after, item_at, item_from, items_from, items_inside, next_item_at, next_offset_of}
 use Rattle.gimli.specs.Unit.{UnitRecord}
@@ -19,7 +19,7 @@ use Rattle.gimli.proofs.EntryLemmas.{abbreviation_takes}
 use Rattle.gimli.proofs.ItemLemmas.{next_is}
 use Rattle.gimli.proofs.ItemReads.{items_end, items_fault, items_more}
 use Rattle.addr2line_lines.specs.declared.nesting.Kind.{Kind}
-use Rattle.addr2line_lines.specs.FoundDetails.{FoundAround, FoundInlined, IsFoundMore, IsGrown, abbreviation_of, closed_once, detail_found_at, entry_found_at, function_found_at, inlined_address, inlined_more, inside_found, item_found_at, kind_of, name_after, opened, with_entry_found, with_inlined_found, with_inlined_ranges, with_item_found}
+use Rattle.addr2line_lines.specs.FoundDetails.{FoundAround, FoundInlined, IsFoundMore, IsGrown, abbreviation_of, closed_once, detail_found_at, detail_takes_at, entry_found_at, function_found_at, function_takes_at, inlined_address, inlined_more, inside_found, item_found_at, kind_of, name_after, opened, with_entry_found, with_inlined_found, with_inlined_ranges, with_item_found}
 use Rattle.addr2line_lines.specs.Details.{InlinedAttributes, inlined_entry}
 use Rattle.addr2line_lines.specs.RangeAttributes.{attribute_ranges}
 use Rattle.gimli_read.specs.declared.range.Range.{Range}
@@ -53,6 +53,10 @@ no_code table c h =
 pub entered : {X Y : Type 0} (may opens : Bool) (r : Result (Unit {0}) Error) (f : X → Y) (x y : X) (whole : Result Y Error) → (opens ≡ true → may ≡ true) → whole ≡ Ok (f y) → OnOk r (x ≡ y) → OnErr r ((r ≡ Err OutOfMemory) × (opens ≡ true)) → ExactlyUnlessOomIf may (λ _. f x) r whole
 entered may opens (Ok z) f x y whole t h k m = h ∙ ap (λ v. Ok (f v)) (sym k)
 entered may opens (Err e) f x y whole t h k m = λ ne. absurd (ne (t m.1) (let same : ◌≡◌ {A = Result (Unit {0}) Error} (Err e) (Err OutOfMemory) = m.0 in cc))
+
+-- one more entry is open
+pub opened_more : (kinds more : List Kind) (kind : Kind) (has_children : Bool) (around : List Kind) → has_children ≡ true → more ≡ kinds ++ kind ∷ [] → reverse kinds ≡ around → reverse more ≡ opened kind has_children around
+opened_more kinds more kind has_children around b h k = ap reverse h ∙ reverse-append kinds (kind ∷ []) ∙ ap (λ xs. kind ∷ xs) k ∙ sym (ap (λ c. opened kind c around) b)
 
 -- the items inside a function, one at a time
 module _ (scope : Scope) (u : UnitRecord) (unit : EntryUnit) where
@@ -210,6 +214,30 @@ unfolding detail_found_at
 detail-fault scope u offset found f h =
     ap (λ (r : Result EntriesLeft Error). r >>= λ left. entry_abbreviation_at left.unit.abbreviations left.cursor >>= λ code. abbreviation_of offset code.0 >>= λ a. function_found_at scope u left.unit code.1 found a) h
 
+-- the function of a detail, by the code where its entry begins
+pub detail-opened : (scope : Scope) (u : UnitRecord) (offset : ℕ) (found : FoundInlined) (left : EntriesLeft) (code : Result (Option Abbrev × EntryCursor) Error) → entries_from u (Some offset) ≡ Ok left → entry_abbreviation_at left.unit.abbreviations left.cursor ≡ code
+    → detail_found_at scope u offset found ≡ (code >>= λ c. abbreviation_of offset c.0 >>= λ a. function_found_at scope u left.unit c.1 found a)
+unfolding detail_found_at
+detail-opened scope u offset found left code h k =
+    ap (λ (r : Result EntriesLeft Error). r >>= λ l. entry_abbreviation_at l.unit.abbreviations l.cursor >>= λ c. abbreviation_of offset c.0 >>= λ a. function_found_at scope u l.unit c.1 found a) h
+    ∙ ap (λ (r : Result (Option Abbrev × EntryCursor) Error). r >>= λ c. abbreviation_of offset c.0 >>= λ a. function_found_at scope u left.unit c.1 found a) k
+
+-- its entries have the unit's encoding
+pub detail-encoding : (u : UnitRecord) (offset : ℕ) (left : EntriesLeft) → entries_from u (Some offset) ≡ Ok left → left.unit.encoding ≡ u.header.encoding
+detail-encoding u offset left h = by_bytes (entry_bytes_from u.header (Some offset)) h
+  where
+    by_bytes : (r : Result Section Error) → (r >>= λ bytes. Ok (entries_at u.header u.abbreviations bytes)) ≡ Ok left → left.unit.encoding ≡ u.header.encoding
+    by_bytes (Ok bytes) h = let same : entries_at u.header u.abbreviations bytes ≡ left = cc in ap (λ l. l.unit.encoding) (sym same)
+    by_bytes (Err e) h = absurd cc
+
+-- whether memory is taken for it
+pub detail-takes : (scope : Scope) (u : UnitRecord) (offset : ℕ) (found : FoundInlined) (left : EntriesLeft) (a : Abbrev) (t : EntryCursor) → entries_from u (Some offset) ≡ Ok left → entry_abbreviation_at left.unit.abbreviations left.cursor ≡ Ok (Some a, t)
+    → detail_takes_at scope u offset found ≡ function_takes_at scope u left.unit t found a
+unfolding detail_takes_at
+detail-takes scope u offset found left a t h k =
+    ap (λ (r : Result EntriesLeft Error). r >>= λ l. entry_abbreviation_at l.unit.abbreviations l.cursor >>= λ c. abbreviation_of offset c.0 >>= λ b. function_takes_at scope u l.unit c.1 found b) h
+    ∙ ap (λ (r : Result (Option Abbrev × EntryCursor) Error). r >>= λ c. abbreviation_of offset c.0 >>= λ b. function_takes_at scope u left.unit c.1 found b) k
+
 -- lists that grow at their end
 pub grown_not : {X : Type 0} (xs : List X) → IsGrown xs xs
 grown_not xs = record { more = []; is = sym (append-nil xs) }
@@ -242,3 +270,31 @@ none_added d u offset depth function found x ranges h l = by_ranges (attribute_r
         let long : length ranges ≡ length (found.ranges ++ map (inlined_address depth function) (r ∷ rs)) = ap (λ (v : List InlinedFunctionAddress). length v) (sym same) in
         let sum = length-append found.ranges (map (inlined_address depth function) (r ∷ rs)) in
         absurd (omega arith)
+
+-- a fault of the ranges
+pub ranges_refused : (d : Sections) (u : UnitRecord) (offset depth function : ℕ) (found : FoundInlined) (x : InlinedAttributes) (f : Error) → with_inlined_ranges d u x.ranges depth function found.ranges ≡ Err f → with_inlined_found d u offset depth found x ≡ Err f
+ranges_refused d u offset depth function found x f h = by_ranges (attribute_ranges d u x.ranges) h
+  where
+    by_ranges : (r : Result (List Range) Error) → ◌>>=◌ {B = List InlinedFunctionAddress} r (λ rs. Ok (found.ranges ++ map (inlined_address depth function) rs)) ≡ Err f
+        → ◌>>=◌ {B = FoundInlined} r (λ rs. Ok (inlined_more found (inlined_entry offset x) depth rs)) ≡ Err f
+    by_ranges (Err e) h = let same : e ≡ f = cc in ap Err same
+    by_ranges (Ok rs) h = absurd cc
+
+-- a range was added
+pub some_added : (d : Sections) (u : UnitRecord) (offset depth function : ℕ) (found : FoundInlined) (x : InlinedAttributes) (ranges : List InlinedFunctionAddress) → with_inlined_ranges d u x.ranges depth function found.ranges ≡ Ok ranges → length found.ranges < length ranges → function ≡ length found.entries
+    → with_inlined_found d u offset depth found x ≡ Ok (record { entries = found.entries ++ inlined_entry offset x ∷ []; ranges = ranges })
+some_added d u offset depth function found x ranges h l n = by_ranges (attribute_ranges d u x.ranges) h
+  where
+    more : List InlinedFunctionAddress → FoundInlined
+    more v = record { entries = found.entries ++ inlined_entry offset x ∷ []; ranges = v }
+
+    by_ranges : (r : Result (List Range) Error) → ◌>>=◌ {B = List InlinedFunctionAddress} r (λ rs. Ok (found.ranges ++ map (inlined_address depth function) rs)) ≡ Ok ranges
+        → ◌>>=◌ {B = FoundInlined} r (λ rs. Ok (inlined_more found (inlined_entry offset x) depth rs)) ≡ Ok (more ranges)
+    by_ranges (Err e) h = absurd cc
+    by_ranges (Ok []) h =
+        let same : found.ranges ++ [] ≡ ranges = cc in
+        let long : length found.ranges ≡ length ranges = ap (λ (v : List InlinedFunctionAddress). length v) (sym (append-nil found.ranges) ∙ same) in
+        absurd (omega arith)
+    by_ranges (Ok (r ∷ rs)) h =
+        let same : found.ranges ++ map (inlined_address depth function) (r ∷ rs) ≡ ranges = cc in
+        ap (λ m. Ok (more (found.ranges ++ map (inlined_address depth m) (r ∷ rs)))) (sym n) ∙ ap (λ v. Ok (more v)) same

@@ -66,7 +66,6 @@ fn read_name<R: Reader>(
 
 // Adds the inlined entry whose attributes follow, if it is in no nested subprogram; passes over
 // the attributes of any other entry.
-#[tactic(auto, using(crate::proofs::NestingLemmas::found_same, crate::proofs::NestingLemmas::found_on))]
 fn read_entry<R: Reader>(
     scope: Scope<'_, R>,
     unit: &Unit<R>,
@@ -98,7 +97,6 @@ fn read_entry<R: Reader>(
 }
 
 // Reads the next item inside a function, and adds its inlined entry, if it is one.
-#[tactic(auto, using(crate::proofs::NestingLemmas::found_same, crate::proofs::NestingLemmas::found_on))]
 fn read_item<R: Reader>(
     scope: Scope<'_, R>,
     unit: &Unit<R>,
@@ -188,7 +186,6 @@ fn read_function<R: Reader>(
 }
 
 // Reads the name of the function whose entry begins at an offset, and adds its inlined entries.
-#[tactic(auto, unfolding(crate::specs::FoundDetails::detail_found_at, crate::specs::FoundDetails::detail_takes_at), using(crate::proofs::NestingLemmas::found_same, crate::proofs::NestingLemmas::found_on))]
 pub(crate) fn read_detail<R: Reader>(
     scope: Scope<'_, R>,
     unit: &Unit<R>,

@@ -142,7 +142,6 @@ impl<R: Reader> InlinedAttributes<R> {
     }
 
     // Takes one more attribute in.
-    #[tactic(auto, using(crate::proofs::DetailLemmas::call_taken, crate::proofs::DetailLemmas::ranges_taken, crate::proofs::DetailLemmas::name_taken))]
     fn take(
         &mut self,
         scope: Scope<'_, R>,

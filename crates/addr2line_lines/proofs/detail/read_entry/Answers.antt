@@ -3,6 +3,7 @@ use Rattle.std.proofs.lemmas.Result.{err_from_is_err_and}
 use Rattle.addr2line_lines.specs.FoundDetails.{is_listed, seen_attributes, seen_lists}
 use Rattle.addr2line_lines.specs.SeenScope.{seen_scope}
 use Rattle.addr2line_lines.proofs.FunctionLemmas.{beside_if, or_first, or_second}
+use Rattle.addr2line_lines.proofs.NestingLemmas.{found_same}
 use Rattle.addr2line_lines.proofs.DetailLemmas.{entry-fault, entry-listed, entry-other, entry-takes, listed_before, same_added}
 use Rattle.addr2line_lines.proofs.detail.read_entry.Goals as goal
 
@@ -47,3 +48,30 @@ returns-else-lists-clause-gives g c =
     let listed = ap (λ k. is_listed k c.args.nesting.now) (sym c.kind_of.ensures.gives) ∙ sym c.if-lists.ensures.gives in
     let rest = rw c.requires.encoding at c.skip_attributes_of.ensures.gives in
     entry-other scope u around c.args.offset.0 a left found _ _ c.skip_attributes_of.result listed rest
+
+pub returns-in_err-attributes-clause-kept : goal.returns-in_err-attributes-clause-kept
+returns-in_err-attributes-clause-kept g c = found_same _
+
+pub returns-in_err-attributes-clause-unit : goal.returns-in_err-attributes-clause-unit
+returns-in_err-attributes-clause-unit g c = c.in_err-attributes.ensures.unit
+
+pub returns-in_err-attributes-clause-depth : goal.returns-in_err-attributes-clause-depth
+returns-in_err-attributes-clause-depth g c = c.in_err-attributes.ensures.depth
+
+pub returns-in_ok-attributes-clause-kept : goal.returns-in_ok-attributes-clause-kept
+returns-in_ok-attributes-clause-kept g c = c.add.ensures.kept
+
+pub returns-in_ok-attributes-clause-unit : goal.returns-in_ok-attributes-clause-unit
+returns-in_ok-attributes-clause-unit g c = c.in_ok-attributes.ensures.unit
+
+pub returns-in_ok-attributes-clause-depth : goal.returns-in_ok-attributes-clause-depth
+returns-in_ok-attributes-clause-depth g c = c.in_ok-attributes.ensures.depth
+
+pub returns-else-lists-clause-kept : goal.returns-else-lists-clause-kept
+returns-else-lists-clause-kept g c = found_same _
+
+pub returns-else-lists-clause-unit : goal.returns-else-lists-clause-unit
+returns-else-lists-clause-unit g c = c.skip_attributes_of.ensures.unit
+
+pub returns-else-lists-clause-depth : goal.returns-else-lists-clause-depth
+returns-else-lists-clause-depth g c = c.skip_attributes_of.ensures.depth

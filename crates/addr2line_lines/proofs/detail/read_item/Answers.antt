@@ -9,7 +9,7 @@ use Rattle.addr2line_lines.specs.SeenScope.{seen_scope}
 use Rattle.addr2line_lines.specs.FoundDetails.{FoundAround, FoundInlined, entry_found_at, kind_of, opened, seen_around, seen_lists}
 use Rattle.addr2line_lines.proofs.DetailMemory.{children_take, listed_takes}
 use Rattle.addr2line_lines.proofs.FunctionLemmas.{or_more, or_second}
-use Rattle.addr2line_lines.proofs.NestingLemmas.{after_entry, code-fault, entered, entry-shorter, item-closing, item-entry, item-shorter}
+use Rattle.addr2line_lines.proofs.NestingLemmas.{after_entry, code-fault, entered, entry-shorter, found_same, item-closing, item-entry, item-shorter}
 use Rattle.addr2line_lines.proofs.RangeLemmas.{on_ok}
 use Rattle.addr2line_lines.proofs.detail.read_item.Goals as goal
 
@@ -95,3 +95,33 @@ returns-in_ok-read_entry-in-Some-clause-shorter g c =
     let t = c.read_abbreviation.new.self.cursor in
     let code = rw c.in-Some.is at c.in_ok-read_abbreviation.ensures.gives in
     on_ok _ c.enter.result (entry-shorter scope u unit start t a _ around c.next_offset-offset.result.0 lists _ code c.in_ok-read_entry-in-Some.ensures.gives)
+
+pub returns-in_err-read_abbreviation-clause-kept : goal.returns-in_err-read_abbreviation-clause-kept
+returns-in_err-read_abbreviation-clause-kept g c = found_same _
+
+pub returns-in_err-read_abbreviation-clause-unit : goal.returns-in_err-read_abbreviation-clause-unit
+returns-in_err-read_abbreviation-clause-unit g c = c.in_err-read_abbreviation.ensures.unit
+
+pub returns-in_err-read_abbreviation-clause-shorter : goal.returns-in_err-read_abbreviation-clause-shorter
+returns-in_err-read_abbreviation-clause-shorter g c = let p = err_from_is_err_and c.from_residual.result c.from_residual.ensures.1 in rw p.1 tt
+
+pub returns-in_err-read_entry-in-Some-clause-kept : goal.returns-in_err-read_entry-in-Some-clause-kept
+returns-in_err-read_entry-in-Some-clause-kept g c = c.in_err-read_entry-in-Some.ensures.kept
+
+pub returns-in_err-read_entry-in-Some-clause-unit : goal.returns-in_err-read_entry-in-Some-clause-unit
+returns-in_err-read_entry-in-Some-clause-unit g c = c.in_err-read_entry-in-Some.ensures.unit ∙ c.in_ok-read_abbreviation.ensures.unit
+
+pub returns-in_err-read_entry-in-Some-clause-shorter : goal.returns-in_err-read_entry-in-Some-clause-shorter
+returns-in_err-read_entry-in-Some-clause-shorter g c = let p = err_from_is_err_and c.from_residual-in_err-read_entry-in-Some.result c.from_residual-in_err-read_entry-in-Some.ensures.1 in rw p.1 tt
+
+pub returns-in-None-clause-kept : goal.returns-in-None-clause-kept
+returns-in-None-clause-kept g c = found_same _
+
+pub returns-in-None-clause-unit : goal.returns-in-None-clause-unit
+returns-in-None-clause-unit g c = c.in_ok-read_abbreviation.ensures.unit
+
+pub returns-in_ok-read_entry-in-Some-clause-kept : goal.returns-in_ok-read_entry-in-Some-clause-kept
+returns-in_ok-read_entry-in-Some-clause-kept g c = c.in_ok-read_entry-in-Some.ensures.kept
+
+pub returns-in_ok-read_entry-in-Some-clause-unit : goal.returns-in_ok-read_entry-in-Some-clause-unit
+returns-in_ok-read_entry-in-Some-clause-unit g c = c.in_ok-read_entry-in-Some.ensures.unit ∙ c.in_ok-read_abbreviation.ensures.unit

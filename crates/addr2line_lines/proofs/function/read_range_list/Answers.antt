@@ -1,9 +1,10 @@
-use Rattle.std.proofs.Common.{List, map, ◌++◌, Result, Ok, ap, refl, ◌∙◌, append-nil}
+use Rattle.std.proofs.Common.{List, map, ◌++◌, Result, Ok, ap, refl, sym, ◌∙◌, append-nil}
 use Rattle.std.proofs.lemmas.Result.{err_from_is_err_and}
 use Rattle.gimli_read.specs.declared.error.Error.{Error as Fault}
 use Rattle.gimli_read.specs.declared.range.Range.{Range}
 use Rattle.addr2line_lines.specs.Rows.{result_map, read_all}
 use Rattle.addr2line_lines.specs.RangeAttributes.{all_ranges, begins_well}
+use Rattle.addr2line_lines.proofs.FunctionLemmas.{one_read}
 use Rattle.addr2line_lines.proofs.RangeLemmas.{begins_with_one, fault_left, none_left, one_left, read_after}
 use Rattle.addr2line_lines.proofs.function.read_range_list.Goals as goal
 
@@ -35,3 +36,15 @@ returns g c =
     let read = ap all_ranges c.loop-ranges.invariant ∙ read_after items c.loop-ranges.list in
     let end = ap (λ rest. with_front items (read_all rest)) (none_left _ _ none) in
     record { gives = read ∙ end ∙ ap Ok (append-nil items) }
+
+pub returns-in_err-list : goal.returns-in_err-list
+returns-in_err-list g c =
+    let p = err_from_is_err_and c.from_residual.result c.from_residual.ensures.1 in
+    record { gives = rw (p.1, p.2) (λ _. ap all_ranges c.in_err-list.ensures.gives) }
+
+pub loop-ranges-preserved : goal.loop-ranges-preserved
+loop-ranges-preserved g c =
+    let items = c.loop-ranges.ranges.items in
+    let left = c.next.new.self in
+    let one = rw c.in-Some.is at c.in_ok-range.ensures.gives in
+    c.loop-ranges.invariant ∙ ap (after items) (one_left _ _ _ one) ∙ ap Ok (one_read Ok items c.in-Some.range left) ∙ ap (λ xs. after xs left) (sym c.in_ok-push.ensures.items)

@@ -80,3 +80,51 @@ returns-in-None-clause-gives g c =
     let passed = rw i.same at c.in_ok-pass_over-2.ensures.gives in
     let is = rw c.in-None.is at i.is in
     sym i.gives ∙ wanted_end (seen_scope c.args.scope) c.args.unit.now _ _ i.given none ∙ ap (λ r. r >>= λ t. i.given) passed ∙ is
+
+pub returns-in_err-pass_over-clause-left : goal.returns-in_err-pass_over-clause-left
+returns-in_err-pass_over-clause-left g c = let p = err_from_is_err_and c.from_residual.result c.from_residual.ensures.1 in rw p.1 tt
+
+pub returns-in_err-pass_over-clause-unit : goal.returns-in_err-pass_over-clause-unit
+returns-in_err-pass_over-clause-unit g c = c.in_err-pass_over.ensures.unit ∙ c.loop-next.invariant.unit
+
+pub returns-in_err-pass_over-clause-depth : goal.returns-in_err-pass_over-clause-depth
+returns-in_err-pass_over-clause-depth g c = c.in_err-pass_over.ensures.depth ∙ c.loop-next.invariant.depth
+
+pub returns-in_err-attribute-clause-left : goal.returns-in_err-attribute-clause-left
+returns-in_err-attribute-clause-left g c = let p = err_from_is_err_and c.from_residual-in_err-attribute.result c.from_residual-in_err-attribute.ensures.1 in rw p.1 tt
+
+pub returns-in_err-attribute-clause-unit : goal.returns-in_err-attribute-clause-unit
+returns-in_err-attribute-clause-unit g c = c.in_err-attribute.ensures.unit ∙ c.in_ok-pass_over.ensures.unit ∙ c.loop-next.invariant.unit
+
+pub returns-in_err-attribute-clause-depth : goal.returns-in_err-attribute-clause-depth
+returns-in_err-attribute-clause-depth g c = c.in_err-attribute.ensures.depth ∙ c.in_ok-pass_over.ensures.depth ∙ c.loop-next.invariant.depth
+
+pub returns-in_err-pass_over-2-clause-left : goal.returns-in_err-pass_over-2-clause-left
+returns-in_err-pass_over-2-clause-left g c = let p = err_from_is_err_and c.from_residual-in_err-pass_over-2.result c.from_residual-in_err-pass_over-2.ensures.1 in rw p.1 tt
+
+pub returns-in_err-pass_over-2-clause-unit : goal.returns-in_err-pass_over-2-clause-unit
+returns-in_err-pass_over-2-clause-unit g c = c.in_err-pass_over-2.ensures.unit ∙ c.loop-next.invariant.unit
+
+pub returns-in_err-pass_over-2-clause-depth : goal.returns-in_err-pass_over-2-clause-depth
+returns-in_err-pass_over-2-clause-depth g c = c.in_err-pass_over-2.ensures.depth ∙ c.loop-next.invariant.depth
+
+pub returns-in-Some-fault-clause-left : goal.returns-in-Some-fault-clause-left
+returns-in-Some-fault-clause-left g c = tt
+
+pub returns-in-Some-fault-clause-unit : goal.returns-in-Some-fault-clause-unit
+returns-in-Some-fault-clause-unit g c = c.in_ok-pass_over-2.ensures.unit ∙ c.loop-next.invariant.unit
+
+pub returns-in-Some-fault-clause-depth : goal.returns-in-Some-fault-clause-depth
+returns-in-Some-fault-clause-depth g c = c.in_ok-pass_over-2.ensures.depth ∙ c.loop-next.invariant.depth
+
+pub returns-in-None-clause-left : goal.returns-in-None-clause-left
+returns-in-None-clause-left g c =
+    let i = c.loop-next.invariant in
+    let passed = rw i.same at c.in_ok-pass_over-2.ensures.gives in
+    sym i.left ∙ passed
+
+pub returns-in-None-clause-unit : goal.returns-in-None-clause-unit
+returns-in-None-clause-unit g c = c.in_ok-pass_over-2.ensures.unit ∙ c.loop-next.invariant.unit
+
+pub returns-in-None-clause-depth : goal.returns-in-None-clause-depth
+returns-in-None-clause-depth g c = c.in_ok-pass_over-2.ensures.depth ∙ c.loop-next.invariant.depth

@@ -4,6 +4,7 @@ use Rattle.gimli_read.specs.Reading.{◌>>=◌}
 use Rattle.addr2line_lines.specs.FoundNames.{seen_name_or_origin}
 use Rattle.addr2line_lines.specs.SeenScope.{seen_scope}
 use Rattle.addr2line_lines.proofs.NameLemmas.{named_after, named_end, named_linkage, named_other, passed, passed_fault}
+use Rattle.addr2line_lines.specs.Names.{named_at}
 use Rattle.addr2line_lines.proofs.name.read_names.Goals as goal
 
 pub returns-in_err-pass_over : goal.returns-in_err-pass_over
@@ -82,3 +83,8 @@ returns g c =
     let none = c.in_default.ensures.none refl in
     let skipped = rw i.encoding at c.in_ok-pass_over-2.ensures.gives in
     record { gives = sym i.gives ∙ named_end s u _ _ _ none ∙ ap (λ r. r >>= λ t. Ok found) skipped }
+
+pub loop-next-init : goal.loop-next-init
+loop-next-init g c =
+    let s = seen_scope c.args.place.scope in
+    record { gives = ap (named_at s c.args.place.unit.now c.args.specifications.now c.args.entries.now.cursor.left) c.new-found.ensures.gives; encoding = c.requires.encoding }

@@ -1,6 +1,7 @@
 use Rattle.std.proofs.Common.{length, heap_items, arith, ap, refl}
 use Rattle.addr2line_lines.specs.declared.segments.FunctionAddress.{FunctionAddress}
 use Rattle.addr2line_lines.proofs.SweepLemmas.{all_cut, begun_from}
+use Rattle.std.proofs.lemmas.Result.{err_from_is_err_and}
 use Rattle.addr2line_lines.proofs.segments.cut.Goals as goal
 
 pub loop-address-init : goal.loop-address-init
@@ -33,3 +34,15 @@ loop-address-preserved c =
       swept = c.in_ok-enter.ensures.swept all next d begun here refl (c.in_ok-close.ensures.swept all next begun i.swept);
       few = omega arith;
     }
+
+pub returns-in_err-close-clause-refused : goal.returns-in_err-close-clause-refused
+returns-in_err-close-clause-refused c =
+    let p = err_from_is_err_and c.from_residual.result c.from_residual.ensures.1 in
+    let here = c.loop-address-test.true in
+    rw (p.1, p.2) (c.in_err-close.ensures.refused, omega arith)
+
+pub returns-in_err-enter-clause-refused : goal.returns-in_err-enter-clause-refused
+returns-in_err-enter-clause-refused c =
+    let p = err_from_is_err_and c.from_residual-in_err-enter.result c.from_residual-in_err-enter.ensures.1 in
+    let here = c.loop-address-test.true in
+    rw (p.1, p.2) (c.in_err-enter.ensures.refused, omega arith)

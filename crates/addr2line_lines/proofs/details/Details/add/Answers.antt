@@ -1,4 +1,4 @@
-use Rattle.std.proofs.Common.{◌≡◌, refl, ◌++◌, ◌∷◌, [], ◌+◌, None, length, map, option_map, slice_index_or, ap, arith, length-append, ◌∙◌, subst, sym}
+use Rattle.std.proofs.Common.{◌≡◌, refl, ◌++◌, ◌∷◌, [], ◌+◌, None, length, map, option_map, slice_index_or, ap, arith, length-append, ◌∙◌, subst, sym, append-nil}
 use Rattle.std.proofs.lemmas.List.{length-map, map-append}
 use Rattle.std.proofs.lemmas.Result.{err_from_is_err_and}
 use Rattle.addr2line_lines.specs.declared.details.FunctionDetail.{FunctionDetail}
@@ -9,7 +9,7 @@ use Rattle.addr2line_lines.proofs.DetailMemory.{detail_takes, found_takes}
 use Rattle.addr2line_lines.proofs.DetailOrder.{detail_refused}
 use Rattle.addr2line_lines.proofs.DetailPlaces.{AreKeptAt, detail_kept, last_name, place_kept, sorted_more}
 use Rattle.addr2line_lines.proofs.FunctionLemmas.{or_more, or_second}
-use Rattle.addr2line_lines.proofs.NestingLemmas.{grown_by}
+use Rattle.addr2line_lines.proofs.NestingLemmas.{grown_by, grown_not}
 use Rattle.addr2line_lines.proofs.details.Details.add.Given.{Over}
 use Rattle.addr2line_lines.proofs.details.Details.add.Goals as goal
 
@@ -110,3 +110,30 @@ returns-clause-next g c =
       ranges_begin = a.ranges_begin;
       ranges_end = a.ranges_end;
     }
+
+pub returns-in_err-read-clause-kept : goal.returns-in_err-read-clause-kept
+returns-in_err-read-clause-kept g c = record { names = grown_not _; found = c.in_err-read.ensures.kept }
+
+pub returns-in_err-read-clause-place : goal.returns-in_err-read-clause-place
+returns-in_err-read-clause-place g c = let p = err_from_is_err_and c.from_residual.result c.from_residual.ensures.1 in rw p.1 tt
+
+pub returns-in_err-read-clause-next : goal.returns-in_err-read-clause-next
+returns-in_err-read-clause-next g c = let p = err_from_is_err_and c.from_residual.result c.from_residual.ensures.1 in rw p.1 tt
+
+pub returns-in_err-read-clause-names : goal.returns-in_err-read-clause-names
+returns-in_err-read-clause-names g c = let p = err_from_is_err_and c.from_residual.result c.from_residual.ensures.1 in rw p.1 refl
+
+pub returns-in_err-push-clause-kept : goal.returns-in_err-push-clause-kept
+returns-in_err-push-clause-kept g c = record { names = grown_by _ _ [] (ap (map (option_map g.R.Reader.section)) c.in_err-push.ensures.items ∙ sym (append-nil _)); found = c.in_ok-read.ensures.kept }
+
+pub returns-in_err-push-clause-place : goal.returns-in_err-push-clause-place
+returns-in_err-push-clause-place g c = let p = err_from_is_err_and c.from_residual-in_err-push.result c.from_residual-in_err-push.ensures.1 in rw p.1 tt
+
+pub returns-in_err-push-clause-next : goal.returns-in_err-push-clause-next
+returns-in_err-push-clause-next g c = let p = err_from_is_err_and c.from_residual-in_err-push.result c.from_residual-in_err-push.ensures.1 in rw p.1 tt
+
+pub returns-in_err-push-clause-names : goal.returns-in_err-push-clause-names
+returns-in_err-push-clause-names g c = let p = err_from_is_err_and c.from_residual-in_err-push.result c.from_residual-in_err-push.ensures.1 in rw p.1 (ap (map (option_map g.R.Reader.section)) c.in_err-push.ensures.items)
+
+pub returns-clause-names : goal.returns-clause-names
+returns-clause-names g c = tt

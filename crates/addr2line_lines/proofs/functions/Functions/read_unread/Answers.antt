@@ -1,4 +1,4 @@
-use Rattle.std.proofs.Common.{Ok, Err, slice_get, slice_set, ap, subst, refl, ◌∙◌, arith}
+use Rattle.std.proofs.Common.{Ok, Err, slice_get, slice_set, ap, subst, refl, ◌∙◌, arith, sym}
 use Rattle.std.proofs.lemmas.Option.{get_or_from_slice_get, slice_get_within}
 use Rattle.addr2line_lines.specs.declared.functions.LazyDetail.TheVariants.{Read, Faulty}
 use Rattle.addr2line_lines.specs.declared.functions.LazyFunction.{LazyFunction}
@@ -8,6 +8,7 @@ use Rattle.addr2line_lines.specs.FunctionTable.{FunctionTable, IsReadAt, read_fa
 use Rattle.addr2line_lines.specs.CachedDetails.{seen_details}
 use Rattle.addr2line_lines.specs.SeenScope.{seen_scope}
 use Rattle.addr2line_lines.proofs.FunctionCacheLemmas.{fault_cached, read_cached, reads, table_fault, table_of, table_read, unread_at}
+use Rattle.addr2line_lines.specs.FunctionCache.{AreCachedFunctions}
 use Rattle.addr2line_lines.proofs.functions.Functions.read_unread.Goals as goal
 
 pub invariant_of-self : goal.invariant_of-self
@@ -91,3 +92,29 @@ returns-in-OutOfMemory-clause-exact g c =
     let scope = seen_scope c.args.scope in
     let u = c.args.unit.now in
     λ h. ap (read_fault scope u) c.requires.unread ∙ ap fault_of (c.in-Err.ensures.gives (λ t. h (ap (cached_takes_memory g.R.Reader.shares scope u) c.requires.unread ∙ t)))
+
+pub returns-in-OutOfMemory-clause-gives : goal.returns-in-OutOfMemory-clause-gives
+returns-in-OutOfMemory-clause-gives g c =
+    let addresses = c.self.inside.addresses in
+    let fs = c.self.inside.functions.items in
+    let kept = seen_details g.R.Reader.section c.self.inside.details in
+    let more = seen_details g.R.Reader.section c.read.new.self in
+    let n = c.args.place in
+    let scope = seen_scope c.args.scope in
+    let unread = ap (λ (t : FunctionTable). slice_get t.functions n) c.self.view_is ∙ c.requires.unread in
+    subst (λ (t : FunctionTable). IsReadAt scope c.args.unit.now n t (Err c.in-Err.error) (table_of fs addresses more)) c.self.view_is
+    (reads scope c.args.unit.now n c.args.offset.0 (table_of fs addresses kept) (table_of fs addresses more) (Err c.in-Err.error) unread
+    (λ ne. absurd (ne c.in-OutOfMemory.is), λ oom. ap (table_of fs addresses) c.in-Err.ensures.refused))
+
+pub invariant_of-self-in-OutOfMemory : goal.invariant_of-self-in-OutOfMemory
+invariant_of-self-in-OutOfMemory g c = subst (AreCachedFunctions c.self.inside.functions.items c.self.inside.addresses) (sym c.in-Err.ensures.refused) c.self.invariant
+
+pub index_mut-requires : goal.index_mut-requires
+index_mut-requires g c =
+    let fs = c.self.inside.functions.items in
+    let kept = seen_details g.R.Reader.section c.self.inside.details in
+    let n = c.args.place in
+    let at = unread_at kept fs n c.args.offset.0 (ap (λ (t : FunctionTable). slice_get t.functions n) c.self.view_is ∙ c.requires.unread) in
+    let l = slice_get_within fs n at.0 at.1 in
+    let m = c.self.inside.functions.ok.0 in
+    omega arith

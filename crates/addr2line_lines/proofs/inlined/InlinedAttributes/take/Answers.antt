@@ -1,10 +1,23 @@
-use Rattle.std.proofs.Common.{◌≡◌, ℕ, Ok, ap, sym, ◌∙◌}
+use Rattle.std.proofs.Common.{◌≡◌, ℕ, Ok, ap, sym, ◌∙◌, true, false, Option, Result}
 use Rattle.gimli.specs.Unit.{UnitRecord}
 use Rattle.addr2line_lines.specs.Details.{CallSite, InlinedAttributes, with_call}
-use Rattle.addr2line_lines.specs.FoundDetails.{is_call, seen_attributes}
+use Rattle.addr2line_lines.specs.FoundDetails.{is_call, seen_attributes, is_range_name}
 use Rattle.addr2line_lines.specs.SeenScope.{seen_scope}
-use Rattle.addr2line_lines.proofs.DetailLemmas.{call_taken}
+use Rattle.addr2line_lines.proofs.DetailLemmas.{call_taken, ranges_taken, name_taken}
+use Rattle.std.proofs.lemmas.Result.{err_from_is_err_and}
+use Rattle.gimli_read.specs.declared.error.Error.{Error}
+use Rattle.gimli_read.specs.Reading.{◌>>=◌}
+use Rattle.gimli_read.specs.Section.{Section}
+use Rattle.addr2line_lines.specs.declared.function.RangeAttributes.{RangeAttributes}
 use Rattle.addr2line_lines.proofs.inlined.InlinedAttributes.take.Goals as goal
+
+-- the ranges of an attribute, beside what else was known
+abbrev with_ranges : InlinedAttributes → Result RangeAttributes Error → Result InlinedAttributes Error
+with_ranges x r = r >>= λ ranges. Ok (record { ranges = ranges; name = x.name; call = x.call })
+
+-- its name, beside what else was known
+abbrev with_name_read : InlinedAttributes → Result (Option Section) Error → Result InlinedAttributes Error
+with_name_read x r = r >>= λ name. Ok (record { ranges = x.ranges; name = name; call = x.call })
 
 pub returns-then-is_call : goal.returns-then-is_call
 returns-then-is_call g c =
@@ -16,3 +29,45 @@ returns-then-is_call g c =
       gives = call_taken (seen_scope c.args.scope) u x c.args.attribute (ap is_call (sym c.name-name.ensures.gives) ∙ sym c.if-is_call.ensures.gives)
           ∙ ap (λ (v : ℕ). Ok (made (with_call v x.call c.args.attribute))) (sym version) ∙ ap (λ call. Ok (made call)) (sym c.take-self.ensures.gives);
     }
+
+pub returns-in_err-self : goal.returns-in_err-self
+returns-in_err-self g c =
+    let u = c.args.unit.now in
+    let x = seen_attributes g.R.Reader.section c.args.self.now in
+    let other : is_call c.args.attribute.name ≡ false = ap is_call (sym c.name-name.ensures.gives) ∙ sym c.if-is_call.ensures.gives in
+    let is : is_range_name c.args.attribute.name ≡ true = ap is_range_name (sym c.name-name.ensures.gives) ∙ sym c.if-is_range_name.ensures.gives in
+    let taken = ranges_taken (seen_scope c.args.scope) u x c.args.attribute other is in
+    let p = err_from_is_err_and c.from_residual.result c.from_residual.ensures.1 in
+    let fault = rw (c.new-unit.ensures.dwarf, c.new-unit.ensures.unit) at c.in_err-self.ensures.gives in
+    record { gives = rw (p.1, p.2) (λ _. taken ∙ ap (with_ranges x) fault) }
+
+pub returns-in_ok-self : goal.returns-in_ok-self
+returns-in_ok-self g c =
+    let u = c.args.unit.now in
+    let x = seen_attributes g.R.Reader.section c.args.self.now in
+    let other : is_call c.args.attribute.name ≡ false = ap is_call (sym c.name-name.ensures.gives) ∙ sym c.if-is_call.ensures.gives in
+    let is : is_range_name c.args.attribute.name ≡ true = ap is_range_name (sym c.name-name.ensures.gives) ∙ sym c.if-is_range_name.ensures.gives in
+    let taken = ranges_taken (seen_scope c.args.scope) u x c.args.attribute other is in
+    let read = rw (c.new-unit.ensures.dwarf, c.new-unit.ensures.unit) at c.in_ok-self.ensures.gives in
+    record { gives = taken ∙ ap (with_ranges x) read }
+
+pub returns-in_err-self-2 : goal.returns-in_err-self-2
+returns-in_err-self-2 g c =
+    let u = c.args.unit.now in
+    let x = seen_attributes g.R.Reader.section c.args.self.now in
+    let other : is_call c.args.attribute.name ≡ false = ap is_call (sym c.name-name.ensures.gives) ∙ sym c.if-is_call.ensures.gives in
+    let is : is_range_name c.args.attribute.name ≡ false = ap is_range_name (sym c.name-name.ensures.gives) ∙ sym c.if-is_range_name.ensures.gives in
+    let taken = name_taken (seen_scope c.args.scope) u x c.args.attribute other is in
+    let p = err_from_is_err_and c.from_residual-in_err-self-2.result c.from_residual-in_err-self-2.ensures.1 in
+    let fault = rw c.take-before.ensures.value at c.in_err-self-2.ensures.gives in
+    record { gives = rw (p.1, p.2) (λ ne. taken ∙ ap (with_name_read x) (fault ne)) }
+
+pub returns-in_ok-self-2 : goal.returns-in_ok-self-2
+returns-in_ok-self-2 g c =
+    let u = c.args.unit.now in
+    let x = seen_attributes g.R.Reader.section c.args.self.now in
+    let other : is_call c.args.attribute.name ≡ false = ap is_call (sym c.name-name.ensures.gives) ∙ sym c.if-is_call.ensures.gives in
+    let is : is_range_name c.args.attribute.name ≡ false = ap is_range_name (sym c.name-name.ensures.gives) ∙ sym c.if-is_range_name.ensures.gives in
+    let taken = name_taken (seen_scope c.args.scope) u x c.args.attribute other is in
+    let read = rw c.take-before.ensures.value at c.in_ok-self-2.ensures.gives in
+    record { gives = taken ∙ ap (with_name_read x) read }

@@ -1,0 +1,15 @@
+use Rattle.std.proofs.Common.{Some, ap, option_map, subst, ◌∙◌}
+use Rattle.std.specs.Slice.{IsItemAt}
+use Rattle.addr2line_lines.specs.CachedDetails.{seen_details}
+use Rattle.addr2line_lines.specs.FunctionCache.{seen_function}
+use Rattle.addr2line_lines.specs.FunctionTable.{CachedFunction, cached_offset_at}
+use Rattle.addr2line_lines.proofs.LentLemmas.{lent_is}
+use Rattle.addr2line_lines.proofs.functions.Functions.offset.Goals as goal
+
+pub returns : goal.returns
+returns g c =
+    let functions = c.self.inside.functions.items in
+    let n = c.args.place in
+    let lent = Some c.in_ok-function.function in
+    let seen = lent_is (seen_function (seen_details g.R.Reader.section c.self.inside.details)) functions n lent (subst (λ xs. IsItemAt xs n lent) c.deref.ensures.value c.in_ok-function.ensures.lookup) in
+    record { gives = ap (option_map (λ (f : CachedFunction). f.offset)) seen ∙ ap (λ t. cached_offset_at t n) c.self.view_is }

@@ -1,9 +1,10 @@
 //! The symbol of a probe.
 
-use crate::tables::{first_wrong_probe, first_wrong_symbol, symbols_file, symbols_file_as};
-use elf_writer::{SHAPES, Section, Shape, elf_file, named_symbol, plain, symbol_tables};
+use crate::tables::{
+    first_wrong_change, first_wrong_probe, first_wrong_symbol, symbols_file, symbols_file_as,
+};
+use elf_writer::{SHAPES, Section, Shape, Symbol, elf_file, named_symbol, plain, symbol_tables};
 use std::alloc::Global;
-use std::test::Fail;
 
 const SHT_SYMTAB: u32 = 2;
 
@@ -65,14 +66,12 @@ function, unique; 5d: 02; 75: a2; second 10
 ";
 
 #[test]
-fn the_preferred_one_of_an_address(rt: HostRuntime) -> Result<(), Fail> {
+fn the_preferred_one_of_an_address(rt: HostRuntime) {
     let symbols = [
         named_symbol(b"first", 0x12, 0x10, 0),
         named_symbol(b"second", 0x12, 0x10, 0),
     ];
-    let file = symbols_file(rt.alloc(), SHAPES[0], &symbols).ok_or("a file")?;
-    assert_eq!(rt; first_wrong_symbol(rt.alloc(), &file, PREFERRED), "none");
-    Ok(())
+    assert_eq!(rt; first_wrong_change(rt.alloc(), &symbols, PREFERRED), "none");
 }
 
 // Of 64 bits, little endian: "kept" at 0x10 and "other" at 0x18, of which st_info is at 75,
@@ -102,14 +101,12 @@ the name begins after a character; 71: 08; 8f: c3 a9 62 00; b 18
 ";
 
 #[test]
-fn what_is_no_symbol(rt: HostRuntime) -> Result<(), Fail> {
+fn what_is_no_symbol(rt: HostRuntime) {
     let symbols = [
         named_symbol(b"kept", 0x12, 0x10, 0),
         named_symbol(b"other", 0x12, 0x18, 0),
     ];
-    let file = symbols_file(rt.alloc(), SHAPES[0], &symbols).ok_or("a file")?;
-    assert_eq!(rt; first_wrong_symbol(rt.alloc(), &file, USABLE), "none");
-    Ok(())
+    assert_eq!(rt; first_wrong_change(rt.alloc(), &symbols, USABLE), "none");
 }
 
 const REACHED: &str = "\
@@ -127,17 +124,23 @@ ff ff ff ff ff ff ff fe; last ff ff ff ff ff ff ff fe
 ff ff ff ff ff ff ff ff; last ff ff ff ff ff ff ff fe
 ";
 
+// The first probe that has another symbol than it should.
+fn first_wrong_reach<'a>(alloc: Global, symbols: &[Symbol<'_>], cases: &'a str) -> &'a str {
+    match symbols_file(alloc, SHAPES[0], symbols) {
+        Some(file) => first_wrong_probe(alloc, &file, cases),
+        None => "no file",
+    }
+}
+
 #[test]
-fn the_nearest_one_has_to_reach(rt: HostRuntime) -> Result<(), Fail> {
+fn the_nearest_one_has_to_reach(rt: HostRuntime) {
     let symbols = [
         named_symbol(b"open", 0x12, 0x40, 0),
         named_symbol(b"inner", 0x12, 0x20, 4),
         named_symbol(b"outer", 0x12, 0x10, 0x100),
         named_symbol(b"last", 0x12, u64::MAX - 1, 4),
     ];
-    let file = symbols_file(rt.alloc(), SHAPES[0], &symbols).ok_or("a file")?;
-    assert_eq!(rt; first_wrong_probe(rt.alloc(), &file, REACHED), "none");
-    Ok(())
+    assert_eq!(rt; first_wrong_reach(rt.alloc(), &symbols, REACHED), "none");
 }
 
 // Of 64 bits, little endian: a SYMTAB with a symbol at 10, another one with that name at 8, and
@@ -182,9 +185,15 @@ fn two_tables(alloc: Global) -> Option<Vec<u8>> {
     .ok()
 }
 
+// The first line whose answer is another one in that file.
+fn first_wrong_table(alloc: Global, cases: &str) -> &str {
+    match two_tables(alloc) {
+        Some(file) => first_wrong_symbol(alloc, &file, cases),
+        None => "no file",
+    }
+}
+
 #[test]
-fn which_table_counts(rt: HostRuntime) -> Result<(), Fail> {
-    let file = two_tables(rt.alloc()).ok_or("a file")?;
-    assert_eq!(rt; first_wrong_symbol(rt.alloc(), &file, TABLES), "none");
-    Ok(())
+fn which_table_counts(rt: HostRuntime) {
+    assert_eq!(rt; first_wrong_table(rt.alloc(), TABLES), "none");
 }

@@ -6,7 +6,7 @@
 
 use crate::answers::{EMPTY, digits, open, refusal, section_number, symbol_numbers};
 use elf::{ElfFile, LoaderError};
-use elf_writer::{Section, Shape, Symbol, elf_file, plain, symbol_tables};
+use elf_writer::{SHAPES, Section, Shape, Symbol, elf_file, plain, symbol_tables};
 use std::alloc::Global;
 
 const SHT_SYMTAB: u32 = 2;
@@ -116,6 +116,18 @@ pub(crate) fn first_wrong_symbol<'a>(alloc: Global, file: &[u8], cases: &'a str)
         }
     }
     "none"
+}
+
+/// The same in a file of 64 bits, little endian, with these symbols.
+pub(crate) fn first_wrong_change<'a>(
+    alloc: Global,
+    symbols: &[Symbol<'_>],
+    cases: &'a str,
+) -> &'a str {
+    match symbols_file(alloc, SHAPES[0], symbols) {
+        Some(file) => first_wrong_symbol(alloc, &file, cases),
+        None => "no file",
+    }
 }
 
 // Whether a probe has its symbol; `None` where the case can't be read.

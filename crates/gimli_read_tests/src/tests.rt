@@ -9,10 +9,9 @@ mod tables;
 
 use bytes::Bytes;
 use gimli_read::{
-    Abbreviations, AttributeSpecification, EndianBytes, EndianSlice, Error, RunTimeEndian,
+    Abbreviations, AttributeSpecification, EndianBytes, EndianSlice, Error, Reader, RunTimeEndian,
 };
 use std::alloc::{AllocError, Global};
-use std::test::Fail;
 
 // An answer as a number: a fault stands past all numbers of 128 bits less a few.
 const OOM: u128 = u128::MAX;
@@ -68,20 +67,41 @@ fn digit(byte: u8) -> u8 {
     }
 }
 
-// The bytes that a word spells in hexadecimal; `-` is none.
-fn bytes(alloc: Global, word: &str) -> Result<Vec<u8>, Fail> {
-    let mut bytes = Vec::new(alloc);
+// The bytes that a word spells in hexadecimal, at most twenty, and how many they are; `-` is none.
+fn bytes(word: &str) -> ([u8; 20], usize) {
+    let mut bytes = [0; 20];
+    let mut len = 0;
     let mut high = None;
-    for byte in word.as_bytes() {
+    for digit_byte in word.as_bytes() {
         match high {
-            None => high = Some(digit(*byte).wrapping_mul(16)),
+            None => high = Some(digit(*digit_byte).wrapping_mul(16)),
             Some(high_digit) => {
-                bytes.push(digit(*byte).wrapping_add(high_digit))?;
+                if let Some(byte) = bytes.get_mut(len) {
+                    *byte = digit(*digit_byte).wrapping_add(high_digit);
+                    len += 1;
+                }
                 high = None;
             }
         }
     }
-    Ok(bytes)
+    (bytes, len)
+}
+
+fn front(bytes: &[u8], len: usize) -> &[u8] {
+    bytes.get(..len).unwrap_or(bytes)
+}
+
+// The first six words of a line, empty ones past its end.
+fn words(line: &str) -> [&str; 6] {
+    let mut words = line.split_whitespace();
+    [
+        words.next().unwrap_or(""),
+        words.next().unwrap_or(""),
+        words.next().unwrap_or(""),
+        words.next().unwrap_or(""),
+        words.next().unwrap_or(""),
+        words.next().unwrap_or(""),
+    ]
 }
 
 // The number that a word spells in hexadecimal.
@@ -105,6 +125,17 @@ fn answer(word: &str) -> u128 {
 // A reader that shares a copy of the bytes.
 fn shared(alloc: Global, bytes: &[u8], endian: RunTimeEndian) -> Result<EndianBytes, AllocError> {
     Ok(EndianBytes::new(Bytes::copy_from_slice(alloc, bytes)?, endian))
+}
+
+// The bytes of an input as a text, or a refusal.
+fn text<R: Reader>(alloc: Global, input: Result<R, AllocError>) -> u128 {
+    let Ok(input) = input else {
+        return OOM;
+    };
+    match input.to_string_lossy(alloc) {
+        Ok(text) => spelled(text.as_bytes()),
+        Err(error) => fault(error),
+    }
 }
 
 // An attribute by the name call_line (0x59) of a form below 0x4000, as a table has it; 9 is its

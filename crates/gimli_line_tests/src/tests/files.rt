@@ -4,8 +4,7 @@ use super::opcodes::{USUAL, program};
 use super::{PLAIN, PLAIN5, code_of, shared, text_code};
 use gimli_line::{LineProgramHeader, LineRows, read_line_program};
 use gimli_read::{EndianSlice, Error, Reader, RunTimeEndian};
-use std::alloc::Global;
-use std::test::Fail;
+use std::alloc::{AllocError, Global};
 
 // A file: its path, its directory's index and the directory; 9 where there is no such file.
 fn file_code<R: Reader>(header: &LineProgramHeader<R>, index: u64) -> [u64; 3] {
@@ -40,37 +39,66 @@ fn files_code<R: Reader>(rows: &LineRows<R>) -> [[u64; 3]; 4] {
     ]
 }
 
-// The same at once, and after each of the next two rows.
-fn program_files<R: Reader>(alloc: Global, input: R) -> Result<[[[u64; 3]; 4]; 3], Error> {
-    let program = read_line_program(alloc, input, 8)?;
-    let mut rows = program.rows()?;
-    let first = files_code(&rows);
+// What is said of the files at once, and after each of the next two rows.
+type Files = [[[u64; 3]; 4]; 3];
+
+// A fault in place of all that is said.
+fn refused(error: Error) -> Files {
+    [[[code_of(error), 0, 0]; 4]; 3]
+}
+
+fn rows_files<R: Reader>(rows: &mut LineRows<R>) -> Result<Files, Error> {
+    let first = files_code(rows);
     rows.next_row()?;
-    let second = files_code(&rows);
+    let second = files_code(rows);
     rows.next_row()?;
-    Ok([first, second, files_code(&rows)])
+    Ok([first, second, files_code(rows)])
+}
+
+fn program_files<R: Reader>(alloc: Global, input: Result<R, AllocError>) -> Files {
+    let Ok(input) = input else {
+        return refused(Error::OutOfMemory);
+    };
+    match read_line_program(alloc, input, 8) {
+        Ok(program) => match program.rows() {
+            Ok(mut rows) => rows_files(&mut rows).unwrap_or_else(refused),
+            Err(error) => refused(error),
+        },
+        Err(error) => refused(error),
+    }
+}
+
+// The files of a program over both readers.
+fn both_files(alloc: Global, bytes: &[u8]) -> [Files; 2] {
+    let little = RunTimeEndian::Little;
+    [
+        program_files(alloc, Ok(EndianSlice::new(bytes, little))),
+        program_files(alloc, shared(alloc, bytes, little)),
+    ]
+}
+
+// The files of a program of opcodes.
+fn opcode_files(alloc: Global, opcodes: &[u8]) -> Files {
+    let little = RunTimeEndian::Little;
+    match program(alloc, little, USUAL, opcodes) {
+        Ok(bytes) => program_files(alloc, Ok(EndianSlice::new(&bytes, little))),
+        Err(_) => refused(Error::OutOfMemory),
+    }
 }
 
 #[test]
-fn files_have_a_path_and_a_directory(rt: HostRuntime) -> Result<(), Fail> {
+fn files_have_a_path_and_a_directory(rt: HostRuntime) {
     let none = [9, 9, 9];
-    let little = RunTimeEndian::Little;
     // From 1 below version 5, where directory 0 is the unit's own.
     let plain = [[4, 1, 0], none, [100, 0, 9], none];
     let plain5 = [[5, 1, 0], [100, 0, 102], none, none];
-    let given = [
-        program_files(rt.alloc(), EndianSlice::new(&PLAIN, little))?,
-        program_files(rt.alloc(), shared(rt.alloc(), &PLAIN, little)?)?,
-        program_files(rt.alloc(), EndianSlice::new(&PLAIN5, little))?,
-        program_files(rt.alloc(), shared(rt.alloc(), &PLAIN5, little)?)?,
-    ];
-    assert_eq!(rt; given, [[plain; 3], [plain; 3], [plain5; 3], [plain5; 3]]);
+    let cases: [(&[u8], [[u64; 3]; 4]); 2] = [(&PLAIN, plain), (&PLAIN5, plain5)];
+    for (bytes, want) in cases {
+        assert_eq!(rt; both_files(rt.alloc(), bytes), [[want; 3]; 2]);
+    }
     // A file that is defined follows those of the table, from the next row on.
-    let opcodes = [1, 0, 6, 3, 0x62, 0, 2, 0, 0, 1];
-    let bytes = program(rt.alloc(), little, USUAL, &opcodes)?;
-    let given = program_files(rt.alloc(), EndianSlice::new(&bytes, little))?;
     let before = [[4, 0, 0], none, none, none];
     let after = [[4, 1, 0], none, [103, 2, 9], none];
-    assert_eq!(rt; given, [before, before, after]);
-    Ok(())
+    let found = opcode_files(rt.alloc(), &[1, 0, 6, 3, 0x62, 0, 2, 0, 0, 1]);
+    assert_eq!(rt; found, [before, before, after]);
 }

@@ -1,11 +1,14 @@
 //! Values of each form, in both byte orders and both formats.
 
-use super::{EOF, answer, borrowed, bytes, fault, number as word, shared, specification, spelled};
+use super::{
+    EOF, OOM, answer, borrowed, bytes, fault, front, number as word, shared, specification,
+    spelled, words,
+};
 use gimli_read::{
     AttributeSpecification, AttributeValue, DwAt, DwForm, Encoding, Error, Format, Reader,
     RunTimeEndian, read_attribute, read_value,
 };
-use std::test::Fail;
+use std::alloc::{AllocError, Global};
 
 // Read in each form; the first byte is a LEB128 number too.
 const BYTES: [u8; 18] = [1, 2, 3, 4, 5, 6, 7, 8, 9, 10, 11, 12, 13, 14, 15, 16, 0, 17];
@@ -90,8 +93,10 @@ fn shown<R: Reader>(value: &AttributeValue<R>) -> [u128; 2] {
 }
 
 // The variant of a form's value, its number or bytes, and how many bytes are left; a fault alone.
-fn value<R: Reader>(input: R, encoding: Encoding, form: u64) -> [u128; 3] {
-    let mut input = input;
+fn value<R: Reader>(input: Result<R, AllocError>, encoding: Encoding, form: u64) -> [u128; 3] {
+    let Ok(mut input) = input else {
+        return [OOM, 0, 0];
+    };
     match read_value(&mut input, encoding, DwForm(form)) {
         Ok(value) => {
             let [variant, number] = shown(&value);
@@ -99,6 +104,20 @@ fn value<R: Reader>(input: R, encoding: Encoding, form: u64) -> [u128; 3] {
         }
         Err(error) => [fault(error), 0, 0],
     }
+}
+
+// The same over both readers.
+fn values(
+    alloc: Global,
+    bytes: &[u8],
+    order: RunTimeEndian,
+    encoding: Encoding,
+    form: u64,
+) -> [[u128; 3]; 2] {
+    [
+        value(Ok(borrowed(bytes, order)), encoding, form),
+        value(shared(alloc, bytes, order), encoding, form),
+    ]
 }
 
 // The number that the first bytes of BYTES are.
@@ -174,23 +193,29 @@ fn encoding(format: Format) -> Encoding {
     }
 }
 
+// What both readers find in BYTES in 32-bit and in 64-bit DWARF.
+fn found(alloc: Global, order: RunTimeEndian, form: u64) -> [[[u128; 3]; 2]; 2] {
+    [
+        values(alloc, &BYTES, order, encoding(Format::Dwarf32), form),
+        values(alloc, &BYTES, order, encoding(Format::Dwarf64), form),
+    ]
+}
+
+// What is to be found of a number of that width.
+fn wanted(order: RunTimeEndian, variant: u128, width: u64) -> [[u128; 3]; 2] {
+    let left = 18u64.wrapping_sub(width);
+    [[variant, number(order, width), u128::from(left)]; 2]
+}
+
 #[test]
-fn each_form_of_a_number_is_read(rt: HostRuntime) -> Result<(), Fail> {
-    for endian in [RunTimeEndian::Little, RunTimeEndian::Big] {
-        let shares = shared(rt.alloc(), &BYTES, endian)?;
+fn each_form_of_a_number_is_read(rt: HostRuntime) {
+    for order in [RunTimeEndian::Little, RunTimeEndian::Big] {
         for (form, variant, short, long) in FORMS {
-            for (format, width) in [(Format::Dwarf32, short), (Format::Dwarf64, long)] {
-                let left = 18u64.wrapping_sub(width);
-                let want = [variant, number(endian, width), u128::from(left)];
-                let found = [
-                    value(borrowed(&BYTES, endian), encoding(format), form),
-                    value(shares.duplicate()?, encoding(format), form),
-                ];
-                assert_eq!(rt; found, [want, want], "form {form}");
-            }
+            let found = found(rt.alloc(), order, form);
+            let want = [wanted(order, variant, short), wanted(order, variant, long)];
+            assert_eq!(rt; found, want, "form {form}");
         }
     }
-    Ok(())
 }
 
 // A form, the bytes, and what is read in 64-bit DWARF with the lowest byte first: the variant in
@@ -224,27 +249,24 @@ const SPECIAL: &str = "08 0102030405060708090a0b0c0d0e0f100011 18 10 1
 2b 010203 d 30201 0
 10 0102030405060708 f 807060504030201 0";
 
+// What both readers find in the bytes that a text spells.
+fn found_in(alloc: Global, text: &str, form: &str) -> [[u128; 3]; 2] {
+    let (room, len) = bytes(text);
+    let order = RunTimeEndian::Little;
+    let long = encoding(Format::Dwarf64);
+    values(alloc, front(&room, len), order, long, word(form))
+}
+
 #[test]
-fn blocks_texts_and_indirections_are_read(rt: HostRuntime) -> Result<(), Fail> {
+fn blocks_texts_and_indirections_are_read(rt: HostRuntime) {
     let mut cases = 0u64;
     for line in SPECIAL.split('\n') {
-        let words: Vec<&str> = line.split_whitespace().collect(rt.alloc())?;
-        if let [form, text, variant, what, left] = words.as_slice() {
-            let bytes = bytes(rt.alloc(), text)?;
-            let form = word(form);
-            let want = [answer(variant), answer(what), answer(left)];
-            let order = RunTimeEndian::Little;
-            let long = encoding(Format::Dwarf64);
-            let found = [
-                value(borrowed(&bytes, order), long, form),
-                value(shared(rt.alloc(), &bytes, order)?, long, form),
-            ];
-            assert_eq!(rt; found, [want, want], "form {form}");
-            cases = cases.wrapping_add(1);
-        }
+        let [form, text, variant, what, left, _] = words(line);
+        let want = [answer(variant), answer(what), answer(left)];
+        assert_eq!(rt; found_in(rt.alloc(), text, form), [want; 2], "form {form}");
+        cases = cases.wrapping_add(1);
     }
     assert_eq!(rt; cases, 28);
-    Ok(())
 }
 
 #[test]
@@ -255,15 +277,20 @@ fn ref_addr_of_version_2_is_an_address(rt: HostRuntime) {
             format: Format::Dwarf32,
             version,
         };
-        let found = value(borrowed(&BYTES, RunTimeEndian::Little), encoding, 0x10);
+        let found = value(Ok(borrowed(&BYTES, RunTimeEndian::Little)), encoding, 0x10);
         assert_eq!(rt; found, want);
     }
 }
 
 // The name of an attribute, its constant (1000 for none), how many bytes are left, its variant, and
 // its number.
-fn attribute<R: Reader>(input: R, specification: AttributeSpecification) -> [u128; 5] {
-    let mut input = input;
+fn attribute<R: Reader>(
+    input: Result<R, AllocError>,
+    specification: AttributeSpecification,
+) -> [u128; 5] {
+    let Ok(mut input) = input else {
+        return [OOM, 0, 0, 0, 0];
+    };
     match read_attribute(&mut input, encoding(Format::Dwarf32), specification) {
         Ok(attribute) => {
             let DwAt(name) = attribute.name();
@@ -282,8 +309,20 @@ fn attribute<R: Reader>(input: R, specification: AttributeSpecification) -> [u12
     }
 }
 
+// The same over both readers, of a form and its value in the table.
+fn attributes(alloc: Global, form: u64, constant: u8, bytes: &[u8]) -> [[u128; 5]; 2] {
+    let order = RunTimeEndian::Little;
+    match specification(alloc, form, constant) {
+        Ok(specification) => [
+            attribute(Ok(borrowed(bytes, order)), specification),
+            attribute(shared(alloc, bytes, order), specification),
+        ],
+        Err(error) => [[fault(error), 0, 0, 0, 0]; 2],
+    }
+}
+
 #[test]
-fn attributes_have_their_constants(rt: HostRuntime) -> Result<(), Fail> {
+fn attributes_have_their_constants(rt: HostRuntime) {
     // A form, its value in the table where it is implicit_const, and the bytes.
     let cases: [(u64, u8, &[u8], [u128; 5]); 9] = [
         (0x21, 9, &[], [0x59, 9, 0, SDATA, 9]),
@@ -312,15 +351,9 @@ fn attributes_have_their_constants(rt: HostRuntime) -> Result<(), Fail> {
         (0x01, 0, &BYTES, [0x59, 1000, 14, ADDR, 0x403_0201]),
     ];
     for (form, constant, bytes, want) in cases {
-        let order = RunTimeEndian::Little;
-        let specification = specification(rt.alloc(), form, constant)?;
-        let found = [
-            attribute(borrowed(bytes, order), specification),
-            attribute(shared(rt.alloc(), bytes, order)?, specification),
-        ];
-        assert_eq!(rt; found, [want, want], "form {form}");
+        let found = attributes(rt.alloc(), form, constant, bytes);
+        assert_eq!(rt; found, [want; 2], "form {form}");
     }
-    Ok(())
 }
 
 #[test]

@@ -1,12 +1,11 @@
 //! Refused growths: `OutOfMemory` alone, and the reader is as it was.
 
-use super::{EOF, OOM, borrowed, fault, shared, specification, spelled};
+use super::{EOF, OOM, borrowed, fault, shared, specification, spelled, text as shown};
 use gimli_read::{
     Abbreviations, AttributeValue, DwForm, Encoding, Error, Format, Reader, RunTimeEndian,
     read_attribute, read_value,
 };
 use std::alloc::Global;
-use std::test::Fail;
 
 // A text that is no UTF-8, its zero, a length, and as many bytes.
 const BYTES: [u8; 7] = [0x61, 0xff, 0x62, 0, 2, 8, 9];
@@ -78,13 +77,6 @@ fn block<R: Reader>(alloc: Global, input: R) -> u128 {
     }
 }
 
-fn shown<R: Reader>(alloc: Global, input: R) -> u128 {
-    match input.to_string_lossy(alloc) {
-        Ok(text) => spelled(text.as_bytes()),
-        Err(error) => fault(error),
-    }
-}
-
 // How many attributes the abbreviations of two codes have, 100 for none.
 fn counts(alloc: Global, bytes: &[u8], first: u64, second: u64) -> [u128; 2] {
     match Abbreviations::parse(alloc, borrowed(bytes, RunTimeEndian::Little)) {
@@ -106,8 +98,8 @@ fn each(alloc: Global) -> Result<[[u128; 2]; 9], Error> {
         text(shared(alloc, &BYTES, order)?),
         [string(shared(alloc, &BYTES, order)?), 0],
         [block(alloc, shared(alloc, &BYTES[4..], order)?), 0],
-        [shown(alloc, shared(alloc, &BYTES[..3], order)?), 0],
-        [shown(alloc, borrowed(&BYTES[..3], order)), 0],
+        [shown(alloc, shared(alloc, &BYTES[..3], order)), 0],
+        [shown(alloc, Ok(borrowed(&BYTES[..3], order))), 0],
         counts(alloc, &TABLE, 1, 2),
         counts(alloc, &SPARSE, 300, 9),
     ])
@@ -141,8 +133,9 @@ const REFUSED: [[u128; 2]; 9] = [
 // Whether each answer is the granted one or the refused one.
 fn is_either(found: [[u128; 2]; 9]) -> bool {
     let mut either = true;
-    for ((found, granted), refused) in found.into_iter().zip(GRANTED).zip(REFUSED) {
-        either = either && (found == granted || found == refused);
+    for index in 0..9 {
+        let answer = found[index];
+        either = either && (answer == GRANTED[index] || answer == REFUSED[index]);
     }
     either
 }
@@ -154,10 +147,9 @@ fn a_refused_growth_leaves_the_reader(rt: HostRuntime) {
 }
 
 #[test]
-fn each_growth_is_granted(rt: HostRuntime) -> Result<(), Fail> {
-    let found = each(rt.alloc())?;
+fn each_growth_is_granted(rt: HostRuntime) {
+    let found = each(rt.alloc()).unwrap_or([[0; 2]; 9]);
     assert_eq!(rt; found, GRANTED);
-    Ok(())
 }
 
 // Borrowed bytes are never counted.

@@ -1,8 +1,8 @@
 //! The calls of both readers.
 
-use super::{EOF, SIZE, answer, borrowed, bytes, fault, shared, spelled};
+use super::{EOF, OOM, SIZE, answer, borrowed, bytes, fault, front, shared, spelled, text, words};
 use gimli_read::{Error, Format, Reader, RunTimeEndian, read_initial_length};
-use std::test::Fail;
+use std::alloc::{AllocError, Global};
 
 fn number(answer: Result<u64, Error>) -> u128 {
     match answer {
@@ -39,15 +39,32 @@ fn skipped<R: Reader>(input: &mut R, len: u64) -> Result<u64, Error> {
     Ok(1)
 }
 
+fn order_of_a_part<R: Reader>(part: Result<R, Error>) -> Result<u64, Error> {
+    match part {
+        Ok(part) => Ok(order(part.endian())),
+        Err(error) => Err(error),
+    }
+}
+
+// A number that is as wide as its call says, or a LEB128 number.
 fn fixed<R: Reader>(input: &mut R, call: &str) -> Result<u64, Error> {
     match call {
-        "u8" => Ok(u64::from(input.read_u8()?)),
-        "i8" => Ok(i64::from(input.read_i8()?).cast_unsigned()),
-        "u16" => Ok(u64::from(input.read_u16()?)),
-        "u32" => Ok(u64::from(input.read_u32()?)),
+        "u8" => input.read_u8().map(u64::from),
+        "i8" => input
+            .read_i8()
+            .map(|number| i64::from(number).cast_unsigned()),
+        "u16" => input.read_u16().map(u64::from),
+        "u32" => input.read_u32().map(u64::from),
         "u64" => input.read_u64(),
         "uleb" => input.read_uleb128(),
-        "sleb" => Ok(input.read_sleb128()?.cast_unsigned()),
+        "sleb" => input.read_sleb128().map(i64::cast_unsigned),
+        _ => sized(input, call),
+    }
+}
+
+// A number that is as wide as the unit says.
+fn sized<R: Reader>(input: &mut R, call: &str) -> Result<u64, Error> {
+    match call {
         "address0" => input.read_address(0),
         "address1" => input.read_address(1),
         "address2" => input.read_address(2),
@@ -56,20 +73,29 @@ fn fixed<R: Reader>(input: &mut R, call: &str) -> Result<u64, Error> {
         "address8" => input.read_address(8),
         "offset32" => input.read_offset(Format::Dwarf32),
         "offset64" => input.read_offset(Format::Dwarf64),
+        _ => told(input, call),
+    }
+}
+
+// What a reader tells of itself, and bytes that are passed over.
+fn told<R: Reader>(input: &mut R, call: &str) -> Result<u64, Error> {
+    match call {
         "skip2" => skipped(input, 2),
         "skip8" => skipped(input, 8),
         "skip all" => skipped(input, u64::MAX),
         "is_empty" => Ok(u64::from(input.is_empty())),
         "order" => Ok(order(input.endian())),
-        "order_of_a_part" => Ok(order(input.split(2)?.endian())),
-        "order_of_a_second" => Ok(order(input.duplicate()?.endian())),
+        "order_of_a_part" => order_of_a_part(input.split(2)),
+        "order_of_a_second" => order_of_a_part(input.duplicate()),
         _ => Ok(u64::MAX),
     }
 }
 
 // The answer of a call as a number, and how many bytes are left.
-fn called<R: Reader>(input: R, call: &str) -> [u128; 2] {
-    let mut input = input;
+fn called<R: Reader>(input: Result<R, AllocError>, call: &str) -> [u128; 2] {
+    let Ok(mut input) = input else {
+        return [OOM, 0];
+    };
     let answer = match call {
         "text" => part(input.read_null_terminated()),
         "split2" => part(input.split(2)),
@@ -183,27 +209,31 @@ length feffffff length feffffff 0
 length ffffffff2300000000000000 8000000000000023 a300000000000000 0
 length ffffffff23000000000000 eof eof 7";
 
+// What both readers of the bytes that a text spells answer.
+fn both_called(alloc: Global, text: &str, endian: RunTimeEndian, call: &str) -> [[u128; 2]; 2] {
+    let (room, len) = bytes(text);
+    let bytes = front(&room, len);
+    [
+        called(Ok(borrowed(bytes, endian)), call),
+        called(shared(alloc, bytes, endian), call),
+    ]
+}
+
 #[test]
-fn both_readers_answer_alike_in_both_orders(rt: HostRuntime) -> Result<(), Fail> {
+fn both_readers_answer_alike_in_both_orders(rt: HostRuntime) {
     let mut cases = 0u64;
     for line in CALLS.split('\n') {
-        let words: Vec<&str> = line.split_whitespace().collect(rt.alloc())?;
-        if let [call, text, little, big, left] = words.as_slice() {
-            let bytes = bytes(rt.alloc(), text)?;
-            let left = answer(left);
-            for (endian, want) in [(RunTimeEndian::Little, little), (RunTimeEndian::Big, big)] {
-                let want = [answer(want), left];
-                let found = [
-                    called(borrowed(&bytes, endian), call),
-                    called(shared(rt.alloc(), &bytes, endian)?, call),
-                ];
-                assert_eq!(rt; found, [want, want], "{call}");
-            }
-            cases = cases.wrapping_add(1);
-        }
+        let [call, text, little, big, left, _] = words(line);
+        let found = [
+            both_called(rt.alloc(), text, RunTimeEndian::Little, call),
+            both_called(rt.alloc(), text, RunTimeEndian::Big, call),
+        ];
+        let left = answer(left);
+        let want = [[[answer(little), left]; 2], [[answer(big), left]; 2]];
+        assert_eq!(rt; found, want, "{call}");
+        cases = cases.wrapping_add(1);
     }
     assert_eq!(rt; cases, 93);
-    Ok(())
 }
 
 // A call, and how many bytes it takes; past all bytes of a refused size.
@@ -227,25 +257,36 @@ const WIDTHS: [(&str, usize, u128); 17] = [
     ("address0", 8, SIZE),
 ];
 
-#[test]
-fn a_reading_past_the_end_is_refused_and_leaves_all(rt: HostRuntime) -> Result<(), Fail> {
-    let bytes = [1, 2, 3, 4, 5, 6, 7];
-    for (call, width, want) in WIDTHS {
-        for len in 0..width {
-            let short = &bytes[..len];
-            let want = [want, len as u128];
-            let found = [
-                called(borrowed(short, RunTimeEndian::Little), call),
-                called(shared(rt.alloc(), short, RunTimeEndian::Big)?, call),
-            ];
-            assert_eq!(rt; found, [want, want], "{call}");
-        }
-    }
-    Ok(())
+// What both readers of so many bytes answer.
+fn short_called(alloc: Global, len: usize, call: &str) -> [[u128; 2]; 2] {
+    let short = front(&[1, 2, 3, 4, 5, 6, 7], len);
+    [
+        called(Ok(borrowed(short, RunTimeEndian::Little)), call),
+        called(shared(alloc, short, RunTimeEndian::Big), call),
+    ]
 }
 
 #[test]
-fn texts_are_shown(rt: HostRuntime) -> Result<(), Fail> {
+fn a_reading_past_the_end_is_refused_and_leaves_all(rt: HostRuntime) {
+    for (call, width, want) in WIDTHS {
+        for len in 0..width {
+            let found = short_called(rt.alloc(), len, call);
+            assert_eq!(rt; found, [[want, len as u128]; 2], "{call}");
+        }
+    }
+}
+
+// The text that both readers show.
+fn both_texts(alloc: Global, bytes: &[u8]) -> [u128; 2] {
+    let order = RunTimeEndian::Little;
+    [
+        text(alloc, Ok(borrowed(bytes, order))),
+        text(alloc, shared(alloc, bytes, order)),
+    ]
+}
+
+#[test]
+fn texts_are_shown(rt: HostRuntime) {
     let cases: [(&[u8], u128); 4] = [
         (b"ab", 0x1_6162),
         (&[0x63, 0xff, 0x64], 0x163_efbf_bd64),
@@ -253,67 +294,46 @@ fn texts_are_shown(rt: HostRuntime) -> Result<(), Fail> {
         (&[0xff], 0x1ef_bfbd),
     ];
     for (bytes, want) in cases {
-        let shares = shared(rt.alloc(), bytes, RunTimeEndian::Little)?;
-        let slice = borrowed(bytes, RunTimeEndian::Little);
-        let text = slice.to_string_lossy(rt.alloc())?;
-        let same = shares.to_string_lossy(rt.alloc())?;
-        let found = [spelled(text.as_bytes()), spelled(same.as_bytes())];
-        assert_eq!(rt; found, [want, want]);
+        assert_eq!(rt; both_texts(rt.alloc(), bytes), [want; 2]);
     }
-    Ok(())
 }
 
-const TEXTS: &str = "out of memory
-unexpected end of data
-bad LEB128 number
-unknown reserved length
-unknown DWARF version
-unknown unit type
-unsupported address size
-unsupported segment size
-bad abbreviation
-unknown abbreviation code
-unknown attribute form
-missing unit entry
-offset out of bounds
-expected a string
-no supplementary file
-no entry at the given offset
-unknown range list entry
-bad line program header
-address overflow
-unknown unit token";
+// Whether a refusal prints this text.
+fn prints(alloc: Global, error: Error, want: &str) -> bool {
+    match format!(in alloc; "{}", error) {
+        Ok(text) => text.as_str() == want,
+        Err(_) => false,
+    }
+}
 
 #[test]
-fn refusals_print_their_text(rt: HostRuntime) -> Result<(), Fail> {
-    let errors = [
-        Error::OutOfMemory,
-        Error::UnexpectedEof,
-        Error::BadLeb128,
-        Error::UnknownReservedLength,
-        Error::UnknownVersion,
-        Error::UnknownUnitType,
-        Error::UnsupportedAddressSize,
-        Error::UnsupportedSegmentSize,
-        Error::BadAbbreviation,
-        Error::UnknownAbbreviation,
-        Error::UnknownForm,
-        Error::MissingUnitDie,
-        Error::OffsetOutOfBounds,
-        Error::ExpectedString,
-        Error::NoSupplementary,
-        Error::NoEntryAtGivenOffset(7),
-        Error::UnknownRangeListEntry,
-        Error::BadLineHeader,
-        Error::AddressOverflow,
-        Error::UnknownToken,
+fn refusals_print_their_text(rt: HostRuntime) {
+    let cases = [
+        (Error::OutOfMemory, "out of memory"),
+        (Error::UnexpectedEof, "unexpected end of data"),
+        (Error::BadLeb128, "bad LEB128 number"),
+        (Error::UnknownReservedLength, "unknown reserved length"),
+        (Error::UnknownVersion, "unknown DWARF version"),
+        (Error::UnknownUnitType, "unknown unit type"),
+        (Error::UnsupportedAddressSize, "unsupported address size"),
+        (Error::UnsupportedSegmentSize, "unsupported segment size"),
+        (Error::BadAbbreviation, "bad abbreviation"),
+        (Error::UnknownAbbreviation, "unknown abbreviation code"),
+        (Error::UnknownForm, "unknown attribute form"),
+        (Error::MissingUnitDie, "missing unit entry"),
+        (Error::OffsetOutOfBounds, "offset out of bounds"),
+        (Error::ExpectedString, "expected a string"),
+        (Error::NoSupplementary, "no supplementary file"),
+        (
+            Error::NoEntryAtGivenOffset(7),
+            "no entry at the given offset",
+        ),
+        (Error::UnknownRangeListEntry, "unknown range list entry"),
+        (Error::BadLineHeader, "bad line program header"),
+        (Error::AddressOverflow, "address overflow"),
+        (Error::UnknownToken, "unknown unit token"),
     ];
-    let mut cases = 0u64;
-    for (error, want) in errors.into_iter().zip(TEXTS.split('\n')) {
-        let text = format!(in rt.alloc(); "{}", error)?;
-        assert_eq!(rt; text.as_str(), want);
-        cases = cases.wrapping_add(1);
+    for (error, want) in cases {
+        assert!(rt; prints(rt.alloc(), error, want), "{want}");
     }
-    assert_eq!(rt; cases, 20);
-    Ok(())
 }

@@ -1,15 +1,20 @@
 //! Attributes that are passed over, beside the same ones read.
 
-use super::{answer, borrowed, bytes, fault, number, shared, specification};
+use super::{OOM, answer, borrowed, bytes, fault, front, number, shared, specification, words};
 use gimli_read::{
     AttributeSpecification, Encoding, Format, Reader, RunTimeEndian, read_attribute, skip_attribute,
 };
-use std::alloc::Global;
-use std::test::Fail;
+use std::alloc::{AllocError, Global};
 
 // How many bytes are left after an attribute that is passed over.
-fn passed<R: Reader>(input: R, encoding: Encoding, specification: AttributeSpecification) -> u128 {
-    let mut input = input;
+fn passed<R: Reader>(
+    input: Result<R, AllocError>,
+    encoding: Encoding,
+    specification: AttributeSpecification,
+) -> u128 {
+    let Ok(mut input) = input else {
+        return OOM;
+    };
     match skip_attribute(&mut input, encoding, specification) {
         Ok(()) => u128::from(input.len()),
         Err(error) => fault(error),
@@ -17,8 +22,14 @@ fn passed<R: Reader>(input: R, encoding: Encoding, specification: AttributeSpeci
 }
 
 // How many bytes are left after an attribute that is read.
-fn read<R: Reader>(input: R, encoding: Encoding, specification: AttributeSpecification) -> u128 {
-    let mut input = input;
+fn read<R: Reader>(
+    input: Result<R, AllocError>,
+    encoding: Encoding,
+    specification: AttributeSpecification,
+) -> u128 {
+    let Ok(mut input) = input else {
+        return OOM;
+    };
     match read_attribute(&mut input, encoding, specification) {
         Ok(_) => u128::from(input.len()),
         Err(error) => fault(error),
@@ -26,19 +37,36 @@ fn read<R: Reader>(input: R, encoding: Encoding, specification: AttributeSpecifi
 }
 
 // What passing over and reading leave, each over both readers.
-fn left(
+fn left_after(
     alloc: Global,
     bytes: &[u8],
     order: RunTimeEndian,
     encoding: Encoding,
     specification: AttributeSpecification,
-) -> Result<[u128; 4], Fail> {
-    Ok([
-        passed(borrowed(bytes, order), encoding, specification),
-        passed(shared(alloc, bytes, order)?, encoding, specification),
-        read(borrowed(bytes, order), encoding, specification),
-        read(shared(alloc, bytes, order)?, encoding, specification),
-    ])
+) -> [u128; 4] {
+    [
+        passed(Ok(borrowed(bytes, order)), encoding, specification),
+        passed(shared(alloc, bytes, order), encoding, specification),
+        read(Ok(borrowed(bytes, order)), encoding, specification),
+        read(shared(alloc, bytes, order), encoding, specification),
+    ]
+}
+
+// The same of an attribute of a form, and of the bytes that a text spells.
+fn left(
+    alloc: Global,
+    text: &str,
+    order: RunTimeEndian,
+    encoding: Encoding,
+    form: &str,
+) -> [u128; 4] {
+    let (room, len) = bytes(text);
+    match specification(alloc, number(form), 9) {
+        Ok(specification) => {
+            left_after(alloc, front(&room, len), order, encoding, specification)
+        }
+        Err(error) => [fault(error); 4],
+    }
 }
 
 // The form, the size of addresses, the version, the bytes where a value stands, and how many are
@@ -111,29 +139,40 @@ const PASSED: &str = "01 4 5 0102030405060708090a 6 6
 21 4 5 07 1 1
 2e 4 5 0102030405060708090a form form";
 
+// The same in 32-bit and in 64-bit DWARF, of addresses of a size.
+fn left_in_both(
+    alloc: Global,
+    text: &str,
+    form: &str,
+    size: &str,
+    version: &str,
+) -> [[u128; 4]; 2] {
+    let short = Encoding {
+        address_size: u8::try_from(number(size)).unwrap_or(0),
+        format: Format::Dwarf32,
+        version: u16::try_from(number(version)).unwrap_or(0),
+    };
+    let long = Encoding {
+        format: Format::Dwarf64,
+        ..short
+    };
+    [
+        left(alloc, text, RunTimeEndian::Little, short, form),
+        left(alloc, text, RunTimeEndian::Little, long, form),
+    ]
+}
+
 #[test]
-fn what_is_passed_over_is_what_is_read(rt: HostRuntime) -> Result<(), Fail> {
+fn what_is_passed_over_is_what_is_read(rt: HostRuntime) {
     let mut cases = 0u64;
     for line in PASSED.split('\n') {
-        let words: Vec<&str> = line.split_whitespace().collect(rt.alloc())?;
-        if let [form, size, version, text, short, long] = words.as_slice() {
-            let bytes = bytes(rt.alloc(), text)?;
-            let specification = specification(rt.alloc(), number(form), 9)?;
-            for (format, want) in [(Format::Dwarf32, short), (Format::Dwarf64, long)] {
-                let encoding = Encoding {
-                    address_size: u8::try_from(number(size)).unwrap_or(0),
-                    format,
-                    version: u16::try_from(number(version)).unwrap_or(0),
-                };
-                let order = RunTimeEndian::Little;
-                let found = left(rt.alloc(), &bytes, order, encoding, specification)?;
-                assert_eq!(rt; found, [answer(want); 4], "form {form}");
-                cases = cases.wrapping_add(1);
-            }
-        }
+        let [form, size, version, text, short, long] = words(line);
+        let found = left_in_both(rt.alloc(), text, form, size, version);
+        let want = [[answer(short); 4], [answer(long); 4]];
+        assert_eq!(rt; found, want, "form {form}");
+        cases = cases.wrapping_add(2);
     }
     assert_eq!(rt; cases, 134);
-    Ok(())
 }
 
 // The form, the bytes where a value stands with the lowest byte first and with the highest first,
@@ -148,28 +187,33 @@ const ORDERED: &str = "0a 02080910 02080910 1
 08 610010 610010 1
 16 030200080910 030002080910 1";
 
+// What is left in both orders, and in each in 32-bit and in 64-bit DWARF.
+fn left_in_orders(alloc: Global, form: &str, little: &str, big: &str) -> [[u128; 4]; 4] {
+    let short = Encoding {
+        address_size: 4,
+        format: Format::Dwarf32,
+        version: 5,
+    };
+    let long = Encoding {
+        format: Format::Dwarf64,
+        ..short
+    };
+    [
+        left(alloc, little, RunTimeEndian::Little, short, form),
+        left(alloc, little, RunTimeEndian::Little, long, form),
+        left(alloc, big, RunTimeEndian::Big, short, form),
+        left(alloc, big, RunTimeEndian::Big, long, form),
+    ]
+}
+
 #[test]
-fn blocks_are_passed_over_in_both_orders(rt: HostRuntime) -> Result<(), Fail> {
+fn blocks_are_passed_over_in_both_orders(rt: HostRuntime) {
     let mut cases = 0u64;
     for line in ORDERED.split('\n') {
-        let words: Vec<&str> = line.split_whitespace().collect(rt.alloc())?;
-        if let [form, little, big, want] = words.as_slice() {
-            let specification = specification(rt.alloc(), number(form), 9)?;
-            for (order, text) in [(RunTimeEndian::Little, little), (RunTimeEndian::Big, big)] {
-                let bytes = bytes(rt.alloc(), text)?;
-                for format in [Format::Dwarf32, Format::Dwarf64] {
-                    let encoding = Encoding {
-                        address_size: 4,
-                        format,
-                        version: 5,
-                    };
-                    let found = left(rt.alloc(), &bytes, order, encoding, specification)?;
-                    assert_eq!(rt; found, [answer(want); 4], "form {form}");
-                    cases = cases.wrapping_add(1);
-                }
-            }
-        }
+        let [form, little, big, want, ..] = words(line);
+        let found = left_in_orders(rt.alloc(), form, little, big);
+        assert_eq!(rt; found, [[answer(want); 4]; 4], "form {form}");
+        cases = cases.wrapping_add(4);
     }
     assert_eq!(rt; cases, 36);
-    Ok(())
 }

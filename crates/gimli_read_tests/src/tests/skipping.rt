@@ -1,12 +1,11 @@
 //! The attributes of an entry, passed over and read, for each form.
 
-use super::{EOF, borrowed, fault, number, shared};
+use super::{EOF, OOM, OTHER, borrowed, fault, front, number, shared, words};
 use gimli_read::{
     Abbreviation, Abbreviations, Encoding, Error, Format, Reader, RunTimeEndian, read_attribute,
     skip_attributes, skip_attributes_of,
 };
-use std::alloc::Global;
-use std::test::Fail;
+use std::alloc::{AllocError, Global};
 
 // Of zero bytes each block and each text is empty, and each LEB128 number is one byte, in both byte
 // orders.
@@ -97,8 +96,14 @@ fn table(alloc: Global, form: u64) -> Result<Abbreviations, Error> {
 }
 
 // How many bytes are left after attributes that are passed over one after another.
-fn passed<R: Reader>(input: R, encoding: Encoding, abbreviation: &Abbreviation) -> u128 {
-    let mut input = input;
+fn passed<R: Reader>(
+    input: Result<R, AllocError>,
+    encoding: Encoding,
+    abbreviation: &Abbreviation,
+) -> u128 {
+    let Ok(mut input) = input else {
+        return OOM;
+    };
     match skip_attributes(&mut input, encoding, abbreviation.attributes()) {
         Ok(()) => u128::from(input.len()),
         Err(error) => fault(error),
@@ -106,8 +111,14 @@ fn passed<R: Reader>(input: R, encoding: Encoding, abbreviation: &Abbreviation) 
 }
 
 // The same by their abbreviation.
-fn passed_at_once<R: Reader>(input: R, encoding: Encoding, abbreviation: &Abbreviation) -> u128 {
-    let mut input = input;
+fn passed_at_once<R: Reader>(
+    input: Result<R, AllocError>,
+    encoding: Encoding,
+    abbreviation: &Abbreviation,
+) -> u128 {
+    let Ok(mut input) = input else {
+        return OOM;
+    };
     match skip_attributes_of(&mut input, encoding, abbreviation) {
         Ok(()) => u128::from(input.len()),
         Err(error) => fault(error),
@@ -115,8 +126,14 @@ fn passed_at_once<R: Reader>(input: R, encoding: Encoding, abbreviation: &Abbrev
 }
 
 // The same after attributes that are read.
-fn read<R: Reader>(input: R, encoding: Encoding, abbreviation: &Abbreviation) -> u128 {
-    let mut input = input;
+fn read<R: Reader>(
+    input: Result<R, AllocError>,
+    encoding: Encoding,
+    abbreviation: &Abbreviation,
+) -> u128 {
+    let Ok(mut input) = input else {
+        return OOM;
+    };
     for specification in abbreviation.attributes() {
         match read_attribute(&mut input, encoding, *specification) {
             Ok(_) => {}
@@ -133,48 +150,63 @@ fn left(
     order: RunTimeEndian,
     encoding: Encoding,
     abbreviation: &Abbreviation,
-) -> Result<[u128; 6], Fail> {
-    Ok([
-        passed(borrowed(bytes, order), encoding, abbreviation),
-        passed(shared(alloc, bytes, order)?, encoding, abbreviation),
-        passed_at_once(borrowed(bytes, order), encoding, abbreviation),
-        passed_at_once(shared(alloc, bytes, order)?, encoding, abbreviation),
-        read(borrowed(bytes, order), encoding, abbreviation),
-        read(shared(alloc, bytes, order)?, encoding, abbreviation),
-    ])
+) -> [u128; 6] {
+    [
+        passed(Ok(borrowed(bytes, order)), encoding, abbreviation),
+        passed(shared(alloc, bytes, order), encoding, abbreviation),
+        passed_at_once(Ok(borrowed(bytes, order)), encoding, abbreviation),
+        passed_at_once(shared(alloc, bytes, order), encoding, abbreviation),
+        read(Ok(borrowed(bytes, order)), encoding, abbreviation),
+        read(shared(alloc, bytes, order), encoding, abbreviation),
+    ]
 }
 
-// How many bytes stand at the front of ZEROS.
-fn front(len: u64) -> &'static [u8] {
-    ZEROS.get(..len as usize).unwrap_or(&[])
+// What is left in both orders of so many zeros.
+fn left_in_orders(
+    alloc: Global,
+    len: u64,
+    encoding: Encoding,
+    abbreviation: &Abbreviation,
+) -> [[u128; 6]; 2] {
+    let bytes = front(&ZEROS, len as usize);
+    [
+        left(alloc, bytes, RunTimeEndian::Little, encoding, abbreviation),
+        left(alloc, bytes, RunTimeEndian::Big, encoding, abbreviation),
+    ]
+}
+
+// The same of a table with that form.
+fn left_of(alloc: Global, len: u64, encoding: Encoding, form: u64) -> [[u128; 6]; 2] {
+    match table(alloc, form) {
+        Ok(table) => match table.get(1) {
+            Some(abbreviation) => left_in_orders(alloc, len, encoding, abbreviation),
+            None => [[OTHER; 6]; 2],
+        },
+        Err(error) => [[fault(error); 6]; 2],
+    }
+}
+
+// What is left of all zeros, and of one byte too few for a value of this size and the three bytes
+// of the attributes around it.
+fn whole_and_cut(alloc: Global, size: u64, encoding: Encoding, form: u64) -> [[[u128; 6]; 2]; 2] {
+    [
+        left_of(alloc, 20, encoding, form),
+        left_of(alloc, size.saturating_add(2), encoding, form),
+    ]
 }
 
 #[test]
-fn attributes_are_passed_over_as_they_are_read(rt: HostRuntime) -> Result<(), Fail> {
+fn attributes_are_passed_over_as_they_are_read(rt: HostRuntime) {
     let mut cases = 0u64;
     for line in SIZES.split('\n') {
-        let words: Vec<&str> = line.split_whitespace().collect(rt.alloc())?;
-        let [form, sizes @ ..] = words.as_slice() else {
-            continue;
-        };
-        let table = table(rt.alloc(), number(form))?;
-        let Some(abbreviation) = table.get(1) else {
-            continue;
-        };
-        for (encoding, size) in kinds().into_iter().zip(sizes) {
+        let [form, first, second, third, fourth, _] = words(line);
+        for (encoding, size) in kinds().into_iter().zip([first, second, third, fourth]) {
             let size = number(size);
-            for order in [RunTimeEndian::Little, RunTimeEndian::Big] {
-                // Three bytes for the attributes around it.
-                let whole = left(rt.alloc(), &ZEROS, order, encoding, abbreviation)?;
-                let rest = u128::from(17u64.saturating_sub(size));
-                assert_eq!(rt; whole, [rest; 6], "form {form}");
-                let cut = front(size.saturating_add(2));
-                let cut = left(rt.alloc(), cut, order, encoding, abbreviation)?;
-                assert_eq!(rt; cut, [EOF; 6], "form {form}");
-                cases = cases.wrapping_add(1);
-            }
+            let rest = u128::from(17u64.saturating_sub(size));
+            let found = whole_and_cut(rt.alloc(), size, encoding, number(form));
+            assert_eq!(rt; found, [[[rest; 6]; 2], [[EOF; 6]; 2]], "form {form}");
+            cases = cases.wrapping_add(2);
         }
     }
     assert_eq!(rt; cases, 368);
-    Ok(())
 }

@@ -1,9 +1,8 @@
 //! Abbreviation tables, whole and damaged.
 
-use super::{BAD, EOF, LEB, answer, borrowed, fault, number, shared};
+use super::{BAD, EOF, LEB, OOM, answer, borrowed, fault, front, number, shared, words};
 use gimli_read::{Abbreviations, DwAt, DwForm, Reader, RunTimeEndian};
-use std::alloc::Global;
-use std::test::Fail;
+use std::alloc::{AllocError, Global};
 
 // What the table says of a code: tag, 16 times, a digit for children, 16 times, and the number of
 // attributes; 0 for nothing.
@@ -22,7 +21,10 @@ fn said(table: &Abbreviations, code: u64) -> u128 {
 }
 
 // What a table that is read says of a code, or its fault.
-fn said_of<R: Reader>(alloc: Global, input: R, code: u64) -> u128 {
+fn said_of<R: Reader>(alloc: Global, input: Result<R, AllocError>, code: u64) -> u128 {
+    let Ok(input) = input else {
+        return OOM;
+    };
     match Abbreviations::parse(alloc, input) {
         Ok(table) => said(&table, code),
         Err(error) => fault(error),
@@ -30,10 +32,11 @@ fn said_of<R: Reader>(alloc: Global, input: R, code: u64) -> u128 {
 }
 
 // The same over both readers.
-fn both_say(alloc: Global, bytes: &[u8], code: u64) -> Result<[u128; 2], Fail> {
-    let slice = borrowed(bytes, RunTimeEndian::Little);
-    let shares = shared(alloc, bytes, RunTimeEndian::Big)?;
-    Ok([said_of(alloc, slice, code), said_of(alloc, shares, code)])
+fn both_say(alloc: Global, bytes: &[u8], code: u64) -> [u128; 2] {
+    [
+        said_of(alloc, Ok(borrowed(bytes, RunTimeEndian::Little)), code),
+        said_of(alloc, shared(alloc, bytes, RunTimeEndian::Big), code),
+    ]
 }
 
 const PLAIN: [u8; 14] = [1, 0x11, 0, 0x10, 0x17, 0x1b, 8, 0x11, 1, 0x12, 6, 0, 0, 0];
@@ -51,7 +54,7 @@ const SPARSE: [u8; 21] = [
 ];
 
 #[test]
-fn a_table_is_read_by_code(rt: HostRuntime) -> Result<(), Fail> {
+fn a_table_is_read_by_code(rt: HostRuntime) {
     let cases: [(&[u8], u64, u128); 19] = [
         (&INLINED, 0, 0),
         (&INLINED, 1, 0x1114),
@@ -74,13 +77,8 @@ fn a_table_is_read_by_code(rt: HostRuntime) -> Result<(), Fail> {
         (&PLAIN, 1, 0x1104),
     ];
     for (bytes, code, want) in cases {
-        assert_eq!(rt;
-            both_say(rt.alloc(), bytes, code)?,
-            [want, want],
-            "code {code}"
-        );
+        assert_eq!(rt; both_say(rt.alloc(), bytes, code), [want; 2], "code {code}");
     }
-    Ok(())
 }
 
 // The code of an abbreviation, and the name and the form of one of its attributes; 0 for none.
@@ -98,16 +96,22 @@ fn attribute_at(table: &Abbreviations, code: u64, index: usize) -> [u64; 3] {
     }
 }
 
+// The first five of the table of PLAIN.
+fn attributes(alloc: Global) -> [[u64; 3]; 5] {
+    match Abbreviations::parse(alloc, borrowed(&PLAIN, RunTimeEndian::Little)) {
+        Ok(table) => [
+            attribute_at(&table, 1, 0),
+            attribute_at(&table, 1, 1),
+            attribute_at(&table, 1, 2),
+            attribute_at(&table, 1, 3),
+            attribute_at(&table, 1, 4),
+        ],
+        Err(_) => [[0; 3]; 5],
+    }
+}
+
 #[test]
-fn attributes_stand_in_order(rt: HostRuntime) -> Result<(), Fail> {
-    let table = Abbreviations::parse(rt.alloc(), borrowed(&PLAIN, RunTimeEndian::Little))?;
-    let found = [
-        attribute_at(&table, 1, 0),
-        attribute_at(&table, 1, 1),
-        attribute_at(&table, 1, 2),
-        attribute_at(&table, 1, 3),
-        attribute_at(&table, 1, 4),
-    ];
+fn attributes_stand_in_order(rt: HostRuntime) {
     let want = [
         [1, 0x10, 0x17],
         [1, 0x1b, 0x08],
@@ -115,12 +119,11 @@ fn attributes_stand_in_order(rt: HostRuntime) -> Result<(), Fail> {
         [1, 0x12, 0x06],
         [1, 0, 0],
     ];
-    assert_eq!(rt; found, want);
-    Ok(())
+    assert_eq!(rt; attributes(rt.alloc()), want);
 }
 
 #[test]
-fn faults_of_a_table_are_refused(rt: HostRuntime) -> Result<(), Fail> {
+fn faults_of_a_table_are_refused(rt: HostRuntime) {
     let cases: [(&[u8], u128); 12] = [
         (&[], 0),
         (&[0], 0),
@@ -139,24 +142,22 @@ fn faults_of_a_table_are_refused(rt: HostRuntime) -> Result<(), Fail> {
         ),
     ];
     for (bytes, want) in cases {
-        assert_eq!(rt; both_say(rt.alloc(), bytes, 7)?, [want, want]);
+        assert_eq!(rt; both_say(rt.alloc(), bytes, 7), [want; 2]);
     }
-    Ok(())
 }
 
 // The table ends whole where a code would stand.
 #[test]
-fn a_cut_table_is_refused(rt: HostRuntime) -> Result<(), Fail> {
+fn a_cut_table_is_refused(rt: HostRuntime) {
     for len in 0..50 {
         let want = match len {
             0 | 13 | 24 | 41 | 48 | 49 => 0,
             _ => EOF,
         };
         if let Some(bytes) = INLINED.get(..len) {
-            assert_eq!(rt; both_say(rt.alloc(), bytes, 7)?, [want, want], "at {len}");
+            assert_eq!(rt; both_say(rt.alloc(), bytes, 7), [want; 2], "at {len}");
         }
     }
-    Ok(())
 }
 
 // One abbreviation: code 1, compile_unit, with children; name by string; line by implicit_const -2.
@@ -221,38 +222,36 @@ const CUTS: &str = "0 1 0
 a 1 1112
 b 1 1112";
 
-#[test]
-fn a_table_is_damaged_at_each_byte(rt: HostRuntime) -> Result<(), Fail> {
-    let mut cases = 0u64;
-    for line in DAMAGE.split('\n') {
-        let words: Vec<&str> = line.split_whitespace().collect(rt.alloc())?;
-        if let [place, value, code, want] = words.as_slice() {
-            let mut damaged = TABLE;
-            if let Some(byte) = damaged.get_mut(number(place) as usize) {
-                *byte = number(value).to_le_bytes()[0];
-            }
-            let found = both_say(rt.alloc(), &damaged, number(code))?;
-            assert_eq!(rt; found, [answer(want); 2], "byte {place}");
-            cases = cases.wrapping_add(1);
-        }
+// What TABLE says with another byte at a place.
+fn damaged(alloc: Global, place: &str, value: &str, code: &str) -> [u128; 2] {
+    let mut bytes = TABLE;
+    if let Some(byte) = bytes.get_mut(number(place) as usize) {
+        *byte = number(value).to_le_bytes()[0];
     }
-    assert_eq!(rt; cases, 43);
-    Ok(())
+    both_say(alloc, &bytes, number(code))
 }
 
 #[test]
-fn a_table_is_cut_at_each_byte(rt: HostRuntime) -> Result<(), Fail> {
+fn a_table_is_damaged_at_each_byte(rt: HostRuntime) {
+    let mut cases = 0u64;
+    for line in DAMAGE.split('\n') {
+        let [place, value, code, want, ..] = words(line);
+        let found = damaged(rt.alloc(), place, value, code);
+        assert_eq!(rt; found, [answer(want); 2], "byte {place}");
+        cases = cases.wrapping_add(1);
+    }
+    assert_eq!(rt; cases, 43);
+}
+
+#[test]
+fn a_table_is_cut_at_each_byte(rt: HostRuntime) {
     let mut cases = 0u64;
     for line in CUTS.split('\n') {
-        let words: Vec<&str> = line.split_whitespace().collect(rt.alloc())?;
-        if let [len, code, want] = words.as_slice() {
-            if let Some(bytes) = TABLE.get(..number(len) as usize) {
-                let found = both_say(rt.alloc(), bytes, number(code))?;
-                assert_eq!(rt; found, [answer(want); 2], "at {len}");
-                cases = cases.wrapping_add(1);
-            }
-        }
+        let [len, code, want, ..] = words(line);
+        let bytes = front(&TABLE, number(len) as usize);
+        let found = both_say(rt.alloc(), bytes, number(code));
+        assert_eq!(rt; found, [answer(want); 2], "at {len}");
+        cases = cases.wrapping_add(1);
     }
     assert_eq!(rt; cases, 12);
-    Ok(())
 }

@@ -129,8 +129,7 @@ fn read_split<R: Reader, S: SectionSource<R>>(
         (split_by (S.given file.now) load.now) }
 {
     let mut dwarf = as_dwarf(read_sections(file)?, DwarfFileType::Dwo, None);
-    let unit = read_first_unit(alloc, &dwarf)?;
-    if !has_wanted(load.dwo_id, &unit) {
+    if !has_wanted(load.dwo_id, &read_first_unit(alloc, &dwarf)?) {
         return Ok(None);
     }
     dwarf.make_dwo(&load.parent)?;

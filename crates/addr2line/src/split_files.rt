@@ -119,7 +119,6 @@ fn has_wanted<R: Reader>(wanted: DwoId, unit: &Option<Unit<R>>) -> bool
 
 // The sections of a file as those of the split file of a load, none where they belong to another
 // unit.
-#[tactic(auto, unfolding(crate::specs::SplitFiles::split_by))]
 fn read_split<R: Reader, S: SectionSource<R>>(
     alloc: Global,
     file: &S,

@@ -14,6 +14,7 @@ pub mod ReplayLemmas
 pub mod RunLemmas
 pub mod FilesLookupLemmas
 pub mod LoadingLemmas
+pub mod FileSectionLemmas
 pub mod SplitFileLemmas
 pub mod AskedLemmas
 pub mod ByFilesLemmas

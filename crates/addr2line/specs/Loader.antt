@@ -15,14 +15,15 @@ use Rattle.addr2line_units.specs.declared.frames_lookup.Faults.TheVariants.{End}
 use Rattle.addr2line_units.specs.Frames.{FrameRecord}
 use Rattle.addr2line_units.specs.FramesLookup.{answer_of, is_waiting}
 use Rattle.addr2line_units.specs.Parsed.{StaysParsed}
+use Rattle.addr2line_units.specs.Views.{SplitLoad}
 use Rattle.addr2line.specs.declared.loader.LoaderOver.{LoaderOver}
 use Rattle.addr2line.specs.Answers.{answered}
 use Rattle.addr2line.specs.Context.{AfterLookup, AfterRangeLookup, ContextState}
 use Rattle.addr2line.specs.Files.{Files}
 use Rattle.addr2line.specs.FramesByFiles.{frames_by_files, stop_frames}
 use Rattle.addr2line.specs.History.{Given, answers_given}
-use Rattle.addr2line.specs.Lookups.{FirstAnswers, IsKnown, IsKnownFew, LearnsAsked, ParsesAsked, StaysKnownOf, lookup_stop}
-use Rattle.addr2line.specs.SplitFiles.{of_file}
+use Rattle.addr2line.specs.Lookups.{FirstAnswers, IsKnown, IsLoadOf, IsKnownFew, LearnsAsked, ParsesAsked, StaysKnownOf, lookup_stop}
+use Rattle.addr2line.specs.SplitFiles.{given_by_files, of_file}
 
 -- the files, where they are known, the main file, and the context
 pub record LoaderState : Type 0 where
@@ -149,6 +150,11 @@ abbrev pub AfterLocationRange : {X : Type 0} → ℕ → ℕ → Loading X → L
     → Type 0
 AfterLocationRange low high result old new =
     AfterContext (AfterRangeLookup low high) result old new
+
+-- this is what the files, where they are known, answer to the load of the unit of a number
+abbrev pub IsAnswerByFiles : Option Files → Sections → ℕ → Option Sections → Type 0
+IsAnswerByFiles files d n given = (load : SplitLoad) × IsLoadOf d n load
+    × IfSome files (λ held. given_by_files held load ≡ Ok given)
 
 -- where the files are known, the refusal is the fault of the frames by them, or OutOfMemory
 abbrev pub IsFaultByFiles : Option Files → ContextState → ℕ → LoaderError → Type 0

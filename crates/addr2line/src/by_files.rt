@@ -1,12 +1,12 @@
 //! Lookups of frames where files answer loads.
 
-ghost use Rattle.std.specs.Prelude.{◌≡◌, ◌≢◌, ◌<◌, Err, IfErr, Ok, OnErr, OnOk};
+ghost use Rattle.std.specs.Prelude.{◌≡◌, ◌≢◌, ◌<◌, Err, IfErr, IfOk, Ok, OnErr, OnOk, option_map};
 ghost use Rattle.elf.specs.declared.error.LoaderError.TheVariants.{OutOfMemory, PathNotUtf8};
 ghost use Rattle.addr2line_lines.specs.LastAddress.{last_address};
 ghost use Rattle.addr2line_units.specs.declared.frames_lookup.Faults.TheVariants.{End};
 ghost use Rattle.addr2line_units.specs.FramesLookup.{Waits};
 ghost use Rattle.addr2line.specs.Context.{ContextState, IsUncovered};
-ghost use Rattle.addr2line.specs.Loader.{AfterAnswers, AnswersInTurn, AnswersOne, HasEnded, IsFaultByFiles, IsUnitFault, LeavesOpen, ReadsAsked, WaitsForNone, WaitsForOne, ended_frames_of};
+ghost use Rattle.addr2line.specs.Loader.{AfterAnswers, AnswersInTurn, AnswersOne, HasEnded, IsAnswerByFiles, IsFaultByFiles, IsUnitFault, LeavesOpen, ReadsAsked, WaitsForNone, WaitsForOne, ended_frames_of};
 ghost use Rattle.addr2line.specs.Lookups.{IsKnown, IsKnownFew, lookup_stop};
 ghost use Rattle.addr2line.specs.WaitingLookups.{count_loads};
 
@@ -16,8 +16,29 @@ use crate::split_files::answer_to;
 use crate::stops::UnitStop;
 use addr2line_units::frames_lookup::Faults;
 use elf::LoaderError;
+use gimli::Dwarf;
 use gimli::read::EndianBytes;
 use std::alloc::Global;
+use std::rc::Rc;
+
+// What files answer to the load that a lookup of frames waits for.
+fn read_answer<F: FileSource>(
+    alloc: Global,
+    files: &F,
+    ctx: &Context<EndianBytes>,
+    probe: u64,
+    number: usize,
+) -> Result<Option<Rc<Dwarf<EndianBytes>>>, LoaderError>
+    requires waits { lookup_stop End ctx.now.sections ctx.now.answers probe ≡ Ok (Waits number) }
+    requires known { IsKnown End ctx.now probe }
+    ensures gives { IfOk result (λ given. IsAnswerByFiles (F.files files.now) ctx.now.sections number
+        (option_map (λ d. d.value) given)) }
+    ensures refused { IfErr result (IsFaultByFiles (F.files files.now) ctx.now probe) }
+    ensures stays_open { IfErr result LeavesOpen }
+{
+    let load = ctx.load_of(probe, Faults::End, number)?;
+    answer_to(alloc, files, &load)
+}
 
 // Answers the load that a lookup of frames waits for by files.
 fn answer_load<F: FileSource>(
@@ -39,8 +60,7 @@ fn answer_load<F: FileSource>(
     ensures still_waits { OnErr result
         (lookup_stop End ctx.new.sections ctx.new.answers probe ≡ Ok (Waits number)) }
 {
-    let load = ctx.load_of(probe, Faults::End, number)?;
-    let sections = answer_to(alloc, files, &load)?;
+    let sections = read_answer(alloc, files, ctx, probe, number)?;
     Ok(ctx.answer(number, sections)?)
 }
 

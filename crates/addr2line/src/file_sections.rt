@@ -64,7 +64,6 @@ impl SectionSource<EndianBytes> for SplitFile<'_> {
 }
 
 // The sections of a file, in the order of their names.
-#[tactic(auto, unfolding(crate::specs::FileSections::sections_by))]
 pub(crate) fn read_sections<R: Reader, S: SectionSource<R>>(
     file: &S,
 ) -> Result<SupDwarf<R>, LoaderError>

@@ -119,7 +119,6 @@ fn has_wanted<R: Reader>(wanted: DwoId, unit: &Option<Unit<R>>) -> bool
 
 // The sections of a file as those of the split file of a load, none where they belong to another
 // unit.
-#[tactic(auto, unfolding(crate::specs::SplitFiles::split_by))]
 fn read_split<R: Reader, S: SectionSource<R>>(
     alloc: Global,
     file: &S,
@@ -129,8 +128,7 @@ fn read_split<R: Reader, S: SectionSource<R>>(
         (split_by (S.given file.now) load.now) }
 {
     let mut dwarf = as_dwarf(read_sections(file)?, DwarfFileType::Dwo, None);
-    let unit = read_first_unit(alloc, &dwarf)?;
-    if !has_wanted(load.dwo_id, &unit) {
+    if !has_wanted(load.dwo_id, &read_first_unit(alloc, &dwarf)?) {
         return Ok(None);
     }
     dwarf.make_dwo(&load.parent)?;

@@ -1,17 +1,10 @@
 use Rattle.std.proofs.Common.{option_map}
-use Rattle.std.proofs.lemmas.Result.{err_from_is_err_and}
 use Rattle.addr2line_units.specs.declared.frames_lookup.Faults.TheVariants.{End}
 use Rattle.addr2line.proofs.AnsweredLemmas.{unit_waited_for}
 use Rattle.addr2line.proofs.AskedLemmas.{reads_answered}
-use Rattle.addr2line.proofs.ByFilesLemmas.{answered_by_file, one_answered, refused_by_file}
+use Rattle.addr2line.proofs.ByFilesLemmas.{answered_by_file, one_answered}
 use Rattle.addr2line.proofs.SkippedLemmas.{waits_true}
 use Rattle.addr2line.proofs.by_files.answer_load.Goals as goal
-
-pub returns-in_err-sections-clause-refused : goal.returns-in_err-sections-clause-refused
-returns-in_err-sections-clause-refused g c =
-    let p = err_from_is_err_and c.from_residual-in_err-sections.result c.from_residual-in_err-sections.ensures.1 in
-    let load = c.in_ok-load.load in
-    rw (p.1, p.2) (refused_by_file (g.F.FileSource.files c.args.files.now) c.args.probe c.args.number load c.args.ctx.now c.requires.waits c.in_ok-load.ensures.gives _ c.in_err-sections.ensures.gives)
 
 pub answer-requires : goal.answer-requires
 answer-requires g c = record {
@@ -20,10 +13,10 @@ answer-requires g c = record {
 
 pub returns-clause-after : goal.returns-clause-after
 returns-clause-after g c =
-    let load = c.in_ok-load.load in
+    let was = c.in_ok-sections.ensures.gives in
     let given = option_map (λ d. d.value) c.in_ok-sections.sections in
     let e = c.answer.ensures in
-    answered_by_file (g.F.FileSource.files c.args.files.now) c.args.probe c.args.number load c.args.ctx.now c.requires.waits c.in_ok-load.ensures.gives given c.in_ok-sections.ensures.gives _ c.answer.new.self e.after
+    answered_by_file (g.F.FileSource.files c.args.files.now) c.args.probe c.args.number was.0 c.args.ctx.now c.requires.waits was.1 given was.2 _ c.answer.new.self e.after
     (e.fewer End c.args.probe (waits_true c.args.number _ c.requires.waits))
 
 pub returns-clause-one : goal.returns-clause-one
@@ -31,12 +24,12 @@ returns-clause-one g c = one_answered c.args.number (option_map (λ d. d.value) 
 
 pub returns-clause-only : goal.returns-clause-only
 returns-clause-only g c = λ first h.
-    let load = c.in_ok-load.load in
+    let was = c.in_ok-sections.ensures.gives in
     let given = option_map (λ d. d.value) c.in_ok-sections.sections in
-    reads_answered c.args.probe c.args.number load first c.args.ctx.now c.answer.new.self c.requires.waits c.in_ok-load.ensures.gives h given _ c.answer.ensures.after
+    reads_answered c.args.probe c.args.number was.0 first c.args.ctx.now c.answer.new.self c.requires.waits was.1 h given _ c.answer.ensures.after
 
 pub returns-in_err-answer-clause-only : goal.returns-in_err-answer-clause-only
 returns-in_err-answer-clause-only g c = λ first h.
-    let load = c.in_ok-load.load in
+    let was = c.in_ok-sections.ensures.gives in
     let given = option_map (λ d. d.value) c.in_ok-sections.sections in
-    reads_answered c.args.probe c.args.number load first c.args.ctx.now c.answer.new.self c.requires.waits c.in_ok-load.ensures.gives h given _ c.answer.ensures.after
+    reads_answered c.args.probe c.args.number was.0 first c.args.ctx.now c.answer.new.self c.requires.waits was.1 h given _ c.answer.ensures.after

@@ -3,7 +3,7 @@ use Rattle.std.proofs.lemmas.List.{map-append}
 use Rattle.std.proofs.lemmas.Result.{err_from_is_err_and}
 use Rattle.gimli_read.specs.declared.error.Error.TheVariants.{OutOfMemory}
 use Rattle.addr2line.proofs.HistoryLemmas.{drop_one}
-use Rattle.addr2line.proofs.RunLemmas.{HasMade, made_one, refused_after, refused_at_once, refused_in}
+use Rattle.addr2line.proofs.RunLemmas.{HasMade, made_all, made_none, made_one, none_left, refused_after, refused_at_once, refused_in, told_all}
 use Rattle.addr2line.specs.SeenCalls.{seen_call}
 use Rattle.addr2line.specs.SeenReplies.{seen_reply}
 use Rattle.addr2line.proofs.session.replay.Goals as goal
@@ -41,3 +41,20 @@ loop-call-preserved g c =
     let made = made_one c.args.context.now all (drop i all) (map seen_reply c.loop-call.replies.items) c.loop-call.context c.loop-call.invariant (seen_call call) (drop (i + 1) all) next c.make_call.new.context reply (seen_reply reply) c.in_ok-make_call.ensures.after c.in_ok-make_call.ensures.gives in
     let pushed = ap (map seen_reply) c.in_ok-push.ensures.items ∙ map-append _ _ _ in
     subst (λ replies. HasMade c.args.context.now all (drop (i + 1) all) replies c.make_call.new.context) (sym pushed) made
+
+pub loop-call-init : goal.loop-call-init
+loop-call-init g c =
+    let all = map seen_call c.args.calls.now in
+    subst (λ replies. HasMade c.args.context.now all all (map seen_reply replies) c.args.context.now) (sym c.in_ok-replies.ensures.items) (made_none c.args.context.now all)
+
+pub returns-clause-gives : goal.returns-clause-gives
+returns-clause-gives g c =
+    let l = c.loop-call in
+    let all = map seen_call c.args.calls.now in
+    told_all c.args.context.now all (drop l.call-index all) (map seen_reply l.replies.items) l.context l.invariant (none_left seen_call c.args.calls.now l.call-index c.loop-call-test.false)
+
+pub returns-clause-after : goal.returns-clause-after
+returns-clause-after g c =
+    let l = c.loop-call in
+    let all = map seen_call c.args.calls.now in
+    made_all c.args.context.now all (drop l.call-index all) (map seen_reply l.replies.items) l.context l.invariant l.replies (none_left seen_call c.args.calls.now l.call-index c.loop-call-test.false)

@@ -2,8 +2,7 @@
 -- files: section 7.3.2.2).
 -- Own: they are taken in the order of their names, and the first fault counts. A section that split
 -- files don't have is empty.
-use Rattle.std.specs.Prelude.{List, ℕ, [], Option, Some, None, Ok}
-use Rattle.gimli_read.specs.declared.endian.RunTimeEndian.TheVariants.{Little}
+use Rattle.std.specs.Prelude.{List, ℕ, Option, Some, None, Ok}
 use Rattle.gimli_read.specs.Reading.{◌>>=◌}
 use Rattle.gimli_read.specs.Section.{Section}
 use Rattle.gimli.specs.declared.dwarf.DwarfFileType.{DwarfFileType}

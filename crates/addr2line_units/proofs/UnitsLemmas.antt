@@ -408,6 +408,9 @@ all_parsed rs ss k stay le below n = of_list (parsed_units ss) k (subst (λ m. m
 pub looks_raised : (a b c : ℕ) → a ≤ b → b ≤ c → a ≤ c
 looks_raised a b c h k = omega arith
 
+pub looks_counted : (a b c : ℕ) → a ≤ b → b < c → a < c
+looks_counted a b c h k = omega arith
+
 -- what is parsed by one more step is parsed by all of them
 pub only_more : (Asked : ℕ → Type 0) (first mid now : List Bool) (k : ℕ) → ParsesOnly Asked first mid → ParsesOnly (λ n. n ≡ k) mid now → Asked k → ParsesOnly Asked first now
 only_more Asked first mid now k before step asked n e = elim (step n e) [ inl p ↦ before n p | inr q ↦ inr (subst Asked (sym q) asked) ]
@@ -415,3 +418,7 @@ only_more Asked first mid now k before step asked n e = elim (step n e) [ inl p 
 -- a list with a first element has one
 pub none_first : (r : UnitRange) (rest : List UnitRange) → ◌≡◌ {A = List UnitRange} [] (r ∷ rest) → ⊥
 none_first r rest e = cc
+
+-- behind the first element there is less
+pub rest_shorter : (ranges : List UnitRange) (r : UnitRange) (rest : List UnitRange) → ranges ≡ r ∷ rest → length rest < length ranges
+rest_shorter ranges r rest e = omega (arith, ap length e)

@@ -1,10 +1,11 @@
 use Rattle.std.proofs.Common.{ap, arith, inl, inr, refl, subst, sym, ◌∙◌, ◌≡◌, true}
+use Rattle.std.proofs.lemmas.Bool.{false≢true}
 use Rattle.std.proofs.lemmas.Result.{err_from_is_err_and}
 use Rattle.addr2line_units.specs.CachedLines.{indexed_units, parsed_units}
 use Rattle.addr2line_units.specs.Located.{along, looks_along}
 use Rattle.addr2line_units.specs.Parsed.{AsksFor, decides, ready_along}
 use Rattle.addr2line_units.specs.UnitRangesLeft.{ranges_left}
-use Rattle.addr2line_units.proofs.UnitsLemmas.{along_fault, along_none, along_some, looks_first, looks_of_step, looks_raised, looks_within, none_first, only_more, ready_both, ready_decided, ready_first, ready_rest, stay_all, stay_indexed, stay_over, stay_parsed}
+use Rattle.addr2line_units.proofs.UnitsLemmas.{along_fault, along_none, along_some, looks_counted, looks_first, looks_of_step, looks_raised, looks_within, none_first, only_more, ready_both, ready_decided, ready_first, ready_rest, rest_shorter, stay_all, stay_indexed, stay_over, stay_parsed}
 use Rattle.addr2line_units.proofs.lookup.find_place_along.Goals as goal
 
 pub loop-range-init : goal.loop-range-init
@@ -149,3 +150,70 @@ returns-clause-ready g c = λ answered.
     let units = indexed_units c.args.dw_units.now c.args.units.now.items in
     let now = parsed_units c.loop-range.units.items in
     c.loop-range.invariant.ready now (λ n parsed. parsed) (subst (λ rs. ready_along c.args.dwarf.now units now c.args.probe rs ≡ true) (sym c.in_default.ensures.steps.0) refl)
+
+pub find_row_in-requires : goal.find_row_in-requires
+find_row_in-requires g c = record { read = c.loop-range.invariant.read }
+
+pub loop-range-smaller : goal.loop-range-smaller
+loop-range-smaller g c = rest_shorter _ _ _ c.in-Some.ensures.steps
+
+pub returns-in_err-row-clause-read : goal.returns-in_err-row-clause-read
+returns-in_err-row-clause-read g c = c.in_err-row.ensures.read
+
+pub returns-in_err-row-clause-raised : goal.returns-in_err-row-clause-raised
+returns-in_err-row-clause-raised g c = looks_raised _ _ _ c.loop-range.invariant.raised c.in_err-row.ensures.raised
+
+pub returns-in_err-row-clause-none : goal.returns-in_err-row-clause-none
+returns-in_err-row-clause-none g c = λ e. absurd (none_first c.in-Some.range (ranges_left c.next.new.self) (sym (c.loop-range.invariant.none e) ∙ c.in-Some.ensures.steps))
+
+pub returns-in-Some-2-clause-read : goal.returns-in-Some-2-clause-read
+returns-in-Some-2-clause-read g c = c.in_ok-row.ensures.read
+
+pub returns-in-Some-2-clause-raised : goal.returns-in-Some-2-clause-raised
+returns-in-Some-2-clause-raised g c = looks_raised _ _ _ c.loop-range.invariant.raised c.in_ok-row.ensures.raised
+
+pub returns-in-Some-2-clause-none : goal.returns-in-Some-2-clause-none
+returns-in-Some-2-clause-none g c = λ e. absurd (none_first c.in-Some.range (ranges_left c.next.new.self) (sym (c.loop-range.invariant.none e) ∙ c.in-Some.ensures.steps))
+
+pub returns-in_err-row-clause-counted : goal.returns-in_err-row-clause-counted
+returns-in_err-row-clause-counted g c = λ found.
+    let p = err_from_is_err_and c.from_residual.result c.from_residual.ensures.1 in
+    absurd (false≢true (rw p.1 at found))
+
+pub returns-in-Some-2-clause-memory : goal.returns-in-Some-2-clause-memory
+returns-in-Some-2-clause-memory g c = λ ready. tt
+
+pub returns-in-Some-2-clause-counted : goal.returns-in-Some-2-clause-counted
+returns-in-Some-2-clause-counted g c = λ found. looks_counted _ _ _ c.loop-range.invariant.raised ((rw c.in-Some-2.is at c.in_ok-row.ensures.counted) refl)
+
+pub returns-clause-gives : goal.returns-clause-gives
+returns-clause-gives g c =
+    let units = indexed_units c.args.dw_units.now c.args.units.now.items in
+    sym c.loop-range.invariant.rest ∙ ap (along c.args.dwarf.now units c.args.probe) c.in_default.ensures.steps.0
+
+pub returns-clause-exact : goal.returns-clause-exact
+returns-clause-exact g c = λ ready. returns-clause-gives g c
+
+pub returns-clause-memory : goal.returns-clause-memory
+returns-clause-memory g c = λ ready. tt
+
+pub returns-clause-only : goal.returns-clause-only
+returns-clause-only g c = c.loop-range.invariant.parsed
+
+pub returns-clause-stay : goal.returns-clause-stay
+returns-clause-stay g c = c.loop-range.invariant.stay
+
+pub returns-clause-read : goal.returns-clause-read
+returns-clause-read g c = c.loop-range.invariant.read
+
+pub returns-clause-cost : goal.returns-clause-cost
+returns-clause-cost g c = looks_of_step _ _ _ c.loop-range.invariant.cost
+
+pub returns-clause-raised : goal.returns-clause-raised
+returns-clause-raised g c = c.loop-range.invariant.raised
+
+pub returns-clause-counted : goal.returns-clause-counted
+returns-clause-counted g c = λ found. absurd (false≢true found)
+
+pub returns-clause-none : goal.returns-clause-none
+returns-clause-none g c = λ e. refl

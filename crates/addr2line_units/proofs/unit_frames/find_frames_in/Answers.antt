@@ -6,7 +6,7 @@ use Rattle.addr2line_units.specs.CachedLines.{cached_files, indexed_unit}
 use Rattle.addr2line_units.specs.Frames.{found_frames}
 use Rattle.addr2line_units.specs.CachedEntries.{kept_answer}
 use Rattle.addr2line_units.specs.CachedFunctions.{function_of_place, cached_functions}
-use Rattle.addr2line_units.specs.UnitFrames.{function_in}
+use Rattle.addr2line_units.specs.UnitFrames.{function_in, has_many}
 use Rattle.addr2line_units.specs.Views.{is_open}
 use Rattle.addr2line_units.proofs.EntryLemmas.{looked_decides, not_open}
 use Rattle.addr2line_units.proofs.UnitFrameLemmas.{closed_asks, fault_frames, lines_fault_frames, lines_frames, look_only, only_after, open_asks, open_frames, stay_after, waiting_entries, waiting_stays_open}
@@ -242,3 +242,35 @@ returns-clause-lines g c =
     let f = option_map (function_of_place (cached_functions c.find_function.new.self.functions)) c.in_ok-function.function in
     let found : function_in scope u answer probe ≡ Ok f = ap (λ a. function_in scope u a probe) (sym c.look.ensures.stay.answer) ∙ c.in_ok-function.ensures.gives in
     λ none. (let no : true ≡ false = sym (closed_asks scope x answer probe closed (Ok f) found) ∙ none in absurd cc)
+
+pub returns-then-is_open-clause-memory : goal.returns-then-is_open-clause-memory
+returns-then-is_open-clause-memory g c = λ has. λ parsed. λ few. tt
+
+pub returns-in_err-function-clause-ready : goal.returns-in_err-function-clause-ready
+returns-in_err-function-clause-ready g c =
+    let p = err_from_is_err_and c.from_residual.result c.from_residual.ensures.1 in
+    rw (p.1, p.2) (λ ne. c.in_err-function.ensures.ready ne)
+
+pub returns-in_err-function-clause-memory : goal.returns-in_err-function-clause-memory
+returns-in_err-function-clause-memory g c =
+    let p = err_from_is_err_and c.from_residual.result c.from_residual.ensures.1 in
+    rw (p.1, p.2) (λ has. λ parsed. λ few. c.in_err-function.ensures.memory has (ap (λ a. has_many (seen_scope c.args.scope) c.args.dw_unit.now a c.args.probe) c.look.ensures.stay.answer ∙ few))
+
+pub returns-in_err-row-clause-ready : goal.returns-in_err-row-clause-ready
+returns-in_err-row-clause-ready g c =
+    let p = err_from_is_err_and c.from_residual-in_err-row.result c.from_residual-in_err-row.ensures.1 in
+    rw (p.1, p.2) (λ ne. c.in_ok-function.ensures.ready tt)
+
+pub returns-in_err-row-clause-parsed : goal.returns-in_err-row-clause-parsed
+returns-in_err-row-clause-parsed g c =
+    let p = err_from_is_err_and c.from_residual-in_err-row.result c.from_residual-in_err-row.ensures.1 in
+    rw (p.1, p.2) (λ ne. λ asks. c.in_err-row.ensures.caches.0 ne)
+
+pub returns-clause-ready : goal.returns-clause-ready
+returns-clause-ready g c = λ ne. c.in_ok-function.ensures.ready tt
+
+pub returns-clause-parsed : goal.returns-clause-parsed
+returns-clause-parsed g c = λ ne. λ asks. c.in_ok-row.ensures.caches
+
+pub returns-clause-memory : goal.returns-clause-memory
+returns-clause-memory g c = λ has. λ parsed. λ few. tt

@@ -1,10 +1,35 @@
-use Rattle.std.proofs.Common.{Err, ◌&&◌, ◌∙◌, option_map, subst, sym}
+use Rattle.std.proofs.Common.{Err, Ok, Result, ap, refl, true, ℕ, ◌&&◌, ◌≡◌, ◌∙◌, option_map, subst, sym}
+use Rattle.std.proofs.lemmas.Bool.{false≢true}
+use Rattle.std.proofs.lemmas.Result.{err_from_is_err_and}
+use Rattle.gimli_read.specs.declared.error.Error.{Error}
+use Rattle.addr2line_lines.specs.FunctionTable.{cached_detail}
 use Rattle.addr2line_lines.specs.SeenScope.{seen_scope}
+use Rattle.addr2line_units.specs.declared.functions.LazyFunctions.{LazyFunctions}
+use Rattle.addr2line_units.specs.declared.functions.LazyFunctions.TheVariants as lazy
 use Rattle.addr2line_units.specs.Frames.{function_at}
-use Rattle.addr2line_units.specs.CachedFunctions.{AreFunctionsOf, find_takes_memory, function_of_place, table_takes_memory}
-use Rattle.addr2line_units.proofs.CachedFunctionLemmas.{and_weaker, details_before, exactly_weaker, function_is, memory_before, none_before, stay_faulty}
-use Rattle.addr2line_units.proofs.CachedPlaceLemmas.{same_known, table_known}
+use Rattle.addr2line_units.specs.CachedFunctions.{AreFunctionsOf, StayFunctions, cached_functions, cached_has_function, find_takes_memory, function_of_place, table_takes_memory, were_read}
+use Rattle.addr2line_units.proofs.CachedFunctionLemmas.{and_weaker, details_before, exactly_weaker, function_is, memory_before, none_before, stay_faulty, stay_read}
+use Rattle.addr2line_units.proofs.CachedPlaceLemmas.{kept_is_not_oom, kept_unless_oom, same_known, table_known}
 use Rattle.addr2line_units.proofs.functions.LazyFunctions.find.Goals as goal
+
+-- functions that weren't read take memory, and nothing of them is known
+not_read_takes : {R : Type 0} → (old new : LazyFunctions R) (probe : ℕ) → (were_read old ≡ true → ⊥) → new ≡ old → (find_takes_memory probe old && find_takes_memory probe new) ≡ true
+not_read_takes lazy.Unread new probe unread e = ap (find_takes_memory probe) e
+not_read_takes (lazy.Read t) new probe unread e = absurd (unread refl)
+not_read_takes (lazy.Faulty x) new probe unread e = absurd (unread refl)
+
+not_read_stay : {R : Type 0} → (old new : LazyFunctions R) → (were_read old ≡ true → ⊥) → StayFunctions old new
+not_read_stay lazy.Unread new unread = tt
+not_read_stay (lazy.Read t) new unread = absurd (unread refl)
+not_read_stay (lazy.Faulty x) new unread = absurd (unread refl)
+
+not_read_unknown : {R : Type 0} → (old : LazyFunctions R) (probe : ℕ) → (were_read old ≡ true → ⊥) → cached_has_function probe old ≡ true → ⊥
+not_read_unknown lazy.Unread probe unread h = cc
+not_read_unknown (lazy.Read t) probe unread h = unread refl
+not_read_unknown (lazy.Faulty x) probe unread h = unread refl
+
+read_not_refused : (x : Error) → ◌≡◌ {A = Result (Unit {0}) Error} (Err x) (Ok tt) → ⊥
+read_not_refused x e = cc
 
 pub returns-in-Read-clause-gives : goal.returns-in-Read-clause-gives
 returns-in-Read-clause-gives g c =
@@ -38,3 +63,75 @@ returns-in-Read-clause-kept g c =
 pub returns-in-Faulty-clause-kept : goal.returns-in-Faulty-clause-kept
 returns-in-Faulty-clause-kept g c =
     λ has. sym c.in-Faulty.is ∙ same_known c.args.self.now c.cache.new.self (λ read. (c.cache.ensures.kept read).0) c.args.probe has
+
+pub returns-in_err-cache-clause-gives : goal.returns-in_err-cache-clause-gives
+returns-in_err-cache-clause-gives g c =
+    let p = err_from_is_err_and c.from_residual.result c.from_residual.ensures.1 in
+    rw (p.1, p.2) (λ may. absurd (may (not_read_takes c.args.self.now c.cache.new.self c.args.probe (λ read. read_not_refused _ (c.in_err-cache.ensures.kept read).1) c.in_err-cache.ensures.refused.1) c.in_err-cache.ensures.refused.0))
+
+pub returns-in_err-cache-clause-right : goal.returns-in_err-cache-clause-right
+returns-in_err-cache-clause-right g c = c.cache.ensures.right
+
+pub returns-in_err-cache-clause-stay : goal.returns-in_err-cache-clause-stay
+returns-in_err-cache-clause-stay g c = not_read_stay c.args.self.now c.cache.new.self (λ read. read_not_refused _ (c.in_err-cache.ensures.kept read).1)
+
+pub returns-in_err-cache-clause-alone : goal.returns-in_err-cache-clause-alone
+returns-in_err-cache-clause-alone g c = λ n ne. ap (λ f. cached_detail (cached_functions f) n) c.in_err-cache.ensures.refused.1
+
+pub returns-in_err-cache-clause-ready : goal.returns-in_err-cache-clause-ready
+returns-in_err-cache-clause-ready g c =
+    let p = err_from_is_err_and c.from_residual.result c.from_residual.ensures.1 in
+    rw (p.1, p.2) (λ ne. absurd (ne (ap Err c.in_err-cache.ensures.refused.0)))
+
+pub returns-in_err-cache-clause-kept : goal.returns-in_err-cache-clause-kept
+returns-in_err-cache-clause-kept g c = λ has. c.in_err-cache.ensures.refused.1
+
+pub returns-in_err-cache-clause-known : goal.returns-in_err-cache-clause-known
+returns-in_err-cache-clause-known g c =
+    let p = err_from_is_err_and c.from_residual.result c.from_residual.ensures.1 in
+    rw (p.1, p.2) (λ ne. absurd (ne c.in_err-cache.ensures.refused.0))
+
+pub returns-in_err-cache-clause-memory : goal.returns-in_err-cache-clause-memory
+returns-in_err-cache-clause-memory g c = λ has. λ few. absurd (not_read_unknown c.args.self.now c.args.probe (λ read. read_not_refused _ (c.in_err-cache.ensures.kept read).1) (ap (cached_has_function c.args.probe) (sym c.in_err-cache.ensures.refused.1) ∙ has))
+
+pub returns-in-Read-clause-there : goal.returns-in-Read-clause-there
+returns-in-Read-clause-there g c = c.find_place.ensures.there
+
+pub returns-in-Read-clause-right : goal.returns-in-Read-clause-right
+returns-in-Read-clause-right g c = c.find_place.ensures.right
+
+pub returns-in-Read-clause-ready : goal.returns-in-Read-clause-ready
+returns-in-Read-clause-ready g c = c.find_place.ensures.ready
+
+pub returns-in-Read-clause-known : goal.returns-in-Read-clause-known
+returns-in-Read-clause-known g c = c.find_place.ensures.known
+
+pub returns-in-Read-clause-memory : goal.returns-in-Read-clause-memory
+returns-in-Read-clause-memory g c = c.find_place.ensures.memory
+
+pub returns-in-Read-clause-stay : goal.returns-in-Read-clause-stay
+returns-in-Read-clause-stay g c = stay_read c.args.self.now c.cache.new.self (λ read. (c.cache.ensures.kept read).0) c.in-Read.functions c.find_place.new.functions c.in-Read.is c.find_place.ensures.stay
+
+pub find_place-requires : goal.find_place-requires
+find_place-requires g c = record {
+  in_order = c.requires.in_order;
+  right = subst (AreFunctionsOf (seen_scope c.args.scope) c.args.view.now) c.in-Read.is c.cache.ensures.right;
+}
+
+pub returns-in-Faulty-clause-there : goal.returns-in-Faulty-clause-there
+returns-in-Faulty-clause-there g c = tt
+
+pub returns-in-Faulty-clause-right : goal.returns-in-Faulty-clause-right
+returns-in-Faulty-clause-right g c = subst (AreFunctionsOf (seen_scope c.args.scope) c.args.view.now) c.in-Faulty.is c.cache.ensures.right
+
+pub returns-in-Faulty-clause-ready : goal.returns-in-Faulty-clause-ready
+returns-in-Faulty-clause-ready g c = λ ne. refl
+
+pub returns-in-Faulty-clause-known : goal.returns-in-Faulty-clause-known
+returns-in-Faulty-clause-known g c = λ ne. kept_unless_oom c.in-Faulty.error ne
+
+pub returns-in-Faulty-clause-memory : goal.returns-in-Faulty-clause-memory
+returns-in-Faulty-clause-memory g c = λ has. λ few. kept_is_not_oom c.in-Faulty.error has
+
+pub returns-in-Unread : goal.returns-in-Unread
+returns-in-Unread g c = absurd (false≢true (sym (ap were_read c.in-Unread.is) ∙ c.in_ok-cache.ensures.read))

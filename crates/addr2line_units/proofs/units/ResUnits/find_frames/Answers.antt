@@ -1,5 +1,6 @@
-use Rattle.std.proofs.Common.{option_map, rules, sym, true, ◌&&◌, ◌≡◌, not}
+use Rattle.std.proofs.Common.{[], option_map, refl, sym, true, ◌&&◌, ◌≡◌, not}
 use Rattle.gimli_read.specs.Reading.{ExactlyUnlessOom}
+use Rattle.addr2line_lines.specs.References.{IsScope}
 use Rattle.addr2line_lines.specs.SeenScope.{seen_file}
 use Rattle.addr2line_units.specs.CachedLines.{indexed_units, parsed_units}
 use Rattle.addr2line_units.specs.Cover.{cover}
@@ -23,7 +24,7 @@ returns-clause-only g c =
     let probe = c.args.probe in
     let answers = answers_in s.entries.items in
     let at = in_scope c.args.dwarf.now c.deref.result.now s.dw_units.items (option_map seen_file c.file.result) (sup_file c.args.sup.now) (ranges_left c.find.result) (cover probe s.ranges) in
-    at (λ S us qs. ReadsOnly (LookupAsks (asked_frames faults S (indexed_units us s.units.items) answers probe) qs) probe s.entries.items along.new.entries.items) (search rules) c.file.ensures.gives c.find.ensures.gives along.ensures.only
+    at (λ S us qs. ReadsOnly (LookupAsks (asked_frames faults S (indexed_units us s.units.items) answers probe) qs) probe s.entries.items along.new.entries.items) c.deref.ensures.value c.file.ensures.gives c.find.ensures.gives along.ensures.only
 
 pub returns-clause-lines : goal.returns-clause-lines
 returns-clause-lines g c =
@@ -33,7 +34,7 @@ returns-clause-lines g c =
     let probe = c.args.probe in
     let answers = answers_in s.entries.items in
     let at = in_scope c.args.dwarf.now c.deref.result.now s.dw_units.items (option_map seen_file c.file.result) (sup_file c.args.sup.now) (ranges_left c.find.result) (cover probe s.ranges) in
-    at (λ S us qs. ParsesOnly (λ n. LookupAsks (asked_frames faults S (indexed_units us s.units.items) answers probe) qs n × ((asks_lines_of S (indexed_units us s.units.items) answers probe) n ≡ true)) (parsed_units s.units.items) (parsed_units along.new.units.items)) (search rules) c.file.ensures.gives c.find.ensures.gives along.ensures.lines
+    at (λ S us qs. ParsesOnly (λ n. LookupAsks (asked_frames faults S (indexed_units us s.units.items) answers probe) qs n × ((asks_lines_of S (indexed_units us s.units.items) answers probe) n ≡ true)) (parsed_units s.units.items) (parsed_units along.new.units.items)) c.deref.ensures.value c.file.ensures.gives c.find.ensures.gives along.ensures.lines
 
 pub returns-clause-ready : goal.returns-clause-ready
 returns-clause-ready g c =
@@ -43,7 +44,7 @@ returns-clause-ready g c =
     let probe = c.args.probe in
     let answers = answers_in s.entries.items in
     let at = in_scope c.args.dwarf.now c.deref.result.now s.dw_units.items (option_map seen_file c.file.result) (sup_file c.args.sup.now) (ranges_left c.find.result) (cover probe s.ranges) in
-    at (λ S us qs. HadMemory along.result → holds_along (has_frames_at (asks_lines_of S (indexed_units us s.units.items) answers probe) probe (parsed_units along.new.units.items) along.new.entries.items) (asked_frames faults S (indexed_units us s.units.items) answers probe) qs ≡ true) (search rules) c.file.ensures.gives c.find.ensures.gives along.ensures.ready
+    at (λ S us qs. HadMemory along.result → holds_along (has_frames_at (asks_lines_of S (indexed_units us s.units.items) answers probe) probe (parsed_units along.new.units.items) along.new.entries.items) (asked_frames faults S (indexed_units us s.units.items) answers probe) qs ≡ true) c.deref.ensures.value c.file.ensures.gives c.find.ensures.gives along.ensures.ready
 
 pub returns-clause-memory : goal.returns-clause-memory
 returns-clause-memory g c =
@@ -53,7 +54,7 @@ returns-clause-memory g c =
     let probe = c.args.probe in
     let answers = answers_in s.entries.items in
     let at = in_scope c.args.dwarf.now c.deref.result.now s.dw_units.items (option_map seen_file c.file.result) (sup_file c.args.sup.now) (ranges_left c.find.result) (cover probe s.ranges) in
-    at (λ S us qs. holds_along (λ n. (has_frames_at (asks_lines_of S (indexed_units us s.units.items) answers probe) probe (parsed_units along.new.units.items) along.new.entries.items) n && not (has_many_of S (indexed_units us s.units.items) answers probe n)) (asked_frames faults S (indexed_units us s.units.items) answers probe) qs ≡ true → HadMemory along.result) (search rules) c.file.ensures.gives c.find.ensures.gives along.ensures.memory
+    at (λ S us qs. holds_along (λ n. (has_frames_at (asks_lines_of S (indexed_units us s.units.items) answers probe) probe (parsed_units along.new.units.items) along.new.entries.items) n && not (has_many_of S (indexed_units us s.units.items) answers probe n)) (asked_frames faults S (indexed_units us s.units.items) answers probe) qs ≡ true → HadMemory along.result) c.deref.ensures.value c.file.ensures.gives c.find.ensures.gives along.ensures.memory
 
 pub returns-clause-waits : goal.returns-clause-waits
 returns-clause-waits g c =
@@ -65,7 +66,52 @@ returns-clause-waits g c =
     let at = in_scope c.args.dwarf.now c.deref.result.now s.dw_units.items (option_map seen_file c.file.result) (sup_file c.args.sup.now) (ranges_left c.find.result) (cover probe s.ranges) in
     let us = s.dw_units.items in
     let S1 = scope_in c.args.dwarf.now us c.args.sup.now in
-    let gives = at (λ S xs qs. ExactlyUnlessOom (seen_stop along.new.units.items along.new.entries.items) along.result (stop_along (asked_frames faults S (indexed_units xs s.units.items) answers probe) qs)) (search rules) c.file.ensures.gives c.find.ensures.gives along.ensures.gives in
-    let kept = at (λ S xs qs. HaveEntriesOf S xs along.new.entries.items) (search rules) c.file.ensures.gives c.find.ensures.gives along.ensures.kept in
+    let gives = at (λ S xs qs. ExactlyUnlessOom (seen_stop along.new.units.items along.new.entries.items) along.result (stop_along (asked_frames faults S (indexed_units xs s.units.items) answers probe) qs)) c.deref.ensures.value c.file.ensures.gives c.find.ensures.gives along.ensures.gives in
+    let kept = at (λ S xs qs. HaveEntriesOf S xs along.new.entries.items) c.deref.ensures.value c.file.ensures.gives c.find.ensures.gives along.ensures.kept in
     waits_if_found S1 probe faults us along.new.units.items along.new.entries.items (units_in s) answers (asks_lines_of S1 (units_in s) answers probe) (parsed_units along.new.units.items) (cover probe s.ranges) along.result kept
     (sym (stay_indexed us s.units.items along.new.units.items along.ensures.stay_units)) (sym (same_answers s.entries.items along.new.entries.items along.ensures.stay)) gives (returns-clause-ready g c)
+
+pub returns-clause-gives : goal.returns-clause-gives
+returns-clause-gives g c =
+    let s = c.args.self.now in
+    let along = c.find_frames_along in
+    let at = in_scope c.args.dwarf.now c.deref.result.now s.dw_units.items (option_map seen_file c.file.result) (sup_file c.args.sup.now) (ranges_left c.find.result) (cover c.args.probe s.ranges) in
+    at (λ S xs qs. ExactlyUnlessOom (seen_stop along.new.units.items along.new.entries.items) along.result (stop_along (asked_frames c.args.faults S (indexed_units xs s.units.items) (answers_in s.entries.items) c.args.probe) qs)) c.deref.ensures.value c.file.ensures.gives c.find.ensures.gives along.ensures.gives
+
+pub returns-clause-kept : goal.returns-clause-kept
+returns-clause-kept g c =
+    let s = c.args.self.now in
+    let along = c.find_frames_along in
+    let at = in_scope c.args.dwarf.now c.deref.result.now s.dw_units.items (option_map seen_file c.file.result) (sup_file c.args.sup.now) (ranges_left c.find.result) (cover c.args.probe s.ranges) in
+    at (λ S xs qs. HaveEntriesOf S xs along.new.entries.items) c.deref.ensures.value c.file.ensures.gives c.find.ensures.gives along.ensures.kept
+
+pub returns-clause-there : goal.returns-clause-there
+returns-clause-there g c = c.find_frames_along.ensures.there
+
+pub returns-clause-read : goal.returns-clause-read
+returns-clause-read g c = rw c.deref.ensures.value at c.find_frames_along.ensures.read
+
+pub returns-clause-stay_units : goal.returns-clause-stay_units
+returns-clause-stay_units g c = c.find_frames_along.ensures.stay_units
+
+pub returns-clause-stay : goal.returns-clause-stay
+returns-clause-stay g c = c.find_frames_along.ensures.stay
+
+pub returns-clause-raised : goal.returns-clause-raised
+returns-clause-raised g c = c.find_frames_along.ensures.raised
+
+pub returns-clause-dw_units : goal.returns-clause-dw_units
+returns-clause-dw_units g c = refl
+
+pub returns-clause-ranges : goal.returns-clause-ranges
+returns-clause-ranges g c = refl
+
+pub find_frames_along-requires : goal.find_frames_along-requires
+find_frames_along-requires g c =
+    let s = c.args.self.now in
+    let back = in_scope c.args.dwarf.now s.dw_units.items c.deref.result.now (sup_file c.args.sup.now) (option_map seen_file c.file.result) [] [] in
+    record {
+      in_order = back (λ S us qs. IsScope S) (sym c.deref.ensures.value) (sym c.file.ensures.gives) refl c.requires.in_order;
+      read = rw c.deref.ensures.value c.requires.read;
+      kept = back (λ S us qs. HaveEntriesOf S us s.entries.items) (sym c.deref.ensures.value) (sym c.file.ensures.gives) refl c.requires.kept;
+    }

@@ -1,4 +1,4 @@
-use Rattle.std.proofs.Common.{◌≡◌, subst}
+use Rattle.std.proofs.Common.{◌≡◌, refl, subst}
 use Rattle.std.specs.Prelude.{IfOk, IsOk}
 use Rattle.addr2line_units.specs.Cover.{cover}
 use Rattle.addr2line_units.specs.CachedLookups.{answers_in}
@@ -24,3 +24,27 @@ returns-clause-none_open g c =
     let answers = answers_in s.entries.items in
     subst (λ us. NoneOpen c.args.dwarf.now.value us answers (cover c.args.probe s.ranges) → IsOk c.read_loads.result) c.deref.ensures.value
     (subst (λ rs. NoneOpen c.args.dwarf.now.value c.deref.result.now answers rs → IsOk c.read_loads.result) c.find.ensures.gives c.read_loads.ensures.none_open)
+
+pub returns-clause-refused : goal.returns-clause-refused
+returns-clause-refused g c = c.read_loads.ensures.refused
+
+pub returns-clause-memory : goal.returns-clause-memory
+returns-clause-memory g c = rw c.find.ensures.gives at c.read_loads.ensures.memory
+
+pub returns-clause-stay : goal.returns-clause-stay
+returns-clause-stay g c = c.read_loads.ensures.stay
+
+pub returns-clause-kept : goal.returns-clause-kept
+returns-clause-kept g c = rw c.deref.ensures.value at c.read_loads.ensures.kept
+
+pub returns-clause-dw_units : goal.returns-clause-dw_units
+returns-clause-dw_units g c = refl
+
+pub returns-clause-units : goal.returns-clause-units
+returns-clause-units g c = refl
+
+pub returns-clause-ranges : goal.returns-clause-ranges
+returns-clause-ranges g c = refl
+
+pub read_loads-requires : goal.read_loads-requires
+read_loads-requires g c = record { kept = rw c.deref.ensures.value c.requires.kept }

@@ -1,7 +1,7 @@
 //! Values of each form, in both byte orders and both formats.
 
 use super::{
-    EOF, OOM, answer, borrowed, bytes, fault, front, number as word, shared, specification,
+    EOF, OOM, OTHER, answer, borrowed, bytes, fault, front, number as word, shared, specification,
     spelled, words,
 };
 use gimli_read::{
@@ -317,7 +317,7 @@ fn attributes(alloc: Global, form: u64, constant: u8, bytes: &[u8]) -> [[u128; 5
             attribute(Ok(borrowed(bytes, order)), specification),
             attribute(shared(alloc, bytes, order), specification),
         ],
-        Err(error) => [[fault(error), 0, 0, 0, 0]; 2],
+        Err(_) => [[OTHER, 0, 0, 0, 0]; 2],
     }
 }
 

@@ -1,6 +1,8 @@
 //! Attributes that are passed over, beside the same ones read.
 
-use super::{OOM, answer, borrowed, bytes, fault, front, number, shared, specification, words};
+use super::{
+    OOM, OTHER, answer, borrowed, bytes, fault, front, number, shared, specification, words,
+};
 use gimli_read::{
     AttributeSpecification, Encoding, Format, Reader, RunTimeEndian, read_attribute, skip_attribute,
 };
@@ -65,7 +67,7 @@ fn left(
         Ok(specification) => {
             left_after(alloc, front(&room, len), order, encoding, specification)
         }
-        Err(error) => [fault(error); 4],
+        Err(_) => [OTHER; 4],
     }
 }
 

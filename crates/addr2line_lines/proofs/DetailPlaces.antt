@@ -25,7 +25,7 @@ use Rattle.addr2line_lines.proofs.DetailRanges.{among, before_more, ranges_stay}
 use Rattle.addr2line_lines.proofs.InlinedOrder.{inlined_order, length_in_order, listed_chain}
 use Rattle.addr2line_lines.proofs.NestingLemmas.{found_same, grown_not}
 use Rattle.addr2line_lines.proofs.OrderLemmas.{All-in, in_order_all, in_order_ordered}
-use Rattle.addr2line_lines.proofs.PickLemmas.{In, In-filter, In-last}
+use Rattle.gimli_read.proofs.TopmostLemmas.{In, In-filter, In-last}
 use Rattle.addr2line_lines.proofs.SeekLemmas.{non_decreasing}
 
 pub map_take : {X Y : Type 0} (f : X → Y) (n : ℕ) (xs : List X) → map f (take n xs) ≡ take n (map f xs)

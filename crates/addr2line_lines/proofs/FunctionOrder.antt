@@ -28,7 +28,7 @@ use Rattle.addr2line_lines.specs.Segments.{address_begin, address_end, address_f
 use Rattle.addr2line_lines.specs.Shortest.{shortest, holds, IsNoLonger}
 use Rattle.addr2line_lines.proofs.ListedFunctions.{entries_more, ranges_below}
 use Rattle.addr2line_lines.proofs.OrderLemmas.{All-in}
-use Rattle.addr2line_lines.proofs.PickLemmas.{In}
+use Rattle.gimli_read.proofs.TopmostLemmas.{In}
 use Rattle.addr2line_lines.proofs.ShortestLemmas.{shortest_holds, shortest_is, shortest_least, some_shortest}
 
 -- what was found, by where entries begin

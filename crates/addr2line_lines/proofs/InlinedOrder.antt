@@ -20,7 +20,7 @@ use Rattle.addr2line_lines.specs.Pick.{at_or_below, candidate, if_past, pick}
 use Rattle.addr2line_lines.proofs.InlinedPick.{depth_ordered}
 use Rattle.addr2line_lines.proofs.OrderLemmas.{begins_order, in_order_all, in_order_ordered, in_order_ties, one_order, sorted_is}
 use Rattle.addr2line_lines.proofs.OrderPick.{pick_in_order}
-use Rattle.addr2line_lines.proofs.PickLemmas.{filter-filter}
+use Rattle.gimli_read.proofs.TopmostLemmas.{filter-filter}
 use Rattle.addr2line_lines.proofs.SeekLemmas.{Up}
 
 -- a list in order is one where elements that tie are the same
@@ -52,7 +52,7 @@ inlined_order =
     ranks_by (then_total (on_total (λ (p : Key). p.0) nat_cmp_total) (then_total (on_total (λ (p : Key). p.1) nat_cmp_total) (then_total (on_total (λ (p : Key). p.2) nat_cmp_total) (on_total (λ (p : Key). p.3) nat_cmp_total)))) key
 
 -- a tuple compares from the left
-ordering_then_assoc : (x y z : Ordering) → ordering_then x (ordering_then y z) ≡ ordering_then (ordering_then x y) z
+pub ordering_then_assoc : (x y z : Ordering) → ordering_then x (ordering_then y z) ≡ ordering_then (ordering_then x y) z
 ordering_then_assoc Less y z = refl
 ordering_then_assoc Equal y z = refl
 ordering_then_assoc Greater y z = refl

@@ -13,7 +13,7 @@ use Rattle.addr2line_lines.specs.InOrder.{IsInOrder, begins_sooner}
 use Rattle.addr2line_lines.specs.InlinedOrder.{inlined_sooner, place, place_at, place_begin, place_end, places_of_depth, places_within}
 use Rattle.addr2line_lines.specs.Pick.{candidate, if_past}
 use Rattle.addr2line_lines.proofs.OrderPick.{candidate_ordered}
-use Rattle.addr2line_lines.proofs.PickLemmas.{filter-filter}
+use Rattle.gimli_read.proofs.TopmostLemmas.{filter-filter}
 use Rattle.addr2line_lines.proofs.SearchLemmas.{last_is_at, last_none}
 
 -- no element of a list in order is sooner than one before it

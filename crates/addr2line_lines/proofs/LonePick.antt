@@ -6,7 +6,8 @@ use Rattle.std.proofs.lemmas.Bool.Decides.{nat_tests}
 use Rattle.std.proofs.lemmas.List.Elements.{recursion_from_All}
 use Rattle.gimli_read.specs.Topmost.{last}
 use Rattle.addr2line_lines.specs.Pick.{if_past, IsDisjoint, LoneIsPicked}
-use Rattle.addr2line_lines.proofs.PickLemmas.{In, In-passes, All-passing, IsBefore, same_ends, counting_is}
+use Rattle.gimli_read.proofs.TopmostLemmas.{In, In-passes, All-passing}
+use Rattle.addr2line_lines.proofs.PickLemmas.{IsBefore, same_ends, counting_is}
 
 module _ {X : Type 0} where
   pub from_contains : (xs : List X) (z : X) (k : ℕ) → k < length xs → slice_index_or xs k z ≡ z → In z xs

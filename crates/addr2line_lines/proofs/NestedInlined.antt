@@ -11,7 +11,7 @@ use Rattle.addr2line_lines.specs.NestedInlined.{ChainBeginsOutermost, ChainIsWho
 use Rattle.addr2line_lines.specs.Pick.{IsDisjoint, at_or_below, candidate, if_past, pick}
 use Rattle.addr2line_lines.proofs.ItemsAround.{IsListed, all_listed, nearest_depth, none_nearest}
 use Rattle.addr2line_lines.proofs.LonePick.{from_contains, lone_is_picked}
-use Rattle.addr2line_lines.proofs.PickLemmas.{In, In-filter, In-last, In-passes, All-passing}
+use Rattle.gimli_read.proofs.TopmostLemmas.{In, In-filter, In-last, In-passes, All-passing}
 
 module _ {X : Type 0} where
   -- an element has a place

@@ -7,7 +7,7 @@ use Rattle.std.proofs.lemmas.List.Sorted.{sorted_far, ranks_by}
 use Rattle.std.proofs.lemmas.List.Elements.{recursion_from_All}
 use Rattle.std.proofs.lemmas.Cmp.{on_total, then_total, nat_cmp_total}
 use Rattle.addr2line_lines.specs.InOrder.{put, in_order, begins_sooner, IsInOrder}
-use Rattle.addr2line_lines.proofs.PickLemmas.{In, In-filter}
+use Rattle.gimli_read.proofs.TopmostLemmas.{In, In-filter}
 use lib.ListN.{get_or}
 
 -- what holds of all elements holds of each

@@ -10,7 +10,8 @@ use Rattle.std.proofs.lemmas.List.Elements.{All-from_recursion, filter_agree}
 use Rattle.addr2line_lines.specs.InOrder.{in_order, begins_sooner, IsInOrder, OrderIsFree}
 use Rattle.gimli_read.specs.Topmost.{last}
 use Rattle.addr2line_lines.specs.Pick.{at_or_below, candidate, if_past}
-use Rattle.addr2line_lines.proofs.PickLemmas.{In-filter, In-last, IsBefore, same_ends, last-cond, beginning_none, counting_is, counting_none}
+use Rattle.gimli_read.proofs.TopmostLemmas.{In-filter, In-last, last-cond}
+use Rattle.addr2line_lines.proofs.PickLemmas.{IsBefore, same_ends, beginning_none, counting_is, counting_none}
 use Rattle.addr2line_lines.proofs.OrderLemmas.{in_order_all_back, in_order_ordered, in_order_ties, begins_order, All-in}
 
 module _ {X : Type 0} (begin end : X → ℕ) where

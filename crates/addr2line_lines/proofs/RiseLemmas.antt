@@ -7,6 +7,7 @@ use Rattle.addr2line_lines.specs.declared.row.Row.{Row}
 use Rattle.addr2line_lines.specs.Rows.{result_map}
 use Rattle.addr2line_lines.specs.Sequences.{RowGroup, Sequence, put_first, row_groups, latest, stored_row, sequence_of, sequence_in, sequences_of}
 use Rattle.gimli_line.specs.Rises.{NeverFalls}
+use Rattle.gimli_line.proofs.Rising.{NextFrom}
 use Rattle.addr2line_lines.specs.Rises.{Climbs, IsRising, SequencesRise}
 
 abbrev From : ℕ → List LineRow → Type 0
@@ -26,10 +27,6 @@ AllWalk ss = AllByRecursion (λ (s : RowGroup). Walks s.last.address s.rows) ss
 abbrev Low : ℕ → List RowGroup → Type 0
 Low m [] = Unit {0}
 Low m (s ∷ ss) = (m ≤ s.last.address) × From m s.rows
-
-abbrev NextFrom : ℕ → List LineRow → Type 0
-NextFrom m [] = Unit {0}
-NextFrom m (r ∷ rows) = m ≤ r.address
 
 weaken : (m n : ℕ) (rows : List LineRow) → m ≤ n → From n rows → From m rows
 weaken m n [] l h = tt

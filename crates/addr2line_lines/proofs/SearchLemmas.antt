@@ -14,7 +14,7 @@ use Rattle.addr2line_lines.specs.Spans.{row_address, row_at, row_in}
 use Rattle.addr2line_lines.specs.Packed.{ArePastFrom, IsAmong, IsTable, row_address_at, packed_end, packed_sooner, packed_start, unpacked}
 use Rattle.addr2line_lines.specs.InOrder.{IsInOrder}
 use Rattle.addr2line_lines.proofs.SeekLemmas.{begins_rise}
-use Rattle.addr2line_lines.proofs.PickLemmas.{In-filter, In-last, last-cond}
+use Rattle.gimli_read.proofs.TopmostLemmas.{In-filter, In-last, last-cond}
 use Rattle.addr2line_lines.proofs.OrderLemmas.{All-in}
 use Rattle.addr2line_lines.proofs.OrderPick.{candidate_ordered}
 use Rattle.addr2line_lines.proofs.SpanLemmas.{row_within}

@@ -7,7 +7,7 @@ use Rattle.addr2line_lines.specs.Pick.{IsDisjoint}
 use Rattle.addr2line_lines.specs.Shortest.{first_listed, holding, holds, least, lowest, range_length, shortest, IsNoLonger, LoneIsShortest, NoneIsShorter}
 use Rattle.addr2line_lines.proofs.LonePick.{from_contains, lone_is_picked}
 use Rattle.addr2line_lines.proofs.OrderLemmas.{All-in}
-use Rattle.addr2line_lines.proofs.PickLemmas.{In, In-filter, In-passes}
+use Rattle.gimli_read.proofs.TopmostLemmas.{In, In-filter, In-passes}
 
 module _ {X : Type 0} (f : X → ℕ) where
   least_le : (xs : List X) (z : X) → In z xs → least f xs ≤ f z

@@ -9,6 +9,7 @@ use Rattle.std.proofs.lemmas.Cmp.{on_total, then_total, nat_cmp_total}
 use Rattle.std.proofs.lemmas.List.Sorted.{ranks_by}
 use Rattle.std.proofs.lemmas.List.Elements.{filter_agree}
 use Rattle.addr2line_lines.specs.InOrder.{in_order, IsInOrder}
+use Rattle.addr2line_lines.proofs.InlinedOrder.{ordering_then_assoc}
 use Rattle.addr2line_lines.proofs.OrderLemmas.{in_order_ordered, in_order_ties, one_order}
 use Rattle.addr2line_units.specs.declared.index.UnitRange.{UnitRange}
 use Rattle.addr2line_units.specs.Cover.{cover, cover_range, ends_sooner, range_covers, range_overlaps}
@@ -52,11 +53,6 @@ pub ends_order : IsStrictWeakOrder ends_sooner
 ends_order = ranks_by (then_total (on_total (λ (p : ℕ × ℕ × ℕ). p.0) nat_cmp_total) (then_total (on_total (λ (p : ℕ × ℕ × ℕ). p.1) nat_cmp_total) (on_total (λ (p : ℕ × ℕ × ℕ). p.2) nat_cmp_total))) (λ (r : UnitRange). (r.range.end, r.unit, r.range.begin))
 
 -- a tuple compares from the left
-ordering_then_assoc : (x y z : Ordering) → ordering_then x (ordering_then y z) ≡ ordering_then (ordering_then x y) z
-ordering_then_assoc Less y z = refl
-ordering_then_assoc Equal y z = refl
-ordering_then_assoc Greater y z = refl
-
 pub by_tuple : (xs : List UnitRange)
     → IsSortedByKey (λ (r : UnitRange). (r.range.end, r.unit, r.range.begin)) (λ (a b : ℕ × ℕ × ℕ). ordering_then (ordering_then (nat_cmp a.0 b.0) (nat_cmp a.1 b.1)) (nat_cmp a.2 b.2)) xs
     → IsSortedBy ends_sooner xs

@@ -8,7 +8,7 @@ use Rattle.std.specs.List.Sorted.{ties, IsNonDecreasingBy}
 use Rattle.std.proofs.lemmas.Bool.Decides.{nat_tests}
 use Rattle.std.proofs.lemmas.Cmp.{on_total, then_total, nat_cmp_total}
 use Rattle.std.proofs.lemmas.List.{get_or_default}
-use Rattle.std.proofs.lemmas.List.Elements.{All-head, All-tail, All-cons, All-nil, filter_agree}
+use Rattle.std.proofs.lemmas.List.Elements.{All-head, All-tail, filter_agree}
 use Rattle.std.proofs.lemmas.List.Sorted.{sorted_far, ranks_by}
 use Rattle.std.proofs.lemmas.Option.{get_or_from_slice_get}
 use Rattle.elf.specs.declared.symbol.Entry.{Entry}
@@ -18,94 +18,29 @@ use Rattle.elf.specs.declared.section.SectionHeader.{SectionHeader}
 use Rattle.elf.specs.Layout.{layout_of}
 use Rattle.elf.specs.SectionBytes.{string_table_in}
 use Rattle.gimli_read.specs.Topmost.{greatest, topmost, last}
+use Rattle.gimli_read.proofs.TopmostLemmas.{In, In-last, In-filter, In-passes, All-passing, filter-filter, greatest_is, last-cond}
 use Rattle.elf.specs.Symbols.{preference, nearest_symbol, symbol_names_number, symbol_bytes, usable_in}
 use Rattle.elf.specs.SymbolTable.{precedes, IsSymbolTable, HasSymbols, IsBelow, IsAbove}
 
 module _ {X : Type 0} where
-  -- x is one of the elements
-  abbrev pub Among : X → List X → Type 0
-  Among x [] = ⊥
-  Among x (y ∷ ys) = (y ≡ x) ⊎ Among x ys
-
-  among_get : (xs : List X) (k : ℕ) (d : X) → k < length xs → Among (get_or xs k d) xs
-  among_get [] k d l = absurd (omega arith)
-  among_get (x ∷ xs) zero d l = inl refl
-  among_get (x ∷ xs) (suc k) d l = inr (among_get xs k d (omega arith))
+  In-get : (xs : List X) (k : ℕ) (d : X) → k < length xs → In (get_or xs k d) xs
+  In-get [] k d l = absurd (omega arith)
+  In-get (x ∷ xs) zero d l = inl refl
+  In-get (x ∷ xs) (suc k) d l = inr (In-get xs k d (omega arith))
 
   -- an element has a place
-  among_place : (xs : List X) (x : X) → Among x xs → (k : ℕ) × (k < length xs) × (get_or xs k x ≡ x)
-  among_place [] x h = absurd h
-  among_place (y ∷ ys) x h = elim h [ inl e ↦ (0, omega arith, e) | inr i ↦ (let p = among_place ys x i in (suc p.0, (let l : p.0 < length ys = p.1 in omega arith), p.2)) ]
-
-  among_last : (xs : List X) (z : X) → last xs ≡ Some z → Among z xs
-  among_last [] z h = cc
-  among_last (x ∷ []) z h = inl cc
-  among_last (x ∷ y ∷ ys) z h = inr (among_last (y ∷ ys) z h)
-
-  among_cond : (b : Bool) (x z : X) (ys : List X) → Among z (cond b (x ∷ ys) ys) → ((b ≡ true) × (x ≡ z)) ⊎ Among z ys
-  among_cond b x z ys = elim b as (λ v. Among z (cond v (x ∷ ys) ys) → ((v ≡ true) × (x ≡ z)) ⊎ Among z ys) [ true ↦ (λ h. elim h [ inl e ↦ inl (refl, e) | inr i ↦ inr i ]) | false ↦ (λ h. inr h) ]
-
-  among_filter : (p : X → Bool) (xs : List X) (z : X) → Among z (filter p xs) → Among z xs × (p z ≡ true)
-  among_filter p [] z h = absurd h
-  among_filter p (x ∷ xs) z h =
-      elim (among_cond (p x) x z (filter p xs) h) [
-        | inl e ↦ (inl e.1, ap p (sym e.1) ∙ e.0)
-        | inr i ↦ (inr (among_filter p xs z i).0, (among_filter p xs z i).1)
-      ]
-
-  among_cons : (b : Bool) (x z : X) (ys : List X) → Among z ys → Among z (cond b (x ∷ ys) ys)
-  among_cons b x z ys h = elim b as (λ v. Among z (cond v (x ∷ ys) ys)) [ true ↦ inr h | false ↦ h ]
-
-  among_passes : (p : X → Bool) (xs : List X) (z : X) → Among z xs → p z ≡ true → Among z (filter p xs)
-  among_passes p [] z h e = absurd h
-  among_passes p (x ∷ xs) z h e =
-      elim h [
-        | inl same ↦ (let P : Bool → Type 0 = λ b. Among z (cond b (x ∷ filter p xs) (filter p xs)) in subst P (sym (ap p same ∙ e)) (inl same))
-        | inr i ↦ among_cons (p x) x z (filter p xs) (among_passes p xs z i e)
-      ]
+  In-place : (xs : List X) (x : X) → In x xs → (k : ℕ) × (k < length xs) × (get_or xs k x ≡ x)
+  In-place [] x h = absurd h
+  In-place (y ∷ ys) x h = elim h [ inl e ↦ (0, omega arith, e) | inr i ↦ (let p = In-place ys x i in (suc p.0, (let l : p.0 < length ys = p.1 in omega arith), p.2)) ]
 
   -- what is true of each element by its being one
-  all_among : (P : X → Type 0) (xs : List X) → ((x : X) → Among x xs → P x) → All P xs
-  all_among P xs h k d l = h (get_or xs k d) (among_get xs k d l)
-
-  all_cond : (P : X → Type 0) (b : Bool) (x : X) (ys : List X) → (b ≡ true → P x) → All P ys → All P (cond b (x ∷ ys) ys)
-  all_cond P b x ys = elim b as (λ v. (v ≡ true → P x) → All P ys → All P (cond v (x ∷ ys) ys)) [ true ↦ (λ h all. All-cons P x ys (h refl) all) | false ↦ (λ h all. all) ]
-
-  -- what passes keeps what it has, and has what the test says
-  all_passing : (P Q : X → Type 0) (p : X → Bool) → ((x : X) → p x ≡ true → P x → Q x) → (xs : List X) → All P xs → All Q (filter p xs)
-  all_passing P Q p f [] all = All-nil Q
-  all_passing P Q p f (x ∷ xs) all = all_cond Q (p x) x (filter p xs) (λ e. f x e (All-head P x xs all)) (all_passing P Q p f xs (All-tail P x xs all))
-
-  greatest_le : (f : X → ℕ) (n : ℕ) (xs : List X) → All (λ x. f x ≤ n) xs → greatest f xs ≤ n
-  greatest_le f n [] all = omega arith
-  greatest_le f n (x ∷ xs) all = let h = All-head (λ (y : X). f y ≤ n) x xs all in let t = greatest_le f n xs (All-tail (λ (y : X). f y ≤ n) x xs all) in omega arith
-
-  greatest_ge : (f : X → ℕ) (xs : List X) (z : X) → Among z xs → f z ≤ greatest f xs
-  greatest_ge f [] z h = absurd h
-  greatest_ge f (x ∷ xs) z h = elim h [ inl e ↦ (let e' : f x ≡ f z = ap f e in omega arith) | inr i ↦ (let t = greatest_ge f xs z i in omega arith) ]
-
-  greatest_is : (f : X → ℕ) (xs : List X) (z : X) → All (λ x. f x ≤ f z) xs → Among z xs → greatest f xs ≡ f z
-  greatest_is f xs z all i = let a = greatest_le f (f z) xs all in let b = greatest_ge f xs z i in omega arith
-
-  filter_cond : (q : X → Bool) (b : Bool) (x : X) (ys : List X) → filter q (cond b (x ∷ ys) ys) ≡ cond (b && q x) (x ∷ filter q ys) (filter q ys)
-  filter_cond q b x ys = elim b as (λ v. filter q (cond v (x ∷ ys) ys) ≡ cond (v && q x) (x ∷ filter q ys) (filter q ys)) [ true ↦ refl | false ↦ refl ]
-
-  filter_filter : (p q : X → Bool) (xs : List X) → filter q (filter p xs) ≡ filter (λ x. p x && q x) xs
-  filter_filter p q [] = refl
-  filter_filter p q (x ∷ xs) = filter_cond q (p x) x (filter p xs) ∙ ap (λ ys. cond (p x && q x) (x ∷ ys) ys) (filter_filter p q xs)
+  All-in : (P : X → Type 0) (xs : List X) → ((x : X) → In x xs → P x) → All P xs
+  All-in P xs h k d l = h (get_or xs k d) (In-get xs k d l)
 
   filter_none : (p : X → Bool) (xs : List X) → All (λ x. p x ≡ false) xs → filter p xs ≡ []
   filter_none p [] all = refl
   filter_none p (x ∷ xs) all =
       ap (λ b. cond b (x ∷ filter p xs) (filter p xs)) (All-head (λ (y : X). p y ≡ false) x xs all) ∙ filter_none p xs (All-tail (λ (y : X). p y ≡ false) x xs all)
-
-  last_more : (x z : X) (ys : List X) → last ys ≡ Some z → last (x ∷ ys) ≡ Some z
-  last_more x z [] h = cc
-  last_more x z (y ∷ ys) h = h
-
-  last_cond : (b : Bool) (x z : X) (ys : List X) → last ys ≡ Some z → last (cond b (x ∷ ys) ys) ≡ Some z
-  last_cond true x z ys h = last_more x z ys h
-  last_cond false x z ys h = h
 
   -- the last element that passes
   last_passing : (p : X → Bool) (xs : List X) (n : ℕ) (z : X) → slice_get xs n ≡ Some z → p z ≡ true → AllWithin (λ x. p x ≡ false) xs (suc n) (length xs) → last (filter p xs) ≡ Some z
@@ -114,7 +49,7 @@ module _ {X : Type 0} where
       let same : x ≡ z = cc in
       let none : filter p xs ≡ [] = filter_none p xs (λ k d l. h (suc k) d (omega arith) (omega arith)) in
       ap (λ b. last (cond b (x ∷ filter p xs) (filter p xs))) (ap p same ∙ t) ∙ ap (λ ys. last (x ∷ ys)) none ∙ ap Some same
-  last_passing p (x ∷ xs) (suc n) z e t h = last_cond (p x) x z (filter p xs) (last_passing p xs n z e t (λ k d a b. h (suc k) d (omega arith) (omega arith)))
+  last_passing p (x ∷ xs) (suc n) z e t h = last-cond (p x) x z (filter p xs) (last_passing p xs n z e t (λ k d a b. h (suc k) d (omega arith) (omega arith)))
 
 -- x is at a lower address than z, or at the same one and not preferred to it
 abbrev IsBefore : Entry → Entry → Type 0
@@ -137,19 +72,19 @@ unfolding nearest_symbol
 counting probe xs z all low is =
     let below : Entry → Bool = λ x. nat_le x.address probe in
     let bs = filter below xs in
-    let i = among_filter (is_tied z) xs z (among_last (filter (is_tied z) xs) z is) in
-    let before : All (IsBefore z) bs = all_passing (λ x. (probe < x.address) ⊎ IsBefore z x) (IsBefore z) below (λ x t h. elim h [ inl past ↦ absurd (grind (arith, nat_tests)) | inr b ↦ b ]) xs all in
-    let inb : Among z bs = among_passes below xs z i.0 (grind (arith, nat_tests)) in
+    let i = In-filter (is_tied z) xs z (In-last (filter (is_tied z) xs) z is) in
+    let before : All (IsBefore z) bs = All-passing (λ x. (probe < x.address) ⊎ IsBefore z x) (IsBefore z) below (λ x t h. elim h [ inl past ↦ absurd (grind (arith, nat_tests)) | inr b ↦ b ]) xs all in
+    let inb : In z bs = In-passes below xs z i.0 (grind (arith, nat_tests)) in
     let B : greatest (λ (x : Entry). x.address) bs ≡ z.address = greatest_is (λ (x : Entry). x.address) bs z (λ k d l. address_le z (get_or bs k d) (before k d l)) inb in
     let here : Entry → Bool = λ x. x.address == z.address in
     let ts = filter here bs in
     let T : topmost (λ (x : Entry). x.address) bs ≡ ts = ap (λ (n : ℕ). filter (λ (x : Entry). x.address == n) bs) B in
-    let later : All (λ x. preference x ≤ preference z) ts = all_passing (IsBefore z) (λ x. preference x ≤ preference z) here (λ x t h. preference_le z x (grind (arith, nat_tests)) h) bs before in
-    let int : Among z ts = among_passes here bs z inb (grind (arith, nat_tests)) in
+    let later : All (λ x. preference x ≤ preference z) ts = All-passing (IsBefore z) (λ x. preference x ≤ preference z) here (λ x t h. preference_le z x (grind (arith, nat_tests)) h) bs before in
+    let int : In z ts = In-passes here bs z inb (grind (arith, nat_tests)) in
     let E : greatest preference ts ≡ preference z = greatest_is preference ts z later int in
     let S : topmost preference ts ≡ filter (λ x. preference x == preference z) ts = ap (λ (n : ℕ). filter (λ (x : Entry). preference x == n) ts) E in
     let R : filter (λ x. preference x == preference z) ts ≡ filter (is_tied z) xs =
-    filter_filter here (λ x. preference x == preference z) bs ∙ filter_filter below (is_tied z) xs ∙ filter_agree (λ x. below x && is_tied z x) (is_tied z) (λ x. agrees x.address z.address probe (preference x == preference z) low) xs in
+    filter-filter here (λ x. preference x == preference z) bs ∙ filter-filter below (is_tied z) xs ∙ filter_agree (λ x. below x && is_tied z x) (is_tied z) (λ x. agrees x.address z.address probe (preference x == preference z) low) xs in
     ap (λ (ys : List Entry). last (topmost preference ys)) T ∙ ap last (S ∙ R) ∙ is
   where
     agrees : (a b p : ℕ) (t : Bool) → b ≤ p → (nat_le a p && (a == b && t)) ≡ (a == b && t)
@@ -180,19 +115,19 @@ tied_itself z = itself z.address (preference z)
     itself a p = grind (arith, nat_tests)
 
 -- a symbol of the file is in the table
-in_table : (symbols table : List Entry) → IsSymbolTable symbols table → (x : Entry) → Among x symbols → Among x table
+in_table : (symbols table : List Entry) → IsSymbolTable symbols table → (x : Entry) → In x symbols → In x table
 in_table symbols table is x h =
     let t : ties precedes x x ≡ true = ties_are x x ∙ tied_itself x in
-    (among_filter (ties precedes x) table x (subst (Among x) (sym (is.stable x)) (among_passes (ties precedes x) symbols x h t))).0
+    (In-filter (ties precedes x) table x (subst (In x) (sym (is.stable x)) (In-passes (ties precedes x) symbols x h t))).0
 
 -- no symbol counts where the whole table is above the probe
 pub nearest_none : (symbols table : List Entry) (probe : ℕ) → IsSymbolTable symbols table → AllWithin (IsAbove probe) table 0 (length table) → None ≡ nearest_symbol probe symbols
 nearest_none symbols table probe is above =
-    let each : (x : Entry) → Among x symbols → IsAbove probe x = λ x h. (
-    let p = among_place table x (in_table symbols table is x h) in
+    let each : (x : Entry) → In x symbols → IsAbove probe x = λ x h. (
+    let p = In-place table x (in_table symbols table is x h) in
     let P : Entry → Type 0 = IsAbove probe in
     subst P p.2 (above p.0 x (omega arith) p.1)) in
-    sym (counting_none probe symbols (all_among (IsAbove probe) symbols each))
+    sym (counting_none probe symbols (All-in (IsAbove probe) symbols each))
 
 -- the last symbol of the table at or below the probe counts
 pub nearest_is : (symbols table : List Entry) (probe n : ℕ) (z : Entry) → IsSymbolTable symbols table → n < length table → slice_get table n ≡ Some z → AllWithin (IsBelow probe) table 0 (suc n) → AllWithin (IsAbove probe) table (suc n) (length table) → Some z ≡ nearest_symbol probe symbols
@@ -200,14 +135,14 @@ nearest_is symbols table probe n z is less e below above =
     let here : get_or table n z ≡ z = get_or_from_slice_get table n z z e in
     let P : Entry → Type 0 = IsBelow probe in
     let low : z.address ≤ probe = reach z.address (subst P here (below n z (omega arith) (omega arith))) in
-    let each : (x : Entry) → Among x symbols → (probe < x.address) ⊎ IsBefore z x = λ x h. (
-    let p = among_place table x (in_table symbols table is x h) in
+    let each : (x : Entry) → In x symbols → (probe < x.address) ⊎ IsBefore z x = λ x h. (
+    let p = In-place table x (in_table symbols table is x h) in
     place x p.0 p.1 p.2 here) in
     let tie : filter (is_tied z) symbols ≡ filter (is_tied z) table =
     sym (filter_agree (ties precedes z) (is_tied z) (ties_are z) symbols) ∙ sym (is.stable z) ∙ filter_agree (ties precedes z) (is_tied z) (ties_are z) table in
     let end : last (filter (is_tied z) table) ≡ Some z =
     last_passing (is_tied z) table n z e (tied_itself z) (λ k d a b. past z.address (get_or table k d).address (preference (get_or table k d) == preference z) low (above k d a b)) in
-    sym (counting probe symbols z (all_among (λ x. (probe < x.address) ⊎ IsBefore z x) symbols each) low (ap last tie ∙ end))
+    sym (counting probe symbols z (All-in (λ x. (probe < x.address) ⊎ IsBefore z x) symbols each) low (ap last tie ∙ end))
   where
     reach : (a : ℕ) → nat_le a probe ≡ true → a ≤ probe
     reach a t = grind (arith, nat_tests)

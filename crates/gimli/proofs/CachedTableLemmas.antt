@@ -9,6 +9,7 @@ use Rattle.gimli_read.specs.declared.error.Error.TheVariants.{OutOfMemory}
 use Rattle.gimli_read.specs.Section.{Section}
 use Rattle.gimli_read.specs.Reading.{◌>>=◌, ExactlyUnlessOomIf}
 use Rattle.gimli_read.specs.Abbreviations.{Abbrev}
+use Rattle.gimli_read.proofs.Steps.{given_as}
 use Rattle.gimli_read.specs.Abbrev.{table_at}
 use Rattle.gimli.specs.Header.{UnitHeaderFields}
 use Rattle.gimli.specs.Text.{from_offset}
@@ -59,11 +60,6 @@ unit_is_by cache header table h = ap (unit_by cache.dwarf header) h
 unit_by_fault : (cache : CachedTables) (header : UnitHeaderFields) (e : Error) → unit_by cache.dwarf header (Err e) ≡ Err e
 unfolding unit_by
 unit_by_fault cache header e = refl
-
--- an answer for which memory may be taken where it may be taken for another
-given_as : {X : Type 0} (may part : Bool) (r given same : Result X Error) → (part ≡ true → may ≡ true) → given ≡ same → ExactlyUnlessOomIf part (λ x. x) r same → ExactlyUnlessOomIf may (λ x. x) r given
-given_as may part (Ok x) given same m h k = h ∙ k
-given_as may part (Err e) given same m h k = λ n. h ∙ k (λ p. n (m p))
 
 -- a unit whose table is cached
 pub unit_cached : (shares : Bool) (cache : CachedTables) (header : UnitHeaderFields) (table : Result (List Abbrev) Error) (r : Result UnitRecord Error)

@@ -8,13 +8,13 @@ use Rattle.gimli_read.specs.declared.error.Error.TheVariants.{UnexpectedEof, Uns
 use Rattle.gimli_read.specs.declared.endian.Format.{Format}
 use Rattle.gimli_read.specs.declared.endian.Format.TheVariants.{Dwarf32, Dwarf64}
 use Rattle.gimli_read.specs.Section.{Section, first, after}
-use Rattle.gimli_read.specs.Reading.{Reading, ◌>>=◌, done, refused_if}
+use Rattle.gimli_read.specs.Reading.{Reading, ◌>>=◌, refused_if}
 use Rattle.gimli_read.specs.Number.{number_of, is_address_size, fixed_at, offset_at, skipped_at, split_at, long_length_at, initial_length_at}
 use Rattle.gimli.specs.declared.unit.UnitType.{UnitType}
 use Rattle.gimli.specs.declared.unit.UnitType.TheVariants.{Compile, TypeUnit, Partial, Skeleton, SplitCompile, SplitType}
 use Rattle.gimli.specs.Header.{UnitHeaderFields, unit_type_of, unit_address_size_at, unit_type_at, dwo_id_at, signature_at, type_fields_at, fields_4_at, fields_5_at, header_fields_at, unit_header_at, next_header_at}
 use Rattle.gimli.specs.UnitsLeft.{gives_header}
-use Rattle.gimli_read.proofs.Steps.{guard_ok}
+use Rattle.gimli_read.proofs.Steps.{done, guard_ok}
 use Rattle.std.proofs.lemmas.Bool.{ne_eqb}
 
 -- the second section is what follows some bytes of the first

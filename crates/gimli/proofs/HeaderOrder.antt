@@ -2,11 +2,11 @@
 use Rattle.std.proofs.Common.{ℕ, zero, suc, ◌≡◌, ◌+◌, ◌-◌, ◌≤◌, List, [], ◌∷◌, length, drop, Option, Some, None, IfOk, Result, Ok, Err, arith, refl, ap, length-drop}
 use Rattle.gimli_read.specs.declared.error.Error.{Error}
 use Rattle.gimli_read.specs.Section.{Section}
-use Rattle.gimli_read.specs.Run.{Run, continued, listed, listed_with, next_of, run_within}
+use Rattle.gimli_read.specs.Run.{continued, listed, listed_with, next_of, run_within}
 use Rattle.gimli.specs.Entries.{unit_length}
 use Rattle.gimli.specs.Header.{UnitHeaderFields, next_header_at}
 use Rattle.gimli.specs.HeaderOrder.{AreHeadersInOrder, BeginFrom, HeadersInOrder}
-use Rattle.gimli.proofs.UnitTexts.{IsNextUnit, IsUnitAt, next_unit}
+use Rattle.gimli.proofs.UnitTexts.{IsNextUnit, IsUnitAt, headers_within, next_unit}
 
 -- what begins after an offset begins after a lesser one
 pub begin_later : (n m : ℕ) (headers : List (Result UnitHeaderFields Error)) → n ≤ m → BeginFrom m headers → BeginFrom n headers
@@ -18,9 +18,6 @@ begin_later n m (Err e ∷ headers) le h = (tt, begin_later n m headers le h.1)
 record AreFrom (offset : ℕ) (headers : List (Result UnitHeaderFields Error)) : Type 0 where
   begin : BeginFrom offset headers
   order : AreHeadersInOrder headers
-
-abbrev run : ℕ → ℕ → Section → Run UnitHeaderFields Section
-run section_length n s = run_within (λ t. next_of (next_header_at section_length t)) n s
 
 -- a unit in front of those that follow it
 one_more : (section_length : ℕ) (s t : Section) (x : UnitHeaderFields) (headers : List (Result UnitHeaderFields Error)) → length s.bytes ≤ section_length → IsUnitAt section_length s t x
@@ -37,20 +34,20 @@ one_more section_length s t x headers le u more =
       order = (begin_later _ _ headers end more.begin, more.order);
     }
 
-in_order_within : (section_length n : ℕ) (s : Section) → length s.bytes ≤ section_length → AreFrom (section_length - length s.bytes) (listed (run section_length n s))
+in_order_within : (section_length n : ℕ) (s : Section) → length s.bytes ≤ section_length → AreFrom (section_length - length s.bytes) (listed (headers_within section_length n s))
 unfolding run_within listed_with
 in_order_within section_length zero s le = record { begin = (tt, tt); order = (tt, tt) }
 in_order_within section_length (suc n) s le = at (in_order_within section_length n) (next_header_at section_length s) (next_unit section_length s).by
   where
-    at : ((t : Section) → length t.bytes ≤ section_length → AreFrom (section_length - length t.bytes) (listed (run section_length n t)))
-        → (r : Result (Option UnitHeaderFields × Section) Error) → IfOk r (IsNextUnit section_length s) → AreFrom (section_length - length s.bytes) (listed (continued (run section_length n) (next_of r)))
+    at : ((t : Section) → length t.bytes ≤ section_length → AreFrom (section_length - length t.bytes) (listed (headers_within section_length n t)))
+        → (r : Result (Option UnitHeaderFields × Section) Error) → IfOk r (IsNextUnit section_length s) → AreFrom (section_length - length s.bytes) (listed (continued (headers_within section_length n) (next_of r)))
     at ih (Err d) k = record { begin = (tt, tt); order = (tt, tt) }
     at ih (Ok (None, t)) k = record { begin = tt; order = tt }
     at ih (Ok (Some x, t)) k =
         let u = k.unit x refl in
         let rest : length t.bytes ≡ length (drop (unit_length x) s.bytes) = ap (λ (y : Section). length y.bytes) u.front.rest in
         let count = length-drop (unit_length x) s.bytes in
-        one_more section_length s t x (listed (run section_length n t)) le u (ih t (omega arith))
+        one_more section_length s t x (listed (headers_within section_length n t)) le u (ih t (omega arith))
 
 pub headers_in_order : HeadersInOrder
 headers_in_order s = (in_order_within (length s.bytes) (length s.bytes + 1) s (omega arith)).order

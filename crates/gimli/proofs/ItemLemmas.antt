@@ -83,7 +83,7 @@ next_is unit start following x h = (nexts unit start).by x following h
 abbrev pub run : EntryUnit → ℕ → EntryCursor → Run Item EntryCursor
 run unit n c = run_within (λ d. next_of (next_item_at unit d)) n c
 
-less : (a b : ℤ) → int_lt a b ≡ true → a <ℤ b
+pub less : (a b : ℤ) → int_lt a b ≡ true → a <ℤ b
 less a b h = grind (arith, ints)
 
 -- those inside lie deeper

@@ -1,6 +1,5 @@
 -- Range lists, one entry on (on specs/RangeListEntries.antt and specs/Ranges.antt).
-use Rattle.std.proofs.Common.{◌≡◌, ℕ, zero, suc, ◌+◌, ◌-◌, ◌*◌, ◌^◌, ◌%◌, ◌≤◌, ◌==◌, bit_and, true, List, [], ◌∷◌, length, Option, Some, None, Result, Ok, Err, ap, sym, ◌∙◌, arith}
-use Rattle.std.proofs.lemmas.Bool.Decides.{nat_tests}
+use Rattle.std.proofs.Common.{◌≡◌, ℕ, zero, suc, ◌+◌, ◌-◌, ◌*◌, ◌^◌, ◌%◌, ◌==◌, bit_and, true, List, [], ◌∷◌, length, Option, Some, None, Result, Ok, Err, ap, sym, ◌∙◌, arith}
 use Rattle.std.proofs.lemmas.Nat.{and_mask}
 use lib.Pow.{mod-mod-pow}
 use Rattle.gimli_read.specs.declared.error.Error.{Error}
@@ -18,6 +17,7 @@ use Rattle.gimli.specs.declared.constants.TheConstants.{DW_RLE_end_of_list, DW_R
 use Rattle.gimli.specs.declared.rnglists.RangeListEntry.{RangeListEntry}
 use Rattle.gimli.specs.declared.rnglists.RangeListEntry.TheVariants.{BaseAddressx, StartxEndx, StartxLength, OffsetPair, BaseAddress, StartEnd, StartLength}
 use Rattle.gimli_line.specs.AddressSize.{greatest_address}
+use Rattle.gimli_line.proofs.Limits.{size_small}
 use Rattle.gimli.specs.RangeListEntries.{entry_of_two, rnglists_fields_at, rnglists_entry_at, ranges_entry_at, range_list_entry_at, range_list_entries}
 use Rattle.gimli.specs.Ranges.{sum_of_size, range_of_entry, with_range_first, ranges_of_entries, ranges_from}
 use Rattle.gimli.specs.Sections.{Sections}
@@ -28,9 +28,6 @@ masked : (n j k : ℕ) → j + k ≡ 64 → bit_and (n % 2 ^ 64) (2 ^ k - 1) ≡
 masked n j k h =
     let wide : n % 2 ^ 64 ≡ n % 2 ^ (j + k) = ap (λ w. n % 2 ^ w) (sym h) in
     and_mask (n % 2 ^ 64) k ∙ ap (λ m. m % 2 ^ k) wide ∙ mod-mod-pow n j k
-
-size_small : (n : ℕ) → is_address_size n ≡ true → n ≤ 8
-size_small n h = grind (arith, nat_tests)
 
 pub masked_sum : (size a b : ℕ) → is_address_size size ≡ true → bit_and ((a + b) % 2 ^ 64) (greatest_address size) ≡ sum_of_size size a b
 masked_sum size a b h = let l = size_small size h in masked (a + b) (64 - 8 * size) (8 * size) (omega arith)

@@ -11,12 +11,14 @@ use Rattle.gimli_read.specs.declared.endian.Format.{Format}
 use Rattle.gimli_read.specs.declared.value.AttributeValue.{AttributeValue}
 use Rattle.gimli_read.specs.declared.value.AttributeValue.TheVariants as values
 use Rattle.gimli_read.specs.Section.{Section, first, after}
-use Rattle.gimli_read.specs.Reading.{Reading, ◌>>=◌, done}
+use Rattle.gimli_read.specs.Reading.{Reading, ◌>>=◌}
 use Rattle.gimli_read.specs.Number.{ended_at, is_address_size, fixed_at, split_at, address_at, null_terminated_at}
 use Rattle.gimli_read.specs.Number.{offset_size}
+use Rattle.gimli_read.proofs.Steps.{done}
 use Rattle.gimli.specs.Sections.{Sections, SupSections}
 use Rattle.gimli.specs.Text.{from_offset, string_at, string_length_at, indexed_number, indexed_string, sup_string_at, string_of, string_takes_memory}
-use Rattle.gimli.specs.Unit.{readable_string, gives_string}
+use Rattle.gimli.specs.Unit.{readable_string}
+use Rattle.gimli.specs.UnitMemory.{gives_some}
 
 -- a reading that never gives OutOfMemory
 record NeverOom {A : Type 0} (r : Result A Error) : Type 0 where
@@ -84,10 +86,10 @@ shared_if _ h = h
 -- a string that is given only where it can be read is never refused OutOfMemory but by a refused growth
 pub string_refused : (d : Sections) (format : Format) (base : ℕ) (v : AttributeValue Section) (shares : Bool)
     → ((string_takes_memory shares v ≡ true → is_ok (string_of d format base v) ≡ true → OutOfMemory ≢ OutOfMemory) → string_of d format base v ≡ Err OutOfMemory)
-    → (shares ≡ true → gives_string (Ok (readable_string d format base (Some v))) ≡ true → OutOfMemory ≢ OutOfMemory) → ⊥
+    → (shares ≡ true → gives_some (Ok (readable_string d format base (Some v))) ≡ true → OutOfMemory ≢ OutOfMemory) → ⊥
 string_refused d format base v shares h m = at (string_of d format base v) (string_never d format base v) (λ k. h (λ t. k (shared_if v t))) m
   where
-    at : (r : Result Section Error) → NeverOom r → ((shares ≡ true → is_ok r ≡ true → OutOfMemory ≢ OutOfMemory) → r ≡ Err OutOfMemory) → (shares ≡ true → gives_string (Ok (result_ok r)) ≡ true → OutOfMemory ≢ OutOfMemory) → ⊥
+    at : (r : Result Section Error) → NeverOom r → ((shares ≡ true → is_ok r ≡ true → OutOfMemory ≢ OutOfMemory) → r ≡ Err OutOfMemory) → (shares ≡ true → gives_some (Ok (result_ok r)) ≡ true → OutOfMemory ≢ OutOfMemory) → ⊥
     at (Ok x) n h m = n.by (h (λ s _. m s refl))
     at (Err e) n h m = n.by (h (λ s ok. absurd cc))
 

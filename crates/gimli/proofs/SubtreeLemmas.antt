@@ -1,6 +1,6 @@
 -- Where subtrees end (on specs/ItemLaws.antt).
 use Rattle.std.proofs.Common.{◌≡◌, ℕ, zero, suc, ◌+◌, Bool, true, false, cond, List, [], ◌∷◌, length, Option, Some, None, Result, Ok, Err, refl, sym, ap, subst, arith, ℤ, pos, negsuc}
-use Rattle.std.specs.Prelude.{int_lt, ◌<ℤ◌, ◌+ℤ◌}
+use Rattle.std.specs.Prelude.{int_lt, ◌+ℤ◌}
 use Rattle.std.proofs.lemmas.Int.{ints}
 use Rattle.gimli_read.specs.declared.error.Error.{Error}
 use Rattle.gimli_read.specs.declared.error.Error.TheVariants.{UnexpectedEof}
@@ -9,10 +9,7 @@ use Rattle.gimli_read.specs.Run.{Run, next_of, cons, continued, run_within}
 use Rattle.gimli.specs.Entry.{EntryCursor, EntryUnit}
 use Rattle.gimli.specs.Items.{Entry, Item, depth_after, depth_behind, next_item_at, items_from, items_inside}
 use Rattle.gimli.specs.ItemLaws.{Closes, SubtreesClose}
-use Rattle.gimli.proofs.ItemLemmas.{IsNext, next_is, run}
-
-less : (a b : ℤ) → int_lt a b ≡ true → a <ℤ b
-less a b h = grind (arith, ints)
+use Rattle.gimli.proofs.ItemLemmas.{IsNext, less, next_is, run}
 
 equal : (a b : ℤ) → int_lt a b ≡ false → int_lt b a ≡ false → b ≡ a
 equal a b h k = grind (arith, ints)

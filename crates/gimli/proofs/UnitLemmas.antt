@@ -4,7 +4,7 @@ use Rattle.gimli_read.specs.declared.error.Error.{Error}
 use Rattle.gimli_read.specs.declared.error.Error.TheVariants.{UnknownAbbreviation}
 use Rattle.gimli_read.specs.declared.endian.Encoding.{Encoding}
 use Rattle.gimli_read.specs.Section.{Section}
-use Rattle.gimli_read.specs.Reading.{Reading, ◌>>=◌, IsUnlessOom, ExactlyUnlessOomIf}
+use Rattle.gimli_read.specs.Reading.{Reading, ◌>>=◌}
 use Rattle.gimli_read.specs.Leb128.{uleb128_at}
 use Rattle.gimli_read.specs.Abbreviations.{Abbrev}
 use Rattle.gimli_read.specs.Abbrev.{abbreviation_at, table_at, takes_memory}
@@ -14,7 +14,8 @@ use Rattle.gimli.specs.Header.{UnitHeaderFields}
 use Rattle.gimli.specs.Record.{RootValues, root_values_of}
 use Rattle.gimli.specs.Sections.{Sections}
 use Rattle.gimli.specs.Text.{from_offset}
-use Rattle.gimli.specs.Unit.{abbreviations_take_memory, unit_takes_memory, completed_record, unit_by, unit_record_of}
+use Rattle.gimli.specs.Unit.{completed_record, unit_by, unit_record_of}
+use Rattle.gimli.specs.UnitMemory.{abbreviations_take_memory, unit_takes_memory}
 
 -- a reading of no value
 record NeverOk {A : Type 0} (r : Result A Error) : Type 0 where
@@ -53,8 +54,8 @@ unfolding root_values_of
 root_never e s = never_bind _ (attributes_never e s)
 
 -- abbreviations by which a root entry is read take memory
-pub root_takes_memory : (e : Encoding) (rest entries : Section) (table : List Abbrev) (root : RootValues) → table_at rest ≡ Ok table → root_values_of e table entries ≡ Ok root → takes_memory rest ≡ true
-root_takes_memory e rest entries table root h k = at (abbreviation_at [] rest) refl
+pub read_root_takes_memory : (e : Encoding) (rest entries : Section) (table : List Abbrev) (root : RootValues) → table_at rest ≡ Ok table → root_values_of e table entries ≡ Ok root → takes_memory rest ≡ true
+read_root_takes_memory e rest entries table root h k = at (abbreviation_at [] rest) refl
   where
     empty : (r : Result RootValues Error) → NeverOk r → r ≡ Ok root → ⊥
     empty (Ok x) n q = n.by
@@ -78,13 +79,8 @@ pub unit_is : (d : Sections) (header : UnitHeaderFields) (shares : Bool) (rest :
     → (unit_takes_memory shares d header ≡ true) × (unit_record_of d header ≡ completed_record d header table root)
 unfolding unit_record_of unit_by
 unit_is d header shares rest table root h k l = (
-  ap (abbreviations_take_memory shares) h ∙ or_shared shares (takes_memory rest) (root_takes_memory header.encoding rest header.entries table root k l),
+  ap (abbreviations_take_memory shares) h ∙ or_shared shares (takes_memory rest) (read_root_takes_memory header.encoding rest header.entries table root k l),
   ap (λ (r : Result Section Error). (r >>= table_at) >>= λ t. root_values_of header.encoding t header.entries >>= λ v. completed_record d header t v) h
       ∙ ap (λ (r : Result (List Abbrev) Error). r >>= λ t. root_values_of header.encoding t header.entries >>= λ v. completed_record d header t v) k
       ∙ ap (λ (r : Result RootValues Error). r >>= λ v. completed_record d header table v) l,
 )
-
--- an answer for which memory may be taken, by what it is the same as
-pub taken_if : {X : Type 0} (may : Bool) (r given same : Result X Error) → may ≡ true → given ≡ same → IsUnlessOom r same → ExactlyUnlessOomIf may (λ x. x) r given
-taken_if may (Ok x) given same m h k = h ∙ k
-taken_if may (Err e) given same m h k = λ n. h ∙ k (n m)

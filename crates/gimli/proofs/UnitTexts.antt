@@ -119,35 +119,36 @@ joined_on bytes front s t h e u =
     e ∙ ap (λ (xs : List ℕ). front ++ xs) (sym (take-append-drop (unit_length h) s.bytes) ∙ ap (λ (xs : List ℕ). take (unit_length h) s.bytes ++ xs) (sym (rest_bytes (length bytes) s t h u)))
     ∙ sym (append_assoc front (take (unit_length h) s.bytes) t.bytes)
 
-abbrev run : ℕ → ℕ → Section → Run UnitHeaderFields Section
-run section_length n s = run_within (λ t. next_of (next_header_at section_length t)) n s
+-- at most n units that stand one after another
+abbrev pub headers_within : ℕ → ℕ → Section → Run UnitHeaderFields Section
+headers_within section_length n s = run_within (λ t. next_of (next_header_at section_length t)) n s
 
-cover_within : (bytes : List ℕ) (n : ℕ) (front : List ℕ) (s end : Section) → bytes ≡ front ++ s.bytes → (run (length bytes) n s).end ≡ Ok end → flat_map (unit_text bytes) (run (length bytes) n s).items ≡ s.bytes
+cover_within : (bytes : List ℕ) (n : ℕ) (front : List ℕ) (s end : Section) → bytes ≡ front ++ s.bytes → (headers_within (length bytes) n s).end ≡ Ok end → flat_map (unit_text bytes) (headers_within (length bytes) n s).items ≡ s.bytes
 unfolding run_within
 cover_within bytes zero front s end e h = absurd cc
 cover_within bytes (suc n) front s end e h = at (λ ahead t. cover_within bytes n ahead t end) (next_header_at (length bytes) s) (next_unit (length bytes) s).by h
   where
-    at : ((ahead : List ℕ) (t : Section) → bytes ≡ ahead ++ t.bytes → (run (length bytes) n t).end ≡ Ok end → flat_map (unit_text bytes) (run (length bytes) n t).items ≡ t.bytes)
-        → (r : Result Given Error) → IfOk r (IsNextUnit (length bytes) s) → (continued (run (length bytes) n) (next_of r)).end ≡ Ok end → flat_map (unit_text bytes) (continued (run (length bytes) n) (next_of r)).items ≡ s.bytes
+    at : ((ahead : List ℕ) (t : Section) → bytes ≡ ahead ++ t.bytes → (headers_within (length bytes) n t).end ≡ Ok end → flat_map (unit_text bytes) (headers_within (length bytes) n t).items ≡ t.bytes)
+        → (r : Result Given Error) → IfOk r (IsNextUnit (length bytes) s) → (continued (headers_within (length bytes) n) (next_of r)).end ≡ Ok end → flat_map (unit_text bytes) (continued (headers_within (length bytes) n) (next_of r)).items ≡ s.bytes
     at ih (Err d) k q = absurd cc
     at ih (Ok (None, t)) k q = sym (k.end refl)
     at ih (Ok (Some x, t)) k q =
         let u = k.unit x refl in
         let more = ih (front ++ take (unit_length x) s.bytes) t (joined_on bytes front s t x e u) q in
-        ap (λ (xs : List ℕ). xs ++ flat_map (unit_text bytes) (run (length bytes) n t).items) (text_at bytes front s t x e u)
+        ap (λ (xs : List ℕ). xs ++ flat_map (unit_text bytes) (headers_within (length bytes) n t).items) (text_at bytes front s t x e u)
         ∙ ap (λ (xs : List ℕ). take (unit_length x) s.bytes ++ xs) (more ∙ rest_bytes (length bytes) s t x u)
         ∙ take-append-drop (unit_length x) s.bytes
 
 pub units_cover : UnitsCover
 units_cover s end h = cover_within s.bytes (length s.bytes + 1) [] s end refl h
 
-entries_within : (bytes : List ℕ) (n : ℕ) (front : List ℕ) (s : Section) → bytes ≡ front ++ s.bytes → AllByRecursion (λ h. h.entries.bytes ≡ drop h.header_length (unit_text bytes h)) (run (length bytes) n s).items
+entries_within : (bytes : List ℕ) (n : ℕ) (front : List ℕ) (s : Section) → bytes ≡ front ++ s.bytes → AllByRecursion (λ h. h.entries.bytes ≡ drop h.header_length (unit_text bytes h)) (headers_within (length bytes) n s).items
 unfolding run_within
 entries_within bytes zero front s e = tt
 entries_within bytes (suc n) front s e = at (entries_within bytes n) (next_header_at (length bytes) s) (next_unit (length bytes) s).by
   where
-    at : ((ahead : List ℕ) (t : Section) → bytes ≡ ahead ++ t.bytes → AllByRecursion (λ h. h.entries.bytes ≡ drop h.header_length (unit_text bytes h)) (run (length bytes) n t).items)
-        → (r : Result Given Error) → IfOk r (IsNextUnit (length bytes) s) → AllByRecursion (λ h. h.entries.bytes ≡ drop h.header_length (unit_text bytes h)) (continued (run (length bytes) n) (next_of r)).items
+    at : ((ahead : List ℕ) (t : Section) → bytes ≡ ahead ++ t.bytes → AllByRecursion (λ h. h.entries.bytes ≡ drop h.header_length (unit_text bytes h)) (headers_within (length bytes) n t).items)
+        → (r : Result Given Error) → IfOk r (IsNextUnit (length bytes) s) → AllByRecursion (λ h. h.entries.bytes ≡ drop h.header_length (unit_text bytes h)) (continued (headers_within (length bytes) n) (next_of r)).items
     at ih (Err d) k = tt
     at ih (Ok (None, t)) k = tt
     at ih (Ok (Some x, t)) k =

@@ -4,6 +4,7 @@ use Rattle.std.specs.Prelude.{◌==◌, ℕ, ◌+◌, ◌<◌, ◌≤◌, ◌^�
 use Rattle.gimli_read.specs.declared.error.Error.{Error}
 use Rattle.gimli_read.specs.declared.error.Error.TheVariants.{UnknownAbbreviation, MissingUnitDie}
 use Rattle.gimli_read.specs.declared.endian.Encoding.{Encoding}
+use Rattle.gimli_read.specs.declared.constants.TheConstants.{CLOSING_CODE}
 use Rattle.gimli_read.specs.Section.{Section}
 use Rattle.gimli_read.specs.Reading.{◌>>=◌}
 use Rattle.gimli_read.specs.Leb128.{uleb128_at}
@@ -58,7 +59,7 @@ unfoldable pub entry_abbreviation_at : List Abbrev → EntryCursor
     → Result (Option Abbrev × EntryCursor) Error
 entry_abbreviation_at table cursor = do
   code ← uleb128_at cursor.left
-  if code.0 == 0
+  if code.0 == CLOSING_CODE
       then Ok (None, record { left = code.1; depth = depth_after_closing cursor.depth })
       else opening_entry (with_code code.0 table) (record { left = code.1; depth = cursor.depth })
 

@@ -6,6 +6,7 @@ pub mod StringPlaces
 pub mod Entry
 pub mod Record
 pub mod Unit
+pub mod UnitMemory
 pub mod CachedTables
 pub mod Entries
 pub mod Aranges

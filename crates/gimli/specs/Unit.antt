@@ -2,7 +2,7 @@
 -- Own: bases begin at 0; in a version 5 unit of a split file at the end of the table's header.
 -- Own: the record is faulty by its abbreviations, its root entry, its line program's header, or the
 -- index of its low_pc, in this order. A name or a directory that can't be read counts as none.
-use Rattle.std.specs.Prelude.{ℕ, ◌==◌, ◌||◌, Bool, false, List, option_map, option_and_then, Option, Some, None, is_some, Result, Ok, Err, unwrap_or, if◌then◌else◌}
+use Rattle.std.specs.Prelude.{ℕ, ◌==◌, List, option_map, option_and_then, Option, Some, None, Result, Ok, unwrap_or, if◌then◌else◌}
 use Rattle.std.specs.Result.{result_ok}
 use Rattle.gimli_read.specs.declared.error.Error.{Error}
 use Rattle.gimli_read.specs.declared.endian.Encoding.{Encoding}
@@ -12,7 +12,7 @@ use Rattle.gimli_read.specs.declared.value.AttributeValue.{AttributeValue}
 use Rattle.gimli_read.specs.Section.{Section}
 use Rattle.gimli_read.specs.Reading.{◌>>=◌}
 use Rattle.gimli_read.specs.Abbreviations.{Abbrev}
-use Rattle.gimli_read.specs.Abbrev.{table_at, takes_memory}
+use Rattle.gimli_read.specs.Abbrev.{table_at}
 use Rattle.gimli_line.specs.Header.{Program}
 use Rattle.gimli_line.specs.Program.{line_program_at}
 use Rattle.gimli.specs.declared.constants.TheConstants.{STR_OFFSETS_HEADER_32, STR_OFFSETS_HEADER_64, RNGLISTS_HEADER_32, RNGLISTS_HEADER_64}
@@ -74,11 +74,6 @@ abbrev pub readable_string : Sections → Format → ℕ → Option (AttributeVa
 readable_string d format base value =
     option_and_then (λ v. result_ok (string_of d format base v)) value
 
--- whether a string is given
-abbrev pub gives_string : Result (Option Section) Error → Bool
-gives_string (Ok string) = is_some string
-gives_string (Err e) = false
-
 -- the identifier of the header, else that of the root entry
 abbrev pub dwo_id_of : Option DwoId → Option ℕ → Option DwoId
 dwo_id_of (Some id) given = Some id
@@ -106,20 +101,21 @@ completed_record d header table root =
     unwrap_or root.str_offsets_base
     (first_base STR_OFFSETS_HEADER_32 STR_OFFSETS_HEADER_64 d.file_type header.encoding) in
     let addr_base = unwrap_or root.addr_base 0 in
+    let texts = name_and_directory_of d header.encoding.format str_offsets_base root in
     do
-      start ← program_and_low_pc_of d header.encoding addr_base root
+      read ← program_and_low_pc_of d header.encoding addr_base root
       Ok (record {
         header = header;
         abbreviations = table;
-        name = readable_string d header.encoding.format str_offsets_base root.name;
-        comp_dir = readable_string d header.encoding.format str_offsets_base root.comp_dir;
-        low_pc = start.1;
+        name = texts.0;
+        comp_dir = texts.1;
+        low_pc = read.1;
         str_offsets_base = str_offsets_base;
         addr_base = addr_base;
         rnglists_base = unwrap_or root.rnglists_base
             (first_base RNGLISTS_HEADER_32 RNGLISTS_HEADER_64 d.file_type header.encoding);
         dwo_id = dwo_id_of header.dwo_id root.dwo_id;
-        line_program = start.0;
+        line_program = read.0;
       })
 
 -- the unit of a header, whose table is read
@@ -138,18 +134,6 @@ table_from offset s = from_offset offset s >>= table_at
 unfoldable pub unit_record_of : Sections → UnitHeaderFields → Result UnitRecord Error
 unit_record_of d header =
     unit_by d header (table_from header.debug_abbrev_offset d.debug_abbrev)
-
--- whether memory may be taken for the abbreviations from an offset on: for the table's own entries,
--- or where readers share their bytes
-abbrev pub abbreviations_take_memory : Bool → Result Section Error → Bool
-abbreviations_take_memory shares (Ok rest) = shares || takes_memory rest
-abbreviations_take_memory shares (Err e) = false
-
--- whether memory may be taken for the unit of a header: without abbreviations it has no root entry,
--- so nothing that follows takes any
-abbrev pub unit_takes_memory : Bool → Sections → UnitHeaderFields → Bool
-unit_takes_memory shares d header =
-    abbreviations_take_memory shares (from_offset header.debug_abbrev_offset d.debug_abbrev)
 
 -- the string that a value of an attribute of a unit stands for
 abbrev pub attr_string_of : Sections → UnitRecord → AttributeValue Section → Result Section Error

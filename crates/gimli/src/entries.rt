@@ -9,8 +9,8 @@ ghost use Rattle.gimli.specs.Entries.{entries_at};
 
 use crate::unit::UnitHeader;
 use gimli_read::{
-    Abbreviation, Abbreviations, Attribute, AttributeSpecification, Encoding, Error, Reader,
-    UnitOffset, read_attribute, skip_attributes, skip_attributes_of,
+    Abbreviation, Abbreviations, Attribute, AttributeSpecification, CLOSING_CODE, Encoding, Error,
+    Reader, UnitOffset, read_attribute, skip_attributes, skip_attributes_of,
 };
 use std::marker::Model;
 
@@ -112,7 +112,7 @@ impl<'a, R: Reader> EntriesRaw<'a, R> {
         ensures unit { self.new.unit ≡ self.old.unit }
     {
         let code = self.input.read_uleb128()?;
-        if code == 0 {
+        if code == CLOSING_CODE {
             self.depth = depth_after_closing(self.depth);
             return Ok(None);
         }

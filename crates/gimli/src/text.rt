@@ -5,7 +5,7 @@ ghost use Rattle.gimli_read.specs.Reading.{Exactly, ExactlyUnlessOomFor};
 ghost use Rattle.gimli_read.specs.Form.{seen_value};
 ghost use Rattle.gimli.specs.Unit.{attr_string_of};
 ghost use Rattle.gimli_line.specs.Opcode.{fault_of};
-ghost use Rattle.gimli.specs.StringPlaces.{held_string, string_place_of, sup_strings};
+ghost use Rattle.gimli.specs.StringPlaces.{seen_place, string_place_of, sup_strings};
 ghost use Rattle.gimli.specs.Text.{from_offset, string_at, string_length_at, indexed_number, string_of, string_takes_memory};
 
 use crate::dwarf::Dwarf;
@@ -85,10 +85,10 @@ pub(crate) fn read_indexed_number<R: Reader>(
     EndianSlice::new(&bytes[offset as usize..], section.endian()).read_address(size)
 }
 
-// Where a string begins: a section, and an offset in it.
-struct StringPlace<'a, R: Reader> {
-    section: &'a R,
-    offset: u64,
+// Where the string of a value stands: in the value itself, or in a section from an offset on.
+enum StringPlace<T, S> {
+    InValue(S),
+    InSection(T, u64),
 }
 
 // The strings of the supplementary file.
@@ -101,40 +101,30 @@ fn sup_strings<R: Reader>(dwarf: &Dwarf<R>) -> Result<&R, Error>
     }
 }
 
-// Where the string of a value begins, none where the value holds it. Takes no memory.
+// Where the string of a value stands. Takes no memory.
 #[tactic(auto, unfolding(crate::specs::StringPlaces::string_place_of))]
 fn string_place<'a, R: Reader, S: Reader>(
     dwarf: &'a Dwarf<R>,
     format: Format,
     base: u64,
-    value: &AttributeValue<S>,
-) -> Result<Option<StringPlace<'a, R>>, Error>
-    ensures gives { Exactly (option_map (λ p. (R.section p.section.now, p.offset))) result
-        (string_place_of dwarf.now format base (seen_value S.section value.now)) }
+    value: AttributeValue<S>,
+) -> Result<StringPlace<&'a R, S>, Error>
+    ensures gives { Exactly (seen_place (λ s. R.section s.now) S.section) result
+        (string_place_of dwarf.now format base (seen_value S.section value)) }
 {
     let (section, offset) = match value {
-        AttributeValue::String(_) => return Ok(None),
-        AttributeValue::DebugStrRef(offset) => (&dwarf.debug_str.section, *offset),
-        AttributeValue::DebugLineStrRef(offset) => (&dwarf.debug_line_str.section, *offset),
-        AttributeValue::DebugStrRefSup(offset) => (sup_strings(dwarf)?, *offset),
+        AttributeValue::String(string) => return Ok(StringPlace::InValue(string)),
+        AttributeValue::DebugStrRef(offset) => (&dwarf.debug_str.section, offset),
+        AttributeValue::DebugLineStrRef(offset) => (&dwarf.debug_line_str.section, offset),
+        AttributeValue::DebugStrRefSup(offset) => (sup_strings(dwarf)?, offset),
         AttributeValue::DebugStrOffsetsIndex(index) => {
             let offsets = &dwarf.debug_str_offsets.section;
-            let offset = read_indexed_number(offsets, format.word_size(), base, *index)?;
+            let offset = read_indexed_number(offsets, format.word_size(), base, index)?;
             (&dwarf.debug_str.section, offset)
         }
         _ => return Err(Error::ExpectedString),
     };
-    Ok(Some(StringPlace { section, offset }))
-}
-
-// The string that a value holds, without a section.
-fn held_string<R: Reader>(value: AttributeValue<R>) -> Result<R, Error>
-    ensures gives { Exactly R.section result (held_string (seen_value R.section value)) }
-{
-    match value {
-        AttributeValue::String(string) => Ok(string),
-        _ => Err(Error::ExpectedString),
-    }
+    Ok(StringPlace::InSection(section, offset))
 }
 
 /// The string that a value stands for, without the zero byte that ends it. `base` is where the
@@ -144,7 +134,7 @@ fn held_string<R: Reader>(value: AttributeValue<R>) -> Result<R, Error>
 /// where no zero byte ends it, and `NoSupplementary` for a string of a supplementary file that
 /// isn't there; else `OutOfMemory` where bytes are shared and the value doesn't hold the string
 /// itself.
-#[tactic(auto, using(crate::proofs::StringPlaces::string_there, crate::proofs::StringPlaces::string_held, crate::proofs::StringPlaces::string_unplaced, crate::proofs::StringPlaces::there_takes))]
+#[tactic(auto, using(crate::proofs::StringPlaces::string_there, crate::proofs::StringPlaces::string_here, crate::proofs::StringPlaces::string_unplaced, crate::proofs::StringPlaces::there_takes))]
 pub(crate) fn read_string<R: Reader>(
     dwarf: &Dwarf<R>,
     format: Format,
@@ -155,9 +145,9 @@ pub(crate) fn read_string<R: Reader>(
         (string_takes_memory R.shares (seen_value R.section value)) is_ok R.section result
         (string_of dwarf.now format base (seen_value R.section value)) }
 {
-    match string_place(dwarf, format, base, &value)? {
-        Some(StringPlace { section, offset }) => read_string_at(section, offset),
-        None => held_string(value),
+    match string_place(dwarf, format, base, value)? {
+        StringPlace::InValue(string) => Ok(string),
+        StringPlace::InSection(section, offset) => read_string_at(section, offset),
     }
 }
 
@@ -171,7 +161,7 @@ fn check_string_at<R: Reader>(section: &R, offset: u64) -> Result<(), Error>
 }
 
 /// Refused as the string that a value stands for is (`read_string`), but that it takes no memory.
-#[tactic(auto, using(crate::proofs::StringPlaces::string_there, crate::proofs::StringPlaces::held_well, crate::proofs::StringPlaces::fault_unplaced))]
+#[tactic(auto, using(crate::proofs::StringPlaces::string_there, crate::proofs::StringPlaces::string_here, crate::proofs::StringPlaces::fault_unplaced))]
 pub(crate) fn check_string<R: Reader, S: Reader>(
     dwarf: &Dwarf<R>,
     format: Format,
@@ -181,9 +171,9 @@ pub(crate) fn check_string<R: Reader, S: Reader>(
     ensures gives { Exactly (λ x. x) result (fault_of (string_of dwarf.now format base
         (seen_value S.section value))) }
 {
-    match string_place(dwarf, format, base, &value)? {
-        Some(StringPlace { section, offset }) => check_string_at(section, offset),
-        None => Ok(()),
+    match string_place(dwarf, format, base, value)? {
+        StringPlace::InValue(_) => Ok(()),
+        StringPlace::InSection(section, offset) => check_string_at(section, offset),
     }
 }
 

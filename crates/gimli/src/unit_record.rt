@@ -1,10 +1,11 @@
 //! Units: headers with what their root entry says.
 
 ghost use Rattle.std.specs.Prelude.{◌≡◌, Ok, is_some, option_map};
-ghost use Rattle.gimli_read.specs.Reading.{Exactly, ExactlyUnlessOom, ExactlyUnlessOomFor, ExactlyUnlessOomIf, IsUnlessOom};
+ghost use Rattle.gimli_read.specs.Reading.{Exactly, ExactlyUnlessOomFor, ExactlyUnlessOomIf};
 ghost use Rattle.gimli_read.specs.Form.{seen_value};
 ghost use Rattle.gimli.specs.Split.{dwo_name_fault, dwo_name_of, relocated};
-ghost use Rattle.gimli.specs.Unit.{first_base, low_pc_of, line_program_of, name_and_directory_of, program_and_low_pc_of, readable_string, gives_string, dwo_id_of, completed_record, unit_record_of, unit_takes_memory};
+ghost use Rattle.gimli.specs.Unit.{first_base, low_pc_of, line_program_of, name_and_directory_of, program_and_low_pc_of, readable_string, dwo_id_of, completed_record, unit_record_of};
+ghost use Rattle.gimli.specs.UnitMemory.{gives_some, root_takes_memory, unit_takes_memory};
 
 use crate::constants::{
     RNGLISTS_HEADER_32, RNGLISTS_HEADER_64, STR_OFFSETS_HEADER_32, STR_OFFSETS_HEADER_64,
@@ -132,7 +133,7 @@ fn read_readable_string<R: Reader>(
     base: u64,
     value: Option<AttributeValue<R>>,
 ) -> Result<Option<R>, Error>
-    ensures gives { ExactlyUnlessOomFor R.shares gives_string (option_map R.section) result
+    ensures gives { ExactlyUnlessOomFor R.shares gives_some (option_map R.section) result
         (Ok (readable_string dwarf.now format base (option_map (seen_value R.section) value))) }
 {
     let Some(value) = value else {
@@ -158,7 +159,7 @@ fn dwo_id_of(in_header: Option<DwoId>, given: Option<u64>) -> Option<DwoId>
     }
 }
 
-// The line program, and then the address of low_pc.
+// The line program, and then the address of low_pc. Without a line program takes no memory.
 fn read_program_and_low_pc<R: Reader>(
     alloc: Global,
     dwarf: &Dwarf<R>,
@@ -166,23 +167,25 @@ fn read_program_and_low_pc<R: Reader>(
     addr_base: u64,
     root: &RootAttributes<R>,
 ) -> Result<(Option<IncompleteLineProgram<R>>, u64), Error>
-    ensures gives { IsUnlessOom result (program_and_low_pc_of dwarf.now encoding addr_base
-        root.now) }
+    ensures gives { ExactlyUnlessOomIf (is_some root.now.stmt_list) (λ x. x) result
+        (program_and_low_pc_of dwarf.now encoding addr_base root.now) }
 {
     let line_program = read_program(alloc, dwarf, encoding, root.stmt_list)?;
     let low_pc = read_low_pc(dwarf, encoding, addr_base, root.low_pc)?;
     Ok((line_program, low_pc))
 }
 
-// The name and the directory, none where they can't be read. Refused `OutOfMemory` alone.
+// The name and the directory, none where they can't be read. Refused `OutOfMemory` alone, where
+// bytes are shared.
 fn read_name_and_directory<R: Reader>(
     dwarf: &Dwarf<R>,
     format: Format,
     base: u64,
     root: RootAttributes<R>,
 ) -> Result<(Option<R>, Option<R>), Error>
-    ensures gives { ExactlyUnlessOom (λ x. (option_map R.section x.0, option_map R.section x.1))
-        result (Ok (name_and_directory_of dwarf.now format base root)) }
+    ensures gives { ExactlyUnlessOomIf R.shares
+        (λ x. (option_map R.section x.0, option_map R.section x.1)) result
+        (Ok (name_and_directory_of dwarf.now format base root)) }
 {
     let name = read_readable_string(dwarf, format, base, root.name)?;
     let comp_dir = read_readable_string(dwarf, format, base, root.comp_dir)?;
@@ -198,8 +201,8 @@ pub(crate) fn complete<R: Reader>(
     abbreviations: Rc<Abbreviations>,
     root: RootAttributes<R>,
 ) -> Result<Unit<R>, Error>
-    ensures gives { IsUnlessOom result (completed_record dwarf.now
-        header abbreviations.value root) }
+    ensures gives { ExactlyUnlessOomIf (root_takes_memory R.shares root) (λ u. u) result
+        (completed_record dwarf.now header abbreviations.value root) }
 {
     let encoding = header.encoding;
     let file_type = dwarf.file_type;
@@ -261,11 +264,17 @@ impl<R: Reader> Unit<R> {
     ///
     /// Refused as the root entry is: `UnexpectedEof`, `BadLeb128`, `MissingUnitDie`,
     /// `UnknownAbbreviation`, `UnknownForm` and what a value is refused for; where bytes are
-    /// shared it may fail with `OutOfMemory` instead.
+    /// shared it may fail with `OutOfMemory` in place of a name.
     pub fn dwo_name(&self) -> Result<Option<AttributeValue<R>>, Error>
-        ensures gives { ExactlyUnlessOomIf R.shares (option_map (seen_value R.section)) result
-            (dwo_name_of self.now) }
+        ensures gives { ExactlyUnlessOomFor R.shares gives_some (option_map (seen_value R.section))
+            result (dwo_name_of self.now) }
     {
+        // Over borrowed bytes first: a growth for another string must not hide a fault.
+        let borrowed = self.header.borrowed();
+        let root = read_root(&borrowed, &self.abbreviations)?;
+        if root.dwo_name.is_none() {
+            return Ok(None);
+        }
         let root = read_root(&self.header, &self.abbreviations)?;
         Ok(root.dwo_name)
     }

@@ -10,7 +10,7 @@ use Rattle.gimli_line.specs.declared.registers.Registers.{Registers}
 use Rattle.gimli_line.specs.Encoding.{limit}
 use Rattle.gimli_line.specs.Steps.{fitting, advanced}
 
-size_small : (n : ℕ) → is_address_size n ≡ true → n ≤ 8
+pub size_small : (n : ℕ) → is_address_size n ≡ true → n ≤ 8
 size_small n h = grind (arith, nat_tests)
 
 pub limit_small : (e : LineEncoding) → is_address_size e.address_size ≡ true → limit e ≤ 2 ^ 64

@@ -2,9 +2,10 @@
 use Rattle.std.proofs.Common.{◌≡◌, ℕ, zero, suc, ◌+◌, ◌<◌, List, [], ◌∷◌, ◌++◌, Ok, Err, refl, sym, ap, ◌∙◌, append_assoc, append-nil, arith}
 use Rattle.gimli_read.specs.declared.error.Error.{Error}
 use Rattle.gimli_read.specs.Section.{Section}
-use Rattle.gimli_read.specs.Reading.{Reading, ◌>>=◌, done}
+use Rattle.gimli_read.specs.Reading.{Reading, ◌>>=◌}
 use Rattle.gimli_read.specs.Run.{with_front}
 use Rattle.gimli_read.specs.Leb128.{uleb128_at}
+use Rattle.gimli_read.proofs.Steps.{done}
 use Rattle.gimli_line.specs.Opcode.{numbers_skipped}
 use Rattle.gimli_line.specs.EntryTables.{times}
 

@@ -63,7 +63,8 @@ step_grows e r EndSequence = omega arith
 step_grows e r (SetAddress a) = placed_grows e a r
 step_grows e r Other = omega arith
 
-abbrev NextFrom : ℕ → List LineRow → Type 0
+-- the first row, if there is one, is at this address or above it
+abbrev pub NextFrom : ℕ → List LineRow → Type 0
 NextFrom m [] = Unit {0}
 NextFrom m (r ∷ rows) = m ≤ r.address
 

@@ -3,11 +3,13 @@ use Rattle.std.proofs.Common.{◌≡◌, ℕ, ◌-◌, ◌==◌, nat_le, Bool, t
 use Rattle.std.specs.Result.{is_err}
 use Rattle.gimli_read.specs.declared.error.Error.{Error}
 use Rattle.gimli_read.specs.Section.{Section}
-use Rattle.gimli_read.specs.Reading.{Reading, ◌>>=◌, done}
+use Rattle.gimli_read.specs.Reading.{Reading, ◌>>=◌}
 use Rattle.gimli_read.specs.Number.{fixed_at}
 use Rattle.gimli_read.specs.Run as runs
 use Rattle.gimli_read.specs.Run.{Run}
+use Rattle.gimli_read.proofs.Steps.{done}
 use Rattle.gimli_read.proofs.RunLemmas.{run_of-step}
+use Rattle.gimli_line.specs.declared.constants.TheConstants.{DW_LNS_extended_op}
 use Rattle.gimli_line.specs.declared.opcode.Opcode.{Opcode}
 use Rattle.gimli_line.specs.declared.opcode.Opcode.TheVariants.{Special}
 use Rattle.gimli_line.specs.declared.opcode.LineInstruction.{LineInstruction}
@@ -97,7 +99,7 @@ Ended = Option LineRow × Registers × Header × Section
 -- an instruction is read and then taken in
 pub step_instruction_is : (h : Header) (r : Registers) (code : ℕ) (s : Section) → step_instruction h r code s ≡ (coded_instruction_at h code s >>= λ i. taken h r i.0 >>= λ y. done {A = Ended} (y.0, y.1, y.2, i.1))
 unfolding step_instruction step_standard coded_instruction_at taken
-step_instruction_is h r code s = by_code (code == 0) (nat_le h.line_encoding.opcode_base code)
+step_instruction_is h r code s = by_code (code == DW_LNS_extended_op) (nat_le h.line_encoding.opcode_base code)
   where
     special : (x : Result (Option LineRow × Registers) Error)
         → (x >>= λ y. done {A = Ended} (y.0, y.1, h, s)) ≡ ((x >>= λ y. done {A = State} (y.0, y.1, h)) >>= λ y. done {A = Ended} (y.0, y.1, y.2, s))

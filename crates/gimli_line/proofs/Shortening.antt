@@ -6,6 +6,7 @@ use Rattle.gimli_read.specs.Section.{Section}
 use Rattle.gimli_read.specs.Reading.{Reading, ◌>>=◌}
 use Rattle.gimli_read.specs.Number.{fixed_at, ended_at, null_terminated_at}
 use Rattle.gimli_read.proofs.Shorter.{Shorter, shorter_bind, shorter_then, shorter_if, shorter_ok, shorter_err, shorter_weaker, takes_by, fixed-shorter, split-shorter, uleb128-shorter, sleb128-shorter, TakesBytes}
+use Rattle.gimli_line.specs.declared.constants.TheConstants.{DW_LNS_extended_op}
 use Rattle.gimli_line.specs.declared.opcode.LineInstruction.{LineInstruction}
 use Rattle.gimli_line.specs.Header.{File, Header}
 use Rattle.gimli_line.specs.Opcode.{file_with_path_at, numbers_skipped, standard_at, extended_in, extended_at, coded_instruction_at, instruction_at}
@@ -40,7 +41,7 @@ extended-shorter h s = shorter_bind (uleb128-shorter s) (λ n hn. shorter_bind (
 coded-shorter : (h : Header) (code : ℕ) (s : Section) → Shorter (length s.bytes + 1) (coded_instruction_at h code s)
 unfolding coded_instruction_at
 coded-shorter h code s =
-    shorter_if (code == 0) (extended-shorter h s)
+    shorter_if (code == DW_LNS_extended_op) (extended-shorter h s)
     (shorter_if (nat_le h.line_encoding.opcode_base code) (shorter_ok (omega arith))
     (shorter_bind (standard-shorter h code s) (λ x k. shorter_ok k)))
 

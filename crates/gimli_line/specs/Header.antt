@@ -1,5 +1,5 @@
 -- What a line program's header and its tables say (DWARF 5, section 6.2.4), and what a program has.
-use Rattle.std.specs.Prelude.{ℕ, ◌-◌, ◌==◌, Bool, false, List, slice_get, Option, Some, None, if◌then◌else◌}
+use Rattle.std.specs.Prelude.{ℕ, ◌-◌, ◌==◌, ◌||◌, not, Bool, false, List, length, slice_get, Option, Some, None, if◌then◌else◌}
 use Rattle.gimli_read.specs.declared.endian.Encoding.{Encoding}
 use Rattle.gimli_read.specs.declared.value.AttributeValue.{AttributeValue}
 use Rattle.gimli_read.specs.Section.{Section}
@@ -24,6 +24,11 @@ pub record Header : Type 0 where
 pub record Program : Type 0 where
   pub header : Header
   pub program : Section
+
+-- whether memory may be taken for a copy of a header: for its tables, or where bytes are shared
+abbrev pub copy_takes_memory : Bool → Header → Bool
+copy_takes_memory shares h =
+    shares || not (length h.include_directories == 0) || not (length h.file_names == 0)
 
 -- an entry of a table, counted from 1 below version 5 and from 0 in it
 abbrev pub entry_of : {A : Type 0} → ℕ → ℕ → List A → Option A

@@ -14,7 +14,7 @@ use Rattle.gimli_line.specs.declared.opcode.Opcode.{Opcode}
 use Rattle.gimli_line.specs.declared.opcode.Opcode.TheVariants.{Special, Copy, AdvancePc, AdvanceLine, SetFile, SetColumn, ConstAddPc, FixedAdvancePc, EndSequence, SetAddress, Other}
 use Rattle.gimli_line.specs.declared.opcode.LineInstruction.{LineInstruction}
 use Rattle.gimli_line.specs.declared.opcode.LineInstruction.TheVariants.{Changes, Defines}
-use Rattle.gimli_line.specs.declared.constants.TheConstants.{DW_LNS_copy, DW_LNS_advance_pc, DW_LNS_advance_line, DW_LNS_set_file, DW_LNS_set_column, DW_LNS_negate_stmt, DW_LNS_set_basic_block, DW_LNS_const_add_pc, DW_LNS_fixed_advance_pc, DW_LNS_set_prologue_end, DW_LNS_set_epilogue_begin, DW_LNS_set_isa, DW_LNE_end_sequence, DW_LNE_set_address, DW_LNE_define_file, DW_LNE_set_discriminator}
+use Rattle.gimli_line.specs.declared.constants.TheConstants.{DW_LNS_extended_op, DW_LNS_copy, DW_LNS_advance_pc, DW_LNS_advance_line, DW_LNS_set_file, DW_LNS_set_column, DW_LNS_negate_stmt, DW_LNS_set_basic_block, DW_LNS_const_add_pc, DW_LNS_fixed_advance_pc, DW_LNS_set_prologue_end, DW_LNS_set_epilogue_begin, DW_LNS_set_isa, DW_LNE_end_sequence, DW_LNE_set_address, DW_LNE_define_file, DW_LNE_set_discriminator}
 use Rattle.gimli_line.specs.Header.{File, Header}
 
 -- a file that has this path: what follows the path is its directory, a time and a length, both
@@ -99,7 +99,7 @@ gives_file (Err e) = false
 -- the instruction that has this code
 unfoldable pub coded_instruction_at : Header → ℕ → Section → Reading (LineInstruction File)
 coded_instruction_at h code s =
-    if code == 0 then extended_at h s
+    if code == DW_LNS_extended_op then extended_at h s
     else if nat_le h.line_encoding.opcode_base code
     then Ok (Changes (Special (code - h.line_encoding.opcode_base)), s)
     else mapped Changes (standard_at h code s)

@@ -5,6 +5,7 @@ use Rattle.gimli_read.specs.declared.error.Error.{Error}
 use Rattle.gimli_read.specs.declared.error.Error.TheVariants.{AddressOverflow}
 use Rattle.gimli_read.specs.Section.{Section}
 use Rattle.gimli_read.specs.Reading.{◌>>=◌}
+use Rattle.gimli_line.specs.declared.constants.TheConstants.{DW_LNS_extended_op}
 use Rattle.gimli_line.specs.declared.encoding.LineEncoding.{LineEncoding}
 use Rattle.gimli_line.specs.declared.opcode.Opcode.{Opcode}
 use Rattle.gimli_line.specs.declared.opcode.Opcode.TheVariants.{Special, Copy, AdvancePc, AdvanceLine, SetFile, SetColumn, ConstAddPc, FixedAdvancePc, EndSequence, SetAddress, Other}
@@ -114,7 +115,8 @@ step_standard h r code s = do
 unfoldable pub step_instruction : Header → Registers → ℕ → Section
     → Result (Option LineRow × Registers × Header × Section) Error
 step_instruction h r code s =
-    if code == 0 then (extended_at h s >>= λ i. taken h r i.0 >>= λ x. Ok (x.0, x.1, x.2, i.1))
+    if code == DW_LNS_extended_op
+    then (extended_at h s >>= λ i. taken h r i.0 >>= λ x. Ok (x.0, x.1, x.2, i.1))
     else if nat_le h.line_encoding.opcode_base code
     then (executed h.line_encoding r (Special (code - h.line_encoding.opcode_base))
     >>= λ x. Ok (x.0, x.1, h, s))

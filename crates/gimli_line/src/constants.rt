@@ -4,6 +4,9 @@
 /// The last special opcode.
 pub(crate) const LAST_SPECIAL_OPCODE: u8 = 255;
 
+/// An extended opcode follows. The standard has no name for it.
+pub(crate) const DW_LNS_extended_op: u8 = 0x00;
+
 /// Appends a row.
 pub(crate) const DW_LNS_copy: u8 = 0x01;
 

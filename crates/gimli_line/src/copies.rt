@@ -1,9 +1,10 @@
 //! Values, files and headers twice: their readers are duplicated.
 
-ghost use Rattle.std.specs.Prelude.{◌&&◌, ◌≡◌, map, Ok};
-ghost use Rattle.gimli_read.specs.Reading.{ExactlyUnlessOom, ExactlyUnlessOomIf, IsUnlessOom};
+ghost use Rattle.std.specs.Prelude.{◌&&◌, ◌==◌, ◌≡◌, length, map, not, Ok};
+ghost use Rattle.gimli_read.specs.Reading.{ExactlyUnlessOomIf};
 ghost use Rattle.gimli_read.specs.Form.{seen_value};
 ghost use Rattle.gimli_read.specs.HeldBytes.{holds_bytes};
+ghost use Rattle.gimli_line.specs.Header.{copy_takes_memory};
 
 use crate::header::{FileEntry, LineProgramHeader};
 use gimli_read::{AttributeValue, Error, Reader};
@@ -57,7 +58,8 @@ fn duplicate_values<R: Reader>(
     alloc: Global,
     values: &[AttributeValue<R>],
 ) -> Result<Vec<AttributeValue<R>>, Error>
-    ensures gives { ExactlyUnlessOom (λ v. map (seen_value R.section) v.items) result
+    ensures gives { ExactlyUnlessOomIf (not (length values.now == 0))
+        (λ v. map (seen_value R.section) v.items) result
         (Ok (map (seen_value R.section) values.now)) }
 {
     let mut copies = Vec::new(alloc);
@@ -71,7 +73,8 @@ fn duplicate_files<R: Reader>(
     alloc: Global,
     files: &[FileEntry<R>],
 ) -> Result<Vec<FileEntry<R>>, Error>
-    ensures gives { ExactlyUnlessOom (λ v. v.items) result (Ok (files.now)) }
+    ensures gives { ExactlyUnlessOomIf (not (length files.now == 0)) (λ v. v.items) result
+        (Ok files.now) }
 {
     let mut copies = Vec::new(alloc);
     for file in files {
@@ -80,11 +83,12 @@ fn duplicate_files<R: Reader>(
     Ok(copies)
 }
 
-/// The same header. Refused `OutOfMemory` alone.
+/// The same header. Refused `OutOfMemory` alone, where bytes are shared or a table has an entry.
 pub(crate) fn duplicate_header<R: Reader>(
     header: &LineProgramHeader<R>,
 ) -> Result<LineProgramHeader<R>, Error>
-    ensures gives { IsUnlessOom result (Ok header.now) }
+    ensures gives { ExactlyUnlessOomIf (copy_takes_memory R.shares header.now) (λ h. h) result
+        (Ok header.now) }
 {
     Ok(LineProgramHeader {
         encoding: header.encoding,

@@ -1,12 +1,14 @@
 //! Line programs and their rows.
 
 ghost use Rattle.std.specs.Prelude.{◌≡◌, [], ◌∷◌, true, false, OnOk, OnErr, IfOk, IfErr, Ok, Err, None};
-ghost use Rattle.gimli_read.specs.Reading.{ExactlyUnlessOomIf, IsUnlessOom};
+ghost use Rattle.gimli_read.specs.Reading.{ExactlyUnlessOomIf};
+ghost use Rattle.gimli_line.specs.Header.{copy_takes_memory};
 ghost use Rattle.gimli_line.specs.Lines.{lines_of, YieldsUnlessOom, KeepsFiles, DefinesAhead, IsOver};
 ghost use Rattle.gimli_line.specs.Opcode.{is_file, gives_file, coded_instruction_at};
 ghost use Rattle.gimli_line.specs.Steps.{IsRunning, taken, step_instruction};
 ghost use Rattle.gimli_line.specs.Left.{rows_left, files_left, ahead_left, DefinesOn, Finds};
 
+use crate::constants::DW_LNS_extended_op;
 use crate::copies::duplicate_header;
 use crate::header::{FileEntry, LineProgramHeader};
 use crate::opcode::{LineInstruction, Opcode, read_extended};
@@ -40,9 +42,10 @@ impl<R: Reader> IncompleteLineProgram<R> {
     }
 
     /// The rows of the program, from its first opcode on, over a copy of its header. Refused
-    /// `OutOfMemory` alone.
+    /// `OutOfMemory` alone, where bytes are shared or the header has a directory or a file.
     pub fn rows(&self) -> Result<LineRows<R>, Error>
-        ensures gives { IsUnlessOom result (Ok (lines_of self.now)) }
+        ensures gives { ExactlyUnlessOomIf (copy_takes_memory R.shares self.now.header) (λ r. r)
+            result (Ok (lines_of self.now)) }
     {
         let header = &self.header;
         Ok(LineRows {
@@ -162,7 +165,7 @@ fn step_instruction<R: Reader>(
     ensures running { OnOk result (IsRunning header.new.line_encoding registers.new) }
     ensures kept { OnErr result (header.new ≡ header.old) }
 {
-    if code == 0 {
+    if code == DW_LNS_extended_op {
         let instruction = read_extended(header, program)?;
         return take_instruction(header, registers, instruction);
     }

@@ -1,14 +1,16 @@
 -- What is read of an abbreviation takes bytes (on specs/Abbrev.antt).
-use Rattle.std.proofs.Common.{◌≡◌, ◌≢◌, ◌⊎◌, inl, inr, is_ok, ℕ, zero, suc, ◌+◌, ◌<◌, List, [], ◌∷◌, ◌++◌, length, Option, Some, None, is_some, Result, Ok, Err, Bool, true, false, cond, IfOk, IfSome, nat_lt, ◌==◌, ◌&&◌, ◌||◌, refl, ap, sym, ◌∙◌, arith, add-one}
+use Rattle.std.proofs.Common.{◌≡◌, ◌≢◌, ◌⊎◌, inl, inr, is_ok, ℕ, zero, suc, ◌+◌, ◌<◌, List, [], ◌∷◌, ◌++◌, length, Option, Some, None, is_some, Result, Ok, Err, Bool, true, false, cond, IfOk, IfSome, not, ◌==◌, refl, ap, sym, ◌∙◌, arith, add-one}
 use Rattle.std.proofs.lemmas.Bool.Decides.{nat_tests}
+use Rattle.gimli_read.specs.declared.constants.TheConstants.{CLOSING_CODE}
 use Rattle.gimli_read.specs.declared.constants.TheConstants.DwForm.{DW_FORM_implicit_const}
+use Rattle.gimli_read.specs.declared.constants.TheConstants.DwTag.{DW_TAG_null}
 use Rattle.gimli_read.specs.declared.error.Error.{Error}
 use Rattle.gimli_read.specs.declared.error.Error.TheVariants.{OutOfMemory, BadAbbreviation}
 use Rattle.gimli_read.specs.Section.{Section}
 use Rattle.gimli_read.specs.Reading.{Reading, ◌>>=◌, refused_if}
 use Rattle.gimli_read.specs.Leb128.{uleb128_at}
 use Rattle.gimli_read.specs.Abbreviations.{Specification, Abbrev, with_code, HasDistinctCodes}
-use Rattle.gimli_read.specs.Abbrev.{constant_at, coded, specification_at, specifications_at, declaration_head_at, declaration_at, abbreviation_at, extended, table_within, head_and_pair_at, front_at, takes_memory}
+use Rattle.gimli_read.specs.Abbrev.{constant_at, coded, is_null, is_half_null, tells_children, specification_at, specifications_at, declaration_head_at, declaration_at, abbreviation_at, extended, table_within, head_and_pair_at, front_at, takes_memory}
 use Rattle.gimli_read.proofs.Shorter.{Shorter, shorter_bind, shorter_then, shorter_if, shorter_err, shorter_ok, fixed-shorter, uleb128-shorter, sleb128-shorter, TakesBytes, takes_by, shorter_by}
 use Rattle.gimli_read.proofs.Steps.{bind_ok, same_value, end_is_none}
 use Rattle.gimli_read.proofs.RunLemmas.{collected-shorter, collected-fault}
@@ -20,7 +22,7 @@ specification_shorter : (s : Section) → Shorter (length s.bytes) (specificatio
 unfolding specification_at
 specification_shorter s =
     shorter_bind (uleb128-shorter s) (λ n hn. shorter_bind (uleb128-shorter n.1) (λ f hf.
-    shorter_if (n.0 == 0 && f.0 == 0) (shorter_ok (omega arith)) (shorter_if (n.0 == 0 || f.0 == 0) shorter_err
+    shorter_if (is_null n.0 f.0) (shorter_ok (omega arith)) (shorter_if (is_half_null n.0 f.0) shorter_err
     (shorter_bind (constant_shorter (length s.bytes) f.0 f.1 (omega arith)) (λ c hc. shorter_ok hc)))))
 
 pub specification_takes : TakesBytes specification_at
@@ -29,8 +31,8 @@ specification_takes = takes_by specification_at specification_shorter
 head_shorter : (s : Section) → Shorter (length s.bytes) (declaration_head_at s)
 unfolding declaration_head_at
 head_shorter s =
-    shorter_bind (uleb128-shorter s) (λ t ht. shorter_then (refused_if (t.0 == 0) BadAbbreviation) (λ _.
-    shorter_bind (fixed-shorter 1 t.1 (omega arith)) (λ c hc. shorter_then (refused_if (nat_lt 1 c.0) BadAbbreviation) (λ _. shorter_ok (omega arith)))))
+    shorter_bind (uleb128-shorter s) (λ t ht. shorter_then (refused_if (t.0 == DW_TAG_null.0) BadAbbreviation) (λ _.
+    shorter_bind (fixed-shorter 1 t.1 (omega arith)) (λ c hc. shorter_then (refused_if (not (tells_children c.0)) BadAbbreviation) (λ _. shorter_ok (omega arith)))))
 
 declaration_shorter : (code : ℕ) (s : Section) → Shorter (length s.bytes) (declaration_at code s)
 unfolding declaration_at
@@ -40,11 +42,11 @@ declaration_shorter code s =
 
 -- a code, and what follows it
 abbrev after_code : List Abbrev → ℕ × Section → Reading (Option Abbrev)
-after_code table code = cond (code.0 == 0) (Ok (None, code.1)) (refused_if (is_some (with_code code.0 table)) BadAbbreviation >>= λ _. declaration_at code.0 code.1 >>= λ a. Ok (Some a.0, a.1))
+after_code table code = cond (code.0 == CLOSING_CODE) (Ok (None, code.1)) (refused_if (is_some (with_code code.0 table)) BadAbbreviation >>= λ _. declaration_at code.0 code.1 >>= λ a. Ok (Some a.0, a.1))
 
 after_code_shorter : (table : List Abbrev) (s : Section) → Shorter (length s.bytes) (uleb128_at s >>= after_code table)
 after_code_shorter table s =
-    shorter_bind (uleb128-shorter s) (λ code hc. shorter_if (code.0 == 0) (shorter_ok hc)
+    shorter_bind (uleb128-shorter s) (λ code hc. shorter_if (code.0 == CLOSING_CODE) (shorter_ok hc)
     (shorter_then (refused_if (is_some (with_code code.0 table)) BadAbbreviation) (λ _. shorter_bind (declaration_shorter code.0 code.1) (λ a ha. shorter_ok (omega arith)))))
 
 pub abbreviation_takes : (table : List Abbrev) → TakesBytes (abbreviation_at table)
@@ -132,7 +134,7 @@ abbreviation_new table s t a h = at_end (length s.bytes == 0) h
 
     at_code : (r : Reading ℕ) → (r >>= after_code table) ≡ Ok (Some a, t) → with_code a.code table ≡ None
     at_code (Err e) h = cc
-    at_code (Ok code) h = at_zero (code.0 == 0) h
+    at_code (Ok code) h = at_zero (code.0 == CLOSING_CODE) h
       where
         at_zero : (b : Bool) → cond b (Ok (None, code.1)) (refused_if (is_some (with_code code.0 table)) BadAbbreviation >>= λ _. declaration_at code.0 code.1 >>= found_some) ≡ Ok (Some a, t) → with_code a.code table ≡ None
         at_zero true h = absurd (end_is_none a code.1 t h)
@@ -209,9 +211,9 @@ abbreviation_front table s t a h = at_end (length s.bytes == 0) h
     at_zero code true h = absurd (end_is_none a code.1 t h)
     at_zero code false h = at_new code.0 code.1 (is_some (with_code code.0 table)) h
 
-    at_code : (r : Reading ℕ) → (r >>= after_code table) ≡ Ok (Some a, t) → is_ok (r >>= λ code. refused_if (code.0 == 0) BadAbbreviation >>= λ _. head_and_pair_at code.1) ≡ true
+    at_code : (r : Reading ℕ) → (r >>= after_code table) ≡ Ok (Some a, t) → is_ok (r >>= λ code. refused_if (code.0 == CLOSING_CODE) BadAbbreviation >>= λ _. head_and_pair_at code.1) ≡ true
     at_code (Err e) h = absurd cc
-    at_code (Ok code) h = at_zero code (code.0 == 0) h
+    at_code (Ok code) h = at_zero code (code.0 == CLOSING_CODE) h
 
     at_end : (b : Bool) → cond b (Ok (None, s)) (uleb128_at s >>= after_code table) ≡ Ok (Some a, t) → takes_memory s ≡ true
     at_end true h = absurd (end_is_none a s t h)

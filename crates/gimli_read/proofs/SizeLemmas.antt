@@ -16,7 +16,8 @@ use Rattle.gimli_read.specs.Abbreviations.{Specification}
 use Rattle.gimli_read.specs.Section.{Section, after}
 use Rattle.gimli_read.specs.Reading.{Reading, mapped, ◌>>=◌}
 use Rattle.gimli_read.specs.Number.{number_of, fixed_at, skipped_at, address_at, offset_at, is_address_size, offset_size}
-use Rattle.gimli_read.specs.FormEncoding.{FormEncoding, Fixed, Address, Offset, AddressOrOffset, Unsigned, Signed, Block1, Block2, Block4, Block, Text, Empty, form_encoding_of, address_or_offset_at, encoded_at}
+use Rattle.gimli_read.specs.FormEncoding.{FormEncoding, Fixed, Address, Offset, AddressOrOffset, Unsigned, Signed, Block1, Block2, Block4, Block, Text, Empty, form_encoding_of}
+use Rattle.gimli_read.specs.EncodedValue.{address_or_offset_at, encoded_at}
 use Rattle.gimli_read.specs.Form.{NamedValue, rest_of, direct_at, form_at, value_at, implicit_of, named_value, attribute_at, attributes_at}
 use Rattle.gimli_read.specs.ValueSize.{encoded_size, constant_size, address_bytes, bytes_of, attribute_size, address_or_offset_bytes, counted_bytes, no_size, is_usual, total_bytes, LeavesItsSize}
 use Rattle.gimli_read.specs.Skip.{rest_after}

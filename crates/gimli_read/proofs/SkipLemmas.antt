@@ -12,7 +12,8 @@ use Rattle.gimli_read.specs.Section.{Section}
 use Rattle.gimli_read.specs.Abbreviations.{Specification}
 use Rattle.gimli_read.specs.Number.{skipped_at, null_terminated_at}
 use Rattle.gimli_read.specs.Leb128.{uleb128_at}
-use Rattle.gimli_read.specs.FormEncoding.{FormEncoding, Fixed, Address, Offset, AddressOrOffset, Unsigned, Signed, Block1, Block2, Block4, Block, Text, Empty, form_encoding_of, block_at, encoded_at}
+use Rattle.gimli_read.specs.FormEncoding.{FormEncoding, Fixed, Address, Offset, AddressOrOffset, Unsigned, Signed, Block1, Block2, Block4, Block, Text, Empty, form_encoding_of}
+use Rattle.gimli_read.specs.EncodedValue.{block_at, encoded_at}
 use Rattle.gimli_read.specs.ValueSize.{encoded_size}
 use Rattle.gimli_read.specs.declared.error.Error.{Error}
 use Rattle.gimli_read.specs.Reading.{Reading, mapped, ◌>>=◌, Exactly}

@@ -5,8 +5,12 @@ use Rattle.std.proofs.lemmas.Grind.{common_steps}
 use Rattle.gimli_read.specs.declared.error.Error.{Error}
 use Rattle.gimli_read.specs.declared.error.Error.TheVariants.{UnexpectedEof}
 use Rattle.gimli_read.specs.Section.{Section, first, after}
-use Rattle.gimli_read.specs.Reading.{◌>>=◌, done, IsFaultUnlessOom}
+use Rattle.gimli_read.specs.Reading.{◌>>=◌, IsFaultUnlessOom, ExactlyUnlessOomIf}
 use Rattle.gimli_read.specs.Number.{split_at, skipped_at, ended_at, null_terminated_at}
+
+-- a value that no step reads
+abbrev pub done : {A : Type 0} → A → Result A Error
+done x = Ok x
 
 -- a test that did not refuse
 pub guard_ok : {A : Type 0} (b : Bool) (d : Error) (x y : A) → cond b (Err d) (Ok x) ≡ Ok y → (b ≡ false) × (x ≡ y)
@@ -38,6 +42,11 @@ refuses_fault e given h = λ _. h
 -- a part's refusal is the whole's, where the part's fault is
 pub refuses_whole : {X Y : Type 0} (e : Error) (part : Result X Error) (whole : Result Y Error) → (part ≡ Err e → whole ≡ Err e) → IsFaultUnlessOom e part → IsFaultUnlessOom e whole
 refuses_whole e part whole f h = λ n. f (h n)
+
+-- an answer for which memory may be taken where it may be taken for another
+pub given_as : {X : Type 0} (may part : Bool) (r given same : Result X Error) → (part ≡ true → may ≡ true) → given ≡ same → ExactlyUnlessOomIf part (λ x. x) r same → ExactlyUnlessOomIf may (λ x. x) r given
+given_as may part (Ok x) given same m h k = h ∙ k
+given_as may part (Err e) given same m h k = λ n. h ∙ k (λ p. n (m p))
 
 -- a part, and then bytes that nobody looks at
 split_then_skip : (s part rest end : Section) (n k : ℕ) → split_at n s ≡ Ok (part, rest) → skipped_at k rest ≡ Ok (tt, end) → done {A = Section × Section} (first n s, after (n + k) s) ≡ done {A = Section × Section} (part, end)

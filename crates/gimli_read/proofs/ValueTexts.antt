@@ -18,7 +18,8 @@ use Rattle.gimli_read.specs.Number.{fixed_at, address_at, offset_at, split_at, e
 use Rattle.gimli_read.specs.Leb128.{IsUleb128, IsSleb128, uleb128_in, sleb128_in, uleb128_at, sleb128_at}
 use Rattle.gimli_read.specs.Form.{direct_at, form_within, form_at, value_at}
 use Rattle.gimli_read.specs.declared.constants.TheConstants.DwForm.{DW_FORM_indirect}
-use Rattle.gimli_read.specs.FormEncoding.{FormEncoding, Fixed, Address, Offset, AddressOrOffset, Unsigned, Signed, Block1, Block2, Block4, Block, Text, Empty, form_encoding_of, block_at, address_or_offset_at, encoded_at}
+use Rattle.gimli_read.specs.FormEncoding.{FormEncoding, Fixed, Address, Offset, AddressOrOffset, Unsigned, Signed, Block1, Block2, Block4, Block, Text, Empty, form_encoding_of}
+use Rattle.gimli_read.specs.EncodedValue.{block_at, address_or_offset_at, encoded_at}
 use Rattle.gimli_read.specs.Value.{IsFixed, IsAddress, IsOffset, IsAddressOrOffset, IsMadeOf, IsBlock, IsEnded, section_of, IsListedValue, IsIndirectValue}
 use Rattle.gimli_read.specs.ValueLaws.{IsTextAndRest, ReadsValue, ReadsValueAlone}
 use Rattle.gimli_read.proofs.Steps.{guard_ok, bind_ok, branch_taken, same_rest, same_value}
@@ -165,11 +166,11 @@ ended_from : (order : RunTimeEndian) → OnlyRead order (IsEnded order) null_ter
 ended_from order bytes x rest e = ended_is order bytes x rest (position (λ b. b == 0) bytes) refl e
 
 -- a value that is made of what is read
-made_of : {A : Type 0} (order : RunTimeEndian) (is : List ℕ → A → Type 0) (read : Section → Reading A) (make : A → AttributeValue Section) → AllRead order is read → AllRead order (IsMadeOf is make) (λ s. mapped make (read s))
-made_of order is read make reads text rest v u = ap (mapped make) (reads text rest u.0 u.1) ∙ ap (λ w. Ok (w, section_of order rest)) (sym u.2)
+mapped_of : {A : Type 0} (order : RunTimeEndian) (is : List ℕ → A → Type 0) (read : Section → Reading A) (make : A → AttributeValue Section) → AllRead order is read → AllRead order (IsMadeOf is make) (λ s. mapped make (read s))
+mapped_of order is read make reads text rest v u = ap (mapped make) (reads text rest u.0 u.1) ∙ ap (λ w. Ok (w, section_of order rest)) (sym u.2)
 
-made_from : {A : Type 0} (order : RunTimeEndian) (is : List ℕ → A → Type 0) (read : Section → Reading A) (make : A → AttributeValue Section) → OnlyRead order is read → OnlyRead order (IsMadeOf is make) (λ s. mapped make (read s))
-made_from order is read make alone bytes v rest e =
+mapped_from : {A : Type 0} (order : RunTimeEndian) (is : List ℕ → A → Type 0) (read : Section → Reading A) (make : A → AttributeValue Section) → OnlyRead order is read → OnlyRead order (IsMadeOf is make) (λ s. mapped make (read s))
+mapped_from order is read make alone bytes v rest e =
     let b = bind_ok (read (section_of order bytes)) (λ x. Ok (make x.0, x.1)) (v, rest) e in
     let f = alone bytes b.0.0 b.0.1 b.1 in
     let made : make b.0.0 ≡ v = same_value (make b.0.0, b.0.1) (v, rest) b.2 in
@@ -178,32 +179,32 @@ made_from order is read make alone bytes v rest e =
 
 listed_of : (e : Encoding) (order : RunTimeEndian) (o : Option FormEncoding) → AllRead order (IsListedValue e order o) (λ s. encoded_at e o s)
 listed_of e order None = λ text rest v u. absurd u
-listed_of e order (Some (Fixed n make)) = made_of order (IsFixed order n) (fixed_at n) make (fixed_of order n)
-listed_of e order (Some (Address make)) = made_of order (IsAddress e order) (address_at e.address_size) make (address_of e order)
-listed_of e order (Some (Offset make)) = made_of order (IsOffset e order) (offset_at e.format) make (offset_of e.format order)
-listed_of e order (Some (AddressOrOffset make)) = made_of order (IsAddressOrOffset e order) (address_or_offset_at e) make (address_or_offset_of e order)
-listed_of e order (Some (Unsigned make)) = made_of order IsUleb128 uleb128_at make (uleb_of order)
-listed_of e order (Some (Signed make)) = made_of order IsSleb128 sleb128_at make (sleb_of order)
-listed_of e order (Some (Block1 make)) = made_of order (IsBlock order (IsFixed order 1)) (λ s. block_at (fixed_at 1 s)) make (block_of order (IsFixed order 1) (fixed_at 1) (fixed_of order 1))
-listed_of e order (Some (Block2 make)) = made_of order (IsBlock order (IsFixed order 2)) (λ s. block_at (fixed_at 2 s)) make (block_of order (IsFixed order 2) (fixed_at 2) (fixed_of order 2))
-listed_of e order (Some (Block4 make)) = made_of order (IsBlock order (IsFixed order 4)) (λ s. block_at (fixed_at 4 s)) make (block_of order (IsFixed order 4) (fixed_at 4) (fixed_of order 4))
-listed_of e order (Some (Block make)) = made_of order (IsBlock order IsUleb128) (λ s. block_at (uleb128_at s)) make (block_of order IsUleb128 uleb128_at (uleb_of order))
-listed_of e order (Some (Text make)) = made_of order (IsEnded order) null_terminated_at make (ended_of order)
+listed_of e order (Some (Fixed n make)) = mapped_of order (IsFixed order n) (fixed_at n) make (fixed_of order n)
+listed_of e order (Some (Address make)) = mapped_of order (IsAddress e order) (address_at e.address_size) make (address_of e order)
+listed_of e order (Some (Offset make)) = mapped_of order (IsOffset e order) (offset_at e.format) make (offset_of e.format order)
+listed_of e order (Some (AddressOrOffset make)) = mapped_of order (IsAddressOrOffset e order) (address_or_offset_at e) make (address_or_offset_of e order)
+listed_of e order (Some (Unsigned make)) = mapped_of order IsUleb128 uleb128_at make (uleb_of order)
+listed_of e order (Some (Signed make)) = mapped_of order IsSleb128 sleb128_at make (sleb_of order)
+listed_of e order (Some (Block1 make)) = mapped_of order (IsBlock order (IsFixed order 1)) (λ s. block_at (fixed_at 1 s)) make (block_of order (IsFixed order 1) (fixed_at 1) (fixed_of order 1))
+listed_of e order (Some (Block2 make)) = mapped_of order (IsBlock order (IsFixed order 2)) (λ s. block_at (fixed_at 2 s)) make (block_of order (IsFixed order 2) (fixed_at 2) (fixed_of order 2))
+listed_of e order (Some (Block4 make)) = mapped_of order (IsBlock order (IsFixed order 4)) (λ s. block_at (fixed_at 4 s)) make (block_of order (IsFixed order 4) (fixed_at 4) (fixed_of order 4))
+listed_of e order (Some (Block make)) = mapped_of order (IsBlock order IsUleb128) (λ s. block_at (uleb128_at s)) make (block_of order IsUleb128 uleb128_at (uleb_of order))
+listed_of e order (Some (Text make)) = mapped_of order (IsEnded order) null_terminated_at make (ended_of order)
 listed_of e order (Some (Empty made)) = λ text rest v u. ap (λ t. Ok (made, section_of order (t ++ rest))) u.0 ∙ ap (λ w. Ok (w, section_of order rest)) (sym u.1)
 
 listed_from : (e : Encoding) (order : RunTimeEndian) (o : Option FormEncoding) → OnlyRead order (IsListedValue e order o) (λ s. encoded_at e o s)
 listed_from e order None = λ bytes v rest h. absurd (cc (h))
-listed_from e order (Some (Fixed n make)) = made_from order (IsFixed order n) (fixed_at n) make (fixed_from order n)
-listed_from e order (Some (Address make)) = made_from order (IsAddress e order) (address_at e.address_size) make (address_from e order)
-listed_from e order (Some (Offset make)) = made_from order (IsOffset e order) (offset_at e.format) make (offset_from e.format order)
-listed_from e order (Some (AddressOrOffset make)) = made_from order (IsAddressOrOffset e order) (address_or_offset_at e) make (address_or_offset_from e order)
-listed_from e order (Some (Unsigned make)) = made_from order IsUleb128 uleb128_at make (uleb_from order)
-listed_from e order (Some (Signed make)) = made_from order IsSleb128 sleb128_at make (sleb_from order)
-listed_from e order (Some (Block1 make)) = made_from order (IsBlock order (IsFixed order 1)) (λ s. block_at (fixed_at 1 s)) make (block_from order (IsFixed order 1) (fixed_at 1) (fixed_from order 1))
-listed_from e order (Some (Block2 make)) = made_from order (IsBlock order (IsFixed order 2)) (λ s. block_at (fixed_at 2 s)) make (block_from order (IsFixed order 2) (fixed_at 2) (fixed_from order 2))
-listed_from e order (Some (Block4 make)) = made_from order (IsBlock order (IsFixed order 4)) (λ s. block_at (fixed_at 4 s)) make (block_from order (IsFixed order 4) (fixed_at 4) (fixed_from order 4))
-listed_from e order (Some (Block make)) = made_from order (IsBlock order IsUleb128) (λ s. block_at (uleb128_at s)) make (block_from order IsUleb128 uleb128_at (uleb_from order))
-listed_from e order (Some (Text make)) = made_from order (IsEnded order) null_terminated_at make (ended_from order)
+listed_from e order (Some (Fixed n make)) = mapped_from order (IsFixed order n) (fixed_at n) make (fixed_from order n)
+listed_from e order (Some (Address make)) = mapped_from order (IsAddress e order) (address_at e.address_size) make (address_from e order)
+listed_from e order (Some (Offset make)) = mapped_from order (IsOffset e order) (offset_at e.format) make (offset_from e.format order)
+listed_from e order (Some (AddressOrOffset make)) = mapped_from order (IsAddressOrOffset e order) (address_or_offset_at e) make (address_or_offset_from e order)
+listed_from e order (Some (Unsigned make)) = mapped_from order IsUleb128 uleb128_at make (uleb_from order)
+listed_from e order (Some (Signed make)) = mapped_from order IsSleb128 sleb128_at make (sleb_from order)
+listed_from e order (Some (Block1 make)) = mapped_from order (IsBlock order (IsFixed order 1)) (λ s. block_at (fixed_at 1 s)) make (block_from order (IsFixed order 1) (fixed_at 1) (fixed_from order 1))
+listed_from e order (Some (Block2 make)) = mapped_from order (IsBlock order (IsFixed order 2)) (λ s. block_at (fixed_at 2 s)) make (block_from order (IsFixed order 2) (fixed_at 2) (fixed_from order 2))
+listed_from e order (Some (Block4 make)) = mapped_from order (IsBlock order (IsFixed order 4)) (λ s. block_at (fixed_at 4 s)) make (block_from order (IsFixed order 4) (fixed_at 4) (fixed_from order 4))
+listed_from e order (Some (Block make)) = mapped_from order (IsBlock order IsUleb128) (λ s. block_at (uleb128_at s)) make (block_from order IsUleb128 uleb128_at (uleb_from order))
+listed_from e order (Some (Text make)) = mapped_from order (IsEnded order) null_terminated_at make (ended_from order)
 listed_from e order (Some (Empty made)) = λ bytes v rest h. ([], (refl, sym (same_value (made, section_of order bytes) (v, rest) h)), same_rest (made, section_of order bytes) (v, rest) h)
 
 direct_of : (e : Encoding) (order : RunTimeEndian) (form : ℕ) → AllRead order (IsListedValue e order (form_encoding_of form)) (direct_at e form)

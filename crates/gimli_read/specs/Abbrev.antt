@@ -1,12 +1,15 @@
 -- Abbreviation tables (DWARF 5, section 7.5.3): a finite map from codes to abbreviations.
 -- Own: the section's end where a code would stand ends the table too.
--- Own: a repeated code, tag 0, a children byte other than 0 and 1, and exactly one zero in a pair
--- are BadAbbreviation, each at its field.
-use Rattle.std.specs.Prelude.{ℕ, zero, Bool, is_ok, suc, ◌+◌, ◌==◌, ◌||◌, ◌&&◌, nat_lt, List, [], ◌∷◌, ◌++◌, length, Option, Some, None, is_some, Result, Ok, Err, if◌then◌else◌, ℤ}
+-- Own: a repeated code, tag 0, a children byte that is neither that of no children nor that of some,
+-- and exactly one zero in a pair are BadAbbreviation, each at its field.
+use Rattle.std.specs.Prelude.{ℕ, zero, Bool, is_ok, suc, ◌+◌, ◌==◌, ◌||◌, ◌&&◌, not, List, [], ◌∷◌, ◌++◌, length, Option, Some, None, is_some, Result, Ok, Err, if◌then◌else◌, ℤ}
 use Rattle.gimli_read.specs.declared.constants.DwTag.{DwTag}
 use Rattle.gimli_read.specs.declared.error.Error.{Error}
 use Rattle.gimli_read.specs.declared.error.Error.TheVariants.{BadAbbreviation, UnexpectedEof}
-use Rattle.gimli_read.specs.declared.constants.TheConstants.DwForm.{DW_FORM_implicit_const}
+use Rattle.gimli_read.specs.declared.constants.TheConstants.{CLOSING_CODE, DW_CHILDREN_no, DW_CHILDREN_yes}
+use Rattle.gimli_read.specs.declared.constants.TheConstants.DwAt.{DW_AT_null}
+use Rattle.gimli_read.specs.declared.constants.TheConstants.DwForm.{DW_FORM_implicit_const, DW_FORM_null}
+use Rattle.gimli_read.specs.declared.constants.TheConstants.DwTag.{DW_TAG_null}
 use Rattle.gimli_read.specs.Section.{Section}
 use Rattle.gimli_read.specs.Reading.{Reading, mapped, ◌>>=◌, refused_if}
 use Rattle.gimli_read.specs.Number.{fixed_at}
@@ -25,27 +28,39 @@ abbrev pub specified : ℕ → ℕ → Option ℤ → Specification
 specified name form constant =
     record { name = record { 0 = name }; form = record { 0 = form }; constant = constant }
 
--- a name and a form, or none where both are 0
+-- the pair with which a list of attributes ends
+abbrev pub is_null : ℕ → ℕ → Bool
+is_null name form = name == DW_AT_null.0 && form == DW_FORM_null.0
+
+-- a pair of which one alone is that of an end
+abbrev pub is_half_null : ℕ → ℕ → Bool
+is_half_null name form = name == DW_AT_null.0 || form == DW_FORM_null.0
+
+-- a name and a form, or none where their list ends
 unfoldable pub specification_at : Section → Reading (Option Specification)
 specification_at s = do
   name ← uleb128_at s
   form ← uleb128_at name.1
-  if name.0 == 0 && form.0 == 0 then Ok (None, form.1)
-      else if name.0 == 0 || form.0 == 0 then Err BadAbbreviation
+  if is_null name.0 form.0 then Ok (None, form.1)
+      else if is_half_null name.0 form.0 then Err BadAbbreviation
       else mapped (λ c. Some (specified name.0 form.0 c)) (constant_at form.0 form.1)
 
 -- the pairs up to the two zeros
 abbrev pub specifications_at : Section → Reading (List Specification)
 specifications_at s = collected (run_of specification_at s)
 
+-- a byte that tells whether children follow
+abbrev pub tells_children : ℕ → Bool
+tells_children byte = byte == DW_CHILDREN_no || byte == DW_CHILDREN_yes
+
 -- a tag, and whether children follow
 unfoldable pub declaration_head_at : Section → Reading (DwTag × Bool)
 declaration_head_at s = do
   tag ← uleb128_at s
-  known ← refused_if (tag.0 == 0) BadAbbreviation
+  known ← refused_if (tag.0 == DW_TAG_null.0) BadAbbreviation
   children ← fixed_at 1 tag.1
-  flag ← refused_if (nat_lt 1 children.0) BadAbbreviation
-  Ok ((record { 0 = tag.0 }, children.0 == 1), children.1)
+  flag ← refused_if (not (tells_children children.0)) BadAbbreviation
+  Ok ((record { 0 = tag.0 }, children.0 == DW_CHILDREN_yes), children.1)
 
 -- an abbreviation of a head and its attributes
 abbrev pub coded : ℕ → DwTag × Bool → List Specification → Abbrev
@@ -67,7 +82,7 @@ head_and_pair_at s = declaration_head_at s >>= λ head. specification_at head.1
 unfoldable pub front_at : Section → Reading (Option Specification)
 front_at s = do
   code ← uleb128_at s
-  coded ← refused_if (code.0 == 0) BadAbbreviation
+  coded ← refused_if (code.0 == CLOSING_CODE) BadAbbreviation
   head_and_pair_at code.1
 
 -- whether the front of a table is read: until then no memory is taken
@@ -78,7 +93,7 @@ takes_memory s = is_ok (front_at s)
 unfoldable pub abbreviation_at : List Abbrev → Section → Reading (Option Abbrev)
 abbreviation_at table s = if length s.bytes == 0 then Ok (None, s) else do
   code ← uleb128_at s
-  if code.0 == 0 then Ok (None, code.1) else do
+  if code.0 == CLOSING_CODE then Ok (None, code.1) else do
     new ← refused_if (is_some (with_code code.0 table)) BadAbbreviation
     mapped Some (declaration_at code.0 code.1)
 

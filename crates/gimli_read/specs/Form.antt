@@ -13,7 +13,8 @@ use Rattle.gimli_read.specs.Abbreviations.{Specification}
 use Rattle.gimli_read.specs.Section.{Section}
 use Rattle.gimli_read.specs.Reading.{Reading, mapped, ◌>>=◌}
 use Rattle.gimli_read.specs.Leb128.{uleb128_at}
-use Rattle.gimli_read.specs.FormEncoding.{form_encoding_of, encoded_at}
+use Rattle.gimli_read.specs.FormEncoding.{form_encoding_of}
+use Rattle.gimli_read.specs.EncodedValue.{encoded_at}
 
 -- a value whose readers are seen as sections
 abbrev pub seen_value : {R : Type 0} → (R → Section) → AttributeValue R → AttributeValue Section

@@ -1,18 +1,13 @@
--- How the value of a form is encoded, and which value it is (DWARF 5, sections 7.5.5 and 7.5.6).
+-- The forms that are listed, by class (DWARF 5, sections 7.5.5 and 7.5.6), and how the value of each
+-- is encoded.
 -- Own: the GNU forms. DW_FORM_indirect is not listed, nor is DW_FORM_implicit_const, whose value
 -- stands in the abbreviation.
--- Own: a form that is not listed is UnknownForm where a value of it is read.
-use Rattle.std.specs.Prelude.{ℕ, ◌==◌, not, true, List, [], ◌∷◌, ◌++◌, Option, Some, None, Ok, Err, if◌then◌else◌, ℤ}
+use Rattle.std.specs.Prelude.{ℕ, ◌==◌, not, true, List, [], ◌∷◌, ◌++◌, Option, Some, None, if◌then◌else◌, ℤ}
 use Rattle.gimli_read.specs.declared.constants.DwForm.{DwForm}
 use Rattle.gimli_read.specs.declared.constants.TheConstants.DwForm.{DW_FORM_addr, DW_FORM_addrx, DW_FORM_GNU_addr_index, DW_FORM_addrx1, DW_FORM_addrx2, DW_FORM_addrx3, DW_FORM_addrx4, DW_FORM_block1, DW_FORM_block2, DW_FORM_block4, DW_FORM_block, DW_FORM_exprloc, DW_FORM_data1, DW_FORM_data2, DW_FORM_data4, DW_FORM_data8, DW_FORM_data16, DW_FORM_sdata, DW_FORM_udata, DW_FORM_flag, DW_FORM_flag_present, DW_FORM_sec_offset, DW_FORM_loclistx, DW_FORM_rnglistx, DW_FORM_string, DW_FORM_strp, DW_FORM_line_strp, DW_FORM_strp_sup, DW_FORM_GNU_strp_alt, DW_FORM_strx, DW_FORM_GNU_str_index, DW_FORM_strx1, DW_FORM_strx2, DW_FORM_strx3, DW_FORM_strx4, DW_FORM_ref1, DW_FORM_ref2, DW_FORM_ref4, DW_FORM_ref8, DW_FORM_ref_udata, DW_FORM_ref_addr, DW_FORM_ref_sup4, DW_FORM_ref_sup8, DW_FORM_GNU_ref_alt, DW_FORM_ref_sig8}
-use Rattle.gimli_read.specs.declared.endian.Encoding.{Encoding}
-use Rattle.gimli_read.specs.declared.error.Error.TheVariants.{UnknownForm}
 use Rattle.gimli_read.specs.declared.value.AttributeValue.{AttributeValue}
 use Rattle.gimli_read.specs.declared.value.AttributeValue.TheVariants as values
 use Rattle.gimli_read.specs.Section.{Section}
-use Rattle.gimli_read.specs.Reading.{Reading, mapped, ◌>>=◌}
-use Rattle.gimli_read.specs.Number.{fixed_at, offset_at, address_at, split_at, null_terminated_at}
-use Rattle.gimli_read.specs.Leb128.{uleb128_at, sleb128_at}
 
 -- how the value of a form is encoded, and how it is made of what is encoded so
 pub data FormEncoding : Type 0 where
@@ -144,30 +139,3 @@ form_in (f ∷ table) form = if form == f.0.0 then Some f.1 else form_in table f
 -- how the value of a form is encoded, if the form is listed
 unfoldable pub form_encoding_of : ℕ → Option FormEncoding
 form_encoding_of form = form_in (address_forms ++ forms_from_blocks) form
-
--- a length, and as many bytes
-abbrev pub block_at : Reading ℕ → Reading Section
-block_at length = length >>= λ n. split_at n.0 n.1
-
--- an address in version 2, else an offset
-abbrev pub address_or_offset_at : Encoding → Section → Reading ℕ
-address_or_offset_at encoding s =
-    if encoding.version == 2 then address_at encoding.address_size s
-    else offset_at encoding.format s
-
--- the value that is encoded so
-abbrev pub encoded_at : Encoding → Option FormEncoding → Section → Reading (AttributeValue Section)
-encoded_at encoding None s = Err UnknownForm
-encoded_at encoding (Some (Fixed n make)) s = mapped make (fixed_at n s)
-encoded_at encoding (Some (Address make)) s = mapped make (address_at encoding.address_size s)
-encoded_at encoding (Some (Offset make)) s = mapped make (offset_at encoding.format s)
-encoded_at encoding (Some (AddressOrOffset make)) s =
-    mapped make (address_or_offset_at encoding s)
-encoded_at encoding (Some (Unsigned make)) s = mapped make (uleb128_at s)
-encoded_at encoding (Some (Signed make)) s = mapped make (sleb128_at s)
-encoded_at encoding (Some (Block1 make)) s = mapped make (block_at (fixed_at 1 s))
-encoded_at encoding (Some (Block2 make)) s = mapped make (block_at (fixed_at 2 s))
-encoded_at encoding (Some (Block4 make)) s = mapped make (block_at (fixed_at 4 s))
-encoded_at encoding (Some (Block make)) s = mapped make (block_at (uleb128_at s))
-encoded_at encoding (Some (Text make)) s = mapped make (null_terminated_at s)
-encoded_at encoding (Some (Empty made)) s = Ok (made, s)

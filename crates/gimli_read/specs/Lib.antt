@@ -8,6 +8,7 @@ pub mod Text
 pub mod Run
 pub mod Yields
 pub mod FormEncoding
+pub mod EncodedValue
 pub mod Form
 pub mod ValueSize
 pub mod Skip

@@ -2,15 +2,20 @@
 -- A reading takes bytes from the front of a section: it gives a value and what is left, or the
 -- first fault from the left.
 -- Own: no reading gives OutOfMemory, which a refused growth alone answers.
--- The words for steps and answers serve every kind of fault.
+-- The words for steps and answers serve every kind of fault; those with Oom in their names and
+-- `Reading` are these words for the faults of sections.
 use Rattle.std.specs.Prelude.{◌≡◌, ◌≢◌, Bool, true, is_ok, Result, Ok, Err, if◌then◌else◌}
 use Rattle.gimli_read.specs.declared.error.Error.{Error}
 use Rattle.gimli_read.specs.declared.error.Error.TheVariants.{OutOfMemory}
 use Rattle.gimli_read.specs.Section.{Section}
 
--- a value and what is left, or the fault
+-- a value and what is left, or a fault of one kind
+abbrev pub ReadingOr : Type 0 → Type 0 → Type 0
+ReadingOr E A = Result (A × Section) E
+
+-- a value and what is left, or a fault of a section
 abbrev pub Reading : Type 0 → Type 0
-Reading A = Result (A × Section) Error
+Reading A = ReadingOr Error A
 
 infixl 10 ◌>>=◌
 -- one step, and the next one where there was no fault
@@ -18,12 +23,8 @@ abbrev pub ◌>>=◌ : {A B E : Type 0} → Result A E → (A → Result B E) �
 (Ok x) >>= f = f x
 (Err e) >>= f = Err e
 
--- a value that no step reads
-abbrev pub done : {A : Type 0} → A → Result A Error
-done x = Ok x
-
 -- what a reading gives, made into another value
-abbrev pub mapped : {A B : Type 0} → (A → B) → Reading A → Reading B
+abbrev pub mapped : {A B E : Type 0} → (A → B) → ReadingOr E A → ReadingOr E B
 mapped make read = read >>= λ x. Ok (make x.0, x.1)
 
 -- a test, at the place where its fault stands
@@ -35,21 +36,26 @@ abbrev pub Exactly : {X Y E : Type 0} → (X → Y) → Result X E → Result Y 
 Exactly view (Ok x) given = given ≡ Ok (view x)
 Exactly view (Err e) given = given ≡ Err e
 
+-- the answer, seen by view, is what is given; a refusal need be so only where this holds of what is
+-- given and the refusal
+abbrev pub ExactlyWhere : {X Y E : Type 0} → (Result Y E → E → Type 0) → (X → Y) → Result X E
+    → Result Y E → Type 0
+ExactlyWhere holds view (Ok x) given = given ≡ Ok (view x)
+ExactlyWhere holds view (Err e) given = holds given e → given ≡ Err e
+
 -- the refusal is the fault that is given, or this one, which may stand in place of any answer
 abbrev pub IsFaultUnless : {Y E : Type 0} → E → E → Result Y E → Type 0
 IsFaultUnless oom e given = e ≢ oom → given ≡ Err e
 
 -- the answer, seen by view, is what is given, or this fault
 abbrev pub ExactlyUnless : {X Y E : Type 0} → E → (X → Y) → Result X E → Result Y E → Type 0
-ExactlyUnless oom view (Ok x) given = given ≡ Ok (view x)
-ExactlyUnless oom view (Err e) given = IsFaultUnless oom e given
+ExactlyUnless oom view result given = ExactlyWhere (λ _ e. e ≢ oom) view result given
 
 -- the same, where this fault is an answer only if memory may be taken, and only for what is given
 abbrev pub ExactlyUnlessFor : {X Y E : Type 0} → E → Bool → (Result Y E → Bool) → (X → Y)
     → Result X E → Result Y E → Type 0
-ExactlyUnlessFor oom may takes view (Ok x) given = given ≡ Ok (view x)
-ExactlyUnlessFor oom may takes view (Err e) given =
-    (may ≡ true → takes given ≡ true → e ≢ oom) → given ≡ Err e
+ExactlyUnlessFor oom may takes view result given =
+    ExactlyWhere (λ given e. may ≡ true → takes given ≡ true → e ≢ oom) view result given
 
 -- the refusal is the fault that is given, or OutOfMemory
 abbrev pub IsFaultUnlessOom : {Y : Type 0} → Error → Result Y Error → Type 0
@@ -66,8 +72,8 @@ IsUnlessOom result given = ExactlyUnlessOom (λ x. x) result given
 -- the same, where OutOfMemory is an answer only if memory may be taken
 abbrev pub ExactlyUnlessOomIf : {X Y : Type 0} → Bool → (X → Y) → Result X Error → Result Y Error
     → Type 0
-ExactlyUnlessOomIf may view (Ok x) given = given ≡ Ok (view x)
-ExactlyUnlessOomIf may view (Err e) given = (may ≡ true → e ≢ OutOfMemory) → given ≡ Err e
+ExactlyUnlessOomIf may view result given =
+    ExactlyWhere (λ _ e. may ≡ true → e ≢ OutOfMemory) view result given
 
 -- the same, where memory may be taken only for what is given
 abbrev pub ExactlyUnlessOomFor : {X Y : Type 0} → Bool → (Result Y Error → Bool) → (X → Y)

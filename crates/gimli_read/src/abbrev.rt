@@ -12,7 +12,7 @@ ghost use Rattle.gimli_read.specs.SizedRuns.{AreRunsOf};
 ghost use Rattle.gimli_read.specs.ValueSize.{value_size_of, attribute_size};
 ghost use Rattle.gimli_read.specs.Abbrev.{specification_at, specifications_at, declaration_head_at, declaration_at, head_and_pair_at, abbreviation_at, takes_memory, table_at};
 
-use crate::constants::{DwAt, DwForm, DwTag};
+use crate::constants::{CLOSING_CODE, DW_CHILDREN_no, DW_CHILDREN_yes, DwAt, DwForm, DwTag};
 use crate::endian::Encoding;
 use crate::error::Error;
 use crate::reader::Reader;
@@ -191,10 +191,12 @@ fn read_specification<R: Reader>(input: &mut R) -> Result<Option<AttributeSpecif
 {
     let name = input.read_uleb128()?;
     let form = input.read_uleb128()?;
-    if name == 0 && form == 0 {
+    let is_null_name = name == DwAt::DW_AT_null.0;
+    let is_null_form = form == DwForm::DW_FORM_null.0;
+    if is_null_name && is_null_form {
         return Ok(None);
     }
-    if name == 0 || form == 0 {
+    if is_null_name || is_null_form {
         return Err(Error::BadAbbreviation);
     }
     let constant = if form == DwForm::DW_FORM_implicit_const.0 {
@@ -255,14 +257,15 @@ fn read_head<R: Reader>(input: &mut R) -> Result<(DwTag, bool), Error>
     ensures gives { Reads R.section input.old input.new result declaration_head_at }
 {
     let tag = input.read_uleb128()?;
-    if tag == 0 {
+    if tag == DwTag::DW_TAG_null.0 {
         return Err(Error::BadAbbreviation);
     }
-    let children = input.read_u8()?;
-    if children > 1 {
-        return Err(Error::BadAbbreviation);
-    }
-    Ok((DwTag(tag), children == 1))
+    let has_children = match input.read_u8()? {
+        DW_CHILDREN_no => false,
+        DW_CHILDREN_yes => true,
+        _ => return Err(Error::BadAbbreviation),
+    };
+    Ok((DwTag(tag), has_children))
 }
 
 // What follows a code.
@@ -376,7 +379,7 @@ impl Abbreviations {
             return Ok(None);
         }
         let code = input.read_uleb128()?;
-        if code == 0 {
+        if code == CLOSING_CODE {
             return Ok(None);
         }
         if self.has(code) {

@@ -26,8 +26,22 @@ pub(crate) const FIRST_RESERVED_LENGTH: u32 = 0xffff_fff0;
 /// The length of four bytes that one of eight bytes follows (DWARF 5, section 7.4).
 pub(crate) const LENGTH_ESCAPE: u32 = 0xffff_ffff;
 
+/// The code of a closing entry, which no abbreviation has (DWARF 5, section 7.5.3).
+pub const CLOSING_CODE: u64 = 0;
+
+/// The entries of an abbreviation have no children (DWARF 5, section 7.5.3).
+#[allow(non_upper_case_globals)]
+pub(crate) const DW_CHILDREN_no: u8 = 0x00;
+
+/// Children follow the entries of an abbreviation (DWARF 5, section 7.5.3).
+#[allow(non_upper_case_globals)]
+pub(crate) const DW_CHILDREN_yes: u8 = 0x01;
+
 #[allow(non_upper_case_globals)]
 impl DwTag {
+    /// The tag of no entry.
+    pub const DW_TAG_null: DwTag = DwTag(0x00);
+
     pub const DW_TAG_compile_unit: DwTag = DwTag(0x11);
 
     pub const DW_TAG_inlined_subroutine: DwTag = DwTag(0x1d);
@@ -41,6 +55,9 @@ impl DwTag {
 
 #[allow(non_upper_case_globals)]
 impl DwAt {
+    /// The name in the pair with which the attributes of an abbreviation end.
+    pub const DW_AT_null: DwAt = DwAt(0x00);
+
     pub const DW_AT_name: DwAt = DwAt(0x03);
 
     pub const DW_AT_stmt_list: DwAt = DwAt(0x10);
@@ -88,6 +105,9 @@ impl DwAt {
 
 #[allow(non_upper_case_globals)]
 impl DwForm {
+    /// The form in the pair with which the attributes of an abbreviation end.
+    pub const DW_FORM_null: DwForm = DwForm(0x00);
+
     pub const DW_FORM_addr: DwForm = DwForm(0x01);
 
     pub const DW_FORM_block2: DwForm = DwForm(0x03);

@@ -16,7 +16,7 @@ mod skip;
 mod value;
 
 pub use crate::abbrev::{Abbreviation, Abbreviations, AttributeSpecification};
-pub use crate::constants::{DwAt, DwForm, DwLang, DwTag};
+pub use crate::constants::{CLOSING_CODE, DwAt, DwForm, DwLang, DwTag};
 pub use crate::endian::{Encoding, Format, RunTimeEndian};
 pub use crate::endian_bytes::EndianBytes;
 pub use crate::endian_slice::EndianSlice;

@@ -4,7 +4,7 @@ ghost use Rattle.std.specs.Prelude.{◌≡◌, OnErr};
 ghost use Rattle.gimli_read.specs.Reading.{Exactly};
 ghost use Rattle.gimli_read.specs.Number.{null_terminated_at};
 ghost use Rattle.gimli_read.specs.Leb128.{uleb128_at};
-ghost use Rattle.gimli_read.specs.FormEncoding.{block_at};
+ghost use Rattle.gimli_read.specs.EncodedValue.{block_at};
 ghost use Rattle.gimli_read.specs.Form.{rest_of, attribute_at, attributes_at};
 ghost use Rattle.gimli_read.specs.SizedRuns.{run_rest, rest_after_runs};
 ghost use Rattle.gimli_read.specs.Skip.{rest_after, IsStillToSkip};

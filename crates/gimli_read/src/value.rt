@@ -4,7 +4,8 @@ ghost use Rattle.std.specs.Prelude.{◌≡◌, OnErr};
 ghost use Rattle.gimli_read.specs.Reading.{Exactly, Reads, ReadsUnlessOomFor};
 ghost use Rattle.gimli_read.specs.HeldBytes.{gives_attribute_bytes, ReadsValueUnlessOom};
 ghost use Rattle.gimli_read.specs.Number.{fixed_at};
-ghost use Rattle.gimli_read.specs.FormEncoding.{address_or_offset_at, forms_from_blocks, forms_from_constants, forms_from_flags, forms_from_strings, reference_forms, form_in, encoded_at};
+ghost use Rattle.gimli_read.specs.FormEncoding.{forms_from_blocks, forms_from_constants, forms_from_flags, forms_from_strings, reference_forms, form_in};
+ghost use Rattle.gimli_read.specs.EncodedValue.{address_or_offset_at, encoded_at};
 ghost use Rattle.gimli_read.specs.Form.{seen_value, direct_at, form_at, value_at, attribute_at, constant_of};
 
 use crate::abbrev::AttributeSpecification;
@@ -139,8 +140,8 @@ fn read_ref_addr<R: Reader>(input: &mut R, encoding: Encoding) -> Result<u64, Er
     }
 }
 
-// A reference of any kind.
-fn read_reference<R: Reader>(
+// A value of a form of references. Refused `UnknownForm` for another form.
+fn read_reference_form<R: Reader>(
     input: &mut R,
     encoding: Encoding,
     form: DwForm,
@@ -177,8 +178,8 @@ fn read_reference<R: Reader>(
     }
 }
 
-// A value of a form from those of strings on: a string, or a reference.
-fn read_from_strings<R: Reader>(
+// A value of a form of strings. Another form is passed on to those of references.
+fn read_string_form<R: Reader>(
     input: &mut R,
     encoding: Encoding,
     form: DwForm,
@@ -216,12 +217,13 @@ fn read_from_strings<R: Reader>(
         DwForm::DW_FORM_strx4 => {
             Ok(AttributeValue::DebugStrOffsetsIndex(u64::from(input.read_u32()?)))
         }
-        _ => read_reference(input, encoding, form),
+        _ => read_reference_form(input, encoding, form),
     }
 }
 
-// A value of a form from those of flags on: a flag, an offset, or the index of a list.
-fn read_from_flags<R: Reader>(
+// A value of a form of flags, section offsets or list indices. Another form is passed on to those of
+// strings.
+fn read_flag_form<R: Reader>(
     input: &mut R,
     encoding: Encoding,
     form: DwForm,
@@ -237,12 +239,12 @@ fn read_from_flags<R: Reader>(
         }
         DwForm::DW_FORM_loclistx => Ok(AttributeValue::DebugLocListsIndex(input.read_uleb128()?)),
         DwForm::DW_FORM_rnglistx => Ok(AttributeValue::DebugRngListsIndex(input.read_uleb128()?)),
-        _ => read_from_strings(input, encoding, form),
+        _ => read_string_form(input, encoding, form),
     }
 }
 
-// A value of a form from those of constants on.
-fn read_from_constants<R: Reader>(
+// A value of a form of constants. Another form is passed on to those of flags.
+fn read_constant_form<R: Reader>(
     input: &mut R,
     encoding: Encoding,
     form: DwForm,
@@ -258,12 +260,12 @@ fn read_from_constants<R: Reader>(
         DwForm::DW_FORM_data16 => Ok(AttributeValue::Data16(read_u128(input)?)),
         DwForm::DW_FORM_sdata => Ok(AttributeValue::Sdata(input.read_sleb128()?)),
         DwForm::DW_FORM_udata => Ok(AttributeValue::Udata(input.read_uleb128()?)),
-        _ => read_from_flags(input, encoding, form),
+        _ => read_flag_form(input, encoding, form),
     }
 }
 
-// A value of a form from those of blocks on: a block, or an expression.
-fn read_from_blocks<R: Reader>(
+// A value of a form of blocks or expressions. Another form is passed on to those of constants.
+fn read_block_form<R: Reader>(
     input: &mut R,
     encoding: Encoding,
     form: DwForm,
@@ -292,12 +294,13 @@ fn read_from_blocks<R: Reader>(
             let len = input.read_uleb128()?;
             Ok(AttributeValue::Exprloc(input.split(len)?))
         }
-        _ => read_from_constants(input, encoding, form),
+        _ => read_constant_form(input, encoding, form),
     }
 }
 
-// A value of a form other than indirect and implicit_const. The classes of forms have a function
-// each, since the proof of one match grows faster than its arms.
+// A value of a form other than indirect and implicit_const: one of addresses; another form is passed
+// on to those of blocks. The classes of forms have a function each, since the proof of one match
+// grows faster than its arms.
 #[tactic(auto, unfolding(crate::specs::FormEncoding::form_encoding_of))]
 fn read_direct<R: Reader>(
     input: &mut R,
@@ -317,7 +320,7 @@ fn read_direct<R: Reader>(
         DwForm::DW_FORM_addrx2 => Ok(AttributeValue::DebugAddrIndex(u64::from(input.read_u16()?))),
         DwForm::DW_FORM_addrx3 => Ok(AttributeValue::DebugAddrIndex(u64::from(read_u24(input)?))),
         DwForm::DW_FORM_addrx4 => Ok(AttributeValue::DebugAddrIndex(u64::from(input.read_u32()?))),
-        _ => read_from_blocks(input, encoding, form),
+        _ => read_block_form(input, encoding, form),
     }
 }
 

@@ -2,7 +2,7 @@ use Rattle.std.proofs.lemmas.Result.{err_from_is_err_and}
 use Rattle.gimli.proofs.StringPlaces.{string_unplaced}
 use Rattle.gimli.proofs.text.read_string.Goals as goal
 
-pub returns-in_err-section : goal.returns-in_err-section
-returns-in_err-section g c =
+pub returns-in_err-string : goal.returns-in_err-string
+returns-in_err-string g c =
     let p = err_from_is_err_and c.from_residual.result c.from_residual.ensures.1 in
-    rw (p.1, p.2) (record { gives = λ m. string_unplaced _ _ _ _ _ c.in_err-section.ensures.gives })
+    rw (p.1, p.2) (record { gives = λ m. string_unplaced _ _ _ _ _ c.in_err-string.ensures.gives })

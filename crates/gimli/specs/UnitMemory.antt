@@ -1,0 +1,32 @@
+-- Where memory may be taken for a unit.
+-- Own: OutOfMemory is an answer only there.
+use Rattle.std.specs.Prelude.{◌||◌, Bool, false, Option, is_some, Result, Ok, Err}
+use Rattle.gimli_read.specs.declared.error.Error.{Error}
+use Rattle.gimli_read.specs.Section.{Section}
+use Rattle.gimli_read.specs.Abbrev.{takes_memory}
+use Rattle.gimli.specs.Header.{UnitHeaderFields}
+use Rattle.gimli.specs.Sections.{Sections}
+use Rattle.gimli.specs.Text.{from_offset}
+use Rattle.gimli.specs.Record.{RootValues}
+
+-- whether something is given
+abbrev pub gives_some : {X : Type 0} → Result (Option X) Error → Bool
+gives_some (Ok given) = is_some given
+gives_some (Err e) = false
+
+-- whether memory may be taken for what a root entry's values lead to: for a line program, or where
+-- readers share their bytes
+abbrev pub root_takes_memory : Bool → RootValues → Bool
+root_takes_memory shares root = shares || is_some root.stmt_list
+
+-- whether memory may be taken for the abbreviations from an offset on: for the table's own entries,
+-- or where readers share their bytes
+abbrev pub abbreviations_take_memory : Bool → Result Section Error → Bool
+abbreviations_take_memory shares (Ok rest) = shares || takes_memory rest
+abbreviations_take_memory shares (Err e) = false
+
+-- whether memory may be taken for the unit of a header: without abbreviations it has no root entry,
+-- so nothing that follows takes any
+abbrev pub unit_takes_memory : Bool → Sections → UnitHeaderFields → Bool
+unit_takes_memory shares d header =
+    abbreviations_take_memory shares (from_offset header.debug_abbrev_offset d.debug_abbrev)

@@ -1,4 +1,4 @@
--- What a lookup of frames comes to in a context, by what is kept (on specs/Lookups.antt).
+-- What a lookup of frames comes to in a context, by what is cached (on specs/Lookups.antt).
 use Rattle.std.proofs.Common.{◌≡◌, ◌≢◌, ◌⊎◌, inl, inr, ℕ, zero, suc, arith, length, ◌<◌, ◌≤◌, ◌&&◌, ◌||◌, Bool, true, false, not, List, [], ◌∷◌, slice_get, Option, Some, None, option_map, Result, Ok, Err, refl, sym, ap, subst, ◌∙◌}
 use Rattle.std.specs.Prelude.{IfErr, IfOk, IfSome}
 use Rattle.gimli_read.specs.declared.error.Error.{Error}

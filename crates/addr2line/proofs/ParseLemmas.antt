@@ -49,7 +49,7 @@ module _ {R : Type 0} where
   read_view reads (states.Unnamed x) f e h = absurd cc
   read_view reads (states.Answered a) f e h = read_answer reads a.unit f e h
 
-  -- what is kept is known
+  -- what is cached is known
   all_read : (reads : Reads) (vs : List (UnitEntries R)) → HaveRead reads vs → AllByRecursion (IsReadBy reads) (known_in vs)
   all_read reads [] h = tt
   all_read reads (v ∷ vs) h = (read_view reads v.view.state v.functions h.0.view h.0.functions, all_read reads vs h.1)
@@ -75,7 +75,7 @@ module _ {R : Type 0} where
   kept_view reads (states.Unnamed e) f h = absurd (never_fault reads (is_kept e) h)
   kept_view reads (states.Answered a) f h = kept_in_answer reads a.unit f h
 
-  -- what is known is kept
+  -- what is known is cached
   pub read_before : (reads : Reads) (vs : List (UnitEntries R)) → AllByRecursion (IsReadBy reads) (known_in vs) → HaveRead reads vs
   read_before reads [] h = tt
   read_before reads (v ∷ vs) h =

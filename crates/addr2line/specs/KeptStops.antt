@@ -18,7 +18,7 @@ by_number (Waits n) = units.Waits n
 by_number (Finds n frames) = units.Finds n
 by_number FindsNothing = units.FindsNothing
 
--- the same of what is kept
+-- the same of what is cached
 abbrev pub kept_by_number : FramesStop → UnitStop
 kept_by_number (stops.Waits n) = units.Waits n
 kept_by_number (stops.Finds p) = units.Finds (unit_of_place p)

@@ -243,8 +243,8 @@ impl<F: FileSource> LoaderOver<F> {
     ///
     /// May fail with `OutOfMemory` instead, which leaves the unit that was asked for open. Takes no
     /// memory where no unit covers `probe`, nor where it waits for no load, all that it asks for is
-    /// kept and at most 16 inlined functions stand there. No unit covers 2^64 - 1. Source: DWARF 5,
-    /// sections 3.1.2 and 7.3.2. Own: the path, and what counts as none.
+    /// cached and at most 16 inlined functions stand there. No unit covers 2^64 - 1. Source: DWARF
+    /// 5, sections 3.1.2 and 7.3.2. Own: the path, and what counts as none.
     pub fn find_frames(&mut self, probe: u64) -> Result<FrameIter<'_, EndianBytes>, LoaderError>
         ensures gives { IfSome (F.files self.old.files) (λ held. LoadsUnlessOom frames_left result
             (frames_by_files held self.old.context.sections self.old.context.answers probe)) }

@@ -14,7 +14,7 @@ use gimli::read::{Error, Reader};
 
 impl<R: Reader> Context<R> {
     // The unit in which a lookup finds something, where none is answered to each load that it waits
-    // for. What it asks for is read and kept.
+    // for. What it asks for is read and cached.
     pub(crate) fn skip_loads(&mut self, probe: u64, faults: Faults) -> Result<Option<usize>, Error>
         ensures gives { ExactlyUnlessOom found_stop result (unit_stop faults self.old.sections
             (skipped_answers faults self.old.sections probe self.old.answers) probe) }

@@ -60,7 +60,7 @@ between_sorted start end xs l e =
     ∙ ap (λ ys. take (end - start) ys) (drop-append_seam (take start xs) run)
     ∙ ap (λ n. take n run) count ∙ take-length run
 
--- details that were found, and where they are kept
+-- details that were found, and where they are cached
 pub record AreKeptAt (name : Option Section) (found listed : FoundInlined) (d : CachedDetails) (p : FunctionDetail) : Type 0 where
   pub name_is : slice_index_or d.names p.name None ≡ name
   pub name_there : p.name < length d.names
@@ -80,7 +80,7 @@ module _ (scope : Scope) (u : UnitRecord) (offset : ℕ) (name : Option Section)
   run_is : listed_ranges p ≡ drop (length found.ranges) listed.ranges
   run_is = ap (λ n. drop n p.listed.value.items) at.ranges_begin ∙ ap (λ xs. drop (length found.ranges) xs) at.listed_is
 
-  -- the details that are kept are those of the function
+  -- the details that are cached are those of the function
   pub detail_kept : detail_at scope u offset ≡ Ok (detail_of d p)
   detail_kept =
       let made : Option Section → List InlinedRange → Detail = λ n xs. record { name = n; inlined = xs } in
@@ -123,15 +123,15 @@ first_is functions ranges found more h a b =
     let made : List InlinedEntry → List InlinedFunctionAddress → FoundInlined = λ xs ys. record { entries = xs; ranges = ys } in
     ap (λ xs. made xs (take ranges more.ranges)) (first_of functions found.entries more.entries h.entries a) ∙ ap (λ ys. made found.entries ys) (first_of ranges found.ranges more.ranges h.ranges b)
 
--- ranges that were kept stay where those after them are put in order
+-- ranges that were cached stay where those after them are put in order
 pub sorted_more : (start : ℕ) (xs listed : List InlinedFunctionAddress) → start ≡ length xs → IsGrown xs listed → IsGrown xs (sorted_from start listed)
 sorted_more start xs listed e h = record { more = in_order inlined_sooner (drop start listed); is = ap (λ ys. ys ++ in_order inlined_sooner (drop start listed)) (first_of start xs listed h e) }
 
--- what is kept stays where nothing changes
+-- what is cached stays where nothing changes
 pub details_same : (kept more : CachedDetails) → more ≡ kept → AreDetailsMore kept more
 details_same kept more h = subst (AreDetailsMore kept) (sym h) (record { names = grown_not kept.names; found = found_same kept.found })
 
--- what is added changes nothing of the details that are kept, and their places are places still
+-- what is added changes nothing of the details that are cached, and their places are places still
 pub detail_stays : (kept more : CachedDetails) (p : FunctionDetail) → AreDetailsMore kept more → IsDetailPlace kept p → (detail_of more p ≡ detail_of kept p) × IsDetailPlace more p
 detail_stays kept more p h at = (same, still)
   where

@@ -1,4 +1,4 @@
-//! The details of the functions of a view, kept one after another.
+//! The cached details of the functions of a view, one after another.
 
 ghost use Rattle.std.specs.List.{AllByRecursion};
 ghost use Rattle.std.specs.Prelude.{◌≡◌, ◌<◌, ◌||◌, [], IfOk, OnErr, Ok, length, map, option_map, slice_get};
@@ -22,7 +22,7 @@ use smallvec::SmallVec;
 use std::alloc::Global;
 use std::snapshot::Snapshot;
 
-/// Where the details of a function stand among those that are kept.
+/// Where the details of a function stand among those that are cached.
 #[derive(Drop)]
 pub(crate) struct FunctionDetail {
     /// The place of its name.
@@ -110,7 +110,7 @@ impl<R: Reader> Details<R> {
     /// `UnexpectedEof` where closing entries are missing. May fail with `OutOfMemory` instead, but
     /// with a reader that doesn't share its bytes only where nothing is refused, or the function's
     /// own entry has no fault and, before any fault, an inlined entry gives a range or an entry
-    /// has children. After a refusal what is kept is what was kept before. Source: DWARF 5,
+    /// has children. After a refusal what is cached is what was cached before. Source: DWARF 5,
     /// section 3.3.8.
     pub(crate) fn read(
         &mut self,

@@ -311,8 +311,8 @@ impl<R: Reader> Functions<R> {
     }
 
     /// Reads the details of all functions, in the order of their entries, as `read` does, up to the
-    /// first fault. What was cached stays cached; the details up to the first fault are cached then,
-    /// and that fault too.
+    /// first fault. What was cached stays cached; the details up to the first fault are cached
+    /// then, and that fault too.
     ///
     /// `unit` is the unit of the functions, and `scope` says where its references lead. Refused by
     /// the first fault of a detail; may fail with `OutOfMemory` instead, which is not cached, only

@@ -1,4 +1,4 @@
--- Answers to the loads of units, and what is kept of their entries (on specs/CachedEntries.antt).
+-- Answers to the loads of units, and what is cached of their entries (on specs/CachedEntries.antt).
 use Rattle.std.proofs.Common.{◌≡◌, ◌≢◌, ℕ, zero, suc, ◌<◌, Bool, true, false, List, [], ◌∷◌, length, get_or, slice_get, arith, subst, Option, Some, None, Result, Ok, Err, ap, refl, sym, ◌∙◌}
 use Rattle.std.proofs.Math.ListN.{set}
 use Rattle.std.proofs.lemmas.List.{set-get_or}
@@ -35,7 +35,7 @@ unread_are scope u lazy.Unread e = tt
 unread_are scope u (lazy.Read t) e = absurd cc
 unread_are scope u (lazy.Faulty x) e = absurd cc
 
--- where no functions were read the view is all that is kept
+-- where no functions were read the view is all that is cached
 pub unread_entries : {R : Type 0} (scope : Scope) (u : UnitRecord) (v : UnitView R) (f : LazyFunctions R) → IsViewOf scope.file.sections u v → were_read f ≡ false
     → AreEntriesOf scope u (record { view = v; functions = f })
 unread_entries {R} scope u v f h e = record { view = h; functions = by (verdict scope.file.sections u (seen_first_answer v)); unread = λ k. e }
@@ -45,7 +45,7 @@ unread_entries {R} scope u v f h e = record { view = h; functions = by (verdict 
     by (Some (Ok x)) = unread_are (view_scope scope x) x.unit f e
     by (Some (Err x)) = tt
 
--- a call that left the view as it was left all that is kept
+-- a call that left the view as it was left all that is cached as it was
 pub same_entries : {R : Type 0} (r : Result (Unit {0}) Error) (v w : UnitView R) (f : LazyFunctions R) (x : UnitEntries R) (P : Type 0) → x ≡ record { view = w; functions = f }
     → IfErr r (λ e. (e ≡ OutOfMemory) × (v ≡ w) × P) → IfErr r (λ e. (e ≡ OutOfMemory) × (record { view = v; functions = f } ≡ x) × P)
 same_entries (Ok a) v w f x P e h = tt
@@ -161,7 +161,7 @@ others_stay (v ∷ vs) (suc n) (suc k) w ne = others_stay vs n k w (λ e. ne (ap
 pub same_set : {X : Type 0} (vs : List X) (n : ℕ) (v w : X) → v ≡ get_or vs n v → w ≡ v → set vs n w ≡ vs
 same_set vs n v w e same = ap (set vs n) (same ∙ e) ∙ set-get_or vs n v
 
--- whether the unit of a number is decided, by what is kept of it
+-- whether the unit of a number is decided, by what is cached of it
 pub decided_there : {R : Type 0} (vs : List (UnitEntries R)) (n : ℕ) (v : UnitEntries R) → v ≡ get_or vs n v → decided_at vs n ≡ true → is_decided v.view.state ≡ true
 decided_there [] n v e h = absurd cc
 decided_there (y ∷ vs) zero v e h = ap (λ x. is_decided x.view.state) e ∙ h

@@ -1,5 +1,5 @@
--- What is kept of the entries of all units, one unit after another (on specs/CachedEntries.antt and
--- specs/CachedLookups.antt).
+-- What is cached of the entries of all units, one unit after another (on specs/CachedEntries.antt
+-- and specs/CachedLookups.antt).
 use Rattle.std.proofs.Common.{◌≡◌, ◌≢◌, ℕ, zero, suc, ◌<◌, inl, inr, true, List, [], ◌∷◌, length, get_or, slice_get, Option, Some, None, option_and_then, Result, Ok, Err, refl, ap, sym, subst, ◌∙◌, arith}
 use Rattle.std.proofs.Math.ListN.{set}
 use Rattle.std.specs.Prelude.{IfSome}
@@ -116,7 +116,7 @@ module _ {R : Type 0} where
   answer_at (x ∷ vs) zero v h e = ap (λ y. Some (kept_answer y)) (sym e)
   answer_at (x ∷ vs) (suc n) v h e = answer_at vs n v (omega arith) e
 
-  -- beside each unit stands what is kept of its entries
+  -- beside each unit stands what is cached of its entries
   pub as_many_entries : (scope : Scope) (us : List UnitRecord) (vs : List (UnitEntries R)) → HaveEntriesOf scope us vs → length us ≡ length vs
   as_many_entries scope [] [] own = refl
   as_many_entries scope [] (v ∷ vs) own = absurd own
@@ -137,7 +137,7 @@ module _ {R : Type 0} where
   entries_set scope (x ∷ us) (y ∷ vs) zero u w e own h = (subst (λ (a : UnitRecord). AreEntriesOf scope a w) e h, own.1)
   entries_set scope (x ∷ us) (y ∷ vs) (suc n) u w e own h = (own.0, entries_set scope us vs n u w e own.1 h)
 
-  -- what is found by what is kept is found by it where more is kept
+  -- what is found by what is cached is found by it where more is cached
   function_more : (probe : ℕ) (f g : LazyFunctions R) → StayFunctions f g → cached_has_function probe f ≡ true → cached_has_function probe g ≡ true
   function_more probe lazy.Unread g a e = cc
   function_more probe (lazy.Read t) (lazy.Read u) a e = ap (has_place u) (place_stays probe t u a) ∙ place_more t u a (function_place_at probe t) e

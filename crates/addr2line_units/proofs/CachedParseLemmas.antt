@@ -1,4 +1,4 @@
--- What is kept of the entries of units after a parse of their functions (on
+-- What is cached of the entries of units after a parse of their functions (on
 -- specs/CachedParses.antt).
 use Rattle.std.proofs.Common.{◌≡◌, ℕ, zero, suc, ◌≤◌, ◌<◌, inl, inr, Bool, true, false, not, ◌&&◌, ◌||◌, ◌==◌, cond, nat_lt, List, [], ◌∷◌, length, get_or, slice_get, Option, Some, None, option_and_then, Result, Ok, Err, is_ok, is_some, refl, ap, sym, subst, ◌∙◌, arith}
 use Rattle.std.proofs.Math.ListN.{set}
@@ -37,7 +37,7 @@ use Rattle.addr2line_units.proofs.CachedFunctionLemmas.{fault_is}
 use Rattle.addr2line_units.proofs.CachedLookupLemmas.{entries_on, entries_same}
 use Rattle.addr2line_units.proofs.ParseLemmas.{at_or_behind, below_next}
 
--- functions that are kept were read
+-- functions that are cached were read
 pub have_were_read : {R : Type 0} (r : Reads) (f : LazyFunctions R) → HaveFunctions r f → were_read f ≡ true
 have_were_read r lazy.Unread h = absurd h
 have_were_read r (lazy.Read t) h = refl
@@ -62,7 +62,7 @@ alone_read scope view ranges h = ap (λ (r : Result (List FunctionRange) Error).
 pub alone_fault : (scope : Scope) (view : UnitRecord) (e : Error) → functions_of scope.file.sections view ≡ Err e → read_of_functions reads.Functions scope view ≡ Err e
 alone_fault scope view e h = ap (λ (r : Result (List FunctionRange) Error). r >>= λ _. Ok tt) h
 
--- functions that were read with all details are kept with them
+-- functions that were read with all details are cached with them
 pub details_have : {R : Type 0} (scope : Scope) (view : UnitRecord) (may : Bool) (f : LazyFunctions R) (r : Result (Unit {0}) Error) → AreFunctionsOf scope view f → ExactlyUnlessOomIf may (λ x. x) r (functions_fault scope view)
     → OnOk r (were_read f ≡ true) → OnOk r (AllByRecursion HasDetail (cached_functions f).functions) → OnOk r (HaveFunctions reads.Details f)
 details_have scope view may f (Err e) right gives read details = tt
@@ -111,7 +111,7 @@ view_decided (states.Answered a) h = refl
 pub read_decided : {R : Type 0} (r : Reads) (v : UnitEntries R) → HasRead r v → is_decided v.view.state ≡ true
 read_decided r v h = view_decided v.view.state h.view
 
--- the view by what is kept of it
+-- the view by what is cached of it
 module _ {R : Type 0} (d : Sections) (u : UnitRecord) (here : Option (Result View Error)) where
   pub known_view : (v : View) (s : ViewState R) → is_decided s ≡ true → IfSome (verdict_in d u s) (λ kept. kept ≡ here) → here ≡ Some (Ok v) → has_view s ≡ true
   known_view v states.Undecided k right e = cc
@@ -147,7 +147,7 @@ place_below : (t : FunctionTable) (o : Option ℕ) (n : ℕ) → option_and_then
 place_below t None n e = absurd cc
 place_below t (Some offset) n e = some_below (position_or_len (λ (f : CachedFunction). f.offset == offset) t.functions) (length t.functions) n e
 
--- what is kept of all functions answers each lookup
+-- what is cached of all functions answers each lookup
 has_all : (probe : ℕ) (t : FunctionTable) → AllByRecursion HasDetail t.functions → (o : Option ℕ) → function_place_at probe t ≡ o → has_place t o ≡ true
 has_all probe t all None e = refl
 has_all probe t all (Some n) e =

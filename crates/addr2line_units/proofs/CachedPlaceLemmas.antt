@@ -17,7 +17,7 @@ use Rattle.addr2line_units.specs.CachedFunctions.{IsTableOf, has_detail, cached_
 use Rattle.addr2line_units.specs.UnitFrames.{is_many}
 use Rattle.addr2line_units.proofs.CachedFunctionLemmas.{cached_is, from_detail, place_stays, read_err, read_ok}
 
--- any fault but OutOfMemory is kept
+-- any fault but OutOfMemory is cached
 pub kept_unless_oom : (x : Error) → x ≢ OutOfMemory → is_kept x ≡ true
 kept_unless_oom OutOfMemory ne = absurd (ne refl)
 kept_unless_oom _ ne = refl

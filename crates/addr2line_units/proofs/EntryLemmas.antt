@@ -1,4 +1,4 @@
--- What is kept of the entries of a unit (on specs/CachedEntries.antt and specs/UnitFrames.antt).
+-- What is cached of the entries of a unit (on specs/CachedEntries.antt and specs/UnitFrames.antt).
 use Rattle.std.proofs.Common.{◌≡◌, ◌∙◌, ℕ, ap, sym, refl, subst, Bool, true, false, Option, Some, IfOk, IfSome, is_none, Result, Ok, Err}
 use Rattle.gimli_read.specs.declared.error.Error.{Error}
 use Rattle.gimli_read.specs.Reading.{◌>>=◌, ExactlyUnlessOom, ExactlyUnlessOomIf}
@@ -44,7 +44,7 @@ module _ {R : Type 0} (scope : Scope) (u : UnitRecord) (old : UnitEntries R) (vi
   abbrev with_view : UnitView R → UnitEntries R
   with_view v = record { view = v; functions = old.functions }
 
-  -- what is kept stays right where the view is looked at
+  -- what is cached stays right where the view is looked at
   pub look_keeps : seen_first_answer view ≡ seen_first_answer old.view → AreEntriesOf scope u old → IsViewOf scope.file.sections u view → AreEntriesOf scope u (record { view = view; functions = old.functions })
   look_keeps answer h right = record {
     view = right;
@@ -128,7 +128,7 @@ module _ {R : Type 0} (scope : Scope) (u : UnitRecord) (probe : ℕ) (old : Unit
     moved : (P : Scope → UnitRecord → Type 0) → P (view_scope scope v.view) v.view.unit → P inner unit
     moved P p = subst (λ s. P s unit) (sym v.leads) (subst (λ y. P (view_scope scope v.view) y) v.unit p)
 
-    -- the functions that are kept are those of the view
+    -- the functions that are cached are those of the view
     pub functions_right : AreFunctionsOf inner unit old.functions
     functions_right = moved (λ s y. AreFunctionsOf s y old.functions) (subst (λ w. IfSome w (λ r. IfOk r (λ x. AreFunctionsOf (view_scope scope x) x.unit old.functions))) v.is h.functions)
 
@@ -140,7 +140,7 @@ module _ {R : Type 0} (scope : Scope) (u : UnitRecord) (probe : ℕ) (old : Unit
     unfolding has_many
     few_in few = sym (ap is_many function_is_in) ∙ few
 
-    -- the unit stays right where other functions of its view are kept
+    -- the unit stays right where other functions of its view are cached
     pub functions_keep : (new : LazyFunctions R) → AreFunctionsOf inner unit new → AreEntriesOf scope u (record { view = old.view; functions = new })
     functions_keep new right = record {
       view = h.view;

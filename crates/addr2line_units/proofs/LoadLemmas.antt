@@ -207,7 +207,7 @@ module _ (listed : List SplitLoad) (o : Option SplitLoad) (old now : List Bool) 
       append_assoc listed (option_to_list found) (filter (is_new now) loads)
       ∙ ap (λ z. listed ++ z) (ap (λ z. option_to_list z ++ filter (is_new now) loads) f ∙ sym (next_listed o old now loads m)) ∙ h
 
--- the load of the unit of a number, by what is kept of it
+-- the load of the unit of a number, by what is cached of it
 pub load_there : {R : Type 0} (d : Sections) (us : List UnitRecord) (vs : List (UnitEntries R)) (n : ℕ) (u : UnitRecord) (v : UnitEntries R) → slice_get us n ≡ Some u → n < length vs → v ≡ get_or vs n v
     → load_of_number d us (answers_in vs) n ≡ awaited_load d n u (kept_answer v)
 load_there d us vs n u v e h at = by (slice_get us n) e
@@ -237,7 +237,7 @@ listed_step listed d us answers later r old now rest ranges all found e steps f 
     (subst (λ a. MarksLoad (load_of_number d us a r.unit) old now) e m)
     (subst (λ rs. listed ++ filter (is_new old) (loads_along (load_of_number d us answers) rs) ≡ all) steps h)
 
--- what was decided is decided where more is kept
+-- what was decided is decided where more is cached
 pub decided_stays : {R : Type 0} (vs ws : List (UnitEntries R)) (n : ℕ) → StayAllEntries vs ws → decided_at vs n ≡ true → decided_at ws n ≡ true
 decided_stays [] ws n a h = absurd cc
 decided_stays (v ∷ vs) [] n a h = absurd a

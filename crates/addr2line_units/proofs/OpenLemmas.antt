@@ -29,7 +29,7 @@ waits_only_open d u v w own looked same waiting not_open =
     let f : ◌≡◌ {A = Bool} true false = sym (open_by_look d u v w true own looked same waiting) ∙ not_open in
     cc
 
--- the first unit along ranges, by what is kept later
+-- the first unit along ranges, by what is cached later
 pub first_not_open : {R : Type 0} (d : Sections) (us : List UnitRecord) (vs ws : List (UnitEntries R)) (ranges : List UnitRange) (r : UnitRange) (rest : List UnitRange) → ranges ≡ r ∷ rest → StayAllEntries vs ws → NoneOpen d us (answers_in vs) ranges
     → is_open_at d us (answers_in ws) r.unit ≡ false
 first_not_open d us vs ws ranges r rest steps stay all =

@@ -38,7 +38,7 @@ pub not_oom : {X : Type 0} (r : Result X Error) → HadMemory r → r ≢ Err Ou
 not_oom (Ok x) h = λ e. cc
 not_oom (Err e) h = λ q. h (let same : e ≡ OutOfMemory = cc in same)
 
--- a fault that is kept is known
+-- a fault that is cached is known
 pub ready_fault : (r : Reads) (e : Error) → e ≢ OutOfMemory → IsReadyFor r (known_fault e)
 ready_fault r e ne = subst (λ (b : Bool). IsReadyFor r (if b then AllKnown else NothingKnown)) (sym (kept_unless_oom e ne)) tt
 

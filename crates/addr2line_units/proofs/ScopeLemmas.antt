@@ -1,4 +1,4 @@
--- The units that references lead to in a context, and what is kept of their entries at first (on
+-- The units that references lead to in a context, and what is cached of their entries at first (on
 -- specs/UnitIndexLaws.antt, specs/FramesLookup.antt and specs/CachedLookups.antt).
 use Rattle.std.proofs.Common.{◌≡◌, ◌∙◌, ap, sym, refl, subst, Bool, true, false, List, [], ◌∷◌, ◌++◌, map, Option, Some, None, option_map, is_some, IfSome, IfOk, Result, Ok, Err, if◌then◌else◌}
 use Rattle.std.specs.Result.{result_ok}
@@ -134,7 +134,7 @@ records_beside d [] (r ∷ rs) own = absurd own
 records_beside d (u ∷ us) [] own = absurd own
 records_beside d (u ∷ us) (r ∷ rs) own = ap (λ (vs : List UnitRecord). u ∷ vs) (records_beside d us rs own.1)
 
--- before a unit is looked at nothing is kept of its view
+-- before a unit is looked at nothing is cached of its view
 no_answer : {R : Type 0} (s : ViewState R) → was_looked_at s ≡ false → answer_in s ≡ None
 no_answer states.Undecided e = refl
 no_answer states.Open e = absurd cc

@@ -28,7 +28,7 @@ is_known_at probe (FunctionsKnown t) = has_table probe t
 abbrev pub knows_at : List KnownEntries → ℕ → ℕ → Bool
 knows_at known probe n = unwrap_or (option_map (is_known_at probe) (slice_get known n)) true
 
--- a fault that is kept
+-- a fault that is cached
 abbrev pub known_fault : Error → KnownEntries
 known_fault e = if is_kept e then AllKnown else NothingKnown
 

@@ -76,8 +76,8 @@ impl<R: Reader> UnitEntries<R> {
     }
 
     // Decides the unit by an answer if it is open, and else leaves it as it is. Refused
-    // `OutOfMemory` alone, and only of an open unit; then all that is kept stays, and only that it
-    // was looked at may be new.
+    // `OutOfMemory` alone, and only of an open unit; then all that is cached stays, and only that
+    // it was looked at may be new.
     pub(crate) fn answer(
         &mut self,
         alloc: Global,

@@ -67,8 +67,8 @@ impl<R: Reader> ResUnits<R> {
     ///
     /// Refused `UnknownToken` where there is no such unit; then nothing is changed. Refused by the
     /// fault of the view that the unit has then; the unit is decided all the same. May fail with
-    /// `OutOfMemory` instead, unless the unit is decided; then all that is kept stays, and only that
-    /// the unit was looked at may be new.
+    /// `OutOfMemory` instead, unless the unit is decided; then all that is cached stays, and only
+    /// that the unit was looked at may be new.
     pub fn load_unit(
         &mut self,
         alloc: Global,
@@ -298,7 +298,7 @@ fn read_loads<R: Reader>(
 
 impl<R: Reader> ResUnits<R> {
     /// The loads of the open units that cover an address, each once, in the order of its first
-    /// range. Whether a unit is open is looked for and kept.
+    /// range. Whether a unit is open is looked for and cached.
     ///
     /// Refused `OutOfMemory` alone, and not where none of these units is open.
     pub fn preload(

@@ -36,9 +36,9 @@ pub enum Reads {
 }
 
 impl<R: Reader> LazyFunctions<R> {
-    // Reads the functions of a view, unless they were read, and keeps them, or their fault. Refused
-    // by that fault; may fail with `OutOfMemory` instead, only where they were not read. Changes
-    // nothing where they were, or their fault is kept.
+    // Reads the functions of a view, unless they were read, and caches them, or their fault.
+    // Refused by that fault; may fail with `OutOfMemory` instead, only where they were not read.
+    // Changes nothing where they were, or their fault is cached.
     fn read_alone(
         &mut self,
         alloc: Global,
@@ -130,12 +130,12 @@ fn read_in_view<'x, R: Reader>(
 
 impl<R: Reader> UnitEntries<R> {
     // Reads the functions of the unit's view, and their details where these are asked for, unless
-    // they were read, and keeps them, or their faults. A unit that waits for an answer is decided
+    // they were read, and caches them, or their faults. A unit that waits for an answer is decided
     // by none first.
     //
     // Refused by the first fault of the view, its functions and the details; may fail with
-    // `OutOfMemory` instead, only where something of these isn't kept. Takes no memory, and changes
-    // nothing, where the view and what is read of it are kept, up to the first fault.
+    // `OutOfMemory` instead, only where something of these isn't cached. Takes no memory, and
+    // changes nothing, where the view and what is read of it are cached, up to the first fault.
     fn read<'x>(
         &mut self,
         alloc: Global,
@@ -254,13 +254,13 @@ fn read_all_functions<R: Reader>(
 
 impl<R: Reader> ResUnits<R> {
     /// Reads the functions of all units in their order, or their functions and the details of these
-    /// in the order of the entries, up to the first fault, and keeps them, that fault too. A unit
+    /// in the order of the entries, up to the first fault, and caches them, that fault too. A unit
     /// that waits for an answer is decided by none first. The units behind the first fault are left
     /// as they are.
     ///
     /// Refused by the first fault of a view, its functions and the details; may fail with
     /// `OutOfMemory` instead, which is never cached: then some of the first units that it would
-    /// decide are decided. Takes no memory, and changes nothing, where all that it reads is kept,
+    /// decide are decided. Takes no memory, and changes nothing, where all that it reads is cached,
     /// up to the first fault, and that fault. Source: DWARF 5, sections 3.3.1 and 3.3.8.
     pub fn read_functions(
         &mut self,

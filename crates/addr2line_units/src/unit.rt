@@ -31,7 +31,7 @@ pub enum LazyLines {
     Faulty(Error),
 }
 
-/// What a context keeps of a unit, beside the unit itself.
+/// What a context caches of a unit, beside the unit itself.
 #[derive(Drop)]
 pub struct ResUnit {
     /// Its language.
@@ -118,7 +118,7 @@ fn lines_at_first<R: Reader>(alloc: Global, unit: &Unit<R>) -> LazyLines
     }
 }
 
-// What is kept of a unit whose record was read, and its given ranges.
+// What is cached of a unit whose record was read, and its given ranges.
 pub(crate) fn read_ranged_unit<R: Reader>(
     alloc: Global,
     dwarf: &Dwarf<R>,

@@ -21,7 +21,7 @@ use gimli::Unit;
 use gimli::read::{Error, Reader};
 use std::alloc::Global;
 
-/// What is kept of the entries of a unit: its view, and the functions in it.
+/// What is cached of the entries of a unit: its view, and the functions in it.
 #[derive(Drop)]
 pub(crate) struct UnitEntries<R: Reader> {
     pub(crate) view: UnitView<R>,
@@ -100,10 +100,10 @@ impl<R: Reader> UnitEntries<R> {
     }
 
     // The function at an address in the unit's view, none where no function holds it. The functions
-    // and its detail are read and kept, unless they are, their faults too.
+    // and its detail are read and cached, unless they are, their faults too.
     //
     // Refused by the first fault of the view, its functions and the detail; may fail with
-    // `OutOfMemory` instead, only where something of these isn't kept, or there are more than 16
+    // `OutOfMemory` instead, only where something of these isn't cached, or there are more than 16
     // inlined functions.
     fn find_function<'x>(
         &mut self,
@@ -135,11 +135,11 @@ impl<R: Reader> UnitEntries<R> {
 }
 
 // What a unit has at an address, unless it waits for an answer. Its view is decided if it needs no
-// answer, and what is read is kept: the functions of the view, the detail of the function there,
+// answer, and what is read is cached: the functions of the view, the detail of the function there,
 // and the lines of the unit, their faults too.
 //
 // Refused by the first fault of the view, its functions, the detail and the lines; may fail with
-// `OutOfMemory` instead, only where something of these isn't kept, or there are more than 16
+// `OutOfMemory` instead, only where something of these isn't cached, or there are more than 16
 // inlined functions.
 pub(crate) fn find_frames_in<'x, R: Reader>(
     alloc: Global,

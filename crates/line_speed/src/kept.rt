@@ -1,4 +1,4 @@
-//! Lines that are kept, and lookups in them.
+//! Lines that are cached, and lookups in them.
 
 use crate::mixed;
 use addr2line_lines::{Lines, Location};
@@ -115,7 +115,7 @@ fn with_lookups(sum: u64, kept: &[KeptLines], lookups: u64) -> u64 {
     sum
 }
 
-/// The checksum of the addresses that kept units cover, and of the locations of `lookups` of them.
+/// The checksum of the addresses that the units cover, and of the locations of `lookups` of them.
 pub fn kept_checksum<R: Reader + Drop>(
     alloc: Global,
     input: &mut R,

@@ -48,7 +48,7 @@ module _ (g : Over) (c : goal.After-len-2 g) where
     listed = c.of-listed.result;
   }
 
-  -- the names that were kept, and one more
+  -- the names that were cached, and one more
   longer : length more.names ≡ length old.names + 1
   longer =
       let see = option_map g.R.Reader.section in
@@ -60,7 +60,7 @@ module _ (g : Over) (c : goal.After-len-2 g) where
   place : made.name ≡ length old.names
   place = c.len-name.ensures ∙ c.args.self.now.names.ok.0 ∙ sym (length-map c.args.self.now.names.items (option_map g.R.Reader.section))
 
-  -- where what was found is kept
+  -- where what was found is cached
   at : AreKeptAt (option_map g.R.Reader.section c.in_ok-read.read) old.found listed more made
   at =
       let see = option_map g.R.Reader.section in

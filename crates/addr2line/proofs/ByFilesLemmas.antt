@@ -22,7 +22,7 @@ use Rattle.addr2line.specs.Context.{ContextState}
 use Rattle.addr2line.specs.Files.{Files}
 use Rattle.addr2line.specs.FramesByFiles.{frames_by_files, stop_frames}
 use Rattle.addr2line.specs.History.{Given, Gives}
-use Rattle.addr2line.specs.KeptStops.{by_number, unit_stop}
+use Rattle.addr2line.specs.UnitStops.{by_number, unit_stop}
 use Rattle.addr2line.specs.Loader.{AfterAnswers, AfterLoads, AnswersInTurn, AnswersOne, IsFaultByFiles, LoaderState, ReadsAsked, StayAnswered, WaitsForNone, ended_frames_of}
 use Rattle.addr2line.specs.Lookups.{AfterFrames, FirstAnswers, IsKnownFew, IsLoadOf, frames_of, frames_told, loads_at, lookup_stop}
 use Rattle.addr2line.specs.SplitFiles.{given_by_files}

@@ -1,7 +1,7 @@
 pub mod Context
 pub mod Borrowed
 pub mod Lookups
-pub mod KeptStops
+pub mod UnitStops
 pub mod Answers
 pub mod Loads
 pub mod Replies

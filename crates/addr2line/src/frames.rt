@@ -232,7 +232,7 @@ impl<R: Reader> Context<R> {
             probe,
             Faults::End,
         )?;
-        self.units.keep_stop(stop);
+        self.units.set_stop(stop);
         Ok(self.units.stop_frames())
     }
 

@@ -4,7 +4,7 @@ ghost use Rattle.std.specs.Prelude.{◌≡◌, IfErr};
 ghost use Rattle.gimli_read.specs.declared.error.Error.TheVariants.{OutOfMemory};
 ghost use Rattle.gimli_read.specs.Reading.{ExactlyUnlessOom};
 ghost use Rattle.addr2line_units.specs.declared.frames_lookup.Faults.TheVariants.{PassOver};
-ghost use Rattle.addr2line.specs.KeptStops.{unit_stop};
+ghost use Rattle.addr2line.specs.UnitStops.{unit_stop};
 ghost use Rattle.addr2line.specs.Skips.{AfterSkip, found_stop, skipped_answers};
 
 use crate::context::Context;

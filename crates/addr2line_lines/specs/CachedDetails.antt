@@ -39,9 +39,9 @@ detail_of d p = record {
 }
 
 -- what was cached before stays, with more at its end
-pub record AreDetailsMore (kept more : CachedDetails) : Type 0 where
-  pub names : IsGrown kept.names more.names
-  pub found : IsFoundMore kept.found more.found
+pub record AreDetailsMore (cached more : CachedDetails) : Type 0 where
+  pub names : IsGrown cached.names more.names
+  pub found : IsFoundMore cached.found more.found
 
 -- a range is of an inlined entry from a place up to another
 abbrev pub IsOfEntryBetween : ℕ → ℕ → InlinedFunctionAddress → Type 0
@@ -61,10 +61,10 @@ pub record IsDetailPlace (d : CachedDetails) (p : FunctionDetail) : Type 0 where
 
 -- a place is the one after what is cached: the next name, and what follows in the other lists, up
 -- to the end of the lists with it
-pub record IsNextPlace (kept more : CachedDetails) (p : FunctionDetail) : Type 0 where
-  pub name : p.name ≡ length kept.names
-  pub names : length more.names ≡ length kept.names + 1
-  pub inlined_begin : p.inlined_begin ≡ length kept.found.entries
+pub record IsNextPlace (cached more : CachedDetails) (p : FunctionDetail) : Type 0 where
+  pub name : p.name ≡ length cached.names
+  pub names : length more.names ≡ length cached.names + 1
+  pub inlined_begin : p.inlined_begin ≡ length cached.found.entries
   pub inlined_end : p.inlined_end ≡ length more.found.entries
-  pub ranges_begin : p.ranges_begin ≡ length kept.found.ranges
+  pub ranges_begin : p.ranges_begin ≡ length cached.found.ranges
   pub ranges_end : p.ranges_end ≡ length more.found.ranges

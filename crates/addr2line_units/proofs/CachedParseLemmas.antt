@@ -25,7 +25,7 @@ use Rattle.addr2line_units.specs.declared.view.ViewState.{ViewState}
 use Rattle.addr2line_units.specs.declared.view.ViewState.TheVariants as states
 use Rattle.addr2line_units.specs.FramesLookup.{answer_of}
 use Rattle.addr2line_units.specs.FunctionParses.{AreReadBefore, read_of_functions, read_of_number, read_of_unit, read_of_view}
-use Rattle.addr2line_units.specs.CachedEntries.{StayEntries, has_answered, has_entries_by, kept_answer}
+use Rattle.addr2line_units.specs.CachedEntries.{StayEntries, has_answered, has_entries_by, cached_answer}
 use Rattle.addr2line_units.specs.CachedFunctions.{AreFunctionsOf, StayFunctions, details_at, functions_fault, has_detail, cached_has_function, has_place, cached_functions, reading_takes_memory, were_read}
 use Rattle.addr2line_units.specs.CachedLookups.{HaveEntriesOf, StayAllEntries, answers_in, has_entries_at}
 use Rattle.addr2line_units.specs.CachedParses.{AreDecided, ChangesOnly, HasRead, HaveFunctions, HaveRead, StayDecided, has_view}
@@ -92,11 +92,11 @@ exactly_ok : (may : Bool) (r given : Result (Unit {0}) Error) → may ≡ false 
 exactly_ok may (Ok x) given m g h = refl
 exactly_ok may (Err e) given m g h = absurd (let no = sym (h (λ t. absurd (let k : true ≡ false = sym t ∙ m in cc))) ∙ g in cc)
 
-pub details_kept : {R : Type 0} (shares : Bool) (scope : Scope) (view : UnitRecord) (f : LazyFunctions R) (r : Result (Unit {0}) Error) → AreFunctionsOf scope view f → HaveFunctions reads.Details f
+pub details_cached : {R : Type 0} (shares : Bool) (scope : Scope) (view : UnitRecord) (f : LazyFunctions R) (r : Result (Unit {0}) Error) → AreFunctionsOf scope view f → HaveFunctions reads.Details f
     → ExactlyUnlessOomIf (reading_takes_memory shares scope view f) (λ x. x) r (functions_fault scope view) → r ≡ Ok tt
-details_kept shares scope view lazy.Unread r right h gives = absurd h
-details_kept shares scope view (lazy.Faulty e) r right h gives = absurd h
-details_kept shares scope view (lazy.Read t) r right h gives =
+details_cached shares scope view lazy.Unread r right h gives = absurd h
+details_cached shares scope view (lazy.Faulty e) r right h gives = absurd h
+details_cached shares scope view (lazy.Read t) r right h gives =
     exactly_ok (details_take_memory shares scope view t.functions) r (functions_fault scope view) (no_detail_memory shares scope view t.functions h)
     (fault_is scope view t right ∙ no_detail_fault scope view t.functions h right.details) gives
 
@@ -113,7 +113,7 @@ read_decided r v h = view_decided v.view.state h.view
 
 -- the view by what is cached of it
 module _ {R : Type 0} (d : Sections) (u : UnitRecord) (here : Option (Result View Error)) where
-  pub known_view : (v : View) (s : ViewState R) → is_decided s ≡ true → IfSome (verdict_in d u s) (λ kept. kept ≡ here) → here ≡ Some (Ok v) → has_view s ≡ true
+  pub known_view : (v : View) (s : ViewState R) → is_decided s ≡ true → IfSome (verdict_in d u s) (λ cached. cached ≡ here) → here ≡ Some (Ok v) → has_view s ≡ true
   known_view v states.Undecided k right e = cc
   known_view v states.Open k right e = cc
   known_view v states.Main k right e = refl
@@ -124,7 +124,7 @@ module _ {R : Type 0} (d : Sections) (u : UnitRecord) (here : Option (Result Vie
       by_unit (Ok y) q = refl
       by_unit (Err y) q = absurd cc
 
-  pub no_view : (x : Error) (s : ViewState R) → IfSome (verdict_in d u s) (λ kept. kept ≡ here) → here ≡ Some (Err x) → has_view s ≡ true → ⊥
+  pub no_view : (x : Error) (s : ViewState R) → IfSome (verdict_in d u s) (λ cached. cached ≡ here) → here ≡ Some (Err x) → has_view s ≡ true → ⊥
   no_view x states.Undecided right e h = cc
   no_view x states.Open right e h = cc
   no_view x states.Main right e h = let no = right ∙ e in cc
@@ -302,7 +302,7 @@ entries_then {R} v mid f same stay =
 
 -- what is read of the unit of a number
 pub number_is : {R : Type 0} (r : Reads) (scope : Scope) (us : List UnitRecord) (vs : List (UnitEntries R)) (n : ℕ) (u : UnitRecord) (v : UnitEntries R) → n < length us → n < length vs → u ≡ get_or us n u → v ≡ get_or vs n v
-    → read_of_number r scope us (answers_in vs) n ≡ read_of_unit r scope u (kept_answer v)
+    → read_of_number r scope us (answers_in vs) n ≡ read_of_unit r scope u (cached_answer v)
 number_is r scope us vs n u v h k e f =
     ap (λ (o : Option UnitRecord). by_unit o) (got_unit us n u h e) ∙ ap (read_of_unit r scope u) (answer_at vs n v k f)
   where

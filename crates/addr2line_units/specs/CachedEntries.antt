@@ -20,20 +20,20 @@ use Rattle.addr2line_units.specs.declared.view.ViewState.{ViewState}
 use Rattle.addr2line_units.specs.declared.view.ViewState.TheVariants as states
 use Rattle.addr2line_units.specs.CachedLines.{cached_files}
 use Rattle.addr2line_units.specs.Frames.{FrameRecord, found_frames}
-use Rattle.addr2line_units.specs.CachedFunctions.{AreFunctionsOf, ArePlacesIn, ReadsNoOther, StayFunctions, function_of_place, cached_has_function, is_kept, cached_functions, were_read}
+use Rattle.addr2line_units.specs.CachedFunctions.{AreFunctionsOf, ArePlacesIn, ReadsNoOther, StayFunctions, function_of_place, cached_has_function, is_cached_fault, cached_functions, were_read}
 use Rattle.addr2line_units.specs.CachedViews.{IsViewOf, is_decided, seen_first_answer, was_looked_at}
 use Rattle.addr2line_units.specs.Views.{verdict, view_scope}
 
--- the first answer of a unit
-abbrev pub kept_answer : {R : Type 0} → UnitEntries R → Option (Option Sections)
-kept_answer v = seen_first_answer v.view
+-- the cached first answer of a unit
+abbrev pub cached_answer : {R : Type 0} → UnitEntries R → Option (Option Sections)
+cached_answer v = seen_first_answer v.view
 
 -- what is cached is the view of the unit and the functions of that view, which are read only where
 -- the view is known
 pub record AreEntriesOf {R : Type 0} (scope : Scope) (u : UnitRecord) (v : UnitEntries R)
     : Type 0 where
   pub view : IsViewOf scope.file.sections u v.view
-  pub functions : IfSome (verdict scope.file.sections u (kept_answer v)) (λ view. IfOk view (λ x.
+  pub functions : IfSome (verdict scope.file.sections u (cached_answer v)) (λ view. IfOk view (λ x.
       AreFunctionsOf (view_scope scope x) x.unit v.functions))
   pub unread : is_decided v.view.state ≡ false → were_read v.functions ≡ false
 
@@ -44,7 +44,7 @@ pub record AreFresh {R : Type 0} (v : UnitEntries R) : Type 0 where
 
 -- the answer stays, and so does what is cached; more may be
 pub record StayEntries {R : Type 0} (old new : UnitEntries R) : Type 0 where
-  pub answer : kept_answer new ≡ kept_answer old
+  pub answer : cached_answer new ≡ cached_answer old
   pub view : was_looked_at old.view.state ≡ true → new.view ≡ old.view
   pub functions : StayFunctions old.functions new.functions
 
@@ -52,7 +52,7 @@ pub record StayEntries {R : Type 0} (old new : UnitEntries R) : Type 0 where
 -- is found
 abbrev pub has_answered : {R : Type 0} → {X : Type 0} → ℕ → Result X Error → LazyFunctions R → Bool
 has_answered probe (Ok x) functions = cached_has_function probe functions
-has_answered probe (Err e) functions = is_kept e
+has_answered probe (Err e) functions = is_cached_fault e
 
 -- whether what a unit has at the probe is known, by what is cached of its view and its functions:
 -- it waits for an answer, or its view has a fault, or the function at the probe is found
@@ -60,7 +60,7 @@ abbrev pub has_entries_by : {R : Type 0} → ℕ → ViewState R → LazyFunctio
 has_entries_by probe states.Undecided functions = false
 has_entries_by probe states.Open functions = true
 has_entries_by probe states.Main functions = cached_has_function probe functions
-has_entries_by probe (states.Unnamed e) functions = is_kept e
+has_entries_by probe (states.Unnamed e) functions = is_cached_fault e
 has_entries_by probe (states.Answered a) functions = has_answered probe a.unit functions
 
 -- whether what a unit has at the probe is known by what is cached of its entries

@@ -100,15 +100,15 @@ find_takes_memory probe (lazy.Read t) = table_takes_memory probe t
 find_takes_memory probe (lazy.Faulty e) = false
 
 -- whether a fault is one that is cached: any but OutOfMemory
-abbrev pub is_kept : Error → Bool
-is_kept OutOfMemory = false
-is_kept _ = true
+abbrev pub is_cached_fault : Error → Bool
+is_cached_fault OutOfMemory = false
+is_cached_fault _ = true
 
 -- whether what is cached of a function is its detail, or a fault that is cached
 abbrev pub has_detail : Option (Result Detail Error) → Bool
 has_detail None = false
 has_detail (Some (Ok d)) = true
-has_detail (Some (Err e)) = is_kept e
+has_detail (Some (Err e)) = is_cached_fault e
 
 -- the same of the function of a place, if there is one
 abbrev pub has_place : FunctionTable → Option ℕ → Bool
@@ -123,7 +123,7 @@ has_table probe t = has_place t (function_place_at probe t)
 abbrev pub cached_has_function : {R : Type 0} → ℕ → LazyFunctions R → Bool
 cached_has_function probe lazy.Unread = false
 cached_has_function probe (lazy.Read t) = has_table probe t
-cached_has_function probe (lazy.Faulty e) = is_kept e
+cached_has_function probe (lazy.Faulty e) = is_cached_fault e
 
 -- the first fault among the details of functions, by where their entries begin
 abbrev pub details_at : Scope → UnitRecord → List ℕ → Result (Unit {0}) Error

@@ -35,10 +35,10 @@ cached_lines (Read lines) = Some lines
 cached_lines _ = None
 
 -- the cached lines, or their cached fault
-abbrev pub cached_answer : LazyLines → Result (Option Lines) Error
-cached_answer Unread = Ok None
-cached_answer (Read lines) = Ok (Some lines)
-cached_answer (Faulty e) = Err e
+abbrev pub cached_lines_answer : LazyLines → Result (Option Lines) Error
+cached_lines_answer Unread = Ok None
+cached_lines_answer (Read lines) = Ok (Some lines)
+cached_lines_answer (Faulty e) = Err e
 
 -- whether nothing is cached yet
 abbrev pub is_uncached : LazyLines → Bool

@@ -26,7 +26,7 @@ use Rattle.addr2line_units.specs.FramesLookup.{Stop, Waits, Finds, FindsNothing}
 use Rattle.addr2line_units.specs.CachedFunctions.{ArePlacesIn, function_of_place, cached_functions, no_functions}
 use Rattle.addr2line_units.specs.CachedViews.{IsViewOf, is_decided, waits}
 use Rattle.addr2line_units.specs.Parsed.{has_parsed}
-use Rattle.addr2line_units.specs.CachedEntries.{AreEntriesOf, AreFresh, AreRead, ReadsEntriesOf, StayEntries, has_entries, kept_answer}
+use Rattle.addr2line_units.specs.CachedEntries.{AreEntriesOf, AreFresh, AreRead, ReadsEntriesOf, StayEntries, has_entries, cached_answer}
 
 -- beside each unit stands what is cached of its entries, which is its own
 abbrev pub HaveEntriesOf : {R : Type 0} → Scope → List UnitRecord → List (UnitEntries R) → Type 0
@@ -54,7 +54,7 @@ StayAllEntries _ _ = ⊥
 
 -- the first answers of units
 abbrev pub answers_in : {R : Type 0} → List (UnitEntries R) → List (Option (Option Sections))
-answers_in views = map kept_answer views
+answers_in views = map cached_answer views
 
 -- for which units what they have at the probe is known by what is cached of their entries; a number
 -- of no unit asks for none

@@ -76,7 +76,7 @@ is_decided _ = true
 -- what is cached is what the bytes and the first answer give, and only a unit that waited for it
 -- has a first answer
 pub record IsViewOf {R : Type 0} (d : Sections) (u : UnitRecord) (v : UnitView R) : Type 0 where
-  pub right : IfSome (cached_verdict d u v) (λ kept. kept ≡ verdict d u (seen_first_answer v))
+  pub right : IfSome (cached_verdict d u v) (λ cached. cached ≡ verdict d u (seen_first_answer v))
   pub waited : is_some (seen_first_answer v) ≡ true → is_open d u None ≡ true
 
 -- the sections of the split file that an answer's view is in, if it is in one

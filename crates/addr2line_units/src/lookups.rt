@@ -88,7 +88,7 @@ impl<R: Reader> ResUnits<R> {
     }
 
     /// Stores what a lookup has come to, so that its frames can be lent. Takes no memory.
-    pub fn keep_stop(&mut self, stop: FramesStop)
+    pub fn set_stop(&mut self, stop: FramesStop)
         ensures kept { self.new ≡ record self.old { stop = stop } }
     {
         self.stop = stop;

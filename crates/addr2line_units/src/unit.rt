@@ -9,7 +9,7 @@ ghost use Rattle.addr2line_lines.specs.SeenLocation.{seen_location};
 ghost use Rattle.addr2line_units.specs.UnitIndex.{is_partial, is_type_unit, given_in_unit, given_ranges, has_lines, asks_lines, ranged_unit, unit_ranges};
 ghost use Rattle.addr2line_units.specs.Located.{is_found, location_in, looks_in};
 ghost use Rattle.addr2line_units.specs.UnitAranges.{range_in};
-ghost use Rattle.addr2line_units.specs.CachedLines.{AreLinesOf, IsUnparsed, LinesStayCached, CachesAnswer, StaysUnit, cached_answer, cached_files, cached_looks, cached_ranges, cached_row, indexed_unit, lines_answer, cached_lines, is_parsed, is_uncached};
+ghost use Rattle.addr2line_units.specs.CachedLines.{AreLinesOf, IsUnparsed, LinesStayCached, CachesAnswer, StaysUnit, cached_lines_answer, cached_files, cached_looks, cached_ranges, cached_row, indexed_unit, lines_answer, cached_lines, is_parsed, is_uncached};
 ghost use Rattle.addr2line_units.specs.Indexed.{ranged_seen};
 ghost use Rattle.gimli_read.specs.Alike.{HadMemory};
 
@@ -140,12 +140,12 @@ fn parse_lines<R: Reader>(
     dwarf: &Dwarf<R>,
     unit: &Unit<R>,
 ) -> Result<LazyLines, Error>
-    ensures gives { IfOk result (λ l. cached_answer l
+    ensures gives { IfOk result (λ l. cached_lines_answer l
         ≡ lines_answer dwarf.now unit.now) }
     ensures read { IfOk result
         (AreLinesOf dwarf.now unit.now) }
     ensures cached { IfOk result (λ l. is_uncached l ≡ false) }
-    ensures fault { IfOk result (λ l. cached_answer l ≢ Err OutOfMemory) }
+    ensures fault { IfOk result (λ l. cached_lines_answer l ≢ Err OutOfMemory) }
     ensures refused { IfErr result (λ e. e ≡ OutOfMemory) }
 {
     match Lines::parse(alloc, dwarf, unit) {
@@ -157,7 +157,7 @@ fn parse_lines<R: Reader>(
 
 // The cached fault, if there is one.
 fn check_lines(lines: &LazyLines) -> Result<(), Error>
-    ensures gives { Exactly (λ _. cached_lines lines.now) result (cached_answer lines.now) }
+    ensures gives { Exactly (λ _. cached_lines lines.now) result (cached_lines_answer lines.now) }
 {
     match lines {
         LazyLines::Faulty(error) => Err(*error),
@@ -213,12 +213,12 @@ impl ResUnit {
         dw_unit: &Unit<R>,
     ) -> Result<(), Error>
         requires read { AreLinesOf dwarf.now dw_unit.now self.old.lines }
-        ensures gives { OnOk result (cached_answer self.new.lines
+        ensures gives { OnOk result (cached_lines_answer self.new.lines
             ≡ lines_answer dwarf.now dw_unit.now) }
         ensures exact { is_uncached self.old.lines ≡ false → result ≡ Ok tt }
         ensures cached { OnOk result (is_uncached self.new.lines ≡ false) }
         ensures fault { is_uncached self.old.lines ≡ true → OnOk result
-            (cached_answer self.new.lines ≢ Err OutOfMemory) }
+            (cached_lines_answer self.new.lines ≢ Err OutOfMemory) }
         ensures stays { LinesStayCached self.old.lines self.new.lines }
         ensures refused { IfErr result (λ e. e ≡ OutOfMemory) }
         ensures memory { OnErr result (self.new.lines ≡ self.old.lines) }

@@ -6,11 +6,11 @@
 //! thousand addresses are looked up, or a million more.
 #![tactic(auto)]
 
+mod cached;
 mod checksum;
-mod kept;
 
+use crate::cached::cached_checksum;
 use crate::checksum::checksum_of;
-use crate::kept::kept_checksum;
 use bytes::Bytes;
 use gimli_read::{EndianBytes, EndianSlice, Error, RunTimeEndian};
 use std::alloc::Global;
@@ -40,7 +40,7 @@ fn sum_of(alloc: Global, mode: &str, bytes: Vec<u8>) -> Option<Result<u64, Error
         _ => return None,
     };
     let mut input = EndianSlice::new(&bytes, RunTimeEndian::Little);
-    Some(kept_checksum(alloc, &mut input, lookups))
+    Some(cached_checksum(alloc, &mut input, lookups))
 }
 
 // The checksum of the file that the words name, in the mode that they name; none for other words.

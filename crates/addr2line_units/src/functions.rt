@@ -15,10 +15,9 @@ ghost use Rattle.addr2line_units.specs.KnownEntries.{known_functions};
 ghost use Rattle.gimli_read.specs.Alike.{HadMemory};
 ghost use Rattle.addr2line_units.specs.UnitFrames.{is_many};
 
-use addr2line_lines::{Functions, Scope};
+use addr2line_lines::{Functions, InlinedChain, Scope};
 use gimli::read::{Error, Reader};
 use gimli::{Unit, UnitRef};
-use smallvec::SmallVec;
 use std::alloc::Global;
 
 // What is cached of the functions of a view.
@@ -37,7 +36,7 @@ pub(crate) enum LazyFunctions<R: Reader> {
 #[derive(Drop)]
 pub(crate) struct FunctionPlace {
     pub(crate) place: usize,
-    pub(crate) inlined: SmallVec<usize, 16>,
+    pub(crate) inlined: InlinedChain,
 }
 
 // The functions of a view, or their fault, as they are cached. Refused `OutOfMemory` alone.

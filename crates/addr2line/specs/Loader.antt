@@ -87,8 +87,8 @@ abbrev pub AnswersInTurn : ℕ → ContextState → ContextState → Type 0
 AnswersInTurn probe old new = (given : List Given)
     × (new.answers ≡ answers_given End old.sections probe old.answers given)
 
--- nothing was read but what a lookup of the probe asks for by the first answers that are left: lines
--- of units, and their entries
+-- nothing was read but what a lookup of the probe asks for by the first answers that are left:
+-- lines of units, and their entries
 pub record ReadsAsked (probe : ℕ) (old new : ContextState) : Type 0 where
   pub lines : ParsesAsked End probe new old new
   pub entries : LearnsAsked End probe new old new
@@ -114,8 +114,8 @@ ended_frames_of c probe = stop_frames (lookup_stop End c.sections c.answers prob
 -- the main file are the same, and nothing was read but what it asks for; once it has ended, at a
 -- fault too, each unit that it came to is decided, all is known that it asks for, and its answer is
 -- that of the first answers which are left, whatever the files are. A path that isn't UTF-8 leaves
--- the unit open that it came to. Memory is refused only where it waits, something is left to read, or
--- more than 16 inlined functions stand there
+-- the unit open that it came to. Memory is refused only where it waits, something is left to read,
+-- or more than 16 inlined functions stand there
 pub record AfterLoads {X : Type 0} (see : X → List FrameRecord) (probe : ℕ) (result : Loading X)
     (old new : LoaderState) : Type 0 where
   pub files : new.files ≡ old.files

@@ -31,8 +31,8 @@ fn read_answer<F: FileSource>(
 ) -> Result<Option<Rc<Dwarf<EndianBytes>>>, LoaderError>
     requires waits { lookup_stop End ctx.now.sections ctx.now.answers probe ≡ Ok (Waits number) }
     requires known { IsKnown End ctx.now probe }
-    ensures gives { IfOk result (λ given. IsAnswerByFiles (F.files files.now) ctx.now.sections number
-        (option_map (λ d. d.value) given)) }
+    ensures gives { IfOk result (λ given. IsAnswerByFiles (F.files files.now) ctx.now.sections
+        number (option_map (λ d. d.value) given)) }
     ensures refused { IfErr result (IsFaultByFiles (F.files files.now) ctx.now probe) }
     ensures stays_open { IfErr result LeavesOpen }
 {

@@ -194,9 +194,9 @@ fn run_over<L: Lookups + Drop, I: Input, W: Stream, E: Stream>(
 
 /// Prints what is asked of a file, or why its debug information can't be loaded.
 ///
-/// What goes to `out` is the joined texts of what is asked for, each with a flush, or a beginning of
-/// them after a failed write or a refused growth; then the last line on standard error says so, but
-/// for a broken pipe. All of each fault's line goes to `err`, unless that has failed.
+/// What goes to `out` is the joined texts of what is asked for, each with a flush, or a beginning
+/// of them after a failed write or a refused growth; then the last line on standard error says so,
+/// but for a broken pipe. All of each fault's line goes to `err`, unless that has failed.
 pub fn run<L: Lookups + Drop, I: Input, W: Stream, E: Stream>(
     alloc: Global,
     options: &Options,

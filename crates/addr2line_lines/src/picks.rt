@@ -12,8 +12,7 @@ use gimli::read::{Error, Range};
 use smallvec::SmallVec;
 use std::alloc::Global;
 
-/// The places of the inlined functions at an address among the inlined functions of a view, from the
-/// outside in. Up to 16 take no memory.
+/// The places of the inlined functions at an address, the outermost first. Up to 16 need no memory.
 pub type InlinedChain = SmallVec<usize, 16>;
 
 /// A range of an inlined function.

@@ -16,5 +16,6 @@ pub mod FileSections
 pub mod SplitFiles
 pub mod Loaded
 pub mod FramesByFiles
+pub mod LoadsByFiles
 pub mod Loader
 pub mod BorrowedLoader

@@ -17,7 +17,8 @@ ghost use Rattle.addr2line_units.specs.LocationsLeft.{locations_left};
 ghost use Rattle.addr2line.specs.Context.{IsReady, IsReadyForRange};
 ghost use Rattle.addr2line.specs.FramesByFiles.{frames_by_files};
 ghost use Rattle.addr2line.specs.Loaded.{AreSectionsOf, AreSupOfBytes, IsFileOfBytes, IsLoaded, as_sup, context_at, dwarf_at, loaded, main_with_sup, object_at, sup_at};
-ghost use Rattle.addr2line.specs.Loader.{AfterLoads, AfterLocation, AfterLocationRange, WaitsForNone, ended_frames_of, seen_loader};
+ghost use Rattle.addr2line.specs.Loader.{AfterLoads, AfterLocation, AfterLocationRange, seen_loader};
+ghost use Rattle.addr2line.specs.LoadsByFiles.{WaitsForNone, ended_frames_of};
 ghost use Rattle.addr2line.specs.Lookups.{IsKnownFew};
 ghost use Rattle.addr2line.specs.SplitFiles.{of_file};
 

@@ -1,7 +1,6 @@
 //! A run over a file: what is asked for, printed.
 
 ghost use Rattle.std.specs.Prelude.{◌≡◌, map, Ok, Err, Option, Some, option_map, string_bytes};
-ghost use Rattle.elf.specs.declared.error.LoaderError.TheVariants.{OutOfMemory};
 ghost use Rattle.addr2line_bin.specs.Printing.{PrintsRun};
 ghost use Rattle.addr2line_bin.specs.ProbeTexts.{IsText};
 ghost use Rattle.addr2line_bin.specs.ProgramRun.{IsRun, IsSetup, PrintsAllRows, PrintsAsked};
@@ -10,7 +9,6 @@ ghost use Rattle.addr2line_bin.specs.Put.{Reports};
 ghost use Rattle.addr2line_bin.specs.Address.{probes_in};
 ghost use Rattle.addr2line_bin.specs.Told.{addresses_fault_text, section_fault_text};
 ghost use Rattle.addr2line_bin.specs.declared.engine.Exit.TheVariants as exit;
-ghost use Rattle.addr2line_lines.specs.Rows.{result_map};
 ghost use Rattle.std.specs.Result.{result_map_both};
 
 use crate::all_addresses::all_addresses;

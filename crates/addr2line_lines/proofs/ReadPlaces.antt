@@ -7,7 +7,7 @@ use Rattle.gimli_read.specs.declared.error.Error.{Error}
 use Rattle.gimli.specs.Unit.{UnitRecord}
 use Rattle.addr2line_lines.specs.declared.functions.LazyFunction.{LazyFunction}
 use Rattle.addr2line_lines.specs.Details.{Detail}
-use Rattle.addr2line_lines.specs.FunctionCache.{seen_function, seen_lazy}
+use Rattle.addr2line_lines.specs.FunctionCache.{seen_function}
 use Rattle.gimli_line.specs.Opcode.{fault_of}
 use Rattle.addr2line_lines.specs.FunctionTable.{CachedFunction, FunctionTable, IsReadAt, IsReadOf, IsReadOnce, read_fault}
 use Rattle.addr2line_lines.specs.CachedDetails.{CachedDetails}

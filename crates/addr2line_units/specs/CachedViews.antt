@@ -4,7 +4,6 @@
 use Rattle.std.specs.Prelude.{◌≡◌, Bool, true, false, [], is_some, Option, Some, None, option_map, IfSome, Result, Ok, Err}
 use Rattle.gimli_read.specs.declared.error.Error.{Error}
 use Rattle.gimli_read.specs.Reading.{◌>>=◌}
-use Rattle.gimli_read.specs.Section.{Section}
 use Rattle.gimli.specs.Sections.{Sections}
 use Rattle.gimli.specs.Split.{relocated}
 use Rattle.gimli.specs.Unit.{UnitRecord}

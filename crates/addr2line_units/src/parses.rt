@@ -1,6 +1,6 @@
 //! Parses of the functions of all units.
 
-ghost use Rattle.std.specs.Prelude.{◌≡◌, ◌⊎◌, ◌<◌, ℕ, IfSome, None, Ok, OnOk, false, length, slice_get, true};
+ghost use Rattle.std.specs.Prelude.{◌≡◌, ◌⊎◌, ◌<◌, ℕ, IfSome, None, Ok, OnOk, length, slice_get, true};
 ghost use Rattle.gimli_read.specs.Reading.{ExactlyUnlessOom};
 ghost use Rattle.addr2line_lines.specs.References.{IsScope};
 ghost use Rattle.addr2line_lines.specs.SeenScope.{seen_scope};

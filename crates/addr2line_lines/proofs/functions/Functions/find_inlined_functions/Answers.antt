@@ -1,4 +1,4 @@
-use Rattle.std.proofs.Common.{◌≡◌, ◌<◌, List, [], Ok, IfOk, length, map, nat_lt, ap, sym, subst, ◌∙◌}
+use Rattle.std.proofs.Common.{◌≡◌, ◌<◌, List, [], Ok, IfOk, length, map, ap, sym, subst, ◌∙◌}
 use Rattle.std.specs.List.{AllByRecursion}
 use Rattle.gimli_read.specs.Reading.{ExactlyUnlessOomIf}
 use Rattle.addr2line_lines.specs.Details.{InlinedRange, inlined_chain}

@@ -17,7 +17,7 @@ use Rattle.addr2line_units.proofs.FramesLookupLemmas.{parses_more}
 use Rattle.addr2line.proofs.StayLemmas.{known_twice}
 use Rattle.addr2line.specs.declared.stops.UnitStop.TheVariants as units
 use Rattle.addr2line.specs.Context.{ContextState}
-use Rattle.addr2line.specs.KeptStops.{by_number, unit_stop}
+use Rattle.addr2line.specs.UnitStops.{by_number, unit_stop}
 use Rattle.addr2line.specs.Lookups.{AfterFrames, FirstAnswers, lookup_stop}
 
 module _ (faults : Faults) (probe : ℕ) (old mid new : ContextState) where

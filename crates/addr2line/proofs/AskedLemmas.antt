@@ -1,4 +1,5 @@
--- What was asked for by a lookup that waits is asked for after an answer (on specs/Loader.antt).
+-- What was asked for by a lookup that waits is asked for after an answer (on
+-- specs/LoadsByFiles.antt).
 use Rattle.std.proofs.Common.{◌≡◌, ◌≢◌, ◌⊎◌, inl, inr, ℕ, Bool, true, false, ◌&&◌, not, List, [], ◌∷◌, slice_get, Option, Some, None, Result, Ok, Err, refl, sym, ap, subst, ◌∙◌}
 use Rattle.std.proofs.lemmas.Bool.Decides.{eqb_tells}
 use Rattle.std.specs.Prelude.{is_ok}
@@ -22,7 +23,7 @@ use Rattle.addr2line_units.proofs.WaitLemmas.{same_number}
 use Rattle.addr2line.proofs.FilesLookupLemmas.{Awaits, awaits_in, other_now, same_asked}
 use Rattle.addr2line.specs.Answers.{AfterAnswer, answered}
 use Rattle.addr2line.specs.Context.{ContextState}
-use Rattle.addr2line.specs.Loader.{ReadsAsked}
+use Rattle.addr2line.specs.LoadsByFiles.{ReadsAsked}
 use Rattle.addr2line.specs.Lookups.{AfterFrames, FirstAnswers, IsLoadOf, asked_of, lookup_stop, stop_in}
 
 abbrev Reading : Type 0

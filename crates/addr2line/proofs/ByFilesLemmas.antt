@@ -1,4 +1,5 @@
--- Loads that files answer, one after another (on specs/Loader.antt and specs/FramesByFiles.antt).
+-- Loads that files answer, one after another (on specs/LoadsByFiles.antt, specs/Loader.antt and
+-- specs/FramesByFiles.antt).
 use Rattle.std.proofs.Common.{◌≡◌, ◌≢◌, ◌<◌, ◌≤◌, inl, inr, ℕ, List, [], ◌∷◌, ◌++◌, length, Option, Some, None, Result, Ok, Err, false, arith, true, refl, sym, ap, subst, ◌∙◌}
 use Rattle.std.proofs.lemmas.Bool.Decides.{eqb_tells}
 use Rattle.std.proofs.lemmas.List.{append_assoc}
@@ -22,8 +23,9 @@ use Rattle.addr2line.specs.Context.{ContextState}
 use Rattle.addr2line.specs.Files.{Files}
 use Rattle.addr2line.specs.FramesByFiles.{frames_by_files, stop_frames}
 use Rattle.addr2line.specs.History.{Given, Gives}
-use Rattle.addr2line.specs.KeptStops.{by_number, unit_stop}
-use Rattle.addr2line.specs.Loader.{AfterAnswers, AfterLoads, AnswersInTurn, AnswersOne, IsFaultByFiles, LoaderState, ReadsAsked, StayAnswered, WaitsForNone, ended_frames_of}
+use Rattle.addr2line.specs.UnitStops.{by_number, unit_stop}
+use Rattle.addr2line.specs.Loader.{AfterLoads, LoaderState}
+use Rattle.addr2line.specs.LoadsByFiles.{AfterAnswers, AnswersInTurn, AnswersOne, IsFaultByFiles, ReadsAsked, StayAnswered, WaitsForNone, ended_frames_of}
 use Rattle.addr2line.specs.Lookups.{AfterFrames, FirstAnswers, IsKnownFew, IsLoadOf, frames_of, frames_told, loads_at, lookup_stop}
 use Rattle.addr2line.specs.SplitFiles.{given_by_files}
 use Rattle.addr2line.proofs.AskedLemmas.{reads_more, reads_nothing}

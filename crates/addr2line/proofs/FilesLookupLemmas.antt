@@ -1,4 +1,5 @@
--- Lookups of frames where files answer loads (on specs/FramesByFiles.antt and specs/Loader.antt).
+-- Lookups of frames where files answer loads (on specs/FramesByFiles.antt and
+-- specs/LoadsByFiles.antt).
 use Rattle.std.proofs.Common.{◌≡◌, ◌≢◌, ◌⊎◌, inl, inr, ℕ, zero, suc, ◌<◌, arith, Bool, true, false, List, [], ◌∷◌, length, slice_get, Option, Some, None, option_map, Result, Ok, Err, refl, sym, ap, subst, ◌∙◌}
 use Rattle.std.proofs.lemmas.Bool.Decides.{eqb_tells}
 use Rattle.std.proofs.lemmas.Option.{slice_get-map}
@@ -27,7 +28,7 @@ use Rattle.addr2line_units.proofs.WaitLemmas.{same_number}
 use Rattle.addr2line.proofs.SkipLemmas.{decided_stop_along}
 use Rattle.addr2line.specs.Answers.{answered}
 use Rattle.addr2line.specs.FramesByFiles.{GivesAnswers, answer_by, first_frames, frames_by_answers, frames_in_units, frames_of_unit, frames_or_fault, frames_with, or_rest, stop_frames}
-use Rattle.addr2line.specs.Loader.{StayAnswered}
+use Rattle.addr2line.specs.LoadsByFiles.{StayAnswered}
 use Rattle.addr2line.specs.Lookups.{FirstAnswers, IsLoadOf, loads_at, lookup_stop, stop_in}
 use Rattle.addr2line.specs.SplitFiles.{of_file}
 

@@ -11,7 +11,8 @@ use Rattle.elf.specs.ObjectFile.{ObjectFile}
 use Rattle.elf.specs.Text.{loader_error_of}
 use Rattle.addr2line.specs.Context.{ContextState}
 use Rattle.addr2line.specs.Files.{Files}
-use Rattle.addr2line.specs.Loader.{AfterContext, LeavesOpen}
+use Rattle.addr2line.specs.Loader.{AfterContext}
+use Rattle.addr2line.specs.LoadsByFiles.{LeavesOpen}
 use Rattle.addr2line.specs.SplitFiles.{of_file}
 
 -- whatever takes memory

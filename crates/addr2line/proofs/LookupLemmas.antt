@@ -1,4 +1,4 @@
--- What a lookup of frames comes to in a context, by what is kept (on specs/Lookups.antt).
+-- What a lookup of frames comes to in a context, by what is cached (on specs/Lookups.antt).
 use Rattle.std.proofs.Common.{◌≡◌, ◌≢◌, ◌⊎◌, inl, inr, ℕ, zero, suc, arith, length, ◌<◌, ◌≤◌, ◌&&◌, ◌||◌, Bool, true, false, not, List, [], ◌∷◌, slice_get, Option, Some, None, option_map, Result, Ok, Err, refl, sym, ap, subst, ◌∙◌}
 use Rattle.std.specs.Prelude.{IfErr, IfOk, IfSome}
 use Rattle.gimli_read.specs.declared.error.Error.{Error}
@@ -37,7 +37,7 @@ use Rattle.addr2line.proofs.StayLemmas.{stays_known}
 use Rattle.addr2line.specs.Context.{ContextState, IsContext, index_by}
 use Rattle.addr2line.specs.declared.stops.UnitStop.{UnitStop}
 use Rattle.addr2line.specs.declared.stops.UnitStop.TheVariants as units
-use Rattle.addr2line.specs.KeptStops.{by_number, kept_by_number, unit_stop}
+use Rattle.addr2line.specs.UnitStops.{by_number, unit_stop_of, unit_stop}
 use Rattle.addr2line.specs.Lookups.{AfterFrames, FirstAnswers, IsKnown, IsKnownFew, IsLoadOf, frames_told, has_all_of, has_few_of, lookup_stop, stop_in, unit_of, unit_told}
 
 -- along ranges what is equal of each number
@@ -256,13 +256,13 @@ module _ {R : Type 0} where
 
 -- what a lookup comes to by number
 module _ {R : Type 0} (units : List ResUnit) (views : List (UnitEntries R)) where
-  seen_by_number : (stop : FramesStop) → by_number (seen_stop units views stop) ≡ kept_by_number stop
+  seen_by_number : (stop : FramesStop) → by_number (seen_stop units views stop) ≡ unit_stop_of stop
   seen_by_number (stops.Waits n) = refl
   seen_by_number (stops.Finds p) = refl
   seen_by_number stops.FindsNothing = refl
 
   pub stop_told : (r : Result FramesStop Error) (given : Result Stop Error) → ExactlyUnlessOom (seen_stop units views) r given
-      → ExactlyUnlessOom (λ s. s) (r >>= λ s. Ok (kept_by_number s)) (given >>= λ s. Ok (by_number s))
+      → ExactlyUnlessOom (λ s. s) (r >>= λ s. Ok (unit_stop_of s)) (given >>= λ s. Ok (by_number s))
   stop_told (Ok stop) given h = ap (λ r. r >>= λ s. Ok (by_number s)) h ∙ ap (λ s. Ok s) (seen_by_number stop)
   stop_told (Err e) given h = λ ne. ap (λ r. r >>= λ s. Ok (by_number s)) (h ne)
 

@@ -1,4 +1,4 @@
--- Lookups by files that answer no load (on specs/Loader.antt).
+-- Lookups by files that answer no load (on specs/LoadsByFiles.antt).
 use Rattle.std.proofs.Common.{◌≡◌, ◌≢◌, ◌&&◌, ◌||◌, ℕ, Bool, true, false, not, List, [], ◌∷◌, Option, Some, Result, Ok, Err, refl, sym, ap, subst, ◌∙◌}
 use Rattle.gimli_read.specs.declared.error.Error.{Error}
 use Rattle.gimli_read.specs.Reading.{◌>>=◌}
@@ -18,8 +18,8 @@ use Rattle.addr2line_units.specs.UnitIndex.{UnitIndex, index_units}
 use Rattle.addr2line.specs.Context.{ContextState, IsUncovered}
 use Rattle.addr2line.specs.Files.{Files}
 use Rattle.addr2line.specs.FramesByFiles.{stop_frames}
-use Rattle.addr2line.specs.KeptStops.{unit_stop}
-use Rattle.addr2line.specs.Loader.{AfterAnswers, AnswersInTurn, WaitsForNone, ended_frames_of}
+use Rattle.addr2line.specs.UnitStops.{unit_stop}
+use Rattle.addr2line.specs.LoadsByFiles.{AfterAnswers, AnswersInTurn, WaitsForNone, ended_frames_of}
 use Rattle.addr2line.specs.Lookups.{AfterFrames, FirstAnswers, IsKnownFew, StaysKnown, asked_of, frames_of, has_few_of, lookup_stop, stop_in}
 use Rattle.addr2line.proofs.ByFilesLemmas.{failed_stop, failed_told, found_told, looked_memory, still_ended}
 use Rattle.addr2line.proofs.HistoryLemmas.{given_ended}

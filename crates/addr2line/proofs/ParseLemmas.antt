@@ -15,7 +15,7 @@ use Rattle.addr2line_units.specs.declared.parses.Reads.TheVariants as kinds
 use Rattle.addr2line_units.specs.declared.unit_frames.UnitEntries.{UnitEntries}
 use Rattle.addr2line_units.specs.declared.view.ViewState.{ViewState}
 use Rattle.addr2line_units.specs.declared.view.ViewState.TheVariants as states
-use Rattle.addr2line_units.specs.CachedFunctions.{is_kept}
+use Rattle.addr2line_units.specs.CachedFunctions.{is_cached_fault}
 use Rattle.addr2line_units.specs.CachedLookups.{HaveEntriesOf, answers_in, decided_at, has_entries_at}
 use Rattle.addr2line_units.specs.FramesLookup.{answer_of}
 use Rattle.addr2line_units.specs.CachedViews.{answer_in, is_decided}
@@ -49,7 +49,7 @@ module _ {R : Type 0} where
   read_view reads (states.Unnamed x) f e h = absurd cc
   read_view reads (states.Answered a) f e h = read_answer reads a.unit f e h
 
-  -- what is kept is known
+  -- what is cached is known
   all_read : (reads : Reads) (vs : List (UnitEntries R)) → HaveRead reads vs → AllByRecursion (IsReadBy reads) (known_in vs)
   all_read reads [] h = tt
   all_read reads (v ∷ vs) h = (read_view reads v.view.state v.functions h.0.view h.0.functions, all_read reads vs h.1)
@@ -60,26 +60,26 @@ module _ {R : Type 0} where
 
   cached_functions : (reads : Reads) (f : LazyFunctions R) → IsReadBy reads (known_functions f) → HaveFunctions reads f
   cached_functions reads lazy.Unread h = absurd h
-  cached_functions reads (lazy.Faulty e) h = absurd (never_fault reads (is_kept e) h)
+  cached_functions reads (lazy.Faulty e) h = absurd (never_fault reads (is_cached_fault e) h)
   cached_functions kinds.Functions (lazy.Read t) h = tt
   cached_functions kinds.Details (lazy.Read t) h = h
 
-  kept_in_answer : {X : Type 0} (reads : Reads) (r : Result X Error) (f : LazyFunctions R) → IsReadBy reads (known_answer r f) → (is_ok r ≡ true) × HaveFunctions reads f
-  kept_in_answer reads (Ok x) f h = (refl, cached_functions reads f h)
-  kept_in_answer reads (Err e) f h = absurd (never_fault reads (is_kept e) h)
+  cached_in_answer : {X : Type 0} (reads : Reads) (r : Result X Error) (f : LazyFunctions R) → IsReadBy reads (known_answer r f) → (is_ok r ≡ true) × HaveFunctions reads f
+  cached_in_answer reads (Ok x) f h = (refl, cached_functions reads f h)
+  cached_in_answer reads (Err e) f h = absurd (never_fault reads (is_cached_fault e) h)
 
-  kept_view : (reads : Reads) (s : ViewState R) (f : LazyFunctions R) → IsReadBy reads (known_by s f) → (has_view s ≡ true) × HaveFunctions reads f
-  kept_view reads states.Undecided f h = absurd h
-  kept_view reads states.Open f h = absurd h
-  kept_view reads states.Main f h = (refl, cached_functions reads f h)
-  kept_view reads (states.Unnamed e) f h = absurd (never_fault reads (is_kept e) h)
-  kept_view reads (states.Answered a) f h = kept_in_answer reads a.unit f h
+  cached_view : (reads : Reads) (s : ViewState R) (f : LazyFunctions R) → IsReadBy reads (known_by s f) → (has_view s ≡ true) × HaveFunctions reads f
+  cached_view reads states.Undecided f h = absurd h
+  cached_view reads states.Open f h = absurd h
+  cached_view reads states.Main f h = (refl, cached_functions reads f h)
+  cached_view reads (states.Unnamed e) f h = absurd (never_fault reads (is_cached_fault e) h)
+  cached_view reads (states.Answered a) f h = cached_in_answer reads a.unit f h
 
-  -- what is known is kept
+  -- what is known is cached
   pub read_before : (reads : Reads) (vs : List (UnitEntries R)) → AllByRecursion (IsReadBy reads) (known_in vs) → HaveRead reads vs
   read_before reads [] h = tt
   read_before reads (v ∷ vs) h =
-      let k = kept_view reads v.view.state v.functions h.0 in
+      let k = cached_view reads v.view.state v.functions h.0 in
       (record { view = k.0; functions = k.1 }, read_before reads vs h.1)
 
   -- what is known of units that aren't open stays

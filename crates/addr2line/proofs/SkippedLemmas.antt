@@ -13,7 +13,7 @@ use Rattle.addr2line.specs.declared.stops.UnitStop.TheVariants as units
 use Rattle.addr2line.specs.Answers.{AfterAnswer, answered}
 use Rattle.addr2line.specs.Context.{ContextState}
 use Rattle.addr2line.specs.History.{Given, Gives, answers_given}
-use Rattle.addr2line.specs.KeptStops.{by_number, unit_stop}
+use Rattle.addr2line.specs.UnitStops.{by_number, unit_stop}
 use Rattle.addr2line.specs.Lookups.{AfterFrames, IsKnown, loads_at, lookup_stop, waits_for}
 use Rattle.addr2line.specs.Skips.{AfterSkip, found_stop, nones, skipped_answers}
 

@@ -98,7 +98,7 @@ module _ {R : Type 0} where
   all_whole r (v ∷ vs) (w ∷ ws) a zero h = entries_whole r v w a.0 h
   all_whole r (v ∷ vs) (w ∷ ws) a (suc n) h = all_whole r vs ws a.1 n h
 
-  -- where what is kept stays, so does what is known
+  -- where what is cached stays, so does what is known
   pub stays_known : (vs ws : List (UnitEntries R)) → StayAllEntries vs ws → StaysKnown (known_in vs) (known_in ws)
   stays_known vs ws a n = record {
     at = λ probe e. known_is probe ws n ∙ entries_more_at probe vs ws a n (sym (known_is probe vs n) ∙ e);

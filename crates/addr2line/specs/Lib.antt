@@ -1,7 +1,7 @@
 pub mod Context
 pub mod Borrowed
 pub mod Lookups
-pub mod KeptStops
+pub mod UnitStops
 pub mod Answers
 pub mod Loads
 pub mod Replies
@@ -16,5 +16,6 @@ pub mod FileSections
 pub mod SplitFiles
 pub mod Loaded
 pub mod FramesByFiles
+pub mod LoadsByFiles
 pub mod Loader
 pub mod BorrowedLoader

@@ -1,29 +1,21 @@
 -- A loader as callers see it: the files that it reads, its main file, and the context of its
 -- sections.
 -- Own: a lookup gives the frames that the files say at that call, whichever lookups were made
--- before; the first answer of a unit stays, so a file counts that was there when its unit was first
--- looked up.
-use Rattle.std.specs.Prelude.{◌≡◌, ◌≢◌, ◌≤◌, ◌⊎◌, ℕ, false, true, List, Option, Some, IfErr, IfSome, Result, Ok, Err}
+-- before.
+use Rattle.std.specs.Prelude.{◌≡◌, ◌≢◌, ℕ, List, Option, IfErr, Result}
 use Rattle.gimli_read.specs.declared.error.Error.{Error}
 use Rattle.gimli_read.specs.Reading.{Exactly}
-use Rattle.gimli.specs.Sections.{Sections}
-use Rattle.elf.specs.declared.error.LoaderError.{LoaderError}
 use Rattle.elf.specs.declared.error.LoaderError.TheVariants.{OutOfMemory, PathNotUtf8}
 use Rattle.elf.specs.Loading.{Loading}
 use Rattle.elf.specs.ObjectFile.{ObjectFile}
 use Rattle.addr2line_units.specs.declared.frames_lookup.Faults.TheVariants.{End}
 use Rattle.addr2line_units.specs.Frames.{FrameRecord}
-use Rattle.addr2line_units.specs.FramesLookup.{answer_of, is_waiting}
-use Rattle.addr2line_units.specs.Parsed.{StaysParsed}
-use Rattle.addr2line_units.specs.Views.{SplitLoad}
 use Rattle.addr2line.specs.declared.loader.LoaderOver.{LoaderOver}
-use Rattle.addr2line.specs.Answers.{answered}
 use Rattle.addr2line.specs.Context.{AfterLookup, AfterRangeLookup, ContextState}
 use Rattle.addr2line.specs.Files.{Files}
-use Rattle.addr2line.specs.FramesByFiles.{frames_by_files, stop_frames}
-use Rattle.addr2line.specs.History.{Given, answers_given}
-use Rattle.addr2line.specs.Lookups.{FirstAnswers, IsKnown, IsLoadOf, IsKnownFew, LearnsAsked, ParsesAsked, StaysKnownOf, lookup_stop}
-use Rattle.addr2line.specs.SplitFiles.{given_by_files, of_file}
+use Rattle.addr2line.specs.LoadsByFiles.{AfterAnswers, AnswersInTurn, HasEnded, ReadsAsked, WaitsForNone, WaitsForOne, ended_frames_of}
+use Rattle.addr2line.specs.Lookups.{IsKnown, IsKnownFew}
+use Rattle.addr2line.specs.SplitFiles.{of_file}
 
 -- the files, where they are known, the main file, and the context
 pub record LoaderState : Type 0 where
@@ -35,87 +27,12 @@ pub record LoaderState : Type 0 where
 abbrev pub seen_loader : {F : Type 0} → (F → Option Files) → LoaderOver F → LoaderState
 seen_loader files l = record { files = files l.files; object = l.object; context = l.context }
 
--- first answers stay
-abbrev pub StayAnswered : FirstAnswers → FirstAnswers → Type 0
-StayAnswered old new = (n : ℕ) (answer : Option Sections) → answer_of old n ≡ Some answer
-    → answer_of new n ≡ Some answer
-
--- where files answer loads, all lookups of frames give the same
-abbrev pub GivesSameFrames : Files → ContextState → ContextState → Type 0
-GivesSameFrames files old new = (probe : ℕ) → frames_by_files files new.sections new.answers probe
-    ≡ frames_by_files files old.sections old.answers probe
-
--- a lookup of the probe waits for no answer
-abbrev pub WaitsForNone : ContextState → ℕ → Type 0
-WaitsForNone c probe = is_waiting (lookup_stop End c.sections c.answers probe) ≡ false
-
--- a lookup of the probe waits for an answer
-abbrev pub WaitsForOne : ContextState → ℕ → Type 0
-WaitsForOne c probe = is_waiting (lookup_stop End c.sections c.answers probe) ≡ true
-
--- a lookup that waits for no answer comes to the same later
-abbrev pub StayEnded : ContextState → ContextState → Type 0
-StayEnded old new = (probe : ℕ) → WaitsForNone old probe
-    → lookup_stop End new.sections new.answers probe
-    ≡ lookup_stop End old.sections old.answers probe
-
--- what was known of each unit stays known that has the first answer that it had
-abbrev pub StayKnownUnanswered : ContextState → ContextState → Type 0
-StayKnownUnanswered old new = (n : ℕ) → answer_of new.answers n ≡ answer_of old.answers n
-    → StaysKnownOf n old.known new.known
-
--- loads of a context were answered by files: the sections are the same, first answers stay, all
--- lookups of frames give the same, those that wait for none whatever the files are, what was parsed
--- of lines stays parsed, and what was known of the units that weren't answered stays known
-pub record AfterAnswers (files : Option Files) (old new : ContextState) : Type 0 where
-  pub sections : new.sections ≡ old.sections
-  pub answers : StayAnswered old.answers new.answers
-  pub frames : IfSome files (λ held. GivesSameFrames held old new)
-  pub ended : StayEnded old new
-  pub parsed : StaysParsed old.parsed new.parsed
-  pub known : StayKnownUnanswered old new
-  pub raised : old.looks ≤ new.looks
-
--- the unit of a number was answered, or nothing was
-abbrev pub AnswersOne : ℕ → ContextState → ContextState → Type 0
-AnswersOne n old new = (new.answers ≡ old.answers) ⊎ ((given : Option Sections)
-    × (new.answers ≡ answered old.sections old.answers n given))
-
--- a lookup of the probe was given answers in turn, each for the unit that it waited for by then; no
--- other unit was answered
-abbrev pub AnswersInTurn : ℕ → ContextState → ContextState → Type 0
-AnswersInTurn probe old new = (given : List Given)
-    × (new.answers ≡ answers_given End old.sections probe old.answers given)
-
--- nothing was read but what a lookup of the probe asks for by the first answers that are left: lines
--- of units, and their entries
-pub record ReadsAsked (probe : ℕ) (old new : ContextState) : Type 0 where
-  pub lines : ParsesAsked End probe new old new
-  pub entries : LearnsAsked End probe new old new
-
--- a refusal that leaves the unit open whose load it refuses
-abbrev pub LeavesOpen : LoaderError → Type 0
-LeavesOpen e = (e ≡ OutOfMemory) ⊎ (e ≡ PathNotUtf8)
-
--- a refusal that ends a lookup: the fault of a unit, and none of these
-abbrev pub IsUnitFault : LoaderError → Type 0
-IsUnitFault e = (e ≢ OutOfMemory) × (e ≢ PathNotUtf8)
-
--- any answer that ends a lookup: frames, or the fault of a unit
-abbrev pub HasEnded : {X : Type 0} → Loading X → Type 0
-HasEnded (Ok x) = Unit {0}
-HasEnded (Err e) = IsUnitFault e
-
--- the frames of a lookup that waits for no answer, whatever the files are, or its fault
-abbrev pub ended_frames_of : ContextState → ℕ → Loading (List FrameRecord)
-ended_frames_of c probe = stop_frames (lookup_stop End c.sections c.answers probe)
-
 -- a lookup of frames at the probe has answered the loads that it came to by files: the files and
 -- the main file are the same, and nothing was read but what it asks for; once it has ended, at a
 -- fault too, each unit that it came to is decided, all is known that it asks for, and its answer is
 -- that of the first answers which are left, whatever the files are. A path that isn't UTF-8 leaves
--- the unit open that it came to. Memory is refused only where it waits, something is left to read, or
--- more than 16 inlined functions stand there
+-- the unit open that it came to. Memory is refused only where it waits, something is left to read,
+-- or more than 16 inlined functions stand there
 pub record AfterLoads {X : Type 0} (see : X → List FrameRecord) (probe : ℕ) (result : Loading X)
     (old new : LoaderState) : Type 0 where
   pub files : new.files ≡ old.files
@@ -150,13 +67,3 @@ abbrev pub AfterLocationRange : {X : Type 0} → ℕ → ℕ → Loading X → L
     → Type 0
 AfterLocationRange low high result old new =
     AfterContext (AfterRangeLookup low high) result old new
-
--- this is what the files, where they are known, answer to the load of the unit of a number
-abbrev pub IsAnswerByFiles : Option Files → Sections → ℕ → Option Sections → Type 0
-IsAnswerByFiles files d n given = (load : SplitLoad) × IsLoadOf d n load
-    × IfSome files (λ held. given_by_files held load ≡ Ok given)
-
--- where the files are known, the refusal is the fault of the frames by them, or OutOfMemory
-abbrev pub IsFaultByFiles : Option Files → ContextState → ℕ → LoaderError → Type 0
-IsFaultByFiles files c probe e = IfSome files (λ held. e ≢ OutOfMemory
-    → frames_by_files held c.sections c.answers probe ≡ Err e)

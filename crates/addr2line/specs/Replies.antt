@@ -100,8 +100,8 @@ unit_found_in (Ok (Some found)) = option_map copied_unit found
 unit_found_in found = None
 
 -- the reply of a lookup of a unit that has come to this, with what it has found
-abbrev pub reply_of_unit : Result Stop Error → Result (Option (Option (Sections × UnitRecord))) Error
-    → CopiedReply
+abbrev pub reply_of_unit : Result Stop Error
+    → Result (Option (Option (Sections × UnitRecord))) Error → CopiedReply
 reply_of_unit (Ok (Waits n)) found = SuspendedAt n
 reply_of_unit stop found = Viewed (unit_found_in found)
 

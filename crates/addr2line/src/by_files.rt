@@ -6,7 +6,7 @@ ghost use Rattle.addr2line_lines.specs.LastAddress.{last_address};
 ghost use Rattle.addr2line_units.specs.declared.frames_lookup.Faults.TheVariants.{End};
 ghost use Rattle.addr2line_units.specs.FramesLookup.{Waits};
 ghost use Rattle.addr2line.specs.Context.{ContextState, IsUncovered};
-ghost use Rattle.addr2line.specs.Loader.{AfterAnswers, AnswersInTurn, AnswersOne, HasEnded, IsAnswerByFiles, IsFaultByFiles, IsUnitFault, LeavesOpen, ReadsAsked, WaitsForNone, WaitsForOne, ended_frames_of};
+ghost use Rattle.addr2line.specs.LoadsByFiles.{AfterAnswers, AnswersInTurn, AnswersOne, HasEnded, IsAnswerByFiles, IsFaultByFiles, IsUnitFault, LeavesOpen, ReadsAsked, WaitsForNone, WaitsForOne, ended_frames_of};
 ghost use Rattle.addr2line.specs.Lookups.{IsKnown, IsKnownFew, lookup_stop};
 ghost use Rattle.addr2line.specs.WaitingLookups.{count_loads};
 
@@ -31,8 +31,8 @@ fn read_answer<F: FileSource>(
 ) -> Result<Option<Rc<Dwarf<EndianBytes>>>, LoaderError>
     requires waits { lookup_stop End ctx.now.sections ctx.now.answers probe ≡ Ok (Waits number) }
     requires known { IsKnown End ctx.now probe }
-    ensures gives { IfOk result (λ given. IsAnswerByFiles (F.files files.now) ctx.now.sections number
-        (option_map (λ d. d.value) given)) }
+    ensures gives { IfOk result (λ given. IsAnswerByFiles (F.files files.now) ctx.now.sections
+        number (option_map (λ d. d.value) given)) }
     ensures refused { IfErr result (IsFaultByFiles (F.files files.now) ctx.now probe) }
     ensures stays_open { IfErr result LeavesOpen }
 {

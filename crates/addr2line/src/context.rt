@@ -214,7 +214,7 @@ impl<R: Reader> Context<R> {
     }
 
     /// Parses the lines of all units in their order, unless they are parsed, up to the first fault;
-    /// they stay parsed, and that fault is kept too. The lines of the units behind it are left as
+    /// they stay parsed, and that fault is cached too. The lines of the units behind it are left as
     /// they are.
     ///
     /// Refused by the first fault; may fail with `OutOfMemory` instead, which is never cached.

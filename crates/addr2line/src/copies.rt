@@ -1,6 +1,6 @@
 //! Owned copies of what calls of a context lend.
 
-ghost use Rattle.std.specs.Prelude.{◌≡◌, ◌≢◌, List, Option, None, Some, Result, Ok, Err, IfErr, IfOk, IsOk, OnOk, map, option_map, false, true};
+ghost use Rattle.std.specs.Prelude.{◌≡◌, ◌≢◌, Option, None, Some, Result, Ok, Err, IfErr, IfOk, IsOk, OnOk, map, option_map, false, true};
 ghost use Rattle.gimli_read.specs.declared.error.Error.{Error};
 ghost use Rattle.gimli_read.specs.declared.error.Error.TheVariants.{OutOfMemory};
 ghost use Rattle.gimli_read.specs.Reading.{ExactlyUnlessOom};

@@ -64,7 +64,7 @@ fn ask_units<R: Reader>(ctx: &mut Context<R>, probe: u64) -> LookupResult<Frames
     }
 }
 
-// A lookup of frames from its beginning, by what is kept.
+// A lookup of frames from its beginning, by what is cached.
 fn go<R: Reader>(ctx: &mut Context<R>, probe: u64) -> LookupResult<FramesLookup<'_, R>>
     ensures* ends { sem 𝓛 (RestsAs (λ c. c.ctx.ghost_name) R.row R.Reader ctx.entry result
         (λ o n. AfterFrames End probe o ctx.old n)) }
@@ -232,7 +232,7 @@ impl<R: Reader> Context<R> {
             probe,
             Faults::End,
         )?;
-        self.units.keep_stop(stop);
+        self.units.set_stop(stop);
         Ok(self.units.stop_frames())
     }
 
@@ -242,11 +242,11 @@ impl<R: Reader> Context<R> {
     /// `probe` is an address as the file has it. Units are asked in the order of `find_location`.
     /// The lookup waits for an answer where it comes to a unit whose entries stand in a split file
     /// and that has no answer yet. What it reads of a unit, views, functions, details and lines,
-    /// is kept, faults too, and nothing is read of units that it doesn't ask.
+    /// is cached, faults too, and nothing is read of units that it doesn't ask.
     ///
     /// Refused by the first fault of the view, the functions, the detail or the lines of a unit
     /// that it asks; may fail with `OutOfMemory` instead, which is never cached. An output takes no
-    /// memory where all that it asks for is kept and at most 16 inlined functions stand there.
+    /// memory where all that it asks for is cached and at most 16 inlined functions stand there.
     ///
     /// Source: DWARF 5, sections 2.17, 3.3, 3.1.2 and 7.3.2. Own: which unit counts, and what a
     /// lookup waits for.

@@ -17,7 +17,8 @@ ghost use Rattle.addr2line_units.specs.LocationsLeft.{locations_left};
 ghost use Rattle.addr2line.specs.Context.{IsReady, IsReadyForRange};
 ghost use Rattle.addr2line.specs.FramesByFiles.{frames_by_files};
 ghost use Rattle.addr2line.specs.Loaded.{AreSectionsOf, AreSupOfBytes, IsFileOfBytes, IsLoaded, as_sup, context_at, dwarf_at, loaded, main_with_sup, object_at, sup_at};
-ghost use Rattle.addr2line.specs.Loader.{AfterLoads, AfterLocation, AfterLocationRange, WaitsForNone, ended_frames_of, seen_loader};
+ghost use Rattle.addr2line.specs.Loader.{AfterLoads, AfterLocation, AfterLocationRange, seen_loader};
+ghost use Rattle.addr2line.specs.LoadsByFiles.{WaitsForNone, ended_frames_of};
 ghost use Rattle.addr2line.specs.Lookups.{IsKnownFew};
 ghost use Rattle.addr2line.specs.SplitFiles.{of_file};
 
@@ -243,8 +244,8 @@ impl<F: FileSource> LoaderOver<F> {
     ///
     /// May fail with `OutOfMemory` instead, which leaves the unit that was asked for open. Takes no
     /// memory where no unit covers `probe`, nor where it waits for no load, all that it asks for is
-    /// kept and at most 16 inlined functions stand there. No unit covers 2^64 - 1. Source: DWARF 5,
-    /// sections 3.1.2 and 7.3.2. Own: the path, and what counts as none.
+    /// cached and at most 16 inlined functions stand there. No unit covers 2^64 - 1. Source: DWARF
+    /// 5, sections 3.1.2 and 7.3.2. Own: the path, and what counts as none.
     pub fn find_frames(&mut self, probe: u64) -> Result<FrameIter<'_, EndianBytes>, LoaderError>
         ensures gives { IfSome (F.files self.old.files) (λ held. LoadsUnlessOom frames_left result
             (frames_by_files held self.old.context.sections self.old.context.answers probe)) }

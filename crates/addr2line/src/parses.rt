@@ -22,9 +22,9 @@ impl<R: Reader> Context<R> {
             .read_functions(self.alloc, &self.dwarf, &self.sup_units, reads)
     }
 
-    /// Parses the functions of all units in their order, up to the first fault, and keeps them, the
-    /// fault too. A unit that waits for an answer is decided by none first; the units behind the
-    /// first fault are left as they are.
+    /// Parses the functions of all units in their order, up to the first fault, and caches them,
+    /// the fault too. A unit that waits for an answer is decided by none first; the units behind
+    /// the first fault are left as they are.
     ///
     /// Refused by the first fault of a view or its functions; may fail with `OutOfMemory` instead,
     /// which is never cached. Takes no memory where the functions up to the first fault are

@@ -10,7 +10,7 @@ ghost use Rattle.addr2line_units.specs.FramesLookup.{Waits, is_waiting};
 ghost use Rattle.addr2line_units.specs.SeenUnit.{seen_found};
 ghost use Rattle.addr2line.specs.Context.{IsUncovered};
 ghost use Rattle.addr2line.specs.declared.stops.UnitStop.TheVariants.{Finds};
-ghost use Rattle.addr2line.specs.KeptStops.{kept_stop, unit_stop};
+ghost use Rattle.addr2line.specs.UnitStops.{stop_by_number, unit_stop};
 ghost use Rattle.addr2line.specs.Lookups.{AfterFrames, IsKnown, IsLoadOf, lookup_stop, unit_of};
 
 use crate::context::Context;
@@ -31,7 +31,7 @@ pub(crate) enum UnitStop {
 
 // What a lookup comes to, by the number of a unit.
 fn stop_by_number(stop: Result<FramesStop, Error>) -> Result<UnitStop, Error>
-    ensures gives { result ≡ kept_stop stop }
+    ensures gives { result ≡ stop_by_number stop }
 {
     match stop {
         Ok(FramesStop::Waits(number)) => Ok(UnitStop::Waits(number)),
@@ -42,7 +42,7 @@ fn stop_by_number(stop: Result<FramesStop, Error>) -> Result<UnitStop, Error>
 }
 
 impl<R: Reader> Context<R> {
-    // What a lookup comes to. What it asks for is read and kept.
+    // What a lookup comes to. What it asks for is read and cached.
     pub(crate) fn stop(&mut self, probe: u64, faults: Faults) -> Result<UnitStop, Error>
         ensures gives { ExactlyUnlessOom (λ s. s) result
             (unit_stop faults self.old.sections self.old.answers probe) }
@@ -60,7 +60,7 @@ impl<R: Reader> Context<R> {
         stop_by_number(stop)
     }
 
-    // Whether a lookup may wait for an answer, by what is kept. Takes no memory.
+    // Whether a lookup may wait for an answer, by what is cached. Takes no memory.
     pub(crate) fn may_wait(&self, probe: u64) -> bool
         ensures ends { result ≡ false → (faults : Faults)
             → is_waiting (lookup_stop faults self.now.sections self.now.answers probe) ≡ false }

@@ -10,7 +10,7 @@ ghost use Rattle.addr2line_units.specs.Suspended.{IfLoad, IfOutput, SkipsTo};
 ghost use Rattle.addr2line.specs.declared.stops.UnitStop.TheVariants.{Finds};
 ghost use Rattle.addr2line.specs.Answers.{AfterResume};
 ghost use Rattle.addr2line.specs.Borrowed.{RestsAs};
-ghost use Rattle.addr2line.specs.KeptStops.{unit_stop};
+ghost use Rattle.addr2line.specs.UnitStops.{unit_stop};
 ghost use Rattle.addr2line.specs.Lookups.{AfterFrames, IsKnown, lookup_stop, unit_of, waits_for};
 ghost use Rattle.addr2line.specs.Skips.{AfterSkip};
 ghost use Rattle.addr2line.specs.WaitingLookups.{SuspendsAgainIn, SuspendsIn, count_loads, unit_answered, unit_of_context, unit_skipped, unit_with_none};
@@ -44,7 +44,7 @@ fn end<R: Reader>(
     LookupResult::Output(Ok(ctx.unit_at(probe, number)))
 }
 
-// A lookup of a unit from its beginning, by what is kept.
+// A lookup of a unit from its beginning, by what is cached.
 fn go<R: Reader>(ctx: &mut Context<R>, probe: u64) -> LookupResult<UnitLookup<'_, R>>
     ensures* ends { sem 𝓛 (RestsAs (λ c. c.ctx.ghost_name) R.row R.Reader ctx.entry result
         (λ o n. AfterFrames PassOver probe o ctx.old n)) }
@@ -217,11 +217,11 @@ impl<R: Reader> Context<R> {
     ///
     /// `probe` is an address as the file has it. Units are asked in the order of `find_location`.
     /// The lookup waits for an answer where it comes to a unit whose entries stand in a split file
-    /// and that has no answer yet. What it reads of a unit is kept, faults too, and nothing is read
-    /// of units that it doesn't ask.
+    /// and that has no answer yet. What it reads of a unit is cached, faults too, and nothing is
+    /// read of units that it doesn't ask.
     ///
     /// Refused `OutOfMemory` alone, which is never cached. An output takes no memory where all that
-    /// it asks for is kept and at most 16 inlined functions stand there.
+    /// it asks for is cached and at most 16 inlined functions stand there.
     ///
     /// Source: DWARF 5, sections 2.17, 3.3, 3.1.2 and 7.3.2. Own: which unit counts, and what a
     /// lookup waits for.

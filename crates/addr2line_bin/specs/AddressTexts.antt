@@ -1,6 +1,6 @@
 -- The texts of addresses and of locations, and the lines of faults.
--- Own: an address has 16 digits, in the texts of LLVM as many as it needs; a word that is no address
--- is printed as 0.
+-- Own: an address has 16 digits, in the texts of LLVM as many as it needs; a word that is no
+-- address is printed as 0.
 -- Own: a file that isn't known is `??`, a line `?`; in the texts of LLVM a line or a column that
 -- isn't known is 0. The last part of a path is what follows its last `/`, without a `/` or `/.` at
 -- its end; a path without one, or one that ends in `.` or `..`, is printed whole.

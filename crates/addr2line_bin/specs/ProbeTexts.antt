@@ -86,7 +86,8 @@ IsAnswerAt answers s (Some address) found fault = (given : ProbeAnswer)
     × (found ≡ given_text s.style given) × (fault ≡ given_fault s.name.now address given)
 
 -- what goes to both streams for what is asked for, if that is an address
-pub record IsText (answers : FileAnswers) (s : Setup) (probe : Option ℕ) (text : ProbeText) : Type 0 where
+pub record IsText (answers : FileAnswers) (s : Setup) (probe : Option ℕ) (text : ProbeText)
+    : Type 0 where
   pub found : List ℕ
   pub fault : List ℕ
   pub given : IsAnswerAt answers s (looked_up s.section probe) found fault

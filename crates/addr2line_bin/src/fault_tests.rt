@@ -13,7 +13,8 @@ use std::test::Fail;
 // What each lookup gives, and the symbol's name.
 type Given = (Found, Option<&'static str>);
 
-// What is given, the words after `-e f`, what goes to the output and to standard error, and the end.
+// What is given, the words after `-e f`, what goes to the output and to standard error, and the
+// end.
 type Case = (
     Given,
     &'static [&'static str],

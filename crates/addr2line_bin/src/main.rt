@@ -90,7 +90,8 @@ fn run_request<F: FileSource, I: Input, W: Stream, E: Stream>(
 
 // Writes that memory was refused before there is a file.
 fn tell_no_memory<E: Stream>(name: &str, err: &mut E) -> Exit
-    ensures err { Reports (E.state err.old) (E.state err.new) (last_text name.now stop.OutOfMemory) }
+    ensures err { Reports (E.state err.old) (E.state err.new)
+        (last_text name.now stop.OutOfMemory) }
     ensures exit { result ≡ exit.Failed }
 {
     tell_last(name, Stop::OutOfMemory, err)
@@ -144,8 +145,9 @@ fn answer_words<W: Stream, E: Stream>(
     out: &mut W,
     err: &mut E,
 ) -> ExitCode
-    ensures gives { AnswersWords name.now (is_shown (kind_of error.now)) (W.state out.old) (W.state out.new)
-        (E.state err.old) (E.state err.new) (exit_status result) }
+    ensures gives { AnswersWords name.now (is_shown (kind_of error.now))
+        (W.state out.old) (W.state out.new) (E.state err.old) (E.state err.new)
+        (exit_status result) }
 {
     let Ok(text) = format!(in alloc; "{error}") else {
         return status_of(tell_no_memory(name, err));

@@ -1,7 +1,6 @@
 //! A run over a file: what is asked for, printed.
 
 ghost use Rattle.std.specs.Prelude.{◌≡◌, map, Ok, Err, Option, Some, option_map, string_bytes};
-ghost use Rattle.elf.specs.declared.error.LoaderError.TheVariants.{OutOfMemory};
 ghost use Rattle.addr2line_bin.specs.Printing.{PrintsRun};
 ghost use Rattle.addr2line_bin.specs.ProbeTexts.{IsText};
 ghost use Rattle.addr2line_bin.specs.ProgramRun.{IsRun, IsSetup, PrintsAllRows, PrintsAsked};
@@ -10,7 +9,6 @@ ghost use Rattle.addr2line_bin.specs.Put.{Reports};
 ghost use Rattle.addr2line_bin.specs.Address.{probes_in};
 ghost use Rattle.addr2line_bin.specs.Told.{addresses_fault_text, section_fault_text};
 ghost use Rattle.addr2line_bin.specs.declared.engine.Exit.TheVariants as exit;
-ghost use Rattle.addr2line_lines.specs.Rows.{result_map};
 ghost use Rattle.std.specs.Result.{result_map_both};
 
 use crate::all_addresses::all_addresses;
@@ -194,9 +192,9 @@ fn run_over<L: Lookups + Drop, I: Input, W: Stream, E: Stream>(
 
 /// Prints what is asked of a file, or why its debug information can't be loaded.
 ///
-/// What goes to `out` is the joined texts of what is asked for, each with a flush, or a beginning of
-/// them after a failed write or a refused growth; then the last line on standard error says so, but
-/// for a broken pipe. All of each fault's line goes to `err`, unless that has failed.
+/// What goes to `out` is the joined texts of what is asked for, each with a flush, or a beginning
+/// of them after a failed write or a refused growth; then the last line on standard error says so,
+/// but for a broken pipe. All of each fault's line goes to `err`, unless that has failed.
 pub fn run<L: Lookups + Drop, I: Input, W: Stream, E: Stream>(
     alloc: Global,
     options: &Options,

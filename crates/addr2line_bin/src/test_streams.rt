@@ -8,7 +8,8 @@ use std::io;
 use std::io::{ErrorKind, Write};
 use std::test::Fail;
 
-/// Takes so many calls and bytes, 20 bytes in each call at most: then a call fails, or takes no byte.
+/// Takes so many calls and bytes, 20 bytes in each call at most: then a call fails, or takes no
+/// byte.
 #[derive(Drop)]
 pub struct StopWriter {
     /// What it has taken.

@@ -69,8 +69,8 @@ none_read d fs n e = subst HasNone (sym (seen_at d fs n)) (by_cases (slice_get f
     by_cases (Some f) h = by_lazy f.detail h
 
 -- the place of a detail that was read is one in the lists
-pub place_kept : (d : CachedDetails) (fs : List LazyFunction) (n : ℕ) (p : FunctionDetail) → AllByRecursion (HasPlace d) fs → read_at fs n ≡ Some p → IsDetailPlace d p
-place_kept d fs n p all e = by_cases (slice_get fs n) refl e
+pub place_cached : (d : CachedDetails) (fs : List LazyFunction) (n : ℕ) (p : FunctionDetail) → AllByRecursion (HasPlace d) fs → read_at fs n ≡ Some p → IsDetailPlace d p
+place_cached d fs n p all e = by_cases (slice_get fs n) refl e
   where
     by_lazy : (x : LazyDetail) → place_read x ≡ Some p → x ≡ Read p
     by_lazy Unread h = absurd cc

@@ -60,8 +60,8 @@ between_sorted start end xs l e =
     ∙ ap (λ ys. take (end - start) ys) (drop-append_seam (take start xs) run)
     ∙ ap (λ n. take n run) count ∙ take-length run
 
--- details that were found, and where they are kept
-pub record AreKeptAt (name : Option Section) (found listed : FoundInlined) (d : CachedDetails) (p : FunctionDetail) : Type 0 where
+-- details that were found, and where they are cached
+pub record AreCachedAt (name : Option Section) (found listed : FoundInlined) (d : CachedDetails) (p : FunctionDetail) : Type 0 where
   pub name_is : slice_index_or d.names p.name None ≡ name
   pub name_there : p.name < length d.names
   pub inlined_begin : p.inlined_begin ≡ length found.entries
@@ -73,24 +73,24 @@ pub record AreKeptAt (name : Option Section) (found listed : FoundInlined) (d : 
   pub ranges : d.found.ranges ≡ sorted_from p.ranges_begin listed.ranges
 
 module _ (scope : Scope) (u : UnitRecord) (offset : ℕ) (name : Option Section) (found listed : FoundInlined) (read : detail_found_at scope u offset found ≡ Ok (name, listed))
-    (d : CachedDetails) (p : FunctionDetail) (at : AreKeptAt name found listed d p) where
+    (d : CachedDetails) (p : FunctionDetail) (at : AreCachedAt name found listed d p) where
   agrees : AgreesDetail scope u offset found (detail_at scope u offset) (Ok (name, listed))
   agrees = subst (AgreesDetail scope u offset found (detail_at scope u offset)) read (detail_agrees scope u offset found)
 
   run_is : listed_ranges p ≡ drop (length found.ranges) listed.ranges
   run_is = ap (λ n. drop n p.listed.value.items) at.ranges_begin ∙ ap (λ xs. drop (length found.ranges) xs) at.listed_is
 
-  -- the details that are kept are those of the function
-  pub detail_kept : detail_at scope u offset ≡ Ok (detail_of d p)
-  detail_kept =
+  -- the details that are cached are those of the function
+  pub detail_cached : detail_at scope u offset ≡ Ok (detail_of d p)
+  detail_cached =
       let made : Option Section → List InlinedRange → Detail = λ n xs. record { name = n; inlined = xs } in
       agrees.0 ∙ ap (λ n. Ok (made n (map (range_among listed.entries) (drop (length found.ranges) listed.ranges)))) (sym at.name_is)
       ∙ ap (λ es. Ok (made (slice_index_or d.names p.name None) (map (range_among es) (drop (length found.ranges) listed.ranges)))) (sym at.entries)
       ∙ ap (λ xs. Ok (made (slice_index_or d.names p.name None) (map (range_among d.found.entries) xs))) (sym run_is)
 
   -- and their place is one
-  pub place_kept : IsDetailPlace d p
-  place_kept =
+  pub place_cached : IsDetailPlace d p
+  place_cached =
       let b = at.inlined_begin in
       let e = at.inlined_end in
       let s = at.ranges_begin in
@@ -123,17 +123,17 @@ first_is functions ranges found more h a b =
     let made : List InlinedEntry → List InlinedFunctionAddress → FoundInlined = λ xs ys. record { entries = xs; ranges = ys } in
     ap (λ xs. made xs (take ranges more.ranges)) (first_of functions found.entries more.entries h.entries a) ∙ ap (λ ys. made found.entries ys) (first_of ranges found.ranges more.ranges h.ranges b)
 
--- ranges that were kept stay where those after them are put in order
+-- ranges that were cached stay where those after them are put in order
 pub sorted_more : (start : ℕ) (xs listed : List InlinedFunctionAddress) → start ≡ length xs → IsGrown xs listed → IsGrown xs (sorted_from start listed)
 sorted_more start xs listed e h = record { more = in_order inlined_sooner (drop start listed); is = ap (λ ys. ys ++ in_order inlined_sooner (drop start listed)) (first_of start xs listed h e) }
 
--- what is kept stays where nothing changes
-pub details_same : (kept more : CachedDetails) → more ≡ kept → AreDetailsMore kept more
-details_same kept more h = subst (AreDetailsMore kept) (sym h) (record { names = grown_not kept.names; found = found_same kept.found })
+-- what is cached stays where nothing changes
+pub details_same : (cached more : CachedDetails) → more ≡ cached → AreDetailsMore cached more
+details_same cached more h = subst (AreDetailsMore cached) (sym h) (record { names = grown_not cached.names; found = found_same cached.found })
 
--- what is added changes nothing of the details that are kept, and their places are places still
-pub detail_stays : (kept more : CachedDetails) (p : FunctionDetail) → AreDetailsMore kept more → IsDetailPlace kept p → (detail_of more p ≡ detail_of kept p) × IsDetailPlace more p
-detail_stays kept more p h at = (same, still)
+-- what is added changes nothing of the details that are cached, and their places are places still
+pub detail_stays : (cached more : CachedDetails) (p : FunctionDetail) → AreDetailsMore cached more → IsDetailPlace cached p → (detail_of more p ≡ detail_of cached p) × IsDetailPlace more p
+detail_stays cached more p h at = (same, still)
   where
     made : Option Section → List InlinedRange → Detail
     made n xs = record { name = n; inlined = xs }
@@ -141,34 +141,34 @@ detail_stays kept more p h at = (same, still)
     count : ℕ
     count = p.ranges_end - p.ranges_begin
 
-    between_is : between p.ranges_begin p.ranges_end more.found.ranges ≡ between p.ranges_begin p.ranges_end kept.found.ranges
+    between_is : between p.ranges_begin p.ranges_end more.found.ranges ≡ between p.ranges_begin p.ranges_end cached.found.ranges
     between_is =
         let b = at.ranges_begin in
         let e = at.ranges_end in
-        let long = length-drop p.ranges_begin kept.found.ranges in
+        let long = length-drop p.ranges_begin cached.found.ranges in
         ap (λ xs. take count (drop p.ranges_begin xs)) h.found.ranges.is
-        ∙ ap (λ xs. take count xs) (drop-append-le p.ranges_begin kept.found.ranges h.found.ranges.more (omega arith))
-        ∙ take-append-le count (drop p.ranges_begin kept.found.ranges) h.found.ranges.more (omega arith)
+        ∙ ap (λ xs. take count xs) (drop-append-le p.ranges_begin cached.found.ranges h.found.ranges.more (omega arith))
+        ∙ take-append-le count (drop p.ranges_begin cached.found.ranges) h.found.ranges.more (omega arith)
 
-    inlined_is : map (range_among more.found.entries) (listed_ranges p) ≡ map (range_among kept.found.entries) (listed_ranges p)
+    inlined_is : map (range_among more.found.entries) (listed_ranges p) ≡ map (range_among cached.found.entries) (listed_ranges p)
     inlined_is =
         ap (λ es. map (range_among es) (listed_ranges p)) h.found.entries.is
-        ∙ ranges_stay kept.found.entries h.found.entries.more (listed_ranges p) (among p.inlined_begin p.inlined_end kept.found.entries (listed_ranges p) at.inlined_end at.places)
+        ∙ ranges_stay cached.found.entries h.found.entries.more (listed_ranges p) (among p.inlined_begin p.inlined_end cached.found.entries (listed_ranges p) at.inlined_end at.places)
 
-    name_is : slice_index_or more.names p.name None ≡ slice_index_or kept.names p.name None
-    name_is = ap (λ xs. slice_index_or xs p.name None) h.names.is ∙ before_more kept.names h.names.more p.name None at.name
+    name_is : slice_index_or more.names p.name None ≡ slice_index_or cached.names p.name None
+    name_is = ap (λ xs. slice_index_or xs p.name None) h.names.is ∙ before_more cached.names h.names.more p.name None at.name
 
-    same : detail_of more p ≡ detail_of kept p
-    same = ap (λ n. made n (map (range_among more.found.entries) (listed_ranges p))) name_is ∙ ap (λ xs. made (slice_index_or kept.names p.name None) xs) inlined_is
+    same : detail_of more p ≡ detail_of cached p
+    same = ap (λ n. made n (map (range_among more.found.entries) (listed_ranges p))) name_is ∙ ap (λ xs. made (slice_index_or cached.names p.name None) xs) inlined_is
 
     longer : {X : Type 0} (xs ys : List X) → IsGrown xs ys → length xs ≤ length ys
     longer xs ys g = let a : length ys ≡ length (xs ++ g.more) = ap (λ v. length v) g.is in let b = length-append xs g.more in omega arith
 
     still : IsDetailPlace more p
     still =
-        let n = longer kept.names more.names h.names in
-        let r = longer kept.found.ranges more.found.ranges h.found.ranges in
-        let e = longer kept.found.entries more.found.entries h.found.entries in
+        let n = longer cached.names more.names h.names in
+        let r = longer cached.found.ranges more.found.ranges h.found.ranges in
+        let e = longer cached.found.entries more.found.entries h.found.entries in
         let a = at.name in
         let b = at.ranges_end in
         let c = at.inlined_end in

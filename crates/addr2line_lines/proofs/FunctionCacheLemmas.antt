@@ -31,29 +31,29 @@ no_more xs = record { more = []; is = sym (append-nil xs) }
 longer : {X : Type 0} (xs ys : List X) → IsGrown xs ys → length xs ≤ length ys
 longer xs ys g = let a : length ys ≡ length (xs ++ g.more) = ap (λ v. length v) g.is in let b = length-append xs g.more in omega arith
 
-pub details_stay : (kept : CachedDetails) → AreDetailsMore kept kept
-details_stay kept = record { names = no_more kept.names; found = record { entries = no_more kept.found.entries; ranges = no_more kept.found.ranges } }
+pub details_stay : (cached : CachedDetails) → AreDetailsMore cached cached
+details_stay cached = record { names = no_more cached.names; found = record { entries = no_more cached.found.entries; ranges = no_more cached.found.ranges } }
 
 -- a detail that is read is as before where more is read
-lazy_stays : (kept more : CachedDetails) → AreDetailsMore kept more → (x : LazyDetail) → ((p : FunctionDetail) → x ≡ Read p → IsDetailPlace kept p) → seen_lazy more x ≡ seen_lazy kept x
-lazy_stays kept more grown Unread h = refl
-lazy_stays kept more grown (Read p) h = ap (λ (d : Detail). Some (Ok d)) (detail_stays kept more p grown (h p refl)).0
-lazy_stays kept more grown (Faulty e) h = refl
+lazy_stays : (cached more : CachedDetails) → AreDetailsMore cached more → (x : LazyDetail) → ((p : FunctionDetail) → x ≡ Read p → IsDetailPlace cached p) → seen_lazy more x ≡ seen_lazy cached x
+lazy_stays cached more grown Unread h = refl
+lazy_stays cached more grown (Read p) h = ap (λ (d : Detail). Some (Ok d)) (detail_stays cached more p grown (h p refl)).0
+lazy_stays cached more grown (Faulty e) h = refl
 
-seen_stays : (kept more : CachedDetails) → AreDetailsMore kept more → (f : LazyFunction) → HasPlace kept f → seen_function more f ≡ seen_function kept f
-seen_stays kept more grown f h = ap made (lazy_stays kept more grown f.detail h)
+seen_stays : (cached more : CachedDetails) → AreDetailsMore cached more → (f : LazyFunction) → HasPlace cached f → seen_function more f ≡ seen_function cached f
+seen_stays cached more grown f h = ap made (lazy_stays cached more grown f.detail h)
   where
     made : Option (Result Detail Error) → CachedFunction
     made x = record { offset = f.dw_die_offset.0; detail = x }
 
-all_seen_stay : (kept more : CachedDetails) → AreDetailsMore kept more → (fs : List LazyFunction) → AllByRecursion (HasPlace kept) fs → map (seen_function more) fs ≡ map (seen_function kept) fs
-all_seen_stay kept more grown [] all = refl
-all_seen_stay kept more grown (f ∷ fs) all =
-    ap (λ (x : CachedFunction). x ∷ map (seen_function more) fs) (seen_stays kept more grown f all.0)
-    ∙ ap (λ xs. seen_function kept f ∷ xs) (all_seen_stay kept more grown fs all.1)
+all_seen_stay : (cached more : CachedDetails) → AreDetailsMore cached more → (fs : List LazyFunction) → AllByRecursion (HasPlace cached) fs → map (seen_function more) fs ≡ map (seen_function cached) fs
+all_seen_stay cached more grown [] all = refl
+all_seen_stay cached more grown (f ∷ fs) all =
+    ap (λ (x : CachedFunction). x ∷ map (seen_function more) fs) (seen_stays cached more grown f all.0)
+    ∙ ap (λ xs. seen_function cached f ∷ xs) (all_seen_stay cached more grown fs all.1)
 
-place_stays : (kept more : CachedDetails) → AreDetailsMore kept more → (f : LazyFunction) → HasPlace kept f → HasPlace more f
-place_stays kept more grown f h = λ p e. (detail_stays kept more p grown (h p e)).1
+place_stays : (cached more : CachedDetails) → AreDetailsMore cached more → (f : LazyFunction) → HasPlace cached f → HasPlace more f
+place_stays cached more grown f h = λ p e. (detail_stays cached more p grown (h p e)).1
 
 pub size_unread : (size : FunctionDetail → ℕ) (f : LazyFunction) → f.detail ≡ Unread → size_of size f ≡ 0
 size_unread size f e = ap (λ (x : LazyDetail). elim x [ Unread ↦ 0 | Read p ↦ size p | Faulty e ↦ 0 ]) e
@@ -124,9 +124,9 @@ module _ (fs : List LazyFunction) (n : ℕ) (f y : LazyFunction) (at : slice_get
   ranges_stay addresses = ap (λ os. map (function_range_of os) addresses) offsets_stay
 
   -- one more detail, or a fault, is cached
-  module _ (addresses : List FunctionAddress) (kept more : CachedDetails) (h : AreCachedFunctions fs addresses kept) (unread : f.detail ≡ Unread) (grown : AreDetailsMore kept more) where
-    pub seen_set : map (seen_function more) (slice_set fs n y) ≡ slice_set (map (seen_function kept) fs) n (seen_function more y)
-    seen_set = map-set (seen_function more) fs n y ∙ ap (λ xs. slice_set xs n (seen_function more y)) (all_seen_stay kept more grown fs h.runs.places)
+  module _ (addresses : List FunctionAddress) (cached more : CachedDetails) (h : AreCachedFunctions fs addresses cached) (unread : f.detail ≡ Unread) (grown : AreDetailsMore cached more) where
+    pub seen_set : map (seen_function more) (slice_set fs n y) ≡ slice_set (map (seen_function cached) fs) n (seen_function more y)
+    seen_set = map-set (seen_function more) fs n y ∙ ap (λ xs. slice_set xs n (seen_function more y)) (all_seen_stay cached more grown fs h.runs.places)
 
     added : (size : FunctionDetail → ℕ) → sum_by (size_of size) (slice_set fs n y) ≡ sum_by (size_of size) fs + size_of size y
     added size =
@@ -135,8 +135,8 @@ module _ (fs : List LazyFunction) (n : ℕ) (f y : LazyFunction) (at : slice_get
         let c = size_unread size f unread in
         omega arith
 
-    old_place : (i : ℕ) (g : LazyFunction) (q : FunctionDetail) → slice_get fs i ≡ Some g → g.detail ≡ Read q → IsDetailPlace kept q
-    old_place i g q e r = all_at (HasPlace kept) fs i g h.runs.places e q r
+    old_place : (i : ℕ) (g : LazyFunction) (q : FunctionDetail) → slice_get fs i ≡ Some g → g.detail ≡ Read q → IsDetailPlace cached q
+    old_place i g q e r = all_at (HasPlace cached) fs i g h.runs.places e q r
 
     seen_as : (offset : ℕ) (detail : Option (Result Detail Error)) → y.dw_die_offset.0 ≡ offset → seen_lazy more y.detail ≡ detail → seen_function more y ≡ record { offset = offset; detail = detail }
     seen_as offset detail o d = ap (λ m. made m (seen_lazy more y.detail)) o ∙ ap (made offset) d
@@ -145,11 +145,11 @@ module _ (fs : List LazyFunction) (n : ℕ) (f y : LazyFunction) (at : slice_get
         made m x = record { offset = m; detail = x }
 
     -- a detail that was read
-    module _ (p : FunctionDetail) (is : y.detail ≡ Read p) (place : IsDetailPlace more p) (next : IsNextPlace kept more p) where
+    module _ (p : FunctionDetail) (is : y.detail ≡ Read p) (place : IsDetailPlace more p) (next : IsNextPlace cached more p) where
       one_read : (q : FunctionDetail) (g : LazyFunction) → y ≡ g → g.detail ≡ Read q → p ≡ q
       one_read q g s r = let e : Read p ≡ Read q = sym is ∙ ap (λ (x : LazyFunction). x.detail) s ∙ r in cc
 
-      new_apart : (q : FunctionDetail) → IsDetailPlace kept q → AreDetailsApart p q × AreDetailsApart q p
+      new_apart : (q : FunctionDetail) → IsDetailPlace cached q → AreDetailsApart p q × AreDetailsApart q p
       new_apart q old =
           let a = old.name in
           let b = old.inlined_end in
@@ -183,25 +183,25 @@ module _ (fs : List LazyFunction) (n : ℕ) (f y : LazyFunction) (at : slice_get
       read_cached = record {
         in_order = subst (λ os. AreFunctions os addresses) (sym offsets_stay) h.in_order;
         runs = record {
-          places = all_set (HasPlace more) fs n y (all_weaker (HasPlace kept) (HasPlace more) (place_stays kept more grown) fs h.runs.places) (λ q r. subst (IsDetailPlace more) (one_read q y refl r) place);
+          places = all_set (HasPlace more) fs n y (all_weaker (HasPlace cached) (HasPlace more) (place_stays cached more grown) fs h.runs.places) (λ q r. subst (IsDetailPlace more) (one_read q y refl r) place);
           apart = still_apart;
           names = added name_size ∙ ap (λ k. sum_by (size_of name_size) fs + k) (size_read name_size) ∙ (let a = h.runs.names in let b = next.names in omega arith);
           inlined = added inlined_size ∙ ap (λ k. sum_by (size_of inlined_size) fs + k) (size_read inlined_size)
-              ∙ (let a = h.runs.inlined in let b = next.inlined_begin in let c = next.inlined_end in let d = longer kept.found.entries more.found.entries grown.found.entries in omega arith);
+              ∙ (let a = h.runs.inlined in let b = next.inlined_begin in let c = next.inlined_end in let d = longer cached.found.entries more.found.entries grown.found.entries in omega arith);
           ranges = added ranges_size ∙ ap (λ k. sum_by (size_of ranges_size) fs + k) (size_read ranges_size)
-              ∙ (let a = h.runs.ranges in let b = next.ranges_begin in let c = next.ranges_end in let d = longer kept.found.ranges more.found.ranges grown.found.ranges in omega arith);
+              ∙ (let a = h.runs.ranges in let b = next.ranges_begin in let c = next.ranges_end in let d = longer cached.found.ranges more.found.ranges grown.found.ranges in omega arith);
         };
       }
 
-      pub table_read : (offset : ℕ) (detail : Result Detail Error) → f.dw_die_offset.0 ≡ offset → detail ≡ Ok (detail_of more p) → IsWithDetail n (unread_function offset) detail (table_of fs addresses kept) (table_of (slice_set fs n y) addresses more)
+      pub table_read : (offset : ℕ) (detail : Result Detail Error) → f.dw_die_offset.0 ≡ offset → detail ≡ Ok (detail_of more p) → IsWithDetail n (unread_function offset) detail (table_of fs addresses cached) (table_of (slice_set fs n y) addresses more)
       table_read offset detail o d = record {
         ranges = ranges_stay addresses;
-        functions = seen_set ∙ ap (λ x. slice_set (map (seen_function kept) fs) n x) (seen_as offset (Some detail) (ap (λ (v : UnitOffset). v.0) entry ∙ o) (ap (seen_lazy more) is ∙ ap Some (sym d)));
+        functions = seen_set ∙ ap (λ x. slice_set (map (seen_function cached) fs) n x) (seen_as offset (Some detail) (ap (λ (v : UnitOffset). v.0) entry ∙ o) (ap (seen_lazy more) is ∙ ap Some (sym d)));
         inlined = grown.found.entries;
       }
 
     -- a fault that was cached
-    module _ (e : Error) (is : y.detail ≡ Faulty e) (same : more ≡ kept) where
+    module _ (e : Error) (is : y.detail ≡ Faulty e) (same : more ≡ cached) where
       no_read : (q : FunctionDetail) (g : LazyFunction) → y ≡ g → g.detail ≡ Read q → ⊥
       no_read q g s r = let no : Faulty e ≡ Read q = sym is ∙ ap (λ (x : LazyFunction). x.detail) s ∙ r in absurd cc
 
@@ -227,7 +227,7 @@ module _ (fs : List LazyFunction) (n : ℕ) (f y : LazyFunction) (at : slice_get
       fault_cached = subst (AreCachedFunctions (slice_set fs n y) addresses) (sym same) (record {
         in_order = subst (λ os. AreFunctions os addresses) (sym offsets_stay) h.in_order;
         runs = record {
-          places = all_set (HasPlace kept) fs n y h.runs.places (λ q r. absurd (no_read q y refl r));
+          places = all_set (HasPlace cached) fs n y h.runs.places (λ q r. absurd (no_read q y refl r));
           apart = faults_apart;
           names = size_none name_size ∙ h.runs.names;
           inlined = size_none inlined_size ∙ h.runs.inlined;
@@ -235,9 +235,9 @@ module _ (fs : List LazyFunction) (n : ℕ) (f y : LazyFunction) (at : slice_get
         };
       })
 
-      pub table_fault : (offset : ℕ) (detail : Result Detail Error) → f.dw_die_offset.0 ≡ offset → detail ≡ Err e → IsWithDetail n (unread_function offset) detail (table_of fs addresses kept) (table_of (slice_set fs n y) addresses more)
+      pub table_fault : (offset : ℕ) (detail : Result Detail Error) → f.dw_die_offset.0 ≡ offset → detail ≡ Err e → IsWithDetail n (unread_function offset) detail (table_of fs addresses cached) (table_of (slice_set fs n y) addresses more)
       table_fault offset detail o d = record {
         ranges = ranges_stay addresses;
-        functions = seen_set ∙ ap (λ x. slice_set (map (seen_function kept) fs) n x) (seen_as offset (Some detail) (ap (λ (v : UnitOffset). v.0) entry ∙ o) (ap (seen_lazy more) is ∙ ap Some (sym d)));
+        functions = seen_set ∙ ap (λ x. slice_set (map (seen_function cached) fs) n x) (seen_as offset (Some detail) (ap (λ (v : UnitOffset). v.0) entry ∙ o) (ap (seen_lazy more) is ∙ ap Some (sym d)));
         inlined = grown.found.entries;
       }

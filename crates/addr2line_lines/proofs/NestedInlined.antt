@@ -107,18 +107,18 @@ module _ (Around : InlinedEntry → InlinedEntry → Type 0) (ranges : List Inli
       by_cases (Some x) (Some y) e f rest = (picked_around depth x y e f, rest)
 
   -- a range of a depth that holds the probe
-  record Held (depth : ℕ) : Type 0 where
+  record HoldingRange (depth : ℕ) : Type 0 where
     it : InlinedRange
     listed : In it ranges
     at : it.depth ≡ depth
     holds_it : inlined_holds probe it ≡ true
 
   -- there is one of each lesser depth too
-  held_below : (k depth : ℕ) → Held (depth + k) → Held depth
-  held_below zero depth h = record { it = h.it; listed = h.listed; at = (let e = h.at in omega arith); holds_it = h.holds_it }
-  held_below (suc k) depth h =
+  holding_below : (k depth : ℕ) → HoldingRange (depth + k) → HoldingRange depth
+  holding_below zero depth h = record { it = h.it; listed = h.listed; at = (let e = h.at in omega arith); holds_it = h.holds_it }
+  holding_below (suc k) depth h =
       let o = outer_of h.it h.listed h.holds_it (let e = h.at in omega arith) in
-      held_below k depth (record { it = o.outer; listed = listed_in o.outer o.listed; at = (let e = h.at in let c = o.around.1 in omega arith); holds_it = o.holds_it })
+      holding_below k depth (record { it = o.outer; listed = listed_in o.outer o.listed; at = (let e = h.at in let c = o.around.1 in omega arith); holds_it = o.holds_it })
 
   module _ (some : All (λ x. inlined_begin x < inlined_end x) ranges) where
     some_of : (z : InlinedRange) → In z ranges → inlined_begin z < inlined_end z
@@ -157,20 +157,20 @@ module _ (Around : InlinedEntry → InlinedEntry → Type 0) (ranges : List Inli
         sides : (a b : ℕ) → (nat_le a probe && nat_lt probe b) ≡ true → (a ≤ probe) × (probe < b)
         sides a b e = (grind (arith, nat_tests), grind (arith, nat_tests))
 
-    at_held : (depth : ℕ) (h : Held depth) → inlined_at probe depth ranges ≡ Some h.it
-    at_held depth h = ap (λ n. inlined_at probe n ranges) (sym h.at) ∙ at_depth h.it h.listed h.holds_it
+    at_holding : (depth : ℕ) (h : HoldingRange depth) → inlined_at probe depth ranges ≡ Some h.it
+    at_holding depth h = ap (λ n. inlined_at probe n ranges) (sym h.at) ∙ at_depth h.it h.listed h.holds_it
 
-    within_held : (n depth : ℕ) (h : Held depth) → inlined_within (suc n) probe depth ranges ≡ h.it.entry ∷ inlined_within n probe (depth + 1) ranges
-    within_held n depth h = ap (λ (o : Option InlinedRange). elim o [ None ↦ [] | Some x ↦ x.entry ∷ inlined_within n probe (depth + 1) ranges ]) (at_held depth h)
+    within_holding : (n depth : ℕ) (h : HoldingRange depth) → inlined_within (suc n) probe depth ranges ≡ h.it.entry ∷ inlined_within n probe (depth + 1) ranges
+    within_holding n depth h = ap (λ (o : Option InlinedRange). elim o [ None ↦ [] | Some x ↦ x.entry ∷ inlined_within n probe (depth + 1) ranges ]) (at_holding depth h)
 
-    found_at : (n k depth : ℕ) (h : Held (depth + k)) → k < n → slice_get (inlined_within n probe depth ranges) k ≡ Some h.it.entry
+    found_at : (n k depth : ℕ) (h : HoldingRange (depth + k)) → k < n → slice_get (inlined_within n probe depth ranges) k ≡ Some h.it.entry
     found_at zero k depth h l = absurd (omega arith)
     found_at (suc n) zero depth h l =
-        let g : Held depth = record { it = h.it; listed = h.listed; at = (let e = h.at in omega arith); holds_it = h.holds_it } in
-        ap (λ es. slice_get es zero) (within_held n depth g)
+        let g : HoldingRange depth = record { it = h.it; listed = h.listed; at = (let e = h.at in omega arith); holds_it = h.holds_it } in
+        ap (λ es. slice_get es zero) (within_holding n depth g)
     found_at (suc n) (suc k) depth h l =
-        let g : Held (depth + 1 + k) = record { it = h.it; listed = h.listed; at = (let e = h.at in omega arith); holds_it = h.holds_it } in
-        ap (λ es. slice_get es (suc k)) (within_held n depth (held_below (suc k) depth h)) ∙ found_at n k (depth + 1) g (omega arith)
+        let g : HoldingRange (depth + 1 + k) = record { it = h.it; listed = h.listed; at = (let e = h.at in omega arith); holds_it = h.holds_it } in
+        ap (λ es. slice_get es (suc k)) (within_holding n depth (holding_below (suc k) depth h)) ∙ found_at n k (depth + 1) g (omega arith)
 
 -- as many depths as there are ranges at most
 module _ (ranges : List InlinedRange) where
@@ -273,12 +273,12 @@ nested_by Around ranges probe nested = record {
   all = λ some k d l h.
       let x = slice_index_or ranges k d in
       let i : In x ranges = listed_in Around ranges probe nested x (All-contains_itself ranges k d l) in
-      let held : Held Around ranges probe nested (0 + x.depth) = record { it = x; listed = i; at = omega arith; holds_it = h } in
+      let holding : HoldingRange Around ranges probe nested (0 + x.depth) = record { it = x; listed = i; at = omega arith; holds_it = h } in
       let each : Each ranges 0 (x.depth + 1) = λ n low high.
-      (let whole : Held Around ranges probe nested (n + (x.depth - n)) = record { it = x; listed = i; at = omega arith; holds_it = h } in
-      let below = held_below Around ranges probe nested (x.depth - n) n whole in (below.it, below.listed, below.at)) in
+      (let whole : HoldingRange Around ranges probe nested (n + (x.depth - n)) = record { it = x; listed = i; at = omega arith; holds_it = h } in
+      let below = holding_below Around ranges probe nested (x.depth - n) n whole in (below.it, below.listed, below.at)) in
       let few = enough ranges (x.depth + 1) each in
-      found_at Around ranges probe nested some (length ranges) x.depth 0 held (omega arith);
+      found_at Around ranges probe nested some (length ranges) x.depth 0 holding (omega arith);
 }
 
 pub nested_chain : NestedChain

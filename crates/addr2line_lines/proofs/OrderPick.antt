@@ -34,7 +34,8 @@ module _ {X : Type 0} (begin end : X → ℕ) where
       of_numbers : (a b c d : ℕ) → (c == a && d == b) ≡ (not (is_lt (ordering_then (nat_cmp a c) (nat_cmp b d))) && not (is_lt (ordering_then (nat_cmp c a) (nat_cmp d b))))
       of_numbers a b c d = grind (arith, nat_tests)
 
-  -- a range counts in ys, in the form that `counting_is` takes, and is the last that begins by the probe
+  -- a range counts in ys, in the form that `counting_is` takes, and is the last that begins at or
+  -- below the probe
   record Counts (probe : ℕ) (ys : List X) : Type 0 where
     it : X
     before : AllByRecursion (λ y. (probe < begin y) ⊎ IsBefore begin end it y) ys
@@ -101,7 +102,7 @@ module _ {X : Type 0} (begin end : X → ℕ) where
   it_counts : (probe : ℕ) (ys : List X) (c : Counts probe ys) → candidate begin end probe ys ≡ Some c.it
   it_counts probe ys c = counting_is begin end probe ys c.it (All-from_recursion (λ y. (probe < begin y) ⊎ IsBefore begin end c.it y) ys c.before) c.low c.is
 
-  -- of ranges in order the last that begins by the probe counts
+  -- of ranges in order the last that begins at or below the probe counts
   pub candidate_ordered : (probe : ℕ) (ys : List X) → IsInOrder sooner ys → candidate begin end probe ys ≡ last (at_or_below begin probe ys)
   candidate_ordered probe ys up =
       elim (split probe ys up) [

@@ -69,7 +69,7 @@ pub ordered-map : (rows : List Row) (ss : List LineSequence) → IsInOrder packe
 ordered-map rows [] up = tt
 ordered-map rows (s ∷ ss) up = (none_sooner rows s ss up.0, ordered-map rows ss up.1)
 
--- the last of them that starts by a probe
+-- the last of them that starts at or below a probe
 below-map : (rows : List Row) (probe : ℕ) (ss : List LineSequence) → at_or_below start_of probe (map (unpacked rows) ss) ≡ map (unpacked rows) (at_or_below packed_start probe ss)
 below-map rows probe [] = refl
 below-map rows probe (s ∷ ss) = by_cases (nat_le s.start probe) (below-map rows probe ss)
@@ -98,8 +98,8 @@ some_start : (start : ℕ) (rows : List Row) (d : Row) → StartsAt start rows �
 some_start start [] d h = absurd h
 some_start start (r ∷ rows) d h = (omega arith, h)
 
--- what a sequence among rows says of places
-pub record Stretch (rows : List Row) (s : LineSequence) : Type 0 where
+-- where the rows of a sequence stand among all rows
+pub record SequenceRows (rows : List Row) (s : LineSequence) : Type 0 where
   pub some : 0 < s.len
   pub inside : s.first + s.len ≤ length rows
   pub len_is : length (take s.len (drop s.first rows)) ≡ s.len
@@ -107,8 +107,8 @@ pub record Stretch (rows : List Row) (s : LineSequence) : Type 0 where
   pub starts : row_address_at rows s.first ≡ s.start
   pub rises : (i j : ℕ) → s.first ≤ i → i < j → j < s.first + s.len → row_address_at rows i < row_address_at rows j
 
-pub stretch_of : (rows : List Row) (s : LineSequence) → IsAmong rows s → Stretch rows s
-stretch_of rows s h =
+pub sequence_rows_of : (rows : List Row) (s : LineSequence) → IsAmong rows s → SequenceRows rows s
+sequence_rows_of rows s h =
     let none : Row = record { address = 0; file_index = 0; line = 0; column = 0 } in
     let within = h.within in
     let left = length-drop s.first rows in
@@ -149,7 +149,7 @@ pub rows_in_is : (rows : List Row) (ss : List LineSequence) → AllByRecursion (
 rows_in_is rows [] all = refl
 rows_in_is rows (s ∷ ss) all =
     sum_by-cons (λ (t : Sequence). length t.rows) (unpacked rows s) (map (unpacked rows) ss)
-    ∙ sum_of (stretch_of rows s all.0).len_is (rows_in_is rows ss all.1)
+    ∙ sum_of (sequence_rows_of rows s all.0).len_is (rows_in_is rows ss all.1)
     ∙ sym (sum_by-cons (λ (t : LineSequence). t.len) s ss)
   where
     sum_of : {a b c d : ℕ} → a ≡ b → c ≡ d → a + c ≡ b + d

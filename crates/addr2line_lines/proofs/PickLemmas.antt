@@ -45,7 +45,7 @@ module _ {X : Type 0} (begin end : X → ℕ) where
       agrees : (a b p : ℕ) (t : Bool) → b ≤ p → (nat_le a p && (a == b && t)) ≡ (a == b && t)
       agrees a b p t h = grind (arith, nat_tests)
 
-  -- nothing begins by a probe that all ranges are past
+  -- nothing begins at or below a probe that all ranges are past
   pub beginning_none : (probe : ℕ) (xs : List X) → All (λ x. probe < begin x) xs → at_or_below begin probe xs ≡ []
   beginning_none probe [] all = refl
   beginning_none probe (x ∷ xs) all =

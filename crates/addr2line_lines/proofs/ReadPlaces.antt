@@ -1,4 +1,5 @@
--- What is cached of a function is what a call that reads it again gives (on specs/FunctionTable.antt).
+-- What is cached of a function is what a call that reads it again gives (on
+-- specs/FunctionTable.antt).
 use Rattle.std.proofs.Common.{◌≡◌, ℕ, ◌≤◌, List, length, map, slice_get, Option, Some, None, Result, Ok, refl, ap, sym, subst, ◌∙◌}
 use Rattle.std.proofs.lemmas.Option.{slice_get-map, slice_get_past}
 use Rattle.std.specs.Option.{option_map}
@@ -6,7 +7,7 @@ use Rattle.gimli_read.specs.declared.error.Error.{Error}
 use Rattle.gimli.specs.Unit.{UnitRecord}
 use Rattle.addr2line_lines.specs.declared.functions.LazyFunction.{LazyFunction}
 use Rattle.addr2line_lines.specs.Details.{Detail}
-use Rattle.addr2line_lines.specs.FunctionCache.{seen_function, seen_lazy}
+use Rattle.addr2line_lines.specs.FunctionCache.{seen_function}
 use Rattle.gimli_line.specs.Opcode.{fault_of}
 use Rattle.addr2line_lines.specs.FunctionTable.{CachedFunction, FunctionTable, IsReadAt, IsReadOf, IsReadOnce, read_fault}
 use Rattle.addr2line_lines.specs.CachedDetails.{CachedDetails}

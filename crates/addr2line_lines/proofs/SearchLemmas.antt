@@ -18,7 +18,7 @@ use Rattle.gimli_read.proofs.TopmostLemmas.{In-filter, In-last, last-cond}
 use Rattle.addr2line_lines.proofs.OrderLemmas.{All-in}
 use Rattle.addr2line_lines.proofs.OrderPick.{candidate_ordered}
 use Rattle.addr2line_lines.proofs.SpanLemmas.{row_within}
-use Rattle.addr2line_lines.proofs.PackedLemmas.{Stretch, stretch_of, ordered-map, last_below-map}
+use Rattle.addr2line_lines.proofs.PackedLemmas.{SequenceRows, sequence_rows_of, ordered-map, last_below-map}
 
 module _ {X : Type 0} (p : X → Bool) where
   filter_none : (xs : List X) → AllWithin (λ x. p x ≡ false) xs 0 (length xs) → filter p xs ≡ []
@@ -53,11 +53,11 @@ sequence_none probe ss h = last_none (λ s. nat_le (packed_start s) probe) ss (�
 pub sequence_found : (probe : ℕ) (ss : List LineSequence) (i : ℕ) (s : LineSequence) → i < length ss → get_or ss i s ≡ s → s.start ≤ probe → SequencesPast probe ss (i + 1) → last (at_or_below packed_start probe ss) ≡ Some s
 sequence_found probe ss i s l e low h = last_is_at (λ t. nat_le (packed_start t) probe) ss i s l e (reached s.start probe low) (λ k d from high. past _ probe (h k d from high))
 
--- the row at a place is the last of the sequence by the probe
+-- the row at a place is the last of the sequence at or below the probe
 pub row_found : (rows : List Row) (probe : ℕ) (s : LineSequence) (place : ℕ) (row : Row) → IsAmong rows s → s.first ≤ place → place < s.first + s.len → get_or rows place row ≡ row → row.address ≤ probe
     → ArePastFrom probe rows s (place + 1) → last (at_or_below row_address probe (unpacked rows s).rows) ≡ Some row
 row_found rows probe s place row among from inside is low after =
-    let z = stretch_of rows s among in
+    let z = sequence_rows_of rows s among in
     let rs : List Row = take s.len (drop s.first rows) in
     let none : Row = record { address = 0; file_index = 0; line = 0; column = 0 } in
     let same : s.first + (place - s.first) ≡ place = omega arith in
@@ -66,7 +66,7 @@ row_found rows probe s place row among from inside is low after =
     last_is_at (λ r. nat_le (row_address r) probe) rs (place - s.first) row (omega arith) here (reached row.address probe low)
     (λ k d low' high. past _ probe (later z k d (omega arith) (omega arith)))
   where
-    later : Stretch rows s → (k : ℕ) (d : Row) → place < s.first + k → k < s.len → probe < (get_or (take s.len (drop s.first rows)) k d).address
+    later : SequenceRows rows s → (k : ℕ) (d : Row) → place < s.first + k → k < s.len → probe < (get_or (take s.len (drop s.first rows)) k d).address
     later z k d l h =
         let none : Row = record { address = 0; file_index = 0; line = 0; column = 0 } in
         let len = z.len_is in
@@ -112,11 +112,11 @@ pub read_at : {X : Type 0} (xs ys : List X) (i j : ℕ) (x d : X) → slice_get 
 read_at xs ys i j x d h e near = ap (λ k. get_or xs k d) near ∙ get_or_from_slice_get xs i x d (ap (λ zs. slice_get zs i) (sym e) ∙ h)
 
 -- from a row past the probe on all are
-pub past_from : (rows : List Row) (s : LineSequence) (i probe : ℕ) → Stretch rows s → s.first ≤ i → probe < row_address_at rows i → ArePastFrom probe rows s i
+pub past_from : (rows : List Row) (s : LineSequence) (i probe : ℕ) → SequenceRows rows s → s.first ≤ i → probe < row_address_at rows i → ArePastFrom probe rows s i
 past_from rows s i probe z from l = λ j low high.
     elim (cases_lt i j) [ inl lt ↦ (let r = z.rises i j from lt high in omega arith) | inr ge ↦ (let e : i ≡ j = omega arith in let P : ℕ → Type 0 = λ k. probe < row_address_at rows k in subst P e l) ]
 
--- the best of the sequences before a place is the last of them that starts by the probe
+-- the best of the sequences before a place is the last of them that starts at or below the probe
 abbrev pub IsLastBefore : ℕ → List LineSequence → ℕ → Option LineSequence → Type 0
 IsLastBefore probe ss low None = low ≡ 0
 IsLastBefore probe ss low (Some s) = (0 < low) × ((get_or ss (low - 1) s ≡ s) × (s.start ≤ probe))

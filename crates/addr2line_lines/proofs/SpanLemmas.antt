@@ -86,7 +86,7 @@ spans_next end (r ∷ s ∷ rows) up =
     cons_is : (a b : ℕ) (xs ys : List Span) → a ≡ b → xs ≡ ys → record { row = r; end = a } ∷ xs ≡ record { row = r; end = b } ∷ ys
     cons_is a b xs ys g h = cc
 
--- the row whose span holds a probe before the end is the last one by the probe
+-- the row whose span holds a probe before the end is the last one at or below the probe
 next_last : (probe end : ℕ) (rows : List Row) → Climbs end rows → probe < end → option_map spanned (find (span_holds probe) (next_spans end rows)) ≡ last (at_or_below row_address probe rows)
 next_last probe end [] up l = refl
 next_last probe end (r ∷ []) up l =
@@ -115,7 +115,7 @@ next_last probe end (r ∷ s ∷ rows) up l =
         by_cases true none found = sym (ap (λ rs. last (r ∷ rs)) none)
         by_cases false none found = found ∙ sym (ap last none)
 
-    -- the next row is by the probe, and so is this one
+    -- the next row is at or below the probe, and so is this one
     after : s.address ≤ probe → option_map spanned (find (span_holds probe) (next_spans end (s ∷ rows))) ≡ last (at_or_below row_address probe (s ∷ rows))
         → option_map spanned (find (span_holds probe) (next_spans end (r ∷ s ∷ rows))) ≡ last (at_or_below row_address probe (r ∷ s ∷ rows))
     after ge ih =

@@ -1,4 +1,4 @@
--- The details of functions as they are kept, as the private functions see them.
+-- The details of functions as they are cached, as the private functions see them.
 -- Own: three lists, of names, of inlined entries and of ranges; those of each function stand one
 -- after another, its ranges by depth, then by begin, then by end, then by place of the entry.
 use Rattle.std.specs.Prelude.{◌≡◌, ℕ, ◌+◌, ◌-◌, ◌<◌, ◌≤◌, List, drop, length, map, slice_index_or, take, Option, None, option_map}
@@ -18,7 +18,7 @@ pub record CachedDetails : Type 0 where
   pub names : List (Option Section)
   pub found : FoundInlined
 
--- what is kept
+-- what is cached
 abbrev pub seen_details : {R : Type 0} → (R → Section) → Details R → CachedDetails
 seen_details see d =
     record { names = map (option_map see) d.names.items; found = seen_lists see d.inlined }
@@ -38,16 +38,16 @@ detail_of d p = record {
   inlined = map (range_among d.found.entries) (listed_ranges p);
 }
 
--- what was kept before stays, with more at its end
-pub record AreDetailsMore (kept more : CachedDetails) : Type 0 where
-  pub names : IsGrown kept.names more.names
-  pub found : IsFoundMore kept.found more.found
+-- what was cached before stays, with more at its end
+pub record AreDetailsMore (cached more : CachedDetails) : Type 0 where
+  pub names : IsGrown cached.names more.names
+  pub found : IsFoundMore cached.found more.found
 
 -- a range is of an inlined entry from a place up to another
 abbrev pub IsOfEntryBetween : ℕ → ℕ → InlinedFunctionAddress → Type 0
 IsOfEntryBetween begin end a = (begin ≤ a.function) × (a.function < end)
 
--- a place of details that are kept: its ranges are in order, and of its entries alone
+-- a place of details that are cached: its ranges are in order, and of its entries alone
 pub record IsDetailPlace (d : CachedDetails) (p : FunctionDetail) : Type 0 where
   pub name : p.name < length d.names
   pub inlined_begin : p.inlined_begin ≤ p.inlined_end
@@ -59,12 +59,12 @@ pub record IsDetailPlace (d : CachedDetails) (p : FunctionDetail) : Type 0 where
   pub ordered : between p.ranges_begin p.ranges_end d.found.ranges
       ≡ in_order inlined_sooner (listed_ranges p)
 
--- a place is the one after what is kept: the next name, and what follows in the other lists, up to
--- the end of the lists with it
-pub record IsNextPlace (kept more : CachedDetails) (p : FunctionDetail) : Type 0 where
-  pub name : p.name ≡ length kept.names
-  pub names : length more.names ≡ length kept.names + 1
-  pub inlined_begin : p.inlined_begin ≡ length kept.found.entries
+-- a place is the one after what is cached: the next name, and what follows in the other lists, up
+-- to the end of the lists with it
+pub record IsNextPlace (cached more : CachedDetails) (p : FunctionDetail) : Type 0 where
+  pub name : p.name ≡ length cached.names
+  pub names : length more.names ≡ length cached.names + 1
+  pub inlined_begin : p.inlined_begin ≡ length cached.found.entries
   pub inlined_end : p.inlined_end ≡ length more.found.entries
-  pub ranges_begin : p.ranges_begin ≡ length kept.found.ranges
+  pub ranges_begin : p.ranges_begin ≡ length cached.found.ranges
   pub ranges_end : p.ranges_end ≡ length more.found.ranges

@@ -1,4 +1,4 @@
-//! The details of the functions of a view, kept one after another.
+//! The cached details of the functions of a view, one after another.
 
 ghost use Rattle.std.specs.List.{AllByRecursion};
 ghost use Rattle.std.specs.Prelude.{◌≡◌, ◌<◌, ◌||◌, [], IfOk, OnErr, Ok, length, map, option_map, slice_get};
@@ -14,15 +14,14 @@ use crate::detail::read_detail;
 use crate::inlined::InlinedFunction;
 use crate::inlined_lists::InlinedLists;
 use crate::nesting::Nesting;
-use crate::picks::{InlinedFunctionAddress, find_chain, sort_inlined_from};
+use crate::picks::{InlinedChain, InlinedFunctionAddress, find_chain, sort_inlined_from};
 use crate::references::Scope;
 use gimli::Unit;
 use gimli::read::{Error, Reader, UnitOffset};
-use smallvec::SmallVec;
 use std::alloc::Global;
 use std::snapshot::Snapshot;
 
-/// Where the details of a function stand among those that are kept.
+/// Where the details of a function stand among those that are cached.
 #[derive(Drop)]
 pub(crate) struct FunctionDetail {
     /// The place of its name.
@@ -110,7 +109,7 @@ impl<R: Reader> Details<R> {
     /// `UnexpectedEof` where closing entries are missing. May fail with `OutOfMemory` instead, but
     /// with a reader that doesn't share its bytes only where nothing is refused, or the function's
     /// own entry has no fault and, before any fault, an inlined entry gives a range or an entry
-    /// has children. After a refusal what is kept is what was kept before. Source: DWARF 5,
+    /// has children. After a refusal what is cached is what was cached before. Source: DWARF 5,
     /// section 3.3.8.
     pub(crate) fn read(
         &mut self,
@@ -160,7 +159,7 @@ impl<R: Reader> Details<R> {
         alloc: Global,
         detail: &FunctionDetail,
         probe: u64,
-    ) -> Result<SmallVec<usize, 16>, Error>
+    ) -> Result<InlinedChain, Error>
         requires place { IsDetailPlace (seen_details R.section self.now) detail.now }
         ensures gives { ExactlyUnlessOomIf (are_many (inlined_chain probe
             (detail_of (seen_details R.section self.now) detail.now).inlined))

@@ -20,6 +20,7 @@ ghost use Rattle.addr2line_lines.specs.FoundFunctions.{AreFoundUnread, found_at,
 use crate::details::{Details, FunctionDetail};
 use crate::function::{RangeAttributes, has_range_attribute, read_range_attributes};
 use crate::inlined::InlinedFunction;
+use crate::picks::InlinedChain;
 use crate::references::Scope;
 use crate::segments::{FunctionAddress, Segments};
 use gimli::read::{Abbreviation, DwTag, Error, Reader, UnitOffset};
@@ -311,8 +312,8 @@ impl<R: Reader> Functions<R> {
     }
 
     /// Reads the details of all functions, in the order of their entries, as `read` does, up to the
-    /// first fault. What was cached stays cached; the details up to the first fault are cached then,
-    /// and that fault too.
+    /// first fault. What was cached stays cached; the details up to the first fault are cached
+    /// then, and that fault too.
     ///
     /// `unit` is the unit of the functions, and `scope` says where its references lead. Refused by
     /// the first fault of a detail; may fail with `OutOfMemory` instead, which is not cached, only
@@ -391,7 +392,7 @@ impl<R: Reader> Functions<R> {
         alloc: Global,
         place: usize,
         probe: u64,
-    ) -> Result<SmallVec<usize, 16>, Error>
+    ) -> Result<InlinedChain, Error>
         ensures gives { ExactlyUnlessOomIf
             (are_many (inlined_chain probe (cached_inlined self.now place)))
             (λ chain. map (entry_among self.now.inlined) chain.items) result

@@ -12,6 +12,9 @@ use gimli::read::{Error, Range};
 use smallvec::SmallVec;
 use std::alloc::Global;
 
+/// The places of the inlined functions at an address, the outermost first. Up to 16 need no memory.
+pub type InlinedChain = SmallVec<usize, 16>;
+
 /// A range of an inlined function.
 #[derive(Clone, Copy)]
 pub(crate) struct InlinedFunctionAddress {
@@ -75,7 +78,7 @@ pub(crate) fn find_chain(
     alloc: Global,
     ranges: &[InlinedFunctionAddress],
     probe: u64,
-) -> Result<SmallVec<usize, 16>, Error>
+) -> Result<InlinedChain, Error>
     requires ordered { IsInOrder inlined_sooner ranges.now }
     ensures gives { ExactlyUnlessOomIf (are_many (places_chain probe ranges.now))
         (λ chain. chain.items) result (Ok (places_chain probe ranges.now)) }

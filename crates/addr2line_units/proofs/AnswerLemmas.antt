@@ -1,4 +1,4 @@
--- Answers to the loads of units, and what is kept of their entries (on specs/CachedEntries.antt).
+-- Answers to the loads of units, and what is cached of their entries (on specs/CachedEntries.antt).
 use Rattle.std.proofs.Common.{◌≡◌, ◌≢◌, ℕ, zero, suc, ◌<◌, Bool, true, false, List, [], ◌∷◌, length, get_or, slice_get, arith, subst, Option, Some, None, Result, Ok, Err, ap, refl, sym, ◌∙◌}
 use Rattle.std.proofs.Math.ListN.{set}
 use Rattle.std.proofs.lemmas.List.{set-get_or}
@@ -15,7 +15,7 @@ use Rattle.addr2line_units.specs.declared.view.UnitView.{UnitView}
 use Rattle.addr2line_units.specs.declared.view.ViewState.{ViewState}
 use Rattle.addr2line_units.specs.declared.view.ViewState.TheVariants as states
 use Rattle.addr2line_units.specs.FramesLookup.{answer_of, with_answer}
-use Rattle.addr2line_units.specs.CachedEntries.{AreEntriesOf, StayEntries, kept_answer}
+use Rattle.addr2line_units.specs.CachedEntries.{AreEntriesOf, StayEntries, cached_answer}
 use Rattle.addr2line_units.specs.CachedFunctions.{AreFunctionsOf, were_read}
 use Rattle.addr2line_units.specs.CachedLookups.{StayAllEntries, answers_in, decided_at}
 use Rattle.addr2line_units.specs.CachedViews.{IsViewOf, is_decided, seen_first_answer, verdict_in, waits, was_looked_at}
@@ -35,7 +35,7 @@ unread_are scope u lazy.Unread e = tt
 unread_are scope u (lazy.Read t) e = absurd cc
 unread_are scope u (lazy.Faulty x) e = absurd cc
 
--- where no functions were read the view is all that is kept
+-- where no functions were read the view is all that is cached
 pub unread_entries : {R : Type 0} (scope : Scope) (u : UnitRecord) (v : UnitView R) (f : LazyFunctions R) → IsViewOf scope.file.sections u v → were_read f ≡ false
     → AreEntriesOf scope u (record { view = v; functions = f })
 unread_entries {R} scope u v f h e = record { view = h; functions = by (verdict scope.file.sections u (seen_first_answer v)); unread = λ k. e }
@@ -45,7 +45,7 @@ unread_entries {R} scope u v f h e = record { view = h; functions = by (verdict 
     by (Some (Ok x)) = unread_are (view_scope scope x) x.unit f e
     by (Some (Err x)) = tt
 
--- a call that left the view as it was left all that is kept
+-- a call that left the view as it was left all that is cached as it was
 pub same_entries : {R : Type 0} (r : Result (Unit {0}) Error) (v w : UnitView R) (f : LazyFunctions R) (x : UnitEntries R) (P : Type 0) → x ≡ record { view = w; functions = f }
     → IfErr r (λ e. (e ≡ OutOfMemory) × (v ≡ w) × P) → IfErr r (λ e. (e ≡ OutOfMemory) × (record { view = v; functions = f } ≡ x) × P)
 same_entries (Ok a) v w f x P e h = tt
@@ -59,7 +59,7 @@ no_answer (Some x) e = absurd cc
 pub looked_waits : {R : Type 0} (d : Sections) (u : UnitRecord) (v : UnitView R) → IsViewOf d u v → was_looked_at v.state ≡ true → waits v.state ≡ is_open d u (seen_first_answer v)
 looked_waits {R} d u v h k = by v.state (verdict d u (seen_first_answer v)) h.right k
   where
-    by : (s : ViewState R) (w : Option (Result View Error)) → IfSome (verdict_in d u s) (λ kept. kept ≡ w) → was_looked_at s ≡ true → waits s ≡ is_none w
+    by : (s : ViewState R) (w : Option (Result View Error)) → IfSome (verdict_in d u s) (λ cached. cached ≡ w) → was_looked_at s ≡ true → waits s ≡ is_none w
     by states.Undecided w e l = absurd cc
     by states.Open w e l = ap is_none e
     by states.Main w e l = ap is_none e
@@ -99,21 +99,21 @@ never_waits v w b h same e t =
     let k : true ≡ false = sym t ∙ e ∙ f in cc
 
 -- the first answer of the unit of a number
-pub answer_at : {R : Type 0} (vs : List (UnitEntries R)) (n : ℕ) (v : UnitEntries R) → n < length vs → v ≡ get_or vs n v → answer_of (answers_in vs) n ≡ kept_answer v
+pub answer_at : {R : Type 0} (vs : List (UnitEntries R)) (n : ℕ) (v : UnitEntries R) → n < length vs → v ≡ get_or vs n v → answer_of (answers_in vs) n ≡ cached_answer v
 answer_at [] n v h e = absurd (omega arith)
-answer_at (y ∷ vs) zero v h e = ap kept_answer (sym e)
+answer_at (y ∷ vs) zero v h e = ap cached_answer (sym e)
 answer_at (y ∷ vs) (suc n) v h e = answer_at vs n v (omega arith) e
 
-pub answers_set : {R : Type 0} (vs : List (UnitEntries R)) (n : ℕ) (w : UnitEntries R) → answers_in (set vs n w) ≡ set (answers_in vs) n (kept_answer w)
+pub answers_set : {R : Type 0} (vs : List (UnitEntries R)) (n : ℕ) (w : UnitEntries R) → answers_in (set vs n w) ≡ set (answers_in vs) n (cached_answer w)
 answers_set [] n w = refl
 answers_set (y ∷ vs) zero w = refl
-answers_set (y ∷ vs) (suc n) w = ap (λ xs. kept_answer y ∷ xs) (answers_set vs n w)
+answers_set (y ∷ vs) (suc n) w = ap (λ xs. cached_answer y ∷ xs) (answers_set vs n w)
 
 -- answers stay where that of one unit is set to what it was
-pub answers_stay : {R : Type 0} (vs : List (UnitEntries R)) (n : ℕ) (v w : UnitEntries R) → n < length vs → v ≡ get_or vs n v → kept_answer w ≡ kept_answer v → answers_in (set vs n w) ≡ answers_in vs
+pub answers_stay : {R : Type 0} (vs : List (UnitEntries R)) (n : ℕ) (v w : UnitEntries R) → n < length vs → v ≡ get_or vs n v → cached_answer w ≡ cached_answer v → answers_in (set vs n w) ≡ answers_in vs
 answers_stay [] n v w h e k = absurd (omega arith)
-answers_stay (y ∷ vs) zero v w h e k = ap (λ x. x ∷ answers_in vs) (k ∙ ap kept_answer e)
-answers_stay (y ∷ vs) (suc n) v w h e k = ap (λ xs. kept_answer y ∷ xs) (answers_stay vs n v w (omega arith) e k)
+answers_stay (y ∷ vs) zero v w h e k = ap (λ x. x ∷ answers_in vs) (k ∙ ap cached_answer e)
+answers_stay (y ∷ vs) (suc n) v w h e k = ap (λ xs. cached_answer y ∷ xs) (answers_stay vs n v w (omega arith) e k)
 
 pub got_unit : (us : List UnitRecord) (n : ℕ) (u : UnitRecord) → n < length us → u ≡ get_or us n u → slice_get us n ≡ Some u
 got_unit [] n u h e = absurd (omega arith)
@@ -122,7 +122,7 @@ got_unit (x ∷ us) (suc n) u h e = got_unit us n u (omega arith) e
 
 -- the answers of all units after one more of one unit
 pub answered_all : {R : Type 0} (d : Sections) (us : List UnitRecord) (vs : List (UnitEntries R)) (n : ℕ) (u : UnitRecord) (v w : UnitEntries R) (given : Option Sections) → n < length us → n < length vs
-    → u ≡ get_or us n u → v ≡ get_or vs n v → kept_answer w ≡ decided_answer d u (kept_answer v) given → answers_in (set vs n w) ≡ with_answer d us (answers_in vs) n given
+    → u ≡ get_or us n u → v ≡ get_or vs n v → cached_answer w ≡ decided_answer d u (cached_answer v) given → answers_in (set vs n w) ≡ with_answer d us (answers_in vs) n given
 answered_all d us vs n u v w given h k e f new =
     answers_set vs n w
     ∙ ap (λ a. set (answers_in vs) n a) (new ∙ ap (λ a. decided_answer d u a given) (sym (answer_at vs n v k f)))
@@ -140,7 +140,7 @@ in_same_scope {R} d us vs f h u v e k own =
 
 -- the same after a call that may be refused
 pub answered_if_ok : {R : Type 0} (d : Sections) (us : List UnitRecord) (vs : List (UnitEntries R)) (n : ℕ) (u : UnitRecord) (v w : UnitEntries R) (given : Option Sections) (r : Result (Unit {0}) Error)
-    → n < length us → n < length vs → u ≡ get_or us n u → v ≡ get_or vs n v → OnOk r (kept_answer w ≡ decided_answer d u (kept_answer v) given) → OnOk r (answers_in (set vs n w) ≡ with_answer d us (answers_in vs) n given)
+    → n < length us → n < length vs → u ≡ get_or us n u → v ≡ get_or vs n v → OnOk r (cached_answer w ≡ decided_answer d u (cached_answer v) given) → OnOk r (answers_in (set vs n w) ≡ with_answer d us (answers_in vs) n given)
 answered_if_ok d us vs n u v w given (Ok x) h k e f new = answered_all d us vs n u v w given h k e f new
 answered_if_ok d us vs n u v w given (Err x) h k e f new = tt
 
@@ -161,7 +161,7 @@ others_stay (v ∷ vs) (suc n) (suc k) w ne = others_stay vs n k w (λ e. ne (ap
 pub same_set : {X : Type 0} (vs : List X) (n : ℕ) (v w : X) → v ≡ get_or vs n v → w ≡ v → set vs n w ≡ vs
 same_set vs n v w e same = ap (set vs n) (same ∙ e) ∙ set-get_or vs n v
 
--- whether the unit of a number is decided, by what is kept of it
+-- whether the unit of a number is decided, by what is cached of it
 pub decided_there : {R : Type 0} (vs : List (UnitEntries R)) (n : ℕ) (v : UnitEntries R) → v ≡ get_or vs n v → decided_at vs n ≡ true → is_decided v.view.state ≡ true
 decided_there [] n v e h = absurd cc
 decided_there (y ∷ vs) zero v e h = ap (λ x. is_decided x.view.state) e ∙ h

@@ -1,4 +1,4 @@
--- The function at an address by what is kept of a view (on specs/CachedFunctions.antt).
+-- The function at an address by what is cached of a view (on specs/CachedFunctions.antt).
 use Rattle.std.proofs.Common.{◌≡◌, ◌≢◌, ℕ, ◌+◌, ◌<◌, ◌==◌, ◌&&◌, ◌⊎◌, inl, inr, nat_lt, not, Bool, true, false, cond, List, [], ◌∷◌, length, map, slice_get, slice_set, Option, Some, None, option_and_then, option_map, unwrap_or, Result, Ok, Err, refl, ap, sym, subst, ◌∙◌, arith, zero, suc}
 use Rattle.std.specs.Prelude.{IfSome, OnOk, position, reverse}
 use Rattle.std.specs.List.{AllByRecursion, AllZip, position_or_len}
@@ -88,7 +88,8 @@ place_stays probe old new more =
     by_offset None = refl
     by_offset (Some offset) = place_same offset old.functions new.functions more.functions
 
--- where what is at the place of a function is cached, memory is taken for many inlined functions alone
+-- where what is at the place of a function is cached, memory is taken for many inlined functions
+-- alone
 pub cached_ready : (probe n : ℕ) (t : FunctionTable) (v : Result Detail Error) → function_place_at probe t ≡ Some n → cached_detail t n ≡ Some v → table_takes_memory probe t ≡ table_has_many probe t
 cached_ready probe n t v at e =
     ap (place_takes_memory probe t) at ∙ ap (cached_detail_takes_memory probe) e
@@ -341,7 +342,7 @@ and_weaker false b c w h = absurd cc
 
 -- functions that were read stay as they are, and others are read
 module _ {R : Type 0} (old mid : LazyFunctions R) (kept : were_read old ≡ true → (mid ≡ old)) where
-  -- functions that are kept were kept before, or weren't read
+  -- functions that are cached were cached before, or weren't read
   pub memory_before : (t : FunctionTable) (probe : ℕ) → mid ≡ lazy.Read t → table_takes_memory probe t ≡ true → find_takes_memory probe old ≡ true
   memory_before t probe e h = by_old old refl
     where
@@ -408,7 +409,7 @@ module _ {R : Type 0} (old mid : LazyFunctions R) (kept : were_read old ≡ true
       by_old (lazy.Read s) q = let is : lazy.Faulty e ≡ lazy.Read s = sym at ∙ kept (ap were_read q) ∙ q in absurd cc
       by_old (lazy.Faulty x) q = refl
 
--- the frames of a function by its place among those that are kept
+-- the frames of a function by its place among those that are cached
 pub frames_of_place : (files : List (List ℕ)) (language : Option DwLang) (t : FunctionTable) (p : FunctionPlace) → ArePlacesIn t p → (location : Option Location) (left : List FrameRecord)
     → IfSome (cached_offset_at t p.place) (λ offset. left ≡ frames_from files language offset (cached_name t p.place) (reverse (map (entry_among t.inlined) p.inlined.items)) location)
     → left ≡ found_frames files language (Some (function_of_place t p)) location

@@ -1,5 +1,5 @@
--- What is kept of the entries of all units, one unit after another (on specs/CachedEntries.antt and
--- specs/CachedLookups.antt).
+-- What is cached of the entries of all units, one unit after another (on specs/CachedEntries.antt
+-- and specs/CachedLookups.antt).
 use Rattle.std.proofs.Common.{◌≡◌, ◌≢◌, ℕ, zero, suc, ◌<◌, inl, inr, true, List, [], ◌∷◌, length, get_or, slice_get, Option, Some, None, option_and_then, Result, Ok, Err, refl, ap, sym, subst, ◌∙◌, arith}
 use Rattle.std.proofs.Math.ListN.{set}
 use Rattle.std.specs.Prelude.{IfSome}
@@ -15,7 +15,7 @@ use Rattle.addr2line_units.specs.declared.functions.LazyFunctions.TheVariants as
 use Rattle.addr2line_units.specs.declared.unit_frames.UnitEntries.{UnitEntries}
 use Rattle.addr2line_units.specs.declared.view.ViewState.{ViewState}
 use Rattle.addr2line_units.specs.declared.view.ViewState.TheVariants as states
-use Rattle.addr2line_units.specs.CachedEntries.{AreEntriesOf, ReadsEntriesOf, StayEntries, has_answered, has_entries, has_entries_by, kept_answer}
+use Rattle.addr2line_units.specs.CachedEntries.{AreEntriesOf, ReadsEntriesOf, StayEntries, has_answered, has_entries, has_entries_by, cached_answer}
 use Rattle.addr2line_units.specs.CachedFunctions.{StayFunctions, has_detail, cached_has_function, has_place, cached_functions, no_functions}
 use Rattle.addr2line_units.specs.CachedLookups.{HaveEntriesOf, ReadsOnly, StayAllEntries, answers_in, has_entries_at}
 use Rattle.addr2line_units.specs.CachedViews.{was_looked_at}
@@ -109,14 +109,14 @@ module _ {R : Type 0} where
   same_answers [] [] a = refl
   same_answers [] (w ∷ ws) a = absurd a
   same_answers (v ∷ vs) [] a = absurd a
-  same_answers (v ∷ vs) (w ∷ ws) a = ap (λ x. x ∷ answers_in ws) a.0.answer ∙ ap (λ xs. kept_answer v ∷ xs) (same_answers vs ws a.1)
+  same_answers (v ∷ vs) (w ∷ ws) a = ap (λ x. x ∷ answers_in ws) a.0.answer ∙ ap (λ xs. cached_answer v ∷ xs) (same_answers vs ws a.1)
 
-  pub answer_at : (vs : List (UnitEntries R)) (n : ℕ) (v : UnitEntries R) → n < length vs → v ≡ get_or vs n v → slice_get (answers_in vs) n ≡ Some (kept_answer v)
+  pub answer_at : (vs : List (UnitEntries R)) (n : ℕ) (v : UnitEntries R) → n < length vs → v ≡ get_or vs n v → slice_get (answers_in vs) n ≡ Some (cached_answer v)
   answer_at [] n v h e = absurd (omega arith)
-  answer_at (x ∷ vs) zero v h e = ap (λ y. Some (kept_answer y)) (sym e)
+  answer_at (x ∷ vs) zero v h e = ap (λ y. Some (cached_answer y)) (sym e)
   answer_at (x ∷ vs) (suc n) v h e = answer_at vs n v (omega arith) e
 
-  -- beside each unit stands what is kept of its entries
+  -- beside each unit stands what is cached of its entries
   pub as_many_entries : (scope : Scope) (us : List UnitRecord) (vs : List (UnitEntries R)) → HaveEntriesOf scope us vs → length us ≡ length vs
   as_many_entries scope [] [] own = refl
   as_many_entries scope [] (v ∷ vs) own = absurd own
@@ -137,7 +137,7 @@ module _ {R : Type 0} where
   entries_set scope (x ∷ us) (y ∷ vs) zero u w e own h = (subst (λ (a : UnitRecord). AreEntriesOf scope a w) e h, own.1)
   entries_set scope (x ∷ us) (y ∷ vs) (suc n) u w e own h = (own.0, entries_set scope us vs n u w e own.1 h)
 
-  -- what is found by what is kept is found by it where more is kept
+  -- what is found by what is cached is found by it where more is cached
   function_more : (probe : ℕ) (f g : LazyFunctions R) → StayFunctions f g → cached_has_function probe f ≡ true → cached_has_function probe g ≡ true
   function_more probe lazy.Unread g a e = cc
   function_more probe (lazy.Read t) (lazy.Read u) a e = ap (has_place u) (place_stays probe t u a) ∙ place_more t u a (function_place_at probe t) e

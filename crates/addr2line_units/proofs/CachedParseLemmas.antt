@@ -1,4 +1,4 @@
--- What is kept of the entries of units after a parse of their functions (on
+-- What is cached of the entries of units after a parse of their functions (on
 -- specs/CachedParses.antt).
 use Rattle.std.proofs.Common.{◌≡◌, ℕ, zero, suc, ◌≤◌, ◌<◌, inl, inr, Bool, true, false, not, ◌&&◌, ◌||◌, ◌==◌, cond, nat_lt, List, [], ◌∷◌, length, get_or, slice_get, Option, Some, None, option_and_then, Result, Ok, Err, is_ok, is_some, refl, ap, sym, subst, ◌∙◌, arith}
 use Rattle.std.proofs.Math.ListN.{set}
@@ -25,7 +25,7 @@ use Rattle.addr2line_units.specs.declared.view.ViewState.{ViewState}
 use Rattle.addr2line_units.specs.declared.view.ViewState.TheVariants as states
 use Rattle.addr2line_units.specs.FramesLookup.{answer_of}
 use Rattle.addr2line_units.specs.FunctionParses.{AreReadBefore, read_of_functions, read_of_number, read_of_unit, read_of_view}
-use Rattle.addr2line_units.specs.CachedEntries.{StayEntries, has_answered, has_entries_by, kept_answer}
+use Rattle.addr2line_units.specs.CachedEntries.{StayEntries, has_answered, has_entries_by, cached_answer}
 use Rattle.addr2line_units.specs.CachedFunctions.{AreFunctionsOf, StayFunctions, details_at, functions_fault, has_detail, cached_has_function, has_place, cached_functions, reading_takes_memory, were_read}
 use Rattle.addr2line_units.specs.CachedLookups.{HaveEntriesOf, StayAllEntries, answers_in, has_entries_at}
 use Rattle.addr2line_units.specs.CachedParses.{AreDecided, ChangesOnly, HasRead, HaveFunctions, HaveRead, StayDecided, has_view}
@@ -37,7 +37,7 @@ use Rattle.addr2line_units.proofs.CachedFunctionLemmas.{fault_is}
 use Rattle.addr2line_units.proofs.CachedLookupLemmas.{entries_on, entries_same}
 use Rattle.addr2line_units.proofs.ParseLemmas.{at_or_behind, below_next}
 
--- functions that are kept were read
+-- functions that are cached were read
 pub have_were_read : {R : Type 0} (r : Reads) (f : LazyFunctions R) → HaveFunctions r f → were_read f ≡ true
 have_were_read r lazy.Unread h = absurd h
 have_were_read r (lazy.Read t) h = refl
@@ -62,7 +62,7 @@ alone_read scope view ranges h = ap (λ (r : Result (List FunctionRange) Error).
 pub alone_fault : (scope : Scope) (view : UnitRecord) (e : Error) → functions_of scope.file.sections view ≡ Err e → read_of_functions reads.Functions scope view ≡ Err e
 alone_fault scope view e h = ap (λ (r : Result (List FunctionRange) Error). r >>= λ _. Ok tt) h
 
--- functions that were read with all details are kept with them
+-- functions that were read with all details are cached with them
 pub details_have : {R : Type 0} (scope : Scope) (view : UnitRecord) (may : Bool) (f : LazyFunctions R) (r : Result (Unit {0}) Error) → AreFunctionsOf scope view f → ExactlyUnlessOomIf may (λ x. x) r (functions_fault scope view)
     → OnOk r (were_read f ≡ true) → OnOk r (AllByRecursion HasDetail (cached_functions f).functions) → OnOk r (HaveFunctions reads.Details f)
 details_have scope view may f (Err e) right gives read details = tt
@@ -92,11 +92,11 @@ exactly_ok : (may : Bool) (r given : Result (Unit {0}) Error) → may ≡ false 
 exactly_ok may (Ok x) given m g h = refl
 exactly_ok may (Err e) given m g h = absurd (let no = sym (h (λ t. absurd (let k : true ≡ false = sym t ∙ m in cc))) ∙ g in cc)
 
-pub details_kept : {R : Type 0} (shares : Bool) (scope : Scope) (view : UnitRecord) (f : LazyFunctions R) (r : Result (Unit {0}) Error) → AreFunctionsOf scope view f → HaveFunctions reads.Details f
+pub details_cached : {R : Type 0} (shares : Bool) (scope : Scope) (view : UnitRecord) (f : LazyFunctions R) (r : Result (Unit {0}) Error) → AreFunctionsOf scope view f → HaveFunctions reads.Details f
     → ExactlyUnlessOomIf (reading_takes_memory shares scope view f) (λ x. x) r (functions_fault scope view) → r ≡ Ok tt
-details_kept shares scope view lazy.Unread r right h gives = absurd h
-details_kept shares scope view (lazy.Faulty e) r right h gives = absurd h
-details_kept shares scope view (lazy.Read t) r right h gives =
+details_cached shares scope view lazy.Unread r right h gives = absurd h
+details_cached shares scope view (lazy.Faulty e) r right h gives = absurd h
+details_cached shares scope view (lazy.Read t) r right h gives =
     exactly_ok (details_take_memory shares scope view t.functions) r (functions_fault scope view) (no_detail_memory shares scope view t.functions h)
     (fault_is scope view t right ∙ no_detail_fault scope view t.functions h right.details) gives
 
@@ -111,9 +111,9 @@ view_decided (states.Answered a) h = refl
 pub read_decided : {R : Type 0} (r : Reads) (v : UnitEntries R) → HasRead r v → is_decided v.view.state ≡ true
 read_decided r v h = view_decided v.view.state h.view
 
--- the view by what is kept of it
+-- the view by what is cached of it
 module _ {R : Type 0} (d : Sections) (u : UnitRecord) (here : Option (Result View Error)) where
-  pub known_view : (v : View) (s : ViewState R) → is_decided s ≡ true → IfSome (verdict_in d u s) (λ kept. kept ≡ here) → here ≡ Some (Ok v) → has_view s ≡ true
+  pub known_view : (v : View) (s : ViewState R) → is_decided s ≡ true → IfSome (verdict_in d u s) (λ cached. cached ≡ here) → here ≡ Some (Ok v) → has_view s ≡ true
   known_view v states.Undecided k right e = cc
   known_view v states.Open k right e = cc
   known_view v states.Main k right e = refl
@@ -124,7 +124,7 @@ module _ {R : Type 0} (d : Sections) (u : UnitRecord) (here : Option (Result Vie
       by_unit (Ok y) q = refl
       by_unit (Err y) q = absurd cc
 
-  pub no_view : (x : Error) (s : ViewState R) → IfSome (verdict_in d u s) (λ kept. kept ≡ here) → here ≡ Some (Err x) → has_view s ≡ true → ⊥
+  pub no_view : (x : Error) (s : ViewState R) → IfSome (verdict_in d u s) (λ cached. cached ≡ here) → here ≡ Some (Err x) → has_view s ≡ true → ⊥
   no_view x states.Undecided right e h = cc
   no_view x states.Open right e h = cc
   no_view x states.Main right e h = let no = right ∙ e in cc
@@ -147,7 +147,7 @@ place_below : (t : FunctionTable) (o : Option ℕ) (n : ℕ) → option_and_then
 place_below t None n e = absurd cc
 place_below t (Some offset) n e = some_below (position_or_len (λ (f : CachedFunction). f.offset == offset) t.functions) (length t.functions) n e
 
--- what is kept of all functions answers each lookup
+-- what is cached of all functions answers each lookup
 has_all : (probe : ℕ) (t : FunctionTable) → AllByRecursion HasDetail t.functions → (o : Option ℕ) → function_place_at probe t ≡ o → has_place t o ≡ true
 has_all probe t all None e = refl
 has_all probe t all (Some n) e =
@@ -302,7 +302,7 @@ entries_then {R} v mid f same stay =
 
 -- what is read of the unit of a number
 pub number_is : {R : Type 0} (r : Reads) (scope : Scope) (us : List UnitRecord) (vs : List (UnitEntries R)) (n : ℕ) (u : UnitRecord) (v : UnitEntries R) → n < length us → n < length vs → u ≡ get_or us n u → v ≡ get_or vs n v
-    → read_of_number r scope us (answers_in vs) n ≡ read_of_unit r scope u (kept_answer v)
+    → read_of_number r scope us (answers_in vs) n ≡ read_of_unit r scope u (cached_answer v)
 number_is r scope us vs n u v h k e f =
     ap (λ (o : Option UnitRecord). by_unit o) (got_unit us n u h e) ∙ ap (read_of_unit r scope u) (answer_at vs n v k f)
   where

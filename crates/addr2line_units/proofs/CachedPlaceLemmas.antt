@@ -13,19 +13,19 @@ use Rattle.addr2line_lines.proofs.ReadLemmas.{read_more}
 use Rattle.addr2line_units.specs.declared.functions.LazyFunctions.{LazyFunctions}
 use Rattle.addr2line_units.specs.declared.functions.LazyFunctions.TheVariants as lazy
 use Rattle.addr2line_units.specs.Frames.{function_at}
-use Rattle.addr2line_units.specs.CachedFunctions.{IsTableOf, has_detail, cached_has_function, has_place, has_table, is_kept, were_read}
+use Rattle.addr2line_units.specs.CachedFunctions.{IsTableOf, has_detail, cached_has_function, has_place, has_table, is_cached_fault, were_read}
 use Rattle.addr2line_units.specs.UnitFrames.{is_many}
 use Rattle.addr2line_units.proofs.CachedFunctionLemmas.{cached_is, from_detail, place_stays, read_err, read_ok}
 
--- any fault but OutOfMemory is kept
-pub kept_unless_oom : (x : Error) → x ≢ OutOfMemory → is_kept x ≡ true
-kept_unless_oom OutOfMemory ne = absurd (ne refl)
-kept_unless_oom _ ne = refl
+-- any fault but OutOfMemory is cached
+pub cached_unless_oom : (x : Error) → x ≢ OutOfMemory → is_cached_fault x ≡ true
+cached_unless_oom OutOfMemory ne = absurd (ne refl)
+cached_unless_oom _ ne = refl
 
 -- and OutOfMemory isn't
-pub kept_is_not_oom : (x : Error) → is_kept x ≡ true → x ≢ OutOfMemory
-kept_is_not_oom OutOfMemory h = λ e. cc
-kept_is_not_oom _ h = λ e. absurd cc
+pub cached_is_not_oom : (x : Error) → is_cached_fault x ≡ true → x ≢ OutOfMemory
+cached_is_not_oom OutOfMemory h = λ e. cc
+cached_is_not_oom _ h = λ e. absurd cc
 
 -- nothing is read where the function at the address is known
 pub known_stays : (scope : Scope) (view : UnitRecord) (probe n : ℕ) (old new : FunctionTable) (r : Result (Unit {0}) Error) → function_place_at probe old ≡ Some n → IsReadAt scope view n old r new → has_table probe old ≡ true → new ≡ old
@@ -49,14 +49,14 @@ module _ (scope : Scope) (view : UnitRecord) (probe n : ℕ) (old new : Function
   -- after a fault of the detail the function is known
   pub refused_known : (x : Error) → IsReadAt scope view n old (Err x) new → x ≢ OutOfMemory → has_table probe new ≡ true
   refused_known x k ne = elim (read_err scope view probe n old new f q x right k) [
-    | inl c ↦ known_by (Err x) k (Err x) (cached_is scope view probe n old new f q (Err x) c) ∙ kept_unless_oom x ne
+    | inl c ↦ known_by (Err x) k (Err x) (cached_is scope view probe n old new f q (Err x) c) ∙ cached_unless_oom x ne
     | inr m ↦ absurd (ne m.0)
   ]
 
   -- and where it is known the refusal is such a fault
   pub refused_fault : (x : Error) → IsReadAt scope view n old (Err x) new → has_table probe new ≡ true → x ≢ OutOfMemory
   refused_fault x k has = elim (read_err scope view probe n old new f q x right k) [
-    | inl c ↦ kept_is_not_oom x (sym (known_by (Err x) k (Err x) (cached_is scope view probe n old new f q (Err x) c)) ∙ has)
+    | inl c ↦ cached_is_not_oom x (sym (known_by (Err x) k (Err x) (cached_is scope view probe n old new f q (Err x) c)) ∙ has)
     | inr m ↦ (let none : cached_detail old n ≡ None = ap (λ (o : Option CachedFunction). option_and_then (λ (g : CachedFunction). g.detail) o) q ∙ m.1 in
         let no : false ≡ true = sym (ap (has_table probe) m.2 ∙ ap (has_place old) place ∙ ap has_detail none) ∙ has in
         absurd cc)

@@ -10,7 +10,7 @@ use Rattle.addr2line_units.specs.declared.unit_frames.UnitEntries.{UnitEntries}
 use Rattle.addr2line_units.specs.declared.view.ViewState.{ViewState}
 use Rattle.addr2line_units.specs.declared.view.ViewState.TheVariants as states
 use Rattle.addr2line_units.specs.FramesLookup.{answer_of, readable_view, view_of_number}
-use Rattle.addr2line_units.specs.CachedEntries.{kept_answer}
+use Rattle.addr2line_units.specs.CachedEntries.{cached_answer}
 use Rattle.addr2line_units.specs.CachedLookups.{HaveViewsOf, answers_in, decided_at}
 use Rattle.addr2line_units.specs.CachedViews.{IsViewOf, is_decided, cached_verdict, parts_or_fault, seen_first_answer}
 use Rattle.addr2line_units.specs.Views.{View, parts_of, verdict}
@@ -33,10 +33,10 @@ decided_view {R} d (x ∷ us) (y ∷ vs) zero u v own w e f =
 decided_view d (x ∷ us) (y ∷ vs) (suc n) u v own w e f = decided_view d us vs n u v own.1 w e f
 
 -- it has a verdict
-pub decided_has_verdict : {R : Type 0} → (d : Sections) (u : UnitRecord) (v : UnitEntries R) → IsViewOf d u v.view → is_decided v.view.state ≡ true → is_some (verdict d u (kept_answer v)) ≡ true
-decided_has_verdict {R} d u v is decided = by v.view.state (verdict d u (kept_answer v)) decided is.right
+pub decided_has_verdict : {R : Type 0} → (d : Sections) (u : UnitRecord) (v : UnitEntries R) → IsViewOf d u v.view → is_decided v.view.state ≡ true → is_some (verdict d u (cached_answer v)) ≡ true
+decided_has_verdict {R} d u v is decided = by v.view.state (verdict d u (cached_answer v)) decided is.right
   where
-    by : (s : ViewState R) (w : Option (Result View Error)) → is_decided s ≡ true → IfSome (cached_verdict d u (record { state = s })) (λ kept. kept ≡ w) → is_some w ≡ true
+    by : (s : ViewState R) (w : Option (Result View Error)) → is_decided s ≡ true → IfSome (cached_verdict d u (record { state = s })) (λ cached. cached ≡ w) → is_some w ≡ true
     by states.Undecided w k e = absurd cc
     by states.Open w k e = absurd cc
     by states.Main w k e = ap is_some (sym e)
@@ -56,12 +56,12 @@ pub parts_at : {R T : Type 0} → (see : T → Sections × UnitRecord) (d : Sect
     → HaveViewsOf d us vs → decided_at vs n ≡ true → n < length us → n < length vs → u ≡ get_or us n u → v ≡ get_or vs n v → IfSome (verdict d u (seen_first_answer v.view)) (λ view. Exactly see r (parts_or_fault view))
     → option_map see (result_ok r) ≡ option_map parts_of (readable_view (view_of_number d us (answers_in vs) n))
 parts_at see d us vs n u v r own decided within there e f h =
-    told_parts see (verdict d u (kept_answer v)) r (decided_has_verdict d u v is.0 is.1) h ∙ ap (λ w. option_map parts_of (readable_view w)) (sym same)
+    told_parts see (verdict d u (cached_answer v)) r (decided_has_verdict d u v is.0 is.1) h ∙ ap (λ w. option_map parts_of (readable_view w)) (sym same)
   where
     is : IsViewOf d u v.view × (is_decided v.view.state ≡ true)
     is = decided_view d us vs n u v own decided e f
 
-    same : view_of_number d us (answers_in vs) n ≡ verdict d u (kept_answer v)
+    same : view_of_number d us (answers_in vs) n ≡ verdict d u (cached_answer v)
     same =
         ap (λ o. option_and_then (λ x. verdict d x (answer_of (answers_in vs) n)) o) (got_unit us n u within e)
         ∙ ap (λ o. verdict d u (unwrap_or o None)) (answer_at vs n v there f)

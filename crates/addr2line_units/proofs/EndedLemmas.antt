@@ -13,7 +13,7 @@ use Rattle.addr2line_units.specs.declared.unit_frames.UnitEntries.{UnitEntries}
 use Rattle.addr2line_units.specs.CachedLines.{indexed_units}
 use Rattle.addr2line_units.specs.Frames.{FrameRecord}
 use Rattle.addr2line_units.specs.FramesLookup.{Stop, asked_frames, frames_of_number, is_waiting, or_stop, stop_along}
-use Rattle.addr2line_units.specs.CachedEntries.{kept_answer}
+use Rattle.addr2line_units.specs.CachedEntries.{cached_answer}
 use Rattle.addr2line_units.specs.CachedLookups.{HaveEntriesOf, answers_in, decided_along, decided_at}
 use Rattle.addr2line_units.specs.Views.{View, verdict}
 use Rattle.addr2line_units.proofs.DecidedLemmas.{decided_has_verdict}
@@ -32,8 +32,8 @@ module _ {R : Type 0} (scope : Scope) (probe : ℕ) where
   decided_frames (u ∷ us) [] vs n own h e = cc
   decided_frames (u ∷ us) (r ∷ rs) [] n own h e = absurd own
   decided_frames (u ∷ us) (r ∷ rs) (v ∷ vs) zero own h e =
-      both (verdict scope.file.sections u (kept_answer v)) (decided_has_verdict scope.file.sections u v own.0.view h)
-      (open_of_none scope (record { unit = u; language = r.lang }) (kept_answer v) probe e)
+      both (verdict scope.file.sections u (cached_answer v)) (decided_has_verdict scope.file.sections u v own.0.view h)
+      (open_of_none scope (record { unit = u; language = r.lang }) (cached_answer v) probe e)
     where
       both : (w : Option (Result View Error)) → is_some w ≡ true → is_none w ≡ true → ⊥
       both None s n = cc

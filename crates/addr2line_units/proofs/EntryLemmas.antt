@@ -1,4 +1,4 @@
--- What is kept of the entries of a unit (on specs/CachedEntries.antt and specs/UnitFrames.antt).
+-- What is cached of the entries of a unit (on specs/CachedEntries.antt and specs/UnitFrames.antt).
 use Rattle.std.proofs.Common.{◌≡◌, ◌∙◌, ℕ, ap, sym, refl, subst, Bool, true, false, Option, Some, IfOk, IfSome, is_none, Result, Ok, Err}
 use Rattle.gimli_read.specs.declared.error.Error.{Error}
 use Rattle.gimli_read.specs.Reading.{◌>>=◌, ExactlyUnlessOom, ExactlyUnlessOomIf}
@@ -13,8 +13,8 @@ use Rattle.addr2line_units.specs.declared.view.UnitView.{UnitView}
 use Rattle.addr2line_units.specs.declared.view.ViewState.{ViewState}
 use Rattle.addr2line_units.specs.declared.view.ViewState.TheVariants as states
 use Rattle.addr2line_units.specs.Frames.{function_at}
-use Rattle.addr2line_units.specs.CachedEntries.{AreEntriesOf, StayEntries, has_answered, has_entries_by, kept_answer}
-use Rattle.addr2line_units.specs.CachedFunctions.{AreFunctionsOf, StayFunctions, cached_has_function, is_kept, were_read}
+use Rattle.addr2line_units.specs.CachedEntries.{AreEntriesOf, StayEntries, has_answered, has_entries_by, cached_answer}
+use Rattle.addr2line_units.specs.CachedFunctions.{AreFunctionsOf, StayFunctions, cached_has_function, is_cached_fault, were_read}
 use Rattle.addr2line_units.specs.CachedViews.{IsViewOf, is_decided, parts_or_fault, seen_first_answer, seen_sections, verdict_in, view_by, waits, was_looked_at}
 use Rattle.addr2line_units.specs.UnitFrames.{function_by, function_in, has_many, is_many}
 use Rattle.addr2line_units.specs.Views.{View, is_open, parts_of, verdict, view_scope}
@@ -44,7 +44,7 @@ module _ {R : Type 0} (scope : Scope) (u : UnitRecord) (old : UnitEntries R) (vi
   abbrev with_view : UnitView R → UnitEntries R
   with_view v = record { view = v; functions = old.functions }
 
-  -- what is kept stays right where the view is looked at
+  -- what is cached stays right where the view is looked at
   pub look_keeps : seen_first_answer view ≡ seen_first_answer old.view → AreEntriesOf scope u old → IsViewOf scope.file.sections u view → AreEntriesOf scope u (record { view = view; functions = old.functions })
   look_keeps answer h right = record {
     view = right;
@@ -66,9 +66,9 @@ exactly_unless_oom may see (Err e) given h = λ ne. h (λ _. ne)
 
 module _ {R : Type 0} (scope : Scope) (u : UnitRecord) (probe : ℕ) (old : UnitEntries R) (h : AreEntriesOf scope u old) (decided : is_decided old.view.state ≡ true) where
   abbrev pub here : Option (Result View Error)
-  here = verdict scope.file.sections u (kept_answer old)
+  here = verdict scope.file.sections u (cached_answer old)
 
-  by_state : (s : ViewState R) → is_decided s ≡ true → IfSome (verdict_in scope.file.sections u s) (λ kept. kept ≡ here) → (r : Result View Error) × (here ≡ Some r)
+  by_state : (s : ViewState R) → is_decided s ≡ true → IfSome (verdict_in scope.file.sections u s) (λ cached. cached ≡ here) → (r : Result View Error) × (here ≡ Some r)
   by_state states.Undecided d e = cc
   by_state states.Open d e = cc
   by_state states.Main d e = (_, sym e)
@@ -102,45 +102,45 @@ module _ {R : Type 0} (scope : Scope) (u : UnitRecord) (probe : ℕ) (old : Unit
       by_view (Err y) e p = let same : y ≡ x = cc in e ∙ ap (λ z. Some (Err z)) same
 
   -- a unit that is decided isn't open
-  pub not_open : is_open scope.file.sections u (kept_answer old) ≡ false
+  pub not_open : is_open scope.file.sections u (cached_answer old) ≡ false
   not_open = ap is_none view_or_fault.1
 
   -- the function by the fault of the view
-  pub fault_in : (x : Error) → here ≡ Some (Err x) → function_in scope u (kept_answer old) probe ≡ Err x
+  pub fault_in : (x : Error) → here ≡ Some (Err x) → function_in scope u (cached_answer old) probe ≡ Err x
   fault_in x e = ap (function_by scope probe) e
 
   -- what is known of the unit where its view has a fault
-  pub fault_entries : (x : Error) → here ≡ Some (Err x) → (fs : LazyFunctions R) → has_entries_by probe old.view.state fs ≡ is_kept x
-  fault_entries x e fs = by_kept old.view.state decided h.view.right
+  pub fault_entries : (x : Error) → here ≡ Some (Err x) → (fs : LazyFunctions R) → has_entries_by probe old.view.state fs ≡ is_cached_fault x
+  fault_entries x e fs = by_cached old.view.state decided h.view.right
     where
-      by_kept : (s : ViewState R) → is_decided s ≡ true → IfSome (verdict_in scope.file.sections u s) (λ kept. kept ≡ here) → has_entries_by probe s fs ≡ is_kept x
-      by_kept states.Undecided d k = cc
-      by_kept states.Open d k = cc
-      by_kept states.Main d k = let no = k ∙ e in absurd cc
-      by_kept (states.Unnamed y) d k = let both = k ∙ e in let same : y ≡ x = cc in ap is_kept same
-      by_kept (states.Answered a) d k = by_unit a.unit (k ∙ e)
+      by_cached : (s : ViewState R) → is_decided s ≡ true → IfSome (verdict_in scope.file.sections u s) (λ cached. cached ≡ here) → has_entries_by probe s fs ≡ is_cached_fault x
+      by_cached states.Undecided d k = cc
+      by_cached states.Open d k = cc
+      by_cached states.Main d k = let no = k ∙ e in absurd cc
+      by_cached (states.Unnamed y) d k = let both = k ∙ e in let same : y ≡ x = cc in ap is_cached_fault same
+      by_cached (states.Answered a) d k = by_unit a.unit (k ∙ e)
         where
-          by_unit : (r : Result (Option UnitRecord) Error) → Some (r >>= λ y. Ok (view_by scope.file.sections u (seen_sections a) y)) ≡ Some (Err x) → has_answered probe r fs ≡ is_kept x
+          by_unit : (r : Result (Option UnitRecord) Error) → Some (r >>= λ y. Ok (view_by scope.file.sections u (seen_sections a) y)) ≡ Some (Err x) → has_answered probe r fs ≡ is_cached_fault x
           by_unit (Ok y) k = absurd cc
-          by_unit (Err y) k = let same : y ≡ x = cc in ap is_kept same
+          by_unit (Err y) k = let same : y ≡ x = cc in ap is_cached_fault same
 
   module _ (inner : Scope) (unit : UnitRecord) (v : IsView inner unit) where
     moved : (P : Scope → UnitRecord → Type 0) → P (view_scope scope v.view) v.view.unit → P inner unit
     moved P p = subst (λ s. P s unit) (sym v.leads) (subst (λ y. P (view_scope scope v.view) y) v.unit p)
 
-    -- the functions that are kept are those of the view
+    -- the functions that are cached are those of the view
     pub functions_right : AreFunctionsOf inner unit old.functions
     functions_right = moved (λ s y. AreFunctionsOf s y old.functions) (subst (λ w. IfSome w (λ r. IfOk r (λ x. AreFunctionsOf (view_scope scope x) x.unit old.functions))) v.is h.functions)
 
     -- the function in the unit is that in the view
-    pub function_is_in : function_in scope u (kept_answer old) probe ≡ function_at inner unit probe
+    pub function_is_in : function_in scope u (cached_answer old) probe ≡ function_at inner unit probe
     function_is_in = ap (function_by scope probe) v.is ∙ moved (λ s y. function_at (view_scope scope v.view) v.view.unit probe ≡ function_at s y probe) refl
 
-    pub few_in : has_many scope u (kept_answer old) probe ≡ false → is_many (function_at inner unit probe) ≡ false
+    pub few_in : has_many scope u (cached_answer old) probe ≡ false → is_many (function_at inner unit probe) ≡ false
     unfolding has_many
     few_in few = sym (ap is_many function_is_in) ∙ few
 
-    -- the unit stays right where other functions of its view are kept
+    -- the unit stays right where other functions of its view are cached
     pub functions_keep : (new : LazyFunctions R) → AreFunctionsOf inner unit new → AreEntriesOf scope u (record { view = old.view; functions = new })
     functions_keep new right = record {
       view = h.view;
@@ -151,14 +151,14 @@ module _ {R : Type 0} (scope : Scope) (u : UnitRecord) (probe : ℕ) (old : Unit
 
     -- what is known of the unit is what is known of the function
     pub function_entries : (fs : LazyFunctions R) → has_entries_by probe old.view.state fs ≡ cached_has_function probe fs
-    function_entries fs = by_kept old.view.state decided h.view.right
+    function_entries fs = by_cached old.view.state decided h.view.right
       where
-        by_kept : (s : ViewState R) → is_decided s ≡ true → IfSome (verdict_in scope.file.sections u s) (λ kept. kept ≡ here) → has_entries_by probe s fs ≡ cached_has_function probe fs
-        by_kept states.Undecided d k = cc
-        by_kept states.Open d k = cc
-        by_kept states.Main d k = refl
-        by_kept (states.Unnamed y) d k = let no = k ∙ v.is in absurd cc
-        by_kept (states.Answered a) d k = by_unit a.unit (k ∙ v.is)
+        by_cached : (s : ViewState R) → is_decided s ≡ true → IfSome (verdict_in scope.file.sections u s) (λ cached. cached ≡ here) → has_entries_by probe s fs ≡ cached_has_function probe fs
+        by_cached states.Undecided d k = cc
+        by_cached states.Open d k = cc
+        by_cached states.Main d k = refl
+        by_cached (states.Unnamed y) d k = let no = k ∙ v.is in absurd cc
+        by_cached (states.Answered a) d k = by_unit a.unit (k ∙ v.is)
           where
             by_unit : (r : Result (Option UnitRecord) Error) → Some (r >>= λ y. Ok (view_by scope.file.sections u (seen_sections a) y)) ≡ Some (Ok v.view) → has_answered probe r fs ≡ cached_has_function probe fs
             by_unit (Ok y) k = refl

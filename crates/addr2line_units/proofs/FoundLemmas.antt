@@ -17,7 +17,7 @@ use Rattle.addr2line_units.specs.declared.view.ViewState.TheVariants as states
 use Rattle.addr2line_units.specs.CachedLines.{indexed_units}
 use Rattle.addr2line_units.specs.Frames.{FrameRecord}
 use Rattle.addr2line_units.specs.FramesLookup.{Stop, Waits, Finds, FindsNothing, after_fault, asked_frames, ends_lookup, frames_of_number, holds_along, or_stop, stop_along}
-use Rattle.addr2line_units.specs.CachedEntries.{kept_answer}
+use Rattle.addr2line_units.specs.CachedEntries.{cached_answer}
 use Rattle.addr2line_units.specs.CachedLookups.{HaveEntriesOf, answers_in, decided_at, has_entries_at, has_frames_at}
 use Rattle.addr2line_units.specs.CachedViews.{is_decided, waits, was_looked_at}
 use Rattle.addr2line_units.specs.UnitFrames.{frames_by, frames_in, function_in}
@@ -102,7 +102,7 @@ module _ {R : Type 0} (scope : Scope) (probe : ℕ) where
   decided_there (u ∷ us) [] vs n own e h = absurd cc
   decided_there (u ∷ us) (r ∷ rs) [] n own e h = absurd own
   decided_there (u ∷ us) (r ∷ rs) (v ∷ vs) zero own e h =
-      let decided = decided_by_frames scope (record { unit = u; language = r.lang }) (kept_answer v) probe e in
+      let decided = decided_by_frames scope (record { unit = u; language = r.lang }) (cached_answer v) probe e in
       let looked = known_was_looked_at probe v h in
       looked_is_decided v.view.state looked (looked_waits scope.file.sections u v.view own.0.view looked ∙ decided)
   decided_there (u ∷ us) (r ∷ rs) (v ∷ vs) (suc n) own e h = decided_there us rs vs n own.1 e h

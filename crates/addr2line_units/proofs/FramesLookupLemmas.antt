@@ -160,7 +160,7 @@ module _ {R : Type 0} (rs : List ResUnit) (vs : List (UnitEntries R)) (n : ℕ) 
   no_stop (found.Here None (Some row)) e = cc
   no_stop (found.Here (Some p) row) e = cc
 
--- where more is kept, what was known is known
+-- where more is cached, what was known is known
 pub has_more : {R : Type 0} (asks : ℕ → Bool) (probe : ℕ) (p q : List Bool) (vs ws : List (UnitEntries R)) → StaysParsed p q → ((n : ℕ) → has_entries_at probe vs n ≡ true → has_entries_at probe ws n ≡ true)
     → (n : ℕ) → has_frames_at asks probe p vs n ≡ true → has_frames_at asks probe q ws n ≡ true
 has_more asks probe p q vs ws lines entries n e = of_bools (has_entries_at probe vs n) (has_entries_at probe ws n) (asks n) (has_parsed p n) (has_parsed q n) (entries n) (lines n) e

@@ -9,13 +9,13 @@ use Rattle.addr2line_units.specs.declared.unit_frames.UnitEntries.{UnitEntries}
 use Rattle.addr2line_units.specs.declared.view.ViewState.{ViewState}
 use Rattle.addr2line_units.specs.declared.view.ViewState.TheVariants as states
 use Rattle.addr2line_units.specs.CachedEntries.{has_answered, has_entries, has_entries_by}
-use Rattle.addr2line_units.specs.CachedFunctions.{cached_has_function, is_kept}
+use Rattle.addr2line_units.specs.CachedFunctions.{cached_has_function, is_cached_fault}
 use Rattle.addr2line_units.specs.CachedLookups.{AreFreshOf, has_entries_at}
 use Rattle.addr2line_units.specs.CachedViews.{was_looked_at}
 use Rattle.addr2line_units.specs.KnownEntries.{AllKnown, KnownEntries, NothingKnown, is_known_at, known_answer, known_by, known_fault, known_functions, known_in, knows_at}
 
-fault_known : (probe : ℕ) (e : Error) → is_known_at probe (known_fault e) ≡ is_kept e
-fault_known probe e = by (is_kept e)
+fault_known : (probe : ℕ) (e : Error) → is_known_at probe (known_fault e) ≡ is_cached_fault e
+fault_known probe e = by (is_cached_fault e)
   where
     by : (b : Bool) → is_known_at probe (if b then AllKnown else NothingKnown) ≡ b
     by true = refl

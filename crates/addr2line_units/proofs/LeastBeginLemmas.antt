@@ -65,7 +65,7 @@ dropped_least (suc n) (x ∷ xs) h = dropped_least n xs (later_least x xs h)
 pub rest_is : {X : Type 0} (n : ℕ) (ys xs : List X) → ys ≡ xs → take (length ys - n) (drop n ys) ≡ drop n xs
 rest_is n ys xs e = let left = length-drop n ys in take_all (length ys - n) (drop n ys) (omega arith) ∙ ap (drop n) e
 
--- where the least begin is past the last address of a search, none begins by it
+-- where the least begin is past the last address of a search, none begins at or below it
 none_by : (last : ℕ) (ranges : List UnitRange) → last < least_begin ranges → filter (range_begins_by last) ranges ≡ []
 none_by last [] h = refl
 none_by last (r ∷ ranges) h =
@@ -108,7 +108,7 @@ ends_rise xs up = non_decreasing (λ (y : IndexedRange). y.unit_range.range.end)
 abbrev pub ends_by : ℕ → IndexedRange → Bool
 ends_by low y = leb y.unit_range.range.end low
 
--- from the first range on that ends past low, those that begin by the last address
+-- from the first range on that ends past low, those that begin at or below the last address
 from_point : (low last : ℕ) (xs : List IndexedRange) (n : ℕ) → n ≤ length xs → IsPartitionPoint (λ y. ends_by low y ≡ true) (λ y. ends_by low y ≡ false) xs n
     → filter (range_begins_by last) (map unit_range_of (drop n xs)) ≡ filter (is_between low last) (map unit_range_of xs)
 from_point low last [] zero le h = refl

@@ -1,8 +1,8 @@
 -- Answers to the loads of units, and the loads that are listed (on specs/Loads.antt and
 -- specs/ListedLoads.antt).
-use Rattle.std.proofs.Common.{◌≡◌, ℕ, zero, suc, ◌<◌, ◌≤◌, ◌==◌, ◌++◌, ◌||◌, ◌&&◌, not, cond, Bool, true, false, List, [], ◌∷◌, filter, length, get_or, map, slice_get, arith, subst, Option, Some, None, option_map, Result, Ok, Err, ap, refl, sym, ◌∙◌}
+use Rattle.std.proofs.Common.{◌≡◌, ℕ, zero, suc, ◌<◌, ◌≤◌, ◌==◌, ◌++◌, ◌||◌, ◌&&◌, not, cond, Bool, true, false, List, [], ◌∷◌, filter, length, get_or, slice_get, arith, subst, Option, Some, None, Result, Ok, Err, ap, refl, sym, ◌∙◌}
 use Rattle.std.proofs.Math.ListN.{set}
-use Rattle.std.proofs.lemmas.List.{append_assoc, map-append}
+use Rattle.std.proofs.lemmas.List.{append_assoc}
 use Rattle.std.specs.Option.{option_to_list}
 use Rattle.std.specs.Prelude.{IfSome, is_none, is_some, if◌then◌else◌}
 use Rattle.gimli_read.specs.declared.error.Error.{Error}
@@ -15,7 +15,7 @@ use Rattle.gimli.specs.Unit.{UnitRecord}
 use Rattle.addr2line_units.specs.declared.index.UnitRange.{UnitRange}
 use Rattle.addr2line_units.specs.declared.unit_frames.UnitEntries.{UnitEntries}
 use Rattle.addr2line_units.specs.FramesLookup.{answer_of, with_answer}
-use Rattle.addr2line_units.specs.CachedEntries.{kept_answer}
+use Rattle.addr2line_units.specs.CachedEntries.{cached_answer}
 use Rattle.addr2line_units.specs.CachedLookups.{StayAllEntries, answers_in, decided_at}
 use Rattle.addr2line_units.specs.CachedViews.{is_decided, parts_or_fault}
 use Rattle.addr2line_units.specs.ListedLoads.{MarksLoad, MarksUnit, if_new, is_marked, is_new}
@@ -207,12 +207,12 @@ module _ (listed : List SplitLoad) (o : Option SplitLoad) (old now : List Bool) 
       append_assoc listed (option_to_list found) (filter (is_new now) loads)
       ∙ ap (λ z. listed ++ z) (ap (λ z. option_to_list z ++ filter (is_new now) loads) f ∙ sym (next_listed o old now loads m)) ∙ h
 
--- the load of the unit of a number, by what is kept of it
+-- the load of the unit of a number, by what is cached of it
 pub load_there : {R : Type 0} (d : Sections) (us : List UnitRecord) (vs : List (UnitEntries R)) (n : ℕ) (u : UnitRecord) (v : UnitEntries R) → slice_get us n ≡ Some u → n < length vs → v ≡ get_or vs n v
-    → load_of_number d us (answers_in vs) n ≡ awaited_load d n u (kept_answer v)
+    → load_of_number d us (answers_in vs) n ≡ awaited_load d n u (cached_answer v)
 load_there d us vs n u v e h at = by (slice_get us n) e
   where
-    by : (o : Option UnitRecord) → o ≡ Some u → elim o [ None ↦ None | Some x ↦ awaited_load d n x (answer_of (answers_in vs) n) ] ≡ awaited_load d n u (kept_answer v)
+    by : (o : Option UnitRecord) → o ≡ Some u → elim o [ None ↦ None | Some x ↦ awaited_load d n x (answer_of (answers_in vs) n) ] ≡ awaited_load d n u (cached_answer v)
     by None k = absurd cc
     by (Some x) k = let same : x ≡ u = cc in ap (λ y. awaited_load d n y (answer_of (answers_in vs) n)) same ∙ ap (awaited_load d n u) (answer_at vs n v h at)
 
@@ -237,7 +237,7 @@ listed_step listed d us answers later r old now rest ranges all found e steps f 
     (subst (λ a. MarksLoad (load_of_number d us a r.unit) old now) e m)
     (subst (λ rs. listed ++ filter (is_new old) (loads_along (load_of_number d us answers) rs) ≡ all) steps h)
 
--- what was decided is decided where more is kept
+-- what was decided is decided where more is cached
 pub decided_stays : {R : Type 0} (vs ws : List (UnitEntries R)) (n : ℕ) → StayAllEntries vs ws → decided_at vs n ≡ true → decided_at ws n ≡ true
 decided_stays [] ws n a h = absurd cc
 decided_stays (v ∷ vs) [] n a h = absurd a

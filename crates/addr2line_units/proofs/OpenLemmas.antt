@@ -7,7 +7,7 @@ use Rattle.addr2line_units.specs.declared.index.UnitRange.{UnitRange}
 use Rattle.addr2line_units.specs.declared.unit_frames.UnitEntries.{UnitEntries}
 use Rattle.addr2line_units.specs.declared.view.UnitView.{UnitView}
 use Rattle.addr2line_units.specs.FramesLookup.{answer_of}
-use Rattle.addr2line_units.specs.CachedEntries.{kept_answer}
+use Rattle.addr2line_units.specs.CachedEntries.{cached_answer}
 use Rattle.addr2line_units.specs.CachedLookups.{StayAllEntries, answers_in}
 use Rattle.addr2line_units.specs.CachedViews.{IsViewOf, seen_first_answer, waits, was_looked_at}
 use Rattle.addr2line_units.specs.Loads.{NoneOpen, is_open_at}
@@ -16,7 +16,7 @@ use Rattle.addr2line_units.proofs.AnswerLemmas.{open_by_look}
 use Rattle.addr2line_units.proofs.CachedLookupLemmas.{answer_at, same_answers}
 
 -- the unit of a number among those that are kept
-pub not_open_there : {R : Type 0} (d : Sections) (us : List UnitRecord) (vs : List (UnitEntries R)) (n : ℕ) (u : UnitRecord) (v : UnitEntries R) → slice_get us n ≡ Some u → n < length vs → v ≡ get_or vs n v → is_open_at d us (answers_in vs) n ≡ false → is_open d u (kept_answer v) ≡ false
+pub not_open_there : {R : Type 0} (d : Sections) (us : List UnitRecord) (vs : List (UnitEntries R)) (n : ℕ) (u : UnitRecord) (v : UnitEntries R) → slice_get us n ≡ Some u → n < length vs → v ≡ get_or vs n v → is_open_at d us (answers_in vs) n ≡ false → is_open d u (cached_answer v) ≡ false
 not_open_there d us vs n u v there within e not_open =
     sym (ap (λ o. is_open d u (unwrap_or o None)) (answer_at vs n v within e)) ∙ sym (ap (λ o. at o) there) ∙ not_open
   where
@@ -29,7 +29,7 @@ waits_only_open d u v w own looked same waiting not_open =
     let f : ◌≡◌ {A = Bool} true false = sym (open_by_look d u v w true own looked same waiting) ∙ not_open in
     cc
 
--- the first unit along ranges, by what is kept later
+-- the first unit along ranges, by what is cached later
 pub first_not_open : {R : Type 0} (d : Sections) (us : List UnitRecord) (vs ws : List (UnitEntries R)) (ranges : List UnitRange) (r : UnitRange) (rest : List UnitRange) → ranges ≡ r ∷ rest → StayAllEntries vs ws → NoneOpen d us (answers_in vs) ranges
     → is_open_at d us (answers_in ws) r.unit ≡ false
 first_not_open d us vs ws ranges r rest steps stay all =

@@ -31,16 +31,16 @@ use Rattle.addr2line_units.proofs.AnswerLemmas.{looked_waits}
 use Rattle.addr2line_units.proofs.EntryLemmas.{not_open}
 use Rattle.addr2line_units.proofs.FoundLemmas.{looked_is_decided}
 use Rattle.addr2line_units.proofs.CachedParseLemmas.{got_entry, got_set, read_decided}
-use Rattle.addr2line_units.proofs.CachedPlaceLemmas.{kept_unless_oom}
+use Rattle.addr2line_units.proofs.CachedPlaceLemmas.{cached_unless_oom}
 use Rattle.addr2line_units.proofs.ParseLemmas.{at_or_behind, below_next, unit_again}
 
 pub not_oom : {X : Type 0} (r : Result X Error) → HadMemory r → r ≢ Err OutOfMemory
 not_oom (Ok x) h = λ e. cc
 not_oom (Err e) h = λ q. h (let same : e ≡ OutOfMemory = cc in same)
 
--- a fault that is kept is known
+-- a fault that is cached is known
 pub ready_fault : (r : Reads) (e : Error) → e ≢ OutOfMemory → IsReadyFor r (known_fault e)
-ready_fault r e ne = subst (λ (b : Bool). IsReadyFor r (if b then AllKnown else NothingKnown)) (sym (kept_unless_oom e ne)) tt
+ready_fault r e ne = subst (λ (b : Bool). IsReadyFor r (if b then AllKnown else NothingKnown)) (sym (cached_unless_oom e ne)) tt
 
 module _ {R : Type 0} (r : Reads) where
   -- functions that are known were read
@@ -88,7 +88,7 @@ module _ {R : Type 0} (r : Reads) (old mid : LazyFunctions R) (kept : were_read 
 
 -- what is known of a unit whose view is decided, by the view
 module _ {R : Type 0} (d : Sections) (u : UnitRecord) (here : Option (Result View Error)) where
-  pub fault_by_view : (x : Error) (s : ViewState R) (f : LazyFunctions R) → is_decided s ≡ true → IfSome (verdict_in d u s) (λ kept. kept ≡ here) → here ≡ Some (Err x) → known_by s f ≡ known_fault x
+  pub fault_by_view : (x : Error) (s : ViewState R) (f : LazyFunctions R) → is_decided s ≡ true → IfSome (verdict_in d u s) (λ cached. cached ≡ here) → here ≡ Some (Err x) → known_by s f ≡ known_fault x
   fault_by_view x states.Undecided f k right e = cc
   fault_by_view x states.Open f k right e = cc
   fault_by_view x states.Main f k right e = let no = right ∙ e in absurd cc
@@ -99,7 +99,7 @@ module _ {R : Type 0} (d : Sections) (u : UnitRecord) (here : Option (Result Vie
       by_unit (Ok y) q = absurd cc
       by_unit (Err y) q = let same : y ≡ x = cc in ap known_fault same
 
-  pub functions_by_view : (v : View) (s : ViewState R) (f : LazyFunctions R) → is_decided s ≡ true → IfSome (verdict_in d u s) (λ kept. kept ≡ here) → here ≡ Some (Ok v) → known_by s f ≡ known_functions f
+  pub functions_by_view : (v : View) (s : ViewState R) (f : LazyFunctions R) → is_decided s ≡ true → IfSome (verdict_in d u s) (λ cached. cached ≡ here) → here ≡ Some (Ok v) → known_by s f ≡ known_functions f
   functions_by_view v states.Undecided f k right e = cc
   functions_by_view v states.Open f k right e = cc
   functions_by_view v states.Main f k right e = refl

@@ -1,4 +1,4 @@
--- The units that references lead to in a context, and what is kept of their entries at first (on
+-- The units that references lead to in a context, and what is cached of their entries at first (on
 -- specs/UnitIndexLaws.antt, specs/FramesLookup.antt and specs/CachedLookups.antt).
 use Rattle.std.proofs.Common.{◌≡◌, ◌∙◌, ap, sym, refl, subst, Bool, true, false, List, [], ◌∷◌, ◌++◌, map, Option, Some, None, option_map, is_some, IfSome, IfOk, Result, Ok, Err, if◌then◌else◌}
 use Rattle.std.specs.Result.{result_ok}
@@ -22,7 +22,7 @@ use Rattle.addr2line_units.specs.declared.view.ViewState.{ViewState}
 use Rattle.addr2line_units.specs.declared.view.ViewState.TheVariants as states
 use Rattle.addr2line_units.specs.CachedLines.{HaveLinesOf, indexed_units}
 use Rattle.addr2line_units.specs.FramesLookup.{main_scope}
-use Rattle.addr2line_units.specs.CachedEntries.{AreEntriesOf, AreFresh, kept_answer}
+use Rattle.addr2line_units.specs.CachedEntries.{AreEntriesOf, AreFresh, cached_answer}
 use Rattle.addr2line_units.specs.CachedFunctions.{AreFunctionsOf, were_read}
 use Rattle.addr2line_units.specs.CachedLookups.{AreFreshOf, HaveEntriesOf, answers_in}
 use Rattle.addr2line_units.specs.CachedViews.{answer_in, verdict_in, was_looked_at}
@@ -134,7 +134,7 @@ records_beside d [] (r ∷ rs) own = absurd own
 records_beside d (u ∷ us) [] own = absurd own
 records_beside d (u ∷ us) (r ∷ rs) own = ap (λ (vs : List UnitRecord). u ∷ vs) (records_beside d us rs own.1)
 
--- before a unit is looked at nothing is kept of its view
+-- before a unit is looked at nothing is cached of its view
 no_answer : {R : Type 0} (s : ViewState R) → was_looked_at s ≡ false → answer_in s ≡ None
 no_answer states.Undecided e = refl
 no_answer states.Open e = absurd cc
@@ -158,10 +158,10 @@ unread_are_of scope view (lazy.Faulty f) e = absurd cc
 fresh_are_of : {R : Type 0} (scope : Scope) (u : UnitRecord) (v : UnitEntries R) → AreFresh v → AreEntriesOf scope u v
 fresh_are_of {R} scope u v fresh = record {
   view = record {
-    right = subst (λ (kept : Option (Option (Result View Error))). IfSome kept (λ k. k ≡ verdict scope.file.sections u (kept_answer v))) (sym (no_verdict scope.file.sections u v.view.state fresh.view)) tt;
+    right = subst (λ (kept : Option (Option (Result View Error))). IfSome kept (λ k. k ≡ verdict scope.file.sections u (cached_answer v))) (sym (no_verdict scope.file.sections u v.view.state fresh.view)) tt;
     waited = λ e. absurd (none_some (ap (λ (a : Option (Option Sections)). is_some a) (sym (no_answer v.view.state fresh.view)) ∙ e));
   };
-  functions = of_verdict (verdict scope.file.sections u (kept_answer v));
+  functions = of_verdict (verdict scope.file.sections u (cached_answer v));
   unread = λ e. fresh.functions;
 }
   where

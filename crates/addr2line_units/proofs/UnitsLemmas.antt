@@ -127,7 +127,8 @@ set_parsed [] n s h e = absurd (omega arith)
 set_parsed (x ∷ rs) zero s h e = parsed_is s.lines e
 set_parsed (x ∷ rs) (suc n) s h e = set_parsed rs n s (omega arith) e
 
--- a call that left lines as they were, and takes no memory where they are cached, isn't refused where they are
+-- a call that left lines as they were, and takes no memory where they are cached, isn't refused
+-- where they are
 pub not_refused : (old new : LazyLines) (result : Result (Unit {0}) Error) → (is_uncached old ≡ false → result ≡ Ok tt) → OnErr result (new ≡ old) → is_uncached new ≡ false → HadMemory result
 not_refused old new (Ok x) exact same e = tt
 not_refused old new (Err x) exact same e = absurd (let ok = exact (sym (ap is_uncached same) ∙ e) in cc)

@@ -93,7 +93,7 @@ verdict_of_no_fault d u h k = by (split_name_of d u) refl (name_fault d u ∙ k)
     by (Ok path) e x = verdict_of_named d u path h e
     by (Err f) e x = absurd cc
 
-open_in : {R : Type 0} (d : Sections) (u : UnitRecord) (s : ViewState R) → waits s ≡ true → IfSome (verdict_in d u s) (λ kept. kept ≡ verdict d u (answer_in s)) → verdict d u None ≡ None
+open_in : {R : Type 0} (d : Sections) (u : UnitRecord) (s : ViewState R) → waits s ≡ true → IfSome (verdict_in d u s) (λ cached. cached ≡ verdict d u (answer_in s)) → verdict d u None ≡ None
 open_in d u states.Undecided h right = cc
 open_in d u states.Open h right = sym right
 open_in d u states.Main h right = cc
@@ -154,7 +154,7 @@ answered_scope scope d u (Some split) (Err e) = tt
 answered_scope scope d u (Some split) (Ok None) = refl
 answered_scope scope d u (Some split) (Ok (Some x)) = refl
 
-scope_in : {R : Type 0} (scope : Scope) (d : Sections) (u : UnitRecord) (s : ViewState R) → IfSome (verdict_in d u s) (λ kept. kept ≡ verdict d u (answer_in s)) → IfSome (verdict d u (answer_in s)) (λ view. IfOk view (λ v. scope_by scope (split_file_in s) ≡ view_scope scope v))
+scope_in : {R : Type 0} (scope : Scope) (d : Sections) (u : UnitRecord) (s : ViewState R) → IfSome (verdict_in d u s) (λ cached. cached ≡ verdict d u (answer_in s)) → IfSome (verdict d u (answer_in s)) (λ view. IfOk view (λ v. scope_by scope (split_file_in s) ≡ view_scope scope v))
 scope_in scope d u states.Undecided h = unanswered_scope scope d u (load_of_unit d 0 u)
 scope_in scope d u states.Open h = unanswered_scope scope d u (load_of_unit d 0 u)
 scope_in scope d u states.Main h = unanswered_scope scope d u (load_of_unit d 0 u)

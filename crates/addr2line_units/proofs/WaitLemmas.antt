@@ -19,7 +19,7 @@ use Rattle.addr2line_units.specs.declared.view.ViewState.TheVariants as states
 use Rattle.addr2line_units.specs.CachedLines.{indexed_units}
 use Rattle.addr2line_units.specs.Frames.{FrameRecord}
 use Rattle.addr2line_units.specs.FramesLookup.{Stop, Waits, Finds, FindsNothing, after_fault, asked_frames, ends_lookup, frames_of_number, holds_along, or_stop, stop_along}
-use Rattle.addr2line_units.specs.CachedEntries.{has_entries, kept_answer}
+use Rattle.addr2line_units.specs.CachedEntries.{has_entries, cached_answer}
 use Rattle.addr2line_units.specs.CachedLookups.{HaveEntriesOf, HaveViewsOf, answers_in, has_entries_at, WaitsIn, has_frames_at, seen_stop, waits_at}
 use Rattle.addr2line_units.specs.CachedViews.{IsViewOf, was_looked_at, waits}
 use Rattle.gimli_read.specs.Alike.{HadMemory}
@@ -97,7 +97,7 @@ module _ {R : Type 0} (scope : Scope) (probe : ℕ) where
   waits_there (u ∷ us) [] vs n own e h = absurd cc
   waits_there (u ∷ us) (r ∷ rs) [] n own e h = absurd own
   waits_there (u ∷ us) (r ∷ rs) (v ∷ vs) zero own e h =
-      let open_is = open_of_none scope (record { unit = u; language = r.lang }) (kept_answer v) probe e in
+      let open_is = open_of_none scope (record { unit = u; language = r.lang }) (cached_answer v) probe e in
       looked_waits scope.file.sections u v.view own.0.view (known_was_looked_at probe v h) ∙ open_is
   waits_there (u ∷ us) (r ∷ rs) (v ∷ vs) (suc n) own e h = waits_there us rs vs n own.1 e h
 

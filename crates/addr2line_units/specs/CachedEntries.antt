@@ -1,6 +1,8 @@
--- What is kept of the views of units and of the functions in them, as the private functions see it.
--- Own: the functions of a view that is known are read when they are first asked for, and kept then,
--- their fault too, until the unit is forgotten; so is each detail. OutOfMemory is never cached.
+-- What is cached of the views of units and of the functions in them, as the private functions see
+-- it.
+-- Own: the functions of a view that is known are read when they are first asked for, and cached
+-- then, their fault too, until the unit is forgotten; so is each detail. OutOfMemory is never
+-- cached.
 use Rattle.std.specs.Prelude.{◌≡◌, ℕ, Bool, true, false, List, Option, Some, None, Result, Ok, Err, IfOk, IfSome, option_map}
 use Rattle.gimli_read.specs.declared.error.Error.{Error}
 use Rattle.gimli.specs.Sections.{Sections}
@@ -18,20 +20,20 @@ use Rattle.addr2line_units.specs.declared.view.ViewState.{ViewState}
 use Rattle.addr2line_units.specs.declared.view.ViewState.TheVariants as states
 use Rattle.addr2line_units.specs.CachedLines.{cached_files}
 use Rattle.addr2line_units.specs.Frames.{FrameRecord, found_frames}
-use Rattle.addr2line_units.specs.CachedFunctions.{AreFunctionsOf, ArePlacesIn, ReadsNoOther, StayFunctions, function_of_place, cached_has_function, is_kept, cached_functions, were_read}
+use Rattle.addr2line_units.specs.CachedFunctions.{AreFunctionsOf, ArePlacesIn, ReadsNoOther, StayFunctions, function_of_place, cached_has_function, is_cached_fault, cached_functions, were_read}
 use Rattle.addr2line_units.specs.CachedViews.{IsViewOf, is_decided, seen_first_answer, was_looked_at}
 use Rattle.addr2line_units.specs.Views.{verdict, view_scope}
 
--- the first answer of a unit
-abbrev pub kept_answer : {R : Type 0} → UnitEntries R → Option (Option Sections)
-kept_answer v = seen_first_answer v.view
+-- the cached first answer of a unit
+abbrev pub cached_answer : {R : Type 0} → UnitEntries R → Option (Option Sections)
+cached_answer v = seen_first_answer v.view
 
--- what is kept are the view of the unit and the functions of that view, which are read only where
+-- what is cached is the view of the unit and the functions of that view, which are read only where
 -- the view is known
 pub record AreEntriesOf {R : Type 0} (scope : Scope) (u : UnitRecord) (v : UnitEntries R)
     : Type 0 where
   pub view : IsViewOf scope.file.sections u v.view
-  pub functions : IfSome (verdict scope.file.sections u (kept_answer v)) (λ view. IfOk view (λ x.
+  pub functions : IfSome (verdict scope.file.sections u (cached_answer v)) (λ view. IfOk view (λ x.
       AreFunctionsOf (view_scope scope x) x.unit v.functions))
   pub unread : is_decided v.view.state ≡ false → were_read v.functions ≡ false
 
@@ -40,37 +42,37 @@ pub record AreFresh {R : Type 0} (v : UnitEntries R) : Type 0 where
   pub view : was_looked_at v.view.state ≡ false
   pub functions : were_read v.functions ≡ false
 
--- the answer stays, and so does what is kept; more may be
+-- the answer stays, and so does what is cached; more may be
 pub record StayEntries {R : Type 0} (old new : UnitEntries R) : Type 0 where
-  pub answer : kept_answer new ≡ kept_answer old
+  pub answer : cached_answer new ≡ cached_answer old
   pub view : was_looked_at old.view.state ≡ true → new.view ≡ old.view
   pub functions : StayFunctions old.functions new.functions
 
--- whether the split unit of an answer has a fault that is kept, or else the function at the probe
+-- whether the split unit of an answer has a fault that is cached, or else the function at the probe
 -- is found
 abbrev pub has_answered : {R : Type 0} → {X : Type 0} → ℕ → Result X Error → LazyFunctions R → Bool
 has_answered probe (Ok x) functions = cached_has_function probe functions
-has_answered probe (Err e) functions = is_kept e
+has_answered probe (Err e) functions = is_cached_fault e
 
--- whether what a unit has at the probe is known, by what is kept of its view and its functions: it
--- waits for an answer, or its view has a fault, or the function at the probe is found
+-- whether what a unit has at the probe is known, by what is cached of its view and its functions:
+-- it waits for an answer, or its view has a fault, or the function at the probe is found
 abbrev pub has_entries_by : {R : Type 0} → ℕ → ViewState R → LazyFunctions R → Bool
 has_entries_by probe states.Undecided functions = false
 has_entries_by probe states.Open functions = true
 has_entries_by probe states.Main functions = cached_has_function probe functions
-has_entries_by probe (states.Unnamed e) functions = is_kept e
+has_entries_by probe (states.Unnamed e) functions = is_cached_fault e
 has_entries_by probe (states.Answered a) functions = has_answered probe a.unit functions
 
--- whether what a unit has at the probe is known by what is kept of its entries
+-- whether what a unit has at the probe is known by what is cached of its entries
 abbrev pub has_entries : {R : Type 0} → ℕ → UnitEntries R → Bool
 has_entries probe v = has_entries_by probe v.view.state v.functions
 
--- no detail is read but that of the function at the probe, and nothing where all was kept
+-- no detail is read but that of the function at the probe, and nothing where all was cached
 pub record ReadsEntriesOf {R : Type 0} (probe : ℕ) (old new : UnitEntries R) : Type 0 where
   pub alone : ReadsNoOther probe (cached_functions old.functions) (cached_functions new.functions)
   pub kept : has_entries probe old ≡ true → new ≡ old
 
--- the frames of the function of a place and the row of an address, by what is kept
+-- the frames of the function of a place and the row of an address, by what is cached
 abbrev pub frames_of_place : {R : Type 0} → ResUnit → UnitEntries R → UnitFrames
     → Option (List FrameRecord)
 frames_of_place u v found.Open = None
@@ -84,7 +86,7 @@ abbrev pub AreRead : LazyLines → Type 0
 AreRead (lines.Read table) = Unit {0}
 AreRead _ = ⊥
 
--- the places of a function and its inlined ones are among those that are kept, and the lines are
+-- the places of a function and its inlined ones are among those that are cached, and the lines are
 -- read
 abbrev pub AreFramesIn : {R : Type 0} → ResUnit → UnitEntries R → UnitFrames → Type 0
 AreFramesIn u v found.Open = Unit {0}

@@ -1,6 +1,6 @@
--- What is kept of the functions of a view, as the private functions see it.
--- Own: functions are read when they are first asked for, and kept then, their fault too; so is each
--- detail. OutOfMemory is never cached.
+-- What is cached of the functions of a view, as the private functions see it.
+-- Own: functions are read when they are first asked for, and cached then, their fault too; so is
+-- each detail. OutOfMemory is never cached.
 use Rattle.std.specs.Prelude.{◌≡◌, ◌≢◌, ◌<◌, ℕ, Bool, true, false, List, [], ◌∷◌, length, map, Option, Some, None, unwrap_or, Result, Ok, Err}
 use Rattle.std.specs.List.{AllByRecursion}
 use Rattle.gimli_read.specs.declared.error.Error.{Error}
@@ -25,7 +25,7 @@ pub record IsTableOf (scope : Scope) (view : UnitRecord) (t : FunctionTable) : T
   pub listed : AreListed t
   pub details : AreDetailsOf scope view t
 
--- what is kept is the functions of a view with their details, or their fault
+-- what is cached is the functions of a view with their details, or their fault
 abbrev pub AreFunctionsOf : {R : Type 0} → Scope → UnitRecord → LazyFunctions R → Type 0
 AreFunctionsOf scope view lazy.Unread = Unit {0}
 AreFunctionsOf scope view (lazy.Read t) = IsTableOf scope view t
@@ -40,12 +40,12 @@ were_read _ = true
 abbrev pub no_functions : FunctionTable
 no_functions = record { ranges = []; functions = []; inlined = [] }
 
--- the functions that are kept, none before they are read and where they have a fault
+-- the functions that are cached, none before they are read and where they have a fault
 abbrev pub cached_functions : {R : Type 0} → LazyFunctions R → FunctionTable
 cached_functions (lazy.Read t) = t
 cached_functions _ = no_functions
 
--- what is kept stays, and more details may be
+-- what is cached stays, and more details may be
 abbrev pub StayFunctions : {R : Type 0} → LazyFunctions R → LazyFunctions R → Type 0
 StayFunctions lazy.Unread new = Unit {0}
 StayFunctions (lazy.Read t) (lazy.Read more) = IsTableMore t more
@@ -93,22 +93,22 @@ place_takes_memory probe t (Some n) = cached_detail_takes_memory probe (cached_d
 abbrev pub table_takes_memory : ℕ → FunctionTable → Bool
 table_takes_memory probe t = place_takes_memory probe t (function_place_at probe t)
 
--- the same of what is kept of a view
+-- the same of what is cached of a view
 abbrev pub find_takes_memory : {R : Type 0} → ℕ → LazyFunctions R → Bool
 find_takes_memory probe lazy.Unread = true
 find_takes_memory probe (lazy.Read t) = table_takes_memory probe t
 find_takes_memory probe (lazy.Faulty e) = false
 
--- whether a fault is one that is kept: any but OutOfMemory
-abbrev pub is_kept : Error → Bool
-is_kept OutOfMemory = false
-is_kept _ = true
+-- whether a fault is one that is cached: any but OutOfMemory
+abbrev pub is_cached_fault : Error → Bool
+is_cached_fault OutOfMemory = false
+is_cached_fault _ = true
 
--- whether what is cached of a function is its detail, or a fault that is kept
+-- whether what is cached of a function is its detail, or a fault that is cached
 abbrev pub has_detail : Option (Result Detail Error) → Bool
 has_detail None = false
 has_detail (Some (Ok d)) = true
-has_detail (Some (Err e)) = is_kept e
+has_detail (Some (Err e)) = is_cached_fault e
 
 -- the same of the function of a place, if there is one
 abbrev pub has_place : FunctionTable → Option ℕ → Bool
@@ -119,11 +119,11 @@ has_place t (Some n) = has_detail (cached_detail t n)
 abbrev pub has_table : ℕ → FunctionTable → Bool
 has_table probe t = has_place t (function_place_at probe t)
 
--- the same by what is kept of a view: the functions, or their fault
+-- the same by what is cached of a view: the functions, or their fault
 abbrev pub cached_has_function : {R : Type 0} → ℕ → LazyFunctions R → Bool
 cached_has_function probe lazy.Unread = false
 cached_has_function probe (lazy.Read t) = has_table probe t
-cached_has_function probe (lazy.Faulty e) = is_kept e
+cached_has_function probe (lazy.Faulty e) = is_cached_fault e
 
 -- the first fault among the details of functions, by where their entries begin
 abbrev pub details_at : Scope → UnitRecord → List ℕ → Result (Unit {0}) Error
@@ -137,7 +137,7 @@ functions_fault scope view = functions_of scope.file.sections view >>= λ ranges
     details_at scope view (entries_of ranges)
 
 -- whether memory may be taken to read the functions of a view with all details: they weren't read,
--- or memory is taken for details of those that are kept
+-- or memory is taken for details of those that are cached
 abbrev pub reading_takes_memory : {R : Type 0} → Bool → Scope → UnitRecord → LazyFunctions R → Bool
 reading_takes_memory shares scope view lazy.Unread = true
 reading_takes_memory shares scope view (lazy.Read t) =

@@ -35,10 +35,10 @@ cached_lines (Read lines) = Some lines
 cached_lines _ = None
 
 -- the cached lines, or their cached fault
-abbrev pub cached_answer : LazyLines → Result (Option Lines) Error
-cached_answer Unread = Ok None
-cached_answer (Read lines) = Ok (Some lines)
-cached_answer (Faulty e) = Err e
+abbrev pub cached_lines_answer : LazyLines → Result (Option Lines) Error
+cached_lines_answer Unread = Ok None
+cached_lines_answer (Read lines) = Ok (Some lines)
+cached_lines_answer (Faulty e) = Err e
 
 -- whether nothing is cached yet
 abbrev pub is_uncached : LazyLines → Bool
@@ -123,12 +123,12 @@ lines_in_cache (Some u) = u.lines
 abbrev pub lines_at : List ResUnit → ℕ → LazyLines
 lines_at units n = lines_in_cache (slice_get units n)
 
--- what is kept of a unit stays: its language, and what is cached
+-- what is cached of a unit stays: its language, and its lines or their fault
 pub record StaysUnit (old new : ResUnit) : Type 0 where
   pub language : new.lang ≡ old.lang
   pub lines : LinesStayCached old.lines new.lines
 
--- what is kept of each unit stays
+-- what is cached of each unit stays
 abbrev pub StayUnits : List ResUnit → List ResUnit → Type 0
 StayUnits [] [] = Unit {0}
 StayUnits (u ∷ us) (v ∷ vs) = StaysUnit u v × StayUnits us vs

@@ -1,4 +1,4 @@
--- What is kept of all units of a context, and what lookups of frames find in it, as the private
+-- What is cached of all units of a context, and what lookups of frames find in it, as the private
 -- functions see it.
 use Rattle.std.specs.Prelude.{◌≡◌, ◌<◌, ◌⊎◌, ℕ, Bool, true, false, ◌&&◌, ◌||◌, not, length, List, [], ◌∷◌, map, Option, Some, None, IfSome, option_map, slice_get, unwrap_or, Result, Ok, Err}
 use Rattle.gimli_read.specs.declared.constants.DwLang.{DwLang}
@@ -26,15 +26,15 @@ use Rattle.addr2line_units.specs.FramesLookup.{Stop, Waits, Finds, FindsNothing}
 use Rattle.addr2line_units.specs.CachedFunctions.{ArePlacesIn, function_of_place, cached_functions, no_functions}
 use Rattle.addr2line_units.specs.CachedViews.{IsViewOf, is_decided, waits}
 use Rattle.addr2line_units.specs.Parsed.{has_parsed}
-use Rattle.addr2line_units.specs.CachedEntries.{AreEntriesOf, AreFresh, AreRead, ReadsEntriesOf, StayEntries, has_entries, kept_answer}
+use Rattle.addr2line_units.specs.CachedEntries.{AreEntriesOf, AreFresh, AreRead, ReadsEntriesOf, StayEntries, has_entries, cached_answer}
 
--- beside each unit stands what is kept of its entries, which is its own
+-- beside each unit stands what is cached of its entries, which is its own
 abbrev pub HaveEntriesOf : {R : Type 0} → Scope → List UnitRecord → List (UnitEntries R) → Type 0
 HaveEntriesOf scope [] [] = Unit {0}
 HaveEntriesOf scope (u ∷ us) (v ∷ vs) = AreEntriesOf scope u v × HaveEntriesOf scope us vs
 HaveEntriesOf scope _ _ = ⊥
 
--- beside each unit stands what is kept of its view
+-- beside each unit stands what is cached of its view
 abbrev pub HaveViewsOf : {R : Type 0} → Sections → List UnitRecord → List (UnitEntries R) → Type 0
 HaveViewsOf d [] [] = Unit {0}
 HaveViewsOf d (u ∷ us) (v ∷ vs) = IsViewOf d u v.view × HaveViewsOf d us vs
@@ -46,7 +46,7 @@ AreFreshOf [] [] = Unit {0}
 AreFreshOf (u ∷ us) (v ∷ vs) = AreFresh v × AreFreshOf us vs
 AreFreshOf _ _ = ⊥
 
--- what is kept of the entries of each unit stays
+-- what is cached of the entries of each unit stays
 abbrev pub StayAllEntries : {R : Type 0} → List (UnitEntries R) → List (UnitEntries R) → Type 0
 StayAllEntries [] [] = Unit {0}
 StayAllEntries (v ∷ vs) (w ∷ ws) = StayEntries v w × StayAllEntries vs ws
@@ -54,9 +54,9 @@ StayAllEntries _ _ = ⊥
 
 -- the first answers of units
 abbrev pub answers_in : {R : Type 0} → List (UnitEntries R) → List (Option (Option Sections))
-answers_in views = map kept_answer views
+answers_in views = map cached_answer views
 
--- for which units what they have at the probe is known by what is kept of their entries; a number
+-- for which units what they have at the probe is known by what is cached of their entries; a number
 -- of no unit asks for none
 abbrev pub has_entries_at : {R : Type 0} → ℕ → List (UnitEntries R) → ℕ → Bool
 has_entries_at probe views n = unwrap_or (option_map (has_entries probe) (slice_get views n)) true
@@ -69,7 +69,7 @@ ReadsOnly IsAsked probe old new = (n : ℕ) → (slice_get new n ≡ slice_get o
     ⊎ (IsAsked n × IfSome (slice_get old n) (λ v. IfSome (slice_get new n)
     (ReadsEntriesOf probe v)))
 
--- the functions that are kept of the unit of a number, none where there is no such unit
+-- the functions that are cached of the unit of a number, none where there is no such unit
 abbrev pub functions_at : {R : Type 0} → List (UnitEntries R) → ℕ → FunctionTable
 functions_at views n = elim (slice_get views n)
     [ None ↦ no_functions | Some v ↦ cached_functions v.functions ]
@@ -78,7 +78,7 @@ functions_at views n = elim (slice_get views n)
 abbrev pub language_at : List ResUnit → ℕ → Option DwLang
 language_at units n = elim (slice_get units n) [ None ↦ None | Some u ↦ u.lang ]
 
--- the frames of a place, by what is kept
+-- the frames of a place, by what is cached
 abbrev pub frames_at_place : {R : Type 0} → List ResUnit → List (UnitEntries R) → FramePlace
     → List FrameRecord
 frames_at_place units views p =
@@ -90,13 +90,13 @@ frames_at_place units views p =
 abbrev pub unit_of_place : FramePlace → ℕ
 unit_of_place p = p.unit
 
--- what a lookup comes to, by what is kept
+-- what a lookup comes to, by what is cached
 abbrev pub seen_stop : {R : Type 0} → List ResUnit → List (UnitEntries R) → FramesStop → Stop
 seen_stop units views (stops.Waits n) = Waits n
 seen_stop units views (stops.Finds p) = Finds p.unit (frames_at_place units views p)
 seen_stop units views stops.FindsNothing = FindsNothing
 
--- the places of a function and its inlined ones are among those that are kept of the unit, whose
+-- the places of a function and its inlined ones are among those that are cached of the unit, whose
 -- lines are read
 pub record IsFramePlaceIn {R : Type 0} (units : List ResUnit) (views : List (UnitEntries R))
     (p : FramePlace) : Type 0 where
@@ -109,21 +109,21 @@ abbrev pub IsStopIn : {R : Type 0} → List ResUnit → List (UnitEntries R) →
 IsStopIn units views (stops.Finds p) = IsFramePlaceIn units views p
 IsStopIn units views _ = Unit {0}
 
--- whether what the unit of a number has at the probe is known by what is kept of its entries, and
+-- whether what the unit of a number has at the probe is known by what is cached of its entries, and
 -- its lines too if they are asked for
 abbrev pub has_frames_at : {R : Type 0} → (ℕ → Bool) → ℕ → List Bool → List (UnitEntries R) → ℕ
     → Bool
 has_frames_at asks_lines probe parsed views n =
     has_entries_at probe views n && (not (asks_lines n) || has_parsed parsed n)
 
--- what the unit of a number has at an address, by what is kept
+-- what the unit of a number has at an address, by what is cached
 abbrev pub frames_found_at : {R : Type 0} → List ResUnit → List (UnitEntries R) → ℕ → UnitFrames
     → Option (List FrameRecord)
 frames_found_at units views n found.Open = None
 frames_found_at units views n (found.Here function row) = Some (frames_at_place units views
     (record { unit = n; function = function; row = row }))
 
--- the places that were found are among what is kept of the unit, as far as something was found
+-- the places that were found are among what is cached of the unit, as far as something was found
 abbrev pub AreFoundAt : {R : Type 0} → List ResUnit → List (UnitEntries R) → ℕ → UnitFrames
     → Type 0
 AreFoundAt units views n (found.Here (Some function) row) = IsFramePlaceIn units views

@@ -1,4 +1,4 @@
--- What is kept of the entries of all units after a parse of their functions, as the private
+-- What is cached of the entries of all units after a parse of their functions, as the private
 -- functions see it.
 use Rattle.std.specs.Prelude.{◌≡◌, ◌⊎◌, ℕ, Bool, true, false, is_ok, List, [], ◌∷◌, Option, IfSome, slice_get}
 use Rattle.std.specs.List.{AllByRecursion}
@@ -24,14 +24,14 @@ has_view states.Main = true
 has_view (states.Answered a) = is_ok a.unit
 has_view _ = false
 
--- the functions are kept, with all details where these are read, and none has a fault
+-- the functions are cached, with all details where these are read, and none has a fault
 abbrev pub HaveFunctions : {R : Type 0} → Reads → LazyFunctions R → Type 0
 HaveFunctions reads lazy.Unread = ⊥
 HaveFunctions reads (lazy.Faulty e) = ⊥
 HaveFunctions reads.Functions (lazy.Read t) = Unit {0}
 HaveFunctions reads.Details (lazy.Read t) = AllByRecursion HasDetail t.functions
 
--- all that is read of a unit is kept, and has no fault
+-- all that is read of a unit is cached, and has no fault
 pub record HasRead {R : Type 0} (reads : Reads) (v : UnitEntries R) : Type 0 where
   pub view : has_view v.view.state ≡ true
   pub functions : HaveFunctions reads v.functions
@@ -55,14 +55,14 @@ AreReadyUnits reads scope us answers views = (n : ℕ) → AreReadBefore reads s
 abbrev pub AreDecided : {R : Type 0} → List (UnitEntries R) → Type 0
 AreDecided views = AllByRecursion (λ v. is_decided v.view.state ≡ true) views
 
--- what is kept of each unit that was decided stays
+-- what is cached of each unit that was decided stays
 abbrev pub StayDecided : {R : Type 0} → List (UnitEntries R) → List (UnitEntries R) → Type 0
 StayDecided [] [] = Unit {0}
 StayDecided (v ∷ vs) (w ∷ ws) =
     (is_decided v.view.state ≡ true → StayEntries v w) × StayDecided vs ws
 StayDecided _ _ = ⊥
 
--- what is kept of a unit stays as it is, but of those that are asked for
+-- what is cached of a unit stays as it is, but of those that are asked for
 abbrev pub ChangesOnly : {R : Type 0} → (ℕ → Type 0) → List (UnitEntries R)
     → List (UnitEntries R) → Type 0
 ChangesOnly IsAsked old new = (n : ℕ) → (slice_get new n ≡ slice_get old n) ⊎ IsAsked n

@@ -1,10 +1,9 @@
--- What is kept of a unit's view, as the private functions see it.
--- Own: whether a unit needs an answer is kept once it was looked at; its first answer, and what
+-- What is cached of a unit's view, as the private functions see it.
+-- Own: whether a unit needs an answer is cached once it was looked at; its first answer, and what
 -- that decides, since the unit was last forgotten. OutOfMemory is never cached.
 use Rattle.std.specs.Prelude.{◌≡◌, Bool, true, false, [], is_some, Option, Some, None, option_map, IfSome, Result, Ok, Err}
 use Rattle.gimli_read.specs.declared.error.Error.{Error}
 use Rattle.gimli_read.specs.Reading.{◌>>=◌}
-use Rattle.gimli_read.specs.Section.{Section}
 use Rattle.gimli.specs.Sections.{Sections}
 use Rattle.gimli.specs.Split.{relocated}
 use Rattle.gimli.specs.Unit.{UnitRecord}
@@ -19,7 +18,7 @@ use Rattle.addr2line_units.specs.Views.{View, first_unit, is_open, main_view, pa
 abbrev pub seen_sections : {R : Type 0} → Answer R → Option Sections
 seen_sections a = option_map (λ d. d.value) a.sections
 
--- the first answer that is kept
+-- the first answer that is cached
 abbrev pub answer_in : {R : Type 0} → ViewState R → Option (Option Sections)
 answer_in (states.Answered a) = Some (seen_sections a)
 answer_in _ = None
@@ -38,11 +37,11 @@ abbrev pub view_by : Sections → UnitRecord → Option Sections → Option Unit
 view_by d main (Some split) (Some u) = split_view split u
 view_by d main _ _ = main_view d main
 
--- the view that is kept of an answer, or the fault
+-- the view that is cached of an answer, or the fault
 abbrev pub view_in : {R : Type 0} → Sections → UnitRecord → Answer R → Result View Error
 view_in d main a = a.unit >>= λ x. Ok (view_by d main (seen_sections a) x)
 
--- what is kept of the verdict: whether the unit is open, and else its view or the fault; none
+-- what is cached of the verdict: whether the unit is open, and else its view or the fault; none
 -- before the unit was looked at
 abbrev pub verdict_in : {R : Type 0} → Sections → UnitRecord → ViewState R
     → Option (Option (Result View Error))
@@ -73,10 +72,10 @@ is_decided states.Undecided = false
 is_decided states.Open = false
 is_decided _ = true
 
--- what is kept is what the bytes and the first answer give, and only a unit that waited for it has
--- a first answer
+-- what is cached is what the bytes and the first answer give, and only a unit that waited for it
+-- has a first answer
 pub record IsViewOf {R : Type 0} (d : Sections) (u : UnitRecord) (v : UnitView R) : Type 0 where
-  pub right : IfSome (cached_verdict d u v) (λ kept. kept ≡ verdict d u (seen_first_answer v))
+  pub right : IfSome (cached_verdict d u v) (λ cached. cached ≡ verdict d u (seen_first_answer v))
   pub waited : is_some (seen_first_answer v) ≡ true → is_open d u None ≡ true
 
 -- the sections of the split file that an answer's view is in, if it is in one
@@ -84,7 +83,7 @@ abbrev pub split_file_by : Option Sections → Result (Option UnitRecord) Error 
 split_file_by (Some split) (Ok (Some u)) = Some split
 split_file_by _ _ = None
 
--- the same of what is kept
+-- the same of what is cached
 abbrev pub split_file_in : {R : Type 0} → ViewState R → Option Sections
 split_file_in (states.Answered a) = split_file_by (seen_sections a) a.unit
 split_file_in _ = None

@@ -9,7 +9,7 @@ use Rattle.addr2line_units.specs.declared.functions.LazyFunctions.TheVariants as
 use Rattle.addr2line_units.specs.declared.unit_frames.UnitEntries.{UnitEntries}
 use Rattle.addr2line_units.specs.declared.view.ViewState.{ViewState}
 use Rattle.addr2line_units.specs.declared.view.ViewState.TheVariants as states
-use Rattle.addr2line_units.specs.CachedFunctions.{has_table, is_kept}
+use Rattle.addr2line_units.specs.CachedFunctions.{has_table, is_cached_fault}
 
 -- what is known of a unit's entries
 pub data KnownEntries : Type 0 where
@@ -28,9 +28,9 @@ is_known_at probe (FunctionsKnown t) = has_table probe t
 abbrev pub knows_at : List KnownEntries → ℕ → ℕ → Bool
 knows_at known probe n = unwrap_or (option_map (is_known_at probe) (slice_get known n)) true
 
--- a fault that is kept
+-- a fault that is cached
 abbrev pub known_fault : Error → KnownEntries
-known_fault e = if is_kept e then AllKnown else NothingKnown
+known_fault e = if is_cached_fault e then AllKnown else NothingKnown
 
 -- the functions of a view
 abbrev pub known_functions : {R : Type 0} → LazyFunctions R → KnownEntries

@@ -344,7 +344,7 @@ impl<'ctx, R: Reader> FrameIter<'ctx, R> {
     }
 }
 
-// The frames of the function of a place among those that are kept, or the frame of a location
+// The frames of the function of a place among those that are cached, or the frame of a location
 // alone. Takes no memory.
 pub(crate) fn frames_of<'ctx, R: Reader>(
     functions: &'ctx LazyFunctions<R>,

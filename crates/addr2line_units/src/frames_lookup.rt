@@ -1,6 +1,6 @@
 //! Lookups of frames among units.
 
-ghost use Rattle.std.specs.Prelude.{◌≡◌, ◌&&◌, ◌≤◌, IfOk, Ok, false, not, slice_get, true};
+ghost use Rattle.std.specs.Prelude.{◌≡◌, ◌&&◌, ◌≤◌, IfOk, Ok, false, not, true};
 ghost use Rattle.gimli_read.specs.Reading.{ExactlyUnlessOom};
 ghost use Rattle.addr2line_lines.specs.References.{IsScope};
 ghost use Rattle.addr2line_lines.specs.SeenScope.{seen_scope};
@@ -141,10 +141,10 @@ fn stop_at(number: usize, found: UnitFrames) -> Option<FramesStop>
 
 // What a lookup comes to along ranges: the first unit that waits for an answer, that has a fault,
 // unless faults are passed over, or that has a function or a location. What is read of the units
-// up to it is kept, their faults too, and nothing is read of others.
+// up to it is cached, their faults too, and nothing is read of others.
 //
 // Refused by that fault; may fail with `OutOfMemory` instead, only where something of what is
-// asked for isn't kept, or there are more than 16 inlined functions.
+// asked for isn't cached, or there are more than 16 inlined functions.
 pub(crate) fn find_frames_along<R: Reader>(
     alloc: Global,
     scope: Scope<'_, R>,

@@ -1,4 +1,4 @@
-//! The functions of a unit's view, as a context keeps them.
+//! The functions of a unit's view, as a context caches them.
 
 ghost use Rattle.std.specs.Prelude.{◌≡◌, ◌≢◌, ◌&&◌, ℕ, Err, IfErr, IfOk, IfSome, Ok, OnOk, false, option_map, true};
 ghost use Rattle.std.specs.List.{AllByRecursion};
@@ -15,13 +15,12 @@ ghost use Rattle.addr2line_units.specs.KnownEntries.{known_functions};
 ghost use Rattle.gimli_read.specs.Alike.{HadMemory};
 ghost use Rattle.addr2line_units.specs.UnitFrames.{is_many};
 
-use addr2line_lines::{Functions, Scope};
+use addr2line_lines::{Functions, InlinedChain, Scope};
 use gimli::read::{Error, Reader};
 use gimli::{Unit, UnitRef};
-use smallvec::SmallVec;
 use std::alloc::Global;
 
-// What is kept of the functions of a view.
+// What is cached of the functions of a view.
 #[derive(Drop)]
 pub(crate) enum LazyFunctions<R: Reader> {
     // Nobody has asked for them yet.
@@ -37,10 +36,10 @@ pub(crate) enum LazyFunctions<R: Reader> {
 #[derive(Drop)]
 pub(crate) struct FunctionPlace {
     pub(crate) place: usize,
-    pub(crate) inlined: SmallVec<usize, 16>,
+    pub(crate) inlined: InlinedChain,
 }
 
-// The functions of a view, or their fault, as they are kept. Refused `OutOfMemory` alone.
+// The functions of a view, or their fault, as they are cached. Refused `OutOfMemory` alone.
 fn read_functions<R: Reader>(
     alloc: Global,
     scope: Scope<'_, R>,
@@ -60,8 +59,8 @@ fn read_functions<R: Reader>(
     }
 }
 
-// The function at an address among those of a view. Its detail is read and kept, unless it is, its
-// fault too.
+// The function at an address among those of a view. Its detail is read and cached, unless it is,
+// its fault too.
 fn find_place<R: Reader>(
     alloc: Global,
     functions: &mut Functions<R>,
@@ -103,8 +102,8 @@ impl<R: Reader> LazyFunctions<R> {
         !matches!(self, LazyFunctions::Unread)
     }
 
-    // Reads the functions of a view, unless they were read, and keeps them, or their fault. Refused
-    // `OutOfMemory` alone.
+    // Reads the functions of a view, unless they were read, and caches them, or their fault.
+    // Refused `OutOfMemory` alone.
     pub(crate) fn cache(
         &mut self,
         alloc: Global,
@@ -125,10 +124,10 @@ impl<R: Reader> LazyFunctions<R> {
     }
 
     // The function at an address, none where no function holds it. The functions and its detail are
-    // read and kept, unless they are, their faults too.
+    // read and cached, unless they are, their faults too.
     //
     // Refused by the fault of the functions or of the detail; may fail with `OutOfMemory` instead,
-    // only where functions or detail are not kept, or there are more than 16 inlined functions.
+    // only where functions or detail are not cached, or there are more than 16 inlined functions.
     pub(crate) fn find(
         &mut self,
         alloc: Global,
@@ -164,9 +163,9 @@ impl<R: Reader> LazyFunctions<R> {
     }
 
     // Reads the functions of a view and all their details, in the order of their entries, up to the
-    // first fault; what was read is kept, the fault too. May fail with `OutOfMemory` instead, only
-    // where the functions are not kept, or memory is taken for a detail before any fault. Takes no
-    // memory, and changes nothing, where all is kept up to the first fault.
+    // first fault; what was read is cached, the fault too. May fail with `OutOfMemory` instead,
+    // only where the functions are not cached, or memory is taken for a detail before any fault.
+    // Takes no memory, and changes nothing, where all is cached up to the first fault.
     pub(crate) fn read_all(
         &mut self,
         alloc: Global,

@@ -1,6 +1,6 @@
 //! Legacy names of Rust: their parts, and their texts.
 
-ghost use Rattle.std.specs.Prelude.{◌≡◌, ◌<◌, ◌++◌, ◌&&◌, is_none, length, take, drop, IfSome, OnOk, MatchOption, string_bytes, true};
+ghost use Rattle.std.specs.Prelude.{◌≡◌, ◌<◌, ◌++◌, ◌&&◌, is_none, length, IfSome, OnOk, MatchOption, string_bytes, true};
 ghost use Rattle.std.specs.Char.{is_ascii};
 ghost use Rattle.std.specs.List.{list_all};
 ghost use Rattle.addr2line_units.specs.LegacyName.{is_hash, is_llvm_byte, is_suffix, is_suffix_byte};

@@ -9,7 +9,7 @@ ghost use Rattle.gimli.specs.Unit.{UnitRecord};
 ghost use Rattle.addr2line_lines.specs.SeenScope.{seen_scope};
 ghost use Rattle.addr2line_units.specs.Cover.{cover};
 ghost use Rattle.addr2line_units.specs.FramesLookup.{answer_of, with_answer};
-ghost use Rattle.addr2line_units.specs.CachedEntries.{AreEntriesOf, StayEntries, kept_answer};
+ghost use Rattle.addr2line_units.specs.CachedEntries.{AreEntriesOf, StayEntries, cached_answer};
 ghost use Rattle.addr2line_units.specs.CachedLookups.{HaveEntriesOf, StayAllEntries, answers_in, decided_at, scope_in};
 ghost use Rattle.addr2line_units.specs.CachedViews.{is_decided};
 ghost use Rattle.addr2line_units.specs.ListedLoads.{MarksLoad, MarksUnit, if_new, is_marked};
@@ -35,7 +35,7 @@ impl<R: Reader> UnitEntries<R> {
         requires kept { AreEntriesOf (seen_scope scope) dw_unit.now self.now }
         requires decided { is_decided self.now.view.state ≡ true }
         ensures gives { result ≡ view_fault
-            (verdict scope.entry.file.dwarf.now dw_unit.now (kept_answer self.now)) }
+            (verdict scope.entry.file.dwarf.now dw_unit.now (cached_answer self.now)) }
     {
         self.view.unit_ref(scope.file.dwarf, dw_unit)?;
         Ok(())
@@ -67,8 +67,8 @@ impl<R: Reader> ResUnits<R> {
     ///
     /// Refused `UnknownToken` where there is no such unit; then nothing is changed. Refused by the
     /// fault of the view that the unit has then; the unit is decided all the same. May fail with
-    /// `OutOfMemory` instead, unless the unit is decided; then all that is kept stays, and only that
-    /// the unit was looked at may be new.
+    /// `OutOfMemory` instead, unless the unit is decided; then all that is cached stays, and only
+    /// that the unit was looked at may be new.
     pub fn load_unit(
         &mut self,
         alloc: Global,
@@ -184,12 +184,12 @@ impl<R: Reader> UnitEntries<R> {
         requires there { number < length scope.file.units.now }
         requires kept { AreEntriesOf (seen_scope scope) dw_unit.now self.old }
         ensures gives { IfOk result (λ load. load ≡ if_new marks.old.items
-            (awaited_load dwarf.now.value number dw_unit.now (kept_answer self.old))) }
+            (awaited_load dwarf.now.value number dw_unit.now (cached_answer self.old))) }
         ensures marked { OnOk result (MarksLoad
-            (awaited_load dwarf.now.value number dw_unit.now (kept_answer self.old))
+            (awaited_load dwarf.now.value number dw_unit.now (cached_answer self.old))
             marks.old.items marks.new.items) }
         ensures decided { is_decided self.old.view.state ≡ true → result ≡ Ok None }
-        ensures not_open { is_open dwarf.now.value dw_unit.now (kept_answer self.old) ≡ false
+        ensures not_open { is_open dwarf.now.value dw_unit.now (cached_answer self.old) ≡ false
             → result ≡ Ok None }
         ensures refused { IfErr result (λ e. e ≡ OutOfMemory) }
         ensures kept { AreEntriesOf (seen_scope scope.entry) dw_unit.now self.new }
@@ -298,7 +298,7 @@ fn read_loads<R: Reader>(
 
 impl<R: Reader> ResUnits<R> {
     /// The loads of the open units that cover an address, each once, in the order of its first
-    /// range. Whether a unit is open is looked for and kept.
+    /// range. Whether a unit is open is looked for and cached.
     ///
     /// Refused `OutOfMemory` alone, and not where none of these units is open.
     pub fn preload(

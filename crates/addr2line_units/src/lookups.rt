@@ -51,7 +51,8 @@ impl<R: Reader> SupUnits<R> {
     }
 }
 
-// The frames of the function and the row at an address in a unit, by what is kept. Takes no memory.
+// The frames of the function and the row at an address in a unit, by what is cached. Takes no
+// memory.
 fn frames_in_unit<'ctx, R: Reader>(
     unit: &'ctx ResUnit,
     entries: &'ctx UnitEntries<R>,
@@ -75,7 +76,7 @@ fn frames_in_unit<'ctx, R: Reader>(
 }
 
 impl<R: Reader> ResUnits<R> {
-    // The frames of a place, by what is kept. Takes no memory.
+    // The frames of a place, by what is cached. Takes no memory.
     fn frames<'x>(&'x self, place: &'x FramePlace) -> FrameIter<'x, R>
         requires there { IsFramePlaceIn self.now.units.items self.now.entries.items place.now }
         requires beside { length self.now.entries.items ≡ length self.now.units.items }
@@ -86,14 +87,14 @@ impl<R: Reader> ResUnits<R> {
         frames_in_unit(unit, &self.entries[place.unit], &place.function, place.row)
     }
 
-    /// Keeps what a lookup has come to, so that its frames can be lent. Takes no memory.
-    pub fn keep_stop(&mut self, stop: FramesStop)
+    /// Stores what a lookup has come to, so that its frames can be lent. Takes no memory.
+    pub fn set_stop(&mut self, stop: FramesStop)
         ensures kept { self.new ≡ record self.old { stop = stop } }
     {
         self.stop = stop;
     }
 
-    /// The frames that the lookup has found whose end is kept, none where it waits or has found
+    /// The frames that the lookup has found whose end is stored, none where it waits or has found
     /// nothing. Takes no memory.
     pub fn stop_frames(&self) -> FrameIter<'_, R>
         requires there { IsStopIn self.now.units.items self.now.entries.items self.now.stop }
@@ -111,11 +112,11 @@ impl<R: Reader> ResUnits<R> {
 impl<R: Reader> ResUnits<R> {
     /// What a lookup of frames comes to: the first unit among those that cover an address that
     /// waits for an answer, that has a fault, unless faults are passed over, or that has a function
-    /// or a location. What is read of the units up to it is kept, their faults too, and nothing is
-    /// read of others.
+    /// or a location. What is read of the units up to it is cached, their faults too, and nothing
+    /// is read of others.
     ///
     /// Refused by that fault; may fail with `OutOfMemory` instead, only where something of what is
-    /// asked for isn't kept, or there are more than 16 inlined functions.
+    /// asked for isn't cached, or there are more than 16 inlined functions.
     pub fn find_frames(
         &mut self,
         alloc: Global,
@@ -223,8 +224,8 @@ impl<R: Reader> ResUnits<R> {
     /// Decides the unit of a number by an answer to its load if it is open, and else leaves it as
     /// it is.
     ///
-    /// Refused `OutOfMemory` alone, and only of an open unit; then all that is kept stays, and only
-    /// that the unit was looked at may be new.
+    /// Refused `OutOfMemory` alone, and only of an open unit; then all that is cached stays, and
+    /// only that the unit was looked at may be new.
     pub fn answer(
         &mut self,
         alloc: Global,

@@ -1,13 +1,13 @@
 //! Parses of the functions of all units.
 
-ghost use Rattle.std.specs.Prelude.{◌≡◌, ◌⊎◌, ◌<◌, ℕ, IfSome, None, Ok, OnOk, false, length, slice_get, true};
+ghost use Rattle.std.specs.Prelude.{◌≡◌, ◌⊎◌, ◌<◌, ℕ, IfSome, None, Ok, OnOk, length, slice_get, true};
 ghost use Rattle.gimli_read.specs.Reading.{ExactlyUnlessOom};
 ghost use Rattle.addr2line_lines.specs.References.{IsScope};
 ghost use Rattle.addr2line_lines.specs.SeenScope.{seen_scope};
 ghost use Rattle.addr2line_units.specs.declared.parses.Reads.TheVariants.{Details, Functions};
 ghost use Rattle.addr2line_units.specs.FramesLookup.{with_answer};
 ghost use Rattle.addr2line_units.specs.FunctionParses.{AreFirstDecided, AreReadBefore, AreReadyFor, IsReadyFor, answers_after_parse, read_of_functions, read_of_number, read_of_unit, read_of_units, read_of_view};
-ghost use Rattle.addr2line_units.specs.CachedEntries.{AreEntriesOf, StayEntries, kept_answer};
+ghost use Rattle.addr2line_units.specs.CachedEntries.{AreEntriesOf, StayEntries, cached_answer};
 ghost use Rattle.addr2line_units.specs.CachedFunctions.{AreFunctionsOf, StayFunctions};
 ghost use Rattle.addr2line_units.specs.CachedLookups.{HaveEntriesOf, StayAllEntries, answers_in, has_entries_at, scope_in};
 ghost use Rattle.addr2line_units.specs.CachedParses.{AreDecided, AreReadyUnits, ChangesOnly, HasRead, HaveFunctions, HaveRead, IsReadyUnit, StayDecided};
@@ -36,9 +36,9 @@ pub enum Reads {
 }
 
 impl<R: Reader> LazyFunctions<R> {
-    // Reads the functions of a view, unless they were read, and keeps them, or their fault. Refused
-    // by that fault; may fail with `OutOfMemory` instead, only where they were not read. Changes
-    // nothing where they were, or their fault is kept.
+    // Reads the functions of a view, unless they were read, and caches them, or their fault.
+    // Refused by that fault; may fail with `OutOfMemory` instead, only where they were not read.
+    // Changes nothing where they were, or their fault is cached.
     fn read_alone(
         &mut self,
         alloc: Global,
@@ -130,12 +130,12 @@ fn read_in_view<'x, R: Reader>(
 
 impl<R: Reader> UnitEntries<R> {
     // Reads the functions of the unit's view, and their details where these are asked for, unless
-    // they were read, and keeps them, or their faults. A unit that waits for an answer is decided
+    // they were read, and caches them, or their faults. A unit that waits for an answer is decided
     // by none first.
     //
     // Refused by the first fault of the view, its functions and the details; may fail with
-    // `OutOfMemory` instead, only where something of these isn't kept. Takes no memory, and changes
-    // nothing, where the view and what is read of it are kept, up to the first fault.
+    // `OutOfMemory` instead, only where something of these isn't cached. Takes no memory, and
+    // changes nothing, where the view and what is read of it are cached, up to the first fault.
     fn read<'x>(
         &mut self,
         alloc: Global,
@@ -146,19 +146,19 @@ impl<R: Reader> UnitEntries<R> {
         requires in_order { IsScope (seen_scope scope) }
         requires kept { AreEntriesOf (seen_scope scope) dw_unit.now self.old }
         ensures gives { ExactlyUnlessOom (λ x. x) result (read_of_unit reads
-            (seen_scope scope.entry) dw_unit.now (kept_answer self.old)) }
+            (seen_scope scope.entry) dw_unit.now (cached_answer self.old)) }
         ensures kept { AreEntriesOf (seen_scope scope.entry) dw_unit.now self.new }
-        ensures answer { HadMemory result → kept_answer self.new ≡ decided_answer
-            scope.entry.file.dwarf.now dw_unit.now (kept_answer self.old) None }
-        ensures memory_answer { (kept_answer self.new ≡ kept_answer self.old)
-            ⊎ (kept_answer self.new ≡ decided_answer scope.entry.file.dwarf.now dw_unit.now
-            (kept_answer self.old) None) }
+        ensures answer { HadMemory result → cached_answer self.new ≡ decided_answer
+            scope.entry.file.dwarf.now dw_unit.now (cached_answer self.old) None }
+        ensures memory_answer { (cached_answer self.new ≡ cached_answer self.old)
+            ⊎ (cached_answer self.new ≡ decided_answer scope.entry.file.dwarf.now dw_unit.now
+            (cached_answer self.old) None) }
         ensures stay { is_decided self.old.view.state ≡ true → StayEntries self.old self.new }
         ensures read { OnOk result (HasRead reads self.new) }
         ensures memory { HasRead reads self.old → result ≡ Ok tt }
         ensures ready_for_all { HadMemory result → IsReadyUnit reads self.new }
         ensures exact { IsReadyUnit reads self.old → result ≡ read_of_unit reads
-            (seen_scope scope.entry) dw_unit.now (kept_answer self.old) }
+            (seen_scope scope.entry) dw_unit.now (cached_answer self.old) }
         ensures same { IsReadyUnit reads self.old → self.new ≡ self.old }
     {
         self.answer(alloc, scope, dw_unit, None)?;
@@ -254,13 +254,13 @@ fn read_all_functions<R: Reader>(
 
 impl<R: Reader> ResUnits<R> {
     /// Reads the functions of all units in their order, or their functions and the details of these
-    /// in the order of the entries, up to the first fault, and keeps them, that fault too. A unit
+    /// in the order of the entries, up to the first fault, and caches them, that fault too. A unit
     /// that waits for an answer is decided by none first. The units behind the first fault are left
     /// as they are.
     ///
     /// Refused by the first fault of a view, its functions and the details; may fail with
     /// `OutOfMemory` instead, which is never cached: then some of the first units that it would
-    /// decide are decided. Takes no memory, and changes nothing, where all that it reads is kept,
+    /// decide are decided. Takes no memory, and changes nothing, where all that it reads is cached,
     /// up to the first fault, and that fault. Source: DWARF 5, sections 3.3.1 and 3.3.8.
     pub fn read_functions(
         &mut self,

@@ -1,15 +1,14 @@
 //! A unit of a context, and its lines.
 
-ghost use Rattle.std.specs.Prelude.{◌≡◌, ◌≢◌, ◌+◌, ◌++◌, ◌<◌, ◌≤◌, [], true, false, not, map, Ok, Err, OnOk, OnErr, IfOk, IfErr, IfSome, IsOk, is_some, length, nat_lt, option_map};
+ghost use Rattle.std.specs.Prelude.{◌≡◌, ◌≢◌, ◌+◌, ◌++◌, ◌<◌, ◌≤◌, true, false, not, map, Ok, Err, OnOk, OnErr, IfOk, IfErr, IfSome, IsOk, is_some, length, nat_lt, option_map};
 ghost use Rattle.gimli_read.specs.Reading.{Exactly, ExactlyUnlessOom, ExactlyUnlessOomIf};
 ghost use Rattle.gimli_read.specs.declared.error.Error.TheVariants.{OutOfMemory};
 ghost use Rattle.gimli.specs.Sections.{Sections};
 ghost use Rattle.addr2line_lines.specs.Location.{location_of_row};
-ghost use Rattle.addr2line_lines.specs.SeenLocation.{seen_location};
 ghost use Rattle.addr2line_units.specs.UnitIndex.{is_partial, is_type_unit, given_in_unit, given_ranges, has_lines, asks_lines, ranged_unit, unit_ranges};
 ghost use Rattle.addr2line_units.specs.Located.{is_found, location_in, looks_in};
 ghost use Rattle.addr2line_units.specs.UnitAranges.{range_in};
-ghost use Rattle.addr2line_units.specs.CachedLines.{AreLinesOf, IsUnparsed, LinesStayCached, CachesAnswer, StaysUnit, cached_answer, cached_files, cached_looks, cached_ranges, cached_row, indexed_unit, lines_answer, cached_lines, is_parsed, is_uncached};
+ghost use Rattle.addr2line_units.specs.CachedLines.{AreLinesOf, IsUnparsed, LinesStayCached, CachesAnswer, StaysUnit, cached_lines_answer, cached_files, cached_looks, cached_ranges, cached_row, indexed_unit, lines_answer, cached_lines, is_parsed, is_uncached};
 ghost use Rattle.addr2line_units.specs.Indexed.{ranged_seen};
 ghost use Rattle.gimli_read.specs.Alike.{HadMemory};
 
@@ -31,7 +30,7 @@ pub enum LazyLines {
     Faulty(Error),
 }
 
-/// What a context keeps of a unit, beside the unit itself.
+/// What a context caches of a unit, beside the unit itself.
 #[derive(Drop)]
 pub struct ResUnit {
     /// Its language.
@@ -118,7 +117,7 @@ fn lines_at_first<R: Reader>(alloc: Global, unit: &Unit<R>) -> LazyLines
     }
 }
 
-// What is kept of a unit whose record was read, and its given ranges.
+// What is cached of a unit whose record was read, and its given ranges.
 pub(crate) fn read_ranged_unit<R: Reader>(
     alloc: Global,
     dwarf: &Dwarf<R>,
@@ -140,12 +139,12 @@ fn parse_lines<R: Reader>(
     dwarf: &Dwarf<R>,
     unit: &Unit<R>,
 ) -> Result<LazyLines, Error>
-    ensures gives { IfOk result (λ l. cached_answer l
+    ensures gives { IfOk result (λ l. cached_lines_answer l
         ≡ lines_answer dwarf.now unit.now) }
     ensures read { IfOk result
         (AreLinesOf dwarf.now unit.now) }
     ensures cached { IfOk result (λ l. is_uncached l ≡ false) }
-    ensures fault { IfOk result (λ l. cached_answer l ≢ Err OutOfMemory) }
+    ensures fault { IfOk result (λ l. cached_lines_answer l ≢ Err OutOfMemory) }
     ensures refused { IfErr result (λ e. e ≡ OutOfMemory) }
 {
     match Lines::parse(alloc, dwarf, unit) {
@@ -157,7 +156,7 @@ fn parse_lines<R: Reader>(
 
 // The cached fault, if there is one.
 fn check_lines(lines: &LazyLines) -> Result<(), Error>
-    ensures gives { Exactly (λ _. cached_lines lines.now) result (cached_answer lines.now) }
+    ensures gives { Exactly (λ _. cached_lines lines.now) result (cached_lines_answer lines.now) }
 {
     match lines {
         LazyLines::Faulty(error) => Err(*error),
@@ -213,12 +212,12 @@ impl ResUnit {
         dw_unit: &Unit<R>,
     ) -> Result<(), Error>
         requires read { AreLinesOf dwarf.now dw_unit.now self.old.lines }
-        ensures gives { OnOk result (cached_answer self.new.lines
+        ensures gives { OnOk result (cached_lines_answer self.new.lines
             ≡ lines_answer dwarf.now dw_unit.now) }
         ensures exact { is_uncached self.old.lines ≡ false → result ≡ Ok tt }
         ensures cached { OnOk result (is_uncached self.new.lines ≡ false) }
         ensures fault { is_uncached self.old.lines ≡ true → OnOk result
-            (cached_answer self.new.lines ≢ Err OutOfMemory) }
+            (cached_lines_answer self.new.lines ≢ Err OutOfMemory) }
         ensures stays { LinesStayCached self.old.lines self.new.lines }
         ensures refused { IfErr result (λ e. e ≡ OutOfMemory) }
         ensures memory { OnErr result (self.new.lines ≡ self.old.lines) }

@@ -1,12 +1,11 @@
 //! What stands at an address in one unit.
 
-ghost use Rattle.std.specs.Prelude.{◌≡◌, ◌≤◌, IfErr, IfOk, IfSome, None, Ok, OnOk, false, is_some, option_map, true};
-ghost use Rattle.gimli_read.specs.declared.error.Error.TheVariants.{OutOfMemory};
+ghost use Rattle.std.specs.Prelude.{◌≡◌, ◌≤◌, IfOk, IfSome, None, Ok, false, option_map, true};
 ghost use Rattle.gimli_read.specs.Reading.{ExactlyUnlessOom};
 ghost use Rattle.addr2line_lines.specs.References.{IsScope};
 ghost use Rattle.addr2line_lines.specs.SeenScope.{seen_scope};
 ghost use Rattle.addr2line_units.specs.CachedLines.{AreLinesOf, StaysUnit, indexed_unit, is_uncached};
-ghost use Rattle.addr2line_units.specs.CachedEntries.{AreEntriesOf, AreFramesIn, AreFresh, ReadsEntriesOf, StayEntries, frames_of_place, has_entries, has_entries_by, kept_answer};
+ghost use Rattle.addr2line_units.specs.CachedEntries.{AreEntriesOf, AreFramesIn, AreFresh, ReadsEntriesOf, StayEntries, frames_of_place, has_entries, has_entries_by, cached_answer};
 ghost use Rattle.addr2line_units.specs.CachedFunctions.{ArePlacesIn, ReadsNoOther, StayFunctions, function_of_place, cached_functions};
 ghost use Rattle.addr2line_units.specs.CachedViews.{is_decided, seen_first_answer, waits, was_looked_at};
 ghost use Rattle.gimli_read.specs.Alike.{HadMemory};
@@ -21,7 +20,7 @@ use gimli::Unit;
 use gimli::read::{Error, Reader};
 use std::alloc::Global;
 
-/// What is kept of the entries of a unit: its view, and the functions in it.
+/// What is cached of the entries of a unit: its view, and the functions in it.
 #[derive(Drop)]
 pub(crate) struct UnitEntries<R: Reader> {
     pub(crate) view: UnitView<R>,
@@ -78,7 +77,7 @@ fn find_in_view<'x, R: Reader>(
 impl<R: Reader> UnitEntries<R> {
     // Before anybody asks for something. Takes no memory.
     pub(crate) fn new() -> UnitEntries<R>
-        ensures answer { kept_answer result ≡ None }
+        ensures answer { cached_answer result ≡ None }
         ensures fresh { AreFresh result }
     {
         UnitEntries {
@@ -100,10 +99,10 @@ impl<R: Reader> UnitEntries<R> {
     }
 
     // The function at an address in the unit's view, none where no function holds it. The functions
-    // and its detail are read and kept, unless they are, their faults too.
+    // and its detail are read and cached, unless they are, their faults too.
     //
     // Refused by the first fault of the view, its functions and the detail; may fail with
-    // `OutOfMemory` instead, only where something of these isn't kept, or there are more than 16
+    // `OutOfMemory` instead, only where something of these isn't cached, or there are more than 16
     // inlined functions.
     fn find_function<'x>(
         &mut self,
@@ -118,7 +117,7 @@ impl<R: Reader> UnitEntries<R> {
         requires decided { waits self.old.view.state ≡ false }
         ensures gives { ExactlyUnlessOom
             (option_map (function_of_place (cached_functions self.new.functions))) result
-            (function_in (seen_scope scope.entry) dw_unit.now (kept_answer self.old) probe) }
+            (function_in (seen_scope scope.entry) dw_unit.now (cached_answer self.old) probe) }
         ensures there { IfOk result (λ found. IfSome found
             (ArePlacesIn (cached_functions self.new.functions))) }
         ensures kept { AreEntriesOf (seen_scope scope.entry) dw_unit.now self.new }
@@ -126,7 +125,7 @@ impl<R: Reader> UnitEntries<R> {
         ensures only { ReadsEntriesOf probe self.old self.new }
         ensures ready { HadMemory result → has_entries probe self.new ≡ true }
         ensures memory { has_entries probe self.new ≡ true
-            → has_many (seen_scope scope.entry) dw_unit.now (kept_answer self.old) probe ≡ false
+            → has_many (seen_scope scope.entry) dw_unit.now (cached_answer self.old) probe ≡ false
             → HadMemory result }
     {
         let UnitEntries { view, functions } = self;
@@ -135,11 +134,11 @@ impl<R: Reader> UnitEntries<R> {
 }
 
 // What a unit has at an address, unless it waits for an answer. Its view is decided if it needs no
-// answer, and what is read is kept: the functions of the view, the detail of the function there,
+// answer, and what is read is cached: the functions of the view, the detail of the function there,
 // and the lines of the unit, their faults too.
 //
 // Refused by the first fault of the view, its functions, the detail and the lines; may fail with
-// `OutOfMemory` instead, only where something of these isn't kept, or there are more than 16
+// `OutOfMemory` instead, only where something of these isn't cached, or there are more than 16
 // inlined functions.
 pub(crate) fn find_frames_in<'x, R: Reader>(
     alloc: Global,
@@ -155,23 +154,25 @@ pub(crate) fn find_frames_in<'x, R: Reader>(
     requires kept { AreEntriesOf (seen_scope scope) dw_unit.now entries.old }
     ensures gives { ExactlyUnlessOom (frames_of_place unit.new entries.new) result
         (frames_in (seen_scope scope.entry) (indexed_unit dw_unit.now unit.old)
-        (kept_answer entries.old) probe) }
+        (cached_answer entries.old) probe) }
     ensures there { IfOk result (AreFramesIn unit.new entries.new) }
     ensures read { AreLinesOf scope.entry.file.dwarf.now dw_unit.now unit.new.lines }
     ensures kept { AreEntriesOf (seen_scope scope.entry) dw_unit.now entries.new }
     ensures stays { StaysUnit unit.old unit.new }
     ensures stay { StayEntries entries.old entries.new }
     ensures only { ReadsEntriesOf probe entries.old entries.new }
-    ensures lines { asks_lines_in (seen_scope scope.entry) dw_unit.now (kept_answer entries.old)
+    ensures lines { asks_lines_in (seen_scope scope.entry) dw_unit.now (cached_answer entries.old)
         probe ≡ false → unit.new ≡ unit.old }
     ensures ready { HadMemory result → has_entries probe entries.new ≡ true }
     ensures parsed { HadMemory result
-        → asks_lines_in (seen_scope scope.entry) dw_unit.now (kept_answer entries.old) probe ≡ true
+        → asks_lines_in (seen_scope scope.entry) dw_unit.now (cached_answer entries.old) probe
+        ≡ true
         → is_uncached unit.new.lines ≡ false }
     ensures memory { has_entries probe entries.new ≡ true
-        → (asks_lines_in (seen_scope scope.entry) dw_unit.now (kept_answer entries.old) probe ≡ true
+        → (asks_lines_in (seen_scope scope.entry) dw_unit.now (cached_answer entries.old) probe
+        ≡ true
         → is_uncached unit.new.lines ≡ false)
-        → has_many (seen_scope scope.entry) dw_unit.now (kept_answer entries.old) probe ≡ false
+        → has_many (seen_scope scope.entry) dw_unit.now (cached_answer entries.old) probe ≡ false
         → HadMemory result }
     ensures raised { looks.old ≤ looks.new }
 {

@@ -36,9 +36,9 @@ use std::alloc::Global;
 pub struct ResUnits<R: Reader> {
     /// The units, in the order of `.debug_info`.
     pub dw_units: Vec<Unit<R>>,
-    /// What is kept of each, in the same order.
+    /// What is cached of each, in the same order.
     pub units: Vec<ResUnit>,
-    // What is kept of the entries of each, in the same order.
+    // What is cached of the entries of each, in the same order.
     pub(crate) entries: Vec<UnitEntries<R>>,
     /// The ranges that lead to them.
     pub ranges: UnitRanges,
@@ -65,7 +65,7 @@ fn location_of(lines: &LazyLines, row: Row) -> Location<'_>
     }
 }
 
-// The unit of a header, what is kept of it, and its given ranges; none where it is passed over.
+// The unit of a header, what is cached of it, and its given ranges; none where it is passed over.
 #[tactic(auto, unfolding(crate::specs::UnitIndex::unit_of_header))]
 fn read_unit<R: Reader>(
     alloc: Global,

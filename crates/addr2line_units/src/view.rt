@@ -61,7 +61,7 @@ struct Answer<R: Reader> {
     unit: Result<Option<Unit<R>>, Error>,
 }
 
-// What is kept of a unit's view.
+// What is cached of a unit's view.
 #[derive(Drop)]
 enum ViewState<R: Reader> {
     // The unit wasn't looked at yet.

@@ -1,16 +1,16 @@
-//! The program `line_speed`: a checksum of rows, of kept lines, or of lookups in them.
+//! The program `line_speed`: a checksum of rows, of cached lines, or of lookups in them.
 //!
 //! Arguments: a mode and a file. The modes `borrowed` and `shared` take a `.debug_line` section,
 //! whose rows are read over borrowed or shared bytes. The modes `kept` and `lookups` take a file of
-//! four sections, each after its length in eight bytes: the lines of all units are kept, and a
+//! four sections, each after its length in eight bytes: the lines of all units are cached, and a
 //! thousand addresses are looked up, or a million more.
 #![tactic(auto)]
 
+mod cached;
 mod checksum;
-mod kept;
 
+use crate::cached::cached_checksum;
 use crate::checksum::checksum_of;
-use crate::kept::kept_checksum;
 use bytes::Bytes;
 use gimli_read::{EndianBytes, EndianSlice, Error, RunTimeEndian};
 use std::alloc::Global;
@@ -40,7 +40,7 @@ fn sum_of(alloc: Global, mode: &str, bytes: Vec<u8>) -> Option<Result<u64, Error
         _ => return None,
     };
     let mut input = EndianSlice::new(&bytes, RunTimeEndian::Little);
-    Some(kept_checksum(alloc, &mut input, lookups))
+    Some(cached_checksum(alloc, &mut input, lookups))
 }
 
 // The checksum of the file that the words name, in the mode that they name; none for other words.

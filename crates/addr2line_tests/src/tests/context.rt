@@ -67,7 +67,7 @@ fn lookups_over_three_sections(rt: HostRuntime) {
 
 #[test]
 fn sections_in_one_value_answer_alike(rt: HostRuntime) {
-    for way in [Way::Whole, Way::Held] {
+    for way in [Way::Whole, Way::InRc] {
         let told = told_borrowed(rt.alloc(), alone(&ABBREV, &INFO, &LINE), way, CALLS);
         assert_eq!(rt; numbers(told), (FOUND, 0));
     }
@@ -75,7 +75,7 @@ fn sections_in_one_value_answer_alike(rt: HostRuntime) {
 
 // What making a context of one unit says.
 fn made(alloc: Global, info: &[u8]) -> Codes {
-    let ([codes], _) = told_each(alloc, three_sections(&ABBREV, info, &LINE), [Call::Made]);
+    let ([codes], _) = told_each(alloc, three_sections(&ABBREV, info, &LINE), [Call::NoCall]);
     codes
 }
 

@@ -38,7 +38,7 @@ fn told_named<const N: usize>(
     info: &'static [u8],
     calls: [Call; N],
 ) -> [Replies<N>; 2] {
-    told_both(alloc, alone(NAMED, info, &LINE), Way::Held, calls)
+    told_both(alloc, alone(NAMED, info, &LINE), Way::InRc, calls)
 }
 
 #[test]
@@ -132,7 +132,7 @@ fn told_ranged(alloc: Global, info: &'static [u8], probes: [u64; 3]) -> [Replies
         ranges: &LIST,
         ..main
     };
-    told_both(alloc, Files { main, split }, Way::Held, probes.map(frames))
+    told_both(alloc, Files { main, split }, Way::InRc, probes.map(frames))
 }
 
 #[test]

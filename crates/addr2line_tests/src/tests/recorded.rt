@@ -174,7 +174,7 @@ fn call_of<R: Reader>(
         Call::Load(number) => Ok(Recorded::LoadUnit(given.token(number)?, Some(given.share()?))),
         Call::LoadNothing(number) => Ok(Recorded::LoadUnit(given.token(number)?, None)),
         Call::Forget(number) => Ok(Recorded::Forget(given.token(number)?)),
-        Call::ParseLines | Call::Made => Ok(Recorded::ParseLines),
+        Call::ParseLines | Call::NoCall => Ok(Recorded::ParseLines),
         Call::ParseFunctions => Ok(Recorded::ParseFunctions),
         Call::ParseInlined => Ok(Recorded::ParseInlinedFunctions),
     }

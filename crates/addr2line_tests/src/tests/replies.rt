@@ -27,8 +27,8 @@ pub enum Answer {
 /// A call of a context.
 #[derive(Clone, Copy)]
 pub enum Call {
-    /// None: the context is made.
-    Made,
+    /// None: the context is made, and nothing is asked.
+    NoCall,
     Frames(u64, Answer),
     Unit(u64, Answer),
     Location(u64),
@@ -243,7 +243,7 @@ pub fn reply<R: Reader>(
     listed: &mut Tokens,
 ) -> Codes {
     match call {
-        Call::Made => DONE,
+        Call::NoCall => DONE,
         Call::Frames(probe, answer) => frames_reply(context, given, probe, answer),
         Call::Unit(probe, answer) => unit_reply(context, given, probe, answer),
         Call::Location(probe) => located_codes(context.find_location(probe)),

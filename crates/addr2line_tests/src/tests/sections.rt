@@ -99,8 +99,8 @@ pub fn by_sections(
 pub enum Way {
     /// By `from_dwarf`, and each call by itself.
     Whole,
-    /// By `from_arc_dwarf`, and each call by itself.
-    Held,
+    /// By `from_arc_dwarf`, of sections in an `Rc`, and each call by itself.
+    InRc,
     /// By `from_dwarf`, and all calls by `replay`.
     Replayed,
 }
@@ -108,7 +108,7 @@ pub enum Way {
 /// A context that is made this way.
 pub fn made<R: Reader>(alloc: Global, way: Way, dwarf: Dwarf<R>) -> Result<Context<R>, Error> {
     match way {
-        Way::Held => match Rc::new(alloc, dwarf) {
+        Way::InRc => match Rc::new(alloc, dwarf) {
             Ok(dwarf) => Context::from_arc_dwarf(alloc, dwarf),
             Err(_) => Err(Error::OutOfMemory),
         },

@@ -107,7 +107,7 @@ fn a_split_unit_is_decided_by_its_first_answer(rt: HostRuntime) {
     ];
     for case in cases {
         let want = (case.map(|(_, want)| want), 0);
-        let told = told_both(rt.alloc(), files(), Way::Held, case.map(|(call, _)| call));
+        let told = told_both(rt.alloc(), files(), Way::InRc, case.map(|(call, _)| call));
         assert_eq!(rt; told, [want; 2]);
     }
 }
@@ -117,7 +117,7 @@ fn loads_are_listed_in_the_order_of_units(rt: HostRuntime) {
     let calls = [Call::Preload(15), Call::Preload(5)];
     let want = ([first([2, 2, 1]), first([1, 1, 0])], 0);
     let waiting = alone(WAITING_ABBREV, TWO_WAITING_INFO, &LINE_V5);
-    let told = told_both(rt.alloc(), waiting, Way::Held, calls);
+    let told = told_both(rt.alloc(), waiting, Way::InRc, calls);
     assert_eq!(rt; told, [want; 2]);
 }
 
@@ -134,7 +134,7 @@ const GROWING: [Call; 6] = [
 const GROWN: [Codes; 6] = [DONE, H, SPLIT, DONE, NONE, LINE_3];
 
 fn told(alloc: Global) -> Replies<6> {
-    told_borrowed(alloc, files(), Way::Held, GROWING)
+    told_borrowed(alloc, files(), Way::InRc, GROWING)
 }
 
 // The answers of a context that is made once more where it was refused.

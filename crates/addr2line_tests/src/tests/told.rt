@@ -48,7 +48,7 @@ fn answers<R: Reader, const N: usize>(
 ) -> (Replies<N>, Tokens) {
     match way {
         Way::Replayed => (recorded::replies(alloc, context, given, calls), [None; 2]),
-        Way::Whole | Way::Held => called(context, given, calls),
+        Way::Whole | Way::InRc => called(context, given, calls),
     }
 }
 
@@ -79,7 +79,7 @@ pub fn told_by<R: Reader, const N: usize>(
         tokens: [None; 2],
         split: None,
     };
-    told(alloc, context, &given, Way::Held, calls).0
+    told(alloc, context, &given, Way::InRc, calls).0
 }
 
 /// The last number of each answer alone, as that of a location, a fault or an end.

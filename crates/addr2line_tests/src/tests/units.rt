@@ -198,8 +198,8 @@ fn sequences_give_a_unit_its_ranges(rt: HostRuntime) {
     let told = [
         parsed_last(rt.alloc(), files.main),
         numbers(told_borrowed(rt.alloc(), files, Way::Whole, PARSED_LAST)),
-        numbers(told_borrowed(rt.alloc(), files, Way::Held, PARSED_LAST)),
-        numbers(told_shared(rt.alloc(), files, Way::Held, PARSED_LAST)),
+        numbers(told_borrowed(rt.alloc(), files, Way::InRc, PARSED_LAST)),
+        numbers(told_shared(rt.alloc(), files, Way::InRc, PARSED_LAST)),
     ];
     assert_eq!(rt; told, [want; 4]);
 }
@@ -218,7 +218,7 @@ fn lines_that_are_faulty_give_no_range(rt: HostRuntime) {
 // What making a context of two units' lines says: 1, or a fault's number.
 fn made(alloc: Global, abbrev: &[u8], info: &[u8], aranges: &[u8]) -> u64 {
     let two = three_sections(abbrev, info, &TWO_LINES);
-    let ([code], _) = numbers(told_each(alloc, Sections { aranges, ..two }, [Call::Made]));
+    let ([code], _) = numbers(told_each(alloc, Sections { aranges, ..two }, [Call::NoCall]));
     code
 }
 
@@ -269,7 +269,7 @@ fn made_with_sup(alloc: Global, sup: &[u8]) -> ([u64; 1], u64) {
         Ok(()) => Context::from_dwarf(alloc, dwarf),
         Err(error) => Err(error),
     };
-    numbers(told_by(alloc, context, [Call::Made]))
+    numbers(told_by(alloc, context, [Call::NoCall]))
 }
 
 #[test]

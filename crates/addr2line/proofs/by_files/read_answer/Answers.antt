@@ -7,7 +7,7 @@ use Rattle.addr2line_units.specs.FramesLookup.{Waits}
 use Rattle.addr2line_units.specs.Views.{SplitLoad}
 use Rattle.addr2line.specs.Context.{ContextState}
 use Rattle.addr2line.specs.Files.{Files}
-use Rattle.addr2line.specs.Loader.{IsAnswerByFiles, IsFaultByFiles}
+use Rattle.addr2line.specs.LoadsByFiles.{IsAnswerByFiles, IsFaultByFiles}
 use Rattle.addr2line.specs.Lookups.{IsLoadOf, lookup_stop}
 use Rattle.addr2line.specs.SplitFiles.{given_by_files}
 use Rattle.addr2line.proofs.ByFilesLemmas.{refused_by_file}

@@ -3,7 +3,7 @@ use Rattle.addr2line_lines.specs.Packed.{row_address_at}
 use Rattle.addr2line_lines.specs.Counts.{blocks}
 use Rattle.addr2line_lines.specs.declared.row.Row.{Row}
 use Rattle.addr2line_lines.proofs.DigitLemmas.{digits_half, digits_le}
-use Rattle.addr2line_lines.proofs.PackedLemmas.{stretch_of}
+use Rattle.addr2line_lines.proofs.PackedLemmas.{sequence_rows_of}
 use Rattle.addr2line_lines.proofs.SearchLemmas.{past_from}
 use Rattle.addr2line_lines.proofs.search.first_row.Goals.{then-block-probe, else-block-probe}
 use Rattle.addr2line_lines.proofs.search.first_row.Goals as goal
@@ -12,7 +12,7 @@ pub loop-size-init : goal.loop-size-init
 loop-size-init g c =
     let rows = g.T.Table.rows c.args.table.now in
     let s = c.args.sequence in
-    let z = stretch_of rows s c.requires.among in
+    let z = sequence_rows_of rows s c.requires.among in
     let i = z.inside in let some = z.some in
     let cost = digits_le (((s.first + (s.len - 1)) / 64 - s.first / 64 + 1) - 1) (blocks (length rows)) (omega arith) in
     record {
@@ -32,7 +32,7 @@ pub loop-size-preserved : goal.loop-size-preserved
 loop-size-preserved g c =
     let rows = g.T.Table.rows c.args.table.now in
     let i = c.loop-size.invariant in let test = c.loop-size-test.true in
-    let z = stretch_of _ c.args.sequence c.requires.among in
+    let z = sequence_rows_of _ c.args.sequence c.requires.among in
     let m : ℕ = c.loop-size.best / 64 + c.loop-size.size / 2 in
     let cost = digits_half (c.loop-size.size - c.loop-size.size / 2 - 1) (c.loop-size.size - 1) (omega arith) (omega arith) in
     let count = c.block.ensures.looks in

@@ -1,14 +1,14 @@
 use Rattle.std.proofs.Common.{◌≡◌, ◌+◌, ◌-◌, arith, ◌∙◌, ap, sym, refl}
 use Rattle.addr2line_lines.specs.Packed.{row_address_at}
 use Rattle.addr2line_lines.specs.declared.row.Row.{Row}
-use Rattle.addr2line_lines.proofs.PackedLemmas.{stretch_of}
+use Rattle.addr2line_lines.proofs.PackedLemmas.{sequence_rows_of}
 use Rattle.addr2line_lines.proofs.SearchLemmas.{past_from, read_at, row_found}
 use Rattle.addr2line_lines.proofs.search.last_row.Goals as goal
 
 pub returns-then-row-probe-clause-found : goal.returns-then-row-probe-clause-found
 returns-then-row-probe-clause-found g c =
     let i = c.loop-next.invariant in let all = g.T.Table.rows c.args.table.now in
-    let z = stretch_of all c.args.sequence c.requires.among in
+    let z = sequence_rows_of all c.args.sequence c.requires.among in
     let from = c.loop-next.auto.next in let test = c.loop-next-test.true in let past = c.if-row-probe.true in
     let here : row_address_at all c.loop-next.next ≡ c.row.result.address = ap (λ (r : Row). r.address) (read_at all _ _ c.loop-next.next _ _ c.row.ensures.gives i.rows refl) in
     let least = c.requires.from in let few = c.requires.inside in let min = c.min.ensures in

@@ -5,7 +5,7 @@ use Rattle.addr2line_lines.specs.SeenScope.{seen_scope}
 use Rattle.addr2line_units.specs.declared.unit_frames.UnitEntries.{UnitEntries}
 use Rattle.addr2line_units.specs.CachedFunctions.{function_of_place, cached_functions}
 use Rattle.addr2line_units.proofs.EntryLemmas.{exactly_unless_oom, fault_entries, fault_known, few_in, function_entries, function_is_in, functions_keep, functions_right, functions_stay, view_known}
-use Rattle.addr2line_units.proofs.CachedPlaceLemmas.{kept_is_not_oom, kept_unless_oom}
+use Rattle.addr2line_units.proofs.CachedPlaceLemmas.{cached_is_not_oom, cached_unless_oom}
 use Rattle.addr2line_units.proofs.unit_frames.find_in_view.Goals as goal
 
 pub returns-in_err-unit-clause-stay : goal.returns-in_err-unit-clause-stay
@@ -21,7 +21,7 @@ returns-in_err-unit-clause-ready g c =
     let x = c.in_err-unit.field-0.0 in
     let is = fault_known scope u probe old c.requires.kept c.requires.decided x c.in_err-unit.ensures.gives in
     let p = err_from_is_err_and c.from_residual.result c.from_residual.ensures.1 in
-    rw (p.1, p.2) (λ ne. fault_entries scope u probe old c.requires.kept c.requires.decided x is c.args.functions.now ∙ kept_unless_oom x ne)
+    rw (p.1, p.2) (λ ne. fault_entries scope u probe old c.requires.kept c.requires.decided x is c.args.functions.now ∙ cached_unless_oom x ne)
 
 pub returns-in_err-unit-clause-memory : goal.returns-in_err-unit-clause-memory
 returns-in_err-unit-clause-memory g c =
@@ -32,7 +32,7 @@ returns-in_err-unit-clause-memory g c =
     let x = c.in_err-unit.field-0.0 in
     let is = fault_known scope u probe old c.requires.kept c.requires.decided x c.in_err-unit.ensures.gives in
     let p = err_from_is_err_and c.from_residual.result c.from_residual.ensures.1 in
-    rw (p.1, p.2) (λ has. λ few. kept_is_not_oom x (sym (fault_entries scope u probe old c.requires.kept c.requires.decided x is c.args.functions.now) ∙ has))
+    rw (p.1, p.2) (λ has. λ few. cached_is_not_oom x (sym (fault_entries scope u probe old c.requires.kept c.requires.decided x is c.args.functions.now) ∙ has))
 
 pub find-requires-clause-in_order : goal.find-requires-clause-in_order
 find-requires-clause-in_order g c =

@@ -28,7 +28,7 @@ pub invariant_of-self-2 : goal.invariant_of-self-2
 invariant_of-self-2 g c =
     let s = c.self.inside in
     let e = rw c.deref.ensures at c.find_frames.ensures in
-    rw c.keep_stop.ensures.kept (still_context s.dwarf.value s.units.dw_units.items s.units.units.items s.units.entries.items s.units.ranges s.sup_units c.self.invariant _ e.dw_units _ e.stay_units _ e.kept _ e.ranges e.read)
+    rw c.set_stop.ensures.kept (still_context s.dwarf.value s.units.dw_units.items s.units.units.items s.units.entries.items s.units.ranges s.sup_units c.self.invariant _ e.dw_units _ e.stay_units _ e.kept _ e.ranges e.read)
 
 pub stop_frames-requires-clause-beside : goal.stop_frames-requires-clause-beside
 stop_frames-requires-clause-beside g c =
@@ -37,7 +37,7 @@ stop_frames-requires-clause-beside g c =
     let e = rw c.deref.ensures at c.find_frames.ensures in
     let entries = as_many_entries (scope_in s.dwarf.value now.dw_units.items s.sup_units) now.dw_units.items now.entries.items e.kept in
     let lines = as_many_lines s.dwarf.value now.dw_units.items now.units.items e.read in
-    rw c.keep_stop.ensures.kept (sym entries ∙ lines)
+    rw c.set_stop.ensures.kept (sym entries ∙ lines)
 
 pub returns : goal.returns
 returns g c =
@@ -47,10 +47,10 @@ returns g c =
     let now = c.find_frames.new.self in
     let is = stop_is s.dwarf.value s.units.dw_units.items s.units.units.items s.units.entries.items s.units.ranges s.sup_units c.self.invariant End c.args.probe in
     let ended = rw (sym c.self.view_is, is) at c.requires.ended in
-    rw (sym c.self.view_is, c.keep_stop.ensures.kept) (
+    rw (sym c.self.view_is, c.set_stop.ensures.kept) (
       (refl, (λ _. tt), after_frames s.dwarf.value s.units.dw_units.items s.units.units.items s.units.entries.items s.units.ranges s.sup_units c.self.invariant now.units.items e.stay_units now.entries.items e.stay s.looks c.find_frames.new.looks End c.args.probe c.deref.result.now (sym c.deref.ensures) _ e.only e.lines e.ready e.memory e.raised),
       record {
-        gives = ap (λ r. r >>= λ x. Ok (frames_told x)) is ∙ told_frames now.units.items now.entries.items c.in_ok-stop.stop _ _ ended gives (rw c.keep_stop.ensures.kept at c.stop_frames.ensures).gives;
+        gives = ap (λ r. r >>= λ x. Ok (frames_told x)) is ∙ told_frames now.units.items now.entries.items c.in_ok-stop.stop _ _ ended gives (rw c.set_stop.ensures.kept at c.stop_frames.ensures).gives;
         kept = tt;
       },
     )

@@ -7,7 +7,7 @@ use Rattle.addr2line_lines.specs.CachedDetails.{CachedDetails, seen_details}
 use Rattle.addr2line_lines.specs.SeenScope.{seen_scope}
 use Rattle.addr2line_lines.proofs.DetailMemory.{detail_takes, found_takes}
 use Rattle.addr2line_lines.proofs.DetailOrder.{detail_refused}
-use Rattle.addr2line_lines.proofs.DetailPlaces.{AreKeptAt, detail_kept, last_name, place_kept, sorted_more}
+use Rattle.addr2line_lines.proofs.DetailPlaces.{AreCachedAt, detail_cached, last_name, place_cached, sorted_more}
 use Rattle.addr2line_lines.proofs.FunctionLemmas.{or_more, or_second}
 use Rattle.addr2line_lines.proofs.NestingLemmas.{grown_by, grown_not}
 use Rattle.addr2line_lines.proofs.details.Details.add.Given.{Over}
@@ -48,7 +48,7 @@ module _ (g : Over) (c : goal.After-len-2 g) where
     listed = c.of-listed.result;
   }
 
-  -- the names that were kept, and one more
+  -- the names that were cached, and one more
   longer : length more.names ≡ length old.names + 1
   longer =
       let see = option_map g.R.Reader.section in
@@ -60,8 +60,8 @@ module _ (g : Over) (c : goal.After-len-2 g) where
   place : made.name ≡ length old.names
   place = c.len-name.ensures ∙ c.args.self.now.names.ok.0 ∙ sym (length-map c.args.self.now.names.items (option_map g.R.Reader.section))
 
-  -- where what was found is kept
-  at : AreKeptAt (option_map g.R.Reader.section c.in_ok-read.read) old.found listed more made
+  -- where what was found is cached
+  at : AreCachedAt (option_map g.R.Reader.section c.in_ok-read.read) old.found listed more made
   at =
       let see = option_map g.R.Reader.section in
       let names = c.args.self.now.names.items in
@@ -82,7 +82,7 @@ module _ (g : Over) (c : goal.After-len-2 g) where
       }
 
 pub returns-clause-gives : goal.returns-clause-gives
-returns-clause-gives g c = detail_kept (seen_scope c.args.scope) c.args.unit.now c.args.offset.0 _ (old g c).found (listed g c) c.in_ok-read.ensures.gives (more g c) (made g c) (at g c)
+returns-clause-gives g c = detail_cached (seen_scope c.args.scope) c.args.unit.now c.args.offset.0 _ (old g c).found (listed g c) c.in_ok-read.ensures.gives (more g c) (made g c) (at g c)
 
 pub returns-clause-kept : goal.returns-clause-kept
 returns-clause-kept g c =
@@ -97,7 +97,7 @@ returns-clause-kept g c =
     }
 
 pub returns-clause-place : goal.returns-clause-place
-returns-clause-place g c = place_kept (seen_scope c.args.scope) c.args.unit.now c.args.offset.0 _ (old g c).found (listed g c) c.in_ok-read.ensures.gives (more g c) (made g c) (at g c)
+returns-clause-place g c = place_cached (seen_scope c.args.scope) c.args.unit.now c.args.offset.0 _ (old g c).found (listed g c) c.in_ok-read.ensures.gives (more g c) (made g c) (at g c)
 
 pub returns-clause-next : goal.returns-clause-next
 returns-clause-next g c =

@@ -1,4 +1,4 @@
-use Rattle.std.proofs.Common.{◌≡◌, ◌<◌, List, [], Ok, IfOk, length, map, nat_lt, ap, sym, subst, ◌∙◌}
+use Rattle.std.proofs.Common.{◌≡◌, ◌<◌, List, [], Ok, IfOk, length, map, ap, sym, subst, ◌∙◌}
 use Rattle.std.specs.List.{AllByRecursion}
 use Rattle.gimli_read.specs.Reading.{ExactlyUnlessOomIf}
 use Rattle.addr2line_lines.specs.Details.{InlinedRange, inlined_chain}
@@ -7,7 +7,7 @@ use Rattle.addr2line_lines.specs.FunctionCache.{read_at}
 use Rattle.addr2line_lines.specs.FunctionTable.{FunctionTable, cached_inlined}
 use Rattle.addr2line_lines.specs.CachedDetails.{seen_details}
 use Rattle.addr2line_lines.specs.ManyInlined.{are_many}
-use Rattle.addr2line_lines.proofs.CachedPlaces.{inlined_cached, none_read, place_kept, read_is}
+use Rattle.addr2line_lines.proofs.CachedPlaces.{inlined_cached, none_read, place_cached, read_is}
 use Rattle.addr2line_lines.proofs.functions.Functions.find_inlined_functions.Goals as goal
 
 pub find_inlined_functions-requires : goal.find_inlined_functions-requires
@@ -15,7 +15,7 @@ find_inlined_functions-requires g c =
     let fs = c.self.inside.functions.items in
     let d = seen_details g.R.Reader.section c.self.inside.details in
     let at = ap (λ fs. read_at fs c.args.place) (sym c.deref.ensures.value) ∙ sym (rw c.in-Some.is at c.read_detail_of.ensures.gives) in
-    record { place = place_kept d fs c.args.place c.in-Some.detail.now c.self.invariant.runs.places at }
+    record { place = place_cached d fs c.args.place c.in-Some.detail.now c.self.invariant.runs.places at }
 
 pub returns-in-Some-clause-gives : goal.returns-in-Some-clause-gives
 returns-in-Some-clause-gives g c =

@@ -2,7 +2,7 @@ use Rattle.std.proofs.Common.{option_map, option_and_then, ap, sym, ◌∙◌}
 use Rattle.addr2line_lines.specs.FunctionTable.{cached_name, name_of_detail}
 use Rattle.addr2line_lines.specs.FunctionCache.{read_at}
 use Rattle.addr2line_lines.specs.CachedDetails.{seen_details}
-use Rattle.addr2line_lines.proofs.CachedPlaces.{none_read, place_kept, read_is}
+use Rattle.addr2line_lines.proofs.CachedPlaces.{none_read, place_cached, read_is}
 use Rattle.addr2line_lines.proofs.functions.Functions.name.Goals as goal
 
 pub returns-in_err-read_detail_of : goal.returns-in_err-read_detail_of
@@ -18,7 +18,7 @@ name-requires g c =
     let fs = c.self.inside.functions.items in
     let d = seen_details g.R.Reader.section c.self.inside.details in
     let at = ap (λ fs. read_at fs c.args.place) (sym c.deref.ensures.value) ∙ sym c.in_ok-read_detail_of.ensures.gives in
-    record { place = place_kept d fs c.args.place c.in_ok-read_detail_of.field-0.now c.self.invariant.runs.places at }
+    record { place = place_cached d fs c.args.place c.in_ok-read_detail_of.field-0.now c.self.invariant.runs.places at }
 
 pub returns : goal.returns
 returns g c =

@@ -1,4 +1,4 @@
-use Rattle.std.proofs.Common.{rules, ◌≡◌, ◌≤◌, length, Some, None, Ok, Err, slice_get, ap, sym, subst, refl, ◌∙◌}
+use Rattle.std.proofs.Common.{rules, ◌≡◌, ◌≤◌, length, Some, None, Ok, Err, slice_get, ap, sym, subst, ◌∙◌}
 use Rattle.std.proofs.lemmas.Option.{gets}
 use Rattle.addr2line_lines.specs.FunctionTable.{FunctionTable, read_fault}
 use Rattle.addr2line_lines.specs.FunctionCache.{seen_function, seen_lazy}

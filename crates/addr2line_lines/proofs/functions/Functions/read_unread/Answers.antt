@@ -14,20 +14,20 @@ use Rattle.addr2line_lines.proofs.functions.Functions.read_unread.Goals as goal
 pub invariant_of-self : goal.invariant_of-self
 invariant_of-self g c =
     let fs = c.self.inside.functions.items in
-    let kept = seen_details g.R.Reader.section c.self.inside.details in
+    let cached = seen_details g.R.Reader.section c.self.inside.details in
     let more = seen_details g.R.Reader.section c.read.new.self in
     let n = c.args.place in
-    let at = unread_at kept fs n c.args.offset.0 (ap (λ (t : FunctionTable). slice_get t.functions n) c.self.view_is ∙ c.requires.unread) in
+    let at = unread_at cached fs n c.args.offset.0 (ap (λ (t : FunctionTable). slice_get t.functions n) c.self.view_is ∙ c.requires.unread) in
     let y : LazyFunction = record { dw_die_offset = c.index_mut.result.now.dw_die_offset; detail = Read c.in-Ok.detail } in
     let entry = ap (λ (x : LazyFunction). x.dw_die_offset) (c.index_mut.ensures.value ∙ get_or_from_slice_get fs n at.0 c.index_mut.result.now at.1) in
-    read_cached fs n at.0 y at.1 entry c.self.inside.addresses kept more c.self.invariant at.3 c.read.ensures.kept c.in-Ok.detail refl c.in-Ok.ensures.place c.in-Ok.ensures.next
+    read_cached fs n at.0 y at.1 entry c.self.inside.addresses cached more c.self.invariant at.3 c.read.ensures.kept c.in-Ok.detail refl c.in-Ok.ensures.place c.in-Ok.ensures.next
 
 pub index_mut-requires-in_default : goal.index_mut-requires-in_default
 index_mut-requires-in_default g c =
     let fs = c.self.inside.functions.items in
-    let kept = seen_details g.R.Reader.section c.self.inside.details in
+    let cached = seen_details g.R.Reader.section c.self.inside.details in
     let n = c.args.place in
-    let at = unread_at kept fs n c.args.offset.0 (ap (λ (t : FunctionTable). slice_get t.functions n) c.self.view_is ∙ c.requires.unread) in
+    let at = unread_at cached fs n c.args.offset.0 (ap (λ (t : FunctionTable). slice_get t.functions n) c.self.view_is ∙ c.requires.unread) in
     let l = slice_get_within fs n at.0 at.1 in
     let m = c.self.inside.functions.ok.0 in
     omega arith
@@ -35,32 +35,32 @@ index_mut-requires-in_default g c =
 pub invariant_of-self-in_default : goal.invariant_of-self-in_default
 invariant_of-self-in_default g c =
     let fs = c.self.inside.functions.items in
-    let kept = seen_details g.R.Reader.section c.self.inside.details in
+    let cached = seen_details g.R.Reader.section c.self.inside.details in
     let more = seen_details g.R.Reader.section c.read.new.self in
     let n = c.args.place in
-    let at = unread_at kept fs n c.args.offset.0 (ap (λ (t : FunctionTable). slice_get t.functions n) c.self.view_is ∙ c.requires.unread) in
+    let at = unread_at cached fs n c.args.offset.0 (ap (λ (t : FunctionTable). slice_get t.functions n) c.self.view_is ∙ c.requires.unread) in
     let y : LazyFunction = record { dw_die_offset = c.index_mut-in_default.result.now.dw_die_offset; detail = Faulty c.in-Err.error } in
     let entry = ap (λ (x : LazyFunction). x.dw_die_offset) (c.index_mut-in_default.ensures.value ∙ get_or_from_slice_get fs n at.0 c.index_mut-in_default.result.now at.1) in
-    fault_cached fs n at.0 y at.1 entry c.self.inside.addresses kept more c.self.invariant at.3 c.read.ensures.kept c.in-Err.error refl c.in-Err.ensures.refused
+    fault_cached fs n at.0 y at.1 entry c.self.inside.addresses cached more c.self.invariant at.3 c.read.ensures.kept c.in-Err.error refl c.in-Err.ensures.refused
 
 pub returns-in-Ok : goal.returns-in-Ok
 returns-in-Ok g c =
     let fs = c.self.inside.functions.items in
     let addresses = c.self.inside.addresses in
-    let kept = seen_details g.R.Reader.section c.self.inside.details in
+    let cached = seen_details g.R.Reader.section c.self.inside.details in
     let more = seen_details g.R.Reader.section c.read.new.self in
     let n = c.args.place in
     let scope = seen_scope c.args.scope in
     let u = c.args.unit.now in
     let unread = ap (λ (t : FunctionTable). slice_get t.functions n) c.self.view_is ∙ c.requires.unread in
-    let at = unread_at kept fs n c.args.offset.0 unread in
+    let at = unread_at cached fs n c.args.offset.0 unread in
     let y : LazyFunction = record { dw_die_offset = c.index_mut.result.now.dw_die_offset; detail = Read c.in-Ok.detail } in
     let entry = ap (λ (x : LazyFunction). x.dw_die_offset) (c.index_mut.ensures.value ∙ get_or_from_slice_get fs n at.0 c.index_mut.result.now at.1) in
     let new = table_of (slice_set fs n y) addresses more in
-    let with_detail = table_read fs n at.0 y at.1 entry addresses kept more c.self.invariant at.3 c.read.ensures.kept c.in-Ok.detail refl c.in-Ok.ensures.place c.in-Ok.ensures.next c.args.offset.0 (detail_at scope u c.args.offset.0) at.2 c.in-Ok.ensures.gives in
+    let with_detail = table_read fs n at.0 y at.1 entry addresses cached more c.self.invariant at.3 c.read.ensures.kept c.in-Ok.detail refl c.in-Ok.ensures.place c.in-Ok.ensures.next c.args.offset.0 (detail_at scope u c.args.offset.0) at.2 c.in-Ok.ensures.gives in
     record {
       gives = subst (λ (t : FunctionTable). IsReadAt scope u n t (Ok tt) new) c.self.view_is
-          (reads scope u n c.args.offset.0 (table_of fs addresses kept) new (Ok tt) unread (ap fault_of c.in-Ok.ensures.gives, with_detail));
+          (reads scope u n c.args.offset.0 (table_of fs addresses cached) new (Ok tt) unread (ap fault_of c.in-Ok.ensures.gives, with_detail));
       exact = ap (read_fault scope u) c.requires.unread ∙ ap fault_of c.in-Ok.ensures.gives;
     }
 
@@ -68,21 +68,21 @@ pub returns-in_default : goal.returns-in_default
 returns-in_default g c =
     let fs = c.self.inside.functions.items in
     let addresses = c.self.inside.addresses in
-    let kept = seen_details g.R.Reader.section c.self.inside.details in
+    let cached = seen_details g.R.Reader.section c.self.inside.details in
     let more = seen_details g.R.Reader.section c.read.new.self in
     let n = c.args.place in
     let scope = seen_scope c.args.scope in
     let u = c.args.unit.now in
     let e = c.in-Err.error in
     let unread = ap (λ (t : FunctionTable). slice_get t.functions n) c.self.view_is ∙ c.requires.unread in
-    let at = unread_at kept fs n c.args.offset.0 unread in
+    let at = unread_at cached fs n c.args.offset.0 unread in
     let y : LazyFunction = record { dw_die_offset = c.index_mut-in_default.result.now.dw_die_offset; detail = Faulty e } in
     let entry = ap (λ (x : LazyFunction). x.dw_die_offset) (c.index_mut-in_default.ensures.value ∙ get_or_from_slice_get fs n at.0 c.index_mut-in_default.result.now at.1) in
     let faulty = c.in-Err.ensures.gives (λ t. c.in_default.not-OutOfMemory) in
-    let with_fault = table_fault fs n at.0 y at.1 entry addresses kept more c.self.invariant at.3 c.read.ensures.kept e refl c.in-Err.ensures.refused c.args.offset.0 (detail_at scope u c.args.offset.0) at.2 faulty in
+    let with_fault = table_fault fs n at.0 y at.1 entry addresses cached more c.self.invariant at.3 c.read.ensures.kept e refl c.in-Err.ensures.refused c.args.offset.0 (detail_at scope u c.args.offset.0) at.2 faulty in
     record {
       gives = subst (λ (t : FunctionTable). IsReadAt scope u n t (Err e) (table_of (slice_set fs n y) addresses more)) c.self.view_is
-          (reads scope u n c.args.offset.0 (table_of fs addresses kept) (table_of (slice_set fs n y) addresses more) (Err e) unread
+          (reads scope u n c.args.offset.0 (table_of fs addresses cached) (table_of (slice_set fs n y) addresses more) (Err e) unread
           (λ ne. (ap fault_of faulty, with_fault), λ oom. absurd (c.in_default.not-OutOfMemory oom)));
       exact = λ t. ap (read_fault scope u) c.requires.unread ∙ ap fault_of faulty;
     }
@@ -97,13 +97,13 @@ pub returns-in-OutOfMemory-clause-gives : goal.returns-in-OutOfMemory-clause-giv
 returns-in-OutOfMemory-clause-gives g c =
     let addresses = c.self.inside.addresses in
     let fs = c.self.inside.functions.items in
-    let kept = seen_details g.R.Reader.section c.self.inside.details in
+    let cached = seen_details g.R.Reader.section c.self.inside.details in
     let more = seen_details g.R.Reader.section c.read.new.self in
     let n = c.args.place in
     let scope = seen_scope c.args.scope in
     let unread = ap (λ (t : FunctionTable). slice_get t.functions n) c.self.view_is ∙ c.requires.unread in
     subst (λ (t : FunctionTable). IsReadAt scope c.args.unit.now n t (Err c.in-Err.error) (table_of fs addresses more)) c.self.view_is
-    (reads scope c.args.unit.now n c.args.offset.0 (table_of fs addresses kept) (table_of fs addresses more) (Err c.in-Err.error) unread
+    (reads scope c.args.unit.now n c.args.offset.0 (table_of fs addresses cached) (table_of fs addresses more) (Err c.in-Err.error) unread
     (λ ne. absurd (ne c.in-OutOfMemory.is), λ oom. ap (table_of fs addresses) c.in-Err.ensures.refused))
 
 pub invariant_of-self-in-OutOfMemory : goal.invariant_of-self-in-OutOfMemory
@@ -112,9 +112,9 @@ invariant_of-self-in-OutOfMemory g c = subst (AreCachedFunctions c.self.inside.f
 pub index_mut-requires : goal.index_mut-requires
 index_mut-requires g c =
     let fs = c.self.inside.functions.items in
-    let kept = seen_details g.R.Reader.section c.self.inside.details in
+    let cached = seen_details g.R.Reader.section c.self.inside.details in
     let n = c.args.place in
-    let at = unread_at kept fs n c.args.offset.0 (ap (λ (t : FunctionTable). slice_get t.functions n) c.self.view_is ∙ c.requires.unread) in
+    let at = unread_at cached fs n c.args.offset.0 (ap (λ (t : FunctionTable). slice_get t.functions n) c.self.view_is ∙ c.requires.unread) in
     let l = slice_get_within fs n at.0 at.1 in
     let m = c.self.inside.functions.ok.0 in
     omega arith

@@ -9,7 +9,7 @@ use Rattle.addr2line_units.specs.declared.functions.LazyFunctions.TheVariants as
 use Rattle.addr2line_units.specs.Frames.{function_at}
 use Rattle.addr2line_units.specs.CachedFunctions.{AreFunctionsOf, StayFunctions, cached_functions, cached_has_function, find_takes_memory, function_of_place, table_takes_memory, were_read}
 use Rattle.addr2line_units.proofs.CachedFunctionLemmas.{and_weaker, details_before, exactly_weaker, function_is, memory_before, none_before, stay_faulty, stay_read}
-use Rattle.addr2line_units.proofs.CachedPlaceLemmas.{kept_is_not_oom, kept_unless_oom, same_known, table_known}
+use Rattle.addr2line_units.proofs.CachedPlaceLemmas.{cached_is_not_oom, cached_unless_oom, same_known, table_known}
 use Rattle.addr2line_units.proofs.functions.LazyFunctions.find.Goals as goal
 
 -- functions that weren't read take memory, and nothing of them is known
@@ -128,10 +128,10 @@ pub returns-in-Faulty-clause-ready : goal.returns-in-Faulty-clause-ready
 returns-in-Faulty-clause-ready g c = λ ne. refl
 
 pub returns-in-Faulty-clause-known : goal.returns-in-Faulty-clause-known
-returns-in-Faulty-clause-known g c = λ ne. kept_unless_oom c.in-Faulty.error ne
+returns-in-Faulty-clause-known g c = λ ne. cached_unless_oom c.in-Faulty.error ne
 
 pub returns-in-Faulty-clause-memory : goal.returns-in-Faulty-clause-memory
-returns-in-Faulty-clause-memory g c = λ has. λ few. kept_is_not_oom c.in-Faulty.error has
+returns-in-Faulty-clause-memory g c = λ has. λ few. cached_is_not_oom c.in-Faulty.error has
 
 pub returns-in-Unread : goal.returns-in-Unread
 returns-in-Unread g c = absurd (false≢true (sym (ap were_read c.in-Unread.is) ∙ c.in_ok-cache.ensures.read))

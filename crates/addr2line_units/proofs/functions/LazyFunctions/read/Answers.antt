@@ -6,7 +6,7 @@ use Rattle.addr2line_units.specs.CachedParses.{HaveFunctions}
 use Rattle.addr2line_units.specs.CachedFunctions.{functions_fault, reading_takes_memory}
 use Rattle.addr2line_units.specs.KnownEntries.{known_functions}
 use Rattle.addr2line_units.proofs.EntryLemmas.{exactly_unless_oom}
-use Rattle.addr2line_units.proofs.CachedParseLemmas.{details_have, details_kept}
+use Rattle.addr2line_units.proofs.CachedParseLemmas.{details_have, details_cached}
 use Rattle.addr2line_units.proofs.functions.LazyFunctions.read.Goals as goal
 
 pub returns-in-Details-clause-gives : goal.returns-in-Details-clause-gives
@@ -27,7 +27,7 @@ returns-in-Details-clause-read g c =
 
 pub returns-in-Details-clause-memory : goal.returns-in-Details-clause-memory
 returns-in-Details-clause-memory g c = λ have.
-    details_kept g.R.Reader.shares (seen_scope c.args.scope) c.args.view.now c.args.self.now c.read_all.result c.requires.right (subst (λ r. HaveFunctions r c.args.self.now) c.in-Details.is have) c.read_all.ensures.gives
+    details_cached g.R.Reader.shares (seen_scope c.args.scope) c.args.view.now c.args.self.now c.read_all.result c.requires.right (subst (λ r. HaveFunctions r c.args.self.now) c.in-Details.is have) c.read_all.ensures.gives
 
 pub returns-in-Functions-clause-memory : goal.returns-in-Functions-clause-memory
 returns-in-Functions-clause-memory g c = λ have. c.read_alone.ensures.memory (subst (λ r. HaveFunctions r c.args.self.now) c.in-Functions.is have)

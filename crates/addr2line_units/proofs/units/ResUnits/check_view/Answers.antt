@@ -1,6 +1,6 @@
 use Rattle.std.proofs.Common.{◌≡◌, ap, arith, option_map, rules, sym, ◌∙◌}
 use Rattle.addr2line_lines.specs.SeenScope.{seen_file}
-use Rattle.addr2line_units.specs.CachedEntries.{kept_answer}
+use Rattle.addr2line_units.specs.CachedEntries.{cached_answer}
 use Rattle.addr2line_units.specs.CachedLookups.{scope_in, sup_file}
 use Rattle.addr2line_units.specs.Loads.{view_fault}
 use Rattle.addr2line_units.specs.Views.{verdict}
@@ -39,5 +39,5 @@ returns g c = record {
       let within = decided_within s.entries.items c.args.number c.requires.decided in
       let there = got_unit s.dw_units.items c.args.number c.index-2.result.now (omega (arith, many, within)) (search rules) in
       let same : c.index-2.result.now ≡ u = unit_same _ _ (sym there ∙ e) in
-      c.check_view.ensures.gives ∙ ap (λ x. view_fault (verdict c.args.dwarf.now x (kept_answer c.index.result.now))) same ∙ ap (λ a. view_fault (verdict c.args.dwarf.now u a)) (sym (answer_at s.entries.items c.args.number c.index.result.now within (search rules)));
+      c.check_view.ensures.gives ∙ ap (λ x. view_fault (verdict c.args.dwarf.now x (cached_answer c.index.result.now))) same ∙ ap (λ a. view_fault (verdict c.args.dwarf.now u a)) (sym (answer_at s.entries.items c.args.number c.index.result.now within (search rules)));
 }

@@ -2,7 +2,7 @@ use Rattle.std.proofs.Common.{◌≡◌, ◌<◌, List, [], ◌∷◌, length, O
 use Rattle.gimli_read.specs.declared.error.Error.{Error}
 use Rattle.gimli_read.specs.Yields.{next_given}
 use Rattle.gimli.specs.Header.{UnitHeaderFields}
-use Rattle.line_speed.proofs.kept.keep_lines.Goals as goal
+use Rattle.line_speed.proofs.cached.cache_lines.Goals as goal
 
 abbrev Headers : Type 0
 Headers = List (Result UnitHeaderFields Error)

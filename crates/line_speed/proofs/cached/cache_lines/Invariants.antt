@@ -1,5 +1,5 @@
 use Rattle.std.proofs.Common.{length}
-use Rattle.line_speed.proofs.kept.keep_lines.Given as goal
+use Rattle.line_speed.proofs.cached.cache_lines.Given as goal
 
 abbrev pub decreases-loop-headers : goal.decreases-loop-headers
 decreases-loop-headers g l = length l.headers

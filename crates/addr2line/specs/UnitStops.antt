@@ -1,4 +1,4 @@
--- What a lookup comes to, as the private functions see it.
+-- What a lookup comes to by the number of a unit, as the private functions see it.
 use Rattle.std.specs.Prelude.{ℕ, Result, Ok}
 use Rattle.gimli_read.specs.declared.error.Error.{Error}
 use Rattle.gimli_read.specs.Reading.{◌>>=◌}
@@ -18,14 +18,15 @@ by_number (Waits n) = units.Waits n
 by_number (Finds n frames) = units.Finds n
 by_number FindsNothing = units.FindsNothing
 
--- the same of what is kept
-abbrev pub kept_by_number : FramesStop → UnitStop
-kept_by_number (stops.Waits n) = units.Waits n
-kept_by_number (stops.Finds p) = units.Finds (unit_of_place p)
-kept_by_number stops.FindsNothing = units.FindsNothing
+-- the same of a stop with the place of what it finds
+abbrev pub unit_stop_of : FramesStop → UnitStop
+unit_stop_of (stops.Waits n) = units.Waits n
+unit_stop_of (stops.Finds p) = units.Finds (unit_of_place p)
+unit_stop_of stops.FindsNothing = units.FindsNothing
 
-abbrev pub kept_stop : Result FramesStop Error → Result UnitStop Error
-kept_stop stop = stop >>= λ s. Ok (kept_by_number s)
+-- the same, or the fault
+abbrev pub stop_by_number : Result FramesStop Error → Result UnitStop Error
+stop_by_number stop = stop >>= λ s. Ok (unit_stop_of s)
 
 -- what a lookup of the probe comes to, by the number of a unit
 abbrev pub unit_stop : Faults → Sections → FirstAnswers → ℕ → Result UnitStop Error

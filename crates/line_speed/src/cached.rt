@@ -1,4 +1,4 @@
-//! Lines that are kept, and lookups in them.
+//! Lines that are cached, and lookups in them.
 
 use crate::mixed;
 use addr2line_lines::{Lines, Location};
@@ -38,44 +38,44 @@ fn sections<R: Reader + Drop>(input: &mut R) -> Result<Dwarf<R>, Error> {
 
 // A unit's lines, and the addresses from the begin of its first sequence to the greatest end.
 #[derive(Drop)]
-struct KeptLines {
+struct CachedLines {
     begin: u64,
     end: u64,
     lines: Lines,
 }
 
-impl KeptLines {
+impl CachedLines {
     // The lines of a unit.
-    fn new(lines: Lines) -> KeptLines {
+    fn new(lines: Lines) -> CachedLines {
         let mut begin = u64::MAX;
         let mut end = 0;
         for range in lines.ranges() {
             begin = begin.min(range.begin);
             end = end.max(range.end);
         }
-        KeptLines { begin, end, lines }
+        CachedLines { begin, end, lines }
     }
 }
 
 // The lines of all units.
-fn keep_lines<R: Reader + Drop>(alloc: Global, input: &mut R) -> Result<Vec<KeptLines>, Error> {
+fn cache_lines<R: Reader + Drop>(alloc: Global, input: &mut R) -> Result<Vec<CachedLines>, Error> {
     let dwarf = sections(input)?;
-    let mut kept = Vec::new(alloc);
+    let mut cached = Vec::new(alloc);
     let mut headers = dwarf.units()?;
     while let Some(header) = headers.next()? {
         let unit = dwarf.unit(alloc, header)?;
-        kept.push(KeptLines::new(Lines::parse(alloc, &dwarf, &unit)?))?;
+        cached.push(CachedLines::new(Lines::parse(alloc, &dwarf, &unit)?))?;
     }
-    Ok(kept)
+    Ok(cached)
 }
 
 // The location of an address in the last unit that begins at or before it.
-fn find(kept: &[KeptLines], probe: u64) -> Option<Location<'_>> {
-    let until = kept.partition_point(|unit| unit.begin <= probe);
+fn find(cached: &[CachedLines], probe: u64) -> Option<Location<'_>> {
+    let until = cached.partition_point(|unit| unit.begin <= probe);
     if until == 0 {
         return None;
     }
-    kept[until - 1].lines.find_location(probe)
+    cached[until - 1].lines.find_location(probe)
 }
 
 // The sum with a location, where there is one.
@@ -95,10 +95,10 @@ fn with_location(sum: u64, location: Option<Location<'_>>) -> u64 {
 }
 
 // The sum with the locations of addresses that look like chance.
-fn with_lookups(sum: u64, kept: &[KeptLines], lookups: u64) -> u64 {
+fn with_lookups(sum: u64, cached: &[CachedLines], lookups: u64) -> u64 {
     let mut begin = u64::MAX;
     let mut end = 0;
-    for unit in kept {
+    for unit in cached {
         begin = begin.min(unit.begin);
         end = end.max(unit.end);
     }
@@ -110,21 +110,21 @@ fn with_lookups(sum: u64, kept: &[KeptLines], lookups: u64) -> u64 {
             .wrapping_mul(6_364_136_223_846_793_005)
             .wrapping_add(1_442_695_040_888_963_407);
         let probe = begin.wrapping_add((state >> 32).wrapping_mul(span) >> 32);
-        sum = with_location(sum, find(kept, probe));
+        sum = with_location(sum, find(cached, probe));
     }
     sum
 }
 
-/// The checksum of the addresses that kept units cover, and of the locations of `lookups` of them.
-pub fn kept_checksum<R: Reader + Drop>(
+/// The checksum of the addresses that the units cover, and of the locations of `lookups` of them.
+pub fn cached_checksum<R: Reader + Drop>(
     alloc: Global,
     input: &mut R,
     lookups: u64,
 ) -> Result<u64, Error> {
-    let kept = keep_lines(alloc, input)?;
+    let cached = cache_lines(alloc, input)?;
     let mut sum = 0;
-    for unit in &kept {
+    for unit in &cached {
         sum = mixed(mixed(sum, unit.begin), unit.end);
     }
-    Ok(with_lookups(sum, &kept, lookups))
+    Ok(with_lookups(sum, &cached, lookups))
 }

@@ -25,6 +25,7 @@ use Rattle.gimli_read.specs.Alike.{HadMemory}
 use Rattle.addr2line_units.specs.Parsed.{ParsesOnly, has_parsed}
 use Rattle.addr2line_units.specs.UnitIndex.{IndexedUnit, UnitIndex, index_units, sup_sections, unit_records}
 use Rattle.addr2line_units.specs.Views.{SplitLoad, load_of_unit, parts_of}
+use Rattle.addr2line_units.specs.UnitFrames.{FramesAnswer}
 use Rattle.addr2line_units.proofs.EndedLemmas.{ended_where_decided}
 use Rattle.addr2line_units.proofs.FoundLemmas.{known_where_found}
 use Rattle.addr2line_units.proofs.CachedLookupLemmas.{same_answers}
@@ -41,7 +42,7 @@ use Rattle.addr2line.specs.UnitStops.{by_number, unit_stop_of, unit_stop}
 use Rattle.addr2line.specs.Lookups.{AfterFrames, FirstAnswers, IsKnown, IsKnownFew, IsLoadOf, frames_told, has_all_of, has_few_of, lookup_stop, stop_in, unit_of, unit_told}
 
 -- along ranges what is equal of each number
-pub holds_same : (h k : ℕ → Bool) (frames : ℕ → Result (Option (List FrameRecord)) Error) (ranges : List UnitRange) → ((n : ℕ) → h n ≡ k n) → holds_along h frames ranges ≡ holds_along k frames ranges
+pub holds_same : (h k : ℕ → Bool) (frames : ℕ → FramesAnswer) (ranges : List UnitRange) → ((n : ℕ) → h n ≡ k n) → holds_along h frames ranges ≡ holds_along k frames ranges
 holds_same h k frames [] e = refl
 holds_same h k frames (r ∷ ranges) e =
     ap (λ b. b && (ends_lookup (frames r.unit) || holds_along h frames ranges)) (e r.unit)
@@ -194,7 +195,7 @@ module _ {R : Type 0} where
       same = same_answers held entries stays
 
       module _ (faults : Faults) (probe : ℕ) where
-        abbrev asked_in : Scope → List (Option (Option Sections)) → ℕ → Result (Option (List FrameRecord)) Error
+        abbrev asked_in : Scope → List (Option (Option Sections)) → ℕ → FramesAnswer
         asked_in s answers = asked_frames faults s (indexed_units us old) answers probe
 
         abbrev asks_in : Scope → List (Option (Option Sections)) → ℕ → Bool
@@ -272,7 +273,7 @@ module _ {R : Type 0} (units : List ResUnit) (views : List (UnitEntries R)) wher
   told_frames stop given frames ended h f =
       ap (λ r. r >>= λ s. Ok (frames_told s)) h ∙ by (seen_stop units views stop) (sym (ap is_waiting h) ∙ ended) ∙ ap (λ fs. Ok (Some fs)) (sym f)
     where
-      by : (s : Stop) → is_waiting (Ok s) ≡ false → ◌≡◌ {A = Result (Option (List FrameRecord)) Error} (Ok (frames_told s)) (Ok (Some (frames_found s)))
+      by : (s : Stop) → is_waiting (Ok s) ≡ false → ◌≡◌ {A = FramesAnswer} (Ok (frames_told s)) (Ok (Some (frames_found s)))
       by (Waits n) k = absurd cc
       by (Finds n frames) k = refl
       by FindsNothing k = refl
@@ -287,7 +288,7 @@ told_oom f (Ok x) h = h
 told_oom f (Err e) h = h
 
 -- a lookup that passes over faults has none
-passes_step : (n : ℕ) (rest : Result Stop Error) (e : Error) (x : Result (Option (List FrameRecord)) Error) → rest ≢ Err e → (after_fault PassOver x >>= or_stop n rest) ≢ Err e
+passes_step : (n : ℕ) (rest : Result Stop Error) (e : Error) (x : FramesAnswer) → rest ≢ Err e → (after_fault PassOver x >>= or_stop n rest) ≢ Err e
 passes_step n rest e (Err f) never h = never h
 passes_step n rest e (Ok None) never h = cc
 passes_step n rest e (Ok (Some [])) never h = never h

@@ -20,6 +20,7 @@ use Rattle.gimli_read.specs.Alike.{HadMemory}
 use Rattle.addr2line_units.specs.Parsed.{ParsesOnly, StaysParsed, has_parsed}
 use Rattle.addr2line_units.specs.UnitIndex.{UnitIndex, index_units, unit_records}
 use Rattle.addr2line_units.specs.Views.{SplitLoad, load_of_unit}
+use Rattle.addr2line_units.specs.UnitFrames.{FramesAnswer}
 use Rattle.addr2line.specs.Context.{ContextState}
 
 -- of each unit the first answer to its load, none before it has one: the sections of its split
@@ -28,8 +29,7 @@ abbrev pub FirstAnswers : Type 0
 FirstAnswers = List (Option (Option Sections))
 
 -- what a lookup asks the unit of a number for
-abbrev pub asked_of : Faults → Sections → FirstAnswers → ℕ → UnitIndex → ℕ
-    → Result (Option (List FrameRecord)) Error
+abbrev pub asked_of : Faults → Sections → FirstAnswers → ℕ → UnitIndex → ℕ → FramesAnswer
 asked_of faults d answers probe m = asked_frames faults (main_scope d m) m.units answers probe
 
 -- what a lookup comes to among units
@@ -48,7 +48,7 @@ frames_told (Finds n frames) = Some frames
 frames_told FindsNothing = Some []
 
 -- the frames at the probe, none where the lookup waits for an answer, or its first fault
-abbrev pub frames_of : Sections → FirstAnswers → ℕ → Result (Option (List FrameRecord)) Error
+abbrev pub frames_of : Sections → FirstAnswers → ℕ → FramesAnswer
 frames_of d answers probe = lookup_stop End d answers probe >>= λ s. Ok (frames_told s)
 
 -- the sections and the unit of the view of a lookup that has ended, none where it waits

@@ -1,10 +1,10 @@
 -- The details of functions as they are found, as the private functions see them.
-use Rattle.std.specs.Prelude.{◌≡◌, ◌≢◌, ℕ, ◌<◌, ◌==◌, ◌||◌, ◌&&◌, Bool, true, false, List, [], ◌∷◌, ◌++◌, count_by, drop, fold, map, length, slice_index_or, take, Option, Some, None, option_map, Result, Ok, Err, is_ok, pos, if◌then◌else◌}
+use Rattle.std.specs.Prelude.{◌≡◌, ℕ, ◌<◌, ◌==◌, ◌||◌, ◌&&◌, Bool, true, false, List, [], ◌∷◌, ◌++◌, count_by, drop, fold, map, length, slice_index_or, take, Option, Some, None, option_map, Result, Ok, Err, is_ok, pos, if◌then◌else◌}
 use Rattle.std.specs.List.{All}
 use Rattle.gimli_read.specs.declared.constants.DwAt.{DwAt}
 use Rattle.gimli_read.specs.declared.constants.TheConstants.DwAt.{DW_AT_call_column, DW_AT_call_file, DW_AT_call_line, DW_AT_high_pc, DW_AT_low_pc, DW_AT_ranges}
 use Rattle.gimli_read.specs.declared.error.Error.{Error}
-use Rattle.gimli_read.specs.declared.error.Error.TheVariants.{NoEntryAtGivenOffset, OutOfMemory, UnexpectedEof}
+use Rattle.gimli_read.specs.declared.error.Error.TheVariants.{NoEntryAtGivenOffset, UnexpectedEof}
 use Rattle.gimli_read.specs.declared.range.Range.{Range}
 use Rattle.gimli_read.specs.Abbreviations.{Abbrev, Specification}
 use Rattle.gimli_read.specs.Form.{NamedValue, rest_of}
@@ -87,7 +87,8 @@ abbrev pub IsReadIf : Bool → Bool → Section → Result (Option NamedValue) E
     → Reading NamedValue → Type 0
 IsReadIf may wanted left (Ok (Some a)) given = given ≡ Ok (a, left)
 IsReadIf may wanted left (Ok None) given = (rest_of given ≡ Ok left) × (wanted ≡ false)
-IsReadIf may wanted left (Err e) given = (may ≡ true → e ≢ OutOfMemory) → given ≡ Err e
+IsReadIf may wanted left (Err e) given =
+    ExactlyUnlessOomIf may (λ (x : NamedValue × Section). x) (Err e) given
 
 -- what attributes that are read say, after those that were read before
 abbrev pub inlined_attributes_after : Scope → UnitRecord → Result InlinedAttributes Error

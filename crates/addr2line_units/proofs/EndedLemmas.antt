@@ -16,10 +16,11 @@ use Rattle.addr2line_units.specs.FramesLookup.{Stop, asked_frames, frames_of_num
 use Rattle.addr2line_units.specs.CachedEntries.{cached_answer}
 use Rattle.addr2line_units.specs.CachedLookups.{HaveEntriesOf, answers_in, decided_along, decided_at}
 use Rattle.addr2line_units.specs.Views.{View, verdict}
+use Rattle.addr2line_units.specs.UnitFrames.{FramesAnswer}
 use Rattle.addr2line_units.proofs.DecidedLemmas.{decided_has_verdict}
 use Rattle.addr2line_units.proofs.WaitLemmas.{and_first, and_second, open_of_none, told_by_unit}
 
-ended_step : (n : ℕ) (rest : Result Stop Error) (r : Result (Option (List FrameRecord)) Error) → r ≢ Ok None → is_waiting rest ≡ false → is_waiting (r >>= or_stop n rest) ≡ false
+ended_step : (n : ℕ) (rest : Result Stop Error) (r : FramesAnswer) → r ≢ Ok None → is_waiting rest ≡ false → is_waiting (r >>= or_stop n rest) ≡ false
 ended_step n rest (Err e) known h = refl
 ended_step n rest (Ok None) known h = absurd (known refl)
 ended_step n rest (Ok (Some [])) known h = h

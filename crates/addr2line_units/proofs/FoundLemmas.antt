@@ -20,14 +20,11 @@ use Rattle.addr2line_units.specs.FramesLookup.{Stop, Waits, Finds, FindsNothing,
 use Rattle.addr2line_units.specs.CachedEntries.{cached_answer}
 use Rattle.addr2line_units.specs.CachedLookups.{HaveEntriesOf, answers_in, decided_at, has_entries_at, has_frames_at}
 use Rattle.addr2line_units.specs.CachedViews.{is_decided, waits, was_looked_at}
-use Rattle.addr2line_units.specs.UnitFrames.{frames_by, frames_in, function_in}
+use Rattle.addr2line_units.specs.UnitFrames.{FramesAnswer, frames_by, frames_in, function_in}
 use Rattle.addr2line_units.specs.UnitIndex.{IndexedUnit}
 use Rattle.addr2line_units.specs.Views.{is_open}
 use Rattle.addr2line_units.proofs.AnswerLemmas.{looked_waits}
 use Rattle.addr2line_units.proofs.WaitLemmas.{and_first, and_second, known_was_looked_at}
-
-abbrev Reading : Type 0
-Reading = Result (Option (List FrameRecord)) Error
 
 number_of : Stop → ℕ → ℕ
 number_of (Waits n) d = d
@@ -39,7 +36,7 @@ unfolding number_of
 same_number n k fs gs e = let s : ◌≡◌ {A = Stop} (Finds n fs) (Finds k gs) = cc in ap (λ x. number_of x 0) s
 
 -- whether there are frames
-unfoldable pub has_frames : Reading → Bool
+unfoldable pub has_frames : FramesAnswer → Bool
 has_frames (Ok (Some (f ∷ frames))) = true
 has_frames (Ok (Some [])) = false
 has_frames (Ok None) = false
@@ -47,8 +44,8 @@ has_frames (Err e) = false
 
 -- a lookup that has found something in a unit was told so by it, and of it holds what holds along
 -- the ranges
-module _ (holds : ℕ → Bool) (frames : ℕ → Reading) (n : ℕ) (fs : List FrameRecord) where
-  told : (k : ℕ) (rest : Result Stop Error) (more : Bool) (r : Reading) → frames k ≡ r → (holds k && (ends_lookup r || more)) ≡ true → (r >>= or_stop k rest) ≡ Ok (Finds n fs)
+module _ (holds : ℕ → Bool) (frames : ℕ → FramesAnswer) (n : ℕ) (fs : List FrameRecord) where
+  told : (k : ℕ) (rest : Result Stop Error) (more : Bool) (r : FramesAnswer) → frames k ≡ r → (holds k && (ends_lookup r || more)) ≡ true → (r >>= or_stop k rest) ≡ Ok (Finds n fs)
       → (rest ≡ Ok (Finds n fs) → more ≡ true → (has_frames (frames n) ≡ true) × (holds n ≡ true)) → (has_frames (frames n) ≡ true) × (holds n ≡ true)
   unfolding has_frames
   told k rest more (Err x) e h w further = absurd cc
@@ -63,7 +60,7 @@ module _ (holds : ℕ → Bool) (frames : ℕ → Reading) (n : ℕ) (fs : List 
   found_along (r ∷ ranges) h w =
       told r.unit (stop_along frames ranges) (holds_along holds frames ranges) (frames r.unit) refl h w (λ v m. found_along ranges m v)
 
-pub always_along : (frames : ℕ → Reading) (ranges : List UnitRange) → holds_along (λ _. true) frames ranges ≡ true
+pub always_along : (frames : ℕ → FramesAnswer) (ranges : List UnitRange) → holds_along (λ _. true) frames ranges ≡ true
 always_along frames [] = refl
 always_along frames (r ∷ ranges) = by (ends_lookup (frames r.unit)) (always_along frames ranges)
   where
@@ -71,7 +68,7 @@ always_along frames (r ∷ ranges) = by (ends_lookup (frames r.unit)) (always_al
     by true e = refl
     by false e = e
 
-pub found_by_unit : (faults : Faults) (r : Reading) → has_frames (after_fault faults r) ≡ true → has_frames r ≡ true
+pub found_by_unit : (faults : Faults) (r : FramesAnswer) → has_frames (after_fault faults r) ≡ true → has_frames r ≡ true
 unfolding has_frames
 found_by_unit faults (Ok x) e = e
 found_by_unit End (Err x) e = e

@@ -22,10 +22,11 @@ use Rattle.addr2line_units.specs.FramesLookup.{Stop, Finds, after_fault, ends_lo
 use Rattle.addr2line_units.specs.CachedLookups.{AreFoundAt, IsStopIn, found_after_fault, frames_found_at, has_entries_at, has_frames_at, seen_stop, stop_of_found}
 use Rattle.gimli_read.specs.Alike.{HadMemory}
 use Rattle.addr2line_units.specs.Parsed.{ParsesOnly, StaysParsed, has_parsed}
+use Rattle.addr2line_units.specs.UnitFrames.{FramesAnswer}
 
 -- a fault that a lookup passes over
 module _ (faults : Faults) where
-  pub gives_after : (see : UnitFrames → Option (List FrameRecord)) (r : Result UnitFrames Error) (given : Result (Option (List FrameRecord)) Error) → see (found.Here None None) ≡ Some []
+  pub gives_after : (see : UnitFrames → Option (List FrameRecord)) (r : Result UnitFrames Error) (given : FramesAnswer) → see (found.Here None None) ≡ Some []
       → ExactlyUnlessOom see r given → ExactlyUnlessOom see (found_after_fault faults r) (after_fault faults given)
   gives_after see r given nothing h = of_faults faults r h
     where
@@ -79,7 +80,7 @@ module _ (faults : Faults) where
       of_faults PassOver (Err e) h = passed e
 
 -- along ranges
-module _ (frames : ℕ → Result (Option (List FrameRecord)) Error) (r : UnitRange) (rest : List UnitRange) where
+module _ (frames : ℕ → FramesAnswer) (r : UnitRange) (rest : List UnitRange) where
   pub goes_on : frames r.unit ≡ Ok (Some []) → stop_along frames (r ∷ rest) ≡ stop_along frames rest
   goes_on e = ap (λ x. x >>= or_stop r.unit (stop_along frames rest)) e
 

@@ -23,13 +23,10 @@ use Rattle.addr2line_units.specs.CachedEntries.{has_entries, cached_answer}
 use Rattle.addr2line_units.specs.CachedLookups.{HaveEntriesOf, HaveViewsOf, answers_in, has_entries_at, WaitsIn, has_frames_at, seen_stop, waits_at}
 use Rattle.addr2line_units.specs.CachedViews.{IsViewOf, was_looked_at, waits}
 use Rattle.gimli_read.specs.Alike.{HadMemory}
-use Rattle.addr2line_units.specs.UnitFrames.{frames_by, frames_in, function_in}
+use Rattle.addr2line_units.specs.UnitFrames.{FramesAnswer, frames_by, frames_in, function_in}
 use Rattle.addr2line_units.specs.UnitIndex.{IndexedUnit}
 use Rattle.addr2line_units.specs.Views.{is_open}
 use Rattle.addr2line_units.proofs.AnswerLemmas.{got_unit, looked_waits}
-
-abbrev Reading : Type 0
-Reading = Result (Option (List FrameRecord)) Error
 
 number_of : Stop → ℕ → ℕ
 number_of (Waits n) d = n
@@ -49,8 +46,8 @@ and_second true b e = e
 and_second false b e = absurd cc
 
 -- a lookup that waits for a unit was told so by it, and of it holds what holds along the ranges
-module _ (holds : ℕ → Bool) (frames : ℕ → Reading) (n : ℕ) where
-  told : (k : ℕ) (rest : Result Stop Error) (more : Bool) (r : Reading) → frames k ≡ r → (holds k && (ends_lookup r || more)) ≡ true → (r >>= or_stop k rest) ≡ Ok (Waits n)
+module _ (holds : ℕ → Bool) (frames : ℕ → FramesAnswer) (n : ℕ) where
+  told : (k : ℕ) (rest : Result Stop Error) (more : Bool) (r : FramesAnswer) → frames k ≡ r → (holds k && (ends_lookup r || more)) ≡ true → (r >>= or_stop k rest) ≡ Ok (Waits n)
       → (rest ≡ Ok (Waits n) → more ≡ true → (frames n ≡ Ok None) × (holds n ≡ true)) → (frames n ≡ Ok None) × (holds n ≡ true)
   told k rest more (Err x) e h w further = absurd cc
   told k rest more (Ok None) e h w further =
@@ -64,7 +61,7 @@ module _ (holds : ℕ → Bool) (frames : ℕ → Reading) (n : ℕ) where
   told_along (r ∷ ranges) h w =
       told r.unit (stop_along frames ranges) (holds_along holds frames ranges) (frames r.unit) refl h w (λ v m. told_along ranges m v)
 
-pub told_by_unit : (faults : Faults) (r : Reading) → after_fault faults r ≡ Ok None → r ≡ Ok None
+pub told_by_unit : (faults : Faults) (r : FramesAnswer) → after_fault faults r ≡ Ok None → r ≡ Ok None
 told_by_unit faults (Ok x) e = e
 told_by_unit End (Err x) e = absurd cc
 told_by_unit PassOver (Err x) e = absurd cc

@@ -13,6 +13,7 @@ use Rattle.addr2line_units.specs.Frames.{FrameRecord}
 use Rattle.addr2line_units.specs.FramesLookup.{LookupAsks}
 use Rattle.addr2line_units.specs.CachedLookups.{StayAllEntries, answers_in}
 use Rattle.addr2line_units.specs.UnitIndex.{IndexedUnit}
+use Rattle.addr2line_units.specs.UnitFrames.{FramesAnswer}
 use Rattle.addr2line_units.proofs.CachedLookupLemmas.{same_answers}
 use Rattle.addr2line_units.proofs.UnitsLemmas.{stay_indexed}
 
@@ -24,7 +25,7 @@ at_first us rs ss vs ws P a b h =
     (subst (λ xs. P xs (answers_in ws)) (stay_indexed us rs ss a) h)
 
 -- the unit of the first range is asked
-pub asked_first : (frames : ℕ → Result (Option (List FrameRecord)) Error) (r : UnitRange) (rest ranges all : List UnitRange) → ranges ≡ r ∷ rest → ((n : ℕ) → LookupAsks frames ranges n → LookupAsks frames all n)
+pub asked_first : (frames : ℕ → FramesAnswer) (r : UnitRange) (rest ranges all : List UnitRange) → ranges ≡ r ∷ rest → ((n : ℕ) → LookupAsks frames ranges n → LookupAsks frames all n)
     → LookupAsks frames all r.unit
 asked_first frames r rest ranges all e asked = asked r.unit (subst (λ xs. LookupAsks frames xs r.unit) (sym e) (inl refl))
 

@@ -34,7 +34,8 @@ use Rattle.addr2line.proofs.LookupLemmas.{as_many_lines, scope_is}
 use Rattle.addr2line.proofs.StayLemmas.{stays_known}
 use Rattle.addr2line.specs.Answers.{AfterAnswer, answered}
 use Rattle.addr2line.specs.Context.{IsContext, index_by}
-use Rattle.addr2line.specs.Lookups.{FirstAnswers, IsUnitOf, StaysKnown, loads_at, lookup_stop, stop_in, waits_for}
+use Rattle.addr2line.specs.Lookups.{FirstAnswers, IsUnitOf, loads_at, lookup_stop, stop_in, waits_for}
+use Rattle.addr2line.specs.AfterLookups.{StaysKnown}
 
 -- a lookup that waits for the unit of a number
 pub waits_is : (n : ℕ) (r : Result Stop Error) → waits_for n r ≡ true → r ≡ Ok (Waits n)

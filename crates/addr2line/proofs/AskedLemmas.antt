@@ -24,7 +24,8 @@ use Rattle.addr2line.proofs.FilesLookupLemmas.{Awaits, awaits_in, other_now, sam
 use Rattle.addr2line.specs.Answers.{AfterAnswer, answered}
 use Rattle.addr2line.specs.Context.{ContextState}
 use Rattle.addr2line.specs.LoadsByFiles.{ReadsAsked}
-use Rattle.addr2line.specs.Lookups.{AfterFrames, FirstAnswers, IsLoadOf, asked_of, lookup_stop, stop_in}
+use Rattle.addr2line.specs.AfterLookups.{AfterFrames}
+use Rattle.addr2line.specs.Lookups.{FirstAnswers, IsLoadOf, asked_of, lookup_stop, stop_in}
 
 -- what ends no lookup is no unit that waits
 never_waits : (x : FramesAnswer) → ends_lookup x ≡ false → x ≢ Ok None

@@ -26,7 +26,8 @@ use Rattle.addr2line.specs.History.{Given, Gives}
 use Rattle.addr2line.specs.UnitStops.{by_number, unit_stop}
 use Rattle.addr2line.specs.Loader.{AfterLoads, LoaderState}
 use Rattle.addr2line.specs.LoadsByFiles.{AfterAnswers, AnswersInTurn, AnswersOne, IsFaultByFiles, ReadsAsked, StayAnswered, WaitsForNone, ended_frames_of}
-use Rattle.addr2line.specs.Lookups.{AfterFrames, FirstAnswers, IsKnownFew, IsLoadOf, frames_of, frames_told, loads_at, lookup_stop}
+use Rattle.addr2line.specs.AfterLookups.{AfterFrames, IsKnownFew}
+use Rattle.addr2line.specs.Lookups.{FirstAnswers, IsLoadOf, frames_of, frames_told, loads_at, lookup_stop}
 use Rattle.addr2line.specs.SplitFiles.{given_by_files}
 use Rattle.addr2line.proofs.AskedLemmas.{reads_more, reads_nothing}
 use Rattle.addr2line.proofs.FilesLookupLemmas.{answer_changes, first_answers_stay, frames_ended, frames_stay, refused_frames, stop_stays}

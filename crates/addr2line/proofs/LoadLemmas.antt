@@ -39,7 +39,8 @@ use Rattle.addr2line.proofs.ParseLemmas.{answered_is_decided, decided_more, know
 use Rattle.addr2line.proofs.StayLemmas.{none_whole, stays_known, whole_decided, whole_is_decided}
 use Rattle.addr2line.specs.Context.{ContextState, IsContext, index_by}
 use Rattle.addr2line.specs.Loads.{AfterForget, AfterLoad, AfterParse, AfterPreload, IsAllKnown, IsNotOpen, IsReadyToRead, NoneOpenAt, ReachesAllOf, StaysRead, forget_reply, load_reply, parse_reply, parsed_answers}
-use Rattle.addr2line.specs.Lookups.{IsReadyAt, StaysKnown, loads_at, lookup_stop}
+use Rattle.addr2line.specs.AfterLookups.{IsReadyAt, StaysKnown}
+use Rattle.addr2line.specs.Lookups.{loads_at, lookup_stop}
 
 module _ {R : Type 0} (d : Sections) (us : List UnitRecord) (old : List ResUnit) (held : List (UnitEntries R)) (ranges : List UnitRange) (sup : SupUnits R) (i : IsContext d us old held ranges sup.units.items sup.dwarf) where
   abbrev made : UnitIndex

@@ -19,7 +19,8 @@ use Rattle.addr2line_units.specs.CachedLines.{HaveLinesOf, StayUnits, indexed_un
 use Rattle.addr2line_units.specs.Cover.{cover}
 use Rattle.addr2line_units.specs.Frames.{FrameRecord}
 use Rattle.addr2line_units.specs.FramesLookup.{LookupAsks, Stop, Waits, Finds, FindsNothing, after_fault, asked_frames, asks_lines_of, ends_lookup, frames_found, frames_of_number, has_many_of, holds_along, is_waiting, main_scope, or_stop, readable_view, stop_along, view_of_number}
-use Rattle.addr2line_units.specs.CachedLookups.{HaveEntriesOf, HaveViewsOf, ReadsOnly, StayAllEntries, answers_in, decided_along, decided_at, has_frames_at, scope_in, seen_stop, waits_at}
+use Rattle.addr2line_units.specs.CachedLookups.{HaveEntriesOf, HaveViewsOf, ReadsOnly, StayAllEntries, answers_in, decided_along, decided_at, scope_in, waits_at}
+use Rattle.addr2line_units.specs.CachedFrames.{has_frames_at, seen_stop}
 use Rattle.addr2line_units.specs.KnownEntries.{known_in}
 use Rattle.gimli_read.specs.Alike.{HadMemory}
 use Rattle.addr2line_units.specs.Parsed.{ParsesOnly, has_parsed}
@@ -39,7 +40,8 @@ use Rattle.addr2line.specs.Context.{ContextState, IsContext, index_by}
 use Rattle.addr2line.specs.declared.stops.UnitStop.{UnitStop}
 use Rattle.addr2line.specs.declared.stops.UnitStop.TheVariants as units
 use Rattle.addr2line.specs.UnitStops.{by_number, unit_stop_of, unit_stop}
-use Rattle.addr2line.specs.Lookups.{AfterFrames, FirstAnswers, IsKnown, IsKnownFew, IsLoadOf, frames_told, has_all_of, has_few_of, lookup_stop, stop_in, unit_of, unit_told}
+use Rattle.addr2line.specs.AfterLookups.{AfterFrames, IsKnown, IsKnownFew, has_all_of, has_few_of}
+use Rattle.addr2line.specs.Lookups.{FirstAnswers, IsLoadOf, frames_told, lookup_stop, stop_in, unit_of, unit_told}
 
 -- along ranges what is equal of each number
 pub holds_same : (h k : ℕ → Bool) (frames : ℕ → FramesAnswer) (ranges : List UnitRange) → ((n : ℕ) → h n ≡ k n) → holds_along h frames ranges ≡ holds_along k frames ranges

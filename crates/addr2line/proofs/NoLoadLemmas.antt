@@ -21,7 +21,8 @@ use Rattle.addr2line.specs.Files.{Files}
 use Rattle.addr2line.specs.FramesByFiles.{stop_frames}
 use Rattle.addr2line.specs.UnitStops.{unit_stop}
 use Rattle.addr2line.specs.LoadsByFiles.{AfterAnswers, AnswersInTurn, WaitsForNone, ended_frames_of}
-use Rattle.addr2line.specs.Lookups.{AfterFrames, FirstAnswers, IsKnownFew, StaysKnown, asked_of, frames_of, has_few_of, lookup_stop, stop_in}
+use Rattle.addr2line.specs.AfterLookups.{AfterFrames, IsKnownFew, StaysKnown, has_few_of}
+use Rattle.addr2line.specs.Lookups.{FirstAnswers, asked_of, frames_of, lookup_stop, stop_in}
 use Rattle.addr2line.proofs.ByFilesLemmas.{failed_stop, failed_told, found_told, looked_memory, still_ended}
 use Rattle.addr2line.proofs.HistoryLemmas.{given_ended}
 use Rattle.addr2line.proofs.NewContextLemmas.{ok_is}

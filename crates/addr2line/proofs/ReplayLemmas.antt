@@ -24,7 +24,8 @@ use Rattle.addr2line.proofs.HistoryLemmas.{HasGiven, given_all, given_last, give
 use Rattle.addr2line.specs.Answers.{AfterResume, SuspendsAgain, answered}
 use Rattle.addr2line.specs.Context.{ContextState}
 use Rattle.addr2line.specs.History.{Given, Gives, GivesUp, Leaves, answers_given}
-use Rattle.addr2line.specs.Lookups.{AfterFrames, FirstAnswers, IsLoadOf, Suspends, lookup_stop, stop_in, unit_of, unit_told}
+use Rattle.addr2line.specs.AfterLookups.{AfterFrames, Suspends}
+use Rattle.addr2line.specs.Lookups.{FirstAnswers, IsLoadOf, lookup_stop, stop_in, unit_of, unit_told}
 use Rattle.addr2line.specs.Replies.{CopiedReply, SuspendedAt}
 
 -- the load of a unit has its number

@@ -14,7 +14,8 @@ use Rattle.addr2line.specs.Answers.{AfterAnswer, answered}
 use Rattle.addr2line.specs.Context.{ContextState}
 use Rattle.addr2line.specs.History.{Given, Gives, answers_given}
 use Rattle.addr2line.specs.UnitStops.{by_number, unit_stop}
-use Rattle.addr2line.specs.Lookups.{AfterFrames, IsKnown, loads_at, lookup_stop, waits_for}
+use Rattle.addr2line.specs.AfterLookups.{AfterFrames, IsKnown}
+use Rattle.addr2line.specs.Lookups.{loads_at, lookup_stop, waits_for}
 use Rattle.addr2line.specs.Skips.{AfterSkip, found_stop, nones, skipped_answers}
 
 -- none as an answer, so often

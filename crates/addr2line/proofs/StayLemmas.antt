@@ -5,7 +5,8 @@ use Rattle.std.specs.List.{AllZip}
 use Rattle.gimli_read.specs.declared.error.Error.{Error}
 use Rattle.gimli.specs.Unit.{UnitRecord}
 use Rattle.addr2line_lines.specs.Details.{Detail}
-use Rattle.addr2line_lines.specs.FunctionTable.{AreCachedToFault, CachedFunction, FunctionTable, IsCachedToFault, IsFunctionMore, IsTableMore}
+use Rattle.addr2line_lines.specs.FunctionDetails.{AreCachedToFault, IsCachedToFault, IsFunctionMore, IsTableMore}
+use Rattle.addr2line_lines.specs.FunctionTable.{CachedFunction, FunctionTable}
 use Rattle.addr2line_lines.specs.References.{Scope}
 use Rattle.addr2line_units.specs.declared.functions.LazyFunctions.{LazyFunctions}
 use Rattle.addr2line_units.specs.declared.functions.LazyFunctions.TheVariants as lazy
@@ -26,7 +27,7 @@ use Rattle.addr2line_units.proofs.AnswerLemmas.{looked_waits}
 use Rattle.addr2line_units.proofs.FoundLemmas.{looked_is_decided}
 use Rattle.addr2line_units.proofs.CachedLookupLemmas.{entries_more_at}
 use Rattle.addr2line_units.proofs.KnownLemmas.{known_is}
-use Rattle.addr2line.specs.Lookups.{IsReadyAt, StaysKnown, StaysKnownOf}
+use Rattle.addr2line.specs.AfterLookups.{IsReadyAt, StaysKnown, StaysKnownOf}
 
 pub known_of_twice : (n : ℕ) (old mid new : List KnownEntries) → StaysKnownOf n old mid → StaysKnownOf n mid new → StaysKnownOf n old new
 known_of_twice n old mid new a b = record {

@@ -9,7 +9,8 @@ use Rattle.addr2line_units.specs.declared.frames_lookup.Faults.{Faults}
 use Rattle.addr2line_units.specs.FramesLookup.{with_answer}
 use Rattle.addr2line_units.specs.UnitIndex.{index_units, unit_records}
 use Rattle.addr2line.specs.Context.{ContextState}
-use Rattle.addr2line.specs.Lookups.{AfterFrames, FirstAnswers, StaysKnown, Suspends}
+use Rattle.addr2line.specs.AfterLookups.{AfterFrames, StaysKnown, Suspends}
+use Rattle.addr2line.specs.Lookups.{FirstAnswers}
 use Rattle.addr2line_units.specs.Views.{SplitLoad}
 
 -- the first answers after one more to the load of the unit of a number, which counts where the unit

@@ -19,7 +19,8 @@ use Rattle.addr2line_units.specs.CachedLookups.{HaveEntriesOf}
 use Rattle.addr2line_units.specs.KnownEntries.{KnownEntries, NothingKnown}
 use Rattle.gimli_line.specs.Opcode.{fault_of}
 use Rattle.addr2line_units.specs.Located.{all_lines, is_found, looks_along}
-use Rattle.addr2line_units.specs.UnitIndex.{UnitIndex, has_lines, index_units, ranged_units, sup_sections, sup_units}
+use Rattle.addr2line_units.specs.UnitIndex.{UnitIndex, index_units, sup_sections, sup_units}
+use Rattle.addr2line_units.specs.RangedUnits.{has_lines, ranged_units}
 use Rattle.gimli_read.specs.Alike.{HadMemory}
 use Rattle.addr2line_units.specs.Parsed.{AllAskFor, AreParsed, AreReadyForAll, AsksFor, LeadTo, ParsesOnly, StaysParsed, ready_along}
 use Rattle.addr2line_units.specs.Cover.{cover, cover_range}

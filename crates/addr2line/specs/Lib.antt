@@ -1,5 +1,6 @@
 pub mod Context
 pub mod Borrowed
+pub mod AfterLookups
 pub mod Lookups
 pub mod UnitStops
 pub mod Answers

@@ -14,7 +14,7 @@ use Rattle.addr2line.specs.declared.loader.LoaderOver.{LoaderOver}
 use Rattle.addr2line.specs.Context.{AfterLookup, AfterRangeLookup, ContextState}
 use Rattle.addr2line.specs.Files.{Files}
 use Rattle.addr2line.specs.LoadsByFiles.{AfterAnswers, AnswersInTurn, HasEnded, ReadsAsked, WaitsForNone, WaitsForOne, ended_frames_of}
-use Rattle.addr2line.specs.Lookups.{IsKnown, IsKnownFew}
+use Rattle.addr2line.specs.AfterLookups.{IsKnown, IsKnownFew}
 use Rattle.addr2line.specs.SplitFiles.{of_file}
 
 -- the files, where they are known, the main file, and the context

@@ -7,7 +7,7 @@ use Rattle.std.specs.List.{AllByRecursion}
 use Rattle.gimli_read.specs.declared.error.Error.{Error}
 use Rattle.gimli_read.specs.Reading.{◌>>=◌}
 use Rattle.gimli.specs.Sections.{Sections}
-use Rattle.addr2line_lines.specs.FunctionTable.{HasDetail}
+use Rattle.addr2line_lines.specs.FunctionDetails.{HasDetail}
 use Rattle.addr2line_units.specs.declared.frames_lookup.Faults.{Faults}
 use Rattle.addr2line_units.specs.declared.parses.Reads.{Reads}
 use Rattle.addr2line_units.specs.declared.parses.Reads.TheVariants as kinds
@@ -21,7 +21,8 @@ use Rattle.gimli_read.specs.Alike.{HadMemory}
 use Rattle.addr2line_units.specs.UnitIndex.{UnitIndex, index_units, unit_records}
 use Rattle.addr2line.specs.Answers.{answered}
 use Rattle.addr2line.specs.Context.{ContextState, lines_of_all}
-use Rattle.addr2line.specs.Lookups.{FirstAnswers, IsReadyAt, StaysKnown, lookup_stop}
+use Rattle.addr2line.specs.Lookups.{FirstAnswers, lookup_stop}
+use Rattle.addr2line.specs.AfterLookups.{IsReadyAt, StaysKnown}
 
 -- what an answer to the load of the unit of a number gives: UnknownToken where there is none, or
 -- the fault of its view then

@@ -17,7 +17,8 @@ use Rattle.addr2line.specs.Context.{ContextState}
 use Rattle.addr2line.specs.Files.{Files}
 use Rattle.addr2line.specs.FramesByFiles.{frames_by_files, stop_frames}
 use Rattle.addr2line.specs.History.{Given, answers_given}
-use Rattle.addr2line.specs.Lookups.{FirstAnswers, IsLoadOf, LearnsAsked, ParsesAsked, StaysKnownOf, lookup_stop}
+use Rattle.addr2line.specs.Lookups.{FirstAnswers, IsLoadOf, lookup_stop}
+use Rattle.addr2line.specs.AfterLookups.{LearnsAsked, ParsesAsked, StaysKnownOf}
 use Rattle.addr2line.specs.SplitFiles.{given_by_files}
 
 -- first answers stay

@@ -7,7 +7,7 @@ use Rattle.addr2line_units.specs.declared.frames_lookup.Faults.{Faults}
 use Rattle.addr2line_units.specs.declared.frames_lookup.FramesStop.{FramesStop}
 use Rattle.addr2line_units.specs.declared.frames_lookup.FramesStop.TheVariants as stops
 use Rattle.addr2line_units.specs.FramesLookup.{Stop, Waits, Finds, FindsNothing}
-use Rattle.addr2line_units.specs.CachedLookups.{unit_of_place}
+use Rattle.addr2line_units.specs.CachedFrames.{unit_of_place}
 use Rattle.addr2line.specs.declared.stops.UnitStop.{UnitStop}
 use Rattle.addr2line.specs.declared.stops.UnitStop.TheVariants as units
 use Rattle.addr2line.specs.Lookups.{FirstAnswers, lookup_stop}

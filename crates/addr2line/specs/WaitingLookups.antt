@@ -11,7 +11,8 @@ use Rattle.addr2line_units.specs.Views.{SplitLoad}
 use Rattle.addr2line_units.specs.UnitFrames.{FramesAnswer}
 use Rattle.addr2line.specs.Answers.{SuspendsAgain, answered}
 use Rattle.addr2line.specs.Context.{ContextState}
-use Rattle.addr2line.specs.Lookups.{Suspends, frames_of, loads_at, unit_of, with_none}
+use Rattle.addr2line.specs.AfterLookups.{Suspends}
+use Rattle.addr2line.specs.Lookups.{frames_of, loads_at, unit_of, with_none}
 use Rattle.addr2line.specs.Skips.{skipped_answers}
 
 -- a lookup of this context at this probe waits for the unit of a number, with this load

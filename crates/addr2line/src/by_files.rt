@@ -7,7 +7,8 @@ ghost use Rattle.addr2line_units.specs.declared.frames_lookup.Faults.TheVariants
 ghost use Rattle.addr2line_units.specs.FramesLookup.{Waits};
 ghost use Rattle.addr2line.specs.Context.{ContextState, IsUncovered};
 ghost use Rattle.addr2line.specs.LoadsByFiles.{AfterAnswers, AnswersInTurn, AnswersOne, HasEnded, IsAnswerByFiles, IsFaultByFiles, IsUnitFault, LeavesOpen, ReadsAsked, WaitsForNone, WaitsForOne, ended_frames_of};
-ghost use Rattle.addr2line.specs.Lookups.{IsKnown, IsKnownFew, lookup_stop};
+ghost use Rattle.addr2line.specs.AfterLookups.{IsKnown, IsKnownFew};
+ghost use Rattle.addr2line.specs.Lookups.{lookup_stop};
 ghost use Rattle.addr2line.specs.WaitingLookups.{count_loads};
 
 use crate::context::Context;

@@ -9,7 +9,8 @@ ghost use Rattle.addr2line_units.specs.FramesLookup.{is_waiting};
 ghost use Rattle.addr2line_units.specs.Suspended.{IfLoad, IfOutput, SkipsTo};
 ghost use Rattle.addr2line.specs.Answers.{AfterResume};
 ghost use Rattle.addr2line.specs.Borrowed.{EndsAs, RestsAs};
-ghost use Rattle.addr2line.specs.Lookups.{AfterFrames, lookup_stop, waits_for};
+ghost use Rattle.addr2line.specs.AfterLookups.{AfterFrames};
+ghost use Rattle.addr2line.specs.Lookups.{lookup_stop, waits_for};
 ghost use Rattle.addr2line.specs.Skips.{AfterSkip};
 ghost use Rattle.addr2line.specs.WaitingLookups.{SuspendsAgainIn, SuspendsIn, count_loads, frames_answered, frames_of_context, frames_skipped, frames_with_none};
 

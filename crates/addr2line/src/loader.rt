@@ -19,7 +19,7 @@ ghost use Rattle.addr2line.specs.FramesByFiles.{frames_by_files};
 ghost use Rattle.addr2line.specs.Loaded.{AreSectionsOf, AreSupOfBytes, IsFileOfBytes, IsLoaded, as_sup, context_at, dwarf_at, loaded, main_with_sup, object_at, sup_at};
 ghost use Rattle.addr2line.specs.Loader.{AfterLoads, AfterLocation, AfterLocationRange, seen_loader};
 ghost use Rattle.addr2line.specs.LoadsByFiles.{WaitsForNone, ended_frames_of};
-ghost use Rattle.addr2line.specs.Lookups.{IsKnownFew};
+ghost use Rattle.addr2line.specs.AfterLookups.{IsKnownFew};
 ghost use Rattle.addr2line.specs.SplitFiles.{of_file};
 
 use crate::by_files::answer_loads;

@@ -11,7 +11,8 @@ ghost use Rattle.addr2line_units.specs.SeenUnit.{seen_found};
 ghost use Rattle.addr2line.specs.Context.{IsUncovered};
 ghost use Rattle.addr2line.specs.declared.stops.UnitStop.TheVariants.{Finds};
 ghost use Rattle.addr2line.specs.UnitStops.{stop_by_number, unit_stop};
-ghost use Rattle.addr2line.specs.Lookups.{AfterFrames, IsKnown, IsLoadOf, lookup_stop, unit_of};
+ghost use Rattle.addr2line.specs.AfterLookups.{AfterFrames, IsKnown};
+ghost use Rattle.addr2line.specs.Lookups.{IsLoadOf, lookup_stop, unit_of};
 
 use crate::context::Context;
 use addr2line_units::frames_lookup::{Faults, FramesStop};

@@ -11,7 +11,8 @@ ghost use Rattle.addr2line.specs.declared.stops.UnitStop.TheVariants.{Finds};
 ghost use Rattle.addr2line.specs.Answers.{AfterResume};
 ghost use Rattle.addr2line.specs.Borrowed.{RestsAs};
 ghost use Rattle.addr2line.specs.UnitStops.{unit_stop};
-ghost use Rattle.addr2line.specs.Lookups.{AfterFrames, IsKnown, lookup_stop, unit_of, waits_for};
+ghost use Rattle.addr2line.specs.AfterLookups.{AfterFrames, IsKnown};
+ghost use Rattle.addr2line.specs.Lookups.{lookup_stop, unit_of, waits_for};
 ghost use Rattle.addr2line.specs.Skips.{AfterSkip};
 ghost use Rattle.addr2line.specs.WaitingLookups.{SuspendsAgainIn, SuspendsIn, count_loads, unit_answered, unit_of_context, unit_skipped, unit_with_none};
 

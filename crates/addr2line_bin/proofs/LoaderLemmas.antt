@@ -25,7 +25,8 @@ use Rattle.addr2line.specs.Files.{Files}
 use Rattle.addr2line.specs.FramesByFiles.{frames_by_files, stop_frames}
 use Rattle.addr2line.specs.Loader.{AfterLoads, AfterLocation, AfterLocationRange, LoaderState}
 use Rattle.addr2line.specs.LoadsByFiles.{GivesSameFrames, StayEnded, WaitsForNone, ended_frames_of}
-use Rattle.addr2line.specs.Lookups.{IsKnownFew, lookup_stop}
+use Rattle.addr2line.specs.AfterLookups.{IsKnownFew}
+use Rattle.addr2line.specs.Lookups.{lookup_stop}
 use Rattle.addr2line.specs.SplitFiles.{of_file}
 use Rattle.addr2line_bin.specs.FileAnswers.{StaysAnswered}
 use Rattle.addr2line_bin.specs.LoaderAnswers.{IsReadyAtAddress, MayFindBy, MayGiveBy, loader_answers}

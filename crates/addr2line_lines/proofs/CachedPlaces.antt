@@ -12,7 +12,8 @@ use Rattle.addr2line_lines.specs.declared.functions.LazyDetail.{LazyDetail}
 use Rattle.addr2line_lines.specs.declared.functions.LazyDetail.TheVariants.{Unread, Read, Faulty}
 use Rattle.addr2line_lines.specs.declared.functions.LazyFunction.{LazyFunction}
 use Rattle.addr2line_lines.specs.declared.segments.FunctionAddress.{FunctionAddress}
-use Rattle.addr2line_lines.specs.Details.{Detail, InlinedRange}
+use Rattle.addr2line_lines.specs.Details.{Detail}
+use Rattle.addr2line_lines.specs.InlinedEntries.{InlinedRange}
 use Rattle.addr2line_lines.specs.FoundFunctions.{AreFunctions, function_offsets, function_range_of}
 use Rattle.addr2line_lines.specs.FunctionCache.{HasPlace, place_read, read_at, seen_function, seen_lazy}
 use Rattle.addr2line_lines.specs.FunctionTable.{CachedFunction, inlined_of_detail, name_of_detail}

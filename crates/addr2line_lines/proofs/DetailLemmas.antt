@@ -19,8 +19,10 @@ use Rattle.gimli.specs.Sections.{Sections}
 use Rattle.gimli.specs.Unit.{UnitRecord}
 use Rattle.addr2line_lines.specs.declared.function.RangeAttributes.{RangeAttributes}
 use Rattle.addr2line_lines.specs.declared.nesting.Kind.{Kind}
-use Rattle.addr2line_lines.specs.Details.{CallSite, InlinedAttributes, inlined_attributes_of, no_inlined_attributes, or_with_inlined_attribute, with_call, with_inlined_attribute}
-use Rattle.addr2line_lines.specs.FoundDetails.{FoundInlined, IsReadIf, IsTakenIn, entry_found_at, inlined_attributes_after, is_call, is_inlined_kind, is_listed, is_range_name, is_wanted, kind_of, kinds_such, read_lists_a_range, with_entry_found, with_inlined_found, with_read_name}
+use Rattle.addr2line_lines.specs.InlinedEntries.{CallSite, InlinedAttributes, inlined_attributes_of, no_inlined_attributes, or_with_inlined_attribute, with_call, with_inlined_attribute}
+use Rattle.addr2line_lines.specs.FoundInlined.{FoundInlined, entry_found_at, read_lists_a_range, with_entry_found, with_inlined_found}
+use Rattle.addr2line_lines.specs.FoundAttributes.{IsReadIf, IsTakenIn, inlined_attributes_after, is_call, is_range_name, is_wanted, with_read_name}
+use Rattle.addr2line_lines.specs.OpenEntries.{is_inlined_kind, is_listed, kind_of, kinds_such}
 use Rattle.addr2line_lines.specs.FoundNames.{is_name_attribute}
 use Rattle.addr2line_lines.specs.Names.{is_linkage_name, is_origin, or_with_name, with_name}
 use Rattle.addr2line_lines.specs.RangeAttributes.{gives_a_range, with_range_attribute}

@@ -17,8 +17,13 @@ use Rattle.gimli.proofs.ItemLemmas.{next_is}
 use Rattle.gimli.proofs.ItemReads.{items_more}
 use Rattle.addr2line_lines.specs.declared.function.RangeAttributes.{RangeAttributes}
 use Rattle.addr2line_lines.specs.declared.picks.InlinedFunctionAddress.{InlinedFunctionAddress}
-use Rattle.addr2line_lines.specs.Details.{InlinedAttributes, InlinedRange, PlacedItem, detail_at, detail_takes_memory, item_entry, inlined_attributes_of, inlined_entry, inlined_gives_a_range, inlined_ranges, is_in_function, is_inlined, item_has_children, items_take_memory, lists_a_range, count_of, open_after, placed_items, placed_inside, with_inlined, with_inlined_entry}
-use Rattle.addr2line_lines.specs.FoundDetails.{FoundAround, FoundInlined, abbreviation_of, closed_once, detail_found_at, detail_takes_at, entry_found_at, entry_lists_a_range, function_takes_at, inlined_address, inlined_more, inside_takes_memory, is_inlined_kind, is_taken, item_found_at, inlined_item_takes_memory, items_left_take_memory, kind_of, kinds_such, name_after, next_takes_memory, opened, read_lists_a_range, with_entry_found, with_inlined_found, with_inlined_ranges, with_item_found}
+use Rattle.addr2line_lines.specs.InlinedEntries.{InlinedAttributes, InlinedRange, inlined_attributes_of, inlined_entry, inlined_ranges, is_inlined}
+use Rattle.addr2line_lines.specs.Details.{PlacedItem, detail_at, detail_takes_memory, item_entry, inlined_gives_a_range, is_in_function, item_has_children, items_take_memory, lists_a_range, count_of, open_after, placed_items, placed_inside, with_inlined, with_inlined_entry}
+use Rattle.addr2line_lines.specs.FoundItems.{FoundAround, inside_takes_memory, item_found_at, inlined_item_takes_memory, items_left_take_memory, next_takes_memory, with_item_found}
+use Rattle.addr2line_lines.specs.FoundInlined.{FoundInlined, entry_found_at, entry_lists_a_range, inlined_address, inlined_more, read_lists_a_range, with_entry_found, with_inlined_found, with_inlined_ranges}
+use Rattle.addr2line_lines.specs.FoundDetails.{abbreviation_of, detail_found_at, detail_takes_at, function_takes_at, is_taken}
+use Rattle.addr2line_lines.specs.OpenEntries.{closed_once, is_inlined_kind, kind_of, kinds_such, opened}
+use Rattle.addr2line_lines.specs.FoundAttributes.{name_after}
 use Rattle.addr2line_lines.specs.Names.{name_of}
 use Rattle.addr2line_lines.specs.RangeAttributes.{attribute_ranges, gives_a_range}
 use Rattle.addr2line_lines.specs.References.{Scope}

@@ -21,8 +21,13 @@ use Rattle.gimli.specs.Unit.{UnitRecord}
 use Rattle.gimli.proofs.ItemLemmas.{next_is}
 use Rattle.addr2line_lines.specs.declared.nesting.Kind.{Kind}
 use Rattle.addr2line_lines.specs.declared.nesting.Kind.TheVariants.{Inlined, Other, Subprogram}
-use Rattle.addr2line_lines.specs.Details.{Detail, InlinedAttributes, InlinedRange, detail_at, item_entry, inlined_attributes_of, inlined_entry, inlined_in, inlined_ranges, is_in_function, is_inlined, count_of, open_after, placed_items, with_inlined}
-use Rattle.addr2line_lines.specs.FoundDetails.{FoundAround, FoundInlined, abbreviation_of, closed_once, detail_found_at, function_found_at, inlined_more, range_among, inside_found, is_inlined_kind, is_listed, is_subprogram_kind, kind_of, kinds_such, name_after, opened, found_ranges_from, with_entry_found, with_inlined_found, with_item_found}
+use Rattle.addr2line_lines.specs.Details.{Detail, detail_at, item_entry, inlined_in, is_in_function, count_of, open_after, placed_items, with_inlined}
+use Rattle.addr2line_lines.specs.InlinedEntries.{InlinedAttributes, InlinedRange, inlined_attributes_of, inlined_entry, inlined_ranges, is_inlined}
+use Rattle.addr2line_lines.specs.FoundItems.{FoundAround, inside_found, with_item_found}
+use Rattle.addr2line_lines.specs.FoundInlined.{FoundInlined, inlined_more, range_among, found_ranges_from, with_entry_found, with_inlined_found}
+use Rattle.addr2line_lines.specs.FoundDetails.{abbreviation_of, detail_found_at, function_found_at}
+use Rattle.addr2line_lines.specs.OpenEntries.{closed_once, is_inlined_kind, is_listed, is_subprogram_kind, kind_of, kinds_such, opened}
+use Rattle.addr2line_lines.specs.FoundAttributes.{name_after}
 use Rattle.addr2line_lines.specs.Functions.{is_subprogram}
 use Rattle.addr2line_lines.specs.Names.{name_of}
 use Rattle.addr2line_lines.specs.RangeAttributes.{attribute_ranges}

@@ -12,8 +12,11 @@ use Rattle.gimli_read.specs.Topmost.{greatest, topmost}
 use Rattle.gimli.specs.Unit.{UnitRecord}
 use Rattle.addr2line_lines.specs.declared.details.FunctionDetail.{FunctionDetail}
 use Rattle.addr2line_lines.specs.declared.picks.InlinedFunctionAddress.{InlinedFunctionAddress}
-use Rattle.addr2line_lines.specs.Details.{Detail, InlinedEntry, InlinedRange, detail_at, inlined_chain}
-use Rattle.addr2line_lines.specs.FoundDetails.{FoundInlined, IsFoundMore, IsGrown, detail_found_at, entry_among, first_found, range_among}
+use Rattle.addr2line_lines.specs.Details.{Detail, detail_at}
+use Rattle.addr2line_lines.specs.InlinedEntries.{InlinedEntry, InlinedRange}
+use Rattle.addr2line_lines.specs.InlinedChain.{inlined_chain}
+use Rattle.addr2line_lines.specs.FoundInlined.{FoundInlined, IsFoundMore, IsGrown, entry_among, first_found, range_among}
+use Rattle.addr2line_lines.specs.FoundDetails.{detail_found_at}
 use Rattle.addr2line_lines.specs.InlinedOrder.{inlined_sooner, place, place_begin, place_end, places_chain, places_of_depth, places_within}
 use Rattle.addr2line_lines.specs.InOrder.{IsInOrder, in_order}
 use Rattle.addr2line_lines.specs.CachedDetails.{AreDetailsMore, IsDetailPlace, IsOfEntryBetween, CachedDetails, between, detail_of, listed_ranges}

@@ -6,8 +6,8 @@ use Rattle.std.proofs.lemmas.List.Elements.{All-append, All-head, All-map, All-t
 use Rattle.std.proofs.Math.Seq.{drop-length}
 use Rattle.gimli_read.specs.declared.range.Range.{Range}
 use Rattle.addr2line_lines.specs.declared.picks.InlinedFunctionAddress.{InlinedFunctionAddress}
-use Rattle.addr2line_lines.specs.Details.{InlinedEntry, InlinedRange}
-use Rattle.addr2line_lines.specs.FoundDetails.{FoundInlined, IsPlaceAmong, inlined_address, inlined_more, range_among, no_inlined, found_ranges_from}
+use Rattle.addr2line_lines.specs.InlinedEntries.{InlinedEntry, InlinedRange}
+use Rattle.addr2line_lines.specs.FoundInlined.{FoundInlined, IsPlaceAmong, inlined_address, inlined_more, range_among, no_inlined, found_ranges_from}
 use Rattle.addr2line_lines.specs.InlinedOrder.{place}
 use Rattle.addr2line_lines.specs.CachedDetails.{IsOfEntryBetween}
 use Rattle.addr2line_lines.proofs.SeekLemmas.{Up}

@@ -13,7 +13,7 @@ use Rattle.gimli.specs.Items.{next_offset_of}
 use Rattle.gimli.specs.Sections.{Sections}
 use Rattle.gimli.specs.Unit.{UnitRecord}
 use Rattle.addr2line_lines.specs.declared.function.RangeAttributes.{RangeAttributes}
-use Rattle.addr2line_lines.specs.FoundDetails.{is_range_name}
+use Rattle.addr2line_lines.specs.FoundAttributes.{is_range_name}
 use Rattle.addr2line_lines.specs.FoundFunctions.{FoundFunctions, found_at}
 use Rattle.addr2line_lines.specs.FoundRanges.{HasNoRange, IsSplitAtRange, is_function, is_range_specification}
 use Rattle.addr2line_lines.specs.Functions.{is_subprogram}

@@ -15,10 +15,11 @@ use Rattle.addr2line_lines.specs.declared.functions.LazyDetail.TheVariants.{Unre
 use Rattle.addr2line_lines.specs.declared.functions.LazyFunction.{LazyFunction}
 use Rattle.addr2line_lines.specs.declared.segments.FunctionAddress.{FunctionAddress}
 use Rattle.addr2line_lines.specs.Details.{Detail, detail_at}
-use Rattle.addr2line_lines.specs.FoundDetails.{IsGrown, none_inlined}
+use Rattle.addr2line_lines.specs.FoundInlined.{IsGrown, none_inlined}
 use Rattle.addr2line_lines.specs.FoundFunctions.{AreFunctions, IsUnread, function_offsets, function_range_of}
 use Rattle.addr2line_lines.specs.FunctionCache.{AreCachedFunctions, AreDetailsApart, AreRuns, HasPlace, inlined_size, name_size, ranges_size, seen_function, seen_lazy, size_of}
-use Rattle.addr2line_lines.specs.FunctionTable.{CachedFunction, FunctionTable, IsCachedThen, IsReadAt, IsReadOf, IsWithDetail}
+use Rattle.addr2line_lines.specs.FunctionTable.{CachedFunction, FunctionTable}
+use Rattle.addr2line_lines.specs.FunctionDetails.{IsCachedThen, IsReadAt, IsReadOf, IsWithDetail}
 use Rattle.addr2line_lines.specs.CachedDetails.{AreDetailsMore, IsDetailPlace, IsNextPlace, CachedDetails, detail_of}
 use Rattle.addr2line_lines.specs.References.{Scope}
 use Rattle.addr2line_lines.proofs.DetailPlaces.{detail_stays}

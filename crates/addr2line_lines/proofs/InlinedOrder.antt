@@ -13,7 +13,8 @@ use Rattle.std.proofs.lemmas.List.Sorted.{ranks_by, sum_by-IsPermutation}
 use Rattle.std.proofs.lemmas.List.Sums.{length-filter}
 use Rattle.gimli_read.specs.Topmost.{greatest, last, topmost}
 use Rattle.addr2line_lines.specs.declared.picks.InlinedFunctionAddress.{InlinedFunctionAddress}
-use Rattle.addr2line_lines.specs.Details.{InlinedEntry, inlined_at, inlined_begin, inlined_chain, inlined_end, inlined_within}
+use Rattle.addr2line_lines.specs.InlinedEntries.{InlinedEntry}
+use Rattle.addr2line_lines.specs.InlinedChain.{inlined_at, inlined_begin, inlined_chain, inlined_end, inlined_within}
 use Rattle.addr2line_lines.specs.InlinedOrder.{inlined_range_of, inlined_sooner, place, place_at, place_begin, place_end, places_chain, places_of_depth, places_within}
 use Rattle.addr2line_lines.specs.InOrder.{begins_sooner, in_order, put}
 use Rattle.addr2line_lines.specs.Pick.{at_or_below, candidate, if_past, pick}

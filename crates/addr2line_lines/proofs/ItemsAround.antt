@@ -20,7 +20,8 @@ use Rattle.gimli.specs.Items.{Entry, Item, depth_after, depth_behind, items_from
 use Rattle.gimli.specs.Unit.{UnitRecord}
 use Rattle.gimli.proofs.ItemTexts.{text_is}
 use Rattle.gimli.proofs.ItemLemmas.{run}
-use Rattle.addr2line_lines.specs.Details.{Detail, InlinedRange, PlacedItem, detail_at, item_entry, inlined_attributes_of, inlined_entry, inlined_in, inlined_ranges, is_in_function, is_inlined, count_of, open_after, placed_items, with_inlined, with_inlined_entry}
+use Rattle.addr2line_lines.specs.Details.{Detail, PlacedItem, detail_at, item_entry, inlined_in, is_in_function, count_of, open_after, placed_items, with_inlined, with_inlined_entry}
+use Rattle.addr2line_lines.specs.InlinedEntries.{InlinedRange, inlined_attributes_of, inlined_entry, inlined_ranges, is_inlined}
 use Rattle.addr2line_lines.specs.ItemsAround.{DepthsAreNumbers, InsideIsRead, OpenAreAround, abbreviations_of, have_item, inlined_depth, is_inlined_item, items_around, items_inside_at, nearest_inlined}
 use Rattle.addr2line_lines.specs.Names.{name_of}
 use Rattle.addr2line_lines.specs.RangeAttributes.{attribute_ranges}

@@ -10,7 +10,8 @@ use Rattle.gimli.specs.Unit.{UnitRecord}
 use Rattle.addr2line_lines.specs.declared.segments.FunctionAddress.{FunctionAddress}
 use Rattle.addr2line_lines.specs.FoundFunctions.{IsPlaceIn, function_range_of}
 use Rattle.addr2line_lines.specs.Functions.{FunctionRange, entries_of, once_before}
-use Rattle.addr2line_lines.specs.FunctionTable.{AreListed, CachedFunction, FunctionTable, IsFunctionMore, IsReadAt, IsTableMore}
+use Rattle.addr2line_lines.specs.FunctionTable.{AreListed, CachedFunction, FunctionTable}
+use Rattle.addr2line_lines.specs.FunctionDetails.{IsFunctionMore, IsReadAt, IsTableMore}
 use Rattle.addr2line_lines.specs.References.{Scope}
 use Rattle.addr2line_lines.proofs.ReadLemmas.{read_more}
 

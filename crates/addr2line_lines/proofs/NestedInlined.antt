@@ -6,7 +6,8 @@ use Rattle.std.proofs.lemmas.Bool.{cases_lt}
 use Rattle.std.proofs.lemmas.Bool.Decides.{nat_tests}
 use Rattle.std.proofs.lemmas.List.Elements.{All-contains, All-contains_itself}
 use Rattle.gimli_read.specs.Topmost.{greatest, topmost}
-use Rattle.addr2line_lines.specs.Details.{InlinedEntry, InlinedRange, inlined_at, inlined_begin, inlined_end, inlined_within, of_depth}
+use Rattle.addr2line_lines.specs.InlinedEntries.{InlinedEntry, InlinedRange}
+use Rattle.addr2line_lines.specs.InlinedChain.{inlined_at, inlined_begin, inlined_end, inlined_within, of_depth}
 use Rattle.addr2line_lines.specs.NestedInlined.{ChainBeginsOutermost, ChainIsWhole, AreInEachOther, AreNested, IsAlone, IsFirstOutermost, IsHeldAround, IsNearest, IsNestedChain, IsOneAround, IsHeldByListed, NestedChain, NestedInFunction, inlined_holds}
 use Rattle.addr2line_lines.specs.Pick.{IsDisjoint, at_or_below, candidate, if_past, pick}
 use Rattle.addr2line_lines.proofs.ItemsAround.{IsListed, all_listed, nearest_depth, none_nearest}

@@ -19,8 +19,12 @@ use Rattle.gimli.proofs.EntryLemmas.{abbreviation_takes}
 use Rattle.gimli.proofs.ItemLemmas.{next_is}
 use Rattle.gimli.proofs.ItemReads.{items_end, items_fault, items_more}
 use Rattle.addr2line_lines.specs.declared.nesting.Kind.{Kind}
-use Rattle.addr2line_lines.specs.FoundDetails.{FoundAround, FoundInlined, IsFoundMore, IsGrown, abbreviation_of, closed_once, detail_found_at, detail_takes_at, entry_found_at, function_found_at, function_takes_at, inlined_address, inlined_more, inside_found, item_found_at, kind_of, name_after, opened, with_entry_found, with_inlined_found, with_inlined_ranges, with_item_found}
-use Rattle.addr2line_lines.specs.Details.{InlinedAttributes, inlined_entry}
+use Rattle.addr2line_lines.specs.FoundItems.{FoundAround, inside_found, item_found_at, with_item_found}
+use Rattle.addr2line_lines.specs.FoundInlined.{FoundInlined, IsFoundMore, IsGrown, entry_found_at, inlined_address, inlined_more, with_entry_found, with_inlined_found, with_inlined_ranges}
+use Rattle.addr2line_lines.specs.FoundDetails.{abbreviation_of, detail_found_at, detail_takes_at, function_found_at, function_takes_at}
+use Rattle.addr2line_lines.specs.OpenEntries.{closed_once, kind_of, opened}
+use Rattle.addr2line_lines.specs.FoundAttributes.{name_after}
+use Rattle.addr2line_lines.specs.InlinedEntries.{InlinedAttributes, inlined_entry}
 use Rattle.addr2line_lines.specs.RangeAttributes.{attribute_ranges}
 use Rattle.gimli_read.specs.declared.range.Range.{Range}
 use Rattle.gimli.specs.Sections.{Sections}

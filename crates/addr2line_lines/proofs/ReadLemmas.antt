@@ -7,9 +7,10 @@ use Rattle.gimli_read.specs.declared.error.Error.TheVariants.{OutOfMemory}
 use Rattle.gimli_read.specs.Reading.{◌>>=◌, ExactlyUnlessOomIf}
 use Rattle.gimli.specs.Unit.{UnitRecord}
 use Rattle.addr2line_lines.specs.Details.{Detail, detail_at}
-use Rattle.addr2line_lines.specs.FoundDetails.{IsGrown}
+use Rattle.addr2line_lines.specs.FoundInlined.{IsGrown}
 use Rattle.gimli_line.specs.Opcode.{fault_of}
-use Rattle.addr2line_lines.specs.FunctionTable.{AreCachedToFault, AreDetailsOf, AreUnread, CachedFunction, FunctionTable, HasDetail, IsCachedToFault, IsDetailOf, IsFunctionMore, IsReadAt, IsReadOf, IsReadOnce, IsTableMore, IsWithDetail, details_fault, details_take_memory, read_fault, cached_takes_memory}
+use Rattle.addr2line_lines.specs.FunctionDetails.{AreCachedToFault, AreDetailsOf, AreUnread, HasDetail, IsCachedToFault, IsDetailOf, IsFunctionMore, IsReadAt, IsReadOf, IsReadOnce, IsTableMore, IsWithDetail, details_fault, details_take_memory, read_fault, cached_takes_memory}
+use Rattle.addr2line_lines.specs.FunctionTable.{CachedFunction, FunctionTable}
 use Rattle.addr2line_lines.specs.References.{Scope}
 use Rattle.addr2line_lines.proofs.FunctionCacheLemmas.{no_more}
 use Rattle.addr2line_lines.proofs.FunctionLemmas.{or_first, or_second}

@@ -8,8 +8,8 @@ use Rattle.gimli_read.specs.Reading.{Reading, ◌>>=◌}
 use Rattle.gimli_read.specs.Section.{Section}
 use Rattle.gimli.specs.Entry.{attributes_at}
 use Rattle.gimli.specs.Unit.{UnitRecord}
-use Rattle.addr2line_lines.specs.Details.{InlinedAttributes, or_with_inlined_attribute}
-use Rattle.addr2line_lines.specs.FoundDetails.{HasNoWanted, IsSplitAtWanted, inlined_attributes_after, is_wanted}
+use Rattle.addr2line_lines.specs.InlinedEntries.{InlinedAttributes, or_with_inlined_attribute}
+use Rattle.addr2line_lines.specs.FoundAttributes.{HasNoWanted, IsSplitAtWanted, inlined_attributes_after, is_wanted}
 use Rattle.addr2line_lines.specs.References.{Scope}
 use Rattle.addr2line_lines.proofs.DetailLemmas.{named, still}
 

@@ -1,18 +1,10 @@
 -- The details of a function: its name, and the inlined entries inside it (DWARF 5, section 3.3.8).
 -- Own: the depth of an inlined entry is the number of inlined entries around it. Nested subprograms
 -- are skipped whole. An entry without ranges counts for the depth of those inside it alone.
--- Own: of call_file a constant counts that is above 0, or any in version 5; call_line and
--- call_column keep their low 32 bits, and are 0 where they are no constant. The last of each
--- counts.
-use Rattle.std.specs.Prelude.{ℕ, ◌+◌, ◌==◌, ◌||◌, ◌&&◌, ◌%◌, ◌^◌, nat_lt, zero, suc, Bool, false, List, [], ◌∷◌, ◌++◌, filter, fold, length, map, Option, Some, None, option_and_then, unwrap_or, Result, Ok, Err, is_ok, if◌then◌else◌}
-use Rattle.std.specs.Option.{option_or}
-use Rattle.gimli_read.specs.declared.constants.TheConstants.DwAt.{DW_AT_call_column, DW_AT_call_file, DW_AT_call_line}
-use Rattle.gimli_read.specs.declared.constants.TheConstants.DwTag.{DW_TAG_inlined_subroutine}
+use Rattle.std.specs.Prelude.{ℕ, ◌+◌, ◌==◌, ◌||◌, ◌&&◌, Bool, false, List, [], ◌∷◌, ◌++◌, filter, length, Option, Some, None, Result, Ok, Err, is_ok, if◌then◌else◌}
 use Rattle.gimli_read.specs.declared.error.Error.{Error}
 use Rattle.gimli_read.specs.declared.error.Error.TheVariants.{NoEntryAtGivenOffset}
-use Rattle.gimli_read.specs.declared.range.Range.{Range}
 use Rattle.gimli_read.specs.Abbreviations.{Abbrev}
-use Rattle.gimli_read.specs.Form.{NamedValue, constant_of}
 use Rattle.gimli_read.specs.Reading.{◌>>=◌}
 use Rattle.gimli_read.specs.Run.{fold_run}
 use Rattle.gimli_read.specs.Section.{Section}
@@ -20,107 +12,16 @@ use Rattle.gimli.specs.Entries.{entries_from}
 use Rattle.gimli.specs.Entry.{EntriesLeft}
 use Rattle.gimli.specs.Items.{Entry, Item, items_from, next_item_at, subtree_of}
 use Rattle.gimli.specs.Unit.{UnitRecord}
-use Rattle.addr2line_lines.specs.declared.function.RangeAttributes.{RangeAttributes}
 use Rattle.addr2line_lines.specs.Functions.{is_subprogram}
-use Rattle.addr2line_lines.specs.Names.{name_of, with_name}
-use Rattle.addr2line_lines.specs.Pick.{pick}
-use Rattle.addr2line_lines.specs.RangeAttributes.{attribute_ranges, gives_a_range, no_range_attributes, with_range_attribute}
+use Rattle.addr2line_lines.specs.Names.{name_of}
+use Rattle.addr2line_lines.specs.RangeAttributes.{attribute_ranges, gives_a_range}
 use Rattle.addr2line_lines.specs.References.{Scope}
-
--- where a function was called that is inlined: the index of the file, the line and the column
-pub record CallSite : Type 0 where
-  pub file : Option ℕ
-  pub line : ℕ
-  pub column : ℕ
-
--- an inlined entry: where it begins, in bytes from the start of the unit's length, its name, and
--- where it was called
-pub record InlinedEntry : Type 0 where
-  pub offset : ℕ
-  pub name : Option Section
-  pub call : CallSite
-
--- a range of an inlined entry, and how many inlined entries are around that
-pub record InlinedRange : Type 0 where
-  pub depth : ℕ
-  pub range : Range
-  pub entry : InlinedEntry
+use Rattle.addr2line_lines.specs.InlinedEntries.{InlinedRange, is_inlined, inlined_attributes_of, inlined_ranges}
 
 -- the details of a function
 pub record Detail : Type 0 where
   pub name : Option Section
   pub inlined : List InlinedRange
-
--- what attributes of an inlined entry say
-pub record InlinedAttributes : Type 0 where
-  pub ranges : RangeAttributes
-  pub name : Option Section
-  pub call : CallSite
-
--- before the first attribute
-abbrev pub no_call : CallSite
-no_call = record { file = None; line = 0; column = 0 }
-
-abbrev pub no_inlined_attributes : InlinedAttributes
-no_inlined_attributes = record { ranges = no_range_attributes; name = None; call = no_call }
-
--- whether an entry is an inlined function's
-abbrev pub is_inlined : Abbrev → Bool
-is_inlined a = a.tag.0 == DW_TAG_inlined_subroutine.0
-
--- the index of a file that counts in a version
-abbrev pub counted_file : ℕ → ℕ → Option ℕ
-counted_file version n = if nat_lt 0 n || version == 5 then Some n else None
-
--- the low 32 bits of a constant, 0 of another value
-abbrev pub low_bits : Option ℕ → ℕ
-low_bits n = unwrap_or n 0 % 2 ^ 32
-
--- one more attribute of a call
-abbrev pub with_call : ℕ → CallSite → NamedValue → CallSite
-with_call version call a =
-    if a.name.0 == DW_AT_call_file.0
-    then record call {
-      file = option_or (option_and_then (counted_file version) (constant_of a.value)) call.file;
-    }
-    else if a.name.0 == DW_AT_call_line.0
-    then record call { line = low_bits (constant_of a.value) }
-    else if a.name.0 == DW_AT_call_column.0
-    then record call { column = low_bits (constant_of a.value) }
-    else call
-
--- one more attribute of an inlined entry
-unfoldable pub with_inlined_attribute : Scope → UnitRecord → InlinedAttributes → NamedValue
-    → Result InlinedAttributes Error
-with_inlined_attribute scope u x a = do
-  ranges ← with_range_attribute scope.file.sections u x.ranges a
-  name ← with_name scope u x.name a
-  Ok (record {
-    ranges = ranges;
-    name = name;
-    call = with_call u.header.encoding.version x.call a;
-  })
-
--- the same, where no attribute before has a fault
-abbrev pub or_with_inlined_attribute
-    : Scope → UnitRecord → Result InlinedAttributes Error → NamedValue
-    → Result InlinedAttributes Error
-or_with_inlined_attribute scope u x a = x >>= λ found. with_inlined_attribute scope u found a
-
--- what the attributes of an inlined entry say, or the first fault among them
-abbrev pub inlined_attributes_of : Scope → UnitRecord → List NamedValue
-    → Result InlinedAttributes Error
-inlined_attributes_of scope u attributes =
-    fold (or_with_inlined_attribute scope u) (Ok no_inlined_attributes) attributes
-
--- the entry of these attributes
-abbrev pub inlined_entry : ℕ → InlinedAttributes → InlinedEntry
-inlined_entry offset x = record { offset = offset; name = x.name; call = x.call }
-
--- its ranges, of a depth
-abbrev pub inlined_ranges : ℕ → ℕ → InlinedAttributes → List Range → List InlinedRange
-inlined_ranges depth offset x ranges =
-    map (λ r. record { depth = depth; range = r; entry = inlined_entry offset x }) ranges
 
 -- an item, and the entries that are open around it
 pub record PlacedItem : Type 0 where
@@ -236,31 +137,3 @@ abbrev pub detail_takes_memory : Scope → UnitRecord → ℕ → Bool
 detail_takes_memory scope u offset = is_ok (detail_at scope u offset)
     || elim (placed_inside scope u offset)
     [ Ok items ↦ items_take_memory scope u items | Err e ↦ false ]
-
--- the ranges of a depth
-abbrev pub of_depth : ℕ → List InlinedRange → List InlinedRange
-of_depth depth ranges = filter (λ (x : InlinedRange). x.depth == depth) ranges
-
--- where a range begins
-abbrev pub inlined_begin : InlinedRange → ℕ
-inlined_begin x = x.range.begin
-
--- where it ends
-abbrev pub inlined_end : InlinedRange → ℕ
-inlined_end x = x.range.end
-
--- the range of a depth that is picked for the probe
-abbrev pub inlined_at : ℕ → ℕ → List InlinedRange → Option InlinedRange
-inlined_at probe depth ranges = pick inlined_begin inlined_end probe (of_depth depth ranges)
-
--- the entries that are picked from a depth on, at most n, up to the first depth without one
-abbrev pub inlined_within : ℕ → ℕ → ℕ → List InlinedRange → List InlinedEntry
-inlined_within zero probe depth ranges = []
-inlined_within (suc n) probe depth ranges = elim (inlined_at probe depth ranges) [
-  | None ↦ []
-  | Some x ↦ x.entry ∷ inlined_within n probe (depth + 1) ranges
-]
-
--- the inlined entries at an address, from the outside in; each is of another range
-abbrev pub inlined_chain : ℕ → List InlinedRange → List InlinedEntry
-inlined_chain probe ranges = inlined_within (length ranges) probe 0 ranges

@@ -2,7 +2,7 @@
 use Rattle.std.specs.Prelude.{◌≡◌, ◌&&◌, Bool, false, List, ◌∷◌, ◌++◌}
 use Rattle.std.specs.List.{All, list_any}
 use Rattle.gimli_read.specs.Abbreviations.{Abbrev, Specification}
-use Rattle.addr2line_lines.specs.FoundDetails.{is_range_name}
+use Rattle.addr2line_lines.specs.FoundAttributes.{is_range_name}
 use Rattle.addr2line_lines.specs.Functions.{is_subprogram}
 
 -- whether a specification is that of an attribute of ranges

@@ -9,7 +9,8 @@ use Rattle.gimli_read.specs.Reading.{◌>>=◌}
 use Rattle.gimli.specs.Entries.{entries_from}
 use Rattle.gimli.specs.Items.{Item, items_from, next_item_at, subtree_of}
 use Rattle.gimli.specs.Unit.{UnitRecord}
-use Rattle.addr2line_lines.specs.Details.{Detail, detail_at, item_entry, is_inlined, placed_items}
+use Rattle.addr2line_lines.specs.Details.{Detail, detail_at, item_entry, placed_items}
+use Rattle.addr2line_lines.specs.InlinedEntries.{is_inlined}
 use Rattle.addr2line_lines.specs.References.{Scope}
 
 -- the items inside the entry that begins at an offset of its unit, up to its end or the first fault

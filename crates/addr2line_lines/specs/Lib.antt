@@ -26,6 +26,8 @@ pub mod Functions
 pub mod FoundFunctions
 pub mod References
 pub mod Names
+pub mod InlinedEntries
+pub mod InlinedChain
 pub mod Details
 pub mod SeenScope
 pub mod InlinedOrder
@@ -33,9 +35,14 @@ pub mod ItemsAround
 pub mod NestedInlined
 pub mod FoundNames
 pub mod NameChains
+pub mod FoundAttributes
+pub mod OpenEntries
+pub mod FoundInlined
+pub mod FoundItems
 pub mod FoundDetails
 pub mod FoundRanges
 pub mod CachedDetails
+pub mod FunctionDetails
 pub mod FunctionTable
 pub mod FunctionCache
 pub mod ManyInlined

@@ -6,7 +6,9 @@ use Rattle.std.specs.Prelude.{ℕ, ◌≡◌, ◌+◌, ◌<◌, ◌≤◌, Bool,
 use Rattle.std.specs.List.{All, Contains}
 use Rattle.gimli.specs.Items.{Item}
 use Rattle.gimli.specs.Unit.{UnitRecord}
-use Rattle.addr2line_lines.specs.Details.{Detail, InlinedEntry, InlinedRange, detail_at, inlined_begin, inlined_chain, inlined_end, inlined_within}
+use Rattle.addr2line_lines.specs.Details.{Detail, detail_at}
+use Rattle.addr2line_lines.specs.InlinedEntries.{InlinedEntry, InlinedRange}
+use Rattle.addr2line_lines.specs.InlinedChain.{inlined_begin, inlined_chain, inlined_end, inlined_within}
 use Rattle.addr2line_lines.specs.ItemsAround.{items_inside_at, nearest_inlined}
 use Rattle.addr2line_lines.specs.References.{Scope}
 use Rattle.addr2line_lines.specs.Shortest.{holds}

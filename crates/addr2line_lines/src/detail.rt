@@ -5,7 +5,10 @@ ghost use Rattle.gimli_read.specs.Form.{rest_of};
 ghost use Rattle.gimli_read.specs.Reading.{ExactlyUnlessOomIf};
 ghost use Rattle.gimli.specs.Entry.{attributes_at};
 ghost use Rattle.gimli.specs.Items.{next_item_at};
-ghost use Rattle.addr2line_lines.specs.FoundDetails.{IsFoundMore, IsTakenIn, detail_found_at, detail_takes_at, entry_found_at, function_found_at, function_takes_at, inside_found, inside_takes_memory, is_taken, item_found_at, name_after, next_takes_memory, read_lists_a_range, seen_around, seen_lists, with_read_name};
+ghost use Rattle.addr2line_lines.specs.FoundInlined.{IsFoundMore, entry_found_at, read_lists_a_range, seen_lists};
+ghost use Rattle.addr2line_lines.specs.FoundAttributes.{IsTakenIn, name_after, with_read_name};
+ghost use Rattle.addr2line_lines.specs.FoundDetails.{detail_found_at, detail_takes_at, function_found_at, function_takes_at, is_taken};
+ghost use Rattle.addr2line_lines.specs.FoundItems.{inside_found, inside_takes_memory, item_found_at, next_takes_memory, seen_around};
 ghost use Rattle.addr2line_lines.specs.References.{IsScope};
 ghost use Rattle.addr2line_lines.specs.SeenScope.{seen_scope};
 

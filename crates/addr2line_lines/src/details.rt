@@ -3,8 +3,9 @@
 ghost use Rattle.std.specs.List.{AllByRecursion};
 ghost use Rattle.std.specs.Prelude.{◌≡◌, ◌<◌, ◌||◌, [], IfOk, OnErr, Ok, length, map, option_map, slice_get};
 ghost use Rattle.gimli_read.specs.Reading.{ExactlyUnlessOomIf};
-ghost use Rattle.addr2line_lines.specs.Details.{detail_at, detail_takes_memory, inlined_chain};
-ghost use Rattle.addr2line_lines.specs.FoundDetails.{entry_among, none_inlined, seen_inlined};
+ghost use Rattle.addr2line_lines.specs.Details.{detail_at, detail_takes_memory};
+ghost use Rattle.addr2line_lines.specs.InlinedChain.{inlined_chain};
+ghost use Rattle.addr2line_lines.specs.FoundInlined.{entry_among, none_inlined, seen_inlined};
 ghost use Rattle.addr2line_lines.specs.CachedDetails.{AreDetailsMore, IsDetailPlace, IsNextPlace, detail_of, seen_details};
 ghost use Rattle.addr2line_lines.specs.ManyInlined.{are_many};
 ghost use Rattle.addr2line_lines.specs.References.{IsScope};

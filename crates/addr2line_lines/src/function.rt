@@ -7,7 +7,7 @@ ghost use Rattle.gimli_read.specs.Reading.{Exactly, ExactlyUnlessOomIf};
 ghost use Rattle.gimli_read.specs.Form.{rest_of, seen_value};
 ghost use Rattle.gimli.specs.Entry.{attributes_at};
 ghost use Rattle.gimli.specs.Ranges.{ranges_at};
-ghost use Rattle.addr2line_lines.specs.FoundDetails.{is_range_name};
+ghost use Rattle.addr2line_lines.specs.FoundAttributes.{is_range_name};
 ghost use Rattle.addr2line_lines.specs.FoundRanges.{HasNoRange, IsSplitAtRange, is_range_specification};
 ghost use Rattle.addr2line_lines.specs.RangeAttributes.{attr_address, no_range_attributes, with_range_attribute, or_with_range_attribute, range_attributes_after, range_between, ranges_of, all_ranges, attribute_ranges, begins_well, gives_a_range};
 

@@ -6,8 +6,8 @@ ghost use Rattle.std.specs.Option.{option_or};
 ghost use Rattle.gimli_read.specs.Form.{attribute_at, rest_of};
 ghost use Rattle.gimli_read.specs.Reading.{ExactlyUnlessOomIf};
 ghost use Rattle.gimli.specs.Entry.{attributes_at};
-ghost use Rattle.addr2line_lines.specs.Details.{counted_file, low_bits, no_call, no_inlined_attributes, with_call, with_inlined_attribute};
-ghost use Rattle.addr2line_lines.specs.FoundDetails.{HasNoWanted, IsReadIf, IsSplitAtWanted, IsTakenIn, inlined_attributes_after, is_call, is_range_name, is_wanted, is_wanted_specification, or_fault, seen_attributes, seen_call_site};
+ghost use Rattle.addr2line_lines.specs.InlinedEntries.{counted_file, low_bits, no_call, no_inlined_attributes, with_call, with_inlined_attribute};
+ghost use Rattle.addr2line_lines.specs.FoundAttributes.{HasNoWanted, IsReadIf, IsSplitAtWanted, IsTakenIn, inlined_attributes_after, is_call, is_range_name, is_wanted, is_wanted_specification, or_fault, seen_attributes, seen_call_site};
 ghost use Rattle.addr2line_lines.specs.References.{IsScope};
 ghost use Rattle.addr2line_lines.specs.SeenScope.{seen_scope};
 

@@ -6,7 +6,7 @@ ghost use Rattle.addr2line_lines.specs.Rises.{SequencesRise};
 ghost use Rattle.addr2line_lines.specs.InOrder.{OrderIsFree};
 ghost use Rattle.addr2line_lines.specs.Pick.{LoneIsPicked};
 ghost use Rattle.addr2line_lines.specs.Functions.{function_begin, function_end, function_offset};
-ghost use Rattle.addr2line_lines.specs.FunctionTable.{MoreKeepsListed, ReadKeepsDetails, ReadKeepsListed, UnreadAreDetails};
+ghost use Rattle.addr2line_lines.specs.FunctionDetails.{MoreKeepsListed, ReadKeepsDetails, ReadKeepsListed, UnreadAreDetails};
 ghost use Rattle.addr2line_lines.specs.Shortest.{LoneIsShortest, NoneIsShorter};
 ghost use Rattle.addr2line_lines.specs.NameChains.{ChainGivesName, LongChainGivesNone};
 ghost use Rattle.addr2line_lines.specs.ItemsAround.{DepthsAreNumbers, InsideIsRead, OpenAreAround};

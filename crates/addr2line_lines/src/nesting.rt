@@ -2,7 +2,7 @@
 
 ghost use Rattle.std.specs.Prelude.{◌≡◌, [], Err, OnErr, OnOk, true};
 ghost use Rattle.gimli_read.specs.declared.error.Error.TheVariants.{OutOfMemory};
-ghost use Rattle.addr2line_lines.specs.FoundDetails.{closed_once, is_inlined_kind, is_listed, kind_of, kinds_such, opened};
+ghost use Rattle.addr2line_lines.specs.OpenEntries.{closed_once, is_inlined_kind, is_listed, kind_of, kinds_such, opened};
 
 use gimli::read::{Abbreviation, DwTag, Error};
 use std::alloc::Global;
@@ -42,7 +42,7 @@ pub(crate) struct Nesting {
 impl Model for Nesting {
     ghost use Rattle.std.specs.Prelude.{List, reverse};
     ghost use Rattle.addr2line_lines.specs.declared.nesting.Kind.{Kind};
-    ghost use Rattle.addr2line_lines.specs.FoundDetails.{AreCounted};
+    ghost use Rattle.addr2line_lines.specs.OpenEntries.{AreCounted};
 
     ghost Value = { List Kind };
 

@@ -4,7 +4,8 @@ ghost use Rattle.std.specs.Prelude.{◌≡◌, ◌≤◌, ◌++◌, ℕ, IfOk, L
 ghost use Rattle.std.specs.List.Sorted.{IsNonDecreasingBy};
 ghost use Rattle.gimli_read.specs.Reading.{ExactlyUnlessOomIf};
 ghost use Rattle.addr2line_lines.specs.InOrder.{IsInOrder, in_order};
-ghost use Rattle.addr2line_lines.specs.Details.{InlinedEntry, inlined_chain};
+ghost use Rattle.addr2line_lines.specs.InlinedEntries.{InlinedEntry};
+ghost use Rattle.addr2line_lines.specs.InlinedChain.{inlined_chain};
 ghost use Rattle.addr2line_lines.specs.InlinedOrder.{inlined_range_of, inlined_sooner, place, place_at, places_chain};
 ghost use Rattle.addr2line_lines.specs.ManyInlined.{are_many};
 

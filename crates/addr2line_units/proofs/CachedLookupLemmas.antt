@@ -7,7 +7,8 @@ use Rattle.std.specs.List.{AllZip}
 use Rattle.gimli_read.specs.declared.error.Error.{Error}
 use Rattle.gimli.specs.Unit.{UnitRecord}
 use Rattle.addr2line_lines.specs.Details.{Detail}
-use Rattle.addr2line_lines.specs.FunctionTable.{CachedFunction, FunctionTable, IsFunctionMore, IsTableMore, cached_detail, function_place_at}
+use Rattle.addr2line_lines.specs.FunctionTable.{CachedFunction, FunctionTable, cached_detail, function_place_at}
+use Rattle.addr2line_lines.specs.FunctionDetails.{IsFunctionMore, IsTableMore}
 use Rattle.addr2line_lines.specs.References.{Scope}
 use Rattle.addr2line_lines.proofs.NestingLemmas.{grown_not, grown_on}
 use Rattle.addr2line_units.specs.declared.functions.LazyFunctions.{LazyFunctions}

@@ -12,7 +12,8 @@ use Rattle.gimli.specs.Unit.{UnitRecord}
 use Rattle.addr2line_lines.specs.Details.{Detail, detail_takes_memory as takes}
 use Rattle.addr2line_lines.specs.Functions.{FunctionRange, entries_of, function_offset_at, functions_of}
 use Rattle.gimli_line.specs.Opcode.{fault_of}
-use Rattle.addr2line_lines.specs.FunctionTable.{CachedFunction, FunctionTable, HasDetail, IsDetailOf, details_fault, details_take_memory, function_place_at, read_fault}
+use Rattle.addr2line_lines.specs.FunctionTable.{CachedFunction, FunctionTable, function_place_at}
+use Rattle.addr2line_lines.specs.FunctionDetails.{HasDetail, IsDetailOf, details_fault, details_take_memory, read_fault}
 use Rattle.addr2line_lines.specs.References.{Scope}
 use Rattle.addr2line_lines.proofs.PlaceLemmas.{all_at, some_at}
 use Rattle.addr2line_units.specs.declared.functions.LazyFunctions.{LazyFunctions}

@@ -3,9 +3,12 @@ use Rattle.std.proofs.Common.{◌≡◌, ◌≢◌, ℕ, inl, inr, true, false, 
 use Rattle.gimli_read.specs.declared.error.Error.{Error}
 use Rattle.gimli_read.specs.declared.error.Error.TheVariants.{OutOfMemory}
 use Rattle.gimli.specs.Unit.{UnitRecord}
-use Rattle.addr2line_lines.specs.Details.{Detail, InlinedEntry, InlinedRange, inlined_chain}
+use Rattle.addr2line_lines.specs.Details.{Detail}
+use Rattle.addr2line_lines.specs.InlinedEntries.{InlinedEntry, InlinedRange}
+use Rattle.addr2line_lines.specs.InlinedChain.{inlined_chain}
 use Rattle.addr2line_lines.specs.Functions.{function_offset_at}
-use Rattle.addr2line_lines.specs.FunctionTable.{CachedFunction, FunctionTable, IsDetailOf, IsReadAt, IsReadOf, IsReadOnce, cached_detail, cached_inlined, function_place_at, inlined_of_detail, cached_offset_at}
+use Rattle.addr2line_lines.specs.FunctionTable.{CachedFunction, FunctionTable, cached_detail, cached_inlined, function_place_at, inlined_of_detail, cached_offset_at}
+use Rattle.addr2line_lines.specs.FunctionDetails.{IsDetailOf, IsReadAt, IsReadOf, IsReadOnce}
 use Rattle.addr2line_lines.specs.ManyInlined.{are_many}
 use Rattle.addr2line_lines.specs.References.{Scope}
 use Rattle.addr2line_lines.proofs.PlaceLemmas.{all_at}

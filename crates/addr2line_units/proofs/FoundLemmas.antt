@@ -18,7 +18,8 @@ use Rattle.addr2line_units.specs.CachedLines.{indexed_units}
 use Rattle.addr2line_units.specs.Frames.{FrameRecord}
 use Rattle.addr2line_units.specs.FramesLookup.{Stop, Waits, Finds, FindsNothing, after_fault, asked_frames, ends_lookup, frames_of_number, holds_along, or_stop, stop_along}
 use Rattle.addr2line_units.specs.CachedEntries.{cached_answer}
-use Rattle.addr2line_units.specs.CachedLookups.{HaveEntriesOf, answers_in, decided_at, has_entries_at, has_frames_at}
+use Rattle.addr2line_units.specs.CachedLookups.{HaveEntriesOf, answers_in, decided_at, has_entries_at}
+use Rattle.addr2line_units.specs.CachedFrames.{has_frames_at}
 use Rattle.addr2line_units.specs.CachedViews.{is_decided, waits, was_looked_at}
 use Rattle.addr2line_units.specs.UnitFrames.{FramesAnswer, frames_by, frames_in, function_in}
 use Rattle.addr2line_units.specs.UnitIndex.{IndexedUnit}

@@ -5,8 +5,8 @@ use Rattle.std.specs.List.{AllByRecursion}
 use Rattle.std.proofs.lemmas.List.{length-reverse, map-append, reverse-append}
 use Rattle.std.proofs.lemmas.Option.{slice_get-get_or}
 use Rattle.gimli_read.specs.declared.constants.DwLang.{DwLang}
-use Rattle.addr2line_lines.specs.Details.{InlinedEntry}
-use Rattle.addr2line_lines.specs.FoundDetails.{entry_among, no_inlined}
+use Rattle.addr2line_lines.specs.InlinedEntries.{InlinedEntry}
+use Rattle.addr2line_lines.specs.FoundInlined.{entry_among, no_inlined}
 use Rattle.addr2line_lines.specs.FunctionTable.{FunctionTable, cached_name, cached_offset_at}
 use Rattle.addr2line_lines.specs.Location.{Location}
 use Rattle.addr2line_units.specs.Frames.{call_location, frames_from, function_frame}

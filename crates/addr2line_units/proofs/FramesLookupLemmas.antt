@@ -6,7 +6,7 @@ use Rattle.gimli_read.specs.declared.error.Error.{Error}
 use Rattle.gimli_read.specs.declared.error.Error.TheVariants.{OutOfMemory}
 use Rattle.gimli_read.specs.Reading.{◌>>=◌, ExactlyUnlessOom}
 use Rattle.gimli_read.specs.Section.{Section}
-use Rattle.addr2line_lines.specs.Details.{InlinedEntry}
+use Rattle.addr2line_lines.specs.InlinedEntries.{InlinedEntry}
 use Rattle.addr2line_lines.specs.Location.{Location}
 use Rattle.addr2line_units.specs.declared.frames_lookup.Faults.{Faults}
 use Rattle.addr2line_units.specs.declared.frames_lookup.Faults.TheVariants.{End, PassOver}
@@ -19,7 +19,8 @@ use Rattle.addr2line_units.specs.declared.unit_frames.UnitFrames.{UnitFrames}
 use Rattle.addr2line_units.specs.declared.unit_frames.UnitFrames.TheVariants as found
 use Rattle.addr2line_units.specs.Frames.{FrameRecord, frames_from}
 use Rattle.addr2line_units.specs.FramesLookup.{Stop, Finds, after_fault, ends_lookup, holds_along, or_stop, stop_along}
-use Rattle.addr2line_units.specs.CachedLookups.{AreFoundAt, IsStopIn, found_after_fault, frames_found_at, has_entries_at, has_frames_at, seen_stop, stop_of_found}
+use Rattle.addr2line_units.specs.CachedFrames.{AreFoundAt, IsStopIn, found_after_fault, frames_found_at, has_frames_at, seen_stop, stop_of_found}
+use Rattle.addr2line_units.specs.CachedLookups.{has_entries_at}
 use Rattle.gimli_read.specs.Alike.{HadMemory}
 use Rattle.addr2line_units.specs.Parsed.{ParsesOnly, StaysParsed, has_parsed}
 use Rattle.addr2line_units.specs.UnitFrames.{FramesAnswer}

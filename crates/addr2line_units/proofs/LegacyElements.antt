@@ -8,7 +8,7 @@ use Rattle.std.specs.Str.Parse.{digits_value}
 use Rattle.std.proofs.Math.Seq.{take-append_seam, drop-append_seam}
 use Rattle.std.proofs.lemmas.List.Folds.{length-prefix_len}
 use Rattle.addr2line_units.proofs.LegacySteps.{and_left, and_right, some_if, front_parts, elements_some, elements_none}
-use Rattle.addr2line_units.specs.LegacyName.{is_first, IsElement, AreElements}
+use Rattle.addr2line_units.specs.LegacyElements.{is_first, IsElement, AreElements}
 use Rattle.addr2line_units.specs.LegacyText.{ascii_front, element_at, elements_by, elements_within, elements_at}
 
 -- all digits that stand first, and none after them

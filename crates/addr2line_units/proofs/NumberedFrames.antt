@@ -17,7 +17,8 @@ use Rattle.addr2line_units.specs.declared.unit_frames.UnitFrames.TheVariants as 
 use Rattle.addr2line_units.specs.CachedLines.{HaveLinesOf, indexed_unit, indexed_units, is_uncached, parsed_units}
 use Rattle.addr2line_units.specs.FramesLookup.{asks_lines_of, frames_of_number, has_many_of}
 use Rattle.addr2line_units.specs.CachedEntries.{AreFramesIn, frames_of_place, has_entries, cached_answer}
-use Rattle.addr2line_units.specs.CachedLookups.{AreFoundAt, HaveEntriesOf, answers_in, frames_found_at, functions_at, has_entries_at, has_frames_at, language_at}
+use Rattle.addr2line_units.specs.CachedFrames.{AreFoundAt, frames_found_at, functions_at, has_frames_at, language_at}
+use Rattle.addr2line_units.specs.CachedLookups.{HaveEntriesOf, answers_in, has_entries_at}
 use Rattle.addr2line_units.specs.Parsed.{ParsesOnly, has_parsed}
 use Rattle.addr2line_units.specs.UnitFrames.{asks_lines_in, frames_in, has_many}
 use Rattle.addr2line_units.proofs.UnitsLemmas.{in_units, no_parsed, no_unit, only_set, parsed_set, set_parsed, unit_at}

@@ -20,7 +20,8 @@ use Rattle.addr2line_units.specs.CachedLines.{indexed_units}
 use Rattle.addr2line_units.specs.Frames.{FrameRecord}
 use Rattle.addr2line_units.specs.FramesLookup.{Stop, Waits, Finds, FindsNothing, after_fault, asked_frames, ends_lookup, frames_of_number, holds_along, or_stop, stop_along}
 use Rattle.addr2line_units.specs.CachedEntries.{has_entries, cached_answer}
-use Rattle.addr2line_units.specs.CachedLookups.{HaveEntriesOf, HaveViewsOf, answers_in, has_entries_at, WaitsIn, has_frames_at, seen_stop, waits_at}
+use Rattle.addr2line_units.specs.CachedLookups.{HaveEntriesOf, HaveViewsOf, answers_in, has_entries_at, WaitsIn, waits_at}
+use Rattle.addr2line_units.specs.CachedFrames.{has_frames_at, seen_stop}
 use Rattle.addr2line_units.specs.CachedViews.{IsViewOf, was_looked_at, waits}
 use Rattle.gimli_read.specs.Alike.{HadMemory}
 use Rattle.addr2line_units.specs.UnitFrames.{FramesAnswer, frames_by, frames_in, function_in}

@@ -7,9 +7,11 @@ use Rattle.gimli_read.specs.declared.error.Error.{Error}
 use Rattle.gimli_read.specs.declared.error.Error.TheVariants.{OutOfMemory}
 use Rattle.gimli_read.specs.Reading.{◌>>=◌}
 use Rattle.gimli.specs.Unit.{UnitRecord}
-use Rattle.addr2line_lines.specs.Details.{Detail, detail_at, inlined_chain}
-use Rattle.addr2line_lines.specs.FoundDetails.{entry_among}
-use Rattle.addr2line_lines.specs.FunctionTable.{AreDetailsOf, AreListed, FunctionTable, IsTableMore, cached_detail, cached_inlined, cached_name, details_take_memory, function_place_at, inlined_of_detail, cached_offset_at}
+use Rattle.addr2line_lines.specs.Details.{Detail, detail_at}
+use Rattle.addr2line_lines.specs.InlinedChain.{inlined_chain}
+use Rattle.addr2line_lines.specs.FoundInlined.{entry_among}
+use Rattle.addr2line_lines.specs.FunctionDetails.{AreDetailsOf, IsTableMore, details_take_memory}
+use Rattle.addr2line_lines.specs.FunctionTable.{AreListed, FunctionTable, cached_detail, cached_inlined, cached_name, function_place_at, inlined_of_detail, cached_offset_at}
 use Rattle.addr2line_lines.specs.Functions.{entries_of, functions_of}
 use Rattle.addr2line_lines.specs.ManyInlined.{are_many}
 use Rattle.addr2line_lines.specs.References.{Scope}

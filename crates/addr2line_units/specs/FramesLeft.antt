@@ -1,7 +1,7 @@
 -- The frames that an iterator has left, as the private functions see them.
 use Rattle.std.specs.Prelude.{ℕ, List, [], ◌∷◌, reverse, slice_get, Option, Some, None, option_map}
 use Rattle.gimli_read.specs.declared.constants.DwLang.{DwLang}
-use Rattle.addr2line_lines.specs.Details.{InlinedEntry}
+use Rattle.addr2line_lines.specs.InlinedEntries.{InlinedEntry}
 use Rattle.addr2line_lines.specs.FunctionTable.{FunctionTable, cached_name, cached_offset_at}
 use Rattle.addr2line_lines.specs.Location.{Location}
 use Rattle.addr2line_lines.specs.SeenLocation.{seen_location}

@@ -9,7 +9,7 @@ use Rattle.gimli_read.specs.Reading.{◌>>=◌}
 use Rattle.gimli.specs.Sections.{Sections}
 use Rattle.gimli.specs.Unit.{UnitRecord}
 use Rattle.addr2line_lines.specs.Functions.{functions_of}
-use Rattle.addr2line_lines.specs.FunctionTable.{AreCachedToFault}
+use Rattle.addr2line_lines.specs.FunctionDetails.{AreCachedToFault}
 use Rattle.addr2line_lines.specs.References.{Scope}
 use Rattle.addr2line_units.specs.declared.parses.Reads.{Reads}
 use Rattle.addr2line_units.specs.declared.parses.Reads.TheVariants as reads

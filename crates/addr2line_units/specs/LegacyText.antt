@@ -9,7 +9,8 @@ use Rattle.std.specs.Option.{option_or}
 use Rattle.std.specs.Str.{byte, bytes_eq}
 use Rattle.std.specs.Str.Parse.{digits_value}
 use Rattle.gimli_read.specs.declared.constants.TheConstants.DwLang.{DW_LANG_Rust}
-use Rattle.addr2line_units.specs.LegacyName.{llvm_mark, is_llvm_byte, is_lower_hex, is_hash, prefixes, escapes, is_first, is_dot, is_suffix, joined}
+use Rattle.addr2line_units.specs.LegacyName.{llvm_mark, is_llvm_byte, prefixes, is_suffix, joined}
+use Rattle.addr2line_units.specs.LegacyElements.{is_lower_hex, is_hash, escapes, is_first, is_dot}
 
 -- the name up to the first mark of LLVM, where only such bytes follow it
 abbrev pub without_llvm : List ℕ → List ℕ

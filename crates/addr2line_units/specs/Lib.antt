@@ -1,3 +1,4 @@
+pub mod LegacyElements
 pub mod LegacyName
 pub mod LegacyText
 pub mod LegacyLaws
@@ -5,6 +6,7 @@ pub mod UnitAranges
 pub mod UnitAttributes
 pub mod Cover
 pub mod LeastBegins
+pub mod RangedUnits
 pub mod UnitIndex
 pub mod UnitIndexLaws
 pub mod Located
@@ -25,6 +27,7 @@ pub mod FramesLeft
 pub mod UnitFrames
 pub mod FramesLookup
 pub mod CachedEntries
+pub mod CachedFrames
 pub mod CachedLookups
 pub mod KnownEntries
 pub mod Loads

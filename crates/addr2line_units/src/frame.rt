@@ -8,7 +8,7 @@ ghost use Rattle.std.specs.Option.{option_copied};
 ghost use Rattle.std.specs.Str.{IsUtf8};
 ghost use Rattle.gimli_read.specs.declared.constants.TheConstants.DwLang.{DW_LANG_Rust};
 ghost use Rattle.gimli_read.specs.declared.error.Error.TheVariants.{OutOfMemory};
-ghost use Rattle.addr2line_lines.specs.FoundDetails.{entry_among, seen_inlined};
+ghost use Rattle.addr2line_lines.specs.FoundInlined.{entry_among, seen_inlined};
 ghost use Rattle.addr2line_lines.specs.FunctionTable.{cached_name, cached_offset_at};
 ghost use Rattle.addr2line_lines.specs.Rows.{result_map};
 ghost use Rattle.addr2line_lines.specs.SeenLocation.{seen_location};

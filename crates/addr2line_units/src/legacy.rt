@@ -3,7 +3,8 @@
 ghost use Rattle.std.specs.Prelude.{◌≡◌, ◌<◌, ◌++◌, ◌&&◌, is_none, length, IfSome, OnOk, MatchOption, string_bytes, true};
 ghost use Rattle.std.specs.Char.{is_ascii};
 ghost use Rattle.std.specs.List.{list_all};
-ghost use Rattle.addr2line_units.specs.LegacyName.{is_hash, is_llvm_byte, is_suffix, is_suffix_byte};
+ghost use Rattle.addr2line_units.specs.LegacyElements.{is_hash};
+ghost use Rattle.addr2line_units.specs.LegacyName.{is_llvm_byte, is_suffix, is_suffix_byte};
 ghost use Rattle.addr2line_units.specs.LegacyText.{ascii_front, element_at, elements_at, elements_text, legacy_text, suffix_at, without_llvm, without_prefix};
 
 mod digits;

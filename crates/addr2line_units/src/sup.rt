@@ -7,7 +7,8 @@ ghost use Rattle.gimli_read.specs.declared.error.Error.TheVariants.{OutOfMemory}
 ghost use Rattle.gimli_read.specs.Reading.{ExactlyUnlessOomIf};
 ghost use Rattle.gimli.specs.Unit.{unit_record_of};
 ghost use Rattle.gimli.specs.UnitsLeft.{all_headers};
-ghost use Rattle.addr2line_units.specs.UnitIndex.{sup_sections, sup_unit_of_header, sup_units, units_of};
+ghost use Rattle.addr2line_units.specs.UnitIndex.{sup_sections, sup_unit_of_header, sup_units};
+ghost use Rattle.addr2line_units.specs.RangedUnits.{units_of};
 ghost use Rattle.addr2line_units.specs.Indexed.{has_abbreviations, sup_takes_memory, sup_units_take_memory};
 
 use gimli::read::{Error, Reader};

@@ -5,7 +5,7 @@ ghost use Rattle.gimli_read.specs.Reading.{Exactly, ExactlyUnlessOom, ExactlyUnl
 ghost use Rattle.gimli_read.specs.declared.error.Error.TheVariants.{OutOfMemory};
 ghost use Rattle.gimli.specs.Sections.{Sections};
 ghost use Rattle.addr2line_lines.specs.Location.{location_of_row};
-ghost use Rattle.addr2line_units.specs.UnitIndex.{is_partial, is_type_unit, given_in_unit, given_ranges, has_lines, asks_lines, ranged_unit, unit_ranges};
+ghost use Rattle.addr2line_units.specs.RangedUnits.{is_partial, is_type_unit, given_in_unit, given_ranges, has_lines, asks_lines, ranged_unit, unit_ranges};
 ghost use Rattle.addr2line_units.specs.Located.{is_found, location_in, looks_in};
 ghost use Rattle.addr2line_units.specs.UnitAranges.{range_in};
 ghost use Rattle.addr2line_units.specs.CachedLines.{AreLinesOf, IsUnparsed, LinesStayCached, CachesAnswer, StaysUnit, cached_lines_answer, cached_files, cached_looks, cached_ranges, cached_row, indexed_unit, lines_answer, cached_lines, is_parsed, is_uncached};
@@ -86,7 +86,7 @@ fn read_given_ranges<R: Reader>(
 }
 
 // The language of a unit, and the ranges that `.debug_aranges` or its attributes give.
-#[tactic(auto, unfolding(crate::specs::UnitIndex::given_in_unit))]
+#[tactic(auto, unfolding(crate::specs::RangedUnits::given_in_unit))]
 fn read_given<R: Reader>(
     alloc: Global,
     unit: UnitRef<'_, R>,

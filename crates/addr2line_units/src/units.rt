@@ -3,7 +3,7 @@
 ghost use Rattle.std.specs.Prelude.{◌≡◌, ◌+◌, ◌++◌, ◌<◌, ◌≤◌, [], None, IfErr, IfOk, IfSome, IsOk, Ok, OnOk, map, option_map, true};
 ghost use Rattle.gimli_read.specs.declared.error.Error.TheVariants.{OutOfMemory};
 ghost use Rattle.gimli_read.specs.Reading.{Exactly, ExactlyUnlessOom, ExactlyUnlessOomIf};
-ghost use Rattle.addr2line_units.specs.UnitIndex.{range_of_unit, unit_of_header};
+ghost use Rattle.addr2line_units.specs.RangedUnits.{range_of_unit, unit_of_header};
 ghost use Rattle.addr2line_units.specs.Indexed.{index_seen, index_takes_memory, indexed, indexed_with, no_index, ranged_seen, indexed_unit_takes_memory, units_in, units_seen, units_take_memory, with_header, with_ranged};
 ghost use Rattle.addr2line_units.specs.CachedLines.{HaveLinesOf, IsUnparsed, StayUnits, cached_files, location_at_place, parsed_units};
 ghost use Rattle.addr2line_units.specs.CachedLookups.{AreFreshOf};
@@ -66,7 +66,7 @@ fn location_of(lines: &LazyLines, row: Row) -> Location<'_>
 }
 
 // The unit of a header, what is cached of it, and its given ranges; none where it is passed over.
-#[tactic(auto, unfolding(crate::specs::UnitIndex::unit_of_header))]
+#[tactic(auto, unfolding(crate::specs::RangedUnits::unit_of_header))]
 fn read_unit<R: Reader>(
     alloc: Global,
     dwarf: &Dwarf<R>,

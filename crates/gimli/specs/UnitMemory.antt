@@ -1,8 +1,11 @@
 -- Where memory may be taken for a unit.
 -- Own: OutOfMemory is an answer only there.
-use Rattle.std.specs.Prelude.{◌||◌, Bool, false, Option, is_some, Result, Ok, Err}
+use Rattle.std.specs.Prelude.{◌||◌, Bool, true, false, Option, Some, None, is_some, Result, Ok, Err, if◌then◌else◌}
+use Rattle.std.specs.Option.{option_map_or}
 use Rattle.gimli_read.specs.declared.error.Error.{Error}
+use Rattle.gimli_read.specs.declared.value.AttributeValue.{AttributeValue}
 use Rattle.gimli_read.specs.Section.{Section}
+use Rattle.gimli_read.specs.HeldBytes.{holds_bytes}
 use Rattle.gimli_read.specs.Abbrev.{takes_memory}
 use Rattle.gimli.specs.Header.{UnitHeaderFields}
 use Rattle.gimli.specs.Sections.{Sections}
@@ -13,6 +16,15 @@ use Rattle.gimli.specs.Record.{RootValues}
 abbrev pub gives_some : {X : Type 0} → Result (Option X) Error → Bool
 gives_some (Ok given) = is_some given
 gives_some (Err e) = false
+
+-- whether a value is given that holds bytes
+abbrev pub gives_bytes_if : Result (Option (AttributeValue Section)) Error → Bool
+gives_bytes_if (Ok given) = option_map_or holds_bytes given false
+gives_bytes_if (Err e) = false
+
+-- a value, none where it holds bytes
+abbrev pub if_without_bytes : AttributeValue Section → Option (AttributeValue Section)
+if_without_bytes value = if holds_bytes value then None else Some value
 
 -- whether memory may be taken for what a root entry's values lead to: for a line program, or where
 -- readers share their bytes

@@ -5,7 +5,7 @@ ghost use Rattle.gimli_read.specs.Reading.{Exactly, ExactlyUnlessOomFor};
 ghost use Rattle.gimli_read.specs.Form.{seen_value};
 ghost use Rattle.gimli.specs.Unit.{attr_string_of};
 ghost use Rattle.gimli_line.specs.Opcode.{fault_of};
-ghost use Rattle.gimli.specs.StringPlaces.{seen_place, string_place_of, sup_strings};
+ghost use Rattle.gimli.specs.StringPlaces.{seen_string_place, string_place_of, sup_strings};
 ghost use Rattle.gimli.specs.Text.{from_offset, string_at, string_length_at, indexed_number, string_of, string_takes_memory};
 
 use crate::dwarf::Dwarf;
@@ -86,6 +86,7 @@ pub(crate) fn read_indexed_number<R: Reader>(
 }
 
 // Where the string of a value stands: in the value itself, or in a section from an offset on.
+#[derive(Drop)]
 enum StringPlace<T, S> {
     InValue(S),
     InSection(T, u64),
@@ -109,7 +110,7 @@ fn string_place<'a, R: Reader, S: Reader>(
     base: u64,
     value: AttributeValue<S>,
 ) -> Result<StringPlace<&'a R, S>, Error>
-    ensures gives { Exactly (seen_place (λ s. R.section s.now) S.section) result
+    ensures gives { Exactly (seen_string_place (λ s. R.section s.now) S.section) result
         (string_place_of dwarf.now format base (seen_value S.section value)) }
 {
     let (section, offset) = match value {

@@ -5,7 +5,7 @@ ghost use Rattle.gimli_read.specs.Reading.{Exactly, ExactlyUnlessOomFor, Exactly
 ghost use Rattle.gimli_read.specs.Form.{seen_value};
 ghost use Rattle.gimli.specs.Split.{dwo_name_fault, dwo_name_of, relocated};
 ghost use Rattle.gimli.specs.Unit.{first_base, low_pc_of, line_program_of, name_and_directory_of, program_and_low_pc_of, readable_string, dwo_id_of, completed_record, unit_record_of};
-ghost use Rattle.gimli.specs.UnitMemory.{gives_some, root_takes_memory, unit_takes_memory};
+ghost use Rattle.gimli.specs.UnitMemory.{gives_bytes_if, gives_some, if_without_bytes, root_takes_memory, unit_takes_memory};
 
 use crate::constants::{
     RNGLISTS_HEADER_32, RNGLISTS_HEADER_64, STR_OFFSETS_HEADER_32, STR_OFFSETS_HEADER_64,
@@ -159,7 +159,8 @@ fn dwo_id_of(in_header: Option<DwoId>, given: Option<u64>) -> Option<DwoId>
     }
 }
 
-// The line program, and then the address of low_pc. Without a line program takes no memory.
+// The line program, and then the address of low_pc. `OutOfMemory` only where the root entry gives a
+// line program.
 fn read_program_and_low_pc<R: Reader>(
     alloc: Global,
     dwarf: &Dwarf<R>,
@@ -193,6 +194,9 @@ fn read_name_and_directory<R: Reader>(
 }
 
 /// The unit of a header, whose root entry has these values.
+///
+/// Refused by its line program's header, then by the index of its low_pc; `OutOfMemory` only where
+/// bytes are shared or the root entry gives a line program.
 #[tactic(auto, unfolding(crate::specs::Unit::completed_record))]
 pub(crate) fn complete<R: Reader>(
     alloc: Global,
@@ -258,22 +262,58 @@ impl<R: Reader> Dwarf<R> {
     }
 }
 
+// The same value for another reader, none where it holds bytes. Takes no memory.
+fn without_bytes<R: Reader, S: Reader>(value: AttributeValue<S>) -> Option<AttributeValue<R>>
+    ensures gives { option_map (seen_value R.section) result
+        ≡ if_without_bytes (seen_value S.section value) }
+{
+    match value {
+        AttributeValue::Block(_) | AttributeValue::Exprloc(_) | AttributeValue::String(_) => None,
+        AttributeValue::Addr(x) => Some(AttributeValue::Addr(x)),
+        AttributeValue::Data1(x) => Some(AttributeValue::Data1(x)),
+        AttributeValue::Data2(x) => Some(AttributeValue::Data2(x)),
+        AttributeValue::Data4(x) => Some(AttributeValue::Data4(x)),
+        AttributeValue::Data8(x) => Some(AttributeValue::Data8(x)),
+        AttributeValue::Data16(x) => Some(AttributeValue::Data16(x)),
+        AttributeValue::Sdata(x) => Some(AttributeValue::Sdata(x)),
+        AttributeValue::Udata(x) => Some(AttributeValue::Udata(x)),
+        AttributeValue::Flag(x) => Some(AttributeValue::Flag(x)),
+        AttributeValue::SecOffset(x) => Some(AttributeValue::SecOffset(x)),
+        AttributeValue::DebugAddrIndex(x) => Some(AttributeValue::DebugAddrIndex(x)),
+        AttributeValue::UnitRef(x) => Some(AttributeValue::UnitRef(x)),
+        AttributeValue::DebugInfoRef(x) => Some(AttributeValue::DebugInfoRef(x)),
+        AttributeValue::DebugInfoRefSup(x) => Some(AttributeValue::DebugInfoRefSup(x)),
+        AttributeValue::DebugTypesRef(x) => Some(AttributeValue::DebugTypesRef(x)),
+        AttributeValue::DebugLocListsIndex(x) => Some(AttributeValue::DebugLocListsIndex(x)),
+        AttributeValue::DebugRngListsIndex(x) => Some(AttributeValue::DebugRngListsIndex(x)),
+        AttributeValue::DebugStrRef(x) => Some(AttributeValue::DebugStrRef(x)),
+        AttributeValue::DebugStrRefSup(x) => Some(AttributeValue::DebugStrRefSup(x)),
+        AttributeValue::DebugStrOffsetsIndex(x) => Some(AttributeValue::DebugStrOffsetsIndex(x)),
+        AttributeValue::DebugLineStrRef(x) => Some(AttributeValue::DebugLineStrRef(x)),
+    }
+}
+
 impl<R: Reader> Unit<R> {
     /// The name of the unit's split file, as its root entry gives it: `DW_AT_GNU_dwo_name` below
     /// version 5, else `DW_AT_dwo_name`, in whatever form; the last one counts.
     ///
     /// Refused as the root entry is: `UnexpectedEof`, `BadLeb128`, `MissingUnitDie`,
     /// `UnknownAbbreviation`, `UnknownForm` and what a value is refused for; where bytes are
-    /// shared it may fail with `OutOfMemory` in place of a name.
+    /// shared it may fail with `OutOfMemory` in place of a name that holds bytes. Source: DWARF 5,
+    /// sections 3.1.2 and 7.5.5.
     pub fn dwo_name(&self) -> Result<Option<AttributeValue<R>>, Error>
-        ensures gives { ExactlyUnlessOomFor R.shares gives_some (option_map (seen_value R.section))
-            result (dwo_name_of self.now) }
+        ensures gives { ExactlyUnlessOomFor R.shares gives_bytes_if
+            (option_map (seen_value R.section)) result (dwo_name_of self.now) }
     {
-        // Over borrowed bytes first: a growth for another string must not hide a fault.
+        // Over borrowed bytes first, which takes no memory: no growth for another string then hides
+        // a fault, or a name that is a number.
         let borrowed = self.header.borrowed();
         let root = read_root(&borrowed, &self.abbreviations)?;
-        if root.dwo_name.is_none() {
+        let Some(name) = root.dwo_name else {
             return Ok(None);
+        };
+        if let Some(name) = without_bytes(name) {
+            return Ok(Some(name));
         }
         let root = read_root(&self.header, &self.abbreviations)?;
         Ok(root.dwo_name)

@@ -1,4 +1,5 @@
 -- What a line program's header and its tables say (DWARF 5, section 6.2.4), and what a program has.
+-- Own: OutOfMemory is an answer to a copy of a header only where memory may be taken for it.
 use Rattle.std.specs.Prelude.{ℕ, ◌-◌, ◌==◌, ◌||◌, not, Bool, false, List, length, slice_get, Option, Some, None, if◌then◌else◌}
 use Rattle.gimli_read.specs.declared.endian.Encoding.{Encoding}
 use Rattle.gimli_read.specs.declared.value.AttributeValue.{AttributeValue}
@@ -26,8 +27,8 @@ pub record Program : Type 0 where
   pub program : Section
 
 -- whether memory may be taken for a copy of a header: for its tables, or where bytes are shared
-abbrev pub copy_takes_memory : Bool → Header → Bool
-copy_takes_memory shares h =
+abbrev pub header_copy_takes_memory : Bool → Header → Bool
+header_copy_takes_memory shares h =
     shares || not (length h.include_directories == 0) || not (length h.file_names == 0)
 
 -- an entry of a table, counted from 1 below version 5 and from 0 in it

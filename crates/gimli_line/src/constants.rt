@@ -1,5 +1,5 @@
-//! The opcodes and content types of line programs, in the standard's spelling (DWARF 5, section
-//! 7.22).
+//! The opcodes and content types of line programs (DWARF 5, section 7.22), by the names of the
+//! standard, where it has one.
 
 /// The last special opcode.
 pub(crate) const LAST_SPECIAL_OPCODE: u8 = 255;

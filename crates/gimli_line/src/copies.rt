@@ -4,13 +4,13 @@ ghost use Rattle.std.specs.Prelude.{◌&&◌, ◌==◌, ◌≡◌, length, map, 
 ghost use Rattle.gimli_read.specs.Reading.{ExactlyUnlessOomIf};
 ghost use Rattle.gimli_read.specs.Form.{seen_value};
 ghost use Rattle.gimli_read.specs.HeldBytes.{holds_bytes};
-ghost use Rattle.gimli_line.specs.Header.{copy_takes_memory};
+ghost use Rattle.gimli_line.specs.Header.{header_copy_takes_memory};
 
 use crate::header::{FileEntry, LineProgramHeader};
 use gimli_read::{AttributeValue, Error, Reader};
 use std::alloc::Global;
 
-/// The same value. Refused `OutOfMemory` alone.
+/// The same value. Refused `OutOfMemory` alone, where bytes are shared and the value holds some.
 pub(crate) fn duplicate_value<R: Reader>(
     value: &AttributeValue<R>,
 ) -> Result<AttributeValue<R>, Error>
@@ -45,6 +45,7 @@ pub(crate) fn duplicate_value<R: Reader>(
     }
 }
 
+// The same file. Refused `OutOfMemory` alone, where bytes are shared.
 fn duplicate_file<R: Reader>(file: &FileEntry<R>) -> Result<FileEntry<R>, Error>
     ensures gives { ExactlyUnlessOomIf R.shares (λ f. f) result (Ok file.now) }
 {
@@ -54,6 +55,7 @@ fn duplicate_file<R: Reader>(file: &FileEntry<R>) -> Result<FileEntry<R>, Error>
     })
 }
 
+// The same values. Refused `OutOfMemory` alone, where there is a value.
 fn duplicate_values<R: Reader>(
     alloc: Global,
     values: &[AttributeValue<R>],
@@ -69,6 +71,7 @@ fn duplicate_values<R: Reader>(
     Ok(copies)
 }
 
+// The same files. Refused `OutOfMemory` alone, where there is a file.
 fn duplicate_files<R: Reader>(
     alloc: Global,
     files: &[FileEntry<R>],
@@ -87,7 +90,7 @@ fn duplicate_files<R: Reader>(
 pub(crate) fn duplicate_header<R: Reader>(
     header: &LineProgramHeader<R>,
 ) -> Result<LineProgramHeader<R>, Error>
-    ensures gives { ExactlyUnlessOomIf (copy_takes_memory R.shares header.now) (λ h. h) result
+    ensures gives { ExactlyUnlessOomIf (header_copy_takes_memory R.shares header.now) (λ h. h) result
         (Ok header.now) }
 {
     Ok(LineProgramHeader {

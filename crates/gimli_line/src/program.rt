@@ -2,7 +2,7 @@
 
 ghost use Rattle.std.specs.Prelude.{◌≡◌, [], ◌∷◌, true, false, OnOk, OnErr, IfOk, IfErr, Ok, Err, None};
 ghost use Rattle.gimli_read.specs.Reading.{ExactlyUnlessOomIf};
-ghost use Rattle.gimli_line.specs.Header.{copy_takes_memory};
+ghost use Rattle.gimli_line.specs.Header.{header_copy_takes_memory};
 ghost use Rattle.gimli_line.specs.Lines.{lines_of, YieldsUnlessOom, KeepsFiles, DefinesAhead, IsOver};
 ghost use Rattle.gimli_line.specs.Opcode.{is_file, gives_file, coded_instruction_at};
 ghost use Rattle.gimli_line.specs.Steps.{IsRunning, taken, step_instruction};
@@ -42,9 +42,10 @@ impl<R: Reader> IncompleteLineProgram<R> {
     }
 
     /// The rows of the program, from its first opcode on, over a copy of its header. Refused
-    /// `OutOfMemory` alone, where bytes are shared or the header has a directory or a file.
+    /// `OutOfMemory` alone, where bytes are shared or the header has a directory or a file. Source:
+    /// DWARF 5, section 6.2.5.
     pub fn rows(&self) -> Result<LineRows<R>, Error>
-        ensures gives { ExactlyUnlessOomIf (copy_takes_memory R.shares self.now.header) (λ r. r)
+        ensures gives { ExactlyUnlessOomIf (header_copy_takes_memory R.shares self.now.header) (λ r. r)
             result (Ok (lines_of self.now)) }
     {
         let header = &self.header;

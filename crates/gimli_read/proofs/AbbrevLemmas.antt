@@ -10,7 +10,7 @@ use Rattle.gimli_read.specs.Section.{Section}
 use Rattle.gimli_read.specs.Reading.{Reading, ◌>>=◌, refused_if}
 use Rattle.gimli_read.specs.Leb128.{uleb128_at}
 use Rattle.gimli_read.specs.Abbreviations.{Specification, Abbrev, with_code, HasDistinctCodes}
-use Rattle.gimli_read.specs.Abbrev.{constant_at, coded, is_null, is_half_null, tells_children, specification_at, specifications_at, declaration_head_at, declaration_at, abbreviation_at, extended, table_within, head_and_pair_at, front_at, takes_memory}
+use Rattle.gimli_read.specs.Abbrev.{constant_at, coded, is_null, has_null, tells_children, specification_at, specifications_at, declaration_head_at, declaration_at, abbreviation_at, extended, table_within, head_and_pair_at, front_at, takes_memory}
 use Rattle.gimli_read.proofs.Shorter.{Shorter, shorter_bind, shorter_then, shorter_if, shorter_err, shorter_ok, fixed-shorter, uleb128-shorter, sleb128-shorter, TakesBytes, takes_by, shorter_by}
 use Rattle.gimli_read.proofs.Steps.{bind_ok, same_value, end_is_none}
 use Rattle.gimli_read.proofs.RunLemmas.{collected-shorter, collected-fault}
@@ -22,7 +22,7 @@ specification_shorter : (s : Section) → Shorter (length s.bytes) (specificatio
 unfolding specification_at
 specification_shorter s =
     shorter_bind (uleb128-shorter s) (λ n hn. shorter_bind (uleb128-shorter n.1) (λ f hf.
-    shorter_if (is_null n.0 f.0) (shorter_ok (omega arith)) (shorter_if (is_half_null n.0 f.0) shorter_err
+    shorter_if (is_null n.0 f.0) (shorter_ok (omega arith)) (shorter_if (has_null n.0 f.0) shorter_err
     (shorter_bind (constant_shorter (length s.bytes) f.0 f.1 (omega arith)) (λ c hc. shorter_ok hc)))))
 
 pub specification_takes : TakesBytes specification_at

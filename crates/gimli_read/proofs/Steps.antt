@@ -5,7 +5,7 @@ use Rattle.std.proofs.lemmas.Grind.{common_steps}
 use Rattle.gimli_read.specs.declared.error.Error.{Error}
 use Rattle.gimli_read.specs.declared.error.Error.TheVariants.{UnexpectedEof}
 use Rattle.gimli_read.specs.Section.{Section, first, after}
-use Rattle.gimli_read.specs.Reading.{◌>>=◌, IsFaultUnlessOom, ExactlyUnlessOomIf}
+use Rattle.gimli_read.specs.Reading.{◌>>=◌, ExactlyUnlessOomIf}
 use Rattle.gimli_read.specs.Number.{split_at, skipped_at, ended_at, null_terminated_at}
 
 -- a value that no step reads
@@ -34,14 +34,6 @@ same_rest {A = A} {B = B} x y e = let k : x ≡ y = cc in ap (λ (p : A × B). p
 -- two equal answers have the same value
 pub same_value : {A B : Type 0} (x y : A × B) → done x ≡ done y → x.0 ≡ y.0
 same_value {A = A} {B = B} x y e = let k : x ≡ y = cc in ap (λ (p : A × B). p.0) k
-
--- a fault that is given may be answered
-pub refuses_fault : {Y : Type 0} (e : Error) (given : Result Y Error) → given ≡ Err e → IsFaultUnlessOom e given
-refuses_fault e given h = λ _. h
-
--- a part's refusal is the whole's, where the part's fault is
-pub refuses_whole : {X Y : Type 0} (e : Error) (part : Result X Error) (whole : Result Y Error) → (part ≡ Err e → whole ≡ Err e) → IsFaultUnlessOom e part → IsFaultUnlessOom e whole
-refuses_whole e part whole f h = λ n. f (h n)
 
 -- an answer for which memory may be taken where it may be taken for another
 pub given_as : {X : Type 0} (may part : Bool) (r given same : Result X Error) → (part ≡ true → may ≡ true) → given ≡ same → ExactlyUnlessOomIf part (λ x. x) r same → ExactlyUnlessOomIf may (λ x. x) r given

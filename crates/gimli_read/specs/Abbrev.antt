@@ -1,7 +1,7 @@
 -- Abbreviation tables (DWARF 5, section 7.5.3): a finite map from codes to abbreviations.
 -- Own: the section's end where a code would stand ends the table too.
--- Own: a repeated code, tag 0, a children byte that is neither that of no children nor that of some,
--- and exactly one zero in a pair are BadAbbreviation, each at its field.
+-- Own: a repeated code, tag 0, a children byte other than DW_CHILDREN_no and DW_CHILDREN_yes, and
+-- exactly one zero in a pair are BadAbbreviation, each at its field.
 use Rattle.std.specs.Prelude.{ℕ, zero, Bool, is_ok, suc, ◌+◌, ◌==◌, ◌||◌, ◌&&◌, not, List, [], ◌∷◌, ◌++◌, length, Option, Some, None, is_some, Result, Ok, Err, if◌then◌else◌, ℤ}
 use Rattle.gimli_read.specs.declared.constants.DwTag.{DwTag}
 use Rattle.gimli_read.specs.declared.error.Error.{Error}
@@ -32,17 +32,17 @@ specified name form constant =
 abbrev pub is_null : ℕ → ℕ → Bool
 is_null name form = name == DW_AT_null.0 && form == DW_FORM_null.0
 
--- a pair of which one alone is that of an end
-abbrev pub is_half_null : ℕ → ℕ → Bool
-is_half_null name form = name == DW_AT_null.0 || form == DW_FORM_null.0
+-- a pair of which one number at least is that of an end
+abbrev pub has_null : ℕ → ℕ → Bool
+has_null name form = name == DW_AT_null.0 || form == DW_FORM_null.0
 
--- a name and a form, or none where their list ends
+-- a name, a form and the value that stands here, or none where the list ends
 unfoldable pub specification_at : Section → Reading (Option Specification)
 specification_at s = do
   name ← uleb128_at s
   form ← uleb128_at name.1
   if is_null name.0 form.0 then Ok (None, form.1)
-      else if is_half_null name.0 form.0 then Err BadAbbreviation
+      else if has_null name.0 form.0 then Err BadAbbreviation
       else mapped (λ c. Some (specified name.0 form.0 c)) (constant_at form.0 form.1)
 
 -- the pairs up to the two zeros
@@ -78,7 +78,8 @@ declaration_at code s = do
 abbrev pub head_and_pair_at : Section → Reading (Option Specification)
 head_and_pair_at s = declaration_head_at s >>= λ head. specification_at head.1
 
--- the front of a table: a code, a head, and its first pair or the end of its pairs
+-- the front of a table: a code, a head, and its first pair or the end of its pairs. Only whether it
+-- can be read counts: at code 0 the table itself has no fault
 unfoldable pub front_at : Section → Reading (Option Specification)
 front_at s = do
   code ← uleb128_at s

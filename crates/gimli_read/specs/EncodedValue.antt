@@ -20,7 +20,7 @@ address_or_offset_at encoding s =
     if encoding.version == 2 then address_at encoding.address_size s
     else offset_at encoding.format s
 
--- the value that is encoded so
+-- the value that is encoded so; of no encoding UnknownForm
 abbrev pub encoded_at : Encoding → Option FormEncoding → Section → Reading (AttributeValue Section)
 encoded_at encoding None s = Err UnknownForm
 encoded_at encoding (Some (Fixed n make)) s = mapped make (fixed_at n s)

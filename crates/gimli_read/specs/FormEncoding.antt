@@ -1,5 +1,5 @@
--- The forms that are listed, by class (DWARF 5, sections 7.5.5 and 7.5.6), and how the value of each
--- is encoded.
+-- The forms that are listed, by class, and how the value of each is encoded (DWARF 5, sections
+-- 7.5.5 and 7.5.6).
 -- Own: the GNU forms. DW_FORM_indirect is not listed, nor is DW_FORM_implicit_const, whose value
 -- stands in the abbreviation.
 use Rattle.std.specs.Prelude.{ℕ, ◌==◌, not, true, List, [], ◌∷◌, ◌++◌, Option, Some, None, if◌then◌else◌, ℤ}

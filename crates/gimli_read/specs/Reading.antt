@@ -2,8 +2,8 @@
 -- A reading takes bytes from the front of a section: it gives a value and what is left, or the
 -- first fault from the left.
 -- Own: no reading gives OutOfMemory, which a refused growth alone answers.
--- The words for steps and answers serve every kind of fault; those with Oom in their names and
--- `Reading` are these words for the faults of sections.
+-- The words for steps and answers serve every kind of fault; `Reading`, `Reads` and those with Oom
+-- in their names are for the faults of sections.
 use Rattle.std.specs.Prelude.{◌≡◌, ◌≢◌, Bool, true, is_ok, Result, Ok, Err, if◌then◌else◌}
 use Rattle.gimli_read.specs.declared.error.Error.{Error}
 use Rattle.gimli_read.specs.declared.error.Error.TheVariants.{OutOfMemory}
@@ -36,30 +36,23 @@ abbrev pub Exactly : {X Y E : Type 0} → (X → Y) → Result X E → Result Y 
 Exactly view (Ok x) given = given ≡ Ok (view x)
 Exactly view (Err e) given = given ≡ Err e
 
--- the answer, seen by view, is what is given; a refusal need be so only where this holds of what is
--- given and the refusal
+-- the answer, seen by view, is what is given; a refusal only where `holds` is true of what is given
+-- and of the refusal
 abbrev pub ExactlyWhere : {X Y E : Type 0} → (Result Y E → E → Type 0) → (X → Y) → Result X E
     → Result Y E → Type 0
 ExactlyWhere holds view (Ok x) given = given ≡ Ok (view x)
 ExactlyWhere holds view (Err e) given = holds given e → given ≡ Err e
 
--- the refusal is the fault that is given, or this one, which may stand in place of any answer
-abbrev pub IsFaultUnless : {Y E : Type 0} → E → E → Result Y E → Type 0
-IsFaultUnless oom e given = e ≢ oom → given ≡ Err e
-
--- the answer, seen by view, is what is given, or this fault
+-- the answer, seen by view, is what is given, or this fault in place of any answer
 abbrev pub ExactlyUnless : {X Y E : Type 0} → E → (X → Y) → Result X E → Result Y E → Type 0
 ExactlyUnless oom view result given = ExactlyWhere (λ _ e. e ≢ oom) view result given
 
--- the same, where this fault is an answer only if memory may be taken, and only for what is given
+-- the same, where this fault is an answer only if memory may be taken, and only where `takes` is true
+-- of what is given
 abbrev pub ExactlyUnlessFor : {X Y E : Type 0} → E → Bool → (Result Y E → Bool) → (X → Y)
     → Result X E → Result Y E → Type 0
 ExactlyUnlessFor oom may takes view result given =
     ExactlyWhere (λ given e. may ≡ true → takes given ≡ true → e ≢ oom) view result given
-
--- the refusal is the fault that is given, or OutOfMemory
-abbrev pub IsFaultUnlessOom : {Y : Type 0} → Error → Result Y Error → Type 0
-IsFaultUnlessOom e given = IsFaultUnless OutOfMemory e given
 
 -- the answer, seen by view, is what is given, or OutOfMemory
 abbrev pub ExactlyUnlessOom : {X Y : Type 0} → (X → Y) → Result X Error → Result Y Error → Type 0
@@ -75,7 +68,7 @@ abbrev pub ExactlyUnlessOomIf : {X Y : Type 0} → Bool → (X → Y) → Result
 ExactlyUnlessOomIf may view result given =
     ExactlyWhere (λ _ e. may ≡ true → e ≢ OutOfMemory) view result given
 
--- the same, where memory may be taken only for what is given
+-- the same, where memory may be taken only if `takes` is true of what is given
 abbrev pub ExactlyUnlessOomFor : {X Y : Type 0} → Bool → (Result Y Error → Bool) → (X → Y)
     → Result X Error → Result Y Error → Type 0
 ExactlyUnlessOomFor may takes view result given =
@@ -92,7 +85,7 @@ abbrev pub ReadsUnlessOom : {R X : Type 0} → (R → Section) → R → R → R
 ReadsUnlessOom see old new result reading =
     ExactlyUnlessOom (λ x. (x, see new)) result (reading (see old))
 
--- the same, where memory may be taken only for what is given
+-- the same, where memory may be taken only if `takes` is true of what is given
 abbrev pub ReadsUnlessOomFor : {R X : Type 0} → Bool → (Reading X → Bool) → (R → Section) → R → R
     → Result X Error → (Section → Reading X) → Type 0
 ReadsUnlessOomFor may takes see old new result reading =

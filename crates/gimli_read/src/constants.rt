@@ -1,4 +1,5 @@
-//! Constants of DWARF, by the names of the standard (DWARF 5, sections 7.5.3 to 7.5.6 and 7.12).
+//! Constants of DWARF (DWARF 5, sections 7.5.3 to 7.5.6 and 7.12), by the names of the standard, where
+//! it has one.
 
 ghost use Rattle.std.specs.Prelude.{◌≡◌};
 ghost use Rattle.gimli_read.specs.StringForm.{is_string_form};
@@ -26,21 +27,22 @@ pub(crate) const FIRST_RESERVED_LENGTH: u32 = 0xffff_fff0;
 /// The length of four bytes that one of eight bytes follows (DWARF 5, section 7.4).
 pub(crate) const LENGTH_ESCAPE: u32 = 0xffff_ffff;
 
-/// The code of a closing entry, which no abbreviation has (DWARF 5, section 7.5.3).
+/// The code of a closing entry, which no abbreviation has, and with which a table of abbreviations ends
+/// (DWARF 5, section 7.5.3). The standard has no name for it.
 pub const CLOSING_CODE: u64 = 0;
 
 /// The entries of an abbreviation have no children (DWARF 5, section 7.5.3).
 #[allow(non_upper_case_globals)]
 pub(crate) const DW_CHILDREN_no: u8 = 0x00;
 
-/// Children follow the entries of an abbreviation (DWARF 5, section 7.5.3).
+/// The entries of an abbreviation have children, up to a closing entry (DWARF 5, section 7.5.3).
 #[allow(non_upper_case_globals)]
 pub(crate) const DW_CHILDREN_yes: u8 = 0x01;
 
 #[allow(non_upper_case_globals)]
 impl DwTag {
-    /// The tag of no entry.
-    pub const DW_TAG_null: DwTag = DwTag(0x00);
+    // The tag that no entry has. The standard has no name for it.
+    pub(crate) const DW_TAG_null: DwTag = DwTag(0x00);
 
     pub const DW_TAG_compile_unit: DwTag = DwTag(0x11);
 
@@ -55,8 +57,9 @@ impl DwTag {
 
 #[allow(non_upper_case_globals)]
 impl DwAt {
-    /// The name in the pair with which the attributes of an abbreviation end.
-    pub const DW_AT_null: DwAt = DwAt(0x00);
+    // The name in the pair with which the attributes of an abbreviation end. The standard has no name
+    // for it.
+    pub(crate) const DW_AT_null: DwAt = DwAt(0x00);
 
     pub const DW_AT_name: DwAt = DwAt(0x03);
 
@@ -105,8 +108,9 @@ impl DwAt {
 
 #[allow(non_upper_case_globals)]
 impl DwForm {
-    /// The form in the pair with which the attributes of an abbreviation end.
-    pub const DW_FORM_null: DwForm = DwForm(0x00);
+    // The form in the pair with which the attributes of an abbreviation end. The standard has no name
+    // for it.
+    pub(crate) const DW_FORM_null: DwForm = DwForm(0x00);
 
     pub const DW_FORM_addr: DwForm = DwForm(0x01);
 

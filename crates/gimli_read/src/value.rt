@@ -178,7 +178,7 @@ fn read_reference_form<R: Reader>(
     }
 }
 
-// A value of a form of strings. Another form is passed on to those of references.
+// A value of a form of strings. Another form is left to `read_reference_form`.
 fn read_string_form<R: Reader>(
     input: &mut R,
     encoding: Encoding,
@@ -221,8 +221,8 @@ fn read_string_form<R: Reader>(
     }
 }
 
-// A value of a form of flags, section offsets or list indices. Another form is passed on to those of
-// strings.
+// A value of a form of flags, section offsets or list indices. Another form is left to
+// `read_string_form`.
 fn read_flag_form<R: Reader>(
     input: &mut R,
     encoding: Encoding,
@@ -243,7 +243,7 @@ fn read_flag_form<R: Reader>(
     }
 }
 
-// A value of a form of constants. Another form is passed on to those of flags.
+// A value of a form of constants. Another form is left to `read_flag_form`.
 fn read_constant_form<R: Reader>(
     input: &mut R,
     encoding: Encoding,
@@ -264,7 +264,7 @@ fn read_constant_form<R: Reader>(
     }
 }
 
-// A value of a form of blocks or expressions. Another form is passed on to those of constants.
+// A value of a form of blocks or expressions. Another form is left to `read_constant_form`.
 fn read_block_form<R: Reader>(
     input: &mut R,
     encoding: Encoding,
@@ -298,8 +298,8 @@ fn read_block_form<R: Reader>(
     }
 }
 
-// A value of a form other than indirect and implicit_const: one of addresses; another form is passed
-// on to those of blocks. The classes of forms have a function each, since the proof of one match
+// A value of a form other than indirect and implicit_const: of a form of addresses; another form is
+// left to `read_block_form`. The classes of forms have a function each, since the proof of one match
 // grows faster than its arms.
 #[tactic(auto, unfolding(crate::specs::FormEncoding::form_encoding_of))]
 fn read_direct<R: Reader>(

@@ -4,7 +4,7 @@ ghost use Rattle.std.specs.Prelude.{◌≡◌, ◌≤◌, ◌<◌, ◌+◌, ◌*
 ghost use Rattle.std.specs.Char.{is_ascii, is_ascii_digit, is_ascii_hexdigit, digit_value};
 ghost use Rattle.std.specs.List.{list_all, prefix_len};
 ghost use Rattle.std.specs.Str.Parse.{digits_value};
-ghost use Rattle.addr2line_units.specs.LegacyName.{is_lower_hex};
+ghost use Rattle.addr2line_units.specs.LegacyElements.{is_lower_hex};
 
 /// Whether only hexadecimal digits stand there.
 pub(super) fn is_hex_text(bytes: &[u8]) -> bool

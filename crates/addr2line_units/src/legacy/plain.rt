@@ -4,7 +4,7 @@ ghost use Rattle.std.specs.Prelude.{◌≡◌, ◌≤◌, ◌<◌, ◌+◌, ◌+
 ghost use Rattle.std.specs.Char.{is_ascii};
 ghost use Rattle.std.specs.List.{list_all, position};
 ghost use Rattle.std.specs.Str.{byte};
-ghost use Rattle.addr2line_units.specs.LegacyName.{is_dot, is_first};
+ghost use Rattle.addr2line_units.specs.LegacyElements.{is_dot, is_first};
 ghost use Rattle.addr2line_units.specs.LegacyText.{bare_of, joint_text, element_text, escape_char, escape_in, numbered_char, plain_from, shown_char};
 
 use super::digits::{is_lower_hex_text, number_up_to};

@@ -6,7 +6,8 @@ use Rattle.gimli_read.specs.Reading.{ExactlyUnlessOomIf}
 use Rattle.gimli_read.specs.Section.{Section}
 use Rattle.gimli.specs.Entry.{EntryCursor, EntryUnit}
 use Rattle.gimli.specs.Unit.{UnitRecord}
-use Rattle.addr2line_lines.specs.FoundDetails.{FoundInlined, function_found_at, function_takes_at, is_taken, seen_lists}
+use Rattle.addr2line_lines.specs.FoundInlined.{FoundInlined, seen_lists}
+use Rattle.addr2line_lines.specs.FoundDetails.{function_found_at, function_takes_at, is_taken}
 use Rattle.addr2line_lines.specs.References.{Scope}
 use Rattle.addr2line_lines.specs.SeenScope.{seen_scope}
 use Rattle.addr2line_lines.proofs.FunctionLemmas.{or_first}

@@ -1,6 +1,8 @@
 use Rattle.std.proofs.Common.{ap, sym, ◌∙◌}
 use Rattle.std.proofs.lemmas.Result.{err_from_is_err_and}
-use Rattle.addr2line_lines.specs.FoundDetails.{is_listed, seen_attributes, seen_lists}
+use Rattle.addr2line_lines.specs.OpenEntries.{is_listed}
+use Rattle.addr2line_lines.specs.FoundAttributes.{seen_attributes}
+use Rattle.addr2line_lines.specs.FoundInlined.{seen_lists}
 use Rattle.addr2line_lines.specs.SeenScope.{seen_scope}
 use Rattle.addr2line_lines.proofs.FunctionLemmas.{beside_if, or_first, or_second}
 use Rattle.addr2line_lines.proofs.NestingLemmas.{found_same}

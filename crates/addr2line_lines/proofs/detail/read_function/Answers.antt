@@ -1,6 +1,6 @@
 use Rattle.std.proofs.Common.{ap, option_map, ◌∙◌}
 use Rattle.std.proofs.lemmas.Result.{err_from_is_err_and}
-use Rattle.addr2line_lines.specs.FoundDetails.{seen_lists}
+use Rattle.addr2line_lines.specs.FoundInlined.{seen_lists}
 use Rattle.addr2line_lines.specs.SeenScope.{seen_scope}
 use Rattle.addr2line_lines.proofs.DetailMemory.{function_takes}
 use Rattle.addr2line_lines.proofs.FunctionLemmas.{or_first, or_more}

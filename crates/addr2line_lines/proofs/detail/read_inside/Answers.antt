@@ -1,7 +1,7 @@
 use Rattle.std.proofs.Common.{List, sym, ap, ◌∙◌}
 use Rattle.std.proofs.lemmas.Result.{err_from_is_err_and}
 use Rattle.addr2line_lines.specs.declared.nesting.Kind.{Kind}
-use Rattle.addr2line_lines.specs.FoundDetails.{inside_found, inside_takes_memory, seen_around}
+use Rattle.addr2line_lines.specs.FoundItems.{inside_found, inside_takes_memory, seen_around}
 use Rattle.addr2line_lines.specs.SeenScope.{seen_scope}
 use Rattle.addr2line_lines.proofs.DetailMemory.{inside_more, inside_next}
 use Rattle.addr2line_lines.proofs.FunctionLemmas.{or_more}

@@ -1,5 +1,6 @@
 use Rattle.std.proofs.Common.{◌≡◌, [], length, true}
-use Rattle.addr2line_lines.specs.FoundDetails.{IsFoundMore, inside_found, inside_takes_memory, seen_around, seen_lists}
+use Rattle.addr2line_lines.specs.FoundInlined.{IsFoundMore, seen_lists}
+use Rattle.addr2line_lines.specs.FoundItems.{inside_found, inside_takes_memory, seen_around}
 use Rattle.addr2line_lines.specs.SeenScope.{seen_scope}
 use Rattle.addr2line_lines.proofs.detail.read_inside.Given as goal
 

@@ -6,7 +6,9 @@ use Rattle.gimli_read.specs.Section.{Section}
 use Rattle.gimli.specs.Entry.{EntryCursor}
 use Rattle.addr2line_lines.specs.declared.nesting.Kind.{Kind}
 use Rattle.addr2line_lines.specs.SeenScope.{seen_scope}
-use Rattle.addr2line_lines.specs.FoundDetails.{FoundAround, FoundInlined, entry_found_at, kind_of, opened, seen_around, seen_lists}
+use Rattle.addr2line_lines.specs.FoundItems.{FoundAround, seen_around}
+use Rattle.addr2line_lines.specs.FoundInlined.{FoundInlined, entry_found_at, seen_lists}
+use Rattle.addr2line_lines.specs.OpenEntries.{kind_of, opened}
 use Rattle.addr2line_lines.proofs.DetailMemory.{children_take, listed_takes}
 use Rattle.addr2line_lines.proofs.FunctionLemmas.{or_more, or_second}
 use Rattle.addr2line_lines.proofs.NestingLemmas.{after_entry, code-fault, entered, entry-shorter, found_same, item-closing, item-entry, item-shorter}

@@ -3,7 +3,7 @@ use Rattle.std.proofs.lemmas.Result.{err_from_is_err_and}
 use Rattle.gimli_read.specs.Abbreviations.{Specification}
 use Rattle.gimli_read.specs.Reading.{ExactlyUnlessOomIf}
 use Rattle.addr2line_lines.specs.Names.{or_with_name}
-use Rattle.addr2line_lines.specs.FoundDetails.{with_read_name}
+use Rattle.addr2line_lines.specs.FoundAttributes.{with_read_name}
 use Rattle.addr2line_lines.specs.FoundNames.{is_name_attribute}
 use Rattle.addr2line_lines.specs.SeenScope.{seen_scope}
 use Rattle.addr2line_lines.proofs.RangeLemmas.{on_ok, rest-more, rest-end}

@@ -1,8 +1,8 @@
 use Rattle.std.proofs.Common.{Ok, refl, sym, ap, ◌∙◌}
 use Rattle.std.proofs.lemmas.Result.{err_from_is_err_and}
 use Rattle.gimli_read.specs.Reading.{◌>>=◌}
-use Rattle.addr2line_lines.specs.Details.{no_inlined_attributes, or_with_inlined_attribute, with_inlined_attribute}
-use Rattle.addr2line_lines.specs.FoundDetails.{or_fault, seen_attributes}
+use Rattle.addr2line_lines.specs.InlinedEntries.{no_inlined_attributes, or_with_inlined_attribute, with_inlined_attribute}
+use Rattle.addr2line_lines.specs.FoundAttributes.{or_fault, seen_attributes}
 use Rattle.addr2line_lines.specs.SeenScope.{seen_scope}
 use Rattle.addr2line_lines.proofs.DetailLemmas.{taken}
 use Rattle.addr2line_lines.proofs.WantedLemmas.{passed_fault, rest_wanted, wanted_end, wanted_fault, wanted_next}

@@ -3,8 +3,8 @@ use Rattle.gimli_read.specs.declared.error.Error.{Error as Fault}
 use Rattle.gimli_read.specs.Form.{rest_of}
 use Rattle.gimli_read.specs.Reading.{ExactlyUnlessOomIf}
 use Rattle.gimli.specs.Entry.{attributes_at}
-use Rattle.addr2line_lines.specs.Details.{InlinedAttributes, no_inlined_attributes}
-use Rattle.addr2line_lines.specs.FoundDetails.{inlined_attributes_after, or_fault, seen_attributes}
+use Rattle.addr2line_lines.specs.InlinedEntries.{InlinedAttributes, no_inlined_attributes}
+use Rattle.addr2line_lines.specs.FoundAttributes.{inlined_attributes_after, or_fault, seen_attributes}
 use Rattle.addr2line_lines.specs.SeenScope.{seen_scope}
 use Rattle.addr2line_lines.proofs.inlined.read_inlined_attributes.Given as goal
 

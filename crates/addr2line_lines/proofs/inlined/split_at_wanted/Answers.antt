@@ -1,5 +1,5 @@
 use Rattle.std.proofs.Common.{sym}
-use Rattle.addr2line_lines.specs.FoundDetails.{is_wanted_specification}
+use Rattle.addr2line_lines.specs.FoundAttributes.{is_wanted_specification}
 use Rattle.addr2line_lines.proofs.NameLemmas.{none_split, split_at}
 use Rattle.addr2line_lines.proofs.inlined.split_at_wanted.Goals as goal
 

@@ -4,7 +4,7 @@ use Rattle.gimli_read.specs.Reading.{◌>>=◌}
 use Rattle.gimli_read.specs.declared.error.Error.{Error as Fault}
 use Rattle.gimli_read.specs.declared.range.Range.{Range}
 use Rattle.addr2line_lines.specs.declared.picks.InlinedFunctionAddress.{InlinedFunctionAddress}
-use Rattle.addr2line_lines.specs.FoundDetails.{inlined_address}
+use Rattle.addr2line_lines.specs.FoundInlined.{inlined_address}
 use Rattle.addr2line_lines.specs.Rows.{result_map, read_all}
 use Rattle.addr2line_lines.specs.RangeAttributes.{all_ranges, begins_well}
 use Rattle.addr2line_lines.proofs.FunctionLemmas.{one_added, one_read}

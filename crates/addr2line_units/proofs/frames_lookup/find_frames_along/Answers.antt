@@ -5,7 +5,8 @@ use Rattle.gimli_read.specs.Reading.{◌>>=◌, ExactlyUnlessOom}
 use Rattle.addr2line_lines.specs.SeenScope.{seen_scope}
 use Rattle.addr2line_units.specs.CachedLines.{indexed_units, parsed_units}
 use Rattle.addr2line_units.specs.FramesLookup.{LookupAsks, asked_frames, asks_lines_of, ends_lookup, frames_of_number, has_many_of, holds_along, or_stop, stop_along}
-use Rattle.addr2line_units.specs.CachedLookups.{AreFoundAt, answers_in, frames_found_at, has_frames_at}
+use Rattle.addr2line_units.specs.CachedFrames.{AreFoundAt, frames_found_at, has_frames_at}
+use Rattle.addr2line_units.specs.CachedLookups.{answers_in}
 use Rattle.gimli_read.specs.Alike.{HadMemory}
 use Rattle.addr2line_units.specs.Parsed.{ParsesOnly}
 use Rattle.addr2line_units.specs.UnitRangesLeft.{ranges_left}

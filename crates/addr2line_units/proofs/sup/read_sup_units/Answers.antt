@@ -4,7 +4,8 @@ use Rattle.gimli_read.specs.Reading.{◌>>=◌}
 use Rattle.gimli.specs.Unit.{UnitRecord}
 use Rattle.gimli.specs.UnitsLeft.{all_headers}
 use Rattle.addr2line_units.specs.Indexed.{has_abbreviations, some_take_memory}
-use Rattle.addr2line_units.specs.UnitIndex.{sup_unit_of_header, units_of}
+use Rattle.addr2line_units.specs.UnitIndex.{sup_unit_of_header}
+use Rattle.addr2line_units.specs.RangedUnits.{units_of}
 use Rattle.addr2line_units.proofs.UnitIndexLemmas.{all_first, given_fault, given_some, shared_headers, shorter, some_headers, sup_more, takes_first, takes_rest}
 use Rattle.addr2line_units.proofs.sup.read_sup_units.Goals as goal
 

@@ -2,7 +2,8 @@ use Rattle.std.proofs.Common.{◌≡◌, ◌++◌, Ok, length, true}
 use Rattle.gimli_read.specs.Reading.{◌>>=◌}
 use Rattle.gimli.specs.UnitsLeft.{all_headers}
 use Rattle.addr2line_units.specs.Indexed.{has_abbreviations, some_take_memory, sup_units_take_memory}
-use Rattle.addr2line_units.specs.UnitIndex.{sup_unit_of_header, units_of}
+use Rattle.addr2line_units.specs.UnitIndex.{sup_unit_of_header}
+use Rattle.addr2line_units.specs.RangedUnits.{units_of}
 use Rattle.addr2line_units.proofs.sup.read_sup_units.Given as goal
 
 abbrev pub invariant-loop-units : goal.invariant-loop-units

@@ -1,7 +1,7 @@
 use Rattle.std.proofs.Common.{◌≡◌, false, refl, rules, subst, true}
 use Rattle.std.proofs.lemmas.Result.{err_from_is_err_and}
 use Rattle.addr2line_units.specs.Indexed.{has_abbreviations}
-use Rattle.addr2line_units.specs.UnitIndex.{is_type_unit}
+use Rattle.addr2line_units.specs.RangedUnits.{is_type_unit}
 use Rattle.addr2line_units.proofs.UnitIndexLemmas.{kept_fault, takes_unit, where_read, where_taken}
 use Rattle.addr2line_units.proofs.units.read_unit.Goals as goal
 

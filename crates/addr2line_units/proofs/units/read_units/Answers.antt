@@ -3,7 +3,7 @@ use Rattle.std.proofs.lemmas.Result.{err_from_is_err_and}
 use Rattle.gimli_read.specs.Reading.{◌>>=◌}
 use Rattle.gimli.specs.UnitsLeft.{all_headers}
 use Rattle.addr2line_units.specs.Indexed.{appended, index_of, index_seen, some_take_memory, indexed_unit_takes_memory}
-use Rattle.addr2line_units.specs.UnitIndex.{unit_of_header, units_of}
+use Rattle.addr2line_units.specs.RangedUnits.{unit_of_header, units_of}
 use Rattle.addr2line_units.proofs.UnitIndexLemmas.{given_fault, given_some, index_fault, index_more, shared_headers, shorter, some_headers, takes_first, takes_rest}
 use Rattle.addr2line_units.proofs.units.read_units.Goals as goal
 

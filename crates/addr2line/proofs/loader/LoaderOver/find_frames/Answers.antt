@@ -5,7 +5,7 @@ use Rattle.elf.specs.Text.{loader_error_of}
 use Rattle.addr2line_units.specs.declared.frames_lookup.Faults.TheVariants.{End}
 use Rattle.addr2line_units.specs.FramesLeft.{frames_left}
 use Rattle.addr2line.specs.LoadsByFiles.{WaitsForNone}
-use Rattle.addr2line.specs.Lookups.{IsKnownFew}
+use Rattle.addr2line.specs.AfterLookups.{IsKnownFew}
 use Rattle.addr2line.proofs.ByFilesLemmas.{failed_by_files, found_by_files, loader_failed, loader_found}
 use Rattle.addr2line.proofs.LoadingLemmas.{no_oom}
 use Rattle.addr2line.proofs.NoLoadLemmas.{failed_ended, failed_exactly, found_ended, last_frames, refused_exactly}

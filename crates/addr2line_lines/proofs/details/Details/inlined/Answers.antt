@@ -1,6 +1,6 @@
 use Rattle.std.proofs.Common.{subst}
 use Rattle.std.specs.Slice.{IsItemAt}
-use Rattle.addr2line_lines.specs.FoundDetails.{seen_inlined}
+use Rattle.addr2line_lines.specs.FoundInlined.{seen_inlined}
 use Rattle.addr2line_lines.proofs.LentLemmas.{lent_is}
 use Rattle.addr2line_lines.proofs.details.Details.inlined.Goals as goal
 

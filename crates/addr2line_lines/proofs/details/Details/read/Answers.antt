@@ -1,7 +1,7 @@
 use Rattle.std.proofs.Common.{◌≡◌, List, Option, length, ap, sym, ◌∙◌}
 use Rattle.std.proofs.lemmas.List.{length-map}
 use Rattle.gimli_read.specs.Section.{Section}
-use Rattle.addr2line_lines.specs.FoundDetails.{FoundInlined, seen_inlined, seen_lists}
+use Rattle.addr2line_lines.specs.FoundInlined.{FoundInlined, seen_inlined, seen_lists}
 use Rattle.addr2line_lines.specs.CachedDetails.{CachedDetails, seen_details}
 use Rattle.addr2line_lines.proofs.DetailPlaces.{details_same, first_is}
 use Rattle.addr2line_lines.proofs.details.Details.read.Goals as goal

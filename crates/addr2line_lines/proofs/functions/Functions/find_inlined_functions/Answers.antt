@@ -1,8 +1,9 @@
 use Rattle.std.proofs.Common.{◌≡◌, ◌<◌, List, [], Ok, IfOk, length, map, ap, sym, subst, ◌∙◌}
 use Rattle.std.specs.List.{AllByRecursion}
 use Rattle.gimli_read.specs.Reading.{ExactlyUnlessOomIf}
-use Rattle.addr2line_lines.specs.Details.{InlinedRange, inlined_chain}
-use Rattle.addr2line_lines.specs.FoundDetails.{entry_among}
+use Rattle.addr2line_lines.specs.InlinedEntries.{InlinedRange}
+use Rattle.addr2line_lines.specs.InlinedChain.{inlined_chain}
+use Rattle.addr2line_lines.specs.FoundInlined.{entry_among}
 use Rattle.addr2line_lines.specs.FunctionCache.{read_at}
 use Rattle.addr2line_lines.specs.FunctionTable.{FunctionTable, cached_inlined}
 use Rattle.addr2line_lines.specs.CachedDetails.{seen_details}

@@ -1,6 +1,7 @@
 use Rattle.std.proofs.Common.{rules, ◌≡◌, ◌≤◌, length, Some, None, Ok, Err, slice_get, ap, sym, subst, ◌∙◌}
 use Rattle.std.proofs.lemmas.Option.{gets}
-use Rattle.addr2line_lines.specs.FunctionTable.{FunctionTable, read_fault}
+use Rattle.addr2line_lines.specs.FunctionTable.{FunctionTable}
+use Rattle.addr2line_lines.specs.FunctionDetails.{read_fault}
 use Rattle.addr2line_lines.specs.FunctionCache.{seen_function, seen_lazy}
 use Rattle.addr2line_lines.specs.CachedDetails.{detail_of, seen_details}
 use Rattle.addr2line_lines.specs.SeenScope.{seen_scope}

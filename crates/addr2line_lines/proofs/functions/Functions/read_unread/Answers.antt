@@ -4,7 +4,8 @@ use Rattle.addr2line_lines.specs.declared.functions.LazyDetail.TheVariants.{Read
 use Rattle.addr2line_lines.specs.declared.functions.LazyFunction.{LazyFunction}
 use Rattle.addr2line_lines.specs.Details.{detail_at}
 use Rattle.gimli_line.specs.Opcode.{fault_of}
-use Rattle.addr2line_lines.specs.FunctionTable.{FunctionTable, IsReadAt, read_fault, cached_takes_memory}
+use Rattle.addr2line_lines.specs.FunctionTable.{FunctionTable}
+use Rattle.addr2line_lines.specs.FunctionDetails.{IsReadAt, read_fault, cached_takes_memory}
 use Rattle.addr2line_lines.specs.CachedDetails.{seen_details}
 use Rattle.addr2line_lines.specs.SeenScope.{seen_scope}
 use Rattle.addr2line_lines.proofs.FunctionCacheLemmas.{fault_cached, read_cached, reads, table_fault, table_of, table_read, unread_at}

@@ -1,12 +1,13 @@
 use Rattle.std.proofs.Common.{arith, ◌≤◌, length, refl, ◌≡◌, ◌<◌, List, [], Ok, ap, sym, map, append-nil, ◌∙◌}
 use Rattle.std.proofs.lemmas.Bool.Decides.{nat_tests}
 use Rattle.std.proofs.lemmas.Result.{err_from_is_err_and}
-use Rattle.addr2line_lines.specs.FoundDetails.{seen_attributes, seen_lists, FoundInlined, seen_inlined}
+use Rattle.addr2line_lines.specs.FoundAttributes.{seen_attributes}
+use Rattle.addr2line_lines.specs.FoundInlined.{seen_lists, FoundInlined, seen_inlined}
 use Rattle.addr2line_lines.proofs.DetailMemory.{pushed_well}
 use Rattle.addr2line_lines.proofs.NestingLemmas.{none_added, grown_by, grown_not, ranges_refused, some_added}
 use Rattle.std.proofs.lemmas.List.{length-map, map-append}
 use Rattle.addr2line_lines.specs.declared.picks.InlinedFunctionAddress.{InlinedFunctionAddress}
-use Rattle.addr2line_lines.specs.Details.{InlinedEntry}
+use Rattle.addr2line_lines.specs.InlinedEntries.{InlinedEntry}
 use Rattle.addr2line_lines.proofs.inlined_lists.InlinedLists.add.Goals as goal
 
 abbrev found_of : List InlinedEntry → List InlinedFunctionAddress → FoundInlined

@@ -1,7 +1,7 @@
 use Rattle.std.proofs.Common.{List, map, take, ap, ◌∙◌}
 use Rattle.addr2line_lines.specs.declared.picks.InlinedFunctionAddress.{InlinedFunctionAddress}
-use Rattle.addr2line_lines.specs.Details.{InlinedEntry}
-use Rattle.addr2line_lines.specs.FoundDetails.{FoundInlined, seen_inlined}
+use Rattle.addr2line_lines.specs.InlinedEntries.{InlinedEntry}
+use Rattle.addr2line_lines.specs.FoundInlined.{FoundInlined, seen_inlined}
 use Rattle.addr2line_lines.proofs.DetailPlaces.{map_take}
 use Rattle.addr2line_lines.proofs.inlined_lists.InlinedLists.truncate.Goals as goal
 

@@ -1,5 +1,5 @@
 use Rattle.std.proofs.Common.{ap, sym, ◌∙◌}
-use Rattle.addr2line_lines.specs.FoundDetails.{is_inlined_kind, kinds_such}
+use Rattle.addr2line_lines.specs.OpenEntries.{is_inlined_kind, kinds_such}
 use Rattle.addr2line_lines.proofs.NestingLemmas.{count_reverse}
 use Rattle.addr2line_lines.proofs.nesting.Nesting.depth.Goals as goal
 

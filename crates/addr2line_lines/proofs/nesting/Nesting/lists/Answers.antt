@@ -1,6 +1,6 @@
 use Rattle.std.proofs.Common.{◌==◌, ap, sym, ◌∙◌}
 use Rattle.addr2line_lines.specs.declared.nesting.Kind.{Kind}
-use Rattle.addr2line_lines.specs.FoundDetails.{is_listed, is_subprogram_kind, kinds_such}
+use Rattle.addr2line_lines.specs.OpenEntries.{is_listed, is_subprogram_kind, kinds_such}
 use Rattle.addr2line_lines.proofs.NestingLemmas.{count_reverse}
 use Rattle.addr2line_lines.proofs.nesting.Nesting.lists.Goals as goal
 

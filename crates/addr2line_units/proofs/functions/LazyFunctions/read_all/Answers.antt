@@ -1,7 +1,7 @@
 use Rattle.std.proofs.Common.{Result, ◌∙◌, ap, subst, sym}
 use Rattle.gimli_read.specs.declared.error.Error.{Error}
 use Rattle.gimli_read.specs.Reading.{ExactlyUnlessOomIf}
-use Rattle.addr2line_lines.specs.FunctionTable.{details_take_memory}
+use Rattle.addr2line_lines.specs.FunctionDetails.{details_take_memory}
 use Rattle.addr2line_lines.specs.SeenScope.{seen_scope}
 use Rattle.addr2line_units.specs.declared.functions.LazyFunctions.TheVariants as lazy
 use Rattle.addr2line_units.specs.declared.parses.Reads.TheVariants as reads

@@ -4,7 +4,8 @@ use Rattle.gimli_read.specs.declared.error.Error.{Error}
 use Rattle.gimli.specs.Sections.{Sections}
 use Rattle.gimli.specs.UnitsLeft.{all_headers}
 use Rattle.addr2line_units.specs.Indexed.{has_abbreviations, sup_takes_memory, sup_units_take_memory}
-use Rattle.addr2line_units.specs.UnitIndex.{sup_sections, sup_unit_of_header, sup_units, units_of}
+use Rattle.addr2line_units.specs.UnitIndex.{sup_sections, sup_unit_of_header, sup_units}
+use Rattle.addr2line_units.specs.RangedUnits.{units_of}
 use Rattle.addr2line_units.proofs.UnitIndexLemmas.{shared_headers}
 use Rattle.addr2line_units.proofs.sup.SupUnits.parse.Goals as goal
 

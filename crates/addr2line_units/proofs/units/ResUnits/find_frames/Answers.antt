@@ -6,7 +6,8 @@ use Rattle.addr2line_units.specs.CachedLines.{indexed_units, parsed_units}
 use Rattle.addr2line_units.specs.Cover.{cover}
 use Rattle.addr2line_units.specs.FramesLookup.{LookupAsks, asked_frames, asks_lines_of, has_many_of, holds_along, stop_along}
 use Rattle.addr2line_units.specs.Indexed.{units_in}
-use Rattle.addr2line_units.specs.CachedLookups.{HaveEntriesOf, ReadsOnly, answers_in, has_frames_at, scope_in, seen_stop, sup_file}
+use Rattle.addr2line_units.specs.CachedLookups.{HaveEntriesOf, ReadsOnly, answers_in, scope_in, sup_file}
+use Rattle.addr2line_units.specs.CachedFrames.{has_frames_at, seen_stop}
 use Rattle.gimli_read.specs.Alike.{HadMemory}
 use Rattle.addr2line_units.specs.Parsed.{ParsesOnly}
 use Rattle.addr2line_units.specs.UnitRangesLeft.{ranges_left}

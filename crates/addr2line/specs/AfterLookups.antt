@@ -1,0 +1,95 @@
+-- What lookups of frames and of units leave of a context: the lines and the functions that are
+-- parsed for them (DWARF 5, sections 3.1.2, 3.3 and 7.3.2).
+-- Own: a lookup parses what it asks for and nothing else, and nothing that is known is parsed again.
+use Rattle.std.specs.Prelude.{◌≡◌, ◌⊎◌, ℕ, ◌≤◌, Bool, true, false, ◌&&◌, ◌||◌, not, List, slice_get, IfSome, Result, Ok}
+use Rattle.gimli_read.specs.declared.error.Error.{Error}
+use Rattle.addr2line_units.specs.declared.frames_lookup.Faults.{Faults}
+use Rattle.addr2line_units.specs.declared.parses.Reads.{Reads}
+use Rattle.addr2line_units.specs.Cover.{cover}
+use Rattle.addr2line_units.specs.FramesLookup.{Waits, LookupAsks, asks_lines_of, has_many_of, holds_along, is_waiting, main_scope}
+use Rattle.addr2line_units.specs.FunctionParses.{IsReadyFor}
+use Rattle.addr2line_units.specs.KnownEntries.{KnownEntries, knows_at}
+use Rattle.gimli_read.specs.Alike.{HadMemory}
+use Rattle.addr2line_units.specs.Parsed.{ParsesOnly, StaysParsed, has_parsed}
+use Rattle.addr2line_units.specs.UnitIndex.{UnitIndex, index_units}
+use Rattle.addr2line_units.specs.Views.{SplitLoad}
+use Rattle.addr2line.specs.Context.{ContextState}
+use Rattle.addr2line.specs.Lookups.{asked_of, lookup_stop, IsLoadOf}
+
+-- all is known that a parse of functions reads of the unit of a number that isn't open, up to the
+-- first fault, and that fault too
+abbrev pub IsReadyAt : Reads → List KnownEntries → ℕ → Type 0
+IsReadyAt reads known n = IfSome (slice_get known n) (IsReadyFor reads)
+
+-- what was known of the unit of a number stays known: what a lookup asks, and all that a parse of
+-- functions reads
+pub record StaysKnownOf (n : ℕ) (old new : List KnownEntries) : Type 0 where
+  pub at : (probe : ℕ) → knows_at old probe n ≡ true → knows_at new probe n ≡ true
+  pub whole : (reads : Reads) → IsReadyAt reads old n → IsReadyAt reads new n
+
+-- the same of all units
+abbrev pub StaysKnown : List KnownEntries → List KnownEntries → Type 0
+StaysKnown old new = (n : ℕ) → StaysKnownOf n old new
+
+-- whether all is known that a lookup asks the unit of a number for
+abbrev pub has_all_of : ContextState → ℕ → UnitIndex → ℕ → Bool
+has_all_of c probe m n = knows_at c.known probe n
+    && (not (asks_lines_of (main_scope c.sections m) m.units c.answers probe n)
+    || has_parsed c.parsed n)
+
+-- the same, and at most 16 inlined functions stand there
+abbrev pub has_few_of : ContextState → ℕ → UnitIndex → ℕ → Bool
+has_few_of c probe m n = has_all_of c probe m n
+    && not (has_many_of (main_scope c.sections m) m.units c.answers probe n)
+
+-- all is known that a lookup of the probe asks for
+abbrev pub IsKnown : Faults → ContextState → ℕ → Type 0
+IsKnown faults c probe = (m : UnitIndex) → index_units c.sections ≡ Ok m
+    → holds_along (has_all_of c probe m) (asked_of faults c.sections c.answers probe m)
+    (cover probe m.ranges) ≡ true
+
+-- the same, and at most 16 inlined functions stand in each unit that it asks
+abbrev pub IsKnownFew : Faults → ContextState → ℕ → Type 0
+IsKnownFew faults c probe = (m : UnitIndex) → index_units c.sections ≡ Ok m
+    → holds_along (has_few_of c probe m) (asked_of faults c.sections c.answers probe m)
+    (cover probe m.ranges) ≡ true
+
+-- a lookup of the probe asks the unit of a number
+abbrev pub AsksUnit : Faults → ContextState → ℕ → UnitIndex → ℕ → Type 0
+AsksUnit faults c probe m n =
+    LookupAsks (asked_of faults c.sections c.answers probe m) (cover probe m.ranges) n
+
+-- no lines are parsed but those that a lookup asks for in this context
+abbrev pub ParsesAsked : Faults → ℕ → ContextState → ContextState → ContextState → Type 0
+ParsesAsked faults probe c old new = (m : UnitIndex) → index_units c.sections ≡ Ok m
+    → ParsesOnly (λ n. AsksUnit faults c probe m n
+    × (asks_lines_of (main_scope c.sections m) m.units c.answers probe n ≡ true))
+    old.parsed new.parsed
+
+-- nothing is read of the entries of a unit that a lookup doesn't ask in this context
+abbrev pub LearnsAsked : Faults → ℕ → ContextState → ContextState → ContextState → Type 0
+LearnsAsked faults probe c old new = (m : UnitIndex) → index_units c.sections ≡ Ok m
+    → (n : ℕ) → (slice_get new.known n ≡ slice_get old.known n) ⊎ AsksUnit faults c probe m n
+
+-- after a lookup of the probe: the first answers are the same, what was read stays, and nothing was
+-- read that it doesn't ask for; the same lookup reads nothing more, but after OutOfMemory, where
+-- something is left to read, a load is wanted, or more than 16 inlined functions stand there
+pub record AfterFrames {X : Type 0} (faults : Faults) (probe : ℕ) (result : Result X Error)
+    (old new : ContextState) : Type 0 where
+  pub sections : new.sections ≡ old.sections
+  pub answers : new.answers ≡ old.answers
+  pub parsed : StaysParsed old.parsed new.parsed
+  pub known : StaysKnown old.known new.known
+  pub only : ParsesAsked faults probe old old new
+  pub learns : LearnsAsked faults probe old old new
+  pub raised : old.looks ≤ new.looks
+  pub ready : HadMemory result → IsKnown faults new probe
+  pub memory : IsKnownFew faults new probe
+      → is_waiting (lookup_stop faults old.sections old.answers probe) ≡ false → HadMemory result
+
+-- a lookup that waits for the unit of a number has this load
+pub record Suspends (faults : Faults) (probe number : ℕ) (wanted : SplitLoad)
+    (old new : ContextState) : Type 0 where
+  pub waits : lookup_stop faults old.sections old.answers probe ≡ Ok (Waits number)
+  pub load : IsLoadOf old.sections number wanted
+  pub after : AfterFrames {X = Unit {0}} faults probe (Ok tt) old new

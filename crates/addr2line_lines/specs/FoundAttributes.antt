@@ -1,0 +1,91 @@
+-- What attributes of functions and of inlined entries say, as the private functions read them.
+use Rattle.std.specs.Prelude.{◌≡◌, ◌==◌, ◌||◌, Bool, false, List, ◌∷◌, ◌++◌, fold, Option, Some, None, option_map, Result, Ok, Err}
+use Rattle.std.specs.List.{All}
+use Rattle.gimli_read.specs.declared.constants.DwAt.{DwAt}
+use Rattle.gimli_read.specs.declared.constants.TheConstants.DwAt.{DW_AT_call_column, DW_AT_call_file, DW_AT_call_line, DW_AT_high_pc, DW_AT_low_pc, DW_AT_ranges}
+use Rattle.gimli_read.specs.declared.error.Error.{Error}
+use Rattle.gimli_read.specs.Abbreviations.{Specification}
+use Rattle.gimli_read.specs.Form.{NamedValue, rest_of}
+use Rattle.gimli_read.specs.Reading.{Reading, ◌>>=◌, ExactlyUnlessOomIf}
+use Rattle.gimli_read.specs.Section.{Section}
+use Rattle.gimli.specs.Unit.{UnitRecord}
+use Rattle.addr2line_lines.specs.declared.inlined.CallSite as declared_call
+use Rattle.addr2line_lines.specs.declared.inlined.InlinedAttributes as declared_attributes
+use Rattle.addr2line_lines.specs.InlinedEntries.{CallSite, InlinedAttributes, or_with_inlined_attribute}
+use Rattle.addr2line_lines.specs.FoundNames.{is_name_attribute}
+use Rattle.addr2line_lines.specs.Names.{or_with_name, with_name}
+use Rattle.addr2line_lines.specs.References.{Scope}
+
+-- a call
+abbrev pub seen_call_site : declared_call.CallSite → CallSite
+seen_call_site c = record { file = c.file; line = c.line; column = c.column }
+
+-- what attributes of an inlined entry say
+abbrev pub seen_attributes : {R : Type 0} → (R → Section) → declared_attributes.InlinedAttributes R
+    → InlinedAttributes
+seen_attributes see x =
+    record { ranges = x.ranges; name = option_map see x.name; call = seen_call_site x.call }
+
+-- whether an attribute says of an entry's ranges
+abbrev pub is_range_name : DwAt → Bool
+is_range_name name =
+    name.0 == DW_AT_low_pc.0 || name.0 == DW_AT_high_pc.0 || name.0 == DW_AT_ranges.0
+
+-- whether an attribute says of a call
+abbrev pub is_call : DwAt → Bool
+is_call name =
+    name.0 == DW_AT_call_file.0 || name.0 == DW_AT_call_line.0 || name.0 == DW_AT_call_column.0
+
+-- whether an attribute says something of an inlined entry
+abbrev pub is_wanted : DwAt → Bool
+is_wanted name = is_range_name name || is_name_attribute name || is_call name
+
+-- the same of a specification
+abbrev pub is_wanted_specification : Specification → Bool
+is_wanted_specification x = is_wanted x.name
+
+-- no attribute says anything of an inlined entry
+abbrev pub HasNoWanted : List Specification → Type 0
+HasNoWanted specifications = All (λ x. is_wanted_specification x ≡ false) specifications
+
+-- what comes before an attribute, where no other says anything of an inlined entry, and what comes
+-- after it
+abbrev pub IsSplitAtWanted : List Specification → List Specification → Specification
+    → List Specification → Type 0
+IsSplitAtWanted all before x after = (all ≡ before ++ x ∷ after) × HasNoWanted before
+
+-- what was found, unless there was a fault before
+abbrev pub or_fault : {X : Type 0} → X → Option Error → Result X Error
+or_fault found None = Ok found
+or_fault found (Some e) = Err e
+
+-- an answer is a fault that was there, or what is given with one more attribute
+abbrev pub IsTakenIn : {X Y : Type 0} → Bool → (X → Y) → (Y → Result Y Error) → Result X Error
+    → Result X Error → Type 0
+IsTakenIn may view more (Ok x) result = ExactlyUnlessOomIf may view result (more (view x))
+IsTakenIn may view more (Err e) result = result ≡ Err e
+
+-- an attribute was read that is wanted, or passed over; or what is given is the fault
+abbrev pub IsReadIf : Bool → Bool → Section → Result (Option NamedValue) Error
+    → Reading NamedValue → Type 0
+IsReadIf may wanted left (Ok (Some a)) given = given ≡ Ok (a, left)
+IsReadIf may wanted left (Ok None) given = (rest_of given ≡ Ok left) × (wanted ≡ false)
+IsReadIf may wanted left (Err e) given =
+    ExactlyUnlessOomIf may (λ (x : NamedValue × Section). x) (Err e) given
+
+-- what attributes that are read say, after those that were read before
+abbrev pub inlined_attributes_after : Scope → UnitRecord → Result InlinedAttributes Error
+    → Reading (List NamedValue) → Result InlinedAttributes Error
+inlined_attributes_after scope u x read =
+    read >>= λ y. fold (or_with_inlined_attribute scope u) x y.0
+
+-- one more attribute of a function, if it was wanted
+abbrev pub with_read_name : Scope → UnitRecord → Option Section → Option NamedValue
+    → Result (Option Section) Error
+with_read_name scope u name None = Ok name
+with_read_name scope u name (Some a) = with_name scope u name a
+
+-- the name by attributes that are read, after those that were read before
+abbrev pub name_after : Scope → UnitRecord → Result (Option Section) Error
+    → Reading (List NamedValue) → Result (Option Section) Error
+name_after scope u name read = read >>= λ y. fold (or_with_name scope u) name y.0

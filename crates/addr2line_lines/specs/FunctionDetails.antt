@@ -1,0 +1,141 @@
+-- How the details of functions come to be cached (DWARF 5, section 3.3).
+-- Own: the detail of a function is read when it is first asked for, and cached then, its fault too.
+-- OutOfMemory is never cached.
+use Rattle.std.specs.Prelude.{◌≡◌, ◌≢◌, ℕ, ◌&&◌, ◌||◌, Bool, false, not, is_ok, is_some, List, [], ◌∷◌, slice_get, slice_set, Option, Some, None, Result, Ok, Err}
+use Rattle.std.specs.List.{AllByRecursion, AllZip}
+use Rattle.gimli_read.specs.declared.error.Error.{Error}
+use Rattle.gimli_read.specs.declared.error.Error.TheVariants.{OutOfMemory}
+use Rattle.gimli_read.specs.Reading.{◌>>=◌}
+use Rattle.gimli.specs.Unit.{UnitRecord}
+use Rattle.addr2line_lines.specs.Details.{Detail, detail_at, detail_takes_memory}
+use Rattle.addr2line_lines.specs.FoundInlined.{IsGrown}
+use Rattle.addr2line_lines.specs.References.{Scope}
+use Rattle.gimli_line.specs.Opcode.{fault_of}
+use Rattle.addr2line_lines.specs.FunctionTable.{CachedFunction, FunctionTable, AreListed}
+
+-- the detail of the function of a place is cached too, and nothing else changes, but that more
+-- inlined entries stand after those before
+pub record IsWithDetail (n : ℕ) (f : CachedFunction) (detail : Result Detail Error)
+    (old new : FunctionTable) : Type 0 where
+  pub ranges : new.ranges ≡ old.ranges
+  pub functions : new.functions ≡
+      slice_set old.functions n (record { offset = f.offset; detail = Some detail })
+  pub inlined : IsGrown old.inlined new.inlined
+
+-- an answer, and the table then: that of the detail, which is cached, its fault too; or
+-- OutOfMemory, and the table as before
+abbrev pub IsCachedThen : ℕ → CachedFunction → Result Detail Error → FunctionTable
+    → Result (Unit {0}) Error → FunctionTable → Type 0
+IsCachedThen n f detail old (Ok x) new =
+    (fault_of detail ≡ Ok x) × IsWithDetail n f detail old new
+IsCachedThen n f detail old (Err e) new =
+    (e ≢ OutOfMemory → (fault_of detail ≡ Err e) × IsWithDetail n f detail old new)
+    × (e ≡ OutOfMemory → new ≡ old)
+
+-- an answer, and the table then, by what is cached of the function: a cached detail, or its fault,
+-- is the answer, and nothing changes
+abbrev pub IsReadOnce : Scope → UnitRecord → ℕ → CachedFunction → Option (Result Detail Error)
+    → FunctionTable → Result (Unit {0}) Error → FunctionTable → Type 0
+IsReadOnce scope u n f (Some detail) old result new = (result ≡ fault_of detail) × (new ≡ old)
+IsReadOnce scope u n f None old result new =
+    IsCachedThen n f (detail_at scope u f.offset) old result new
+
+-- whether memory may be taken for the detail of a function: nothing is cached of the function, and
+-- readers share their bytes, or memory is taken for what it has
+abbrev pub cached_takes_memory : Bool → Scope → UnitRecord → Option CachedFunction → Bool
+cached_takes_memory shares scope u None = false
+cached_takes_memory shares scope u (Some f) =
+    not (is_some f.detail) && (shares || detail_takes_memory scope u f.offset)
+
+-- whether the detail of a function can be read, by what is cached of it or by its entries
+abbrev pub read_fault : Scope → UnitRecord → Option CachedFunction → Result (Unit {0}) Error
+read_fault scope u None = Ok tt
+read_fault scope u (Some f) =
+    elim f.detail [ None ↦ fault_of (detail_at scope u f.offset) | Some d ↦ fault_of d ]
+
+-- the same of the function of a place, by the function; past the last one nothing is read
+abbrev pub IsReadOf : Scope → UnitRecord → ℕ → Option CachedFunction → FunctionTable
+    → Result (Unit {0}) Error → FunctionTable → Type 0
+IsReadOf scope u n None old result new = (result ≡ Ok tt) × (new ≡ old)
+IsReadOf scope u n (Some f) old result new = IsReadOnce scope u n f f.detail old result new
+
+-- the same of the function of a place
+abbrev pub IsReadAt : Scope → UnitRecord → ℕ → FunctionTable → Result (Unit {0}) Error
+    → FunctionTable → Type 0
+IsReadAt scope u n old result new =
+    IsReadOf scope u n (slice_get old.functions n) old result new
+
+-- no detail is cached
+abbrev pub AreUnread : FunctionTable → Type 0
+AreUnread t = AllByRecursion (λ (f : CachedFunction). f.detail ≡ None) t.functions
+
+-- what is cached of a function is its detail, or the fault of that
+abbrev pub IsDetailOf : Scope → UnitRecord → CachedFunction → Type 0
+IsDetailOf scope u f =
+    (detail : Result Detail Error) → f.detail ≡ Some detail → detail_at scope u f.offset ≡ detail
+
+-- what is cached of each function is so
+abbrev pub AreDetailsOf : Scope → UnitRecord → FunctionTable → Type 0
+AreDetailsOf scope u t = AllByRecursion (IsDetailOf scope u) t.functions
+
+-- where no detail is cached, what is cached is right for any unit
+abbrev pub UnreadAreDetails : Type 0
+UnreadAreDetails = (scope : Scope) (u : UnitRecord) (t : FunctionTable) → AreUnread t
+    → AreDetailsOf scope u t
+
+-- what is cached stays right where one more detail is read
+abbrev pub ReadKeepsDetails : Type 0
+ReadKeepsDetails = (scope : Scope) (u : UnitRecord) (n : ℕ) (old new : FunctionTable)
+    (result : Result (Unit {0}) Error) → AreDetailsOf scope u old
+    → IsReadAt scope u n old result new → AreDetailsOf scope u new
+
+-- the first fault among the details of functions, in their order
+abbrev pub details_fault : Scope → UnitRecord → List CachedFunction → Result (Unit {0}) Error
+details_fault scope u [] = Ok tt
+details_fault scope u (f ∷ functions) =
+    fault_of (detail_at scope u f.offset) >>= λ _. details_fault scope u functions
+
+-- whether memory may be taken for the details of functions, in their order: for that of the first,
+-- or for those after it where that of the first can be read
+abbrev pub details_take_memory : Bool → Scope → UnitRecord → List CachedFunction → Bool
+details_take_memory shares scope u [] = false
+details_take_memory shares scope u (f ∷ functions) = cached_takes_memory shares scope u (Some f)
+    || is_ok (read_fault scope u (Some f)) && details_take_memory shares scope u functions
+
+-- the detail of a function is cached, and has no fault
+abbrev pub HasDetail : CachedFunction → Type 0
+HasDetail f = (d : Detail) × (f.detail ≡ Some (Ok d))
+
+-- the detail of a function is cached, and where it has no fault, so is what follows; or its fault
+-- is, which isn't OutOfMemory
+abbrev pub IsCachedToFault : Option (Result Detail Error) → Type 0 → Type 0
+IsCachedToFault None rest = ⊥
+IsCachedToFault (Some (Ok d)) rest = rest
+IsCachedToFault (Some (Err e)) rest = e ≢ OutOfMemory
+
+-- the details of functions are cached in their order, up to the first that has a fault, and that
+-- fault too
+abbrev pub AreCachedToFault : List CachedFunction → Type 0
+AreCachedToFault [] = Unit {0}
+AreCachedToFault (f ∷ functions) = IsCachedToFault f.detail (AreCachedToFault functions)
+
+-- a function is the same, and what was cached of it is
+pub record IsFunctionMore (f g : CachedFunction) : Type 0 where
+  pub offset : g.offset ≡ f.offset
+  pub detail : (detail : Result Detail Error) → f.detail ≡ Some detail → g.detail ≡ Some detail
+
+-- what was cached stays cached, and nothing else changes, but that more may be cached
+pub record IsTableMore (old new : FunctionTable) : Type 0 where
+  pub ranges : new.ranges ≡ old.ranges
+  pub functions : AllZip IsFunctionMore old.functions new.functions
+  pub inlined : IsGrown old.inlined new.inlined
+
+-- the functions stay those that have a range where more is cached
+abbrev pub MoreKeepsListed : Type 0
+MoreKeepsListed = (old new : FunctionTable) → AreListed old → IsTableMore old new → AreListed new
+
+-- the functions stay those that have a range where one more detail is read
+abbrev pub ReadKeepsListed : Type 0
+ReadKeepsListed = (scope : Scope) (u : UnitRecord) (n : ℕ) (old new : FunctionTable)
+    (result : Result (Unit {0}) Error) → AreListed old → IsReadAt scope u n old result new
+    → AreListed new

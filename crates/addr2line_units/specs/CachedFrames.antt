@@ -1,0 +1,101 @@
+-- The frames that lookups find in what is cached of units, as the private functions see them.
+use Rattle.std.specs.Prelude.{◌<◌, ℕ, Bool, ◌&&◌, ◌||◌, not, length, List, Option, Some, None, IfSome, option_map, slice_get, Result, Ok, Err}
+use Rattle.gimli_read.specs.declared.constants.DwLang.{DwLang}
+use Rattle.gimli_read.specs.declared.error.Error.{Error}
+use Rattle.gimli_read.specs.declared.error.Error.TheVariants.{OutOfMemory}
+use Rattle.addr2line_lines.specs.FunctionTable.{FunctionTable}
+use Rattle.addr2line_lines.specs.Location.{location_of_row}
+use Rattle.addr2line_units.specs.declared.frames_lookup.Faults.{Faults}
+use Rattle.addr2line_units.specs.declared.frames_lookup.Faults.TheVariants.{PassOver}
+use Rattle.addr2line_units.specs.declared.frames_lookup.FramePlace.{FramePlace}
+use Rattle.addr2line_units.specs.declared.frames_lookup.FramesStop.{FramesStop}
+use Rattle.addr2line_units.specs.declared.frames_lookup.FramesStop.TheVariants as stops
+use Rattle.addr2line_units.specs.declared.unit.ResUnit.{ResUnit}
+use Rattle.addr2line_units.specs.declared.unit_frames.UnitEntries.{UnitEntries}
+use Rattle.addr2line_units.specs.declared.unit_frames.UnitFrames.{UnitFrames}
+use Rattle.addr2line_units.specs.declared.unit_frames.UnitFrames.TheVariants as found
+use Rattle.addr2line_units.specs.CachedLines.{cached_files, lines_at}
+use Rattle.addr2line_units.specs.Frames.{FrameRecord, found_frames}
+use Rattle.addr2line_units.specs.FramesLookup.{Stop, Waits, Finds, FindsNothing}
+use Rattle.addr2line_units.specs.CachedFunctions.{ArePlacesIn, function_of_place, cached_functions, no_functions}
+use Rattle.addr2line_units.specs.Parsed.{has_parsed}
+use Rattle.addr2line_units.specs.CachedEntries.{AreRead}
+use Rattle.addr2line_units.specs.CachedLookups.{has_entries_at}
+
+-- the functions that are cached of the unit of a number, none where there is no such unit
+abbrev pub functions_at : {R : Type 0} → List (UnitEntries R) → ℕ → FunctionTable
+functions_at views n = elim (slice_get views n)
+    [ None ↦ no_functions | Some v ↦ cached_functions v.functions ]
+
+-- the language of the unit of a number
+abbrev pub language_at : List ResUnit → ℕ → Option DwLang
+language_at units n = elim (slice_get units n) [ None ↦ None | Some u ↦ u.lang ]
+
+-- the frames of a place, by what is cached
+abbrev pub frames_at_place : {R : Type 0} → List ResUnit → List (UnitEntries R) → FramePlace
+    → List FrameRecord
+frames_at_place units views p =
+    found_frames (cached_files (lines_at units p.unit)) (language_at units p.unit)
+    (option_map (function_of_place (functions_at views p.unit)) p.function)
+    (option_map (location_of_row (cached_files (lines_at units p.unit))) p.row)
+
+-- the number of the unit of a place
+abbrev pub unit_of_place : FramePlace → ℕ
+unit_of_place p = p.unit
+
+-- what a lookup comes to, by what is cached
+abbrev pub seen_stop : {R : Type 0} → List ResUnit → List (UnitEntries R) → FramesStop → Stop
+seen_stop units views (stops.Waits n) = Waits n
+seen_stop units views (stops.Finds p) = Finds p.unit (frames_at_place units views p)
+seen_stop units views stops.FindsNothing = FindsNothing
+
+-- the places of a function and its inlined ones are among those that are cached of the unit, whose
+-- lines are read
+pub record IsFramePlaceIn {R : Type 0} (units : List ResUnit) (views : List (UnitEntries R))
+    (p : FramePlace) : Type 0 where
+  pub unit : p.unit < length units
+  pub function : IfSome p.function (ArePlacesIn (functions_at views p.unit))
+  pub lines : AreRead (lines_at units p.unit)
+
+-- the same of what a lookup comes to
+abbrev pub IsStopIn : {R : Type 0} → List ResUnit → List (UnitEntries R) → FramesStop → Type 0
+IsStopIn units views (stops.Finds p) = IsFramePlaceIn units views p
+IsStopIn units views _ = Unit {0}
+
+-- whether what the unit of a number has at the probe is known by what is cached of its entries, and
+-- its lines too if they are asked for
+abbrev pub has_frames_at : {R : Type 0} → (ℕ → Bool) → ℕ → List Bool → List (UnitEntries R) → ℕ
+    → Bool
+has_frames_at asks_lines probe parsed views n =
+    has_entries_at probe views n && (not (asks_lines n) || has_parsed parsed n)
+
+-- what the unit of a number has at an address, by what is cached
+abbrev pub frames_found_at : {R : Type 0} → List ResUnit → List (UnitEntries R) → ℕ → UnitFrames
+    → Option (List FrameRecord)
+frames_found_at units views n found.Open = None
+frames_found_at units views n (found.Here function row) = Some (frames_at_place units views
+    (record { unit = n; function = function; row = row }))
+
+-- the places that were found are among what is cached of the unit, as far as something was found
+abbrev pub AreFoundAt : {R : Type 0} → List ResUnit → List (UnitEntries R) → ℕ → UnitFrames
+    → Type 0
+AreFoundAt units views n (found.Here (Some function) row) = IsFramePlaceIn units views
+    (record { unit = n; function = Some function; row = row })
+AreFoundAt units views n (found.Here None (Some row)) = IsFramePlaceIn units views
+    (record { unit = n; function = None; row = Some row })
+AreFoundAt units views n _ = Unit {0}
+
+-- a fault as it is, or nothing in its place where a lookup passes over it
+abbrev pub found_after_fault : Faults → Result UnitFrames Error → Result UnitFrames Error
+found_after_fault PassOver (Err e) = elim e [ OutOfMemory ↦ Err OutOfMemory | _ ↦ nothing ]
+  where
+    nothing : Result UnitFrames Error
+    nothing = Ok (found.Here None None)
+found_after_fault _ found = found
+
+-- what a lookup comes to in the unit of a number, none where it goes on
+abbrev pub stop_of_found : ℕ → UnitFrames → Option FramesStop
+stop_of_found n found.Open = Some (stops.Waits n)
+stop_of_found n (found.Here None None) = None
+stop_of_found n (found.Here function row) =
+    Some (stops.Finds (record { unit = n; function = function; row = row }))

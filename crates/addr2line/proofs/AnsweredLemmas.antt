@@ -22,7 +22,8 @@ use Rattle.addr2line_units.specs.KnownEntries.{known_in}
 use Rattle.addr2line_units.specs.LoadLaws.{IsListed}
 use Rattle.addr2line_units.specs.LoadLaws as laws
 use Rattle.addr2line_units.specs.Loads.{is_open_at, load_of_number, loads_along}
-use Rattle.addr2line_units.specs.UnitIndex.{IndexedUnit, UnitIndex, unit_records}
+use Rattle.addr2line_units.specs.UnitIndex.{UnitIndex}
+use Rattle.addr2line_units.specs.RangedUnits.{IndexedUnit, unit_records}
 use Rattle.addr2line_units.specs.Views.{is_open}
 use Rattle.addr2line_units.proofs.CachedLookupLemmas.{as_many_entries}
 use Rattle.addr2line_units.proofs.KnownLemmas.{known_unchanged}

@@ -16,7 +16,8 @@ use Rattle.addr2line_units.specs.FramesLookup.{LookupAsks, Stop, Waits, answer_o
 use Rattle.addr2line_units.specs.KnownEntries.{KnownEntries}
 use Rattle.addr2line_units.specs.Parsed.{ParsesOnly, has_parsed}
 use Rattle.addr2line_units.specs.UnitFrames.{FramesAnswer, asks_lines_in, function_in}
-use Rattle.addr2line_units.specs.UnitIndex.{IndexedUnit, UnitIndex, index_units, unit_records}
+use Rattle.addr2line_units.specs.UnitIndex.{UnitIndex, index_units}
+use Rattle.addr2line_units.specs.RangedUnits.{IndexedUnit, unit_records}
 use Rattle.addr2line_units.specs.Views.{SplitLoad, is_open}
 use Rattle.addr2line_units.proofs.FramesLookupLemmas.{parses_more}
 use Rattle.addr2line_units.proofs.WaitLemmas.{same_number}

@@ -21,7 +21,8 @@ use Rattle.addr2line_units.specs.CachedLookups.{HaveEntriesOf, answers_in}
 use Rattle.addr2line_units.specs.KnownEntries.{known_in}
 use Rattle.gimli_line.specs.Opcode.{fault_of}
 use Rattle.addr2line_units.specs.Located.{along, all_lines, is_found, lines_of_unit, location_in, location_of, or_along, spans_in, spans_or_fault, looks_along, spans_along, spans_of}
-use Rattle.addr2line_units.specs.UnitIndex.{IndexedUnit, UnitIndex, index_units}
+use Rattle.addr2line_units.specs.UnitIndex.{UnitIndex, index_units}
+use Rattle.addr2line_units.specs.RangedUnits.{IndexedUnit}
 use Rattle.gimli_read.specs.Alike.{HadMemory}
 use Rattle.addr2line_units.specs.Parsed.{AllAskFor, AreAllParsed, AreParsed, AreReadyForAll, AsksFor, LeadTo, ParsesOnly, StaysParsed, decides, has_parsed, ready_along}
 use Rattle.addr2line_units.specs.RangeLookup.{cached_along}

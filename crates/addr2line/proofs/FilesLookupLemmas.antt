@@ -19,7 +19,8 @@ use Rattle.addr2line_units.specs.Cover.{cover}
 use Rattle.addr2line_units.specs.Frames.{FrameRecord}
 use Rattle.addr2line_units.specs.FramesLookup.{Stop, Waits, after_fault, answer_of, asked_frames, frames_of_number, is_waiting, main_scope, or_stop, stop_along, with_answer}
 use Rattle.addr2line_units.specs.UnitFrames.{FramesAnswer, frames_in}
-use Rattle.addr2line_units.specs.UnitIndex.{IndexedUnit, UnitIndex, index_units, unit_records}
+use Rattle.addr2line_units.specs.UnitIndex.{UnitIndex, index_units}
+use Rattle.addr2line_units.specs.RangedUnits.{IndexedUnit, unit_records}
 use Rattle.addr2line_units.specs.Views.{SplitLoad, awaited_by, awaited_load, decided_answer, is_open, load_of_unit, verdict_by}
 use Rattle.addr2line_units.proofs.AnswerLemmas.{decided_if_open, no_answer, others_stay}
 use Rattle.addr2line_units.proofs.LoadLawLemmas.{waits_listed}

@@ -14,7 +14,8 @@ use Rattle.addr2line_units.specs.FramesLookup.{Stop, Waits, Finds, FindsNothing,
 use Rattle.addr2line_units.specs.LoadLaws.{IsListed}
 use Rattle.addr2line_units.specs.LoadLaws as laws
 use Rattle.addr2line_units.specs.Loads.{is_of_other, load_of_number, loads_along}
-use Rattle.addr2line_units.specs.UnitIndex.{IndexedUnit, UnitIndex, index_units, unit_records}
+use Rattle.addr2line_units.specs.UnitIndex.{UnitIndex, index_units}
+use Rattle.addr2line_units.specs.RangedUnits.{IndexedUnit, unit_records}
 use Rattle.addr2line_units.specs.Views.{SplitLoad, decided_answer}
 use Rattle.addr2line_units.proofs.LoadLawLemmas.{others_left, waits_listed}
 use Rattle.addr2line.specs.Answers.{answered}

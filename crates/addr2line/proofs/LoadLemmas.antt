@@ -24,7 +24,8 @@ use Rattle.addr2line_units.specs.CachedParses.{ChangesOnly, HaveRead, StayDecide
 use Rattle.addr2line_units.specs.KnownEntries.{known_in, knows_at}
 use Rattle.addr2line_units.specs.Loads.{NoneOpen, forget_result, forgotten, is_open_at, load_of_number, load_result, loads_along}
 use Rattle.gimli_read.specs.Alike.{HadMemory}
-use Rattle.addr2line_units.specs.UnitIndex.{UnitIndex, unit_records}
+use Rattle.addr2line_units.specs.UnitIndex.{UnitIndex}
+use Rattle.addr2line_units.specs.RangedUnits.{unit_records}
 use Rattle.addr2line_units.proofs.CachedLookupLemmas.{as_many_entries}
 use Rattle.addr2line_units.proofs.KnownLemmas.{known_is, known_unchanged}
 use Rattle.addr2line_units.proofs.LoadLemmas.{as_many_answers}

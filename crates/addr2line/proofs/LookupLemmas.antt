@@ -24,7 +24,8 @@ use Rattle.addr2line_units.specs.CachedFrames.{has_frames_at, seen_stop}
 use Rattle.addr2line_units.specs.KnownEntries.{known_in}
 use Rattle.gimli_read.specs.Alike.{HadMemory}
 use Rattle.addr2line_units.specs.Parsed.{ParsesOnly, has_parsed}
-use Rattle.addr2line_units.specs.UnitIndex.{IndexedUnit, UnitIndex, index_units, sup_sections, unit_records}
+use Rattle.addr2line_units.specs.UnitIndex.{UnitIndex, index_units, sup_sections}
+use Rattle.addr2line_units.specs.RangedUnits.{IndexedUnit, unit_records}
 use Rattle.addr2line_units.specs.Views.{SplitLoad, load_of_unit, parts_of}
 use Rattle.addr2line_units.specs.UnitFrames.{FramesAnswer}
 use Rattle.addr2line_units.proofs.EndedLemmas.{ended_where_decided}

@@ -12,8 +12,8 @@ use Rattle.addr2line_units.specs.CachedLines.{HaveLinesOf, indexed_units, parsed
 use Rattle.addr2line_units.specs.Indexed.{IndexState, context_takes_memory, index_of, index_takes_memory, sup_takes_memory}
 use Rattle.addr2line_units.specs.CachedLookups.{AreFreshOf, answers_in}
 use Rattle.addr2line_units.specs.KnownEntries.{KnownEntries, NothingKnown, known_in}
-use Rattle.addr2line_units.specs.UnitIndex.{IndexedUnit, UnitIndex, indexed_of, index_units, sup_units, unit_records}
-use Rattle.addr2line_units.specs.RangedUnits.{RangedUnit, has_lines, ranged_units, unit_ranges_from}
+use Rattle.addr2line_units.specs.UnitIndex.{UnitIndex, index_units, sup_units}
+use Rattle.addr2line_units.specs.RangedUnits.{IndexedUnit, indexed_of, unit_records, RangedUnit, has_lines, ranged_units, unit_ranges_from}
 use Rattle.addr2line_units.proofs.KnownLemmas.{nothing_known}
 use Rattle.addr2line_units.proofs.ScopeLemmas.{no_answers, records_beside}
 use Rattle.addr2line.specs.Context.{ContextState, new_context}

@@ -18,7 +18,8 @@ use Rattle.addr2line_units.specs.FramesLookup.{Stop, Waits, Finds, FindsNothing,
 use Rattle.gimli_read.specs.Alike.{HadMemory}
 use Rattle.addr2line_units.specs.Parsed.{StaysParsed, has_parsed}
 use Rattle.addr2line_units.specs.Suspended.{IfOutput}
-use Rattle.addr2line_units.specs.UnitIndex.{UnitIndex, index_units, unit_records}
+use Rattle.addr2line_units.specs.UnitIndex.{UnitIndex, index_units}
+use Rattle.addr2line_units.specs.RangedUnits.{unit_records}
 use Rattle.addr2line_units.specs.Views.{SplitLoad, load_by, load_of_unit, split_name_of}
 use Rattle.addr2line.proofs.HistoryLemmas.{HasGiven, given_all, given_last, given_more, given_up, resumed_answers, resumed_begun, resumed_parsed, resumed_sections}
 use Rattle.addr2line.specs.Answers.{AfterResume, SuspendsAgain, answered}

@@ -20,7 +20,8 @@ use Rattle.addr2line_units.specs.Frames.{FrameRecord}
 use Rattle.addr2line_units.specs.FramesLookup.{Stop, Waits, Finds, FindsNothing, after_fault, answer_of, asked_frames, frames_of_number, is_waiting, main_scope, or_stop, readable_view, stop_along, view_of_number, with_answer}
 use Rattle.addr2line_units.specs.Suspended.{IfLoad, IfOutput, SkipsTo}
 use Rattle.addr2line_units.specs.UnitFrames.{FramesAnswer, frames_by, frames_in, function_by}
-use Rattle.addr2line_units.specs.UnitIndex.{IndexedUnit, UnitIndex, index_units, unit_records}
+use Rattle.addr2line_units.specs.UnitIndex.{UnitIndex, index_units}
+use Rattle.addr2line_units.specs.RangedUnits.{IndexedUnit, unit_records}
 use Rattle.addr2line_units.specs.Views.{SplitLoad, View, decided_answer, is_open, load_of_unit, parts_of, verdict, verdict_by}
 use Rattle.addr2line_units.proofs.FoundLemmas.{always_along, decided_by_frames, found_along, found_by_unit, has_frames}
 use Rattle.addr2line.specs.Answers.{answered}

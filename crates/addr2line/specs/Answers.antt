@@ -7,7 +7,8 @@ use Rattle.gimli_read.specs.declared.error.Error.TheVariants.{OutOfMemory}
 use Rattle.gimli.specs.Sections.{Sections}
 use Rattle.addr2line_units.specs.declared.frames_lookup.Faults.{Faults}
 use Rattle.addr2line_units.specs.FramesLookup.{with_answer}
-use Rattle.addr2line_units.specs.UnitIndex.{index_units, unit_records}
+use Rattle.addr2line_units.specs.UnitIndex.{index_units}
+use Rattle.addr2line_units.specs.RangedUnits.{unit_records}
 use Rattle.addr2line.specs.Context.{ContextState}
 use Rattle.addr2line.specs.AfterLookups.{AfterFrames, StaysKnown, Suspends}
 use Rattle.addr2line.specs.Lookups.{FirstAnswers}

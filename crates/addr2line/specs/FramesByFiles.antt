@@ -13,7 +13,8 @@ use Rattle.addr2line_units.specs.Cover.{cover}
 use Rattle.addr2line_units.specs.Frames.{FrameRecord}
 use Rattle.addr2line_units.specs.FramesLookup.{Stop, answer_of, frames_found, main_scope}
 use Rattle.addr2line_units.specs.UnitFrames.{FramesAnswer, frames_in}
-use Rattle.addr2line_units.specs.UnitIndex.{IndexedUnit, UnitIndex, index_units}
+use Rattle.addr2line_units.specs.UnitIndex.{UnitIndex, index_units}
+use Rattle.addr2line_units.specs.RangedUnits.{IndexedUnit}
 use Rattle.addr2line_units.specs.Views.{SplitLoad, awaited_load}
 use Rattle.addr2line.specs.Files.{Files}
 use Rattle.addr2line.specs.Lookups.{FirstAnswers}

@@ -15,7 +15,8 @@ use Rattle.addr2line_units.specs.FunctionParses.{AreFirstDecided}
 use Rattle.addr2line_units.specs.Loads.{forgotten}
 use Rattle.addr2line_units.specs.Located.{location_of, spans_of}
 use Rattle.addr2line_units.specs.Parsed.{StaysParsed}
-use Rattle.addr2line_units.specs.UnitIndex.{UnitIndex, index_units, unit_records}
+use Rattle.addr2line_units.specs.UnitIndex.{UnitIndex, index_units}
+use Rattle.addr2line_units.specs.RangedUnits.{unit_records}
 use Rattle.addr2line.specs.Answers.{answered}
 use Rattle.addr2line.specs.Context.{ContextState, lines_of_all}
 use Rattle.addr2line.specs.Loads.{forget_reply, load_reply, parse_reply, parsed_answers}

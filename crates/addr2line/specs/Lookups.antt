@@ -13,7 +13,8 @@ use Rattle.addr2line_units.specs.Cover.{cover}
 use Rattle.addr2line_units.specs.Frames.{FrameRecord}
 use Rattle.addr2line_units.specs.FramesLookup.{Stop, Waits, Finds, FindsNothing, asked_frames, main_scope, stop_along, unit_found}
 use Rattle.addr2line_units.specs.Loads.{load_of_number, loads_along}
-use Rattle.addr2line_units.specs.UnitIndex.{UnitIndex, index_units, unit_records}
+use Rattle.addr2line_units.specs.UnitIndex.{UnitIndex, index_units}
+use Rattle.addr2line_units.specs.RangedUnits.{unit_records}
 use Rattle.addr2line_units.specs.Views.{SplitLoad, load_of_unit}
 use Rattle.addr2line_units.specs.UnitFrames.{FramesAnswer}
 

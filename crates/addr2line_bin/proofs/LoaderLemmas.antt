@@ -18,7 +18,8 @@ use Rattle.addr2line_units.specs.Frames.{FrameRecord}
 use Rattle.addr2line_units.specs.FramesLookup.{is_waiting}
 use Rattle.addr2line_units.specs.Located.{location_in, location_of}
 use Rattle.addr2line_units.specs.Parsed.{StaysParsed, decides, has_parsed, ready_along}
-use Rattle.addr2line_units.specs.UnitIndex.{IndexedUnit, index_units}
+use Rattle.addr2line_units.specs.UnitIndex.{index_units}
+use Rattle.addr2line_units.specs.RangedUnits.{IndexedUnit}
 use Rattle.addr2line.proofs.NoLoadLemmas.{last_frames}
 use Rattle.addr2line.specs.Context.{ContextState, IsReady, IsUncovered, Stays}
 use Rattle.addr2line.specs.Files.{Files}

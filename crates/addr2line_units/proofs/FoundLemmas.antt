@@ -22,7 +22,7 @@ use Rattle.addr2line_units.specs.CachedLookups.{HaveEntriesOf, answers_in, decid
 use Rattle.addr2line_units.specs.CachedFrames.{has_frames_at}
 use Rattle.addr2line_units.specs.CachedViews.{is_decided, waits, was_looked_at}
 use Rattle.addr2line_units.specs.UnitFrames.{FramesAnswer, frames_by, frames_in, function_in}
-use Rattle.addr2line_units.specs.UnitIndex.{IndexedUnit}
+use Rattle.addr2line_units.specs.RangedUnits.{IndexedUnit}
 use Rattle.addr2line_units.specs.Views.{is_open}
 use Rattle.addr2line_units.proofs.AnswerLemmas.{looked_waits}
 use Rattle.addr2line_units.proofs.WaitLemmas.{and_first, and_second, known_was_looked_at}

@@ -8,8 +8,8 @@ use Rattle.std.proofs.lemmas.Slice.Eq.{starts_is}
 use Rattle.std.proofs.lemmas.Bool.{eqb-true}
 use Rattle.std.proofs.lemmas.Bool.Decides.{Decides-eqb}
 use Rattle.addr2line_units.proofs.LegacySteps.{and_left, and_right, some_if, some_inj}
-use Rattle.addr2line_units.specs.LegacyName.{llvm_mark, is_llvm_byte, IsFirstMark, IsKept, cut, whole, prefixes, hashed, all, is_suffix}
-use Rattle.addr2line_units.specs.LegacyElements.{is_hash, AreShown}
+use Rattle.addr2line_units.specs.LegacyName.{llvm_mark, is_llvm_byte, IsFirstMark, IsKept, cut, whole, prefixes, is_suffix}
+use Rattle.addr2line_units.specs.LegacyElements.{is_hash, AreShown, hashed, all}
 use Rattle.addr2line_units.specs.LegacyText.{without_llvm, after_first, without_prefix, without_hash, suffix_at}
 
 -- a mark stands first

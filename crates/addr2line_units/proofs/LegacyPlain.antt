@@ -15,8 +15,7 @@ use Rattle.std.proofs.lemmas.List.Elements.{All-contains}
 use Rattle.std.proofs.lemmas.Map.Views.{Contains-from_lookup}
 use Rattle.std.proofs.lemmas.Slice.Eq.{bytes_eq-Decides, starts_is}
 use Rattle.addr2line_units.proofs.LegacySteps.{and_left, and_right, some_if, some_inj, plain_skip}
-use Rattle.addr2line_units.specs.LegacyElements.{is_lower_hex, escapes, IsEscape, NoEscape, is_first, is_dot, IsPlain, IsElementText, AreTexts}
-use Rattle.addr2line_units.specs.LegacyName.{by_name, by_number, nothing, dots, escape, as_it_stands, any_other, bare, other}
+use Rattle.addr2line_units.specs.LegacyElements.{is_lower_hex, escapes, IsEscape, NoEscape, is_first, is_dot, IsPlain, IsElementText, AreTexts, by_name, by_number, nothing, dots, escape, as_it_stands, any_other, bare, other}
 use Rattle.addr2line_units.specs.LegacyText.{shown_char, numbered_char, escape_char, escape_in, escape_text, plain_from, element_text}
 
 or_cond : (a b : Bool) → (a || b) ≡ cond a true b

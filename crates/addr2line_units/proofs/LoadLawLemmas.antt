@@ -17,7 +17,7 @@ use Rattle.addr2line_units.specs.LoadLaws.{IsListed, LeaveFewer, LeaveOthers, Ne
 use Rattle.addr2line_units.specs.Loads.{before_others, is_of_other, is_open_at, load_of_number, loads_along}
 use Rattle.addr2line_units.specs.Parsed.{LeadTo}
 use Rattle.addr2line_units.specs.UnitFrames.{FramesAnswer, frames_in}
-use Rattle.addr2line_units.specs.UnitIndex.{IndexedUnit, unit_records}
+use Rattle.addr2line_units.specs.RangedUnits.{IndexedUnit, unit_records}
 use Rattle.addr2line_units.specs.Views.{SplitLoad, awaited_by, awaited_load, decided_answer, is_open, load_of_unit}
 use Rattle.addr2line_units.proofs.AnswerLemmas.{decided_if_not, decided_if_open, no_answer, others_stay}
 use Rattle.addr2line_units.proofs.LoadLemmas.{answer_after, awaited_unit, filter_twice, open_awaits}

@@ -26,7 +26,7 @@ use Rattle.addr2line_units.specs.CachedFunctions.{details_at, functions_fault}
 use Rattle.gimli_line.specs.Opcode.{fault_of}
 use Rattle.addr2line_units.specs.Located.{all_lines, lines_of_unit}
 use Rattle.addr2line_units.specs.UnitFrames.{FramesAnswer, frames_by, frames_in, function_by, function_in}
-use Rattle.addr2line_units.specs.UnitIndex.{IndexedUnit, unit_records}
+use Rattle.addr2line_units.specs.RangedUnits.{IndexedUnit, unit_records}
 use Rattle.addr2line_units.specs.Views.{View, decided_answer, is_open, verdict, view_scope}
 use Rattle.addr2line_units.proofs.CachedFunctionLemmas.{function_is}
 use Rattle.addr2line_units.proofs.ParseLemmas.{decided_verdict}

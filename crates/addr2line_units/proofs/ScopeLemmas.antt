@@ -27,8 +27,8 @@ use Rattle.addr2line_units.specs.CachedFunctions.{AreFunctionsOf, were_read}
 use Rattle.addr2line_units.specs.CachedLookups.{AreFreshOf, HaveEntriesOf, answers_in}
 use Rattle.addr2line_units.specs.CachedViews.{answer_in, verdict_in, was_looked_at}
 use Rattle.addr2line_units.specs.UnitAranges.{aranges_in}
-use Rattle.addr2line_units.specs.RangedUnits.{RangedUnit, given_in_unit, is_type_unit, ranged_units, unit_ranges_from, unit_of_header, unless_faulty, units_of}
-use Rattle.addr2line_units.specs.UnitIndex.{UnitIndex, index_units, indexed_of, sup_sections, sup_unit_of_header, sup_units, unit_records}
+use Rattle.addr2line_units.specs.RangedUnits.{indexed_of, unit_records, RangedUnit, given_in_unit, is_type_unit, ranged_units, unit_ranges_from, unit_of_header, unless_faulty, units_of}
+use Rattle.addr2line_units.specs.UnitIndex.{UnitIndex, index_units, sup_sections, sup_unit_of_header, sup_units}
 use Rattle.addr2line_units.specs.Views.{View, verdict, view_scope}
 
 -- the unit of a header has it

@@ -23,7 +23,7 @@ use Rattle.addr2line_units.specs.CachedFunctions.{StayFunctions, cached_function
 use Rattle.addr2line_units.specs.CachedViews.{IsViewOf, answer_in, seen_first_answer, waits, was_looked_at}
 use Rattle.addr2line_units.specs.Located.{location_in}
 use Rattle.addr2line_units.specs.UnitFrames.{asks_lines_in, frames_by, frames_in, function_in}
-use Rattle.addr2line_units.specs.UnitIndex.{IndexedUnit}
+use Rattle.addr2line_units.specs.RangedUnits.{IndexedUnit}
 use Rattle.addr2line_units.specs.Views.{is_open}
 use Rattle.addr2line_units.proofs.ViewLemmas.{waiting_is_open}
 

@@ -22,8 +22,8 @@ use Rattle.addr2line_lines.specs.Rows.{read_all, result_map}
 use Rattle.addr2line_units.specs.declared.aranges.UnitArange.{UnitArange}
 use Rattle.addr2line_units.specs.declared.index.UnitRange.{UnitRange}
 use Rattle.addr2line_units.specs.Indexed.{IndexState, appended, has_abbreviations, index_of, index_takes_memory, indexed, indexed_with, or_with_ranged, some_take_memory, indexed_unit_takes_memory, units_take_memory, with_header, with_ranged}
-use Rattle.addr2line_units.specs.UnitIndex.{IndexedUnit, indexed_of, sup_unit_of_header}
-use Rattle.addr2line_units.specs.RangedUnits.{RangedUnit, has_lines, is_type_unit, range_of_unit, ranged_unit, unit_ranges_from, unit_of_header, unit_ranges, units_of, unless_faulty}
+use Rattle.addr2line_units.specs.UnitIndex.{sup_unit_of_header}
+use Rattle.addr2line_units.specs.RangedUnits.{IndexedUnit, indexed_of, RangedUnit, has_lines, is_type_unit, range_of_unit, ranged_unit, unit_ranges_from, unit_of_header, unit_ranges, units_of, unless_faulty}
 use Rattle.addr2line_units.specs.UnitAranges.{aranges_in, lists_aranges, set_aranges, some_lists}
 
 -- what was left, by what a call gave of it

@@ -18,8 +18,7 @@ use Rattle.addr2line_units.specs.declared.unit.LazyLines.{LazyLines}
 use Rattle.addr2line_units.specs.declared.unit.ResUnit.{ResUnit}
 use Rattle.addr2line_units.specs.declared.index.UnitRange.{UnitRange}
 use Rattle.addr2line_units.specs.Indexed.{IndexState, ranged_seen, with_ranged}
-use Rattle.addr2line_units.specs.UnitIndex.{IndexedUnit}
-use Rattle.addr2line_units.specs.RangedUnits.{has_lines, range_of_unit, unit_ranges}
+use Rattle.addr2line_units.specs.RangedUnits.{IndexedUnit, has_lines, range_of_unit, unit_ranges}
 use Rattle.gimli_line.specs.Opcode.{fault_of}
 use Rattle.addr2line_units.specs.Located.{all_lines, along, lines_of_unit, location_in, looks_along, looks_in, or_along}
 use Rattle.gimli_read.specs.Alike.{HadMemory}

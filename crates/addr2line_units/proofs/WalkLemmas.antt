@@ -12,7 +12,7 @@ use Rattle.addr2line_units.specs.CachedLines.{StayUnits, indexed_units}
 use Rattle.addr2line_units.specs.Frames.{FrameRecord}
 use Rattle.addr2line_units.specs.FramesLookup.{LookupAsks}
 use Rattle.addr2line_units.specs.CachedLookups.{StayAllEntries, answers_in}
-use Rattle.addr2line_units.specs.UnitIndex.{IndexedUnit}
+use Rattle.addr2line_units.specs.RangedUnits.{IndexedUnit}
 use Rattle.addr2line_units.specs.UnitFrames.{FramesAnswer}
 use Rattle.addr2line_units.proofs.CachedLookupLemmas.{same_answers}
 use Rattle.addr2line_units.proofs.UnitsLemmas.{stay_indexed}

@@ -18,7 +18,7 @@ use Rattle.addr2line_units.specs.declared.place.Place.{Place}
 use Rattle.addr2line_units.specs.declared.unit.LazyLines.{LazyLines}
 use Rattle.addr2line_units.specs.declared.unit.LazyLines.TheVariants.{Unread, Read, Faulty}
 use Rattle.addr2line_units.specs.declared.unit.ResUnit.{ResUnit}
-use Rattle.addr2line_units.specs.UnitIndex.{IndexedUnit}
+use Rattle.addr2line_units.specs.RangedUnits.{IndexedUnit}
 use Rattle.gimli_line.specs.Opcode.{fault_of}
 use Rattle.addr2line_units.specs.Located.{all_read}
 

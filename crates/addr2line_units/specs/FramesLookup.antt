@@ -12,7 +12,8 @@ use Rattle.addr2line_units.specs.declared.frames_lookup.Faults.{Faults}
 use Rattle.addr2line_units.specs.declared.frames_lookup.Faults.TheVariants.{End, PassOver}
 use Rattle.addr2line_units.specs.Frames.{FrameRecord}
 use Rattle.addr2line_units.specs.UnitFrames.{FramesAnswer, asks_lines_in, frames_in, has_many}
-use Rattle.addr2line_units.specs.UnitIndex.{IndexedUnit, UnitIndex, sup_sections, unit_records}
+use Rattle.addr2line_units.specs.UnitIndex.{UnitIndex, sup_sections}
+use Rattle.addr2line_units.specs.RangedUnits.{IndexedUnit, unit_records}
 use Rattle.addr2line_units.specs.Views.{View, decided_answer, parts_of, verdict}
 
 -- where references lead from a unit of a context

@@ -12,7 +12,7 @@ use Rattle.addr2line_units.specs.FramesLookup.{Stop, Waits, asked_frames, stop_a
 use Rattle.addr2line_units.specs.FunctionParses.{answers_after_parse, read_of_units}
 use Rattle.gimli_line.specs.Opcode.{fault_of}
 use Rattle.addr2line_units.specs.Located.{all_lines}
-use Rattle.addr2line_units.specs.UnitIndex.{IndexedUnit, unit_records}
+use Rattle.addr2line_units.specs.RangedUnits.{IndexedUnit, unit_records}
 
 -- what a lookup comes to is no fault, and it waits for no unit
 abbrev pub IsReached : Result Stop Error → Type 0

@@ -15,8 +15,8 @@ use Rattle.addr2line_units.specs.declared.unit.ResUnit.{ResUnit}
 use Rattle.addr2line_units.specs.declared.units.Index.{Index}
 use Rattle.addr2line_units.specs.declared.units.ResUnits.{ResUnits}
 use Rattle.addr2line_units.specs.CachedLines.{indexed_unit, indexed_units, parsed_units}
-use Rattle.addr2line_units.specs.UnitIndex.{IndexedUnit, indexed_of, sup_sections}
-use Rattle.addr2line_units.specs.RangedUnits.{RangedUnit, has_lines, is_type_unit, range_of_unit, ranged_units, unit_ranges_from, unit_of_header, unit_ranges, units_of}
+use Rattle.addr2line_units.specs.UnitIndex.{sup_sections}
+use Rattle.addr2line_units.specs.RangedUnits.{IndexedUnit, indexed_of, RangedUnit, has_lines, is_type_unit, range_of_unit, ranged_units, unit_ranges_from, unit_of_header, unit_ranges, units_of}
 use Rattle.addr2line_units.specs.UnitAranges.{aranges_in, lists_aranges}
 
 -- units, the ranges that lead to them, and of which units the lines are parsed

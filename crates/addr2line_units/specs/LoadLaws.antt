@@ -8,7 +8,7 @@ use Rattle.addr2line_units.specs.declared.frames_lookup.Faults.{Faults}
 use Rattle.addr2line_units.specs.declared.index.UnitRange.{UnitRange}
 use Rattle.addr2line_units.specs.FramesLookup.{Waits, asked_frames, stop_along, with_answer}
 use Rattle.addr2line_units.specs.Loads.{is_of_other, is_open_at, load_of_number, loads_along}
-use Rattle.addr2line_units.specs.UnitIndex.{IndexedUnit, unit_records}
+use Rattle.addr2line_units.specs.RangedUnits.{IndexedUnit, unit_records}
 use Rattle.addr2line_units.specs.Views.{SplitLoad}
 
 -- the load of the unit of a number is listed

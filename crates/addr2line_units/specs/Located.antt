@@ -14,7 +14,8 @@ use Rattle.addr2line_lines.specs.RangeLocations.{LocatedSpan, locations_in_range
 use Rattle.addr2line_lines.specs.Rows.{read_all}
 use Rattle.addr2line_lines.specs.UnitLines.{unit_lines}
 use Rattle.addr2line_units.specs.declared.index.UnitRange.{UnitRange}
-use Rattle.addr2line_units.specs.UnitIndex.{IndexedUnit, index_units}
+use Rattle.addr2line_units.specs.UnitIndex.{index_units}
+use Rattle.addr2line_units.specs.RangedUnits.{IndexedUnit}
 use Rattle.addr2line_units.specs.Cover.{cover, cover_range}
 
 -- the lines of a unit, or their fault

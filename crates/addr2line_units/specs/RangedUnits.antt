@@ -23,12 +23,24 @@ use Rattle.addr2line_units.specs.declared.aranges.UnitArange.{UnitArange}
 use Rattle.addr2line_units.specs.declared.index.UnitRange.{UnitRange}
 use Rattle.addr2line_units.specs.UnitAranges.{aranges_at, aranges_in}
 use Rattle.addr2line_units.specs.UnitAttributes.{unit_attributes}
-use Rattle.addr2line_units.specs.UnitIndex.{IndexedUnit}
+
+-- a unit and its language
+pub record IndexedUnit : Type 0 where
+  pub unit : UnitRecord
+  pub language : Option DwLang
 
 -- a unit with the ranges that .debug_aranges or its attributes give
 pub record RangedUnit : Type 0 where
   pub indexed : IndexedUnit
   pub given : List Range
+
+-- the units without their languages
+abbrev pub unit_records : List IndexedUnit → List UnitRecord
+unit_records units = map (λ (u : IndexedUnit). u.unit) units
+
+-- the unit without its ranges
+abbrev pub indexed_of : RangedUnit → IndexedUnit
+indexed_of u = u.indexed
 
 -- whether a unit describes types alone
 abbrev pub is_type_unit : UnitType → Bool

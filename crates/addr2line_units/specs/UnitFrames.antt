@@ -12,7 +12,7 @@ use Rattle.addr2line_lines.specs.ManyInlined.{are_many}
 use Rattle.addr2line_lines.specs.References.{Scope}
 use Rattle.addr2line_lines.specs.UnitLines.{unit_lines}
 use Rattle.addr2line_units.specs.Frames.{FoundFunction, FrameRecord, found_frames, function_at}
-use Rattle.addr2line_units.specs.UnitIndex.{IndexedUnit}
+use Rattle.addr2line_units.specs.RangedUnits.{IndexedUnit}
 use Rattle.addr2line_units.specs.Views.{View, is_open, verdict, view_scope}
 
 -- the function at the probe in a view, or the first fault of the view, its functions and the detail

@@ -6,23 +6,14 @@
 use Rattle.std.specs.Prelude.{List, [], map, Option, Some, None, Result, Ok}
 use Rattle.std.specs.Result.{result_ok}
 use Rattle.gimli_read.specs.declared.error.Error.{Error}
-use Rattle.gimli_read.specs.declared.constants.DwLang.{DwLang}
+use Rattle.gimli_read.specs.Reading.{◌>>=◌}
 use Rattle.gimli.specs.declared.dwarf.DwarfFileType.TheVariants.{Main}
 use Rattle.gimli.specs.Header.{UnitHeaderFields}
 use Rattle.gimli.specs.Sections.{Sections, SupSections}
 use Rattle.gimli.specs.Unit.{UnitRecord, unit_record_of}
 use Rattle.gimli.specs.UnitsLeft.{all_headers}
 use Rattle.addr2line_units.specs.declared.index.UnitRange.{UnitRange}
-use Rattle.addr2line_units.specs.RangedUnits.{RangedUnit, units_of, unit_ranges_from, ranged_units}
-
--- a unit and its language
-pub record IndexedUnit : Type 0 where
-  pub unit : UnitRecord
-  pub language : Option DwLang
-
--- the units without their languages
-abbrev pub unit_records : List IndexedUnit → List UnitRecord
-unit_records units = map (λ (u : IndexedUnit). u.unit) units
+use Rattle.addr2line_units.specs.RangedUnits.{IndexedUnit, indexed_of, RangedUnit, units_of, unit_ranges_from, ranged_units}
 
 -- what a context is made of
 pub record UnitIndex : Type 0 where
@@ -33,10 +24,6 @@ pub record UnitIndex : Type 0 where
 -- the unit of a header of the supplementary file, none where its record is faulty
 abbrev pub sup_unit_of_header : Sections → UnitHeaderFields → Result (Option UnitRecord) Error
 sup_unit_of_header d h = Ok (result_ok (unit_record_of d h))
-
--- the unit without its ranges
-abbrev pub indexed_of : RangedUnit → IndexedUnit
-indexed_of u = u.indexed
 
 -- the sections of a supplementary file as those of a file of its own
 abbrev pub sup_sections : SupSections → Sections

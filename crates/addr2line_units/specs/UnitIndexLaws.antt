@@ -3,7 +3,8 @@
 use Rattle.std.specs.Prelude.{◌≡◌, Ok}
 use Rattle.gimli.specs.Sections.{Sections}
 use Rattle.addr2line_lines.specs.References.{AreInOrder}
-use Rattle.addr2line_units.specs.UnitIndex.{UnitIndex, index_units, unit_records}
+use Rattle.addr2line_units.specs.UnitIndex.{UnitIndex, index_units}
+use Rattle.addr2line_units.specs.RangedUnits.{unit_records}
 
 -- each unit of a context ends before a later one begins
 abbrev pub UnitsInOrder : Type 0

@@ -1,5 +1,5 @@
 -- Ranges of units in order (on specs/UnitIndex.antt).
-use Rattle.std.proofs.Common.{ℕ, ◌≡◌, ◌+◌, ◌≤◌, Ordering, Less, Equal, Greater, Bool, true, false, cond, not, ◌&&◌, nat_le, nat_lt, nat_cmp, List, [], ◌∷◌, get_or, arith, ◌∙◌, ap, sym, refl, zero, suc}
+use Rattle.std.proofs.Common.{ℕ, ◌≡◌, ◌+◌, ◌≤◌, Bool, true, false, cond, not, ◌&&◌, nat_le, nat_lt, nat_cmp, List, [], ◌∷◌, get_or, arith, ◌∙◌, ap, sym, refl, zero, suc}
 use Rattle.std.specs.Cmp.{IsStrictWeakOrder}
 use Rattle.std.specs.List.{filter, AllByRecursion}
 use Rattle.std.specs.List.Sorted.{IsSortedBy, IsSortedByKey, ties}

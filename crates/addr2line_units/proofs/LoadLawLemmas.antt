@@ -11,7 +11,6 @@ use Rattle.gimli.specs.Sections.{Sections}
 use Rattle.gimli.specs.Unit.{UnitRecord}
 use Rattle.addr2line_lines.specs.References.{Scope}
 use Rattle.addr2line_units.specs.declared.index.UnitRange.{UnitRange}
-use Rattle.addr2line_units.specs.Frames.{FrameRecord}
 use Rattle.addr2line_units.specs.FramesLookup.{Waits, answer_of, asked_frames, frames_of_number, or_stop, stop_along, with_answer}
 use Rattle.addr2line_units.specs.LoadLaws.{IsListed, LeaveFewer, LeaveOthers, NeedLoadsToWait, WaitForListed, loads_of}
 use Rattle.addr2line_units.specs.Loads.{before_others, is_of_other, is_open_at, load_of_number, loads_along}

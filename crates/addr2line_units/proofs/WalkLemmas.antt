@@ -1,7 +1,6 @@
 -- What a step of a lookup of frames says, by the units and answers at its start (on
 -- specs/FramesLookup.antt and specs/CachedLookups.antt).
-use Rattle.std.proofs.Common.{◌≡◌, ℕ, Bool, true, false, ◌&&◌, not, List, ◌∷◌, Option, Result, refl, sym, subst, inl}
-use Rattle.gimli_read.specs.declared.error.Error.{Error}
+use Rattle.std.proofs.Common.{◌≡◌, ℕ, Bool, true, false, ◌&&◌, not, List, ◌∷◌, Option, refl, sym, subst, inl}
 use Rattle.gimli.specs.Sections.{Sections}
 use Rattle.gimli.specs.Unit.{UnitRecord}
 use Rattle.addr2line_lines.specs.References.{FileRecord, Scope}
@@ -9,7 +8,6 @@ use Rattle.addr2line_units.specs.declared.index.UnitRange.{UnitRange}
 use Rattle.addr2line_units.specs.declared.unit.ResUnit.{ResUnit}
 use Rattle.addr2line_units.specs.declared.unit_frames.UnitEntries.{UnitEntries}
 use Rattle.addr2line_units.specs.CachedLines.{StayUnits, indexed_units}
-use Rattle.addr2line_units.specs.Frames.{FrameRecord}
 use Rattle.addr2line_units.specs.FramesLookup.{LookupAsks}
 use Rattle.addr2line_units.specs.CachedLookups.{StayAllEntries, answers_in}
 use Rattle.addr2line_units.specs.RangedUnits.{IndexedUnit}

@@ -9,7 +9,6 @@ use Rattle.addr2line_units.specs.declared.frames_lookup.FramesStop.TheVariants a
 use Rattle.addr2line_units.specs.declared.index.UnitRange.{UnitRange}
 use Rattle.addr2line_units.specs.declared.sup.SupUnits.{SupUnits}
 use Rattle.addr2line_units.specs.declared.unit_frames.UnitEntries.{UnitEntries}
-use Rattle.addr2line_units.specs.FramesLookup.{Waits}
 use Rattle.addr2line_units.specs.CachedViews.{IsViewOf, is_decided, waits}
 use Rattle.addr2line_units.specs.CachedEntries.{AreEntriesOf, AreFresh, ReadsEntriesOf, StayEntries, has_entries, cached_answer}
 

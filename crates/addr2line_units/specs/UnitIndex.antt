@@ -13,7 +13,7 @@ use Rattle.gimli.specs.Sections.{Sections, SupSections}
 use Rattle.gimli.specs.Unit.{UnitRecord, unit_record_of}
 use Rattle.gimli.specs.UnitsLeft.{all_headers}
 use Rattle.addr2line_units.specs.declared.index.UnitRange.{UnitRange}
-use Rattle.addr2line_units.specs.RangedUnits.{IndexedUnit, indexed_of, RangedUnit, units_of, unit_ranges_from, ranged_units}
+use Rattle.addr2line_units.specs.RangedUnits.{IndexedUnit, indexed_of, units_of, unit_ranges_from, ranged_units}
 
 -- what a context is made of
 pub record UnitIndex : Type 0 where

@@ -1,7 +1,7 @@
 //! The checksums of crates/line_speed by a plain register loop, for versions 2 to 5 in little endian order with
 //! addresses of 8 bytes and one operation an instruction.
 //!
-//! Arguments: a mode and a file, as there. `rows` adds the rows up. `kept` fills four columns a unit, and looks a
+//! Arguments: a mode and a file, as there. `rows` adds the rows up. `cached` fills four columns a unit, and looks a
 //! thousand addresses up in them. `records` makes one sorted vector of the rows of all units in place of columns, and
 //! `lookups` looks a million addresses more up in that. `count` prints how many rows no next one at the same address
 //! replaces.
@@ -280,7 +280,7 @@ fn covered(units: impl Iterator<Item = (u64, u64)>) -> (u64, Probes) {
     (sum, Probes { begin, span: end.wrapping_sub(begin), state: 0 })
 }
 
-fn kept(mut lines: Cursor) -> u64 {
+fn cached(mut lines: Cursor) -> u64 {
     let mut units = Vec::new();
     while !lines.bytes.is_empty() {
         let mut unit = Columns::default();
@@ -345,7 +345,7 @@ fn main() {
             }
             sum
         }
-        "kept" => kept(third(&bytes)),
+        "cached" => cached(third(&bytes)),
         "records" => lookups(third(&bytes), 1_000),
         "lookups" => lookups(third(&bytes), 1_001_000),
         "count" => return println!("{}", count(third(&bytes))),

@@ -1,4 +1,4 @@
--- What holds of a context after two steps of a lookup (on specs/Lookups.antt).
+-- What holds of a context after two steps of a lookup (on specs/AfterLookups.antt).
 use Rattle.std.proofs.Common.{◌≡◌, ◌⊎◌, inl, inr, ℕ, arith, true, false, slice_get, Result, Ok, Err, refl, sym, ap, subst, ◌∙◌}
 use Rattle.std.specs.Prelude.{IfErr, IfOk}
 use Rattle.gimli_read.specs.declared.error.Error.{Error}

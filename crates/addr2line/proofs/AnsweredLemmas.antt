@@ -17,7 +17,7 @@ use Rattle.addr2line_units.specs.declared.unit_frames.UnitEntries.{UnitEntries}
 use Rattle.addr2line_units.specs.CachedLines.{parsed_units}
 use Rattle.addr2line_units.specs.Cover.{cover}
 use Rattle.addr2line_units.specs.FramesLookup.{Stop, Waits, Finds, FindsNothing, answer_of, main_scope, with_answer}
-use Rattle.addr2line_units.specs.CachedLookups.{HaveEntriesOf, StayAllEntries, answers_in, scope_in}
+use Rattle.addr2line_units.specs.CachedUnits.{HaveEntriesOf, StayAllEntries, answers_in, scope_in}
 use Rattle.addr2line_units.specs.KnownEntries.{known_in}
 use Rattle.addr2line_units.specs.LoadLaws.{IsListed}
 use Rattle.addr2line_units.specs.LoadLaws as laws
@@ -25,7 +25,7 @@ use Rattle.addr2line_units.specs.Loads.{is_open_at, load_of_number, loads_along}
 use Rattle.addr2line_units.specs.UnitIndex.{UnitIndex}
 use Rattle.addr2line_units.specs.RangedUnits.{IndexedUnit, unit_records}
 use Rattle.addr2line_units.specs.Views.{is_open}
-use Rattle.addr2line_units.proofs.CachedLookupLemmas.{as_many_entries}
+use Rattle.addr2line_units.proofs.CachedUnitLemmas.{as_many_entries}
 use Rattle.addr2line_units.proofs.KnownLemmas.{known_unchanged}
 use Rattle.addr2line_units.proofs.LoadLawLemmas.{fewer_left, waits_listed}
 use Rattle.addr2line_units.proofs.LoadLemmas.{as_many_answers}
@@ -68,7 +68,7 @@ module _ {R : Type 0} (d : Sections) (us : List UnitRecord) (old : List ResUnit)
   abbrev made : UnitIndex
   made = index_by us old ranges sup.units.items
 
-  -- the number of a unit of the sections is one of a unit that is kept
+  -- the number of a unit of the sections is one of a unit of the context
   pub unit_there : (n : ℕ) → IsUnitOf d n → n < length us
   unit_there n there =
       let k = there made i.made_is in

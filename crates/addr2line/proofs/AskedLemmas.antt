@@ -15,7 +15,7 @@ use Rattle.addr2line_units.specs.Frames.{FrameRecord}
 use Rattle.addr2line_units.specs.FramesLookup.{LookupAsks, Stop, Waits, answer_of, asked_frames, asks_lines_of, ends_lookup, main_scope, or_stop, stop_along, with_answer}
 use Rattle.addr2line_units.specs.KnownEntries.{KnownEntries}
 use Rattle.addr2line_units.specs.Parsed.{ParsesOnly, has_parsed}
-use Rattle.addr2line_units.specs.UnitFrames.{FramesAnswer, asks_lines_in, function_in}
+use Rattle.addr2line_units.specs.UnitFrames.{FramesResult, asks_lines_in, function_in}
 use Rattle.addr2line_units.specs.UnitIndex.{UnitIndex, index_units}
 use Rattle.addr2line_units.specs.RangedUnits.{IndexedUnit, unit_records}
 use Rattle.addr2line_units.specs.Views.{SplitLoad, is_open}
@@ -29,7 +29,7 @@ use Rattle.addr2line.specs.AfterLookups.{AfterFrames}
 use Rattle.addr2line.specs.Lookups.{FirstAnswers, IsLoadOf, asked_of, lookup_stop, stop_in}
 
 -- what ends no lookup is no unit that waits
-never_waits : (x : FramesAnswer) → ends_lookup x ≡ false → x ≢ Ok None
+never_waits : (x : FramesResult) → ends_lookup x ≡ false → x ≢ Ok None
 never_waits x e q = let f : true ≡ false = sym (ap ends_lookup q) ∙ e in cc
 
 -- no lines are asked for of a unit that waits
@@ -38,11 +38,11 @@ unfolding asks_lines_in
 no_lines_if_open scope u answer probe e = ap (λ b. not b && is_ok (function_in scope u answer probe)) e
 
 -- a lookup asks the unit that it waits for
-asks_waiting : (f : ℕ → FramesAnswer) (n : ℕ) (ranges : List UnitRange) → stop_along f ranges ≡ Ok (Waits n) → LookupAsks f ranges n
+asks_waiting : (f : ℕ → FramesResult) (n : ℕ) (ranges : List UnitRange) → stop_along f ranges ≡ Ok (Waits n) → LookupAsks f ranges n
 asks_waiting f n [] e = absurd cc
 asks_waiting f n (r ∷ ranges) e = step (f r.unit) (stop_along f ranges) e (asks_waiting f n ranges)
   where
-    step : (x : FramesAnswer) (rest : Result Stop Error) → (x >>= or_stop r.unit rest) ≡ Ok (Waits n) → (rest ≡ Ok (Waits n) → LookupAsks f ranges n) → (n ≡ r.unit) ⊎ ((ends_lookup x ≡ false) × LookupAsks f ranges n)
+    step : (x : FramesResult) (rest : Result Stop Error) → (x >>= or_stop r.unit rest) ≡ Ok (Waits n) → (rest ≡ Ok (Waits n) → LookupAsks f ranges n) → (n ≡ r.unit) ⊎ ((ends_lookup x ≡ false) × LookupAsks f ranges n)
     step (Ok None) rest w later = inl (sym (same_number r.unit n w))
     step (Ok (Some [])) rest w later = inr (refl, later w)
     step (Ok (Some (x ∷ xs))) rest w later = absurd cc

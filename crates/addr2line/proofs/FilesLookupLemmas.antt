@@ -18,7 +18,7 @@ use Rattle.addr2line_units.specs.declared.index.UnitRange.{UnitRange}
 use Rattle.addr2line_units.specs.Cover.{cover}
 use Rattle.addr2line_units.specs.Frames.{FrameRecord}
 use Rattle.addr2line_units.specs.FramesLookup.{Stop, Waits, after_fault, answer_of, asked_frames, frames_of_number, is_waiting, main_scope, or_stop, stop_along, with_answer}
-use Rattle.addr2line_units.specs.UnitFrames.{FramesAnswer, frames_in}
+use Rattle.addr2line_units.specs.UnitFrames.{FramesResult, frames_in}
 use Rattle.addr2line_units.specs.UnitIndex.{UnitIndex, index_units}
 use Rattle.addr2line_units.specs.RangedUnits.{IndexedUnit, unit_records}
 use Rattle.addr2line_units.specs.Views.{SplitLoad, awaited_by, awaited_load, decided_answer, is_open, load_of_unit, verdict_by}
@@ -37,7 +37,7 @@ none_if_open : (scope : Scope) (u : IndexedUnit) (answer : Option (Option Sectio
 unfolding frames_in
 none_if_open scope u answer probe e = by (is_open scope.file.sections u.unit answer) _ e
   where
-    by : (b : Bool) (r : FramesAnswer) → b ≡ true → (if b then Ok None else r) ≡ Ok None
+    by : (b : Bool) (r : FramesResult) → b ≡ true → (if b then Ok None else r) ≡ Ok None
     by true r h = refl
     by false r h = absurd cc
 
@@ -71,7 +71,7 @@ set_at (a ∷ answers) zero v = inl refl
 set_at (a ∷ answers) (suc n) v = set_at answers n v
 
 module _ (give : GivesAnswers) (scope : Scope) (units : List IndexedUnit) (answers : FirstAnswers) (probe : ℕ) where
-  abbrev asked : ℕ → FramesAnswer
+  abbrev asked : ℕ → FramesResult
   asked n = asked_frames End scope units answers probe n
 
   abbrev given_frames : ℕ → Loading (List FrameRecord)
@@ -88,12 +88,12 @@ module _ (give : GivesAnswers) (scope : Scope) (units : List IndexedUnit) (answe
           ap (λ o. answer_by give o (answer_of answers n) >>= λ decided. frames_or_fault (frames_in scope u decided probe))
           (no_answer (awaited_load scope.file.sections n u.unit (answer_of answers n)) (sym (open_awaits scope.file.sections n u.unit (answer_of answers n)) ∙ e))
 
-      by : (o : Option IndexedUnit) → ◌≢◌ {A = FramesAnswer} (elim o [ None ↦ Ok (Some []) | Some u ↦ frames_in scope u (answer_of answers n) probe ]) (Ok None)
+      by : (o : Option IndexedUnit) → ◌≢◌ {A = FramesResult} (elim o [ None ↦ Ok (Some []) | Some u ↦ frames_in scope u (answer_of answers n) probe ]) (Ok None)
           → ◌≡◌ {A = Loading (List FrameRecord)} (elim o [ None ↦ Ok [] | Some u ↦ frames_with give scope probe n (answer_of answers n) u ]) (frames_or_fault (elim o [ None ↦ Ok (Some []) | Some u ↦ frames_in scope u (answer_of answers n) probe ]))
       by None h = refl
       by (Some u) h = closed u (is_open scope.file.sections u.unit (answer_of answers n)) refl h
 
-  ended_step : (n : ℕ) (x : FramesAnswer) (y : Loading (List FrameRecord)) (stop : Result Stop Error) (rest : Loading (List FrameRecord)) → (x ≢ Ok None → y ≡ frames_or_fault x) → (is_waiting stop ≡ false → rest ≡ stop_frames stop)
+  ended_step : (n : ℕ) (x : FramesResult) (y : Loading (List FrameRecord)) (stop : Result Stop Error) (rest : Loading (List FrameRecord)) → (x ≢ Ok None → y ≡ frames_or_fault x) → (is_waiting stop ≡ false → rest ≡ stop_frames stop)
       → is_waiting (after_fault End x >>= or_stop n stop) ≡ false → (y >>= or_rest rest) ≡ stop_frames (after_fault End x >>= or_stop n stop)
   ended_step n (Ok None) y stop rest same later w = absurd cc
   ended_step n (Ok (Some [])) y stop rest same later w = ap (λ v. v >>= or_rest rest) (same (λ q. cc)) ∙ later w
@@ -106,7 +106,7 @@ module _ (give : GivesAnswers) (scope : Scope) (units : List IndexedUnit) (answe
   ended_along (r ∷ ranges) w =
       ended_step r.unit (frames_of_number scope units answers probe r.unit) (given_frames r.unit) (stop_along asked ranges) (first_frames given_frames ranges) (at_unit r.unit) (ended_along ranges) w
 
-  refused_step : (n k : ℕ) (fault : LoaderError) (x : FramesAnswer) (y : Loading (List FrameRecord)) (stop : Result Stop Error) (rest : Loading (List FrameRecord)) → (x ≢ Ok None → y ≡ frames_or_fault x) → (k ≡ n → y ≡ Err fault)
+  refused_step : (n k : ℕ) (fault : LoaderError) (x : FramesResult) (y : Loading (List FrameRecord)) (stop : Result Stop Error) (rest : Loading (List FrameRecord)) → (x ≢ Ok None → y ≡ frames_or_fault x) → (k ≡ n → y ≡ Err fault)
       → (stop ≡ Ok (Waits n) → rest ≡ Err fault) → (after_fault End x >>= or_stop k stop) ≡ Ok (Waits n) → (y >>= or_rest rest) ≡ Err fault
   refused_step n k fault (Ok None) y stop rest same here later w = ap (λ v. v >>= or_rest rest) (here (same_number k n w))
   refused_step n k fault (Ok (Some [])) y stop rest same here later w = ap (λ v. v >>= or_rest rest) (same (λ q. cc)) ∙ later w
@@ -203,7 +203,7 @@ module _ (give : GivesAnswers) (scope : Scope) (units : List IndexedUnit) (answe
     | inr q ↦ ap (λ a. after_fault End (asked_by a (slice_get units k))) (other_now given k q.1)
   ]
     where
-      asked_by : Option (Option Sections) → Option IndexedUnit → FramesAnswer
+      asked_by : Option (Option Sections) → Option IndexedUnit → FramesResult
       asked_by a o = elim o [ None ↦ Ok (Some []) | Some u ↦ frames_in scope u a probe ]
 
       waits_here : frames_of_number scope units answers probe n ≡ Ok None

@@ -19,14 +19,14 @@ use Rattle.addr2line_units.specs.FramesLookup.{answer_of, asked_frames, main_sco
 use Rattle.addr2line_units.specs.FunctionParseLaws.{IsReached}
 use Rattle.addr2line_units.specs.FunctionParses.{AreFirstDecided, AreReadBefore, AreReadyFor, IsReadyFor, answers_after_parse, read_of_units}
 use Rattle.addr2line_units.specs.CachedEntries.{has_entries}
-use Rattle.addr2line_units.specs.CachedLookups.{StayAllEntries, answers_in, decided_at, has_entries_at, scope_in}
+use Rattle.addr2line_units.specs.CachedUnits.{StayAllEntries, answers_in, decided_at, has_entries_at, scope_in}
 use Rattle.addr2line_units.specs.CachedParses.{ChangesOnly, HaveRead, StayDecided}
 use Rattle.addr2line_units.specs.KnownEntries.{known_in, knows_at}
 use Rattle.addr2line_units.specs.Loads.{NoneOpen, forget_result, forgotten, is_open_at, load_of_number, load_result, loads_along}
 use Rattle.gimli_read.specs.Alike.{HadMemory}
 use Rattle.addr2line_units.specs.UnitIndex.{UnitIndex}
 use Rattle.addr2line_units.specs.RangedUnits.{unit_records}
-use Rattle.addr2line_units.proofs.CachedLookupLemmas.{as_many_entries}
+use Rattle.addr2line_units.proofs.CachedUnitLemmas.{as_many_entries}
 use Rattle.addr2line_units.proofs.KnownLemmas.{known_is, known_unchanged}
 use Rattle.addr2line_units.proofs.LoadLemmas.{as_many_answers}
 use Rattle.addr2line_units.proofs.ReachedLemmas.{reached_all}

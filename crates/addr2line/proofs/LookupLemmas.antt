@@ -1,4 +1,5 @@
--- What a lookup of frames comes to in a context, by what is cached (on specs/Lookups.antt).
+-- What a lookup of frames comes to in a context, by what is cached (on specs/Lookups.antt and
+-- specs/AfterLookups.antt).
 use Rattle.std.proofs.Common.{◌≡◌, ◌≢◌, ◌⊎◌, inl, inr, ℕ, zero, suc, arith, length, ◌<◌, ◌≤◌, ◌&&◌, ◌||◌, Bool, true, false, not, List, [], ◌∷◌, slice_get, Option, Some, None, option_map, Result, Ok, Err, refl, sym, ap, subst, ◌∙◌}
 use Rattle.std.specs.Prelude.{IfErr, IfOk, IfSome}
 use Rattle.gimli_read.specs.declared.error.Error.{Error}
@@ -19,7 +20,7 @@ use Rattle.addr2line_units.specs.CachedLines.{HaveLinesOf, StayUnits, indexed_un
 use Rattle.addr2line_units.specs.Cover.{cover}
 use Rattle.addr2line_units.specs.Frames.{FrameRecord}
 use Rattle.addr2line_units.specs.FramesLookup.{LookupAsks, Stop, Waits, Finds, FindsNothing, after_fault, asked_frames, asks_lines_of, ends_lookup, frames_found, frames_of_number, has_many_of, holds_along, is_waiting, main_scope, or_stop, readable_view, stop_along, view_of_number}
-use Rattle.addr2line_units.specs.CachedLookups.{HaveEntriesOf, HaveViewsOf, ReadsOnly, StayAllEntries, answers_in, decided_along, decided_at, scope_in, waits_at}
+use Rattle.addr2line_units.specs.CachedUnits.{HaveEntriesOf, HaveViewsOf, ReadsOnly, StayAllEntries, answers_in, decided_along, decided_at, scope_in, waits_at}
 use Rattle.addr2line_units.specs.CachedFrames.{has_frames_at, seen_stop}
 use Rattle.addr2line_units.specs.KnownEntries.{known_in}
 use Rattle.gimli_read.specs.Alike.{HadMemory}
@@ -27,10 +28,10 @@ use Rattle.addr2line_units.specs.Parsed.{ParsesOnly, has_parsed}
 use Rattle.addr2line_units.specs.UnitIndex.{UnitIndex, index_units, sup_sections}
 use Rattle.addr2line_units.specs.RangedUnits.{IndexedUnit, unit_records}
 use Rattle.addr2line_units.specs.Views.{SplitLoad, load_of_unit, parts_of}
-use Rattle.addr2line_units.specs.UnitFrames.{FramesAnswer}
+use Rattle.addr2line_units.specs.UnitFrames.{FramesResult}
 use Rattle.addr2line_units.proofs.EndedLemmas.{ended_where_decided}
 use Rattle.addr2line_units.proofs.FoundLemmas.{known_where_found}
-use Rattle.addr2line_units.proofs.CachedLookupLemmas.{same_answers}
+use Rattle.addr2line_units.proofs.CachedUnitLemmas.{same_answers}
 use Rattle.addr2line_units.proofs.KnownLemmas.{known_is, known_unchanged}
 use Rattle.addr2line_units.proofs.ScopeLemmas.{main_scope_in_order, records_beside}
 use Rattle.addr2line_units.proofs.UnitsLemmas.{stay_indexed, stay_parsed}
@@ -45,7 +46,7 @@ use Rattle.addr2line.specs.AfterLookups.{AfterFrames, IsKnown, IsKnownFew, has_a
 use Rattle.addr2line.specs.Lookups.{FirstAnswers, IsLoadOf, frames_told, lookup_stop, stop_in, unit_of, unit_told}
 
 -- along ranges what is equal of each number
-pub holds_same : (h k : ℕ → Bool) (frames : ℕ → FramesAnswer) (ranges : List UnitRange) → ((n : ℕ) → h n ≡ k n) → holds_along h frames ranges ≡ holds_along k frames ranges
+pub holds_same : (h k : ℕ → Bool) (frames : ℕ → FramesResult) (ranges : List UnitRange) → ((n : ℕ) → h n ≡ k n) → holds_along h frames ranges ≡ holds_along k frames ranges
 holds_same h k frames [] e = refl
 holds_same h k frames (r ∷ ranges) e =
     ap (λ b. b && (ends_lookup (frames r.unit) || holds_along h frames ranges)) (e r.unit)
@@ -198,7 +199,7 @@ module _ {R : Type 0} where
       same = same_answers held entries stays
 
       module _ (faults : Faults) (probe : ℕ) where
-        abbrev asked_in : Scope → List (Option (Option Sections)) → ℕ → FramesAnswer
+        abbrev asked_in : Scope → List (Option (Option Sections)) → ℕ → FramesResult
         asked_in s answers = asked_frames faults s (indexed_units us old) answers probe
 
         abbrev asks_in : Scope → List (Option (Option Sections)) → ℕ → Bool
@@ -276,7 +277,7 @@ module _ {R : Type 0} (units : List ResUnit) (views : List (UnitEntries R)) wher
   told_frames stop given frames ended h f =
       ap (λ r. r >>= λ s. Ok (frames_told s)) h ∙ by (seen_stop units views stop) (sym (ap is_waiting h) ∙ ended) ∙ ap (λ fs. Ok (Some fs)) (sym f)
     where
-      by : (s : Stop) → is_waiting (Ok s) ≡ false → ◌≡◌ {A = FramesAnswer} (Ok (frames_told s)) (Ok (Some (frames_found s)))
+      by : (s : Stop) → is_waiting (Ok s) ≡ false → ◌≡◌ {A = FramesResult} (Ok (frames_told s)) (Ok (Some (frames_found s)))
       by (Waits n) k = absurd cc
       by (Finds n frames) k = refl
       by FindsNothing k = refl
@@ -291,7 +292,7 @@ told_oom f (Ok x) h = h
 told_oom f (Err e) h = h
 
 -- a lookup that passes over faults has none
-passes_step : (n : ℕ) (rest : Result Stop Error) (e : Error) (x : FramesAnswer) → rest ≢ Err e → (after_fault PassOver x >>= or_stop n rest) ≢ Err e
+passes_step : (n : ℕ) (rest : Result Stop Error) (e : Error) (x : FramesResult) → rest ≢ Err e → (after_fault PassOver x >>= or_stop n rest) ≢ Err e
 passes_step n rest e (Err f) never h = never h
 passes_step n rest e (Ok None) never h = cc
 passes_step n rest e (Ok (Some [])) never h = never h

@@ -10,7 +10,7 @@ use Rattle.addr2line_units.specs.declared.unit.ResUnit.{ResUnit}
 use Rattle.addr2line_units.specs.declared.unit_frames.UnitEntries.{UnitEntries}
 use Rattle.addr2line_units.specs.CachedLines.{HaveLinesOf, indexed_units, parsed_units}
 use Rattle.addr2line_units.specs.Indexed.{IndexState, context_takes_memory, index_of, index_takes_memory, sup_takes_memory}
-use Rattle.addr2line_units.specs.CachedLookups.{AreFreshOf, answers_in}
+use Rattle.addr2line_units.specs.CachedUnits.{AreFreshOf, answers_in}
 use Rattle.addr2line_units.specs.KnownEntries.{KnownEntries, NothingKnown, known_in}
 use Rattle.addr2line_units.specs.UnitIndex.{UnitIndex, index_units, sup_units}
 use Rattle.addr2line_units.specs.RangedUnits.{IndexedUnit, indexed_of, unit_records, RangedUnit, has_lines, ranged_units, unit_ranges_from}

@@ -15,7 +15,7 @@ use Rattle.addr2line_units.specs.FramesLookup.{Waits, FindsNothing, answer_of, a
 use Rattle.addr2line_units.specs.KnownEntries.{knows_at}
 use Rattle.addr2line_units.specs.Parsed.{StaysParsed, has_parsed}
 use Rattle.addr2line_units.specs.UnitIndex.{UnitIndex, index_units}
-use Rattle.addr2line_units.specs.UnitFrames.{FramesAnswer}
+use Rattle.addr2line_units.specs.UnitFrames.{FramesResult}
 use Rattle.addr2line.specs.Context.{ContextState, IsUncovered}
 use Rattle.addr2line.specs.Files.{Files}
 use Rattle.addr2line.specs.FramesByFiles.{stop_frames}
@@ -33,7 +33,7 @@ more true false c x y f g e = rw (f refl, g e) refl
 more false b c x y f g e = cc
 
 -- along ranges what follows of each number
-holds_more : (h k : ℕ → Bool) (frames : ℕ → FramesAnswer) (ranges : List UnitRange) → ((n : ℕ) → h n ≡ true → k n ≡ true) → holds_along h frames ranges ≡ true → holds_along k frames ranges ≡ true
+holds_more : (h k : ℕ → Bool) (frames : ℕ → FramesResult) (ranges : List UnitRange) → ((n : ℕ) → h n ≡ true → k n ≡ true) → holds_along h frames ranges ≡ true → holds_along k frames ranges ≡ true
 holds_more h k frames [] f e = refl
 holds_more h k frames (r ∷ ranges) f e =
     more (h r.unit) (ends_lookup (frames r.unit)) (holds_along h frames ranges) (k r.unit) (holds_along k frames ranges) (f r.unit) (holds_more h k frames ranges f) e

@@ -16,14 +16,14 @@ use Rattle.addr2line_units.specs.declared.unit_frames.UnitEntries.{UnitEntries}
 use Rattle.addr2line_units.specs.declared.view.ViewState.{ViewState}
 use Rattle.addr2line_units.specs.declared.view.ViewState.TheVariants as states
 use Rattle.addr2line_units.specs.CachedFunctions.{is_cached_fault}
-use Rattle.addr2line_units.specs.CachedLookups.{HaveEntriesOf, answers_in, decided_at, has_entries_at}
+use Rattle.addr2line_units.specs.CachedUnits.{HaveEntriesOf, answers_in, decided_at, has_entries_at}
 use Rattle.addr2line_units.specs.FramesLookup.{answer_of}
 use Rattle.addr2line_units.specs.CachedViews.{answer_in, is_decided}
 use Rattle.addr2line_units.specs.CachedParses.{HaveFunctions, HaveRead, StayDecided, has_view}
 use Rattle.addr2line_units.specs.KnownEntries.{NothingKnown, AllKnown, known_answer, known_by, known_functions, known_in}
 use Rattle.addr2line_units.proofs.AnswerLemmas.{looked_waits}
 use Rattle.addr2line_units.proofs.FoundLemmas.{looked_is_decided}
-use Rattle.addr2line_units.proofs.CachedLookupLemmas.{entries_more}
+use Rattle.addr2line_units.proofs.CachedUnitLemmas.{entries_more}
 use Rattle.addr2line_units.proofs.WaitLemmas.{known_was_looked_at}
 use Rattle.addr2line.specs.Loads.{IsReadBy}
 

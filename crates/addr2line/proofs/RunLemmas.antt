@@ -69,7 +69,7 @@ module _ (first : ContextState) (all : List HistoryCall) where
       left_is : {X : Type 0} (x : X) → AfterCall {X = X} call (Ok x) now new → new.answers ≡ answers_left first.sections now.answers call
       left_is x a = a.answers ∙ ap (λ d. answers_left d now.answers call) made.sections
 
-      -- its reply could not be kept
+      -- its reply could not be stored
       pub refused_after : {X Y : Type 0} (x : X) (f : Error) → f ≡ OutOfMemory → AfterCall {X = X} call (Ok x) now new → AfterCalls {X = Y} all (Err f) first new
       refused_after x f oom a = record {
         sections = a.sections ∙ made.sections;

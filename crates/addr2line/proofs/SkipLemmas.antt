@@ -19,7 +19,7 @@ use Rattle.addr2line_units.specs.Cover.{cover}
 use Rattle.addr2line_units.specs.Frames.{FrameRecord}
 use Rattle.addr2line_units.specs.FramesLookup.{Stop, Waits, Finds, FindsNothing, after_fault, answer_of, asked_frames, frames_of_number, is_waiting, main_scope, or_stop, readable_view, stop_along, view_of_number, with_answer}
 use Rattle.addr2line_units.specs.Suspended.{IfLoad, IfOutput, SkipsTo}
-use Rattle.addr2line_units.specs.UnitFrames.{FramesAnswer, frames_by, frames_in, function_by}
+use Rattle.addr2line_units.specs.UnitFrames.{FramesResult, frames_by, frames_in, function_by}
 use Rattle.addr2line_units.specs.UnitIndex.{UnitIndex, index_units}
 use Rattle.addr2line_units.specs.RangedUnits.{IndexedUnit, unit_records}
 use Rattle.addr2line_units.specs.Views.{SplitLoad, View, decided_answer, is_open, load_of_unit, parts_of, verdict, verdict_by}
@@ -38,7 +38,7 @@ decided_unit : (scope : Scope) (probe : ℕ) (u : IndexedUnit) (a : Option (Opti
 unfolding frames_in
 decided_unit scope probe u a ne = by (verdict scope.file.sections u.unit a) refl
   where
-    frames_at : Option (Result View Error) → FramesAnswer
+    frames_at : Option (Result View Error) → FramesResult
     frames_at w = if is_none w then Ok None else (frames_by scope u probe (function_by scope probe w) >>= λ frames. Ok (Some frames))
 
     by : (w : Option (Result View Error)) → verdict scope.file.sections u.unit a ≡ w → frames_at (verdict scope.file.sections u.unit (Some (unwrap_or a None))) ≡ frames_at (verdict scope.file.sections u.unit a)
@@ -49,7 +49,7 @@ decided_number : (scope : Scope) (units : List IndexedUnit) (answers : FirstAnsw
     → frames_of_number scope units (with_none answers) probe n ≡ frames_of_number scope units answers probe n
 decided_number scope units answers probe n ne = of_unit (slice_get units n) ne
   where
-    frames_at : Option IndexedUnit → Option (Option Sections) → FramesAnswer
+    frames_at : Option IndexedUnit → Option (Option Sections) → FramesResult
     frames_at o a = elim o [ None ↦ Ok (Some []) | Some u ↦ frames_in scope u a probe ]
 
     of_answer : (u : IndexedUnit) (o : Option (Option (Option Sections))) → frames_in scope u (unwrap_or o None) probe ≢ Ok None
@@ -69,13 +69,13 @@ decided_asked faults scope units answers probe n ne =
     ap (after_fault faults) (decided_number scope units answers probe n (λ e. ne (ap (after_fault faults) e)))
 
 -- along ranges
-decided_step : (n : ℕ) (a b : Result Stop Error) (r s : FramesAnswer) → (r ≢ Ok None → s ≡ r) → is_waiting (r >>= or_stop n a) ≡ false → (is_waiting a ≡ false → b ≡ a) → (s >>= or_stop n b) ≡ (r >>= or_stop n a)
+decided_step : (n : ℕ) (a b : Result Stop Error) (r s : FramesResult) → (r ≢ Ok None → s ≡ r) → is_waiting (r >>= or_stop n a) ≡ false → (is_waiting a ≡ false → b ≡ a) → (s >>= or_stop n b) ≡ (r >>= or_stop n a)
 decided_step n a b (Err e) s same w rest = ap (λ x. x >>= or_stop n b) (same (λ q. absurd cc))
 decided_step n a b (Ok None) s same w rest = absurd cc
 decided_step n a b (Ok (Some [])) s same w rest = ap (λ x. x >>= or_stop n b) (same (λ q. absurd cc)) ∙ rest w
 decided_step n a b (Ok (Some (x ∷ xs))) s same w rest = ap (λ x. x >>= or_stop n b) (same (λ q. absurd cc))
 
-pub decided_stop_along : (f h : ℕ → FramesAnswer) → ((n : ℕ) → f n ≢ Ok None → h n ≡ f n) → (ranges : List UnitRange) → is_waiting (stop_along f ranges) ≡ false → stop_along h ranges ≡ stop_along f ranges
+pub decided_stop_along : (f h : ℕ → FramesResult) → ((n : ℕ) → f n ≢ Ok None → h n ≡ f n) → (ranges : List UnitRange) → is_waiting (stop_along f ranges) ≡ false → stop_along h ranges ≡ stop_along f ranges
 decided_stop_along f h same [] w = refl
 decided_stop_along f h same (r ∷ ranges) w = decided_step r.unit (stop_along f ranges) (stop_along h ranges) (f r.unit) (h r.unit) (same r.unit) w (decided_stop_along f h same ranges)
 

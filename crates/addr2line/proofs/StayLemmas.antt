@@ -1,4 +1,4 @@
--- What was known of units stays known (on specs/Lookups.antt).
+-- What was known of units stays known (on specs/AfterLookups.antt).
 use Rattle.std.proofs.Common.{◌≡◌, ◌⊎◌, inl, inr, ℕ, zero, suc, ◌≤◌, arith, true, false, List, [], ◌∷◌, length, slice_get, Option, Some, None, option_map, Result, Ok, Err, refl, sym, ◌∙◌, subst}
 use Rattle.std.specs.Prelude.{IfSome, unwrap_or}
 use Rattle.std.specs.List.{AllZip}
@@ -18,14 +18,14 @@ use Rattle.addr2line_units.specs.declared.view.ViewState.TheVariants as states
 use Rattle.addr2line_units.specs.FunctionParses.{IsReadyFor}
 use Rattle.addr2line_units.specs.CachedEntries.{StayEntries}
 use Rattle.addr2line_units.specs.CachedFunctions.{StayFunctions}
-use Rattle.addr2line_units.specs.CachedLookups.{HaveEntriesOf, StayAllEntries, answers_in, decided_at}
+use Rattle.addr2line_units.specs.CachedUnits.{HaveEntriesOf, StayAllEntries, answers_in, decided_at}
 use Rattle.addr2line_units.specs.CachedParses.{StayDecided}
 use Rattle.addr2line_units.specs.CachedViews.{was_looked_at}
 use Rattle.addr2line_units.specs.KnownEntries.{KnownEntries, FunctionsKnown, is_known_at, known_answer, known_by, known_functions, known_in}
 use Rattle.addr2line_units.specs.Loads.{is_open_at}
 use Rattle.addr2line_units.proofs.AnswerLemmas.{looked_waits}
 use Rattle.addr2line_units.proofs.FoundLemmas.{looked_is_decided}
-use Rattle.addr2line_units.proofs.CachedLookupLemmas.{entries_more_at}
+use Rattle.addr2line_units.proofs.CachedUnitLemmas.{entries_more_at}
 use Rattle.addr2line_units.proofs.KnownLemmas.{known_is}
 use Rattle.addr2line.specs.AfterLookups.{IsReadyAt, StaysKnown, StaysKnownOf}
 

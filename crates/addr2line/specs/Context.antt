@@ -15,7 +15,7 @@ use Rattle.addr2line_units.specs.declared.unit.ResUnit.{ResUnit}
 use Rattle.addr2line_units.specs.declared.unit_frames.UnitEntries.{UnitEntries}
 use Rattle.addr2line_units.specs.CachedLines.{HaveLinesOf, indexed_units}
 use Rattle.addr2line_units.specs.FramesLookup.{main_scope}
-use Rattle.addr2line_units.specs.CachedLookups.{HaveEntriesOf}
+use Rattle.addr2line_units.specs.CachedUnits.{HaveEntriesOf}
 use Rattle.addr2line_units.specs.KnownEntries.{KnownEntries, NothingKnown}
 use Rattle.gimli_line.specs.Opcode.{fault_of}
 use Rattle.addr2line_units.specs.Located.{all_lines, is_found, looks_along}

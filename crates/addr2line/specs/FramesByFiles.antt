@@ -12,7 +12,7 @@ use Rattle.addr2line_units.specs.declared.index.UnitRange.{UnitRange}
 use Rattle.addr2line_units.specs.Cover.{cover}
 use Rattle.addr2line_units.specs.Frames.{FrameRecord}
 use Rattle.addr2line_units.specs.FramesLookup.{Stop, answer_of, frames_found, main_scope}
-use Rattle.addr2line_units.specs.UnitFrames.{FramesAnswer, frames_in}
+use Rattle.addr2line_units.specs.UnitFrames.{FramesResult, frames_in}
 use Rattle.addr2line_units.specs.UnitIndex.{UnitIndex, index_units}
 use Rattle.addr2line_units.specs.RangedUnits.{IndexedUnit}
 use Rattle.addr2line_units.specs.Views.{SplitLoad, awaited_load}
@@ -35,7 +35,7 @@ answer_by give None answer = Ok answer
 answer_by give (Some load) answer = give load >>= λ given. Ok (Some given)
 
 -- the frames in a unit that is decided, or its fault
-abbrev pub frames_or_fault : FramesAnswer → Loading (List FrameRecord)
+abbrev pub frames_or_fault : FramesResult → Loading (List FrameRecord)
 frames_or_fault frames = of_file frames >>= λ found. Ok (unwrap_or found [])
 
 -- the frames at the probe in a unit of this number with this first answer

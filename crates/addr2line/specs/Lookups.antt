@@ -16,7 +16,7 @@ use Rattle.addr2line_units.specs.Loads.{load_of_number, loads_along}
 use Rattle.addr2line_units.specs.UnitIndex.{UnitIndex, index_units}
 use Rattle.addr2line_units.specs.RangedUnits.{unit_records}
 use Rattle.addr2line_units.specs.Views.{SplitLoad, load_of_unit}
-use Rattle.addr2line_units.specs.UnitFrames.{FramesAnswer}
+use Rattle.addr2line_units.specs.UnitFrames.{FramesResult}
 
 -- of each unit the first answer to its load, none before it has one: the sections of its split
 -- file, or none
@@ -24,7 +24,7 @@ abbrev pub FirstAnswers : Type 0
 FirstAnswers = List (Option (Option Sections))
 
 -- what a lookup asks the unit of a number for
-abbrev pub asked_of : Faults → Sections → FirstAnswers → ℕ → UnitIndex → ℕ → FramesAnswer
+abbrev pub asked_of : Faults → Sections → FirstAnswers → ℕ → UnitIndex → ℕ → FramesResult
 asked_of faults d answers probe m = asked_frames faults (main_scope d m) m.units answers probe
 
 -- what a lookup comes to among units
@@ -43,7 +43,7 @@ frames_told (Finds n frames) = Some frames
 frames_told FindsNothing = Some []
 
 -- the frames at the probe, none where the lookup waits for an answer, or its first fault
-abbrev pub frames_of : Sections → FirstAnswers → ℕ → FramesAnswer
+abbrev pub frames_of : Sections → FirstAnswers → ℕ → FramesResult
 frames_of d answers probe = lookup_stop End d answers probe >>= λ s. Ok (frames_told s)
 
 -- the sections and the unit of the view of a lookup that has ended, none where it waits

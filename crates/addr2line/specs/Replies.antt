@@ -14,7 +14,7 @@ use Rattle.addr2line_lines.specs.RangeLocations.{LocatedSpan}
 use Rattle.addr2line_units.specs.Frames.{FrameRecord, NameRecord}
 use Rattle.addr2line_units.specs.FramesLookup.{Stop, Waits, Finds, FindsNothing}
 use Rattle.addr2line_units.specs.Views.{SplitLoad}
-use Rattle.addr2line_units.specs.UnitFrames.{FramesAnswer}
+use Rattle.addr2line_units.specs.UnitFrames.{FramesResult}
 use Rattle.addr2line.specs.Lookups.{frames_told}
 
 -- the bytes of a name, and the language of its unit
@@ -84,7 +84,7 @@ copied_load l = record {
 }
 
 -- the frames of a lookup that has come to this, none where it waits
-abbrev pub frames_at : Result Stop Error → FramesAnswer
+abbrev pub frames_at : Result Stop Error → FramesResult
 frames_at stop = stop >>= λ s. Ok (frames_told s)
 
 -- the reply of a lookup of frames that has come to this

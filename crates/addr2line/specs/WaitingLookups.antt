@@ -8,7 +8,7 @@ use Rattle.addr2line_units.specs.declared.frames_lookup.Faults.{Faults}
 use Rattle.addr2line_units.specs.declared.frames_lookup.Faults.TheVariants.{End, PassOver}
 use Rattle.addr2line_units.specs.Frames.{FrameRecord}
 use Rattle.addr2line_units.specs.Views.{SplitLoad}
-use Rattle.addr2line_units.specs.UnitFrames.{FramesAnswer}
+use Rattle.addr2line_units.specs.UnitFrames.{FramesResult}
 use Rattle.addr2line.specs.Answers.{SuspendsAgain, answered}
 use Rattle.addr2line.specs.Context.{ContextState}
 use Rattle.addr2line.specs.AfterLookups.{Suspends}
@@ -35,7 +35,7 @@ count_loads c probe = length (loads_at c.sections c.answers probe)
 
 -- what a lookup of frames gives
 abbrev pub LookedUpFrames : Type 0
-LookedUpFrames = FramesAnswer
+LookedUpFrames = FramesResult
 
 -- the frames at the probe in a context
 abbrev pub frames_of_context : ContextState → ℕ → LookedUpFrames

@@ -41,7 +41,7 @@ pub struct Context<R: Reader> {
 
 impl<R: Reader> Model for Context<R> {
     ghost use Rattle.addr2line_units.specs.CachedLines.{parsed_units};
-    ghost use Rattle.addr2line_units.specs.CachedLookups.{answers_in};
+    ghost use Rattle.addr2line_units.specs.CachedUnits.{answers_in};
     ghost use Rattle.addr2line_units.specs.KnownEntries.{known_in};
     ghost use Rattle.addr2line.specs.Context.{ContextState, IsContext};
 

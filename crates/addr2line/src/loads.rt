@@ -15,7 +15,7 @@ use std::rc::Rc;
 
 impl<R: Reader> Context<R> {
     /// The loads of the open units that cover an address, each once, in the order in which a lookup
-    /// asks the units. Whether a unit is open is looked for and cached.
+    /// asks the units. Whether a unit is open is read and cached.
     ///
     /// `probe` is an address as the file has it. Refused `OutOfMemory` alone; takes no memory where
     /// no unit that covers the address is open.

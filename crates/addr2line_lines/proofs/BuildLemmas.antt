@@ -53,17 +53,17 @@ without_other rows a m e =
     is_other x y e = grind (arith, nat_tests)
 
 -- rows that one row more makes, and which make the same sequences
-record Goes (p : List LineRow) (r : LineRow) (rows : List LineRow) : Type 0 where
+record MakesSameSequences (p : List LineRow) (r : LineRow) (rows : List LineRow) : Type 0 where
   new : List LineRow
   is : with_row (map stored_row p) r ≡ map stored_row new
   pending : IsPending new
   falls : NeverFalls (new ++ rows)
   same : sequences_of (new ++ rows) ≡ sequences_of (p ++ r ∷ rows)
 
-goes_on : (r : LineRow) (rows : List LineRow) → r.end_sequence ≡ false → (p : List LineRow) → IsPending p → NeverFalls (p ++ r ∷ rows) → Goes p r rows
-goes_on r rows o = by_last (λ p. IsPending p → NeverFalls (p ++ r ∷ rows) → Goes p r rows) first more
+goes_on : (r : LineRow) (rows : List LineRow) → r.end_sequence ≡ false → (p : List LineRow) → IsPending p → NeverFalls (p ++ r ∷ rows) → MakesSameSequences p r rows
+goes_on r rows o = by_last (λ p. IsPending p → NeverFalls (p ++ r ∷ rows) → MakesSameSequences p r rows) first more
   where
-    first : IsPending [] → NeverFalls (r ∷ rows) → Goes [] r rows
+    first : IsPending [] → NeverFalls (r ∷ rows) → MakesSameSequences [] r rows
     first h n = record { new = r ∷ []; is = refl; pending = record { open_ended = (o, tt); apart = tt }; falls = n; same = refl }
 
     decided : (x y : ℕ) → (x ≡ y) ⊎ (x ≡ y → ⊥)
@@ -73,7 +73,7 @@ goes_on r rows o = by_last (λ p. IsPending p → NeverFalls (p ++ r ∷ rows) �
         by_test true e = inl (grind (arith, nat_tests))
         by_test false e = inr (λ k. grind (arith, nat_tests))
 
-    more : (q : List LineRow) (a : LineRow) → IsPending (q ++ a ∷ []) → NeverFalls ((q ++ a ∷ []) ++ r ∷ rows) → Goes (q ++ a ∷ []) r rows
+    more : (q : List LineRow) (a : LineRow) → IsPending (q ++ a ∷ []) → NeverFalls ((q ++ a ∷ []) ++ r ∷ rows) → MakesSameSequences (q ++ a ∷ []) r rows
     more q a h n =
         let stored : map stored_row (q ++ a ∷ []) ≡ map stored_row q ++ stored_row a ∷ [] = map_push stored_row q a in
         elim (decided a.address r.address) [

@@ -1,4 +1,4 @@
--- The attributes of inlined entries and functions, one at a time (on specs/FoundDetails.antt).
+-- The attributes of inlined entries and functions, one at a time (on specs/FoundAttributes.antt).
 use Rattle.std.proofs.Common.{◌≡◌, ℕ, ◌+◌, ◌<◌, ◌≤◌, ◌⊎◌, ◌==◌, ◌&&◌, ◌||◌, Bool, true, false, cond, List, [], ◌∷◌, drop, fold, get_or, inl, inr, length, Option, Some, None, Result, Ok, Err, refl, ap, subst, sym, ◌∙◌}
 use Rattle.std.proofs.lemmas.Bool.{eqb-true}
 use Rattle.std.proofs.lemmas.List.{at_drop_more, at_drop_all}

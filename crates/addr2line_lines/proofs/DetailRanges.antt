@@ -1,4 +1,4 @@
--- Ranges by the places of inlined entries, where more are found (on specs/FoundDetails.antt).
+-- Ranges by the places of inlined entries, where more are found (on specs/FoundInlined.antt).
 use Rattle.std.proofs.Common.{◌≡◌, ℕ, ◌+◌, ◌<◌, ◌≤◌, List, [], ◌∷◌, ◌++◌, drop, map, length, slice_index_or, refl, ap, sym, subst, ◌∙◌, arith, length-append, append-nil, zero, suc}
 use Rattle.std.specs.List.{All, AllByRecursion}
 use Rattle.std.proofs.lemmas.List.{drop-append-le, map-append}

@@ -1,4 +1,4 @@
--- The entries that are open, one at a time (on specs/FoundDetails.antt).
+-- The entries that are open, one at a time (on specs/OpenEntries.antt and specs/FoundItems.antt).
 use Rattle.std.proofs.Common.{◌≡◌, ℕ, ◌<◌, ◌≤◌, ◌==◌, Bool, true, false, cond, List, [], ◌∷◌, ◌++◌, count_by, length, length-append, map, reverse, Option, Some, None, Result, Ok, Err, OnErr, OnOk, refl, ap, sym, arith, ◌∙◌, append-nil, append_assoc, ℤ, pos}
 use Rattle.std.specs.Prelude.{int_lt}
 use Rattle.std.proofs.lemmas.Bool.{eqb-true, ne_eqb}

@@ -1,4 +1,4 @@
--- Details that are read one after another (on specs/FunctionTable.antt).
+-- Details that are read one after another (on specs/FunctionDetails.antt).
 use Rattle.std.proofs.Common.{◌≡◌, ◌≢◌, ℕ, ◌+◌, ◌<◌, ◌≤◌, ◌⊎◌, ◌&&◌, Bool, true, false, is_ok, List, [], ◌∷◌, ◌++◌, append_assoc, drop, length, slice_get, slice_set, take, Option, Some, None, Result, Ok, Err, refl, ap, sym, subst, ◌∙◌, arith, inl, inr, zero, suc}
 use Rattle.std.specs.List.{AllByRecursion, AllZip}
 use Rattle.std.proofs.lemmas.List.Elements.{length_all_zip}

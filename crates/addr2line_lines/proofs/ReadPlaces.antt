@@ -1,5 +1,5 @@
 -- What is cached of a function is what a call that reads it again gives (on
--- specs/FunctionTable.antt).
+-- specs/FunctionDetails.antt).
 use Rattle.std.proofs.Common.{◌≡◌, ℕ, ◌≤◌, List, length, map, slice_get, Option, Some, None, Result, Ok, refl, ap, sym, subst, ◌∙◌}
 use Rattle.std.proofs.lemmas.Option.{slice_get-map, slice_get_past}
 use Rattle.std.specs.Option.{option_map}

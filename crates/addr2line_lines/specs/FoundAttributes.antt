@@ -1,4 +1,5 @@
--- What attributes of functions and of inlined entries say, as the private functions read them.
+-- What attributes of functions and of inlined entries say, as the private functions see
+-- them.
 use Rattle.std.specs.Prelude.{◌≡◌, ◌==◌, ◌||◌, Bool, false, List, ◌∷◌, ◌++◌, fold, Option, Some, None, option_map, Result, Ok, Err}
 use Rattle.std.specs.List.{All}
 use Rattle.gimli_read.specs.declared.constants.DwAt.{DwAt}

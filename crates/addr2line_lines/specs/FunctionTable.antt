@@ -1,5 +1,4 @@
 -- The functions of a view, and what is cached of their details (DWARF 5, section 3.3).
--- Own: nothing is cached of a function whose detail was not asked for.
 use Rattle.std.specs.Prelude.{◌≡◌, ℕ, ◌==◌, List, [], map, position, slice_get, Option, Some, None, option_and_then, option_map, Result, Ok, Err}
 use Rattle.gimli_read.specs.declared.error.Error.{Error}
 use Rattle.gimli_read.specs.Section.{Section}

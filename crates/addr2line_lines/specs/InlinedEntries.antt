@@ -1,5 +1,5 @@
--- Inlined entries: what their attributes say of the call and of their ranges (DWARF 5, section
--- 3.3.8).
+-- Inlined entries: what their attributes say of their ranges, their name and the call (DWARF 5,
+-- sections 2.17 and 3.3.8).
 -- Own: of call_file a constant counts that is above 0, or any in version 5; call_line and
 -- call_column keep their low 32 bits, and are 0 where they are no constant. The last of each
 -- counts.

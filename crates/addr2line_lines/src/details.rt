@@ -15,7 +15,7 @@ use crate::detail::read_detail;
 use crate::inlined::InlinedFunction;
 use crate::inlined_lists::InlinedLists;
 use crate::nesting::Nesting;
-use crate::picks::{InlinedChain, InlinedFunctionAddress, find_chain, sort_inlined_from};
+use crate::picks::{InlinedFunctionAddress, InlinedPlaces, find_chain, sort_inlined_from};
 use crate::references::Scope;
 use gimli::Unit;
 use gimli::read::{Error, Reader, UnitOffset};
@@ -160,7 +160,7 @@ impl<R: Reader> Details<R> {
         alloc: Global,
         detail: &FunctionDetail,
         probe: u64,
-    ) -> Result<InlinedChain, Error>
+    ) -> Result<InlinedPlaces, Error>
         requires place { IsDetailPlace (seen_details R.section self.now) detail.now }
         ensures gives { ExactlyUnlessOomIf (are_many (inlined_chain probe
             (detail_of (seen_details R.section self.now) detail.now).inlined))

@@ -21,7 +21,7 @@ ghost use Rattle.addr2line_lines.specs.FoundFunctions.{AreFoundUnread, found_at,
 use crate::details::{Details, FunctionDetail};
 use crate::function::{RangeAttributes, has_range_attribute, read_range_attributes};
 use crate::inlined::InlinedFunction;
-use crate::picks::InlinedChain;
+use crate::picks::InlinedPlaces;
 use crate::references::Scope;
 use crate::segments::{FunctionAddress, Segments};
 use gimli::read::{Abbreviation, DwTag, Error, Reader, UnitOffset};
@@ -393,7 +393,7 @@ impl<R: Reader> Functions<R> {
         alloc: Global,
         place: usize,
         probe: u64,
-    ) -> Result<InlinedChain, Error>
+    ) -> Result<InlinedPlaces, Error>
         ensures gives { ExactlyUnlessOomIf
             (are_many (inlined_chain probe (cached_inlined self.now place)))
             (λ chain. map (entry_among self.now.inlined) chain.items) result

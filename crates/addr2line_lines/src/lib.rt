@@ -37,7 +37,7 @@ pub use crate::laws::{
 };
 pub use crate::line::Lines;
 pub use crate::location::Location;
-pub use crate::picks::InlinedChain;
+pub use crate::picks::InlinedPlaces;
 pub use crate::range::{LineLocationRangeIter, LineRanges};
 pub use crate::references::{FileUnits, Scope};
 pub use crate::row::Row;

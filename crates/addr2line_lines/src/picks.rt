@@ -14,7 +14,7 @@ use smallvec::SmallVec;
 use std::alloc::Global;
 
 /// The places of the inlined functions at an address, the outermost first. Up to 16 need no memory.
-pub type InlinedChain = SmallVec<usize, 16>;
+pub type InlinedPlaces = SmallVec<usize, 16>;
 
 /// A range of an inlined function.
 #[derive(Clone, Copy)]
@@ -79,7 +79,7 @@ pub(crate) fn find_chain(
     alloc: Global,
     ranges: &[InlinedFunctionAddress],
     probe: u64,
-) -> Result<InlinedChain, Error>
+) -> Result<InlinedPlaces, Error>
     requires ordered { IsInOrder inlined_sooner ranges.now }
     ensures gives { ExactlyUnlessOomIf (are_many (places_chain probe ranges.now))
         (λ chain. chain.items) result (Ok (places_chain probe ranges.now)) }

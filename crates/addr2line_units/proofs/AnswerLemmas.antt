@@ -15,12 +15,12 @@ use Rattle.addr2line_units.specs.declared.view.UnitView.{UnitView}
 use Rattle.addr2line_units.specs.declared.view.ViewState.{ViewState}
 use Rattle.addr2line_units.specs.declared.view.ViewState.TheVariants as states
 use Rattle.addr2line_units.specs.FramesLookup.{answer_of, with_answer}
-use Rattle.addr2line_units.specs.CachedEntries.{AreEntriesOf, StayEntries, cached_answer}
+use Rattle.addr2line_units.specs.CachedEntries.{AreEntriesOf, StayEntries, first_answer_of}
 use Rattle.addr2line_units.specs.CachedFunctions.{AreFunctionsOf, were_read}
-use Rattle.addr2line_units.specs.CachedLookups.{StayAllEntries, answers_in, decided_at}
+use Rattle.addr2line_units.specs.CachedUnits.{StayAllEntries, answers_in, decided_at}
 use Rattle.addr2line_units.specs.CachedViews.{IsViewOf, is_decided, seen_first_answer, verdict_in, waits, was_looked_at}
 use Rattle.addr2line_units.specs.Views.{View, decided_answer, is_open, verdict, view_scope}
-use Rattle.addr2line_units.proofs.CachedLookupLemmas.{stay_entries_set}
+use Rattle.addr2line_units.proofs.CachedUnitLemmas.{stay_entries_set}
 
 -- what waits isn't decided
 pub waiting_is_undecided : {R : Type 0} (s : ViewState R) → waits s ≡ true → is_decided s ≡ false
@@ -99,21 +99,21 @@ never_waits v w b h same e t =
     let k : true ≡ false = sym t ∙ e ∙ f in cc
 
 -- the first answer of the unit of a number
-pub answer_at : {R : Type 0} (vs : List (UnitEntries R)) (n : ℕ) (v : UnitEntries R) → n < length vs → v ≡ get_or vs n v → answer_of (answers_in vs) n ≡ cached_answer v
+pub answer_at : {R : Type 0} (vs : List (UnitEntries R)) (n : ℕ) (v : UnitEntries R) → n < length vs → v ≡ get_or vs n v → answer_of (answers_in vs) n ≡ first_answer_of v
 answer_at [] n v h e = absurd (omega arith)
-answer_at (y ∷ vs) zero v h e = ap cached_answer (sym e)
+answer_at (y ∷ vs) zero v h e = ap first_answer_of (sym e)
 answer_at (y ∷ vs) (suc n) v h e = answer_at vs n v (omega arith) e
 
-pub answers_set : {R : Type 0} (vs : List (UnitEntries R)) (n : ℕ) (w : UnitEntries R) → answers_in (set vs n w) ≡ set (answers_in vs) n (cached_answer w)
+pub answers_set : {R : Type 0} (vs : List (UnitEntries R)) (n : ℕ) (w : UnitEntries R) → answers_in (set vs n w) ≡ set (answers_in vs) n (first_answer_of w)
 answers_set [] n w = refl
 answers_set (y ∷ vs) zero w = refl
-answers_set (y ∷ vs) (suc n) w = ap (λ xs. cached_answer y ∷ xs) (answers_set vs n w)
+answers_set (y ∷ vs) (suc n) w = ap (λ xs. first_answer_of y ∷ xs) (answers_set vs n w)
 
 -- answers stay where that of one unit is set to what it was
-pub answers_stay : {R : Type 0} (vs : List (UnitEntries R)) (n : ℕ) (v w : UnitEntries R) → n < length vs → v ≡ get_or vs n v → cached_answer w ≡ cached_answer v → answers_in (set vs n w) ≡ answers_in vs
+pub answers_stay : {R : Type 0} (vs : List (UnitEntries R)) (n : ℕ) (v w : UnitEntries R) → n < length vs → v ≡ get_or vs n v → first_answer_of w ≡ first_answer_of v → answers_in (set vs n w) ≡ answers_in vs
 answers_stay [] n v w h e k = absurd (omega arith)
-answers_stay (y ∷ vs) zero v w h e k = ap (λ x. x ∷ answers_in vs) (k ∙ ap cached_answer e)
-answers_stay (y ∷ vs) (suc n) v w h e k = ap (λ xs. cached_answer y ∷ xs) (answers_stay vs n v w (omega arith) e k)
+answers_stay (y ∷ vs) zero v w h e k = ap (λ x. x ∷ answers_in vs) (k ∙ ap first_answer_of e)
+answers_stay (y ∷ vs) (suc n) v w h e k = ap (λ xs. first_answer_of y ∷ xs) (answers_stay vs n v w (omega arith) e k)
 
 pub got_unit : (us : List UnitRecord) (n : ℕ) (u : UnitRecord) → n < length us → u ≡ get_or us n u → slice_get us n ≡ Some u
 got_unit [] n u h e = absurd (omega arith)
@@ -122,7 +122,7 @@ got_unit (x ∷ us) (suc n) u h e = got_unit us n u (omega arith) e
 
 -- the answers of all units after one more of one unit
 pub answered_all : {R : Type 0} (d : Sections) (us : List UnitRecord) (vs : List (UnitEntries R)) (n : ℕ) (u : UnitRecord) (v w : UnitEntries R) (given : Option Sections) → n < length us → n < length vs
-    → u ≡ get_or us n u → v ≡ get_or vs n v → cached_answer w ≡ decided_answer d u (cached_answer v) given → answers_in (set vs n w) ≡ with_answer d us (answers_in vs) n given
+    → u ≡ get_or us n u → v ≡ get_or vs n v → first_answer_of w ≡ decided_answer d u (first_answer_of v) given → answers_in (set vs n w) ≡ with_answer d us (answers_in vs) n given
 answered_all d us vs n u v w given h k e f new =
     answers_set vs n w
     ∙ ap (λ a. set (answers_in vs) n a) (new ∙ ap (λ a. decided_answer d u a given) (sym (answer_at vs n v k f)))
@@ -140,7 +140,7 @@ in_same_scope {R} d us vs f h u v e k own =
 
 -- the same after a call that may be refused
 pub answered_if_ok : {R : Type 0} (d : Sections) (us : List UnitRecord) (vs : List (UnitEntries R)) (n : ℕ) (u : UnitRecord) (v w : UnitEntries R) (given : Option Sections) (r : Result (Unit {0}) Error)
-    → n < length us → n < length vs → u ≡ get_or us n u → v ≡ get_or vs n v → OnOk r (cached_answer w ≡ decided_answer d u (cached_answer v) given) → OnOk r (answers_in (set vs n w) ≡ with_answer d us (answers_in vs) n given)
+    → n < length us → n < length vs → u ≡ get_or us n u → v ≡ get_or vs n v → OnOk r (first_answer_of w ≡ decided_answer d u (first_answer_of v) given) → OnOk r (answers_in (set vs n w) ≡ with_answer d us (answers_in vs) n given)
 answered_if_ok d us vs n u v w given (Ok x) h k e f new = answered_all d us vs n u v w given h k e f new
 answered_if_ok d us vs n u v w given (Err x) h k e f new = tt
 

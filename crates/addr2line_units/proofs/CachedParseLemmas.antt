@@ -26,16 +26,16 @@ use Rattle.addr2line_units.specs.declared.view.ViewState.{ViewState}
 use Rattle.addr2line_units.specs.declared.view.ViewState.TheVariants as states
 use Rattle.addr2line_units.specs.FramesLookup.{answer_of}
 use Rattle.addr2line_units.specs.FunctionParses.{AreReadBefore, read_of_functions, read_of_number, read_of_unit, read_of_view}
-use Rattle.addr2line_units.specs.CachedEntries.{StayEntries, has_answered, has_entries_by, cached_answer}
+use Rattle.addr2line_units.specs.CachedEntries.{StayEntries, has_answered, has_entries_by, first_answer_of}
 use Rattle.addr2line_units.specs.CachedFunctions.{AreFunctionsOf, StayFunctions, details_at, functions_fault, has_detail, cached_has_function, has_place, cached_functions, reading_takes_memory, were_read}
-use Rattle.addr2line_units.specs.CachedLookups.{HaveEntriesOf, StayAllEntries, answers_in, has_entries_at}
+use Rattle.addr2line_units.specs.CachedUnits.{HaveEntriesOf, StayAllEntries, answers_in, has_entries_at}
 use Rattle.addr2line_units.specs.CachedParses.{AreDecided, ChangesOnly, HasRead, HaveFunctions, HaveRead, StayDecided, has_view}
 use Rattle.addr2line_units.specs.CachedViews.{is_decided, seen_sections, verdict_in, view_by}
 use Rattle.addr2line_units.specs.Views.{View, view_scope}
 use Rattle.addr2line_units.proofs.AnswerLemmas.{answer_at, decided_was_looked_at, got_unit}
 use Rattle.addr2line_units.proofs.EntryLemmas.{functions_stay}
 use Rattle.addr2line_units.proofs.CachedFunctionLemmas.{fault_is}
-use Rattle.addr2line_units.proofs.CachedLookupLemmas.{entries_on, entries_same}
+use Rattle.addr2line_units.proofs.CachedUnitLemmas.{entries_on, entries_same}
 use Rattle.addr2line_units.proofs.ParseLemmas.{at_or_behind, below_next}
 
 -- functions that are cached were read
@@ -303,7 +303,7 @@ entries_then {R} v mid f same stay =
 
 -- what is read of the unit of a number
 pub number_is : {R : Type 0} (r : Reads) (scope : Scope) (us : List UnitRecord) (vs : List (UnitEntries R)) (n : ℕ) (u : UnitRecord) (v : UnitEntries R) → n < length us → n < length vs → u ≡ get_or us n u → v ≡ get_or vs n v
-    → read_of_number r scope us (answers_in vs) n ≡ read_of_unit r scope u (cached_answer v)
+    → read_of_number r scope us (answers_in vs) n ≡ read_of_unit r scope u (first_answer_of v)
 number_is r scope us vs n u v h k e f =
     ap (λ (o : Option UnitRecord). by_unit o) (got_unit us n u h e) ∙ ap (read_of_unit r scope u) (answer_at vs n v k f)
   where

@@ -1,4 +1,4 @@
--- The view of a unit that is known (on specs/CachedLookups.antt and specs/FramesLookup.antt).
+-- The view of a unit that is known (on specs/CachedUnits.antt and specs/FramesLookup.antt).
 use Rattle.std.proofs.Common.{◌≡◌, ℕ, zero, suc, ◌<◌, arith, get_or, true, List, [], ◌∷◌, length, Option, Some, None, option_and_then, option_map, unwrap_or, is_some, Result, Ok, Err, ap, refl, sym, subst, ◌∙◌}
 use Rattle.std.specs.Prelude.{IfSome}
 use Rattle.std.specs.Result.{result_ok}
@@ -10,12 +10,12 @@ use Rattle.addr2line_units.specs.declared.unit_frames.UnitEntries.{UnitEntries}
 use Rattle.addr2line_units.specs.declared.view.ViewState.{ViewState}
 use Rattle.addr2line_units.specs.declared.view.ViewState.TheVariants as states
 use Rattle.addr2line_units.specs.FramesLookup.{answer_of, readable_view, view_of_number}
-use Rattle.addr2line_units.specs.CachedEntries.{cached_answer}
-use Rattle.addr2line_units.specs.CachedLookups.{HaveViewsOf, answers_in, decided_at}
+use Rattle.addr2line_units.specs.CachedEntries.{first_answer_of}
+use Rattle.addr2line_units.specs.CachedUnits.{HaveViewsOf, answers_in, decided_at}
 use Rattle.addr2line_units.specs.CachedViews.{IsViewOf, is_decided, cached_verdict, parts_or_fault, seen_first_answer}
 use Rattle.addr2line_units.specs.Views.{View, parts_of, verdict}
 use Rattle.addr2line_units.proofs.AnswerLemmas.{got_unit}
-use Rattle.addr2line_units.proofs.CachedLookupLemmas.{answer_at}
+use Rattle.addr2line_units.proofs.CachedUnitLemmas.{answer_at}
 
 -- the number of a unit whose view is known is one of a unit
 pub decided_within : {R : Type 0} → (vs : List (UnitEntries R)) (n : ℕ) → decided_at vs n ≡ true → n < length vs
@@ -33,8 +33,8 @@ decided_view {R} d (x ∷ us) (y ∷ vs) zero u v own w e f =
 decided_view d (x ∷ us) (y ∷ vs) (suc n) u v own w e f = decided_view d us vs n u v own.1 w e f
 
 -- it has a verdict
-pub decided_has_verdict : {R : Type 0} → (d : Sections) (u : UnitRecord) (v : UnitEntries R) → IsViewOf d u v.view → is_decided v.view.state ≡ true → is_some (verdict d u (cached_answer v)) ≡ true
-decided_has_verdict {R} d u v is decided = by v.view.state (verdict d u (cached_answer v)) decided is.right
+pub decided_has_verdict : {R : Type 0} → (d : Sections) (u : UnitRecord) (v : UnitEntries R) → IsViewOf d u v.view → is_decided v.view.state ≡ true → is_some (verdict d u (first_answer_of v)) ≡ true
+decided_has_verdict {R} d u v is decided = by v.view.state (verdict d u (first_answer_of v)) decided is.right
   where
     by : (s : ViewState R) (w : Option (Result View Error)) → is_decided s ≡ true → IfSome (cached_verdict d u (record { state = s })) (λ cached. cached ≡ w) → is_some w ≡ true
     by states.Undecided w k e = absurd cc
@@ -56,12 +56,12 @@ pub parts_at : {R T : Type 0} → (see : T → Sections × UnitRecord) (d : Sect
     → HaveViewsOf d us vs → decided_at vs n ≡ true → n < length us → n < length vs → u ≡ get_or us n u → v ≡ get_or vs n v → IfSome (verdict d u (seen_first_answer v.view)) (λ view. Exactly see r (parts_or_fault view))
     → option_map see (result_ok r) ≡ option_map parts_of (readable_view (view_of_number d us (answers_in vs) n))
 parts_at see d us vs n u v r own decided within there e f h =
-    told_parts see (verdict d u (cached_answer v)) r (decided_has_verdict d u v is.0 is.1) h ∙ ap (λ w. option_map parts_of (readable_view w)) (sym same)
+    told_parts see (verdict d u (first_answer_of v)) r (decided_has_verdict d u v is.0 is.1) h ∙ ap (λ w. option_map parts_of (readable_view w)) (sym same)
   where
     is : IsViewOf d u v.view × (is_decided v.view.state ≡ true)
     is = decided_view d us vs n u v own decided e f
 
-    same : view_of_number d us (answers_in vs) n ≡ verdict d u (cached_answer v)
+    same : view_of_number d us (answers_in vs) n ≡ verdict d u (first_answer_of v)
     same =
         ap (λ o. option_and_then (λ x. verdict d x (answer_of (answers_in vs) n)) o) (got_unit us n u within e)
         ∙ ap (λ o. verdict d u (unwrap_or o None)) (answer_at vs n v there f)

@@ -13,7 +13,7 @@ use Rattle.addr2line_units.specs.declared.view.UnitView.{UnitView}
 use Rattle.addr2line_units.specs.declared.view.ViewState.{ViewState}
 use Rattle.addr2line_units.specs.declared.view.ViewState.TheVariants as states
 use Rattle.addr2line_units.specs.Frames.{function_at}
-use Rattle.addr2line_units.specs.CachedEntries.{AreEntriesOf, StayEntries, has_answered, has_entries_by, cached_answer}
+use Rattle.addr2line_units.specs.CachedEntries.{AreEntriesOf, StayEntries, has_answered, has_entries_by, first_answer_of}
 use Rattle.addr2line_units.specs.CachedFunctions.{AreFunctionsOf, StayFunctions, cached_has_function, is_cached_fault, were_read}
 use Rattle.addr2line_units.specs.CachedViews.{IsViewOf, is_decided, parts_or_fault, seen_first_answer, seen_sections, verdict_in, view_by, waits, was_looked_at}
 use Rattle.addr2line_units.specs.UnitFrames.{function_by, function_in, has_many, is_many}
@@ -66,7 +66,7 @@ exactly_unless_oom may see (Err e) given h = λ ne. h (λ _. ne)
 
 module _ {R : Type 0} (scope : Scope) (u : UnitRecord) (probe : ℕ) (old : UnitEntries R) (h : AreEntriesOf scope u old) (decided : is_decided old.view.state ≡ true) where
   abbrev pub here : Option (Result View Error)
-  here = verdict scope.file.sections u (cached_answer old)
+  here = verdict scope.file.sections u (first_answer_of old)
 
   by_state : (s : ViewState R) → is_decided s ≡ true → IfSome (verdict_in scope.file.sections u s) (λ cached. cached ≡ here) → (r : Result View Error) × (here ≡ Some r)
   by_state states.Undecided d e = cc
@@ -102,11 +102,11 @@ module _ {R : Type 0} (scope : Scope) (u : UnitRecord) (probe : ℕ) (old : Unit
       by_view (Err y) e p = let same : y ≡ x = cc in e ∙ ap (λ z. Some (Err z)) same
 
   -- a unit that is decided isn't open
-  pub not_open : is_open scope.file.sections u (cached_answer old) ≡ false
+  pub not_open : is_open scope.file.sections u (first_answer_of old) ≡ false
   not_open = ap is_none view_or_fault.1
 
   -- the function by the fault of the view
-  pub fault_in : (x : Error) → here ≡ Some (Err x) → function_in scope u (cached_answer old) probe ≡ Err x
+  pub fault_in : (x : Error) → here ≡ Some (Err x) → function_in scope u (first_answer_of old) probe ≡ Err x
   fault_in x e = ap (function_by scope probe) e
 
   -- what is known of the unit where its view has a fault
@@ -133,10 +133,10 @@ module _ {R : Type 0} (scope : Scope) (u : UnitRecord) (probe : ℕ) (old : Unit
     functions_right = moved (λ s y. AreFunctionsOf s y old.functions) (subst (λ w. IfSome w (λ r. IfOk r (λ x. AreFunctionsOf (view_scope scope x) x.unit old.functions))) v.is h.functions)
 
     -- the function in the unit is that in the view
-    pub function_is_in : function_in scope u (cached_answer old) probe ≡ function_at inner unit probe
+    pub function_is_in : function_in scope u (first_answer_of old) probe ≡ function_at inner unit probe
     function_is_in = ap (function_by scope probe) v.is ∙ moved (λ s y. function_at (view_scope scope v.view) v.view.unit probe ≡ function_at s y probe) refl
 
-    pub few_in : has_many scope u (cached_answer old) probe ≡ false → is_many (function_at inner unit probe) ≡ false
+    pub few_in : has_many scope u (first_answer_of old) probe ≡ false → is_many (function_at inner unit probe) ≡ false
     unfolding has_many
     few_in few = sym (ap is_many function_is_in) ∙ few
 

@@ -1,5 +1,5 @@
 -- The unit in which a lookup of frames has found something (on specs/FramesLookup.antt and
--- specs/CachedLookups.antt).
+-- specs/CachedUnits.antt).
 use Rattle.std.proofs.Common.{◌≡◌, ℕ, zero, suc, Bool, true, false, ◌&&◌, ◌||◌, List, [], ◌∷◌, Option, Some, None, Result, Ok, Err, ap, refl, subst, ◌∙◌}
 use Rattle.std.specs.Prelude.{if◌then◌else◌}
 use Rattle.gimli_read.specs.declared.error.Error.{Error}
@@ -17,11 +17,11 @@ use Rattle.addr2line_units.specs.declared.view.ViewState.TheVariants as states
 use Rattle.addr2line_units.specs.CachedLines.{indexed_units}
 use Rattle.addr2line_units.specs.Frames.{FrameRecord}
 use Rattle.addr2line_units.specs.FramesLookup.{Stop, Waits, Finds, FindsNothing, after_fault, asked_frames, ends_lookup, frames_of_number, holds_along, or_stop, stop_along}
-use Rattle.addr2line_units.specs.CachedEntries.{cached_answer}
-use Rattle.addr2line_units.specs.CachedLookups.{HaveEntriesOf, answers_in, decided_at, has_entries_at}
+use Rattle.addr2line_units.specs.CachedEntries.{first_answer_of}
+use Rattle.addr2line_units.specs.CachedUnits.{HaveEntriesOf, answers_in, decided_at, has_entries_at}
 use Rattle.addr2line_units.specs.CachedFrames.{has_frames_at}
 use Rattle.addr2line_units.specs.CachedViews.{is_decided, waits, was_looked_at}
-use Rattle.addr2line_units.specs.UnitFrames.{FramesAnswer, frames_by, frames_in, function_in}
+use Rattle.addr2line_units.specs.UnitFrames.{FramesResult, frames_by, frames_in, function_in}
 use Rattle.addr2line_units.specs.RangedUnits.{IndexedUnit}
 use Rattle.addr2line_units.specs.Views.{is_open}
 use Rattle.addr2line_units.proofs.AnswerLemmas.{looked_waits}
@@ -37,7 +37,7 @@ unfolding number_of
 same_number n k fs gs e = let s : ◌≡◌ {A = Stop} (Finds n fs) (Finds k gs) = cc in ap (λ x. number_of x 0) s
 
 -- whether there are frames
-unfoldable pub has_frames : FramesAnswer → Bool
+unfoldable pub has_frames : FramesResult → Bool
 has_frames (Ok (Some (f ∷ frames))) = true
 has_frames (Ok (Some [])) = false
 has_frames (Ok None) = false
@@ -45,8 +45,8 @@ has_frames (Err e) = false
 
 -- a lookup that has found something in a unit was told so by it, and of it holds what holds along
 -- the ranges
-module _ (holds : ℕ → Bool) (frames : ℕ → FramesAnswer) (n : ℕ) (fs : List FrameRecord) where
-  told : (k : ℕ) (rest : Result Stop Error) (more : Bool) (r : FramesAnswer) → frames k ≡ r → (holds k && (ends_lookup r || more)) ≡ true → (r >>= or_stop k rest) ≡ Ok (Finds n fs)
+module _ (holds : ℕ → Bool) (frames : ℕ → FramesResult) (n : ℕ) (fs : List FrameRecord) where
+  told : (k : ℕ) (rest : Result Stop Error) (more : Bool) (r : FramesResult) → frames k ≡ r → (holds k && (ends_lookup r || more)) ≡ true → (r >>= or_stop k rest) ≡ Ok (Finds n fs)
       → (rest ≡ Ok (Finds n fs) → more ≡ true → (has_frames (frames n) ≡ true) × (holds n ≡ true)) → (has_frames (frames n) ≡ true) × (holds n ≡ true)
   unfolding has_frames
   told k rest more (Err x) e h w further = absurd cc
@@ -61,7 +61,7 @@ module _ (holds : ℕ → Bool) (frames : ℕ → FramesAnswer) (n : ℕ) (fs : 
   found_along (r ∷ ranges) h w =
       told r.unit (stop_along frames ranges) (holds_along holds frames ranges) (frames r.unit) refl h w (λ v m. found_along ranges m v)
 
-pub always_along : (frames : ℕ → FramesAnswer) (ranges : List UnitRange) → holds_along (λ _. true) frames ranges ≡ true
+pub always_along : (frames : ℕ → FramesResult) (ranges : List UnitRange) → holds_along (λ _. true) frames ranges ≡ true
 always_along frames [] = refl
 always_along frames (r ∷ ranges) = by (ends_lookup (frames r.unit)) (always_along frames ranges)
   where
@@ -69,7 +69,7 @@ always_along frames (r ∷ ranges) = by (ends_lookup (frames r.unit)) (always_al
     by true e = refl
     by false e = e
 
-pub found_by_unit : (faults : Faults) (r : FramesAnswer) → has_frames (after_fault faults r) ≡ true → has_frames r ≡ true
+pub found_by_unit : (faults : Faults) (r : FramesResult) → has_frames (after_fault faults r) ≡ true → has_frames r ≡ true
 unfolding has_frames
 found_by_unit faults (Ok x) e = e
 found_by_unit End (Err x) e = e
@@ -100,7 +100,7 @@ module _ {R : Type 0} (scope : Scope) (probe : ℕ) where
   decided_there (u ∷ us) [] vs n own e h = absurd cc
   decided_there (u ∷ us) (r ∷ rs) [] n own e h = absurd own
   decided_there (u ∷ us) (r ∷ rs) (v ∷ vs) zero own e h =
-      let decided = decided_by_frames scope (record { unit = u; language = r.lang }) (cached_answer v) probe e in
+      let decided = decided_by_frames scope (record { unit = u; language = r.lang }) (first_answer_of v) probe e in
       let looked = known_was_looked_at probe v h in
       looked_is_decided v.view.state looked (looked_waits scope.file.sections u v.view own.0.view looked ∙ decided)
   decided_there (u ∷ us) (r ∷ rs) (v ∷ vs) (suc n) own e h = decided_there us rs vs n own.1 e h

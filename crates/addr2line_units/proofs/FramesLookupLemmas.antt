@@ -1,4 +1,4 @@
--- Lookups of frames along ranges (on specs/FramesLookup.antt and specs/CachedLookups.antt).
+-- Lookups of frames along ranges (on specs/FramesLookup.antt and specs/CachedFrames.antt).
 use Rattle.std.proofs.Common.{◌≡◌, ◌≢◌, ℕ, inl, inr, Bool, true, false, ◌&&◌, ◌||◌, not, List, [], ◌∷◌, Option, Some, None, Result, Ok, Err, refl, ap, sym, subst, ◌∙◌}
 use Rattle.std.specs.Prelude.{IfOk}
 use Rattle.gimli_read.specs.declared.constants.DwLang.{DwLang}
@@ -20,14 +20,14 @@ use Rattle.addr2line_units.specs.declared.unit_frames.UnitFrames.TheVariants as 
 use Rattle.addr2line_units.specs.Frames.{FrameRecord, frames_from}
 use Rattle.addr2line_units.specs.FramesLookup.{Stop, Finds, after_fault, ends_lookup, holds_along, or_stop, stop_along}
 use Rattle.addr2line_units.specs.CachedFrames.{AreFoundAt, IsStopIn, found_after_fault, frames_found_at, has_frames_at, seen_stop, stop_of_found}
-use Rattle.addr2line_units.specs.CachedLookups.{has_entries_at}
+use Rattle.addr2line_units.specs.CachedUnits.{has_entries_at}
 use Rattle.gimli_read.specs.Alike.{HadMemory}
 use Rattle.addr2line_units.specs.Parsed.{ParsesOnly, StaysParsed, has_parsed}
-use Rattle.addr2line_units.specs.UnitFrames.{FramesAnswer}
+use Rattle.addr2line_units.specs.UnitFrames.{FramesResult}
 
 -- a fault that a lookup passes over
 module _ (faults : Faults) where
-  pub gives_after : (see : UnitFrames → Option (List FrameRecord)) (r : Result UnitFrames Error) (given : FramesAnswer) → see (found.Here None None) ≡ Some []
+  pub gives_after : (see : UnitFrames → Option (List FrameRecord)) (r : Result UnitFrames Error) (given : FramesResult) → see (found.Here None None) ≡ Some []
       → ExactlyUnlessOom see r given → ExactlyUnlessOom see (found_after_fault faults r) (after_fault faults given)
   gives_after see r given nothing h = of_faults faults r h
     where
@@ -81,7 +81,7 @@ module _ (faults : Faults) where
       of_faults PassOver (Err e) h = passed e
 
 -- along ranges
-module _ (frames : ℕ → FramesAnswer) (r : UnitRange) (rest : List UnitRange) where
+module _ (frames : ℕ → FramesResult) (r : UnitRange) (rest : List UnitRange) where
   pub goes_on : frames r.unit ≡ Ok (Some []) → stop_along frames (r ∷ rest) ≡ stop_along frames rest
   goes_on e = ap (λ x. x >>= or_stop r.unit (stop_along frames rest)) e
 

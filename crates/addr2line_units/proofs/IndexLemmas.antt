@@ -1,4 +1,4 @@
--- Ranges of units in order (on specs/UnitIndex.antt).
+-- Ranges of units in order (on specs/Cover.antt and specs/LeastBegins.antt).
 use Rattle.std.proofs.Common.{ℕ, ◌≡◌, ◌+◌, ◌≤◌, Bool, true, false, cond, not, ◌&&◌, nat_le, nat_lt, nat_cmp, List, [], ◌∷◌, get_or, arith, ◌∙◌, ap, sym, refl, zero, suc}
 use Rattle.std.specs.Cmp.{IsStrictWeakOrder}
 use Rattle.std.specs.List.{filter, AllByRecursion}

@@ -10,7 +10,7 @@ use Rattle.addr2line_units.specs.declared.view.ViewState.{ViewState}
 use Rattle.addr2line_units.specs.declared.view.ViewState.TheVariants as states
 use Rattle.addr2line_units.specs.CachedEntries.{has_answered, has_entries, has_entries_by}
 use Rattle.addr2line_units.specs.CachedFunctions.{cached_has_function, is_cached_fault}
-use Rattle.addr2line_units.specs.CachedLookups.{AreFreshOf, has_entries_at}
+use Rattle.addr2line_units.specs.CachedUnits.{AreFreshOf, has_entries_at}
 use Rattle.addr2line_units.specs.CachedViews.{was_looked_at}
 use Rattle.addr2line_units.specs.KnownEntries.{AllKnown, KnownEntries, NothingKnown, is_known_at, known_answer, known_by, known_fault, known_functions, known_in, knows_at}
 

@@ -23,7 +23,7 @@ pub mod FoundLemmas
 pub mod DecidedLemmas
 pub mod EndedLemmas
 pub mod KnownLemmas
-pub mod CachedLookupLemmas
+pub mod CachedUnitLemmas
 pub mod ParseLemmas
 pub mod CachedParseLemmas
 pub mod ReadyLemmas

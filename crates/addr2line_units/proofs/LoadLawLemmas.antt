@@ -15,7 +15,7 @@ use Rattle.addr2line_units.specs.FramesLookup.{Waits, answer_of, asked_frames, f
 use Rattle.addr2line_units.specs.LoadLaws.{IsListed, LeaveFewer, LeaveOthers, NeedLoadsToWait, WaitForListed, loads_of}
 use Rattle.addr2line_units.specs.Loads.{before_others, is_of_other, is_open_at, load_of_number, loads_along}
 use Rattle.addr2line_units.specs.Parsed.{LeadTo}
-use Rattle.addr2line_units.specs.UnitFrames.{FramesAnswer, frames_in}
+use Rattle.addr2line_units.specs.UnitFrames.{FramesResult, frames_in}
 use Rattle.addr2line_units.specs.RangedUnits.{IndexedUnit, unit_records}
 use Rattle.addr2line_units.specs.Views.{SplitLoad, awaited_by, awaited_load, decided_answer, is_open, load_of_unit}
 use Rattle.addr2line_units.proofs.AnswerLemmas.{decided_if_not, decided_if_open, no_answer, others_stay}
@@ -186,8 +186,8 @@ fewer_left d us answers n given ranges many h =
     (fewer_than n (loads_of d us answers ranges) h)
 
 -- a lookup that waits was told so by a unit that a range leads to
-module _ (frames : ℕ → FramesAnswer) (n : ℕ) where
-  waits_by : (r : UnitRange) (ranges : List UnitRange) (x : FramesAnswer) → frames r.unit ≡ x → (x >>= or_stop r.unit (stop_along frames ranges)) ≡ Ok (Waits n)
+module _ (frames : ℕ → FramesResult) (n : ℕ) where
+  waits_by : (r : UnitRange) (ranges : List UnitRange) (x : FramesResult) → frames r.unit ≡ x → (x >>= or_stop r.unit (stop_along frames ranges)) ≡ Ok (Waits n)
       → (stop_along frames ranges ≡ Ok (Waits n) → (frames n ≡ Ok None) × LeadTo ranges n) → (frames n ≡ Ok None) × LeadTo (r ∷ ranges) n
   waits_by r ranges (Err x) e w further = absurd cc
   waits_by r ranges (Ok None) e w further =
@@ -213,7 +213,7 @@ open_there scope units answers probe n e = ap open_by (record_at units n) ∙ by
     open_by : Option UnitRecord → Bool
     open_by o = elim o [ None ↦ false | Some u ↦ is_open scope.file.sections u (answer_of answers n) ]
 
-    by : (o : Option IndexedUnit) → ◌≡◌ {A = FramesAnswer} (elim o [ None ↦ Ok (Some []) | Some u ↦ frames_in scope u (answer_of answers n) probe ]) (Ok None) → open_by (option_map (λ (u : IndexedUnit). u.unit) o) ≡ true
+    by : (o : Option IndexedUnit) → ◌≡◌ {A = FramesResult} (elim o [ None ↦ Ok (Some []) | Some u ↦ frames_in scope u (answer_of answers n) probe ]) (Ok None) → open_by (option_map (λ (u : IndexedUnit). u.unit) o) ≡ true
     by None f = absurd cc
     by (Some u) f = open_of_none scope u (answer_of answers n) probe f
 

@@ -15,8 +15,8 @@ use Rattle.gimli.specs.Unit.{UnitRecord}
 use Rattle.addr2line_units.specs.declared.index.UnitRange.{UnitRange}
 use Rattle.addr2line_units.specs.declared.unit_frames.UnitEntries.{UnitEntries}
 use Rattle.addr2line_units.specs.FramesLookup.{answer_of, with_answer}
-use Rattle.addr2line_units.specs.CachedEntries.{cached_answer}
-use Rattle.addr2line_units.specs.CachedLookups.{StayAllEntries, answers_in, decided_at}
+use Rattle.addr2line_units.specs.CachedEntries.{first_answer_of}
+use Rattle.addr2line_units.specs.CachedUnits.{StayAllEntries, answers_in, decided_at}
 use Rattle.addr2line_units.specs.CachedViews.{is_decided, parts_or_fault}
 use Rattle.addr2line_units.specs.ListedLoads.{MarksLoad, MarksUnit, if_new, is_marked, is_new}
 use Rattle.addr2line_units.specs.Loads.{before_others, forget_result, is_of_other, load_of_number, load_result, loads_along, unit_of_token, view_fault}
@@ -209,10 +209,10 @@ module _ (listed : List SplitLoad) (o : Option SplitLoad) (old now : List Bool) 
 
 -- the load of the unit of a number, by what is cached of it
 pub load_there : {R : Type 0} (d : Sections) (us : List UnitRecord) (vs : List (UnitEntries R)) (n : ℕ) (u : UnitRecord) (v : UnitEntries R) → slice_get us n ≡ Some u → n < length vs → v ≡ get_or vs n v
-    → load_of_number d us (answers_in vs) n ≡ awaited_load d n u (cached_answer v)
+    → load_of_number d us (answers_in vs) n ≡ awaited_load d n u (first_answer_of v)
 load_there d us vs n u v e h at = by (slice_get us n) e
   where
-    by : (o : Option UnitRecord) → o ≡ Some u → elim o [ None ↦ None | Some x ↦ awaited_load d n x (answer_of (answers_in vs) n) ] ≡ awaited_load d n u (cached_answer v)
+    by : (o : Option UnitRecord) → o ≡ Some u → elim o [ None ↦ None | Some x ↦ awaited_load d n x (answer_of (answers_in vs) n) ] ≡ awaited_load d n u (first_answer_of v)
     by None k = absurd cc
     by (Some x) k = let same : x ≡ u = cc in ap (λ y. awaited_load d n y (answer_of (answers_in vs) n)) same ∙ ap (awaited_load d n u) (answer_at vs n v h at)
 

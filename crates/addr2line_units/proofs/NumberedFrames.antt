@@ -1,5 +1,5 @@
 -- What the unit of a number has at an address, of all units (on specs/FramesLookup.antt and
--- specs/CachedLookups.antt).
+-- specs/CachedFrames.antt).
 use Rattle.std.proofs.Common.{◌≡◌, ℕ, suc, zero, ◌<◌, ◌≤◌, ◌⊎◌, inl, inr, Bool, true, false, ◌&&◌, ◌||◌, not, List, [], ◌∷◌, length, get_or, slice_get, Some, None, option_map, unwrap_or, Result, Ok, Err, refl, ap, sym, subst, ◌∙◌, arith}
 use Rattle.std.proofs.Math.ListN.{set}
 use Rattle.std.proofs.lemmas.List.{set-get_or}
@@ -16,13 +16,13 @@ use Rattle.addr2line_units.specs.declared.unit_frames.UnitFrames.{UnitFrames}
 use Rattle.addr2line_units.specs.declared.unit_frames.UnitFrames.TheVariants as found
 use Rattle.addr2line_units.specs.CachedLines.{HaveLinesOf, indexed_unit, indexed_units, is_uncached, parsed_units}
 use Rattle.addr2line_units.specs.FramesLookup.{asks_lines_of, frames_of_number, has_many_of}
-use Rattle.addr2line_units.specs.CachedEntries.{AreFramesIn, frames_of_place, has_entries, cached_answer}
+use Rattle.addr2line_units.specs.CachedEntries.{AreFramesIn, frames_of_place, has_entries, first_answer_of}
 use Rattle.addr2line_units.specs.CachedFrames.{AreFoundAt, frames_found_at, functions_at, has_frames_at, language_at}
-use Rattle.addr2line_units.specs.CachedLookups.{HaveEntriesOf, answers_in, has_entries_at}
+use Rattle.addr2line_units.specs.CachedUnits.{HaveEntriesOf, answers_in, has_entries_at}
 use Rattle.addr2line_units.specs.Parsed.{ParsesOnly, has_parsed}
 use Rattle.addr2line_units.specs.UnitFrames.{asks_lines_in, frames_in, has_many}
 use Rattle.addr2line_units.proofs.UnitsLemmas.{in_units, no_parsed, no_unit, only_set, parsed_set, set_parsed, unit_at}
-use Rattle.addr2line_units.proofs.CachedLookupLemmas.{answer_at, as_many_entries}
+use Rattle.addr2line_units.proofs.CachedUnitLemmas.{answer_at, as_many_entries}
 
 got_set : {X : Type 0} (xs : List X) (n : ℕ) (x : X) → n < length xs → slice_get (set xs n x) n ≡ Some x
 got_set [] n x h = absurd (omega arith)
@@ -63,23 +63,23 @@ module _ {R : Type 0} (scope : Scope) (probe : ℕ) (us : List UnitRecord) (rs :
     unit_is : slice_get (indexed_units us rs) n ≡ Some (indexed_unit u r)
     unit_is = unit_at us rs n u r (in_units d us rs n own h) h unit at
 
-    answer_is : slice_get (answers_in vs) n ≡ Some (cached_answer v)
+    answer_is : slice_get (answers_in vs) n ≡ Some (first_answer_of v)
     answer_is = answer_at vs n v k entries
 
-    frames_are : frames_of_number scope (indexed_units us rs) (answers_in vs) probe n ≡ frames_in scope (indexed_unit u r) (cached_answer v) probe
+    frames_are : frames_of_number scope (indexed_units us rs) (answers_in vs) probe n ≡ frames_in scope (indexed_unit u r) (first_answer_of v) probe
     frames_are = rw (unit_is, frames_of_number, answer_is) refl
 
-    asks_are : asks n ≡ asks_lines_in scope u (cached_answer v) probe
+    asks_are : asks n ≡ asks_lines_in scope u (first_answer_of v) probe
     asks_are = rw (unit_is, asks_lines_of, answer_is) refl
 
-    pub many_are : has_many_of scope (indexed_units us rs) (answers_in vs) probe n ≡ has_many scope u (cached_answer v) probe
+    pub many_are : has_many_of scope (indexed_units us rs) (answers_in vs) probe n ≡ has_many scope u (first_answer_of v) probe
     many_are = rw (unit_is, has_many_of, answer_is) refl
 
     found_at : (f : UnitFrames) → frames_of_place s w f ≡ frames_found_at (set rs n s) (set vs n w) n f
     found_at found.Open = refl
     found_at (found.Here function row) = rw (got_set rs n s h, language_at, got_set vs n w k, functions_at) refl
 
-    pub frames_given : (result : Result UnitFrames Error) → ExactlyUnlessOom (frames_of_place s w) result (frames_in scope (indexed_unit u r) (cached_answer v) probe)
+    pub frames_given : (result : Result UnitFrames Error) → ExactlyUnlessOom (frames_of_place s w) result (frames_in scope (indexed_unit u r) (first_answer_of v) probe)
         → ExactlyUnlessOom (frames_found_at (set rs n s) (set vs n w) n) result (frames_of_number scope (indexed_units us rs) (answers_in vs) probe n)
     frames_given (Ok f) g = frames_are ∙ g ∙ ap (λ x. Ok x) (found_at f)
     frames_given (Err e) g = λ ne. frames_are ∙ g ne
@@ -92,7 +92,7 @@ module _ {R : Type 0} (scope : Scope) (probe : ℕ) (us : List UnitRecord) (rs :
     places_there (Err e) g = tt
 
     -- no lines are read but those that are asked for
-    pub lines_only : (asks_lines_in scope u (cached_answer v) probe ≡ false → s ≡ r) → ParsesOnly (λ m. (m ≡ n) × (asks m ≡ true)) (parsed_units rs) (parsed_units (set rs n s))
+    pub lines_only : (asks_lines_in scope u (first_answer_of v) probe ≡ false → s ≡ r) → ParsesOnly (λ m. (m ≡ n) × (asks m ≡ true)) (parsed_units rs) (parsed_units (set rs n s))
     lines_only same m e = elim (only_set rs n s m e) [ inl p ↦ inl p | inr q ↦ by_asks q (asks m) refl ]
       where
         by_asks : m ≡ n → (b : Bool) → asks m ≡ b → (has_parsed (parsed_units rs) m ≡ true) ⊎ ((m ≡ n) × (asks m ≡ true))
@@ -102,7 +102,7 @@ module _ {R : Type 0} (scope : Scope) (probe : ℕ) (us : List UnitRecord) (rs :
             inl (subst (λ xs. has_parsed (parsed_units xs) m ≡ true) (ap (λ x. set rs n x) (left ∙ at) ∙ set-get_or rs n r) e)
 
     -- what the unit has is known where its entries are, and its lines if they are asked for
-    pub known_then : has_entries probe w ≡ true → (asks_lines_in scope u (cached_answer v) probe ≡ true → is_uncached s.lines ≡ false) → has_frames_at asks probe (parsed_units (set rs n s)) (set vs n w) n ≡ true
+    pub known_then : has_entries probe w ≡ true → (asks_lines_in scope u (first_answer_of v) probe ≡ true → is_uncached s.lines ≡ false) → has_frames_at asks probe (parsed_units (set rs n s)) (set vs n w) n ≡ true
     known_then there lines = of_bools (has_entries_at probe (set vs n w) n) (asks n) (has_parsed (parsed_units (set rs n s)) n) (ap (λ o. unwrap_or (option_map (has_entries probe) o) true) (got_set vs n w k) ∙ there) (λ a. parsed_set rs n s h (lines (sym asks_are ∙ a)))
       where
         of_bools : (a b c : Bool) → a ≡ true → (b ≡ true → c ≡ true) → (a && (not b || c)) ≡ true
@@ -110,7 +110,7 @@ module _ {R : Type 0} (scope : Scope) (probe : ℕ) (us : List UnitRecord) (rs :
         of_bools true false c e k = refl
         of_bools false b c e k = cc
 
-    pub then_known : has_frames_at asks probe (parsed_units (set rs n s)) (set vs n w) n ≡ true → (has_entries probe w ≡ true) × (asks_lines_in scope u (cached_answer v) probe ≡ true → is_uncached s.lines ≡ false)
+    pub then_known : has_frames_at asks probe (parsed_units (set rs n s)) (set vs n w) n ≡ true → (has_entries probe w ≡ true) × (asks_lines_in scope u (first_answer_of v) probe ≡ true → is_uncached s.lines ≡ false)
     then_known known =
         let both = of_bools (has_entries_at probe (set vs n w) n) (asks n) (has_parsed (parsed_units (set rs n s)) n) known in
         (sym (ap (λ o. unwrap_or (option_map (has_entries probe) o) true) (got_set vs n w k)) ∙ both.0, λ a. set_parsed rs n s h (both.1 (asks_are ∙ a)))

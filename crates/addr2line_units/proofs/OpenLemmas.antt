@@ -7,16 +7,16 @@ use Rattle.addr2line_units.specs.declared.index.UnitRange.{UnitRange}
 use Rattle.addr2line_units.specs.declared.unit_frames.UnitEntries.{UnitEntries}
 use Rattle.addr2line_units.specs.declared.view.UnitView.{UnitView}
 use Rattle.addr2line_units.specs.FramesLookup.{answer_of}
-use Rattle.addr2line_units.specs.CachedEntries.{cached_answer}
-use Rattle.addr2line_units.specs.CachedLookups.{StayAllEntries, answers_in}
+use Rattle.addr2line_units.specs.CachedEntries.{first_answer_of}
+use Rattle.addr2line_units.specs.CachedUnits.{StayAllEntries, answers_in}
 use Rattle.addr2line_units.specs.CachedViews.{IsViewOf, seen_first_answer, waits, was_looked_at}
 use Rattle.addr2line_units.specs.Loads.{NoneOpen, is_open_at}
 use Rattle.addr2line_units.specs.Views.{is_open}
 use Rattle.addr2line_units.proofs.AnswerLemmas.{open_by_look}
-use Rattle.addr2line_units.proofs.CachedLookupLemmas.{answer_at, same_answers}
+use Rattle.addr2line_units.proofs.CachedUnitLemmas.{answer_at, same_answers}
 
--- the unit of a number among those that are kept
-pub not_open_there : {R : Type 0} (d : Sections) (us : List UnitRecord) (vs : List (UnitEntries R)) (n : ℕ) (u : UnitRecord) (v : UnitEntries R) → slice_get us n ≡ Some u → n < length vs → v ≡ get_or vs n v → is_open_at d us (answers_in vs) n ≡ false → is_open d u (cached_answer v) ≡ false
+-- the unit of a number among those of the context
+pub not_open_there : {R : Type 0} (d : Sections) (us : List UnitRecord) (vs : List (UnitEntries R)) (n : ℕ) (u : UnitRecord) (v : UnitEntries R) → slice_get us n ≡ Some u → n < length vs → v ≡ get_or vs n v → is_open_at d us (answers_in vs) n ≡ false → is_open d u (first_answer_of v) ≡ false
 not_open_there d us vs n u v there within e not_open =
     sym (ap (λ o. is_open d u (unwrap_or o None)) (answer_at vs n v within e)) ∙ sym (ap (λ o. at o) there) ∙ not_open
   where

@@ -25,7 +25,7 @@ use Rattle.addr2line_units.specs.FunctionParses.{answers_after_parse, read_of_un
 use Rattle.addr2line_units.specs.CachedFunctions.{details_at, functions_fault}
 use Rattle.gimli_line.specs.Opcode.{fault_of}
 use Rattle.addr2line_units.specs.Located.{all_lines, lines_of_unit}
-use Rattle.addr2line_units.specs.UnitFrames.{FramesAnswer, frames_by, frames_in, function_by, function_in}
+use Rattle.addr2line_units.specs.UnitFrames.{FramesResult, frames_by, frames_in, function_by, function_in}
 use Rattle.addr2line_units.specs.RangedUnits.{IndexedUnit, unit_records}
 use Rattle.addr2line_units.specs.Views.{View, decided_answer, is_open, verdict, view_scope}
 use Rattle.addr2line_units.proofs.CachedFunctionLemmas.{function_is}
@@ -121,9 +121,9 @@ module _ (scope : Scope) (probe : ℕ) where
       by_unit more (Err x) e rest n = absurd cc
 
 -- a lookup along units that all have frames, or none, neither waits nor has a fault
-stop_reached : (frames : ℕ → FramesAnswer) → ((n : ℕ) → (fs : List FrameRecord) × (frames n ≡ Ok (Some fs))) → (ranges : List UnitRange) → IsReached (stop_along frames ranges)
+stop_reached : (frames : ℕ → FramesResult) → ((n : ℕ) → (fs : List FrameRecord) × (frames n ≡ Ok (Some fs))) → (ranges : List UnitRange) → IsReached (stop_along frames ranges)
 stop_reached frames all [] = tt
-stop_reached frames all (r ∷ ranges) = subst (λ (x : FramesAnswer). IsReached (x >>= or_stop r.unit (stop_along frames ranges))) (sym (all r.unit).1) (by_frames (stop_reached frames all ranges) (all r.unit).0)
+stop_reached frames all (r ∷ ranges) = subst (λ (x : FramesResult). IsReached (x >>= or_stop r.unit (stop_along frames ranges))) (sym (all r.unit).1) (by_frames (stop_reached frames all ranges) (all r.unit).0)
   where
     by_frames : IsReached (stop_along frames ranges) → (fs : List FrameRecord) → IsReached (or_stop r.unit (stop_along frames ranges) (Some fs))
     by_frames more [] = more

@@ -20,7 +20,7 @@ use Rattle.addr2line_units.specs.declared.view.ViewState.{ViewState}
 use Rattle.addr2line_units.specs.declared.view.ViewState.TheVariants as states
 use Rattle.addr2line_units.specs.FunctionParses.{AreReadyFor, IsReadyFor, answers_after_parse, read_of_number, read_of_unit, unless_fault}
 use Rattle.addr2line_units.specs.CachedFunctions.{details_at, functions_fault, were_read}
-use Rattle.addr2line_units.specs.CachedLookups.{HaveEntriesOf, answers_in}
+use Rattle.addr2line_units.specs.CachedUnits.{HaveEntriesOf, answers_in}
 use Rattle.addr2line_units.specs.CachedParses.{AreReadyUnits, ChangesOnly, HasRead, HaveFunctions, IsReadyUnit, has_view}
 use Rattle.addr2line_units.specs.CachedViews.{is_decided, seen_sections, verdict_in, view_by, was_looked_at}
 use Rattle.addr2line_units.specs.KnownEntries.{AllKnown, NothingKnown, known_answer, known_by, known_fault, known_functions, known_in}

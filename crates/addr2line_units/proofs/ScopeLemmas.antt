@@ -1,5 +1,5 @@
 -- The units that references lead to in a context, and what is cached of their entries at first (on
--- specs/UnitIndexLaws.antt, specs/FramesLookup.antt and specs/CachedLookups.antt).
+-- specs/UnitIndexLaws.antt, specs/FramesLookup.antt and specs/CachedUnits.antt).
 use Rattle.std.proofs.Common.{◌≡◌, ◌∙◌, ap, sym, refl, subst, Bool, true, false, List, [], ◌∷◌, ◌++◌, map, Option, Some, None, option_map, is_some, IfSome, IfOk, Result, Ok, Err, if◌then◌else◌}
 use Rattle.std.specs.Result.{result_ok}
 use Rattle.gimli_read.specs.declared.constants.DwLang.{DwLang}
@@ -22,9 +22,9 @@ use Rattle.addr2line_units.specs.declared.view.ViewState.{ViewState}
 use Rattle.addr2line_units.specs.declared.view.ViewState.TheVariants as states
 use Rattle.addr2line_units.specs.CachedLines.{HaveLinesOf, indexed_units}
 use Rattle.addr2line_units.specs.FramesLookup.{main_scope}
-use Rattle.addr2line_units.specs.CachedEntries.{AreEntriesOf, AreFresh, cached_answer}
+use Rattle.addr2line_units.specs.CachedEntries.{AreEntriesOf, AreFresh, first_answer_of}
 use Rattle.addr2line_units.specs.CachedFunctions.{AreFunctionsOf, were_read}
-use Rattle.addr2line_units.specs.CachedLookups.{AreFreshOf, HaveEntriesOf, answers_in}
+use Rattle.addr2line_units.specs.CachedUnits.{AreFreshOf, HaveEntriesOf, answers_in}
 use Rattle.addr2line_units.specs.CachedViews.{answer_in, verdict_in, was_looked_at}
 use Rattle.addr2line_units.specs.UnitAranges.{aranges_in}
 use Rattle.addr2line_units.specs.RangedUnits.{indexed_of, unit_records, RangedUnit, given_in_unit, is_type_unit, ranged_units, unit_ranges_from, unit_of_header, unless_faulty, units_of}
@@ -159,10 +159,10 @@ unread_are_of scope view (lazy.Faulty f) e = absurd cc
 fresh_are_of : {R : Type 0} (scope : Scope) (u : UnitRecord) (v : UnitEntries R) → AreFresh v → AreEntriesOf scope u v
 fresh_are_of {R} scope u v fresh = record {
   view = record {
-    right = subst (λ (kept : Option (Option (Result View Error))). IfSome kept (λ k. k ≡ verdict scope.file.sections u (cached_answer v))) (sym (no_verdict scope.file.sections u v.view.state fresh.view)) tt;
+    right = subst (λ (kept : Option (Option (Result View Error))). IfSome kept (λ k. k ≡ verdict scope.file.sections u (first_answer_of v))) (sym (no_verdict scope.file.sections u v.view.state fresh.view)) tt;
     waited = λ e. absurd (none_some (ap (λ (a : Option (Option Sections)). is_some a) (sym (no_answer v.view.state fresh.view)) ∙ e));
   };
-  functions = of_verdict (verdict scope.file.sections u (cached_answer v));
+  functions = of_verdict (verdict scope.file.sections u (first_answer_of v));
   unread = λ e. fresh.functions;
 }
   where

@@ -1,4 +1,5 @@
--- The units of a context as they are read (on specs/UnitIndex.antt and specs/Indexed.antt).
+-- The units of a context as they are read (on specs/RangedUnits.antt and specs/UnitIndex.antt and
+-- specs/Indexed.antt).
 use Rattle.std.proofs.Common.{◌≡◌, ◌≢◌, ◌&&◌, not, ℕ, suc, Bool, true, false, ◌||◌, is_ok, if◌then◌else◌, ◌<◌, subst, arith, List, [], ◌∷◌, ◌++◌, length, map, drop, filter_map, flat_map, Option, Some, None, Result, Ok, Err, refl, sym, ap, ◌∙◌, nat_lt}
 use Rattle.std.specs.Option.{option_to_list}
 use Rattle.std.specs.Result.{result_ok}

@@ -1,5 +1,5 @@
 -- The unit that a lookup of frames waits for has no answer yet (on specs/FramesLookup.antt and
--- specs/CachedLookups.antt).
+-- specs/CachedUnits.antt).
 use Rattle.std.proofs.Common.{◌≡◌, ℕ, zero, suc, ◌<◌, arith, get_or, Bool, true, false, ◌&&◌, ◌||◌, List, [], ◌∷◌, length, slice_get, Option, Some, None, Result, Ok, Err, ap, refl, sym, subst, ◌∙◌}
 use Rattle.std.specs.Prelude.{IfOk, IfSome, if◌then◌else◌}
 use Rattle.gimli_read.specs.declared.error.Error.{Error}
@@ -19,12 +19,12 @@ use Rattle.addr2line_units.specs.declared.view.ViewState.TheVariants as states
 use Rattle.addr2line_units.specs.CachedLines.{indexed_units}
 use Rattle.addr2line_units.specs.Frames.{FrameRecord}
 use Rattle.addr2line_units.specs.FramesLookup.{Stop, Waits, Finds, FindsNothing, after_fault, asked_frames, ends_lookup, frames_of_number, holds_along, or_stop, stop_along}
-use Rattle.addr2line_units.specs.CachedEntries.{has_entries, cached_answer}
-use Rattle.addr2line_units.specs.CachedLookups.{HaveEntriesOf, HaveViewsOf, answers_in, has_entries_at, WaitsIn, waits_at}
+use Rattle.addr2line_units.specs.CachedEntries.{has_entries, first_answer_of}
+use Rattle.addr2line_units.specs.CachedUnits.{HaveEntriesOf, HaveViewsOf, answers_in, has_entries_at, WaitsIn, waits_at}
 use Rattle.addr2line_units.specs.CachedFrames.{has_frames_at, seen_stop}
 use Rattle.addr2line_units.specs.CachedViews.{IsViewOf, was_looked_at, waits}
 use Rattle.gimli_read.specs.Alike.{HadMemory}
-use Rattle.addr2line_units.specs.UnitFrames.{FramesAnswer, frames_by, frames_in, function_in}
+use Rattle.addr2line_units.specs.UnitFrames.{FramesResult, frames_by, frames_in, function_in}
 use Rattle.addr2line_units.specs.RangedUnits.{IndexedUnit}
 use Rattle.addr2line_units.specs.Views.{is_open}
 use Rattle.addr2line_units.proofs.AnswerLemmas.{got_unit, looked_waits}
@@ -47,8 +47,8 @@ and_second true b e = e
 and_second false b e = absurd cc
 
 -- a lookup that waits for a unit was told so by it, and of it holds what holds along the ranges
-module _ (holds : ℕ → Bool) (frames : ℕ → FramesAnswer) (n : ℕ) where
-  told : (k : ℕ) (rest : Result Stop Error) (more : Bool) (r : FramesAnswer) → frames k ≡ r → (holds k && (ends_lookup r || more)) ≡ true → (r >>= or_stop k rest) ≡ Ok (Waits n)
+module _ (holds : ℕ → Bool) (frames : ℕ → FramesResult) (n : ℕ) where
+  told : (k : ℕ) (rest : Result Stop Error) (more : Bool) (r : FramesResult) → frames k ≡ r → (holds k && (ends_lookup r || more)) ≡ true → (r >>= or_stop k rest) ≡ Ok (Waits n)
       → (rest ≡ Ok (Waits n) → more ≡ true → (frames n ≡ Ok None) × (holds n ≡ true)) → (frames n ≡ Ok None) × (holds n ≡ true)
   told k rest more (Err x) e h w further = absurd cc
   told k rest more (Ok None) e h w further =
@@ -62,7 +62,7 @@ module _ (holds : ℕ → Bool) (frames : ℕ → FramesAnswer) (n : ℕ) where
   told_along (r ∷ ranges) h w =
       told r.unit (stop_along frames ranges) (holds_along holds frames ranges) (frames r.unit) refl h w (λ v m. told_along ranges m v)
 
-pub told_by_unit : (faults : Faults) (r : FramesAnswer) → after_fault faults r ≡ Ok None → r ≡ Ok None
+pub told_by_unit : (faults : Faults) (r : FramesResult) → after_fault faults r ≡ Ok None → r ≡ Ok None
 told_by_unit faults (Ok x) e = e
 told_by_unit End (Err x) e = absurd cc
 told_by_unit PassOver (Err x) e = absurd cc
@@ -95,7 +95,7 @@ module _ {R : Type 0} (scope : Scope) (probe : ℕ) where
   waits_there (u ∷ us) [] vs n own e h = absurd cc
   waits_there (u ∷ us) (r ∷ rs) [] n own e h = absurd own
   waits_there (u ∷ us) (r ∷ rs) (v ∷ vs) zero own e h =
-      let open_is = open_of_none scope (record { unit = u; language = r.lang }) (cached_answer v) probe e in
+      let open_is = open_of_none scope (record { unit = u; language = r.lang }) (first_answer_of v) probe e in
       looked_waits scope.file.sections u v.view own.0.view (known_was_looked_at probe v h) ∙ open_is
   waits_there (u ∷ us) (r ∷ rs) (v ∷ vs) (suc n) own e h = waits_there us rs vs n own.1 e h
 

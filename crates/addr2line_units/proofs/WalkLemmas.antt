@@ -1,5 +1,5 @@
 -- What a step of a lookup of frames says, by the units and answers at its start (on
--- specs/FramesLookup.antt and specs/CachedLookups.antt).
+-- specs/FramesLookup.antt and specs/CachedUnits.antt).
 use Rattle.std.proofs.Common.{◌≡◌, ℕ, Bool, true, false, ◌&&◌, not, List, ◌∷◌, Option, refl, sym, subst, inl}
 use Rattle.gimli.specs.Sections.{Sections}
 use Rattle.gimli.specs.Unit.{UnitRecord}
@@ -9,10 +9,10 @@ use Rattle.addr2line_units.specs.declared.unit.ResUnit.{ResUnit}
 use Rattle.addr2line_units.specs.declared.unit_frames.UnitEntries.{UnitEntries}
 use Rattle.addr2line_units.specs.CachedLines.{StayUnits, indexed_units}
 use Rattle.addr2line_units.specs.FramesLookup.{LookupAsks}
-use Rattle.addr2line_units.specs.CachedLookups.{StayAllEntries, answers_in}
+use Rattle.addr2line_units.specs.CachedUnits.{StayAllEntries, answers_in}
 use Rattle.addr2line_units.specs.RangedUnits.{IndexedUnit}
-use Rattle.addr2line_units.specs.UnitFrames.{FramesAnswer}
-use Rattle.addr2line_units.proofs.CachedLookupLemmas.{same_answers}
+use Rattle.addr2line_units.specs.UnitFrames.{FramesResult}
+use Rattle.addr2line_units.proofs.CachedUnitLemmas.{same_answers}
 use Rattle.addr2line_units.proofs.UnitsLemmas.{stay_indexed}
 
 -- what is said of units and answers that stayed is so of those at the start
@@ -23,7 +23,7 @@ at_first us rs ss vs ws P a b h =
     (subst (λ xs. P xs (answers_in ws)) (stay_indexed us rs ss a) h)
 
 -- the unit of the first range is asked
-pub asked_first : (frames : ℕ → FramesAnswer) (r : UnitRange) (rest ranges all : List UnitRange) → ranges ≡ r ∷ rest → ((n : ℕ) → LookupAsks frames ranges n → LookupAsks frames all n)
+pub asked_first : (frames : ℕ → FramesResult) (r : UnitRange) (rest ranges all : List UnitRange) → ranges ≡ r ∷ rest → ((n : ℕ) → LookupAsks frames ranges n → LookupAsks frames all n)
     → LookupAsks frames all r.unit
 asked_first frames r rest ranges all e asked = asked r.unit (subst (λ xs. LookupAsks frames xs r.unit) (sym e) (inl refl))
 

@@ -24,16 +24,16 @@ use Rattle.addr2line_units.specs.CachedFunctions.{AreFunctionsOf, ArePlacesIn, R
 use Rattle.addr2line_units.specs.CachedViews.{IsViewOf, is_decided, seen_first_answer, was_looked_at}
 use Rattle.addr2line_units.specs.Views.{verdict, view_scope}
 
--- the cached first answer of a unit
-abbrev pub cached_answer : {R : Type 0} → UnitEntries R → Option (Option Sections)
-cached_answer v = seen_first_answer v.view
+-- the first answer of a unit
+abbrev pub first_answer_of : {R : Type 0} → UnitEntries R → Option (Option Sections)
+first_answer_of v = seen_first_answer v.view
 
 -- what is cached is the view of the unit and the functions of that view, which are read only where
 -- the view is known
 pub record AreEntriesOf {R : Type 0} (scope : Scope) (u : UnitRecord) (v : UnitEntries R)
     : Type 0 where
   pub view : IsViewOf scope.file.sections u v.view
-  pub functions : IfSome (verdict scope.file.sections u (cached_answer v)) (λ view. IfOk view (λ x.
+  pub functions : IfSome (verdict scope.file.sections u (first_answer_of v)) (λ view. IfOk view (λ x.
       AreFunctionsOf (view_scope scope x) x.unit v.functions))
   pub unread : is_decided v.view.state ≡ false → were_read v.functions ≡ false
 
@@ -44,7 +44,7 @@ pub record AreFresh {R : Type 0} (v : UnitEntries R) : Type 0 where
 
 -- the answer stays, and so does what is cached; more may be
 pub record StayEntries {R : Type 0} (old new : UnitEntries R) : Type 0 where
-  pub answer : cached_answer new ≡ cached_answer old
+  pub answer : first_answer_of new ≡ first_answer_of old
   pub view : was_looked_at old.view.state ≡ true → new.view ≡ old.view
   pub functions : StayFunctions old.functions new.functions
 

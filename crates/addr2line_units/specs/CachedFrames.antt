@@ -20,7 +20,7 @@ use Rattle.addr2line_units.specs.FramesLookup.{Stop, Waits, Finds, FindsNothing}
 use Rattle.addr2line_units.specs.CachedFunctions.{ArePlacesIn, function_of_place, cached_functions, no_functions}
 use Rattle.addr2line_units.specs.Parsed.{has_parsed}
 use Rattle.addr2line_units.specs.CachedEntries.{AreRead}
-use Rattle.addr2line_units.specs.CachedLookups.{has_entries_at}
+use Rattle.addr2line_units.specs.CachedUnits.{has_entries_at}
 
 -- the functions that are cached of the unit of a number, none where there is no such unit
 abbrev pub functions_at : {R : Type 0} → List (UnitEntries R) → ℕ → FunctionTable

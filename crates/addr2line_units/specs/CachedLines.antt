@@ -123,12 +123,12 @@ lines_in_cache (Some u) = u.lines
 abbrev pub lines_at : List ResUnit → ℕ → LazyLines
 lines_at units n = lines_in_cache (slice_get units n)
 
--- what is cached of a unit stays: its language, and its lines or their fault
+-- the language of a unit stays, and so do its cached lines or their fault
 pub record StaysUnit (old new : ResUnit) : Type 0 where
   pub language : new.lang ≡ old.lang
   pub lines : LinesStayCached old.lines new.lines
 
--- what is cached of each unit stays
+-- the same of each unit
 abbrev pub StayUnits : List ResUnit → List ResUnit → Type 0
 StayUnits [] [] = Unit {0}
 StayUnits (u ∷ us) (v ∷ vs) = StaysUnit u v × StayUnits us vs

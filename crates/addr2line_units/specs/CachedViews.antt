@@ -1,6 +1,6 @@
 -- What is cached of a unit's view, as the private functions see it.
--- Own: whether a unit needs an answer is cached once it was looked at; its first answer, and what
--- that decides, since the unit was last forgotten. OutOfMemory is never cached.
+-- Own: whether a unit needs an answer is cached once it was looked at. Its first answer is stored,
+-- and what it decides is cached, until the unit is forgotten. OutOfMemory is never cached.
 use Rattle.std.specs.Prelude.{◌≡◌, Bool, true, false, [], is_some, Option, Some, None, option_map, IfSome, Result, Ok, Err}
 use Rattle.gimli_read.specs.declared.error.Error.{Error}
 use Rattle.gimli_read.specs.Reading.{◌>>=◌}
@@ -18,7 +18,7 @@ use Rattle.addr2line_units.specs.Views.{View, first_unit, is_open, main_view, pa
 abbrev pub seen_sections : {R : Type 0} → Answer R → Option Sections
 seen_sections a = option_map (λ d. d.value) a.sections
 
--- the first answer that is cached
+-- the first answer that a state has
 abbrev pub answer_in : {R : Type 0} → ViewState R → Option (Option Sections)
 answer_in (states.Answered a) = Some (seen_sections a)
 answer_in _ = None

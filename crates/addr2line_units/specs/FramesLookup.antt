@@ -11,7 +11,7 @@ use Rattle.addr2line_units.specs.declared.index.UnitRange.{UnitRange}
 use Rattle.addr2line_units.specs.declared.frames_lookup.Faults.{Faults}
 use Rattle.addr2line_units.specs.declared.frames_lookup.Faults.TheVariants.{End, PassOver}
 use Rattle.addr2line_units.specs.Frames.{FrameRecord}
-use Rattle.addr2line_units.specs.UnitFrames.{FramesAnswer, asks_lines_in, frames_in, has_many}
+use Rattle.addr2line_units.specs.UnitFrames.{FramesResult, asks_lines_in, frames_in, has_many}
 use Rattle.addr2line_units.specs.UnitIndex.{UnitIndex, sup_sections}
 use Rattle.addr2line_units.specs.RangedUnits.{IndexedUnit, unit_records}
 use Rattle.addr2line_units.specs.Views.{View, decided_answer, parts_of, verdict}
@@ -37,19 +37,19 @@ answer_of answers n = unwrap_or (slice_get answers n) None
 -- the frames at the probe in the unit of a number, none while it is open, or the first fault; where
 -- there is no such unit there are no frames
 abbrev pub frames_of_number : Scope → List IndexedUnit → List (Option (Option Sections)) → ℕ → ℕ
-    → FramesAnswer
+    → FramesResult
 frames_of_number scope units answers probe n = elim (slice_get units n)
     [ None ↦ Ok (Some []) | Some u ↦ frames_in scope u (answer_of answers n) probe ]
 
 -- a fault as it is, or no frames in its place where a lookup passes over it
-abbrev pub after_fault : Faults → FramesAnswer → FramesAnswer
+abbrev pub after_fault : Faults → FramesResult → FramesResult
 after_fault faults (Ok frames) = Ok frames
 after_fault End (Err e) = Err e
 after_fault PassOver (Err e) = Ok (Some [])
 
 -- what a lookup asks the unit of a number for
 abbrev pub asked_frames : Faults → Scope → List IndexedUnit → List (Option (Option Sections)) → ℕ
-    → ℕ → FramesAnswer
+    → ℕ → FramesResult
 asked_frames faults scope units answers probe n =
     after_fault faults (frames_of_number scope units answers probe n)
 
@@ -60,7 +60,7 @@ or_stop n rest (Some []) = rest
 or_stop n rest (Some (f ∷ frames)) = Ok (Finds n (f ∷ frames))
 
 -- what a lookup comes to along ranges, by what the unit of each number has
-abbrev pub stop_along : (ℕ → FramesAnswer) → List UnitRange
+abbrev pub stop_along : (ℕ → FramesResult) → List UnitRange
     → Result Stop Error
 stop_along frames [] = Ok FindsNothing
 stop_along frames (r ∷ ranges) = frames r.unit >>= or_stop r.unit (stop_along frames ranges)
@@ -94,21 +94,21 @@ unit_found d us answers (Finds n frames) =
 unit_found d us answers stop = None
 
 -- whether what a unit has ends a lookup
-abbrev pub ends_lookup : FramesAnswer → Bool
+abbrev pub ends_lookup : FramesResult → Bool
 ends_lookup (Ok (Some [])) = false
 ends_lookup (Ok (Some (f ∷ frames))) = true
 ends_lookup (Ok None) = true
 ends_lookup (Err e) = true
 
 -- whether this is so of each unit along ranges, up to the one that ends the lookup
-abbrev pub holds_along : (ℕ → Bool) → (ℕ → FramesAnswer)
+abbrev pub holds_along : (ℕ → Bool) → (ℕ → FramesResult)
     → List UnitRange → Bool
 holds_along holds frames [] = true
 holds_along holds frames (r ∷ ranges) =
     holds r.unit && (ends_lookup (frames r.unit) || holds_along holds frames ranges)
 
 -- a lookup asks a unit: a range leads to it, and no unit before it ends the lookup
-abbrev pub LookupAsks : (ℕ → FramesAnswer) → List UnitRange → ℕ
+abbrev pub LookupAsks : (ℕ → FramesResult) → List UnitRange → ℕ
     → Type 0
 LookupAsks frames [] n = ⊥
 LookupAsks frames (r ∷ ranges) n =

@@ -1,6 +1,6 @@
 -- Legacy names of Rust: which texts are such names, and the text that a name stands for.
 -- Source: the mangling that rustc calls legacy: a prefix, elements after their decimal lengths,
--- `E`, a suffix.
+-- `E`, a suffix; and what LLVM appends after `.llvm.`.
 -- Own: one element at least; a suffix is empty, or begins with a dot and has only ASCII letters,
 -- digits and punctuation.
 use Rattle.std.specs.Prelude.{◌≡◌, ◌<◌, ◌≤◌, ◌==◌, ◌||◌, ◌&&◌, ℕ, Bool, true, false, List, [], ◌∷◌, ◌++◌, length, codes}

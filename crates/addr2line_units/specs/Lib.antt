@@ -28,7 +28,7 @@ pub mod UnitFrames
 pub mod FramesLookup
 pub mod CachedEntries
 pub mod CachedFrames
-pub mod CachedLookups
+pub mod CachedUnits
 pub mod KnownEntries
 pub mod Loads
 pub mod ListedLoads

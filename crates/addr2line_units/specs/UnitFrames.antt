@@ -36,12 +36,12 @@ frames_by scope u probe found = do
   lines ← unit_lines scope.file.sections u.unit
   Ok (found_frames lines.files u.language function (location_at probe lines))
 
--- the frames at a probe in a unit, none while it is open; or the first fault
-abbrev pub FramesAnswer : Type 0
-FramesAnswer = Result (Option (List FrameRecord)) Error
+-- the frames at a probe, none where an answer to a load is waited for; or the first fault
+abbrev pub FramesResult : Type 0
+FramesResult = Result (Option (List FrameRecord)) Error
 
 -- the frames at the probe in a unit with this first answer
-unfoldable pub frames_in : Scope → IndexedUnit → Option (Option Sections) → ℕ → FramesAnswer
+unfoldable pub frames_in : Scope → IndexedUnit → Option (Option Sections) → ℕ → FramesResult
 frames_in scope u answer probe =
     if is_open scope.file.sections u.unit answer then Ok None
     else frames_by scope u probe (function_in scope u.unit answer probe)

@@ -1,5 +1,6 @@
--- What a context is made of (DWARF 5, sections 2.17, 3.1 and 6.1.2): its units with their
--- languages, the ranges of addresses that lead to each, and the units of the supplementary file.
+-- What a context is made of (DWARF 5, sections 3.1 and 7.3.6): its units with their languages, the
+-- ranges of addresses that lead to each (specs/RangedUnits.antt), and the units of the
+-- supplementary file.
 -- Own: the first fault refuses the context: of a set's header of .debug_aranges; then of a unit, in
 -- their order; then of a header of the supplementary file.
 -- Own: in the supplementary file every unit whose record can be read counts.

@@ -3,7 +3,7 @@
 ghost use Rattle.std.specs.Prelude.{◌≡◌, IfErr, IfOk, None, OnOk, Ok, Some, false, is_some, option_map, true};
 ghost use Rattle.gimli_read.specs.declared.error.Error.TheVariants.{OutOfMemory};
 ghost use Rattle.addr2line_lines.specs.SeenScope.{seen_scope};
-ghost use Rattle.addr2line_units.specs.CachedEntries.{AreEntriesOf, StayEntries, cached_answer};
+ghost use Rattle.addr2line_units.specs.CachedEntries.{AreEntriesOf, StayEntries, first_answer_of};
 ghost use Rattle.addr2line_units.specs.CachedViews.{IsViewOf, is_decided, waits};
 ghost use Rattle.addr2line_units.specs.Views.{decided_answer, is_open, load_of_unit};
 
@@ -36,7 +36,7 @@ impl<R: Reader> UnitEntries<R> {
         requires kept { AreEntriesOf (seen_scope scope) dw_unit.now self.old }
         requires waits { waits self.old.view.state ≡ true }
         ensures kept { AreEntriesOf (seen_scope scope.entry) dw_unit.now self.new }
-        ensures answer { OnOk result (cached_answer self.new
+        ensures answer { OnOk result (first_answer_of self.new
             ≡ Some (option_map (λ d. d.value) sections)) }
         ensures decided { OnOk result (is_decided self.new.view.state ≡ true) }
         ensures refused { IfErr result (λ e. (e ≡ OutOfMemory) × (self.new ≡ self.old)
@@ -50,8 +50,8 @@ impl<R: Reader> UnitEntries<R> {
     pub(crate) fn forget(&mut self, scope: Scope<'_, R>, dw_unit: &Unit<R>)
         requires kept { AreEntriesOf (seen_scope scope) dw_unit.now self.old }
         ensures kept { AreEntriesOf (seen_scope scope.entry) dw_unit.now self.new }
-        ensures answer { cached_answer self.new ≡ None }
-        ensures same { cached_answer self.old ≡ None → self.new ≡ self.old }
+        ensures answer { first_answer_of self.new ≡ None }
+        ensures same { first_answer_of self.old ≡ None → self.new ≡ self.old }
     {
         if self.view.is_answered() {
             self.view.forget(scope.file.dwarf, dw_unit);
@@ -87,17 +87,17 @@ impl<R: Reader> UnitEntries<R> {
     ) -> Result<(), Error>
         requires kept { AreEntriesOf (seen_scope scope) dw_unit.now self.old }
         ensures kept { AreEntriesOf (seen_scope scope.entry) dw_unit.now self.new }
-        ensures answer { OnOk result (cached_answer self.new
-            ≡ decided_answer scope.entry.file.dwarf.now dw_unit.now (cached_answer self.old)
+        ensures answer { OnOk result (first_answer_of self.new
+            ≡ decided_answer scope.entry.file.dwarf.now dw_unit.now (first_answer_of self.old)
             (option_map (λ d. d.value) sections)) }
         ensures decided { OnOk result (is_decided self.new.view.state ≡ true) }
         ensures refused { IfErr result (λ e. (e ≡ OutOfMemory)
             × StayEntries self.old self.new) }
-        ensures functions { is_open scope.entry.file.dwarf.now dw_unit.now (cached_answer self.old)
+        ensures functions { is_open scope.entry.file.dwarf.now dw_unit.now (first_answer_of self.old)
             ≡ false → self.new.functions ≡ self.old.functions }
         ensures same { is_decided self.old.view.state ≡ true
             → (self.new ≡ self.old) × (result ≡ Ok tt) }
-        ensures not_open { is_open scope.entry.file.dwarf.now dw_unit.now (cached_answer self.old)
+        ensures not_open { is_open scope.entry.file.dwarf.now dw_unit.now (first_answer_of self.old)
             ≡ false → result ≡ Ok tt }
     {
         self.look(scope, dw_unit);

@@ -3,7 +3,7 @@
 ghost use Rattle.std.specs.Prelude.{◌≡◌, [], not};
 ghost use Rattle.addr2line_lines.specs.LastAddress.{last_address};
 ghost use Rattle.addr2line_units.specs.Cover.{cover};
-ghost use Rattle.addr2line_units.specs.CachedLookups.{decided_along, decided_at};
+ghost use Rattle.addr2line_units.specs.CachedUnits.{decided_along, decided_at};
 ghost use Rattle.addr2line_units.specs.UnitRangesLeft.{ranges_left};
 
 use crate::range_iter::UnitRangeIter;

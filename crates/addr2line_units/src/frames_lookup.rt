@@ -7,7 +7,7 @@ ghost use Rattle.addr2line_lines.specs.SeenScope.{seen_scope};
 ghost use Rattle.addr2line_units.specs.CachedLines.{HaveLinesOf, StayUnits, indexed_units, parsed_units};
 ghost use Rattle.addr2line_units.specs.FramesLookup.{LookupAsks, asked_frames, asks_lines_of, frames_of_number, has_many_of, holds_along, stop_along};
 ghost use Rattle.addr2line_units.specs.CachedFrames.{AreFoundAt, IsStopIn, found_after_fault, frames_found_at, has_frames_at, seen_stop, stop_of_found, unit_of_place};
-ghost use Rattle.addr2line_units.specs.CachedLookups.{HaveEntriesOf, ReadsOnly, StayAllEntries, answers_in};
+ghost use Rattle.addr2line_units.specs.CachedUnits.{HaveEntriesOf, ReadsOnly, StayAllEntries, answers_in};
 ghost use Rattle.gimli_read.specs.Alike.{HadMemory};
 ghost use Rattle.addr2line_units.specs.Parsed.{ParsesOnly};
 ghost use Rattle.addr2line_units.specs.UnitRangesLeft.{ranges_left};

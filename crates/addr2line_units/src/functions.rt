@@ -15,7 +15,7 @@ ghost use Rattle.addr2line_units.specs.KnownEntries.{known_functions};
 ghost use Rattle.gimli_read.specs.Alike.{HadMemory};
 ghost use Rattle.addr2line_units.specs.UnitFrames.{is_many};
 
-use addr2line_lines::{Functions, InlinedChain, Scope};
+use addr2line_lines::{Functions, InlinedPlaces, Scope};
 use gimli::read::{Error, Reader};
 use gimli::{Unit, UnitRef};
 use std::alloc::Global;
@@ -36,7 +36,7 @@ pub(crate) enum LazyFunctions<R: Reader> {
 #[derive(Drop)]
 pub(crate) struct FunctionPlace {
     pub(crate) place: usize,
-    pub(crate) inlined: InlinedChain,
+    pub(crate) inlined: InlinedPlaces,
 }
 
 // The functions of a view, or their fault, as they are cached. Refused `OutOfMemory` alone.

@@ -9,8 +9,8 @@ ghost use Rattle.gimli.specs.Unit.{UnitRecord};
 ghost use Rattle.addr2line_lines.specs.SeenScope.{seen_scope};
 ghost use Rattle.addr2line_units.specs.Cover.{cover};
 ghost use Rattle.addr2line_units.specs.FramesLookup.{answer_of, with_answer};
-ghost use Rattle.addr2line_units.specs.CachedEntries.{AreEntriesOf, StayEntries, cached_answer};
-ghost use Rattle.addr2line_units.specs.CachedLookups.{HaveEntriesOf, StayAllEntries, answers_in, decided_at, scope_in};
+ghost use Rattle.addr2line_units.specs.CachedEntries.{AreEntriesOf, StayEntries, first_answer_of};
+ghost use Rattle.addr2line_units.specs.CachedUnits.{HaveEntriesOf, StayAllEntries, answers_in, decided_at, scope_in};
 ghost use Rattle.addr2line_units.specs.CachedViews.{is_decided};
 ghost use Rattle.addr2line_units.specs.ListedLoads.{MarksLoad, MarksUnit, if_new, is_marked};
 ghost use Rattle.addr2line_units.specs.Loads.{NoneOpen, forget_result, forgotten, is_open_at, load_of_number, load_result, loads_along, view_fault};
@@ -35,7 +35,7 @@ impl<R: Reader> UnitEntries<R> {
         requires kept { AreEntriesOf (seen_scope scope) dw_unit.now self.now }
         requires decided { is_decided self.now.view.state ≡ true }
         ensures gives { result ≡ view_fault
-            (verdict scope.entry.file.dwarf.now dw_unit.now (cached_answer self.now)) }
+            (verdict scope.entry.file.dwarf.now dw_unit.now (first_answer_of self.now)) }
     {
         self.view.unit_ref(scope.file.dwarf, dw_unit)?;
         Ok(())
@@ -169,7 +169,7 @@ fn mark_unit(marks: &mut Vec<bool>, count: usize, number: usize) -> Result<bool,
 
 impl<R: Reader> UnitEntries<R> {
     // The load of the unit of a number, if it waits for one and isn't marked, which it is then.
-    // Whether it waits is looked for, unless that was done.
+    // Whether it waits is read, unless that was done.
     //
     // Refused `OutOfMemory` alone, and only of an open unit.
     fn new_load(
@@ -184,12 +184,12 @@ impl<R: Reader> UnitEntries<R> {
         requires there { number < length scope.file.units.now }
         requires kept { AreEntriesOf (seen_scope scope) dw_unit.now self.old }
         ensures gives { IfOk result (λ load. load ≡ if_new marks.old.items
-            (awaited_load dwarf.now.value number dw_unit.now (cached_answer self.old))) }
+            (awaited_load dwarf.now.value number dw_unit.now (first_answer_of self.old))) }
         ensures marked { OnOk result (MarksLoad
-            (awaited_load dwarf.now.value number dw_unit.now (cached_answer self.old))
+            (awaited_load dwarf.now.value number dw_unit.now (first_answer_of self.old))
             marks.old.items marks.new.items) }
         ensures decided { is_decided self.old.view.state ≡ true → result ≡ Ok None }
-        ensures not_open { is_open dwarf.now.value dw_unit.now (cached_answer self.old) ≡ false
+        ensures not_open { is_open dwarf.now.value dw_unit.now (first_answer_of self.old) ≡ false
             → result ≡ Ok None }
         ensures refused { IfErr result (λ e. e ≡ OutOfMemory) }
         ensures kept { AreEntriesOf (seen_scope scope.entry) dw_unit.now self.new }
@@ -262,7 +262,7 @@ fn push_if<R: Reader>(
 }
 
 // The loads of the open units that ranges lead to, each once, in the order of its first range.
-// Whether a unit is open is looked for, unless that was done.
+// Whether a unit is open is read, unless that was done.
 //
 // Refused `OutOfMemory` alone, and not where none of these units is open.
 fn read_loads<R: Reader>(
@@ -298,7 +298,7 @@ fn read_loads<R: Reader>(
 
 impl<R: Reader> ResUnits<R> {
     /// The loads of the open units that cover an address, each once, in the order of its first
-    /// range. Whether a unit is open is looked for and cached.
+    /// range. Whether a unit is open is read and cached.
     ///
     /// Refused `OutOfMemory` alone, and not where none of these units is open.
     pub fn preload(

@@ -15,7 +15,7 @@ ghost use Rattle.addr2line_units.specs.CachedLines.{cached_files};
 ghost use Rattle.addr2line_units.specs.Frames.{found_frames};
 ghost use Rattle.addr2line_units.specs.CachedEntries.{AreRead};
 ghost use Rattle.addr2line_units.specs.CachedFunctions.{ArePlacesIn, function_of_place, cached_functions};
-ghost use Rattle.addr2line_units.specs.CachedLookups.{HaveEntriesOf, HaveViewsOf, ReadsOnly, StayAllEntries, WaitsIn, answers_in, decided_at, scope_in, sup_file, waits_at};
+ghost use Rattle.addr2line_units.specs.CachedUnits.{HaveEntriesOf, HaveViewsOf, ReadsOnly, StayAllEntries, WaitsIn, answers_in, decided_at, scope_in, sup_file, waits_at};
 ghost use Rattle.addr2line_units.specs.CachedFrames.{IsFramePlaceIn, IsStopIn, frames_at_place, has_frames_at, seen_stop};
 ghost use Rattle.addr2line_units.specs.SeenUnit.{seen_unit};
 ghost use Rattle.addr2line_units.specs.Loads.{is_open_at};
@@ -95,7 +95,7 @@ impl<R: Reader> ResUnits<R> {
         self.stop = stop;
     }
 
-    /// The frames that the lookup has found whose end is stored, none where it waits or has found
+    /// The frames that the lookup has found whose stop is stored, none where it waits or has found
     /// nothing. Takes no memory.
     pub fn stop_frames(&self) -> FrameIter<'_, R>
         requires there { IsStopIn self.now.units.items self.now.entries.items self.now.stop }

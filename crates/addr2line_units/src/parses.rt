@@ -7,9 +7,9 @@ ghost use Rattle.addr2line_lines.specs.SeenScope.{seen_scope};
 ghost use Rattle.addr2line_units.specs.declared.parses.Reads.TheVariants.{Details, Functions};
 ghost use Rattle.addr2line_units.specs.FramesLookup.{with_answer};
 ghost use Rattle.addr2line_units.specs.FunctionParses.{AreFirstDecided, AreReadBefore, AreReadyFor, IsReadyFor, answers_after_parse, read_of_functions, read_of_number, read_of_unit, read_of_units, read_of_view};
-ghost use Rattle.addr2line_units.specs.CachedEntries.{AreEntriesOf, StayEntries, cached_answer};
+ghost use Rattle.addr2line_units.specs.CachedEntries.{AreEntriesOf, StayEntries, first_answer_of};
 ghost use Rattle.addr2line_units.specs.CachedFunctions.{AreFunctionsOf, StayFunctions};
-ghost use Rattle.addr2line_units.specs.CachedLookups.{HaveEntriesOf, StayAllEntries, answers_in, has_entries_at, scope_in};
+ghost use Rattle.addr2line_units.specs.CachedUnits.{HaveEntriesOf, StayAllEntries, answers_in, has_entries_at, scope_in};
 ghost use Rattle.addr2line_units.specs.CachedParses.{AreDecided, AreReadyUnits, ChangesOnly, HasRead, HaveFunctions, HaveRead, IsReadyUnit, StayDecided};
 ghost use Rattle.addr2line_units.specs.CachedViews.{is_decided, seen_first_answer};
 ghost use Rattle.addr2line_units.specs.KnownEntries.{known_by, known_functions, known_in};
@@ -146,19 +146,19 @@ impl<R: Reader> UnitEntries<R> {
         requires in_order { IsScope (seen_scope scope) }
         requires kept { AreEntriesOf (seen_scope scope) dw_unit.now self.old }
         ensures gives { ExactlyUnlessOom (λ x. x) result (read_of_unit reads
-            (seen_scope scope.entry) dw_unit.now (cached_answer self.old)) }
+            (seen_scope scope.entry) dw_unit.now (first_answer_of self.old)) }
         ensures kept { AreEntriesOf (seen_scope scope.entry) dw_unit.now self.new }
-        ensures answer { HadMemory result → cached_answer self.new ≡ decided_answer
-            scope.entry.file.dwarf.now dw_unit.now (cached_answer self.old) None }
-        ensures memory_answer { (cached_answer self.new ≡ cached_answer self.old)
-            ⊎ (cached_answer self.new ≡ decided_answer scope.entry.file.dwarf.now dw_unit.now
-            (cached_answer self.old) None) }
+        ensures answer { HadMemory result → first_answer_of self.new ≡ decided_answer
+            scope.entry.file.dwarf.now dw_unit.now (first_answer_of self.old) None }
+        ensures memory_answer { (first_answer_of self.new ≡ first_answer_of self.old)
+            ⊎ (first_answer_of self.new ≡ decided_answer scope.entry.file.dwarf.now dw_unit.now
+            (first_answer_of self.old) None) }
         ensures stay { is_decided self.old.view.state ≡ true → StayEntries self.old self.new }
         ensures read { OnOk result (HasRead reads self.new) }
         ensures memory { HasRead reads self.old → result ≡ Ok tt }
         ensures ready_for_all { HadMemory result → IsReadyUnit reads self.new }
         ensures exact { IsReadyUnit reads self.old → result ≡ read_of_unit reads
-            (seen_scope scope.entry) dw_unit.now (cached_answer self.old) }
+            (seen_scope scope.entry) dw_unit.now (first_answer_of self.old) }
         ensures same { IsReadyUnit reads self.old → self.new ≡ self.old }
     {
         self.answer(alloc, scope, dw_unit, None)?;

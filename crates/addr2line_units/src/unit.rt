@@ -30,7 +30,8 @@ pub enum LazyLines {
     Faulty(Error),
 }
 
-/// What a context caches of a unit, beside the unit itself.
+/// What a context has of a unit, beside the unit itself: its language, and its lines, which are cached
+/// when they are first asked for.
 #[derive(Drop)]
 pub struct ResUnit {
     /// Its language.
@@ -117,7 +118,8 @@ fn lines_at_first<R: Reader>(alloc: Global, unit: &Unit<R>) -> LazyLines
     }
 }
 
-// What is cached of a unit whose record was read, and its given ranges.
+// The language of a unit whose record was read, its lines before they are asked for, and its given
+// ranges.
 pub(crate) fn read_ranged_unit<R: Reader>(
     alloc: Global,
     dwarf: &Dwarf<R>,

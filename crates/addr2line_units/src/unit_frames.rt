@@ -5,7 +5,7 @@ ghost use Rattle.gimli_read.specs.Reading.{ExactlyUnlessOom};
 ghost use Rattle.addr2line_lines.specs.References.{IsScope};
 ghost use Rattle.addr2line_lines.specs.SeenScope.{seen_scope};
 ghost use Rattle.addr2line_units.specs.CachedLines.{AreLinesOf, StaysUnit, indexed_unit, is_uncached};
-ghost use Rattle.addr2line_units.specs.CachedEntries.{AreEntriesOf, AreFramesIn, AreFresh, ReadsEntriesOf, StayEntries, frames_of_place, has_entries, has_entries_by, cached_answer};
+ghost use Rattle.addr2line_units.specs.CachedEntries.{AreEntriesOf, AreFramesIn, AreFresh, ReadsEntriesOf, StayEntries, frames_of_place, has_entries, has_entries_by, first_answer_of};
 ghost use Rattle.addr2line_units.specs.CachedFunctions.{ArePlacesIn, ReadsNoOther, StayFunctions, function_of_place, cached_functions};
 ghost use Rattle.addr2line_units.specs.CachedViews.{is_decided, seen_first_answer, waits, was_looked_at};
 ghost use Rattle.gimli_read.specs.Alike.{HadMemory};
@@ -77,7 +77,7 @@ fn find_in_view<'x, R: Reader>(
 impl<R: Reader> UnitEntries<R> {
     // Before anybody asks for something. Takes no memory.
     pub(crate) fn new() -> UnitEntries<R>
-        ensures answer { cached_answer result ≡ None }
+        ensures answer { first_answer_of result ≡ None }
         ensures fresh { AreFresh result }
     {
         UnitEntries {
@@ -117,7 +117,7 @@ impl<R: Reader> UnitEntries<R> {
         requires decided { waits self.old.view.state ≡ false }
         ensures gives { ExactlyUnlessOom
             (option_map (function_of_place (cached_functions self.new.functions))) result
-            (function_in (seen_scope scope.entry) dw_unit.now (cached_answer self.old) probe) }
+            (function_in (seen_scope scope.entry) dw_unit.now (first_answer_of self.old) probe) }
         ensures there { IfOk result (λ found. IfSome found
             (ArePlacesIn (cached_functions self.new.functions))) }
         ensures kept { AreEntriesOf (seen_scope scope.entry) dw_unit.now self.new }
@@ -125,7 +125,7 @@ impl<R: Reader> UnitEntries<R> {
         ensures only { ReadsEntriesOf probe self.old self.new }
         ensures ready { HadMemory result → has_entries probe self.new ≡ true }
         ensures memory { has_entries probe self.new ≡ true
-            → has_many (seen_scope scope.entry) dw_unit.now (cached_answer self.old) probe ≡ false
+            → has_many (seen_scope scope.entry) dw_unit.now (first_answer_of self.old) probe ≡ false
             → HadMemory result }
     {
         let UnitEntries { view, functions } = self;
@@ -154,25 +154,25 @@ pub(crate) fn find_frames_in<'x, R: Reader>(
     requires kept { AreEntriesOf (seen_scope scope) dw_unit.now entries.old }
     ensures gives { ExactlyUnlessOom (frames_of_place unit.new entries.new) result
         (frames_in (seen_scope scope.entry) (indexed_unit dw_unit.now unit.old)
-        (cached_answer entries.old) probe) }
+        (first_answer_of entries.old) probe) }
     ensures there { IfOk result (AreFramesIn unit.new entries.new) }
     ensures read { AreLinesOf scope.entry.file.dwarf.now dw_unit.now unit.new.lines }
     ensures kept { AreEntriesOf (seen_scope scope.entry) dw_unit.now entries.new }
     ensures stays { StaysUnit unit.old unit.new }
     ensures stay { StayEntries entries.old entries.new }
     ensures only { ReadsEntriesOf probe entries.old entries.new }
-    ensures lines { asks_lines_in (seen_scope scope.entry) dw_unit.now (cached_answer entries.old)
+    ensures lines { asks_lines_in (seen_scope scope.entry) dw_unit.now (first_answer_of entries.old)
         probe ≡ false → unit.new ≡ unit.old }
     ensures ready { HadMemory result → has_entries probe entries.new ≡ true }
     ensures parsed { HadMemory result
-        → asks_lines_in (seen_scope scope.entry) dw_unit.now (cached_answer entries.old) probe
+        → asks_lines_in (seen_scope scope.entry) dw_unit.now (first_answer_of entries.old) probe
         ≡ true
         → is_uncached unit.new.lines ≡ false }
     ensures memory { has_entries probe entries.new ≡ true
-        → (asks_lines_in (seen_scope scope.entry) dw_unit.now (cached_answer entries.old) probe
+        → (asks_lines_in (seen_scope scope.entry) dw_unit.now (first_answer_of entries.old) probe
         ≡ true
         → is_uncached unit.new.lines ≡ false)
-        → has_many (seen_scope scope.entry) dw_unit.now (cached_answer entries.old) probe ≡ false
+        → has_many (seen_scope scope.entry) dw_unit.now (first_answer_of entries.old) probe ≡ false
         → HadMemory result }
     ensures raised { looks.old ≤ looks.new }
 {

@@ -6,7 +6,7 @@ ghost use Rattle.gimli_read.specs.Reading.{Exactly, ExactlyUnlessOom, ExactlyUnl
 ghost use Rattle.addr2line_units.specs.RangedUnits.{range_of_unit, unit_of_header};
 ghost use Rattle.addr2line_units.specs.Indexed.{index_seen, index_takes_memory, indexed, indexed_with, no_index, ranged_seen, indexed_unit_takes_memory, units_in, units_seen, units_take_memory, with_header, with_ranged};
 ghost use Rattle.addr2line_units.specs.CachedLines.{HaveLinesOf, IsUnparsed, StayUnits, cached_files, location_at_place, parsed_units};
-ghost use Rattle.addr2line_units.specs.CachedLookups.{AreFreshOf};
+ghost use Rattle.addr2line_units.specs.CachedUnits.{AreFreshOf};
 ghost use Rattle.addr2line_units.specs.LocationsLeft.{locations_left};
 ghost use Rattle.gimli_line.specs.Opcode.{fault_of};
 ghost use Rattle.addr2line_units.specs.Located.{all_lines, along, is_found, looks_along};
@@ -36,7 +36,7 @@ use std::alloc::Global;
 pub struct ResUnits<R: Reader> {
     /// The units, in the order of `.debug_info`.
     pub dw_units: Vec<Unit<R>>,
-    /// What is cached of each, in the same order.
+    /// The language and the cached lines of each, in the same order.
     pub units: Vec<ResUnit>,
     // What is cached of the entries of each, in the same order.
     pub(crate) entries: Vec<UnitEntries<R>>,
@@ -65,7 +65,7 @@ fn location_of(lines: &LazyLines, row: Row) -> Location<'_>
     }
 }
 
-// The unit of a header, what is cached of it, and its given ranges; none where it is passed over.
+// The unit of a header, its language and lines, and its given ranges; none where it is passed over.
 #[tactic(auto, unfolding(crate::specs::RangedUnits::unit_of_header))]
 fn read_unit<R: Reader>(
     alloc: Global,

@@ -2,7 +2,7 @@
 //!
 //! Arguments: a mode and a file of nine sections, each after its length in eight bytes, and after
 //! them an address past all code. The mode `nothing` only reads the file, `units` reads the units,
-//! `functions` caches the functions of all units and looks up addresses, and `details` the details
+//! `functions` reads the functions of all units and looks up addresses, and `details` the details
 //! of each of them too. It is timed from outside, by tools/function_speed.
 #![tactic(auto)]
 

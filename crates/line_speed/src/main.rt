@@ -1,7 +1,7 @@
 //! The program `line_speed`: a checksum of rows, of cached lines, or of lookups in them.
 //!
 //! Arguments: a mode and a file. The modes `borrowed` and `shared` take a `.debug_line` section,
-//! whose rows are read over borrowed or shared bytes. The modes `kept` and `lookups` take a file of
+//! whose rows are read over borrowed or shared bytes. The modes `cached` and `lookups` take a file of
 //! four sections, each after its length in eight bytes: the lines of all units are cached, and a
 //! thousand addresses are looked up, or a million more.
 #![tactic(auto)]
@@ -35,7 +35,7 @@ fn sum_of(alloc: Global, mode: &str, bytes: Vec<u8>) -> Option<Result<u64, Error
         };
     }
     let lookups = match mode {
-        "kept" => 1_000,
+        "cached" => 1_000,
         "lookups" => 1_001_000,
         _ => return None,
     };

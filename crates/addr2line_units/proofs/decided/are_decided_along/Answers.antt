@@ -1,5 +1,5 @@
 use Rattle.std.proofs.Common.{ap, refl, sym, ◌&&◌, ◌∙◌}
-use Rattle.addr2line_units.specs.CachedLookups.{decided_along}
+use Rattle.addr2line_units.specs.CachedUnits.{decided_along}
 use Rattle.addr2line_units.specs.UnitRangesLeft.{ranges_left}
 use Rattle.addr2line_units.proofs.UnitsLemmas.{rest_shorter}
 use Rattle.addr2line_units.proofs.decided.are_decided_along.Goals as goal

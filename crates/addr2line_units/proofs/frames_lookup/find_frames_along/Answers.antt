@@ -6,12 +6,12 @@ use Rattle.addr2line_lines.specs.SeenScope.{seen_scope}
 use Rattle.addr2line_units.specs.CachedLines.{indexed_units, parsed_units}
 use Rattle.addr2line_units.specs.FramesLookup.{LookupAsks, asked_frames, asks_lines_of, ends_lookup, frames_of_number, has_many_of, holds_along, or_stop, stop_along}
 use Rattle.addr2line_units.specs.CachedFrames.{AreFoundAt, frames_found_at, has_frames_at}
-use Rattle.addr2line_units.specs.CachedLookups.{answers_in}
+use Rattle.addr2line_units.specs.CachedUnits.{answers_in}
 use Rattle.gimli_read.specs.Alike.{HadMemory}
 use Rattle.addr2line_units.specs.Parsed.{ParsesOnly}
 use Rattle.addr2line_units.specs.UnitRangesLeft.{ranges_left}
 use Rattle.addr2line_units.proofs.FramesLookupLemmas.{faults_there, gives_after, goes_on, has_more, holds_both, holds_ended, holds_first, holds_rest, no_stop, oom_after, oom_before, parses_more, stop_ends, stop_is, stop_there, there_after}
-use Rattle.addr2line_units.proofs.CachedLookupLemmas.{entries_more_at, reads_more, stay_entries, stay_entries_over}
+use Rattle.addr2line_units.proofs.CachedUnitLemmas.{entries_more_at, reads_more, stay_entries, stay_entries_over}
 use Rattle.addr2line_units.proofs.UnitsLemmas.{stay_all, stay_over, stay_parsed}
 use Rattle.addr2line_units.proofs.WalkLemmas.{and_first, and_not, asked_first, at_first}
 use Rattle.addr2line_units.proofs.frames_lookup.find_frames_along.Goals as goal

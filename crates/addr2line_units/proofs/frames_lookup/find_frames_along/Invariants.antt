@@ -2,7 +2,7 @@ use Rattle.std.proofs.Common.{ℕ, Bool, true, ◌≡◌, ◌≤◌, length}
 use Rattle.addr2line_lines.specs.SeenScope.{seen_scope}
 use Rattle.addr2line_units.specs.CachedLines.{HaveLinesOf, StayUnits, indexed_units, parsed_units}
 use Rattle.addr2line_units.specs.FramesLookup.{LookupAsks, asked_frames, asks_lines_of, holds_along, stop_along}
-use Rattle.addr2line_units.specs.CachedLookups.{HaveEntriesOf, ReadsOnly, StayAllEntries, answers_in}
+use Rattle.addr2line_units.specs.CachedUnits.{HaveEntriesOf, ReadsOnly, StayAllEntries, answers_in}
 use Rattle.addr2line_units.specs.CachedFrames.{has_frames_at}
 use Rattle.addr2line_units.specs.Parsed.{ParsesOnly}
 use Rattle.addr2line_units.specs.UnitRangesLeft.{ranges_left}

@@ -1,6 +1,6 @@
 use Rattle.std.proofs.Common.{arith, length, ltb-false, ltb-true, refl, rules, subst, sym, slice_get, None, Some, ◌<◌, ◌≤◌, ◌∙◌, ◌≡◌}
 use Rattle.addr2line_lines.specs.SeenScope.{seen_scope}
-use Rattle.addr2line_units.proofs.CachedLookupLemmas.{as_many_entries, entries_at, entries_set, reads_set, stay_entries, stay_entries_set}
+use Rattle.addr2line_units.proofs.CachedUnitLemmas.{as_many_entries, entries_at, entries_set, reads_set, stay_entries, stay_entries_set}
 use Rattle.std.proofs.lemmas.Option.{get_or_from_slice_get, slice_get_past, slice_get_read, slice_get_within}
 use Rattle.std.specs.Vec.{vec_len}
 use Rattle.addr2line_units.proofs.NumberedFrames.{frames_given, known_then, lines_only, many_are, none_known, none_past, nothing_at, places_there, then_known}

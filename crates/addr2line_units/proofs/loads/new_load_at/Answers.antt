@@ -3,11 +3,11 @@ use Rattle.std.specs.Prelude.{IfOk, OnOk}
 use Rattle.std.proofs.lemmas.Option.{get_or_from_slice_get, slice_get_past, slice_get_read, slice_get_within}
 use Rattle.addr2line_lines.specs.SeenScope.{seen_file}
 use Rattle.addr2line_units.specs.CachedEntries.{AreEntriesOf}
-use Rattle.addr2line_units.specs.CachedLookups.{answers_in, scope_in, sup_file}
+use Rattle.addr2line_units.specs.CachedUnits.{answers_in, scope_in, sup_file}
 use Rattle.addr2line_units.specs.ListedLoads.{MarksLoad, if_new}
 use Rattle.addr2line_units.specs.Loads.{load_of_number}
 use Rattle.addr2line_units.proofs.AnswerLemmas.{decided_there, in_same_scope}
-use Rattle.addr2line_units.proofs.CachedLookupLemmas.{as_many_entries, entries_at, entries_set, stay_entries, stay_entries_set}
+use Rattle.addr2line_units.proofs.CachedUnitLemmas.{as_many_entries, entries_at, entries_set, stay_entries, stay_entries_set}
 use Rattle.addr2line_units.proofs.LoadLemmas.{load_there, marks_none, no_load}
 use Rattle.addr2line_units.proofs.OpenLemmas.{not_open_there}
 use Rattle.addr2line_units.proofs.loads.new_load_at.Goals as goal

@@ -2,11 +2,11 @@ use Rattle.std.proofs.Common.{◌≡◌, ◌∙◌, ◌++◌, [], ap, filter, ru
 use Rattle.std.specs.List.{AllByRecursion}
 use Rattle.std.proofs.lemmas.List.{append-nil}
 use Rattle.addr2line_units.specs.declared.index.UnitRange.{UnitRange}
-use Rattle.addr2line_units.specs.CachedLookups.{answers_in, decided_at}
+use Rattle.addr2line_units.specs.CachedUnits.{answers_in, decided_at}
 use Rattle.addr2line_units.specs.ListedLoads.{is_new}
 use Rattle.addr2line_units.specs.Loads.{NoneOpen, load_of_number, loads_along}
 use Rattle.addr2line_units.specs.UnitRangesLeft.{ranges_left}
-use Rattle.addr2line_units.proofs.CachedLookupLemmas.{same_answers, stay_entries, stay_entries_over}
+use Rattle.addr2line_units.proofs.CachedUnitLemmas.{same_answers, stay_entries, stay_entries_over}
 use Rattle.addr2line_units.proofs.LoadLemmas.{decided_stays, found_same, listed_step, none_marked}
 use Rattle.addr2line_units.proofs.OpenLemmas.{first_not_open}
 use Rattle.addr2line_units.proofs.loads.read_loads.Goals as goal

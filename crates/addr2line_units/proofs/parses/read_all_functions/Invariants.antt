@@ -2,7 +2,7 @@ use Rattle.std.proofs.Common.{ℕ, ◌≡◌, ◌<◌, ◌≤◌, length, slice_
 use Rattle.std.specs.Prelude.{IfSome}
 use Rattle.addr2line_lines.specs.SeenScope.{seen_scope}
 use Rattle.addr2line_units.specs.FunctionParses.{AreReadBefore, first_decided}
-use Rattle.addr2line_units.specs.CachedLookups.{HaveEntriesOf, answers_in}
+use Rattle.addr2line_units.specs.CachedUnits.{HaveEntriesOf, answers_in}
 use Rattle.addr2line_units.specs.CachedParses.{AreReadyUnits, HasRead, StayDecided}
 use Rattle.addr2line_units.proofs.parses.read_all_functions.Given as goal
 

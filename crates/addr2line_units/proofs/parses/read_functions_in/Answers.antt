@@ -3,7 +3,7 @@ use Rattle.std.proofs.lemmas.Option.{get_or_from_slice_get, slice_get_past, slic
 use Rattle.gimli_read.specs.Reading.{ExactlyUnlessOom}
 use Rattle.addr2line_lines.specs.SeenScope.{seen_scope}
 use Rattle.addr2line_units.proofs.AnswerLemmas.{answered_all, answers_stay}
-use Rattle.addr2line_units.proofs.CachedLookupLemmas.{as_many_entries, entries_at, entries_set}
+use Rattle.addr2line_units.proofs.CachedUnitLemmas.{as_many_entries, entries_at, entries_set}
 use Rattle.addr2line_units.proofs.CachedParseLemmas.{changes_set, decided_same, decided_set, number_is, read_entry, read_set}
 use Rattle.addr2line_units.proofs.NumberedFrames.{none_past}
 use Rattle.addr2line_units.proofs.ReadyLemmas.{ready_entry, ready_set, same_set}

@@ -4,7 +4,7 @@ use Rattle.addr2line_lines.specs.Location.{location_of_row}
 use Rattle.addr2line_lines.specs.SeenScope.{seen_scope}
 use Rattle.addr2line_units.specs.CachedLines.{cached_files, indexed_unit}
 use Rattle.addr2line_units.specs.Frames.{found_frames}
-use Rattle.addr2line_units.specs.CachedEntries.{cached_answer}
+use Rattle.addr2line_units.specs.CachedEntries.{first_answer_of}
 use Rattle.addr2line_units.specs.CachedFunctions.{function_of_place, cached_functions}
 use Rattle.addr2line_units.specs.UnitFrames.{function_in, has_many}
 use Rattle.addr2line_units.specs.Views.{is_open}
@@ -20,8 +20,8 @@ returns-then-is_open-clause-gives g c =
     let old = c.args.entries.now in
     let mid = c.look.new.self in
     let x = indexed_unit u c.args.unit.now in
-    let answer = cached_answer old in
-    let waiting : is_open scope.file.sections u (cached_answer mid) ≡ true = waiting_stays_open scope.file.sections u mid.view (sym c.is_open.ensures.gives ∙ c.if-is_open.true) c.look.ensures.kept.view in
+    let answer = first_answer_of old in
+    let waiting : is_open scope.file.sections u (first_answer_of mid) ≡ true = waiting_stays_open scope.file.sections u mid.view (sym c.is_open.ensures.gives ∙ c.if-is_open.true) c.look.ensures.kept.view in
     let open_now : is_open scope.file.sections u answer ≡ true = ap (is_open scope.file.sections u) (sym c.look.ensures.stay.answer) ∙ waiting in
     open_frames scope x answer probe open_now
 
@@ -38,7 +38,7 @@ returns-then-is_open-clause-only g c =
     let old = c.args.entries.now in
     let mid = c.look.new.self in
     let x = indexed_unit u c.args.unit.now in
-    let answer = cached_answer old in
+    let answer = first_answer_of old in
     look_only probe old mid c.look.ensures.functions c.look.ensures.same
 
 pub returns-then-is_open-clause-parsed : goal.returns-then-is_open-clause-parsed
@@ -49,8 +49,8 @@ returns-then-is_open-clause-parsed g c =
     let old = c.args.entries.now in
     let mid = c.look.new.self in
     let x = indexed_unit u c.args.unit.now in
-    let answer = cached_answer old in
-    let waiting : is_open scope.file.sections u (cached_answer mid) ≡ true = waiting_stays_open scope.file.sections u mid.view (sym c.is_open.ensures.gives ∙ c.if-is_open.true) c.look.ensures.kept.view in
+    let answer = first_answer_of old in
+    let waiting : is_open scope.file.sections u (first_answer_of mid) ≡ true = waiting_stays_open scope.file.sections u mid.view (sym c.is_open.ensures.gives ∙ c.if-is_open.true) c.look.ensures.kept.view in
     let open_now : is_open scope.file.sections u answer ≡ true = ap (is_open scope.file.sections u) (sym c.look.ensures.stay.answer) ∙ waiting in
     λ _. λ asks. (let no : false ≡ true = sym (open_asks scope x answer probe open_now) ∙ asks in absurd cc)
 
@@ -62,7 +62,7 @@ returns-in_err-function-clause-gives g c =
     let old = c.args.entries.now in
     let mid = c.look.new.self in
     let x = indexed_unit u c.args.unit.now in
-    let answer = cached_answer old in
+    let answer = first_answer_of old in
     let decided = looked_decides mid.view.state c.look.ensures.looked (sym c.is_open.ensures.gives ∙ c.if-is_open.false) in
     let closed : is_open scope.file.sections u answer ≡ false = ap (is_open scope.file.sections u) (sym c.look.ensures.stay.answer) ∙ not_open scope u probe mid c.look.ensures.kept decided in
     let p = err_from_is_err_and c.from_residual.result c.from_residual.ensures.1 in
@@ -76,7 +76,7 @@ returns-in_err-function-clause-stay g c =
     let old = c.args.entries.now in
     let mid = c.look.new.self in
     let x = indexed_unit u c.args.unit.now in
-    let answer = cached_answer old in
+    let answer = first_answer_of old in
     stay_after probe old mid c.look.ensures.functions c.look.ensures.same c.find_function.new.self c.look.ensures.stay c.find_function.ensures.stay
 
 pub returns-in_err-function-clause-only : goal.returns-in_err-function-clause-only
@@ -87,7 +87,7 @@ returns-in_err-function-clause-only g c =
     let old = c.args.entries.now in
     let mid = c.look.new.self in
     let x = indexed_unit u c.args.unit.now in
-    let answer = cached_answer old in
+    let answer = first_answer_of old in
     only_after probe old mid c.look.ensures.functions c.look.ensures.same c.find_function.new.self c.find_function.ensures.only
 
 pub returns-in_err-function-clause-parsed : goal.returns-in_err-function-clause-parsed
@@ -98,7 +98,7 @@ returns-in_err-function-clause-parsed g c =
     let old = c.args.entries.now in
     let mid = c.look.new.self in
     let x = indexed_unit u c.args.unit.now in
-    let answer = cached_answer old in
+    let answer = first_answer_of old in
     let decided = looked_decides mid.view.state c.look.ensures.looked (sym c.is_open.ensures.gives ∙ c.if-is_open.false) in
     let closed : is_open scope.file.sections u answer ≡ false = ap (is_open scope.file.sections u) (sym c.look.ensures.stay.answer) ∙ not_open scope u probe mid c.look.ensures.kept decided in
     let p = err_from_is_err_and c.from_residual.result c.from_residual.ensures.1 in
@@ -112,7 +112,7 @@ returns-in_err-row-clause-gives g c =
     let old = c.args.entries.now in
     let mid = c.look.new.self in
     let x = indexed_unit u c.args.unit.now in
-    let answer = cached_answer old in
+    let answer = first_answer_of old in
     let decided = looked_decides mid.view.state c.look.ensures.looked (sym c.is_open.ensures.gives ∙ c.if-is_open.false) in
     let closed : is_open scope.file.sections u answer ≡ false = ap (is_open scope.file.sections u) (sym c.look.ensures.stay.answer) ∙ not_open scope u probe mid c.look.ensures.kept decided in
     let f = option_map (function_of_place (cached_functions c.find_function.new.self.functions)) c.in_ok-function.function in
@@ -128,7 +128,7 @@ returns-in_err-row-clause-stay g c =
     let old = c.args.entries.now in
     let mid = c.look.new.self in
     let x = indexed_unit u c.args.unit.now in
-    let answer = cached_answer old in
+    let answer = first_answer_of old in
     stay_after probe old mid c.look.ensures.functions c.look.ensures.same c.find_function.new.self c.look.ensures.stay c.find_function.ensures.stay
 
 pub returns-in_err-row-clause-only : goal.returns-in_err-row-clause-only
@@ -139,7 +139,7 @@ returns-in_err-row-clause-only g c =
     let old = c.args.entries.now in
     let mid = c.look.new.self in
     let x = indexed_unit u c.args.unit.now in
-    let answer = cached_answer old in
+    let answer = first_answer_of old in
     only_after probe old mid c.look.ensures.functions c.look.ensures.same c.find_function.new.self c.find_function.ensures.only
 
 pub returns-in_err-row-clause-lines : goal.returns-in_err-row-clause-lines
@@ -150,7 +150,7 @@ returns-in_err-row-clause-lines g c =
     let old = c.args.entries.now in
     let mid = c.look.new.self in
     let x = indexed_unit u c.args.unit.now in
-    let answer = cached_answer old in
+    let answer = first_answer_of old in
     let decided = looked_decides mid.view.state c.look.ensures.looked (sym c.is_open.ensures.gives ∙ c.if-is_open.false) in
     let closed : is_open scope.file.sections u answer ≡ false = ap (is_open scope.file.sections u) (sym c.look.ensures.stay.answer) ∙ not_open scope u probe mid c.look.ensures.kept decided in
     let f = option_map (function_of_place (cached_functions c.find_function.new.self.functions)) c.in_ok-function.function in
@@ -165,7 +165,7 @@ returns-in_err-row-clause-memory g c =
     let old = c.args.entries.now in
     let mid = c.look.new.self in
     let x = indexed_unit u c.args.unit.now in
-    let answer = cached_answer old in
+    let answer = first_answer_of old in
     let decided = looked_decides mid.view.state c.look.ensures.looked (sym c.is_open.ensures.gives ∙ c.if-is_open.false) in
     let closed : is_open scope.file.sections u answer ≡ false = ap (is_open scope.file.sections u) (sym c.look.ensures.stay.answer) ∙ not_open scope u probe mid c.look.ensures.kept decided in
     let f = option_map (function_of_place (cached_functions c.find_function.new.self.functions)) c.in_ok-function.function in
@@ -181,7 +181,7 @@ returns-clause-gives g c =
     let old = c.args.entries.now in
     let mid = c.look.new.self in
     let x = indexed_unit u c.args.unit.now in
-    let answer = cached_answer old in
+    let answer = first_answer_of old in
     let decided = looked_decides mid.view.state c.look.ensures.looked (sym c.is_open.ensures.gives ∙ c.if-is_open.false) in
     let closed : is_open scope.file.sections u answer ≡ false = ap (is_open scope.file.sections u) (sym c.look.ensures.stay.answer) ∙ not_open scope u probe mid c.look.ensures.kept decided in
     let f = option_map (function_of_place (cached_functions c.find_function.new.self.functions)) c.in_ok-function.function in
@@ -198,7 +198,7 @@ returns-clause-there g c =
     let old = c.args.entries.now in
     let mid = c.look.new.self in
     let x = indexed_unit u c.args.unit.now in
-    let answer = cached_answer old in
+    let answer = first_answer_of old in
     let decided = looked_decides mid.view.state c.look.ensures.looked (sym c.is_open.ensures.gives ∙ c.if-is_open.false) in
     let closed : is_open scope.file.sections u answer ≡ false = ap (is_open scope.file.sections u) (sym c.look.ensures.stay.answer) ∙ not_open scope u probe mid c.look.ensures.kept decided in
     let f = option_map (function_of_place (cached_functions c.find_function.new.self.functions)) c.in_ok-function.function in
@@ -214,7 +214,7 @@ returns-clause-stay g c =
     let old = c.args.entries.now in
     let mid = c.look.new.self in
     let x = indexed_unit u c.args.unit.now in
-    let answer = cached_answer old in
+    let answer = first_answer_of old in
     stay_after probe old mid c.look.ensures.functions c.look.ensures.same c.find_function.new.self c.look.ensures.stay c.find_function.ensures.stay
 
 pub returns-clause-only : goal.returns-clause-only
@@ -225,7 +225,7 @@ returns-clause-only g c =
     let old = c.args.entries.now in
     let mid = c.look.new.self in
     let x = indexed_unit u c.args.unit.now in
-    let answer = cached_answer old in
+    let answer = first_answer_of old in
     only_after probe old mid c.look.ensures.functions c.look.ensures.same c.find_function.new.self c.find_function.ensures.only
 
 pub returns-clause-lines : goal.returns-clause-lines
@@ -236,7 +236,7 @@ returns-clause-lines g c =
     let old = c.args.entries.now in
     let mid = c.look.new.self in
     let x = indexed_unit u c.args.unit.now in
-    let answer = cached_answer old in
+    let answer = first_answer_of old in
     let decided = looked_decides mid.view.state c.look.ensures.looked (sym c.is_open.ensures.gives ∙ c.if-is_open.false) in
     let closed : is_open scope.file.sections u answer ≡ false = ap (is_open scope.file.sections u) (sym c.look.ensures.stay.answer) ∙ not_open scope u probe mid c.look.ensures.kept decided in
     let f = option_map (function_of_place (cached_functions c.find_function.new.self.functions)) c.in_ok-function.function in

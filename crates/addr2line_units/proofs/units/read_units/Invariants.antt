@@ -2,7 +2,7 @@ use Rattle.std.proofs.Common.{◌≡◌, Ok, length, true}
 use Rattle.gimli_read.specs.Reading.{◌>>=◌}
 use Rattle.addr2line_units.specs.CachedLines.{HaveLinesOf}
 use Rattle.addr2line_units.specs.Indexed.{appended, index_seen, indexed_with, some_take_memory, indexed_unit_takes_memory, units_take_memory}
-use Rattle.addr2line_units.specs.CachedLookups.{AreFreshOf}
+use Rattle.addr2line_units.specs.CachedUnits.{AreFreshOf}
 use Rattle.addr2line_units.specs.RangedUnits.{unit_of_header, units_of}
 use Rattle.addr2line_units.proofs.units.read_units.Given as goal
 

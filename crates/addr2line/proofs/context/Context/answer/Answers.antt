@@ -1,7 +1,7 @@
 use Rattle.std.proofs.Common.{◌≡◌, subst, sym}
 use Rattle.std.specs.Prelude.{OnOk, option_map}
 use Rattle.addr2line_units.specs.FramesLookup.{with_answer}
-use Rattle.addr2line_units.specs.CachedLookups.{answers_in}
+use Rattle.addr2line_units.specs.CachedUnits.{answers_in}
 use Rattle.addr2line.proofs.AnsweredLemmas.{after_answer, fewer_after, still_answered, unit_there}
 use Rattle.addr2line.proofs.LookupLemmas.{entries_in_scope}
 use Rattle.addr2line.proofs.context.Context.answer.Goals as goal

@@ -2,8 +2,8 @@ use Rattle.std.proofs.Common.{Ok, refl, sym, ap, ◌∙◌}
 use Rattle.std.proofs.lemmas.Result.{err_from_is_err_and}
 use Rattle.gimli_read.specs.Reading.{◌>>=◌}
 use Rattle.addr2line_units.specs.declared.frames_lookup.Faults.TheVariants.{End}
-use Rattle.addr2line_units.specs.CachedLookups.{scope_in}
-use Rattle.addr2line_units.proofs.CachedLookupLemmas.{as_many_entries}
+use Rattle.addr2line_units.specs.CachedUnits.{scope_in}
+use Rattle.addr2line_units.proofs.CachedUnitLemmas.{as_many_entries}
 use Rattle.addr2line.specs.Lookups.{frames_told}
 use Rattle.addr2line.proofs.LookupLemmas.{after_frames, as_many_lines, entries_in_scope, scope_in_order, still_context, stop_is, told_frames}
 use Rattle.addr2line.proofs.context.Context.ended_frames.Goals as goal

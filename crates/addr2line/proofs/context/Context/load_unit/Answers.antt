@@ -2,10 +2,10 @@ use Rattle.std.proofs.Common.{◌≡◌, ◌≢◌, ◌⊎◌, ◌∙◌, ap, fa
 use Rattle.std.specs.Prelude.{option_map}
 use Rattle.gimli_read.specs.Reading.{ExactlyUnlessOom}
 use Rattle.addr2line_units.specs.FramesLookup.{with_answer}
-use Rattle.addr2line_units.specs.CachedLookups.{StayAllEntries, answers_in, scope_in}
+use Rattle.addr2line_units.specs.CachedUnits.{StayAllEntries, answers_in, scope_in}
 use Rattle.addr2line_units.specs.Loads.{is_open_at, load_result}
 use Rattle.gimli_read.specs.Alike.{HadMemory}
-use Rattle.addr2line_units.proofs.CachedLookupLemmas.{as_many_entries}
+use Rattle.addr2line_units.proofs.CachedUnitLemmas.{as_many_entries}
 use Rattle.addr2line.proofs.AnsweredLemmas.{still_answered}
 use Rattle.addr2line.proofs.LoadLemmas.{after_load, load_is, not_open_is}
 use Rattle.addr2line.proofs.LookupLemmas.{entries_in_scope}

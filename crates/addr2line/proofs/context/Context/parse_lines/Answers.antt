@@ -2,7 +2,7 @@ use Rattle.std.proofs.Common.{ap, subst, sym, ◌∙◌}
 use Rattle.std.specs.Prelude.{is_ok}
 use Rattle.gimli_read.specs.Reading.{Exactly}
 use Rattle.addr2line_units.specs.CachedLines.{HaveLinesOf, parsed_units}
-use Rattle.addr2line_units.specs.CachedLookups.{answers_in}
+use Rattle.addr2line_units.specs.CachedUnits.{answers_in}
 use Rattle.addr2line_units.specs.KnownEntries.{known_in}
 use Rattle.addr2line_units.specs.Cover.{cover}
 use Rattle.addr2line.proofs.ContextLemmas.{after_parse, all_stays, along_ok, lines_are, location_is, range_ready_if_ok, ready_after_parse, ready_if_ok, same_after_parse, still_a_context, when_ok}

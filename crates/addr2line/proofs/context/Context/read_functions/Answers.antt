@@ -1,7 +1,7 @@
 use Rattle.std.proofs.Common.{◌≡◌, sym, subst}
 use Rattle.gimli_read.specs.Reading.{ExactlyUnlessOom}
 use Rattle.addr2line_units.specs.FunctionParses.{AreFirstDecided, AreReadBefore, AreReadyFor, answers_after_parse, read_of_units}
-use Rattle.addr2line_units.specs.CachedLookups.{answers_in, scope_in}
+use Rattle.addr2line_units.specs.CachedUnits.{answers_in, scope_in}
 use Rattle.addr2line_units.specs.CachedParses.{ChangesOnly}
 use Rattle.addr2line_units.specs.KnownEntries.{known_in}
 use Rattle.gimli_read.specs.Alike.{HadMemory}

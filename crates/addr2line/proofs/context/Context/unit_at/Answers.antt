@@ -1,6 +1,6 @@
 use Rattle.std.proofs.Common.{◌≡◌, option_map, subst, sym}
 use Rattle.addr2line_units.specs.FramesLookup.{readable_view, view_of_number}
-use Rattle.addr2line_units.specs.CachedLookups.{answers_in}
+use Rattle.addr2line_units.specs.CachedUnits.{answers_in}
 use Rattle.addr2line_units.specs.SeenUnit.{seen_unit}
 use Rattle.addr2line_units.specs.Views.{parts_of}
 use Rattle.addr2line.proofs.LookupLemmas.{found_told, unit_told_of, views_are}

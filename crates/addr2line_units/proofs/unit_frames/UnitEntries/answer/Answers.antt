@@ -1,6 +1,6 @@
 use Rattle.std.proofs.Common.{◌≡◌, ◌∙◌, option_map, refl, subst, sym, true, false, rules}
 use Rattle.std.proofs.lemmas.Result.{err_from_is_err_and}
-use Rattle.addr2line_units.specs.CachedEntries.{StayEntries, cached_answer}
+use Rattle.addr2line_units.specs.CachedEntries.{StayEntries, first_answer_of}
 use Rattle.addr2line_units.specs.Views.{is_open}
 use Rattle.addr2line_units.proofs.AnswerLemmas.{decided_if_not, decided_if_open, decided_was_looked_at, never_waits, open_by_look}
 use Rattle.addr2line_units.proofs.EntryLemmas.{looked_decides}
@@ -22,8 +22,8 @@ returns-in_ok-decide-clause-answer g c =
     let u = c.args.dw_unit.now in
     let s = c.args.self.now in
     let n = c.look.new.self in
-    let was : is_open d u (cached_answer s) ≡ true = open_by_look d u s.view n.view true c.look.ensures.kept.view c.look.ensures.looked c.look.ensures.stay.answer (search rules) in
-    c.in_ok-decide.ensures.answer ∙ sym (decided_if_open d u (cached_answer s) (option_map (λ x. x.value) c.args.sections) was)
+    let was : is_open d u (first_answer_of s) ≡ true = open_by_look d u s.view n.view true c.look.ensures.kept.view c.look.ensures.looked c.look.ensures.stay.answer (search rules) in
+    c.in_ok-decide.ensures.answer ∙ sym (decided_if_open d u (first_answer_of s) (option_map (λ x. x.value) c.args.sections) was)
 
 pub returns-in_ok-decide-clause-functions : goal.returns-in_ok-decide-clause-functions
 returns-in_ok-decide-clause-functions g c h =
@@ -31,7 +31,7 @@ returns-in_ok-decide-clause-functions g c h =
     let u = c.args.dw_unit.now in
     let s = c.args.self.now in
     let n = c.look.new.self in
-    let was : is_open d u (cached_answer s) ≡ true = open_by_look d u s.view n.view true c.look.ensures.kept.view c.look.ensures.looked c.look.ensures.stay.answer (search rules) in
+    let was : is_open d u (first_answer_of s) ≡ true = open_by_look d u s.view n.view true c.look.ensures.kept.view c.look.ensures.looked c.look.ensures.stay.answer (search rules) in
     absurd (let e : true ≡ false = sym was ∙ h in cc)
 
 pub returns-in_ok-decide-clause-same : goal.returns-in_ok-decide-clause-same
@@ -44,8 +44,8 @@ returns-else-is_open-clause-answer g c =
     let u = c.args.dw_unit.now in
     let s = c.args.self.now in
     let n = c.look.new.self in
-    let was : is_open d u (cached_answer s) ≡ false = open_by_look d u s.view n.view false c.look.ensures.kept.view c.look.ensures.looked c.look.ensures.stay.answer (search rules) in
-    c.look.ensures.stay.answer ∙ sym (decided_if_not d u (cached_answer s) (option_map (λ x. x.value) c.args.sections) was)
+    let was : is_open d u (first_answer_of s) ≡ false = open_by_look d u s.view n.view false c.look.ensures.kept.view c.look.ensures.looked c.look.ensures.stay.answer (search rules) in
+    c.look.ensures.stay.answer ∙ sym (decided_if_not d u (first_answer_of s) (option_map (λ x. x.value) c.args.sections) was)
 
 pub returns-else-is_open-clause-decided : goal.returns-else-is_open-clause-decided
 returns-else-is_open-clause-decided g c =

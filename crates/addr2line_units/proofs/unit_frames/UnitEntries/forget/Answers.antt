@@ -1,7 +1,7 @@
 use Rattle.std.proofs.Common.{refl, rules}
 use Rattle.addr2line_lines.specs.SeenScope.{seen_scope}
 use Rattle.addr2line_units.specs.declared.functions.LazyFunctions.TheVariants.{Unread}
-use Rattle.addr2line_units.specs.CachedEntries.{cached_answer}
+use Rattle.addr2line_units.specs.CachedEntries.{first_answer_of}
 use Rattle.addr2line_units.proofs.AnswerLemmas.{no_answer, unread_entries}
 use Rattle.addr2line_units.proofs.unit_frames.UnitEntries.forget.Goals as goal
 
@@ -10,4 +10,4 @@ returns-then-is_answered-clause-kept g c =
     unread_entries (seen_scope c.args.scope) c.args.dw_unit.now c.forget.new.self Unread c.forget.ensures.view refl
 
 pub returns-else-is_answered-clause-answer : goal.returns-else-is_answered-clause-answer
-returns-else-is_answered-clause-answer g c = no_answer (cached_answer c.args.self.now) (search rules)
+returns-else-is_answered-clause-answer g c = no_answer (first_answer_of c.args.self.now) (search rules)

@@ -1,5 +1,5 @@
 use Rattle.std.proofs.Common.{◌≡◌, ◌∙◌, None, Some, ap, false, is_some, not, refl, rules, subst, sym, true}
-use Rattle.addr2line_units.specs.CachedEntries.{cached_answer}
+use Rattle.addr2line_units.specs.CachedEntries.{first_answer_of}
 use Rattle.addr2line_units.specs.ListedLoads.{if_new, is_marked}
 use Rattle.addr2line_units.specs.Views.{awaited_load, is_open}
 use Rattle.addr2line_units.proofs.AnswerLemmas.{never_waits, no_answer, open_by_look}
@@ -13,8 +13,8 @@ returns-then-not-is_open-clause-gives g c =
     let e = c.args.dwarf.now.value in
     let u = c.args.dw_unit.now in
     let s = c.args.self.now in
-    let was : is_open d u (cached_answer s) ≡ false = open_by_look d u s.view c.look.new.self.view false c.look.ensures.kept.view c.look.ensures.looked c.look.ensures.stay.answer (search rules) in
-    let none : awaited_load e c.args.number u (cached_answer s) ≡ None = no_answer (awaited_load e c.args.number u (cached_answer s)) (sym (open_awaits e c.args.number u (cached_answer s)) ∙ subst (λ x. is_open x u (cached_answer s) ≡ false) c.requires.same was) in
+    let was : is_open d u (first_answer_of s) ≡ false = open_by_look d u s.view c.look.new.self.view false c.look.ensures.kept.view c.look.ensures.looked c.look.ensures.stay.answer (search rules) in
+    let none : awaited_load e c.args.number u (first_answer_of s) ≡ None = no_answer (awaited_load e c.args.number u (first_answer_of s)) (sym (open_awaits e c.args.number u (first_answer_of s)) ∙ subst (λ x. is_open x u (first_answer_of s) ≡ false) c.requires.same was) in
     sym (ap (if_new c.args.marks.now.items) none)
 
 pub returns-then-not-is_open-clause-marked : goal.returns-then-not-is_open-clause-marked
@@ -23,9 +23,9 @@ returns-then-not-is_open-clause-marked g c =
     let e = c.args.dwarf.now.value in
     let u = c.args.dw_unit.now in
     let s = c.args.self.now in
-    let was : is_open d u (cached_answer s) ≡ false = open_by_look d u s.view c.look.new.self.view false c.look.ensures.kept.view c.look.ensures.looked c.look.ensures.stay.answer (search rules) in
-    let none : awaited_load e c.args.number u (cached_answer s) ≡ None = no_answer (awaited_load e c.args.number u (cached_answer s)) (sym (open_awaits e c.args.number u (cached_answer s)) ∙ subst (λ x. is_open x u (cached_answer s) ≡ false) c.requires.same was) in
-    marks_none c.args.marks.now.items (awaited_load e c.args.number u (cached_answer s)) none
+    let was : is_open d u (first_answer_of s) ≡ false = open_by_look d u s.view c.look.new.self.view false c.look.ensures.kept.view c.look.ensures.looked c.look.ensures.stay.answer (search rules) in
+    let none : awaited_load e c.args.number u (first_answer_of s) ≡ None = no_answer (awaited_load e c.args.number u (first_answer_of s)) (sym (open_awaits e c.args.number u (first_answer_of s)) ∙ subst (λ x. is_open x u (first_answer_of s) ≡ false) c.requires.same was) in
+    marks_none c.args.marks.now.items (awaited_load e c.args.number u (first_answer_of s)) none
 
 pub returns-then-not-branch-clause-gives : goal.returns-then-not-branch-clause-gives
 returns-then-not-branch-clause-gives g c =
@@ -34,10 +34,10 @@ returns-then-not-branch-clause-gives g c =
     let u = c.args.dw_unit.now in
     let s = c.args.self.now in
     let n = c.args.number in
-    let was : is_open d u (cached_answer s) ≡ true = open_by_look d u s.view c.look.new.self.view true c.look.ensures.kept.view c.look.ensures.looked c.look.ensures.stay.answer (search rules) in
-    let some : is_some (awaited_load e n u (cached_answer s)) ≡ true = sym (open_awaits e n u (cached_answer s)) ∙ subst (λ x. is_open x u (cached_answer s) ≡ true) c.requires.same was in
+    let was : is_open d u (first_answer_of s) ≡ true = open_by_look d u s.view c.look.new.self.view true c.look.ensures.kept.view c.look.ensures.looked c.look.ensures.stay.answer (search rules) in
+    let some : is_some (awaited_load e n u (first_answer_of s)) ≡ true = sym (open_awaits e n u (first_answer_of s)) ∙ subst (λ x. is_open x u (first_answer_of s) ≡ true) c.requires.same was in
     let old : not (is_marked c.args.marks.now.items n) ≡ false = search rules in
-    sym (not_new c.args.marks.now.items n (awaited_load e n u (cached_answer s)) some (awaited_unit e n u (cached_answer s)) old)
+    sym (not_new c.args.marks.now.items n (awaited_load e n u (first_answer_of s)) some (awaited_unit e n u (first_answer_of s)) old)
 
 pub returns-then-not-branch-clause-marked : goal.returns-then-not-branch-clause-marked
 returns-then-not-branch-clause-marked g c =
@@ -46,9 +46,9 @@ returns-then-not-branch-clause-marked g c =
     let u = c.args.dw_unit.now in
     let s = c.args.self.now in
     let n = c.args.number in
-    let was : is_open d u (cached_answer s) ≡ true = open_by_look d u s.view c.look.new.self.view true c.look.ensures.kept.view c.look.ensures.looked c.look.ensures.stay.answer (search rules) in
-    let some : is_some (awaited_load e n u (cached_answer s)) ≡ true = sym (open_awaits e n u (cached_answer s)) ∙ subst (λ x. is_open x u (cached_answer s) ≡ true) c.requires.same was in
-    marks_load c.args.marks.now.items n c.mark_unit.new.marks.items (awaited_load e n u (cached_answer s)) some (awaited_unit e n u (cached_answer s)) c.in_ok-mark_unit.ensures.marked
+    let was : is_open d u (first_answer_of s) ≡ true = open_by_look d u s.view c.look.new.self.view true c.look.ensures.kept.view c.look.ensures.looked c.look.ensures.stay.answer (search rules) in
+    let some : is_some (awaited_load e n u (first_answer_of s)) ≡ true = sym (open_awaits e n u (first_answer_of s)) ∙ subst (λ x. is_open x u (first_answer_of s) ≡ true) c.requires.same was in
+    marks_load c.args.marks.now.items n c.mark_unit.new.marks.items (awaited_load e n u (first_answer_of s)) some (awaited_unit e n u (first_answer_of s)) c.in_ok-mark_unit.ensures.marked
 
 pub returns-clause-gives : goal.returns-clause-gives
 returns-clause-gives g c =
@@ -58,11 +58,11 @@ returns-clause-gives g c =
     let s = c.args.self.now in
     let n = c.args.number in
     let l = c.in_ok-load.field-0 in
-    let was : is_open d u (cached_answer s) ≡ true = open_by_look d u s.view c.look.new.self.view true c.look.ensures.kept.view c.look.ensures.looked c.look.ensures.stay.answer (search rules) in
-    let some : is_some (awaited_load e n u (cached_answer s)) ≡ true = sym (open_awaits e n u (cached_answer s)) ∙ subst (λ x. is_open x u (cached_answer s) ≡ true) c.requires.same was in
-    let this : awaited_load e n u (cached_answer s) ≡ Some l = awaits_this e n u (cached_answer s) l c.in_ok-load.ensures.gives some in
+    let was : is_open d u (first_answer_of s) ≡ true = open_by_look d u s.view c.look.new.self.view true c.look.ensures.kept.view c.look.ensures.looked c.look.ensures.stay.answer (search rules) in
+    let some : is_some (awaited_load e n u (first_answer_of s)) ≡ true = sym (open_awaits e n u (first_answer_of s)) ∙ subst (λ x. is_open x u (first_answer_of s) ≡ true) c.requires.same was in
+    let this : awaited_load e n u (first_answer_of s) ≡ Some l = awaits_this e n u (first_answer_of s) l c.in_ok-load.ensures.gives some in
     let fresh : not (is_marked c.args.marks.now.items n) ≡ true = search rules in
-    sym (ap (if_new c.args.marks.now.items) this ∙ is_new_load c.args.marks.now.items n l (awaited_unit e n u (cached_answer s) l this) fresh)
+    sym (ap (if_new c.args.marks.now.items) this ∙ is_new_load c.args.marks.now.items n l (awaited_unit e n u (first_answer_of s) l this) fresh)
 
 pub returns-clause-marked : goal.returns-clause-marked
 returns-clause-marked g c =
@@ -71,9 +71,9 @@ returns-clause-marked g c =
     let u = c.args.dw_unit.now in
     let s = c.args.self.now in
     let n = c.args.number in
-    let was : is_open d u (cached_answer s) ≡ true = open_by_look d u s.view c.look.new.self.view true c.look.ensures.kept.view c.look.ensures.looked c.look.ensures.stay.answer (search rules) in
-    let some : is_some (awaited_load e n u (cached_answer s)) ≡ true = sym (open_awaits e n u (cached_answer s)) ∙ subst (λ x. is_open x u (cached_answer s) ≡ true) c.requires.same was in
-    marks_load c.args.marks.now.items n c.mark_unit.new.marks.items (awaited_load e n u (cached_answer s)) some (awaited_unit e n u (cached_answer s)) c.in_ok-mark_unit.ensures.marked
+    let was : is_open d u (first_answer_of s) ≡ true = open_by_look d u s.view c.look.new.self.view true c.look.ensures.kept.view c.look.ensures.looked c.look.ensures.stay.answer (search rules) in
+    let some : is_some (awaited_load e n u (first_answer_of s)) ≡ true = sym (open_awaits e n u (first_answer_of s)) ∙ subst (λ x. is_open x u (first_answer_of s) ≡ true) c.requires.same was in
+    marks_load c.args.marks.now.items n c.mark_unit.new.marks.items (awaited_load e n u (first_answer_of s)) some (awaited_unit e n u (first_answer_of s)) c.in_ok-mark_unit.ensures.marked
 
 pub returns-clause-decided : goal.returns-clause-decided
 returns-clause-decided g c h =
@@ -81,15 +81,15 @@ returns-clause-decided g c h =
 
 pub returns-in_err-mark_unit-clause-not_open : goal.returns-in_err-mark_unit-clause-not_open
 returns-in_err-mark_unit-clause-not_open g c h =
-    absurd (waits_only_open c.args.scope.file.dwarf.now c.args.dw_unit.now c.args.self.now.view c.look.new.self.view c.look.ensures.kept.view c.look.ensures.looked c.look.ensures.stay.answer (search rules) (subst (λ x. is_open x c.args.dw_unit.now (cached_answer c.args.self.now) ≡ false) (sym c.requires.same) h))
+    absurd (waits_only_open c.args.scope.file.dwarf.now c.args.dw_unit.now c.args.self.now.view c.look.new.self.view c.look.ensures.kept.view c.look.ensures.looked c.look.ensures.stay.answer (search rules) (subst (λ x. is_open x c.args.dw_unit.now (first_answer_of c.args.self.now) ≡ false) (sym c.requires.same) h))
 
 pub returns-in_err-load-clause-not_open : goal.returns-in_err-load-clause-not_open
 returns-in_err-load-clause-not_open g c h =
-    absurd (waits_only_open c.args.scope.file.dwarf.now c.args.dw_unit.now c.args.self.now.view c.look.new.self.view c.look.ensures.kept.view c.look.ensures.looked c.look.ensures.stay.answer (search rules) (subst (λ x. is_open x c.args.dw_unit.now (cached_answer c.args.self.now) ≡ false) (sym c.requires.same) h))
+    absurd (waits_only_open c.args.scope.file.dwarf.now c.args.dw_unit.now c.args.self.now.view c.look.new.self.view c.look.ensures.kept.view c.look.ensures.looked c.look.ensures.stay.answer (search rules) (subst (λ x. is_open x c.args.dw_unit.now (first_answer_of c.args.self.now) ≡ false) (sym c.requires.same) h))
 
 pub returns-clause-not_open : goal.returns-clause-not_open
 returns-clause-not_open g c h =
-    absurd (waits_only_open c.args.scope.file.dwarf.now c.args.dw_unit.now c.args.self.now.view c.look.new.self.view c.look.ensures.kept.view c.look.ensures.looked c.look.ensures.stay.answer (search rules) (subst (λ x. is_open x c.args.dw_unit.now (cached_answer c.args.self.now) ≡ false) (sym c.requires.same) h))
+    absurd (waits_only_open c.args.scope.file.dwarf.now c.args.dw_unit.now c.args.self.now.view c.look.new.self.view c.look.ensures.kept.view c.look.ensures.looked c.look.ensures.stay.answer (search rules) (subst (λ x. is_open x c.args.dw_unit.now (first_answer_of c.args.self.now) ≡ false) (sym c.requires.same) h))
 
 pub returns-in_err-load-clause-decided : goal.returns-in_err-load-clause-decided
 returns-in_err-load-clause-decided g c h =

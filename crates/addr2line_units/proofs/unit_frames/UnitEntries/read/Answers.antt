@@ -7,7 +7,7 @@ use Rattle.addr2line_units.specs.FunctionParses.{read_of_view}
 use Rattle.addr2line_units.specs.CachedEntries.{StayEntries}
 use Rattle.addr2line_units.specs.CachedParses.{HasRead, IsReadyUnit}
 use Rattle.addr2line_units.specs.Views.{verdict}
-use Rattle.addr2line_units.proofs.CachedLookupLemmas.{entries_same}
+use Rattle.addr2line_units.proofs.CachedUnitLemmas.{entries_same}
 use Rattle.addr2line_units.proofs.CachedParseLemmas.{entries_then, read_decided}
 use Rattle.addr2line_units.proofs.unit_frames.UnitEntries.read.Goals as goal
 

@@ -1,8 +1,8 @@
 use Rattle.std.proofs.Common.{arith, option_map, rules, sym}
 use Rattle.addr2line_lines.specs.SeenScope.{seen_file}
-use Rattle.addr2line_units.specs.CachedLookups.{scope_in, sup_file}
+use Rattle.addr2line_units.specs.CachedUnits.{scope_in, sup_file}
 use Rattle.addr2line_units.proofs.AnswerLemmas.{answered_if_ok, answers_if_refused, decided_if_ok, decided_there, in_same_scope, got_unit, others_stay, same_set}
-use Rattle.addr2line_units.proofs.CachedLookupLemmas.{as_many_entries, entries_at, entries_set}
+use Rattle.addr2line_units.proofs.CachedUnitLemmas.{as_many_entries, entries_at, entries_set}
 use Rattle.addr2line_units.proofs.OpenLemmas.{not_open_there}
 use Rattle.addr2line_units.proofs.units.ResUnits.answer.Goals as goal
 

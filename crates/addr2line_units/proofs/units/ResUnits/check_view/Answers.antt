@@ -1,11 +1,11 @@
 use Rattle.std.proofs.Common.{◌≡◌, ap, arith, option_map, rules, sym, ◌∙◌}
 use Rattle.addr2line_lines.specs.SeenScope.{seen_file}
-use Rattle.addr2line_units.specs.CachedEntries.{cached_answer}
-use Rattle.addr2line_units.specs.CachedLookups.{scope_in, sup_file}
+use Rattle.addr2line_units.specs.CachedEntries.{first_answer_of}
+use Rattle.addr2line_units.specs.CachedUnits.{scope_in, sup_file}
 use Rattle.addr2line_units.specs.Loads.{view_fault}
 use Rattle.addr2line_units.specs.Views.{verdict}
 use Rattle.addr2line_units.proofs.AnswerLemmas.{answer_at, decided_there, decided_within, got_unit, in_same_scope, unit_same}
-use Rattle.addr2line_units.proofs.CachedLookupLemmas.{as_many_entries, entries_at}
+use Rattle.addr2line_units.proofs.CachedUnitLemmas.{as_many_entries, entries_at}
 use Rattle.addr2line_units.proofs.units.ResUnits.check_view.Goals as goal
 
 pub index-requires : goal.index-requires
@@ -39,5 +39,5 @@ returns g c = record {
       let within = decided_within s.entries.items c.args.number c.requires.decided in
       let there = got_unit s.dw_units.items c.args.number c.index-2.result.now (omega (arith, many, within)) (search rules) in
       let same : c.index-2.result.now ≡ u = unit_same _ _ (sym there ∙ e) in
-      c.check_view.ensures.gives ∙ ap (λ x. view_fault (verdict c.args.dwarf.now x (cached_answer c.index.result.now))) same ∙ ap (λ a. view_fault (verdict c.args.dwarf.now u a)) (sym (answer_at s.entries.items c.args.number c.index.result.now within (search rules)));
+      c.check_view.ensures.gives ∙ ap (λ x. view_fault (verdict c.args.dwarf.now x (first_answer_of c.index.result.now))) same ∙ ap (λ a. view_fault (verdict c.args.dwarf.now u a)) (sym (answer_at s.entries.items c.args.number c.index.result.now within (search rules)));
 }

@@ -6,12 +6,12 @@ use Rattle.addr2line_units.specs.CachedLines.{indexed_units, parsed_units}
 use Rattle.addr2line_units.specs.Cover.{cover}
 use Rattle.addr2line_units.specs.FramesLookup.{LookupAsks, asked_frames, asks_lines_of, has_many_of, holds_along, stop_along}
 use Rattle.addr2line_units.specs.Indexed.{units_in}
-use Rattle.addr2line_units.specs.CachedLookups.{HaveEntriesOf, ReadsOnly, answers_in, scope_in, sup_file}
+use Rattle.addr2line_units.specs.CachedUnits.{HaveEntriesOf, ReadsOnly, answers_in, scope_in, sup_file}
 use Rattle.addr2line_units.specs.CachedFrames.{has_frames_at, seen_stop}
 use Rattle.gimli_read.specs.Alike.{HadMemory}
 use Rattle.addr2line_units.specs.Parsed.{ParsesOnly}
 use Rattle.addr2line_units.specs.UnitRangesLeft.{ranges_left}
-use Rattle.addr2line_units.proofs.CachedLookupLemmas.{same_answers}
+use Rattle.addr2line_units.proofs.CachedUnitLemmas.{same_answers}
 use Rattle.addr2line_units.proofs.UnitsLemmas.{stay_indexed}
 use Rattle.addr2line_units.proofs.WaitLemmas.{waits_if_found}
 use Rattle.addr2line_units.proofs.WalkLemmas.{in_scope}

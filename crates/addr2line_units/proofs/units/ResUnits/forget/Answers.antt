@@ -1,9 +1,9 @@
 use Rattle.std.proofs.Common.{ap, arith, option_map, rules, sym, ◌∙◌}
 use Rattle.std.proofs.Math.ListN.{set}
 use Rattle.addr2line_lines.specs.SeenScope.{seen_file}
-use Rattle.addr2line_units.specs.CachedLookups.{answers_in, scope_in, sup_file}
+use Rattle.addr2line_units.specs.CachedUnits.{answers_in, scope_in, sup_file}
 use Rattle.addr2line_units.proofs.AnswerLemmas.{answer_at, answers_set, in_same_scope, others_stay, same_set}
-use Rattle.addr2line_units.proofs.CachedLookupLemmas.{as_many_entries, entries_at, entries_set}
+use Rattle.addr2line_units.proofs.CachedUnitLemmas.{as_many_entries, entries_at, entries_set}
 use Rattle.addr2line_units.proofs.units.ResUnits.forget.Goals as goal
 
 pub index_mut-entries-requires : goal.index_mut-entries-requires

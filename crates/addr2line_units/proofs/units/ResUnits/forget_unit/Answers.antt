@@ -1,6 +1,6 @@
 use Rattle.std.proofs.Common.{◌≤◌, ◌<◌, None, arith, length, rules, sym}
-use Rattle.addr2line_units.specs.CachedLookups.{answers_in, scope_in}
-use Rattle.addr2line_units.proofs.CachedLookupLemmas.{as_many_entries}
+use Rattle.addr2line_units.specs.CachedUnits.{answers_in, scope_in}
+use Rattle.addr2line_units.proofs.CachedUnitLemmas.{as_many_entries}
 use Rattle.addr2line_units.proofs.LoadLemmas.{as_many_answers, known_forget_within, past_set}
 use Rattle.addr2line_units.proofs.units.ResUnits.forget_unit.Goals as goal
 

@@ -1,9 +1,9 @@
 use Rattle.std.proofs.Common.{◌≤◌, ◌<◌, length, option_map, refl, rules, sym}
 use Rattle.std.proofs.lemmas.Option.{slice_get_past}
 use Rattle.std.proofs.lemmas.Result.{err_from_is_err_and}
-use Rattle.addr2line_units.specs.CachedLookups.{answers_in, scope_in}
+use Rattle.addr2line_units.specs.CachedUnits.{answers_in, scope_in}
 use Rattle.addr2line_units.specs.Loads.{load_result}
-use Rattle.addr2line_units.proofs.CachedLookupLemmas.{as_many_entries, stay_entries}
+use Rattle.addr2line_units.proofs.CachedUnitLemmas.{as_many_entries, stay_entries}
 use Rattle.addr2line_units.proofs.LoadLemmas.{exactly_this, load_gives_within, unknown_answer, unknown_load}
 use Rattle.addr2line_units.proofs.units.ResUnits.load_unit.Goals as goal
 

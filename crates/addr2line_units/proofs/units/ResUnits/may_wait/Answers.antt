@@ -1,5 +1,5 @@
 use Rattle.std.proofs.Common.{ap, not, sym, ◌∙◌}
-use Rattle.addr2line_units.specs.CachedLookups.{decided_along}
+use Rattle.addr2line_units.specs.CachedUnits.{decided_along}
 use Rattle.addr2line_units.specs.UnitRangesLeft.{ranges_left}
 use Rattle.addr2line_units.proofs.units.ResUnits.may_wait.Goals as goal
 

@@ -1,9 +1,9 @@
 use Rattle.std.proofs.Common.{◌≡◌, refl, subst}
 use Rattle.std.specs.Prelude.{IfOk, IsOk}
 use Rattle.addr2line_units.specs.Cover.{cover}
-use Rattle.addr2line_units.specs.CachedLookups.{answers_in}
+use Rattle.addr2line_units.specs.CachedUnits.{answers_in}
 use Rattle.addr2line_units.specs.Loads.{NoneOpen, load_of_number, loads_along}
-use Rattle.addr2line_units.proofs.CachedLookupLemmas.{same_answers}
+use Rattle.addr2line_units.proofs.CachedUnitLemmas.{same_answers}
 use Rattle.addr2line_units.proofs.units.ResUnits.preload.Goals as goal
 
 pub returns-clause-gives : goal.returns-clause-gives

@@ -2,7 +2,7 @@ use Rattle.std.proofs.Common.{◌≡◌, [], option_map, refl, sym}
 use Rattle.addr2line_lines.specs.References.{IsScope}
 use Rattle.addr2line_lines.specs.SeenScope.{seen_file}
 use Rattle.addr2line_units.specs.FunctionParses.{AreFirstDecided, AreReadBefore, AreReadyFor, answers_after_parse, read_of_units}
-use Rattle.addr2line_units.specs.CachedLookups.{HaveEntriesOf, answers_in, sup_file}
+use Rattle.addr2line_units.specs.CachedUnits.{HaveEntriesOf, answers_in, sup_file}
 use Rattle.addr2line_units.specs.CachedParses.{ChangesOnly}
 use Rattle.addr2line_units.proofs.CachedParseLemmas.{all_stay, decided_if_ok, found_if_ok}
 use Rattle.addr2line_units.specs.KnownEntries.{known_in}

@@ -1,5 +1,5 @@
 -- What is cached of the entries of all units, one unit after another (on specs/CachedEntries.antt
--- and specs/CachedLookups.antt).
+-- and specs/CachedUnits.antt).
 use Rattle.std.proofs.Common.{◌≡◌, ◌≢◌, ℕ, zero, suc, ◌<◌, inl, inr, true, List, [], ◌∷◌, length, get_or, slice_get, Option, Some, None, option_and_then, Result, Ok, Err, refl, ap, sym, subst, ◌∙◌, arith}
 use Rattle.std.proofs.Math.ListN.{set}
 use Rattle.std.specs.Prelude.{IfSome}
@@ -16,9 +16,9 @@ use Rattle.addr2line_units.specs.declared.functions.LazyFunctions.TheVariants as
 use Rattle.addr2line_units.specs.declared.unit_frames.UnitEntries.{UnitEntries}
 use Rattle.addr2line_units.specs.declared.view.ViewState.{ViewState}
 use Rattle.addr2line_units.specs.declared.view.ViewState.TheVariants as states
-use Rattle.addr2line_units.specs.CachedEntries.{AreEntriesOf, ReadsEntriesOf, StayEntries, has_answered, has_entries, has_entries_by, cached_answer}
+use Rattle.addr2line_units.specs.CachedEntries.{AreEntriesOf, ReadsEntriesOf, StayEntries, has_answered, has_entries, has_entries_by, first_answer_of}
 use Rattle.addr2line_units.specs.CachedFunctions.{StayFunctions, has_detail, cached_has_function, has_place, cached_functions, no_functions}
-use Rattle.addr2line_units.specs.CachedLookups.{HaveEntriesOf, ReadsOnly, StayAllEntries, answers_in, has_entries_at}
+use Rattle.addr2line_units.specs.CachedUnits.{HaveEntriesOf, ReadsOnly, StayAllEntries, answers_in, has_entries_at}
 use Rattle.addr2line_units.specs.CachedViews.{was_looked_at}
 use Rattle.addr2line_units.proofs.CachedFunctionLemmas.{place_stays}
 
@@ -110,11 +110,11 @@ module _ {R : Type 0} where
   same_answers [] [] a = refl
   same_answers [] (w ∷ ws) a = absurd a
   same_answers (v ∷ vs) [] a = absurd a
-  same_answers (v ∷ vs) (w ∷ ws) a = ap (λ x. x ∷ answers_in ws) a.0.answer ∙ ap (λ xs. cached_answer v ∷ xs) (same_answers vs ws a.1)
+  same_answers (v ∷ vs) (w ∷ ws) a = ap (λ x. x ∷ answers_in ws) a.0.answer ∙ ap (λ xs. first_answer_of v ∷ xs) (same_answers vs ws a.1)
 
-  pub answer_at : (vs : List (UnitEntries R)) (n : ℕ) (v : UnitEntries R) → n < length vs → v ≡ get_or vs n v → slice_get (answers_in vs) n ≡ Some (cached_answer v)
+  pub answer_at : (vs : List (UnitEntries R)) (n : ℕ) (v : UnitEntries R) → n < length vs → v ≡ get_or vs n v → slice_get (answers_in vs) n ≡ Some (first_answer_of v)
   answer_at [] n v h e = absurd (omega arith)
-  answer_at (x ∷ vs) zero v h e = ap (λ y. Some (cached_answer y)) (sym e)
+  answer_at (x ∷ vs) zero v h e = ap (λ y. Some (first_answer_of y)) (sym e)
   answer_at (x ∷ vs) (suc n) v h e = answer_at vs n v (omega arith) e
 
   -- beside each unit stands what is cached of its entries

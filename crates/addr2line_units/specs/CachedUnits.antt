@@ -1,5 +1,5 @@
--- What is cached of all units of a context, as the private functions see it: which units have
--- entries, views and answers, and which of them lookups wait for.
+-- What is cached of all units of a context, as the private functions see it: their views, their
+-- functions and their first answers side by side, and which units wait.
 use Rattle.std.specs.Prelude.{◌≡◌, ◌⊎◌, ℕ, Bool, true, false, ◌&&◌, List, [], ◌∷◌, map, Option, IfSome, option_map, slice_get, unwrap_or}
 use Rattle.gimli.specs.Sections.{Sections}
 use Rattle.gimli.specs.Unit.{UnitRecord}
@@ -10,7 +10,7 @@ use Rattle.addr2line_units.specs.declared.index.UnitRange.{UnitRange}
 use Rattle.addr2line_units.specs.declared.sup.SupUnits.{SupUnits}
 use Rattle.addr2line_units.specs.declared.unit_frames.UnitEntries.{UnitEntries}
 use Rattle.addr2line_units.specs.CachedViews.{IsViewOf, is_decided, waits}
-use Rattle.addr2line_units.specs.CachedEntries.{AreEntriesOf, AreFresh, ReadsEntriesOf, StayEntries, has_entries, cached_answer}
+use Rattle.addr2line_units.specs.CachedEntries.{AreEntriesOf, AreFresh, ReadsEntriesOf, StayEntries, has_entries, first_answer_of}
 
 -- beside each unit stands what is cached of its entries, which is its own
 abbrev pub HaveEntriesOf : {R : Type 0} → Scope → List UnitRecord → List (UnitEntries R) → Type 0
@@ -38,7 +38,7 @@ StayAllEntries _ _ = ⊥
 
 -- the first answers of units
 abbrev pub answers_in : {R : Type 0} → List (UnitEntries R) → List (Option (Option Sections))
-answers_in views = map cached_answer views
+answers_in views = map first_answer_of views
 
 -- for which units what they have at the probe is known by what is cached of their entries; a number
 -- of no unit asks for none

@@ -17,9 +17,13 @@ use Rattle.addr2line_bin.specs.declared.options.Style.{Style}
 abbrev pub hex_digits : ℕ → List ℕ
 hex_digits n = radix_digits 16 false n
 
--- the same after zeros, 16 digits
+-- how many digits an address has: two of each byte of 64 bits
+abbrev pub address_digits : ℕ
+address_digits = 16
+
+-- the same after zeros, as many digits as an address has
 abbrev pub wide_hex : ℕ → List ℕ
-wide_hex n = replicate (16 - length (hex_digits n)) (byte "0") ++ hex_digits n
+wide_hex n = replicate (address_digits - length (hex_digits n)) (byte "0") ++ hex_digits n
 
 -- the digits of an address
 abbrev pub digits_text : Style → ℕ → List ℕ

@@ -13,6 +13,7 @@ use Rattle.addr2line_bin.specs.Printing.{IsCutAtRead, IsCutOff, PrintsOf, Prints
 use Rattle.addr2line_bin.specs.ProbeTexts.{IsText}
 use Rattle.addr2line_bin.specs.Address.{probes_in}
 use Rattle.addr2line_bin.specs.Told.{addresses_fault_text, load_fault_text, section_fault_text}
+use Rattle.addr2line_bin.specs.declared.engine.TheConstants.{DONE_STATUS, FAILED_STATUS}
 use Rattle.addr2line_bin.specs.declared.engine.Exit.{Exit}
 use Rattle.addr2line_bin.specs.declared.engine.Exit.TheVariants as exit
 use Rattle.addr2line_bin.specs.declared.options.Options.{Options}
@@ -23,8 +24,8 @@ use Rattle.addr2line_bin.specs.declared.options.Style.{Style}
 
 -- the status that the program ends with
 abbrev pub status_at : Exit → ℕ
-status_at exit.Done = 0
-status_at exit.Failed = 1
+status_at exit.Done = DONE_STATUS
+status_at exit.Failed = FAILED_STATUS
 
 -- only a line of standard error is written, and the run has failed
 abbrev pub OnlyTells : StreamState → StreamState → StreamState → StreamState → List ℕ → Exit

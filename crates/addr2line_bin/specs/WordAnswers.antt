@@ -11,6 +11,7 @@ use Rattle.addr2line_bin.specs.Print.{exit_at, last_text}
 use Rattle.addr2line_bin.specs.ProgramRun.{status_at}
 use Rattle.addr2line_bin.specs.Stopped.{IsFault}
 use Rattle.addr2line_bin.specs.Told.{usage_text}
+use Rattle.addr2line_bin.specs.declared.engine.TheConstants.{DONE_STATUS, FAILED_STATUS, USAGE_STATUS}
 use Rattle.addr2line_bin.specs.declared.command_line.WordFault.{WordFault}
 use Rattle.addr2line_bin.specs.declared.command_line.WordFault.TheVariants as fault
 use Rattle.addr2line_bin.specs.declared.stream.Stop.{Stop}
@@ -24,7 +25,7 @@ TellsAlone oo on eo en line = (on ≡ oo) × Reports eo en line
 abbrev pub TellsNoMemory : List ℕ → StreamState → StreamState → StreamState → StreamState → ℕ
     → Type 0
 TellsNoMemory name oo on eo en status =
-    TellsAlone oo on eo en (last_text name stop.OutOfMemory) × (status ≡ 1)
+    TellsAlone oo on eo en (last_text name stop.OutOfMemory) × (status ≡ FAILED_STATUS)
 
 -- a text goes out, all of it, and is flushed, or a beginning of it before a fault, which is told as
 -- that of a run
@@ -32,7 +33,7 @@ abbrev pub ShowsText : List ℕ → List ℕ → StreamState → StreamState →
     → Type 0
 ShowsText name text oo on eo en status =
     (Appends oo.contents on.contents text × (on.flushes ≡ plus oo.flushes 1)
-    × (on.is_flushed ≡ true) × (en ≡ eo) × (status ≡ 0))
+    × (on.is_flushed ≡ true) × (en ≡ eo) × (status ≡ DONE_STATUS))
     ⊎ ((why : Stop) × IsFault on why × WritesPrefix oo.contents on.contents text
     × Reports eo en (last_text name why) × (status ≡ status_at (exit_at why)))
 
@@ -46,7 +47,8 @@ is_shown _ = false
 abbrev pub AnswersText : List ℕ → Bool → List ℕ → StreamState → StreamState → StreamState
     → StreamState → ℕ → Type 0
 AnswersText name true text oo on eo en status = ShowsText name text oo on eo en status
-AnswersText name false text oo on eo en status = TellsAlone oo on eo en text × (status ≡ 2)
+AnswersText name false text oo on eo en status =
+    TellsAlone oo on eo en text × (status ≡ USAGE_STATUS)
 
 -- some text does, or memory was refused for it
 abbrev pub AnswersWords : List ℕ → Bool → StreamState → StreamState → StreamState → StreamState → ℕ
@@ -61,5 +63,5 @@ abbrev pub AnswersFault : List ℕ → WordFault → StreamState → StreamState
 AnswersFault name (fault.Clap e) oo on eo en status =
     AnswersWords name (is_shown (kind_of e)) oo on eo en status
 AnswersFault name fault.Usage oo on eo en status =
-    TellsAlone oo on eo en (usage_text name) × (status ≡ 2)
+    TellsAlone oo on eo en (usage_text name) × (status ≡ USAGE_STATUS)
 AnswersFault name fault.OutOfMemory oo on eo en status = TellsNoMemory name oo on eo en status

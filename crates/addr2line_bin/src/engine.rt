@@ -9,12 +9,21 @@ ghost use Rattle.addr2line_bin.specs.declared.engine.Exit.TheVariants as exit;
 use crate::stream::{Stop, Stream, tell_both};
 use addr2line::LoaderError;
 
+/// The status of a run that is done, and of help and version that are written.
+pub const DONE_STATUS: u8 = 0;
+
+/// The status of a run that failed.
+pub const FAILED_STATUS: u8 = 1;
+
+/// The status of words that ask for nothing.
+pub const USAGE_STATUS: u8 = 2;
+
 /// How the program ends.
 #[derive(Clone, Copy, Debug, PartialEq, Eq)]
 pub enum Exit {
-    /// With status 0.
+    /// With `DONE_STATUS`.
     Done,
-    /// With status 1.
+    /// With `FAILED_STATUS`.
     Failed,
 }
 

@@ -2,6 +2,7 @@
 #![tactic(auto)]
 
 ghost use Rattle.std.specs.Process.{exit_status};
+ghost use Rattle.addr2line_bin.specs.declared.engine.TheConstants.{USAGE_STATUS};
 ghost use Rattle.std.specs.Prelude.{◌≡◌, IfOk, IfSome, option_map, string_bytes};
 ghost use Rattle.elf.specs.Loading.{Loading, LoadsUnlessOom};
 ghost use Rattle.addr2line.specs.Loaded.{loaded};
@@ -48,7 +49,7 @@ mod tests;
 
 use crate::command::name_of;
 use crate::command_line::{Request, WordFault, command_line};
-use crate::engine::{Exit, tell_last, tell_usage};
+use crate::engine::{DONE_STATUS, Exit, FAILED_STATUS, USAGE_STATUS, tell_last, tell_usage};
 use crate::input::{Input, Lines};
 use crate::probe_text::as_text;
 use crate::program::run;
@@ -102,18 +103,18 @@ fn status_of(exit: Exit) -> ExitCode
     ensures gives { exit_status result ≡ status_at exit }
 {
     match exit {
-        Exit::Done => ExitCode::from(0),
-        Exit::Failed => ExitCode::from(1),
+        Exit::Done => ExitCode::from(DONE_STATUS),
+        Exit::Failed => ExitCode::from(FAILED_STATUS),
     }
 }
 
 // Writes how the program is used, where the words ask for nothing.
 fn answer_misuse<E: Stream>(name: &str, err: &mut E) -> ExitCode
     ensures err { Reports (E.state err.old) (E.state err.new) (usage_text name.now) }
-    ensures status { exit_status result ≡ 2 }
+    ensures status { exit_status result ≡ USAGE_STATUS }
 {
     tell_usage(name, err);
-    ExitCode::from(2)
+    ExitCode::from(USAGE_STATUS)
 }
 
 // Writes the help or the version to the output.
@@ -122,7 +123,7 @@ fn show_text<W: Stream, E: Stream>(name: &str, text: &str, out: &mut W, err: &mu
         (E.state err.old) (E.state err.new) (exit_status result) }
 {
     match send(out, text) {
-        Ok(()) => ExitCode::from(0),
+        Ok(()) => ExitCode::from(DONE_STATUS),
         Err(stop) => status_of(tell_last(name, stop, err)),
     }
 }
@@ -156,7 +157,7 @@ fn answer_words<W: Stream, E: Stream>(
         return show_text(name, text.as_str(), out, err);
     }
     tell(err, text.as_str());
-    ExitCode::from(2)
+    ExitCode::from(USAGE_STATUS)
 }
 
 // Writes why the words ask for nothing, or the help or the version that they ask for.

@@ -4,15 +4,16 @@ use Rattle.std.proofs.lemmas.List.{drop-drop, drop-take, length-take-le}
 use Rattle.std.proofs.lemmas.Bool.Decides.{nat_tests}
 use Rattle.std.proofs.lemmas.Result.{IfOk-at_ok}
 use Rattle.gimli_read.specs.declared.error.Error.{Error}
-use Rattle.gimli_read.specs.declared.error.Error.TheVariants.{UnexpectedEof, UnsupportedAddressSize}
+use Rattle.gimli_read.specs.declared.error.Error.TheVariants.{UnexpectedEof, UnsupportedAddressSize, UnknownVersion}
 use Rattle.gimli_read.specs.declared.endian.Format.{Format}
 use Rattle.gimli_read.specs.declared.endian.Format.TheVariants.{Dwarf32, Dwarf64}
 use Rattle.gimli_read.specs.Section.{Section, first, after}
+use Rattle.gimli_read.specs.Version.{is_unknown, is_before_5}
 use Rattle.gimli_read.specs.Reading.{Reading, ◌>>=◌, refused_if}
-use Rattle.gimli_read.specs.Number.{number_of, is_address_size, fixed_at, offset_at, skipped_at, split_at, long_length_at, initial_length_at}
+use Rattle.gimli_read.specs.Number.{number_of, is_address_size, address_size_at, fixed_at, offset_at, skipped_at, split_at, long_length_at, initial_length_at}
 use Rattle.gimli.specs.declared.unit.UnitType.{UnitType}
 use Rattle.gimli.specs.declared.unit.UnitType.TheVariants.{Compile, TypeUnit, Partial, Skeleton, SplitCompile, SplitType}
-use Rattle.gimli.specs.Header.{UnitHeaderFields, unit_type_of, unit_address_size_at, unit_type_at, dwo_id_at, signature_at, type_fields_at, fields_4_at, fields_5_at, header_fields_at, unit_header_at, next_header_at}
+use Rattle.gimli.specs.Header.{UnitHeaderFields, unit_type_of, unit_type_at, dwo_id_at, signature_at, type_fields_at, fields_4_at, fields_5_at, header_fields_at, unit_header_at, next_header_at}
 use Rattle.gimli.specs.UnitsLeft.{gives_header}
 use Rattle.gimli_read.proofs.Steps.{done, guard_ok}
 use Rattle.std.proofs.lemmas.Bool.{ne_eqb}
@@ -88,8 +89,8 @@ unfolding initial_length_at
 initial_length_leaves s =
     leaves_bind (fixed_leaves 4 s) (λ x. leaves_if (nat_lt x.0 0xfffffff0) leaves_ok (leaves_if (nat_lt x.0 0xffffffff) leaves_err (long_length_leaves x.1)))
 
-address_size_leaves : (s : Section) → Leaves s (unit_address_size_at s)
-unfolding unit_address_size_at
+address_size_leaves : (s : Section) → Leaves s (address_size_at s)
+unfolding address_size_at
 address_size_leaves s =
     leaves_bind (fixed_leaves 1 s) (λ x. leaves_then (refused_if (not (is_address_size x.0)) UnsupportedAddressSize) (λ _. leaves_ok))
 
@@ -127,6 +128,10 @@ heads_bind {A} {size} {s} {r = Ok x} {f} h k = on (f x) (k x)
     on (Err e) p = record { by = tt }
 heads_bind {r = Err e} h k = record { by = tt }
 
+heads_after : {A : Type 0} {size : ℕ} {s : Section} (r : Result A Error) {f : A → Result UnitHeaderFields Error} → ((x : A) → Heads size s (f x)) → Heads size s (r >>= f)
+heads_after (Ok x) k = k x
+heads_after (Err e) k = record { by = tt }
+
 heads_if : {size : ℕ} {s : Section} (b : Bool) {r q : Result UnitHeaderFields Error} → Heads size s r → Heads size s q → Heads size s (cond b r q)
 heads_if true h k = h
 heads_if false h k = k
@@ -149,8 +154,9 @@ fields_heads : (offset size : ℕ) (format : Format) (s : Section) → Heads siz
 unfolding header_fields_at
 fields_heads offset size format s =
     heads_bind (fixed_leaves 2 s) (λ v.
-    heads_if (v.0 == 2 || v.0 == 3 || v.0 == 4) (fields_4_heads offset size format v.0 v.1)
-    (heads_if (v.0 == 5) (fields_5_heads offset size format v.1) (record { by = tt })))
+    heads_after (refused_if (is_unknown v.0) UnknownVersion) (λ _.
+    heads_if (is_before_5 v.0) (fields_4_heads offset size format v.0 v.1)
+    (fields_5_heads offset size format v.1)))
 
 -- what is split off, and what is left
 pub record IsSplit (n : ℕ) (s u t : Section) : Type 0 where

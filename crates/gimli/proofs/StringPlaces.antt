@@ -5,9 +5,8 @@ use Rattle.gimli_read.specs.declared.endian.Format.{Format}
 use Rattle.gimli_read.specs.declared.value.AttributeValue.{AttributeValue}
 use Rattle.gimli_read.specs.declared.value.AttributeValue.TheVariants as values
 use Rattle.gimli_read.specs.Section.{Section}
-use Rattle.gimli_read.specs.Reading.{◌>>=◌}
+use Rattle.gimli_read.specs.Reading.{◌>>=◌, fault_of}
 use Rattle.gimli_read.specs.Number.{offset_size}
-use Rattle.gimli_line.specs.Opcode.{fault_of}
 use Rattle.gimli.specs.declared.text.StringPlace.{StringPlace}
 use Rattle.gimli.specs.declared.text.StringPlace.TheVariants.{InValue, InSection}
 use Rattle.gimli.specs.Sections.{Sections, SupSections}

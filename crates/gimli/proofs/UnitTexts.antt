@@ -6,12 +6,14 @@ use Rattle.std.proofs.lemmas.List.{nil_from_length, take-append-drop}
 use Rattle.std.proofs.lemmas.Result.{IfOk-at_ok}
 use Rattle.std.proofs.Math.Seq.{drop-append_seam}
 use Rattle.gimli_read.specs.declared.error.Error.{Error}
+use Rattle.gimli_read.specs.declared.error.Error.TheVariants.{UnknownVersion}
 use Rattle.gimli_read.specs.declared.endian.Format.{Format}
 use Rattle.gimli_read.specs.Section.{Section}
-use Rattle.gimli_read.specs.Reading.{Reading, ◌>>=◌}
-use Rattle.gimli_read.specs.Number.{fixed_at, offset_at, split_at, initial_length_at}
+use Rattle.gimli_read.specs.Version.{is_unknown, is_before_5}
+use Rattle.gimli_read.specs.Reading.{Reading, ◌>>=◌, refused_if}
+use Rattle.gimli_read.specs.Number.{address_size_at, fixed_at, offset_at, split_at, initial_length_at}
 use Rattle.gimli_read.specs.Run.{Run, next_of, continued, run_within}
-use Rattle.gimli.specs.Header.{UnitHeaderFields, unit_type_at, unit_address_size_at, type_fields_at, fields_4_at, fields_5_at, header_fields_at, unit_header_at, next_header_at}
+use Rattle.gimli.specs.Header.{UnitHeaderFields, unit_type_at, type_fields_at, fields_4_at, fields_5_at, header_fields_at, unit_header_at, next_header_at}
 use Rattle.gimli.specs.Entries.{unit_length}
 use Rattle.gimli.specs.ItemLaws.{unit_text, UnitsCover, EntriesFollowHeaders}
 use Rattle.gimli.proofs.FrontLemmas.{IsFront, header_front}
@@ -32,7 +34,7 @@ fields_5_begin : (offset size : ℕ) (format : Format) (s : Section) → Begins 
 unfolding fields_5_at
 fields_5_begin offset size format s =
     begins_bind (unit_type_at s) (λ a.
-    begins_bind (unit_address_size_at a.1) (λ b.
+    begins_bind (address_size_at a.1) (λ b.
     begins_bind (offset_at format b.1) (λ c.
     begins_bind (type_fields_at format a.0 c.1) (λ d. record { by = refl }))))
 
@@ -40,14 +42,15 @@ fields_4_begin : (offset size : ℕ) (format : Format) (version : ℕ) (s : Sect
 unfolding fields_4_at
 fields_4_begin offset size format version s =
     begins_bind (offset_at format s) (λ a.
-    begins_bind (unit_address_size_at a.1) (λ b. record { by = refl }))
+    begins_bind (address_size_at a.1) (λ b. record { by = refl }))
 
 fields_begin : (offset size : ℕ) (format : Format) (s : Section) → Begins offset (header_fields_at offset size format s)
 unfolding header_fields_at
 fields_begin offset size format s =
     begins_bind (fixed_at 2 s) (λ v.
-    begins_if (v.0 == 2 || v.0 == 3 || v.0 == 4) (fields_4_begin offset size format v.0 v.1)
-    (begins_if (v.0 == 5) (fields_5_begin offset size format v.1) (record { by = tt })))
+    begins_bind (refused_if (is_unknown v.0) UnknownVersion) (λ _.
+    begins_if (is_before_5 v.0) (fields_4_begin offset size format v.0 v.1)
+    (fields_5_begin offset size format v.1)))
 
 record BeginsAt (offset : ℕ) (r : Reading UnitHeaderFields) : Type 0 where
   by : IfOk r (λ x. x.0.offset.0 ≡ offset)

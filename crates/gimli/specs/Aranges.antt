@@ -12,11 +12,10 @@ use Rattle.gimli_read.specs.declared.range.Range.{Range}
 use Rattle.gimli_read.specs.declared.value.DebugInfoOffset.{DebugInfoOffset}
 use Rattle.gimli_read.specs.Section.{Section}
 use Rattle.gimli_read.specs.Reading.{Reading, mapped, ◌>>=◌, refused_if}
-use Rattle.gimli_read.specs.Number.{address_at, fixed_at, offset_at, skipped_at, split_at, initial_length_at}
+use Rattle.gimli_read.specs.Number.{address_at, address_size_at, fixed_at, offset_at, skipped_at, split_at, initial_length_at}
 use Rattle.gimli_read.specs.Run.{run_of, listed}
 use Rattle.gimli.specs.declared.constants.TheConstants.{ARANGES_VERSION}
 use Rattle.gimli_line.specs.AddressSize.{greatest_address}
-use Rattle.gimli.specs.Header.{unit_address_size_at}
 
 -- a set: where its unit begins in .debug_info, the size of its addresses, and the bytes of its
 -- pairs
@@ -24,6 +23,10 @@ pub record ArangeSet : Type 0 where
   pub debug_info_offset : DebugInfoOffset
   pub address_size : ℕ
   pub pairs : Section
+
+-- the bytes of a pair of an address and a length, of this size each
+abbrev pub pair_size : ℕ → ℕ
+pair_size size = 2 * size
 
 -- how many bytes are missing after n bytes up to a multiple of a size
 abbrev pub padding : ℕ → ℕ → ℕ
@@ -36,11 +39,11 @@ arange_fields_at set_length format s = do
   version ← fixed_at 2 s
   known ← refused_if (not (version.0 == ARANGES_VERSION)) UnknownVersion
   offset ← offset_at format version.1
-  address_size ← unit_address_size_at offset.1
+  address_size ← address_size_at offset.1
   segment_size ← fixed_at 1 address_size.1
   flat ← refused_if (not (segment_size.0 == 0)) UnsupportedSegmentSize
   pairs ← skipped_at
-      (padding (2 * address_size.0) (set_length - length segment_size.1.bytes)) segment_size.1
+      (padding (pair_size address_size.0) (set_length - length segment_size.1.bytes)) segment_size.1
   Ok (record {
     debug_info_offset = record { 0 = offset.0 };
     address_size = address_size.0;
@@ -68,7 +71,7 @@ arange_sets_of s = listed (run_of next_set_at s)
 -- the next address and length, or none where fewer bytes are left than a pair has
 unfoldable pub next_pair_at : ℕ → Section → Reading (Option (ℕ × ℕ))
 next_pair_at size s =
-    if nat_lt (length s.bytes) (2 * size) then Ok (None, s)
+    if nat_lt (length s.bytes) (pair_size size) then Ok (None, s)
     else (address_at size s >>= λ address.
     mapped (λ span. Some (address.0, span)) (address_at size address.1))
 

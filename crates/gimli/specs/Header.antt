@@ -1,13 +1,15 @@
 -- The headers of units (DWARF 5, section 7.5.1; DWARF 4, section 7.5.1.1).
 -- Own: versions 2 to 5; another is UnknownVersion. A unit type other than those of section 7.5.1 is
 -- UnknownUnitType.
-use Rattle.std.specs.Prelude.{ℕ, ◌-◌, ◌==◌, ◌||◌, not, length, Option, Some, None, Result, Ok, Err, if◌then◌else◌}
+use Rattle.std.specs.Prelude.{ℕ, ◌-◌, ◌==◌, not, length, Option, Some, None, Result, Ok, Err, if◌then◌else◌}
 use Rattle.gimli_read.specs.declared.error.Error.{Error}
 use Rattle.gimli_read.specs.declared.error.Error.TheVariants.{UnknownVersion, UnknownUnitType, UnsupportedAddressSize}
+use Rattle.gimli_read.specs.declared.constants.TheConstants.{DWARF_5}
 use Rattle.gimli_read.specs.declared.endian.Format.{Format}
 use Rattle.gimli_read.specs.Section.{Section}
+use Rattle.gimli_read.specs.Version.{is_unknown, is_before_5}
 use Rattle.gimli_read.specs.Reading.{Reading, mapped, ◌>>=◌, refused_if}
-use Rattle.gimli_read.specs.Number.{fixed_at, offset_at, skipped_at, split_at, initial_length_at, is_address_size}
+use Rattle.gimli_read.specs.Number.{fixed_at, offset_at, skipped_at, split_at, initial_length_at, address_size_at}
 use Rattle.gimli_read.specs.Run.{Run, run_of}
 use Rattle.gimli.specs.declared.constants.TheConstants.{DW_UT_compile, DW_UT_type, DW_UT_partial, DW_UT_skeleton, DW_UT_split_compile, DW_UT_split_type}
 use Rattle.gimli.specs.declared.unit.UnitType.{UnitType}
@@ -26,13 +28,6 @@ pub record UnitHeaderFields : Type 0 where
   pub dwo_id : Option DwoId
   pub header_length : ℕ
   pub entries : Section
-
--- an address size
-unfoldable pub unit_address_size_at : Section → Reading ℕ
-unit_address_size_at s = do
-  size ← fixed_at 1 s
-  known ← refused_if (not (is_address_size size.0)) UnsupportedAddressSize
-  Ok size
 
 -- the unit type of a number
 abbrev pub unit_type_of : ℕ → Result UnitType Error
@@ -77,11 +72,11 @@ type_fields_at format SplitType s = signature_at format s
 unfoldable pub fields_5_at : ℕ → ℕ → Format → Section → Result UnitHeaderFields Error
 fields_5_at offset unit_length format s = do
   unit_type ← unit_type_at s
-  address_size ← unit_address_size_at unit_type.1
+  address_size ← address_size_at unit_type.1
   abbrev_offset ← offset_at format address_size.1
   type_fields ← type_fields_at format unit_type.0 abbrev_offset.1
   Ok (record {
-    encoding = record { address_size = address_size.0; format = format; version = 5 };
+    encoding = record { address_size = address_size.0; format = format; version = DWARF_5 };
     unit_type = unit_type.0;
     offset = record { 0 = offset };
     debug_abbrev_offset = abbrev_offset.0;
@@ -94,7 +89,7 @@ fields_5_at offset unit_length format s = do
 unfoldable pub fields_4_at : ℕ → ℕ → Format → ℕ → Section → Result UnitHeaderFields Error
 fields_4_at offset unit_length format version s = do
   abbrev_offset ← offset_at format s
-  address_size ← unit_address_size_at abbrev_offset.1
+  address_size ← address_size_at abbrev_offset.1
   Ok (record {
     encoding = record { address_size = address_size.0; format = format; version = version };
     unit_type = Compile;
@@ -109,10 +104,9 @@ fields_4_at offset unit_length format version s = do
 unfoldable pub header_fields_at : ℕ → ℕ → Format → Section → Result UnitHeaderFields Error
 header_fields_at offset unit_length format s = do
   version ← fixed_at 2 s
-  if version.0 == 2 || version.0 == 3 || version.0 == 4
-      then fields_4_at offset unit_length format version.0 version.1
-      else if version.0 == 5 then fields_5_at offset unit_length format version.1
-      else Err UnknownVersion
+  known ← refused_if (is_unknown version.0) UnknownVersion
+  if is_before_5 version.0 then fields_4_at offset unit_length format version.0 version.1
+      else fields_5_at offset unit_length format version.1
 
 -- the header of the unit at the front of what is left of a section of these many bytes
 unfoldable pub unit_header_at : ℕ → Section → Reading UnitHeaderFields

@@ -88,7 +88,8 @@ ranges_from d u base s =
 
 -- the section of a unit's range lists
 abbrev pub range_lists_of : Sections → UnitRecord → Section
-range_lists_of d u = if is_before_5 u.header.encoding.version then d.debug_ranges else d.debug_rnglists
+range_lists_of d u =
+    if is_before_5 u.header.encoding.version then d.debug_ranges else d.debug_rnglists
 
 -- the ranges of a unit's list at an offset, and the fault after them, if there is one; the base is
 -- at first the unit's low_pc

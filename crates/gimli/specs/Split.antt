@@ -4,11 +4,10 @@ use Rattle.gimli_read.specs.declared.error.Error.{Error}
 use Rattle.gimli_read.specs.declared.value.AttributeValue.{AttributeValue}
 use Rattle.gimli_read.specs.Section.{Section}
 use Rattle.gimli_read.specs.Version.{is_before_5}
-use Rattle.gimli_read.specs.Reading.{◌>>=◌}
+use Rattle.gimli_read.specs.Reading.{◌>>=◌, fault_of}
 use Rattle.gimli.specs.declared.dwarf.DwarfFileType.TheVariants.{Dwo}
 use Rattle.gimli.specs.Sections.{Sections}
 use Rattle.gimli.specs.Record.{root_values_of}
-use Rattle.gimli_line.specs.Opcode.{fault_of}
 use Rattle.gimli.specs.Unit.{UnitRecord, attr_string_of}
 
 -- the sections of a split file of a parent: addresses, range lists of versions 2 to 4 and the

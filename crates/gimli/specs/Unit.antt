@@ -2,7 +2,7 @@
 -- Own: bases begin at 0; in a version 5 unit of a split file at the end of the table's header.
 -- Own: the record is faulty by its abbreviations, its root entry, its line program's header, or the
 -- index of its low_pc, in this order. A name or a directory that can't be read counts as none.
-use Rattle.std.specs.Prelude.{ℕ, ◌==◌, List, option_map, option_and_then, Option, Some, None, Result, Ok, unwrap_or, if◌then◌else◌}
+use Rattle.std.specs.Prelude.{ℕ, List, option_map, option_and_then, Option, Some, None, Result, Ok, unwrap_or, if◌then◌else◌}
 use Rattle.std.specs.Result.{result_ok}
 use Rattle.gimli_read.specs.declared.error.Error.{Error}
 use Rattle.gimli_read.specs.declared.endian.Encoding.{Encoding}
@@ -10,6 +10,7 @@ use Rattle.gimli_read.specs.declared.endian.Format.{Format}
 use Rattle.gimli_read.specs.declared.endian.Format.TheVariants.{Dwarf32, Dwarf64}
 use Rattle.gimli_read.specs.declared.value.AttributeValue.{AttributeValue}
 use Rattle.gimli_read.specs.Section.{Section}
+use Rattle.gimli_read.specs.Version.{is_5}
 use Rattle.gimli_read.specs.Reading.{◌>>=◌}
 use Rattle.gimli_read.specs.Abbreviations.{Abbrev}
 use Rattle.gimli_read.specs.Abbrev.{table_at}
@@ -48,7 +49,7 @@ by_format short long Dwarf64 = long
 abbrev pub first_base : ℕ → ℕ → DwarfFileType → Encoding → ℕ
 first_base short long Main encoding = 0
 first_base short long Dwo encoding =
-    if encoding.version == 5 then by_format short long encoding.format else 0
+    if is_5 encoding.version then by_format short long encoding.format else 0
 
 -- the address that a value stands for, where its index counts from base
 abbrev pub address_from : Sections → Encoding → ℕ → AddressValue → Result ℕ Error

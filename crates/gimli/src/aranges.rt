@@ -5,13 +5,15 @@ ghost use Rattle.std.specs.List.{slice_get};
 ghost use Rattle.gimli_read.specs.Number.{is_address_size};
 ghost use Rattle.gimli_read.specs.Reading.{Exactly};
 ghost use Rattle.gimli_read.specs.Yields.{next_given};
-ghost use Rattle.gimli.specs.Aranges.{padding, arange_fields_at, arange_set_at, next_set_at, arange_sets_of, next_pair_at, arange_of, aranges_of};
+ghost use Rattle.gimli.specs.Aranges.{pair_size, padding, arange_fields_at, arange_set_at, next_set_at, arange_sets_of, next_pair_at, arange_of, aranges_of};
 
-use crate::address_size::greatest_address;
 use crate::constants::ARANGES_VERSION;
-use crate::header::read_address_size;
 use crate::sections::DebugAranges;
-use gimli_read::{DebugInfoOffset, EndianSlice, Error, Format, Range, Reader, read_initial_length};
+use gimli_line::greatest_address;
+use gimli_read::{
+    DebugInfoOffset, EndianSlice, Error, Format, Range, Reader, read_address_size,
+    read_initial_length,
+};
 use std::marker::Model;
 
 /// A set of `.debug_aranges`: ranges of addresses that belong to one unit.
@@ -60,12 +62,19 @@ impl<R: Reader> ArangeHeader<R> {
     }
 }
 
+// The bytes of a pair of an address and a length.
+fn pair_size(address_size: u8) -> u64
+    ensures gives { result ≡ pair_size address_size }
+{
+    2 * u64::from(address_size)
+}
+
 // How many bytes are missing after `len` bytes up to a multiple of the size of a pair.
 fn padding(address_size: u8, len: u64) -> u64
     requires size { 0 < address_size }
-    ensures gives { result ≡ padding (2 * address_size) len }
+    ensures gives { result ≡ padding (pair_size address_size) len }
 {
-    let size = 2 * u64::from(address_size);
+    let size = pair_size(address_size);
     (size - len % size) % size
 }
 
@@ -196,7 +205,7 @@ fn read_next_pair(
 ) -> Result<Option<(u64, u64)>, Error>
     ensures gives { Exactly (λ p. (p, input.new)) result (next_pair_at address_size input.old) }
 {
-    if input.len() < 2 * u64::from(address_size) {
+    if input.len() < pair_size(address_size) {
         return Ok(None);
     }
     let address = input.read_address(address_size)?;

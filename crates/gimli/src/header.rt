@@ -1,9 +1,8 @@
 //! Reading the headers of units.
 
-ghost use Rattle.std.specs.Prelude.{◌≡◌, ◌<◌, ◌^◌, true, IfOk};
-ghost use Rattle.gimli_read.specs.Number.{is_address_size};
-ghost use Rattle.gimli_read.specs.Reading.{Exactly, ExactlyUnlessOomIf, Reads};
-ghost use Rattle.gimli.specs.Header.{unit_address_size_at, unit_type_at, type_fields_at};
+ghost use Rattle.std.specs.Prelude.{◌<◌, ◌^◌};
+ghost use Rattle.gimli_read.specs.Reading.{Exactly, Reads, ReadsUnlessOomIf};
+ghost use Rattle.gimli.specs.Header.{unit_type_at, type_fields_at};
 ghost use Rattle.gimli.specs.Header.{fields_4_at, fields_5_at, header_fields_at, unit_header_at};
 
 use crate::constants::{
@@ -11,21 +10,9 @@ use crate::constants::{
 };
 use crate::unit::{DwoId, UnitHeader, UnitType};
 use gimli_read::{
-    DebugInfoOffset, Encoding, Error, Format, Reader, is_address_size, read_initial_length,
+    DWARF_2, DWARF_5, DebugInfoOffset, Encoding, Error, Format, Reader, read_address_size,
+    read_initial_length,
 };
-
-// An address size.
-#[tactic(auto, unfolding(crate::specs::Header::unit_address_size_at))]
-pub(crate) fn read_address_size<R: Reader>(input: &mut R) -> Result<u8, Error>
-    ensures gives { Reads R.section input.old input.new result unit_address_size_at }
-    ensures known { IfOk result (λ size. is_address_size size ≡ true) }
-{
-    let size = input.read_u8()?;
-    if !is_address_size(size) {
-        return Err(Error::UnsupportedAddressSize);
-    }
-    Ok(size)
-}
 
 // A unit type.
 #[tactic(auto, unfolding(crate::specs::Header::unit_type_at))]
@@ -84,7 +71,7 @@ fn read_fields_5<R: Reader>(
         encoding: Encoding {
             address_size,
             format,
-            version: 5,
+            version: DWARF_5,
         },
         unit_type,
         offset: DebugInfoOffset(offset),
@@ -139,11 +126,13 @@ fn read_fields<R: Reader>(
         (header_fields_at offset unit_length format (R.section input)) }
 {
     let version = input.read_u16()?;
-    match version {
-        2..=4 => read_fields_4(offset, unit_length, format, version, input),
-        5 => read_fields_5(offset, unit_length, format, input),
-        _ => Err(Error::UnknownVersion),
+    if version < DWARF_2 || version > DWARF_5 {
+        return Err(Error::UnknownVersion);
     }
+    if version < DWARF_5 {
+        return read_fields_4(offset, unit_length, format, version, input);
+    }
+    read_fields_5(offset, unit_length, format, input)
 }
 
 /// The header of the unit at the front of what is left of a section of `section_length` bytes.
@@ -152,8 +141,8 @@ pub(crate) fn read_header<R: Reader>(
     section_length: u64,
     input: &mut R,
 ) -> Result<UnitHeader<R>, Error>
-    ensures gives { ExactlyUnlessOomIf R.shares (λ h. (h, R.section input.new)) result
-        (unit_header_at section_length (R.section input.old)) }
+    ensures gives { ReadsUnlessOomIf R.shares R.section input.old input.new result
+        (unit_header_at section_length) }
 {
     let len = input.to_slice().len() as u64;
     let (length, format) = read_initial_length(input)?;

@@ -2,7 +2,6 @@
 #![tactic(auto)]
 
 mod abbreviations_cache;
-mod address_size;
 mod aranges;
 mod constants;
 mod dwarf;

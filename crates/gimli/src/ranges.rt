@@ -8,11 +8,11 @@ ghost use Rattle.gimli_line.specs.AddressSize.{is_tombstone};
 ghost use Rattle.gimli.specs.Ranges.{sum_of_size, range_of, range_of_length, range_from_base, range_of_entry, ranges_from, range_lists_of, ranges_at};
 ghost use Rattle.gimli.specs.RangesLeft.{FindsRange};
 
-use crate::address_size::greatest_address;
 use crate::rnglists::{RangeListEntry, read_range_list_entry};
 use crate::text::read_from;
 use crate::unit_ref::UnitRef;
-use gimli_read::{EndianSlice, Error, Range, Reader, is_address_size};
+use gimli_line::greatest_address;
+use gimli_read::{DWARF_5, EndianSlice, Error, Range, Reader, is_address_size};
 use std::marker::Model;
 
 // A sum, as an address of a size.
@@ -137,7 +137,7 @@ fn range_lists_of<'a, R: Reader>(unit: UnitRef<'a, R>) -> EndianSlice<'a>
     ensures gives { result ≡ range_lists_of unit.entry.dwarf.now unit.entry.unit.now }
 {
     let dwarf = unit.dwarf;
-    let section = if unit.encoding().version < 5 {
+    let section = if unit.encoding().version < DWARF_5 {
         &dwarf.debug_ranges.section
     } else {
         &dwarf.debug_rnglists.section

@@ -9,7 +9,7 @@ use crate::dwarf::{Dwarf, DwarfFileType};
 use crate::record::line_offset;
 use crate::text::read_indexed_number;
 use crate::unit_record::Unit;
-use gimli_read::{AttributeValue, Error, Reader};
+use gimli_read::{DWARF_5, AttributeValue, Error, Reader};
 
 // An offset that counts from a base.
 fn offset_from_base(base: u64, offset: u64) -> Result<Option<u64>, Error>
@@ -28,7 +28,7 @@ fn ranges_base<R: Reader>(file_type: DwarfFileType, unit: &Unit<R>) -> u64
     match file_type {
         DwarfFileType::Main => 0,
         DwarfFileType::Dwo => {
-            if unit.header.encoding.version < 5 {
+            if unit.header.encoding.version < DWARF_5 {
                 unit.rnglists_base
             } else {
                 0

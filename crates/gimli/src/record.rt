@@ -9,8 +9,8 @@ ghost use Rattle.gimli.specs.Record.{address_value, section_offset, line_offset,
 use crate::entries::EntriesRaw;
 use crate::unit::UnitHeader;
 use gimli_read::{
-    Abbreviations, Attribute, AttributeSpecification, AttributeValue, DwAt, Encoding, Error,
-    Format, Reader,
+    DWARF_4, DWARF_5, Abbreviations, Attribute, AttributeSpecification, AttributeValue, DwAt,
+    Encoding, Error, Format, Reader,
 };
 use std::marker::Model;
 
@@ -86,14 +86,14 @@ pub(crate) fn line_offset<R: Reader>(encoding: Encoding, value: &AttributeValue<
     match value {
         AttributeValue::SecOffset(offset) => Some(*offset),
         AttributeValue::Data4(offset) => {
-            if encoding.version < 4 && encoding.format == Format::Dwarf32 {
+            if encoding.version < DWARF_4 && encoding.format == Format::Dwarf32 {
                 Some(u64::from(*offset))
             } else {
                 None
             }
         }
         AttributeValue::Data8(offset) => {
-            if encoding.version < 4 && encoding.format == Format::Dwarf64 {
+            if encoding.version < DWARF_4 && encoding.format == Format::Dwarf64 {
                 Some(*offset)
             } else {
                 None
@@ -107,7 +107,7 @@ pub(crate) fn line_offset<R: Reader>(encoding: Encoding, value: &AttributeValue<
 fn dwo_name_attribute(encoding: Encoding) -> DwAt
     ensures gives { result ≡ dwo_name_attribute encoding }
 {
-    if encoding.version < 5 {
+    if encoding.version < DWARF_5 {
         DwAt::DW_AT_GNU_dwo_name
     } else {
         DwAt::DW_AT_dwo_name

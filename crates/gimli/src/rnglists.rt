@@ -5,12 +5,12 @@ ghost use Rattle.gimli_read.specs.Number.{is_address_size};
 ghost use Rattle.gimli_read.specs.Reading.{Reads};
 ghost use Rattle.gimli.specs.RangeListEntries.{rnglists_fields_at, rnglists_entry_at, entry_of_pair, ranges_entry_at, range_list_entry_at};
 
-use crate::address_size::greatest_address;
 use crate::constants::{
     DW_RLE_base_address, DW_RLE_base_addressx, DW_RLE_end_of_list, DW_RLE_offset_pair,
     DW_RLE_start_end, DW_RLE_start_length, DW_RLE_startx_endx, DW_RLE_startx_length,
 };
-use gimli_read::{Encoding, EndianSlice, Error, Reader};
+use gimli_line::greatest_address;
+use gimli_read::{DWARF_5, Encoding, EndianSlice, Error, Reader};
 
 /// An entry of a range list, but for the list's end (DWARF 5, section 2.17.3).
 #[derive(Clone, Copy)]
@@ -134,7 +134,7 @@ pub(crate) fn read_range_list_entry(
     requires size { is_address_size encoding.address_size ≡ true }
     ensures gives { Reads (λ s. s) input.old input.new result (range_list_entry_at encoding) }
 {
-    if encoding.version < 5 {
+    if encoding.version < DWARF_5 {
         read_ranges_entry(encoding.address_size, input)
     } else {
         read_rnglists_entry(encoding.address_size, input)

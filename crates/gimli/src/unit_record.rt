@@ -15,7 +15,7 @@ use crate::record::{AddressValue, RootAttributes, read_root};
 use crate::text::{check_string, read_from, read_indexed_number, read_string};
 use crate::unit::{DwoId, UnitHeader};
 use gimli_line::{IncompleteLineProgram, read_line_program};
-use gimli_read::{Abbreviations, AttributeValue, Encoding, Error, Format, Reader};
+use gimli_read::{DWARF_5, Abbreviations, AttributeValue, Encoding, Error, Format, Reader};
 use std::alloc::Global;
 use std::marker::Model;
 use std::rc::Rc;
@@ -74,7 +74,7 @@ fn first_base(short: u64, long: u64, file_type: DwarfFileType, encoding: Encodin
     match file_type {
         DwarfFileType::Main => 0,
         DwarfFileType::Dwo => {
-            if encoding.version != 5 {
+            if encoding.version != DWARF_5 {
                 return 0;
             }
             match encoding.format {
@@ -319,8 +319,8 @@ impl<R: Reader> Unit<R> {
         Ok(root.dwo_name)
     }
 
-    /// Refused by the fault of the name of the unit's split file, if it has one: that of `dwo_name`,
-    /// or of the string that it stands for (`Dwarf::attr_string`). Takes no memory.
+    /// Refused by the fault of the name of the unit's split file, if it has one: that of
+    /// `dwo_name`, or of the string that it stands for (`Dwarf::attr_string`). Takes no memory.
     pub fn check_dwo_name(&self, dwarf: &Dwarf<R>) -> Result<(), Error>
         ensures gives { Exactly (λ x. x) result (dwo_name_fault dwarf.now self.now) }
     {
@@ -342,7 +342,7 @@ impl<R: Reader> Unit<R> {
     {
         self.low_pc = main.low_pc;
         self.addr_base = main.addr_base;
-        if self.header.encoding.version < 5 {
+        if self.header.encoding.version < DWARF_5 {
             self.rnglists_base = main.rnglists_base;
         }
     }

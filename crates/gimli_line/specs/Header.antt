@@ -1,6 +1,6 @@
 -- What a line program's header and its tables say (DWARF 5, section 6.2.4), and what a program has.
 -- Own: OutOfMemory is an answer to a copy of a header only where memory may be taken for it.
-use Rattle.std.specs.Prelude.{ℕ, ◌-◌, ◌==◌, ◌||◌, not, Bool, false, List, length, slice_get, Option, Some, None, if◌then◌else◌}
+use Rattle.std.specs.Prelude.{◌≡◌, ◌++◌, ℕ, ◌-◌, ◌==◌, ◌||◌, not, Bool, false, List, length, slice_get, Option, Some, None, if◌then◌else◌}
 use Rattle.gimli_read.specs.declared.endian.Encoding.{Encoding}
 use Rattle.gimli_read.specs.declared.value.AttributeValue.{AttributeValue}
 use Rattle.gimli_read.specs.Section.{Section}
@@ -49,3 +49,10 @@ directory_of h f = entry_of h.encoding.version f.directory_index h.include_direc
 abbrev pub is_in_bytes : Option (AttributeValue Section) → Bool
 is_in_bytes None = false
 is_in_bytes (Some value) = holds_bytes value
+
+-- the files of two headers, each with those that are still to be defined, are the same, and so is
+-- the rest of the headers
+abbrev pub KeepsFilesOf : Header → List File → Header → List File → Type 0
+KeepsFilesOf old to_define new still_to_define =
+    (old.file_names ++ to_define ≡ new.file_names ++ still_to_define)
+    × (new ≡ record old { file_names = new.file_names })

@@ -10,7 +10,7 @@ use Rattle.gimli_line.specs.declared.opcode.LineInstruction.{LineInstruction}
 use Rattle.gimli_line.specs.declared.opcode.LineInstruction.TheVariants.{Changes, Defines}
 use Rattle.gimli_line.specs.declared.registers.Registers.{Registers}
 use Rattle.gimli_line.specs.declared.row.LineRow.{LineRow}
-use Rattle.gimli_line.specs.Header.{File, Header}
+use Rattle.gimli_line.specs.Header.{File, Header, KeepsFilesOf}
 use Rattle.gimli_line.specs.Opcode.{opcodes_in, files_in, instructions_of}
 use Rattle.gimli_line.specs.Rows.{ended}
 use Rattle.gimli_line.specs.Steps.{executed}
@@ -67,8 +67,7 @@ Finds old (Ok None) new = (old ≡ []) × (new ≡ [])
 Finds old (Ok (Some x)) new = old ≡ Ok x ∷ new
 Finds old (Err e) new = e ≢ OutOfMemory → old ≡ Err e ∷ []
 
--- the files so far and those to come stay the same, and so does the rest of the header
+-- the files so far and those that are left to define stay the same, and so does the rest of the
+-- header
 abbrev pub DefinesOn : Header → Section → Header → Section → Type 0
-DefinesOn h s g t =
-    (h.file_names ++ files_left h s ≡ g.file_names ++ files_left g t)
-    × (g ≡ record h { file_names = g.file_names })
+DefinesOn h s g t = KeepsFilesOf h (files_left h s) g (files_left g t)

@@ -4,7 +4,7 @@ use Rattle.std.specs.Prelude.{◌≡◌, ◌≢◌, ◌++◌, List, [], ◌∷�
 use Rattle.gimli_read.specs.declared.error.Error.{Error}
 use Rattle.gimli_read.specs.declared.error.Error.TheVariants.{OutOfMemory}
 use Rattle.gimli_line.specs.declared.row.LineRow.{LineRow}
-use Rattle.gimli_line.specs.Header.{File, Header, Program}
+use Rattle.gimli_line.specs.Header.{File, Header, Program, KeepsFilesOf}
 use Rattle.gimli_line.specs.Opcode.{instructions_of, files_in}
 use Rattle.gimli_line.specs.Rows.{rows_of}
 use Rattle.gimli_line.specs.Ahead.{files_ahead}
@@ -36,9 +36,7 @@ YieldsUnlessOom old (Err e) new = (new ≡ []) × (e ≢ OutOfMemory → old ≡
 
 -- the files so far and those to come are the same, and so is the rest of the header
 abbrev pub KeepsFiles : Lines → Lines → Type 0
-KeepsFiles old new =
-    (old.header.file_names ++ old.to_define ≡ new.header.file_names ++ new.to_define)
-    × (new.header ≡ record old.header { file_names = new.header.file_names })
+KeepsFiles old new = KeepsFilesOf old.header old.to_define new.header new.to_define
 
 -- a header with more files
 abbrev pub with_files : Header → List File → Header

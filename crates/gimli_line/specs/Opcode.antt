@@ -82,10 +82,6 @@ extended_at h s = do
   instruction ← extended_in h text.0
   Ok (instruction.0, text.1)
 
--- the fault of a reading, if it has one
-abbrev pub fault_of : {A : Type 0} → Result A Error → Result (Unit {0}) Error
-fault_of read = read >>= λ x. Ok tt
-
 -- an instruction that defines a file
 abbrev pub is_file : {F : Type 0} → LineInstruction F → Bool
 is_file (Changes op) = false

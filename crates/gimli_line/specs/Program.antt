@@ -7,23 +7,22 @@ use Rattle.gimli_read.specs.declared.error.Error.TheVariants.{UnknownVersion, Un
 use Rattle.gimli_read.specs.declared.endian.Encoding.{Encoding}
 use Rattle.gimli_read.specs.declared.endian.Format.{Format}
 use Rattle.gimli_read.specs.Section.{Section}
-use Rattle.gimli_read.specs.Version.{is_before_4, is_before_5}
+use Rattle.gimli_read.specs.Version.{is_unknown, is_before_4, is_before_5}
 use Rattle.gimli_read.specs.Reading.{Reading, ◌>>=◌, refused_if}
-use Rattle.gimli_read.specs.Number.{fixed_at, signed_byte_at, offset_at, split_at, initial_length_at, is_address_size}
+use Rattle.gimli_read.specs.Number.{fixed_at, signed_byte_at, offset_at, split_at, initial_length_at, is_address_size, address_size_at}
 use Rattle.gimli_line.specs.declared.encoding.LineEncoding.{LineEncoding}
 use Rattle.gimli_line.specs.Header.{Program}
 use Rattle.gimli_line.specs.Tables.{tables_at}
 
 -- the address size: of the unit below version 5, else of the header, with a segment selector size
 -- of 0
-unfoldable pub address_size_at : ℕ → ℕ → Section → Reading ℕ
-address_size_at version unit_size s =
+unfoldable pub program_address_size_at : ℕ → ℕ → Section → Reading ℕ
+program_address_size_at version unit_size s =
     if is_before_5 version
     then (refused_if (not (is_address_size unit_size)) UnsupportedAddressSize
     >>= λ _. Ok (unit_size, s))
     else do
-      size ← fixed_at 1 s
-      known ← refused_if (not (is_address_size size.0)) UnsupportedAddressSize
+      size ← address_size_at s
       segment ← fixed_at 1 size.1
       flat ← refused_if (not (segment.0 == 0)) UnsupportedSegmentSize
       Ok (size.0, segment.1)
@@ -72,8 +71,8 @@ pub record HeaderFields : Type 0 where
 unfoldable pub unit_fields_at : ℕ → Format → Section → Result HeaderFields Error
 unit_fields_at unit_size format s = do
   version ← fixed_at 2 s
-  known ← refused_if (nat_lt version.0 2 || nat_lt 5 version.0) UnknownVersion
-  size ← address_size_at version.0 unit_size version.1
+  known ← refused_if (is_unknown version.0) UnknownVersion
+  size ← program_address_size_at version.0 unit_size version.1
   header_length ← offset_at format size.1
   header ← split_at header_length.0 header_length.1
   numbers ← numbers_at (record { address_size = size.0; format = format; version = version.0 })

@@ -90,8 +90,8 @@ fn duplicate_files<R: Reader>(
 pub(crate) fn duplicate_header<R: Reader>(
     header: &LineProgramHeader<R>,
 ) -> Result<LineProgramHeader<R>, Error>
-    ensures gives { ExactlyUnlessOomIf (header_copy_takes_memory R.shares header.now) (λ h. h) result
-        (Ok header.now) }
+    ensures gives { ExactlyUnlessOomIf (header_copy_takes_memory R.shares header.now) (λ h. h)
+        result (Ok header.now) }
 {
     Ok(LineProgramHeader {
         encoding: header.encoding,

@@ -1,7 +1,7 @@
 //! The tables of version 5: entries whose values a format lists.
 
 ghost use Rattle.std.specs.Prelude.{◌≡◌, ◌==◌, ◌&&◌, not, count_by, map, Ok};
-ghost use Rattle.gimli_read.specs.Reading.{ExactlyUnlessOom, ExactlyUnlessOomIf, Reads};
+ghost use Rattle.gimli_read.specs.Reading.{ExactlyUnlessOom, ReadsUnlessOomIf, Reads};
 ghost use Rattle.gimli_read.specs.Form.{seen_value};
 ghost use Rattle.gimli_line.specs.EntryTables.{times, format_at, formats_at, is_path, is_bad_path, is_sound_format, no_entry, with_value, values_at, entry_at, entry_table_at};
 
@@ -127,8 +127,8 @@ fn read_values<R: Reader>(
     formats: &[EntryFormat],
     input: &mut R,
 ) -> Result<EntryValues<R>, Error>
-    ensures gives { ExactlyUnlessOomIf R.shares (λ x. (x, R.section input.new)) result
-        (values_at encoding formats.now no_entry (R.section input.old)) }
+    ensures gives { ReadsUnlessOomIf R.shares R.section input.old input.new result
+        (values_at encoding formats.now no_entry) }
 {
     let mut entry = EntryValues {
         path_name: None,
@@ -148,8 +148,8 @@ fn read_entry<R: Reader>(
     formats: &[EntryFormat],
     input: &mut R,
 ) -> Result<FileEntry<R>, Error>
-    ensures gives { ExactlyUnlessOomIf R.shares (λ f. (f, R.section input.new)) result
-        (entry_at encoding formats.now (R.section input.old)) }
+    ensures gives { ReadsUnlessOomIf R.shares R.section input.old input.new result
+        (entry_at encoding formats.now) }
 {
     let EntryValues {
         path_name,

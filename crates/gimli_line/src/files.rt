@@ -9,13 +9,13 @@ ghost use Rattle.gimli_line.specs.Header.{entry_of, file_of, directory_of, is_in
 
 use crate::copies::duplicate_value;
 use crate::header::{FileEntry, LineProgramHeader};
-use gimli_read::{AttributeValue, Error, Reader};
+use gimli_read::{DWARF_5, AttributeValue, Error, Reader};
 
 // An entry of a table, counted from 1 below version 5 and from 0 in it.
 fn entry<T>(version: u16, index: u64, entries: &[T]) -> Option<&T>
     ensures gives { option_map (λ x. x.now) result ≡ entry_of version index entries.now }
 {
-    if version >= 5 {
+    if version >= DWARF_5 {
         return entries.get(index as usize);
     }
     if index == 0 {
@@ -51,7 +51,8 @@ impl<R: Reader> LineProgramHeader<R> {
 }
 
 impl<R: Reader> FileEntry<R> {
-    /// The path, a string of any form. Refused `OutOfMemory` alone.
+    /// The path, a string of any form. Refused `OutOfMemory` alone, and only where it has bytes of
+    /// its own that are shared. Source: DWARF 5, section 6.2.4.
     pub fn path_name(&self) -> Result<AttributeValue<R>, Error>
         ensures gives { ExactlyUnlessOomIf (R.shares && holds_bytes self.now.path_name)
             (seen_value R.section) result (Ok self.now.path_name) }
@@ -66,10 +67,11 @@ impl<R: Reader> FileEntry<R> {
         self.directory_index
     }
 
-    /// The directory in the header of the same program. Refused `OutOfMemory` alone.
+    /// The directory in the header of the same program. Refused `OutOfMemory` alone, and only where
+    /// there is one that has bytes of its own, which are shared.
     ///
     /// Directories count from 1 in versions 2 to 4, where index 0 is the unit's own, and from 0 in
-    /// version 5; none where there is no such directory.
+    /// version 5; none where there is no such directory. Source: DWARF 5, section 6.2.4.
     pub fn directory(
         &self,
         header: &LineProgramHeader<R>,

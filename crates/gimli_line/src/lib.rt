@@ -1,6 +1,7 @@
 //! Line programs: their headers, and the rows that they give.
 #![tactic(auto)]
 
+mod address_size;
 #[allow(non_upper_case_globals)]
 mod constants;
 mod copies;
@@ -18,6 +19,7 @@ mod row;
 mod standard;
 mod tables;
 
+pub use crate::address_size::greatest_address;
 pub use crate::header::{FileEntry, LineProgramHeader};
 pub use crate::laws::rows_laws;
 pub use crate::program::{IncompleteLineProgram, LineRows};

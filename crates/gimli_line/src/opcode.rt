@@ -1,15 +1,15 @@
 //! The opcodes of line programs.
 
 ghost use Rattle.std.specs.Prelude.{◌≡◌, ◌==◌, ◌&&◌, false, nat_lt, IfErr, Err};
-ghost use Rattle.gimli_read.specs.Reading.{Exactly, ExactlyUnlessOomIf, ExactlyUnlessOomFor, Reads};
+ghost use Rattle.gimli_read.specs.Reading.{Exactly, ReadsUnlessOomIf, ExactlyUnlessOomFor, Reads, fault_of};
 ghost use Rattle.gimli_read.specs.Number.{null_terminated_at};
-ghost use Rattle.gimli_line.specs.Opcode.{file_with_path_at, file_entry_at, operand_at, defines, extended_in, extended_at, gives_file, fault_of};
+ghost use Rattle.gimli_line.specs.Opcode.{file_with_path_at, file_entry_at, operand_at, defines, extended_in, extended_at, gives_file};
 
 use crate::constants::{
     DW_LNE_define_file, DW_LNE_end_sequence, DW_LNE_set_address, DW_LNE_set_discriminator,
 };
 use crate::header::{FileEntry, LineProgramHeader};
-use gimli_read::{AttributeValue, EndianSlice, Error, Reader, RunTimeEndian, zero_of};
+use gimli_read::{DWARF_5, AttributeValue, EndianSlice, Error, Reader, RunTimeEndian, zero_of};
 
 /// An opcode with its operands (DWARF 5, section 6.2.5).
 #[derive(Clone, Copy)]
@@ -65,8 +65,7 @@ pub(crate) fn read_file_with_path<R: Reader>(path: R, input: &mut R) -> Result<F
 // A file of versions 2 to 4.
 #[tactic(auto, unfolding(crate::specs::Opcode::file_entry_at))]
 fn read_file_entry<R: Reader>(input: &mut R) -> Result<FileEntry<R>, Error>
-    ensures gives { ExactlyUnlessOomIf R.shares (λ f. (f, R.section input.new)) result
-        (file_entry_at (R.section input.old)) }
+    ensures gives { ReadsUnlessOomIf R.shares R.section input.old input.new result file_entry_at }
 {
     let path = input.read_null_terminated()?;
     read_file_with_path(path, input)
@@ -104,7 +103,7 @@ fn check_file_entry(bytes: &[u8], endian: RunTimeEndian) -> Result<(), Error>
 fn defines_file<R: Reader>(header: &LineProgramHeader<R>, code: u8) -> bool
     ensures gives { result ≡ defines header.now code }
 {
-    code == DW_LNE_define_file && header.encoding.version < 5
+    code == DW_LNE_define_file && header.encoding.version < DWARF_5
 }
 
 // The operand of an extended opcode that defines no file.

@@ -3,8 +3,13 @@
 ghost use Rattle.std.specs.Prelude.{◌≡◌, ◌+◌, ◌/◌, ◌%◌, ◌<◌, ◌||◌, true, nat_lt};
 ghost use Rattle.gimli_read.specs.Number.{is_address_size};
 ghost use Rattle.gimli_line.specs.Encoding.{limit};
+ghost use Rattle.gimli_line.specs.declared.parameters.TheConstants.{RECIPROCAL_SCALE};
 
+use crate::address_size::greatest_address;
 use crate::encoding::LineEncoding;
+
+// Large enough that no product of a byte and a reciprocal is rounded to another quotient.
+const RECIPROCAL_SCALE: u32 = 65536;
 
 /// What opcodes are run by, prepared so that no special opcode divides.
 #[derive(Clone, Copy)]
@@ -13,27 +18,14 @@ pub struct LineParameters {
     pub encoding: LineEncoding,
     /// The greatest address of the address size.
     pub greatest: u64,
-    /// A number below 256 times this, divided by 2^16, is the number divided by the line range.
+    /// A byte times this, divided by `RECIPROCAL_SCALE`, is the byte divided by the line range.
     pub reciprocal: u32,
     ghost size: { is_address_size encoding.address_size ≡ true },
     ghost operations: { 0 < encoding.maximum_operations_per_instruction },
     ghost range: { 0 < encoding.line_range },
     ghost byte: { encoding.line_range < 256 },
     ghost greatest_is: { greatest + 1 ≡ limit encoding },
-    ghost reciprocal_is: { reciprocal ≡ 65536 / encoding.line_range + 1 },
-}
-
-// The greatest address of a size.
-fn greatest(encoding: LineEncoding) -> u64
-    requires size { is_address_size encoding.address_size ≡ true }
-    ensures gives { result + 1 ≡ limit encoding }
-{
-    match encoding.address_size {
-        1 => 0xff,
-        2 => 0xffff,
-        4 => 0xffff_ffff,
-        _ => u64::MAX,
-    }
+    ghost reciprocal_is: { reciprocal ≡ RECIPROCAL_SCALE / encoding.line_range + 1 },
 }
 
 impl LineParameters {
@@ -46,8 +38,8 @@ impl LineParameters {
     {
         LineParameters {
             encoding,
-            greatest: greatest(encoding),
-            reciprocal: 65536 / u32::from(encoding.line_range) + 1,
+            greatest: greatest_address(encoding.address_size),
+            reciprocal: RECIPROCAL_SCALE / u32::from(encoding.line_range) + 1,
         }
     }
 
@@ -56,7 +48,7 @@ impl LineParameters {
         ensures gives { result ≡ n / self.now.encoding.line_range }
     {
         let product = u32::from(n) * self.reciprocal;
-        (product / 65536) as u8
+        (product / RECIPROCAL_SCALE) as u8
     }
 
     /// What a division by the line range leaves.

@@ -45,8 +45,8 @@ impl<R: Reader> IncompleteLineProgram<R> {
     /// `OutOfMemory` alone, where bytes are shared or the header has a directory or a file. Source:
     /// DWARF 5, section 6.2.5.
     pub fn rows(&self) -> Result<LineRows<R>, Error>
-        ensures gives { ExactlyUnlessOomIf (header_copy_takes_memory R.shares self.now.header) (λ r. r)
-            result (Ok (lines_of self.now)) }
+        ensures gives { ExactlyUnlessOomIf (header_copy_takes_memory R.shares self.now.header)
+            (λ r. r) result (Ok (lines_of self.now)) }
     {
         let header = &self.header;
         Ok(LineRows {

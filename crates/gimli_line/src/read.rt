@@ -1,10 +1,9 @@
 //! Reading the header of a line program.
 
 ghost use Rattle.std.specs.Prelude.{◌≡◌, ◌<◌, true, is_ok, IfOk};
-ghost use Rattle.gimli_read.specs.Reading.{Exactly, ExactlyUnlessOomIf, Reads};
+ghost use Rattle.gimli_read.specs.Reading.{Exactly, ExactlyUnlessOomIf, Reads, fault_of};
 ghost use Rattle.gimli_read.specs.Number.{is_address_size};
-ghost use Rattle.gimli_line.specs.Opcode.{fault_of};
-ghost use Rattle.gimli_line.specs.Program.{address_size_at, nonzero_at, operations_at, numbers_at, unit_fields_at, line_header_fields_at, line_program_at};
+ghost use Rattle.gimli_line.specs.Program.{program_address_size_at, nonzero_at, operations_at, numbers_at, unit_fields_at, line_header_fields_at, line_program_at};
 
 use crate::encoding::LineEncoding;
 use crate::header::LineProgramHeader;
@@ -12,28 +11,30 @@ use crate::parameters::LineParameters;
 use crate::program::IncompleteLineProgram;
 use crate::tables::read_tables;
 use gimli_read::{
-    Encoding, EndianSlice, Error, Format, Reader, RunTimeEndian, is_address_size,
-    read_initial_length,
+    DWARF_2, DWARF_4, DWARF_5, Encoding, EndianSlice, Error, Format, Reader, RunTimeEndian,
+    is_address_size, read_address_size, read_initial_length,
 };
 use std::alloc::Global;
 use std::marker::Model;
 
 // The address size of a program.
-#[tactic(auto, unfolding(crate::specs::Program::address_size_at))]
-fn read_address_size<R: Reader>(version: u16, unit_size: u8, input: &mut R) -> Result<u8, Error>
-    ensures gives { Reads R.section input.old input.new result (address_size_at version unit_size) }
+#[tactic(auto, unfolding(crate::specs::Program::program_address_size_at))]
+fn read_program_address_size<R: Reader>(
+    version: u16,
+    unit_size: u8,
+    input: &mut R,
+) -> Result<u8, Error>
+    ensures gives { Reads R.section input.old input.new result
+        (program_address_size_at version unit_size) }
     ensures known { IfOk result (λ size. is_address_size size ≡ true) }
 {
-    if version < 5 {
+    if version < DWARF_5 {
         if !is_address_size(unit_size) {
             return Err(Error::UnsupportedAddressSize);
         }
         return Ok(unit_size);
     }
-    let size = input.read_u8()?;
-    if !is_address_size(size) {
-        return Err(Error::UnsupportedAddressSize);
-    }
+    let size = read_address_size(input)?;
     if input.read_u8()? != 0 {
         return Err(Error::UnsupportedSegmentSize);
     }
@@ -59,7 +60,7 @@ fn read_operations<R: Reader>(version: u16, input: &mut R) -> Result<u8, Error>
     ensures gives { Reads R.section input.old input.new result (operations_at version) }
     ensures some { IfOk result (λ x. 0 < x) }
 {
-    if version < 4 {
+    if version < DWARF_4 {
         return Ok(1);
     }
     read_nonzero(input)
@@ -125,10 +126,10 @@ fn read_unit_fields<R: Reader>(
         (unit_fields_at unit_size format (R.section input)) }
 {
     let version = input.read_u16()?;
-    if version < 2 || version > 5 {
+    if version < DWARF_2 || version > DWARF_5 {
         return Err(Error::UnknownVersion);
     }
-    let address_size = read_address_size(version, unit_size, &mut input)?;
+    let address_size = read_program_address_size(version, unit_size, &mut input)?;
     let header_length = input.read_offset(format)?;
     let mut tables = input.split(header_length)?;
     let encoding = Encoding {

@@ -2,7 +2,7 @@
 
 ghost use Rattle.std.specs.Prelude.{◌≡◌, is_ok, map};
 ghost use Rattle.std.specs.Option.{option_map};
-ghost use Rattle.gimli_read.specs.Reading.{ExactlyUnlessOom, ExactlyUnlessOomIf, ExactlyUnlessOomFor, ReadsUnlessOom};
+ghost use Rattle.gimli_read.specs.Reading.{ExactlyUnlessOom, ReadsUnlessOomIf, ExactlyUnlessOomFor, ReadsUnlessOom};
 ghost use Rattle.gimli_read.specs.Form.{seen_value};
 ghost use Rattle.gimli_read.specs.Run.{run_of, collected};
 ghost use Rattle.gimli_line.specs.Tables.{directory_at, file_at, old_tables_at, new_tables_at, tables_at};
@@ -10,7 +10,7 @@ ghost use Rattle.gimli_line.specs.Tables.{directory_at, file_at, old_tables_at, 
 use crate::entry_tables::{paths_of, read_table};
 use crate::header::FileEntry;
 use crate::opcode::read_file_with_path;
-use gimli_read::{AttributeValue, Encoding, Error, Reader};
+use gimli_read::{DWARF_5, AttributeValue, Encoding, Error, Reader};
 use std::alloc::Global;
 use std::marker::Model;
 
@@ -53,8 +53,7 @@ fn read_directory<R: Reader>(input: &mut R) -> Result<Option<AttributeValue<R>>,
 // A file of the table of versions 2 to 4.
 #[tactic(auto, unfolding(crate::specs::Tables::file_at))]
 fn read_file<R: Reader>(input: &mut R) -> Result<Option<FileEntry<R>>, Error>
-    ensures gives { ExactlyUnlessOomIf R.shares (λ f. (f, R.section input.new)) result
-        (file_at (R.section input.old)) }
+    ensures gives { ReadsUnlessOomIf R.shares R.section input.old input.new result file_at }
 {
     let path = input.read_null_terminated()?;
     if path.is_empty() {
@@ -130,7 +129,7 @@ pub(crate) fn read_tables<R: Reader>(
 ) -> Result<HeaderTables<R>, Error>
     ensures gives { ReadsUnlessOom R.section input.old input.new result (tables_at encoding) }
 {
-    if encoding.version < 5 {
+    if encoding.version < DWARF_5 {
         return read_old_tables(alloc, input);
     }
     read_new_tables(alloc, encoding, input)

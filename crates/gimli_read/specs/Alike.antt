@@ -5,12 +5,7 @@ use Rattle.std.specs.Prelude.{◌≡◌, ◌≢◌, Result, Ok, Err}
 use Rattle.gimli_read.specs.declared.error.Error.{Error}
 use Rattle.gimli_read.specs.declared.error.Error.TheVariants.{OutOfMemory}
 use Rattle.gimli_read.specs.Section.{Section}
-use Rattle.gimli_read.specs.Reading.{Exactly, ExactlyUnlessOom}
-
--- an answer whose value is seen by view
-abbrev pub seen_answer : {X Z : Type 0} → (X → Z) → Result X Error → Result Z Error
-seen_answer view (Ok x) = Ok (view x)
-seen_answer view (Err e) = Err e
+use Rattle.gimli_read.specs.Reading.{result_map, Exactly, ExactlyUnlessOom}
 
 -- the answer is a value, or a refusal other than OutOfMemory
 abbrev pub HadMemory : {X : Type 0} → Result X Error → Type 0
@@ -23,7 +18,7 @@ AnswerAlike X Y Z =
     (read : Section → Result Z Error) (s t : Section) (view : X → Z) (see : Y → Z)
     (x : Result X Error) (y : Result Y Error)
     → s ≡ t → Exactly view x (read s) → Exactly see y (read t)
-    → seen_answer view x ≡ seen_answer see y
+    → result_map view x ≡ result_map see y
 
 -- the same where memory may be refused, but was not
 abbrev pub AnswerAlikeUnlessOom : Type 0 → Type 0 → Type 0 → Type 0
@@ -31,4 +26,4 @@ AnswerAlikeUnlessOom X Y Z =
     (read : Section → Result Z Error) (s t : Section) (view : X → Z) (see : Y → Z)
     (x : Result X Error) (y : Result Y Error)
     → s ≡ t → ExactlyUnlessOom view x (read s) → ExactlyUnlessOom see y (read t)
-    → HadMemory x → HadMemory y → seen_answer view x ≡ seen_answer see y
+    → HadMemory x → HadMemory y → result_map view x ≡ result_map see y

@@ -1,10 +1,11 @@
 -- The value of a form, as the form is encoded (DWARF 5, sections 7.5.5 and 7.5.6).
 -- Own: a form that is not listed is UnknownForm where a value of it is read.
-use Rattle.std.specs.Prelude.{ℕ, ◌==◌, Option, Some, None, Ok, Err, if◌then◌else◌}
+use Rattle.std.specs.Prelude.{ℕ, Option, Some, None, Ok, Err, if◌then◌else◌}
 use Rattle.gimli_read.specs.declared.endian.Encoding.{Encoding}
 use Rattle.gimli_read.specs.declared.error.Error.TheVariants.{UnknownForm}
 use Rattle.gimli_read.specs.declared.value.AttributeValue.{AttributeValue}
 use Rattle.gimli_read.specs.Section.{Section}
+use Rattle.gimli_read.specs.Version.{is_2}
 use Rattle.gimli_read.specs.Reading.{Reading, mapped, ◌>>=◌}
 use Rattle.gimli_read.specs.Number.{fixed_at, offset_at, address_at, split_at, null_terminated_at}
 use Rattle.gimli_read.specs.Leb128.{uleb128_at, sleb128_at}
@@ -17,7 +18,7 @@ block_at length = length >>= λ n. split_at n.0 n.1
 -- an address in version 2, else an offset
 abbrev pub address_or_offset_at : Encoding → Section → Reading ℕ
 address_or_offset_at encoding s =
-    if encoding.version == 2 then address_at encoding.address_size s
+    if is_2 encoding.version then address_at encoding.address_size s
     else offset_at encoding.format s
 
 -- the value that is encoded so; of no encoding UnknownForm

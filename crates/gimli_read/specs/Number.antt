@@ -2,7 +2,7 @@
 -- 7.32).
 -- Own: a reading past the end of the section is UnexpectedEof.
 -- Own: an address size other than 1, 2, 4 and 8 is UnsupportedAddressSize.
-use Rattle.std.specs.Prelude.{ℕ, ◌+◌, ◌^◌, ◌==◌, ◌||◌, Bool, List, length, slice_index, Option, Some, None, Ok, Err, nat_lt, if◌then◌else◌, ℤ, pos, negsuc}
+use Rattle.std.specs.Prelude.{ℕ, ◌+◌, ◌^◌, ◌==◌, ◌||◌, not, Bool, List, length, slice_index, Option, Some, None, Ok, Err, nat_lt, if◌then◌else◌, ℤ, pos, negsuc}
 use Rattle.std.specs.Int.{w8, cast_signed}
 use Rattle.std.specs.List.{position}
 use Rattle.byteorder.specs.Endian.{big_number, little_number}
@@ -13,7 +13,7 @@ use Rattle.gimli_read.specs.declared.endian.RunTimeEndian.TheVariants.{Little, B
 use Rattle.gimli_read.specs.declared.endian.Format.{Format}
 use Rattle.gimli_read.specs.declared.endian.Format.TheVariants.{Dwarf32, Dwarf64}
 use Rattle.gimli_read.specs.Section.{Section, first, after}
-use Rattle.gimli_read.specs.Reading.{Reading, ◌>>=◌}
+use Rattle.gimli_read.specs.Reading.{Reading, ◌>>=◌, refused_if}
 
 -- whether a number has 64 bits
 abbrev pub fits_u64 : ℕ → Bool
@@ -52,6 +52,13 @@ signed_byte_at s =
 -- the sizes that an address may have
 abbrev pub is_address_size : ℕ → Bool
 is_address_size n = n == 1 || n == 2 || n == 4 || n == 8
+
+-- an address size, of one byte
+unfoldable pub address_size_at : Section → Reading ℕ
+address_size_at s = do
+  size ← fixed_at 1 s
+  known ← refused_if (not (is_address_size size.0)) UnsupportedAddressSize
+  Ok size
 
 -- an address of a size
 abbrev pub address_at : ℕ → Section → Reading ℕ

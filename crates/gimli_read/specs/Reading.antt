@@ -23,6 +23,15 @@ abbrev pub ◌>>=◌ : {A B E : Type 0} → Result A E → (A → Result B E) �
 (Ok x) >>= f = f x
 (Err e) >>= f = Err e
 
+-- what is given, with its value made into another
+abbrev pub result_map : {A B E : Type 0} → (A → B) → Result A E → Result B E
+result_map make (Ok x) = Ok (make x)
+result_map make (Err e) = Err e
+
+-- the fault of what is given, if it is one
+abbrev pub fault_of : {A E : Type 0} → Result A E → Result (Unit {0}) E
+fault_of given = given >>= λ x. Ok tt
+
 -- what a reading gives, made into another value
 abbrev pub mapped : {A B E : Type 0} → (A → B) → ReadingOr E A → ReadingOr E B
 mapped make read = read >>= λ x. Ok (make x.0, x.1)
@@ -47,8 +56,8 @@ ExactlyWhere holds view (Err e) given = holds given e → given ≡ Err e
 abbrev pub ExactlyUnless : {X Y E : Type 0} → E → (X → Y) → Result X E → Result Y E → Type 0
 ExactlyUnless oom view result given = ExactlyWhere (λ _ e. e ≢ oom) view result given
 
--- the same, where this fault is an answer only if memory may be taken, and only where `takes` is true
--- of what is given
+-- the same, where this fault is an answer only if memory may be taken, and only where `takes` is
+-- true of what is given
 abbrev pub ExactlyUnlessFor : {X Y E : Type 0} → E → Bool → (Result Y E → Bool) → (X → Y)
     → Result X E → Result Y E → Type 0
 ExactlyUnlessFor oom may takes view result given =
@@ -84,6 +93,12 @@ abbrev pub ReadsUnlessOom : {R X : Type 0} → (R → Section) → R → R → R
     → (Section → Reading X) → Type 0
 ReadsUnlessOom see old new result reading =
     ExactlyUnlessOom (λ x. (x, see new)) result (reading (see old))
+
+-- the same, where OutOfMemory is an answer only if memory may be taken
+abbrev pub ReadsUnlessOomIf : {R X : Type 0} → Bool → (R → Section) → R → R → Result X Error
+    → (Section → Reading X) → Type 0
+ReadsUnlessOomIf may see old new result reading =
+    ExactlyUnlessOomIf may (λ x. (x, see new)) result (reading (see old))
 
 -- the same, where memory may be taken only if `takes` is true of what is given
 abbrev pub ReadsUnlessOomFor : {R X : Type 0} → Bool → (Reading X → Bool) → (R → Section) → R → R

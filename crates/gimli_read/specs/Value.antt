@@ -2,6 +2,7 @@
 -- a form's value, and which value it is.
 -- Own: a form that is not listed has no value, nor has DW_FORM_indirect to DW_FORM_implicit_const.
 use Rattle.std.specs.Prelude.{◌≡◌, ◌≢◌, ◌⊎◌, ℕ, zero, suc, ◌+◌, ◌*◌, ◌^◌, ◌<◌, true, List, [], ◌∷◌, ◌++◌, length, slice_index, Option, Some, None, ℤ}
+use Rattle.gimli_read.specs.declared.constants.TheConstants.{DWARF_2}
 use Rattle.gimli_read.specs.declared.constants.TheConstants.DwForm.{DW_FORM_indirect, DW_FORM_implicit_const}
 use Rattle.gimli_read.specs.declared.endian.RunTimeEndian.{RunTimeEndian}
 use Rattle.gimli_read.specs.declared.endian.RunTimeEndian.TheVariants.{Little, Big}
@@ -47,8 +48,8 @@ IsOffset encoding order text x = IsFixed order (offset_size encoding.format) tex
 -- an address in version 2, else an offset
 abbrev pub IsAddressOrOffset : Encoding → RunTimeEndian → List ℕ → ℕ → Type 0
 IsAddressOrOffset encoding order text x =
-    ((encoding.version ≡ 2) × IsAddress encoding order text x)
-    ⊎ ((encoding.version ≢ 2) × IsOffset encoding order text x)
+    ((encoding.version ≡ DWARF_2) × IsAddress encoding order text x)
+    ⊎ ((encoding.version ≢ DWARF_2) × IsOffset encoding order text x)
 
 -- a value made of what the text is
 abbrev pub IsMadeOf : {A : Type 0} → (List ℕ → A → Type 0) → (A → AttributeValue Section) → List ℕ

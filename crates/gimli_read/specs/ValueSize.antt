@@ -1,6 +1,7 @@
 -- How many bytes values take whose form alone says so (DWARF 5, sections 7.5.5 and 7.5.6).
 -- Own: an address of a size other than 1, 2, 4 and 8 has none, since no such value is read.
 use Rattle.std.specs.Prelude.{◌≡◌, ℕ, ◌+◌, ◌*◌, ◌==◌, ◌&&◌, nat_lt, Bool, true, Option, Some, None, if◌then◌else◌, ℤ}
+use Rattle.gimli_read.specs.declared.constants.TheConstants.{DWARF_2}
 use Rattle.gimli_read.specs.declared.constants.TheConstants.DwForm.{DW_FORM_implicit_const}
 use Rattle.gimli_read.specs.declared.endian.Encoding.{Encoding}
 use Rattle.gimli_read.specs.declared.size.ValueSize.{ValueSize}
@@ -8,6 +9,7 @@ use Rattle.gimli_read.specs.declared.size.ValueSize.TheVariants as sizes
 use Rattle.gimli_read.specs.declared.size.CountedSize.{CountedSize}
 use Rattle.gimli_read.specs.declared.size.TotalSize.{TotalSize}
 use Rattle.gimli_read.specs.Section.{Section}
+use Rattle.gimli_read.specs.Version.{is_2}
 use Rattle.gimli_read.specs.Abbreviations.{Specification}
 use Rattle.gimli_read.specs.Number.{is_address_size, offset_size, skipped_at}
 use Rattle.gimli_read.specs.Form.{attribute_at, rest_of}
@@ -51,7 +53,7 @@ bytes_of encoding (sizes.Bytes n) = Some n
 bytes_of encoding sizes.Address = address_bytes encoding
 bytes_of encoding sizes.Offset = Some (offset_size encoding.format)
 bytes_of encoding sizes.AddressOrOffset =
-    if encoding.version == 2 then address_bytes encoding else Some (offset_size encoding.format)
+    if is_2 encoding.version then address_bytes encoding else Some (offset_size encoding.format)
 bytes_of encoding _ = None
 
 -- the bytes of an attribute's value, where its form alone says so
@@ -61,7 +63,7 @@ attribute_size encoding x = bytes_of encoding (value_size_of x)
 -- the bytes of a number of addresses or of offsets, by the version
 abbrev pub address_or_offset_bytes : Encoding → ℕ
 address_or_offset_bytes encoding =
-    if encoding.version == 2 then encoding.address_size else offset_size encoding.format
+    if is_2 encoding.version then encoding.address_size else offset_size encoding.format
 
 -- the bytes of so many bytes, addresses and offsets in a unit of an encoding
 abbrev pub counted_bytes : Encoding → CountedSize → ℕ
@@ -69,10 +71,12 @@ counted_bytes encoding t =
     t.bytes + t.addresses * encoding.address_size + t.offsets * offset_size encoding.format
     + t.addresses_or_offsets * address_or_offset_bytes encoding
 
--- whether an encoding is that of a usual unit: addresses of eight bytes, 32-bit DWARF, past version 2
+-- whether an encoding is that of a usual unit: addresses of eight bytes, 32-bit DWARF, past version
+-- 2
 abbrev pub is_usual : Encoding → Bool
 is_usual encoding =
-    (encoding.address_size == 8) && nat_lt 2 encoding.version && (offset_size encoding.format == 4)
+    (encoding.address_size == 8) && nat_lt DWARF_2 encoding.version
+    && (offset_size encoding.format == 4)
 
 -- the bytes that a total comes to in a unit of an encoding
 abbrev pub total_bytes : Encoding → TotalSize → ℕ

@@ -4,7 +4,7 @@ ghost use Rattle.std.specs.Prelude.{◌≡◌, ◌≢◌, ◌<◌, ◌+◌, ◌^
 ghost use Rattle.std.specs.List.{slice_get};
 ghost use Rattle.std.specs.Ordering.{nat_cmp};
 ghost use Rattle.std.specs.BTreeMap.{get};
-ghost use Rattle.gimli_read.specs.Reading.{ExactlyUnlessOomIf, Reads};
+ghost use Rattle.gimli_read.specs.Reading.{ExactlyUnlessOomIf, Reads, ReadsUnlessOomIf};
 ghost use Rattle.gimli_read.specs.Abbreviations.{with_code};
 ghost use Rattle.gimli_read.specs.AbbreviationPlaces.{if_coded, IsSameApart};
 ghost use Rattle.gimli_read.specs.declared.error.Error.TheVariants.{OutOfMemory};
@@ -275,8 +275,8 @@ fn read_declaration<R: Reader>(
     input: &mut R,
     code: u64,
 ) -> Result<Abbreviation, Error>
-    ensures gives { ExactlyUnlessOomIf (is_ok (head_and_pair_at (R.section input.old)))
-        (λ a. (a, R.section input.new)) result (declaration_at code (R.section input.old)) }
+    ensures gives { ReadsUnlessOomIf (is_ok (head_and_pair_at (R.section input.old)))
+        R.section input.old input.new result (declaration_at code) }
 {
     let (tag, has_children) = read_head(input)?;
     let attributes = read_specifications(alloc, input)?;
@@ -371,9 +371,8 @@ impl Abbreviations {
         alloc: Global,
         input: &mut R,
     ) -> Result<Option<Abbreviation>, Error>
-        ensures gives { ExactlyUnlessOomIf (takes_memory (R.section input.old))
-            (λ a. (a, R.section input.new)) result
-            (abbreviation_at self.now (R.section input.old)) }
+        ensures gives { ReadsUnlessOomIf (takes_memory (R.section input.old))
+            R.section input.old input.new result (abbreviation_at self.now) }
     {
         if input.is_empty() {
             return Ok(None);

@@ -1,5 +1,5 @@
-//! Constants of DWARF (DWARF 5, sections 7.5.3 to 7.5.6 and 7.12), by the names of the standard, where
-//! it has one.
+//! Constants of DWARF (DWARF 5, sections 7.5.3 to 7.5.6 and 7.12), by the names of the standard,
+//! where it has one.
 
 ghost use Rattle.std.specs.Prelude.{◌≡◌};
 ghost use Rattle.gimli_read.specs.StringForm.{is_string_form};
@@ -20,6 +20,15 @@ pub struct DwForm(pub u64);
 #[derive(Clone, Copy, Debug, PartialEq, Eq)]
 pub struct DwLang(pub u16);
 
+/// The least version of the standard that is read.
+pub const DWARF_2: u16 = 2;
+
+/// Version 4 of the standard.
+pub const DWARF_4: u16 = 4;
+
+/// The greatest version of the standard that is read.
+pub const DWARF_5: u16 = 5;
+
 /// From this one on, the lengths of four bytes that a unit may begin with are reserved (DWARF 5,
 /// section 7.4).
 pub(crate) const FIRST_RESERVED_LENGTH: u32 = 0xffff_fff0;
@@ -27,8 +36,8 @@ pub(crate) const FIRST_RESERVED_LENGTH: u32 = 0xffff_fff0;
 /// The length of four bytes that one of eight bytes follows (DWARF 5, section 7.4).
 pub(crate) const LENGTH_ESCAPE: u32 = 0xffff_ffff;
 
-/// The code of a closing entry, which no abbreviation has, and with which a table of abbreviations ends
-/// (DWARF 5, section 7.5.3). The standard has no name for it.
+/// The code of a closing entry, which no abbreviation has, and with which a table of abbreviations
+/// ends (DWARF 5, section 7.5.3). The standard has no name for it.
 pub const CLOSING_CODE: u64 = 0;
 
 /// The entries of an abbreviation have no children (DWARF 5, section 7.5.3).
@@ -57,8 +66,8 @@ impl DwTag {
 
 #[allow(non_upper_case_globals)]
 impl DwAt {
-    // The name in the pair with which the attributes of an abbreviation end. The standard has no name
-    // for it.
+    // The name in the pair with which the attributes of an abbreviation end. The standard has no
+    // name for it.
     pub(crate) const DW_AT_null: DwAt = DwAt(0x00);
 
     pub const DW_AT_name: DwAt = DwAt(0x03);
@@ -108,8 +117,8 @@ impl DwAt {
 
 #[allow(non_upper_case_globals)]
 impl DwForm {
-    // The form in the pair with which the attributes of an abbreviation end. The standard has no name
-    // for it.
+    // The form in the pair with which the attributes of an abbreviation end. The standard has no
+    // name for it.
     pub(crate) const DW_FORM_null: DwForm = DwForm(0x00);
 
     pub const DW_FORM_addr: DwForm = DwForm(0x01);

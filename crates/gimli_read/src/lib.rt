@@ -16,14 +16,14 @@ mod skip;
 mod value;
 
 pub use crate::abbrev::{Abbreviation, Abbreviations, AttributeSpecification};
-pub use crate::constants::{CLOSING_CODE, DwAt, DwForm, DwLang, DwTag};
+pub use crate::constants::{CLOSING_CODE, DWARF_2, DWARF_4, DWARF_5, DwAt, DwForm, DwLang, DwTag};
 pub use crate::endian::{Encoding, Format, RunTimeEndian};
 pub use crate::endian_bytes::EndianBytes;
 pub use crate::endian_slice::EndianSlice;
 pub use crate::error::Error;
 pub use crate::laws::{alike_laws, leb128_laws, sharing_laws, size_laws, value_laws};
 pub use crate::range::Range;
-pub use crate::reader::{Reader, read_initial_length, zero_of};
+pub use crate::reader::{Reader, read_address_size, read_initial_length, zero_of};
 pub use crate::size::is_address_size;
 pub use crate::skip::{skip_attribute, skip_attributes, skip_attributes_of};
 pub use crate::value::{

@@ -1,19 +1,20 @@
 //! Reading from the front of a section.
 
-ghost use Rattle.std.specs.Prelude.{◌≡◌, ◌==◌, length, is_ok, IfOk, IfErr, OnErr, IsOk, Ok};
+ghost use Rattle.std.specs.Prelude.{◌≡◌, ◌==◌, true, length, is_ok, IfOk, IfErr, OnErr, IsOk, Ok};
 ghost use Rattle.std.specs.List.{position};
 ghost use Rattle.std.specs.Str.{IsUtf8};
 ghost use Rattle.std.specs.Cow.{cow_str_bytes};
 ghost use Rattle.gimli_read.specs.declared.error.Error.TheVariants.{OutOfMemory};
 ghost use Rattle.gimli_read.specs.Text.{lossy_text};
 ghost use Rattle.gimli_read.specs.Reading.{ExactlyUnlessOomFor, Reads, ReadsPartUnlessOom};
-ghost use Rattle.gimli_read.specs.Number.{fixed_at, address_at, offset_at, skipped_at, split_at, signed_byte_at, null_terminated_at, initial_length_at};
+ghost use Rattle.gimli_read.specs.Number.{fixed_at, is_address_size, address_at, address_size_at, offset_at, skipped_at, split_at, signed_byte_at, null_terminated_at, initial_length_at};
 ghost use Rattle.gimli_read.specs.Leb128.{uleb128_at, sleb128_at};
 
 use crate::constants::{FIRST_RESERVED_LENGTH, LENGTH_ESCAPE};
 use crate::endian::{Format, RunTimeEndian};
 use crate::error::Error;
 use crate::leb128;
+use crate::size::is_address_size;
 use bstr::ByteSlice;
 use byteorder::{BigEndian, ByteOrder, LittleEndian};
 use std::alloc::Global;
@@ -259,6 +260,22 @@ pub fn read_initial_length<R: Reader>(input: &mut R) -> Result<(u64, Format), Er
         LENGTH_ESCAPE => Ok((input.read_u64()?, Format::Dwarf64)),
         _ => Err(Error::UnknownReservedLength),
     }
+}
+
+/// Reads an address size, in bytes (DWARF 5, section 7.5.1). Takes no memory.
+///
+/// Refused `UnexpectedEof` where no byte is left, and `UnsupportedAddressSize` for a size other than
+/// 1, 2, 4 and 8. After a refusal the reader may stand anywhere.
+#[tactic(auto, unfolding(crate::specs::Number::address_size_at))]
+pub fn read_address_size<R: Reader>(input: &mut R) -> Result<u8, Error>
+    ensures gives { Reads R.section input.old input.new result address_size_at }
+    ensures known { IfOk result (λ size. is_address_size size ≡ true) }
+{
+    let size = input.read_u8()?;
+    if !is_address_size(size) {
+        return Err(Error::UnsupportedAddressSize);
+    }
+    Ok(size)
 }
 
 /// The place of the first zero byte. Takes no memory.

@@ -5,7 +5,7 @@ ghost use Rattle.gimli_read.specs.FormEncoding.{form_encoding_of};
 ghost use Rattle.gimli_read.specs.Number.{is_address_size};
 ghost use Rattle.gimli_read.specs.ValueSize.{encoded_size, address_bytes, bytes_of, counted_bytes, no_size, is_usual, total_bytes, AddsCounted, AddsSize};
 
-use crate::constants::DwForm;
+use crate::constants::{DWARF_2, DWARF_5, DwForm};
 use crate::endian::{Encoding, Format};
 
 /// What says how many bytes a value has (DWARF 5, section 7.5.6).
@@ -33,7 +33,7 @@ pub enum ValueSize {
 const USUAL: Encoding = Encoding {
     address_size: 8,
     format: Format::Dwarf32,
-    version: 5,
+    version: DWARF_5,
 };
 
 // What says how many bytes a value of a form has. DW_FORM_implicit_const has none in an entry.
@@ -114,7 +114,7 @@ impl ValueSize {
             ValueSize::Address => address_bytes(encoding),
             ValueSize::Offset => Some(encoding.format.word_size()),
             ValueSize::AddressOrOffset => {
-                if encoding.version == 2 {
+                if encoding.version == DWARF_2 {
                     address_bytes(encoding)
                 } else {
                     Some(encoding.format.word_size())
@@ -131,7 +131,7 @@ impl ValueSize {
 pub(crate) fn is_usual(encoding: Encoding) -> bool
     ensures gives { result ≡ is_usual encoding }
 {
-    encoding.address_size == 8 && encoding.version > 2 && encoding.format.word_size() == 4
+    encoding.address_size == 8 && encoding.version > DWARF_2 && encoding.format.word_size() == 4
 }
 
 // The bytes, addresses and offsets of values.
@@ -173,7 +173,7 @@ impl CountedSize {
     {
         let address = u64::from(encoding.address_size);
         let offset = u64::from(encoding.format.word_size());
-        let either = if encoding.version == 2 {
+        let either = if encoding.version == DWARF_2 {
             address
         } else {
             offset

@@ -9,7 +9,7 @@ ghost use Rattle.gimli_read.specs.EncodedValue.{address_or_offset_at, encoded_at
 ghost use Rattle.gimli_read.specs.Form.{seen_value, direct_at, form_at, value_at, attribute_at, constant_of};
 
 use crate::abbrev::AttributeSpecification;
-use crate::constants::{DwAt, DwForm};
+use crate::constants::{DWARF_2, DwAt, DwForm};
 use crate::endian::{Encoding, RunTimeEndian};
 use crate::error::Error;
 use crate::reader::Reader;
@@ -133,7 +133,7 @@ fn read_ref_addr<R: Reader>(input: &mut R, encoding: Encoding) -> Result<u64, Er
     ensures gives { Reads R.section input.old input.new result (address_or_offset_at encoding) }
     ensures refused { OnErr result (R.section input.new ≡ R.section input.old) }
 {
-    if encoding.version == 2 {
+    if encoding.version == DWARF_2 {
         input.read_address(encoding.address_size)
     } else {
         input.read_offset(encoding.format)
@@ -299,8 +299,8 @@ fn read_block_form<R: Reader>(
 }
 
 // A value of a form other than indirect and implicit_const: of a form of addresses; another form is
-// left to `read_block_form`. The classes of forms have a function each, since the proof of one match
-// grows faster than its arms.
+// left to `read_block_form`. The classes of forms have a function each, since the proof of one
+// match grows faster than its arms.
 #[tactic(auto, unfolding(crate::specs::FormEncoding::form_encoding_of))]
 fn read_direct<R: Reader>(
     input: &mut R,

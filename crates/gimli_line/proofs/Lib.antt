@@ -6,5 +6,6 @@ pub mod Stepping
 pub mod ClosedForm
 pub mod RowsLeft
 pub mod TableLemmas
+pub mod ProgramLemmas
 pub mod AheadLemmas
 pub mod Rising

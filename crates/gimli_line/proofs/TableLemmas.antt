@@ -1,14 +1,18 @@
 -- Values of entries, one by one, and copies (on specs/Tables.antt).
-use Rattle.std.proofs.Common.{◌≡◌, ℕ, ◌+◌, ◌<◌, ◌≤◌, List, [], ◌∷◌, ◌++◌, length, map, take, drop, get_or, Ok, Err, refl, sym, ap, ◌∙◌, arith}
+use Rattle.std.proofs.Common.{◌≡◌, ◌⊎◌, inl, inr, ℕ, ◌+◌, ◌<◌, ◌≤◌, ◌==◌, ◌&&◌, ◌||◌, not, Bool, true, false, is_ok, Option, Some, List, [], ◌∷◌, ◌++◌, length, map, take, drop, get_or, Ok, Err, refl, sym, ap, ◌∙◌, arith}
+use Rattle.std.proofs.lemmas.Bool.{ne_eqb, or_right}
 use Rattle.std.proofs.lemmas.List.{take_more, drop_more, drop_all, get_or-map, length-map}
 use Rattle.gimli_read.specs.declared.endian.Encoding.{Encoding}
 use Rattle.gimli_read.specs.declared.error.Error.{Error}
 use Rattle.gimli_read.specs.declared.value.AttributeValue.{AttributeValue}
 use Rattle.gimli_read.specs.Section.{Section}
-use Rattle.gimli_read.specs.Reading.{◌>>=◌}
+use Rattle.gimli_read.specs.Reading.{Reading, ◌>>=◌}
 use Rattle.gimli_read.specs.Form.{value_at}
 use Rattle.gimli_line.specs.declared.entry_tables.EntryFormat.{EntryFormat}
-use Rattle.gimli_line.specs.EntryTables.{EntryValues, with_value, values_at}
+use Rattle.gimli_line.specs.EntryTables.{EntryValues, with_value, values_at, entry_table_at}
+use Rattle.gimli_line.specs.Tables.{new_tables_at}
+use Rattle.gimli_line.specs.Header.{File}
+use Rattle.gimli_line.specs.TableMemory.{gives_one, gives_first, takes_after, entry_table_takes, new_tables_take}
 
 values_step : (e : Encoding) (f : EntryFormat) (fs : List EntryFormat) (entry : EntryValues) (s : Section) → values_at e (f ∷ fs) entry s ≡ (value_at e f.form.0 s >>= λ x. values_at e fs (with_value f.content_type x.0 entry) x.1)
 unfolding values_at
@@ -42,3 +46,32 @@ copied_more f ys xs i x y h is before same =
     let at : get_or (map f xs) i (f x) ≡ y = get_or-map f xs i x (f x) h ∙ ap f (sym is) ∙ same in
     let k : i < length (map f xs) = omega (arith, h, length-map xs f) in
     ap (λ z. z ++ y ∷ []) before ∙ ap (λ z. take i (map f xs) ++ z ∷ []) (sym at) ∙ sym (take_more (map f xs) i (f x) k)
+
+-- a step that gives one is the first, or comes after it
+abbrev pub IsGivenOne : {A : Type 0} → (Section → Reading (Option A)) → Section → Section → Type 0
+IsGivenOne first start now = (now ≡ start) ⊎ (gives_one (first start) ≡ true)
+
+pub one_given : {A : Type 0} (first : Section → Reading (Option A)) (start now t : Section) (x : A) → IsGivenOne first start now → first now ≡ Ok (Some x, t) → gives_one (first start) ≡ true
+one_given first start now t x (inl e) h = ap (λ s. gives_one (first s)) (sym e) ∙ ap gives_one h
+one_given first start now t x (inr k) h = k
+
+-- the first of some things
+pub first_given : {A : Type 0} (part : Section → Reading A) (i n : ℕ) (s : Section) → i < n → is_ok (part s) ≡ true → gives_first part n s ≡ true
+first_given part i n s h k =
+    let some : (n == 0) ≡ false = ne_eqb n 0 (λ e. absurd (omega (arith, h, e))) in
+    ap (λ b. not b && is_ok (part s)) some ∙ k
+
+or_more : (a b c : Bool) → (b ≡ true → c ≡ true) → (a || b) ≡ true → (a || c) ≡ true
+or_more true b c f h = refl
+or_more false b c f h = f h
+
+-- memory for the second table of version 5 is memory for both
+pub second_takes : (shares : Bool) (e : Encoding) (s t : Section) (x : List File) → entry_table_at e s ≡ Ok (x, t) → (shares || entry_table_takes e t) ≡ true → (shares || new_tables_take e s) ≡ true
+second_takes shares e s t x h k =
+    or_more shares (entry_table_takes e t) (new_tables_take e s)
+    (λ m. or_right _ _ (ap (λ r. takes_after r (λ y. not (length y.0 == 0) || entry_table_takes e y.1)) h ∙ or_right _ _ m)) k
+
+-- a fault of the second table
+pub second_fault : (e : Encoding) (s t : Section) (x : List File) (d : Error) → entry_table_at e s ≡ Ok (x, t) → entry_table_at e t ≡ Err d → new_tables_at e s ≡ Err d
+unfolding new_tables_at
+second_fault e s t x d h k = rw (h, k) refl

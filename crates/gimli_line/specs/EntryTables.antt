@@ -86,10 +86,21 @@ entry_at e formats s = do
   file ← filed entry.0.path_name entry.0.directory_index
   Ok (file, entry.1)
 
--- formats, a count, and as many entries
-unfoldable pub entry_table_at : Encoding → Section → Reading (List File)
-entry_table_at e s = do
+-- what stands before the entries of a table: what the values of each are, and how many there are
+pub record EntryFront : Type 0 where
+  pub formats : List EntryFormat
+  pub count : ℕ
+
+-- the same, read
+unfoldable pub entry_front_at : Section → Reading EntryFront
+entry_front_at s = do
   formats ← formats_at s
   count ← uleb128_at formats.1
   sound ← refused_if (not (count.0 == 0) && not (is_sound_format formats.0)) BadLineHeader
-  times (entry_at e formats.0) count.0 count.1
+  Ok (record { formats = formats.0; count = count.0 }, count.1)
+
+-- formats, a count, and as many entries
+unfoldable pub entry_table_at : Encoding → Section → Reading (List File)
+entry_table_at e s = do
+  front ← entry_front_at s
+  times (entry_at e front.0.formats) front.0.count front.1

@@ -5,6 +5,7 @@ pub mod Opcode
 pub mod EntryTables
 pub mod Tables
 pub mod Program
+pub mod TableMemory
 pub mod Rows
 pub mod Ahead
 pub mod Lines

@@ -1,9 +1,10 @@
 //! The tables of version 5: entries whose values a format lists.
 
-ghost use Rattle.std.specs.Prelude.{◌≡◌, ◌==◌, ◌&&◌, not, count_by, map, Ok};
-ghost use Rattle.gimli_read.specs.Reading.{ExactlyUnlessOom, ReadsUnlessOomIf, Reads};
+ghost use Rattle.std.specs.Prelude.{◌≡◌, ◌==◌, ◌&&◌, ◌||◌, not, count_by, length, map, Ok};
+ghost use Rattle.gimli_read.specs.Reading.{ExactlyUnlessOomIf, ReadsUnlessOomIf, Reads};
 ghost use Rattle.gimli_read.specs.Form.{seen_value};
-ghost use Rattle.gimli_line.specs.EntryTables.{times, format_at, formats_at, is_path, is_bad_path, is_sound_format, no_entry, with_value, values_at, entry_at, entry_table_at};
+ghost use Rattle.gimli_line.specs.EntryTables.{times, format_at, formats_at, is_path, is_bad_path, is_sound_format, no_entry, with_value, values_at, entry_at, entry_front_at, entry_table_at};
+ghost use Rattle.gimli_line.specs.TableMemory.{gives_first, formats_take, entry_table_takes};
 
 use crate::constants::{DW_LNCT_directory_index, DW_LNCT_path};
 use crate::header::FileEntry;
@@ -58,7 +59,8 @@ fn read_times_format<R: Reader>(
     count: u8,
     input: &mut R,
 ) -> Result<Vec<EntryFormat>, Error>
-    ensures gives { ExactlyUnlessOom (λ v. (v.items, R.section input.new)) result
+    ensures gives { ExactlyUnlessOomIf (gives_first format_at count (R.section input.old))
+        (λ v. (v.items, R.section input.new)) result
         (times format_at count (R.section input.old)) }
 {
     let mut formats = Vec::new(alloc);
@@ -71,8 +73,8 @@ fn read_times_format<R: Reader>(
 // Reads a count, and as many formats.
 #[tactic(auto, unfolding(crate::specs::EntryTables::formats_at))]
 fn read_formats<R: Reader>(alloc: Global, input: &mut R) -> Result<Vec<EntryFormat>, Error>
-    ensures gives { ExactlyUnlessOom (λ v. (v.items, R.section input.new)) result
-        (formats_at (R.section input.old)) }
+    ensures gives { ExactlyUnlessOomIf (formats_take (R.section input.old))
+        (λ v. (v.items, R.section input.new)) result (formats_at (R.section input.old)) }
 {
     let count = input.read_u8()?;
     read_times_format(alloc, count, input)
@@ -172,7 +174,9 @@ fn read_entries<R: Reader>(
     count: u64,
     input: &mut R,
 ) -> Result<Vec<FileEntry<R>>, Error>
-    ensures gives { ExactlyUnlessOom (λ v. (v.items, R.section input.new)) result
+    ensures gives { ExactlyUnlessOomIf
+        (R.shares || gives_first (entry_at encoding formats.now) count (R.section input.old))
+        (λ v. (v.items, R.section input.new)) result
         (times (entry_at encoding formats.now) count (R.section input.old)) }
 {
     let mut files = Vec::new(alloc);
@@ -182,30 +186,45 @@ fn read_entries<R: Reader>(
     Ok(files)
 }
 
-/// Reads a table of version 5: directories or files.
-#[tactic(auto, unfolding(crate::specs::EntryTables::entry_table_at))]
-pub(crate) fn read_table<R: Reader>(
-    alloc: Global,
-    encoding: Encoding,
-    input: &mut R,
-) -> Result<Vec<FileEntry<R>>, Error>
-    ensures gives { ExactlyUnlessOom (λ v. (v.items, R.section input.new)) result
-        (entry_table_at encoding (R.section input.old)) }
+// What stands before the entries of a table: what the values of each are, and how many there are.
+#[tactic(auto, unfolding(crate::specs::EntryTables::entry_front_at))]
+fn read_front<R: Reader>(alloc: Global, input: &mut R) -> Result<(Vec<EntryFormat>, u64), Error>
+    ensures gives { ExactlyUnlessOomIf (formats_take (R.section input.old))
+        (λ x. (record { formats = x.0.items; count = x.1 }, R.section input.new)) result
+        (entry_front_at (R.section input.old)) }
 {
     let formats = read_formats(alloc, input)?;
     let count = input.read_uleb128()?;
     if count != 0 && !is_sound(&formats) {
         return Err(Error::BadLineHeader);
     }
+    Ok((formats, count))
+}
+
+/// Reads a table of version 5: directories or files. Takes memory only where bytes are shared, or
+/// the table has a format or an entry.
+#[tactic(auto, unfolding(crate::specs::EntryTables::entry_table_at))]
+pub(crate) fn read_table<R: Reader>(
+    alloc: Global,
+    encoding: Encoding,
+    input: &mut R,
+) -> Result<Vec<FileEntry<R>>, Error>
+    ensures gives { ExactlyUnlessOomIf
+        (R.shares || entry_table_takes encoding (R.section input.old))
+        (λ v. (v.items, R.section input.new)) result
+        (entry_table_at encoding (R.section input.old)) }
+{
+    let (formats, count) = read_front(alloc, input)?;
     read_entries(alloc, encoding, &formats, count, input)
 }
 
-/// The paths of entries.
+/// The paths of entries. Takes memory only where there is an entry.
 pub(crate) fn paths_of<R: Reader>(
     alloc: Global,
     entries: Vec<FileEntry<R>>,
 ) -> Result<Vec<AttributeValue<R>>, Error>
-    ensures gives { ExactlyUnlessOom (λ v. map (seen_value R.section) v.items) result
+    ensures gives { ExactlyUnlessOomIf (not (length entries.items == 0))
+        (λ v. map (seen_value R.section) v.items) result
         (Ok (map (λ f. f.path_name) entries.items)) }
 {
     let mut paths = Vec::new(alloc);

@@ -1,9 +1,10 @@
 //! Reading the header of a line program.
 
-ghost use Rattle.std.specs.Prelude.{◌≡◌, ◌<◌, true, is_ok, IfOk};
+ghost use Rattle.std.specs.Prelude.{◌≡◌, ◌<◌, true, IfOk};
 ghost use Rattle.gimli_read.specs.Reading.{Exactly, ExactlyUnlessOomIf, Reads, fault_of};
 ghost use Rattle.gimli_read.specs.Number.{is_address_size};
 ghost use Rattle.gimli_line.specs.Program.{program_address_size_at, nonzero_at, operations_at, numbers_at, unit_fields_at, line_header_fields_at, line_program_at};
+ghost use Rattle.gimli_line.specs.TableMemory.{line_program_takes_memory};
 
 use crate::encoding::LineEncoding;
 use crate::header::LineProgramHeader;
@@ -176,8 +177,8 @@ fn check_header_fields(unit_size: u8, bytes: &[u8], endian: RunTimeEndian) -> Re
 /// its numbers, `UnknownReservedLength`, `UnknownVersion` (known are 2 to 5),
 /// `UnsupportedAddressSize`, `UnsupportedSegmentSize`, `BadLineHeader` for a zero that may not be
 /// and for a faulty format of a table, and `UnknownForm`. May fail with `OutOfMemory` instead where
-/// all fields before the tables are sound: a fault of theirs takes no memory. Source: DWARF 5,
-/// section 6.2.4.
+/// all fields before the tables are sound, and bytes are shared or a directory, a file or a format
+/// of the tables can be read. Source: DWARF 5, section 6.2.4.
 #[tactic(auto, unfolding(crate::specs::Program::line_program_at))]
 pub fn read_line_program<R: Reader>(
     alloc: Global,
@@ -185,7 +186,7 @@ pub fn read_line_program<R: Reader>(
     address_size: u8,
 ) -> Result<IncompleteLineProgram<R>, Error>
     ensures gives { ExactlyUnlessOomIf
-        (is_ok (line_header_fields_at address_size (R.section input)))
+        (line_program_takes_memory R.shares address_size (R.section input))
         (λ p. p) result (line_program_at address_size (R.section input)) }
 {
     // A part of shared bytes takes memory, so the fields are looked at in borrowed bytes first.

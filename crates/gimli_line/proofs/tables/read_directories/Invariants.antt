@@ -2,10 +2,16 @@ use Rattle.std.proofs.Common.{◌≡◌, map, length}
 use Rattle.gimli_read.specs.Run.{run_of, collected, with_front}
 use Rattle.gimli_read.specs.Form.{seen_value}
 use Rattle.gimli_line.specs.Tables.{directory_at}
+use Rattle.gimli_line.proofs.TableLemmas.{IsGivenOne}
 use Rattle.gimli_line.proofs.tables.read_directories.Given as goal
 
 abbrev pub invariant-loop-directories : goal.invariant-loop-directories
-invariant-loop-directories g l = with_front (map (seen_value g.R.Reader.section) l.directories.items) (collected (run_of directory_at (g.R.Reader.section l.input))) ≡ collected (run_of directory_at (g.R.Reader.section l.fn.input))
+invariant-loop-directories g l =
+    let see = g.R.Reader.section in
+    record {
+      gives : with_front (map (seen_value see) l.directories.items) (collected (run_of directory_at (see l.input))) ≡ collected (run_of directory_at (see l.fn.input));
+      begun : IsGivenOne directory_at (see l.fn.input) (see l.input);
+    }
 
 abbrev pub decreases-loop-directories : goal.decreases-loop-directories
 decreases-loop-directories g l = length (g.R.Reader.section l.input).bytes

@@ -15,7 +15,8 @@ use Rattle.addr2line_lines.specs.declared.picks.InlinedFunctionAddress.{InlinedF
 use Rattle.addr2line_lines.specs.Details.{Detail, detail_at}
 use Rattle.addr2line_lines.specs.InlinedEntries.{InlinedEntry, InlinedRange}
 use Rattle.addr2line_lines.specs.InlinedChain.{inlined_chain}
-use Rattle.addr2line_lines.specs.FoundInlined.{FoundInlined, IsFoundMore, IsGrown, entry_among, first_found, range_among}
+use Rattle.addr2line_lines.specs.FoundInlined.{FoundInlined, IsFoundMore, entry_among, first_found, range_among}
+use Rattle.addr2line_lines.specs.Grown.{IsGrown}
 use Rattle.addr2line_lines.specs.FoundDetails.{detail_found_at}
 use Rattle.addr2line_lines.specs.InlinedOrder.{inlined_sooner, place, place_begin, place_end, places_chain, places_of_depth, places_within}
 use Rattle.addr2line_lines.specs.InOrder.{IsInOrder, in_order}

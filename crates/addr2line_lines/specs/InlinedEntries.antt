@@ -15,15 +15,10 @@ use Rattle.gimli_read.specs.Reading.{◌>>=◌}
 use Rattle.gimli_read.specs.Section.{Section}
 use Rattle.gimli.specs.Unit.{UnitRecord}
 use Rattle.addr2line_lines.specs.declared.function.RangeAttributes.{RangeAttributes}
+use Rattle.addr2line_lines.specs.declared.inlined.CallSite.{CallSite}
 use Rattle.addr2line_lines.specs.Names.{with_name}
 use Rattle.addr2line_lines.specs.RangeAttributes.{no_range_attributes, with_range_attribute}
 use Rattle.addr2line_lines.specs.References.{Scope}
-
--- where a function was called that is inlined: the index of the file, the line and the column
-pub record CallSite : Type 0 where
-  pub file : Option ℕ
-  pub line : ℕ
-  pub column : ℕ
 
 -- an inlined entry: where it begins, in bytes from the start of the unit's length, its name, and
 -- where it was called
@@ -44,10 +39,11 @@ pub record InlinedAttributes : Type 0 where
   pub name : Option Section
   pub call : CallSite
 
--- before the first attribute
+-- no call, before the first attribute
 abbrev pub no_call : CallSite
 no_call = record { file = None; line = 0; column = 0 }
 
+-- before the first attribute
 abbrev pub no_inlined_attributes : InlinedAttributes
 no_inlined_attributes = record { ranges = no_range_attributes; name = None; call = no_call }
 

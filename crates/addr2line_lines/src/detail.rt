@@ -6,8 +6,9 @@ ghost use Rattle.gimli_read.specs.Reading.{ExactlyUnlessOomIf};
 ghost use Rattle.gimli.specs.Entry.{attributes_at};
 ghost use Rattle.gimli.specs.Items.{next_item_at};
 ghost use Rattle.addr2line_lines.specs.FoundInlined.{IsFoundMore, entry_found_at, read_lists_a_range, seen_lists};
-ghost use Rattle.addr2line_lines.specs.FoundAttributes.{IsTakenIn, name_after, with_read_name};
-ghost use Rattle.addr2line_lines.specs.FoundDetails.{detail_found_at, detail_takes_at, function_found_at, function_takes_at, is_taken};
+ghost use Rattle.addr2line_lines.specs.FoundAttributes.{IsTakenIn};
+ghost use Rattle.addr2line_lines.specs.FoundNames.{with_read_name, name_after};
+ghost use Rattle.addr2line_lines.specs.FoundDetails.{detail_found_at, detail_takes_memory_at, function_found_at, function_takes_memory_at, is_memory_taken};
 ghost use Rattle.addr2line_lines.specs.FoundItems.{inside_found, inside_takes_memory, item_found_at, next_takes_memory, seen_around};
 ghost use Rattle.addr2line_lines.specs.References.{IsScope};
 ghost use Rattle.addr2line_lines.specs.SeenScope.{seen_scope};
@@ -175,7 +176,7 @@ fn read_function<R: Reader>(
 ) -> Result<Option<R>, Error>
     requires in_order { IsScope (seen_scope scope) }
     requires encoding { entries.old.unit.encoding ≡ unit.now.header.encoding }
-    ensures gives { ExactlyUnlessOomIf (R.shares || is_taken (function_takes_at
+    ensures gives { ExactlyUnlessOomIf (R.shares || is_memory_taken (function_takes_memory_at
         (seen_scope scope.entry) unit.now entries.old.unit entries.old.cursor
         (seen_lists R.section found.old) abbreviation.now))
         (λ name. (option_map R.section name, seen_lists R.section found.new)) result
@@ -198,8 +199,8 @@ pub(crate) fn read_detail<R: Reader>(
 ) -> Result<Option<R>, Error>
     requires in_order { IsScope (seen_scope scope) }
     ensures gives { ExactlyUnlessOomIf
-        (R.shares || is_taken (detail_takes_at (seen_scope scope.entry) unit.now offset.0
-        (seen_lists R.section found.old)))
+        (R.shares || is_memory_taken (detail_takes_memory_at (seen_scope scope.entry) unit.now
+        offset.0 (seen_lists R.section found.old)))
         (λ name. (option_map R.section name, seen_lists R.section found.new)) result
         (detail_found_at (seen_scope scope.entry) unit.now offset.0
         (seen_lists R.section found.old)) }

@@ -7,7 +7,8 @@ ghost use Rattle.gimli_read.specs.Form.{attribute_at, rest_of};
 ghost use Rattle.gimli_read.specs.Reading.{ExactlyUnlessOomIf};
 ghost use Rattle.gimli.specs.Entry.{attributes_at};
 ghost use Rattle.addr2line_lines.specs.InlinedEntries.{counted_file, low_bits, no_call, no_inlined_attributes, with_call, with_inlined_attribute};
-ghost use Rattle.addr2line_lines.specs.FoundAttributes.{HasNoWanted, IsReadIf, IsSplitAtWanted, IsTakenIn, inlined_attributes_after, is_call, is_range_name, is_wanted, is_wanted_specification, or_fault, seen_attributes, seen_call_site};
+ghost use Rattle.addr2line_lines.specs.FoundAttributes.{HasNoWanted, IsReadIf, IsSplitAtWanted, IsTakenIn, inlined_attributes_after, is_call, is_wanted, is_wanted_specification, or_fault, seen_attributes};
+ghost use Rattle.addr2line_lines.specs.FoundRanges.{is_range_name};
 ghost use Rattle.addr2line_lines.specs.References.{IsScope};
 ghost use Rattle.addr2line_lines.specs.SeenScope.{seen_scope};
 
@@ -64,7 +65,7 @@ fn low_bits(constant: Option<u64>) -> u32
 impl CallSite {
     // Before the first attribute.
     fn new() -> CallSite
-        ensures gives { seen_call_site result ≡ no_call }
+        ensures gives { result ≡ no_call }
     {
         CallSite {
             file: None,
@@ -86,8 +87,7 @@ impl CallSite {
 
     // Takes one more attribute in.
     fn take<R: Reader>(self, version: u16, attribute: &Attribute<R>) -> CallSite
-        ensures gives { seen_call_site result
-            ≡ with_call version (seen_call_site self) attribute.now }
+        ensures gives { result ≡ with_call version self attribute.now }
     {
         let constant = attribute.udata_value();
         match attribute.name() {

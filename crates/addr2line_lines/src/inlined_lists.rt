@@ -3,7 +3,8 @@
 ghost use Rattle.std.specs.Prelude.{◌≡◌};
 ghost use Rattle.gimli_read.specs.Reading.{ExactlyUnlessOomIf};
 ghost use Rattle.gimli.specs.Ranges.{ranges_at};
-ghost use Rattle.addr2line_lines.specs.FoundInlined.{IsFoundMore, IsGrown, first_found, none_inlined, seen_lists, with_inlined_found, with_inlined_list, with_inlined_ranges};
+ghost use Rattle.addr2line_lines.specs.FoundInlined.{IsFoundMore, first_found, none_inlined, seen_lists, with_inlined_found, with_inlined_list, with_inlined_ranges};
+ghost use Rattle.addr2line_lines.specs.Grown.{IsGrown};
 ghost use Rattle.addr2line_lines.specs.FoundAttributes.{seen_attributes};
 ghost use Rattle.addr2line_lines.specs.RangeAttributes.{begins_well, gives_a_range};
 

@@ -7,7 +7,7 @@ use Rattle.gimli_read.specs.Section.{Section}
 use Rattle.gimli.specs.Entry.{EntryCursor, EntryUnit}
 use Rattle.gimli.specs.Unit.{UnitRecord}
 use Rattle.addr2line_lines.specs.FoundInlined.{FoundInlined, seen_lists}
-use Rattle.addr2line_lines.specs.FoundDetails.{function_found_at, function_takes_at, is_taken}
+use Rattle.addr2line_lines.specs.FoundDetails.{function_found_at, function_takes_memory_at, is_memory_taken}
 use Rattle.addr2line_lines.specs.References.{Scope}
 use Rattle.addr2line_lines.specs.SeenScope.{seen_scope}
 use Rattle.addr2line_lines.proofs.FunctionLemmas.{or_first}
@@ -17,14 +17,14 @@ use Rattle.addr2line_lines.proofs.detail.read_detail.Goals as goal
 -- what is given of a function is given of its detail
 module _ {X : Type 0} (scope : Scope) (u : UnitRecord) (t : EntryCursor) (old : FoundInlined) (a : Abbrev) (shares : Bool) (view : X → Option Section × FoundInlined) (r : Result X Error) where
   abbrev Given : Result Bool Error → Result (Option Section × FoundInlined) Error → Type 0
-  Given takes whole = ExactlyUnlessOomIf (shares || is_taken takes) view r whole
+  Given takes whole = ExactlyUnlessOomIf (shares || is_memory_taken takes) view r whole
 
-  function_given : (now before : EntryUnit) (takes : Result Bool Error) (whole : Result (Option Section × FoundInlined) Error) → now ≡ before → takes ≡ function_takes_at scope u before t old a → whole ≡ function_found_at scope u before t old a
-      → Given (function_takes_at scope u now t old a) (function_found_at scope u now t old a) → Given takes whole
+  function_given : (now before : EntryUnit) (takes : Result Bool Error) (whole : Result (Option Section × FoundInlined) Error) → now ≡ before → takes ≡ function_takes_memory_at scope u before t old a → whole ≡ function_found_at scope u before t old a
+      → Given (function_takes_memory_at scope u now t old a) (function_found_at scope u now t old a) → Given takes whole
   function_given now before takes whole e k w h =
       subst (λ v. Given v whole) (sym k)
-      (subst (λ v. Given (function_takes_at scope u before t old a) v) (sym w)
-      (subst (λ (v : EntryUnit). Given (function_takes_at scope u v t old a) (function_found_at scope u v t old a)) e h))
+      (subst (λ v. Given (function_takes_memory_at scope u before t old a) v) (sym w)
+      (subst (λ (v : EntryUnit). Given (function_takes_memory_at scope u v t old a) (function_found_at scope u v t old a)) e h))
 
 pub returns-in_err-entries : goal.returns-in_err-entries
 returns-in_err-entries g c =

@@ -2,7 +2,8 @@ use Rattle.std.proofs.Common.{◌≡◌, refl, ◌++◌, ◌∷◌, [], ◌+◌,
 use Rattle.std.proofs.lemmas.List.{length-map, map-append}
 use Rattle.std.proofs.lemmas.Result.{err_from_is_err_and}
 use Rattle.addr2line_lines.specs.declared.details.FunctionDetail.{FunctionDetail}
-use Rattle.addr2line_lines.specs.FoundInlined.{FoundInlined, IsGrown, seen_inlined, seen_lists}
+use Rattle.addr2line_lines.specs.FoundInlined.{FoundInlined, seen_inlined, seen_lists}
+use Rattle.addr2line_lines.specs.Grown.{IsGrown}
 use Rattle.addr2line_lines.specs.CachedDetails.{CachedDetails, seen_details}
 use Rattle.addr2line_lines.specs.SeenScope.{seen_scope}
 use Rattle.addr2line_lines.proofs.DetailMemory.{detail_takes, found_takes}

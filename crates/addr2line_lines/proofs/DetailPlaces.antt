@@ -32,11 +32,6 @@ use Rattle.addr2line_lines.proofs.OrderLemmas.{All-in, in_order_all, in_order_or
 use Rattle.gimli_read.proofs.TopmostLemmas.{In, In-filter, In-last}
 use Rattle.addr2line_lines.proofs.SeekLemmas.{non_decreasing}
 
-pub map_take : {X Y : Type 0} (f : X → Y) (n : ℕ) (xs : List X) → map f (take n xs) ≡ take n (map f xs)
-map_take f zero xs = refl
-map_take f (suc n) [] = refl
-map_take f (suc n) (x ∷ xs) = ap (λ ys. f x ∷ ys) (map_take f n xs)
-
 pub last_name : {X Y : Type 0} (f : X → Y) (xs : List X) (x : X) (d : Y) → slice_index_or (map f (xs ++ x ∷ [])) (length xs) d ≡ f x
 last_name f [] x d = refl
 last_name f (y ∷ xs) x d = last_name f xs x d

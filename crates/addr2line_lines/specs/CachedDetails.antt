@@ -22,7 +22,7 @@ pub record CachedDetails : Type 0 where
 -- what is cached
 abbrev pub seen_details : {R : Type 0} → (R → Section) → Details R → CachedDetails
 seen_details see d =
-    record { names = map (option_map see) d.names.items; found = seen_lists see d.inlined }
+    record { names = map (option_map see) d.names.items; found = seen_lists d.inlined }
 
 -- the ranges of a place, in the order of their entries
 abbrev pub listed_ranges : FunctionDetail → List InlinedFunctionAddress

@@ -1,6 +1,6 @@
 -- The inlined entries of a function and their ranges as they are found, as the private functions
 -- see them.
-use Rattle.std.specs.Prelude.{ℕ, ◌<◌, ◌&&◌, Bool, false, List, [], ◌∷◌, ◌++◌, drop, map, length, slice_index_or, take, None, option_map, Result, Ok, Err, if◌then◌else◌, count_by}
+use Rattle.std.specs.Prelude.{ℕ, ◌<◌, ◌&&◌, Bool, false, List, [], ◌∷◌, ◌++◌, drop, map, length, slice_index_or, take, None, Result, Ok, Err, if◌then◌else◌, count_by}
 use Rattle.gimli_read.specs.declared.error.Error.{Error}
 use Rattle.gimli_read.specs.declared.range.Range.{Range}
 use Rattle.gimli_read.specs.Abbreviations.{Abbrev}
@@ -14,7 +14,6 @@ use Rattle.gimli.specs.Sections.{Sections}
 use Rattle.gimli.specs.Unit.{UnitRecord}
 use Rattle.addr2line_lines.specs.declared.inlined_lists.InlinedLists.{InlinedLists}
 use Rattle.addr2line_lines.specs.declared.function.RangeAttributes.{RangeAttributes}
-use Rattle.addr2line_lines.specs.declared.inlined.InlinedFunction.{InlinedFunction}
 use Rattle.addr2line_lines.specs.declared.picks.InlinedFunctionAddress.{InlinedFunctionAddress}
 use Rattle.addr2line_lines.specs.declared.nesting.Kind.{Kind}
 use Rattle.addr2line_lines.specs.Grown.{IsGrown}
@@ -39,18 +38,9 @@ abbrev pub first_found : ℕ → ℕ → FoundInlined → FoundInlined
 first_found functions ranges found =
     record { entries = take functions found.entries; ranges = take ranges found.ranges }
 
--- an inlined entry
-abbrev pub seen_inlined : {R : Type 0} → (R → Section) → InlinedFunction R → InlinedEntry
-seen_inlined see f = record {
-  offset = f.dw_die_offset.0;
-  name = option_map see f.name;
-  call = record { file = f.call_file; line = f.call_line; column = f.call_column };
-}
-
 -- what was found
-abbrev pub seen_lists : {R : Type 0} → (R → Section) → InlinedLists R → FoundInlined
-seen_lists see l =
-    record { entries = map (seen_inlined see) l.functions.items; ranges = l.ranges.items }
+abbrev pub seen_lists : {R : Type 0} → InlinedLists R → FoundInlined
+seen_lists l = record { entries = l.functions.items; ranges = l.ranges.items }
 
 -- no inlined entry
 abbrev pub no_inlined : InlinedEntry

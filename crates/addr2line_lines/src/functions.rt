@@ -5,7 +5,7 @@ ghost use Rattle.std.specs.Prelude.{◌≡◌, ◌≢◌, ◌<◌, ◌==◌, Err
 ghost use Rattle.gimli_read.specs.declared.error.Error.TheVariants.{OutOfMemory};
 ghost use Rattle.gimli_read.specs.Reading.{ExactlyUnlessOomIf};
 ghost use Rattle.addr2line_lines.specs.InlinedChain.{inlined_chain};
-ghost use Rattle.addr2line_lines.specs.FoundInlined.{entry_among, seen_inlined};
+ghost use Rattle.addr2line_lines.specs.FoundInlined.{entry_among};
 ghost use Rattle.addr2line_lines.specs.FoundRanges.{is_function};
 ghost use Rattle.addr2line_lines.specs.FunctionCache.{read_at};
 ghost use Rattle.addr2line_lines.specs.FunctionDetails.{AreCachedToFault, AreDetailsOf, AreUnread, HasDetail, IsReadAt, IsTableMore, details_fault, details_take_memory, read_fault, cached_takes_memory};
@@ -410,8 +410,7 @@ impl<R: Reader> Functions<R> {
     /// The inlined function of a place, as `find_inlined_functions` gives it; none past the last
     /// one. Takes no memory.
     pub fn inlined(&self, function: usize) -> Option<&InlinedFunction<R>>
-        ensures gives { option_map (λ r. seen_inlined R.section r.now) result
-            ≡ slice_get self.now.inlined function }
+        ensures gives { option_map (λ r. r.now) result ≡ slice_get self.now.inlined function }
     {
         self.details.inlined(function)
     }

@@ -17,6 +17,7 @@ use crate::name::{is_name_attribute, pass_over, take_name};
 use crate::references::Scope;
 use gimli::read::{Attribute, AttributeSpecification, DwAt, Error, Reader, UnitOffset};
 use gimli::{EntriesRaw, Unit, UnitRef};
+use std::marker::Model;
 
 /// Where a function was called that is inlined.
 #[derive(Clone, Copy)]
@@ -42,6 +43,19 @@ pub struct InlinedFunction<R: Reader> {
     pub call_line: u32,
     /// The low 32 bits of the column of the call; 0 where there is none.
     pub call_column: u32,
+}
+
+impl<R: Reader> Model for InlinedFunction<R> {
+    ghost use Rattle.std.specs.Prelude.{option_map};
+    ghost use Rattle.addr2line_lines.specs.InlinedEntries.{InlinedEntry};
+
+    ghost Value = { InlinedEntry };
+
+    ghost view = { λ f. record {
+      offset = f.dw_die_offset.0;
+      name = option_map R.section f.name;
+      call = record { file = f.call_file; line = f.call_line; column = f.call_column };
+    } };
 }
 
 // The index of a file, if it counts in a version.

@@ -30,13 +30,13 @@ pub returns-in_err-entries : goal.returns-in_err-entries
 returns-in_err-entries g c =
     let p = err_from_is_err_and c.from_residual.result c.from_residual.ensures.1 in
     let fault = rw c.new.ensures.unit at c.in_err-entries.ensures.gives in
-    record { gives = rw (p.1, p.2) (λ ne. detail-fault (seen_scope c.args.scope) c.args.unit.now c.args.offset.0 (seen_lists g.R.Reader.section c.args.found.now) _ (fault (λ s _. ne (or_first g.R.Reader.shares _ s)))); kept = found_same _ }
+    record { gives = rw (p.1, p.2) (λ ne. detail-fault (seen_scope c.args.scope) c.args.unit.now c.args.offset.0 (seen_lists c.args.found.now) _ (fault (λ s _. ne (or_first g.R.Reader.shares _ s)))); kept = found_same _ }
 
 pub returns-in_err-abbreviation-clause-gives : goal.returns-in_err-abbreviation-clause-gives
 returns-in_err-abbreviation-clause-gives g c =
     let p = err_from_is_err_and c.from_residual-in_err-abbreviation.result c.from_residual-in_err-abbreviation.ensures.1 in
     let opened = rw c.new.ensures.unit at c.in_ok-entries.ensures.gives in
-    rw (p.1, p.2) (λ _. detail-opened (seen_scope c.args.scope) c.args.unit.now c.args.offset.0 (seen_lists g.R.Reader.section c.args.found.now) _ _ opened c.in_err-abbreviation.ensures.gives)
+    rw (p.1, p.2) (λ _. detail-opened (seen_scope c.args.scope) c.args.unit.now c.args.offset.0 (seen_lists c.args.found.now) _ _ opened c.in_err-abbreviation.ensures.gives)
 
 pub returns-in_err-abbreviation-clause-kept : goal.returns-in_err-abbreviation-clause-kept
 returns-in_err-abbreviation-clause-kept g c = found_same _
@@ -44,10 +44,10 @@ returns-in_err-abbreviation-clause-kept g c = found_same _
 pub returns-in-Some-clause-gives : goal.returns-in-Some-clause-gives
 returns-in-Some-clause-gives g c =
     let scope = seen_scope c.args.scope in
-    let old = seen_lists g.R.Reader.section c.args.found.now in
+    let old = seen_lists c.args.found.now in
     let opened = rw c.new.ensures.unit at c.in_ok-entries.ensures.gives in
     let coded = rw c.in-Some.is at c.in_ok-abbreviation.ensures.gives in
-    function_given scope c.args.unit.now c.read_abbreviation.new.self.cursor old c.in-Some.abbreviation.now g.R.Reader.shares (λ name. (option_map g.R.Reader.section name, seen_lists g.R.Reader.section c.read_function.new.found)) c.read_function.result _ _ _ _ c.in_ok-abbreviation.ensures.unit (detail-takes scope c.args.unit.now c.args.offset.0 old _ _ _ opened coded) (detail-opened scope c.args.unit.now c.args.offset.0 old _ _ opened coded) c.read_function.ensures.gives
+    function_given scope c.args.unit.now c.read_abbreviation.new.self.cursor old c.in-Some.abbreviation.now g.R.Reader.shares (λ name. (option_map g.R.Reader.section name, seen_lists c.read_function.new.found)) c.read_function.result _ _ _ _ c.in_ok-abbreviation.ensures.unit (detail-takes scope c.args.unit.now c.args.offset.0 old _ _ _ opened coded) (detail-opened scope c.args.unit.now c.args.offset.0 old _ _ opened coded) c.read_function.ensures.gives
 
 pub returns-in-Some-clause-kept : goal.returns-in-Some-clause-kept
 returns-in-Some-clause-kept g c = c.read_function.ensures.kept
@@ -56,7 +56,7 @@ pub returns-clause-gives : goal.returns-clause-gives
 returns-clause-gives g c =
     let opened = rw c.new.ensures.unit at c.in_ok-entries.ensures.gives in
     let coded = rw c.in-None.is at c.in_ok-abbreviation.ensures.gives in
-    λ _. detail-opened (seen_scope c.args.scope) c.args.unit.now c.args.offset.0 (seen_lists g.R.Reader.section c.args.found.now) _ _ opened coded
+    λ _. detail-opened (seen_scope c.args.scope) c.args.unit.now c.args.offset.0 (seen_lists c.args.found.now) _ _ opened coded
 
 pub returns-clause-kept : goal.returns-clause-kept
 returns-clause-kept g c = found_same _

@@ -498,7 +498,7 @@ depths_are_numbers scope u offset items detail e f = λ k d l. (all_listed scope
 
 -- a range of depth 0 is of an entry around which no inlined one is
 pub none_nearest : (items : List Item) (x : InlinedRange) → IsListed items x → x.depth ≡ 0 → nearest_inlined x.entry.offset items ≡ None
-none_nearest items x h zero_is = ap (option_map (λ (y : Item). y.offset)) (none_found (items_around x.entry.offset items) (sym h.depth ∙ zero_is))
+none_nearest items x h zero_is = ap (option_map (λ (y : Item). y.offset)) (none_found (items_around x.entry.offset items) (length-filter is_inlined_item (items_around x.entry.offset items) ∙ sym h.depth ∙ zero_is))
   where
     none_found : (ys : List Item) → length (filter is_inlined_item ys) ≡ 0 → find is_inlined_item ys ≡ None
     none_found [] e = refl

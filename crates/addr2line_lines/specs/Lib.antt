@@ -1,4 +1,5 @@
 pub mod Rows
+pub mod LowBits
 pub mod Sequences
 pub mod Rises
 pub mod Count

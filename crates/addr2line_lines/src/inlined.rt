@@ -6,7 +6,7 @@ ghost use Rattle.std.specs.Option.{option_or};
 ghost use Rattle.gimli_read.specs.Form.{attribute_at, rest_of};
 ghost use Rattle.gimli_read.specs.Reading.{ExactlyUnlessOomIf};
 ghost use Rattle.gimli.specs.Entry.{attributes_at};
-ghost use Rattle.addr2line_lines.specs.InlinedEntries.{counted_file, low_bits, no_call, no_inlined_attributes, with_call, with_inlined_attribute};
+ghost use Rattle.addr2line_lines.specs.InlinedEntries.{constant_bits, counted_file, no_call, no_inlined_attributes, with_call, with_inlined_attribute};
 ghost use Rattle.addr2line_lines.specs.FoundAttributes.{HasNoWanted, IsReadIf, IsSplitAtWanted, IsTakenIn, inlined_attributes_after, is_call, is_wanted, is_wanted_specification, or_fault, seen_attributes};
 ghost use Rattle.addr2line_lines.specs.FoundRanges.{is_range_name};
 ghost use Rattle.addr2line_lines.specs.References.{IsScope};
@@ -15,6 +15,7 @@ ghost use Rattle.addr2line_lines.specs.SeenScope.{seen_scope};
 use crate::function::{RangeAttributes, is_range_name};
 use crate::name::{is_name_attribute, pass_over, take_name};
 use crate::references::Scope;
+use crate::row::low_bits;
 use gimli::read::{Attribute, AttributeSpecification, DwAt, Error, Reader, UnitOffset};
 use gimli::{EntriesRaw, Unit, UnitRef};
 use std::marker::Model;
@@ -70,10 +71,10 @@ fn counted_file(version: u16, index: u64) -> Option<u64>
 }
 
 // The low 32 bits of a constant, 0 of another value.
-fn low_bits(constant: Option<u64>) -> u32
-    ensures gives { result ≡ low_bits constant }
+fn constant_bits(constant: Option<u64>) -> u32
+    ensures gives { result ≡ constant_bits constant }
 {
-    (constant.unwrap_or(0) % (1 << 32)) as u32
+    low_bits(constant.unwrap_or(0))
 }
 
 impl CallSite {
@@ -112,13 +113,13 @@ impl CallSite {
             },
             DwAt::DW_AT_call_line => CallSite {
                 file: self.file,
-                line: low_bits(constant),
+                line: constant_bits(constant),
                 column: self.column,
             },
             DwAt::DW_AT_call_column => CallSite {
                 file: self.file,
                 line: self.line,
-                column: low_bits(constant),
+                column: constant_bits(constant),
             },
             _ => self,
         }

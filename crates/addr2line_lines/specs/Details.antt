@@ -1,7 +1,7 @@
 -- The details of a function: its name, and the inlined entries inside it (DWARF 5, section 3.3.8).
 -- Own: the depth of an inlined entry is the number of inlined entries around it. Nested subprograms
 -- are skipped whole. An entry without ranges counts for the depth of those inside it alone.
-use Rattle.std.specs.Prelude.{ℕ, ◌+◌, ◌==◌, ◌||◌, ◌&&◌, Bool, false, List, [], ◌∷◌, ◌++◌, count_by, Option, Some, None, Result, Ok, Err, is_ok, if◌then◌else◌}
+use Rattle.std.specs.Prelude.{ℕ, ◌==◌, ◌||◌, ◌&&◌, Bool, false, List, [], ◌∷◌, ◌++◌, count_by, Option, Some, None, Result, Ok, Err, is_ok, if◌then◌else◌}
 use Rattle.gimli_read.specs.declared.error.Error.{Error}
 use Rattle.gimli_read.specs.declared.error.Error.TheVariants.{NoEntryAtGivenOffset}
 use Rattle.gimli_read.specs.Abbreviations.{Abbrev}

@@ -3,7 +3,6 @@ use Rattle.std.specs.Prelude.{◌||◌, ◌&&◌, Bool, false, List, [], ◌∷�
 use Rattle.gimli_read.specs.declared.error.Error.{Error}
 use Rattle.gimli_read.specs.declared.error.Error.TheVariants.{UnexpectedEof}
 use Rattle.gimli_read.specs.Reading.{◌>>=◌}
-use Rattle.gimli_read.specs.Section.{Section}
 use Rattle.gimli_read.specs.Run.{fold_of}
 use Rattle.gimli.specs.Entry.{EntryCursor, EntryUnit}
 use Rattle.gimli.specs.Items.{Item, items_from, items_inside, next_item_at}

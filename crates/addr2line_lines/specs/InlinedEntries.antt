@@ -3,7 +3,7 @@
 -- Own: of call_file a constant counts that is above 0, or any in version 5; call_line and
 -- call_column keep their low 32 bits, and are 0 where they are no constant. The last of each
 -- counts.
-use Rattle.std.specs.Prelude.{ℕ, ◌==◌, ◌||◌, nat_lt, Bool, List, fold, length, map, Option, Some, None, option_and_then, unwrap_or, Result, Ok, if◌then◌else◌}
+use Rattle.std.specs.Prelude.{ℕ, ◌==◌, ◌||◌, nat_lt, Bool, List, fold, map, Option, Some, None, option_and_then, unwrap_or, Result, Ok, if◌then◌else◌}
 use Rattle.std.specs.Option.{option_or}
 use Rattle.gimli_read.specs.declared.constants.TheConstants.DwAt.{DW_AT_call_column, DW_AT_call_file, DW_AT_call_line}
 use Rattle.gimli_read.specs.declared.constants.TheConstants.DwTag.{DW_TAG_inlined_subroutine}

@@ -176,7 +176,8 @@ impl<R: Reader> Details<R> {
 
     /// The inlined function of a place; none past the last one. Takes no memory.
     pub(crate) fn inlined(&self, function: usize) -> Option<&InlinedFunction<R>>
-        ensures gives { option_map (λ r. r.now) result ≡ slice_get (seen_details R.section self.now).found.entries function }
+        ensures gives { option_map (λ r. r.now) result ≡
+            slice_get (seen_details R.section self.now).found.entries function }
     {
         self.inlined.functions.get(function)
     }

@@ -1,4 +1,4 @@
-use Rattle.std.proofs.Common.{◌≡◌, List, Option, length, ap, sym, ◌∙◌}
+use Rattle.std.proofs.Common.{◌≡◌, List, Option, length, ap, ◌∙◌}
 use Rattle.gimli_read.specs.Section.{Section}
 use Rattle.addr2line_lines.specs.FoundInlined.{FoundInlined, seen_lists}
 use Rattle.addr2line_lines.specs.CachedDetails.{CachedDetails, seen_details}

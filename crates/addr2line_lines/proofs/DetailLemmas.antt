@@ -1,5 +1,5 @@
 -- The attributes of inlined entries and functions, one at a time (on specs/FoundAttributes.antt).
-use Rattle.std.proofs.Common.{◌≡◌, ℕ, ◌+◌, ◌<◌, ◌≤◌, ◌⊎◌, ◌==◌, ◌&&◌, ◌||◌, Bool, true, false, cond, List, [], ◌∷◌, drop, fold, get_or, inl, inr, length, Option, Some, None, Result, Ok, Err, refl, ap, subst, sym, ◌∙◌}
+use Rattle.std.proofs.Common.{◌≡◌, ℕ, ◌+◌, ◌<◌, ◌≤◌, ◌⊎◌, ◌==◌, ◌&&◌, ◌||◌, Bool, true, false, cond, List, [], ◌∷◌, drop, fold, get_or, inl, inr, length, Option, Some, None, Result, Ok, Err, refl, ap, subst, sym, ◌∙◌, count_by}
 use Rattle.std.proofs.lemmas.Bool.{eqb-true}
 use Rattle.std.proofs.lemmas.List.{at_drop_more, at_drop_all}
 use Rattle.gimli_read.specs.declared.constants.DwAt.{DwAt}
@@ -19,11 +19,13 @@ use Rattle.gimli.specs.Sections.{Sections}
 use Rattle.gimli.specs.Unit.{UnitRecord}
 use Rattle.addr2line_lines.specs.declared.function.RangeAttributes.{RangeAttributes}
 use Rattle.addr2line_lines.specs.declared.nesting.Kind.{Kind}
-use Rattle.addr2line_lines.specs.InlinedEntries.{CallSite, InlinedAttributes, inlined_attributes_of, no_inlined_attributes, or_with_inlined_attribute, with_call, with_inlined_attribute}
+use Rattle.addr2line_lines.specs.declared.inlined.CallSite.{CallSite}
+use Rattle.addr2line_lines.specs.InlinedEntries.{InlinedAttributes, inlined_attributes_of, no_inlined_attributes, or_with_inlined_attribute, with_call, with_inlined_attribute}
 use Rattle.addr2line_lines.specs.FoundInlined.{FoundInlined, entry_found_at, read_lists_a_range, with_entry_found, with_inlined_found}
-use Rattle.addr2line_lines.specs.FoundAttributes.{IsReadIf, IsTakenIn, inlined_attributes_after, is_call, is_range_name, is_wanted, with_read_name}
-use Rattle.addr2line_lines.specs.OpenEntries.{is_inlined_kind, is_listed, kind_of, kinds_such}
-use Rattle.addr2line_lines.specs.FoundNames.{is_name_attribute}
+use Rattle.addr2line_lines.specs.FoundAttributes.{IsReadIf, IsTakenIn, inlined_attributes_after, is_call, is_wanted}
+use Rattle.addr2line_lines.specs.FoundRanges.{is_range_name}
+use Rattle.addr2line_lines.specs.OpenEntries.{is_inlined_kind, is_listed, kind_of}
+use Rattle.addr2line_lines.specs.FoundNames.{is_name_attribute, with_read_name}
 use Rattle.addr2line_lines.specs.Names.{is_linkage_name, is_origin, or_with_name, with_name}
 use Rattle.addr2line_lines.specs.RangeAttributes.{gives_a_range, with_range_attribute}
 use Rattle.addr2line_lines.specs.References.{Scope}
@@ -247,30 +249,30 @@ module _ (scope : Scope) (u : UnitRecord) (around : List Kind) (offset : ℕ) (a
   entry_read read = read >>= λ x. with_entry_found scope u around offset found (record { abbreviation = a; attributes = x.0 }) >>= λ more. Ok (more, x.1)
 
   abbrev listed_read : Reading (List NamedValue) → Result (FoundInlined × Section) Error
-  listed_read read = read >>= λ x. (inlined_attributes_of scope u x.0 >>= λ y. with_inlined_found scope.file.sections u offset (kinds_such is_inlined_kind around) found y) >>= λ more. Ok (more, x.1)
+  listed_read read = read >>= λ x. (inlined_attributes_of scope u x.0 >>= λ y. with_inlined_found scope.file.sections u offset (count_by is_inlined_kind around) found y) >>= λ more. Ok (more, x.1)
 
   listed_is : is_listed (kind_of a) around ≡ true → (read : Reading (List NamedValue)) → entry_read read ≡ listed_read read
   listed_is h (Err f) = refl
-  listed_is h (Ok x) = ap (λ b. ◌>>=◌ {B = FoundInlined × Section} (cond b (inlined_attributes_of scope u x.0 >>= λ y. with_inlined_found scope.file.sections u offset (kinds_such is_inlined_kind around) found y) (Ok found)) (λ more. Ok (more, x.1))) h
+  listed_is h (Ok x) = ap (λ b. ◌>>=◌ {B = FoundInlined × Section} (cond b (inlined_attributes_of scope u x.0 >>= λ y. with_inlined_found scope.file.sections u offset (count_by is_inlined_kind around) found y) (Ok found)) (λ more. Ok (more, x.1))) h
 
   pub entry-fault : (f : Error) → is_listed (kind_of a) around ≡ true → inlined_attributes_after scope u (Ok no_inlined_attributes) (attributes_at u.header.encoding a.attributes left) ≡ Err f
       → entry_found_at scope u around offset a left found ≡ Err f
   entry-fault f h k = listed_is h (attributes_at u.header.encoding a.attributes left) ∙ by_read (attributes_at u.header.encoding a.attributes left) k
     where
       by_read : (read : Reading (List NamedValue)) → inlined_attributes_after scope u (Ok no_inlined_attributes) read ≡ Err f → listed_read read ≡ Err f
-      by_read (Ok x) k = ap (λ r. ◌>>=◌ {B = FoundInlined × Section} (r >>= λ y. with_inlined_found scope.file.sections u offset (kinds_such is_inlined_kind around) found y) (λ more. Ok (more, x.1))) k
+      by_read (Ok x) k = ap (λ r. ◌>>=◌ {B = FoundInlined × Section} (r >>= λ y. with_inlined_found scope.file.sections u offset (count_by is_inlined_kind around) found y) (λ more. Ok (more, x.1))) k
       by_read (Err g) k = let same : g ≡ f = cc in ap Err same
 
   pub entry-listed : (x : InlinedAttributes) (rest : Section) → is_listed (kind_of a) around ≡ true → inlined_attributes_after scope u (Ok no_inlined_attributes) (attributes_at u.header.encoding a.attributes left) ≡ Ok x
       → rest_of (attributes_at u.header.encoding a.attributes left) ≡ Ok rest
-      → entry_found_at scope u around offset a left found ≡ (with_inlined_found scope.file.sections u offset (kinds_such is_inlined_kind around) found x >>= λ more. Ok (more, rest))
+      → entry_found_at scope u around offset a left found ≡ (with_inlined_found scope.file.sections u offset (count_by is_inlined_kind around) found x >>= λ more. Ok (more, rest))
   entry-listed x rest h k l = listed_is h (attributes_at u.header.encoding a.attributes left) ∙ by_read (attributes_at u.header.encoding a.attributes left) k l
     where
       by_read : (read : Reading (List NamedValue)) → inlined_attributes_after scope u (Ok no_inlined_attributes) read ≡ Ok x → rest_of read ≡ Ok rest
-          → listed_read read ≡ (with_inlined_found scope.file.sections u offset (kinds_such is_inlined_kind around) found x >>= λ more. Ok (more, rest))
+          → listed_read read ≡ (with_inlined_found scope.file.sections u offset (count_by is_inlined_kind around) found x >>= λ more. Ok (more, rest))
       by_read (Ok y) k l =
-          ap (λ r. ◌>>=◌ {B = FoundInlined × Section} (r >>= λ z. with_inlined_found scope.file.sections u offset (kinds_such is_inlined_kind around) found z) (λ more. Ok (more, y.1))) k
-          ∙ ap (λ (s : Section). ◌>>=◌ {B = FoundInlined × Section} (with_inlined_found scope.file.sections u offset (kinds_such is_inlined_kind around) found x) (λ more. Ok (more, s))) (let same : y.1 ≡ rest = cc in same)
+          ap (λ r. ◌>>=◌ {B = FoundInlined × Section} (r >>= λ z. with_inlined_found scope.file.sections u offset (count_by is_inlined_kind around) found z) (λ more. Ok (more, y.1))) k
+          ∙ ap (λ (s : Section). ◌>>=◌ {B = FoundInlined × Section} (with_inlined_found scope.file.sections u offset (count_by is_inlined_kind around) found x) (λ more. Ok (more, s))) (let same : y.1 ≡ rest = cc in same)
       by_read (Err g) k l = absurd cc
 
   pub entry-other : (may : Bool) (rest : Section) (r : Result (Unit {0}) Error) → is_listed (kind_of a) around ≡ false → Exactly (λ _. rest) r (rest_of (attributes_at u.header.encoding a.attributes left))
@@ -279,7 +281,7 @@ module _ (scope : Scope) (u : UnitRecord) (around : List Kind) (offset : ℕ) (a
     where
       other_is : (read : Reading (List NamedValue)) → entry_read read ≡ (rest_of read >>= λ s. Ok (found, s))
       other_is (Err f) = refl
-      other_is (Ok x) = ap (λ b. ◌>>=◌ {B = FoundInlined × Section} (cond b (inlined_attributes_of scope u x.0 >>= λ y. with_inlined_found scope.file.sections u offset (kinds_such is_inlined_kind around) found y) (Ok found)) (λ more. Ok (more, x.1))) h
+      other_is (Ok x) = ap (λ b. ◌>>=◌ {B = FoundInlined × Section} (cond b (inlined_attributes_of scope u x.0 >>= λ y. with_inlined_found scope.file.sections u offset (count_by is_inlined_kind around) found y) (Ok found)) (λ more. Ok (more, x.1))) h
 
       by_answer : (r : Result (Unit {0}) Error) → Exactly (λ _. rest) r (rest_of (attributes_at u.header.encoding a.attributes left)) → ExactlyUnlessOomIf may (λ _. (found, rest)) r (entry_found_at scope u around offset a left found)
       by_answer (Ok z) k = other_is (attributes_at u.header.encoding a.attributes left) ∙ ap (λ v. ◌>>=◌ {B = FoundInlined × Section} v (λ s. Ok (found, s))) k

@@ -1,5 +1,5 @@
 -- Where memory is taken for the details of a function (on specs/FoundDetails.antt).
-use Rattle.std.proofs.Common.{◌≡◌, ℕ, ◌<◌, ◌==◌, ◌&&◌, ◌||◌, Bool, true, false, cond, List, [], ◌∷◌, ◌++◌, append-nil, length, map, Option, Some, None, Result, Ok, Err, is_ok, refl, ap, subst, sym, ◌∙◌, arith, ℤ, pos}
+use Rattle.std.proofs.Common.{◌≡◌, ℕ, ◌<◌, ◌==◌, ◌&&◌, ◌||◌, Bool, true, false, cond, List, [], ◌∷◌, ◌++◌, append-nil, length, map, Option, Some, None, Result, Ok, Err, is_ok, refl, ap, subst, sym, ◌∙◌, arith, ℤ, pos, count_by}
 use Rattle.std.specs.Prelude.{int_lt}
 use Rattle.gimli_read.specs.declared.error.Error.{Error}
 use Rattle.gimli_read.specs.declared.range.Range.{Range}
@@ -18,12 +18,12 @@ use Rattle.gimli.proofs.ItemReads.{items_more}
 use Rattle.addr2line_lines.specs.declared.function.RangeAttributes.{RangeAttributes}
 use Rattle.addr2line_lines.specs.declared.picks.InlinedFunctionAddress.{InlinedFunctionAddress}
 use Rattle.addr2line_lines.specs.InlinedEntries.{InlinedAttributes, InlinedRange, inlined_attributes_of, inlined_entry, inlined_ranges, is_inlined}
-use Rattle.addr2line_lines.specs.Details.{PlacedItem, detail_at, detail_takes_memory, item_entry, inlined_gives_a_range, is_in_function, item_has_children, items_take_memory, lists_a_range, count_of, open_after, placed_items, placed_inside, with_inlined, with_inlined_entry}
+use Rattle.addr2line_lines.specs.Details.{PlacedItem, detail_at, detail_takes_memory, item_entry, inlined_gives_a_range, is_in_function, item_has_children, items_take_memory, lists_a_range, open_after, placed_items, placed_inside, with_inlined, with_inlined_entry}
 use Rattle.addr2line_lines.specs.FoundItems.{FoundAround, inside_takes_memory, item_found_at, inlined_item_takes_memory, items_left_take_memory, next_takes_memory, with_item_found}
 use Rattle.addr2line_lines.specs.FoundInlined.{FoundInlined, entry_found_at, entry_lists_a_range, inlined_address, inlined_more, read_lists_a_range, with_entry_found, with_inlined_found, with_inlined_ranges}
-use Rattle.addr2line_lines.specs.FoundDetails.{abbreviation_of, detail_found_at, detail_takes_at, function_takes_at, is_taken}
-use Rattle.addr2line_lines.specs.OpenEntries.{closed_once, is_inlined_kind, kind_of, kinds_such, opened}
-use Rattle.addr2line_lines.specs.FoundAttributes.{name_after}
+use Rattle.addr2line_lines.specs.FoundDetails.{abbreviation_of, detail_found_at, detail_takes_memory_at, function_takes_memory_at, is_memory_taken}
+use Rattle.addr2line_lines.specs.OpenEntries.{closed_once, is_inlined_kind, kind_of, opened}
+use Rattle.addr2line_lines.specs.FoundNames.{name_after}
 use Rattle.addr2line_lines.specs.Names.{name_of}
 use Rattle.addr2line_lines.specs.RangeAttributes.{attribute_ranges, gives_a_range}
 use Rattle.addr2line_lines.specs.References.{Scope}
@@ -116,9 +116,9 @@ module _ (scope : Scope) (u : UnitRecord) (unit : EntryUnit) where
   -- a function whose attributes follow
   pub function_takes : (c s : EntryCursor) (v : EntryUnit) (found : FoundInlined) (a : Abbrev) (name : Option Section) → name_after scope u (Ok None) (attributes_at u.header.encoding a.attributes c.left) ≡ Ok name
       → rest_of (attributes_at u.header.encoding a.attributes c.left) ≡ Ok s.left → s.depth ≡ c.depth → v ≡ unit
-      → inside_takes_memory scope u v s (record { found = found; around = [] }) ≡ true → is_taken (function_takes_at scope u unit c found a) ≡ true
+      → inside_takes_memory scope u v s (record { found = found; around = [] }) ≡ true → is_memory_taken (function_takes_memory_at scope u unit c found a) ≡ true
   function_takes c s v found a name h k d e t =
-      ap (λ (r : Result (Option Section) Error). is_taken (r >>= λ n. after_rest (rest_of (attributes_at u.header.encoding a.attributes c.left)))) h ∙ ap (λ r. is_taken (after_rest r)) k
+      ap (λ (r : Result (Option Section) Error). is_memory_taken (r >>= λ n. after_rest (rest_of (attributes_at u.header.encoding a.attributes c.left)))) h ∙ ap (λ r. is_memory_taken (after_rest r)) k
       ∙ ap (λ z. inside_takes_memory scope u unit (record { left = s.left; depth = z }) start) (sym d)
       ∙ ap (λ w. inside_takes_memory scope u w s start) (sym e) ∙ t
     where
@@ -155,17 +155,17 @@ module _ (scope : Scope) (u : UnitRecord) where
   entry_well up x e found = ap (λ b. is_ok (cond b given (Ok found))) (listed_is e.abbreviation x up) ∙ by_test (is_inlined e.abbreviation && is_in_function (placed_of up x))
     where
       depth : ℕ
-      depth = kinds_such is_inlined_kind (map kind_of up)
+      depth = count_by is_inlined_kind (map kind_of up)
 
       given : Result FoundInlined Error
       given = inlined_attributes_of scope u e.attributes >>= λ y. with_inlined_found scope.file.sections u x.offset depth found y
 
-      by_ranges : (a : InlinedAttributes) (r : Result (List Range) Error) → is_ok (◌>>=◌ {B = FoundInlined} r (λ ranges. Ok (inlined_more found (inlined_entry x.offset a) depth ranges))) ≡ is_ok (◌>>=◌ {B = List InlinedRange} r (λ ranges. Ok ([] ++ inlined_ranges (count_of is_inlined up) x.offset a ranges)))
+      by_ranges : (a : InlinedAttributes) (r : Result (List Range) Error) → is_ok (◌>>=◌ {B = FoundInlined} r (λ ranges. Ok (inlined_more found (inlined_entry x.offset a) depth ranges))) ≡ is_ok (◌>>=◌ {B = List InlinedRange} r (λ ranges. Ok ([] ++ inlined_ranges (count_by is_inlined up) x.offset a ranges)))
       by_ranges a (Ok ranges) = refl
       by_ranges a (Err f) = refl
 
       by_read : (r : Result InlinedAttributes Error) → is_ok (r >>= λ y. with_inlined_found scope.file.sections u x.offset depth found y)
-          ≡ is_ok (r >>= λ a. ◌>>=◌ {B = List InlinedRange} (attribute_ranges scope.file.sections u a.ranges) (λ ranges. Ok ([] ++ inlined_ranges (count_of is_inlined up) x.offset a ranges)))
+          ≡ is_ok (r >>= λ a. ◌>>=◌ {B = List InlinedRange} (attribute_ranges scope.file.sections u a.ranges) (λ ranges. Ok ([] ++ inlined_ranges (count_by is_inlined up) x.offset a ranges)))
       by_read (Ok a) = by_ranges a (attribute_ranges scope.file.sections u a.ranges)
       by_read (Err f) = refl
 
@@ -237,7 +237,7 @@ module _ (scope : Scope) (u : UnitRecord) (offset : ℕ) (found : FoundInlined) 
   placed_of_left left r = r >>= λ next. item_entry offset next.0 >>= λ function. name_of scope u function.1.attributes >>= λ name. Ok (placed_items [] (subtree_of function.0 (items_from left.unit next.1)).items)
 
   abbrev takes_of_left : EntriesLeft → Result (Option Abbrev × EntryCursor) Error → Result Bool Error
-  takes_of_left left r = r >>= λ code. abbreviation_of offset code.0 >>= λ a. function_takes_at scope u left.unit code.1 found a
+  takes_of_left left r = r >>= λ code. abbreviation_of offset code.0 >>= λ a. function_takes_memory_at scope u left.unit code.1 found a
 
   -- what stands inside a function whose entry was read
   inside_taken : (unit : EntryUnit) (x : Item) (c : EntryCursor) → x.depth ≡ pos 0 → c.depth ≡ depth_after x → inside_takes_memory scope u unit c (record { found = found; around = [] }) ≡ true → items_take_memory scope u (placed_items [] (subtree_of x (items_from unit c)).items) ≡ true
@@ -248,19 +248,19 @@ module _ (scope : Scope) (u : UnitRecord) (offset : ℕ) (found : FoundInlined) 
       inside_of : ℤ → ℤ → Bool
       inside_of z now = items_take_memory scope u (placed_items [] (items_inside z now (items_from unit c).items (items_from unit c).end).items)
 
-  left_taken : (s : Section) → (length s.bytes == 0) ≡ false → let left = entries_at u.header u.abbreviations s in is_taken (takes_of_left left (entry_abbreviation_at left.unit.abbreviations left.cursor)) ≡ true → taken (placed_of_left left (next_item_at left.unit left.cursor)) ≡ true
+  left_taken : (s : Section) → (length s.bytes == 0) ≡ false → let left = entries_at u.header u.abbreviations s in is_memory_taken (takes_of_left left (entry_abbreviation_at left.unit.abbreviations left.cursor)) ≡ true → taken (placed_of_left left (next_item_at left.unit left.cursor)) ≡ true
   left_taken s some h = ap (λ r. taken (placed_of_left left r)) (coded scope u left.unit left.cursor some) ∙ by_code (entry_abbreviation_at left.unit.abbreviations left.cursor) refl h
     where
       left : EntriesLeft
       left = entries_at u.header u.abbreviations s
 
-      by_name : (x : Item) (c : EntryCursor) → x.depth ≡ pos 0 → c.depth ≡ depth_after x → (r : Result (Option Section) Error) → is_taken (r >>= λ name. Ok (inside_takes_memory scope u left.unit c (record { found = found; around = [] }))) ≡ true
+      by_name : (x : Item) (c : EntryCursor) → x.depth ≡ pos 0 → c.depth ≡ depth_after x → (r : Result (Option Section) Error) → is_memory_taken (r >>= λ name. Ok (inside_takes_memory scope u left.unit c (record { found = found; around = [] }))) ≡ true
           → taken (r >>= λ name. Ok (placed_items [] (subtree_of x (items_from left.unit c)).items)) ≡ true
       by_name x c d e (Ok name) h = inside_taken left.unit x c d e h
       by_name x c d e (Err f) h = absurd cc
 
       by_read : (a : Abbrev) (t : EntryCursor) → entry_abbreviation_at left.unit.abbreviations left.cursor ≡ Ok (Some a, t) → (r : Reading (List NamedValue)) → attributes_at u.header.encoding a.attributes t.left ≡ r
-          → is_taken (name_after scope u (Ok None) r >>= λ name. rest_of r >>= λ rest. Ok (inside_takes_memory scope u left.unit (record { left = rest; depth = t.depth }) (record { found = found; around = [] }))) ≡ true
+          → is_memory_taken (name_after scope u (Ok None) r >>= λ name. rest_of r >>= λ rest. Ok (inside_takes_memory scope u left.unit (record { left = rest; depth = t.depth }) (record { found = found; around = [] }))) ≡ true
           → taken (placed_of_left left (◌>>=◌ {B = Option Item × EntryCursor} r (λ x. Ok (Some (item_at left.unit left.cursor (Some (record { abbreviation = a; attributes = x.0 }))), record { left = x.1; depth = t.depth })))) ≡ true
       by_read a t q (Err f) k h = absurd cc
       by_read a t q (Ok x) k h =
@@ -271,17 +271,17 @@ module _ (scope : Scope) (u : UnitRecord) (offset : ℕ) (found : FoundInlined) 
           let next = next_is left.unit left.cursor end item is in
           by_name item end refl next.after (name_of scope u x.0) h
 
-      by_code : (r : Result (Option Abbrev × EntryCursor) Error) → entry_abbreviation_at left.unit.abbreviations left.cursor ≡ r → is_taken (takes_of_left left r) ≡ true → taken (placed_of_left left (r >>= λ y. item_from left.unit left.cursor y)) ≡ true
+      by_code : (r : Result (Option Abbrev × EntryCursor) Error) → entry_abbreviation_at left.unit.abbreviations left.cursor ≡ r → is_memory_taken (takes_of_left left r) ≡ true → taken (placed_of_left left (r >>= λ y. item_from left.unit left.cursor y)) ≡ true
       by_code (Err f) q h = absurd cc
       by_code (Ok (None, t)) q h = absurd cc
       by_code (Ok (Some a, t)) q h = by_read a t q (attributes_at u.header.encoding a.attributes t.left) refl h
 
   -- where memory is taken inside the function, it is for its detail
-  pub detail_takes : is_taken (detail_takes_at scope u offset found) ≡ true → detail_takes_memory scope u offset ≡ true
-  unfolding placed_inside detail_takes_at
+  pub detail_takes : is_memory_taken (detail_takes_memory_at scope u offset found) ≡ true → detail_takes_memory scope u offset ≡ true
+  unfolding placed_inside detail_takes_memory_at
   detail_takes h = or_second (is_ok (detail_at scope u offset)) (taken (placed_inside scope u offset)) (by_bytes (entry_bytes_from u.header (Some offset)) refl h)
     where
-      by_bytes : (r : Result Section Error) → entry_bytes_from u.header (Some offset) ≡ r → is_taken ((r >>= λ s. Ok (entries_at u.header u.abbreviations s)) >>= λ left. takes_of_left left (entry_abbreviation_at left.unit.abbreviations left.cursor)) ≡ true
+      by_bytes : (r : Result Section Error) → entry_bytes_from u.header (Some offset) ≡ r → is_memory_taken ((r >>= λ s. Ok (entries_at u.header u.abbreviations s)) >>= λ left. takes_of_left left (entry_abbreviation_at left.unit.abbreviations left.cursor)) ≡ true
           → taken ((r >>= λ s. Ok (entries_at u.header u.abbreviations s)) >>= λ left. placed_of_left left (next_item_at left.unit left.cursor)) ≡ true
       by_bytes (Err f) q h = absurd cc
       by_bytes (Ok s) q h = left_taken s (some_left u.header offset s q) h

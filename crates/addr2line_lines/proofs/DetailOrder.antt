@@ -1,8 +1,8 @@
 -- The details of a function are what is found of it (on specs/FoundDetails.antt).
-use Rattle.std.proofs.Common.{◌≡◌, ℕ, ◌-◌, ◌<◌, nat_lt, ◌≤◌, ◌==◌, ◌&&◌, Bool, true, false, cond, List, [], ◌∷◌, ◌++◌, count_by, filter, map, length, Option, Some, None, Result, Ok, Err, refl, ap, sym, subst, ◌∙◌, arith, length-drop, ℤ, pos}
+use Rattle.std.proofs.Common.{◌≡◌, ℕ, ◌+◌, ◌-◌, ◌<◌, nat_lt, ◌≤◌, ◌==◌, ◌&&◌, Bool, true, false, cond, List, [], ◌∷◌, ◌++◌, count_by, map, length, Option, Some, None, Result, Ok, Err, refl, ap, sym, subst, ◌∙◌, arith, length-drop, ℤ, pos}
 use Rattle.std.proofs.lemmas.Bool.{eqb-true, ne_eqb}
 use Rattle.std.proofs.lemmas.Bool.Decides.{nat_tests}
-use Rattle.std.proofs.lemmas.Grind.{common_steps}
+use Rattle.std.proofs.lemmas.List.Sums.{sum_by-cons}
 use Rattle.std.proofs.Math.Seq.{drop-length}
 use Rattle.gimli_read.specs.declared.constants.TheConstants.DwTag.{DW_TAG_inlined_subroutine, DW_TAG_subprogram}
 use Rattle.gimli_read.specs.declared.error.Error.{Error}
@@ -21,13 +21,13 @@ use Rattle.gimli.specs.Unit.{UnitRecord}
 use Rattle.gimli.proofs.ItemLemmas.{next_is}
 use Rattle.addr2line_lines.specs.declared.nesting.Kind.{Kind}
 use Rattle.addr2line_lines.specs.declared.nesting.Kind.TheVariants.{Inlined, Other, Subprogram}
-use Rattle.addr2line_lines.specs.Details.{Detail, detail_at, item_entry, inlined_in, is_in_function, count_of, open_after, placed_items, with_inlined}
+use Rattle.addr2line_lines.specs.Details.{Detail, detail_at, item_entry, inlined_in, is_in_function, open_after, placed_items, with_inlined}
 use Rattle.addr2line_lines.specs.InlinedEntries.{InlinedAttributes, InlinedRange, inlined_attributes_of, inlined_entry, inlined_ranges, is_inlined}
 use Rattle.addr2line_lines.specs.FoundItems.{FoundAround, inside_found, with_item_found}
 use Rattle.addr2line_lines.specs.FoundInlined.{FoundInlined, inlined_more, range_among, found_ranges_from, with_entry_found, with_inlined_found}
 use Rattle.addr2line_lines.specs.FoundDetails.{abbreviation_of, detail_found_at, function_found_at}
-use Rattle.addr2line_lines.specs.OpenEntries.{closed_once, is_inlined_kind, is_listed, is_subprogram_kind, kind_of, kinds_such, opened}
-use Rattle.addr2line_lines.specs.FoundAttributes.{name_after}
+use Rattle.addr2line_lines.specs.OpenEntries.{closed_once, is_inlined_kind, is_listed, is_subprogram_kind, kind_of, opened}
+use Rattle.addr2line_lines.specs.FoundNames.{name_after}
 use Rattle.addr2line_lines.specs.Functions.{is_subprogram}
 use Rattle.addr2line_lines.specs.Names.{name_of}
 use Rattle.addr2line_lines.specs.RangeAttributes.{attribute_ranges}
@@ -58,13 +58,13 @@ subprogram_at n = by_tag (n == DW_TAG_subprogram.0) (n == DW_TAG_inlined_subrout
     by_tag false true = refl
     by_tag false false = refl
 
-counted : (such : Abbrev → Bool) (kind : Kind → Bool) → ((a : Abbrev) → kind (kind_of a) ≡ such a) → (up : List Abbrev) → count_by kind (map kind_of up) ≡ count_of such up
+counted : (such : Abbrev → Bool) (kind : Kind → Bool) → ((a : Abbrev) → kind (kind_of a) ≡ such a) → (up : List Abbrev) → count_by kind (map kind_of up) ≡ count_by such up
 counted such kind h [] = refl
-counted such kind h (a ∷ up) = one (such a) (h a) (counted such kind h up)
-  where
-    one : (b : Bool) → kind (kind_of a) ≡ b → count_by kind (map kind_of up) ≡ count_of such up → count_by kind (kind_of a ∷ map kind_of up) ≡ length (cond b (a ∷ filter such up) (filter such up))
-    one true e k = grind (arith, common_steps, e, k)
-    one false e k = grind (arith, common_steps, e, k)
+counted such kind h (a ∷ up) =
+    sum_by-cons (λ k. cond (kind k) 1 0) (kind_of a) (map kind_of up)
+    ∙ ap (λ (b : Bool). cond b 1 0 + count_by kind (map kind_of up)) (h a)
+    ∙ ap (λ n. cond (such a) 1 0 + n) (counted such kind h up)
+    ∙ sym (sum_by-cons (λ b. cond (such b) 1 0) a up)
 
 pub listed_is : (a : Abbrev) (x : Item) (up : List Abbrev) → is_listed (kind_of a) (map kind_of up) ≡ (is_inlined a && is_in_function (record { item = x; around = up }))
 listed_is a x up =
@@ -94,14 +94,14 @@ opened_is up a = by_children a.has_children
 module _ (scope : Scope) (u : UnitRecord) (before n : ℕ) where
   -- one more entry
   entry_agrees : (up : List Abbrev) (x : Item) (e : Entry) (found : FoundInlined) → AreFrom before n found
-      → Agrees before n (cond (is_inlined e.abbreviation && is_in_function (record { item = x; around = up })) (inlined_attributes_of scope u e.attributes >>= λ a. attribute_ranges scope.file.sections u a.ranges >>= λ ranges. Ok (found_ranges_from n found ++ inlined_ranges (count_of is_inlined up) x.offset a ranges)) (Ok (found_ranges_from n found)))
+      → Agrees before n (cond (is_inlined e.abbreviation && is_in_function (record { item = x; around = up })) (inlined_attributes_of scope u e.attributes >>= λ a. attribute_ranges scope.file.sections u a.ranges >>= λ ranges. Ok (found_ranges_from n found ++ inlined_ranges (count_by is_inlined up) x.offset a ranges)) (Ok (found_ranges_from n found)))
       (with_entry_found scope u (map kind_of up) x.offset found e)
   entry_agrees up x e found all =
-      subst (λ m. Agrees before n (wanted (is_inlined e.abbreviation && is_in_function (record { item = x; around = up })) (count_of is_inlined up)) (given (is_listed (kind_of e.abbreviation) (map kind_of up)) m)) (sym depth)
-      (subst (λ b. Agrees before n (wanted (is_inlined e.abbreviation && is_in_function (record { item = x; around = up })) (count_of is_inlined up)) (given b (count_of is_inlined up))) (sym (listed_is e.abbreviation x up))
+      subst (λ m. Agrees before n (wanted (is_inlined e.abbreviation && is_in_function (record { item = x; around = up })) (count_by is_inlined up)) (given (is_listed (kind_of e.abbreviation) (map kind_of up)) m)) (sym depth)
+      (subst (λ b. Agrees before n (wanted (is_inlined e.abbreviation && is_in_function (record { item = x; around = up })) (count_by is_inlined up)) (given b (count_by is_inlined up))) (sym (listed_is e.abbreviation x up))
       (by_test (is_inlined e.abbreviation && is_in_function (record { item = x; around = up }))))
     where
-      depth : kinds_such is_inlined_kind (map kind_of up) ≡ count_of is_inlined up
+      depth : count_by is_inlined_kind (map kind_of up) ≡ count_by is_inlined up
       depth = counted is_inlined is_inlined_kind (λ b. inlined_at b.tag.0) up
 
       read : Result InlinedAttributes Error
@@ -113,15 +113,15 @@ module _ (scope : Scope) (u : UnitRecord) (before n : ℕ) where
       given : Bool → ℕ → Result FoundInlined Error
       given b m = cond b (read >>= λ y. with_inlined_found scope.file.sections u x.offset m found y) (Ok found)
 
-      by_ranges : (a : InlinedAttributes) (r : Result (List Range) Error) → Agrees before n (r >>= λ ranges. Ok (found_ranges_from n found ++ inlined_ranges (count_of is_inlined up) x.offset a ranges)) (r >>= λ ranges. Ok (inlined_more found (inlined_entry x.offset a) (count_of is_inlined up) ranges))
-      by_ranges a (Ok ranges) = (ap Ok (sym (more_ranges before n found (inlined_entry x.offset a) (count_of is_inlined up) ranges all)), more_places before n found (inlined_entry x.offset a) (count_of is_inlined up) ranges all)
+      by_ranges : (a : InlinedAttributes) (r : Result (List Range) Error) → Agrees before n (r >>= λ ranges. Ok (found_ranges_from n found ++ inlined_ranges (count_by is_inlined up) x.offset a ranges)) (r >>= λ ranges. Ok (inlined_more found (inlined_entry x.offset a) (count_by is_inlined up) ranges))
+      by_ranges a (Ok ranges) = (ap Ok (sym (more_ranges before n found (inlined_entry x.offset a) (count_by is_inlined up) ranges all)), more_places before n found (inlined_entry x.offset a) (count_by is_inlined up) ranges all)
       by_ranges a (Err f) = refl
 
-      by_read : (r : Result InlinedAttributes Error) → Agrees before n (r >>= λ a. attribute_ranges scope.file.sections u a.ranges >>= λ ranges. Ok (found_ranges_from n found ++ inlined_ranges (count_of is_inlined up) x.offset a ranges)) (r >>= λ y. with_inlined_found scope.file.sections u x.offset (count_of is_inlined up) found y)
+      by_read : (r : Result InlinedAttributes Error) → Agrees before n (r >>= λ a. attribute_ranges scope.file.sections u a.ranges >>= λ ranges. Ok (found_ranges_from n found ++ inlined_ranges (count_by is_inlined up) x.offset a ranges)) (r >>= λ y. with_inlined_found scope.file.sections u x.offset (count_by is_inlined up) found y)
       by_read (Ok a) = by_ranges a (attribute_ranges scope.file.sections u a.ranges)
       by_read (Err f) = refl
 
-      by_test : (b : Bool) → Agrees before n (wanted b (count_of is_inlined up)) (given b (count_of is_inlined up))
+      by_test : (b : Bool) → Agrees before n (wanted b (count_by is_inlined up)) (given b (count_by is_inlined up))
       by_test true = by_read read
       by_test false = (refl, all)
 

@@ -15,7 +15,8 @@ use Rattle.addr2line_lines.specs.declared.picks.InlinedFunctionAddress.{InlinedF
 use Rattle.addr2line_lines.specs.Details.{Detail, detail_at}
 use Rattle.addr2line_lines.specs.InlinedEntries.{InlinedEntry, InlinedRange}
 use Rattle.addr2line_lines.specs.InlinedChain.{inlined_chain}
-use Rattle.addr2line_lines.specs.FoundInlined.{FoundInlined, IsFoundMore, IsGrown, entry_among, first_found, range_among}
+use Rattle.addr2line_lines.specs.FoundInlined.{FoundInlined, IsFoundMore, entry_among, first_found, range_among}
+use Rattle.addr2line_lines.specs.Grown.{IsGrown}
 use Rattle.addr2line_lines.specs.FoundDetails.{detail_found_at}
 use Rattle.addr2line_lines.specs.InlinedOrder.{inlined_sooner, place, place_begin, place_end, places_chain, places_of_depth, places_within}
 use Rattle.addr2line_lines.specs.InOrder.{IsInOrder, in_order}
@@ -30,11 +31,6 @@ use Rattle.addr2line_lines.proofs.NestingLemmas.{found_same, grown_not}
 use Rattle.addr2line_lines.proofs.OrderLemmas.{All-in, in_order_all, in_order_ordered}
 use Rattle.gimli_read.proofs.TopmostLemmas.{In, In-filter, In-last}
 use Rattle.addr2line_lines.proofs.SeekLemmas.{non_decreasing}
-
-pub map_take : {X Y : Type 0} (f : X → Y) (n : ℕ) (xs : List X) → map f (take n xs) ≡ take n (map f xs)
-map_take f zero xs = refl
-map_take f (suc n) [] = refl
-map_take f (suc n) (x ∷ xs) = ap (λ ys. f x ∷ ys) (map_take f n xs)
 
 pub last_name : {X Y : Type 0} (f : X → Y) (xs : List X) (x : X) (d : Y) → slice_index_or (map f (xs ++ x ∷ [])) (length xs) d ≡ f x
 last_name f [] x d = refl

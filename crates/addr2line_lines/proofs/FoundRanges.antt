@@ -13,9 +13,8 @@ use Rattle.gimli.specs.Items.{next_offset_of}
 use Rattle.gimli.specs.Sections.{Sections}
 use Rattle.gimli.specs.Unit.{UnitRecord}
 use Rattle.addr2line_lines.specs.declared.function.RangeAttributes.{RangeAttributes}
-use Rattle.addr2line_lines.specs.FoundAttributes.{is_range_name}
 use Rattle.addr2line_lines.specs.FoundFunctions.{FoundFunctions, found_at}
-use Rattle.addr2line_lines.specs.FoundRanges.{HasNoRange, IsSplitAtRange, is_function, is_range_specification}
+use Rattle.addr2line_lines.specs.FoundRanges.{HasNoRange, IsSplitAtRange, is_function, is_range_specification, is_range_name}
 use Rattle.addr2line_lines.specs.Functions.{is_subprogram}
 use Rattle.addr2line_lines.specs.RangeAttributes.{no_range_attributes, or_with_range_attribute, range_attributes_after, with_range_attribute}
 use Rattle.addr2line_lines.proofs.FunctionLemmas.{function_fault, function_found, other_found}

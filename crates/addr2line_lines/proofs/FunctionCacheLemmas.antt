@@ -15,7 +15,8 @@ use Rattle.addr2line_lines.specs.declared.functions.LazyDetail.TheVariants.{Unre
 use Rattle.addr2line_lines.specs.declared.functions.LazyFunction.{LazyFunction}
 use Rattle.addr2line_lines.specs.declared.segments.FunctionAddress.{FunctionAddress}
 use Rattle.addr2line_lines.specs.Details.{Detail, detail_at}
-use Rattle.addr2line_lines.specs.FoundInlined.{IsGrown, none_inlined}
+use Rattle.addr2line_lines.specs.FoundInlined.{none_inlined}
+use Rattle.addr2line_lines.specs.Grown.{IsGrown}
 use Rattle.addr2line_lines.specs.FoundFunctions.{AreFunctions, IsUnread, function_offsets, function_range_of}
 use Rattle.addr2line_lines.specs.FunctionCache.{AreCachedFunctions, AreDetailsApart, AreRuns, HasPlace, inlined_size, name_size, ranges_size, seen_function, seen_lazy, size_of}
 use Rattle.addr2line_lines.specs.FunctionTable.{CachedFunction, FunctionTable}

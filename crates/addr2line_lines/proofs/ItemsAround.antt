@@ -1,10 +1,11 @@
 -- The items around an item (on specs/ItemsAround.antt).
-use Rattle.std.proofs.Common.{◌≡◌, ℕ, zero, suc, ◌+◌, ◌-◌, ◌<◌, ◌≤◌, ◌==◌, ◌||◌, Bool, true, false, cond, drop, filter, List, [], ◌∷◌, ◌++◌, length, Option, Some, None, Result, Ok, Err, is_ok, refl, sym, ap, subst, ◌∙◌, arith, ℤ, pos, negsuc, append-nil, append_assoc, length-append, length-drop, nat_lt, ◌&&◌}
+use Rattle.std.proofs.Common.{◌≡◌, ℕ, zero, suc, ◌+◌, ◌-◌, ◌<◌, ◌≤◌, ◌==◌, ◌||◌, Bool, true, false, cond, drop, filter, List, [], ◌∷◌, ◌++◌, length, Option, Some, None, Result, Ok, Err, is_ok, refl, sym, ap, subst, ◌∙◌, arith, ℤ, pos, negsuc, append-nil, append_assoc, length-append, length-drop, nat_lt, ◌&&◌, count_by}
 use Rattle.std.specs.Prelude.{find, int_lt, ◌+ℤ◌}
 use Rattle.std.specs.List.{All, AllByRecursion, cons_option}
 use Rattle.std.specs.Option.{option_map}
 use Rattle.std.proofs.lemmas.Int.{ints}
 use Rattle.std.proofs.lemmas.Bool.Decides.{nat_tests}
+use Rattle.std.proofs.lemmas.List.Sums.{length-filter}
 use Rattle.std.proofs.lemmas.List.Elements.{All-append, All-from_recursion, All-map}
 use Rattle.gimli_read.specs.declared.error.Error.{Error}
 use Rattle.gimli_read.specs.declared.error.Error.TheVariants.{OffsetOutOfBounds, UnexpectedEof}
@@ -20,7 +21,7 @@ use Rattle.gimli.specs.Items.{Entry, Item, depth_after, depth_behind, items_from
 use Rattle.gimli.specs.Unit.{UnitRecord}
 use Rattle.gimli.proofs.ItemTexts.{text_is}
 use Rattle.gimli.proofs.ItemLemmas.{run}
-use Rattle.addr2line_lines.specs.Details.{Detail, PlacedItem, detail_at, item_entry, inlined_in, is_in_function, count_of, open_after, placed_items, with_inlined, with_inlined_entry}
+use Rattle.addr2line_lines.specs.Details.{Detail, PlacedItem, detail_at, item_entry, inlined_in, is_in_function, open_after, placed_items, with_inlined, with_inlined_entry}
 use Rattle.addr2line_lines.specs.InlinedEntries.{InlinedRange, inlined_attributes_of, inlined_entry, inlined_ranges, is_inlined}
 use Rattle.addr2line_lines.specs.ItemsAround.{DepthsAreNumbers, InsideIsRead, OpenAreAround, abbreviations_of, have_item, inlined_depth, is_inlined_item, items_around, items_inside_at, nearest_inlined}
 use Rattle.addr2line_lines.specs.Names.{name_of}
@@ -382,20 +383,23 @@ pub open_are_around : OpenAreAround
 open_are_around u offset items h = λ k d l. (All-from_recursion (IsPlaced items) (placed_items [] items) (placed_inside u offset items h) k d l).around
 
 -- an entry is inlined where its abbreviation is one of an inlined entry
-same_number : (up : List Item) → count_of is_inlined (abbreviations_of up) ≡ length (filter is_inlined_item up)
-same_number [] = refl
-same_number (z ∷ up) = by_entry z.entry (same_number up)
+same_length : (up : List Item) → length (filter is_inlined (abbreviations_of up)) ≡ length (filter is_inlined_item up)
+same_length [] = refl
+same_length (z ∷ up) = by_entry z.entry (same_length up)
   where
-    by_test : (a : Abbrev) (b : Bool) → count_of is_inlined (abbreviations_of up) ≡ length (filter is_inlined_item up)
+    by_test : (a : Abbrev) (b : Bool) → length (filter is_inlined (abbreviations_of up)) ≡ length (filter is_inlined_item up)
         → length (cond b (a ∷ filter is_inlined (abbreviations_of up)) (filter is_inlined (abbreviations_of up))) ≡ length (cond b (z ∷ filter is_inlined_item up) (filter is_inlined_item up))
     by_test a true rest = ap suc rest
     by_test a false rest = rest
 
-    by_entry : (o : Option Entry) → count_of is_inlined (abbreviations_of up) ≡ length (filter is_inlined_item up)
-        → count_of is_inlined (cons_option (option_map (λ (e : Entry). e.abbreviation) o) (abbreviations_of up))
+    by_entry : (o : Option Entry) → length (filter is_inlined (abbreviations_of up)) ≡ length (filter is_inlined_item up)
+        → length (filter is_inlined (cons_option (option_map (λ (e : Entry). e.abbreviation) o) (abbreviations_of up)))
         ≡ length (cond (elim o [ None ↦ false | Some e ↦ is_inlined e.abbreviation ]) (z ∷ filter is_inlined_item up) (filter is_inlined_item up))
     by_entry None rest = rest
     by_entry (Some e) rest = by_test e.abbreviation (is_inlined e.abbreviation) rest
+
+same_number : (up : List Item) → count_by is_inlined (abbreviations_of up) ≡ count_by is_inlined_item up
+same_number up = sym (length-filter is_inlined (abbreviations_of up)) ∙ same_length up ∙ length-filter is_inlined_item up
 
 -- around the nearest inlined entry there is one inlined entry fewer
 nearest_number : (items up : List Item) (offset : ℕ) → AreOpen items up → option_map (λ (x : Item). x.offset) (find is_inlined_item up) ≡ Some offset
@@ -408,7 +412,7 @@ nearest_number items (z ∷ up) offset h e = by_test (is_inlined_item z) (neares
         → inlined_depth offset items + 1 ≡ length (cond b (z ∷ filter is_inlined_item up) (filter is_inlined_item up))
     by_test true ih e =
         let same : z.offset ≡ offset = cc in
-        let n : inlined_depth offset items ≡ length (filter is_inlined_item up) = ap (λ o. inlined_depth o items) (sym same) ∙ ap (λ ys. length (filter is_inlined_item ys)) h.0 in
+        let n : inlined_depth offset items ≡ length (filter is_inlined_item up) = ap (λ o. inlined_depth o items) (sym same) ∙ ap (count_by is_inlined_item) h.0 ∙ sym (length-filter is_inlined_item up) in
         omega arith
     by_test false ih e = ih e
 
@@ -419,7 +423,7 @@ pub record IsListed (items : List Item) (x : InlinedRange) : Type 0 where
 
 pub nearest_depth : (items : List Item) (x y : InlinedRange) → IsListed items x → IsListed items y → nearest_inlined x.entry.offset items ≡ Some y.entry.offset → y.depth + 1 ≡ x.depth
 nearest_depth items x y h k e =
-    let n = nearest_number items (items_around x.entry.offset items) y.entry.offset h.opens e in
+    let n = nearest_number items (items_around x.entry.offset items) y.entry.offset h.opens e ∙ length-filter is_inlined_item (items_around x.entry.offset items) in
     let a = h.depth in
     let b = k.depth in
     omega arith
@@ -428,16 +432,16 @@ module _ (scope : Scope) (u : UnitRecord) (items : List Item) where
   step_listed : (found more : List InlinedRange) (p : PlacedItem) → IsPlaced items p → All (IsListed items) found → with_inlined scope u found p ≡ Ok more → All (IsListed items) more
   step_listed found more p h all e = by_entry p.item.entry e
     where
-      number : count_of is_inlined p.around ≡ inlined_depth p.item.offset items
-      number = ap (count_of is_inlined) h.around ∙ same_number (items_around p.item.offset items)
+      number : count_by is_inlined p.around ≡ inlined_depth p.item.offset items
+      number = ap (count_by is_inlined) h.around ∙ same_number (items_around p.item.offset items)
 
       read : (f : Entry) → with_inlined_entry scope u found p f ≡ Ok more → All (IsListed items) more
       read f e =
-          let a = bind_ok (inlined_attributes_of scope u f.attributes) (λ a. attribute_ranges scope.file.sections u a.ranges >>= λ ranges. Ok (found ++ inlined_ranges (count_of is_inlined p.around) p.item.offset a ranges)) more e in
-          let r = bind_ok (attribute_ranges scope.file.sections u a.0.ranges) (λ ranges. Ok (found ++ inlined_ranges (count_of is_inlined p.around) p.item.offset a.0 ranges)) more a.2 in
-          let same : found ++ inlined_ranges (count_of is_inlined p.around) p.item.offset a.0 r.0 ≡ more = (let q = r.2 in cc) in
-          subst (All (IsListed items)) same (All-append (IsListed items) found (inlined_ranges (count_of is_inlined p.around) p.item.offset a.0 r.0) all
-          (All-map (IsListed items) (λ (x : Range). record { depth = count_of is_inlined p.around; range = x; entry = inlined_entry p.item.offset a.0 }) r.0 (λ k d l. record { depth = number; opens = h.opens })))
+          let a = bind_ok (inlined_attributes_of scope u f.attributes) (λ a. attribute_ranges scope.file.sections u a.ranges >>= λ ranges. Ok (found ++ inlined_ranges (count_by is_inlined p.around) p.item.offset a ranges)) more e in
+          let r = bind_ok (attribute_ranges scope.file.sections u a.0.ranges) (λ ranges. Ok (found ++ inlined_ranges (count_by is_inlined p.around) p.item.offset a.0 ranges)) more a.2 in
+          let same : found ++ inlined_ranges (count_by is_inlined p.around) p.item.offset a.0 r.0 ≡ more = (let q = r.2 in cc) in
+          subst (All (IsListed items)) same (All-append (IsListed items) found (inlined_ranges (count_by is_inlined p.around) p.item.offset a.0 r.0) all
+          (All-map (IsListed items) (λ (x : Range). record { depth = count_by is_inlined p.around; range = x; entry = inlined_entry p.item.offset a.0 }) r.0 (λ k d l. record { depth = number; opens = h.opens })))
 
       by_test : (b : Bool) (f : Entry) → cond b (with_inlined_entry scope u found p f) (Ok found) ≡ Ok more → All (IsListed items) more
       by_test true f e = read f e
@@ -494,7 +498,7 @@ depths_are_numbers scope u offset items detail e f = λ k d l. (all_listed scope
 
 -- a range of depth 0 is of an entry around which no inlined one is
 pub none_nearest : (items : List Item) (x : InlinedRange) → IsListed items x → x.depth ≡ 0 → nearest_inlined x.entry.offset items ≡ None
-none_nearest items x h zero_is = ap (option_map (λ (y : Item). y.offset)) (none_found (items_around x.entry.offset items) (sym h.depth ∙ zero_is))
+none_nearest items x h zero_is = ap (option_map (λ (y : Item). y.offset)) (none_found (items_around x.entry.offset items) (length-filter is_inlined_item (items_around x.entry.offset items) ∙ sym h.depth ∙ zero_is))
   where
     none_found : (ys : List Item) → length (filter is_inlined_item ys) ≡ 0 → find is_inlined_item ys ≡ None
     none_found [] e = refl

@@ -20,10 +20,11 @@ use Rattle.gimli.proofs.ItemLemmas.{next_is}
 use Rattle.gimli.proofs.ItemReads.{items_end, items_fault, items_more}
 use Rattle.addr2line_lines.specs.declared.nesting.Kind.{Kind}
 use Rattle.addr2line_lines.specs.FoundItems.{FoundAround, inside_found, item_found_at, with_item_found}
-use Rattle.addr2line_lines.specs.FoundInlined.{FoundInlined, IsFoundMore, IsGrown, entry_found_at, inlined_address, inlined_more, with_entry_found, with_inlined_found, with_inlined_ranges}
-use Rattle.addr2line_lines.specs.FoundDetails.{abbreviation_of, detail_found_at, detail_takes_at, function_found_at, function_takes_at}
+use Rattle.addr2line_lines.specs.FoundInlined.{FoundInlined, IsFoundMore, entry_found_at, inlined_address, inlined_more, with_entry_found, with_inlined_found, with_inlined_ranges}
+use Rattle.addr2line_lines.specs.Grown.{IsGrown}
+use Rattle.addr2line_lines.specs.FoundDetails.{abbreviation_of, detail_found_at, detail_takes_memory_at, function_found_at, function_takes_memory_at}
 use Rattle.addr2line_lines.specs.OpenEntries.{closed_once, kind_of, opened}
-use Rattle.addr2line_lines.specs.FoundAttributes.{name_after}
+use Rattle.addr2line_lines.specs.FoundNames.{name_after}
 use Rattle.addr2line_lines.specs.InlinedEntries.{InlinedAttributes, inlined_entry}
 use Rattle.addr2line_lines.specs.RangeAttributes.{attribute_ranges}
 use Rattle.gimli_read.specs.declared.range.Range.{Range}
@@ -236,11 +237,11 @@ detail-encoding u offset left h = by_bytes (entry_bytes_from u.header (Some offs
 
 -- whether memory is taken for it
 pub detail-takes : (scope : Scope) (u : UnitRecord) (offset : ℕ) (found : FoundInlined) (left : EntriesLeft) (a : Abbrev) (t : EntryCursor) → entries_from u (Some offset) ≡ Ok left → entry_abbreviation_at left.unit.abbreviations left.cursor ≡ Ok (Some a, t)
-    → detail_takes_at scope u offset found ≡ function_takes_at scope u left.unit t found a
-unfolding detail_takes_at
+    → detail_takes_memory_at scope u offset found ≡ function_takes_memory_at scope u left.unit t found a
+unfolding detail_takes_memory_at
 detail-takes scope u offset found left a t h k =
-    ap (λ (r : Result EntriesLeft Error). r >>= λ l. entry_abbreviation_at l.unit.abbreviations l.cursor >>= λ c. abbreviation_of offset c.0 >>= λ b. function_takes_at scope u l.unit c.1 found b) h
-    ∙ ap (λ (r : Result (Option Abbrev × EntryCursor) Error). r >>= λ c. abbreviation_of offset c.0 >>= λ b. function_takes_at scope u left.unit c.1 found b) k
+    ap (λ (r : Result EntriesLeft Error). r >>= λ l. entry_abbreviation_at l.unit.abbreviations l.cursor >>= λ c. abbreviation_of offset c.0 >>= λ b. function_takes_memory_at scope u l.unit c.1 found b) h
+    ∙ ap (λ (r : Result (Option Abbrev × EntryCursor) Error). r >>= λ c. abbreviation_of offset c.0 >>= λ b. function_takes_memory_at scope u left.unit c.1 found b) k
 
 -- lists that grow at their end
 pub grown_not : {X : Type 0} (xs : List X) → IsGrown xs xs

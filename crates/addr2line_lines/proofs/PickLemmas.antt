@@ -1,5 +1,5 @@
 -- What decides which range counts (on specs/Pick.antt).
-use Rattle.std.proofs.Common.{ℕ, ◌≡◌, ◌<◌, ◌≤◌, ◌⊎◌, Bool, true, false, cond, ◌&&◌, List, [], ◌∷◌, Some, None, nat_le, ◌==◌, arith, inl, inr, ◌∙◌, ap, refl}
+use Rattle.std.proofs.Common.{ℕ, ◌≡◌, ◌<◌, ◌≤◌, ◌⊎◌, Bool, false, cond, ◌&&◌, List, [], ◌∷◌, Some, None, nat_le, ◌==◌, arith, inl, inr, ◌∙◌, ap, refl}
 use Rattle.std.specs.List.{filter, All}
 use Rattle.std.proofs.lemmas.List.Elements.{All-head, All-tail, filter_agree}
 use Rattle.std.proofs.lemmas.Bool.Decides.{nat_tests}

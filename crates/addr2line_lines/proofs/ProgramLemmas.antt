@@ -1,18 +1,18 @@
 -- The lines of a program, of its rows and its files (on specs/UnitLines.antt).
-use Rattle.std.proofs.Common.{◌≡◌, ℕ, ◌++◌, List, Result, Ok, Err, sym, ap, ◌∙◌}
+use Rattle.std.proofs.Common.{◌≡◌, ℕ, ◌++◌, List, [], ◌∷◌, Option, Some, None, Result, Ok, Err, sym, ap, ◌∙◌}
 use Rattle.gimli_read.specs.declared.error.Error.{Error}
 use Rattle.gimli_read.specs.Reading.{◌>>=◌}
 use Rattle.gimli_line.specs.Header.{File}
 use Rattle.gimli_line.specs.declared.row.LineRow.{LineRow}
 use Rattle.gimli_line.specs.Header.{Header, Program}
-use Rattle.gimli_line.specs.Lines.{Lines, lines_of}
+use Rattle.gimli_line.specs.Lines.{Lines, YieldsUnlessOom, lines_of}
 use Rattle.gimli.specs.Sections.{Sections}
 use Rattle.gimli.specs.Unit.{UnitRecord}
 use Rattle.addr2line_lines.specs.Rows.{read_all, result_map}
 use Rattle.addr2line_lines.specs.Sequences.{Sequence, sequences_of}
 use Rattle.addr2line_lines.specs.Location.{LineTable, line_table_of}
 use Rattle.addr2line_lines.specs.FileTexts.{file_texts}
-use Rattle.addr2line_lines.specs.UnitLines.{program_lines}
+use Rattle.addr2line_lines.specs.UnitLines.{IsFaultAtOnce, program_lines}
 
 -- files and sequences
 abbrev table_with : List (List ℕ) → List Sequence → LineTable
@@ -45,6 +45,21 @@ module _ (d : Sections) (u : UnitRecord) (p : Program) (rows : Lines) (given : �
   unfolding program_lines
   program_rows_fault e h = rows_fault (read_all (lines_of p).left) _ e (ap (result_map sequences_of) (sym same_left) ∙ h)
 
+  -- a fault that comes before anything else is the answer of the program too
+  pub refused_at_once : {X Y : Type 0} (x : Error) → IsFaultAtOnce {X = X} rows (Err x) → IsFaultAtOnce {X = Y} (lines_of p) (Err x)
+  refused_at_once {X} {Y} x h e ahead left =
+      let same = value_of (lines_of p) rows given in
+      let is : ◌≡◌ {A = Result X Error} (Err x) (Err e) = h e (ap (λ (l : Lines). l.ahead) (sym same) ∙ ahead) (ap (λ (l : Lines). l.left) (sym same) ∙ left) in
+      let fault : x ≡ e = cc in
+      ap Err fault
+
+  -- where the rows are read there is no such fault
+  pub read_at_once : {X Y : Type 0} (v : X) (r : Result Y Error) → IsFaultAtOnce {X = X} rows (Ok v) → IsFaultAtOnce {X = Y} (lines_of p) r
+  read_at_once {X} {Y} v r h e ahead left =
+      let same = value_of (lines_of p) rows given in
+      let is : ◌≡◌ {A = Result X Error} (Ok v) (Err e) = h e (ap (λ (l : Lines). l.ahead) (sym same) ∙ ahead) (ap (λ (l : Lines). l.left) (sym same) ∙ left) in
+      absurd cc
+
   module _ (ss : List Sequence) (h : result_map sequences_of (read_all rows.left) ≡ Ok ss) (header : Header) (its : header ≡ p.header) (files : List (File)) (is : files ≡ rows.header.file_names ++ rows.to_define) where
     same_files : file_texts d u header files ≡ file_texts d u p.header (p.header.file_names ++ (lines_of p).to_define)
     same_files = ap (λ x. file_texts d u x files) its ∙ ap (file_texts d u p.header) (is ∙ ap (λ (l : Lines). l.header.file_names ++ l.to_define) (sym (value_of (lines_of p) rows given)))
@@ -56,3 +71,23 @@ module _ (d : Sections) (u : UnitRecord) (p : Program) (rows : Lines) (given : �
     pub program_made : (ts : List (List ℕ)) → file_texts d u header files ≡ Ok ts → program_lines d u p ≡ Ok (table_with ts ss)
     unfolding program_lines
     program_made ts k = both_made (read_all (lines_of p).left) _ ss ts (ap (result_map sequences_of) (sym same_left) ∙ h) (sym same_files ∙ k)
+
+-- a fault before the first row, and before any file, is the answer
+pub fault_at_once : {X : Type 0} (start now : Lines) (e f : Error) → now ≡ start → (now.ahead ≡ [] → now.left ≡ Err f ∷ []) → start.ahead ≡ [] → start.left ≡ Err e ∷ [] → ◌≡◌ {A = Result X Error} (Err f) (Err e)
+fault_at_once {X} start now e f same gave ahead left =
+    let found : now.left ≡ Err f ∷ [] = gave (ap (λ (l : Lines). l.ahead) same ∙ ahead) in
+    let given : now.left ≡ Err e ∷ [] = ap (λ (l : Lines). l.left) same ∙ left in
+    let is : ◌≡◌ {A = List (Result LineRow Error)} (Err f ∷ []) (Err e ∷ []) = sym found ∙ given in
+    let fault : f ≡ e = cc in
+    ap Err fault
+
+-- where such a fault comes nothing else is given
+pub never_at_once : (start now : Lines) (e : Error) (r : Option LineRow) (rest : List (Result LineRow Error)) → now ≡ start → start.left ≡ Err e ∷ [] → YieldsUnlessOom now.left (Ok r) rest → ⊥
+never_at_once start now e None rest same left gave =
+    let given : now.left ≡ Err e ∷ [] = ap (λ (l : Lines). l.left) same ∙ left in
+    let none : now.left ≡ [] = gave.0 in
+    cc
+never_at_once start now e (Some x) rest same left gave =
+    let given : now.left ≡ Err e ∷ [] = ap (λ (l : Lines). l.left) same ∙ left in
+    let some : now.left ≡ Ok x ∷ rest = gave in
+    cc

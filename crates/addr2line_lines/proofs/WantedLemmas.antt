@@ -1,5 +1,5 @@
 -- Runs of attributes that say nothing of an inlined entry (on specs/FoundAttributes.antt).
-use Rattle.std.proofs.Common.{zero, suc, ◌+◌, ◌<◌, ◌≡◌, false, List, [], ◌∷◌, ◌++◌, length, Result, Ok, Err, arith, refl, ap, sym, ◌∙◌, append-nil, length-append}
+use Rattle.std.proofs.Common.{zero, suc, ◌<◌, ◌≡◌, false, List, [], ◌∷◌, ◌++◌, length, Result, Ok, Err, arith, refl, ap, sym, ◌∙◌, append-nil, length-append}
 use Rattle.gimli_read.specs.declared.endian.Encoding.{Encoding}
 use Rattle.gimli_read.specs.declared.error.Error.{Error}
 use Rattle.gimli_read.specs.Abbreviations.{Specification}

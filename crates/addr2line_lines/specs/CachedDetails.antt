@@ -9,7 +9,8 @@ use Rattle.addr2line_lines.specs.declared.details.Details.{Details}
 use Rattle.addr2line_lines.specs.declared.details.FunctionDetail.{FunctionDetail}
 use Rattle.addr2line_lines.specs.declared.picks.InlinedFunctionAddress.{InlinedFunctionAddress}
 use Rattle.addr2line_lines.specs.Details.{Detail}
-use Rattle.addr2line_lines.specs.FoundInlined.{FoundInlined, IsFoundMore, IsGrown, range_among, seen_lists}
+use Rattle.addr2line_lines.specs.FoundInlined.{FoundInlined, IsFoundMore, range_among, seen_lists}
+use Rattle.addr2line_lines.specs.Grown.{IsGrown}
 use Rattle.addr2line_lines.specs.InOrder.{in_order}
 use Rattle.addr2line_lines.specs.InlinedOrder.{inlined_sooner, place}
 
@@ -21,7 +22,7 @@ pub record CachedDetails : Type 0 where
 -- what is cached
 abbrev pub seen_details : {R : Type 0} → (R → Section) → Details R → CachedDetails
 seen_details see d =
-    record { names = map (option_map see) d.names.items; found = seen_lists see d.inlined }
+    record { names = map (option_map see) d.names.items; found = seen_lists d.inlined }
 
 -- the ranges of a place, in the order of their entries
 abbrev pub listed_ranges : FunctionDetail → List InlinedFunctionAddress

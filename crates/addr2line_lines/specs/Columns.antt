@@ -10,14 +10,18 @@ abbrev pub indexes_of : FileIndexes → List ℕ
 indexes_of (Narrow v) = v.items
 indexes_of (Wide v) = v.items
 
+-- the least index that doesn't fit in 16 bits
+abbrev pub narrow_end : ℕ
+narrow_end = 2 ^ 16
+
 -- the index doesn't fit where the indexes have 16 bits
 abbrev pub is_beyond : FileIndexes → ℕ → Bool
-is_beyond (Narrow v) n = nat_le (2 ^ 16) n
+is_beyond (Narrow v) n = nat_le narrow_end n
 is_beyond (Wide v) n = false
 
 -- there is room for one index more, which fits
 abbrev pub HasRoom : FileIndexes → ℕ → Type 0
-HasRoom (Narrow v) n = (n < 2 ^ 16) × (vec_len v < vec_capacity v)
+HasRoom (Narrow v) n = (n < narrow_end) × (vec_len v < vec_capacity v)
 HasRoom (Wide v) n = vec_len v < vec_capacity v
 
 -- the rows of columns, as far as each column goes

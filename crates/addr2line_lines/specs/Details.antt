@@ -1,7 +1,7 @@
 -- The details of a function: its name, and the inlined entries inside it (DWARF 5, section 3.3.8).
 -- Own: the depth of an inlined entry is the number of inlined entries around it. Nested subprograms
 -- are skipped whole. An entry without ranges counts for the depth of those inside it alone.
-use Rattle.std.specs.Prelude.{ℕ, ◌+◌, ◌==◌, ◌||◌, ◌&&◌, Bool, false, List, [], ◌∷◌, ◌++◌, filter, length, Option, Some, None, Result, Ok, Err, is_ok, if◌then◌else◌}
+use Rattle.std.specs.Prelude.{ℕ, ◌==◌, ◌||◌, ◌&&◌, Bool, false, List, [], ◌∷◌, ◌++◌, count_by, Option, Some, None, Result, Ok, Err, is_ok, if◌then◌else◌}
 use Rattle.gimli_read.specs.declared.error.Error.{Error}
 use Rattle.gimli_read.specs.declared.error.Error.TheVariants.{NoEntryAtGivenOffset}
 use Rattle.gimli_read.specs.Abbreviations.{Abbrev}
@@ -45,13 +45,9 @@ placed_items around [] = []
 placed_items around (x ∷ xs) =
     record { item = x; around = around } ∷ placed_items (open_after around x) xs
 
--- how many of entries are such
-abbrev pub count_of : (Abbrev → Bool) → List Abbrev → ℕ
-count_of such entries = length (filter such entries)
-
 -- whether an item is in no nested subprogram
 abbrev pub is_in_function : PlacedItem → Bool
-is_in_function x = count_of is_subprogram x.around == 0
+is_in_function x = count_by is_subprogram x.around == 0
 
 -- the inlined ranges after an inlined entry
 abbrev pub with_inlined_entry : Scope → UnitRecord → List InlinedRange → PlacedItem → Entry
@@ -59,7 +55,7 @@ abbrev pub with_inlined_entry : Scope → UnitRecord → List InlinedRange → P
 with_inlined_entry scope u found x e =
     inlined_attributes_of scope u e.attributes >>= λ a.
     attribute_ranges scope.file.sections u a.ranges >>= λ ranges.
-    Ok (found ++ inlined_ranges (count_of is_inlined x.around) x.item.offset a ranges)
+    Ok (found ++ inlined_ranges (count_by is_inlined x.around) x.item.offset a ranges)
 
 -- those after one more item, if it is an inlined entry and in no nested subprogram
 abbrev pub with_inlined : Scope → UnitRecord → List InlinedRange → PlacedItem

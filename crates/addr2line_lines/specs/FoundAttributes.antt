@@ -1,36 +1,25 @@
--- What attributes of functions and of inlined entries say, as the private functions see
--- them.
+-- What attributes of inlined entries say, as the private functions see them.
 use Rattle.std.specs.Prelude.{◌≡◌, ◌==◌, ◌||◌, Bool, false, List, ◌∷◌, ◌++◌, fold, Option, Some, None, option_map, Result, Ok, Err}
 use Rattle.std.specs.List.{All}
 use Rattle.gimli_read.specs.declared.constants.DwAt.{DwAt}
-use Rattle.gimli_read.specs.declared.constants.TheConstants.DwAt.{DW_AT_call_column, DW_AT_call_file, DW_AT_call_line, DW_AT_high_pc, DW_AT_low_pc, DW_AT_ranges}
+use Rattle.gimli_read.specs.declared.constants.TheConstants.DwAt.{DW_AT_call_column, DW_AT_call_file, DW_AT_call_line}
 use Rattle.gimli_read.specs.declared.error.Error.{Error}
 use Rattle.gimli_read.specs.Abbreviations.{Specification}
 use Rattle.gimli_read.specs.Form.{NamedValue, rest_of}
 use Rattle.gimli_read.specs.Reading.{Reading, ◌>>=◌, ExactlyUnlessOomIf}
 use Rattle.gimli_read.specs.Section.{Section}
 use Rattle.gimli.specs.Unit.{UnitRecord}
-use Rattle.addr2line_lines.specs.declared.inlined.CallSite as declared_call
 use Rattle.addr2line_lines.specs.declared.inlined.InlinedAttributes as declared_attributes
-use Rattle.addr2line_lines.specs.InlinedEntries.{CallSite, InlinedAttributes, or_with_inlined_attribute}
+use Rattle.addr2line_lines.specs.InlinedEntries.{InlinedAttributes, or_with_inlined_attribute}
 use Rattle.addr2line_lines.specs.FoundNames.{is_name_attribute}
-use Rattle.addr2line_lines.specs.Names.{or_with_name, with_name}
+use Rattle.addr2line_lines.specs.FoundRanges.{is_range_name}
 use Rattle.addr2line_lines.specs.References.{Scope}
-
--- a call
-abbrev pub seen_call_site : declared_call.CallSite → CallSite
-seen_call_site c = record { file = c.file; line = c.line; column = c.column }
 
 -- what attributes of an inlined entry say
 abbrev pub seen_attributes : {R : Type 0} → (R → Section) → declared_attributes.InlinedAttributes R
     → InlinedAttributes
 seen_attributes see x =
-    record { ranges = x.ranges; name = option_map see x.name; call = seen_call_site x.call }
-
--- whether an attribute says of an entry's ranges
-abbrev pub is_range_name : DwAt → Bool
-is_range_name name =
-    name.0 == DW_AT_low_pc.0 || name.0 == DW_AT_high_pc.0 || name.0 == DW_AT_ranges.0
+    record { ranges = x.ranges; name = option_map see x.name; call = x.call }
 
 -- whether an attribute says of a call
 abbrev pub is_call : DwAt → Bool
@@ -79,14 +68,3 @@ abbrev pub inlined_attributes_after : Scope → UnitRecord → Result InlinedAtt
     → Reading (List NamedValue) → Result InlinedAttributes Error
 inlined_attributes_after scope u x read =
     read >>= λ y. fold (or_with_inlined_attribute scope u) x y.0
-
--- one more attribute of a function, if it was wanted
-abbrev pub with_read_name : Scope → UnitRecord → Option Section → Option NamedValue
-    → Result (Option Section) Error
-with_read_name scope u name None = Ok name
-with_read_name scope u name (Some a) = with_name scope u name a
-
--- the name by attributes that are read, after those that were read before
-abbrev pub name_after : Scope → UnitRecord → Result (Option Section) Error
-    → Reading (List NamedValue) → Result (Option Section) Error
-name_after scope u name read = read >>= λ y. fold (or_with_name scope u) name y.0

@@ -10,7 +10,7 @@ use Rattle.gimli.specs.Entries.{entries_from}
 use Rattle.gimli.specs.Entry.{EntryCursor, EntryUnit, attributes_at, entry_abbreviation_at}
 use Rattle.gimli.specs.Unit.{UnitRecord}
 use Rattle.addr2line_lines.specs.References.{Scope}
-use Rattle.addr2line_lines.specs.FoundAttributes.{name_after}
+use Rattle.addr2line_lines.specs.FoundNames.{name_after}
 use Rattle.addr2line_lines.specs.FoundInlined.{FoundInlined}
 use Rattle.addr2line_lines.specs.FoundItems.{inside_found, inside_takes_memory}
 
@@ -29,9 +29,9 @@ function_found_at scope u unit cursor found a =
     (record { found = found; around = [] }) >>= λ more. Ok (name, more)
 
 -- whether memory is taken inside a function whose attributes follow, or the first fault of these
-abbrev pub function_takes_at
+abbrev pub function_takes_memory_at
     : Scope → UnitRecord → EntryUnit → EntryCursor → FoundInlined → Abbrev → Result Bool Error
-function_takes_at scope u unit cursor found a =
+function_takes_memory_at scope u unit cursor found a =
     name_after scope u (Ok None) (attributes_at u.header.encoding a.attributes cursor.left)
     >>= λ name. rest_of (attributes_at u.header.encoding a.attributes cursor.left) >>= λ rest.
     Ok (inside_takes_memory scope u unit (record { left = rest; depth = cursor.depth })
@@ -48,14 +48,14 @@ detail_found_at scope u offset found = do
 
 -- whether memory is taken inside the function whose entry begins at an offset, or the first fault
 -- of that entry and its name
-unfoldable pub detail_takes_at : Scope → UnitRecord → ℕ → FoundInlined → Result Bool Error
-detail_takes_at scope u offset found = do
+unfoldable pub detail_takes_memory_at : Scope → UnitRecord → ℕ → FoundInlined → Result Bool Error
+detail_takes_memory_at scope u offset found = do
   left ← entries_from u (Some offset)
   code ← entry_abbreviation_at left.unit.abbreviations left.cursor
   a ← abbreviation_of offset code.0
-  function_takes_at scope u left.unit code.1 found a
+  function_takes_memory_at scope u left.unit code.1 found a
 
 -- whether it is so, where there is no such fault
-abbrev pub is_taken : Result Bool Error → Bool
-is_taken (Ok takes) = takes
-is_taken (Err e) = false
+abbrev pub is_memory_taken : Result Bool Error → Bool
+is_memory_taken (Ok takes) = takes
+is_memory_taken (Err e) = false

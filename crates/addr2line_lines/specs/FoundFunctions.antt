@@ -12,7 +12,7 @@ use Rattle.gimli.specs.Ranges.{ranges_at}
 use Rattle.gimli.specs.Sections.{Sections}
 use Rattle.gimli.specs.Unit.{UnitRecord}
 use Rattle.addr2line_lines.specs.declared.function.RangeAttributes.{RangeAttributes}
-use Rattle.addr2line_lines.specs.declared.functions.Found.{Found}
+use Rattle.addr2line_lines.specs.declared.functions.FunctionLists.{FunctionLists}
 use Rattle.addr2line_lines.specs.declared.functions.LazyDetail.TheVariants.{Unread}
 use Rattle.addr2line_lines.specs.declared.functions.LazyFunction.{LazyFunction}
 use Rattle.addr2line_lines.specs.declared.segments.FunctionAddress.{FunctionAddress}
@@ -103,7 +103,7 @@ abbrev pub function_offsets : List LazyFunction → List UnitOffset
 function_offsets functions = map (λ (f : LazyFunction). f.dw_die_offset) functions
 
 -- what was found
-abbrev pub seen_functions : Found → FoundFunctions
+abbrev pub seen_functions : FunctionLists → FoundFunctions
 seen_functions f =
     record { offsets = function_offsets f.functions.items; addresses = f.addresses.items }
 
@@ -112,7 +112,7 @@ abbrev pub IsUnread : LazyFunction → Type 0
 IsUnread f = f.detail ≡ Unread
 
 -- the detail of no function that was found is read
-abbrev pub AreFoundUnread : Found → Type 0
+abbrev pub AreFoundUnread : FunctionLists → Type 0
 AreFoundUnread f = AllByRecursion IsUnread f.functions.items
 
 -- a range, by where the entry of its function begins

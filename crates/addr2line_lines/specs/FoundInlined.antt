@@ -1,6 +1,6 @@
--- The inlined entries of a function and their ranges as they are found, as the private functions see
--- them.
-use Rattle.std.specs.Prelude.{◌≡◌, ℕ, ◌<◌, ◌&&◌, Bool, false, List, [], ◌∷◌, ◌++◌, drop, map, length, slice_index_or, take, None, option_map, Result, Ok, Err, if◌then◌else◌}
+-- The inlined entries of a function and their ranges as they are found, as the private functions
+-- see them.
+use Rattle.std.specs.Prelude.{ℕ, ◌<◌, ◌&&◌, Bool, false, List, [], ◌∷◌, ◌++◌, drop, map, length, slice_index_or, take, None, Result, Ok, Err, if◌then◌else◌, count_by}
 use Rattle.gimli_read.specs.declared.error.Error.{Error}
 use Rattle.gimli_read.specs.declared.range.Range.{Range}
 use Rattle.gimli_read.specs.Abbreviations.{Abbrev}
@@ -14,38 +14,62 @@ use Rattle.gimli.specs.Sections.{Sections}
 use Rattle.gimli.specs.Unit.{UnitRecord}
 use Rattle.addr2line_lines.specs.declared.inlined_lists.InlinedLists.{InlinedLists}
 use Rattle.addr2line_lines.specs.declared.function.RangeAttributes.{RangeAttributes}
-use Rattle.addr2line_lines.specs.declared.inlined.InlinedFunction.{InlinedFunction}
 use Rattle.addr2line_lines.specs.declared.picks.InlinedFunctionAddress.{InlinedFunctionAddress}
 use Rattle.addr2line_lines.specs.declared.nesting.Kind.{Kind}
+use Rattle.addr2line_lines.specs.Grown.{IsGrown}
 use Rattle.addr2line_lines.specs.InlinedEntries.{InlinedAttributes, InlinedEntry, InlinedRange, inlined_attributes_of, inlined_entry, no_call}
 use Rattle.addr2line_lines.specs.Details.{inlined_gives_a_range}
 use Rattle.addr2line_lines.specs.InlinedOrder.{inlined_range_of}
 use Rattle.addr2line_lines.specs.RangeAttributes.{all_ranges, attribute_ranges}
 use Rattle.addr2line_lines.specs.References.{Scope}
-use Rattle.addr2line_lines.specs.OpenEntries.{kind_of, is_inlined_kind, kinds_such, is_listed}
+use Rattle.addr2line_lines.specs.OpenEntries.{kind_of, is_inlined_kind, is_listed}
 
 -- inlined entries, and the ranges by their places
 pub record FoundInlined : Type 0 where
   pub entries : List InlinedEntry
   pub ranges : List InlinedFunctionAddress
 
--- an inlined entry
-abbrev pub seen_inlined : {R : Type 0} → (R → Section) → InlinedFunction R → InlinedEntry
-seen_inlined see f = record {
-  offset = f.dw_die_offset.0;
-  name = option_map see f.name;
-  call = record { file = f.call_file; line = f.call_line; column = f.call_column };
-}
+-- neither entries nor ranges
+abbrev pub none_inlined : FoundInlined
+none_inlined = record { entries = []; ranges = [] }
+
+-- the first inlined entries, and the first ranges
+abbrev pub first_found : ℕ → ℕ → FoundInlined → FoundInlined
+first_found functions ranges found =
+    record { entries = take functions found.entries; ranges = take ranges found.ranges }
 
 -- what was found
-abbrev pub seen_lists : {R : Type 0} → (R → Section) → InlinedLists R → FoundInlined
-seen_lists see l =
-    record { entries = map (seen_inlined see) l.functions.items; ranges = l.ranges.items }
+abbrev pub seen_lists : {R : Type 0} → InlinedLists R → FoundInlined
+seen_lists l = record { entries = l.functions.items; ranges = l.ranges.items }
+
+-- no inlined entry
+abbrev pub no_inlined : InlinedEntry
+no_inlined = record { offset = 0; name = None; call = no_call }
+
+-- the inlined entry of a place
+abbrev pub entry_among : List InlinedEntry → ℕ → InlinedEntry
+entry_among entries n = slice_index_or entries n no_inlined
+
+-- a range, by its inlined entry
+abbrev pub range_among : List InlinedEntry → InlinedFunctionAddress → InlinedRange
+range_among entries a = inlined_range_of (entry_among entries) a
+
+-- the ranges from a place on, by their inlined entries
+abbrev pub found_ranges_from : ℕ → FoundInlined → List InlinedRange
+found_ranges_from n found = map (range_among found.entries) (drop n found.ranges)
 
 -- a range of the inlined entry of a place
 abbrev pub inlined_address : ℕ → ℕ → Range → InlinedFunctionAddress
 inlined_address depth function range =
     record { depth = depth; range = range; function = function }
+
+-- one more inlined entry, if it has a range
+abbrev pub inlined_more : FoundInlined → InlinedEntry → ℕ → List Range → FoundInlined
+inlined_more found entry depth [] = found
+inlined_more found entry depth (r ∷ ranges) = record {
+  entries = found.entries ++ entry ∷ [];
+  ranges = found.ranges ++ map (inlined_address depth (length found.entries)) (r ∷ ranges);
+}
 
 -- the ranges of a range list after others
 abbrev pub with_inlined_list : Sections → UnitRecord → ℕ → ℕ → ℕ → List InlinedFunctionAddress
@@ -60,14 +84,6 @@ with_inlined_ranges d u attributes depth function found =
     attribute_ranges d u attributes >>= λ ranges.
     Ok (found ++ map (inlined_address depth function) ranges)
 
--- one more inlined entry, if it has a range
-abbrev pub inlined_more : FoundInlined → InlinedEntry → ℕ → List Range → FoundInlined
-inlined_more found entry depth [] = found
-inlined_more found entry depth (r ∷ ranges) = record {
-  entries = found.entries ++ entry ∷ [];
-  ranges = found.ranges ++ map (inlined_address depth (length found.entries)) (r ∷ ranges);
-}
-
 -- the inlined entry of attributes, if they give a range
 abbrev pub with_inlined_found : Sections → UnitRecord → ℕ → ℕ → FoundInlined → InlinedAttributes
     → Result FoundInlined Error
@@ -80,7 +96,7 @@ abbrev pub with_entry_found : Scope → UnitRecord → List Kind → ℕ → Fou
 with_entry_found scope u around offset found e =
     if is_listed (kind_of e.abbreviation) around
     then (inlined_attributes_of scope u e.attributes >>= λ x. with_inlined_found
-    scope.file.sections u offset (kinds_such is_inlined_kind around) found x)
+    scope.file.sections u offset (count_by is_inlined_kind around) found x)
     else Ok found
 
 -- that of an entry whose attributes follow, and what is left after these
@@ -103,41 +119,11 @@ read_lists_a_range scope u around a (Ok x) =
     entry_lists_a_range scope u around (record { abbreviation = a; attributes = x.0 })
 read_lists_a_range scope u around a (Err e) = false
 
--- no inlined entry
-abbrev pub no_inlined : InlinedEntry
-no_inlined = record { offset = 0; name = None; call = no_call }
-
--- the inlined entry of a place
-abbrev pub entry_among : List InlinedEntry → ℕ → InlinedEntry
-entry_among entries n = slice_index_or entries n no_inlined
-
--- a range, by its inlined entry
-abbrev pub range_among : List InlinedEntry → InlinedFunctionAddress → InlinedRange
-range_among entries a = inlined_range_of (entry_among entries) a
-
 -- a place is that of an inlined entry
 abbrev pub IsPlaceAmong : List InlinedEntry → InlinedFunctionAddress → Type 0
 IsPlaceAmong entries a = a.function < length entries
-
--- the ranges from a place on, by their inlined entries
-abbrev pub found_ranges_from : ℕ → FoundInlined → List InlinedRange
-found_ranges_from n found = map (range_among found.entries) (drop n found.ranges)
-
--- a list, and the same with more at its end
-pub record IsGrown {X : Type 0} (xs ys : List X) : Type 0 where
-  pub more : List X
-  pub is : ys ≡ xs ++ more
 
 -- what was found before stays, with more at its end
 pub record IsFoundMore (found more : FoundInlined) : Type 0 where
   pub entries : IsGrown found.entries more.entries
   pub ranges : IsGrown found.ranges more.ranges
-
--- neither entries nor ranges
-abbrev pub none_inlined : FoundInlined
-none_inlined = record { entries = []; ranges = [] }
-
--- the first inlined entries, and the first ranges
-abbrev pub first_found : ℕ → ℕ → FoundInlined → FoundInlined
-first_found functions ranges found =
-    record { entries = take functions found.entries; ranges = take ranges found.ranges }

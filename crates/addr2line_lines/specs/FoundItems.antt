@@ -3,7 +3,6 @@ use Rattle.std.specs.Prelude.{◌||◌, ◌&&◌, Bool, false, List, [], ◌∷�
 use Rattle.gimli_read.specs.declared.error.Error.{Error}
 use Rattle.gimli_read.specs.declared.error.Error.TheVariants.{UnexpectedEof}
 use Rattle.gimli_read.specs.Reading.{◌>>=◌}
-use Rattle.gimli_read.specs.Section.{Section}
 use Rattle.gimli_read.specs.Run.{fold_of}
 use Rattle.gimli.specs.Entry.{EntryCursor, EntryUnit}
 use Rattle.gimli.specs.Items.{Item, items_from, items_inside, next_item_at}
@@ -20,8 +19,8 @@ pub record FoundAround : Type 0 where
   pub around : List Kind
 
 -- the same, of the lists and the kinds
-abbrev pub seen_around : {R : Type 0} → (R → Section) → InlinedLists R → List Kind → FoundAround
-seen_around see lists around = record { found = seen_lists see lists; around = around }
+abbrev pub seen_around : {R : Type 0} → InlinedLists R → List Kind → FoundAround
+seen_around lists around = record { found = seen_lists lists; around = around }
 
 -- after one more item
 abbrev pub with_item_found : Scope → UnitRecord → FoundAround → Item → Result FoundAround Error

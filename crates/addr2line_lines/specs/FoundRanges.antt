@@ -1,9 +1,15 @@
 -- The attributes of ranges among those of an entry, as the private functions see them.
-use Rattle.std.specs.Prelude.{◌≡◌, ◌&&◌, Bool, false, List, ◌∷◌, ◌++◌}
+use Rattle.std.specs.Prelude.{◌≡◌, ◌==◌, ◌&&◌, ◌||◌, Bool, false, List, ◌∷◌, ◌++◌}
 use Rattle.std.specs.List.{All, list_any}
+use Rattle.gimli_read.specs.declared.constants.DwAt.{DwAt}
+use Rattle.gimli_read.specs.declared.constants.TheConstants.DwAt.{DW_AT_high_pc, DW_AT_low_pc, DW_AT_ranges}
 use Rattle.gimli_read.specs.Abbreviations.{Abbrev, Specification}
-use Rattle.addr2line_lines.specs.FoundAttributes.{is_range_name}
 use Rattle.addr2line_lines.specs.Functions.{is_subprogram}
+
+-- whether an attribute says of an entry's ranges
+abbrev pub is_range_name : DwAt → Bool
+is_range_name name =
+    name.0 == DW_AT_low_pc.0 || name.0 == DW_AT_high_pc.0 || name.0 == DW_AT_ranges.0
 
 -- whether a specification is that of an attribute of ranges
 abbrev pub is_range_specification : Specification → Bool

@@ -3,7 +3,7 @@
 -- Own: of call_file a constant counts that is above 0, or any in version 5; call_line and
 -- call_column keep their low 32 bits, and are 0 where they are no constant. The last of each
 -- counts.
-use Rattle.std.specs.Prelude.{ℕ, ◌==◌, ◌||◌, ◌%◌, ◌^◌, nat_lt, Bool, List, fold, length, map, Option, Some, None, option_and_then, unwrap_or, Result, Ok, if◌then◌else◌}
+use Rattle.std.specs.Prelude.{ℕ, ◌==◌, ◌||◌, nat_lt, Bool, List, fold, map, Option, Some, None, option_and_then, unwrap_or, Result, Ok, if◌then◌else◌}
 use Rattle.std.specs.Option.{option_or}
 use Rattle.gimli_read.specs.declared.constants.TheConstants.DwAt.{DW_AT_call_column, DW_AT_call_file, DW_AT_call_line}
 use Rattle.gimli_read.specs.declared.constants.TheConstants.DwTag.{DW_TAG_inlined_subroutine}
@@ -15,15 +15,11 @@ use Rattle.gimli_read.specs.Reading.{◌>>=◌}
 use Rattle.gimli_read.specs.Section.{Section}
 use Rattle.gimli.specs.Unit.{UnitRecord}
 use Rattle.addr2line_lines.specs.declared.function.RangeAttributes.{RangeAttributes}
+use Rattle.addr2line_lines.specs.declared.inlined.CallSite.{CallSite}
+use Rattle.addr2line_lines.specs.LowBits.{low_bits}
 use Rattle.addr2line_lines.specs.Names.{with_name}
 use Rattle.addr2line_lines.specs.RangeAttributes.{no_range_attributes, with_range_attribute}
 use Rattle.addr2line_lines.specs.References.{Scope}
-
--- where a function was called that is inlined: the index of the file, the line and the column
-pub record CallSite : Type 0 where
-  pub file : Option ℕ
-  pub line : ℕ
-  pub column : ℕ
 
 -- an inlined entry: where it begins, in bytes from the start of the unit's length, its name, and
 -- where it was called
@@ -44,10 +40,11 @@ pub record InlinedAttributes : Type 0 where
   pub name : Option Section
   pub call : CallSite
 
--- before the first attribute
+-- no call, before the first attribute
 abbrev pub no_call : CallSite
 no_call = record { file = None; line = 0; column = 0 }
 
+-- before the first attribute
 abbrev pub no_inlined_attributes : InlinedAttributes
 no_inlined_attributes = record { ranges = no_range_attributes; name = None; call = no_call }
 
@@ -60,8 +57,8 @@ abbrev pub counted_file : ℕ → ℕ → Option ℕ
 counted_file version n = if nat_lt 0 n || version == 5 then Some n else None
 
 -- the low 32 bits of a constant, 0 of another value
-abbrev pub low_bits : Option ℕ → ℕ
-low_bits n = unwrap_or n 0 % 2 ^ 32
+abbrev pub constant_bits : Option ℕ → ℕ
+constant_bits n = low_bits (unwrap_or n 0)
 
 -- one more attribute of a call
 abbrev pub with_call : ℕ → CallSite → NamedValue → CallSite
@@ -71,9 +68,9 @@ with_call version call a =
       file = option_or (option_and_then (counted_file version) (constant_of a.value)) call.file;
     }
     else if a.name.0 == DW_AT_call_line.0
-    then record call { line = low_bits (constant_of a.value) }
+    then record call { line = constant_bits (constant_of a.value) }
     else if a.name.0 == DW_AT_call_column.0
-    then record call { column = low_bits (constant_of a.value) }
+    then record call { column = constant_bits (constant_of a.value) }
     else call
 
 -- one more attribute of an inlined entry

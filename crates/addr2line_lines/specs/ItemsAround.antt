@@ -1,7 +1,7 @@
 -- The items around an item: those whose subtree has it (DWARF 5, section 2.3). The nearest inlined
 -- one around an inlined entry is the inlined call in which that call was made (section 3.3.8).
 -- Own: items of a unit are told apart by their offsets.
-use Rattle.std.specs.Prelude.{ℕ, ◌≡◌, ◌==◌, Bool, false, List, [], ◌∷◌, ◌++◌, filter, filter_map, find, length, Option, None, Some, option_map, Result, Ok, IsOk, if◌then◌else◌}
+use Rattle.std.specs.Prelude.{ℕ, ◌≡◌, ◌==◌, Bool, false, List, [], ◌∷◌, ◌++◌, count_by, filter_map, find, Option, None, Some, option_map, Result, Ok, IsOk, if◌then◌else◌}
 use Rattle.std.specs.List.{All, list_any}
 use Rattle.gimli_read.specs.declared.error.Error.{Error}
 use Rattle.gimli_read.specs.Abbreviations.{Abbrev}
@@ -44,7 +44,7 @@ is_inlined_item x = elim x.entry [ None ↦ false | Some e ↦ is_inlined e.abbr
 
 -- how many inlined entries are around the item at an offset
 abbrev pub inlined_depth : ℕ → List Item → ℕ
-inlined_depth offset items = length (filter is_inlined_item (items_around offset items))
+inlined_depth offset items = count_by is_inlined_item (items_around offset items)
 
 -- where the nearest of them begins, if there is one
 abbrev pub nearest_inlined : ℕ → List Item → Option ℕ

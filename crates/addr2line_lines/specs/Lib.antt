@@ -1,4 +1,5 @@
 pub mod Rows
+pub mod LowBits
 pub mod Sequences
 pub mod Rises
 pub mod Count
@@ -6,6 +7,7 @@ pub mod Digits
 pub mod Columns
 pub mod Pick
 pub mod InOrder
+pub mod Grown
 pub mod Packed
 pub mod Building
 pub mod Spans
@@ -35,12 +37,12 @@ pub mod ItemsAround
 pub mod NestedInlined
 pub mod FoundNames
 pub mod NameChains
+pub mod FoundRanges
 pub mod FoundAttributes
 pub mod OpenEntries
 pub mod FoundInlined
 pub mod FoundItems
 pub mod FoundDetails
-pub mod FoundRanges
 pub mod CachedDetails
 pub mod FunctionDetails
 pub mod FunctionTable

@@ -20,13 +20,9 @@ abbrev pub is_inlined_kind : Kind → Bool
 is_inlined_kind Inlined = true
 is_inlined_kind _ = false
 
--- how many of open entries are such
-abbrev pub kinds_such : (Kind → Bool) → List Kind → ℕ
-kinds_such such around = count_by such around
-
 -- whether an entry of a kind is an inlined one in no nested subprogram
 abbrev pub is_listed : Kind → List Kind → Bool
-is_listed kind around = is_inlined_kind kind && kinds_such is_subprogram_kind around == 0
+is_listed kind around = is_inlined_kind kind && count_by is_subprogram_kind around == 0
 
 -- the kinds that are open after a closing entry
 abbrev pub closed_once : List Kind → List Kind
@@ -39,5 +35,5 @@ opened kind has_children around = if has_children then kind ∷ around else arou
 
 -- how many of the open entries are inlined ones, and how many nested subprograms
 pub record AreCounted (around : List Kind) (inlined subprograms : ℕ) : Type 0 where
-  pub inlined_is : inlined ≡ kinds_such is_inlined_kind around
-  pub subprograms_is : subprograms ≡ kinds_such is_subprogram_kind around
+  pub inlined_is : inlined ≡ count_by is_inlined_kind around
+  pub subprograms_is : subprograms ≡ count_by is_subprogram_kind around

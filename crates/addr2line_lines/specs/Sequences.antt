@@ -4,10 +4,11 @@
 -- Own: a sequence without rows, or whose start is not below its end, is none, and so is one whose
 -- end row is dropped; rows that no end row follows belong to none.
 -- Own: of lines and columns the low 32 bits count.
-use Rattle.std.specs.Prelude.{ℕ, ◌%◌, ◌^◌, ◌==◌, ◌&&◌, not, List, [], ◌∷◌, Option, Some, None, map, filter_map, nat_lt, if◌then◌else◌}
+use Rattle.std.specs.Prelude.{ℕ, ◌==◌, ◌&&◌, not, List, [], ◌∷◌, Option, Some, None, map, filter_map, nat_lt, if◌then◌else◌}
 use Rattle.std.specs.List.{list_any}
 use Rattle.gimli_line.specs.declared.row.LineRow.{LineRow}
 use Rattle.addr2line_lines.specs.declared.row.Row.{Row}
+use Rattle.addr2line_lines.specs.LowBits.{low_bits}
 
 -- a sequence: its addresses, the end not among them, and its rows by address
 pub record Sequence : Type 0 where
@@ -43,8 +44,8 @@ abbrev pub stored_row : LineRow → Row
 stored_row r = record {
   address = r.address;
   file_index = r.file_index;
-  line = r.line % 2 ^ 32;
-  column = r.column % 2 ^ 32;
+  line = low_bits r.line;
+  column = low_bits r.column;
 }
 
 -- the sequence of rows with an end row, if they are one

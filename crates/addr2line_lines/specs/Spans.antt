@@ -3,11 +3,12 @@
 -- Own: a row's span runs up to the next greater address of a row of its sequence, or to the
 -- sequence's end.
 -- Own: of overlapping sequences the picked one counts.
-use Rattle.std.specs.Prelude.{ℕ, ◌≡◌, ◌<◌, ◌≤◌, Bool, ◌&&◌, List, [], ◌∷◌, Option, Some, filter, find, map, min, option_and_then, option_map, nat_le, nat_lt}
+use Rattle.std.specs.Prelude.{ℕ, ◌≡◌, ◌<◌, ◌≤◌, Bool, List, [], ◌∷◌, Option, Some, filter, find, map, min, option_and_then, option_map, nat_lt}
 use Rattle.addr2line_lines.specs.declared.row.Row.{Row}
 use Rattle.addr2line_lines.specs.Sequences.{Sequence, start_of, end_of}
 use Rattle.addr2line_lines.specs.Pick.{pick}
 use Rattle.addr2line_lines.specs.Rises.{IsRising}
+use Rattle.addr2line_lines.specs.Shortest.{holds}
 
 -- the address of a row
 abbrev pub row_address : Row → ℕ
@@ -38,7 +39,7 @@ spans end rows = map (λ r. record { row = r; end = span_end end rows r }) rows
 
 -- the probe is one of the span's addresses
 abbrev pub span_holds : ℕ → Span → Bool
-span_holds probe span = nat_le span.row.address probe && nat_lt probe span.end
+span_holds probe span = holds (λ (s : Span). s.row.address) (λ (s : Span). s.end) probe span
 
 -- the row of a sequence whose span holds the probe
 abbrev pub row_in : ℕ → Sequence → Option Row

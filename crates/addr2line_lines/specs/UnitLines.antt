@@ -1,11 +1,11 @@
 -- The lines of a unit: its files and its sequences, or their fault (DWARF 5, section 6.2).
 -- Own: the program's fault comes before that of the files' texts. A unit without a line program has
 -- no lines.
-use Rattle.std.specs.Prelude.{◌++◌, [], Option, Some, None, Result, Ok}
+use Rattle.std.specs.Prelude.{◌≡◌, ◌++◌, [], ◌∷◌, Option, Some, None, Result, Ok, Err}
 use Rattle.gimli_read.specs.declared.error.Error.{Error}
 use Rattle.gimli_read.specs.Reading.{◌>>=◌}
 use Rattle.gimli_line.specs.Header.{Program}
-use Rattle.gimli_line.specs.Lines.{lines_of}
+use Rattle.gimli_line.specs.Lines.{Lines, lines_of}
 use Rattle.gimli.specs.Sections.{Sections}
 use Rattle.gimli.specs.Unit.{UnitRecord}
 use Rattle.addr2line_lines.specs.Rows.{read_all}
@@ -27,3 +27,9 @@ lines_in d u (Some p) = program_lines d u p
 -- the lines of a unit, by its program
 abbrev pub unit_lines : Sections → UnitRecord → Result LineTable Error
 unit_lines d u = lines_in d u u.line_program
+
+-- where a program has a fault before its first row, and before any file that it defines, that fault
+-- is the answer
+abbrev pub IsFaultAtOnce : {X : Type 0} → Lines → Result X Error → Type 0
+IsFaultAtOnce {X} lines result = (e : Error) → lines.ahead ≡ [] → lines.left ≡ Err e ∷ []
+    → ◌≡◌ {A = Result X Error} result (Err e)

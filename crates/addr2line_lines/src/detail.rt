@@ -6,8 +6,9 @@ ghost use Rattle.gimli_read.specs.Reading.{ExactlyUnlessOomIf};
 ghost use Rattle.gimli.specs.Entry.{attributes_at};
 ghost use Rattle.gimli.specs.Items.{next_item_at};
 ghost use Rattle.addr2line_lines.specs.FoundInlined.{IsFoundMore, entry_found_at, read_lists_a_range, seen_lists};
-ghost use Rattle.addr2line_lines.specs.FoundAttributes.{IsTakenIn, name_after, with_read_name};
-ghost use Rattle.addr2line_lines.specs.FoundDetails.{detail_found_at, detail_takes_at, function_found_at, function_takes_at, is_taken};
+ghost use Rattle.addr2line_lines.specs.FoundAttributes.{IsTakenIn};
+ghost use Rattle.addr2line_lines.specs.FoundNames.{with_read_name, name_after};
+ghost use Rattle.addr2line_lines.specs.FoundDetails.{detail_found_at, detail_takes_memory_at, function_found_at, function_takes_memory_at, is_memory_taken};
 ghost use Rattle.addr2line_lines.specs.FoundItems.{inside_found, inside_takes_memory, item_found_at, next_takes_memory, seen_around};
 ghost use Rattle.addr2line_lines.specs.References.{IsScope};
 ghost use Rattle.addr2line_lines.specs.SeenScope.{seen_scope};
@@ -83,10 +84,10 @@ fn read_entry<R: Reader>(
     ensures gives { ExactlyUnlessOomIf (R.shares || read_lists_a_range (seen_scope scope.entry)
         unit.now nesting.now abbreviation.now (attributes_at unit.now.header.encoding
         abbreviation.now.attributes entries.old.cursor.left))
-        (λ _. (seen_lists R.section found.new, entries.new.cursor.left)) result
+        (λ _. (seen_lists found.new, entries.new.cursor.left)) result
         (entry_found_at (seen_scope scope.entry) unit.now nesting.now offset.0 abbreviation.now
-        entries.old.cursor.left (seen_lists R.section found.old)) }
-    ensures kept { IsFoundMore (seen_lists R.section found.old) (seen_lists R.section found.new) }
+        entries.old.cursor.left (seen_lists found.old)) }
+    ensures kept { IsFoundMore (seen_lists found.old) (seen_lists found.new) }
     ensures unit { entries.new.unit ≡ entries.old.unit }
     ensures depth { entries.new.cursor.depth ≡ entries.old.cursor.depth }
 {
@@ -110,12 +111,12 @@ fn read_item<R: Reader>(
     requires in_order { IsScope (seen_scope scope) }
     requires encoding { entries.old.unit.encoding ≡ unit.now.header.encoding }
     ensures gives { ExactlyUnlessOomIf (R.shares || next_takes_memory (seen_scope scope.entry)
-        unit.now (seen_around R.section found.old nesting.old)
+        unit.now (seen_around found.old nesting.old)
         (next_item_at entries.old.unit entries.old.cursor))
-        (λ _. (seen_around R.section found.new nesting.new, entries.new.cursor)) result
+        (λ _. (seen_around found.new nesting.new, entries.new.cursor)) result
         (item_found_at (seen_scope scope.entry) unit.now entries.old.unit entries.old.cursor
-        (seen_around R.section found.old nesting.old)) }
-    ensures kept { IsFoundMore (seen_lists R.section found.old) (seen_lists R.section found.new) }
+        (seen_around found.old nesting.old)) }
+    ensures kept { IsFoundMore (seen_lists found.old) (seen_lists found.new) }
     ensures unit { entries.new.unit ≡ entries.old.unit }
     ensures shorter { OnOk result
         (length entries.new.cursor.left.bytes < length entries.old.cursor.left.bytes) }
@@ -151,10 +152,10 @@ fn read_inside<R: Reader>(
     requires in_order { IsScope (seen_scope scope) }
     requires encoding { entries.old.unit.encoding ≡ unit.now.header.encoding }
     ensures gives { ExactlyUnlessOomIf (R.shares || inside_takes_memory (seen_scope scope.entry)
-        unit.now entries.old.unit entries.old.cursor (seen_around R.section found.old []))
-        (λ _. seen_lists R.section found.new) result (inside_found (seen_scope scope.entry)
-        unit.now entries.old.unit entries.old.cursor (seen_around R.section found.old [])) }
-    ensures kept { IsFoundMore (seen_lists R.section found.old) (seen_lists R.section found.new) }
+        unit.now entries.old.unit entries.old.cursor (seen_around found.old []))
+        (λ _. seen_lists found.new) result (inside_found (seen_scope scope.entry)
+        unit.now entries.old.unit entries.old.cursor (seen_around found.old [])) }
+    ensures kept { IsFoundMore (seen_lists found.old) (seen_lists found.new) }
 {
     nesting.clear();
     while is_inside(entries) {
@@ -175,13 +176,13 @@ fn read_function<R: Reader>(
 ) -> Result<Option<R>, Error>
     requires in_order { IsScope (seen_scope scope) }
     requires encoding { entries.old.unit.encoding ≡ unit.now.header.encoding }
-    ensures gives { ExactlyUnlessOomIf (R.shares || is_taken (function_takes_at
+    ensures gives { ExactlyUnlessOomIf (R.shares || is_memory_taken (function_takes_memory_at
         (seen_scope scope.entry) unit.now entries.old.unit entries.old.cursor
-        (seen_lists R.section found.old) abbreviation.now))
-        (λ name. (option_map R.section name, seen_lists R.section found.new)) result
+        (seen_lists found.old) abbreviation.now))
+        (λ name. (option_map R.section name, seen_lists found.new)) result
         (function_found_at (seen_scope scope.entry) unit.now entries.old.unit entries.old.cursor
-        (seen_lists R.section found.old) abbreviation.now) }
-    ensures kept { IsFoundMore (seen_lists R.section found.old) (seen_lists R.section found.new) }
+        (seen_lists found.old) abbreviation.now) }
+    ensures kept { IsFoundMore (seen_lists found.old) (seen_lists found.new) }
 {
     let name = read_name(scope, unit, entries, abbreviation.attributes())?;
     read_inside(scope, unit, entries, nesting, found)?;
@@ -198,12 +199,12 @@ pub(crate) fn read_detail<R: Reader>(
 ) -> Result<Option<R>, Error>
     requires in_order { IsScope (seen_scope scope) }
     ensures gives { ExactlyUnlessOomIf
-        (R.shares || is_taken (detail_takes_at (seen_scope scope.entry) unit.now offset.0
-        (seen_lists R.section found.old)))
-        (λ name. (option_map R.section name, seen_lists R.section found.new)) result
+        (R.shares || is_memory_taken (detail_takes_memory_at (seen_scope scope.entry) unit.now
+        offset.0 (seen_lists found.old)))
+        (λ name. (option_map R.section name, seen_lists found.new)) result
         (detail_found_at (seen_scope scope.entry) unit.now offset.0
-        (seen_lists R.section found.old)) }
-    ensures kept { IsFoundMore (seen_lists R.section found.old) (seen_lists R.section found.new) }
+        (seen_lists found.old)) }
+    ensures kept { IsFoundMore (seen_lists found.old) (seen_lists found.new) }
 {
     let mut entries = UnitRef::new(scope.file.dwarf, unit).entries_raw(Some(offset))?;
     match entries.read_abbreviation()? {

@@ -5,7 +5,7 @@ ghost use Rattle.std.specs.Prelude.{◌≡◌, ◌<◌, ◌||◌, [], IfOk, OnEr
 ghost use Rattle.gimli_read.specs.Reading.{ExactlyUnlessOomIf};
 ghost use Rattle.addr2line_lines.specs.Details.{detail_at, detail_takes_memory};
 ghost use Rattle.addr2line_lines.specs.InlinedChain.{inlined_chain};
-ghost use Rattle.addr2line_lines.specs.FoundInlined.{entry_among, none_inlined, seen_inlined};
+ghost use Rattle.addr2line_lines.specs.FoundInlined.{entry_among, none_inlined};
 ghost use Rattle.addr2line_lines.specs.CachedDetails.{AreDetailsMore, IsDetailPlace, IsNextPlace, detail_of, seen_details};
 ghost use Rattle.addr2line_lines.specs.ManyInlined.{are_many};
 ghost use Rattle.addr2line_lines.specs.References.{IsScope};
@@ -176,7 +176,7 @@ impl<R: Reader> Details<R> {
 
     /// The inlined function of a place; none past the last one. Takes no memory.
     pub(crate) fn inlined(&self, function: usize) -> Option<&InlinedFunction<R>>
-        ensures gives { option_map (λ r. seen_inlined R.section r.now) result ≡
+        ensures gives { option_map (λ r. r.now) result ≡
             slice_get (seen_details R.section self.now).found.entries function }
     {
         self.inlined.functions.get(function)

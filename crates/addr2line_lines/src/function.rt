@@ -7,8 +7,7 @@ ghost use Rattle.gimli_read.specs.Reading.{Exactly, ExactlyUnlessOomIf};
 ghost use Rattle.gimli_read.specs.Form.{rest_of, seen_value};
 ghost use Rattle.gimli.specs.Entry.{attributes_at};
 ghost use Rattle.gimli.specs.Ranges.{ranges_at};
-ghost use Rattle.addr2line_lines.specs.FoundAttributes.{is_range_name};
-ghost use Rattle.addr2line_lines.specs.FoundRanges.{HasNoRange, IsSplitAtRange, is_range_specification};
+ghost use Rattle.addr2line_lines.specs.FoundRanges.{HasNoRange, IsSplitAtRange, is_range_specification, is_range_name};
 ghost use Rattle.addr2line_lines.specs.RangeAttributes.{attr_address, no_range_attributes, with_range_attribute, or_with_range_attribute, range_attributes_after, range_between, ranges_of, all_ranges, attribute_ranges, begins_well, gives_a_range};
 
 use gimli::read::{Attribute, AttributeSpecification, AttributeValue, DwAt, Error, Range, Reader};
@@ -68,7 +67,16 @@ impl RangeAttributes {
         }
     }
 
-    /// Takes one more attribute in.
+    /// Takes one more attribute in: `DW_AT_low_pc`, `DW_AT_high_pc` or `DW_AT_ranges`; another one
+    /// changes nothing. Takes no memory.
+    ///
+    /// An address counts, also by its index, for the first two, and a constant of `DW_AT_high_pc`
+    /// as the size; other values change nothing. A value of `DW_AT_ranges` that stands for no list
+    /// takes an earlier list away.
+    ///
+    /// Refused as `UnitRef::address` is, where the value of one of the first two is an index, and
+    /// as `UnitRef::attr_ranges_offset` is, at `DW_AT_ranges`. Source: DWARF 5, section 2.17. Own:
+    /// of attributes of one name the last that counts.
     #[tactic(auto, unfolding(crate::specs::RangeAttributes::with_range_attribute))]
     pub fn take<R: Reader>(
         self,

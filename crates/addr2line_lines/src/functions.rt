@@ -5,7 +5,7 @@ ghost use Rattle.std.specs.Prelude.{◌≡◌, ◌≢◌, ◌<◌, ◌==◌, Err
 ghost use Rattle.gimli_read.specs.declared.error.Error.TheVariants.{OutOfMemory};
 ghost use Rattle.gimli_read.specs.Reading.{ExactlyUnlessOomIf};
 ghost use Rattle.addr2line_lines.specs.InlinedChain.{inlined_chain};
-ghost use Rattle.addr2line_lines.specs.FoundInlined.{entry_among, seen_inlined};
+ghost use Rattle.addr2line_lines.specs.FoundInlined.{entry_among};
 ghost use Rattle.addr2line_lines.specs.FoundRanges.{is_function};
 ghost use Rattle.addr2line_lines.specs.FunctionCache.{read_at};
 ghost use Rattle.addr2line_lines.specs.FunctionDetails.{AreCachedToFault, AreDetailsOf, AreUnread, HasDetail, IsReadAt, IsTableMore, details_fault, details_take_memory, read_fault, cached_takes_memory};
@@ -49,7 +49,7 @@ struct LazyFunction {
 
 // What is found of a unit's functions.
 #[derive(Drop)]
-struct Found {
+struct FunctionLists {
     functions: Vec<LazyFunction>,
     addresses: Vec<FunctionAddress>,
 }
@@ -96,12 +96,12 @@ fn push_ranges<R: Reader>(
     }
 }
 
-impl Found {
-    fn new(alloc: Global) -> Found
+impl FunctionLists {
+    fn new(alloc: Global) -> FunctionLists
         ensures gives { seen_functions result ≡ none_found }
         ensures unread { AreFoundUnread result }
     {
-        Found {
+        FunctionLists {
             functions: Vec::new(alloc),
             addresses: Vec::new(alloc),
         }
@@ -151,7 +151,7 @@ fn is_function(abbreviation: &Abbreviation) -> bool
 fn read_item<R: Reader>(
     unit: UnitRef<'_, R>,
     entries: &mut EntriesRaw<'_, R>,
-    found: &mut Found,
+    found: &mut FunctionLists,
 ) -> Result<(), Error>
     requires encoding { entries.old.unit.encoding ≡ unit.unit.now.header.encoding }
     requires some { (length entries.old.cursor.left.bytes == 0) ≡ false }
@@ -180,14 +180,14 @@ fn read_item<R: Reader>(
 }
 
 // What is found of the functions of a unit, up to its end.
-fn read_functions<R: Reader>(alloc: Global, unit: UnitRef<'_, R>) -> Result<Found, Error>
+fn read_functions<R: Reader>(alloc: Global, unit: UnitRef<'_, R>) -> Result<FunctionLists, Error>
     ensures gives { ExactlyUnlessOomIf (functions_take_memory R.shares unit.entry.dwarf.now
         unit.entry.unit.now) seen_functions result
         (found_in unit.entry.dwarf.now unit.entry.unit.now) }
     ensures unread { IfOk result AreFoundUnread }
 {
     let mut entries = unit.entries_raw(None)?;
-    let mut found = Found::new(alloc);
+    let mut found = FunctionLists::new(alloc);
     while !entries.is_empty() {
         read_item(unit, &mut entries, &mut found)?;
     }
@@ -249,7 +249,7 @@ impl<R: Reader> Functions<R> {
         ensures unread { IfOk result AreUnread }
         ensures listed { IfOk result AreListed }
     {
-        let Found {
+        let FunctionLists {
             functions,
             addresses,
         } = read_functions(alloc, unit)?;
@@ -410,8 +410,7 @@ impl<R: Reader> Functions<R> {
     /// The inlined function of a place, as `find_inlined_functions` gives it; none past the last
     /// one. Takes no memory.
     pub fn inlined(&self, function: usize) -> Option<&InlinedFunction<R>>
-        ensures gives { option_map (λ r. seen_inlined R.section r.now) result
-            ≡ slice_get self.now.inlined function }
+        ensures gives { option_map (λ r. r.now) result ≡ slice_get self.now.inlined function }
     {
         self.details.inlined(function)
     }

@@ -6,16 +6,19 @@ ghost use Rattle.std.specs.Option.{option_or};
 ghost use Rattle.gimli_read.specs.Form.{attribute_at, rest_of};
 ghost use Rattle.gimli_read.specs.Reading.{ExactlyUnlessOomIf};
 ghost use Rattle.gimli.specs.Entry.{attributes_at};
-ghost use Rattle.addr2line_lines.specs.InlinedEntries.{counted_file, low_bits, no_call, no_inlined_attributes, with_call, with_inlined_attribute};
-ghost use Rattle.addr2line_lines.specs.FoundAttributes.{HasNoWanted, IsReadIf, IsSplitAtWanted, IsTakenIn, inlined_attributes_after, is_call, is_range_name, is_wanted, is_wanted_specification, or_fault, seen_attributes, seen_call_site};
+ghost use Rattle.addr2line_lines.specs.InlinedEntries.{constant_bits, counted_file, no_call, no_inlined_attributes, with_call, with_inlined_attribute};
+ghost use Rattle.addr2line_lines.specs.FoundAttributes.{HasNoWanted, IsReadIf, IsSplitAtWanted, IsTakenIn, inlined_attributes_after, is_call, is_wanted, is_wanted_specification, or_fault, seen_attributes};
+ghost use Rattle.addr2line_lines.specs.FoundRanges.{is_range_name};
 ghost use Rattle.addr2line_lines.specs.References.{IsScope};
 ghost use Rattle.addr2line_lines.specs.SeenScope.{seen_scope};
 
 use crate::function::{RangeAttributes, is_range_name};
 use crate::name::{is_name_attribute, pass_over, take_name};
 use crate::references::Scope;
+use crate::row::low_bits;
 use gimli::read::{Attribute, AttributeSpecification, DwAt, Error, Reader, UnitOffset};
 use gimli::{EntriesRaw, Unit, UnitRef};
+use std::marker::Model;
 
 /// Where a function was called that is inlined.
 #[derive(Clone, Copy)]
@@ -43,6 +46,19 @@ pub struct InlinedFunction<R: Reader> {
     pub call_column: u32,
 }
 
+impl<R: Reader> Model for InlinedFunction<R> {
+    ghost use Rattle.std.specs.Prelude.{option_map};
+    ghost use Rattle.addr2line_lines.specs.InlinedEntries.{InlinedEntry};
+
+    ghost Value = { InlinedEntry };
+
+    ghost view = { λ f. record {
+      offset = f.dw_die_offset.0;
+      name = option_map R.section f.name;
+      call = record { file = f.call_file; line = f.call_line; column = f.call_column };
+    } };
+}
+
 // The index of a file, if it counts in a version.
 fn counted_file(version: u16, index: u64) -> Option<u64>
     ensures gives { result ≡ counted_file version index }
@@ -55,16 +71,16 @@ fn counted_file(version: u16, index: u64) -> Option<u64>
 }
 
 // The low 32 bits of a constant, 0 of another value.
-fn low_bits(constant: Option<u64>) -> u32
-    ensures gives { result ≡ low_bits constant }
+fn constant_bits(constant: Option<u64>) -> u32
+    ensures gives { result ≡ constant_bits constant }
 {
-    (constant.unwrap_or(0) % (1 << 32)) as u32
+    low_bits(constant.unwrap_or(0))
 }
 
 impl CallSite {
     // Before the first attribute.
     fn new() -> CallSite
-        ensures gives { seen_call_site result ≡ no_call }
+        ensures gives { result ≡ no_call }
     {
         CallSite {
             file: None,
@@ -86,8 +102,7 @@ impl CallSite {
 
     // Takes one more attribute in.
     fn take<R: Reader>(self, version: u16, attribute: &Attribute<R>) -> CallSite
-        ensures gives { seen_call_site result
-            ≡ with_call version (seen_call_site self) attribute.now }
+        ensures gives { result ≡ with_call version self attribute.now }
     {
         let constant = attribute.udata_value();
         match attribute.name() {
@@ -98,13 +113,13 @@ impl CallSite {
             },
             DwAt::DW_AT_call_line => CallSite {
                 file: self.file,
-                line: low_bits(constant),
+                line: constant_bits(constant),
                 column: self.column,
             },
             DwAt::DW_AT_call_column => CallSite {
                 file: self.file,
                 line: self.line,
-                column: low_bits(constant),
+                column: constant_bits(constant),
             },
             _ => self,
         }

@@ -3,7 +3,8 @@
 ghost use Rattle.std.specs.Prelude.{◌≡◌};
 ghost use Rattle.gimli_read.specs.Reading.{ExactlyUnlessOomIf};
 ghost use Rattle.gimli.specs.Ranges.{ranges_at};
-ghost use Rattle.addr2line_lines.specs.FoundInlined.{IsFoundMore, IsGrown, first_found, none_inlined, seen_lists, with_inlined_found, with_inlined_list, with_inlined_ranges};
+ghost use Rattle.addr2line_lines.specs.FoundInlined.{IsFoundMore, first_found, none_inlined, seen_lists, with_inlined_found, with_inlined_list, with_inlined_ranges};
+ghost use Rattle.addr2line_lines.specs.Grown.{IsGrown};
 ghost use Rattle.addr2line_lines.specs.FoundAttributes.{seen_attributes};
 ghost use Rattle.addr2line_lines.specs.RangeAttributes.{begins_well, gives_a_range};
 
@@ -79,7 +80,7 @@ fn push_ranges<R: Reader>(
 impl<R: Reader> InlinedLists<R> {
     // None of either.
     pub(crate) fn new(alloc: Global) -> InlinedLists<R>
-        ensures gives { seen_lists R.section result ≡ none_inlined }
+        ensures gives { seen_lists result ≡ none_inlined }
     {
         InlinedLists {
             functions: Vec::new(alloc),
@@ -89,8 +90,8 @@ impl<R: Reader> InlinedLists<R> {
 
     // Keeps the first inlined entries, and the first ranges.
     pub(crate) fn truncate(&mut self, functions: usize, ranges: usize)
-        ensures gives { seen_lists R.section self.new ≡
-            first_found functions ranges (seen_lists R.section self.old) }
+        ensures gives { seen_lists self.new ≡
+            first_found functions ranges (seen_lists self.old) }
     {
         self.functions.truncate(functions);
         self.ranges.truncate(ranges);
@@ -106,11 +107,11 @@ impl<R: Reader> InlinedLists<R> {
     ) -> Result<(), Error>
         ensures gives { ExactlyUnlessOomIf
             (gives_a_range unit.entry.dwarf.now unit.entry.unit.now attributes.ranges)
-            (λ _. seen_lists R.section self.new) result (with_inlined_found unit.entry.dwarf.now
-            unit.entry.unit.now offset.0 depth (seen_lists R.section self.old)
+            (λ _. seen_lists self.new) result (with_inlined_found unit.entry.dwarf.now
+            unit.entry.unit.now offset.0 depth (seen_lists self.old)
             (seen_attributes R.section attributes)) }
-        ensures kept { IsFoundMore (seen_lists R.section self.old)
-            (seen_lists R.section self.new) }
+        ensures kept { IsFoundMore (seen_lists self.old)
+            (seen_lists self.new) }
     {
         let InlinedAttributes { ranges, name, call } = attributes;
         let before = self.ranges.len();

@@ -1,6 +1,6 @@
 //! The lines of a unit.
 
-ghost use Rattle.std.specs.Prelude.{◌≡◌, ◌+◌, ◌<◌, ◌≤◌, [], IfSome, Ok, is_some, length, map, slice_get, option_map};
+ghost use Rattle.std.specs.Prelude.{◌≡◌, ◌+◌, ◌<◌, ◌≤◌, [], IfSome, Ok, false, is_some, length, map, slice_get, option_map};
 ghost use Rattle.std.specs.Option.{option_copied};
 ghost use Rattle.std.specs.List.{AllByRecursion};
 ghost use Rattle.std.specs.String.{string_bytes};
@@ -9,7 +9,9 @@ ghost use Rattle.addr2line_lines.specs.Counts.{most_looks_in};
 ghost use Rattle.addr2line_lines.specs.RangeLocations.{locations_in_range, sequence_ranges};
 ghost use Rattle.addr2line_lines.specs.RangesLeft.{located_rows_left};
 ghost use Rattle.gimli_read.specs.Reading.{ExactlyUnlessOomIf, IsUnlessOom};
-ghost use Rattle.addr2line_lines.specs.UnitLines.{program_lines, unit_lines};
+ghost use Rattle.gimli_line.specs.Header.{header_copy_takes_memory};
+ghost use Rattle.gimli_line.specs.Lines.{lines_of};
+ghost use Rattle.addr2line_lines.specs.UnitLines.{IsFaultAtOnce, program_lines, unit_lines};
 ghost use Rattle.addr2line_lines.specs.Location.{location_at, location_of_row};
 ghost use Rattle.addr2line_lines.specs.SeenLocation.{seen_location};
 ghost use Rattle.addr2line_lines.specs.Spans.{row_at};
@@ -71,9 +73,9 @@ fn read_program<R: Reader>(
     unit: &Unit<R>,
     program: &IncompleteLineProgram<R>,
 ) -> Result<Lines, Error>
-    ensures gives { IsUnlessOom result
-        (program_lines dwarf.now unit.now
-        program.now) }
+    ensures gives { IsUnlessOom result (program_lines dwarf.now unit.now program.now) }
+    ensures exact { header_copy_takes_memory R.shares program.now.header ≡ false
+        → IsFaultAtOnce (lines_of program.now) result }
 {
     let mut rows = program.rows()?;
     let sequences = read_sequences(alloc, &mut rows)?;
@@ -102,9 +104,15 @@ impl Lines {
     ///
     /// Refused by the program's fault, else by the first text of a file, by index, that can't be
     /// read, and `OutOfMemory`. A unit without a line program has no lines, and takes no memory.
+    /// Nor does a program take memory with a fault before its first row and before a file that it
+    /// defines, where its header has neither a directory nor a file, and readers don't share their
+    /// bytes.
     pub fn parse<R: Reader>(alloc: Global, dwarf: &Dwarf<R>, unit: &Unit<R>) -> Result<Lines, Error>
         ensures gives { ExactlyUnlessOomIf (is_some unit.now.line_program) (λ lines. lines) result
             (unit_lines dwarf.now unit.now) }
+        ensures exact { IfSome unit.now.line_program (λ p.
+            header_copy_takes_memory R.shares p.header ≡ false
+            → IsFaultAtOnce (lines_of p) result) }
     {
         match &unit.line_program {
             Some(program) => read_program(alloc, dwarf, unit, program),

@@ -1,8 +1,8 @@
 //! The entries that are open around a place in a function.
 
-ghost use Rattle.std.specs.Prelude.{◌≡◌, [], Err, OnErr, OnOk, true};
+ghost use Rattle.std.specs.Prelude.{◌≡◌, [], Err, OnErr, OnOk, true, count_by};
 ghost use Rattle.gimli_read.specs.declared.error.Error.TheVariants.{OutOfMemory};
-ghost use Rattle.addr2line_lines.specs.OpenEntries.{closed_once, is_inlined_kind, is_listed, kind_of, kinds_such, opened};
+ghost use Rattle.addr2line_lines.specs.OpenEntries.{closed_once, is_inlined_kind, is_listed, kind_of, opened};
 
 use gimli::read::{Abbreviation, DwTag, Error};
 use std::alloc::Global;
@@ -74,7 +74,7 @@ impl Nesting {
 
     // How many inlined entries are open.
     pub(crate) fn depth(&self) -> usize
-        ensures gives { result ≡ kinds_such is_inlined_kind self.now }
+        ensures gives { result ≡ count_by is_inlined_kind self.now }
     {
         self.inlined
     }

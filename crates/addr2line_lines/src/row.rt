@@ -1,6 +1,7 @@
 //! Rows, as they are stored.
 
-ghost use Rattle.std.specs.Prelude.{◌≡◌, ◌%◌, ◌^◌};
+ghost use Rattle.std.specs.Prelude.{◌≡◌};
+ghost use Rattle.addr2line_lines.specs.LowBits.{low_bits};
 ghost use Rattle.addr2line_lines.specs.Sequences.{stored_row};
 
 use gimli_line::LineRow;
@@ -18,9 +19,9 @@ pub struct Row {
     pub column: u32,
 }
 
-// The low 32 bits of a line or a column.
-fn low_bits(number: u64) -> u32
-    ensures gives { result ≡ number % 2 ^ 32 }
+/// The low 32 bits of a line or a column. Takes no memory.
+pub(crate) fn low_bits(number: u64) -> u32
+    ensures gives { result ≡ low_bits number }
 {
     (number % (1 << 32)) as u32
 }

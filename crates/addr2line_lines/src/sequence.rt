@@ -5,6 +5,7 @@ ghost use Rattle.std.specs.List.{AllByRecursion};
 ghost use Rattle.gimli_read.specs.Topmost.{last};
 ghost use Rattle.gimli_read.specs.Reading.{ExactlyUnlessOom};
 ghost use Rattle.addr2line_lines.specs.Rows.{read_all, result_map};
+ghost use Rattle.addr2line_lines.specs.UnitLines.{IsFaultAtOnce};
 ghost use Rattle.addr2line_lines.specs.Sequences.{sequences_of};
 ghost use Rattle.gimli_line.specs.Rises.{NeverFalls};
 ghost use Rattle.addr2line_lines.specs.Packed.{IsAmong, RowsEndBy, packed_rows_in, unpacked};
@@ -160,7 +161,8 @@ fn never_falls<R: Reader>(rows: &LineRows<R>)
 
 /// The rows and sequences of a line program.
 ///
-/// Refused with the program's fault; may fail with `OutOfMemory` instead.
+/// Refused with the program's fault; may fail with `OutOfMemory` instead, unless the fault comes
+/// before the first row and before a file is defined.
 pub(crate) fn read_sequences<R: Reader>(
     alloc: Global,
     rows: &mut LineRows<R>,
@@ -171,6 +173,7 @@ pub(crate) fn read_sequences<R: Reader>(
     ensures no_others { IfOk result (λ u. length u.rows ≡ packed_rows_in u.sequences.items) }
     ensures files { OnOk result
         (rows.new.header.file_names ≡ rows.old.header.file_names ++ rows.old.to_define) }
+    ensures exact { IsFaultAtOnce rows.old result }
 {
     never_falls(rows);
     let mut builder = Builder::new(alloc);

@@ -8,7 +8,7 @@ ghost use Rattle.std.specs.Option.{option_copied};
 ghost use Rattle.std.specs.Str.{IsUtf8};
 ghost use Rattle.gimli_read.specs.declared.constants.TheConstants.DwLang.{DW_LANG_Rust};
 ghost use Rattle.gimli_read.specs.declared.error.Error.TheVariants.{OutOfMemory};
-ghost use Rattle.addr2line_lines.specs.FoundInlined.{entry_among, seen_inlined};
+ghost use Rattle.addr2line_lines.specs.FoundInlined.{entry_among};
 ghost use Rattle.addr2line_lines.specs.FunctionTable.{cached_name, cached_offset_at};
 ghost use Rattle.addr2line_lines.specs.Rows.{result_map};
 ghost use Rattle.addr2line_lines.specs.SeenLocation.{seen_location};
@@ -151,8 +151,7 @@ fn call_file<'ctx>(lines: &'ctx Lines, index: Option<u64>) -> Option<&'ctx str>
 
 // Where an inlined function was called.
 fn call_location<'ctx, R: Reader>(lines: &'ctx Lines, entry: &InlinedFunction<R>) -> Location<'ctx>
-    ensures gives { seen_location result
-        ≡ call_location lines.now.files (seen_inlined R.section entry.now).call }
+    ensures gives { seen_location result ≡ call_location lines.now.files entry.now.call }
 {
     Location {
         file: call_file(lines, entry.call_file),
@@ -200,8 +199,7 @@ impl<'ctx, R: Reader> FunctionFrames<'ctx, R> {
     // The frame of an inlined function; without one a frame with neither offset nor function.
     fn inlined_frame(&self, entry: Option<&'ctx InlinedFunction<R>>) -> Frame<'ctx, R>
         ensures gives { seen_frame R.section result ≡ entry_frame self.now.language
-            (option_map (λ e. seen_inlined R.section e.now) entry.entry)
-            (option_map seen_location self.now.location) }
+            (option_map (λ e. e.now) entry.entry) (option_map seen_location self.now.location) }
     {
         match entry {
             Some(entry) => Frame {
@@ -220,8 +218,7 @@ impl<'ctx, R: Reader> FunctionFrames<'ctx, R> {
     // Where an inlined function was called.
     fn call_of(&self, entry: Option<&'ctx InlinedFunction<R>>) -> Option<Location<'ctx>>
         ensures gives { option_map seen_location result ≡ option_map
-            (λ e. call_location self.now.lines.now.files (seen_inlined R.section e.now).call)
-            entry.entry }
+            (λ e. call_location self.now.lines.now.files e.now.call) entry.entry }
     {
         Some(call_location(self.lines, entry?))
     }

@@ -17,7 +17,7 @@ returns-in_err-attributes-clause-gives g c =
     let around = c.args.nesting.now in
     let a = c.args.abbreviation.now in
     let left = c.args.entries.now.cursor.left in
-    let found = seen_lists g.R.Reader.section c.args.found.now in
+    let found = seen_lists c.args.found.now in
     let listed = ap (λ k. is_listed k c.args.nesting.now) (sym c.kind_of.ensures.gives) ∙ sym c.if-lists.ensures.gives in
     let fault = rw c.attributes.ensures.gives at c.in_err-attributes.ensures.gives in
     rw (p.1, p.2) (λ ne. entry-fault scope u around c.args.offset.0 a left found _ listed (fault (λ shares. ne (or_first g.R.Reader.shares _ shares))))
@@ -29,7 +29,7 @@ returns-in_ok-attributes-clause-gives g c =
     let around = c.args.nesting.now in
     let a = c.args.abbreviation.now in
     let left = c.args.entries.now.cursor.left in
-    let found = seen_lists g.R.Reader.section c.args.found.now in
+    let found = seen_lists c.args.found.now in
     let listed = ap (λ k. is_listed k c.args.nesting.now) (sym c.kind_of.ensures.gives) ∙ sym c.if-lists.ensures.gives in
     let gives = rw c.attributes.ensures.gives at c.in_ok-attributes.ensures.gives in
     let rest = rw c.attributes.ensures.gives at c.in_ok-attributes.ensures.left in
@@ -46,7 +46,7 @@ returns-else-lists-clause-gives g c =
     let around = c.args.nesting.now in
     let a = c.args.abbreviation.now in
     let left = c.args.entries.now.cursor.left in
-    let found = seen_lists g.R.Reader.section c.args.found.now in
+    let found = seen_lists c.args.found.now in
     let listed = ap (λ k. is_listed k c.args.nesting.now) (sym c.kind_of.ensures.gives) ∙ sym c.if-lists.ensures.gives in
     let rest = rw c.requires.encoding at c.skip_attributes_of.ensures.gives in
     entry-other scope u around c.args.offset.0 a left found _ _ c.skip_attributes_of.result listed rest

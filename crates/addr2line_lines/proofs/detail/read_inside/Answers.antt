@@ -12,8 +12,8 @@ pub loop-scope-init : goal.loop-scope-init
 loop-scope-init g c =
     let scope = seen_scope c.args.scope in
     record {
-      gives = ap (λ (k : List Kind). inside_found scope c.args.unit.now c.args.entries.now.unit c.args.entries.now.cursor (seen_around g.R.Reader.section c.args.found.now k)) c.clear.ensures.gives;
-      takes = λ t. ap (λ (k : List Kind). inside_takes_memory scope c.args.unit.now c.args.entries.now.unit c.args.entries.now.cursor (seen_around g.R.Reader.section c.args.found.now k)) (sym c.clear.ensures.gives) ∙ t;
+      gives = ap (λ (k : List Kind). inside_found scope c.args.unit.now c.args.entries.now.unit c.args.entries.now.cursor (seen_around c.args.found.now k)) c.clear.ensures.gives;
+      takes = λ t. ap (λ (k : List Kind). inside_takes_memory scope c.args.unit.now c.args.entries.now.unit c.args.entries.now.cursor (seen_around c.args.found.now k)) (sym c.clear.ensures.gives) ∙ t;
       kept = found_same _;
       unit = c.requires.encoding;
     }
@@ -25,9 +25,9 @@ loop-scope-preserved g c =
     let i = c.loop-scope.invariant in
     let now = c.read_item.new in
     record {
-      gives = ap (λ v. inside_found scope u v now.entries.cursor (seen_around g.R.Reader.section now.found now.nesting)) c.in_ok-read_item.ensures.unit
+      gives = ap (λ v. inside_found scope u v now.entries.cursor (seen_around now.found now.nesting)) c.in_ok-read_item.ensures.unit
           ∙ sym (inside-step scope u _ _ _ _ _ (sym c.loop-scope-test.ensures.gives) c.in_ok-read_item.ensures.gives) ∙ i.gives;
-      takes = λ t. i.takes (inside_more scope u _ _ _ _ _ (sym c.loop-scope-test.ensures.gives) c.in_ok-read_item.ensures.gives (ap (λ v. inside_takes_memory scope u v now.entries.cursor (seen_around g.R.Reader.section now.found now.nesting)) (sym c.in_ok-read_item.ensures.unit) ∙ t));
+      takes = λ t. i.takes (inside_more scope u _ _ _ _ _ (sym c.loop-scope-test.ensures.gives) c.in_ok-read_item.ensures.gives (ap (λ v. inside_takes_memory scope u v now.entries.cursor (seen_around now.found now.nesting)) (sym c.in_ok-read_item.ensures.unit) ∙ t));
       kept = found_on _ _ _ i.kept c.in_ok-read_item.ensures.kept;
       unit = ap (λ v. v.encoding) c.in_ok-read_item.ensures.unit ∙ i.unit;
     }

@@ -9,9 +9,9 @@ invariant-loop-scope g l =
     let scope = seen_scope l.fn.scope in
     let u = l.unit in
     record {
-      gives : inside_found scope u l.entries.unit l.entries.cursor (seen_around g.R.Reader.section l.found l.nesting) ≡ inside_found scope u l.fn.entries.unit l.fn.entries.cursor (seen_around g.R.Reader.section l.fn.found []);
-      takes : inside_takes_memory scope u l.entries.unit l.entries.cursor (seen_around g.R.Reader.section l.found l.nesting) ≡ true → inside_takes_memory scope u l.fn.entries.unit l.fn.entries.cursor (seen_around g.R.Reader.section l.fn.found []) ≡ true;
-      kept : IsFoundMore (seen_lists g.R.Reader.section l.fn.found) (seen_lists g.R.Reader.section l.found);
+      gives : inside_found scope u l.entries.unit l.entries.cursor (seen_around l.found l.nesting) ≡ inside_found scope u l.fn.entries.unit l.fn.entries.cursor (seen_around l.fn.found []);
+      takes : inside_takes_memory scope u l.entries.unit l.entries.cursor (seen_around l.found l.nesting) ≡ true → inside_takes_memory scope u l.fn.entries.unit l.fn.entries.cursor (seen_around l.fn.found []) ≡ true;
+      kept : IsFoundMore (seen_lists l.fn.found) (seen_lists l.found);
       unit : l.entries.unit.encoding ≡ u.header.encoding;
     }
 

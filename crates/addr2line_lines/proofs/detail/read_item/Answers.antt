@@ -19,7 +19,7 @@ pub returns-in_err-read_abbreviation-clause-gives : goal.returns-in_err-read_abb
 returns-in_err-read_abbreviation-clause-gives g c =
     let p = err_from_is_err_and c.from_residual.result c.from_residual.ensures.1 in
     let scope = seen_scope c.args.scope in
-    let state = seen_around g.R.Reader.section c.args.found.now c.args.nesting.now in
+    let state = seen_around c.args.found.now c.args.nesting.now in
     rw (p.1, p.2) (λ _. code-fault scope c.args.unit.now c.args.entries.now.unit c.args.entries.now.cursor state _ c.in_err-read_abbreviation.ensures.gives)
 
 pub returns-in_err-read_entry-in-Some-clause-gives : goal.returns-in_err-read_entry-in-Some-clause-gives
@@ -29,9 +29,9 @@ returns-in_err-read_entry-in-Some-clause-gives g c =
     let u = c.args.unit.now in
     let unit = c.args.entries.now.unit in
     let start = c.args.entries.now.cursor in
-    let lists = seen_lists g.R.Reader.section c.args.found.now in
+    let lists = seen_lists c.args.found.now in
     let around = c.args.nesting.now in
-    let state = seen_around g.R.Reader.section c.args.found.now around in
+    let state = seen_around c.args.found.now around in
     let a = c.in-Some.abbreviation.now in
     let t = c.read_abbreviation.new.self.cursor in
     let code = rw c.in-Some.is at c.in_ok-read_abbreviation.ensures.gives in
@@ -46,9 +46,9 @@ returns-in-None-clause-gives g c =
     let u = c.args.unit.now in
     let unit = c.args.entries.now.unit in
     let start = c.args.entries.now.cursor in
-    let lists = seen_lists g.R.Reader.section c.args.found.now in
+    let lists = seen_lists c.args.found.now in
     let around = c.args.nesting.now in
-    let state = seen_around g.R.Reader.section c.args.found.now around in
+    let state = seen_around c.args.found.now around in
     let t = c.read_abbreviation.new.self.cursor in
     let made : List Kind → FoundAround × EntryCursor = λ k. (record { found = lists; around = k }, t) in
     item-closing scope u unit start t state (rw c.in-None.is at c.in_ok-read_abbreviation.ensures.gives) ∙ ap (λ k. Ok (made k)) (sym c.close.ensures.gives)
@@ -62,16 +62,16 @@ returns-in_ok-read_entry-in-Some-clause-gives g c =
     let u = c.args.unit.now in
     let unit = c.args.entries.now.unit in
     let start = c.args.entries.now.cursor in
-    let lists = seen_lists g.R.Reader.section c.args.found.now in
+    let lists = seen_lists c.args.found.now in
     let around = c.args.nesting.now in
-    let state = seen_around g.R.Reader.section c.args.found.now around in
+    let state = seen_around c.args.found.now around in
     let a = c.in-Some.abbreviation.now in
     let t = c.read_abbreviation.new.self.cursor in
     let code = rw c.in-Some.is at c.in_ok-read_abbreviation.ensures.gives in
     let place : ℕ → Result (FoundInlined × Section) Fault = λ o. entry_found_at scope u around o a t.left lists in
     let finish : Result (FoundInlined × Section) Fault → Result (FoundAround × EntryCursor) Fault = λ r. r >>= λ m. Ok (after_entry scope u unit state a t m) in
     let entry = item-entry scope u unit start t state a (sym c.requires.encoding) code in
-    let more = seen_lists g.R.Reader.section c.read_entry.new.found in
+    let more = seen_lists c.read_entry.new.found in
     let end = c.read_entry.new.entries.cursor in
     let at : List Kind → ℤ → FoundAround × EntryCursor = λ k z. (record { found = more; around = k }, record { left = end.left; depth = z }) in
     let made : List Kind → FoundAround × EntryCursor = λ k. (record { found = more; around = k }, end) in
@@ -90,9 +90,9 @@ returns-in_ok-read_entry-in-Some-clause-shorter g c =
     let u = c.args.unit.now in
     let unit = c.args.entries.now.unit in
     let start = c.args.entries.now.cursor in
-    let lists = seen_lists g.R.Reader.section c.args.found.now in
+    let lists = seen_lists c.args.found.now in
     let around = c.args.nesting.now in
-    let state = seen_around g.R.Reader.section c.args.found.now around in
+    let state = seen_around c.args.found.now around in
     let a = c.in-Some.abbreviation.now in
     let t = c.read_abbreviation.new.self.cursor in
     let code = rw c.in-Some.is at c.in_ok-read_abbreviation.ensures.gives in

@@ -3,8 +3,7 @@ use Rattle.std.proofs.lemmas.Result.{err_from_is_err_and}
 use Rattle.gimli_read.specs.Abbreviations.{Specification}
 use Rattle.gimli_read.specs.Reading.{ExactlyUnlessOomIf}
 use Rattle.addr2line_lines.specs.Names.{or_with_name}
-use Rattle.addr2line_lines.specs.FoundAttributes.{with_read_name}
-use Rattle.addr2line_lines.specs.FoundNames.{is_name_attribute}
+use Rattle.addr2line_lines.specs.FoundNames.{is_name_attribute, with_read_name}
 use Rattle.addr2line_lines.specs.SeenScope.{seen_scope}
 use Rattle.addr2line_lines.proofs.RangeLemmas.{on_ok, rest-more, rest-end}
 use Rattle.addr2line_lines.proofs.DetailLemmas.{fold-end, fold-fault, fold-more, name_said, passed, taken}

@@ -4,7 +4,7 @@ use Rattle.gimli_read.specs.Form.{rest_of}
 use Rattle.gimli_read.specs.Section.{Section}
 use Rattle.gimli_read.specs.Reading.{ExactlyUnlessOomIf}
 use Rattle.gimli.specs.Entry.{attributes_at}
-use Rattle.addr2line_lines.specs.FoundAttributes.{name_after}
+use Rattle.addr2line_lines.specs.FoundNames.{name_after}
 use Rattle.addr2line_lines.specs.SeenScope.{seen_scope}
 use Rattle.addr2line_lines.proofs.detail.read_name.Given as goal
 

@@ -1,4 +1,5 @@
-use Rattle.std.proofs.Common.{◌≡◌, List, [], ◌++◌, Result, Ok, Option, None, ◌∙◌, ap, sym, subst, refl, append-nil}
+use Rattle.std.proofs.Common.{◌≡◌, List, [], ◌++◌, Result, Ok, Option, Some, None, ◌∙◌, ap, sym, subst, refl, append-nil}
+use Rattle.std.proofs.lemmas.Result.{err_from_is_err_and}
 use Rattle.gimli_line.specs.declared.row.LineRow.{LineRow as ProgramRow}
 use Rattle.gimli_read.specs.declared.error.Error.{Error as Fault}
 use Rattle.gimli_line.specs.Lines.{YieldsUnlessOom}
@@ -6,6 +7,7 @@ use Rattle.addr2line_lines.specs.Building.{Built, all_taken}
 use Rattle.addr2line_lines.specs.Rows.{read_all, result_map}
 use Rattle.addr2line_lines.proofs.BuildLemmas.{taken_all}
 use Rattle.addr2line_lines.proofs.PackedLemmas.{all_among}
+use Rattle.addr2line_lines.proofs.ProgramLemmas.{fault_at_once, never_at_once}
 use Rattle.addr2line_lines.proofs.RiseLemmas.{rising_of}
 use Rattle.addr2line_lines.proofs.sequence.read_sequences.Goals as goal
 
@@ -15,6 +17,7 @@ finished left b e = ap (λ rows. result_map (λ xs. (all_taken b xs).sequences) 
 pub loop-builder-init : goal.loop-builder-init
 loop-builder-init g c = record {
   same = ap (λ b. result_map (λ xs. (all_taken b xs).sequences) (read_all c.args.rows.now.left)) c.new-builder.ensures.gives ∙ taken_all (read_all c.args.rows.now.left) c.never_falls.ensures.law;
+  at_once = λ e h. refl;
   files = refl;
 }
 
@@ -31,3 +34,18 @@ returns-clause-files g c =
     let files = c.next_row.new.self.header.file_names in
     let none = (c.in_ok-row.ensures.all c.in_default.is).to_define in
     sym (c.loop-builder.invariant.files ∙ c.in_ok-row.ensures.files.0 ∙ ap (λ fs. files ++ fs) none ∙ append-nil files)
+
+pub returns-in_err-row-clause-exact : goal.returns-in_err-row-clause-exact
+returns-in_err-row-clause-exact g c =
+    let p = err_from_is_err_and c.from_residual.result c.from_residual.ensures.1 in
+    rw (p.1, p.2) (λ e ahead left. fault_at_once c.args.rows.now c.loop-builder.rows e _ (c.loop-builder.invariant.at_once e left) c.in_err-row.ensures.memory ahead left)
+
+pub returns-in_err-take_row-clause-exact : goal.returns-in_err-take_row-clause-exact
+returns-in_err-take_row-clause-exact g c =
+    let gave : YieldsUnlessOom c.loop-builder.rows.left (Ok (Some c.in-Some.row)) c.next_row.new.self.left = subst (λ (r : Result (Option ProgramRow) Fault). YieldsUnlessOom c.loop-builder.rows.left r c.next_row.new.self.left) (c.in_ok-row.was ∙ ap Ok c.in-Some.is) c.next_row.ensures.gives in
+    λ e ahead left. absurd (never_at_once c.args.rows.now c.loop-builder.rows e (Some c.in-Some.row) c.next_row.new.self.left (c.loop-builder.invariant.at_once e left) left gave)
+
+pub returns-clause-exact : goal.returns-clause-exact
+returns-clause-exact g c =
+    let gave : YieldsUnlessOom c.loop-builder.rows.left (Ok None) c.next_row.new.self.left = subst (λ (r : Result (Option ProgramRow) Fault). YieldsUnlessOom c.loop-builder.rows.left r c.next_row.new.self.left) (c.in_ok-row.was ∙ ap Ok c.in_default.is) c.next_row.ensures.gives in
+    λ e ahead left. absurd (never_at_once c.args.rows.now c.loop-builder.rows e None c.next_row.new.self.left (c.loop-builder.invariant.at_once e left) left gave)

@@ -2,7 +2,8 @@ use Rattle.std.proofs.Common.{◌≡◌, refl, ◌++◌, ◌∷◌, [], ◌+◌,
 use Rattle.std.proofs.lemmas.List.{length-map, map-append}
 use Rattle.std.proofs.lemmas.Result.{err_from_is_err_and}
 use Rattle.addr2line_lines.specs.declared.details.FunctionDetail.{FunctionDetail}
-use Rattle.addr2line_lines.specs.FoundInlined.{FoundInlined, IsGrown, seen_inlined, seen_lists}
+use Rattle.addr2line_lines.specs.FoundInlined.{FoundInlined, seen_lists}
+use Rattle.addr2line_lines.specs.Grown.{IsGrown}
 use Rattle.addr2line_lines.specs.CachedDetails.{CachedDetails, seen_details}
 use Rattle.addr2line_lines.specs.SeenScope.{seen_scope}
 use Rattle.addr2line_lines.proofs.DetailMemory.{detail_takes, found_takes}
@@ -16,13 +17,13 @@ use Rattle.addr2line_lines.proofs.details.Details.add.Goals as goal
 pub returns-in_err-read-clause-gives : goal.returns-in_err-read-clause-gives
 returns-in_err-read-clause-gives g c =
     let p = err_from_is_err_and c.from_residual.result c.from_residual.ensures.1 in
-    rw (p.1, p.2) (λ ne. detail_refused (seen_scope c.args.scope) c.args.unit.now c.args.offset.0 (seen_lists g.R.Reader.section c.args.self.now.inlined) _ (c.in_err-read.ensures.gives (λ t. ne (or_more g.R.Reader.shares _ _ (detail_takes (seen_scope c.args.scope) c.args.unit.now c.args.offset.0 (seen_lists g.R.Reader.section c.args.self.now.inlined)) t))))
+    rw (p.1, p.2) (λ ne. detail_refused (seen_scope c.args.scope) c.args.unit.now c.args.offset.0 (seen_lists c.args.self.now.inlined) _ (c.in_err-read.ensures.gives (λ t. ne (or_more g.R.Reader.shares _ _ (detail_takes (seen_scope c.args.scope) c.args.unit.now c.args.offset.0 (seen_lists c.args.self.now.inlined)) t))))
 
 -- memory may be taken, as the detail was read
 pub returns-in_err-push-clause-gives : goal.returns-in_err-push-clause-gives
 returns-in_err-push-clause-gives g c =
     let p = err_from_is_err_and c.from_residual-in_err-push.result c.from_residual-in_err-push.ensures.1 in
-    let whole = found_takes (seen_scope c.args.scope) c.args.unit.now c.args.offset.0 (seen_lists g.R.Reader.section c.args.self.now.inlined) _ c.in_ok-read.ensures.gives in
+    let whole = found_takes (seen_scope c.args.scope) c.args.unit.now c.args.offset.0 (seen_lists c.args.self.now.inlined) _ c.in_ok-read.ensures.gives in
     rw (p.1, p.2) (λ ne. absurd (ne (or_second g.R.Reader.shares _ whole) refl))
 
 module _ (g : Over) (c : goal.After-len-2 g) where
@@ -30,7 +31,7 @@ module _ (g : Over) (c : goal.After-len-2 g) where
   old = seen_details g.R.Reader.section c.args.self.now
 
   abbrev listed : FoundInlined
-  listed = seen_lists g.R.Reader.section c.read_detail.new.found
+  listed = seen_lists c.read_detail.new.found
 
   abbrev more : CachedDetails
   more = record {
@@ -72,8 +73,8 @@ module _ (g : Over) (c : goal.After-len-2 g) where
             ∙ ap (λ n. slice_index_or (map see (names ++ c.in_ok-read.read ∷ [])) n None) (c.len-name.ensures ∙ c.args.self.now.names.ok.0)
             ∙ last_name see names c.in_ok-read.read None;
         name_there = omega arith;
-        inlined_begin = c.len-inlined_begin.ensures ∙ c.args.self.now.inlined.functions.ok.0 ∙ sym (length-map c.args.self.now.inlined.functions.items (seen_inlined g.R.Reader.section));
-        inlined_end = c.len.ensures ∙ c.read_detail.new.found.functions.ok.0 ∙ sym (length-map c.read_detail.new.found.functions.items (seen_inlined g.R.Reader.section));
+        inlined_begin = c.len-inlined_begin.ensures ∙ c.args.self.now.inlined.functions.ok.0;
+        inlined_end = c.len.ensures ∙ c.read_detail.new.found.functions.ok.0;
         ranges_begin = c.len-ranges_begin.ensures ∙ c.args.self.now.inlined.ranges.ok.0;
         ranges_end = c.len-2.ensures ∙ c.sort_inlined_from.new.ranges.ok.0;
         entries = refl;

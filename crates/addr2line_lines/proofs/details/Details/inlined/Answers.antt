@@ -1,10 +1,9 @@
 use Rattle.std.proofs.Common.{subst}
 use Rattle.std.specs.Slice.{IsItemAt}
-use Rattle.addr2line_lines.specs.FoundInlined.{seen_inlined}
-use Rattle.addr2line_lines.proofs.LentLemmas.{lent_is}
+use Rattle.addr2line_lines.proofs.LentLemmas.{lent_item}
 use Rattle.addr2line_lines.proofs.details.Details.inlined.Goals as goal
 
 pub returns : goal.returns
 returns g c =
     let functions = c.args.self.now.inlined.functions.items in
-    record { gives = lent_is (seen_inlined g.R.Reader.section) functions c.args.function c.get.result (subst (λ xs. IsItemAt xs c.args.function c.get.result) c.deref.ensures.value c.get.ensures.lookup) }
+    record { gives = lent_item functions c.args.function c.get.result (subst (λ xs. IsItemAt xs c.args.function c.get.result) c.deref.ensures.value c.get.ensures.lookup) }

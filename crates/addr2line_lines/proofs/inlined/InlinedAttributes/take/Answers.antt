@@ -1,7 +1,9 @@
 use Rattle.std.proofs.Common.{◌≡◌, ℕ, Ok, ap, sym, ◌∙◌, true, false, Option, Result}
 use Rattle.gimli.specs.Unit.{UnitRecord}
-use Rattle.addr2line_lines.specs.InlinedEntries.{CallSite, InlinedAttributes, with_call}
-use Rattle.addr2line_lines.specs.FoundAttributes.{is_call, seen_attributes, is_range_name}
+use Rattle.addr2line_lines.specs.declared.inlined.CallSite.{CallSite}
+use Rattle.addr2line_lines.specs.InlinedEntries.{InlinedAttributes, with_call}
+use Rattle.addr2line_lines.specs.FoundAttributes.{is_call, seen_attributes}
+use Rattle.addr2line_lines.specs.FoundRanges.{is_range_name}
 use Rattle.addr2line_lines.specs.SeenScope.{seen_scope}
 use Rattle.addr2line_lines.proofs.DetailLemmas.{call_taken, ranges_taken, name_taken}
 use Rattle.std.proofs.lemmas.Result.{err_from_is_err_and}

@@ -1,11 +1,10 @@
-use Rattle.std.proofs.Common.{arith, ◌≤◌, length, refl, ◌≡◌, ◌<◌, List, [], Ok, ap, sym, map, append-nil, ◌∙◌}
+use Rattle.std.proofs.Common.{arith, ◌≤◌, length, refl, ◌≡◌, ◌<◌, List, [], Ok, ap, sym, append-nil, ◌∙◌}
 use Rattle.std.proofs.lemmas.Bool.Decides.{nat_tests}
 use Rattle.std.proofs.lemmas.Result.{err_from_is_err_and}
 use Rattle.addr2line_lines.specs.FoundAttributes.{seen_attributes}
-use Rattle.addr2line_lines.specs.FoundInlined.{seen_lists, FoundInlined, seen_inlined}
+use Rattle.addr2line_lines.specs.FoundInlined.{seen_lists, FoundInlined}
 use Rattle.addr2line_lines.proofs.DetailMemory.{pushed_well}
 use Rattle.addr2line_lines.proofs.NestingLemmas.{none_added, grown_by, grown_not, ranges_refused, some_added}
-use Rattle.std.proofs.lemmas.List.{length-map, map-append}
 use Rattle.addr2line_lines.specs.declared.picks.InlinedFunctionAddress.{InlinedFunctionAddress}
 use Rattle.addr2line_lines.specs.InlinedEntries.{InlinedEntry}
 use Rattle.addr2line_lines.proofs.inlined_lists.InlinedLists.add.Goals as goal
@@ -25,33 +24,32 @@ returns-in_err-push-clause-gives g c =
 
 pub returns-else-len-before-clause-gives : goal.returns-else-len-before-clause-gives
 returns-else-len-before-clause-gives g c =
-    let found = seen_lists g.R.Reader.section c.args.self.now in
+    let found = seen_lists c.args.self.now in
     let fewer : length c.push_ranges.new.ranges.items ≤ length c.args.self.now.ranges.items = (let a = c.len.ensures in let b = c.len-before.ensures in let f = c.if-len-before.false in grind (arith, nat_tests)) in
     none_added c.args.unit.dwarf.now c.args.unit.unit.now c.args.offset.0 c.args.depth c.len-function.result found (seen_attributes g.R.Reader.section c.args.attributes) _ c.in_ok-push_ranges.ensures.gives fewer
 
 pub returns-in_err-push_ranges-clause-gives : goal.returns-in_err-push_ranges-clause-gives
 returns-in_err-push_ranges-clause-gives g c =
     let p = err_from_is_err_and c.from_residual.result c.from_residual.ensures.1 in
-    rw (p.1, p.2) (λ ne. ranges_refused c.args.unit.dwarf.now c.args.unit.unit.now c.args.offset.0 c.args.depth c.len-function.result (seen_lists g.R.Reader.section c.args.self.now) (seen_attributes g.R.Reader.section c.args.attributes) _ (c.in_err-push_ranges.ensures.gives ne))
+    rw (p.1, p.2) (λ ne. ranges_refused c.args.unit.dwarf.now c.args.unit.unit.now c.args.offset.0 c.args.depth c.len-function.result (seen_lists c.args.self.now) (seen_attributes g.R.Reader.section c.args.attributes) _ (c.in_err-push_ranges.ensures.gives ne))
 
 pub returns-in_err-push_ranges-clause-kept : goal.returns-in_err-push_ranges-clause-kept
 returns-in_err-push_ranges-clause-kept g c = record { entries = grown_not _; ranges = c.in_err-push_ranges.ensures.kept }
 
 pub returns-in_err-push-clause-kept : goal.returns-in_err-push-clause-kept
-returns-in_err-push-clause-kept g c = record { entries = grown_by _ _ [] (ap (map (seen_inlined g.R.Reader.section)) c.in_err-push.ensures.items ∙ sym (append-nil _)); ranges = c.in_ok-push_ranges.ensures.kept }
+returns-in_err-push-clause-kept g c = record { entries = grown_by _ _ [] (c.in_err-push.ensures.items ∙ sym (append-nil _)); ranges = c.in_ok-push_ranges.ensures.kept }
 
 pub returns-in_ok-push-clause-gives : goal.returns-in_ok-push-clause-gives
 returns-in_ok-push-clause-gives g c =
-    let see = seen_inlined g.R.Reader.section in
     let functions = c.args.self.now.functions in
     let ranges = c.push_ranges.new.ranges.items in
-    let place : c.len-function.result ≡ length (map see functions.items) = c.len-function.ensures ∙ functions.ok.0 ∙ sym (length-map functions.items see) in
+    let place : c.len-function.result ≡ length functions.items = c.len-function.ensures ∙ functions.ok.0 in
     let longer : length c.args.self.now.ranges.items < length ranges = (let a = c.len.ensures in let b = c.len-before.ensures in let l = c.if-len-before.true in let m = c.args.self.now.ranges.ok.0 in let n = c.push_ranges.new.ranges.ok.0 in omega arith) in
-    some_added c.args.unit.dwarf.now c.args.unit.unit.now c.args.offset.0 c.args.depth c.len-function.result (seen_lists g.R.Reader.section c.args.self.now) (seen_attributes g.R.Reader.section c.args.attributes) ranges c.in_ok-push_ranges.ensures.gives longer place
-    ∙ ap (λ entries. Ok (found_of entries ranges)) (sym (ap (map see) c.in_ok-push.ensures.items ∙ map-append see functions.items _))
+    some_added c.args.unit.dwarf.now c.args.unit.unit.now c.args.offset.0 c.args.depth c.len-function.result (seen_lists c.args.self.now) (seen_attributes g.R.Reader.section c.args.attributes) ranges c.in_ok-push_ranges.ensures.gives longer place
+    ∙ ap (λ entries. Ok (found_of entries ranges)) (sym c.in_ok-push.ensures.items)
 
 pub returns-in_ok-push-clause-kept : goal.returns-in_ok-push-clause-kept
-returns-in_ok-push-clause-kept g c = record { entries = grown_by _ _ _ (ap (map (seen_inlined g.R.Reader.section)) c.in_ok-push.ensures.items ∙ map-append (seen_inlined g.R.Reader.section) c.args.self.now.functions.items _); ranges = c.in_ok-push_ranges.ensures.kept }
+returns-in_ok-push-clause-kept g c = record { entries = grown_by _ _ _ c.in_ok-push.ensures.items; ranges = c.in_ok-push_ranges.ensures.kept }
 
 pub returns-else-len-before-clause-kept : goal.returns-else-len-before-clause-kept
 returns-else-len-before-clause-kept g c = record { entries = grown_not _; ranges = c.in_ok-push_ranges.ensures.kept }

@@ -1,10 +1,10 @@
-use Rattle.std.proofs.Common.{◌==◌, ap, sym, ◌∙◌}
+use Rattle.std.proofs.Common.{◌==◌, ap, sym, ◌∙◌, count_by}
 use Rattle.addr2line_lines.specs.declared.nesting.Kind.{Kind}
-use Rattle.addr2line_lines.specs.OpenEntries.{is_listed, is_subprogram_kind, kinds_such}
+use Rattle.addr2line_lines.specs.OpenEntries.{is_listed, is_subprogram_kind}
 use Rattle.addr2line_lines.proofs.NestingLemmas.{count_reverse}
 use Rattle.addr2line_lines.proofs.nesting.Nesting.lists.Goals as goal
 
 pub returns-in-Inlined : goal.returns-in-Inlined
 returns-in-Inlined c =
-    let count = c.self.invariant.subprograms_is ∙ sym (count_reverse is_subprogram_kind c.self.inside.kinds.items) ∙ ap (kinds_such is_subprogram_kind) c.self.view_is in
+    let count = c.self.invariant.subprograms_is ∙ sym (count_reverse is_subprogram_kind c.self.inside.kinds.items) ∙ ap (count_by is_subprogram_kind) c.self.view_is in
     record { gives = ap (λ n. n == 0) count ∙ sym (ap (λ (k : Kind). is_listed k c.args.self.now) c.in-Inlined.is) }

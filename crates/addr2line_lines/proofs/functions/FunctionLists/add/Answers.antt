@@ -8,7 +8,7 @@ use Rattle.addr2line_lines.specs.declared.functions.LazyFunction.{LazyFunction}
 use Rattle.addr2line_lines.specs.declared.segments.FunctionAddress.{FunctionAddress}
 use Rattle.addr2line_lines.specs.FoundFunctions.{FoundFunctions, IsUnread, seen_functions}
 use Rattle.addr2line_lines.proofs.FunctionLemmas.{none_added, ranges_refused, some_added}
-use Rattle.addr2line_lines.proofs.functions.Found.add.Goals as goal
+use Rattle.addr2line_lines.proofs.functions.FunctionLists.add.Goals as goal
 
 abbrev found_of : List UnitOffset → List FunctionAddress → FoundFunctions
 found_of offsets addresses = record { offsets = offsets; addresses = addresses }

@@ -11,7 +11,7 @@ use Rattle.gimli_read.specs.Topmost.{last}
 use Rattle.gimli_line.specs.declared.row.LineRow.{LineRow}
 use Rattle.gimli_line.specs.Rises.{NeverFalls}
 use Rattle.addr2line_lines.specs.declared.row.Row.{Row}
-use Rattle.addr2line_lines.specs.Rows.{result_map}
+use Rattle.gimli_read.specs.Reading.{result_map}
 use Rattle.addr2line_lines.specs.Sequences.{Sequence, stored_row, sequence_of, sequences_of}
 use Rattle.addr2line_lines.specs.declared.sequence.LineSequence.{LineSequence}
 use Rattle.addr2line_lines.specs.Building.{Built, IsBuilder, all_taken, built, closed, built_ended, has_address, nothing_built, row_taken, with_row, without_last}

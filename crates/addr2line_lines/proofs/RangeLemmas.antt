@@ -5,12 +5,12 @@ use Rattle.gimli_read.specs.declared.error.Error.{Error}
 use Rattle.gimli_read.specs.declared.endian.Encoding.{Encoding}
 use Rattle.gimli_read.specs.Abbreviations.{Specification}
 use Rattle.gimli_read.specs.Section.{Section}
-use Rattle.gimli_read.specs.Reading.{Reading, ◌>>=◌, ExactlyUnlessOomIf}
+use Rattle.gimli_read.specs.Reading.{Reading, ◌>>=◌, ExactlyUnlessOomIf, result_map}
 use Rattle.gimli_read.specs.Form.{NamedValue, attribute_at, rest_of}
 use Rattle.gimli_read.specs.Yields.{Yields}
 use Rattle.gimli.specs.Entry.{attributes_at}
 use Rattle.addr2line_lines.specs.RangeAttributes.{begins_well}
-use Rattle.addr2line_lines.specs.Rows.{result_map, read_all}
+use Rattle.addr2line_lines.specs.Rows.{read_all}
 
 -- what is left after attributes
 module _ (e : Encoding) (xs : List Specification) (i : ℕ) where

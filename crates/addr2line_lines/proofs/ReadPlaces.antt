@@ -8,7 +8,7 @@ use Rattle.gimli.specs.Unit.{UnitRecord}
 use Rattle.addr2line_lines.specs.declared.functions.LazyFunction.{LazyFunction}
 use Rattle.addr2line_lines.specs.Details.{Detail}
 use Rattle.addr2line_lines.specs.FunctionCache.{seen_function}
-use Rattle.gimli_line.specs.Opcode.{fault_of}
+use Rattle.gimli_read.specs.Reading.{fault_of}
 use Rattle.addr2line_lines.specs.FunctionTable.{CachedFunction, FunctionTable}
 use Rattle.addr2line_lines.specs.FunctionDetails.{IsReadAt, IsReadOf, IsReadOnce, read_fault}
 use Rattle.addr2line_lines.specs.CachedDetails.{CachedDetails}

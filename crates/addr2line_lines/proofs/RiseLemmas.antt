@@ -4,7 +4,7 @@ use Rattle.std.proofs.lemmas.Bool.Decides.{nat_tests}
 use Rattle.std.specs.List.{AllByRecursion, list_any, filter_map, cons_option}
 use Rattle.gimli_line.specs.declared.row.LineRow.{LineRow}
 use Rattle.addr2line_lines.specs.declared.row.Row.{Row}
-use Rattle.addr2line_lines.specs.Rows.{result_map}
+use Rattle.gimli_read.specs.Reading.{result_map}
 use Rattle.addr2line_lines.specs.Sequences.{RowGroup, Sequence, put_first, row_groups, latest, stored_row, sequence_of, sequence_in, sequences_of}
 use Rattle.gimli_line.specs.Rises.{NeverFalls}
 use Rattle.gimli_line.proofs.Rising.{NextFrom}

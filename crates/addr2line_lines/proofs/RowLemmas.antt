@@ -6,7 +6,8 @@ use Rattle.gimli_read.specs.Yields.{Yields}
 use Rattle.gimli_line.specs.declared.row.LineRow.{LineRow}
 use Rattle.gimli_line.specs.Lines.{YieldsUnlessOom}
 use Rattle.gimli_line.specs.Rises.{rows_before, NeverFalls}
-use Rattle.addr2line_lines.specs.Rows.{read_all, result_map}
+use Rattle.gimli_read.specs.Reading.{result_map}
+use Rattle.addr2line_lines.specs.Rows.{read_all}
 
 -- rows that are given unless memory is refused
 pub yields_given : {X : Type 0} (old new : List (Result X Error)) (r : Result (Option X) Error) → YieldsUnlessOom old r new → (r ≡ Err OutOfMemory → ⊥) → Yields old r new

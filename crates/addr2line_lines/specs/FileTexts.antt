@@ -2,10 +2,11 @@
 -- Own: below version 5 index 0 is the unit's own name; where there is none the text is empty. A
 -- file's directory counts unless its index is 0 or has no entry. The fault of the texts is the
 -- first one by index.
-use Rattle.std.specs.Prelude.{ℕ, ◌==◌, nat_lt, List, [], ◌∷◌, ◌++◌, Option, Some, None, option_map, Result, Ok, if◌then◌else◌}
+use Rattle.std.specs.Prelude.{ℕ, ◌==◌, List, [], ◌∷◌, ◌++◌, Option, Some, None, option_map, Result, Ok, if◌then◌else◌}
 use Rattle.gimli_read.specs.declared.error.Error.{Error}
 use Rattle.gimli_read.specs.declared.value.AttributeValue.{AttributeValue}
 use Rattle.gimli_read.specs.Section.{Section}
+use Rattle.gimli_read.specs.Version.{is_before_5}
 use Rattle.gimli_read.specs.Reading.{◌>>=◌}
 use Rattle.gimli_line.specs.Header.{File, Header, directory_of}
 use Rattle.gimli.specs.Sections.{Sections}
@@ -58,5 +59,5 @@ own_name_first d u h files =
 -- the texts by index, from 0 on
 abbrev pub file_texts : Sections → UnitRecord → Header → List File → Result (List (List ℕ)) Error
 file_texts d u h files =
-    if nat_lt h.encoding.version 5 then own_name_first d u h files
+    if is_before_5 h.encoding.version then own_name_first d u h files
     else (texts_of d u h files >>= λ texts. Ok (at_least_one texts))

@@ -13,6 +13,7 @@ use Rattle.gimli_read.specs.Abbreviations.{Abbrev}
 use Rattle.gimli_read.specs.Form.{NamedValue, constant_of}
 use Rattle.gimli_read.specs.Reading.{◌>>=◌}
 use Rattle.gimli_read.specs.Section.{Section}
+use Rattle.gimli_read.specs.Version.{is_5}
 use Rattle.gimli.specs.Unit.{UnitRecord}
 use Rattle.addr2line_lines.specs.declared.function.RangeAttributes.{RangeAttributes}
 use Rattle.addr2line_lines.specs.declared.inlined.CallSite.{CallSite}
@@ -54,7 +55,7 @@ is_inlined a = a.tag.0 == DW_TAG_inlined_subroutine.0
 
 -- the index of a file that counts in a version
 abbrev pub counted_file : ℕ → ℕ → Option ℕ
-counted_file version n = if nat_lt 0 n || version == 5 then Some n else None
+counted_file version n = if nat_lt 0 n || is_5 version then Some n else None
 
 -- the low 32 bits of a constant, 0 of another value
 abbrev pub constant_bits : Option ℕ → ℕ

@@ -1,10 +1,6 @@
 -- Rows that come one at a time, as the private functions see them.
 use Rattle.std.specs.Prelude.{List, [], ◌∷◌, Result, Ok, Err}
-use Rattle.std.specs.Result.{result_map_both}
-
--- a function of the value, the fault as it is
-abbrev pub result_map : {T U E : Type 0} → (T → U) → Result T E → Result U E
-result_map f r = result_map_both f (λ e. e) r
+use Rattle.gimli_read.specs.Reading.{result_map}
 
 -- all of the rows, or the first fault
 abbrev pub read_all : {X E : Type 0} → List (Result X E) → Result (List X) E

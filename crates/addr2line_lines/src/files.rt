@@ -7,7 +7,7 @@ ghost use Rattle.addr2line_lines.specs.FileTexts.{bytes_if_some, optional_string
 
 use crate::path::{make_file_text, make_own_text};
 use gimli::line::{FileEntry, LineProgramHeader};
-use gimli::read::{AttributeValue, Error, Reader};
+use gimli::read::{DWARF_5, AttributeValue, Error, Reader};
 use gimli::{Dwarf, Unit};
 use std::alloc::Global;
 
@@ -154,7 +154,7 @@ pub(crate) fn read_file_texts<R: Reader>(
         (file_texts dwarf.now unit.now
         header.now files.now) }
 {
-    if header.version() < 5 {
+    if header.version() < DWARF_5 {
         return read_own_name_first(alloc, dwarf, unit, header, files);
     }
     let mut texts = read_texts(alloc, dwarf, unit, header, files)?;

@@ -16,7 +16,7 @@ use crate::function::{RangeAttributes, is_range_name};
 use crate::name::{is_name_attribute, pass_over, take_name};
 use crate::references::Scope;
 use crate::row::low_bits;
-use gimli::read::{Attribute, AttributeSpecification, DwAt, Error, Reader, UnitOffset};
+use gimli::read::{DWARF_5, Attribute, AttributeSpecification, DwAt, Error, Reader, UnitOffset};
 use gimli::{EntriesRaw, Unit, UnitRef};
 use std::marker::Model;
 
@@ -63,7 +63,7 @@ impl<R: Reader> Model for InlinedFunction<R> {
 fn counted_file(version: u16, index: u64) -> Option<u64>
     ensures gives { result ≡ counted_file version index }
 {
-    if index > 0 || version == 5 {
+    if index > 0 || version == DWARF_5 {
         Some(index)
     } else {
         None

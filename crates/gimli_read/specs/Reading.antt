@@ -5,6 +5,7 @@
 -- The words for steps and answers serve every kind of fault; `Reading`, `Reads` and those with Oom
 -- in their names are for the faults of sections.
 use Rattle.std.specs.Prelude.{◌≡◌, ◌≢◌, Bool, true, is_ok, Result, Ok, Err, if◌then◌else◌}
+use Rattle.std.specs.Result.{result_map_both}
 use Rattle.gimli_read.specs.declared.error.Error.{Error}
 use Rattle.gimli_read.specs.declared.error.Error.TheVariants.{OutOfMemory}
 use Rattle.gimli_read.specs.Section.{Section}
@@ -25,8 +26,7 @@ abbrev pub ◌>>=◌ : {A B E : Type 0} → Result A E → (A → Result B E) �
 
 -- what is given, with its value made into another
 abbrev pub result_map : {A B E : Type 0} → (A → B) → Result A E → Result B E
-result_map make (Ok x) = Ok (make x)
-result_map make (Err e) = Err e
+result_map make given = result_map_both make (λ e. e) given
 
 -- the fault of what is given, if it is one
 abbrev pub fault_of : {A E : Type 0} → Result A E → Result (Unit {0}) E

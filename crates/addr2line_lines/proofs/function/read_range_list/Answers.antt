@@ -2,7 +2,8 @@ use Rattle.std.proofs.Common.{List, map, ◌++◌, Result, Ok, ap, refl, sym, �
 use Rattle.std.proofs.lemmas.Result.{err_from_is_err_and}
 use Rattle.gimli_read.specs.declared.error.Error.{Error as Fault}
 use Rattle.gimli_read.specs.declared.range.Range.{Range}
-use Rattle.addr2line_lines.specs.Rows.{result_map, read_all}
+use Rattle.gimli_read.specs.Reading.{result_map}
+use Rattle.addr2line_lines.specs.Rows.{read_all}
 use Rattle.addr2line_lines.specs.RangeAttributes.{all_ranges, begins_well}
 use Rattle.addr2line_lines.proofs.FunctionLemmas.{one_read}
 use Rattle.addr2line_lines.proofs.RangeLemmas.{begins_with_one, fault_left, none_left, one_left, read_after}

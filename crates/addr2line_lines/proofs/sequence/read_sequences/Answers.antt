@@ -4,7 +4,8 @@ use Rattle.gimli_line.specs.declared.row.LineRow.{LineRow as ProgramRow}
 use Rattle.gimli_read.specs.declared.error.Error.{Error as Fault}
 use Rattle.gimli_line.specs.Lines.{YieldsUnlessOom}
 use Rattle.addr2line_lines.specs.Building.{Built, all_taken}
-use Rattle.addr2line_lines.specs.Rows.{read_all, result_map}
+use Rattle.gimli_read.specs.Reading.{result_map}
+use Rattle.addr2line_lines.specs.Rows.{read_all}
 use Rattle.addr2line_lines.proofs.BuildLemmas.{taken_all}
 use Rattle.addr2line_lines.proofs.PackedLemmas.{all_among}
 use Rattle.addr2line_lines.proofs.ProgramLemmas.{fault_at_once, never_at_once}

@@ -2,7 +2,8 @@ use Rattle.std.proofs.Common.{◌≡◌, length, ◌++◌, [], ◌∷◌, Err}
 use Rattle.gimli_read.specs.declared.error.Error.{Error as Fault}
 use Rattle.addr2line_lines.specs.Building.{all_taken}
 use Rattle.addr2line_lines.specs.Sequences.{sequences_of}
-use Rattle.addr2line_lines.specs.Rows.{read_all, result_map}
+use Rattle.gimli_read.specs.Reading.{result_map}
+use Rattle.addr2line_lines.specs.Rows.{read_all}
 use Rattle.addr2line_lines.proofs.sequence.read_sequences.Given as goal
 
 abbrev pub invariant-loop-builder : goal.invariant-loop-builder

@@ -3,7 +3,7 @@ use Rattle.std.proofs.lemmas.Option.{get_or_from_slice_get, slice_get_within}
 use Rattle.addr2line_lines.specs.declared.functions.LazyDetail.TheVariants.{Read, Faulty}
 use Rattle.addr2line_lines.specs.declared.functions.LazyFunction.{LazyFunction}
 use Rattle.addr2line_lines.specs.Details.{detail_at}
-use Rattle.gimli_line.specs.Opcode.{fault_of}
+use Rattle.gimli_read.specs.Reading.{fault_of}
 use Rattle.addr2line_lines.specs.FunctionTable.{FunctionTable}
 use Rattle.addr2line_lines.specs.FunctionDetails.{IsReadAt, read_fault, cached_takes_memory}
 use Rattle.addr2line_lines.specs.CachedDetails.{seen_details}

@@ -8,7 +8,7 @@ use Rattle.std.specs.Str.{bytes_eq}
 use Rattle.gimli_read.specs.declared.endian.RunTimeEndian.{RunTimeEndian}
 use Rattle.gimli_read.specs.declared.endian.RunTimeEndian.TheVariants.{Little, Big}
 use Rattle.gimli_read.specs.Reading.{◌>>=◌}
-use Rattle.elf.specs.declared.constants.TheConstants.{HALF_SIZE, WORD_SIZE, EI_CLASS, EI_DATA, ELFCLASS32, ELFCLASS64, ELFDATA2LSB, ELFDATA2MSB, ET_REL}
+use Rattle.elf.specs.declared.constants.TheConstants.{HALF_SIZE, WORD_SIZE, ELFMAG0, EI_CLASS, EI_DATA, ELFCLASS32, ELFCLASS64, ELFDATA2LSB, ELFDATA2MSB, ET_REL}
 use Rattle.elf.specs.declared.error.LoaderError.TheVariants.{NotElf, BadElf}
 use Rattle.elf.specs.declared.layout.Class.{Class}
 use Rattle.elf.specs.declared.layout.Class.TheVariants.{Elf32, Elf64}
@@ -21,11 +21,15 @@ use Rattle.elf.specs.Loading.{Loading}
 
 -- the bytes that an ELF file begins with
 abbrev pub magic : List ℕ
-magic = 0x7f ∷ codes "ELF"
+magic = ELFMAG0 ∷ codes "ELF"
+
+-- whether bytes begin with others
+abbrev pub begins_with : List ℕ → List ℕ → Bool
+begins_with bytes front = bytes_eq (take (length front) bytes) front
 
 -- whether the bytes begin as those of an ELF file do
 abbrev pub has_magic : List ℕ → Bool
-has_magic bytes = bytes_eq (take (length magic) bytes) magic
+has_magic bytes = begins_with bytes magic
 
 -- the class that a byte names
 abbrev pub class_of : ℕ → Loading Class
@@ -86,7 +90,7 @@ section_in endian l bytes = record {
   info = number_at endian l.sh_info WORD_SIZE bytes;
 }
 
--- so many section headers, one after another
+-- the n section headers at the front
 abbrev pub sections_in : RunTimeEndian → Layout → ℕ → List ℕ → List SectionHeader
 sections_in endian l zero bytes = []
 sections_in endian l (suc n) bytes = section_in endian l bytes

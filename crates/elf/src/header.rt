@@ -1,18 +1,17 @@
 //! The file's own header (System V ABI, Object Files: ELF Header).
 
-ghost use Rattle.std.specs.Prelude.{◌≡◌, ◌≤◌, ◌+◌, ◌*◌, length, take, IfOk};
-ghost use Rattle.std.specs.Str.{bytes_eq};
+ghost use Rattle.std.specs.Prelude.{◌≡◌, ◌≤◌, ◌+◌, ◌*◌, length, IfOk};
 ghost use Rattle.elf.specs.Layout.{layout_of};
-ghost use Rattle.elf.specs.Header.{class_of, endian_of, ident_in, count_in, header_in};
+ghost use Rattle.elf.specs.Header.{begins_with, class_of, endian_of, ident_in, count_in, header_in};
 
 use crate::constants::{
-    EI_CLASS, EI_DATA, ELFCLASS32, ELFCLASS64, ELFDATA2LSB, ELFDATA2MSB, ET_REL, HALF_SIZE,
+    EI_CLASS, EI_DATA, ELFCLASS32, ELFCLASS64, ELFDATA2LSB, ELFDATA2MSB, ELFMAG0, ET_REL, HALF_SIZE,
 };
 use crate::error::LoaderError;
 use crate::layout::{self, Class};
 use gimli_read::RunTimeEndian;
 
-const MAGIC: [u8; 4] = [0x7f, b'E', b'L', b'F'];
+const MAGIC: [u8; 4] = [ELFMAG0, b'E', b'L', b'F'];
 
 /// The class and the byte order of a file.
 #[derive(Clone, Copy)]
@@ -33,7 +32,7 @@ pub(crate) struct FileHeader {
 
 /// Whether the bytes begin with these.
 pub(crate) fn begins_with(bytes: &[u8], front: &[u8]) -> bool
-    ensures gives { result ≡ bytes_eq (take (length front.now) bytes.now) front.now }
+    ensures gives { result ≡ begins_with bytes.now front.now }
 {
     if bytes.len() < front.len() {
         return false;

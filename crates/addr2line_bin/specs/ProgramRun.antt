@@ -68,7 +68,7 @@ abbrev pub section_or_name : List ℕ → Option Range → Result (Option Range)
 section_or_name name None = Err name
 section_or_name name (Some range) = Ok (Some range)
 
--- the same of the section that is named, none where none is
+-- the same of the section that is named, and no addresses where none is named
 abbrev pub section_by : FileAnswers → Option (List ℕ) → Result (Option Range) (List ℕ)
 section_by answers None = Ok None
 section_by answers (Some name) = section_or_name name (answers.section_at name)

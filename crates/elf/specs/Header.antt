@@ -3,8 +3,8 @@
 -- Own: a file without the whole magic is NotElf; one that has it, but no class or data byte,
 -- another value of these, or not the whole header of its class, is BadElf, and so are section
 -- headers outside the file or of another size than the class's.
-use Rattle.std.specs.Prelude.{ℕ, zero, suc, ◌+◌, ◌*◌, ◌==◌, Bool, not, List, [], ◌∷◌, Ok, Err, if◌then◌else◌, drop, take, length, slice_index, nat_lt, codes}
-use Rattle.std.specs.Str.{bytes_eq}
+use Rattle.std.specs.Prelude.{ℕ, zero, suc, ◌+◌, ◌*◌, ◌==◌, Bool, not, List, [], ◌∷◌, Ok, Err, if◌then◌else◌, drop, length, slice_index, nat_eq, nat_lt, codes}
+use Rattle.std.specs.List.{starts_with}
 use Rattle.gimli_read.specs.declared.endian.RunTimeEndian.{RunTimeEndian}
 use Rattle.gimli_read.specs.declared.endian.RunTimeEndian.TheVariants.{Little, Big}
 use Rattle.gimli_read.specs.Reading.{◌>>=◌}
@@ -23,13 +23,9 @@ use Rattle.elf.specs.Loading.{Loading}
 abbrev pub magic : List ℕ
 magic = ELFMAG0 ∷ codes "ELF"
 
--- whether bytes begin with others
-abbrev pub begins_with : List ℕ → List ℕ → Bool
-begins_with bytes front = bytes_eq (take (length front) bytes) front
-
 -- whether the bytes begin as those of an ELF file do
 abbrev pub has_magic : List ℕ → Bool
-has_magic bytes = begins_with bytes magic
+has_magic bytes = starts_with nat_eq bytes magic
 
 -- the class that a byte names
 abbrev pub class_of : ℕ → Loading Class

@@ -3,9 +3,9 @@
 -- Own: refused, in this order, are a section outside the file, a compressed one, and one that
 -- still needs relocations; a missing one is compressed where .zdebug_ stands in place of the
 -- .debug_ of its name.
-use Rattle.std.specs.Prelude.{ℕ, ◌+◌, ◌==◌, ◌&&◌, ◌||◌, Bool, false, not, List, [], Option, Some, None, Ok, Err, if◌then◌else◌, drop, length, codes, bit_and, option_map, option_and_then}
+use Rattle.std.specs.Prelude.{ℕ, ◌+◌, ◌==◌, ◌&&◌, ◌||◌, Bool, false, not, List, [], Option, Some, None, Ok, Err, if◌then◌else◌, drop, length, nat_eq, codes, bit_and, option_map, option_and_then}
 use Rattle.std.specs.Str.{bytes_eq}
-use Rattle.std.specs.List.{position, slice_get, list_any}
+use Rattle.std.specs.List.{position, slice_get, starts_with, list_any}
 use Rattle.std.specs.Option.{option_map_or}
 use Rattle.gimli_read.specs.Section.{Section}
 use Rattle.gimli_read.specs.Number.{fits_u64}
@@ -13,7 +13,6 @@ use Rattle.gimli_read.specs.declared.range.Range.{Range}
 use Rattle.elf.specs.declared.constants.TheConstants.{SHT_REL, SHT_RELA, SHF_COMPRESSED}
 use Rattle.elf.specs.declared.error.LoaderError.TheVariants.{BadElf, CompressedSection, RelocationsNeeded}
 use Rattle.elf.specs.declared.section.SectionHeader.{SectionHeader}
-use Rattle.elf.specs.Header.{begins_with}
 use Rattle.elf.specs.SectionBytes.{bytes_at, is_nobits, is_outside, string_table_in, table_text_at}
 use Rattle.elf.specs.Loading.{Loading}
 use Rattle.elf.specs.ObjectFile.{ObjectFile}
@@ -55,8 +54,8 @@ zdebug_prefix = codes ".zdebug_"
 
 -- whether a text is the name with .zdebug_ in place of .debug_
 abbrev pub is_zdebug_text : List ℕ → List ℕ → Bool
-is_zdebug_text name text = begins_with name debug_prefix
-    && (begins_with text zdebug_prefix
+is_zdebug_text name text = starts_with nat_eq name debug_prefix
+    && (starts_with nat_eq text zdebug_prefix
     && bytes_eq (drop (length zdebug_prefix) text) (drop (length debug_prefix) name))
 
 -- whether a section has such a name

@@ -2,7 +2,7 @@
 
 ghost use Rattle.std.specs.Prelude.{◌≡◌, ◌≤◌, ◌+◌, ◌*◌, length, IfOk};
 ghost use Rattle.elf.specs.Layout.{layout_of};
-ghost use Rattle.elf.specs.Header.{begins_with, class_of, endian_of, ident_in, count_in, header_in};
+ghost use Rattle.elf.specs.Header.{class_of, endian_of, ident_in, count_in, header_in};
 
 use crate::constants::{
     EI_CLASS, EI_DATA, ELFCLASS32, ELFCLASS64, ELFDATA2LSB, ELFDATA2MSB, ELFMAG0, ET_REL, HALF_SIZE,
@@ -28,16 +28,6 @@ pub(crate) struct FileHeader {
     pub(crate) start: usize,
     pub(crate) count: usize,
     pub(crate) name_index: u64,
-}
-
-/// Whether the bytes begin with these.
-pub(crate) fn begins_with(bytes: &[u8], front: &[u8]) -> bool
-    ensures gives { result ≡ begins_with bytes.now front.now }
-{
-    if bytes.len() < front.len() {
-        return false;
-    }
-    &bytes[..front.len()] == front
 }
 
 // The class that a byte names.
@@ -67,7 +57,7 @@ fn endian_from(byte: u8) -> Result<RunTimeEndian, LoaderError>
 pub(crate) fn read_ident(bytes: &[u8]) -> Result<Ident, LoaderError>
     ensures gives { result ≡ ident_in bytes.now }
 {
-    if !begins_with(bytes, &MAGIC) {
+    if !bytes.starts_with(MAGIC.as_slice()) {
         return Err(LoaderError::NotElf);
     }
     if bytes.len() <= EI_DATA {

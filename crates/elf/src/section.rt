@@ -8,7 +8,7 @@ ghost use Rattle.elf.specs.SectionBytes.{is_nobits, is_outside, section_bytes_in
 ghost use Rattle.elf.specs.Sections.{addresses_of, is_compressed, is_named, is_zdebug_text, is_zdebug, relocates};
 
 use crate::constants::{SHF_COMPRESSED, SHN_UNDEF, SHT_NOBITS, SHT_REL, SHT_RELA, WORD_SIZE};
-use crate::header::{self, Ident};
+use crate::header::Ident;
 use crate::layout;
 use gimli_read::{Range, zero_of};
 use std::alloc::{AllocError, Global};
@@ -165,9 +165,9 @@ pub(crate) fn has_zdebug(sections: &[SectionHeader], names: &[u8], name: &[u8]) 
 fn is_zdebug_text(name: &[u8], text: &[u8]) -> bool
     ensures gives { result ≡ is_zdebug_text name.now text.now }
 {
-    let debug = b".debug_";
-    let zdebug = b".zdebug_";
-    if !header::begins_with(name, debug) || !header::begins_with(text, zdebug) {
+    let debug = b".debug_".as_slice();
+    let zdebug = b".zdebug_".as_slice();
+    if !name.starts_with(debug) || !text.starts_with(zdebug) {
         return false;
     }
     &text[zdebug.len()..] == &name[debug.len()..]

@@ -10,8 +10,8 @@ use Rattle.addr2line_bin.specs.Printing.{TextOf, EndsAt, EndsEarly, IsCutAtRead,
 use Rattle.addr2line_bin.specs.InputLines.{AreFirstLines, AreLinesToRefusal, InputState, line_probes}
 use Rattle.addr2line_bin.specs.declared.engine.Exit.{Exit}
 use Rattle.addr2line_bin.specs.declared.engine.Exit.TheVariants as exit
-use Rattle.addr2line_bin.specs.declared.stream.Stop.{Stop}
-use Rattle.addr2line_bin.specs.declared.stream.Stop.TheVariants as stop
+use Rattle.addr2line_bin.specs.declared.stream.StopReason.{StopReason}
+use Rattle.addr2line_bin.specs.declared.stream.StopReason.TheVariants as stop
 use Rattle.addr2line_bin.proofs.Parts.{appends_both, appends_nothing, keeps_itself, sends_nothing, sends_on}
 use Rattle.addr2line_bin.proofs.Runs.{flushes_both, no_refused_growth, plus_nothing, prints_more, prints_nothing, stops_later}
 
@@ -43,14 +43,14 @@ prints_next Now Is oo om on eo em en ps qs w a b = record {
   prints = prints_more oo om on eo em en a.texts b.texts a.prints b.prints;
 }
 
-pub ends_weaker : (Now Is : TextOf) → Weaker Now Is → (why : Stop) (later rest : List (Option ℕ)) (written told : List ℕ) → EndsAt Now why later written told → EndsAt Is why (later ++ rest) written told
+pub ends_weaker : (Now Is : TextOf) → Weaker Now Is → (why : StopReason) (later rest : List (Option ℕ)) (written told : List ℕ) → EndsAt Now why later written told → EndsAt Is why (later ++ rest) written told
 ends_weaker Now Is w stop.OutOfMemory [] rest written told e = absurd e
 ends_weaker Now Is w stop.OutOfMemory (p ∷ later) rest written told e = e
 ends_weaker Now Is w (stop.Output b) [] rest written told e = absurd e
 ends_weaker Now Is w (stop.Output b) (p ∷ later) rest written told e = (e.0, w p e.0 e.1, e.2, e.3)
 
 -- what was printed, and then an early end
-unfoldable pub ends_next : (Now Is : TextOf) (oo om on eo em en : StreamState) (ps qs rest all : List (Option ℕ)) (why : Stop) → Weaker Now Is → PrintsOf Is oo om eo em ps → EndsEarly Now om on em en qs why []
+unfoldable pub ends_next : (Now Is : TextOf) (oo om on eo em en : StreamState) (ps qs rest all : List (Option ℕ)) (why : StopReason) → Weaker Now Is → PrintsOf Is oo om eo em ps → EndsEarly Now om on em en qs why []
     → all ≡ ps ++ (qs ++ rest) → EndsEarly Is oo on eo en all why []
 ends_next Now Is oo om on eo em en ps qs rest all why w a b is = record {
   done = ps ++ b.done;
@@ -87,7 +87,7 @@ ends_at_once Is o e p = record {
 }
 
 -- where a run ends early, something is left
-has_left : (Is : TextOf) (why : Stop) (later : List (Option ℕ)) (written told : List ℕ) → EndsAt Is why later written told → 0 < length later
+has_left : (Is : TextOf) (why : StopReason) (later : List (Option ℕ)) (written told : List ℕ) → EndsAt Is why later written told → 0 < length later
 has_left Is stop.OutOfMemory [] written told e = absurd e
 has_left Is stop.OutOfMemory (p ∷ later) written told e = omega arith
 has_left Is (stop.Output b) [] written told e = absurd e
@@ -100,7 +100,7 @@ left_of_one p done later e left =
     omega (arith, both, left)
 
 -- what was printed, and then an early end at the next
-pub read_next : (Now Is : TextOf) (oo om on eo em en : StreamState) (ps all : List (Option ℕ)) (p : Option ℕ) (why : Stop) → Weaker Now Is → PrintsOf Is oo om eo em ps → EndsEarly Now om on em en (p ∷ []) why []
+pub read_next : (Now Is : TextOf) (oo om on eo em en : StreamState) (ps all : List (Option ℕ)) (p : Option ℕ) (why : StopReason) → Weaker Now Is → PrintsOf Is oo om eo em ps → EndsEarly Now om on em en (p ∷ []) why []
     → all ≡ ps ++ p ∷ [] → (b : EndsEarly Is oo on eo en all why []) × (length b.later ≡ 1)
 unfolding ends_next
 read_next Now Is oo om on eo em en ps all p why w a b is = (
@@ -109,7 +109,7 @@ read_next Now Is oo om on eo em en ps all p why w a b is = (
 )
 
 -- an early end, and then more is reported
-unfoldable pub ends_reported : (Is : TextOf) (oo on eo em en : StreamState) (ps : List (Option ℕ)) (why : Stop) (more : List ℕ) → EndsEarly Is oo on eo em ps why [] → Reports em en more
+unfoldable pub ends_reported : (Is : TextOf) (oo on eo em en : StreamState) (ps : List (Option ℕ)) (why : StopReason) (more : List ℕ) → EndsEarly Is oo on eo em ps why [] → Reports em en more
     → EndsEarly Is oo on eo en ps why more
 ends_reported Is oo on eo em en ps why more p t = record {
   done = p.done;
@@ -127,7 +127,7 @@ ends_reported Is oo on eo em en ps why more p t = record {
 }
 
 -- the lines of a run that ended early, and its last line
-pub lines_reported : (Is : TextOf) (name : List ℕ) (io inn : InputState) (lines : List (List ℕ)) (oo on eo em en : StreamState) (why : Stop) (e : Exit)
+pub lines_reported : (Is : TextOf) (name : List ℕ) (io inn : InputState) (lines : List (List ℕ)) (oo on eo em en : StreamState) (why : StopReason) (e : Exit)
     → PrintsReadUnlessStopped Is io inn lines oo on eo em (Err why) → Reports em en (last_text name why) → e ≡ exit_at why
     → ((cut : IsCutOff Is name oo on eo en (line_probes lines) e) × AreFirstLines io inn lines × (length cut.prints.later ≡ 1))
     ⊎ (AreLinesToRefusal io inn lines × IsCutAtRead Is name oo on eo en (line_probes lines) e)
@@ -152,7 +152,7 @@ lines_reported Is name io inn lines oo on eo em en why e (inr p) t x =
 
 -- a text that is reported, and one that is sent
 pub sends_one : (Is : TextOf) (oo on eo en : StreamState) (p : Option ℕ) (t : ProbeText) → Is p t → Reports eo en t.err
-    → (r : Result (Unit {0}) Stop) → OnOk r (Appends oo.contents on.contents t.out) → MatchResult r (λ _. on.flushes ≡ plus oo.flushes 1) (λ _. on.flushes ≡ oo.flushes) → OnOk r (on.is_flushed ≡ true) → OnOk r (on.fault ≡ oo.fault)
+    → (r : Result (Unit {0}) StopReason) → OnOk r (Appends oo.contents on.contents t.out) → MatchResult r (λ _. on.flushes ≡ plus oo.flushes 1) (λ _. on.flushes ≡ oo.flushes) → OnOk r (on.is_flushed ≡ true) → OnOk r (on.fault ≡ oo.fault)
     → IfErr r (λ e. IsFault on e × WritesPrefix oo.contents on.contents t.out) → PrintsUnlessStopped Is oo on eo en (p ∷ []) r
 sends_one Is oo on eo en p t is told (Ok x) sent flushes flushed fault refused = record {
   texts = t ∷ [];
@@ -188,13 +188,13 @@ somes_next xs i lt = ap (map Some) (drop-cons xs i 0 lt) ∙ rw add-one refl
 prints_before : (Now Is : TextOf) → Weaker Now Is → (oo on eo en : StreamState) (ps : List (Option ℕ)) → PrintsOf Now oo on eo en ps → PrintsOf Is oo on eo en ps
 prints_before Now Is w oo on eo en ps a = record { texts = a.texts; each = all_weaker Now Is w ps a.texts a.each; prints = a.prints }
 
-ends_before : (Now Is : TextOf) → Weaker Now Is → (why : Stop) (later : List (Option ℕ)) (written told : List ℕ) → EndsAt Now why later written told → EndsAt Is why later written told
+ends_before : (Now Is : TextOf) → Weaker Now Is → (why : StopReason) (later : List (Option ℕ)) (written told : List ℕ) → EndsAt Now why later written told → EndsAt Is why later written told
 ends_before Now Is w stop.OutOfMemory [] written told e = absurd e
 ends_before Now Is w stop.OutOfMemory (p ∷ later) written told e = e
 ends_before Now Is w (stop.Output b) [] written told e = absurd e
 ends_before Now Is w (stop.Output b) (p ∷ later) written told e = (e.0, w p e.0 e.1, e.2, e.3)
 
-early_before : (Now Is : TextOf) → Weaker Now Is → (oo on eo en : StreamState) (ps : List (Option ℕ)) (why : Stop) (more : List ℕ) → EndsEarly Now oo on eo en ps why more → EndsEarly Is oo on eo en ps why more
+early_before : (Now Is : TextOf) → Weaker Now Is → (oo on eo en : StreamState) (ps : List (Option ℕ)) (why : StopReason) (more : List ℕ) → EndsEarly Now oo on eo en ps why more → EndsEarly Is oo on eo en ps why more
 early_before Now Is w oo on eo en ps why more p = record {
   done = p.done;
   later = p.later;

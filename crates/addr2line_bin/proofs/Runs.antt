@@ -6,8 +6,8 @@ use Rattle.std.specs.declared.io.ErrorKind.{ErrorKind}
 use Rattle.addr2line_bin.specs.Put.{StreamState, plus, has_fault}
 use Rattle.addr2line_bin.specs.Stopped.{Stops, stop_of}
 use Rattle.addr2line_bin.specs.Print.{ProbeText, outs, errs, Prints}
-use Rattle.addr2line_bin.specs.declared.stream.Stop.{Stop}
-use Rattle.addr2line_bin.specs.declared.stream.Stop.TheVariants as stop
+use Rattle.addr2line_bin.specs.declared.stream.StopReason.{StopReason}
+use Rattle.addr2line_bin.specs.declared.stream.StopReason.TheVariants as stop
 use Rattle.addr2line_bin.proofs.Parts.{appends_both, appends_nothing, keeps_itself, sends_on, sends_nothing}
 
 pub plus_nothing : (a : Option ℕ) → a ≡ plus a 0
@@ -19,7 +19,7 @@ plus_plus None m n k e = refl
 plus_plus (Some x) m n k e = let e : (x + m) + n ≡ x + k = omega (arith, e) in ap Some e
 
 -- what stops later, stops
-pub stops_later : (old mid new : StreamState) (why : Stop) → mid.fault ≡ old.fault → (old.is_flushed ≡ true → mid.is_flushed ≡ true) → Stops mid new why → Stops old new why
+pub stops_later : (old mid new : StreamState) (why : StopReason) → mid.fault ≡ old.fault → (old.is_flushed ≡ true → mid.is_flushed ≡ true) → Stops mid new why → Stops old new why
 stops_later old mid new stop.OutOfMemory e f s = (s.0 ∙ e, λ h. s.1 (f h))
 stops_later old mid new (stop.Output b) e f s = s
 

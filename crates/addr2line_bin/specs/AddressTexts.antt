@@ -11,17 +11,18 @@ use Rattle.std.specs.Str.{byte}
 use Rattle.elf.specs.declared.error.LoaderError.{LoaderError}
 use Rattle.elf.specs.Text.{loader_text_of}
 use Rattle.addr2line_lines.specs.Location.{Location}
+use Rattle.addr2line_bin.specs.declared.address.TheConstants.{ADDRESS_RADIX}
 use Rattle.addr2line_bin.specs.declared.options.Style.{Style}
 
 -- lower case hexadecimal digits
 abbrev pub hex_digits : ℕ → List ℕ
-hex_digits n = radix_digits 16 false n
+hex_digits n = radix_digits ADDRESS_RADIX false n
 
 -- how many digits an address has: two of each byte of 64 bits
 abbrev pub address_digits : ℕ
 address_digits = 16
 
--- the same after zeros, as many digits as an address has
+-- the digits after zeros, as many in all as an address has
 abbrev pub wide_hex : ℕ → List ℕ
 wide_hex n = replicate (address_digits - length (hex_digits n)) (byte "0") ++ hex_digits n
 
@@ -58,7 +59,7 @@ place_text style line column = if style.llvm
     then decimal (unwrap_or line 0) ++ (codes ":" ++ decimal (unwrap_or column 0))
     else line_text line
 
--- where there is no location
+-- the text of no location
 abbrev pub nowhere_text : Style → List ℕ
 nowhere_text style = if style.llvm then codes "??:0:0\n" else codes "??:0\n"
 
@@ -68,7 +69,7 @@ location_text style None = nowhere_text style
 location_text style (Some p) =
     shown_file style p.file ++ (codes ":" ++ (place_text style p.line p.column ++ codes "\n"))
 
--- what follows all else of an address
+-- what ends the text of an address
 abbrev pub probe_end : Style → List ℕ
 probe_end style = if style.llvm then codes "\n" else []
 
@@ -76,11 +77,11 @@ probe_end style = if style.llvm then codes "\n" else []
 abbrev pub fault_topic : List ℕ → List ℕ → List ℕ
 fault_topic name what = name ++ (codes ": failed to find " ++ what)
 
--- for which address
+-- the address that it can't be found for
 abbrev pub fault_subject : ℕ → List ℕ
 fault_subject address = codes " for 0x" ++ hex_digits address
 
--- why
+-- why it can't be found
 abbrev pub fault_reason : LoaderError → List ℕ
 fault_reason e = codes ": " ++ (loader_text_of e ++ codes "\n")
 

@@ -9,7 +9,7 @@ use Rattle.addr2line_lines.specs.RangeLocations.{LocatedSpan}
 use Rattle.addr2line_bin.specs.FileAnswers.{FileAnswers}
 use Rattle.gimli_line.specs.Rises.{rows_before}
 
--- their addresses
+-- the addresses of rows, up to the first fault
 abbrev pub addresses_in : List (Result LocatedSpan Error) → List ℕ
 addresses_in rows = map (λ s. s.address) (rows_before rows)
 
@@ -23,7 +23,7 @@ abbrev pub keep_rising : List ℕ → ℕ → List ℕ
 keep_rising kept n =
     if is_above (slice_get kept (length kept - 1)) n then kept ++ n ∷ [] else kept
 
--- those that are kept, after others
+-- the addresses that are kept, after those that were kept before
 abbrev pub rising_after : List ℕ → List ℕ → List ℕ
 rising_after kept addresses = fold keep_rising kept addresses
 

@@ -47,7 +47,7 @@ StartWith bytes (line ∷ lines) rest = (0 < length bytes)
     × (line ≡ first_line bytes) × IsUtf8 line
     × StartWith (drop_through (byte "\n") bytes) lines rest
 
--- the same of bytes that may not be known, and this is so of the rest
+-- the same where the bytes are known, and what follows the lines is as IsSo says
 abbrev pub StartKnown : Option (List ℕ) → List (List ℕ) → (List ℕ → Type 0) → Type 0
 StartKnown known lines IsSo =
     IfSome known (λ bytes. (rest : List ℕ) × StartWith bytes lines rest × IsSo rest)

@@ -6,15 +6,15 @@ use Rattle.std.specs.Io.KnownBytes.{Appends}
 use Rattle.addr2line_bin.specs.Put.{StreamState, Reports, plus}
 use Rattle.addr2line_bin.specs.declared.engine.Exit.{Exit}
 use Rattle.addr2line_bin.specs.declared.engine.Exit.TheVariants as exit
-use Rattle.addr2line_bin.specs.declared.stream.Stop.{Stop}
-use Rattle.addr2line_bin.specs.declared.stream.Stop.TheVariants as stop
+use Rattle.addr2line_bin.specs.declared.stream.StopReason.{StopReason}
+use Rattle.addr2line_bin.specs.declared.stream.StopReason.TheVariants as stop
 
 -- what goes to the output and to standard error for a probe
 pub record ProbeText : Type 0 where
   pub out : List ℕ
   pub err : List ℕ
 
--- what goes out for all of them
+-- what goes to the output for all of them
 abbrev pub outs : List ProbeText → List ℕ
 outs = flat_map (λ t. t.out)
 
@@ -29,13 +29,13 @@ AllTexts IsText (p ∷ ps) (t ∷ texts) = IsText p t × AllTexts IsText ps text
 AllTexts IsText _ _ = ⊥
 
 -- the last line of a run that stopped early
-abbrev pub last_text : List ℕ → Stop → List ℕ
+abbrev pub last_text : List ℕ → StopReason → List ℕ
 last_text name stop.OutOfMemory = name ++ codes ": out of memory\n"
 last_text name (stop.Output true) = []
 last_text name (stop.Output false) = name ++ codes ": error writing output\n"
 
--- how it ends
-abbrev pub exit_at : Stop → Exit
+-- how a run ends that stopped early
+abbrev pub exit_at : StopReason → Exit
 exit_at stop.OutOfMemory = exit.Failed
 exit_at (stop.Output true) = exit.Done
 exit_at (stop.Output false) = exit.Failed

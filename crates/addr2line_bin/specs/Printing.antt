@@ -10,15 +10,15 @@ use Rattle.addr2line_bin.specs.Stopped.{Stops}
 use Rattle.addr2line_bin.specs.Print.{ProbeText, AllTexts, Prints, errs, exit_at, last_text, outs}
 use Rattle.addr2line_bin.specs.declared.engine.Exit.{Exit}
 use Rattle.addr2line_bin.specs.declared.engine.Exit.TheVariants as exit
-use Rattle.addr2line_bin.specs.declared.stream.Stop.{Stop}
-use Rattle.addr2line_bin.specs.declared.stream.Stop.TheVariants as stop
+use Rattle.addr2line_bin.specs.declared.stream.StopReason.{StopReason}
+use Rattle.addr2line_bin.specs.declared.stream.StopReason.TheVariants as stop
 
--- whether a text is one of what is asked for
+-- which texts may be printed for what is asked for
 abbrev pub TextOf : Type 1
 TextOf = Option ℕ → ProbeText → Type 0
 
 -- what went out of the text at which a run ended, and what was reported for it
-abbrev pub EndsAt : TextOf → Stop → List (Option ℕ) → List ℕ → List ℕ → Type 0
+abbrev pub EndsAt : TextOf → StopReason → List (Option ℕ) → List ℕ → List ℕ → Type 0
 EndsAt IsText stop.OutOfMemory [] written told = ⊥
 EndsAt IsText stop.OutOfMemory (p ∷ later) written told = (written ≡ []) × (told ≡ [])
 EndsAt IsText (stop.Output b) [] written told = ⊥
@@ -35,7 +35,7 @@ pub record PrintsOf (IsText : TextOf) (oo on eo en : StreamState) (probes : List
 -- a run ended early: the texts of the first go out, each with a flush, and a beginning of the next
 -- one; their faults are reported, and then more
 pub record EndsEarly
-    (IsText : TextOf) (oo on eo en : StreamState) (probes : List (Option ℕ)) (why : Stop)
+    (IsText : TextOf) (oo on eo en : StreamState) (probes : List (Option ℕ)) (why : StopReason)
     (more : List ℕ)
     : Type 0 where
   pub done : List (Option ℕ)
@@ -53,7 +53,7 @@ pub record EndsEarly
 
 -- the same by the answer of the function that prints
 abbrev pub PrintsUnlessStopped : TextOf → StreamState → StreamState → StreamState → StreamState
-    → List (Option ℕ) → Result (Unit {0}) Stop → Type 0
+    → List (Option ℕ) → Result (Unit {0}) StopReason → Type 0
 PrintsUnlessStopped IsText oo on eo en probes (Ok _) = PrintsOf IsText oo on eo en probes
 PrintsUnlessStopped IsText oo on eo en probes (Err why) =
     EndsEarly IsText oo on eo en probes why []
@@ -61,7 +61,7 @@ PrintsUnlessStopped IsText oo on eo en probes (Err why) =
 -- the same for the lines that are read from an input, each answered before the next is read; a run
 -- that ended early did so at the last line that was read, or where memory was refused for a line
 abbrev pub PrintsReadUnlessStopped : TextOf → InputState → InputState → List (List ℕ)
-    → StreamState → StreamState → StreamState → StreamState → Result (Unit {0}) Stop → Type 0
+    → StreamState → StreamState → StreamState → StreamState → Result (Unit {0}) StopReason → Type 0
 PrintsReadUnlessStopped IsText io inn lines oo on eo en (Ok _) =
     AreLines io inn lines × PrintsOf IsText oo on eo en (line_probes lines)
 PrintsReadUnlessStopped IsText io inn lines oo on eo en (Err why) =
@@ -75,7 +75,7 @@ pub record IsCutOff
     (IsText : TextOf) (name : List ℕ) (oo on eo en : StreamState) (probes : List (Option ℕ))
     (e : Exit)
     : Type 0 where
-  pub why : Stop
+  pub why : StopReason
   pub prints : EndsEarly IsText oo on eo en probes why (last_text name why)
   pub exit : e ≡ exit_at why
 

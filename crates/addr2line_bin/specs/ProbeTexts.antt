@@ -37,8 +37,8 @@ abbrev pub asked_symbol : Style → Option (List ℕ) → Option (List ℕ)
 asked_symbol style symbol = if style.functions then option_map (symbol_name style) symbol else None
 
 -- what a lookup of a location gives
-abbrev pub Found : Type 0
-Found = Loading (Option Location)
+abbrev pub FoundLocation : Type 0
+FoundLocation = Loading (Option Location)
 
 -- what a lookup of frames gives
 abbrev pub FoundFrames : Type 0
@@ -46,7 +46,7 @@ FoundFrames = Loading (List FrameRecord)
 
 -- what the lookups of an address gave: its location; or its frames, and the name of its symbol
 pub data ProbeAnswer : Type 0 where
-  GivesLocation : Found → ProbeAnswer
+  GivesLocation : FoundLocation → ProbeAnswer
   GivesFrames : FoundFrames → Option (List ℕ) → ProbeAnswer
 
 -- the lookups of an address may give this
@@ -57,7 +57,7 @@ MayBeGiven answers style address (GivesFrames frames symbol) =
     (asks_frames style ≡ true)
     × answers.MayGive address frames × (symbol ≡ asked_symbol style (answers.symbol_at address))
 
--- what is given, and this where there is a fault
+-- what a lookup gives, and the other value where it has a fault
 abbrev pub given_or : {A : Type 0} → A → Loading A → A
 given_or other (Ok x) = x
 given_or other (Err e) = other

@@ -5,7 +5,7 @@ use Rattle.std.specs.Prelude.{◌≡◌, ◌⊎◌, ℕ, List, length, map, Opti
 use Rattle.gimli_read.specs.declared.range.Range.{Range}
 use Rattle.elf.specs.Loading.{Loading}
 use Rattle.elf.specs.declared.error.LoaderError.TheVariants.{OutOfMemory}
-use Rattle.addr2line_bin.specs.Put.{StreamState, Reports}
+use Rattle.addr2line_bin.specs.Put.{OnlyReports, StreamState}
 use Rattle.addr2line_bin.specs.AllAddresses.{AreAllAddresses}
 use Rattle.addr2line_bin.specs.FileAnswers.{FileAnswers}
 use Rattle.addr2line_bin.specs.InputLines.{AreFirstLines, AreLines, AreLinesToRefusal, InputState, line_probes}
@@ -27,10 +27,10 @@ abbrev pub status_at : Exit → ℕ
 status_at exit.Done = DONE_STATUS
 status_at exit.Failed = FAILED_STATUS
 
--- only a line of standard error is written, and the run has failed
-abbrev pub OnlyTells : StreamState → StreamState → StreamState → StreamState → List ℕ → Exit
+-- a run failed, and reports only why
+abbrev pub OnlyFails : StreamState → StreamState → StreamState → StreamState → List ℕ → Exit
     → Type 0
-OnlyTells oo on eo en line e = (on ≡ oo) × Reports eo en line × (e ≡ exit.Failed)
+OnlyFails oo on eo en line e = OnlyReports oo on eo en line × (e ≡ exit.Failed)
 
 -- what the lines of an input ask for is printed: of all; or of the first ones where the run ended
 -- early, at the last that was read or where memory was refused for one. No line was read before the
@@ -51,7 +51,7 @@ abbrev pub PrintsAllRows : FileAnswers → Setup → StreamState → StreamState
 PrintsAllRows answers s oo on eo en e =
     ((addresses : List ℕ) × AreAllAddresses answers addresses
     × PrintsRun (IsText answers s) s.name.now oo on eo en (map Some addresses) e)
-    ⊎ OnlyTells oo on eo en (addresses_fault_text s.name.now OutOfMemory) e
+    ⊎ OnlyFails oo on eo en (addresses_fault_text s.name.now OutOfMemory) e
 
 -- what is asked for is printed; the input is read for its lines alone
 abbrev pub PrintsAsked : FileAnswers → Setup → Probes → InputState → InputState → StreamState
@@ -68,7 +68,7 @@ abbrev pub section_or_name : List ℕ → Option Range → Result (Option Range)
 section_or_name name None = Err name
 section_or_name name (Some range) = Ok (Some range)
 
--- the same of the section that is named, none where none is
+-- the same of the section that is named, and no addresses where none is named
 abbrev pub section_by : FileAnswers → Option (List ℕ) → Result (Option Range) (List ℕ)
 section_by answers None = Ok None
 section_by answers (Some name) = section_or_name name (answers.section_at name)
@@ -95,7 +95,7 @@ pub record IsSetup (o : Options) (section : Option Range) (s : Setup) : Type 0 w
 abbrev pub RunsBy : Result (Option Range) (List ℕ) → FileAnswers → Options → InputState → InputState
     → StreamState → StreamState → StreamState → StreamState → Exit → Type 0
 RunsBy (Err name) answers o io inn oo on eo en e =
-    OnlyTells oo on eo en (section_fault_text (string_bytes o.name) name) e × (inn ≡ io)
+    OnlyFails oo on eo en (section_fault_text (string_bytes o.name) name) e × (inn ≡ io)
 RunsBy (Ok section) answers o io inn oo on eo en e = (s : Setup)
     × IsSetup o section s × PrintsAsked answers s o.probes io inn oo on eo en e
 
@@ -110,4 +110,4 @@ abbrev pub IsRun : {L : Type 0} → (L → FileAnswers) → Loading L → Option
     → StreamState → StreamState → StreamState → StreamState → Exit → Type 0
 IsRun answers (Ok file) o io inn oo on eo en e = RunsOver (answers file) o io inn oo on eo en e
 IsRun answers (Err fault) o io inn oo on eo en e =
-    OnlyTells oo on eo en (load_fault_text (string_bytes o.name) fault) e × (inn ≡ io)
+    OnlyFails oo on eo en (load_fault_text (string_bytes o.name) fault) e × (inn ≡ io)

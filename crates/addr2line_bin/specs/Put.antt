@@ -60,3 +60,7 @@ WritesIfUnfailed old new false after text = WritesUnlessFailed old new after tex
 abbrev pub Reports : StreamState → StreamState → List ℕ → Type 0
 Reports old new text =
     WritesIfUnfailed old.contents new.contents (has_fault old) (has_fault new) text
+
+-- a text is reported to standard error, and nothing goes to the output
+abbrev pub OnlyReports : StreamState → StreamState → StreamState → StreamState → List ℕ → Type 0
+OnlyReports oo on eo en text = (on ≡ oo) × Reports eo en text

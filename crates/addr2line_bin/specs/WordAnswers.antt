@@ -6,7 +6,7 @@ use Rattle.clap.specs.declared.error.kind.ErrorKind.{ErrorKind}
 use Rattle.clap.specs.declared.error.kind.ErrorKind.TheVariants as kind
 use Rattle.clap.specs.Values.{kind_of}
 use Rattle.std.specs.Io.KnownBytes.{Appends}
-use Rattle.addr2line_bin.specs.Put.{Reports, StreamState, WritesPrefix, plus}
+use Rattle.addr2line_bin.specs.Put.{OnlyReports, Reports, StreamState, WritesPrefix, plus}
 use Rattle.addr2line_bin.specs.Print.{exit_at, last_text}
 use Rattle.addr2line_bin.specs.ProgramRun.{status_at}
 use Rattle.addr2line_bin.specs.Stopped.{IsFault}
@@ -14,18 +14,14 @@ use Rattle.addr2line_bin.specs.Told.{usage_text}
 use Rattle.addr2line_bin.specs.declared.engine.TheConstants.{DONE_STATUS, FAILED_STATUS, USAGE_STATUS}
 use Rattle.addr2line_bin.specs.declared.command_line.WordFault.{WordFault}
 use Rattle.addr2line_bin.specs.declared.command_line.WordFault.TheVariants as fault
-use Rattle.addr2line_bin.specs.declared.stream.Stop.{Stop}
-use Rattle.addr2line_bin.specs.declared.stream.Stop.TheVariants as stop
-
--- a line is told, and nothing goes to the output
-abbrev pub TellsAlone : StreamState → StreamState → StreamState → StreamState → List ℕ → Type 0
-TellsAlone oo on eo en line = (on ≡ oo) × Reports eo en line
+use Rattle.addr2line_bin.specs.declared.stream.StopReason.{StopReason}
+use Rattle.addr2line_bin.specs.declared.stream.StopReason.TheVariants as stop
 
 -- memory was refused for a text
 abbrev pub TellsNoMemory : List ℕ → StreamState → StreamState → StreamState → StreamState → ℕ
     → Type 0
 TellsNoMemory name oo on eo en status =
-    TellsAlone oo on eo en (last_text name stop.OutOfMemory) × (status ≡ FAILED_STATUS)
+    OnlyReports oo on eo en (last_text name stop.OutOfMemory) × (status ≡ FAILED_STATUS)
 
 -- a text goes out, all of it, and is flushed, or a beginning of it before a fault, which is told as
 -- that of a run
@@ -34,7 +30,7 @@ abbrev pub ShowsText : List ℕ → List ℕ → StreamState → StreamState →
 ShowsText name text oo on eo en status =
     (Appends oo.contents on.contents text × (on.flushes ≡ plus oo.flushes 1)
     × (on.is_flushed ≡ true) × (en ≡ eo) × (status ≡ DONE_STATUS))
-    ⊎ ((why : Stop) × IsFault on why × WritesPrefix oo.contents on.contents text
+    ⊎ ((why : StopReason) × IsFault on why × WritesPrefix oo.contents on.contents text
     × Reports eo en (last_text name why) × (status ≡ status_at (exit_at why)))
 
 -- whether the text of a kind of fault is the help or the version
@@ -48,9 +44,9 @@ abbrev pub AnswersText : List ℕ → Bool → List ℕ → StreamState → Stre
     → StreamState → ℕ → Type 0
 AnswersText name true text oo on eo en status = ShowsText name text oo on eo en status
 AnswersText name false text oo on eo en status =
-    TellsAlone oo on eo en text × (status ≡ USAGE_STATUS)
+    OnlyReports oo on eo en text × (status ≡ USAGE_STATUS)
 
--- some text does, or memory was refused for it
+-- some text is shown or told so, or memory was refused for it
 abbrev pub AnswersWords : List ℕ → Bool → StreamState → StreamState → StreamState → StreamState → ℕ
     → Type 0
 AnswersWords name is_shown oo on eo en status =
@@ -63,5 +59,5 @@ abbrev pub AnswersFault : List ℕ → WordFault → StreamState → StreamState
 AnswersFault name (fault.Clap e) oo on eo en status =
     AnswersWords name (is_shown (kind_of e)) oo on eo en status
 AnswersFault name fault.Usage oo on eo en status =
-    TellsAlone oo on eo en (usage_text name) × (status ≡ USAGE_STATUS)
+    OnlyReports oo on eo en (usage_text name) × (status ≡ USAGE_STATUS)
 AnswersFault name fault.OutOfMemory oo on eo en status = TellsNoMemory name oo on eo en status

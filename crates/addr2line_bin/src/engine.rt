@@ -6,7 +6,7 @@ ghost use Rattle.addr2line_bin.specs.Print.{last_text, exit_at};
 ghost use Rattle.addr2line_bin.specs.Told.{load_fault_text, usage_text};
 ghost use Rattle.addr2line_bin.specs.declared.engine.Exit.TheVariants as exit;
 
-use crate::stream::{Stop, Stream, tell_both};
+use crate::stream::{StopReason, Stream, tell_both};
 use addr2line::LoaderError;
 
 /// The status of a run that is done, and of help and version that are written.
@@ -29,16 +29,16 @@ pub enum Exit {
 
 /// Writes why a run stopped early.
 #[tactic(auto, using(crate::proofs::Parts::sends_nothing, crate::proofs::Parts::keeps_itself))]
-pub fn tell_last<E: Stream>(name: &str, stop: Stop, err: &mut E) -> Exit
+pub fn tell_last<E: Stream>(name: &str, stop: StopReason, err: &mut E) -> Exit
     ensures err { Reports (E.state err.old) (E.state err.new) (last_text name.now stop) }
     ensures exit { result ≡ exit_at stop }
 {
     match stop {
-        Stop::OutOfMemory => {
+        StopReason::OutOfMemory => {
             tell_both(err, name, ": out of memory\n");
             Exit::Failed
         }
-        Stop::Output { is_broken_pipe } => {
+        StopReason::Output { is_broken_pipe } => {
             if is_broken_pipe {
                 return Exit::Done;
             }

@@ -1,8 +1,8 @@
 //! Worked cases of locations, and the lines of faults.
 
 use crate::engine::Exit;
-use crate::input::Lines;
-use crate::test_runs::{Failing, Fixed, Found, run_lookups};
+use crate::input::ReaderInput;
+use crate::test_runs::{Failing, Fixed, FoundLocation, run_lookups};
 use crate::test_streams::Streams;
 use addr2line::gimli::read::Error;
 use addr2line::{LoaderError, Location};
@@ -11,7 +11,7 @@ use std::io::{BufReader, ErrorKind, Read};
 use std::test::Fail;
 
 // What each lookup gives, and the symbol's name.
-type Given = (Found, Option<&'static str>);
+type Given = (FoundLocation, Option<&'static str>);
 
 // What is given, the words after `-e f`, what goes to the output and to standard error, and the
 // end.
@@ -67,7 +67,7 @@ fn first_wrong(alloc: Global, cases: &[Case]) -> Result<usize, Fail> {
             found: *found,
             symbol: *symbol,
         };
-        let mut input = Lines::new(b"".as_slice());
+        let mut input = ReaderInput::new(b"".as_slice());
         let got = run_lookups(alloc, words.as_slice(), Ok(file), &mut input, &mut streams)?;
         if got != *exit || !streams.have(out, err) {
             return Ok(at);
@@ -204,7 +204,7 @@ fn each_fault_of_a_lookup_has_its_line(rt: HostRuntime) -> Result<(), Fail> {
 // Whether a run that can't load its file only tells this.
 fn is_told(alloc: Global, fault: LoaderError, line: &str) -> Result<bool, Fail> {
     let mut streams = Streams::sound(alloc);
-    let mut input = Lines::new(b"".as_slice());
+    let mut input = ReaderInput::new(b"".as_slice());
     let given = ["a2l", "-e", "f", "10"];
     let exit = run_lookups(alloc, &given, Err(fault), &mut input, &mut streams)?;
     Ok(exit == Exit::Failed && streams.have("", line))
@@ -263,7 +263,7 @@ fn goes(
         alloc,
         &given,
         Ok(file),
-        &mut Lines::new(reader),
+        &mut ReaderInput::new(reader),
         &mut streams,
     )?;
     Ok(exit == want.2 && streams.have(want.0, want.1))

@@ -3,6 +3,7 @@
 ghost use Rattle.std.specs.Prelude.{◌≡◌, IfOk, None, OnErr, Some, if◌then◌else◌};
 ghost use Rattle.std.specs.declared.io.ErrorKind.TheVariants.{OutOfMemory};
 ghost use Rattle.std.specs.Io.BufRead.{ends_with_byte, strip_last};
+ghost use Rattle.std.specs.Str.{byte};
 ghost use Rattle.addr2line_bin.specs.InputLines.{ReadsLine, TakesPart};
 ghost use Rattle.addr2line_bin.specs.Put.{plus};
 
@@ -46,17 +47,17 @@ pub fn next_line<I: Input>(input: &mut I, line: &mut Vec<u8>) -> Result<bool, Al
 
 /// A reader as an input. How often it is asked isn't known.
 #[derive(Drop)]
-pub struct Lines<R: BufRead> {
+pub struct ReaderInput<R: BufRead> {
     reader: R,
     fault: Option<ErrorKind>,
 }
 
-impl<R: BufRead> Lines<R> {
+impl<R: BufRead> ReaderInput<R> {
     /// An input no read of which has failed.
-    pub fn new(reader: R) -> Lines<R>
+    pub fn new(reader: R) -> ReaderInput<R>
         ensures gives { result ≡ record { reader = reader; fault = None } }
     {
-        Lines {
+        ReaderInput {
             reader,
             fault: None,
         }
@@ -81,15 +82,15 @@ fn cut_last(bytes: &mut Vec<u8>, byte: u8) -> bool
 
 // Cuts a line feed at the end, and a carriage return before it.
 fn cut_line_end(line: &mut Vec<u8>)
-    ensures cuts { line.new.items ≡ (if ends_with_byte 10 line.old.items
-        then strip_last 13 (strip_last 10 line.old.items) else line.old.items) }
+    ensures cuts { line.new.items ≡ (if ends_with_byte (byte "\n") line.old.items
+        then strip_last (byte "\r") (strip_last (byte "\n") line.old.items) else line.old.items) }
 {
     if cut_last(line, b'\n') {
         cut_last(line, b'\r');
     }
 }
 
-impl<R: BufRead> Input for Lines<R> {
+impl<R: BufRead> Input for ReaderInput<R> {
     ghost state = { λ s. record { bytes = R.remaining s.reader; reads = None; fault = s.fault } };
 
     fn read_line(&mut self, line: &mut Vec<u8>) -> Result<bool, ErrorKind> {

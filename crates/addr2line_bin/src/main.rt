@@ -15,7 +15,7 @@ ghost use Rattle.addr2line_bin.specs.Told.{usage_text};
 ghost use Rattle.addr2line_bin.specs.WordAnswers.{AnswersFault, AnswersWords, ShowsText, is_shown};
 ghost use Rattle.clap.specs.Values.{kind_of};
 ghost use Rattle.addr2line_bin.specs.declared.engine.Exit.TheVariants as exit;
-ghost use Rattle.addr2line_bin.specs.declared.stream.Stop.TheVariants as stop;
+ghost use Rattle.addr2line_bin.specs.declared.stream.StopReason.TheVariants as stop;
 
 mod address;
 mod address_text;
@@ -50,10 +50,10 @@ mod tests;
 use crate::command::name_of;
 use crate::command_line::{Request, WordFault, command_line};
 use crate::engine::{DONE_STATUS, Exit, FAILED_STATUS, USAGE_STATUS, tell_last, tell_usage};
-use crate::input::{Input, Lines};
+use crate::input::{Input, ReaderInput};
 use crate::probe_text::as_text;
 use crate::program::run;
-use crate::stream::{Stop, Stream, Written, send, tell};
+use crate::stream::{StopReason, Stream, Written, send, tell};
 use addr2line::{FileSource, HostFiles, LoaderOver};
 use std::alloc::Global;
 use std::env;
@@ -95,7 +95,7 @@ fn tell_no_memory<E: Stream>(name: &str, err: &mut E) -> Exit
         (last_text name.now stop.OutOfMemory) }
     ensures exit { result ≡ exit.Failed }
 {
-    tell_last(name, Stop::OutOfMemory, err)
+    tell_last(name, StopReason::OutOfMemory, err)
 }
 
 // The status of an end.
@@ -193,7 +193,7 @@ fn main(rt: HostRuntime) -> ExitCode {
         Err(fault) => return answer_fault(alloc, name, fault, &mut out, &mut err),
     };
     let mut input = match BufReader::new(alloc, rt.reader()) {
-        Ok(reader) => Lines::new(reader),
+        Ok(reader) => ReaderInput::new(reader),
         Err(_) => return status_of(tell_no_memory(name, &mut err)),
     };
     let files = HostFiles::new(rt);

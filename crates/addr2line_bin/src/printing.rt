@@ -11,7 +11,7 @@ use crate::input::{Input, next_line};
 use crate::lookups::Lookups;
 use crate::options::Setup;
 use crate::probe_text::{Texts, make_texts};
-use crate::stream::{Stop, Stream, send, tell};
+use crate::stream::{StopReason, Stream, send, tell};
 use std::str;
 
 // Prints what is asked for.
@@ -22,7 +22,7 @@ fn step<L: Lookups, W: Stream, E: Stream>(
     probe: Option<u64>,
     out: &mut W,
     err: &mut E,
-) -> Result<(), Stop>
+) -> Result<(), StopReason>
     ensures kept { StaysAnswered (L.answers lookups.old) (L.answers lookups.new) }
     ensures gives { PrintsUnlessStopped (IsText (L.answers lookups.old) setup.now)
         (W.state out.old) (W.state out.new) (E.state err.old) (E.state err.new)
@@ -40,7 +40,7 @@ pub fn print_words<L: Lookups, W: Stream, E: Stream>(
     words: &[String],
     out: &mut W,
     err: &mut E,
-) -> Result<(), Stop>
+) -> Result<(), StopReason>
     ensures gives { PrintsUnlessStopped (IsText (L.answers lookups.old) setup.now)
         (W.state out.old) (W.state out.new) (E.state err.old) (E.state err.new)
         (probes_in words.now) result }
@@ -60,7 +60,7 @@ pub fn print_addresses<L: Lookups, W: Stream, E: Stream>(
     addresses: &[u64],
     out: &mut W,
     err: &mut E,
-) -> Result<(), Stop>
+) -> Result<(), StopReason>
     ensures gives { PrintsUnlessStopped (IsText (L.answers lookups.old) setup.now)
         (W.state out.old) (W.state out.new) (E.state err.old) (E.state err.new)
         (map Some addresses.now) result }
@@ -79,7 +79,7 @@ pub fn print_lines<L: Lookups, I: Input, W: Stream, E: Stream>(
     input: &mut I,
     out: &mut W,
     err: &mut E,
-) -> Result<(), Stop>
+) -> Result<(), StopReason>
     ensures gives { (lines : List (List ℕ))
         × PrintsReadUnlessStopped (IsText (L.answers lookups.old) setup.now)
         (I.state input.old) (I.state input.new) lines (W.state out.old) (W.state out.new)

@@ -8,7 +8,7 @@ ghost use Rattle.addr2line_units.specs.FramesLeft.{frames_left};
 ghost use Rattle.addr2line_bin.specs.AddressTexts.{location_text};
 ghost use Rattle.addr2line_bin.specs.FileAnswers.{StaysAnswered};
 ghost use Rattle.addr2line_bin.specs.FrameTexts.{frames_text};
-ghost use Rattle.addr2line_bin.specs.ProbeTexts.{Found, FoundFrames, ProbeAnswer, IsAnswerAt, IsText, MayBeGiven, asked_symbol, asks_frames};
+ghost use Rattle.addr2line_bin.specs.ProbeTexts.{FoundLocation, FoundFrames, ProbeAnswer, IsAnswerAt, IsText, MayBeGiven, asked_symbol, asks_frames};
 ghost use Rattle.addr2line_bin.specs.ProbeTexts.{fault_text, given_fault, given_or, given_text};
 ghost use Rattle.addr2line_bin.specs.ProbeTexts.{looked_up, offset_in};
 
@@ -186,7 +186,7 @@ fn push_location_at<L: Lookups>(
     lookups: &mut L,
     address: u64,
 ) -> Result<(), AllocError>
-    ensures gives { OnOk result ((found : Found)
+    ensures gives { OnOk result ((found : FoundLocation)
         × (L.answers lookups.old).MayFind address found
         × (string_bytes texts.new.out ≡ string_bytes texts.old.out
         ++ location_text setup.now.style (given_or None found))

@@ -4,15 +4,15 @@ ghost use Rattle.std.specs.Prelude.{◌≡◌, ◌++◌, OnOk, IfErr, MatchResul
 ghost use Rattle.std.specs.Io.KnownBytes.{Appends};
 ghost use Rattle.addr2line_bin.specs.Put.{WritesPrefix, Reports, fault_after, with_kind, plus};
 ghost use Rattle.addr2line_bin.specs.Stopped.{IsFault, stop_of};
-ghost use Rattle.addr2line_bin.specs.declared.stream.Stop.TheVariants as stop;
+ghost use Rattle.addr2line_bin.specs.declared.stream.StopReason.TheVariants as stop;
 
 use std::alloc::AllocError;
 use std::io;
 use std::io::{ErrorKind, Write};
 
 /// Why the program stops before the last address.
-pub enum Stop {
-    /// Memory was wanted, and a growth was refused.
+pub enum StopReason {
+    /// A growth was refused.
     OutOfMemory,
     /// The output can't be written.
     Output {
@@ -21,19 +21,19 @@ pub enum Stop {
     },
 }
 
-impl From<AllocError> for Stop {
+impl From<AllocError> for StopReason {
     ghost from_gives = { λ _ e. e ≡ stop.OutOfMemory };
 
-    fn from(_error: AllocError) -> Stop {
-        Stop::OutOfMemory
+    fn from(_error: AllocError) -> StopReason {
+        StopReason::OutOfMemory
     }
 }
 
-impl From<ErrorKind> for Stop {
+impl From<ErrorKind> for StopReason {
     ghost from_gives = { λ kind e. e ≡ stop_of kind };
 
-    fn from(kind: ErrorKind) -> Stop {
-        Stop::Output {
+    fn from(kind: ErrorKind) -> StopReason {
+        StopReason::Output {
             is_broken_pipe: matches!(kind, ErrorKind::BrokenPipe),
         }
     }
@@ -180,7 +180,7 @@ pub fn tell_both<E: Stream>(err: &mut E, first: &str, second: &str)
 
 /// Writes and flushes a text of the output.
 #[tactic(auto, using(crate::proofs::Parts::part_flushed, crate::proofs::Parts::keeps_after))]
-pub fn send<W: Stream>(out: &mut W, text: &str) -> Result<(), Stop>
+pub fn send<W: Stream>(out: &mut W, text: &str) -> Result<(), StopReason>
     ensures gives { OnOk result
         (Appends (W.state out.old).contents (W.state out.new).contents text.now) }
     ensures flushes { MatchResult result

@@ -1,10 +1,10 @@
 //! Runs whose streams fail.
 
 use crate::engine::Exit;
-use crate::input::Lines;
+use crate::input::ReaderInput;
 use crate::program::run;
 use crate::test_files::INLINED;
-use crate::test_runs::{Fixed, Found, request_in, run_files, run_lookups};
+use crate::test_runs::{Fixed, FoundLocation, request_in, run_files, run_lookups};
 use crate::test_streams::{Streams, failing, full_after, known_stream};
 use addr2line::LoaderError;
 use addr2line::gimli::read::Error;
@@ -114,7 +114,7 @@ fn a_write_of_no_byte_is_a_failed_write(rt: HostRuntime) -> Result<(), Fail> {
 }
 
 // What the lookups of a file give that is damaged.
-const CUT: Found = Err(LoaderError::Dwarf(Error::UnexpectedEof));
+const CUT: FoundLocation = Err(LoaderError::Dwarf(Error::UnexpectedEof));
 
 // How many bytes went to a standard error that fails after so many calls, where these are a
 // beginning of the lines and all else is as without the fault; 9000 for anything else.
@@ -129,7 +129,7 @@ fn told_code(
     let mut streams = Streams::sound(alloc);
     streams.err = failing(alloc, calls, fault);
     let file = Fixed::new(CUT);
-    let mut input = Lines::new(b"".as_slice());
+    let mut input = ReaderInput::new(b"".as_slice());
     let exit = run_lookups(alloc, given, Ok(file), &mut input, &mut streams)?;
     let err = streams.err.writer.taken.as_slice();
     let is_same = streams.out.writer.taken.as_slice() == out.as_bytes()
@@ -191,7 +191,7 @@ fn each_text_is_flushed(rt: HostRuntime) -> Result<(), Fail> {
     let request = request_in(rt.alloc(), &["a2l", "-e", "f", "10", "zz", "40"])?;
     let mut out = known_stream(rt.alloc());
     let mut err = known_stream(rt.alloc());
-    let mut input = Lines::new(b"".as_slice());
+    let mut input = ReaderInput::new(b"".as_slice());
     let file = Fixed::new(Ok(None));
     let exit = run(
         rt.alloc(),

@@ -6,7 +6,7 @@ ghost use Rattle.addr2line_lines.specs.SeenLocation.{seen_location};
 
 use crate::command_line::{Request, command_line};
 use crate::engine::Exit;
-use crate::input::{Input, Lines};
+use crate::input::{Input, ReaderInput};
 use crate::lookups::Lookups;
 use crate::program::run;
 use crate::run_request;
@@ -19,13 +19,13 @@ use std::io::{ErrorKind, Read};
 use std::test::Fail;
 
 /// A location, none, or a fault.
-pub type Found = Result<Option<Location<'static>>, LoaderError>;
+pub type FoundLocation = Result<Option<Location<'static>>, LoaderError>;
 
 /// A file that gives the same to each lookup; it has no functions, rows and sections.
 #[derive(Drop)]
 pub struct Fixed {
     /// What it gives.
-    pub found: Found,
+    pub found: FoundLocation,
     /// The name of the symbol at each address.
     pub symbol: Option<&'static str>,
 }
@@ -75,7 +75,7 @@ impl Lookups for Fixed {
 
 impl Fixed {
     /// A file without symbols.
-    pub fn new(found: Found) -> Fixed {
+    pub fn new(found: FoundLocation) -> Fixed {
         Fixed {
             found,
             symbol: None,
@@ -141,7 +141,7 @@ pub fn run_files(
         alloc,
         held,
         &request,
-        &mut Lines::new(input),
+        &mut ReaderInput::new(input),
         &mut streams.out,
         &mut streams.err,
     ))

@@ -3,7 +3,7 @@
 use crate::command::name_of;
 use crate::command_line::command_line;
 use crate::engine::Exit;
-use crate::input::Lines;
+use crate::input::ReaderInput;
 use crate::test_files::{LAST_LENGTH, NAMED_APART, PLAIN, SPLIT, SUPPLEMENTARY, WAITING};
 use crate::test_runs::{request_in, run_files};
 use crate::test_streams::{Streams, failing, words};
@@ -60,7 +60,7 @@ fn a_missing_file_of_the_host_is_told(rt: HostRuntime) -> Result<(), Fail> {
         rt.alloc(),
         HostFiles::new(rt),
         &request,
-        &mut Lines::new(b"".as_slice()),
+        &mut ReaderInput::new(b"".as_slice()),
         &mut streams.out,
         &mut streams.err,
     );

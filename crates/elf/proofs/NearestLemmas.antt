@@ -11,7 +11,7 @@ use Rattle.std.proofs.lemmas.List.{get_or_default}
 use Rattle.std.proofs.lemmas.List.Elements.{All-head, All-tail, filter_agree}
 use Rattle.std.proofs.lemmas.List.Sorted.{sorted_far, ranks_by}
 use Rattle.std.proofs.lemmas.Option.{get_or_from_slice_get}
-use Rattle.elf.specs.declared.symbol.Entry.{Entry}
+use Rattle.elf.specs.declared.symbol.SymbolEntry.{SymbolEntry}
 use Rattle.gimli_read.specs.declared.endian.RunTimeEndian.{RunTimeEndian}
 use Rattle.elf.specs.declared.layout.Class.{Class}
 use Rattle.elf.specs.declared.section.SectionHeader.{SectionHeader}
@@ -52,52 +52,52 @@ module _ {X : Type 0} where
   last_passing p (x ∷ xs) (suc n) z e t h = last-cond (p x) x z (filter p xs) (last_passing p xs n z e t (λ k d a b. h (suc k) d (omega arith) (omega arith)))
 
 -- x is at a lower address than z, or at the same one and not preferred to it
-abbrev IsBefore : Entry → Entry → Type 0
+abbrev IsBefore : SymbolEntry → SymbolEntry → Type 0
 IsBefore z x = (x.address < z.address) ⊎ ((x.address ≡ z.address) × (preference x ≤ preference z))
 
 -- x is where z is, and neither is preferred
-abbrev is_tied : Entry → Entry → Bool
+abbrev is_tied : SymbolEntry → SymbolEntry → Bool
 is_tied z x = x.address == z.address && preference x == preference z
 
-address_le : (z x : Entry) → IsBefore z x → x.address ≤ z.address
+address_le : (z x : SymbolEntry) → IsBefore z x → x.address ≤ z.address
 address_le z x h = elim h [ inl lt ↦ omega arith | inr e ↦ (let f = e.0 in omega arith) ]
 
-preference_le : (z x : Entry) → x.address ≡ z.address → IsBefore z x → preference x ≤ preference z
+preference_le : (z x : SymbolEntry) → x.address ≡ z.address → IsBefore z x → preference x ≤ preference z
 preference_le z x e h = elim h [ inl lt ↦ absurd (omega arith) | inr i ↦ i.1 ]
 
 -- z counts where each symbol is above the probe or before z, and z is the last of those that tie
 -- with it
-counting : (probe : ℕ) (xs : List Entry) (z : Entry) → All (λ x. (probe < x.address) ⊎ IsBefore z x) xs → z.address ≤ probe → last (filter (is_tied z) xs) ≡ Some z → nearest_symbol probe xs ≡ Some z
+counting : (probe : ℕ) (xs : List SymbolEntry) (z : SymbolEntry) → All (λ x. (probe < x.address) ⊎ IsBefore z x) xs → z.address ≤ probe → last (filter (is_tied z) xs) ≡ Some z → nearest_symbol probe xs ≡ Some z
 unfolding nearest_symbol
 counting probe xs z all low is =
-    let below : Entry → Bool = λ x. nat_le x.address probe in
+    let below : SymbolEntry → Bool = λ x. nat_le x.address probe in
     let bs = filter below xs in
     let i = In-filter (is_tied z) xs z (In-last (filter (is_tied z) xs) z is) in
     let before : All (IsBefore z) bs = All-passing (λ x. (probe < x.address) ⊎ IsBefore z x) (IsBefore z) below (λ x t h. elim h [ inl past ↦ absurd (grind (arith, nat_tests)) | inr b ↦ b ]) xs all in
     let inb : In z bs = In-passes below xs z i.0 (grind (arith, nat_tests)) in
-    let B : greatest (λ (x : Entry). x.address) bs ≡ z.address = greatest_is (λ (x : Entry). x.address) bs z (λ k d l. address_le z (get_or bs k d) (before k d l)) inb in
-    let here : Entry → Bool = λ x. x.address == z.address in
+    let B : greatest (λ (x : SymbolEntry). x.address) bs ≡ z.address = greatest_is (λ (x : SymbolEntry). x.address) bs z (λ k d l. address_le z (get_or bs k d) (before k d l)) inb in
+    let here : SymbolEntry → Bool = λ x. x.address == z.address in
     let ts = filter here bs in
-    let T : topmost (λ (x : Entry). x.address) bs ≡ ts = ap (λ (n : ℕ). filter (λ (x : Entry). x.address == n) bs) B in
+    let T : topmost (λ (x : SymbolEntry). x.address) bs ≡ ts = ap (λ (n : ℕ). filter (λ (x : SymbolEntry). x.address == n) bs) B in
     let later : All (λ x. preference x ≤ preference z) ts = All-passing (IsBefore z) (λ x. preference x ≤ preference z) here (λ x t h. preference_le z x (grind (arith, nat_tests)) h) bs before in
     let int : In z ts = In-passes here bs z inb (grind (arith, nat_tests)) in
     let E : greatest preference ts ≡ preference z = greatest_is preference ts z later int in
-    let S : topmost preference ts ≡ filter (λ x. preference x == preference z) ts = ap (λ (n : ℕ). filter (λ (x : Entry). preference x == n) ts) E in
+    let S : topmost preference ts ≡ filter (λ x. preference x == preference z) ts = ap (λ (n : ℕ). filter (λ (x : SymbolEntry). preference x == n) ts) E in
     let R : filter (λ x. preference x == preference z) ts ≡ filter (is_tied z) xs =
     filter-filter here (λ x. preference x == preference z) bs ∙ filter-filter below (is_tied z) xs ∙ filter_agree (λ x. below x && is_tied z x) (is_tied z) (λ x. agrees x.address z.address probe (preference x == preference z) low) xs in
-    ap (λ (ys : List Entry). last (topmost preference ys)) T ∙ ap last (S ∙ R) ∙ is
+    ap (λ (ys : List SymbolEntry). last (topmost preference ys)) T ∙ ap last (S ∙ R) ∙ is
   where
     agrees : (a b p : ℕ) (t : Bool) → b ≤ p → (nat_le a p && (a == b && t)) ≡ (a == b && t)
     agrees a b p t h = grind (arith, nat_tests)
 
 -- none counts where each symbol is above the probe
-counting_none : (probe : ℕ) (xs : List Entry) → All (IsAbove probe) xs → nearest_symbol probe xs ≡ None
+counting_none : (probe : ℕ) (xs : List SymbolEntry) → All (IsAbove probe) xs → nearest_symbol probe xs ≡ None
 unfolding nearest_symbol
-counting_none probe xs all = ap (λ (ys : List Entry). last (topmost preference (topmost (λ (x : Entry). x.address) ys))) (filter_none (λ (x : Entry). nat_le x.address probe) xs all)
+counting_none probe xs all = ap (λ (ys : List SymbolEntry). last (topmost preference (topmost (λ (x : SymbolEntry). x.address) ys))) (filter_none (λ (x : SymbolEntry). nat_le x.address probe) xs all)
 
 -- the order of a table is one
 order : IsStrictWeakOrder precedes
-order = ranks_by (then_total (on_total (λ (p : ℕ × ℕ). p.0) nat_cmp_total) (on_total (λ (p : ℕ × ℕ). p.1) nat_cmp_total)) (λ (e : Entry). (e.address, preference e))
+order = ranks_by (then_total (on_total (λ (p : ℕ × ℕ). p.0) nat_cmp_total) (on_total (λ (p : ℕ × ℕ). p.1) nat_cmp_total)) (λ (e : SymbolEntry). (e.address, preference e))
 
 before_from : (a p b q : ℕ) → is_lt (ordering_then (nat_cmp a b) (nat_cmp p q)) ≡ false → (b < a) ⊎ ((b ≡ a) × (q ≤ p))
 before_from a p b q e = grind (arith, nat_tests)
@@ -105,37 +105,37 @@ before_from a p b q e = grind (arith, nat_tests)
 tied_from : (a p b q : ℕ) → (not (is_lt (ordering_then (nat_cmp a b) (nat_cmp p q))) && not (is_lt (ordering_then (nat_cmp b a) (nat_cmp q p)))) ≡ (b == a && q == p)
 tied_from a p b q = grind (arith, nat_tests)
 
-ties_are : (z x : Entry) → ties precedes z x ≡ is_tied z x
+ties_are : (z x : SymbolEntry) → ties precedes z x ≡ is_tied z x
 ties_are z x = tied_from z.address (preference z) x.address (preference x)
 
-tied_itself : (z : Entry) → is_tied z z ≡ true
+tied_itself : (z : SymbolEntry) → is_tied z z ≡ true
 tied_itself z = itself z.address (preference z)
   where
     itself : (a p : ℕ) → (a == a && p == p) ≡ true
     itself a p = grind (arith, nat_tests)
 
 -- a symbol of the file is in the table
-in_table : (symbols table : List Entry) → IsSymbolTable symbols table → (x : Entry) → In x symbols → In x table
+in_table : (symbols table : List SymbolEntry) → IsSymbolTable symbols table → (x : SymbolEntry) → In x symbols → In x table
 in_table symbols table is x h =
     let t : ties precedes x x ≡ true = ties_are x x ∙ tied_itself x in
     (In-filter (ties precedes x) table x (subst (In x) (sym (is.stable x)) (In-passes (ties precedes x) symbols x h t))).0
 
 -- no symbol counts where the whole table is above the probe
-pub nearest_none : (symbols table : List Entry) (probe : ℕ) → IsSymbolTable symbols table → AllWithin (IsAbove probe) table 0 (length table) → None ≡ nearest_symbol probe symbols
+pub nearest_none : (symbols table : List SymbolEntry) (probe : ℕ) → IsSymbolTable symbols table → AllWithin (IsAbove probe) table 0 (length table) → None ≡ nearest_symbol probe symbols
 nearest_none symbols table probe is above =
-    let each : (x : Entry) → In x symbols → IsAbove probe x = λ x h. (
+    let each : (x : SymbolEntry) → In x symbols → IsAbove probe x = λ x h. (
     let p = In-place table x (in_table symbols table is x h) in
-    let P : Entry → Type 0 = IsAbove probe in
+    let P : SymbolEntry → Type 0 = IsAbove probe in
     subst P p.2 (above p.0 x (omega arith) p.1)) in
     sym (counting_none probe symbols (All-in (IsAbove probe) symbols each))
 
 -- the last symbol of the table at or below the probe counts
-pub nearest_is : (symbols table : List Entry) (probe n : ℕ) (z : Entry) → IsSymbolTable symbols table → n < length table → slice_get table n ≡ Some z → AllWithin (IsBelow probe) table 0 (suc n) → AllWithin (IsAbove probe) table (suc n) (length table) → Some z ≡ nearest_symbol probe symbols
+pub nearest_is : (symbols table : List SymbolEntry) (probe n : ℕ) (z : SymbolEntry) → IsSymbolTable symbols table → n < length table → slice_get table n ≡ Some z → AllWithin (IsBelow probe) table 0 (suc n) → AllWithin (IsAbove probe) table (suc n) (length table) → Some z ≡ nearest_symbol probe symbols
 nearest_is symbols table probe n z is less e below above =
     let here : get_or table n z ≡ z = get_or_from_slice_get table n z z e in
-    let P : Entry → Type 0 = IsBelow probe in
+    let P : SymbolEntry → Type 0 = IsBelow probe in
     let low : z.address ≤ probe = reach z.address (subst P here (below n z (omega arith) (omega arith))) in
-    let each : (x : Entry) → In x symbols → (probe < x.address) ⊎ IsBefore z x = λ x h. (
+    let each : (x : SymbolEntry) → In x symbols → (probe < x.address) ⊎ IsBefore z x = λ x h. (
     let p = In-place table x (in_table symbols table is x h) in
     place x p.0 p.1 p.2 here) in
     let tie : filter (is_tied z) symbols ≡ filter (is_tied z) table =
@@ -153,7 +153,7 @@ nearest_is symbols table probe n z is less e below above =
     past : (a b : ℕ) (t : Bool) → a ≤ probe → nat_le b probe ≡ false → (b == a && t) ≡ false
     past a b t l h = grind (arith, nat_tests)
 
-    place : (x : Entry) (k : ℕ) → k < length table → get_or table k x ≡ x → get_or table n z ≡ z → (probe < x.address) ⊎ IsBefore z x
+    place : (x : SymbolEntry) (k : ℕ) → k < length table → get_or table k x ≡ x → get_or table n z ≡ z → (probe < x.address) ⊎ IsBefore z x
     place x k l at here = by_cases (nat_le k n) refl
       where
         by_cases : (b : Bool) → nat_le k n ≡ b → (probe < x.address) ⊎ IsBefore z x
@@ -163,18 +163,18 @@ nearest_is symbols table probe n z is less e below above =
             let up' : precedes z x ≡ false = rw (here, same) at up in
             inr (before_from z.address (preference z) x.address (preference x) up')
         by_cases false t =
-            let Q : Entry → Type 0 = IsAbove probe in
+            let Q : SymbolEntry → Type 0 = IsAbove probe in
             inl (beyond x.address (subst Q at (above k x (grind (arith, nat_tests)) l)))
 
 -- a sorted table rises by address
-pub rises : (symbols table : List Entry) → IsSymbolTable symbols table → IsNonDecreasingBy (λ (e : Entry). e.address) table
+pub rises : (symbols table : List SymbolEntry) → IsSymbolTable symbols table → IsNonDecreasingBy (λ (e : SymbolEntry). e.address) table
 rises symbols table is i j d le lt =
     let up = sorted_far precedes order table is.sorted i j d le lt in
     let at = before_from (get_or table j d).address (preference (get_or table j d)) (get_or table i d).address (preference (get_or table i d)) up in
     elim at [ inl l ↦ omega arith | inr e ↦ (let same = e.0 in omega arith) ]
 
 -- the table of a file is that of its symbols
-pub table_is : (bytes : List ℕ) (endian : RunTimeEndian) (class : Class) (sections : List SectionHeader) (strings : ℕ) (table : List Entry) → HasSymbols bytes endian class sections strings table
+pub table_is : (bytes : List ℕ) (endian : RunTimeEndian) (class : Class) (sections : List SectionHeader) (strings : ℕ) (table : List SymbolEntry) → HasSymbols bytes endian class sections strings table
     → IsSymbolTable (usable_in endian (layout_of class) (string_table_in bytes sections (symbol_names_number sections)) (symbol_bytes bytes sections)) table
 table_is bytes endian class sections strings table h =
     let P : ℕ → Type 0 = λ n. IsSymbolTable (usable_in endian (layout_of class) (string_table_in bytes sections n) (symbol_bytes bytes sections)) table in

@@ -4,7 +4,7 @@ use Rattle.std.proofs.lemmas.List.Elements.{filter-append}
 use Rattle.gimli_read.specs.declared.endian.RunTimeEndian.{RunTimeEndian}
 use Rattle.elf.specs.declared.layout.Layout.{Layout}
 use Rattle.elf.specs.declared.section.SectionHeader.{SectionHeader}
-use Rattle.elf.specs.declared.symbol.Entry.{Entry}
+use Rattle.elf.specs.declared.symbol.SymbolEntry.{SymbolEntry}
 use Rattle.elf.specs.Header.{section_in, sections_in}
 use Rattle.elf.specs.Symbols.{symbol_entry_in, entries_in}
 
@@ -25,7 +25,7 @@ pub sections_end : (o : RunTimeEndian) (l : Layout) (n : ℕ) (rest : List ℕ) 
 sections_end o l n rest read all is done = sym (append-nil read) ∙ (rw is at done)
 
 -- one more entry
-pub entries_next : (o : RunTimeEndian) (l : Layout) (p : Entry → Bool) (n k : ℕ) (rest after : List ℕ) (read more all : List Entry) (e : Entry) → n ≡ suc k
+pub entries_next : (o : RunTimeEndian) (l : Layout) (p : SymbolEntry → Bool) (n k : ℕ) (rest after : List ℕ) (read more all : List SymbolEntry) (e : SymbolEntry) → n ≡ suc k
     → read ++ filter p (entries_in o l n rest) ≡ all → after ≡ drop l.symbol_size rest → more ≡ read ++ filter p (e ∷ []) → e ≡ symbol_entry_in o l rest → more ++ filter p (entries_in o l k after) ≡ all
 entries_next o l p n k rest after read more all e is done cut pushed head =
     let left = entries_in o l k (drop l.symbol_size rest) in
@@ -34,5 +34,5 @@ entries_next o l p n k rest after read more all e is done cut pushed head =
     rw (pushed, cut, head) (append_assoc read (filter p (symbol_entry_in o l rest ∷ [])) (filter p left) ∙ apart)
 
 -- all entries
-pub entries_end : (o : RunTimeEndian) (l : Layout) (p : Entry → Bool) (n : ℕ) (rest : List ℕ) (read all : List Entry) → n ≡ 0 → read ++ filter p (entries_in o l n rest) ≡ all → read ≡ all
+pub entries_end : (o : RunTimeEndian) (l : Layout) (p : SymbolEntry → Bool) (n : ℕ) (rest : List ℕ) (read all : List SymbolEntry) → n ≡ 0 → read ++ filter p (entries_in o l n rest) ≡ all → read ≡ all
 entries_end o l p n rest read all is done = sym (append-nil read) ∙ (rw is at done)

@@ -3,12 +3,12 @@
 -- Own: a file without the whole magic is NotElf; one that has it, but no class or data byte,
 -- another value of these, or not the whole header of its class, is BadElf, and so are section
 -- headers outside the file or of another size than the class's.
-use Rattle.std.specs.Prelude.{ℕ, zero, suc, ◌+◌, ◌*◌, ◌==◌, Bool, not, List, [], ◌∷◌, Ok, Err, if◌then◌else◌, drop, take, length, slice_index, nat_lt, codes}
-use Rattle.std.specs.Str.{bytes_eq}
+use Rattle.std.specs.Prelude.{ℕ, zero, suc, ◌+◌, ◌*◌, ◌==◌, Bool, not, List, [], ◌∷◌, Ok, Err, if◌then◌else◌, drop, length, slice_index, nat_eq, nat_lt, codes}
+use Rattle.std.specs.List.{starts_with}
 use Rattle.gimli_read.specs.declared.endian.RunTimeEndian.{RunTimeEndian}
 use Rattle.gimli_read.specs.declared.endian.RunTimeEndian.TheVariants.{Little, Big}
 use Rattle.gimli_read.specs.Reading.{◌>>=◌}
-use Rattle.elf.specs.declared.constants.TheConstants.{HALF_SIZE, WORD_SIZE, EI_CLASS, EI_DATA, ELFCLASS32, ELFCLASS64, ELFDATA2LSB, ELFDATA2MSB, ET_REL}
+use Rattle.elf.specs.declared.constants.TheConstants.{HALF_SIZE, WORD_SIZE, ELFMAG0, EI_CLASS, EI_DATA, ELFCLASS32, ELFCLASS64, ELFDATA2LSB, ELFDATA2MSB, ET_REL}
 use Rattle.elf.specs.declared.error.LoaderError.TheVariants.{NotElf, BadElf}
 use Rattle.elf.specs.declared.layout.Class.{Class}
 use Rattle.elf.specs.declared.layout.Class.TheVariants.{Elf32, Elf64}
@@ -21,11 +21,11 @@ use Rattle.elf.specs.Loading.{Loading}
 
 -- the bytes that an ELF file begins with
 abbrev pub magic : List ℕ
-magic = 0x7f ∷ codes "ELF"
+magic = ELFMAG0 ∷ codes "ELF"
 
 -- whether the bytes begin as those of an ELF file do
 abbrev pub has_magic : List ℕ → Bool
-has_magic bytes = bytes_eq (take (length magic) bytes) magic
+has_magic bytes = starts_with nat_eq bytes magic
 
 -- the class that a byte names
 abbrev pub class_of : ℕ → Loading Class
@@ -86,7 +86,7 @@ section_in endian l bytes = record {
   info = number_at endian l.sh_info WORD_SIZE bytes;
 }
 
--- so many section headers, one after another
+-- the n section headers at the front
 abbrev pub sections_in : RunTimeEndian → Layout → ℕ → List ℕ → List SectionHeader
 sections_in endian l zero bytes = []
 sections_in endian l (suc n) bytes = section_in endian l bytes

@@ -63,6 +63,11 @@ layout_of Elf64 = record {
   st_size = 16;
 }
 
+-- an address takes no fewer bytes than in a file of 32 bits, and no more than in one of 64
+abbrev pub AddressSizeBounds : Layout → Type 0
+AddressSizeBounds l = ((layout_of Elf32).address_size ≤ l.address_size)
+    × (l.address_size ≤ (layout_of Elf64).address_size)
+
 -- each field of the file's header is within it
 abbrev pub FieldsInHeader : Layout → Type 0
 FieldsInHeader l = (l.e_type + HALF_SIZE ≤ l.header_size)

@@ -1,5 +1,5 @@
 -- What an ELF file's bytes say as a whole (System V ABI, Object Files).
--- Own: byte 5 of the file alone gives the byte order, of its sections too.
+-- Own: the byte EI_DATA of the file alone gives the byte order, of its sections too.
 use Rattle.std.specs.Prelude.{ℕ, ◌==◌, Bool, false, not, List, Ok, Err, if◌then◌else◌, drop, length}
 use Rattle.std.specs.List.{slice_get}
 use Rattle.std.specs.Option.{option_map_or}

@@ -3,18 +3,29 @@
 -- Own: section 0 is no string table (SHN_UNDEF), and a string table outside the file is an empty
 -- one.
 -- Own: a text outside its table, or without its zero byte, is no text.
-use Rattle.std.specs.Prelude.{ℕ, ◌+◌, ◌==◌, List, [], Option, Some, None, if◌then◌else◌, drop, take, length, nat_le, nat_lt, option_map, option_and_then}
+use Rattle.std.specs.Prelude.{ℕ, ◌+◌, ◌==◌, Bool, List, [], Option, Some, None, if◌then◌else◌, drop, take, length, nat_le, nat_lt, option_map, option_and_then}
 use Rattle.std.specs.List.{position, slice_get}
 use Rattle.std.specs.Option.{option_map_or}
 use Rattle.elf.specs.declared.constants.TheConstants.{SHN_UNDEF, SHT_NOBITS}
 use Rattle.elf.specs.declared.section.SectionHeader.{SectionHeader}
 
--- the bytes of a section: none of the file for NOBITS, and no answer where they stand outside the
--- file
+-- whether a section has no bytes in the file
+abbrev pub is_nobits : SectionHeader → Bool
+is_nobits s = s.kind == SHT_NOBITS
+
+-- whether a section's bytes aren't all within the bytes of the file
+abbrev pub is_outside : List ℕ → SectionHeader → Bool
+is_outside bytes s = nat_lt (length bytes) (s.offset + s.size)
+
+-- the bytes of the file from the section's offset on, as many as its size
+abbrev pub bytes_at : List ℕ → SectionHeader → List ℕ
+bytes_at bytes s = take s.size (drop s.offset bytes)
+
+-- the bytes of a section: none for NOBITS, and no answer where they stand outside the file
 abbrev pub section_bytes_in : List ℕ → SectionHeader → Option (List ℕ)
-section_bytes_in bytes s = if s.kind == SHT_NOBITS then Some []
-    else if nat_lt (length bytes) (s.offset + s.size) then None
-    else Some (take s.size (drop s.offset bytes))
+section_bytes_in bytes s = if is_nobits s then Some []
+    else if is_outside bytes s then None
+    else Some (bytes_at bytes s)
 
 -- the string table that a section number names
 abbrev pub string_table_in : List ℕ → List SectionHeader → ℕ → List ℕ
@@ -29,7 +40,7 @@ front_text bytes = option_map (λ n. take n bytes) (position (λ b. b == 0) byte
 abbrev pub table_text_at : List ℕ → ℕ → Option (List ℕ)
 table_text_at table at = front_text (drop at table)
 
--- the text at a place of a string table, if it has no more than so many bytes
+-- the text at a place of a string table, if it has no more bytes than the limit
 abbrev pub short_text_at : ℕ → List ℕ → ℕ → Option (List ℕ)
 short_text_at limit table at = option_and_then
     (λ text. if nat_le (length text) limit then Some text else None) (table_text_at table at)

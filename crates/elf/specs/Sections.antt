@@ -3,17 +3,17 @@
 -- Own: refused, in this order, are a section outside the file, a compressed one, and one that
 -- still needs relocations; a missing one is compressed where .zdebug_ stands in place of the
 -- .debug_ of its name.
-use Rattle.std.specs.Prelude.{ℕ, ◌+◌, ◌==◌, ◌&&◌, ◌||◌, Bool, false, not, List, [], Option, Some, None, Ok, Err, if◌then◌else◌, drop, take, length, nat_lt, codes, bit_and, option_map, option_and_then}
+use Rattle.std.specs.Prelude.{ℕ, ◌+◌, ◌==◌, ◌&&◌, ◌||◌, Bool, false, not, List, [], Option, Some, None, Ok, Err, if◌then◌else◌, drop, length, nat_eq, codes, bit_and, option_map, option_and_then}
 use Rattle.std.specs.Str.{bytes_eq}
-use Rattle.std.specs.List.{position, slice_get, list_any}
+use Rattle.std.specs.List.{position, slice_get, starts_with, list_any}
 use Rattle.std.specs.Option.{option_map_or}
 use Rattle.gimli_read.specs.Section.{Section}
 use Rattle.gimli_read.specs.Number.{fits_u64}
 use Rattle.gimli_read.specs.declared.range.Range.{Range}
-use Rattle.elf.specs.declared.constants.TheConstants.{SHT_NOBITS, SHT_REL, SHT_RELA, SHF_COMPRESSED}
+use Rattle.elf.specs.declared.constants.TheConstants.{SHT_REL, SHT_RELA, SHF_COMPRESSED}
 use Rattle.elf.specs.declared.error.LoaderError.TheVariants.{BadElf, CompressedSection, RelocationsNeeded}
 use Rattle.elf.specs.declared.section.SectionHeader.{SectionHeader}
-use Rattle.elf.specs.SectionBytes.{string_table_in, table_text_at}
+use Rattle.elf.specs.SectionBytes.{bytes_at, is_nobits, is_outside, string_table_in, table_text_at}
 use Rattle.elf.specs.Loading.{Loading}
 use Rattle.elf.specs.ObjectFile.{ObjectFile}
 
@@ -44,10 +44,19 @@ addresses_of s = if fits_u64 (s.address + s.size)
 abbrev pub section_range_at : List ℕ → ObjectFile → Option Range
 section_range_at name file = option_and_then (λ found. addresses_of found.1) (first_named name file)
 
+-- what the name of a section of debug information begins with
+abbrev pub debug_prefix : List ℕ
+debug_prefix = codes ".debug_"
+
+-- what stands in place of it where a section is compressed without SHF_COMPRESSED
+abbrev pub zdebug_prefix : List ℕ
+zdebug_prefix = codes ".zdebug_"
+
 -- whether a text is the name with .zdebug_ in place of .debug_
 abbrev pub is_zdebug_text : List ℕ → List ℕ → Bool
-is_zdebug_text name text = bytes_eq (take 7 name) (codes ".debug_")
-    && (bytes_eq (take 8 text) (codes ".zdebug_") && bytes_eq (drop 8 text) (drop 7 name))
+is_zdebug_text name text = starts_with nat_eq name debug_prefix
+    && (starts_with nat_eq text zdebug_prefix
+    && bytes_eq (drop (length zdebug_prefix) text) (drop (length debug_prefix) name))
 
 -- whether a section has such a name
 abbrev pub is_zdebug : List ℕ → List ℕ → SectionHeader → Bool
@@ -71,11 +80,11 @@ empty_contents file = record { bytes = []; endian = file.endian }
 
 -- the bytes of section n
 unfoldable pub contents_of : ObjectFile → ℕ → SectionHeader → Loading Section
-contents_of file n s = if s.kind == SHT_NOBITS then Ok (empty_contents file)
-    else if nat_lt (length file.bytes) (s.offset + s.size) then Err BadElf
+contents_of file n s = if is_nobits s then Ok (empty_contents file)
+    else if is_outside file.bytes s then Err BadElf
     else if is_compressed s then Err CompressedSection
     else if is_relocated file n then Err RelocationsNeeded
-    else Ok (record { bytes = take s.size (drop s.offset file.bytes); endian = file.endian })
+    else Ok (record { bytes = bytes_at file.bytes s; endian = file.endian })
 
 -- the answer for a name that no section has
 abbrev pub missing_section : List ℕ → ObjectFile → Loading Section

@@ -12,10 +12,10 @@ use Rattle.std.specs.Str.{is_utf8}
 use Rattle.std.specs.Option.{option_map_or, option_or}
 use Rattle.gimli_read.specs.declared.endian.RunTimeEndian.{RunTimeEndian}
 use Rattle.gimli_read.specs.Topmost.{topmost, last}
-use Rattle.elf.specs.declared.constants.TheConstants.{HALF_SIZE, WORD_SIZE, SHN_UNDEF, SHT_SYMTAB, SHT_DYNSYM, STT_NOTYPE, STT_OBJECT, STT_FUNC, STB_GLOBAL, STB_WEAK}
+use Rattle.elf.specs.declared.constants.TheConstants.{HALF_SIZE, WORD_SIZE, SHN_UNDEF, SHT_SYMTAB, SHT_DYNSYM, ST_TYPE_COUNT, STT_NOTYPE, STT_OBJECT, STT_FUNC, STB_GLOBAL, STB_WEAK}
 use Rattle.elf.specs.declared.layout.Layout.{Layout}
 use Rattle.elf.specs.declared.section.SectionHeader.{SectionHeader}
-use Rattle.elf.specs.declared.symbol.Entry.{Entry}
+use Rattle.elf.specs.declared.symbol.SymbolEntry.{SymbolEntry}
 use Rattle.elf.specs.declared.symbol.Symbol.{Symbol}
 use Rattle.elf.specs.Layout.{number_at, layout_of}
 use Rattle.elf.specs.SectionBytes.{section_bytes_in, string_table_in, table_text_at}
@@ -50,7 +50,7 @@ abbrev pub symbol_names_of : ObjectFile → List ℕ
 symbol_names_of file = string_table_in file.bytes file.sections (symbol_names_number file.sections)
 
 -- the entry at the front
-abbrev pub symbol_entry_in : RunTimeEndian → Layout → List ℕ → Entry
+abbrev pub symbol_entry_in : RunTimeEndian → Layout → List ℕ → SymbolEntry
 symbol_entry_in endian l bytes = record {
   name = number_at endian l.st_name WORD_SIZE bytes;
   info = slice_index bytes l.st_info;
@@ -59,8 +59,8 @@ symbol_entry_in endian l bytes = record {
   size = number_at endian l.st_size l.address_size bytes;
 }
 
--- so many entries, one after another
-abbrev pub entries_in : RunTimeEndian → Layout → ℕ → List ℕ → List Entry
+-- the n entries at the front
+abbrev pub entries_in : RunTimeEndian → Layout → ℕ → List ℕ → List SymbolEntry
 entries_in endian l zero bytes = []
 entries_in endian l (suc n) bytes = symbol_entry_in endian l bytes
     ∷ entries_in endian l n (drop l.symbol_size bytes)
@@ -74,33 +74,33 @@ abbrev pub name_from : List ℕ → Option (List ℕ)
 name_from text = if length text == 0 then None else utf8_from text
 
 -- the name of an entry
-abbrev pub symbol_entry_name : List ℕ → Entry → Option (List ℕ)
+abbrev pub symbol_entry_name : List ℕ → SymbolEntry → Option (List ℕ)
 symbol_entry_name names e = option_and_then name_from (table_text_at names e.name)
 
 -- the type of a symbol
-abbrev pub symbol_type : Entry → ℕ
-symbol_type e = e.info % 16
+abbrev pub symbol_type : SymbolEntry → ℕ
+symbol_type e = e.info % ST_TYPE_COUNT
 
 -- the bind of a symbol
-abbrev pub symbol_bind : Entry → ℕ
-symbol_bind e = e.info / 16
+abbrev pub symbol_bind : SymbolEntry → ℕ
+symbol_bind e = e.info / ST_TYPE_COUNT
 
 -- whether the type is one that a usable symbol has
 abbrev pub is_usable_type : ℕ → Bool
 is_usable_type t = t == STT_NOTYPE || t == STT_OBJECT || t == STT_FUNC
 
 -- whether an entry is a usable symbol
-abbrev pub is_usable : List ℕ → Entry → Bool
+abbrev pub is_usable : List ℕ → SymbolEntry → Bool
 is_usable names e = not (e.section == SHN_UNDEF)
     && (is_usable_type (symbol_type e) && is_some (symbol_entry_name names e))
 
 -- the usable symbols of a table
-abbrev pub usable_in : RunTimeEndian → Layout → List ℕ → List ℕ → List Entry
+abbrev pub usable_in : RunTimeEndian → Layout → List ℕ → List ℕ → List SymbolEntry
 usable_in endian l names bytes = filter (is_usable names)
     (entries_in endian l (length bytes / l.symbol_size) bytes)
 
 -- the usable symbols of a file, in the order of its table
-abbrev pub symbols_of : ObjectFile → List Entry
+abbrev pub symbols_of : ObjectFile → List SymbolEntry
 symbols_of file = usable_in file.endian (layout_of file.class) (symbol_names_of file)
     (symbol_bytes file.bytes file.sections)
 
@@ -109,18 +109,18 @@ abbrev pub is_preferred_bind : ℕ → Bool
 is_preferred_bind b = b == STB_GLOBAL || b == STB_WEAK
 
 -- the rank of a symbol among those at its address: by its type, then by its bind
-abbrev pub preference : Entry → ℕ
+abbrev pub preference : SymbolEntry → ℕ
 preference e = (if symbol_type e == STT_NOTYPE then 0 else 2)
     + (if is_preferred_bind (symbol_bind e) then 1 else 0)
 
 -- of the symbols at or below the probe those with the greatest address, of these the preferred
 -- ones, of these the last
-unfoldable pub nearest_symbol : ℕ → List Entry → Option Entry
+unfoldable pub nearest_symbol : ℕ → List SymbolEntry → Option SymbolEntry
 nearest_symbol probe symbols = last (topmost preference
     (topmost (λ e. e.address) (filter (λ e. nat_le e.address probe) symbols)))
 
 -- whether a symbol at or below the probe covers it
-abbrev pub covers : ℕ → Entry → Bool
+abbrev pub covers : ℕ → SymbolEntry → Bool
 covers probe e = e.size == 0 || nat_lt probe (e.address + e.size)
 
 -- the name, which each usable symbol has, and the address of a probe's symbol

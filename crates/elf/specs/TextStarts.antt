@@ -13,8 +13,8 @@ abbrev pub text_starts : List ℕ → List Bool
 text_starts [] = []
 text_starts (b ∷ bytes) = begins_text (b ∷ bytes) ∷ text_starts bytes
 
--- the text at the front, of which the part after so many bytes is UTF-8, and none after fewer
--- bytes is
+-- the text at the front: the part of it after as many bytes as the distance is UTF-8, and no longer
+-- part of its end is
 pub record TextAfter (bytes : List ℕ) (distance : ℕ) (text : List ℕ) : Type 0 where
   pub is_text : front_text bytes ≡ Some text
   pub in_bytes : distance ≤ length bytes

@@ -6,6 +6,9 @@ pub(crate) const HALF_SIZE: usize = 2;
 // The size of an Elf32_Word or Elf64_Word, in bytes.
 pub(crate) const WORD_SIZE: usize = 4;
 
+// The first byte of e_ident.
+pub(crate) const ELFMAG0: u8 = 0x7f;
+
 // Where e_ident has the class and the byte order.
 pub(crate) const EI_CLASS: usize = 4;
 
@@ -42,6 +45,10 @@ pub(crate) const SHT_DYNSYM: u64 = 11;
 
 // The flag of a section whose bytes are compressed.
 pub(crate) const SHF_COMPRESSED: u64 = 0x800;
+
+// How many types of symbols there can be: st_info has the type in its low four bits, and the bind
+// in its high four.
+pub(crate) const ST_TYPE_COUNT: u8 = 16;
 
 // Types of symbols.
 pub(crate) const STT_NOTYPE: u8 = 0;

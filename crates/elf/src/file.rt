@@ -13,7 +13,7 @@ use crate::error::LoaderError;
 use crate::header::{self, Ident};
 use crate::layout::Class;
 use crate::section::{self, SectionHeader};
-use crate::symbol::{self, Entry, Symbol};
+use crate::symbol::{self, Symbol, SymbolEntry};
 use bytes::Bytes;
 use gimli_read::{EndianBytes, Range, Reader, RunTimeEndian};
 use std::alloc::Global;
@@ -28,7 +28,7 @@ pub struct ElfFile {
     sections: Vec<SectionHeader>,
     name_table: u64,
     symbol_names: u64,
-    symbols: Vec<Entry>,
+    symbols: Vec<SymbolEntry>,
 }
 
 impl Model for ElfFile {
@@ -163,7 +163,7 @@ impl ElfFile {
     }
 
     // The symbol at the probe or nearest below it.
-    fn nearest(&self, probe: u64) -> Option<Entry>
+    fn nearest(&self, probe: u64) -> Option<SymbolEntry>
         ensures gives { result ≡ nearest_symbol probe (symbols_of self.now) }
     {
         symbol::nearest_in(&self.symbols, probe)
@@ -218,7 +218,7 @@ impl ElfFile {
         if section.is_nobits() {
             return Ok(self.empty_contents());
         }
-        if section.is_outside(self.bytes.to_slice().len()) {
+        if section.is_outside(self.bytes.to_slice()) {
             return Err(LoaderError::BadElf);
         }
         if section.is_compressed() {

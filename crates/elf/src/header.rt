@@ -1,18 +1,17 @@
 //! The file's own header (System V ABI, Object Files: ELF Header).
 
-ghost use Rattle.std.specs.Prelude.{◌≡◌, ◌≤◌, ◌+◌, ◌*◌, length, take, IfOk};
-ghost use Rattle.std.specs.Str.{bytes_eq};
+ghost use Rattle.std.specs.Prelude.{◌≡◌, ◌≤◌, ◌+◌, ◌*◌, length, IfOk};
 ghost use Rattle.elf.specs.Layout.{layout_of};
 ghost use Rattle.elf.specs.Header.{class_of, endian_of, ident_in, count_in, header_in};
 
 use crate::constants::{
-    EI_CLASS, EI_DATA, ELFCLASS32, ELFCLASS64, ELFDATA2LSB, ELFDATA2MSB, ET_REL, HALF_SIZE,
+    EI_CLASS, EI_DATA, ELFCLASS32, ELFCLASS64, ELFDATA2LSB, ELFDATA2MSB, ELFMAG0, ET_REL, HALF_SIZE,
 };
 use crate::error::LoaderError;
 use crate::layout::{self, Class};
 use gimli_read::RunTimeEndian;
 
-const MAGIC: [u8; 4] = [0x7f, b'E', b'L', b'F'];
+const MAGIC: [u8; 4] = [ELFMAG0, b'E', b'L', b'F'];
 
 /// The class and the byte order of a file.
 #[derive(Clone, Copy)]
@@ -29,16 +28,6 @@ pub(crate) struct FileHeader {
     pub(crate) start: usize,
     pub(crate) count: usize,
     pub(crate) name_index: u64,
-}
-
-/// Whether the bytes begin with these.
-pub(crate) fn begins_with(bytes: &[u8], front: &[u8]) -> bool
-    ensures gives { result ≡ bytes_eq (take (length front.now) bytes.now) front.now }
-{
-    if bytes.len() < front.len() {
-        return false;
-    }
-    &bytes[..front.len()] == front
 }
 
 // The class that a byte names.
@@ -68,7 +57,7 @@ fn endian_from(byte: u8) -> Result<RunTimeEndian, LoaderError>
 pub(crate) fn read_ident(bytes: &[u8]) -> Result<Ident, LoaderError>
     ensures gives { result ≡ ident_in bytes.now }
 {
-    if !begins_with(bytes, &MAGIC) {
+    if !bytes.starts_with(MAGIC.as_slice()) {
         return Err(LoaderError::NotElf);
     }
     if bytes.len() <= EI_DATA {

@@ -2,7 +2,8 @@
 
 ghost use Rattle.std.specs.Prelude.{◌≡◌, ◌≤◌, ◌+◌, length};
 ghost use Rattle.elf.specs.declared.constants.TheConstants.{HALF_SIZE, WORD_SIZE};
-ghost use Rattle.elf.specs.Layout.{number_at, layout_of, FieldsInHeader, FieldsInSection, FieldsInSymbol};
+ghost use Rattle.elf.specs.declared.layout.Class.TheVariants as class;
+ghost use Rattle.elf.specs.Layout.{number_at, layout_of, AddressSizeBounds, FieldsInHeader, FieldsInSection, FieldsInSymbol};
 
 use byteorder::{BigEndian, ByteOrder, LittleEndian};
 use gimli_read::RunTimeEndian;
@@ -98,7 +99,7 @@ impl Class {
     /// The layout of the class.
     pub(crate) fn layout(self) -> Layout
         ensures gives { result ≡ layout_of self }
-        ensures addresses { (4 ≤ result.address_size) × (result.address_size ≤ 8) }
+        ensures addresses { AddressSizeBounds result }
         ensures in_header { FieldsInHeader result }
         ensures in_section { FieldsInSection result }
         ensures in_symbol { FieldsInSymbol result }
@@ -115,7 +116,7 @@ impl Class {
 pub(crate) fn number(bytes: &[u8], at: usize, size: usize, endian: RunTimeEndian) -> u64
     requires within { at + size ≤ length bytes.now }
     requires some { 1 ≤ size }
-    requires small { size ≤ 8 }
+    requires small { size ≤ (layout_of class.Elf64).address_size }
     ensures gives { result ≡ number_at endian at size bytes.now }
 {
     let (_, rest) = bytes.split_at(at);

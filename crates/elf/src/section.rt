@@ -1,15 +1,14 @@
 //! Section headers, and the bytes of a section (System V ABI, Object Files: Sections).
 
-ghost use Rattle.std.specs.Prelude.{◌≡◌, ◌≤◌, ◌+◌, ◌*◌, ◌==◌, ℕ, List, length, not, nat_lt, bit_and, drop, option_map, IfOk, IsOk};
+ghost use Rattle.std.specs.Prelude.{◌≡◌, ◌≤◌, ◌*◌, length, drop, option_map, IfOk, IsOk};
 ghost use Rattle.std.specs.List.{list_any};
-ghost use Rattle.elf.specs.declared.constants.TheConstants.{SHT_NOBITS};
 ghost use Rattle.elf.specs.Layout.{layout_of};
 ghost use Rattle.elf.specs.Header.{section_in, sections_in};
-ghost use Rattle.elf.specs.SectionBytes.{section_bytes_in, string_table_in, front_text, table_text_at, short_text_at};
+ghost use Rattle.elf.specs.SectionBytes.{is_nobits, is_outside, section_bytes_in, string_table_in, front_text, table_text_at, short_text_at};
 ghost use Rattle.elf.specs.Sections.{addresses_of, is_compressed, is_named, is_zdebug_text, is_zdebug, relocates};
 
 use crate::constants::{SHF_COMPRESSED, SHN_UNDEF, SHT_NOBITS, SHT_REL, SHT_RELA, WORD_SIZE};
-use crate::header::{self, Ident};
+use crate::header::Ident;
 use crate::layout;
 use gimli_read::{Range, zero_of};
 use std::alloc::{AllocError, Global};
@@ -71,16 +70,16 @@ pub(crate) fn headers(
 impl SectionHeader {
     /// Whether the section has no bytes in the file.
     pub(crate) fn is_nobits(&self) -> bool
-        ensures gives { result ≡ (self.now.kind == SHT_NOBITS) }
+        ensures gives { result ≡ is_nobits self.now }
     {
         self.kind == SHT_NOBITS
     }
 
-    /// Whether the section's bytes aren't all within a file of `len` bytes.
-    pub(crate) fn is_outside(&self, len: usize) -> bool
-        ensures gives { result ≡ nat_lt len (self.now.offset + self.now.size) }
+    /// Whether the section's bytes aren't all within the file.
+    pub(crate) fn is_outside(&self, file: &[u8]) -> bool
+        ensures gives { result ≡ is_outside file.now self.now }
     {
-        let len = len as u64;
+        let len = file.len() as u64;
         self.offset > len || self.size > len - self.offset
     }
 
@@ -117,7 +116,7 @@ impl SectionHeader {
         if self.is_nobits() {
             return Some(&file[..0]);
         }
-        if self.is_outside(file.len()) {
+        if self.is_outside(file) {
             return None;
         }
         let (_, rest) = file.split_at(self.offset as usize);
@@ -166,10 +165,12 @@ pub(crate) fn has_zdebug(sections: &[SectionHeader], names: &[u8], name: &[u8]) 
 fn is_zdebug_text(name: &[u8], text: &[u8]) -> bool
     ensures gives { result ≡ is_zdebug_text name.now text.now }
 {
-    if !header::begins_with(name, b".debug_") || !header::begins_with(text, b".zdebug_") {
+    let debug = b".debug_".as_slice();
+    let zdebug = b".zdebug_".as_slice();
+    if !name.starts_with(debug) || !text.starts_with(zdebug) {
         return false;
     }
-    &text[8..] == &name[7..]
+    &text[zdebug.len()..] == &name[debug.len()..]
 }
 
 /// The string table that a section number names.

@@ -3,14 +3,15 @@
 ghost use Rattle.std.specs.Prelude.{◌≡◌, ◌≤◌, ◌==◌, ℕ, List, [], ◌∷◌, ◌++◌, length, filter, is_some, option_map, OnOk, IfOk, IsOk};
 ghost use Rattle.std.specs.List.{find, slice_get};
 ghost use Rattle.elf.specs.Layout.{layout_of};
-ghost use Rattle.elf.specs.Symbols.{named_address, symbol_table, symbol_bytes, symbol_names_number, symbol_entry_in, utf8_from, name_from, symbol_entry_name, is_usable_type, is_usable, usable_in, is_preferred_bind, preference, covers, nearest_symbol};
+ghost use Rattle.elf.specs.Symbols.{named_address, symbol_table, symbol_bytes, symbol_names_number, symbol_entry_in, utf8_from, name_from, symbol_entry_name, symbol_type, symbol_bind, is_usable_type, is_usable, usable_in, is_preferred_bind, preference, covers, nearest_symbol};
 ghost use Rattle.std.specs.List.Sorted.{IsNonDecreasingBy, IsPartitionPoint};
-ghost use Rattle.elf.specs.declared.symbol.Entry.{Entry as SymbolEntry};
+ghost use Rattle.elf.specs.declared.symbol.SymbolEntry.{SymbolEntry as TableEntry};
 ghost use Rattle.elf.specs.TextStarts.{text_starts};
 ghost use Rattle.elf.specs.SymbolTable.{IsSymbolTable, IsBelow, IsAbove};
 
 use crate::constants::{
-    SHN_UNDEF, SHT_DYNSYM, SHT_SYMTAB, STB_GLOBAL, STB_WEAK, STT_FUNC, STT_NOTYPE, STT_OBJECT,
+    SHN_UNDEF, SHT_DYNSYM, SHT_SYMTAB, ST_TYPE_COUNT, STB_GLOBAL, STB_WEAK, STT_FUNC, STT_NOTYPE,
+    STT_OBJECT,
 };
 use crate::header::Ident;
 use crate::section::{self, SectionHeader};
@@ -50,7 +51,7 @@ impl<'a> Symbol<'a> {
 
 /// An entry of a symbol table of either class.
 #[derive(Clone, Copy)]
-pub(crate) struct Entry {
+pub(crate) struct SymbolEntry {
     pub(crate) name: u32,
     pub(crate) info: u8,
     pub(crate) section: u16,
@@ -59,12 +60,12 @@ pub(crate) struct Entry {
 }
 
 // The entry at the front.
-fn entry_at(bytes: &[u8], ident: Ident) -> Entry
+fn entry_at(bytes: &[u8], ident: Ident) -> SymbolEntry
     requires whole { (layout_of ident.class).symbol_size ≤ length bytes.now }
     ensures gives { result ≡ symbol_entry_in ident.endian (layout_of ident.class) bytes.now }
 {
     let layout = ident.class.layout();
-    Entry {
+    SymbolEntry {
         name: layout::word(bytes, layout.st_name, ident.endian),
         info: bytes[layout.st_info],
         section: layout::half(bytes, layout.st_shndx, ident.endian),
@@ -93,7 +94,7 @@ fn name_in(text: &[u8]) -> Option<&str>
     utf8_in(text)
 }
 
-impl Entry {
+impl SymbolEntry {
     /// The entry's name.
     pub(crate) fn name<'a>(&self, names: &'a [u8]) -> Option<&'a str>
         ensures gives { option_map (λ name. name.now) result
@@ -111,21 +112,39 @@ impl Entry {
         at < names.len() && (names[at] != 0 && starts[at])
     }
 
+    // The symbol's type.
+    fn symbol_type(&self) -> u8
+        ensures gives { result ≡ symbol_type self.now }
+    {
+        self.info % ST_TYPE_COUNT
+    }
+
+    // The symbol's bind.
+    fn symbol_bind(&self) -> u8
+        ensures gives { result ≡ symbol_bind self.now }
+    {
+        self.info / ST_TYPE_COUNT
+    }
+
     // Whether the entry is a usable symbol, by the places where texts begin.
     fn is_usable(&self, names: &[u8], starts: &[bool]) -> bool
         requires starts { starts.now ≡ text_starts names.now }
         ensures gives { result ≡ is_usable names.now self.now }
     {
         u64::from(self.section) != SHN_UNDEF
-            && (is_usable_type(self.info % 16) && self.has_name(names, starts))
+            && (is_usable_type(self.symbol_type()) && self.has_name(names, starts))
     }
 
     // The symbol's rank among those at its address.
     fn preference(&self) -> u8
         ensures gives { result ≡ preference self.now }
     {
-        let by_type = if self.info % 16 == STT_NOTYPE { 0 } else { 2 };
-        let by_bind = if is_preferred_bind(self.info / 16) {
+        let by_type = if self.symbol_type() == STT_NOTYPE {
+            0
+        } else {
+            2
+        };
+        let by_bind = if is_preferred_bind(self.symbol_bind()) {
             1
         } else {
             0
@@ -197,8 +216,8 @@ pub(crate) fn names_number(sections: &[SectionHeader]) -> u64
 
 // Adds an entry, if it is a usable symbol.
 fn push_usable(
-    all: &mut Vec<Entry>,
-    entry: Entry,
+    all: &mut Vec<SymbolEntry>,
+    entry: SymbolEntry,
     names: &[u8],
     starts: &[bool],
 ) -> Result<(), AllocError>
@@ -213,7 +232,12 @@ fn push_usable(
 }
 
 // The usable symbols of a table, in its order.
-fn usable(alloc: Global, bytes: &[u8], names: &[u8], ident: Ident) -> Result<Vec<Entry>, AllocError>
+fn usable(
+    alloc: Global,
+    bytes: &[u8],
+    names: &[u8],
+    ident: Ident,
+) -> Result<Vec<SymbolEntry>, AllocError>
     ensures gives { IfOk result (λ v.
         v.items ≡ usable_in ident.endian (layout_of ident.class) names.now bytes.now) }
 {
@@ -237,7 +261,7 @@ pub(crate) fn sorted(
     bytes: &[u8],
     names: &[u8],
     ident: Ident,
-) -> Result<Vec<Entry>, AllocError>
+) -> Result<Vec<SymbolEntry>, AllocError>
     ensures sorted { IfOk result (λ v.
         IsSymbolTable (usable_in ident.endian (layout_of ident.class) names.now bytes.now)
         v.items) }
@@ -252,24 +276,24 @@ pub(crate) fn sorted(
 }
 
 // The number of symbols of a sorted table that are at or below the probe.
-fn count_below(table: &[Entry], probe: u64) -> usize
+fn count_below(table: &[SymbolEntry], probe: u64) -> usize
     ensures bound { result ≤ length table.now }
-    ensures split { IsNonDecreasingBy (λ (e : SymbolEntry). e.address) table.now
+    ensures split { IsNonDecreasingBy (λ (e : TableEntry). e.address) table.now
         → IsPartitionPoint (IsBelow probe) (IsAbove probe) table.now result }
 {
     table.partition_point(|entry| entry.address <= probe)
 }
 
 // The symbol at a place of a table.
-fn nth(table: &[Entry], place: usize) -> Option<Entry>
+fn nth(table: &[SymbolEntry], place: usize) -> Option<SymbolEntry>
     ensures gives { result ≡ slice_get table.now place }
 {
     Some(*table.get(place)?)
 }
 
 /// The symbol at the probe or nearest below it, in a sorted table.
-pub(crate) fn nearest_in(table: &[Entry], probe: u64) -> Option<Entry>
-    ensures found { (symbols : List SymbolEntry) → IsSymbolTable symbols table.now
+pub(crate) fn nearest_in(table: &[SymbolEntry], probe: u64) -> Option<SymbolEntry>
+    ensures found { (symbols : List TableEntry) → IsSymbolTable symbols table.now
         → result ≡ nearest_symbol probe symbols }
 {
     let count = count_below(table, probe);

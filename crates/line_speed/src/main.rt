@@ -1,8 +1,8 @@
 //! The program `line_speed`: a checksum of rows, of cached lines, or of lookups in them.
 //!
 //! Arguments: a mode and a file. The modes `borrowed` and `shared` take a `.debug_line` section,
-//! whose rows are read over borrowed or shared bytes. The modes `cached` and `lookups` take a file of
-//! four sections, each after its length in eight bytes: the lines of all units are cached, and a
+//! whose rows are read over borrowed or shared bytes. The modes `cached` and `lookups` take a file
+//! of four sections, each after its length in eight bytes: the lines of all units are cached, and a
 //! thousand addresses are looked up, or a million more.
 #![tactic(auto)]
 

@@ -1,8 +1,8 @@
 use Rattle.std.proofs.Common.{rules, nat_le}
 use Rattle.std.proofs.lemmas.List.Sorted.{IsPartitionPoint-from_clause, IsPartitionedBy-leb}
-use Rattle.elf.specs.declared.symbol.Entry.{Entry}
+use Rattle.elf.specs.declared.symbol.SymbolEntry.{SymbolEntry}
 use Rattle.elf.proofs.symbol.count_below.Goals as goal
 
 pub returns-clause-split : goal.returns-clause-split
 returns-clause-split c = λ up.
-    IsPartitionPoint-from_clause (λ (e : Entry). nat_le e.address c.args.probe) c.args.table.now _ c.partition_point.ensures.partitioned (IsPartitionedBy-leb (λ (e : Entry). e.address) c.args.table.now c.args.probe up) (λ a r q k. search rules)
+    IsPartitionPoint-from_clause (λ (e : SymbolEntry). nat_le e.address c.args.probe) c.args.table.now _ c.partition_point.ensures.partitioned (IsPartitionedBy-leb (λ (e : SymbolEntry). e.address) c.args.table.now c.args.probe up) (λ a r q k. search rules)

@@ -1,6 +1,6 @@
 use Rattle.std.proofs.Common.{◌≡◌, ◌∙◌, Bool, List, false, length, get_or, ap, arith}
 use Rattle.elf.proofs.StartLemmas.{starts_at, starts_length, name_begins}
-use Rattle.elf.proofs.symbol.Entry.has_name.Goals as goal
+use Rattle.elf.proofs.symbol.SymbolEntry.has_name.Goals as goal
 
 pub bounds-starts-at : goal.bounds-starts-at
 bounds-starts-at c =

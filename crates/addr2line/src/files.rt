@@ -11,7 +11,7 @@ use std::marker::Model;
 /// What gives whole files by their paths.
 pub trait FileSource: Drop {
     ghost use Rattle.std.specs.Prelude.{IfOk, IfSome, None, Ok, Option, option_map};
-    ghost use Rattle.addr2line.specs.Files.{Files};
+    ghost use Rattle.addr2line.specs.Files.{Files, HasNoFile};
 
     /// What stands at each path, where that is known.
     ghost files: { Self → Option Files } = { λ _. None };
@@ -23,7 +23,7 @@ pub trait FileSource: Drop {
     fn read(&self, alloc: Global, path: &str) -> Result<Option<Vec<u8>>, AllocError>
         ensures gives { IfSome (files self.now) (λ held. IfOk result (λ found.
             option_map (λ (v : _). v.items) found ≡ held path.now)) }
-        ensures none { IfSome (files self.now) (λ held. held path.now ≡ None → result ≡ Ok None) };
+        ensures none { HasNoFile (files self.now) path.now → result ≡ Ok None };
 }
 
 /// Files in memory.

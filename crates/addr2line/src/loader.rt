@@ -15,6 +15,7 @@ ghost use Rattle.addr2line_units.specs.FramesLeft.{frames_left};
 ghost use Rattle.addr2line_units.specs.Located.{location_of, spans_of};
 ghost use Rattle.addr2line_units.specs.LocationsLeft.{locations_left};
 ghost use Rattle.addr2line.specs.Context.{IsReady, IsReadyForRange};
+ghost use Rattle.addr2line.specs.Files.{HasNoFile};
 ghost use Rattle.addr2line.specs.FramesByFiles.{ended_frames_of, frames_by_files};
 ghost use Rattle.addr2line.specs.Loaded.{AreSectionsOf, AreSupOfBytes, IsFileOfBytes, IsLoaded, as_sup, context_at, dwarf_at, loaded, main_with_sup, object_at, sup_at};
 ghost use Rattle.addr2line.specs.Loader.{AfterLoads, AfterLocation, AfterLocationRange, seen_loader};
@@ -41,7 +42,7 @@ use std::rc::Rc;
 fn open<F: FileSource>(alloc: Global, files: &F, path: &str) -> Result<ElfFile, LoaderError>
     ensures gives { IfSome (F.files files.now) (λ held. LoadsUnlessOom (λ f. f) result
         (object_at held path.now)) }
-    ensures none { IfSome (F.files files.now) (λ held. held path.now ≡ None → result ≡ Err Io) }
+    ensures none { HasNoFile (F.files files.now) path.now → result ≡ Err Io }
     ensures made { IfOk result IsFileOfBytes }
 {
     match files.read(alloc, path)? {
@@ -159,7 +160,7 @@ impl<F: FileSource> LoaderOver<F> {
         ensures gives { IfSome (F.files files) (λ held.
             LoadsUnlessOom (λ l. (l.object, l.context)) result
             (loaded held path.now (option_map (λ p. p.now) sup_path.entry))) }
-        ensures none { IfSome (F.files files) (λ held. held path.now ≡ None → result ≡ Err Io) }
+        ensures none { HasNoFile (F.files files) path.now → result ≡ Err Io }
         ensures made { IfOk result (λ l. IsLoaded (is_some sup_path.entry) l.object l.context) }
         ensures files { IfOk result (λ l. l.files ≡ files) }
     {

@@ -17,7 +17,7 @@ use Rattle.addr2line_units.proofs.FramesLookupLemmas.{parses_more}
 use Rattle.addr2line.proofs.StayLemmas.{known_twice}
 use Rattle.addr2line.specs.declared.stops.UnitStop.TheVariants as units
 use Rattle.addr2line.specs.Context.{ContextState}
-use Rattle.addr2line.specs.UnitStops.{by_number, unit_stop}
+use Rattle.addr2line.specs.UnitStops.{stop_at_unit, unit_stop}
 use Rattle.addr2line.specs.AfterLookups.{AfterFrames}
 use Rattle.addr2line.specs.Lookups.{FirstAnswers, lookup_stop}
 
@@ -81,7 +81,7 @@ pub found_ended : (faults : Faults) (probe n : ℕ) (old mid : ContextState) →
 found_ended faults probe n old mid s a e =
     ap (λ x. is_waiting (lookup_stop faults x mid.answers probe)) s ∙ ap (λ x. is_waiting (lookup_stop faults old.sections x probe)) a ∙ by (lookup_stop faults old.sections old.answers probe) e
   where
-    by : (r : Result Stop Error) → (r >>= λ s. Ok (by_number s)) ≡ Ok (units.Finds n) → is_waiting r ≡ false
+    by : (r : Result Stop Error) → (r >>= λ s. Ok (stop_at_unit s)) ≡ Ok (units.Finds n) → is_waiting r ≡ false
     by (Ok (Waits k)) h = absurd cc
     by (Ok (Finds k frames)) h = refl
     by (Ok FindsNothing) h = absurd cc

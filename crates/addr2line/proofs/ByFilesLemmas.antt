@@ -21,11 +21,11 @@ use Rattle.addr2line.specs.declared.stops.UnitStop.TheVariants as units
 use Rattle.addr2line.specs.Answers.{AfterAnswer, answered}
 use Rattle.addr2line.specs.Context.{ContextState}
 use Rattle.addr2line.specs.Files.{Files}
-use Rattle.addr2line.specs.FramesByFiles.{frames_by_files, stop_frames}
+use Rattle.addr2line.specs.FramesByFiles.{ended_frames_of, frames_by_files, stop_frames}
 use Rattle.addr2line.specs.History.{Given, Gives}
-use Rattle.addr2line.specs.UnitStops.{by_number, unit_stop}
+use Rattle.addr2line.specs.UnitStops.{stop_at_unit, unit_stop}
 use Rattle.addr2line.specs.Loader.{AfterLoads, LoaderState}
-use Rattle.addr2line.specs.LoadsByFiles.{AfterAnswers, AnswersInTurn, AnswersOne, IsFaultByFiles, ReadsAsked, StayAnswered, WaitsForNone, ended_frames_of}
+use Rattle.addr2line.specs.LoadsByFiles.{AfterAnswers, AnswersInTurn, AnswersOne, IsFaultByFiles, ReadsAsked, StayAnswered, WaitsForNone}
 use Rattle.addr2line.specs.AfterLookups.{AfterFrames, IsKnownFew}
 use Rattle.addr2line.specs.Lookups.{FirstAnswers, IsLoadOf, frames_of, frames_told, loads_at, lookup_stop}
 use Rattle.addr2line.specs.SplitFiles.{given_by_files}
@@ -192,7 +192,7 @@ module _ (files : Option Files) (probe : ℕ) (first : ContextState) where
       has_answered_one mid (has_looked now h r mid a) n new (then_waits End probe r now mid a n stop) b only one
 
 -- what a fault says of the lookup that it ends
-pub failed_stop : (e : Error) (r : Result Stop Error) → (r >>= λ s. Ok (by_number s)) ≡ Err e → (is_waiting r ≡ false) × (stop_frames r ≡ Err (loader_error_of e))
+pub failed_stop : (e : Error) (r : Result Stop Error) → (r >>= λ s. Ok (stop_at_unit s)) ≡ Err e → (is_waiting r ≡ false) × (stop_frames r ≡ Err (loader_error_of e))
 failed_stop e (Ok s) h = absurd cc
 failed_stop e (Err f) h = (refl, cc)
 

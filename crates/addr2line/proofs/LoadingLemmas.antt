@@ -12,8 +12,7 @@ use Rattle.elf.specs.Text.{loader_error_of}
 use Rattle.addr2line.specs.Context.{ContextState}
 use Rattle.addr2line.specs.Files.{Files}
 use Rattle.addr2line.specs.Loader.{AfterContext}
-use Rattle.addr2line.specs.LoadsByFiles.{LeavesOpen}
-use Rattle.addr2line.specs.SplitFiles.{of_file}
+use Rattle.addr2line.specs.SplitFiles.{LeavesOpen, of_file}
 
 -- whatever takes memory
 pub loads_for : {X : Type 0} (takes : Loading X → Bool) (r given : Loading X) → LoadsUnlessOomFor takes r given → LoadsUnlessOom (λ x. x) r given

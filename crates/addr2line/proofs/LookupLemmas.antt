@@ -41,7 +41,7 @@ use Rattle.addr2line.proofs.StayLemmas.{stays_known}
 use Rattle.addr2line.specs.Context.{ContextState, IsContext, index_by}
 use Rattle.addr2line.specs.declared.stops.UnitStop.{UnitStop}
 use Rattle.addr2line.specs.declared.stops.UnitStop.TheVariants as units
-use Rattle.addr2line.specs.UnitStops.{by_number, unit_stop_of, unit_stop}
+use Rattle.addr2line.specs.UnitStops.{cached_stop_at_unit, stop_at_unit, unit_stop}
 use Rattle.addr2line.specs.AfterLookups.{AfterFrames, IsKnown, IsKnownFew, has_all_of, has_few_of}
 use Rattle.addr2line.specs.Lookups.{FirstAnswers, IsLoadOf, frames_told, lookup_stop, stop_in, unit_of, unit_told}
 
@@ -53,7 +53,7 @@ holds_same h k frames (r ∷ ranges) e =
     ∙ ap (λ b. k r.unit && (ends_lookup (frames r.unit) || b)) (holds_same h k frames ranges e)
 
 -- a lookup by number
-finds_by : (n : ℕ) (r : Result Stop Error) → (r >>= λ s. Ok (by_number s)) ≡ Ok (units.Finds n) → (fs : List FrameRecord) × (r ≡ Ok (Finds n fs))
+finds_by : (n : ℕ) (r : Result Stop Error) → (r >>= λ s. Ok (stop_at_unit s)) ≡ Ok (units.Finds n) → (fs : List FrameRecord) × (r ≡ Ok (Finds n fs))
 finds_by n (Err e) h = absurd cc
 finds_by n (Ok (Waits k)) h = absurd cc
 finds_by n (Ok FindsNothing) h = absurd cc
@@ -261,15 +261,15 @@ module _ {R : Type 0} where
 
 -- what a lookup comes to by number
 module _ {R : Type 0} (units : List ResUnit) (views : List (UnitEntries R)) where
-  seen_by_number : (stop : FramesStop) → by_number (seen_stop units views stop) ≡ unit_stop_of stop
-  seen_by_number (stops.Waits n) = refl
-  seen_by_number (stops.Finds p) = refl
-  seen_by_number stops.FindsNothing = refl
+  seen_at_unit : (stop : FramesStop) → stop_at_unit (seen_stop units views stop) ≡ cached_stop_at_unit stop
+  seen_at_unit (stops.Waits n) = refl
+  seen_at_unit (stops.Finds p) = refl
+  seen_at_unit stops.FindsNothing = refl
 
   pub stop_told : (r : Result FramesStop Error) (given : Result Stop Error) → ExactlyUnlessOom (seen_stop units views) r given
-      → ExactlyUnlessOom (λ s. s) (r >>= λ s. Ok (unit_stop_of s)) (given >>= λ s. Ok (by_number s))
-  stop_told (Ok stop) given h = ap (λ r. r >>= λ s. Ok (by_number s)) h ∙ ap (λ s. Ok s) (seen_by_number stop)
-  stop_told (Err e) given h = λ ne. ap (λ r. r >>= λ s. Ok (by_number s)) (h ne)
+      → ExactlyUnlessOom (λ s. s) (r >>= λ s. Ok (cached_stop_at_unit s)) (given >>= λ s. Ok (stop_at_unit s))
+  stop_told (Ok stop) given h = ap (λ r. r >>= λ s. Ok (stop_at_unit s)) h ∙ ap (λ s. Ok s) (seen_at_unit stop)
+  stop_told (Err e) given h = λ ne. ap (λ r. r >>= λ s. Ok (stop_at_unit s)) (h ne)
 
   -- the frames of a lookup that has ended
   pub told_frames : (stop : FramesStop) (given : Result Stop Error) (frames : List FrameRecord) → is_waiting given ≡ false → given ≡ Ok (seen_stop units views stop) → frames ≡ frames_found (seen_stop units views stop)
@@ -313,7 +313,7 @@ pub refused_for_memory : {R : Type 0} (d : Sections) (us : List UnitRecord) (old
 refused_for_memory d us old held ranges sup i faults probe (Ok s) p h = tt
 refused_for_memory d us old held ranges sup i faults probe (Err e) p h = only_oom e never h
   where
-    by : (r : Result Stop Error) → (r >>= λ s. Ok (by_number s)) ≡ Err e → r ≡ Err e
+    by : (r : Result Stop Error) → (r >>= λ s. Ok (stop_at_unit s)) ≡ Err e → r ≡ Err e
     by (Ok s) k = absurd cc
     by (Err f) k = cc
 

@@ -18,9 +18,9 @@ use Rattle.addr2line_units.specs.UnitIndex.{UnitIndex, index_units}
 use Rattle.addr2line_units.specs.UnitFrames.{FramesResult}
 use Rattle.addr2line.specs.Context.{ContextState, IsUncovered}
 use Rattle.addr2line.specs.Files.{Files}
-use Rattle.addr2line.specs.FramesByFiles.{stop_frames}
+use Rattle.addr2line.specs.FramesByFiles.{ended_frames_of, stop_frames}
 use Rattle.addr2line.specs.UnitStops.{unit_stop}
-use Rattle.addr2line.specs.LoadsByFiles.{AfterAnswers, AnswersInTurn, WaitsForNone, ended_frames_of}
+use Rattle.addr2line.specs.LoadsByFiles.{AfterAnswers, AnswersInTurn, WaitsForNone}
 use Rattle.addr2line.specs.AfterLookups.{AfterFrames, IsKnownFew, StaysKnown, has_few_of}
 use Rattle.addr2line.specs.Lookups.{FirstAnswers, asked_of, frames_of, lookup_stop, stop_in}
 use Rattle.addr2line.proofs.ByFilesLemmas.{failed_stop, failed_told, found_told, looked_memory, still_ended}

@@ -13,7 +13,7 @@ use Rattle.addr2line.specs.declared.stops.UnitStop.TheVariants as units
 use Rattle.addr2line.specs.Answers.{AfterAnswer, answered}
 use Rattle.addr2line.specs.Context.{ContextState}
 use Rattle.addr2line.specs.History.{Given, Gives, answers_given}
-use Rattle.addr2line.specs.UnitStops.{by_number, unit_stop}
+use Rattle.addr2line.specs.UnitStops.{stop_at_unit, unit_stop}
 use Rattle.addr2line.specs.AfterLookups.{AfterFrames, IsKnown}
 use Rattle.addr2line.specs.Lookups.{loads_at, lookup_stop, waits_for}
 use Rattle.addr2line.specs.Skips.{AfterSkip, found_stop, nones, skipped_answers}
@@ -28,7 +28,7 @@ nones_both zero r = ap nones (let e : r ≡ 0 + r = omega arith in e)
 nones_both (suc k) r = ap (λ ys. Gives None ∷ ys) (nones_both k r) ∙ ap nones (let e : suc (k + r) ≡ suc k + r = omega arith in e)
 
 -- what a lookup has come to, by the number of a unit
-pub stop_waits : (n : ℕ) (r : Result Stop Error) → (r >>= λ s. Ok (by_number s)) ≡ Ok (units.Waits n) → r ≡ Ok (Waits n)
+pub stop_waits : (n : ℕ) (r : Result Stop Error) → (r >>= λ s. Ok (stop_at_unit s)) ≡ Ok (units.Waits n) → r ≡ Ok (Waits n)
 stop_waits n (Ok (Waits k)) e = ap (λ j. Ok (Waits j)) (same_unit e)
   where
     same_unit : ◌≡◌ {A = Result UnitStop Error} (Ok (units.Waits k)) (Ok (units.Waits n)) → k ≡ n
@@ -37,14 +37,14 @@ stop_waits n (Ok (Finds k frames)) e = absurd cc
 stop_waits n (Ok FindsNothing) e = absurd cc
 stop_waits n (Err f) e = absurd cc
 
-stop_ended : (o : Option ℕ) (r : Result Stop Error) → (r >>= λ s. Ok (by_number s)) ≡ Ok (found_stop o) → is_waiting r ≡ false
+stop_ended : (o : Option ℕ) (r : Result Stop Error) → (r >>= λ s. Ok (stop_at_unit s)) ≡ Ok (found_stop o) → is_waiting r ≡ false
 stop_ended o (Ok (Finds k frames)) e = refl
 stop_ended o (Ok FindsNothing) e = refl
 stop_ended o (Err f) e = refl
 stop_ended None (Ok (Waits k)) e = absurd cc
 stop_ended (Some n) (Ok (Waits k)) e = absurd cc
 
-stop_failed : (f : Error) (r : Result Stop Error) → (r >>= λ s. Ok (by_number s)) ≡ Err f → is_waiting r ≡ false
+stop_failed : (f : Error) (r : Result Stop Error) → (r >>= λ s. Ok (stop_at_unit s)) ≡ Err f → is_waiting r ≡ false
 stop_failed f (Ok (Finds k frames)) e = refl
 stop_failed f (Ok FindsNothing) e = refl
 stop_failed f (Err g) e = refl

@@ -1,6 +1,7 @@
 -- What lookups of frames and of units leave of a context: the lines and the functions that are
 -- parsed for them (DWARF 5, sections 3.1.2, 3.3 and 7.3.2).
--- Own: a lookup parses what it asks for and nothing else, and nothing that is known is parsed again.
+-- Own: a lookup parses what it asks for and nothing else, and nothing that is known is parsed
+-- again.
 use Rattle.std.specs.Prelude.{◌≡◌, ◌⊎◌, ℕ, ◌≤◌, Bool, true, false, ◌&&◌, ◌||◌, not, List, slice_get, IfSome, Result, Ok}
 use Rattle.gimli_read.specs.declared.error.Error.{Error}
 use Rattle.addr2line_units.specs.declared.frames_lookup.Faults.{Faults}

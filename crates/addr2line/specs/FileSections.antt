@@ -14,6 +14,7 @@ use Rattle.elf.specs.Loading.{Loading}
 use Rattle.elf.specs.ObjectFile.{ObjectFile}
 use Rattle.elf.specs.Sections.{section_at}
 use Rattle.gimli_read.specs.StringForm.{no_bytes}
+use Rattle.addr2line_units.specs.UnitIndex.{sup_sections}
 
 -- the ten sections, by what each is given as, or the first fault
 unfoldable pub sections_by : (SectionId → Loading Section) → Loading SupSections
@@ -56,17 +57,4 @@ split_section file id = section_if file (dwo_section_name id)
 
 -- ten sections as those of a file of a kind with a supplementary file, or none
 abbrev pub as_file : DwarfFileType → Option SupSections → SupSections → Sections
-as_file kind sup ten = record {
-  debug_abbrev = ten.debug_abbrev;
-  debug_addr = ten.debug_addr;
-  debug_aranges = ten.debug_aranges;
-  debug_info = ten.debug_info;
-  debug_line = ten.debug_line;
-  debug_line_str = ten.debug_line_str;
-  debug_ranges = ten.debug_ranges;
-  debug_rnglists = ten.debug_rnglists;
-  debug_str = ten.debug_str;
-  debug_str_offsets = ten.debug_str_offsets;
-  file_type = kind;
-  sup = sup;
-}
+as_file kind sup ten = record (sup_sections ten) { file_type = kind; sup = sup }

@@ -1,6 +1,6 @@
 -- Files by their paths.
 -- Own: a path has the bytes of one file, or none: no file is there, or it can't be read.
-use Rattle.std.specs.Prelude.{ℕ, List, Option, Some, find, if◌then◌else◌, option_map, string_bytes, Vec}
+use Rattle.std.specs.Prelude.{◌≡◌, ℕ, List, Option, Some, None, find, if◌then◌else◌, option_map, string_bytes, Vec}
 use Rattle.std.specs.Str.{bytes_eq}
 use Rattle.std.specs.declared.alloc.Global.{Global}
 use Rattle.std.specs.declared.string.String.{String}
@@ -8,6 +8,10 @@ use Rattle.std.specs.declared.string.String.{String}
 -- the bytes at a path, if there are any
 abbrev pub Files : Type 0
 Files = List ℕ → Option (List ℕ)
+
+-- it is known what files there are, and that none is at a path
+abbrev pub HasNoFile : Option Files → List ℕ → Type 0
+HasNoFile files path = option_map (λ (held : Files). held path) files ≡ Some None
 
 -- the files after one is put at a path, in place of one that was there
 abbrev pub with_file : Files → List ℕ → List ℕ → Files
@@ -17,6 +21,6 @@ with_file files path bytes = λ other. if bytes_eq other path then Some bytes el
 abbrev pub listed_files : List (List ℕ × List ℕ) → Files
 listed_files entries = λ path. option_map (λ (e : _). e.1) (find (λ e. bytes_eq path e.0) entries)
 
--- a path and bytes that are kept
+-- a path and its bytes, as files in memory hold them
 abbrev pub seen_entry : String Global × Vec ℕ Global → List ℕ × List ℕ
 seen_entry e = (string_bytes e.0, e.1.items)

@@ -8,6 +8,7 @@ use Rattle.gimli_read.specs.Reading.{◌>>=◌}
 use Rattle.gimli.specs.Sections.{Sections}
 use Rattle.elf.specs.Loading.{Loading}
 use Rattle.addr2line_lines.specs.References.{Scope}
+use Rattle.addr2line_units.specs.declared.frames_lookup.Faults.TheVariants.{End}
 use Rattle.addr2line_units.specs.declared.index.UnitRange.{UnitRange}
 use Rattle.addr2line_units.specs.Cover.{cover}
 use Rattle.addr2line_units.specs.Frames.{FrameRecord}
@@ -16,13 +17,18 @@ use Rattle.addr2line_units.specs.UnitFrames.{FramesResult, frames_in}
 use Rattle.addr2line_units.specs.UnitIndex.{UnitIndex, index_units}
 use Rattle.addr2line_units.specs.RangedUnits.{IndexedUnit}
 use Rattle.addr2line_units.specs.Views.{SplitLoad, awaited_load}
+use Rattle.addr2line.specs.Context.{ContextState}
 use Rattle.addr2line.specs.Files.{Files}
-use Rattle.addr2line.specs.Lookups.{FirstAnswers}
+use Rattle.addr2line.specs.Lookups.{FirstAnswers, lookup_stop}
 use Rattle.addr2line.specs.SplitFiles.{given_by_files, of_file}
 
 -- the frames of a lookup that has ended, or its fault
 abbrev pub stop_frames : Result Stop Error → Loading (List FrameRecord)
 stop_frames stop = of_file stop >>= λ s. Ok (frames_found s)
+
+-- the frames of a lookup that waits for no answer, whatever the files are, or its fault
+abbrev pub ended_frames_of : ContextState → ℕ → Loading (List FrameRecord)
+ended_frames_of c probe = stop_frames (lookup_stop End c.sections c.answers probe)
 
 -- what answers the load of a unit
 abbrev pub GivesAnswers : Type 0

@@ -101,7 +101,7 @@ abbrev pub answers_after : Sections → FirstAnswers → List HistoryCall → Fi
 answers_after d answers [] = answers
 answers_after d answers (call ∷ calls) = answers_after d (answers_left d answers call) calls
 
--- a beginning of the decisions of a call was made
+-- the first answers where a call has begun: none, or the first ones, of its decisions were made
 abbrev pub HasBegun : Sections → FirstAnswers → HistoryCall → FirstAnswers → Type 0
 HasBegun d old (AsksFrames probe given) new =
     (n : ℕ) × (new ≡ answers_given End d probe old (take n given))

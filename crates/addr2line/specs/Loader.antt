@@ -13,7 +13,8 @@ use Rattle.addr2line_units.specs.Frames.{FrameRecord}
 use Rattle.addr2line.specs.declared.loader.LoaderOver.{LoaderOver}
 use Rattle.addr2line.specs.Context.{AfterLookup, AfterRangeLookup, ContextState}
 use Rattle.addr2line.specs.Files.{Files}
-use Rattle.addr2line.specs.LoadsByFiles.{AfterAnswers, AnswersInTurn, HasEnded, ReadsAsked, WaitsForNone, WaitsForOne, ended_frames_of}
+use Rattle.addr2line.specs.FramesByFiles.{ended_frames_of}
+use Rattle.addr2line.specs.LoadsByFiles.{AfterAnswers, AnswersInTurn, HasEnded, ReadsAsked, WaitsForNone, WaitsForOne}
 use Rattle.addr2line.specs.AfterLookups.{IsKnown, IsKnownFew}
 use Rattle.addr2line.specs.SplitFiles.{of_file}
 

@@ -8,14 +8,13 @@ use Rattle.elf.specs.declared.error.LoaderError.{LoaderError}
 use Rattle.elf.specs.declared.error.LoaderError.TheVariants.{OutOfMemory, PathNotUtf8}
 use Rattle.elf.specs.Loading.{Loading}
 use Rattle.addr2line_units.specs.declared.frames_lookup.Faults.TheVariants.{End}
-use Rattle.addr2line_units.specs.Frames.{FrameRecord}
 use Rattle.addr2line_units.specs.FramesLookup.{answer_of, is_waiting}
 use Rattle.addr2line_units.specs.Parsed.{StaysParsed}
 use Rattle.addr2line_units.specs.Views.{SplitLoad}
 use Rattle.addr2line.specs.Answers.{answered}
 use Rattle.addr2line.specs.Context.{ContextState}
 use Rattle.addr2line.specs.Files.{Files}
-use Rattle.addr2line.specs.FramesByFiles.{frames_by_files, stop_frames}
+use Rattle.addr2line.specs.FramesByFiles.{frames_by_files}
 use Rattle.addr2line.specs.History.{Given, answers_given}
 use Rattle.addr2line.specs.Lookups.{FirstAnswers, IsLoadOf, lookup_stop}
 use Rattle.addr2line.specs.AfterLookups.{LearnsAsked, ParsesAsked, StaysKnownOf}
@@ -79,10 +78,6 @@ pub record ReadsAsked (probe : ℕ) (old new : ContextState) : Type 0 where
   pub lines : ParsesAsked End probe new old new
   pub entries : LearnsAsked End probe new old new
 
--- a refusal that leaves the unit open whose load it refuses
-abbrev pub LeavesOpen : LoaderError → Type 0
-LeavesOpen e = (e ≡ OutOfMemory) ⊎ (e ≡ PathNotUtf8)
-
 -- a refusal that ends a lookup: the fault of a unit, and none of these
 abbrev pub IsUnitFault : LoaderError → Type 0
 IsUnitFault e = (e ≢ OutOfMemory) × (e ≢ PathNotUtf8)
@@ -91,10 +86,6 @@ IsUnitFault e = (e ≢ OutOfMemory) × (e ≢ PathNotUtf8)
 abbrev pub HasEnded : {X : Type 0} → Loading X → Type 0
 HasEnded (Ok x) = Unit {0}
 HasEnded (Err e) = IsUnitFault e
-
--- the frames of a lookup that waits for no answer, whatever the files are, or its fault
-abbrev pub ended_frames_of : ContextState → ℕ → Loading (List FrameRecord)
-ended_frames_of c probe = stop_frames (lookup_stop End c.sections c.answers probe)
 
 -- this is what the files, where they are known, answer to the load of the unit of a number
 abbrev pub IsAnswerByFiles : Option Files → Sections → ℕ → Option Sections → Type 0

@@ -12,7 +12,7 @@ use Rattle.addr2line_units.specs.declared.frames_lookup.Faults.TheVariants.{End,
 use Rattle.addr2line_units.specs.Cover.{cover}
 use Rattle.addr2line_units.specs.Frames.{FrameRecord}
 use Rattle.addr2line_units.specs.FramesLookup.{Stop, Waits, Finds, FindsNothing, asked_frames, main_scope, stop_along, unit_found}
-use Rattle.addr2line_units.specs.Loads.{load_of_number, loads_along}
+use Rattle.addr2line_units.specs.LoadLaws.{loads_of}
 use Rattle.addr2line_units.specs.UnitIndex.{UnitIndex, index_units}
 use Rattle.addr2line_units.specs.RangedUnits.{unit_records}
 use Rattle.addr2line_units.specs.Views.{SplitLoad, load_of_unit}
@@ -42,9 +42,18 @@ frames_told (Waits n) = None
 frames_told (Finds n frames) = Some frames
 frames_told FindsNothing = Some []
 
+-- the frames of a lookup that has come to this, none where it waits, or its fault
+abbrev pub frames_of_stop : Result Stop Error → FramesResult
+frames_of_stop stop = stop >>= λ s. Ok (frames_told s)
+
 -- the frames at the probe, none where the lookup waits for an answer, or its first fault
 abbrev pub frames_of : Sections → FirstAnswers → ℕ → FramesResult
-frames_of d answers probe = lookup_stop End d answers probe >>= λ s. Ok (frames_told s)
+frames_of d answers probe = frames_of_stop (lookup_stop End d answers probe)
+
+-- what a lookup of a unit gives: the sections and the unit of the view that it found, if it found
+-- one, and none of it where it waits
+abbrev pub UnitResult : Type 0
+UnitResult = Result (Option (Option (Sections × UnitRecord))) Error
 
 -- the sections and the unit of the view of a lookup that has ended, none where it waits
 abbrev pub unit_told : Sections → FirstAnswers → UnitIndex → Stop
@@ -54,8 +63,7 @@ unit_told d answers m stop = Some (unit_found d (unit_records m.units) answers s
 
 -- the sections and the unit of the view at the probe, none where the lookup waits for an answer;
 -- faults of units are passed over
-abbrev pub unit_of : Sections → FirstAnswers → ℕ
-    → Result (Option (Option (Sections × UnitRecord))) Error
+abbrev pub unit_of : Sections → FirstAnswers → ℕ → UnitResult
 unit_of d answers probe = index_units d >>= λ m.
     stop_in PassOver d answers probe m >>= λ s. Ok (unit_told d answers m s)
 
@@ -68,7 +76,7 @@ waits_for k stop = false
 abbrev pub loads_at : Sections → FirstAnswers → ℕ → List SplitLoad
 loads_at d answers probe = elim (index_units d) [
   | Err e ↦ []
-  | Ok m ↦ loads_along (load_of_number d (unit_records m.units) answers) (cover probe m.ranges)
+  | Ok m ↦ loads_of d (unit_records m.units) answers (cover probe m.ranges)
 ]
 
 -- there is a unit of this number

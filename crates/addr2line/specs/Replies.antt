@@ -3,7 +3,6 @@
 use Rattle.std.specs.Prelude.{ℕ, List, [], map, Option, Some, None, option_map, Result, Ok, Err}
 use Rattle.gimli_read.specs.declared.constants.DwLang.{DwLang}
 use Rattle.gimli_read.specs.declared.error.Error.{Error}
-use Rattle.gimli_read.specs.Reading.{◌>>=◌}
 use Rattle.gimli_read.specs.Section.{Section}
 use Rattle.gimli.specs.declared.dwarf.DwarfFileType.{DwarfFileType}
 use Rattle.gimli.specs.declared.unit.DwoId.{DwoId}
@@ -14,8 +13,7 @@ use Rattle.addr2line_lines.specs.RangeLocations.{LocatedSpan}
 use Rattle.addr2line_units.specs.Frames.{FrameRecord, NameRecord}
 use Rattle.addr2line_units.specs.FramesLookup.{Stop, Waits, Finds, FindsNothing}
 use Rattle.addr2line_units.specs.Views.{SplitLoad}
-use Rattle.addr2line_units.specs.UnitFrames.{FramesResult}
-use Rattle.addr2line.specs.Lookups.{frames_told}
+use Rattle.addr2line.specs.Lookups.{UnitResult}
 
 -- the bytes of a name, and the language of its unit
 pub record CopiedName : Type 0 where
@@ -41,12 +39,12 @@ pub record CopiedLoad : Type 0 where
   pub path : Option (List ℕ)
 
 -- what a lookup of a location gives
-abbrev pub LocationAnswer : Type 0
-LocationAnswer = Result (Option Location) Error
+abbrev pub LocationResult : Type 0
+LocationResult = Result (Option Location) Error
 
 -- what one call gives
 pub data CopiedReply : Type 0 where
-  Located : LocationAnswer → CopiedReply
+  Located : LocationResult → CopiedReply
   Ranged : List (Result LocatedSpan Error) → CopiedReply
   Framed : Result (List CopiedFrame) Error → CopiedReply
   Viewed : Option CopiedUnit → CopiedReply
@@ -83,10 +81,6 @@ copied_load l = record {
   path = option_map section_bytes l.path;
 }
 
--- the frames of a lookup that has come to this, none where it waits
-abbrev pub frames_at : Result Stop Error → FramesResult
-frames_at stop = stop >>= λ s. Ok (frames_told s)
-
 -- the reply of a lookup of frames that has come to this
 abbrev pub reply_of_frames : Result Stop Error → CopiedReply
 reply_of_frames (Ok (Waits n)) = SuspendedAt n
@@ -95,14 +89,12 @@ reply_of_frames (Ok FindsNothing) = Framed (Ok [])
 reply_of_frames (Err e) = Framed (Err e)
 
 -- the unit that was found, if one was
-abbrev pub unit_found_in : Result (Option (Option (Sections × UnitRecord))) Error
-    → Option CopiedUnit
+abbrev pub unit_found_in : UnitResult → Option CopiedUnit
 unit_found_in (Ok (Some found)) = option_map copied_unit found
 unit_found_in found = None
 
 -- the reply of a lookup of a unit that has come to this, with what it has found
-abbrev pub reply_of_unit : Result Stop Error
-    → Result (Option (Option (Sections × UnitRecord))) Error → CopiedReply
+abbrev pub reply_of_unit : Result Stop Error → UnitResult → CopiedReply
 reply_of_unit (Ok (Waits n)) found = SuspendedAt n
 reply_of_unit stop found = Viewed (unit_found_in found)
 

@@ -4,7 +4,7 @@
 -- name has no split file, and a path that isn't UTF-8 is a fault.
 -- Own: the first unit of the file has to have the identifier that the load has. A file that can't
 -- be read, another one, and a faulty one are answered none.
-use Rattle.std.specs.Prelude.{◌==◌, ◌++◌, ℕ, Bool, false, List, [], ◌∷◌, Option, Some, None, Result, Ok, Err, if◌then◌else◌, option_and_then, option_map}
+use Rattle.std.specs.Prelude.{◌≡◌, ◌⊎◌, ◌==◌, ◌++◌, ℕ, Bool, false, List, [], ◌∷◌, Option, Some, None, Result, Ok, Err, if◌then◌else◌, option_and_then, option_map}
 use Rattle.std.specs.Option.{option_map_or}
 use Rattle.gimli_read.specs.declared.error.Error.{Error}
 use Rattle.gimli_read.specs.Reading.{◌>>=◌}
@@ -15,7 +15,8 @@ use Rattle.gimli.specs.declared.unit.DwoId.{DwoId}
 use Rattle.gimli.specs.Sections.{Sections}
 use Rattle.gimli.specs.Split.{split_sections}
 use Rattle.gimli.specs.Unit.{UnitRecord}
-use Rattle.elf.specs.declared.error.LoaderError.TheVariants.{PathNotUtf8}
+use Rattle.elf.specs.declared.error.LoaderError.{LoaderError}
+use Rattle.elf.specs.declared.error.LoaderError.TheVariants.{OutOfMemory, PathNotUtf8}
 use Rattle.elf.specs.Loading.{Loading}
 use Rattle.elf.specs.ObjectFile.{object_file_of}
 use Rattle.elf.specs.Symbols.{utf8_from}
@@ -98,3 +99,7 @@ given_at_path files load path = utf8_path path >>= λ text. Ok (split_at_path fi
 unfoldable pub given_by_files : Files → SplitLoad → Loading (Option Sections)
 given_by_files files load = elim (split_path load)
     [ None ↦ Ok None | Some path ↦ given_at_path files load path ]
+
+-- a refusal that leaves the unit open whose load it refuses
+abbrev pub LeavesOpen : LoaderError → Type 0
+LeavesOpen e = (e ≡ OutOfMemory) ⊎ (e ≡ PathNotUtf8)

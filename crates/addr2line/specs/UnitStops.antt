@@ -12,23 +12,23 @@ use Rattle.addr2line.specs.declared.stops.UnitStop.{UnitStop}
 use Rattle.addr2line.specs.declared.stops.UnitStop.TheVariants as units
 use Rattle.addr2line.specs.Lookups.{FirstAnswers, lookup_stop}
 
--- what a lookup comes to, by the number of a unit
-abbrev pub by_number : Stop → UnitStop
-by_number (Waits n) = units.Waits n
-by_number (Finds n frames) = units.Finds n
-by_number FindsNothing = units.FindsNothing
+-- what a lookup has come to, with the number of a unit in place of what it finds there
+abbrev pub stop_at_unit : Stop → UnitStop
+stop_at_unit (Waits n) = units.Waits n
+stop_at_unit (Finds n frames) = units.Finds n
+stop_at_unit FindsNothing = units.FindsNothing
 
--- the same of a stop with the place of what it finds
-abbrev pub unit_stop_of : FramesStop → UnitStop
-unit_stop_of (stops.Waits n) = units.Waits n
-unit_stop_of (stops.Finds p) = units.Finds (unit_of_place p)
-unit_stop_of stops.FindsNothing = units.FindsNothing
+-- the same of a lookup of what is cached, which gives the place of what it finds
+abbrev pub cached_stop_at_unit : FramesStop → UnitStop
+cached_stop_at_unit (stops.Waits n) = units.Waits n
+cached_stop_at_unit (stops.Finds p) = units.Finds (unit_of_place p)
+cached_stop_at_unit stops.FindsNothing = units.FindsNothing
 
 -- the same, or the fault
 abbrev pub stop_by_number : Result FramesStop Error → Result UnitStop Error
-stop_by_number stop = stop >>= λ s. Ok (unit_stop_of s)
+stop_by_number stop = stop >>= λ s. Ok (cached_stop_at_unit s)
 
 -- what a lookup of the probe comes to, by the number of a unit
 abbrev pub unit_stop : Faults → Sections → FirstAnswers → ℕ → Result UnitStop Error
 unit_stop faults d answers probe =
-    lookup_stop faults d answers probe >>= λ s. Ok (by_number s)
+    lookup_stop faults d answers probe >>= λ s. Ok (stop_at_unit s)

@@ -1,18 +1,15 @@
 -- Lookups that may wait, by the context that they are made in (on Lookups, Answers and Skips).
-use Rattle.std.specs.Prelude.{◌≡◌, ℕ, length, List, Option, Result}
+use Rattle.std.specs.Prelude.{◌≡◌, ℕ, length, Option}
 use Rattle.std.specs.Borrow.{MutBor}
-use Rattle.gimli_read.specs.declared.error.Error.{Error}
 use Rattle.gimli.specs.Sections.{Sections}
-use Rattle.gimli.specs.Unit.{UnitRecord}
 use Rattle.addr2line_units.specs.declared.frames_lookup.Faults.{Faults}
 use Rattle.addr2line_units.specs.declared.frames_lookup.Faults.TheVariants.{End, PassOver}
-use Rattle.addr2line_units.specs.Frames.{FrameRecord}
 use Rattle.addr2line_units.specs.Views.{SplitLoad}
 use Rattle.addr2line_units.specs.UnitFrames.{FramesResult}
 use Rattle.addr2line.specs.Answers.{SuspendsAgain, answered}
 use Rattle.addr2line.specs.Context.{ContextState}
 use Rattle.addr2line.specs.AfterLookups.{Suspends}
-use Rattle.addr2line.specs.Lookups.{frames_of, loads_at, unit_of, with_none}
+use Rattle.addr2line.specs.Lookups.{UnitResult, frames_of, loads_at, unit_of, with_none}
 use Rattle.addr2line.specs.Skips.{skipped_answers}
 
 -- a lookup of this context at this probe waits for the unit of a number, with this load
@@ -33,45 +30,37 @@ SuspendsAgainIn faults context probe n given held at number load =
 abbrev pub count_loads : ContextState → ℕ → ℕ
 count_loads c probe = length (loads_at c.sections c.answers probe)
 
--- what a lookup of frames gives
-abbrev pub LookedUpFrames : Type 0
-LookedUpFrames = FramesResult
-
 -- the frames at the probe in a context
-abbrev pub frames_of_context : ContextState → ℕ → LookedUpFrames
+abbrev pub frames_of_context : ContextState → ℕ → FramesResult
 frames_of_context c probe = frames_of c.sections c.answers probe
 
 -- the same once the unit of a number was answered
-abbrev pub frames_answered : ContextState → ℕ → Option Sections → ℕ → LookedUpFrames
+abbrev pub frames_answered : ContextState → ℕ → Option Sections → ℕ → FramesResult
 frames_answered c n given probe =
     frames_of c.sections (answered c.sections c.answers n given) probe
 
 -- the same where none is answered to each load of the lookup
-abbrev pub frames_skipped : ContextState → ℕ → LookedUpFrames
+abbrev pub frames_skipped : ContextState → ℕ → FramesResult
 frames_skipped c probe =
     frames_of c.sections (skipped_answers End c.sections probe c.answers) probe
 
 -- the same where none is answered to each unit that has no answer
-abbrev pub frames_with_none : ContextState → ℕ → LookedUpFrames
+abbrev pub frames_with_none : ContextState → ℕ → FramesResult
 frames_with_none c probe = frames_of c.sections (with_none c.answers) probe
 
--- what a lookup of a unit gives
-abbrev pub LookedUpUnit : Type 0
-LookedUpUnit = Result (Option (Option (Sections × UnitRecord))) Error
-
 -- the sections and the unit at the probe in a context
-abbrev pub unit_of_context : ContextState → ℕ → LookedUpUnit
+abbrev pub unit_of_context : ContextState → ℕ → UnitResult
 unit_of_context c probe = unit_of c.sections c.answers probe
 
 -- the same once the unit of a number was answered
-abbrev pub unit_answered : ContextState → ℕ → Option Sections → ℕ → LookedUpUnit
+abbrev pub unit_answered : ContextState → ℕ → Option Sections → ℕ → UnitResult
 unit_answered c n given probe = unit_of c.sections (answered c.sections c.answers n given) probe
 
 -- the same where none is answered to each load of the lookup
-abbrev pub unit_skipped : ContextState → ℕ → LookedUpUnit
+abbrev pub unit_skipped : ContextState → ℕ → UnitResult
 unit_skipped c probe =
     unit_of c.sections (skipped_answers PassOver c.sections probe c.answers) probe
 
 -- the same where none is answered to each unit that has no answer
-abbrev pub unit_with_none : ContextState → ℕ → LookedUpUnit
+abbrev pub unit_with_none : ContextState → ℕ → UnitResult
 unit_with_none c probe = unit_of c.sections (with_none c.answers) probe

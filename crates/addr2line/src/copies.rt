@@ -4,8 +4,6 @@ ghost use Rattle.std.specs.Prelude.{◌≡◌, ◌≢◌, Option, None, Some, Re
 ghost use Rattle.gimli_read.specs.declared.error.Error.{Error};
 ghost use Rattle.gimli_read.specs.declared.error.Error.TheVariants.{OutOfMemory};
 ghost use Rattle.gimli_read.specs.Reading.{ExactlyUnlessOom};
-ghost use Rattle.gimli.specs.Sections.{Sections};
-ghost use Rattle.gimli.specs.Unit.{UnitRecord};
 ghost use Rattle.addr2line_lines.specs.Rows.{result_map};
 ghost use Rattle.addr2line_lines.specs.SeenLocation.{seen_location};
 ghost use Rattle.addr2line_units.specs.FramesLeft.{frames_left};
@@ -15,7 +13,8 @@ ghost use Rattle.gimli_read.specs.Alike.{HadMemory};
 ghost use Rattle.addr2line_lines.specs.RangesLeft.{seen_located};
 ghost use Rattle.addr2line_units.specs.SeenFrame.{seen_frame, seen_name};
 ghost use Rattle.addr2line_units.specs.SeenUnit.{seen_found, seen_unit};
-ghost use Rattle.addr2line.specs.Replies.{LocationAnswer, Located, Ranged, Listed, Ended, section_bytes, copied_frame, copied_load, copied_name, copied_unit, frames_at, reply_of_frames, reply_of_unit};
+ghost use Rattle.addr2line.specs.Lookups.{UnitResult, frames_of_stop};
+ghost use Rattle.addr2line.specs.Replies.{LocationResult, Located, Ranged, Listed, Ended, section_bytes, copied_frame, copied_load, copied_name, copied_unit, reply_of_frames, reply_of_unit};
 ghost use Rattle.addr2line.specs.SeenReplies.{seen_owned_frame, seen_owned_load, seen_owned_location, seen_owned_name, seen_owned_span, seen_owned_unit, seen_reply};
 
 use crate::reply::{FoundUnit, OwnedFrame, OwnedLoad, OwnedLocation, OwnedName, OwnedSpan, Reply};
@@ -130,7 +129,7 @@ pub(crate) fn location_reply(
     alloc: Global,
     location: Result<Option<Location<'_>>, Error>,
 ) -> Result<Reply, Error>
-    ensures gives { (given : LocationAnswer)
+    ensures gives { (given : LocationResult)
         → ExactlyUnlessOom (option_map seen_location) location.entry given
         → IfOk result (λ r. seen_reply r ≡ Located given) }
     ensures told { OnOk result (HadMemory location.entry) }
@@ -186,7 +185,7 @@ pub(crate) fn frames_reply<R: Reader>(
     frames: Result<FrameIter<'_, R>, Error>,
 ) -> Result<Reply, Error>
     ensures gives { (stop : Result Stop Error)
-        → ExactlyUnlessOom (λ i. Some (frames_left i)) frames.entry (frames_at stop)
+        → ExactlyUnlessOom (λ i. Some (frames_left i)) frames.entry (frames_of_stop stop)
         → IfOk result (λ r. (seen_reply r ≡ reply_of_frames stop) × (is_waiting stop ≡ false)) }
     ensures told { OnOk result (HadMemory frames.entry) }
     ensures fault { IfErr frames.entry (λ e. e ≢ OutOfMemory → IsOk result) }
@@ -215,8 +214,7 @@ fn found_unit<R: Reader>(found: UnitRef<'_, R>) -> FoundUnit
 pub(crate) fn unit_reply<R: Reader>(
     unit: Result<Option<UnitRef<'_, R>>, Error>,
 ) -> Result<Reply, Error>
-    ensures gives { (stop : Result Stop Error)
-        (given : Result (Option (Option (Sections × UnitRecord))) Error)
+    ensures gives { (stop : Result Stop Error) (given : UnitResult)
         → ExactlyUnlessOom seen_found unit.entry given
         → (is_waiting stop ≡ true → given ≡ Ok None)
         → IfOk result (λ r. (seen_reply r ≡ reply_of_unit stop given)

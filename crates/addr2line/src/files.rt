@@ -10,18 +10,20 @@ use std::marker::Model;
 
 /// What gives whole files by their paths.
 pub trait FileSource: Drop {
-    ghost use Rattle.std.specs.Prelude.{IfOk, IfSome, None, Option, option_map};
-    ghost use Rattle.addr2line.specs.Files.{Files};
+    ghost use Rattle.std.specs.Prelude.{IfOk, IfSome, None, Ok, Option, option_map};
+    ghost use Rattle.addr2line.specs.Files.{Files, HasNoFile};
 
     /// What stands at each path, where that is known.
     ghost files: { Self → Option Files } = { λ _. None };
 
     /// The bytes of the file at a path, none where there is no file or it can't be read.
     ///
-    /// Fails where a growth was refused. Source: own.
+    /// Fails where a growth was refused; takes no memory where it is known that no file is there.
+    /// Source: own.
     fn read(&self, alloc: Global, path: &str) -> Result<Option<Vec<u8>>, AllocError>
         ensures gives { IfSome (files self.now) (λ held. IfOk result (λ found.
-            option_map (λ (v : _). v.items) found ≡ held path.now)) };
+            option_map (λ (v : _). v.items) found ≡ held path.now)) }
+        ensures none { HasNoFile (files self.now) path.now → result ≡ Ok None };
 }
 
 /// Files in memory.

@@ -1,8 +1,8 @@
 //! Loaders: contexts of ELF files, with their symbols and their split files.
 
-ghost use Rattle.std.specs.Prelude.{◌≡◌, [], IfErr, IfOk, IfSome, IsOk, None, Ok, Option, Some, false, is_some, option_map, true};
+ghost use Rattle.std.specs.Prelude.{◌≡◌, [], Err, IfErr, IfOk, IfSome, IsOk, None, Ok, Option, Some, false, is_some, option_map, true};
 ghost use Rattle.std.specs.Borrow.{sem};
-ghost use Rattle.elf.specs.declared.error.LoaderError.TheVariants.{OutOfMemory};
+ghost use Rattle.elf.specs.declared.error.LoaderError.TheVariants.{Io, OutOfMemory};
 ghost use Rattle.gimli_read.specs.Reading.{Exactly};
 ghost use Rattle.elf.specs.Loading.{Loading, LoadsUnlessOom};
 ghost use Rattle.elf.specs.Sections.{section_range_at};
@@ -15,10 +15,11 @@ ghost use Rattle.addr2line_units.specs.FramesLeft.{frames_left};
 ghost use Rattle.addr2line_units.specs.Located.{location_of, spans_of};
 ghost use Rattle.addr2line_units.specs.LocationsLeft.{locations_left};
 ghost use Rattle.addr2line.specs.Context.{IsReady, IsReadyForRange};
-ghost use Rattle.addr2line.specs.FramesByFiles.{frames_by_files};
+ghost use Rattle.addr2line.specs.Files.{HasNoFile};
+ghost use Rattle.addr2line.specs.FramesByFiles.{ended_frames_of, frames_by_files};
 ghost use Rattle.addr2line.specs.Loaded.{AreSectionsOf, AreSupOfBytes, IsFileOfBytes, IsLoaded, as_sup, context_at, dwarf_at, loaded, main_with_sup, object_at, sup_at};
 ghost use Rattle.addr2line.specs.Loader.{AfterLoads, AfterLocation, AfterLocationRange, seen_loader};
-ghost use Rattle.addr2line.specs.LoadsByFiles.{WaitsForNone, ended_frames_of};
+ghost use Rattle.addr2line.specs.LoadsByFiles.{WaitsForNone};
 ghost use Rattle.addr2line.specs.AfterLookups.{IsKnownFew};
 ghost use Rattle.addr2line.specs.SplitFiles.{of_file};
 
@@ -41,6 +42,7 @@ use std::rc::Rc;
 fn open<F: FileSource>(alloc: Global, files: &F, path: &str) -> Result<ElfFile, LoaderError>
     ensures gives { IfSome (F.files files.now) (λ held. LoadsUnlessOom (λ f. f) result
         (object_at held path.now)) }
+    ensures none { HasNoFile (F.files files.now) path.now → result ≡ Err Io }
     ensures made { IfOk result IsFileOfBytes }
 {
     match files.read(alloc, path)? {
@@ -142,12 +144,12 @@ impl<F: FileSource> LoaderOver<F> {
     /// |---|---|
     /// | `Io` | the file can't be read |
     /// | `NotElf`, `BadElf` | as `ElfFile::parse` is refused |
-    /// | `BadElf`, `CompressedSection`, `RelocationsNeeded` | by the first section that `ElfFile::section` refuses, in the order of their names |
+    /// | `BadElf`, `CompressedSection`, `RelocationsNeeded` | a section is; the first by name |
     /// | the same | by the supplementary file |
     /// | `Dwarf` | as `Context::from_dwarf` is refused |
     ///
-    /// May fail with `OutOfMemory` instead. No section is copied. Source: DWARF 5, sections 7.3.6
-    /// and 7.5. Own: the order.
+    /// May fail with `OutOfMemory` instead, but not where it is known that no file is at `path`. No
+    /// section is copied. Source: DWARF 5, sections 7.3.6 and 7.5. Own: the order.
     #[tactic(auto, unfolding(crate::specs::Loaded::loaded))]
     pub fn over(
         alloc: Global,
@@ -158,6 +160,7 @@ impl<F: FileSource> LoaderOver<F> {
         ensures gives { IfSome (F.files files) (λ held.
             LoadsUnlessOom (λ l. (l.object, l.context)) result
             (loaded held path.now (option_map (λ p. p.now) sup_path.entry))) }
+        ensures none { HasNoFile (F.files files) path.now → result ≡ Err Io }
         ensures made { IfOk result (λ l. IsLoaded (is_some sup_path.entry) l.object l.context) }
         ensures files { IfOk result (λ l. l.files ≡ files) }
     {

@@ -6,8 +6,7 @@ ghost use Rattle.gimli.specs.Sections.{Sections};
 ghost use Rattle.elf.specs.declared.error.LoaderError.TheVariants.{OutOfMemory, PathNotUtf8};
 ghost use Rattle.elf.specs.Loading.{Loading, LoadsUnlessOom};
 ghost use Rattle.elf.specs.ObjectFile.{object_file_of};
-ghost use Rattle.addr2line.specs.LoadsByFiles.{LeavesOpen};
-ghost use Rattle.addr2line.specs.SplitFiles.{bytes_or_none, given_by_files, is_absolute, is_same_id, has_wanted_id, or_none, path_in, separated, split_by, split_of, split_path, utf8_path};
+ghost use Rattle.addr2line.specs.SplitFiles.{LeavesOpen, bytes_or_none, given_by_files, has_wanted_id, is_absolute, is_same_id, or_none, path_in, separated, split_by, split_of, split_path, utf8_path};
 
 use crate::file_sections::{SectionSource, SplitFile, as_dwarf, read_sections};
 use crate::files::FileSource;

@@ -23,9 +23,9 @@ use Rattle.addr2line_units.specs.RangedUnits.{IndexedUnit}
 use Rattle.addr2line.proofs.NoLoadLemmas.{last_frames}
 use Rattle.addr2line.specs.Context.{ContextState, IsReady, IsUncovered, Stays}
 use Rattle.addr2line.specs.Files.{Files}
-use Rattle.addr2line.specs.FramesByFiles.{frames_by_files, stop_frames}
+use Rattle.addr2line.specs.FramesByFiles.{ended_frames_of, frames_by_files, stop_frames}
 use Rattle.addr2line.specs.Loader.{AfterLoads, AfterLocation, AfterLocationRange, LoaderState}
-use Rattle.addr2line.specs.LoadsByFiles.{GivesSameFrames, StayEnded, WaitsForNone, ended_frames_of}
+use Rattle.addr2line.specs.LoadsByFiles.{GivesSameFrames, StayEnded, WaitsForNone}
 use Rattle.addr2line.specs.AfterLookups.{IsKnownFew}
 use Rattle.addr2line.specs.Lookups.{lookup_stop}
 use Rattle.addr2line.specs.SplitFiles.{of_file}

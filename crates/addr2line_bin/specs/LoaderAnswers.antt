@@ -11,9 +11,9 @@ use Rattle.addr2line_lines.specs.Location.{Location}
 use Rattle.addr2line_units.specs.Frames.{FrameRecord}
 use Rattle.addr2line_units.specs.Located.{location_of, spans_of}
 use Rattle.addr2line.specs.Context.{ContextState, IsReady, IsUncovered}
-use Rattle.addr2line.specs.FramesByFiles.{frames_by_files}
+use Rattle.addr2line.specs.FramesByFiles.{ended_frames_of, frames_by_files}
 use Rattle.addr2line.specs.Loader.{LoaderState}
-use Rattle.addr2line.specs.LoadsByFiles.{WaitsForNone, ended_frames_of}
+use Rattle.addr2line.specs.LoadsByFiles.{WaitsForNone}
 use Rattle.addr2line.specs.SplitFiles.{of_file}
 use Rattle.addr2line_bin.specs.FileAnswers.{FileAnswers}
 

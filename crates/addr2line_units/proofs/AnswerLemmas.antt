@@ -144,10 +144,10 @@ pub answered_if_ok : {R : Type 0} (d : Sections) (us : List UnitRecord) (vs : Li
 answered_if_ok d us vs n u v w given (Ok x) h k e f new = answered_all d us vs n u v w given h k e f new
 answered_if_ok d us vs n u v w given (Err x) h k e f new = tt
 
-pub answers_if_refused : {R : Type 0} (vs : List (UnitEntries R)) (n : ℕ) (v w : UnitEntries R) (r : Result (Unit {0}) Error) → n < length vs → v ≡ get_or vs n v
-    → IfErr r (λ e. (e ≡ OutOfMemory) × StayEntries v w) → IfErr r (λ e. (e ≡ OutOfMemory) × (answers_in (set vs n w) ≡ answers_in vs) × StayAllEntries vs (set vs n w))
-answers_if_refused vs n v w (Ok x) h e same = tt
-answers_if_refused vs n v w (Err x) h e same = (same.0, answers_stay vs n v w h e same.1.answer, stay_entries_set vs n v w h e same.1)
+pub answers_if_refused : {R : Type 0} (vs : List (UnitEntries R)) (n : ℕ) (v w : UnitEntries R) (r : Result (Unit {0}) Error) (P : Type 0) → n < length vs → v ≡ get_or vs n v
+    → IfErr r (λ e. (e ≡ OutOfMemory) × StayEntries v w × P) → IfErr r (λ e. (e ≡ OutOfMemory) × (answers_in (set vs n w) ≡ answers_in vs) × StayAllEntries vs (set vs n w) × P)
+answers_if_refused vs n v w (Ok x) P h e same = tt
+answers_if_refused vs n v w (Err x) P h e same = (same.0, answers_stay vs n v w h e same.1.answer, stay_entries_set vs n v w h e same.1, same.2)
 
 -- the entries of other units are the same
 pub others_stay : {X : Type 0} (vs : List X) (n k : ℕ) (w : X) → k ≢ n → slice_get (set vs n w) k ≡ slice_get vs k

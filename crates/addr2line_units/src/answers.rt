@@ -76,8 +76,8 @@ impl<R: Reader> UnitEntries<R> {
     }
 
     // Decides the unit by an answer if it is open, and else leaves it as it is. Refused
-    // `OutOfMemory` alone, and only of an open unit; then all that is cached stays, and only that
-    // it was looked at may be new.
+    // `OutOfMemory` alone, and only of an open unit that is given sections; then all that is cached
+    // stays, and only that it was looked at may be new.
     pub(crate) fn answer(
         &mut self,
         alloc: Global,
@@ -92,7 +92,7 @@ impl<R: Reader> UnitEntries<R> {
             (option_map (λ d. d.value) sections)) }
         ensures decided { OnOk result (is_decided self.new.view.state ≡ true) }
         ensures refused { IfErr result (λ e. (e ≡ OutOfMemory)
-            × StayEntries self.old self.new) }
+            × StayEntries self.old self.new × (is_some sections ≡ true)) }
         ensures functions { is_open scope.entry.file.dwarf.now dw_unit.now (first_answer_of self.old)
             ≡ false → self.new.functions ≡ self.old.functions }
         ensures same { is_decided self.old.view.state ≡ true

@@ -67,8 +67,8 @@ impl<R: Reader> ResUnits<R> {
     ///
     /// Refused `UnknownToken` where there is no such unit; then nothing is changed. Refused by the
     /// fault of the view that the unit has then; the unit is decided all the same. May fail with
-    /// `OutOfMemory` instead, unless the unit is decided; then all that is cached stays, and only
-    /// that the unit was looked at may be new.
+    /// `OutOfMemory` instead, only of an open unit that is given sections; then all that is cached
+    /// stays, and only that the unit was looked at may be new.
     pub fn load_unit(
         &mut self,
         alloc: Global,
@@ -103,6 +103,8 @@ impl<R: Reader> ResUnits<R> {
             → result ≡ load_result dwarf.now self.old.dw_units.items
             (answers_in self.old.entries.items) token.number
             (option_map (λ d. d.value) sections) }
+        ensures no_sections { sections ≡ None → result ≡ load_result dwarf.now
+            self.old.dw_units.items (answers_in self.old.entries.items) token.number None }
         ensures others { (n : ℕ) → n ≢ token.number → slice_get self.new.entries.items n
             ≡ slice_get self.old.entries.items n }
         ensures kept { HaveEntriesOf (scope_in dwarf.now self.new.dw_units.items sup.now)

@@ -1,6 +1,6 @@
 //! Lookups of frames over the units of a context, and the answers to their loads.
 
-ghost use Rattle.std.specs.Prelude.{◌≡◌, ◌≢◌, ◌&&◌, ◌<◌, ◌≤◌, ℕ, None, Some, set, IfErr, IfOk, IfSome, Ok, OnOk, false, length, not, option_map, slice_get, true};
+ghost use Rattle.std.specs.Prelude.{◌≡◌, ◌≢◌, ◌&&◌, ◌<◌, ◌≤◌, ℕ, None, Some, set, IfErr, IfOk, IfSome, Ok, OnOk, false, is_some, length, not, option_map, slice_get, true};
 ghost use Rattle.gimli_read.specs.declared.error.Error.TheVariants.{OutOfMemory};
 ghost use Rattle.gimli_read.specs.Reading.{ExactlyUnlessOom};
 ghost use Rattle.addr2line_lines.specs.References.{IsScope};
@@ -225,8 +225,8 @@ impl<R: Reader> ResUnits<R> {
     /// Decides the unit of a number by an answer to its load if it is open, and else leaves it as
     /// it is.
     ///
-    /// Refused `OutOfMemory` alone, and only of an open unit; then all that is cached stays, and
-    /// only that the unit was looked at may be new.
+    /// Refused `OutOfMemory` alone, and only of an open unit that is given sections; then all that
+    /// is cached stays, and only that the unit was looked at may be new.
     pub fn answer(
         &mut self,
         alloc: Global,
@@ -252,7 +252,8 @@ impl<R: Reader> ResUnits<R> {
             ≡ slice_get self.old.entries.items n }
         ensures refused { IfErr result (λ e. (e ≡ OutOfMemory)
             × (answers_in self.new.entries.items ≡ answers_in self.old.entries.items)
-            × StayAllEntries self.old.entries.items self.new.entries.items) }
+            × StayAllEntries self.old.entries.items self.new.entries.items
+            × (is_some sections ≡ true)) }
         ensures dw_units { self.new.dw_units.items ≡ self.old.dw_units.items }
         ensures units { self.new.units.items ≡ self.old.units.items }
         ensures ranges { self.new.ranges ≡ self.old.ranges }

@@ -2,13 +2,13 @@
 
 ghost use Rattle.std.specs.Prelude.{◌≡◌, Err, None, Ok, Some, IfErr, IfOk, IfSome, OnOk, false, is_some, option_map, true};
 ghost use Rattle.gimli_read.specs.declared.error.Error.TheVariants.{OutOfMemory};
-ghost use Rattle.gimli_read.specs.Reading.{Exactly, ExactlyUnlessOom, ExactlyUnlessOomIf};
+ghost use Rattle.gimli_read.specs.Reading.{Exactly, ExactlyUnlessOomIf};
 ghost use Rattle.gimli.specs.Sections.{Sections};
 ghost use Rattle.gimli.specs.Unit.{UnitRecord};
 ghost use Rattle.addr2line_lines.specs.References.{IsScope};
 ghost use Rattle.addr2line_lines.specs.SeenScope.{seen_scope};
 ghost use Rattle.addr2line_units.specs.CachedViews.{IsViewOf, answer_in, is_decided, parts_or_fault, seen_first_answer, seen_sections, split_file_by, split_file_in, split_unit, verdict_in, view_in, waits, was_looked_at};
-ghost use Rattle.addr2line_units.specs.Views.{answered_view, first_unit, load_of_unit, split_name_of, verdict, view_scope};
+ghost use Rattle.addr2line_units.specs.Views.{answered_view, first_unit, first_unit_takes_memory, load_of_unit, split_name_of, verdict, view_scope};
 
 use addr2line_lines::{FileUnits, Scope};
 use gimli::read::{Error, Reader};
@@ -132,10 +132,12 @@ fn read_load<R: Reader>(
 
 /// The first unit of sections, `None` where they have no unit.
 ///
-/// Refused for its header, else as `Dwarf::unit` is. May fail with `OutOfMemory` instead. Source:
-/// DWARF 5, section 7.5.1.
+/// Refused for its header, else as `Dwarf::unit` is. May fail with `OutOfMemory` instead, where
+/// bytes are shared or the header can be read of a unit that takes memory. Source: DWARF 5, section
+/// 7.5.1.
 pub fn read_first_unit<R: Reader>(alloc: Global, dwarf: &Dwarf<R>) -> Result<Option<Unit<R>>, Error>
-    ensures gives { ExactlyUnlessOom (λ u. u) result (first_unit dwarf.now) }
+    ensures gives { ExactlyUnlessOomIf (first_unit_takes_memory R.shares dwarf.now) (λ u. u) result
+        (first_unit dwarf.now) }
 {
     let mut headers = dwarf.units()?;
     match headers.next()? {

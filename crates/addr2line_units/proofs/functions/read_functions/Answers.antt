@@ -13,4 +13,5 @@ returns-in_default g c = record {
   read = refl;
   unread = tt;
   refused = tt;
+  memory = tt;
 }

@@ -2,7 +2,7 @@ use Rattle.std.proofs.Common.{◌≡◌, subst, sym}
 use Rattle.std.specs.Prelude.{OnOk, option_map}
 use Rattle.addr2line_units.specs.FramesLookup.{with_answer}
 use Rattle.addr2line_units.specs.CachedUnits.{answers_in}
-use Rattle.addr2line.proofs.AnsweredLemmas.{after_answer, fewer_after, still_answered, unit_there}
+use Rattle.addr2line.proofs.AnsweredLemmas.{after_answer, fewer_after, some_seen, still_answered, unit_there}
 use Rattle.addr2line.proofs.LookupLemmas.{entries_in_scope}
 use Rattle.addr2line.proofs.context.Context.answer.Goals as goal
 
@@ -29,7 +29,7 @@ returns-clause-after g c =
     let e = rw c.deref.ensures at c.answer.ensures in
     let now = c.answer.new.self in
     let answers = subst (λ d. OnOk c.answer.result (answers_in now.entries.items ≡ with_answer d s.units.dw_units.items (answers_in s.units.entries.items) c.args.number (option_map (λ x. x.value) c.args.sections))) c.deref.ensures c.answer.ensures.answers in
-    rw (sym c.self.view_is) (after_answer s.dwarf.value s.units.dw_units.items s.units.units.items s.units.entries.items s.units.ranges s.sup_units c.self.invariant now.units.items e.units now.entries.items c.args.number s.looks (option_map (λ d. d.value) c.args.sections) c.answer.result answers e.refused e.others)
+    rw (sym c.self.view_is) (after_answer s.dwarf.value s.units.dw_units.items s.units.units.items s.units.entries.items s.units.ranges s.sup_units c.self.invariant now.units.items e.units now.entries.items c.args.number s.looks (option_map (λ d. d.value) c.args.sections) c.answer.result (some_seen (λ d. d.value) c.args.sections) answers e.refused e.others)
 
 pub returns-clause-fewer : goal.returns-clause-fewer
 returns-clause-fewer g c =

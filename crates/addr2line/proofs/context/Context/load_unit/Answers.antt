@@ -1,4 +1,4 @@
-use Rattle.std.proofs.Common.{◌≡◌, ◌≢◌, ◌⊎◌, ◌∙◌, ap, false, length, sym, subst}
+use Rattle.std.proofs.Common.{◌≡◌, ◌≢◌, ◌⊎◌, ◌∙◌, None, ap, false, length, sym, subst}
 use Rattle.std.specs.Prelude.{option_map}
 use Rattle.gimli_read.specs.Reading.{ExactlyUnlessOom}
 use Rattle.addr2line_units.specs.FramesLookup.{with_answer}
@@ -49,3 +49,10 @@ returns-clause-memory g c =
     let given = option_map (λ x. x.value) c.args.sections in
     let not_open = subst (λ d. is_open_at d s.units.dw_units.items (answers_in s.units.entries.items) n ≡ false → c.load_unit.result ≡ load_result d s.units.dw_units.items (answers_in s.units.entries.items) n given) c.deref.ensures c.load_unit.ensures.not_open in
     rw (sym c.self.view_is) (λ h. not_open (not_open_is s.dwarf.value s.units.dw_units.items s.units.units.items s.units.entries.items s.units.ranges s.sup_units c.self.invariant n s.looks h) ∙ sym (load_is s.dwarf.value s.units.dw_units.items s.units.units.items s.units.entries.items s.units.ranges s.sup_units c.self.invariant n given))
+
+pub returns-clause-no_sections : goal.returns-clause-no_sections
+returns-clause-no_sections g c =
+    let s = c.self.inside in
+    let n = c.args.unit.number in
+    let none = subst (λ d. c.args.sections ≡ None → c.load_unit.result ≡ load_result d s.units.dw_units.items (answers_in s.units.entries.items) n None) c.deref.ensures c.load_unit.ensures.no_sections in
+    rw (sym c.self.view_is) (λ h. none h ∙ sym (load_is s.dwarf.value s.units.dw_units.items s.units.units.items s.units.entries.items s.units.ranges s.sup_units c.self.invariant n None))

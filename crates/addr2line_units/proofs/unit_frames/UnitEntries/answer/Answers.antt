@@ -10,7 +10,7 @@ use Rattle.addr2line_units.proofs.unit_frames.UnitEntries.answer.Goals as goal
 pub returns-in_err-decide-clause-refused : goal.returns-in_err-decide-clause-refused
 returns-in_err-decide-clause-refused g c =
     let p = err_from_is_err_and c.from_residual.result c.from_residual.ensures.1 in
-    rw (p.1, p.2) (c.in_err-decide.ensures.refused.0, subst (λ x. StayEntries c.args.self.now x) (sym c.in_err-decide.ensures.refused.1) c.look.ensures.stay)
+    rw (p.1, p.2) (c.in_err-decide.ensures.refused.0, subst (λ x. StayEntries c.args.self.now x) (sym c.in_err-decide.ensures.refused.1) c.look.ensures.stay, c.in_err-decide.ensures.refused.2)
 
 pub returns-in_err-decide-clause-same : goal.returns-in_err-decide-clause-same
 returns-in_err-decide-clause-same g c h =

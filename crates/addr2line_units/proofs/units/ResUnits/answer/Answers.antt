@@ -1,4 +1,4 @@
-use Rattle.std.proofs.Common.{arith, option_map, rules, sym}
+use Rattle.std.proofs.Common.{◌≡◌, arith, is_some, option_map, rules, sym, true}
 use Rattle.addr2line_lines.specs.SeenScope.{seen_file}
 use Rattle.addr2line_units.specs.CachedUnits.{scope_in, sup_file}
 use Rattle.addr2line_units.proofs.AnswerLemmas.{answered_if_ok, answers_if_refused, decided_if_ok, decided_there, in_same_scope, got_unit, others_stay, same_set}
@@ -40,7 +40,7 @@ returns-clause-refused g c =
     let s = c.args.self.now in
     let many = as_many_entries (scope_in c.args.dwarf.now s.dw_units.items c.args.sup.now) s.dw_units.items s.entries.items c.requires.kept in
     let there = c.requires.there in
-    answers_if_refused s.entries.items c.args.number c.index_mut-entries.result.now c.answer.new.self c.answer.result (omega (arith, many, there)) c.index_mut-entries.ensures.value c.answer.ensures.refused
+    answers_if_refused s.entries.items c.args.number c.index_mut-entries.result.now c.answer.new.self c.answer.result (is_some c.args.sections ≡ true) (omega (arith, many, there)) c.index_mut-entries.ensures.value c.answer.ensures.refused
 
 pub returns-clause-decided : goal.returns-clause-decided
 returns-clause-decided g c =

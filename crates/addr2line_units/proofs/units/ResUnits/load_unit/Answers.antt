@@ -1,4 +1,4 @@
-use Rattle.std.proofs.Common.{◌≤◌, ◌<◌, length, option_map, refl, rules, sym}
+use Rattle.std.proofs.Common.{◌≡◌, ◌∙◌, ◌≤◌, ◌<◌, None, ap, false, is_some, length, option_map, refl, rules, sym, true}
 use Rattle.std.proofs.lemmas.Option.{slice_get_past}
 use Rattle.std.proofs.lemmas.Result.{err_from_is_err_and}
 use Rattle.addr2line_units.specs.CachedUnits.{answers_in, scope_in}
@@ -91,3 +91,21 @@ returns-clause-not_open g c h =
     let many = as_many_entries (scope_in c.args.dwarf.now s.dw_units.items c.args.sup.now) s.dw_units.items s.entries.items c.requires.kept in
     let within : c.args.token.number < length s.dw_units.items = search rules in
     load_gives_within c.args.dwarf.now s.dw_units.items c.answer.new.self.dw_units.items s.entries.items c.answer.new.self.entries.items c.args.token.number given c.check_view.result within many c.answer.ensures.dw_units c.in_ok-answer.ensures.answers c.check_view.ensures.gives
+
+pub returns-then-token-len-clause-no_sections : goal.returns-then-token-len-clause-no_sections
+returns-then-token-len-clause-no_sections g c h =
+    let s = c.args.self.now in
+    let past : length s.dw_units.items ≤ c.args.token.number = search rules in
+    sym (unknown_load c.args.dwarf.now s.dw_units.items (answers_in s.entries.items) c.args.token.number None (slice_get_past s.dw_units.items c.args.token.number past))
+
+pub returns-in_err-answer-clause-no_sections : goal.returns-in_err-answer-clause-no_sections
+returns-in_err-answer-clause-no_sections g c h = absurd (let e : false ≡ true = sym (ap is_some h) ∙ c.in_err-answer.ensures.refused.3 in cc)
+
+pub returns-clause-no_sections : goal.returns-clause-no_sections
+returns-clause-no_sections g c h =
+    let s = c.args.self.now in
+    let given = option_map (λ x. x.value) c.args.sections in
+    let many = as_many_entries (scope_in c.args.dwarf.now s.dw_units.items c.args.sup.now) s.dw_units.items s.entries.items c.requires.kept in
+    let within : c.args.token.number < length s.dw_units.items = search rules in
+    load_gives_within c.args.dwarf.now s.dw_units.items c.answer.new.self.dw_units.items s.entries.items c.answer.new.self.entries.items c.args.token.number given c.check_view.result within many c.answer.ensures.dw_units c.in_ok-answer.ensures.answers c.check_view.ensures.gives
+    ∙ ap (λ x. load_result c.args.dwarf.now s.dw_units.items (answers_in s.entries.items) c.args.token.number (option_map (λ y. y.value) x)) h

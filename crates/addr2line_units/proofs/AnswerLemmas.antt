@@ -19,7 +19,7 @@ use Rattle.addr2line_units.specs.CachedEntries.{AreEntriesOf, StayEntries, first
 use Rattle.addr2line_units.specs.CachedFunctions.{AreFunctionsOf, were_read}
 use Rattle.addr2line_units.specs.CachedUnits.{StayAllEntries, answers_in, decided_at}
 use Rattle.addr2line_units.specs.CachedViews.{IsViewOf, is_decided, seen_first_answer, verdict_in, waits, was_looked_at}
-use Rattle.addr2line_units.specs.Views.{View, decided_answer, is_open, verdict, view_scope}
+use Rattle.addr2line_units.specs.Views.{FirstAnswers, View, decided_answer, is_open, verdict, view_scope}
 use Rattle.addr2line_units.proofs.CachedUnitLemmas.{stay_entries_set}
 
 -- what waits isn't decided
@@ -128,7 +128,7 @@ answered_all d us vs n u v w given h k e f new =
     ∙ ap (λ a. set (answers_in vs) n a) (new ∙ ap (λ a. decided_answer d u a given) (sym (answer_at vs n v k f)))
     ∙ sym (ap (λ o. answers_by o) (got_unit us n u h e))
   where
-    answers_by : Option UnitRecord → List (Option (Option Sections))
+    answers_by : Option UnitRecord → FirstAnswers
     answers_by o = elim o [ None ↦ answers_in vs | Some x ↦ set (answers_in vs) n (decided_answer d x (answer_of (answers_in vs) n) given) ]
 
 -- where references lead is the same by equal lists of units and equal supplementary files

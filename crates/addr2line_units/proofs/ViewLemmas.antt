@@ -13,13 +13,14 @@ use Rattle.gimli.specs.Header.{UnitHeaderFields}
 use Rattle.gimli.specs.Unit.{UnitRecord, attr_string_of, unit_record_of}
 use Rattle.gimli.specs.UnitMemory.{unit_takes_memory}
 use Rattle.gimli.specs.UnitsLeft.{all_headers}
+use Rattle.addr2line_lines.specs.FileTexts.{optional_string}
 use Rattle.addr2line_lines.specs.References.{IsScope, Scope}
-use Rattle.addr2line_units.specs.declared.view.Answer.{Answer}
+use Rattle.addr2line_units.specs.declared.view.AnsweredLoad.{AnsweredLoad}
 use Rattle.addr2line_units.specs.declared.view.UnitView.{UnitView}
 use Rattle.addr2line_units.specs.declared.view.ViewState.{ViewState}
 use Rattle.addr2line_units.specs.declared.view.ViewState.TheVariants as states
 use Rattle.addr2line_units.specs.CachedViews.{IsViewOf, answer_in, scope_by, seen_first_answer, seen_sections, split_file_by, split_file_in, split_unit, verdict_in, view_by, waits}
-use Rattle.addr2line_units.specs.Views.{SplitLoad, View, answered_view, first_of, first_takes_memory, first_unit, first_unit_takes_memory, first_view, load_by, load_of_unit, main_view, split_name_of, string_if, verdict, verdict_by, view_scope}
+use Rattle.addr2line_units.specs.Views.{SplitLoad, View, answered_view, first_of, first_takes_memory, first_unit, first_unit_takes_memory, first_view, load_by, load_of_unit, main_view, split_name_of, verdict, verdict_by, view_scope}
 
 decided_by : (d : Sections) (u : UnitRecord) (load : Result (Option SplitLoad) Error) (r : Result View Error) (answer : Option (Option Sections)) → verdict_by d u load None ≡ Some r → verdict_by d u load answer ≡ Some r
 decided_by d u (Err e) r answer h = h
@@ -75,7 +76,7 @@ name_fault d u = by_value (dwo_name_of u)
     by_string (Ok s) = refl
     by_string (Err e) = refl
 
-    by_value : (r : Result (Option (AttributeValue Section)) Error) → ((r >>= string_if d u) >>= λ _. Ok tt) ≡ (r >>= string_fault_if d u)
+    by_value : (r : Result (Option (AttributeValue Section)) Error) → ((r >>= optional_string d u) >>= λ _. Ok tt) ≡ (r >>= string_fault_if d u)
     by_value (Err e) = refl
     by_value (Ok None) = refl
     by_value (Ok (Some value)) = by_string (attr_string_of d u value)
@@ -136,7 +137,7 @@ module _ (shares : Bool) (d : Sections) where
   first_faulty header rest f e h = ap (first_of d) e ∙ ap (λ r. r >>= λ (u : UnitRecord). Ok (Some u)) h
 
 -- an answer with its split unit is the view of a unit that was open
-pub answered_is_right : {R : Type 0} (d : Sections) (u : UnitRecord) (a : Answer R) → verdict d u None ≡ None → a.unit ≡ split_unit u (seen_sections a) → IsViewOf {R = R} d u (record { state = states.Answered a })
+pub answered_is_right : {R : Type 0} (d : Sections) (u : UnitRecord) (a : AnsweredLoad R) → verdict d u None ≡ None → a.unit ≡ split_unit u (seen_sections a) → IsViewOf {R = R} d u (record { state = states.Answered a })
 answered_is_right d u a waiting h = record {
   right = ap Some (ap (λ r. r >>= λ x. Ok (view_by d u (seen_sections a) x)) h ∙ view_by_split_unit d u (seen_sections a)) ∙ sym (verdict_of_open d u (seen_sections a) waiting);
   waited = λ _. ap is_none waiting;

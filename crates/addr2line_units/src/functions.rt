@@ -8,7 +8,7 @@ ghost use Rattle.addr2line_lines.specs.FunctionDetails.{AreUnread, HasDetail, Is
 ghost use Rattle.addr2line_lines.specs.Functions.{functions_of, functions_take_memory};
 ghost use Rattle.addr2line_lines.specs.References.{IsScope};
 ghost use Rattle.addr2line_lines.specs.SeenScope.{seen_scope};
-ghost use Rattle.addr2line_units.specs.declared.parses.Reads.TheVariants as kinds;
+ghost use Rattle.addr2line_units.specs.declared.parses.ReadingDepth.TheVariants as kinds;
 ghost use Rattle.addr2line_units.specs.Frames.{function_at};
 ghost use Rattle.addr2line_units.specs.FunctionParses.{IsReadyFor};
 ghost use Rattle.addr2line_units.specs.CachedFunctions.{AreFunctionsOf, ArePlacesIn, IsTableOf, ReadsNoOther, StayFunctions, table_has_many, find_takes_memory, function_of_place, functions_fault, cached_has_function, has_table, cached_functions, reading_takes_memory, table_takes_memory, were_read};
@@ -174,7 +174,8 @@ impl<R: Reader> LazyFunctions<R> {
 
     // Reads the functions of a view and all their details, in the order of their entries, up to the
     // first fault; what was read is cached, the fault too. May fail with `OutOfMemory` instead,
-    // only where memory is taken for functions that are not cached, or for a detail before any fault.
+    // only where memory is taken for functions that are not cached, or for a detail before any
+    // fault.
     // Takes no memory, and changes nothing, where all is cached up to the first fault.
     pub(crate) fn read_all(
         &mut self,

@@ -56,7 +56,7 @@ impl<R: Reader> Model for SplitDwarfLoad<R> {
 // The first answer to the load of a unit, and the split unit that it gives: none where it has no
 // sections, or these no unit; or the fault of that.
 #[derive(Drop)]
-struct Answer<R: Reader> {
+struct AnsweredLoad<R: Reader> {
     sections: Option<Rc<Dwarf<R>>>,
     unit: Result<Option<Unit<R>>, Error>,
 }
@@ -72,7 +72,7 @@ enum ViewState<R: Reader> {
     Main,
     // The fault of the split file's name.
     Unnamed(Error),
-    Answered(Answer<R>),
+    Answered(AnsweredLoad<R>),
 }
 
 // A unit's view.
@@ -181,7 +181,7 @@ fn first_state<R: Reader>(dwarf: &Dwarf<R>, unit: &Unit<R>) -> ViewState<R>
     }
 }
 
-impl<R: Reader> Answer<R> {
+impl<R: Reader> AnsweredLoad<R> {
     // The sections that the answer has, where they have a unit.
     fn split_file(&self) -> Option<&Dwarf<R>>
         ensures gives { option_map (λ d. d.now) result
@@ -303,7 +303,7 @@ impl<R: Reader> UnitView<R> {
             Err(Error::OutOfMemory) => return Err(Error::OutOfMemory),
             Err(error) => Err(error),
         };
-        self.state = ViewState::Answered(Answer { sections, unit });
+        self.state = ViewState::Answered(AnsweredLoad { sections, unit });
         Ok(())
     }
 

@@ -6,8 +6,8 @@ use Rattle.addr2line.proofs.AnsweredLemmas.{after_answer, fewer_after, some_seen
 use Rattle.addr2line.proofs.LookupLemmas.{entries_in_scope}
 use Rattle.addr2line.proofs.context.Context.answer.Goals as goal
 
-pub answer-requires-clause-kept : goal.answer-requires-clause-kept
-answer-requires-clause-kept g c =
+pub answer-requires-clause-right : goal.answer-requires-clause-right
+answer-requires-clause-right g c =
     let s = c.self.inside in
     rw c.deref.ensures (entries_in_scope s.dwarf.value s.units.dw_units.items s.units.units.items s.units.entries.items s.units.ranges s.sup_units c.self.invariant)
 
@@ -21,7 +21,7 @@ pub invariant_of-self : goal.invariant_of-self
 invariant_of-self g c =
     let s = c.self.inside in
     let e = rw c.deref.ensures at c.answer.ensures in
-    still_answered s.dwarf.value s.units.dw_units.items s.units.units.items s.units.entries.items s.units.ranges s.sup_units c.self.invariant _ e.dw_units _ e.units _ e.kept _ e.ranges
+    still_answered s.dwarf.value s.units.dw_units.items s.units.units.items s.units.entries.items s.units.ranges s.sup_units c.self.invariant _ e.dw_units _ e.units _ e.right _ e.ranges
 
 pub returns-clause-after : goal.returns-clause-after
 returns-clause-after g c =

@@ -10,7 +10,7 @@ use Rattle.addr2line_lines.specs.References.{Scope}
 use Rattle.addr2line_lines.specs.SeenScope.{seen_scope}
 use Rattle.addr2line_units.specs.declared.functions.LazyFunctions.{LazyFunctions}
 use Rattle.addr2line_units.specs.declared.functions.LazyFunctions.TheVariants as lazy
-use Rattle.addr2line_units.specs.declared.parses.Reads.TheVariants as reads
+use Rattle.addr2line_units.specs.declared.parses.ReadingDepth.TheVariants as reads
 use Rattle.addr2line_units.specs.CachedFunctions.{AreFunctionsOf, functions_fault, reading_takes_memory, were_read}
 use Rattle.addr2line_units.proofs.CachedFunctionLemmas.{all_ready, exactly_weaker, fault_is, on_ok, reading_before, stay_faulty, stay_read, table_more}
 use Rattle.addr2line_units.proofs.ReadyLemmas.{fault_of_functions, not_oom, ready_fault, ready_same, ready_then, ready_were_read}

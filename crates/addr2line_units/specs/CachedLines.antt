@@ -2,6 +2,7 @@
 -- Own: lines are read when they are first asked for, and cached then, their fault too. OutOfMemory
 -- is never cached.
 use Rattle.std.specs.Prelude.{◌≡◌, ◌≢◌, ℕ, Bool, true, false, not, List, [], ◌∷◌, map, Option, Some, None, is_some, slice_get, Result, Ok, Err}
+use Rattle.std.specs.List.{AllZip}
 use Rattle.gimli_read.specs.declared.error.Error.{Error}
 use Rattle.gimli_read.specs.declared.error.Error.TheVariants.{OutOfMemory}
 use Rattle.gimli_read.specs.declared.range.Range.{Range}
@@ -110,9 +111,7 @@ parsed_units units = map is_parsed units
 
 -- beside each unit stand cached lines, which are its own
 abbrev pub HaveLinesOf : Sections → List UnitRecord → List ResUnit → Type 0
-HaveLinesOf d [] [] = Unit {0}
-HaveLinesOf d (x ∷ dw_units) (u ∷ units) = AreLinesOf d x u.lines × HaveLinesOf d dw_units units
-HaveLinesOf d _ _ = ⊥
+HaveLinesOf d dw_units units = AllZip (λ x u. AreLinesOf d x u.lines) dw_units units
 
 -- the lines of a unit, as they are cached
 abbrev pub lines_in_cache : Option ResUnit → LazyLines
@@ -130,9 +129,7 @@ pub record StaysUnit (old new : ResUnit) : Type 0 where
 
 -- the same of each unit
 abbrev pub StayUnits : List ResUnit → List ResUnit → Type 0
-StayUnits [] [] = Unit {0}
-StayUnits (u ∷ us) (v ∷ vs) = StaysUnit u v × StayUnits us vs
-StayUnits _ _ = ⊥
+StayUnits old new = AllZip StaysUnit old new
 
 -- whether the lines of a unit can be read, none where there is no such unit
 abbrev pub lines_result_at : Sections → Option IndexedUnit → Result (Unit {0}) Error

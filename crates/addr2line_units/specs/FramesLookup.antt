@@ -1,7 +1,7 @@
 -- Lookups of frames along the ranges that hold an address (DWARF 5, sections 2.17 and 3.3).
 -- Own: the units are asked one after another: the first that waits for an answer, that has a fault,
 -- or that has frames ends the lookup. A lookup of a unit passes over each unit with a fault.
-use Rattle.std.specs.Prelude.{◌≡◌, ◌⊎◌, ℕ, Bool, true, false, ◌&&◌, ◌||◌, List, [], ◌∷◌, set, slice_get, Option, Some, None, option_and_then, option_map, unwrap_or, Result, Ok, Err}
+use Rattle.std.specs.Prelude.{ℕ, Bool, true, false, List, [], ◌∷◌, set, slice_get, Option, Some, None, option_and_then, option_map, unwrap_or, Result, Ok, Err}
 use Rattle.gimli_read.specs.declared.error.Error.{Error}
 use Rattle.gimli_read.specs.Reading.{◌>>=◌}
 use Rattle.gimli.specs.Sections.{Sections}
@@ -10,6 +10,7 @@ use Rattle.addr2line_lines.specs.References.{Scope}
 use Rattle.addr2line_units.specs.declared.index.UnitRange.{UnitRange}
 use Rattle.addr2line_units.specs.declared.frames_lookup.Faults.{Faults}
 use Rattle.addr2line_units.specs.declared.frames_lookup.Faults.TheVariants.{End, PassOver}
+use Rattle.addr2line_units.specs.Cover.{ComesTo, holds_until}
 use Rattle.addr2line_units.specs.Frames.{FrameRecord}
 use Rattle.addr2line_units.specs.UnitFrames.{FramesResult, asks_lines_in, frames_in, has_many}
 use Rattle.addr2line_units.specs.UnitIndex.{UnitIndex, sup_sections}
@@ -99,19 +100,12 @@ ends_lookup (Ok None) = true
 ends_lookup (Err e) = true
 
 -- whether this is so of each unit along ranges, up to the one that ends the lookup
-abbrev pub holds_along : (ℕ → Bool) → (ℕ → FramesResult)
-    → List UnitRange → Bool
-holds_along holds frames [] = true
-holds_along holds frames (r ∷ ranges) =
-    holds r.unit && (ends_lookup (frames r.unit) || holds_along holds frames ranges)
+abbrev pub holds_along : (ℕ → Bool) → (ℕ → FramesResult) → List UnitRange → Bool
+holds_along holds frames ranges = holds_until (λ n. ends_lookup (frames n)) holds ranges
 
 -- a lookup asks a unit: a range leads to it, and no unit before it ends the lookup
-abbrev pub LookupAsks : (ℕ → FramesResult) → List UnitRange → ℕ
-    → Type 0
-LookupAsks frames [] n = ⊥
-LookupAsks frames (r ∷ ranges) n =
-    (n ≡ r.unit)
-    ⊎ ((ends_lookup (frames r.unit) ≡ false) × LookupAsks frames ranges n)
+abbrev pub LookupAsks : (ℕ → FramesResult) → List UnitRange → ℕ → Type 0
+LookupAsks frames ranges n = ComesTo (λ m. ends_lookup (frames m)) ranges n
 
 -- whether the lines of the unit of a number are asked for, if the unit is asked
 abbrev pub asks_lines_of : Scope → List IndexedUnit → FirstAnswers → ℕ → ℕ → Bool

@@ -256,3 +256,13 @@ loop-range-preserved g c =
           (λ n q. (subst (LookupAsks frames all) (sym q.0) asked, q.1));
       raised = omega (arith, i.raised, found.ensures.raised);
     }
+
+pub returns-clause-ready : goal.returns-clause-ready
+returns-clause-ready g c _ =
+    let S = seen_scope c.args.scope in
+    let units = indexed_units c.args.scope.file.units.now c.args.units.now.items in
+    let answers = answers_in c.args.entries.now.items in
+    let frames = asked_frames c.args.faults S units answers c.args.probe in
+    let asks = asks_lines_of S units answers c.args.probe in
+    let known = has_frames_at asks c.args.probe (parsed_units c.loop-range.units.items) c.loop-range.entries.items in
+    c.loop-range.invariant.more known (λ n e. e) (subst (λ xs. holds_along known frames xs ≡ true) (sym c.in_default.ensures.steps.0) refl)

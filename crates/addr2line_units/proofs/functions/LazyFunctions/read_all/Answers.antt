@@ -96,5 +96,5 @@ returns-in_err-cache-clause-gives g c =
     let p = err_from_is_err_and c.from_residual.result c.from_residual.ensures.1 in
     let scope = seen_scope c.args.scope in
     let view = c.args.view.now in
-    rw (p.1, p.2) (λ may. sym (fault_of_functions scope view _
-    (unread_takes g.R.Reader.shares scope view c.args.self.now _ (λ read. let no = (c.in_err-cache.ensures.kept read).1 in cc) c.in_err-cache.ensures.refused.0 c.in_err-cache.ensures.memory may)))
+    rw (p.1, p.2) (λ may. fault_of_functions scope view _
+    (unread_takes g.R.Reader.shares scope view c.args.self.now _ (λ read. let no = (c.in_err-cache.ensures.kept read).1 in cc) c.in_err-cache.ensures.refused.0 c.in_err-cache.ensures.memory may))

@@ -19,7 +19,8 @@ use Rattle.addr2line.specs.declared.stops.UnitStop.TheVariants as units
 use Rattle.addr2line.specs.Context.{ContextState}
 use Rattle.addr2line.specs.UnitStops.{stop_at_unit, unit_stop}
 use Rattle.addr2line.specs.AfterLookups.{AfterFrames}
-use Rattle.addr2line.specs.Lookups.{FirstAnswers, lookup_stop}
+use Rattle.addr2line.specs.Lookups.{lookup_stop}
+use Rattle.addr2line_units.specs.Views.{FirstAnswers}
 
 module _ (faults : Faults) (probe : ℕ) (old mid new : ContextState) where
   -- the second step asks for what the first one did

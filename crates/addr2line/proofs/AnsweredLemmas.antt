@@ -3,7 +3,7 @@
 use Rattle.std.proofs.Common.{◌≡◌, ◌≢◌, ℕ, zero, suc, ◌<◌, arith, Bool, true, false, List, [], ◌∷◌, length, slice_get, Option, Some, None, Result, Ok, Err, refl, sym, ap, subst, ◌∙◌}
 use Rattle.std.proofs.lemmas.Bool.{eqb-true}
 use Rattle.std.proofs.lemmas.List.{length-map}
-use Rattle.std.specs.Prelude.{IfErr, OnOk}
+use Rattle.std.specs.Prelude.{IfErr, OnOk, is_some, option_map}
 use Rattle.gimli_read.specs.declared.error.Error.{Error}
 use Rattle.gimli_read.specs.declared.error.Error.TheVariants.{OutOfMemory}
 use Rattle.gimli_read.specs.Reading.{◌>>=◌}
@@ -17,14 +17,14 @@ use Rattle.addr2line_units.specs.declared.unit_frames.UnitEntries.{UnitEntries}
 use Rattle.addr2line_units.specs.CachedLines.{parsed_units}
 use Rattle.addr2line_units.specs.Cover.{cover}
 use Rattle.addr2line_units.specs.FramesLookup.{Stop, Waits, Finds, FindsNothing, answer_of, main_scope, with_answer}
-use Rattle.addr2line_units.specs.CachedUnits.{HaveEntriesOf, StayAllEntries, answers_in, scope_in}
+use Rattle.addr2line_units.specs.CachedUnits.{HaveEntriesOf, StayAllEntries, answers_in}
 use Rattle.addr2line_units.specs.KnownEntries.{known_in}
 use Rattle.addr2line_units.specs.LoadLaws.{IsListed}
 use Rattle.addr2line_units.specs.LoadLaws as laws
 use Rattle.addr2line_units.specs.Loads.{is_open_at, load_of_number, loads_along}
 use Rattle.addr2line_units.specs.UnitIndex.{UnitIndex}
 use Rattle.addr2line_units.specs.RangedUnits.{IndexedUnit, unit_records}
-use Rattle.addr2line_units.specs.Views.{is_open}
+use Rattle.addr2line_units.specs.Views.{FirstAnswers, is_open}
 use Rattle.addr2line_units.proofs.CachedUnitLemmas.{as_many_entries}
 use Rattle.addr2line_units.proofs.KnownLemmas.{known_unchanged}
 use Rattle.addr2line_units.proofs.LoadLawLemmas.{fewer_left, waits_listed}
@@ -35,8 +35,9 @@ use Rattle.addr2line.proofs.LookupLemmas.{as_many_lines, scope_is}
 use Rattle.addr2line.proofs.StayLemmas.{stays_known}
 use Rattle.addr2line.specs.Answers.{AfterAnswer, answered}
 use Rattle.addr2line.specs.Context.{IsContext, index_by}
-use Rattle.addr2line.specs.Lookups.{FirstAnswers, IsUnitOf, loads_at, lookup_stop, stop_in, waits_for}
+use Rattle.addr2line.specs.Lookups.{IsUnitOf, loads_at, lookup_stop, stop_in, waits_for}
 use Rattle.addr2line.specs.AfterLookups.{StaysKnown}
+use Rattle.addr2line_units.specs.SeenUnit.{scope_in}
 
 -- a lookup that waits for the unit of a number
 pub waits_is : (n : ℕ) (r : Result Stop Error) → waits_for n r ≡ true → r ≡ Ok (Waits n)
@@ -63,6 +64,11 @@ unit_waited_for faults d answers probe n w m e =
     let open_is = (waits_listed faults (main_scope d m) m.units answers probe n (cover probe m.ranges) stop).0 in
     let k = open_within d (unit_records m.units) answers n open_is in
     subst (λ l. n < l) (length-map m.units (λ (u : IndexedUnit). u.unit)) k
+
+-- what stands for something is something
+pub some_seen : {A B : Type 0} (see : A → B) (o : Option A) → is_some o ≡ true → is_some (option_map see o) ≡ true
+some_seen see None e = absurd cc
+some_seen see (Some x) e = refl
 
 module _ {R : Type 0} (d : Sections) (us : List UnitRecord) (old : List ResUnit) (held : List (UnitEntries R)) (ranges : List UnitRange) (sup : SupUnits R) (i : IsContext d us old held ranges sup.units.items sup.dwarf) where
   abbrev made : UnitIndex
@@ -103,10 +109,10 @@ module _ {R : Type 0} (d : Sections) (us : List UnitRecord) (old : List ResUnit)
       }
 
   module _ (new : List ResUnit) (same : new ≡ old) (entries : List (UnitEntries R)) (n looks : ℕ) (given : Option Sections) (result : Result (Unit {0}) Error) where
-    pub after_answer : OnOk result (answers_in entries ≡ with_answer d us (answers_in held) n given) → IfErr result (λ e. (e ≡ OutOfMemory) × (answers_in entries ≡ answers_in held) × StayAllEntries held entries)
+    pub after_answer : {P : Type 0} → (P → is_some given ≡ true) → OnOk result (answers_in entries ≡ with_answer d us (answers_in held) n given) → IfErr result (λ e. (e ≡ OutOfMemory) × (answers_in entries ≡ answers_in held) × StayAllEntries held entries × P)
         → ((k : ℕ) → k ≢ n → slice_get entries k ≡ slice_get held k)
         → AfterAnswer n given result (record { sections = d; answers = answers_in held; parsed = parsed_units old; known = known_in held; looks = looks }) (record { sections = d; answers = answers_in entries; parsed = parsed_units new; known = known_in entries; looks = looks })
-    after_answer answers refused others = record {
+    after_answer {P = P} wants answers refused others = record {
       sections = refl;
       parsed = ap parsed_units same;
       looks = refl;
@@ -119,10 +125,10 @@ module _ {R : Type 0} (d : Sections) (us : List UnitRecord) (old : List ResUnit)
         of_ok (Ok x) h = h ∙ sym (answers_are n given)
         of_ok (Err e) h = tt
 
-        of_err : (r : Result (Unit {0}) Error) → IfErr r (λ e. (e ≡ OutOfMemory) × (answers_in entries ≡ answers_in held) × StayAllEntries held entries)
-            → IfErr r (λ e. (e ≡ OutOfMemory) × (answers_in entries ≡ answers_in held) × StaysKnown (known_in held) (known_in entries))
+        of_err : (r : Result (Unit {0}) Error) → IfErr r (λ e. (e ≡ OutOfMemory) × (answers_in entries ≡ answers_in held) × StayAllEntries held entries × P)
+            → IfErr r (λ e. (e ≡ OutOfMemory) × (answers_in entries ≡ answers_in held) × StaysKnown (known_in held) (known_in entries) × (is_some given ≡ true))
         of_err (Ok x) h = tt
-        of_err (Err e) h = (h.0, h.1, stays_known held entries h.2)
+        of_err (Err e) h = (h.0, h.1, stays_known held entries h.2, wants h.3)
 
     -- fewer loads are left after an answer to one that a lookup waits for
     pub fewer_after : OnOk result (answers_in entries ≡ with_answer d us (answers_in held) n given) → (faults : Faults) (probe : ℕ) → waits_for n (lookup_stop faults d (answers_in held) probe) ≡ true

@@ -18,7 +18,7 @@ use Rattle.addr2line_units.specs.Parsed.{ParsesOnly, has_parsed}
 use Rattle.addr2line_units.specs.UnitFrames.{FramesResult, asks_lines_in, function_in}
 use Rattle.addr2line_units.specs.UnitIndex.{UnitIndex, index_units}
 use Rattle.addr2line_units.specs.RangedUnits.{IndexedUnit, unit_records}
-use Rattle.addr2line_units.specs.Views.{SplitLoad, is_open}
+use Rattle.addr2line_units.specs.Views.{FirstAnswers, SplitLoad, is_open}
 use Rattle.addr2line_units.proofs.FramesLookupLemmas.{parses_more}
 use Rattle.addr2line_units.proofs.WaitLemmas.{same_number}
 use Rattle.addr2line.proofs.FilesLookupLemmas.{Awaits, awaits_in, other_now, same_asked}
@@ -26,7 +26,7 @@ use Rattle.addr2line.specs.Answers.{AfterAnswer, answered}
 use Rattle.addr2line.specs.Context.{ContextState}
 use Rattle.addr2line.specs.LoadsByFiles.{ReadsAsked}
 use Rattle.addr2line.specs.AfterLookups.{AfterFrames}
-use Rattle.addr2line.specs.Lookups.{FirstAnswers, IsLoadOf, asked_of, lookup_stop, stop_in}
+use Rattle.addr2line.specs.Lookups.{IsLoadOf, asked_of, lookup_stop, stop_in}
 
 -- what ends no lookup is no unit that waits
 never_waits : (x : FramesResult) → ends_lookup x ≡ false → x ≢ Ok None

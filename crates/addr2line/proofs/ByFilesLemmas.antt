@@ -16,7 +16,7 @@ use Rattle.addr2line_units.specs.Frames.{FrameRecord}
 use Rattle.addr2line_units.specs.FramesLookup.{Stop, Waits, Finds, FindsNothing, answer_of, is_waiting}
 use Rattle.gimli_read.specs.Alike.{HadMemory}
 use Rattle.addr2line_units.specs.Parsed.{has_parsed}
-use Rattle.addr2line_units.specs.Views.{SplitLoad}
+use Rattle.addr2line_units.specs.Views.{FirstAnswers, SplitLoad}
 use Rattle.addr2line.specs.declared.stops.UnitStop.TheVariants as units
 use Rattle.addr2line.specs.Answers.{AfterAnswer, answered}
 use Rattle.addr2line.specs.Context.{ContextState}
@@ -27,7 +27,7 @@ use Rattle.addr2line.specs.UnitStops.{stop_at_unit, unit_stop}
 use Rattle.addr2line.specs.Loader.{AfterLoads, LoaderState}
 use Rattle.addr2line.specs.LoadsByFiles.{AfterAnswers, AnswersInTurn, AnswersOne, IsFaultByFiles, ReadsAsked, StayAnswered, WaitsForNone}
 use Rattle.addr2line.specs.AfterLookups.{AfterFrames, IsKnownFew}
-use Rattle.addr2line.specs.Lookups.{FirstAnswers, IsLoadOf, frames_of, frames_told, loads_at, lookup_stop}
+use Rattle.addr2line.specs.Lookups.{IsLoadOf, frames_of, frames_told, loads_at, lookup_stop}
 use Rattle.addr2line.specs.SplitFiles.{given_by_files}
 use Rattle.addr2line.proofs.AskedLemmas.{reads_more, reads_nothing}
 use Rattle.addr2line.proofs.FilesLookupLemmas.{answer_changes, first_answers_stay, frames_ended, frames_stay, refused_frames, stop_stays}

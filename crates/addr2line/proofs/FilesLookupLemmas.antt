@@ -21,7 +21,7 @@ use Rattle.addr2line_units.specs.FramesLookup.{Stop, Waits, after_fault, answer_
 use Rattle.addr2line_units.specs.UnitFrames.{FramesResult, frames_in}
 use Rattle.addr2line_units.specs.UnitIndex.{UnitIndex, index_units}
 use Rattle.addr2line_units.specs.RangedUnits.{IndexedUnit, unit_records}
-use Rattle.addr2line_units.specs.Views.{SplitLoad, awaited_by, awaited_load, decided_answer, is_open, load_of_unit, verdict_by}
+use Rattle.addr2line_units.specs.Views.{FirstAnswers, SplitLoad, awaited_by, awaited_load, decided_answer, is_open, load_of_unit, verdict_by}
 use Rattle.addr2line_units.proofs.AnswerLemmas.{decided_if_open, no_answer, others_stay}
 use Rattle.addr2line_units.proofs.LoadLawLemmas.{waits_listed}
 use Rattle.addr2line_units.proofs.LoadLemmas.{open_awaits}
@@ -30,7 +30,7 @@ use Rattle.addr2line.proofs.SkipLemmas.{decided_stop_along}
 use Rattle.addr2line.specs.Answers.{answered}
 use Rattle.addr2line.specs.FramesByFiles.{GivesAnswers, answer_by, first_frames, frames_by_answers, frames_in_units, frames_of_unit, frames_or_fault, frames_with, or_rest, stop_frames}
 use Rattle.addr2line.specs.LoadsByFiles.{StayAnswered}
-use Rattle.addr2line.specs.Lookups.{FirstAnswers, IsLoadOf, loads_at, lookup_stop, stop_in}
+use Rattle.addr2line.specs.Lookups.{IsLoadOf, loads_at, lookup_stop, stop_in}
 use Rattle.addr2line.specs.SplitFiles.{of_file}
 
 none_if_open : (scope : Scope) (u : IndexedUnit) (answer : Option (Option Sections)) (probe : ℕ) → is_open scope.file.sections u.unit answer ≡ true → frames_in scope u answer probe ≡ Ok None

@@ -16,12 +16,12 @@ use Rattle.addr2line_units.specs.LoadLaws as laws
 use Rattle.addr2line_units.specs.Loads.{is_of_other, load_of_number, loads_along}
 use Rattle.addr2line_units.specs.UnitIndex.{UnitIndex, index_units}
 use Rattle.addr2line_units.specs.RangedUnits.{IndexedUnit, unit_records}
-use Rattle.addr2line_units.specs.Views.{SplitLoad, decided_answer}
+use Rattle.addr2line_units.specs.Views.{FirstAnswers, SplitLoad, decided_answer}
 use Rattle.addr2line_units.proofs.LoadLawLemmas.{others_left, waits_listed}
 use Rattle.addr2line.specs.Answers.{answered}
 use Rattle.addr2line.specs.History.{Given, Gives, GivesUp, where_waiting}
 use Rattle.addr2line.specs.HistoryLaws.{AreDistinct, WaitsForEachOnce, waited_for}
-use Rattle.addr2line.specs.Lookups.{FirstAnswers, loads_at, lookup_stop, stop_in}
+use Rattle.addr2line.specs.Lookups.{loads_at, lookup_stop, stop_in}
 
 -- what is listed among the loads of other units
 listed_other : (n k : ℕ) (loads : List SplitLoad) → IsListed k (filter (is_of_other n) loads) → (k ≢ n) × IsListed k loads

@@ -11,7 +11,8 @@ use Rattle.addr2line_units.specs.Parsed.{StaysParsed, has_parsed}
 use Rattle.addr2line.specs.Answers.{AfterResume, answered}
 use Rattle.addr2line.specs.Context.{ContextState}
 use Rattle.addr2line.specs.History.{Given, Gives, GivesUp, answers_given, where_waiting}
-use Rattle.addr2line.specs.Lookups.{FirstAnswers, lookup_stop}
+use Rattle.addr2line.specs.Lookups.{lookup_stop}
+use Rattle.addr2line_units.specs.Views.{FirstAnswers}
 
 -- where a lookup waits it goes on
 where_waits : {X : Type 0} (f : ℕ → X) (x : X) (s : Result Stop Error) (n : ℕ) → s ≡ Ok (Waits n) → where_waiting f x s ≡ f n

@@ -8,8 +8,8 @@ use Rattle.gimli.specs.Sections.{Sections}
 use Rattle.gimli.specs.Unit.{UnitRecord}
 use Rattle.addr2line_units.specs.declared.frames_lookup.Faults.{Faults}
 use Rattle.addr2line_units.specs.declared.index.UnitRange.{UnitRange}
-use Rattle.addr2line_units.specs.declared.parses.Reads.{Reads}
-use Rattle.addr2line_units.specs.declared.parses.Reads.TheVariants as kinds
+use Rattle.addr2line_units.specs.declared.parses.ReadingDepth.{ReadingDepth}
+use Rattle.addr2line_units.specs.declared.parses.ReadingDepth.TheVariants as kinds
 use Rattle.addr2line_units.specs.declared.sup.SupUnits.{SupUnits}
 use Rattle.addr2line_units.specs.declared.unit.ResUnit.{ResUnit}
 use Rattle.addr2line_units.specs.declared.unit_frames.UnitEntries.{UnitEntries}
@@ -19,7 +19,7 @@ use Rattle.addr2line_units.specs.FramesLookup.{answer_of, asked_frames, main_sco
 use Rattle.addr2line_units.specs.FunctionParseLaws.{IsReached}
 use Rattle.addr2line_units.specs.FunctionParses.{AreFirstDecided, AreReadBefore, AreReadyFor, IsReadyFor, answers_after_parse, read_of_units}
 use Rattle.addr2line_units.specs.CachedEntries.{has_entries}
-use Rattle.addr2line_units.specs.CachedUnits.{StayAllEntries, answers_in, decided_at, has_entries_at, scope_in}
+use Rattle.addr2line_units.specs.CachedUnits.{StayAllEntries, answers_in, decided_at, has_entries_at}
 use Rattle.addr2line_units.specs.CachedParses.{ChangesOnly, HaveRead, StayDecided}
 use Rattle.addr2line_units.specs.KnownEntries.{known_in, knows_at}
 use Rattle.addr2line_units.specs.Loads.{NoneOpen, forget_result, forgotten, is_open_at, load_of_number, load_result, loads_along}
@@ -42,6 +42,7 @@ use Rattle.addr2line.specs.Context.{ContextState, IsContext, index_by}
 use Rattle.addr2line.specs.Loads.{AfterForget, AfterLoad, AfterParse, AfterPreload, IsAllKnown, IsNotOpen, IsReadyToRead, NoneOpenAt, ReachesAllOf, StaysRead, forget_reply, load_reply, parse_reply, parsed_answers}
 use Rattle.addr2line.specs.AfterLookups.{IsReadyAt, StaysKnown}
 use Rattle.addr2line.specs.Lookups.{loads_at, lookup_stop}
+use Rattle.addr2line_units.specs.SeenUnit.{scope_in}
 
 module _ {R : Type 0} (d : Sections) (us : List UnitRecord) (old : List ResUnit) (held : List (UnitEntries R)) (ranges : List UnitRange) (sup : SupUnits R) (i : IsContext d us old held ranges sup.units.items sup.dwarf) where
   abbrev made : UnitIndex
@@ -67,13 +68,13 @@ module _ {R : Type 0} (d : Sections) (us : List UnitRecord) (old : List ResUnit)
   pub none_open_are : (probe looks : ℕ) → NoneOpenAt (record { sections = d; answers = answers_in held; parsed = parsed_units old; known = known_in held; looks = looks }) probe → NoneOpen d us (answers_in held) (cover probe ranges)
   none_open_are probe looks h = subst (λ xs. NoneOpen d xs (answers_in held) (cover probe ranges)) same_units (h made i.made_is)
 
-  pub parse_is : (reads : Reads) → parse_reply reads d (answers_in held) ≡ read_of_units reads (scope_in d us sup) us (answers_in held)
+  pub parse_is : (reads : ReadingDepth) → parse_reply reads d (answers_in held) ≡ read_of_units reads (scope_in d us sup) us (answers_in held)
   parse_is reads =
       ap (λ r. r >>= λ (m : UnitIndex). read_of_units reads (main_scope d m) (unit_records m.units) (answers_in held)) i.made_is
       ∙ ap (λ xs. read_of_units reads (main_scope d made) xs (answers_in held)) same_units
       ∙ ap (λ s. read_of_units reads s us (answers_in held)) (sym (scope_is d us old held ranges sup i))
 
-  pub parsed_is : (reads : Reads) → parsed_answers reads d (answers_in held) ≡ answers_after_parse reads (scope_in d us sup) us (answers_in held)
+  pub parsed_is : (reads : ReadingDepth) → parsed_answers reads d (answers_in held) ≡ answers_after_parse reads (scope_in d us sup) us (answers_in held)
   parsed_is reads =
       ap (λ (r : Result UnitIndex Error). elim r [ Err e ↦ answers_in held | Ok m ↦ answers_after_parse reads (main_scope d m) (unit_records m.units) (answers_in held) ]) i.made_is
       ∙ ap (λ xs. answers_after_parse reads (main_scope d made) xs (answers_in held)) same_units
@@ -117,7 +118,7 @@ module _ {R : Type 0} (d : Sections) (us : List UnitRecord) (old : List ResUnit)
           | inr past ↦ none_asked probe entries k (subst (λ l. l ≤ k) many past)
         ]
 
-        shut_whole : (kind : Reads) (k : ℕ) → is_open_at d us (answers_in held) n ≡ false → (k ≡ n) ⊎ (k ≢ n) → IsReadyAt kind (known_in held) k → IsReadyAt kind (known_in entries) k
+        shut_whole : (kind : ReadingDepth) (k : ℕ) → is_open_at d us (answers_in held) n ≡ false → (k ≡ n) ⊎ (k ≢ n) → IsReadyAt kind (known_in held) k → IsReadyAt kind (known_in entries) k
         shut_whole kind k shut (inr ne) q = subst (λ o. IfSome o (IsReadyFor kind)) (sym (known_unchanged held entries k (others k ne))) q
         shut_whole kind k shut (inl e) q = elim (whole_is_decided kind (main_scope d made) us held k i.entries (subst (λ j. is_open_at d us (answers_in held) j ≡ false) (sym e) shut) q) [
           | inl decided ↦ subst (λ vs. IsReadyAt kind (known_in vs) k) (sym (same_decided (subst (λ j. decided_at held j ≡ true) e decided))) q
@@ -135,7 +136,7 @@ module _ {R : Type 0} (d : Sections) (us : List UnitRecord) (old : List ResUnit)
     pub after_preload : answers_in entries ≡ answers_in held → StayAllEntries held entries → AfterPreload before after
     after_preload answers stay = record { stays = stays_read; answers = answers; known = stays_known held entries stay }
 
-    pub after_parse : (reads : Reads) (result : Result (Unit {0}) Error) → (HadMemory result → answers_in entries ≡ answers_after_parse reads (scope_in d us sup) us (answers_in held)) → AreFirstDecided reads (scope_in d us sup) us (answers_in held) (answers_in entries)
+    pub after_parse : (reads : ReadingDepth) (result : Result (Unit {0}) Error) → (HadMemory result → answers_in entries ≡ answers_after_parse reads (scope_in d us sup) us (answers_in held)) → AreFirstDecided reads (scope_in d us sup) us (answers_in held) (answers_in entries)
         → StayDecided held entries → OnOk result (HaveRead reads entries) → (HaveRead reads held → result ≡ Ok tt)
         → ChangesOnly (AreReadBefore reads (scope_in d us sup) us (answers_in held)) held entries → (HadMemory result → AreReadyFor reads (scope_in d us sup) us (answers_in entries) (known_in entries))
         → (AreReadyFor reads (scope_in d us sup) us (answers_in held) (known_in held) → result ≡ read_of_units reads (scope_in d us sup) us (answers_in held))
@@ -147,7 +148,7 @@ module _ {R : Type 0} (d : Sections) (us : List UnitRecord) (old : List ResUnit)
           (subst (λ xs. AreFirstDecided reads (main_scope d made) xs (answers_in held) (answers_in entries)) (sym same_units) (subst (λ s. AreFirstDecided reads s us (answers_in held) (answers_in entries)) (scope_is d us old held ranges sup i) begun));
       known = λ m e. subst (λ x. (probe n : ℕ) → is_open_at d (unit_records x.units) (answers_in held) n ≡ false → knows_at (known_in held) probe n ≡ true → knows_at (known_in entries) probe n ≡ true) (ok_is _ _ (sym i.made_is ∙ e))
           (λ probe n shut k. known_is probe entries n ∙ decided_more (main_scope d made) probe us held entries n i.entries stay (subst (λ xs. is_open_at d xs (answers_in held) n ≡ false) same_units shut) (sym (known_is probe held n) ∙ k));
-      whole = λ m e. subst (λ x. (kind : Reads) (n : ℕ) → is_open_at d (unit_records x.units) (answers_in held) n ≡ false → IsReadyAt kind (known_in held) n → IsReadyAt kind (known_in entries) n) (ok_is _ _ (sym i.made_is ∙ e))
+      whole = λ m e. subst (λ x. (kind : ReadingDepth) (n : ℕ) → is_open_at d (unit_records x.units) (answers_in held) n ≡ false → IsReadyAt kind (known_in held) n → IsReadyAt kind (known_in entries) n) (ok_is _ _ (sym i.made_is ∙ e))
           (λ kind n shut k. whole_decided kind (main_scope d made) us held entries n i.entries stay (subst (λ xs. is_open_at d xs (answers_in held) n ≡ false) same_units shut) k);
       only = λ m e. subst (λ x. (n : ℕ) → (slice_get (known_in entries) n ≡ slice_get (known_in held) n) ⊎ AreReadBefore reads (main_scope d x) (unit_records x.units) (answers_in held) n) (ok_is _ _ (sym i.made_is ∙ e))
           (λ n. elim (only n) [
@@ -164,16 +165,16 @@ module _ {R : Type 0} (d : Sections) (us : List UnitRecord) (old : List ResUnit)
           ∙ ap (λ rs. record { sections = d; answers = answers_in held; parsed = parsed_units rs; known = known_in held; looks = looks }) same;
     }
       where
-        were_ready : (r : Reads) → IsReadyToRead r before → AreReadyFor r (scope_in d us sup) us (answers_in held) (known_in held)
+        were_ready : (r : ReadingDepth) → IsReadyToRead r before → AreReadyFor r (scope_in d us sup) us (answers_in held) (known_in held)
         were_ready r h =
             subst (λ s. AreReadyFor r s us (answers_in held) (known_in held)) (sym (scope_is d us old held ranges sup i))
             (subst (λ xs. AreReadyFor r (main_scope d made) xs (answers_in held) (known_in held)) same_units (h made i.made_is))
 
-    pub all_known : (reads : Reads) (result : Result (Unit {0}) Error) → (reads ≡ kinds.Details → OnOk result ((probe n : ℕ) → has_entries_at probe entries n ≡ true)) → reads ≡ kinds.Details → OnOk result (IsAllKnown after)
+    pub all_known : (reads : ReadingDepth) (result : Result (Unit {0}) Error) → (reads ≡ kinds.Details → OnOk result ((probe n : ℕ) → has_entries_at probe entries n ≡ true)) → reads ≡ kinds.Details → OnOk result (IsAllKnown after)
     all_known reads (Ok x) found e = λ probe n. known_is probe entries n ∙ found e probe n
     all_known reads (Err f) found e = tt
 
-    pub all_reached : (reads : Reads) (result : Result (Unit {0}) Error) → ExactlyUnlessOom (λ x. x) result (read_of_units reads (scope_in d us sup) us (answers_in held))
+    pub all_reached : (reads : ReadingDepth) (result : Result (Unit {0}) Error) → ExactlyUnlessOom (λ x. x) result (read_of_units reads (scope_in d us sup) us (answers_in held))
         → (HadMemory result → answers_in entries ≡ answers_after_parse reads (scope_in d us sup) us (answers_in held)) → reads ≡ kinds.Details → OnOk result (ReachesAllOf after)
     all_reached reads (Err f) gives answers e = tt
     all_reached reads (Ok x) gives answers e = λ lines faults probe.

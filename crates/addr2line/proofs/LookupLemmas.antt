@@ -20,14 +20,14 @@ use Rattle.addr2line_units.specs.CachedLines.{HaveLinesOf, StayUnits, indexed_un
 use Rattle.addr2line_units.specs.Cover.{cover}
 use Rattle.addr2line_units.specs.Frames.{FrameRecord}
 use Rattle.addr2line_units.specs.FramesLookup.{LookupAsks, Stop, Waits, Finds, FindsNothing, after_fault, asked_frames, asks_lines_of, ends_lookup, frames_found, frames_of_number, has_many_of, holds_along, is_waiting, main_scope, or_stop, readable_view, stop_along, view_of_number}
-use Rattle.addr2line_units.specs.CachedUnits.{HaveEntriesOf, HaveViewsOf, ReadsOnly, StayAllEntries, answers_in, decided_along, decided_at, scope_in, waits_at}
+use Rattle.addr2line_units.specs.CachedUnits.{HaveEntriesOf, HaveViewsOf, ReadsOnly, StayAllEntries, answers_in, decided_along, decided_at, waits_at}
 use Rattle.addr2line_units.specs.CachedFrames.{has_frames_at, seen_stop}
 use Rattle.addr2line_units.specs.KnownEntries.{known_in}
 use Rattle.gimli_read.specs.Alike.{HadMemory}
 use Rattle.addr2line_units.specs.Parsed.{ParsesOnly, has_parsed}
 use Rattle.addr2line_units.specs.UnitIndex.{UnitIndex, index_units, sup_sections}
 use Rattle.addr2line_units.specs.RangedUnits.{IndexedUnit, unit_records}
-use Rattle.addr2line_units.specs.Views.{SplitLoad, load_of_unit, parts_of}
+use Rattle.addr2line_units.specs.Views.{FirstAnswers, SplitLoad, load_of_unit, parts_of}
 use Rattle.addr2line_units.specs.UnitFrames.{FramesResult}
 use Rattle.addr2line_units.proofs.EndedLemmas.{ended_where_decided}
 use Rattle.addr2line_units.proofs.FoundLemmas.{known_where_found}
@@ -43,7 +43,8 @@ use Rattle.addr2line.specs.declared.stops.UnitStop.{UnitStop}
 use Rattle.addr2line.specs.declared.stops.UnitStop.TheVariants as units
 use Rattle.addr2line.specs.UnitStops.{cached_stop_at_unit, stop_at_unit, unit_stop}
 use Rattle.addr2line.specs.AfterLookups.{AfterFrames, IsKnown, IsKnownFew, has_all_of, has_few_of}
-use Rattle.addr2line.specs.Lookups.{FirstAnswers, IsLoadOf, frames_told, lookup_stop, stop_in, unit_of, unit_told}
+use Rattle.addr2line.specs.Lookups.{IsLoadOf, frames_told, lookup_stop, stop_in, unit_of, unit_told}
+use Rattle.addr2line_units.specs.SeenUnit.{scope_in}
 
 -- along ranges what is equal of each number
 pub holds_same : (h k : ℕ → Bool) (frames : ℕ → FramesResult) (ranges : List UnitRange) → ((n : ℕ) → h n ≡ k n) → holds_along h frames ranges ≡ holds_along k frames ranges
@@ -199,16 +200,16 @@ module _ {R : Type 0} where
       same = same_answers held entries stays
 
       module _ (faults : Faults) (probe : ℕ) where
-        abbrev asked_in : Scope → List (Option (Option Sections)) → ℕ → FramesResult
+        abbrev asked_in : Scope → FirstAnswers → ℕ → FramesResult
         asked_in s answers = asked_frames faults s (indexed_units us old) answers probe
 
-        abbrev asks_in : Scope → List (Option (Option Sections)) → ℕ → Bool
+        abbrev asks_in : Scope → FirstAnswers → ℕ → Bool
         asks_in s answers = asks_lines_of s (indexed_units us old) answers probe
 
-        abbrev has_in : Scope → List (Option (Option Sections)) → ℕ → Bool
+        abbrev has_in : Scope → FirstAnswers → ℕ → Bool
         has_in s answers = has_frames_at (asks_in s answers) probe (parsed_units new) entries
 
-        abbrev few_in : Scope → List (Option (Option Sections)) → ℕ → Bool
+        abbrev few_in : Scope → FirstAnswers → ℕ → Bool
         few_in s answers n = has_in s answers n && not (has_many_of s (indexed_units us old) answers probe n)
 
         all_is : (n : ℕ) → has_all_of after probe made n ≡ has_in (main_scope d made) (answers_in entries) n

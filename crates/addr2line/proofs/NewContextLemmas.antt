@@ -1,5 +1,5 @@
 -- What a context has when it is made (on specs/Context.antt).
-use Rattle.std.proofs.Common.{◌≡◌, ◌&&◌, ◌||◌, Bool, true, false, List, [], ◌∷◌, map, Option, None, Result, Ok, Err, refl, sym, ap, ◌∙◌}
+use Rattle.std.proofs.Common.{◌≡◌, ◌&&◌, ◌||◌, Bool, true, false, List, [], ◌∷◌, map, None, Result, Ok, Err, refl, sym, ap, ◌∙◌}
 use Rattle.std.specs.Prelude.{is_ok}
 use Rattle.gimli_read.specs.declared.error.Error.{Error}
 use Rattle.gimli_read.specs.Reading.{◌>>=◌}
@@ -17,17 +17,18 @@ use Rattle.addr2line_units.specs.RangedUnits.{IndexedUnit, indexed_of, unit_reco
 use Rattle.addr2line_units.proofs.KnownLemmas.{nothing_known}
 use Rattle.addr2line_units.proofs.ScopeLemmas.{no_answers, records_beside}
 use Rattle.addr2line.specs.Context.{ContextState, new_context}
+use Rattle.addr2line_units.specs.Views.{FirstAnswers}
 
 pub ok_is : {X : Type 0} (x y : X) → ◌≡◌ {A = Result X Error} (Ok x) (Ok y) → x ≡ y
 ok_is x y e = cc
 
 -- the first answers of units before any answer
-abbrev no_answers_of : {U : Type 0} → List U → List (Option (Option Sections))
+abbrev no_answers_of : {U : Type 0} → List U → FirstAnswers
 no_answers_of units = map (λ _. None) units
 
 no_more_answers : (units : List RangedUnit) → no_answers_of units ≡ no_answers_of (unit_records (map indexed_of units))
 no_more_answers [] = refl
-no_more_answers (u ∷ units) = ap (λ (xs : List (Option (Option Sections))). None ∷ xs) (no_more_answers units)
+no_more_answers (u ∷ units) = ap (λ (xs : FirstAnswers). None ∷ xs) (no_more_answers units)
 
 -- what is known of units before anybody asks
 abbrev nothing_known_of : {U : Type 0} → List U → List KnownEntries
@@ -43,7 +44,7 @@ pub context_made : {R : Type 0} (d : Sections) (us : List UnitRecord) (rs : List
     → new_context d ≡ Ok (record { sections = d; answers = answers_in vs; parsed = parsed_units rs; known = known_in vs; looks = 0 })
 context_made d us rs ranges vs sup e f own fresh = of_units (ranged_units d) e ∙ ap (λ xs. state xs (nothing_known_of (unit_records (indexed_units us rs))) (parsed_units rs)) (sym none) ∙ ap (λ xs. state (answers_in vs) xs (parsed_units rs)) (sym not_known)
   where
-    state : List (Option (Option Sections)) → List KnownEntries → List Bool → Result ContextState Error
+    state : FirstAnswers → List KnownEntries → List Bool → Result ContextState Error
     state answers known parsed = Ok (record { sections = d; answers = answers; parsed = parsed; known = known; looks = 0 })
 
     of_index : IndexState → Result ContextState Error

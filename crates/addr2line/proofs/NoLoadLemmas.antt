@@ -22,10 +22,11 @@ use Rattle.addr2line.specs.FramesByFiles.{ended_frames_of, stop_frames}
 use Rattle.addr2line.specs.UnitStops.{unit_stop}
 use Rattle.addr2line.specs.LoadsByFiles.{AfterAnswers, AnswersInTurn, WaitsForNone}
 use Rattle.addr2line.specs.AfterLookups.{AfterFrames, IsKnownFew, StaysKnown, has_few_of}
-use Rattle.addr2line.specs.Lookups.{FirstAnswers, asked_of, frames_of, lookup_stop, stop_in}
+use Rattle.addr2line.specs.Lookups.{asked_of, frames_of, lookup_stop, stop_in}
 use Rattle.addr2line.proofs.ByFilesLemmas.{failed_stop, failed_told, found_told, looked_memory, still_ended}
 use Rattle.addr2line.proofs.HistoryLemmas.{given_ended}
 use Rattle.addr2line.proofs.NewContextLemmas.{ok_is}
+use Rattle.addr2line_units.specs.Views.{FirstAnswers}
 
 more : (a b c x y : Bool) → (a ≡ true → x ≡ true) → (c ≡ true → y ≡ true) → (a && (b || c)) ≡ true → (x && (b || y)) ≡ true
 more true true c x y f g e = rw (f refl) refl

@@ -10,8 +10,8 @@ use Rattle.addr2line_lines.specs.References.{Scope}
 use Rattle.addr2line_units.specs.Loads.{is_open_at}
 use Rattle.addr2line_units.specs.declared.functions.LazyFunctions.{LazyFunctions}
 use Rattle.addr2line_units.specs.declared.functions.LazyFunctions.TheVariants as lazy
-use Rattle.addr2line_units.specs.declared.parses.Reads.{Reads}
-use Rattle.addr2line_units.specs.declared.parses.Reads.TheVariants as kinds
+use Rattle.addr2line_units.specs.declared.parses.ReadingDepth.{ReadingDepth}
+use Rattle.addr2line_units.specs.declared.parses.ReadingDepth.TheVariants as kinds
 use Rattle.addr2line_units.specs.declared.unit_frames.UnitEntries.{UnitEntries}
 use Rattle.addr2line_units.specs.declared.view.ViewState.{ViewState}
 use Rattle.addr2line_units.specs.declared.view.ViewState.TheVariants as states
@@ -27,22 +27,22 @@ use Rattle.addr2line_units.proofs.CachedUnitLemmas.{entries_more}
 use Rattle.addr2line_units.proofs.WaitLemmas.{known_was_looked_at}
 use Rattle.addr2line.specs.Loads.{IsReadBy}
 
-never_fault : (reads : Reads) (b : Bool) → IsReadBy reads (if b then AllKnown else NothingKnown) → ⊥
+never_fault : (reads : ReadingDepth) (b : Bool) → IsReadBy reads (if b then AllKnown else NothingKnown) → ⊥
 never_fault reads true h = h
 never_fault reads false h = h
 
 module _ {R : Type 0} where
-  read_functions : (reads : Reads) (f : LazyFunctions R) → HaveFunctions reads f → IsReadBy reads (known_functions f)
+  read_functions : (reads : ReadingDepth) (f : LazyFunctions R) → HaveFunctions reads f → IsReadBy reads (known_functions f)
   read_functions reads lazy.Unread h = absurd h
   read_functions reads (lazy.Faulty e) h = absurd h
   read_functions kinds.Functions (lazy.Read t) h = tt
   read_functions kinds.Details (lazy.Read t) h = h
 
-  read_answer : {X : Type 0} (reads : Reads) (r : Result X Error) (f : LazyFunctions R) → is_ok r ≡ true → HaveFunctions reads f → IsReadBy reads (known_answer r f)
+  read_answer : {X : Type 0} (reads : ReadingDepth) (r : Result X Error) (f : LazyFunctions R) → is_ok r ≡ true → HaveFunctions reads f → IsReadBy reads (known_answer r f)
   read_answer reads (Ok x) f e h = read_functions reads f h
   read_answer reads (Err x) f e h = absurd cc
 
-  read_view : (reads : Reads) (s : ViewState R) (f : LazyFunctions R) → has_view s ≡ true → HaveFunctions reads f → IsReadBy reads (known_by s f)
+  read_view : (reads : ReadingDepth) (s : ViewState R) (f : LazyFunctions R) → has_view s ≡ true → HaveFunctions reads f → IsReadBy reads (known_by s f)
   read_view reads states.Undecided f e h = absurd cc
   read_view reads states.Open f e h = absurd cc
   read_view reads states.Main f e h = read_functions reads f h
@@ -50,25 +50,25 @@ module _ {R : Type 0} where
   read_view reads (states.Answered a) f e h = read_answer reads a.unit f e h
 
   -- what is cached is known
-  all_read : (reads : Reads) (vs : List (UnitEntries R)) → HaveRead reads vs → AllByRecursion (IsReadBy reads) (known_in vs)
+  all_read : (reads : ReadingDepth) (vs : List (UnitEntries R)) → HaveRead reads vs → AllByRecursion (IsReadBy reads) (known_in vs)
   all_read reads [] h = tt
   all_read reads (v ∷ vs) h = (read_view reads v.view.state v.functions h.0.view h.0.functions, all_read reads vs h.1)
 
-  pub read_after : (reads : Reads) (r : Result (Unit {0}) Error) (vs : List (UnitEntries R)) → OnOk r (HaveRead reads vs) → OnOk r (AllByRecursion (IsReadBy reads) (known_in vs))
+  pub read_after : (reads : ReadingDepth) (r : Result (Unit {0}) Error) (vs : List (UnitEntries R)) → OnOk r (HaveRead reads vs) → OnOk r (AllByRecursion (IsReadBy reads) (known_in vs))
   read_after reads (Ok x) vs h = all_read reads vs h
   read_after reads (Err e) vs h = tt
 
-  cached_functions : (reads : Reads) (f : LazyFunctions R) → IsReadBy reads (known_functions f) → HaveFunctions reads f
+  cached_functions : (reads : ReadingDepth) (f : LazyFunctions R) → IsReadBy reads (known_functions f) → HaveFunctions reads f
   cached_functions reads lazy.Unread h = absurd h
   cached_functions reads (lazy.Faulty e) h = absurd (never_fault reads (is_cached_fault e) h)
   cached_functions kinds.Functions (lazy.Read t) h = tt
   cached_functions kinds.Details (lazy.Read t) h = h
 
-  cached_in_answer : {X : Type 0} (reads : Reads) (r : Result X Error) (f : LazyFunctions R) → IsReadBy reads (known_answer r f) → (is_ok r ≡ true) × HaveFunctions reads f
+  cached_in_answer : {X : Type 0} (reads : ReadingDepth) (r : Result X Error) (f : LazyFunctions R) → IsReadBy reads (known_answer r f) → (is_ok r ≡ true) × HaveFunctions reads f
   cached_in_answer reads (Ok x) f h = (refl, cached_functions reads f h)
   cached_in_answer reads (Err e) f h = absurd (never_fault reads (is_cached_fault e) h)
 
-  cached_view : (reads : Reads) (s : ViewState R) (f : LazyFunctions R) → IsReadBy reads (known_by s f) → (has_view s ≡ true) × HaveFunctions reads f
+  cached_view : (reads : ReadingDepth) (s : ViewState R) (f : LazyFunctions R) → IsReadBy reads (known_by s f) → (has_view s ≡ true) × HaveFunctions reads f
   cached_view reads states.Undecided f h = absurd h
   cached_view reads states.Open f h = absurd h
   cached_view reads states.Main f h = (refl, cached_functions reads f h)
@@ -76,7 +76,7 @@ module _ {R : Type 0} where
   cached_view reads (states.Answered a) f h = cached_in_answer reads a.unit f h
 
   -- what is known is cached
-  pub read_before : (reads : Reads) (vs : List (UnitEntries R)) → AllByRecursion (IsReadBy reads) (known_in vs) → HaveRead reads vs
+  pub read_before : (reads : ReadingDepth) (vs : List (UnitEntries R)) → AllByRecursion (IsReadBy reads) (known_in vs) → HaveRead reads vs
   read_before reads [] h = tt
   read_before reads (v ∷ vs) h =
       let k = cached_view reads v.view.state v.functions h.0 in

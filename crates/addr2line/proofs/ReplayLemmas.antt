@@ -20,13 +20,13 @@ use Rattle.addr2line_units.specs.Parsed.{StaysParsed, has_parsed}
 use Rattle.addr2line_units.specs.Suspended.{IfOutput}
 use Rattle.addr2line_units.specs.UnitIndex.{UnitIndex, index_units}
 use Rattle.addr2line_units.specs.RangedUnits.{unit_records}
-use Rattle.addr2line_units.specs.Views.{SplitLoad, load_by, load_of_unit, split_name_of}
+use Rattle.addr2line_units.specs.Views.{FirstAnswers, SplitLoad, load_by, load_of_unit, split_name_of}
 use Rattle.addr2line.proofs.HistoryLemmas.{HasGiven, given_all, given_last, given_more, given_up, resumed_answers, resumed_begun, resumed_parsed, resumed_sections}
 use Rattle.addr2line.specs.Answers.{AfterResume, SuspendsAgain, answered}
 use Rattle.addr2line.specs.Context.{ContextState}
 use Rattle.addr2line.specs.History.{Given, Gives, GivesUp, Leaves, answers_given}
 use Rattle.addr2line.specs.AfterLookups.{AfterFrames, Suspends}
-use Rattle.addr2line.specs.Lookups.{FirstAnswers, IsLoadOf, lookup_stop, stop_in, unit_of, unit_told}
+use Rattle.addr2line.specs.Lookups.{IsLoadOf, lookup_stop, stop_in, unit_of, unit_told}
 use Rattle.addr2line.specs.Replies.{CopiedReply, SuspendedAt}
 
 -- the load of a unit has its number

@@ -8,8 +8,8 @@ use Rattle.gimli.specs.Sections.{Sections}
 use Rattle.addr2line_units.specs.Parsed.{StaysParsed}
 use Rattle.addr2line.specs.Context.{ContextState}
 use Rattle.addr2line.specs.History.{AfterCall, AfterCalls, AnswersLoad, AsksFrames, AsksLoads, AsksLocation, AsksRange, AsksUnit, Forgets, HasBegun, HistoryCall, IsCutShort, ParsesFunctions, ParsesLines, answers_after, answers_left, replies_to, reply_to}
-use Rattle.addr2line.specs.Lookups.{FirstAnswers}
 use Rattle.addr2line.specs.Replies.{CopiedReply}
+use Rattle.addr2line_units.specs.Views.{FirstAnswers}
 
 -- nothing was done of a call
 begun_nothing : (d : Sections) (answers : FirstAnswers) (call : HistoryCall) → HasBegun d answers call answers

@@ -22,10 +22,10 @@ use Rattle.addr2line_units.specs.Suspended.{IfLoad, IfOutput, SkipsTo}
 use Rattle.addr2line_units.specs.UnitFrames.{FramesResult, frames_by, frames_in, function_by}
 use Rattle.addr2line_units.specs.UnitIndex.{UnitIndex, index_units}
 use Rattle.addr2line_units.specs.RangedUnits.{IndexedUnit, unit_records}
-use Rattle.addr2line_units.specs.Views.{SplitLoad, View, decided_answer, is_open, load_of_unit, parts_of, verdict, verdict_by}
+use Rattle.addr2line_units.specs.Views.{FirstAnswers, SplitLoad, View, decided_answer, is_open, load_of_unit, parts_of, verdict, verdict_by}
 use Rattle.addr2line_units.proofs.FoundLemmas.{always_along, decided_by_frames, found_along, found_by_unit, has_frames}
 use Rattle.addr2line.specs.Answers.{answered}
-use Rattle.addr2line.specs.Lookups.{FirstAnswers, frames_of, frames_told, lookup_stop, stop_in, unit_of, unit_told, with_none}
+use Rattle.addr2line.specs.Lookups.{frames_of, frames_told, lookup_stop, stop_in, unit_of, unit_told, with_none}
 
 -- a unit that is decided has its verdict where none is answered to the others
 decided_by : (d : Sections) (u : UnitRecord) (l : Result (Option SplitLoad) Error) (a : Option (Option Sections)) (v : Result View Error) → verdict_by d u l a ≡ Some v → verdict_by d u l (Some (unwrap_or a None)) ≡ Some v

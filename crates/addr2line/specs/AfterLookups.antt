@@ -5,7 +5,7 @@
 use Rattle.std.specs.Prelude.{◌≡◌, ◌⊎◌, ℕ, ◌≤◌, Bool, true, false, ◌&&◌, ◌||◌, not, List, slice_get, IfSome, Result, Ok}
 use Rattle.gimli_read.specs.declared.error.Error.{Error}
 use Rattle.addr2line_units.specs.declared.frames_lookup.Faults.{Faults}
-use Rattle.addr2line_units.specs.declared.parses.Reads.{Reads}
+use Rattle.addr2line_units.specs.declared.parses.ReadingDepth.{ReadingDepth}
 use Rattle.addr2line_units.specs.Cover.{cover}
 use Rattle.addr2line_units.specs.FramesLookup.{Waits, LookupAsks, asks_lines_of, has_many_of, holds_along, is_waiting, main_scope}
 use Rattle.addr2line_units.specs.FunctionParses.{IsReadyFor}
@@ -19,14 +19,14 @@ use Rattle.addr2line.specs.Lookups.{asked_of, lookup_stop, IsLoadOf}
 
 -- all is known that a parse of functions reads of the unit of a number that isn't open, up to the
 -- first fault, and that fault too
-abbrev pub IsReadyAt : Reads → List KnownEntries → ℕ → Type 0
+abbrev pub IsReadyAt : ReadingDepth → List KnownEntries → ℕ → Type 0
 IsReadyAt reads known n = IfSome (slice_get known n) (IsReadyFor reads)
 
 -- what was known of the unit of a number stays known: what a lookup asks, and all that a parse of
 -- functions reads
 pub record StaysKnownOf (n : ℕ) (old new : List KnownEntries) : Type 0 where
   pub at : (probe : ℕ) → knows_at old probe n ≡ true → knows_at new probe n ≡ true
-  pub whole : (reads : Reads) → IsReadyAt reads old n → IsReadyAt reads new n
+  pub whole : (reads : ReadingDepth) → IsReadyAt reads old n → IsReadyAt reads new n
 
 -- the same of all units
 abbrev pub StaysKnown : List KnownEntries → List KnownEntries → Type 0

@@ -1,7 +1,7 @@
 -- What an answer to the load of a unit, and to forget one, makes of a context.
 -- Own: the first answer to a unit's load counts until the unit is forgotten; one to a unit that is
 -- decided changes nothing.
-use Rattle.std.specs.Prelude.{◌≡◌, ◌≢◌, ◌⊎◌, ℕ, slice_get, Option, IfErr, OnOk, Result, Ok, Err}
+use Rattle.std.specs.Prelude.{◌≡◌, ◌≢◌, ◌⊎◌, ℕ, true, slice_get, Option, is_some, IfErr, OnOk, Result, Ok, Err}
 use Rattle.gimli_read.specs.declared.error.Error.{Error}
 use Rattle.gimli_read.specs.declared.error.Error.TheVariants.{OutOfMemory}
 use Rattle.gimli.specs.Sections.{Sections}
@@ -11,8 +11,7 @@ use Rattle.addr2line_units.specs.UnitIndex.{index_units}
 use Rattle.addr2line_units.specs.RangedUnits.{unit_records}
 use Rattle.addr2line.specs.Context.{ContextState}
 use Rattle.addr2line.specs.AfterLookups.{AfterFrames, StaysKnown, Suspends}
-use Rattle.addr2line.specs.Lookups.{FirstAnswers}
-use Rattle.addr2line_units.specs.Views.{SplitLoad}
+use Rattle.addr2line_units.specs.Views.{FirstAnswers, SplitLoad}
 
 -- the first answers after one more to the load of the unit of a number, which counts where the unit
 -- is open
@@ -20,9 +19,9 @@ abbrev pub answered : Sections → FirstAnswers → ℕ → Option Sections → 
 answered d answers n given = elim (index_units d)
     [ Err e ↦ answers | Ok m ↦ with_answer d (unit_records m.units) answers n given ]
 
--- after an answer to the load of the unit of a number, or after OutOfMemory in its place, nothing
--- is changed but of that unit; after OutOfMemory all first answers are as before, and what was
--- known stays known
+-- after an answer to the load of the unit of a number, or after OutOfMemory in the place of given
+-- sections, nothing is changed but of that unit; after OutOfMemory all first answers are as before,
+-- and what was known stays known
 pub record AfterAnswer (n : ℕ) (given : Option Sections) (result : Result (Unit {0}) Error)
     (old new : ContextState) : Type 0 where
   pub sections : new.sections ≡ old.sections
@@ -30,7 +29,7 @@ pub record AfterAnswer (n : ℕ) (given : Option Sections) (result : Result (Uni
   pub looks : new.looks ≡ old.looks
   pub answers : OnOk result (new.answers ≡ answered old.sections old.answers n given)
   pub refused : IfErr result (λ e. (e ≡ OutOfMemory) × (new.answers ≡ old.answers)
-      × StaysKnown old.known new.known)
+      × StaysKnown old.known new.known × (is_some given ≡ true))
   pub others : (k : ℕ) → k ≢ n → slice_get new.known k ≡ slice_get old.known k
 
 -- after an answer with which a lookup went on, or after OutOfMemory in the answer's place

@@ -24,12 +24,13 @@ use Rattle.addr2line_units.specs.RangedUnits.{has_lines, ranged_units}
 use Rattle.gimli_read.specs.Alike.{HadMemory}
 use Rattle.addr2line_units.specs.Parsed.{AllAskFor, AreParsed, AreReadyForAll, AsksFor, LeadTo, ParsesOnly, StaysParsed, ready_along}
 use Rattle.addr2line_units.specs.Cover.{cover, cover_range}
+use Rattle.addr2line_units.specs.Views.{FirstAnswers}
 
 -- the sections, the first answer of each unit, none before it has one, of which units the lines are
 -- parsed, what is known of each unit's entries, and how often lines were looked at
 pub record ContextState : Type 0 where
   pub sections : Sections
-  pub answers : List (Option (Option Sections))
+  pub answers : FirstAnswers
   pub parsed : List Bool
   pub known : List KnownEntries
   pub looks : ℕ

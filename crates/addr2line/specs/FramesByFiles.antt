@@ -16,10 +16,10 @@ use Rattle.addr2line_units.specs.FramesLookup.{Stop, answer_of, frames_found, ma
 use Rattle.addr2line_units.specs.UnitFrames.{FramesResult, frames_in}
 use Rattle.addr2line_units.specs.UnitIndex.{UnitIndex, index_units}
 use Rattle.addr2line_units.specs.RangedUnits.{IndexedUnit}
-use Rattle.addr2line_units.specs.Views.{SplitLoad, awaited_load}
+use Rattle.addr2line_units.specs.Views.{FirstAnswers, SplitLoad, awaited_load}
 use Rattle.addr2line.specs.Context.{ContextState}
 use Rattle.addr2line.specs.Files.{Files}
-use Rattle.addr2line.specs.Lookups.{FirstAnswers, lookup_stop}
+use Rattle.addr2line.specs.Lookups.{lookup_stop}
 use Rattle.addr2line.specs.SplitFiles.{given_by_files, of_file}
 
 -- the frames of a lookup that has ended, or its fault

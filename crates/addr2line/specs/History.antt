@@ -9,7 +9,7 @@ use Rattle.gimli_read.specs.declared.error.Error.TheVariants.{OutOfMemory}
 use Rattle.gimli.specs.Sections.{Sections}
 use Rattle.addr2line_units.specs.declared.frames_lookup.Faults.{Faults}
 use Rattle.addr2line_units.specs.declared.frames_lookup.Faults.TheVariants.{End, PassOver}
-use Rattle.addr2line_units.specs.declared.parses.Reads.{Reads}
+use Rattle.addr2line_units.specs.declared.parses.ReadingDepth.{ReadingDepth}
 use Rattle.addr2line_units.specs.FramesLookup.{Stop, Waits, Finds, FindsNothing, main_scope}
 use Rattle.addr2line_units.specs.FunctionParses.{AreFirstDecided}
 use Rattle.addr2line_units.specs.Loads.{forgotten}
@@ -20,8 +20,9 @@ use Rattle.addr2line_units.specs.RangedUnits.{unit_records}
 use Rattle.addr2line.specs.Answers.{answered}
 use Rattle.addr2line.specs.Context.{ContextState, lines_of_all}
 use Rattle.addr2line.specs.Loads.{forget_reply, load_reply, parse_reply, parsed_answers}
-use Rattle.addr2line.specs.Lookups.{FirstAnswers, loads_at, lookup_stop, unit_of}
+use Rattle.addr2line.specs.Lookups.{loads_at, lookup_stop, unit_of}
 use Rattle.addr2line.specs.Replies.{CopiedReply, Located, Ended, Listed, copied_load, reply_of_frames, reply_of_range, reply_of_unit}
+use Rattle.addr2line_units.specs.Views.{FirstAnswers}
 
 -- what a lookup is given that waits: the sections of the split file, or none; or it is given up
 pub data Given : Type 0 where
@@ -38,7 +39,7 @@ pub data HistoryCall : Type 0 where
   AnswersLoad : ℕ → Option Sections → HistoryCall
   Forgets : ℕ → HistoryCall
   ParsesLines : HistoryCall
-  ParsesFunctions : Reads → HistoryCall
+  ParsesFunctions : ReadingDepth → HistoryCall
 
 -- what goes on where a lookup waits for the unit of a number, else what there is already
 abbrev pub where_waiting : {X : Type 0} → (ℕ → X) → X → Result Stop Error → X

@@ -7,7 +7,8 @@ use Rattle.addr2line_units.specs.LoadLaws.{IsListed}
 use Rattle.addr2line_units.specs.UnitIndex.{UnitIndex, index_units}
 use Rattle.addr2line.specs.Answers.{answered}
 use Rattle.addr2line.specs.History.{Given, Gives, GivesUp, where_waiting}
-use Rattle.addr2line.specs.Lookups.{FirstAnswers, loads_at, lookup_stop}
+use Rattle.addr2line.specs.Lookups.{loads_at, lookup_stop}
+use Rattle.addr2line_units.specs.Views.{FirstAnswers}
 
 -- the units that a lookup waits for, one after another, where it is given these answers
 abbrev pub waited_for : Faults → Sections → ℕ → FirstAnswers → List Given → List ℕ

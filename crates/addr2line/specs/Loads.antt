@@ -9,8 +9,8 @@ use Rattle.gimli_read.specs.Reading.{◌>>=◌}
 use Rattle.gimli.specs.Sections.{Sections}
 use Rattle.addr2line_lines.specs.FunctionDetails.{HasDetail}
 use Rattle.addr2line_units.specs.declared.frames_lookup.Faults.{Faults}
-use Rattle.addr2line_units.specs.declared.parses.Reads.{Reads}
-use Rattle.addr2line_units.specs.declared.parses.Reads.TheVariants as kinds
+use Rattle.addr2line_units.specs.declared.parses.ReadingDepth.{ReadingDepth}
+use Rattle.addr2line_units.specs.declared.parses.ReadingDepth.TheVariants as kinds
 use Rattle.addr2line_units.specs.Cover.{cover}
 use Rattle.addr2line_units.specs.FramesLookup.{answer_of, main_scope}
 use Rattle.addr2line_units.specs.FunctionParseLaws.{IsReached}
@@ -22,8 +22,9 @@ use Rattle.addr2line_units.specs.UnitIndex.{UnitIndex, index_units}
 use Rattle.addr2line_units.specs.RangedUnits.{unit_records}
 use Rattle.addr2line.specs.Answers.{answered}
 use Rattle.addr2line.specs.Context.{ContextState, lines_of_all}
-use Rattle.addr2line.specs.Lookups.{FirstAnswers, lookup_stop}
+use Rattle.addr2line.specs.Lookups.{lookup_stop}
 use Rattle.addr2line.specs.AfterLookups.{IsReadyAt, StaysKnown}
+use Rattle.addr2line_units.specs.Views.{FirstAnswers}
 
 -- what an answer to the load of the unit of a number gives: UnknownToken where there is none, or
 -- the fault of its view then
@@ -36,12 +37,12 @@ abbrev pub forget_reply : Sections → ℕ → Result (Unit {0}) Error
 forget_reply d n = index_units d >>= λ m. forget_result (unit_records m.units) n
 
 -- what a parse of all functions gives
-abbrev pub parse_reply : Reads → Sections → FirstAnswers → Result (Unit {0}) Error
+abbrev pub parse_reply : ReadingDepth → Sections → FirstAnswers → Result (Unit {0}) Error
 parse_reply reads d answers =
     index_units d >>= λ m. read_of_units reads (main_scope d m) (unit_records m.units) answers
 
 -- the first answers after a parse of all functions
-abbrev pub parsed_answers : Reads → Sections → FirstAnswers → FirstAnswers
+abbrev pub parsed_answers : ReadingDepth → Sections → FirstAnswers → FirstAnswers
 parsed_answers reads d answers = elim (index_units d) [
   | Err e ↦ answers
   | Ok m ↦ answers_after_parse reads (main_scope d m) (unit_records m.units) answers
@@ -96,19 +97,19 @@ pub record AfterPreload (old new : ContextState) : Type 0 where
   pub known : StaysKnown old.known new.known
 
 -- all is known that a parse of functions reads of a unit
-abbrev pub IsReadBy : Reads → KnownEntries → Type 0
+abbrev pub IsReadBy : ReadingDepth → KnownEntries → Type 0
 IsReadBy reads NothingKnown = ⊥
 IsReadBy reads AllKnown = ⊥
 IsReadBy kinds.Functions (FunctionsKnown t) = Unit {0}
 IsReadBy kinds.Details (FunctionsKnown t) = AllByRecursion HasDetail t.functions
 
 -- the same of all units
-abbrev pub AreReadBy : Reads → ContextState → Type 0
+abbrev pub AreReadBy : ReadingDepth → ContextState → Type 0
 AreReadBy reads c = AllByRecursion (IsReadBy reads) c.known
 
 -- all is known that a parse of functions reads of the units, up to the first fault, and that fault
 -- too, and no unit up to there is open
-abbrev pub IsReadyToRead : Reads → ContextState → Type 0
+abbrev pub IsReadyToRead : ReadingDepth → ContextState → Type 0
 IsReadyToRead reads c = (m : UnitIndex) → index_units c.sections ≡ Ok m
     → AreReadyFor reads (main_scope c.sections m) (unit_records m.units) c.answers c.known
 
@@ -116,8 +117,8 @@ IsReadyToRead reads c = (m : UnitIndex) → index_units c.sections ≡ Ok m
 -- memory was refused, some of the first ones. What was known of the others stays. Unless memory was
 -- refused all is known that the parse reads; where it was before, no memory is wanted, and nothing
 -- is changed
-pub record AfterParse (reads : Reads) (result : Result (Unit {0}) Error) (old new : ContextState)
-    : Type 0 where
+pub record AfterParse (reads : ReadingDepth) (result : Result (Unit {0}) Error)
+    (old new : ContextState) : Type 0 where
   pub stays : StaysRead old new
   pub answers : HadMemory result → new.answers ≡ parsed_answers reads old.sections old.answers
   pub begun : (m : UnitIndex) → index_units old.sections ≡ Ok m
@@ -126,7 +127,7 @@ pub record AfterParse (reads : Reads) (result : Result (Unit {0}) Error) (old ne
   pub known : (m : UnitIndex) → index_units old.sections ≡ Ok m → (probe n : ℕ)
       → is_open_at old.sections (unit_records m.units) old.answers n ≡ false
       → knows_at old.known probe n ≡ true → knows_at new.known probe n ≡ true
-  pub whole : (m : UnitIndex) → index_units old.sections ≡ Ok m → (kind : Reads) (n : ℕ)
+  pub whole : (m : UnitIndex) → index_units old.sections ≡ Ok m → (kind : ReadingDepth) (n : ℕ)
       → is_open_at old.sections (unit_records m.units) old.answers n ≡ false
       → IsReadyAt kind old.known n → IsReadyAt kind new.known n
   pub only : (m : UnitIndex) → index_units old.sections ≡ Ok m → (n : ℕ)

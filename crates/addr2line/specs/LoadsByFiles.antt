@@ -10,13 +10,13 @@ use Rattle.elf.specs.Loading.{Loading}
 use Rattle.addr2line_units.specs.declared.frames_lookup.Faults.TheVariants.{End}
 use Rattle.addr2line_units.specs.FramesLookup.{answer_of, is_waiting}
 use Rattle.addr2line_units.specs.Parsed.{StaysParsed}
-use Rattle.addr2line_units.specs.Views.{SplitLoad}
+use Rattle.addr2line_units.specs.Views.{FirstAnswers, SplitLoad}
 use Rattle.addr2line.specs.Answers.{answered}
 use Rattle.addr2line.specs.Context.{ContextState}
 use Rattle.addr2line.specs.Files.{Files}
 use Rattle.addr2line.specs.FramesByFiles.{frames_by_files}
 use Rattle.addr2line.specs.History.{Given, answers_given}
-use Rattle.addr2line.specs.Lookups.{FirstAnswers, IsLoadOf, lookup_stop}
+use Rattle.addr2line.specs.Lookups.{IsLoadOf, lookup_stop}
 use Rattle.addr2line.specs.AfterLookups.{LearnsAsked, ParsesAsked, StaysKnownOf}
 use Rattle.addr2line.specs.SplitFiles.{given_by_files}
 

@@ -15,13 +15,8 @@ use Rattle.addr2line_units.specs.FramesLookup.{Stop, Waits, Finds, FindsNothing,
 use Rattle.addr2line_units.specs.LoadLaws.{loads_of}
 use Rattle.addr2line_units.specs.UnitIndex.{UnitIndex, index_units}
 use Rattle.addr2line_units.specs.RangedUnits.{unit_records}
-use Rattle.addr2line_units.specs.Views.{SplitLoad, load_of_unit}
+use Rattle.addr2line_units.specs.Views.{FirstAnswers, SplitLoad, load_of_unit}
 use Rattle.addr2line_units.specs.UnitFrames.{FramesResult}
-
--- of each unit the first answer to its load, none before it has one: the sections of its split
--- file, or none
-abbrev pub FirstAnswers : Type 0
-FirstAnswers = List (Option (Option Sections))
 
 -- what a lookup asks the unit of a number for
 abbrev pub asked_of : Faults → Sections → FirstAnswers → ℕ → UnitIndex → ℕ → FramesResult

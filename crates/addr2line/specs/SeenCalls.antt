@@ -1,7 +1,7 @@
 -- Recorded calls and answers, as contracts see them.
 use Rattle.std.specs.Prelude.{map, Option, Some, None, option_map}
 use Rattle.gimli.specs.Sections.{Sections}
-use Rattle.addr2line_units.specs.declared.parses.Reads.TheVariants.{Details, Functions}
+use Rattle.addr2line_units.specs.declared.parses.ReadingDepth.TheVariants.{Details, Functions}
 use Rattle.addr2line_units.specs.Loads.{token_number}
 use Rattle.addr2line.specs.declared.session.Answer.{Answer}
 use Rattle.addr2line.specs.declared.session.Answer.TheVariants.{Give, Abandon}

@@ -10,8 +10,9 @@ use Rattle.addr2line.specs.declared.stops.UnitStop.{UnitStop}
 use Rattle.addr2line.specs.declared.stops.UnitStop.TheVariants as stops
 use Rattle.addr2line.specs.Context.{ContextState}
 use Rattle.addr2line.specs.History.{Given, Gives, answers_given}
-use Rattle.addr2line.specs.Lookups.{FirstAnswers, loads_at}
+use Rattle.addr2line.specs.Lookups.{loads_at}
 use Rattle.addr2line.specs.AfterLookups.{IsKnown}
+use Rattle.addr2line_units.specs.Views.{FirstAnswers}
 
 -- none as the answer to each of so many loads
 abbrev pub nones : ℕ → List Given

@@ -10,7 +10,8 @@ use Rattle.addr2line_units.specs.FramesLookup.{Stop, Waits, Finds, FindsNothing}
 use Rattle.addr2line_units.specs.CachedFrames.{unit_of_place}
 use Rattle.addr2line.specs.declared.stops.UnitStop.{UnitStop}
 use Rattle.addr2line.specs.declared.stops.UnitStop.TheVariants as units
-use Rattle.addr2line.specs.Lookups.{FirstAnswers, lookup_stop}
+use Rattle.addr2line.specs.Lookups.{lookup_stop}
+use Rattle.addr2line_units.specs.Views.{FirstAnswers}
 
 -- what a lookup has come to, with the number of a unit in place of what it finds there
 abbrev pub stop_at_unit : Stop → UnitStop

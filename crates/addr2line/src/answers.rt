@@ -12,7 +12,8 @@ use gimli::read::{Error, Reader};
 use std::rc::Rc;
 
 impl<R: Reader> Context<R> {
-    // Answers the load of the unit of a number. Refused `OutOfMemory` alone.
+    // Answers the load of the unit of a number. Refused `OutOfMemory` alone, and only where
+    // sections are given.
     pub(crate) fn answer(
         &mut self,
         number: usize,

@@ -1,6 +1,6 @@
 //! Answers to loads outside a lookup, and what forgets them.
 
-ghost use Rattle.std.specs.Prelude.{◌≡◌, IfErr, IfOk, IsOk, option_map};
+ghost use Rattle.std.specs.Prelude.{◌≡◌, IfErr, IfOk, IsOk, None, option_map};
 ghost use Rattle.gimli_read.specs.declared.error.Error.TheVariants.{OutOfMemory};
 ghost use Rattle.gimli_read.specs.Reading.{ExactlyUnlessOom};
 ghost use Rattle.addr2line_units.specs.Loads.{token_number};
@@ -37,8 +37,8 @@ impl<R: Reader> Context<R> {
     ///
     /// Refused `UnknownToken` where there is no such unit, and then nothing is changed; refused by
     /// the fault of the view that the unit has then, and the unit is decided all the same. May fail
-    /// with `OutOfMemory` instead, where the unit is open; then all first answers are as before. A
-    /// token of another context counts by its number.
+    /// with `OutOfMemory` instead, where the unit is open and is given sections; then all first
+    /// answers are as before. A token of another context counts by its number.
     ///
     /// Source: DWARF 5, section 7.3.2. Own: which answer counts.
     pub fn load_unit(
@@ -51,6 +51,8 @@ impl<R: Reader> Context<R> {
         ensures memory { IsNotOpen self.old (token_number unit) → result ≡ load_reply
             self.old.sections self.old.answers (token_number unit)
             (option_map (λ d. d.value) sections) }
+        ensures no_sections { sections ≡ None → result ≡ load_reply self.old.sections
+            self.old.answers (token_number unit) None }
         ensures after { AfterLoad (token_number unit) (option_map (λ d. d.value) sections) result
             self.old self.new }
     {

@@ -2,16 +2,16 @@
 
 ghost use Rattle.std.specs.Prelude.{◌≡◌, OnOk};
 ghost use Rattle.gimli_read.specs.Reading.{ExactlyUnlessOom};
-ghost use Rattle.addr2line_units.specs.declared.parses.Reads.TheVariants as kinds;
+ghost use Rattle.addr2line_units.specs.declared.parses.ReadingDepth.TheVariants as kinds;
 ghost use Rattle.addr2line.specs.Loads.{AfterParse, IsAllKnown, ReachesAllOf, parse_reply};
 
 use crate::context::Context;
-use addr2line_units::parses::Reads;
+use addr2line_units::parses::ReadingDepth;
 use gimli::read::{Error, Reader};
 
 impl<R: Reader> Context<R> {
     // Reads the functions of all units, with or without their details.
-    fn read_functions(&mut self, reads: Reads) -> Result<(), Error>
+    fn read_functions(&mut self, reads: ReadingDepth) -> Result<(), Error>
         ensures gives { ExactlyUnlessOom (λ x. x) result
             (parse_reply reads self.old.sections self.old.answers) }
         ensures after { AfterParse reads result self.old self.new }
@@ -37,7 +37,7 @@ impl<R: Reader> Context<R> {
             (parse_reply kinds.Functions self.old.sections self.old.answers) }
         ensures after { AfterParse kinds.Functions result self.old self.new }
     {
-        self.read_functions(Reads::Functions)
+        self.read_functions(ReadingDepth::Functions)
     }
 
     /// Parses the functions of all units and the details of these, as `parse_functions` does.
@@ -57,6 +57,6 @@ impl<R: Reader> Context<R> {
         ensures known { OnOk result (IsAllKnown self.new) }
         ensures reaches { OnOk result (ReachesAllOf self.new) }
     {
-        self.read_functions(Reads::Details)
+        self.read_functions(ReadingDepth::Details)
     }
 }

@@ -19,7 +19,7 @@ use Rattle.addr2line_units.specs.CachedEntries.{AreEntriesOf, StayEntries, first
 use Rattle.addr2line_units.specs.CachedFunctions.{AreFunctionsOf, were_read}
 use Rattle.addr2line_units.specs.CachedUnits.{StayAllEntries, answers_in, decided_at}
 use Rattle.addr2line_units.specs.CachedViews.{IsViewOf, is_decided, seen_first_answer, verdict_in, waits, was_looked_at}
-use Rattle.addr2line_units.specs.Views.{View, decided_answer, is_open, verdict, view_scope}
+use Rattle.addr2line_units.specs.Views.{FirstAnswers, View, decided_answer, is_open, verdict, view_scope}
 use Rattle.addr2line_units.proofs.CachedUnitLemmas.{stay_entries_set}
 
 -- what waits isn't decided
@@ -128,7 +128,7 @@ answered_all d us vs n u v w given h k e f new =
     ∙ ap (λ a. set (answers_in vs) n a) (new ∙ ap (λ a. decided_answer d u a given) (sym (answer_at vs n v k f)))
     ∙ sym (ap (λ o. answers_by o) (got_unit us n u h e))
   where
-    answers_by : Option UnitRecord → List (Option (Option Sections))
+    answers_by : Option UnitRecord → FirstAnswers
     answers_by o = elim o [ None ↦ answers_in vs | Some x ↦ set (answers_in vs) n (decided_answer d x (answer_of (answers_in vs) n) given) ]
 
 -- where references lead is the same by equal lists of units and equal supplementary files
@@ -144,10 +144,10 @@ pub answered_if_ok : {R : Type 0} (d : Sections) (us : List UnitRecord) (vs : Li
 answered_if_ok d us vs n u v w given (Ok x) h k e f new = answered_all d us vs n u v w given h k e f new
 answered_if_ok d us vs n u v w given (Err x) h k e f new = tt
 
-pub answers_if_refused : {R : Type 0} (vs : List (UnitEntries R)) (n : ℕ) (v w : UnitEntries R) (r : Result (Unit {0}) Error) → n < length vs → v ≡ get_or vs n v
-    → IfErr r (λ e. (e ≡ OutOfMemory) × StayEntries v w) → IfErr r (λ e. (e ≡ OutOfMemory) × (answers_in (set vs n w) ≡ answers_in vs) × StayAllEntries vs (set vs n w))
-answers_if_refused vs n v w (Ok x) h e same = tt
-answers_if_refused vs n v w (Err x) h e same = (same.0, answers_stay vs n v w h e same.1.answer, stay_entries_set vs n v w h e same.1)
+pub answers_if_refused : {R : Type 0} (vs : List (UnitEntries R)) (n : ℕ) (v w : UnitEntries R) (r : Result (Unit {0}) Error) (P : Type 0) → n < length vs → v ≡ get_or vs n v
+    → IfErr r (λ e. (e ≡ OutOfMemory) × StayEntries v w × P) → IfErr r (λ e. (e ≡ OutOfMemory) × (answers_in (set vs n w) ≡ answers_in vs) × StayAllEntries vs (set vs n w) × P)
+answers_if_refused vs n v w (Ok x) P h e same = tt
+answers_if_refused vs n v w (Err x) P h e same = (same.0, answers_stay vs n v w h e same.1.answer, stay_entries_set vs n v w h e same.1, same.2)
 
 -- the entries of other units are the same
 pub others_stay : {X : Type 0} (vs : List X) (n k : ℕ) (w : X) → k ≢ n → slice_get (set vs n w) k ≡ slice_get vs k

@@ -28,6 +28,7 @@ use Rattle.addr2line_units.specs.declared.functions.FunctionPlace.{FunctionPlace
 use Rattle.addr2line_units.specs.declared.functions.LazyFunctions.{LazyFunctions}
 use Rattle.addr2line_units.specs.declared.functions.LazyFunctions.TheVariants as lazy
 use Rattle.addr2line_units.specs.Frames.{FrameRecord, found_frames, found_function, frames_from, function_at, function_from}
+use Rattle.addr2line_units.proofs.FunctionMemoryLemmas.{details_take, place_takes}
 use Rattle.addr2line_units.specs.CachedFunctions.{ArePlacesIn, IsTableOf, ReadsNoOther, StayFunctions, table_has_many, cached_detail_takes_memory, details_at, find_takes_memory, function_of_place, functions_fault, cached_functions, place_takes_memory, reading_takes_memory, table_takes_memory, were_read}
 
 -- whether an error is that of memory
@@ -346,22 +347,22 @@ and_weaker false b c w h = absurd cc
 -- functions that were read stay as they are, and others are read
 module _ {R : Type 0} (old mid : LazyFunctions R) (kept : were_read old ≡ true → (mid ≡ old)) where
   -- functions that are cached were cached before, or weren't read
-  pub memory_before : (t : FunctionTable) (probe : ℕ) → mid ≡ lazy.Read t → table_takes_memory probe t ≡ true → find_takes_memory probe old ≡ true
-  memory_before t probe e h = by_old old refl
+  pub memory_before : (shares : Bool) (scope : Scope) (view : UnitRecord) (t : FunctionTable) (probe : ℕ) → mid ≡ lazy.Read t → IsTableOf scope view t → table_takes_memory probe t ≡ true → find_takes_memory shares scope view probe old ≡ true
+  memory_before shares scope view t probe e is_table h = by_old old refl
     where
-      by_old : (x : LazyFunctions R) → old ≡ x → find_takes_memory probe x ≡ true
-      by_old lazy.Unread q = refl
+      by_old : (x : LazyFunctions R) → old ≡ x → find_takes_memory shares scope view probe x ≡ true
+      by_old lazy.Unread q = place_takes shares scope view t is_table probe h
       by_old (lazy.Read s) q =
           let is : lazy.Read t ≡ lazy.Read s = sym e ∙ kept (ap were_read q) ∙ q in
           let same : t ≡ s = cc in
           ap (table_takes_memory probe) (sym same) ∙ h
       by_old (lazy.Faulty x) q = let is : lazy.Read t ≡ lazy.Faulty x = sym e ∙ kept (ap were_read q) ∙ q in absurd cc
 
-  pub reading_before : (shares : Bool) (scope : Scope) (view : UnitRecord) (t : FunctionTable) → mid ≡ lazy.Read t → details_take_memory shares scope view t.functions ≡ true → reading_takes_memory shares scope view old ≡ true
-  reading_before shares scope view t e h = by_old old refl
+  pub reading_before : (shares : Bool) (scope : Scope) (view : UnitRecord) (t : FunctionTable) → mid ≡ lazy.Read t → IsTableOf scope view t → details_take_memory shares scope view t.functions ≡ true → reading_takes_memory shares scope view old ≡ true
+  reading_before shares scope view t e is_table h = by_old old refl
     where
       by_old : (x : LazyFunctions R) → old ≡ x → reading_takes_memory shares scope view x ≡ true
-      by_old lazy.Unread q = refl
+      by_old lazy.Unread q = details_take shares scope view t is_table h
       by_old (lazy.Read s) q =
           let is : lazy.Read t ≡ lazy.Read s = sym e ∙ kept (ap were_read q) ∙ q in
           let same : t ≡ s = cc in

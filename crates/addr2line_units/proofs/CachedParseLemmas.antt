@@ -18,8 +18,8 @@ use Rattle.addr2line_lines.specs.References.{Scope}
 use Rattle.addr2line_lines.proofs.PlaceLemmas.{all_at, some_at}
 use Rattle.addr2line_units.specs.declared.functions.LazyFunctions.{LazyFunctions}
 use Rattle.addr2line_units.specs.declared.functions.LazyFunctions.TheVariants as lazy
-use Rattle.addr2line_units.specs.declared.parses.Reads.{Reads}
-use Rattle.addr2line_units.specs.declared.parses.Reads.TheVariants as reads
+use Rattle.addr2line_units.specs.declared.parses.ReadingDepth.{ReadingDepth}
+use Rattle.addr2line_units.specs.declared.parses.ReadingDepth.TheVariants as reads
 use Rattle.addr2line_units.specs.declared.unit_frames.UnitEntries.{UnitEntries}
 use Rattle.addr2line_units.specs.declared.view.UnitView.{UnitView}
 use Rattle.addr2line_units.specs.declared.view.ViewState.{ViewState}
@@ -31,7 +31,7 @@ use Rattle.addr2line_units.specs.CachedFunctions.{AreFunctionsOf, StayFunctions,
 use Rattle.addr2line_units.specs.CachedUnits.{HaveEntriesOf, StayAllEntries, answers_in, has_entries_at}
 use Rattle.addr2line_units.specs.CachedParses.{AreDecided, ChangesOnly, HasRead, HaveFunctions, HaveRead, StayDecided, has_view}
 use Rattle.addr2line_units.specs.CachedViews.{is_decided, seen_sections, verdict_in, view_by}
-use Rattle.addr2line_units.specs.Views.{View, view_scope}
+use Rattle.addr2line_units.specs.Views.{FirstAnswers, View, view_scope}
 use Rattle.addr2line_units.proofs.AnswerLemmas.{answer_at, decided_was_looked_at, got_unit}
 use Rattle.addr2line_units.proofs.EntryLemmas.{functions_stay}
 use Rattle.addr2line_units.proofs.CachedFunctionLemmas.{fault_is}
@@ -39,13 +39,13 @@ use Rattle.addr2line_units.proofs.CachedUnitLemmas.{entries_on, entries_same}
 use Rattle.addr2line_units.proofs.ParseLemmas.{at_or_behind, below_next}
 
 -- functions that are cached were read
-pub have_were_read : {R : Type 0} (r : Reads) (f : LazyFunctions R) → HaveFunctions r f → were_read f ≡ true
+pub have_were_read : {R : Type 0} (r : ReadingDepth) (f : LazyFunctions R) → HaveFunctions r f → were_read f ≡ true
 have_were_read r lazy.Unread h = absurd h
 have_were_read r (lazy.Read t) h = refl
 have_were_read r (lazy.Faulty e) h = refl
 
 -- so they have no fault
-pub have_no_fault : {R : Type 0} (r : Reads) (f : LazyFunctions R) (e : Error) → HaveFunctions r f → f ≡ lazy.Faulty e → ⊥
+pub have_no_fault : {R : Type 0} (r : ReadingDepth) (f : LazyFunctions R) (e : Error) → HaveFunctions r f → f ≡ lazy.Faulty e → ⊥
 have_no_fault r lazy.Unread e h k = absurd h
 have_no_fault r (lazy.Read t) e h k = cc
 have_no_fault r (lazy.Faulty x) e h k = absurd h
@@ -109,7 +109,7 @@ view_decided states.Main h = refl
 view_decided (states.Unnamed e) h = cc
 view_decided (states.Answered a) h = refl
 
-pub read_decided : {R : Type 0} (r : Reads) (v : UnitEntries R) → HasRead r v → is_decided v.view.state ≡ true
+pub read_decided : {R : Type 0} (r : ReadingDepth) (v : UnitEntries R) → HasRead r v → is_decided v.view.state ≡ true
 read_decided r v h = view_decided v.view.state h.view
 
 -- the view by what is cached of it
@@ -179,15 +179,15 @@ module _ {R : Type 0} (probe : ℕ) where
   has_entries_if (v ∷ vs) all (suc n) = has_entries_if vs all.1 n
 
 module _ {R : Type 0} where
-  pub found_if_ok : (r : Reads) (result : Result (Unit {0}) Error) (vs : List (UnitEntries R)) → r ≡ reads.Details → OnOk result (HaveRead r vs) → OnOk result ((probe n : ℕ) → has_entries_at probe vs n ≡ true)
+  pub found_if_ok : (r : ReadingDepth) (result : Result (Unit {0}) Error) (vs : List (UnitEntries R)) → r ≡ reads.Details → OnOk result (HaveRead r vs) → OnOk result ((probe n : ℕ) → has_entries_at probe vs n ≡ true)
   found_if_ok r (Err e) vs is h = tt
-  found_if_ok r (Ok x) vs is h = λ probe. has_entries_if probe vs (subst (λ (q : Reads). HaveRead q vs) is h)
+  found_if_ok r (Ok x) vs is h = λ probe. has_entries_if probe vs (subst (λ (q : ReadingDepth). HaveRead q vs) is h)
 
-  all_decided : (r : Reads) (vs : List (UnitEntries R)) → HaveRead r vs → AreDecided vs
+  all_decided : (r : ReadingDepth) (vs : List (UnitEntries R)) → HaveRead r vs → AreDecided vs
   all_decided r [] h = tt
   all_decided r (v ∷ vs) h = (read_decided r v h.0, all_decided r vs h.1)
 
-  pub decided_if_ok : (r : Reads) (result : Result (Unit {0}) Error) (vs : List (UnitEntries R)) → OnOk result (HaveRead r vs) → OnOk result (AreDecided vs)
+  pub decided_if_ok : (r : ReadingDepth) (result : Result (Unit {0}) Error) (vs : List (UnitEntries R)) → OnOk result (HaveRead r vs) → OnOk result (AreDecided vs)
   decided_if_ok r (Err e) vs h = tt
   decided_if_ok r (Ok x) vs h = all_decided r vs h
 
@@ -212,7 +212,7 @@ module _ {R : Type 0} where
   decided_set (x ∷ vs) zero v w h e k = (subst (λ (y : UnitEntries R). is_decided y.view.state ≡ true → StayEntries y w) e k, decided_same vs)
   decided_set (x ∷ vs) (suc n) v w h e k = (λ _. entries_same x, decided_set vs n v w (omega arith) e k)
 
-  pub all_stay : (r : Reads) (vs ws : List (UnitEntries R)) → HaveRead r vs → StayDecided vs ws → StayAllEntries vs ws
+  pub all_stay : (r : ReadingDepth) (vs ws : List (UnitEntries R)) → HaveRead r vs → StayDecided vs ws → StayAllEntries vs ws
   all_stay r [] [] h a = tt
   all_stay r [] (w ∷ ws) h a = absurd a
   all_stay r (v ∷ vs) [] h a = absurd a
@@ -237,25 +237,25 @@ module _ {R : Type 0} where
   got_entry (x ∷ vs) (suc n) v h e = got_entry vs n v (omega arith) e
 
   -- what was read of the unit of a number
-  pub read_set : (r : Reads) (result : Result (Unit {0}) Error) (vs : List (UnitEntries R)) (n : ℕ) (w : UnitEntries R) → n < length vs → OnOk result (HasRead r w) → OnOk result (IfSome (slice_get (set vs n w) n) (HasRead r))
+  pub read_set : (r : ReadingDepth) (result : Result (Unit {0}) Error) (vs : List (UnitEntries R)) (n : ℕ) (w : UnitEntries R) → n < length vs → OnOk result (HasRead r w) → OnOk result (IfSome (slice_get (set vs n w) n) (HasRead r))
   read_set r (Err e) vs n w h k = tt
   read_set r (Ok x) vs n w h k = subst (λ (o : Option (UnitEntries R)). IfSome o (HasRead r)) (sym (got_set vs n w h)) k
 
-  pub read_entry : (r : Reads) (vs : List (UnitEntries R)) (n : ℕ) (v : UnitEntries R) → n < length vs → v ≡ get_or vs n v → IfSome (slice_get vs n) (HasRead r) → HasRead r v
+  pub read_entry : (r : ReadingDepth) (vs : List (UnitEntries R)) (n : ℕ) (v : UnitEntries R) → n < length vs → v ≡ get_or vs n v → IfSome (slice_get vs n) (HasRead r) → HasRead r v
   read_entry r vs n v h e k = subst (λ (o : Option (UnitEntries R)). IfSome o (HasRead r)) (got_entry vs n v h e) k
 
-  pub read_number : (r : Reads) (vs : List (UnitEntries R)) → HaveRead r vs → (n : ℕ) → IfSome (slice_get vs n) (HasRead r)
+  pub read_number : (r : ReadingDepth) (vs : List (UnitEntries R)) → HaveRead r vs → (n : ℕ) → IfSome (slice_get vs n) (HasRead r)
   read_number r [] all n = tt
   read_number r (v ∷ vs) all zero = all.0
   read_number r (v ∷ vs) all (suc n) = read_number r vs all.1 n
 
-  pub all_read : (r : Reads) (vs : List (UnitEntries R)) (k : ℕ) → length vs ≤ k → ((n : ℕ) → n < k → IfSome (slice_get vs n) (HasRead r)) → HaveRead r vs
+  pub all_read : (r : ReadingDepth) (vs : List (UnitEntries R)) (k : ℕ) → length vs ≤ k → ((n : ℕ) → n < k → IfSome (slice_get vs n) (HasRead r)) → HaveRead r vs
   all_read r [] k past h = tt
   all_read r (v ∷ vs) zero past h = absurd (omega arith)
   all_read r (v ∷ vs) (suc k) past h = (h 0 (omega arith), all_read r vs k (omega arith) (λ n l. h (suc n) (omega arith)))
 
   -- one more unit was read: those before it stay so
-  pub read_more : (r : Reads) (vs ws : List (UnitEntries R)) (k : ℕ) → ((n : ℕ) → n < k → IfSome (slice_get vs n) (HasRead r)) → ChangesOnly (λ n. n ≡ k) vs ws → IfSome (slice_get ws k) (HasRead r)
+  pub read_more : (r : ReadingDepth) (vs ws : List (UnitEntries R)) (k : ℕ) → ((n : ℕ) → n < k → IfSome (slice_get vs n) (HasRead r)) → ChangesOnly (λ n. n ≡ k) vs ws → IfSome (slice_get ws k) (HasRead r)
       → (n : ℕ) → n < suc k → IfSome (slice_get ws n) (HasRead r)
   read_more r vs ws k before only at n h = elim (below_next n k h) [
     | inr e ↦ subst (λ (m : ℕ). IfSome (slice_get ws m) (HasRead r)) (sym e) at
@@ -285,14 +285,14 @@ module _ {R : Type 0} where
   ]
 
 -- units before one that can be read can be read
-pub before_less : (r : Reads) (scope : Scope) (us : List UnitRecord) (answers : List (Option (Option Sections))) (k : ℕ) → AreReadBefore r scope us answers k → (n : ℕ) → n ≤ k → AreReadBefore r scope us answers n
+pub before_less : (r : ReadingDepth) (scope : Scope) (us : List UnitRecord) (answers : FirstAnswers) (k : ℕ) → AreReadBefore r scope us answers k → (n : ℕ) → n ≤ k → AreReadBefore r scope us answers n
 before_less r scope us answers k before n l = λ m h. before m (omega arith)
 
 -- what is read of a view, by its unit and where references lead from it
-pub view_read : (r : Reads) (scope : Scope) (view : View) (inner : Scope) (x : UnitRecord) → view.unit ≡ x → inner ≡ view_scope scope view → read_of_view r scope (Some (Ok view)) ≡ read_of_functions r inner x
+pub view_read : (r : ReadingDepth) (scope : Scope) (view : View) (inner : Scope) (x : UnitRecord) → view.unit ≡ x → inner ≡ view_scope scope view → read_of_view r scope (Some (Ok view)) ≡ read_of_functions r inner x
 view_read r scope view inner x unit leads = ap (λ (s : Scope). read_of_functions r s view.unit) (sym leads) ∙ ap (read_of_functions r inner) unit
 
-pub read_if_view : {R : Type 0} (r : Reads) (result : Result (Unit {0}) Error) (view : UnitView R) (f : LazyFunctions R) → has_view view.state ≡ true → OnOk result (HaveFunctions r f) → OnOk result (HasRead r (record { view = view; functions = f }))
+pub read_if_view : {R : Type 0} (r : ReadingDepth) (result : Result (Unit {0}) Error) (view : UnitView R) (f : LazyFunctions R) → has_view view.state ≡ true → OnOk result (HaveFunctions r f) → OnOk result (HasRead r (record { view = view; functions = f }))
 read_if_view r (Err e) view f h k = tt
 read_if_view r (Ok x) view f h k = record { view = h; functions = k }
 
@@ -302,7 +302,7 @@ entries_then {R} v mid f same stay =
     subst (λ (x : UnitEntries R). StayEntries x (record { view = mid.view; functions = f })) same (record { answer = refl; view = λ e. refl; functions = stay })
 
 -- what is read of the unit of a number
-pub number_is : {R : Type 0} (r : Reads) (scope : Scope) (us : List UnitRecord) (vs : List (UnitEntries R)) (n : ℕ) (u : UnitRecord) (v : UnitEntries R) → n < length us → n < length vs → u ≡ get_or us n u → v ≡ get_or vs n v
+pub number_is : {R : Type 0} (r : ReadingDepth) (scope : Scope) (us : List UnitRecord) (vs : List (UnitEntries R)) (n : ℕ) (u : UnitRecord) (v : UnitEntries R) → n < length us → n < length vs → u ≡ get_or us n u → v ≡ get_or vs n v
     → read_of_number r scope us (answers_in vs) n ≡ read_of_unit r scope u (first_answer_of v)
 number_is r scope us vs n u v h k e f =
     ap (λ (o : Option UnitRecord). by_unit o) (got_unit us n u h e) ∙ ap (read_of_unit r scope u) (answer_at vs n v k f)

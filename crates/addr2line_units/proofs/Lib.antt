@@ -11,6 +11,7 @@ pub mod UnitLemmas
 pub mod IndexLemmas
 pub mod LeastBeginLemmas
 pub mod FrameLemmas
+pub mod FunctionMemoryLemmas
 pub mod CachedFunctionLemmas
 pub mod CachedPlaceLemmas
 pub mod EntryLemmas

@@ -17,7 +17,7 @@ use Rattle.addr2line_units.specs.Loads.{before_others, is_of_other, is_open_at, 
 use Rattle.addr2line_units.specs.Parsed.{LeadTo}
 use Rattle.addr2line_units.specs.UnitFrames.{FramesResult, frames_in}
 use Rattle.addr2line_units.specs.RangedUnits.{IndexedUnit, unit_records}
-use Rattle.addr2line_units.specs.Views.{SplitLoad, awaited_by, awaited_load, decided_answer, is_open, load_of_unit}
+use Rattle.addr2line_units.specs.Views.{FirstAnswers, SplitLoad, awaited_by, awaited_load, decided_answer, is_open, load_of_unit}
 use Rattle.addr2line_units.proofs.AnswerLemmas.{decided_if_not, decided_if_open, no_answer, others_stay}
 use Rattle.addr2line_units.proofs.LoadLemmas.{answer_after, awaited_unit, filter_twice, open_awaits}
 use Rattle.addr2line_units.proofs.WaitLemmas.{open_of_none, same_number, told_by_unit}
@@ -123,7 +123,7 @@ module _ (d : Sections) (us : List UnitRecord) where
   abbrev load_or_none : ℕ → Option (Option Sections) → Option UnitRecord → Option SplitLoad
   load_or_none n a o = elim o [ None ↦ None | Some u ↦ awaited_load d n u a ]
 
-  load_own : (answers : List (Option (Option Sections))) (k : ℕ) (l : SplitLoad) → load_of_number d us answers k ≡ Some l → l.unit ≡ k
+  load_own : (answers : FirstAnswers) (k : ℕ) (l : SplitLoad) → load_of_number d us answers k ≡ Some l → l.unit ≡ k
   load_own answers k l e = by (slice_get us k) e
     where
       by : (o : Option UnitRecord) → ◌≡◌ {A = Option SplitLoad} (elim o [ None ↦ None | Some u ↦ awaited_load d k u (answer_of answers k) ]) (Some l) → l.unit ≡ k
@@ -143,7 +143,7 @@ module _ (d : Sections) (us : List UnitRecord) where
       by true e = ap (awaited_load d n u) (decided_if_open d u answer given e) ∙ none (load_of_unit d n u)
       by false e = ap (awaited_load d n u) (decided_if_not d u answer given e) ∙ no_answer (awaited_load d n u answer) (sym (open_awaits d n u answer) ∙ e)
 
-  load_gone : (answers : List (Option (Option Sections))) (n : ℕ) (given : Option Sections) → length us ≡ length answers → load_of_number d us (with_answer d us answers n given) n ≡ None
+  load_gone : (answers : FirstAnswers) (n : ℕ) (given : Option Sections) → length us ≡ length answers → load_of_number d us (with_answer d us answers n given) n ≡ None
   load_gone answers n given many = by (slice_get us n) refl
     where
       by : (o : Option UnitRecord) → slice_get us n ≡ o → load_of_number d us (with_answer d us answers n given) n ≡ None
@@ -154,18 +154,18 @@ module _ (d : Sections) (us : List UnitRecord) where
           ∙ ap (awaited_load d n u) (answer_after d us answers n given u e (omega (arith, within, many)))
           ∙ answered_load n u (answer_of answers n) given
 
-  answers_others : (answers : List (Option (Option Sections))) (n : ℕ) (given : Option Sections) (k : ℕ) → k ≢ n → answer_of (with_answer d us answers n given) k ≡ answer_of answers k
+  answers_others : (answers : FirstAnswers) (n : ℕ) (given : Option Sections) (k : ℕ) → k ≢ n → answer_of (with_answer d us answers n given) k ≡ answer_of answers k
   answers_others answers n given k ne = by (slice_get us n)
     where
       by : (o : Option UnitRecord) → answer_of (elim o [ None ↦ answers | Some u ↦ set answers n (decided_answer d u (answer_of answers n) given) ]) k ≡ answer_of answers k
       by None = refl
       by (Some u) = ap (λ x. unwrap_or x None) (others_stay answers n k (decided_answer d u (answer_of answers n) given) ne)
 
-  load_others : (answers : List (Option (Option Sections))) (n : ℕ) (given : Option Sections) (k : ℕ) → k ≢ n → load_of_number d us (with_answer d us answers n given) k ≡ load_of_number d us answers k
+  load_others : (answers : FirstAnswers) (n : ℕ) (given : Option Sections) (k : ℕ) → k ≢ n → load_of_number d us (with_answer d us answers n given) k ≡ load_of_number d us answers k
   load_others answers n given k ne = ap (λ a. load_or_none k a (slice_get us k)) (answers_others answers n given k ne)
 
   -- a unit that is open waits for its load
-  open_load : (answers : List (Option (Option Sections))) (n : ℕ) → is_open_at d us answers n ≡ true → is_some (load_of_number d us answers n) ≡ true
+  open_load : (answers : FirstAnswers) (n : ℕ) → is_open_at d us answers n ≡ true → is_some (load_of_number d us answers n) ≡ true
   open_load answers n e = by (slice_get us n) e
     where
       by : (o : Option UnitRecord) → ◌≡◌ {A = Bool} (elim o [ None ↦ false | Some u ↦ is_open d u (answer_of answers n) ]) true
@@ -206,7 +206,7 @@ record_at (u ∷ units) zero = refl
 record_at (u ∷ units) (suc n) = record_at units n
 
 -- that unit is open
-open_there : (scope : Scope) (units : List IndexedUnit) (answers : List (Option (Option Sections))) (probe n : ℕ) → frames_of_number scope units answers probe n ≡ Ok None
+open_there : (scope : Scope) (units : List IndexedUnit) (answers : FirstAnswers) (probe n : ℕ) → frames_of_number scope units answers probe n ≡ Ok None
     → is_open_at scope.file.sections (unit_records units) answers n ≡ true
 open_there scope units answers probe n e = ap open_by (record_at units n) ∙ by (slice_get units n) e
   where

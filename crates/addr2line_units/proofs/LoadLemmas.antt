@@ -20,7 +20,7 @@ use Rattle.addr2line_units.specs.CachedUnits.{StayAllEntries, answers_in, decide
 use Rattle.addr2line_units.specs.CachedViews.{is_decided, parts_or_fault}
 use Rattle.addr2line_units.specs.ListedLoads.{MarksLoad, MarksUnit, if_new, is_marked, is_new}
 use Rattle.addr2line_units.specs.Loads.{before_others, forget_result, is_of_other, load_of_number, load_result, loads_along, unit_of_token, view_fault}
-use Rattle.addr2line_units.specs.Views.{SplitLoad, View, awaited_by, awaited_load, decided_answer, is_open, load_by, load_of_unit, split_name_of, verdict, verdict_by}
+use Rattle.addr2line_units.specs.Views.{FirstAnswers, SplitLoad, View, awaited_by, awaited_load, decided_answer, is_open, load_by, load_of_unit, split_name_of, verdict, verdict_by}
 use Rattle.addr2line_units.proofs.AnswerLemmas.{answer_at, decided_was_looked_at}
 
 -- a view with a unit has no fault
@@ -49,7 +49,7 @@ slice_get_none [] n e = omega arith
 slice_get_none (x ∷ xs) zero e = absurd cc
 slice_get_none (x ∷ xs) (suc n) e = let k = slice_get_none xs n e in omega (arith, k)
 
-pub unknown_load : (d : Sections) (us : List UnitRecord) (answers : List (Option (Option Sections))) (n : ℕ) (given : Option Sections) → slice_get us n ≡ None → load_result d us answers n given ≡ Err UnknownToken
+pub unknown_load : (d : Sections) (us : List UnitRecord) (answers : FirstAnswers) (n : ℕ) (given : Option Sections) → slice_get us n ≡ None → load_result d us answers n given ≡ Err UnknownToken
 unknown_load d us answers n given e = ap (λ r. r >>= λ u. view_fault (verdict d u (decided_answer d u (answer_of answers n) given))) (no_unit us n e)
 
 pub unknown_forget : (us : List UnitRecord) (n : ℕ) → slice_get us n ≡ None → forget_result us n ≡ Err UnknownToken
@@ -65,7 +65,7 @@ known_forget_within us n h = by (slice_get us n) refl
     by None e = absurd (let k = slice_get_none us n e in omega (arith, h, k))
     by (Some u) e = known_forget us n u e
 
-pub unknown_answer : (d : Sections) (us : List UnitRecord) (answers : List (Option (Option Sections))) (n : ℕ) (given : Option Sections) → slice_get us n ≡ None → with_answer d us answers n given ≡ answers
+pub unknown_answer : (d : Sections) (us : List UnitRecord) (answers : FirstAnswers) (n : ℕ) (given : Option Sections) → slice_get us n ≡ None → with_answer d us answers n given ≡ answers
 unknown_answer d us answers n given e = by (slice_get us n) e
   where
     by : (o : Option UnitRecord) → o ≡ None → elim o [ None ↦ answers | Some u ↦ set answers n (decided_answer d u (answer_of answers n) given) ] ≡ answers
@@ -77,13 +77,13 @@ past_set [] n x h = refl
 past_set (y ∷ xs) zero x h = absurd (omega (arith, h))
 past_set (y ∷ xs) (suc n) x h = ap (λ z. y ∷ z) (past_set xs n x (omega (arith, h)))
 
-answer_of_set : (answers : List (Option (Option Sections))) (n : ℕ) (a : Option (Option Sections)) → n < length answers → answer_of (set answers n a) n ≡ a
+answer_of_set : (answers : FirstAnswers) (n : ℕ) (a : Option (Option Sections)) → n < length answers → answer_of (set answers n a) n ≡ a
 answer_of_set [] n a h = absurd (omega (arith, h))
 answer_of_set (x ∷ answers) zero a h = refl
 answer_of_set (x ∷ answers) (suc n) a h = answer_of_set answers n a (omega (arith, h))
 
 -- the first answer of a unit after one more
-pub answer_after : (d : Sections) (us : List UnitRecord) (answers : List (Option (Option Sections))) (n : ℕ) (given : Option Sections) (u : UnitRecord) → slice_get us n ≡ Some u → n < length answers
+pub answer_after : (d : Sections) (us : List UnitRecord) (answers : FirstAnswers) (n : ℕ) (given : Option Sections) (u : UnitRecord) → slice_get us n ≡ Some u → n < length answers
     → answer_of (with_answer d us answers n given) n ≡ decided_answer d u (answer_of answers n) given
 answer_after d us answers n given u e h = by (slice_get us n) e
   where
@@ -92,7 +92,7 @@ answer_after d us answers n given u e h = by (slice_get us n) e
     by (Some x) k = let same : x ≡ u = cc in answer_of_set answers n _ h ∙ ap (λ y. decided_answer d y (answer_of answers n) given) same
 
 -- what an answer gives, by the fault of the view after it
-pub load_gives : (d : Sections) (us : List UnitRecord) (answers after : List (Option (Option Sections))) (n : ℕ) (given : Option Sections) (u : UnitRecord) → slice_get us n ≡ Some u → n < length answers
+pub load_gives : (d : Sections) (us : List UnitRecord) (answers after : FirstAnswers) (n : ℕ) (given : Option Sections) (u : UnitRecord) → slice_get us n ≡ Some u → n < length answers
     → after ≡ with_answer d us answers n given → load_result d us answers n given ≡ view_fault (verdict d u (answer_of after n))
 load_gives d us answers after n given u e h same =
     ap (λ r. r >>= λ x. view_fault (verdict d x (decided_answer d x (answer_of answers n) given))) (this_unit us n u e)
@@ -216,7 +216,7 @@ load_there d us vs n u v e h at = by (slice_get us n) e
     by None k = absurd cc
     by (Some x) k = let same : x ≡ u = cc in ap (λ y. awaited_load d n y (answer_of (answers_in vs) n)) same ∙ ap (awaited_load d n u) (answer_at vs n v h at)
 
-pub no_load : (d : Sections) (us : List UnitRecord) (answers : List (Option (Option Sections))) (n : ℕ) → slice_get us n ≡ None → load_of_number d us answers n ≡ None
+pub no_load : (d : Sections) (us : List UnitRecord) (answers : FirstAnswers) (n : ℕ) → slice_get us n ≡ None → load_of_number d us answers n ≡ None
 no_load d us answers n e = by (slice_get us n) e
   where
     by : (o : Option UnitRecord) → o ≡ None → ◌≡◌ {A = Option SplitLoad} (elim o [ None ↦ None | Some x ↦ awaited_load d n x (answer_of answers n) ]) None
@@ -227,7 +227,7 @@ pub found_same : {L : Type 0} (a b : Option L) → ◌≡◌ {A = Result (Option
 found_same a b e = cc
 
 -- one more load along ranges
-pub listed_step : (listed : List SplitLoad) (d : Sections) (us : List UnitRecord) (answers later : List (Option (Option Sections))) (r : UnitRange) (old now : List Bool)
+pub listed_step : (listed : List SplitLoad) (d : Sections) (us : List UnitRecord) (answers later : FirstAnswers) (r : UnitRange) (old now : List Bool)
     (rest ranges : List UnitRange) (all : List SplitLoad) (found : Option SplitLoad) → later ≡ answers → ranges ≡ r ∷ rest → found ≡ if_new old (load_of_number d us later r.unit)
     → MarksLoad (load_of_number d us later r.unit) old now → listed ++ filter (is_new old) (loads_along (load_of_number d us answers) ranges) ≡ all
     → (listed ++ option_to_list found) ++ filter (is_new now) (loads_along (load_of_number d us answers) rest) ≡ all

@@ -7,10 +7,10 @@ use Rattle.gimli_read.specs.Reading.{◌>>=◌}
 use Rattle.gimli.specs.Sections.{Sections}
 use Rattle.gimli.specs.Unit.{UnitRecord}
 use Rattle.addr2line_lines.specs.References.{Scope}
-use Rattle.addr2line_units.specs.declared.parses.Reads.{Reads}
+use Rattle.addr2line_units.specs.declared.parses.ReadingDepth.{ReadingDepth}
 use Rattle.addr2line_units.specs.FramesLookup.{answer_of, with_answer}
 use Rattle.addr2line_units.specs.FunctionParses.{AreReadBefore, answers_after_parse, first_decided, read_of_number, read_of_unit, read_of_units, read_of_view, unless_fault}
-use Rattle.addr2line_units.specs.Views.{SplitLoad, View, decided_answer, is_open, load_of_unit, verdict, verdict_by}
+use Rattle.addr2line_units.specs.Views.{FirstAnswers, SplitLoad, View, decided_answer, is_open, load_of_unit, verdict, verdict_by}
 
 -- one of two numbers is not above the other
 pub at_or_behind : (n k : ℕ) → (n ≤ k) ⊎ (k < n)
@@ -26,7 +26,7 @@ below_next (suc n) zero h = absurd (omega arith)
 below_next (suc n) (suc k) h = elim (below_next n k (omega arith)) [ inl l ↦ inl (omega arith) | inr e ↦ inr (ap suc e) ]
 
 -- the answers where one more is decided, of units behind the first one
-with_more : (d : Sections) (o : Option UnitRecord) (x : Option (Option Sections)) (answers : List (Option (Option Sections))) (n : ℕ)
+with_more : (d : Sections) (o : Option UnitRecord) (x : Option (Option Sections)) (answers : FirstAnswers) (n : ℕ)
     → elim o [ None ↦ x ∷ answers | Some u ↦ set (x ∷ answers) (suc n) (decided_answer d u (answer_of (x ∷ answers) (suc n)) None) ]
     ≡ x ∷ elim o [ None ↦ answers | Some u ↦ set answers n (decided_answer d u (answer_of answers n) None) ]
 with_more d None x answers n = refl
@@ -34,25 +34,25 @@ with_more d (Some u) x answers n = refl
 
 module _ (d : Sections) where
   -- one more unit is decided
-  pub decided_more : (us : List UnitRecord) (answers : List (Option (Option Sections))) (n : ℕ) → n < length us → length us ≡ length answers
+  pub decided_more : (us : List UnitRecord) (answers : FirstAnswers) (n : ℕ) → n < length us → length us ≡ length answers
       → with_answer d us (first_decided d n us answers) n None ≡ first_decided d (suc n) us answers
   decided_more [] answers n h many = absurd (omega arith)
   decided_more (u ∷ us) [] n h many = absurd (omega arith)
   decided_more (u ∷ us) (a ∷ answers) zero h many = refl
   decided_more (u ∷ us) (a ∷ answers) (suc n) h many =
       with_more d (slice_get us n) (decided_answer d u a None) (first_decided d n us answers) n
-      ∙ ap (λ (xs : List (Option (Option Sections))). decided_answer d u a None ∷ xs) (decided_more us answers n (omega arith) (omega arith))
+      ∙ ap (λ (xs : FirstAnswers). decided_answer d u a None ∷ xs) (decided_more us answers n (omega arith) (omega arith))
 
   -- the units behind are as they were
-  decided_at : (us : List UnitRecord) (answers : List (Option (Option Sections))) (n : ℕ) → answer_of (first_decided d n us answers) n ≡ answer_of answers n
+  decided_at : (us : List UnitRecord) (answers : FirstAnswers) (n : ℕ) → answer_of (first_decided d n us answers) n ≡ answer_of answers n
   decided_at us answers zero = refl
   decided_at [] answers (suc n) = refl
   decided_at (u ∷ us) [] (suc n) = refl
   decided_at (u ∷ us) (a ∷ answers) (suc n) = decided_at us answers n
 
-module _ (reads : Reads) (scope : Scope) where
+module _ (reads : ReadingDepth) (scope : Scope) where
   -- what is read of a unit is the same where those before it are decided
-  pub number_behind : (us : List UnitRecord) (answers : List (Option (Option Sections))) (n : ℕ)
+  pub number_behind : (us : List UnitRecord) (answers : FirstAnswers) (n : ℕ)
       → read_of_number reads scope us (first_decided scope.file.sections n us answers) n ≡ read_of_number reads scope us answers n
   number_behind us answers n =
       ap (λ (a : Option (Option Sections)). by_answer a) (decided_at scope.file.sections us answers n)
@@ -61,14 +61,14 @@ module _ (reads : Reads) (scope : Scope) where
       by_answer a = elim (slice_get us n) [ None ↦ Ok tt | Some u ↦ read_of_unit reads scope u a ]
 
   -- one more unit was read
-  pub before_more : (us : List UnitRecord) (answers : List (Option (Option Sections))) (n : ℕ) → AreReadBefore reads scope us answers n → read_of_number reads scope us answers n ≡ Ok tt → AreReadBefore reads scope us answers (suc n)
+  pub before_more : (us : List UnitRecord) (answers : FirstAnswers) (n : ℕ) → AreReadBefore reads scope us answers n → read_of_number reads scope us answers n ≡ Ok tt → AreReadBefore reads scope us answers (suc n)
   before_more us answers n before at m h = elim (below_next m n h) [
     | inl l ↦ before m l
     | inr e ↦ ap (read_of_number reads scope us answers) e ∙ at
   ]
 
   -- the first fault is that of the first unit that has one
-  pub read_stop : (us : List UnitRecord) (answers : List (Option (Option Sections))) (n : ℕ) (e : Error) → length us ≡ length answers → AreReadBefore reads scope us answers n → read_of_number reads scope us answers n ≡ Err e
+  pub read_stop : (us : List UnitRecord) (answers : FirstAnswers) (n : ℕ) (e : Error) → length us ≡ length answers → AreReadBefore reads scope us answers n → read_of_number reads scope us answers n ≡ Err e
       → read_of_units reads scope us answers ≡ Err e
   read_stop [] answers n e many before at = absurd cc
   read_stop (u ∷ us) [] n e many before at = absurd (omega arith)
@@ -78,7 +78,7 @@ module _ (reads : Reads) (scope : Scope) where
       ∙ read_stop us answers n e (omega arith) (λ m h. before (suc m) (omega arith)) at
 
   -- there is none where no unit has one
-  pub read_end : (us : List UnitRecord) (answers : List (Option (Option Sections))) (n : ℕ) → length us ≡ length answers → length us ≤ n → AreReadBefore reads scope us answers n → read_of_units reads scope us answers ≡ Ok tt
+  pub read_end : (us : List UnitRecord) (answers : FirstAnswers) (n : ℕ) → length us ≡ length answers → length us ≤ n → AreReadBefore reads scope us answers n → read_of_units reads scope us answers ≡ Ok tt
   read_end [] answers n many past before = refl
   read_end (u ∷ us) [] n many past before = refl
   read_end (u ∷ us) (a ∷ answers) zero many past before = absurd (omega arith)
@@ -87,7 +87,7 @@ module _ (reads : Reads) (scope : Scope) where
       ∙ read_end us answers n (omega arith) (omega arith) (λ m h. before (suc m) (omega arith))
 
   -- the answers then: up to the unit with the first fault, or all
-  pub after_stop : (us : List UnitRecord) (answers : List (Option (Option Sections))) (n : ℕ) (e : Error) → length us ≡ length answers → AreReadBefore reads scope us answers n → read_of_number reads scope us answers n ≡ Err e
+  pub after_stop : (us : List UnitRecord) (answers : FirstAnswers) (n : ℕ) (e : Error) → length us ≡ length answers → AreReadBefore reads scope us answers n → read_of_number reads scope us answers n ≡ Err e
       → answers_after_parse reads scope us answers ≡ first_decided scope.file.sections (suc n) us answers
   after_stop [] answers n e many before at = absurd cc
   after_stop (u ∷ us) [] n e many before at = absurd (omega arith)
@@ -95,16 +95,16 @@ module _ (reads : Reads) (scope : Scope) where
       ap (λ (r : Result (Unit {0}) Error). decided_answer scope.file.sections u a None ∷ unless_fault r (answers_after_parse reads scope us answers) answers) at
   after_stop (u ∷ us) (a ∷ answers) (suc n) e many before at =
       ap (λ (r : Result (Unit {0}) Error). decided_answer scope.file.sections u a None ∷ unless_fault r (answers_after_parse reads scope us answers) answers) (before 0 (omega arith))
-      ∙ ap (λ (xs : List (Option (Option Sections))). decided_answer scope.file.sections u a None ∷ xs) (after_stop us answers n e (omega arith) (λ m h. before (suc m) (omega arith)) at)
+      ∙ ap (λ (xs : FirstAnswers). decided_answer scope.file.sections u a None ∷ xs) (after_stop us answers n e (omega arith) (λ m h. before (suc m) (omega arith)) at)
 
-  pub after_end : (us : List UnitRecord) (answers : List (Option (Option Sections))) (n : ℕ) → length us ≡ length answers → length us ≤ n → AreReadBefore reads scope us answers n → answers_after_parse reads scope us answers ≡ first_decided scope.file.sections n us answers
+  pub after_end : (us : List UnitRecord) (answers : FirstAnswers) (n : ℕ) → length us ≡ length answers → length us ≤ n → AreReadBefore reads scope us answers n → answers_after_parse reads scope us answers ≡ first_decided scope.file.sections n us answers
   after_end [] answers zero many past before = refl
   after_end [] answers (suc n) many past before = refl
   after_end (u ∷ us) [] n many past before = absurd (omega arith)
   after_end (u ∷ us) (a ∷ answers) zero many past before = absurd (omega arith)
   after_end (u ∷ us) (a ∷ answers) (suc n) many past before =
       ap (λ (r : Result (Unit {0}) Error). decided_answer scope.file.sections u a None ∷ unless_fault r (answers_after_parse reads scope us answers) answers) (before 0 (omega arith))
-      ∙ ap (λ (xs : List (Option (Option Sections))). decided_answer scope.file.sections u a None ∷ xs) (after_end us answers n (omega arith) (omega arith) (λ m h. before (suc m) (omega arith)))
+      ∙ ap (λ (xs : FirstAnswers). decided_answer scope.file.sections u a None ∷ xs) (after_end us answers n (omega arith) (omega arith) (λ m h. before (suc m) (omega arith)))
 
 -- a unit that is decided by none where it was open is decided
 module _ (d : Sections) (u : UnitRecord) where
@@ -131,14 +131,14 @@ module _ (d : Sections) (u : UnitRecord) where
       ap (λ (o : Option (Result View Error)). if is_none o then Some None else decided_answer d u answer None) v.1
 
 -- a parse after a parse
-module _ (reads : Reads) (scope : Scope) where
+module _ (reads : ReadingDepth) (scope : Scope) where
   pub unit_again : (u : UnitRecord) (answer : Option (Option Sections)) → read_of_unit reads scope u (decided_answer scope.file.sections u answer None) ≡ read_of_unit reads scope u answer
   unit_again u answer = ap (λ a. read_of_view_at a) (decided_again scope.file.sections u answer)
     where
       read_of_view_at : Option (Option Sections) → Result (Unit {0}) Error
       read_of_view_at a = read_of_view reads scope (verdict scope.file.sections u a)
 
-  pub units_again : (us : List UnitRecord) (answers : List (Option (Option Sections))) → read_of_units reads scope us (answers_after_parse reads scope us answers) ≡ read_of_units reads scope us answers
+  pub units_again : (us : List UnitRecord) (answers : FirstAnswers) → read_of_units reads scope us (answers_after_parse reads scope us answers) ≡ read_of_units reads scope us answers
   units_again [] answers = refl
   units_again (u ∷ us) [] = refl
   units_again (u ∷ us) (a ∷ answers) = by_unit (units_again us answers) (read_of_unit reads scope u a) (unit_again u a)
@@ -148,14 +148,14 @@ module _ (reads : Reads) (scope : Scope) where
       by_unit again (Ok x) e = ap (λ (r : Result (Unit {0}) Error). r >>= λ _. read_of_units reads scope us (answers_after_parse reads scope us answers)) e ∙ again
       by_unit again (Err x) e = ap (λ (r : Result (Unit {0}) Error). r >>= λ _. read_of_units reads scope us answers) e
 
-  pub answers_again : (us : List UnitRecord) (answers : List (Option (Option Sections))) → answers_after_parse reads scope us (answers_after_parse reads scope us answers) ≡ answers_after_parse reads scope us answers
+  pub answers_again : (us : List UnitRecord) (answers : FirstAnswers) → answers_after_parse reads scope us (answers_after_parse reads scope us answers) ≡ answers_after_parse reads scope us answers
   answers_again [] answers = refl
   answers_again (u ∷ us) [] = refl
   answers_again (u ∷ us) (a ∷ answers) =
       ap (λ x. x ∷ unless_fault (read_of_unit reads scope u (decided_answer scope.file.sections u a None)) (answers_after_parse reads scope us (rest (read_of_unit reads scope u a))) (rest (read_of_unit reads scope u a))) (decided_again scope.file.sections u a)
       ∙ ap (λ xs. decided_answer scope.file.sections u a None ∷ xs) (by_unit (answers_again us answers) (read_of_unit reads scope u a) (unit_again u a))
     where
-      rest : Result (Unit {0}) Error → List (Option (Option Sections))
+      rest : Result (Unit {0}) Error → FirstAnswers
       rest r = unless_fault r (answers_after_parse reads scope us answers) answers
 
       by_unit : answers_after_parse reads scope us (answers_after_parse reads scope us answers) ≡ answers_after_parse reads scope us answers → (r : Result (Unit {0}) Error) → read_of_unit reads scope u (decided_answer scope.file.sections u a None) ≡ r
@@ -164,6 +164,6 @@ module _ (reads : Reads) (scope : Scope) where
       by_unit again (Ok x) e = ap (λ (r : Result (Unit {0}) Error). unless_fault r (answers_after_parse reads scope us (answers_after_parse reads scope us answers)) (answers_after_parse reads scope us answers)) e ∙ again
       by_unit again (Err x) e = ap (λ (r : Result (Unit {0}) Error). unless_fault r (answers_after_parse reads scope us answers) answers) e
 
-  pub reads_again : (us : List UnitRecord) (answers : List (Option (Option Sections)))
+  pub reads_again : (us : List UnitRecord) (answers : FirstAnswers)
       → (read_of_units reads scope us (answers_after_parse reads scope us answers) ≡ read_of_units reads scope us answers) × (answers_after_parse reads scope us (answers_after_parse reads scope us answers) ≡ answers_after_parse reads scope us answers)
   reads_again us answers = (units_again us answers, answers_again us answers)

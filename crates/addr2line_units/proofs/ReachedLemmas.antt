@@ -17,7 +17,7 @@ use Rattle.gimli_read.proofs.TopmostLemmas.{In}
 use Rattle.addr2line_lines.proofs.ShortestLemmas.{shortest_holds}
 use Rattle.addr2line_units.specs.declared.frames_lookup.Faults.{Faults}
 use Rattle.addr2line_units.specs.declared.index.UnitRange.{UnitRange}
-use Rattle.addr2line_units.specs.declared.parses.Reads.TheVariants.{Details}
+use Rattle.addr2line_units.specs.declared.parses.ReadingDepth.TheVariants.{Details}
 use Rattle.addr2line_units.specs.Frames.{FoundFunction, FrameRecord, found_frames, found_function, function_at, function_from}
 use Rattle.addr2line_units.specs.FramesLookup.{after_fault, asked_frames, frames_of_number, or_stop, stop_along}
 use Rattle.addr2line_units.specs.FunctionParseLaws.{IsReached}
@@ -27,7 +27,7 @@ use Rattle.gimli_line.specs.Opcode.{fault_of}
 use Rattle.addr2line_units.specs.Located.{all_lines, lines_of_unit}
 use Rattle.addr2line_units.specs.UnitFrames.{FramesResult, frames_by, frames_in, function_by, function_in}
 use Rattle.addr2line_units.specs.RangedUnits.{IndexedUnit, unit_records}
-use Rattle.addr2line_units.specs.Views.{View, decided_answer, is_open, verdict, view_scope}
+use Rattle.addr2line_units.specs.Views.{FirstAnswers, View, decided_answer, is_open, verdict, view_scope}
 use Rattle.addr2line_units.proofs.CachedFunctionLemmas.{function_is}
 use Rattle.addr2line_units.proofs.ParseLemmas.{decided_verdict}
 
@@ -103,7 +103,7 @@ module _ (scope : Scope) (probe : ℕ) where
             ∙ ap (λ (r : Result LineTable Error). (r >>= λ t. Ok (found_frames t.files u.language found.0 (location_at probe t))) >>= λ frames. Ok (Some frames)) lines,
       )
 
-  number_reached : (units : List IndexedUnit) (answers : List (Option (Option Sections))) (n : ℕ) → length units ≡ length answers → read_of_units Details scope (unit_records units) answers ≡ Ok tt → fault_of (all_lines scope.file.sections units) ≡ Ok tt
+  number_reached : (units : List IndexedUnit) (answers : FirstAnswers) (n : ℕ) → length units ≡ length answers → read_of_units Details scope (unit_records units) answers ≡ Ok tt → fault_of (all_lines scope.file.sections units) ≡ Ok tt
       → (frames : List FrameRecord) × (frames_of_number scope units (answers_after_parse Details scope (unit_records units) answers) probe n ≡ Ok (Some frames))
   number_reached [] answers n many read lines = ([], refl)
   number_reached (u ∷ us) [] n many read lines = absurd (omega arith)
@@ -131,7 +131,7 @@ stop_reached frames all (r ∷ ranges) = subst (λ (x : FramesResult). IsReached
 
 -- after a parse of all functions and details without a fault, where all lines can be read too, no
 -- lookup waits or has a fault
-pub reached_all : (faults : Faults) (scope : Scope) (units : List IndexedUnit) (answers : List (Option (Option Sections))) (probe : ℕ) (ranges : List UnitRange) → length units ≡ length answers
+pub reached_all : (faults : Faults) (scope : Scope) (units : List IndexedUnit) (answers : FirstAnswers) (probe : ℕ) (ranges : List UnitRange) → length units ≡ length answers
     → read_of_units Details scope (unit_records units) answers ≡ Ok tt → fault_of (all_lines scope.file.sections units) ≡ Ok tt
     → IsReached (stop_along (asked_frames faults scope units (answers_after_parse Details scope (unit_records units) answers) probe) ranges)
 reached_all faults scope units answers probe ranges many read lines = stop_reached _ each ranges

@@ -13,8 +13,8 @@ use Rattle.addr2line_lines.specs.References.{Scope}
 use Rattle.addr2line_lines.proofs.ReadLemmas.{all_to_fault}
 use Rattle.addr2line_units.specs.declared.functions.LazyFunctions.{LazyFunctions}
 use Rattle.addr2line_units.specs.declared.functions.LazyFunctions.TheVariants as lazy
-use Rattle.addr2line_units.specs.declared.parses.Reads.{Reads}
-use Rattle.addr2line_units.specs.declared.parses.Reads.TheVariants as reads
+use Rattle.addr2line_units.specs.declared.parses.ReadingDepth.{ReadingDepth}
+use Rattle.addr2line_units.specs.declared.parses.ReadingDepth.TheVariants as reads
 use Rattle.addr2line_units.specs.declared.unit_frames.UnitEntries.{UnitEntries}
 use Rattle.addr2line_units.specs.declared.view.ViewState.{ViewState}
 use Rattle.addr2line_units.specs.declared.view.ViewState.TheVariants as states
@@ -26,7 +26,7 @@ use Rattle.addr2line_units.specs.CachedViews.{is_decided, seen_sections, verdict
 use Rattle.addr2line_units.specs.KnownEntries.{AllKnown, NothingKnown, known_answer, known_by, known_fault, known_functions, known_in}
 use Rattle.addr2line_units.specs.Loads.{is_open_at}
 use Rattle.gimli_read.specs.Alike.{HadMemory}
-use Rattle.addr2line_units.specs.Views.{View}
+use Rattle.addr2line_units.specs.Views.{FirstAnswers, View}
 use Rattle.addr2line_units.proofs.AnswerLemmas.{looked_waits}
 use Rattle.addr2line_units.proofs.EntryLemmas.{not_open}
 use Rattle.addr2line_units.proofs.FoundLemmas.{looked_is_decided}
@@ -39,10 +39,10 @@ not_oom (Ok x) h = λ e. cc
 not_oom (Err e) h = λ q. h (let same : e ≡ OutOfMemory = cc in same)
 
 -- a fault that is cached is known
-pub ready_fault : (r : Reads) (e : Error) → e ≢ OutOfMemory → IsReadyFor r (known_fault e)
+pub ready_fault : (r : ReadingDepth) (e : Error) → e ≢ OutOfMemory → IsReadyFor r (known_fault e)
 ready_fault r e ne = subst (λ (b : Bool). IsReadyFor r (if b then AllKnown else NothingKnown)) (sym (cached_unless_oom e ne)) tt
 
-module _ {R : Type 0} (r : Reads) where
+module _ {R : Type 0} (r : ReadingDepth) where
   -- functions that are known were read
   pub ready_were_read : (f : LazyFunctions R) → IsReadyFor r (known_functions f) → were_read f ≡ true
   ready_were_read lazy.Unread h = absurd h
@@ -50,7 +50,7 @@ module _ {R : Type 0} (r : Reads) where
   ready_were_read (lazy.Faulty e) h = refl
 
   -- what was read without a fault is known
-  functions_ready : (q : Reads) (f : LazyFunctions R) → HaveFunctions q f → IsReadyFor q (known_functions f)
+  functions_ready : (q : ReadingDepth) (f : LazyFunctions R) → HaveFunctions q f → IsReadyFor q (known_functions f)
   functions_ready q lazy.Unread h = absurd h
   functions_ready q (lazy.Faulty e) h = absurd h
   functions_ready reads.Functions (lazy.Read t) h = tt
@@ -79,7 +79,7 @@ pub fault_of_functions : (scope : Scope) (view : UnitRecord) (e : Error) → fun
 fault_of_functions scope view e h = ap (λ (r : Result (List FunctionRange) Error). r >>= λ ranges. details_at scope view (entries_of ranges)) h
 
 -- functions that were known and stay as they are
-module _ {R : Type 0} (r : Reads) (old mid : LazyFunctions R) (kept : were_read old ≡ true → (mid ≡ old)) (ready : IsReadyFor r (known_functions old)) where
+module _ {R : Type 0} (r : ReadingDepth) (old mid : LazyFunctions R) (kept : were_read old ≡ true → (mid ≡ old)) (ready : IsReadyFor r (known_functions old)) where
   pub ready_same : mid ≡ old
   ready_same = kept (ready_were_read r old ready)
 
@@ -111,7 +111,7 @@ module _ {R : Type 0} (d : Sections) (u : UnitRecord) (here : Option (Result Vie
       by_unit (Err y) q = absurd cc
 
 -- what is read of a unit is the same after a parse
-number_again : (r : Reads) (scope : Scope) (us : List UnitRecord) (answers : List (Option (Option Sections))) (m : ℕ) → read_of_number r scope us (answers_after_parse r scope us answers) m ≡ read_of_number r scope us answers m
+number_again : (r : ReadingDepth) (scope : Scope) (us : List UnitRecord) (answers : FirstAnswers) (m : ℕ) → read_of_number r scope us (answers_after_parse r scope us answers) m ≡ read_of_number r scope us answers m
 number_again r scope [] answers m = refl
 number_again r scope (u ∷ us) [] m = refl
 number_again r scope (u ∷ us) (a ∷ answers) zero = unit_again r scope u a
@@ -122,7 +122,7 @@ number_again r scope (u ∷ us) (a ∷ answers) (suc m) = by_unit (number_again 
     by_unit rest (Ok y) = rest
     by_unit rest (Err e) = refl
 
-module _ {R : Type 0} (r : Reads) where
+module _ {R : Type 0} (r : ReadingDepth) where
   ready_looked : (s : ViewState R) (f : LazyFunctions R) → IsReadyFor r (known_by s f) → was_looked_at s ≡ true
   ready_looked states.Undecided f h = absurd h
   ready_looked states.Open f h = refl
@@ -150,16 +150,16 @@ module _ {R : Type 0} (r : Reads) where
   ready_units scope (u ∷ us) (v ∷ vs) own (suc n) shut h = ready_units scope us vs own.1 n shut h
 
   -- units of which all is known stay so by the first answers then
-  pub ready_after : (scope : Scope) (us : List UnitRecord) (answers : List (Option (Option Sections))) (vs : List (UnitEntries R)) → HaveEntriesOf scope us vs → answers_in vs ≡ answers_after_parse r scope us answers → AreReadyUnits r scope us answers vs
+  pub ready_after : (scope : Scope) (us : List UnitRecord) (answers : FirstAnswers) (vs : List (UnitEntries R)) → HaveEntriesOf scope us vs → answers_in vs ≡ answers_after_parse r scope us answers → AreReadyUnits r scope us answers vs
       → AreReadyFor r scope us (answers_in vs) (known_in vs)
   ready_after scope us answers vs own same ready n before =
-      shut_units scope us vs own n (ready n (λ m l. sym (number_again r scope us answers m) ∙ ap (λ (a : List (Option (Option Sections))). read_of_number r scope us a m) (sym same) ∙ before m l))
+      shut_units scope us vs own n (ready n (λ m l. sym (number_again r scope us answers m) ∙ ap (λ (a : FirstAnswers). read_of_number r scope us a m) (sym same) ∙ before m l))
 
   pub ready_before : (scope : Scope) (us : List UnitRecord) (vs : List (UnitEntries R)) → HaveEntriesOf scope us vs → AreReadyFor r scope us (answers_in vs) (known_in vs) → AreReadyUnits r scope us (answers_in vs) vs
   ready_before scope us vs own ready n before = let k = ready n before in ready_units scope us vs own n k.0 k.1
 
   -- after the unit with the first fault
-  pub ready_stop : (scope : Scope) (us : List UnitRecord) (answers : List (Option (Option Sections))) (mid new : List (UnitEntries R)) (k : ℕ) (e : Error) → ((n : ℕ) → n < k → IfSome (slice_get mid n) (HasRead r))
+  pub ready_stop : (scope : Scope) (us : List UnitRecord) (answers : FirstAnswers) (mid new : List (UnitEntries R)) (k : ℕ) (e : Error) → ((n : ℕ) → n < k → IfSome (slice_get mid n) (HasRead r))
       → ChangesOnly (λ n. n ≡ k) mid new → IfSome (slice_get new k) (IsReadyUnit r) → read_of_number r scope us answers k ≡ Err e → AreReadyUnits r scope us answers new
   ready_stop scope us answers mid new k e read only at fault n before = elim (at_or_behind n k) [
     | inl l ↦ below n l

@@ -29,7 +29,7 @@ use Rattle.addr2line_units.specs.CachedViews.{answer_in, verdict_in, was_looked_
 use Rattle.addr2line_units.specs.UnitAranges.{aranges_in}
 use Rattle.addr2line_units.specs.RangedUnits.{indexed_of, unit_records, RangedUnit, given_in_unit, is_type_unit, ranged_units, unit_ranges_from, unit_of_header, unless_faulty, units_of}
 use Rattle.addr2line_units.specs.UnitIndex.{UnitIndex, index_units, sup_sections, sup_unit_of_header, sup_units}
-use Rattle.addr2line_units.specs.Views.{View, verdict, view_scope}
+use Rattle.addr2line_units.specs.Views.{FirstAnswers, View, verdict, view_scope}
 
 -- the unit of a header has it
 module _ (d : Sections) (aranges : List UnitArange) (h : UnitHeaderFields) (x : RangedUnit) where
@@ -187,7 +187,7 @@ no_answers [] (v ∷ vs) fresh = absurd fresh
 no_answers (u ∷ us) [] fresh = absurd fresh
 no_answers (u ∷ us) (v ∷ vs) fresh =
     ap (λ (a : Option (Option Sections)). a ∷ answers_in vs) (no_answer v.view.state fresh.0.view)
-    ∙ ap (λ (xs : List (Option (Option Sections))). None ∷ xs) (no_answers us vs fresh.1)
+    ∙ ap (λ (xs : FirstAnswers). None ∷ xs) (no_answers us vs fresh.1)
 
 -- one more unit of which nobody has asked for anything
 pub fresh_push : {R : Type 0} (us : List UnitRecord) (vs : List (UnitEntries R)) (u : UnitRecord) (v : UnitEntries R) → AreFreshOf us vs → AreFresh v → AreFreshOf (us ++ u ∷ []) (vs ++ v ∷ [])

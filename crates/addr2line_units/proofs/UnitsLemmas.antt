@@ -23,7 +23,7 @@ use Rattle.gimli_line.specs.Opcode.{fault_of}
 use Rattle.addr2line_units.specs.Located.{all_lines, along, lines_of_unit, location_in, looks_along, looks_in, or_along}
 use Rattle.gimli_read.specs.Alike.{HadMemory}
 use Rattle.addr2line_units.specs.Parsed.{AllAskFor, AreReadyForAll, ParsesOnly, StaysParsed, can_be_read, decides, has_parsed, ready_along}
-use Rattle.addr2line_units.specs.CachedLines.{AreLinesOf, CachesAnswer, HaveLinesOf, StayUnits, StaysUnit, cached_files, indexed_unit, indexed_units, is_parsed, is_uncached, lines_answer, lines_answer_at, lines_at, location_at_place, parsed_units, place_of_row}
+use Rattle.addr2line_units.specs.CachedLines.{AreLinesOf, CachesResult, HaveLinesOf, StayUnits, StaysUnit, cached_files, indexed_unit, indexed_units, is_parsed, is_uncached, lines_result, lines_result_at, lines_at, location_of_unit_row, parsed_units, unit_row}
 
 -- what is cached is no longer uncached
 parsed_is : (l : LazyLines) → not (is_uncached l) ≡ true → is_uncached l ≡ false
@@ -205,15 +205,15 @@ module _ (d : Sections) (probe : ℕ) (us : List UnitRecord) (rs : List ResUnit)
   in_both = subst (λ k. n < k) (sym (as_many d us rs own)) h
 
   pub row_found : ExactlyUnlessOom (option_map (location_of_row (cached_files s.lines))) result (location_in d probe (Some (indexed_unit u r)))
-      → ExactlyUnlessOom (option_map (λ row. location_at_place (set rs n s) (place_of_row n row))) result (location_in d probe (slice_get (indexed_units us rs) n))
+      → ExactlyUnlessOom (option_map (λ row. location_of_unit_row (set rs n s) (unit_row n row))) result (location_in d probe (slice_get (indexed_units us rs) n))
   row_found k = rw (lines_set rs n s h, unit_at us rs n u r in_both h e f) k
 
   pub row_found_exactly : Exactly (option_map (location_of_row (cached_files s.lines))) result (location_in d probe (Some (indexed_unit u r)))
-      → Exactly (option_map (λ row. location_at_place (set rs n s) (place_of_row n row))) result (location_in d probe (slice_get (indexed_units us rs) n))
+      → Exactly (option_map (λ row. location_of_unit_row (set rs n s) (unit_row n row))) result (location_in d probe (slice_get (indexed_units us rs) n))
   row_found_exactly k = rw (lines_set rs n s h, unit_at us rs n u r in_both h e f) k
 
 -- an answer is cached, unless it is OutOfMemory
-pub answer_cached : {X : Type 0} (old : LazyLines) (result : Result X Error) (new : LazyLines) → CachesAnswer old result new → HadMemory result → is_uncached new ≡ false
+pub answer_cached : {X : Type 0} (old : LazyLines) (result : Result X Error) (new : LazyLines) → CachesResult old result new → HadMemory result → is_uncached new ≡ false
 answer_cached old (Ok x) new h n = h
 answer_cached old (Err e) new h n = h.0 n
 
@@ -275,18 +275,18 @@ module _ (d : Sections) (us : List UnitRecord) (rs : List ResUnit) (n : ℕ) (u 
   same_fault (Ok l) = refl
   same_fault (Err x) = refl
 
-  at_unit : lines_answer_at d (slice_get (indexed_units us rs) n) ≡ fault_of (lines_answer d u)
-  at_unit = ap (lines_answer_at d) (unit_at us rs n u r (subst (λ k. n < k) (sym (as_many d us rs own)) h) h e f) ∙ same_fault (unit_lines d u)
+  at_unit : lines_result_at d (slice_get (indexed_units us rs) n) ≡ fault_of (lines_result d u)
+  at_unit = ap (lines_result_at d) (unit_at us rs n u r (subst (λ k. n < k) (sym (as_many d us rs own)) h) h e f) ∙ same_fault (unit_lines d u)
 
-  pub lines_read : ExactlyUnlessOom (λ _. lines) result (lines_answer d u) → ExactlyUnlessOom (λ x. x) result (lines_answer_at d (slice_get (indexed_units us rs) n))
-  lines_read k = rw at_unit (given result (lines_answer d u) k)
+  pub lines_read : ExactlyUnlessOom (λ _. lines) result (lines_result d u) → ExactlyUnlessOom (λ x. x) result (lines_result_at d (slice_get (indexed_units us rs) n))
+  lines_read k = rw at_unit (given result (lines_result d u) k)
     where
       given : (q : Result (Unit {0}) Error) (a : Result (Option LineTable) Error) → ExactlyUnlessOom (λ _. lines) q a → ExactlyUnlessOom (λ x. x) q (fault_of a)
       given (Ok tt) a i = ap fault_of i
       given (Err x) a i = λ ne. ap fault_of (i ne)
 
-  pub lines_read_exactly : Exactly (λ _. lines) result (lines_answer d u) → Exactly (λ x. x) result (lines_answer_at d (slice_get (indexed_units us rs) n))
-  lines_read_exactly k = rw at_unit (given result (lines_answer d u) k)
+  pub lines_read_exactly : Exactly (λ _. lines) result (lines_result d u) → Exactly (λ x. x) result (lines_result_at d (slice_get (indexed_units us rs) n))
+  lines_read_exactly k = rw at_unit (given result (lines_result d u) k)
     where
       given : (q : Result (Unit {0}) Error) (a : Result (Option LineTable) Error) → Exactly (λ _. lines) q a → Exactly (λ x. x) q (fault_of a)
       given (Ok tt) a i = ap fault_of i
@@ -332,15 +332,15 @@ module _ (d : Sections) where
       ok_err k = cc
   first_fault (Err x) rest f e = e
 
-  lines_after : (us : List IndexedUnit) (n : ℕ) → n < length us → lines_answer_at d (slice_get us n) ≡ Ok tt → fault_of (all_lines d (drop n us)) ≡ fault_of (all_lines d (drop (suc n) us))
+  lines_after : (us : List IndexedUnit) (n : ℕ) → n < length us → lines_result_at d (slice_get us n) ≡ Ok tt → fault_of (all_lines d (drop n us)) ≡ fault_of (all_lines d (drop (suc n) us))
   lines_after [] n h e = absurd (omega arith)
   lines_after (u ∷ us) zero h e = first_read (lines_of_unit d u) (map (lines_of_unit d) us) e
   lines_after (u ∷ us) (suc n) h e = lines_after us n (omega arith) e
 
-  pub lines_more : (us : List IndexedUnit) (n : ℕ) → n < length us → lines_answer_at d (slice_get us n) ≡ Ok tt → fault_of (all_lines d (drop n us)) ≡ fault_of (all_lines d (drop (n + 1) us))
+  pub lines_more : (us : List IndexedUnit) (n : ℕ) → n < length us → lines_result_at d (slice_get us n) ≡ Ok tt → fault_of (all_lines d (drop n us)) ≡ fault_of (all_lines d (drop (n + 1) us))
   lines_more us n h e = rw add-one (lines_after us n h e)
 
-  pub lines_stop : (us : List IndexedUnit) (n : ℕ) (f : Error) → n < length us → lines_answer_at d (slice_get us n) ≡ Err f → fault_of (all_lines d (drop n us)) ≡ Err f
+  pub lines_stop : (us : List IndexedUnit) (n : ℕ) (f : Error) → n < length us → lines_result_at d (slice_get us n) ≡ Err f → fault_of (all_lines d (drop n us)) ≡ Err f
   lines_stop [] n f h e = absurd (omega arith)
   lines_stop (u ∷ us) zero f h e = first_fault (lines_of_unit d u) (map (lines_of_unit d) us) f e
   lines_stop (u ∷ us) (suc n) f h e = lines_stop us n f (omega arith) e
@@ -349,7 +349,7 @@ module _ (d : Sections) where
   lines_end us n h = ap (λ xs. fault_of (all_lines d xs)) (drop_of_length-le us h)
 
   -- whether the lines of a unit can be read, by the answer that they give
-  pub readable : (u : Option IndexedUnit) → lines_answer_at d u ≡ Ok tt → can_be_read d u ≡ true
+  pub readable : (u : Option IndexedUnit) → lines_result_at d u ≡ Ok tt → can_be_read d u ≡ true
   readable None e = refl
   readable (Some u) e = of_lines (lines_of_unit d u) e
     where
@@ -360,7 +360,7 @@ module _ (d : Sections) where
           err_ok : ◌≡◌ {A = Result (Unit {0}) Error} (Err x) (Ok tt) → ⊥
           err_ok k = cc
 
-  pub unreadable : (u : Option IndexedUnit) (f : Error) → lines_answer_at d u ≡ Err f → can_be_read d u ≡ true → ⊥
+  pub unreadable : (u : Option IndexedUnit) (f : Error) → lines_result_at d u ≡ Err f → can_be_read d u ≡ true → ⊥
   unreadable None f e h = ok_err e
     where
       ok_err : ◌≡◌ {A = Result (Unit {0}) Error} (Ok tt) (Err f) → ⊥
@@ -382,7 +382,7 @@ module _ (d : Sections) where
   asks_more us k before at n h = elim (below_or_at n k h) [ inl l ↦ before n l | inr e ↦ ap (λ m. can_be_read d (slice_get us m)) e ∙ at ]
 
   -- where the lines are parsed up to one with a fault, those of all units are ready
-  pub ready_at_fault : (us : List IndexedUnit) (p : List Bool) (k : ℕ) (f : Error) → ((n : ℕ) → n < k → has_parsed p n ≡ true) → has_parsed p k ≡ true → lines_answer_at d (slice_get us k) ≡ Err f → AreReadyForAll d us p
+  pub ready_at_fault : (us : List IndexedUnit) (p : List Bool) (k : ℕ) (f : Error) → ((n : ℕ) → n < k → has_parsed p n ≡ true) → has_parsed p k ≡ true → lines_result_at d (slice_get us k) ≡ Err f → AreReadyForAll d us p
   ready_at_fault us p k f before at fault n asked = elim (three n k) [ inl l ↦ before n l | inr m ↦ elim m [ inl e ↦ ap (has_parsed p) e ∙ at | inr l ↦ absurd (unreadable (slice_get us k) f fault (asked k l)) ] ]
 
 -- the lines of the units before a number are parsed

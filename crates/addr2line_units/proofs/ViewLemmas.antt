@@ -1,5 +1,5 @@
 -- The views of units (on specs/Views.antt and specs/CachedViews.antt).
-use Rattle.std.proofs.Common.{◌≡◌, ◌≢◌, ◌∙◌, ℕ, ap, sym, refl, subst, not, ◌⊎◌, inl, inr, ⊎_elim, Bool, true, false, [], Option, Some, None, is_some, is_none, option_map, IfSome, IfOk, Result, Ok, Err, if◌then◌else◌}
+use Rattle.std.proofs.Common.{◌≡◌, ◌≢◌, ◌∙◌, ℕ, ap, sym, refl, subst, not, ◌⊎◌, inl, inr, ⊎_elim, ◌||◌, Bool, true, false, List, [], ◌∷◌, Option, Some, None, is_some, is_none, option_map, IfSome, IfOk, Result, Ok, Err, if◌then◌else◌}
 use Rattle.gimli_read.specs.declared.error.Error.{Error}
 use Rattle.gimli_read.specs.declared.error.Error.TheVariants.{OutOfMemory}
 use Rattle.gimli_read.specs.declared.value.AttributeValue.{AttributeValue}
@@ -9,14 +9,18 @@ use Rattle.gimli.specs.declared.unit.DwoId.{DwoId}
 use Rattle.gimli.specs.Sections.{Sections}
 use Rattle.gimli.specs.Split.{dwo_name_fault, dwo_name_of, relocated, string_fault_if}
 use Rattle.gimli_line.specs.Opcode.{fault_of}
-use Rattle.gimli.specs.Unit.{UnitRecord, attr_string_of}
+use Rattle.gimli.specs.Header.{UnitHeaderFields}
+use Rattle.gimli.specs.Unit.{UnitRecord, attr_string_of, unit_record_of}
+use Rattle.gimli.specs.UnitMemory.{unit_takes_memory}
+use Rattle.gimli.specs.UnitsLeft.{all_headers}
+use Rattle.addr2line_lines.specs.FileTexts.{optional_string}
 use Rattle.addr2line_lines.specs.References.{IsScope, Scope}
-use Rattle.addr2line_units.specs.declared.view.Answer.{Answer}
+use Rattle.addr2line_units.specs.declared.view.AnsweredLoad.{AnsweredLoad}
 use Rattle.addr2line_units.specs.declared.view.UnitView.{UnitView}
 use Rattle.addr2line_units.specs.declared.view.ViewState.{ViewState}
 use Rattle.addr2line_units.specs.declared.view.ViewState.TheVariants as states
 use Rattle.addr2line_units.specs.CachedViews.{IsViewOf, answer_in, scope_by, seen_first_answer, seen_sections, split_file_by, split_file_in, split_unit, verdict_in, view_by, waits}
-use Rattle.addr2line_units.specs.Views.{SplitLoad, View, answered_view, first_unit, first_view, load_by, load_of_unit, main_view, split_name_of, string_if, verdict, verdict_by, view_scope}
+use Rattle.addr2line_units.specs.Views.{SplitLoad, View, answered_view, first_of, first_takes_memory, first_unit, first_unit_takes_memory, first_view, load_by, load_of_unit, main_view, split_name_of, verdict, verdict_by, view_scope}
 
 decided_by : (d : Sections) (u : UnitRecord) (load : Result (Option SplitLoad) Error) (r : Result View Error) (answer : Option (Option Sections)) → verdict_by d u load None ≡ Some r → verdict_by d u load answer ≡ Some r
 decided_by d u (Err e) r answer h = h
@@ -72,7 +76,7 @@ name_fault d u = by_value (dwo_name_of u)
     by_string (Ok s) = refl
     by_string (Err e) = refl
 
-    by_value : (r : Result (Option (AttributeValue Section)) Error) → ((r >>= string_if d u) >>= λ _. Ok tt) ≡ (r >>= string_fault_if d u)
+    by_value : (r : Result (Option (AttributeValue Section)) Error) → ((r >>= optional_string d u) >>= λ _. Ok tt) ≡ (r >>= string_fault_if d u)
     by_value (Err e) = refl
     by_value (Ok None) = refl
     by_value (Ok (Some value)) = by_string (attr_string_of d u value)
@@ -114,8 +118,26 @@ pub view_by_split_unit : (d : Sections) (main : UnitRecord) (answer : Option Sec
 view_by_split_unit d main None = refl
 view_by_split_unit d main (Some split) = first_by d main split (first_unit split)
 
+-- the first unit of sections
+module _ (shares : Bool) (d : Sections) where
+  pub first_shared : shares ≡ true → first_unit_takes_memory shares d ≡ true
+  first_shared e = ap (λ b. b || first_takes_memory b d (all_headers d.debug_info)) e
+
+  pub first_taken : (header : UnitHeaderFields) (rest : List (Result UnitHeaderFields Error)) → all_headers d.debug_info ≡ Ok header ∷ rest → unit_takes_memory shares d header ≡ true → first_unit_takes_memory shares d ≡ true
+  first_taken header rest e h = by_test shares (ap (first_takes_memory shares d) e ∙ h)
+    where
+      by_test : (b : Bool) → first_takes_memory shares d (all_headers d.debug_info) ≡ true → (b || first_takes_memory shares d (all_headers d.debug_info)) ≡ true
+      by_test true k = refl
+      by_test false k = k
+
+  pub first_refused : (f : Error) (rest : List (Result UnitHeaderFields Error)) → all_headers d.debug_info ≡ Err f ∷ rest → first_unit d ≡ Err f
+  first_refused f rest e = ap (first_of d) e
+
+  pub first_faulty : (header : UnitHeaderFields) (rest : List (Result UnitHeaderFields Error)) (f : Error) → all_headers d.debug_info ≡ Ok header ∷ rest → unit_record_of d header ≡ Err f → first_unit d ≡ Err f
+  first_faulty header rest f e h = ap (first_of d) e ∙ ap (λ r. r >>= λ (u : UnitRecord). Ok (Some u)) h
+
 -- an answer with its split unit is the view of a unit that was open
-pub answered_is_right : {R : Type 0} (d : Sections) (u : UnitRecord) (a : Answer R) → verdict d u None ≡ None → a.unit ≡ split_unit u (seen_sections a) → IsViewOf {R = R} d u (record { state = states.Answered a })
+pub answered_is_right : {R : Type 0} (d : Sections) (u : UnitRecord) (a : AnsweredLoad R) → verdict d u None ≡ None → a.unit ≡ split_unit u (seen_sections a) → IsViewOf {R = R} d u (record { state = states.Answered a })
 answered_is_right d u a waiting h = record {
   right = ap Some (ap (λ r. r >>= λ x. Ok (view_by d u (seen_sections a) x)) h ∙ view_by_split_unit d u (seen_sections a)) ∙ sym (verdict_of_open d u (seen_sections a) waiting);
   waited = λ _. ap is_none waiting;

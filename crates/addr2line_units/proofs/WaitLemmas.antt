@@ -26,7 +26,7 @@ use Rattle.addr2line_units.specs.CachedViews.{IsViewOf, was_looked_at, waits}
 use Rattle.gimli_read.specs.Alike.{HadMemory}
 use Rattle.addr2line_units.specs.UnitFrames.{FramesResult, frames_by, frames_in, function_in}
 use Rattle.addr2line_units.specs.RangedUnits.{IndexedUnit}
-use Rattle.addr2line_units.specs.Views.{is_open}
+use Rattle.addr2line_units.specs.Views.{FirstAnswers, is_open}
 use Rattle.addr2line_units.proofs.AnswerLemmas.{got_unit, looked_waits}
 
 number_of : Stop → ℕ → ℕ
@@ -109,7 +109,7 @@ module _ {R : Type 0} (scope : Scope) (probe : ℕ) where
       (and_first (has_entries_at probe vs n) _ t.1)
 
   -- the same by what a lookup says of itself
-  pub waits_if_found : (faults : Faults) (us : List UnitRecord) (rs : List ResUnit) (vs : List (UnitEntries R)) (units : List IndexedUnit) (answers : List (Option (Option Sections))) (asks_lines : ℕ → Bool)
+  pub waits_if_found : (faults : Faults) (us : List UnitRecord) (rs : List ResUnit) (vs : List (UnitEntries R)) (units : List IndexedUnit) (answers : FirstAnswers) (asks_lines : ℕ → Bool)
       (parsed : List Bool) (ranges : List UnitRange) (r : Result FramesStop Error) → HaveEntriesOf scope us vs → units ≡ indexed_units us rs → answers ≡ answers_in vs
       → ExactlyUnlessOom (seen_stop rs vs) r (stop_along (asked_frames faults scope units answers probe) ranges)
       → (HadMemory r → holds_along (has_frames_at asks_lines probe parsed vs) (asked_frames faults scope units answers probe) ranges ≡ true) → IfOk r (WaitsIn vs)

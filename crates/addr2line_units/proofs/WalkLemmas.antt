@@ -14,9 +14,10 @@ use Rattle.addr2line_units.specs.RangedUnits.{IndexedUnit}
 use Rattle.addr2line_units.specs.UnitFrames.{FramesResult}
 use Rattle.addr2line_units.proofs.CachedUnitLemmas.{same_answers}
 use Rattle.addr2line_units.proofs.UnitsLemmas.{stay_indexed}
+use Rattle.addr2line_units.specs.Views.{FirstAnswers}
 
 -- what is said of units and answers that stayed is so of those at the start
-pub at_first : {R : Type 0} (us : List UnitRecord) (rs ss : List ResUnit) (vs ws : List (UnitEntries R)) (P : List IndexedUnit → List (Option (Option Sections)) → Type 0) → StayUnits rs ss → StayAllEntries vs ws
+pub at_first : {R : Type 0} (us : List UnitRecord) (rs ss : List ResUnit) (vs ws : List (UnitEntries R)) (P : List IndexedUnit → FirstAnswers → Type 0) → StayUnits rs ss → StayAllEntries vs ws
     → P (indexed_units us ss) (answers_in ws) → P (indexed_units us rs) (answers_in vs)
 at_first us rs ss vs ws P a b h =
     subst (λ xs. P (indexed_units us rs) xs) (same_answers vs ws b)

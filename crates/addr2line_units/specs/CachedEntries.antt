@@ -33,8 +33,8 @@ first_answer_of v = seen_first_answer v.view
 pub record AreEntriesOf {R : Type 0} (scope : Scope) (u : UnitRecord) (v : UnitEntries R)
     : Type 0 where
   pub view : IsViewOf scope.file.sections u v.view
-  pub functions : IfSome (verdict scope.file.sections u (first_answer_of v)) (λ view. IfOk view (λ x.
-      AreFunctionsOf (view_scope scope x) x.unit v.functions))
+  pub functions : IfSome (verdict scope.file.sections u (first_answer_of v)) (λ view.
+      IfOk view (λ x. AreFunctionsOf (view_scope scope x) x.unit v.functions))
   pub unread : is_decided v.view.state ≡ false → were_read v.functions ≡ false
 
 -- nobody has asked for anything yet

@@ -12,7 +12,7 @@ use Rattle.addr2line_lines.specs.InlinedChain.{inlined_chain}
 use Rattle.addr2line_lines.specs.FoundInlined.{entry_among}
 use Rattle.addr2line_lines.specs.FunctionDetails.{AreDetailsOf, IsTableMore, details_take_memory}
 use Rattle.addr2line_lines.specs.FunctionTable.{AreListed, FunctionTable, cached_detail, cached_inlined, cached_name, function_place_at, inlined_of_detail, cached_offset_at}
-use Rattle.addr2line_lines.specs.Functions.{entries_of, functions_of}
+use Rattle.addr2line_lines.specs.Functions.{entries_of, functions_of, functions_take_memory}
 use Rattle.addr2line_lines.specs.ManyInlined.{are_many}
 use Rattle.addr2line_lines.specs.References.{Scope}
 use Rattle.addr2line_units.specs.declared.functions.FunctionPlace.{FunctionPlace}
@@ -95,11 +95,13 @@ place_takes_memory probe t (Some n) = cached_detail_takes_memory probe (cached_d
 abbrev pub table_takes_memory : ℕ → FunctionTable → Bool
 table_takes_memory probe t = place_takes_memory probe t (function_place_at probe t)
 
--- the same of what is cached of a view
-abbrev pub find_takes_memory : {R : Type 0} → ℕ → LazyFunctions R → Bool
-find_takes_memory probe lazy.Unread = true
-find_takes_memory probe (lazy.Read t) = table_takes_memory probe t
-find_takes_memory probe (lazy.Faulty e) = false
+-- the same of what is cached of a view: of functions that weren't read where they take memory
+abbrev pub find_takes_memory : {R : Type 0} → Bool → Scope → UnitRecord → ℕ → LazyFunctions R
+    → Bool
+find_takes_memory shares scope view probe lazy.Unread =
+    functions_take_memory shares scope.file.sections view
+find_takes_memory shares scope view probe (lazy.Read t) = table_takes_memory probe t
+find_takes_memory shares scope view probe (lazy.Faulty e) = false
 
 -- whether a fault is one that is cached: any but OutOfMemory
 abbrev pub is_cached_fault : Error → Bool
@@ -138,10 +140,11 @@ abbrev pub functions_fault : Scope → UnitRecord → Result (Unit {0}) Error
 functions_fault scope view = functions_of scope.file.sections view >>= λ ranges.
     details_at scope view (entries_of ranges)
 
--- whether memory may be taken to read the functions of a view with all details: they weren't read,
--- or memory is taken for details of those that are cached
+-- whether memory may be taken to read the functions of a view with all details: for the functions,
+-- where they weren't read, or for details of those that are cached
 abbrev pub reading_takes_memory : {R : Type 0} → Bool → Scope → UnitRecord → LazyFunctions R → Bool
-reading_takes_memory shares scope view lazy.Unread = true
+reading_takes_memory shares scope view lazy.Unread =
+    functions_take_memory shares scope.file.sections view
 reading_takes_memory shares scope view (lazy.Read t) =
     details_take_memory shares scope view t.functions
 reading_takes_memory shares scope view (lazy.Faulty e) = false

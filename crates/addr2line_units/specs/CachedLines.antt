@@ -2,6 +2,7 @@
 -- Own: lines are read when they are first asked for, and cached then, their fault too. OutOfMemory
 -- is never cached.
 use Rattle.std.specs.Prelude.{◌≡◌, ◌≢◌, ℕ, Bool, true, false, not, List, [], ◌∷◌, map, Option, Some, None, is_some, slice_get, Result, Ok, Err}
+use Rattle.std.specs.List.{AllZip}
 use Rattle.gimli_read.specs.declared.error.Error.{Error}
 use Rattle.gimli_read.specs.declared.error.Error.TheVariants.{OutOfMemory}
 use Rattle.gimli_read.specs.declared.range.Range.{Range}
@@ -14,7 +15,7 @@ use Rattle.addr2line_lines.specs.RangeLocations.{LocatedSpan, locations_in_range
 use Rattle.addr2line_lines.specs.Counts.{most_looks_in}
 use Rattle.addr2line_lines.specs.Spans.{row_at}
 use Rattle.addr2line_lines.specs.UnitLines.{unit_lines}
-use Rattle.addr2line_units.specs.declared.place.Place.{Place}
+use Rattle.addr2line_units.specs.declared.unit_row.UnitRow.{UnitRow}
 use Rattle.addr2line_units.specs.declared.unit.LazyLines.{LazyLines}
 use Rattle.addr2line_units.specs.declared.unit.LazyLines.TheVariants.{Unread, Read, Faulty}
 use Rattle.addr2line_units.specs.declared.unit.ResUnit.{ResUnit}
@@ -35,10 +36,10 @@ cached_lines (Read lines) = Some lines
 cached_lines _ = None
 
 -- the cached lines, or their cached fault
-abbrev pub cached_lines_answer : LazyLines → Result (Option Lines) Error
-cached_lines_answer Unread = Ok None
-cached_lines_answer (Read lines) = Ok (Some lines)
-cached_lines_answer (Faulty e) = Err e
+abbrev pub cached_lines_result : LazyLines → Result (Option Lines) Error
+cached_lines_result Unread = Ok None
+cached_lines_result (Read lines) = Ok (Some lines)
+cached_lines_result (Faulty e) = Err e
 
 -- whether nothing is cached yet
 abbrev pub is_uncached : LazyLines → Bool
@@ -50,14 +51,14 @@ abbrev pub LinesStayCached : LazyLines → LazyLines → Type 0
 LinesStayCached old new = is_uncached old ≡ false → new ≡ old
 
 -- after an answer the lines are cached, or their fault; after OutOfMemory they are as before
-abbrev pub CachesAnswer : {X : Type 0} → LazyLines → Result X Error → LazyLines → Type 0
-CachesAnswer old (Ok x) new = is_uncached new ≡ false
-CachesAnswer old (Err e) new =
+abbrev pub CachesResult : {X : Type 0} → LazyLines → Result X Error → LazyLines → Type 0
+CachesResult old (Ok x) new = is_uncached new ≡ false
+CachesResult old (Err e) new =
     (e ≢ OutOfMemory → is_uncached new ≡ false) × (e ≡ OutOfMemory → new ≡ old)
 
 -- what the lines of a unit are once they are cached
-abbrev pub lines_answer : Sections → UnitRecord → Result (Option Lines) Error
-lines_answer d u = unit_lines d u >>= λ lines. Ok (Some lines)
+abbrev pub lines_result : Sections → UnitRecord → Result (Option Lines) Error
+lines_result d u = unit_lines d u >>= λ lines. Ok (Some lines)
 
 -- the texts of the files of cached lines
 abbrev pub cached_files : LazyLines → List (List ℕ)
@@ -110,9 +111,7 @@ parsed_units units = map is_parsed units
 
 -- beside each unit stand cached lines, which are its own
 abbrev pub HaveLinesOf : Sections → List UnitRecord → List ResUnit → Type 0
-HaveLinesOf d [] [] = Unit {0}
-HaveLinesOf d (x ∷ dw_units) (u ∷ units) = AreLinesOf d x u.lines × HaveLinesOf d dw_units units
-HaveLinesOf d _ _ = ⊥
+HaveLinesOf d dw_units units = AllZip (λ x u. AreLinesOf d x u.lines) dw_units units
 
 -- the lines of a unit, as they are cached
 abbrev pub lines_in_cache : Option ResUnit → LazyLines
@@ -130,19 +129,18 @@ pub record StaysUnit (old new : ResUnit) : Type 0 where
 
 -- the same of each unit
 abbrev pub StayUnits : List ResUnit → List ResUnit → Type 0
-StayUnits [] [] = Unit {0}
-StayUnits (u ∷ us) (v ∷ vs) = StaysUnit u v × StayUnits us vs
-StayUnits _ _ = ⊥
+StayUnits old new = AllZip StaysUnit old new
 
 -- whether the lines of a unit can be read, none where there is no such unit
-abbrev pub lines_answer_at : Sections → Option IndexedUnit → Result (Unit {0}) Error
-lines_answer_at d None = Ok tt
-lines_answer_at d (Some u) = fault_of (unit_lines d u.unit)
+abbrev pub lines_result_at : Sections → Option IndexedUnit → Result (Unit {0}) Error
+lines_result_at d None = Ok tt
+lines_result_at d (Some u) = fault_of (unit_lines d u.unit)
 
 -- a row in the lines of a unit
-abbrev pub place_of_row : ℕ → Row → Place
-place_of_row n row = record { unit = n; row = row }
+abbrev pub unit_row : ℕ → Row → UnitRow
+unit_row n row = record { unit = n; row = row }
 
 -- the location of a row in the lines of a unit
-abbrev pub location_at_place : List ResUnit → Place → Location
-location_at_place units place = location_of_row (cached_files (lines_at units place.unit)) place.row
+abbrev pub location_of_unit_row : List ResUnit → UnitRow → Location
+location_of_unit_row units found =
+    location_of_row (cached_files (lines_at units found.unit)) found.row

@@ -1,15 +1,14 @@
 -- What is cached of the entries of all units after a parse of their functions, as the private
 -- functions see it.
-use Rattle.std.specs.Prelude.{◌≡◌, ◌⊎◌, ℕ, Bool, true, false, is_ok, List, [], ◌∷◌, Option, IfSome, slice_get}
+use Rattle.std.specs.Prelude.{◌≡◌, ◌⊎◌, ℕ, Bool, true, false, is_ok, List, [], ◌∷◌, IfSome, slice_get}
 use Rattle.std.specs.List.{AllByRecursion}
-use Rattle.gimli.specs.Sections.{Sections}
 use Rattle.gimli.specs.Unit.{UnitRecord}
 use Rattle.addr2line_lines.specs.FunctionDetails.{HasDetail}
 use Rattle.addr2line_lines.specs.References.{Scope}
 use Rattle.addr2line_units.specs.declared.functions.LazyFunctions.{LazyFunctions}
 use Rattle.addr2line_units.specs.declared.functions.LazyFunctions.TheVariants as lazy
-use Rattle.addr2line_units.specs.declared.parses.Reads.{Reads}
-use Rattle.addr2line_units.specs.declared.parses.Reads.TheVariants as reads
+use Rattle.addr2line_units.specs.declared.parses.ReadingDepth.{ReadingDepth}
+use Rattle.addr2line_units.specs.declared.parses.ReadingDepth.TheVariants as reads
 use Rattle.addr2line_units.specs.declared.unit_frames.UnitEntries.{UnitEntries}
 use Rattle.addr2line_units.specs.declared.view.ViewState.{ViewState}
 use Rattle.addr2line_units.specs.declared.view.ViewState.TheVariants as states
@@ -17,6 +16,7 @@ use Rattle.addr2line_units.specs.FunctionParses.{AreReadBefore, IsReadyFor}
 use Rattle.addr2line_units.specs.CachedEntries.{StayEntries}
 use Rattle.addr2line_units.specs.CachedViews.{is_decided}
 use Rattle.addr2line_units.specs.KnownEntries.{known_by}
+use Rattle.addr2line_units.specs.Views.{FirstAnswers}
 
 -- whether the view is known, and has no fault
 abbrev pub has_view : {R : Type 0} → ViewState R → Bool
@@ -25,29 +25,29 @@ has_view (states.Answered a) = is_ok a.unit
 has_view _ = false
 
 -- the functions are cached, with all details where these are read, and none has a fault
-abbrev pub HaveFunctions : {R : Type 0} → Reads → LazyFunctions R → Type 0
+abbrev pub HaveFunctions : {R : Type 0} → ReadingDepth → LazyFunctions R → Type 0
 HaveFunctions reads lazy.Unread = ⊥
 HaveFunctions reads (lazy.Faulty e) = ⊥
 HaveFunctions reads.Functions (lazy.Read t) = Unit {0}
 HaveFunctions reads.Details (lazy.Read t) = AllByRecursion HasDetail t.functions
 
 -- all that is read of a unit is cached, and has no fault
-pub record HasRead {R : Type 0} (reads : Reads) (v : UnitEntries R) : Type 0 where
+pub record HasRead {R : Type 0} (reads : ReadingDepth) (v : UnitEntries R) : Type 0 where
   pub view : has_view v.view.state ≡ true
   pub functions : HaveFunctions reads v.functions
 
 -- the same of each unit
-abbrev pub HaveRead : {R : Type 0} → Reads → List (UnitEntries R) → Type 0
+abbrev pub HaveRead : {R : Type 0} → ReadingDepth → List (UnitEntries R) → Type 0
 HaveRead reads views = AllByRecursion (HasRead reads) views
 
 -- the view of a unit is known, or its fault, and what is read of it, up to the first fault
-pub record IsReadyUnit {R : Type 0} (reads : Reads) (v : UnitEntries R) : Type 0 where
+pub record IsReadyUnit {R : Type 0} (reads : ReadingDepth) (v : UnitEntries R) : Type 0 where
   pub decided : is_decided v.view.state ≡ true
   pub known : IsReadyFor reads (known_by v.view.state v.functions)
 
 -- the same of each unit before which all can be read
-abbrev pub AreReadyUnits : {R : Type 0} → Reads → Scope → List UnitRecord
-    → List (Option (Option Sections)) → List (UnitEntries R) → Type 0
+abbrev pub AreReadyUnits : {R : Type 0} → ReadingDepth → Scope → List UnitRecord
+    → FirstAnswers → List (UnitEntries R) → Type 0
 AreReadyUnits reads scope us answers views = (n : ℕ) → AreReadBefore reads scope us answers n
     → IfSome (slice_get views n) (IsReadyUnit reads)
 

@@ -1,43 +1,36 @@
 -- What is cached of all units of a context, as the private functions see it: their views, their
 -- functions and their first answers side by side, and which units wait.
-use Rattle.std.specs.Prelude.{◌≡◌, ◌⊎◌, ℕ, Bool, true, false, ◌&&◌, List, [], ◌∷◌, map, Option, IfSome, option_map, slice_get, unwrap_or}
+use Rattle.std.specs.Prelude.{◌≡◌, ◌⊎◌, ℕ, Bool, true, false, ◌&&◌, List, [], ◌∷◌, map, IfSome, option_map, slice_get, unwrap_or}
+use Rattle.std.specs.List.{AllZip}
 use Rattle.gimli.specs.Sections.{Sections}
 use Rattle.gimli.specs.Unit.{UnitRecord}
-use Rattle.addr2line_lines.specs.References.{FileRecord, Scope}
+use Rattle.addr2line_lines.specs.References.{Scope}
 use Rattle.addr2line_units.specs.declared.frames_lookup.FramesStop.{FramesStop}
 use Rattle.addr2line_units.specs.declared.frames_lookup.FramesStop.TheVariants as stops
 use Rattle.addr2line_units.specs.declared.index.UnitRange.{UnitRange}
-use Rattle.addr2line_units.specs.declared.sup.SupUnits.{SupUnits}
 use Rattle.addr2line_units.specs.declared.unit_frames.UnitEntries.{UnitEntries}
 use Rattle.addr2line_units.specs.CachedViews.{IsViewOf, is_decided, waits}
 use Rattle.addr2line_units.specs.CachedEntries.{AreEntriesOf, AreFresh, ReadsEntriesOf, StayEntries, has_entries, first_answer_of}
+use Rattle.addr2line_units.specs.Views.{FirstAnswers}
 
 -- beside each unit stands what is cached of its entries, which is its own
 abbrev pub HaveEntriesOf : {R : Type 0} → Scope → List UnitRecord → List (UnitEntries R) → Type 0
-HaveEntriesOf scope [] [] = Unit {0}
-HaveEntriesOf scope (u ∷ us) (v ∷ vs) = AreEntriesOf scope u v × HaveEntriesOf scope us vs
-HaveEntriesOf scope _ _ = ⊥
+HaveEntriesOf scope us views = AllZip (AreEntriesOf scope) us views
 
 -- beside each unit stands what is cached of its view
 abbrev pub HaveViewsOf : {R : Type 0} → Sections → List UnitRecord → List (UnitEntries R) → Type 0
-HaveViewsOf d [] [] = Unit {0}
-HaveViewsOf d (u ∷ us) (v ∷ vs) = IsViewOf d u v.view × HaveViewsOf d us vs
-HaveViewsOf d _ _ = ⊥
+HaveViewsOf d us views = AllZip (λ u v. IsViewOf d u v.view) us views
 
 -- nobody has asked for any entries yet
 abbrev pub AreFreshOf : {R : Type 0} → List UnitRecord → List (UnitEntries R) → Type 0
-AreFreshOf [] [] = Unit {0}
-AreFreshOf (u ∷ us) (v ∷ vs) = AreFresh v × AreFreshOf us vs
-AreFreshOf _ _ = ⊥
+AreFreshOf us views = AllZip (λ _ v. AreFresh v) us views
 
 -- what is cached of the entries of each unit stays
 abbrev pub StayAllEntries : {R : Type 0} → List (UnitEntries R) → List (UnitEntries R) → Type 0
-StayAllEntries [] [] = Unit {0}
-StayAllEntries (v ∷ vs) (w ∷ ws) = StayEntries v w × StayAllEntries vs ws
-StayAllEntries _ _ = ⊥
+StayAllEntries old new = AllZip StayEntries old new
 
 -- the first answers of units
-abbrev pub answers_in : {R : Type 0} → List (UnitEntries R) → List (Option (Option Sections))
+abbrev pub answers_in : {R : Type 0} → List (UnitEntries R) → FirstAnswers
 answers_in views = map first_answer_of views
 
 -- for which units what they have at the probe is known by what is cached of their entries; a number
@@ -52,14 +45,6 @@ abbrev pub ReadsOnly : {R : Type 0} → (ℕ → Type 0) → ℕ → List (UnitE
 ReadsOnly IsAsked probe old new = (n : ℕ) → (slice_get new n ≡ slice_get old n)
     ⊎ (IsAsked n × IfSome (slice_get old n) (λ v. IfSome (slice_get new n)
     (ReadsEntriesOf probe v)))
-
--- where references to the supplementary file lead, if there is one
-abbrev pub sup_file : {R : Type 0} → SupUnits R → Option FileRecord
-sup_file sup = option_map (λ d. record { sections = d; units = sup.units.items }) sup.dwarf
-
--- where references lead from the units of a file
-abbrev pub scope_in : {R : Type 0} → Sections → List UnitRecord → SupUnits R → Scope
-scope_in d us sup = record { file = record { sections = d; units = us }; sup = sup_file sup }
 
 -- whether the unit of a number was looked at and waits for an answer
 abbrev pub waits_at : {R : Type 0} → List (UnitEntries R) → ℕ → Bool

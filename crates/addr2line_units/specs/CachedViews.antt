@@ -8,14 +8,14 @@ use Rattle.gimli.specs.Sections.{Sections}
 use Rattle.gimli.specs.Split.{relocated}
 use Rattle.gimli.specs.Unit.{UnitRecord}
 use Rattle.addr2line_lines.specs.References.{Scope}
-use Rattle.addr2line_units.specs.declared.view.Answer.{Answer}
+use Rattle.addr2line_units.specs.declared.view.AnsweredLoad.{AnsweredLoad}
 use Rattle.addr2line_units.specs.declared.view.UnitView.{UnitView}
 use Rattle.addr2line_units.specs.declared.view.ViewState.{ViewState}
 use Rattle.addr2line_units.specs.declared.view.ViewState.TheVariants as states
 use Rattle.addr2line_units.specs.Views.{View, first_unit, is_open, main_view, parts_of, split_view, verdict}
 
 -- an answer
-abbrev pub seen_sections : {R : Type 0} → Answer R → Option Sections
+abbrev pub seen_sections : {R : Type 0} → AnsweredLoad R → Option Sections
 seen_sections a = option_map (λ d. d.value) a.sections
 
 -- the first answer that a state has
@@ -38,7 +38,7 @@ view_by d main (Some split) (Some u) = split_view split u
 view_by d main _ _ = main_view d main
 
 -- the view that is cached of an answer, or the fault
-abbrev pub view_in : {R : Type 0} → Sections → UnitRecord → Answer R → Result View Error
+abbrev pub view_in : {R : Type 0} → Sections → UnitRecord → AnsweredLoad R → Result View Error
 view_in d main a = a.unit >>= λ x. Ok (view_by d main (seen_sections a) x)
 
 -- what is cached of the verdict: whether the unit is open, and else its view or the fault; none

@@ -1,7 +1,7 @@
 -- Which units hold an address: the ranges that lead to them, as they are listed, and those of them
 -- that hold an address or meet a range (DWARF 5, sections 2.17 and 6.1.2).
 -- Own: by end, then by unit, then by begin. A unit is met once for each such range.
-use Rattle.std.specs.Prelude.{ℕ, nat_lt, nat_le, Bool, ◌&&◌, List, filter}
+use Rattle.std.specs.Prelude.{◌≡◌, ◌⊎◌, ℕ, nat_lt, nat_le, Bool, true, false, ◌&&◌, ◌||◌, List, [], ◌∷◌, filter}
 use Rattle.std.specs.Ordering.{is_lt, nat_cmp, ordering_then}
 use Rattle.addr2line_lines.specs.InOrder.{in_order}
 use Rattle.addr2line_units.specs.declared.index.UnitRange.{UnitRange}
@@ -26,3 +26,14 @@ range_overlaps low high r = nat_lt low r.range.end && nat_lt r.range.begin high
 -- the ranges that end past low and begin below high, in order; low may be above high
 abbrev pub cover_range : ℕ → ℕ → List UnitRange → List UnitRange
 cover_range low high ranges = in_order ends_sooner (filter (range_overlaps low high) ranges)
+
+-- whether this is so of each unit along ranges, up to the first that ends the lookup
+abbrev pub holds_until : (ℕ → Bool) → (ℕ → Bool) → List UnitRange → Bool
+holds_until ends holds [] = true
+holds_until ends holds (r ∷ ranges) = holds r.unit && (ends r.unit || holds_until ends holds ranges)
+
+-- a lookup comes to a unit: a range leads to it, and no unit before it ends the lookup
+abbrev pub ComesTo : (ℕ → Bool) → List UnitRange → ℕ → Type 0
+ComesTo ends [] n = ⊥
+ComesTo ends (r ∷ ranges) n =
+    (n ≡ r.unit) ⊎ ((ends r.unit ≡ false) × ComesTo ends ranges n)

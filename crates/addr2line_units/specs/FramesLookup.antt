@@ -1,7 +1,7 @@
 -- Lookups of frames along the ranges that hold an address (DWARF 5, sections 2.17 and 3.3).
 -- Own: the units are asked one after another: the first that waits for an answer, that has a fault,
 -- or that has frames ends the lookup. A lookup of a unit passes over each unit with a fault.
-use Rattle.std.specs.Prelude.{◌≡◌, ◌⊎◌, ℕ, Bool, true, false, ◌&&◌, ◌||◌, List, [], ◌∷◌, set, slice_get, Option, Some, None, option_and_then, option_map, unwrap_or, Result, Ok, Err}
+use Rattle.std.specs.Prelude.{ℕ, Bool, true, false, List, [], ◌∷◌, set, slice_get, Option, Some, None, option_and_then, option_map, unwrap_or, Result, Ok, Err}
 use Rattle.gimli_read.specs.declared.error.Error.{Error}
 use Rattle.gimli_read.specs.Reading.{◌>>=◌}
 use Rattle.gimli.specs.Sections.{Sections}
@@ -10,11 +10,12 @@ use Rattle.addr2line_lines.specs.References.{Scope}
 use Rattle.addr2line_units.specs.declared.index.UnitRange.{UnitRange}
 use Rattle.addr2line_units.specs.declared.frames_lookup.Faults.{Faults}
 use Rattle.addr2line_units.specs.declared.frames_lookup.Faults.TheVariants.{End, PassOver}
+use Rattle.addr2line_units.specs.Cover.{ComesTo, holds_until}
 use Rattle.addr2line_units.specs.Frames.{FrameRecord}
 use Rattle.addr2line_units.specs.UnitFrames.{FramesResult, asks_lines_in, frames_in, has_many}
 use Rattle.addr2line_units.specs.UnitIndex.{UnitIndex, sup_sections}
 use Rattle.addr2line_units.specs.RangedUnits.{IndexedUnit, unit_records}
-use Rattle.addr2line_units.specs.Views.{View, decided_answer, parts_of, verdict}
+use Rattle.addr2line_units.specs.Views.{FirstAnswers, View, decided_answer, parts_of, verdict}
 
 -- where references lead from a unit of a context
 abbrev pub main_scope : Sections → UnitIndex → Scope
@@ -31,13 +32,12 @@ pub data Stop : Type 0 where
   FindsNothing : Stop
 
 -- the first answer of the unit of a number, none while it has none
-abbrev pub answer_of : List (Option (Option Sections)) → ℕ → Option (Option Sections)
+abbrev pub answer_of : FirstAnswers → ℕ → Option (Option Sections)
 answer_of answers n = unwrap_or (slice_get answers n) None
 
 -- the frames at the probe in the unit of a number, none while it is open, or the first fault; where
 -- there is no such unit there are no frames
-abbrev pub frames_of_number : Scope → List IndexedUnit → List (Option (Option Sections)) → ℕ → ℕ
-    → FramesResult
+abbrev pub frames_of_number : Scope → List IndexedUnit → FirstAnswers → ℕ → ℕ → FramesResult
 frames_of_number scope units answers probe n = elim (slice_get units n)
     [ None ↦ Ok (Some []) | Some u ↦ frames_in scope u (answer_of answers n) probe ]
 
@@ -48,8 +48,7 @@ after_fault End (Err e) = Err e
 after_fault PassOver (Err e) = Ok (Some [])
 
 -- what a lookup asks the unit of a number for
-abbrev pub asked_frames : Faults → Scope → List IndexedUnit → List (Option (Option Sections)) → ℕ
-    → ℕ → FramesResult
+abbrev pub asked_frames : Faults → Scope → List IndexedUnit → FirstAnswers → ℕ → ℕ → FramesResult
 asked_frames faults scope units answers probe n =
     after_fault faults (frames_of_number scope units answers probe n)
 
@@ -76,7 +75,7 @@ is_waiting (Ok (Waits n)) = true
 is_waiting stop = false
 
 -- the view of the unit of a number, or its fault; none where it is open or there is no such unit
-abbrev pub view_of_number : Sections → List UnitRecord → List (Option (Option Sections)) → ℕ
+abbrev pub view_of_number : Sections → List UnitRecord → FirstAnswers → ℕ
     → Option (Result View Error)
 view_of_number d us answers n =
     option_and_then (λ u. verdict d u (answer_of answers n)) (slice_get us n)
@@ -87,7 +86,7 @@ readable_view (Some (Ok v)) = Some v
 readable_view view = None
 
 -- the sections and the unit of the view that a lookup has found
-abbrev pub unit_found : Sections → List UnitRecord → List (Option (Option Sections)) → Stop
+abbrev pub unit_found : Sections → List UnitRecord → FirstAnswers → Stop
     → Option (Sections × UnitRecord)
 unit_found d us answers (Finds n frames) =
     option_map parts_of (readable_view (view_of_number d us answers n))
@@ -101,34 +100,26 @@ ends_lookup (Ok None) = true
 ends_lookup (Err e) = true
 
 -- whether this is so of each unit along ranges, up to the one that ends the lookup
-abbrev pub holds_along : (ℕ → Bool) → (ℕ → FramesResult)
-    → List UnitRange → Bool
-holds_along holds frames [] = true
-holds_along holds frames (r ∷ ranges) =
-    holds r.unit && (ends_lookup (frames r.unit) || holds_along holds frames ranges)
+abbrev pub holds_along : (ℕ → Bool) → (ℕ → FramesResult) → List UnitRange → Bool
+holds_along holds frames ranges = holds_until (λ n. ends_lookup (frames n)) holds ranges
 
 -- a lookup asks a unit: a range leads to it, and no unit before it ends the lookup
-abbrev pub LookupAsks : (ℕ → FramesResult) → List UnitRange → ℕ
-    → Type 0
-LookupAsks frames [] n = ⊥
-LookupAsks frames (r ∷ ranges) n =
-    (n ≡ r.unit)
-    ⊎ ((ends_lookup (frames r.unit) ≡ false) × LookupAsks frames ranges n)
+abbrev pub LookupAsks : (ℕ → FramesResult) → List UnitRange → ℕ → Type 0
+LookupAsks frames ranges n = ComesTo (λ m. ends_lookup (frames m)) ranges n
 
 -- whether the lines of the unit of a number are asked for, if the unit is asked
-abbrev pub asks_lines_of : Scope → List IndexedUnit → List (Option (Option Sections)) → ℕ → ℕ
-    → Bool
+abbrev pub asks_lines_of : Scope → List IndexedUnit → FirstAnswers → ℕ → ℕ → Bool
 asks_lines_of scope units answers probe n = elim (slice_get units n)
     [ None ↦ false | Some u ↦ asks_lines_in scope u.unit (answer_of answers n) probe ]
 
 -- whether many inlined functions stand at the probe in the unit of a number
-abbrev pub has_many_of : Scope → List IndexedUnit → List (Option (Option Sections)) → ℕ → ℕ → Bool
+abbrev pub has_many_of : Scope → List IndexedUnit → FirstAnswers → ℕ → ℕ → Bool
 has_many_of scope units answers probe n = elim (slice_get units n)
     [ None ↦ false | Some u ↦ has_many scope u.unit (answer_of answers n) probe ]
 
 -- the first answers with one to the load of the unit of a number, which counts where it is open
-abbrev pub with_answer : Sections → List UnitRecord → List (Option (Option Sections)) → ℕ
-    → Option Sections → List (Option (Option Sections))
+abbrev pub with_answer : Sections → List UnitRecord → FirstAnswers → ℕ
+    → Option Sections → FirstAnswers
 with_answer d us answers n given = elim (slice_get us n) [
   | None ↦ answers
   | Some u ↦ set answers n (decided_answer d u (answer_of answers n) given)

@@ -1,18 +1,18 @@
 -- Laws of parses of the functions of all units (on FunctionParses and FramesLookup).
-use Rattle.std.specs.Prelude.{◌≡◌, ℕ, length, List, Option, Result, Ok, Err}
+use Rattle.std.specs.Prelude.{◌≡◌, ℕ, length, List, Result, Ok, Err}
 use Rattle.gimli_read.specs.declared.error.Error.{Error}
-use Rattle.gimli.specs.Sections.{Sections}
 use Rattle.gimli.specs.Unit.{UnitRecord}
 use Rattle.addr2line_lines.specs.References.{Scope}
 use Rattle.addr2line_units.specs.declared.frames_lookup.Faults.{Faults}
 use Rattle.addr2line_units.specs.declared.index.UnitRange.{UnitRange}
-use Rattle.addr2line_units.specs.declared.parses.Reads.{Reads}
-use Rattle.addr2line_units.specs.declared.parses.Reads.TheVariants.{Details}
+use Rattle.addr2line_units.specs.declared.parses.ReadingDepth.{ReadingDepth}
+use Rattle.addr2line_units.specs.declared.parses.ReadingDepth.TheVariants.{Details}
 use Rattle.addr2line_units.specs.FramesLookup.{Stop, Waits, asked_frames, stop_along}
 use Rattle.addr2line_units.specs.FunctionParses.{answers_after_parse, read_of_units}
 use Rattle.gimli_line.specs.Opcode.{fault_of}
 use Rattle.addr2line_units.specs.Located.{all_lines}
 use Rattle.addr2line_units.specs.RangedUnits.{IndexedUnit, unit_records}
+use Rattle.addr2line_units.specs.Views.{FirstAnswers}
 
 -- what a lookup comes to is no fault, and it waits for no unit
 abbrev pub IsReached : Result Stop Error → Type 0
@@ -24,7 +24,7 @@ IsReached (Ok _) = Unit {0}
 -- lookup waits or has a fault
 abbrev pub ReachesAll : Type 0
 ReachesAll = (faults : Faults) (scope : Scope) (units : List IndexedUnit)
-    (answers : List (Option (Option Sections))) (probe : ℕ) (ranges : List UnitRange)
+    (answers : FirstAnswers) (probe : ℕ) (ranges : List UnitRange)
     → length units ≡ length answers
     → read_of_units Details scope (unit_records units) answers ≡ Ok tt
     → fault_of (all_lines scope.file.sections units) ≡ Ok tt
@@ -33,8 +33,8 @@ ReachesAll = (faults : Faults) (scope : Scope) (units : List IndexedUnit)
 
 -- a parse after a parse has the same first fault, and decides no more units
 abbrev pub ReadsAgain : Type 0
-ReadsAgain = (reads : Reads) (scope : Scope) (us : List UnitRecord)
-    (answers : List (Option (Option Sections)))
+ReadsAgain = (reads : ReadingDepth) (scope : Scope) (us : List UnitRecord)
+    (answers : FirstAnswers)
     → (read_of_units reads scope us (answers_after_parse reads scope us answers)
     ≡ read_of_units reads scope us answers)
     × (answers_after_parse reads scope us (answers_after_parse reads scope us answers)

@@ -8,78 +8,78 @@ use Rattle.gimli_read.specs.declared.error.Error.{Error}
 use Rattle.gimli_read.specs.Reading.{◌>>=◌}
 use Rattle.gimli.specs.Sections.{Sections}
 use Rattle.gimli.specs.Unit.{UnitRecord}
+use Rattle.gimli_line.specs.Opcode.{fault_of}
 use Rattle.addr2line_lines.specs.Functions.{functions_of}
 use Rattle.addr2line_lines.specs.FunctionDetails.{AreCachedToFault}
 use Rattle.addr2line_lines.specs.References.{Scope}
-use Rattle.addr2line_units.specs.declared.parses.Reads.{Reads}
-use Rattle.addr2line_units.specs.declared.parses.Reads.TheVariants as reads
+use Rattle.addr2line_units.specs.declared.parses.ReadingDepth.{ReadingDepth}
+use Rattle.addr2line_units.specs.declared.parses.ReadingDepth.TheVariants as reads
 use Rattle.addr2line_units.specs.FramesLookup.{answer_of}
 use Rattle.addr2line_units.specs.CachedFunctions.{functions_fault}
 use Rattle.addr2line_units.specs.KnownEntries.{KnownEntries, NothingKnown, AllKnown, FunctionsKnown}
 use Rattle.addr2line_units.specs.Loads.{is_open_at}
-use Rattle.addr2line_units.specs.Views.{View, decided_answer, verdict, view_scope}
+use Rattle.addr2line_units.specs.Views.{FirstAnswers, View, decided_answer, verdict, view_scope}
 
 -- the first fault of the functions of a view, and of their details where these are read
-abbrev pub read_of_functions : Reads → Scope → UnitRecord → Result (Unit {0}) Error
-read_of_functions reads.Functions scope view = functions_of scope.file.sections view >>= λ _. Ok tt
+abbrev pub read_of_functions : ReadingDepth → Scope → UnitRecord → Result (Unit {0}) Error
+read_of_functions reads.Functions scope view = fault_of (functions_of scope.file.sections view)
 read_of_functions reads.Details scope view = functions_fault scope view
 
 -- the first fault of a view and of what is read of it; nothing is read of a unit that is open
-abbrev pub read_of_view : Reads → Scope → Option (Result View Error) → Result (Unit {0}) Error
+abbrev pub read_of_view : ReadingDepth → Scope → Option (Result View Error)
+    → Result (Unit {0}) Error
 read_of_view reads scope None = Ok tt
 read_of_view reads scope (Some view) =
     view >>= λ v. read_of_functions reads (view_scope scope v) v.unit
 
 -- the first fault of what is read of a unit with this first answer, which is decided by none where
 -- it is open
-abbrev pub read_of_unit : Reads → Scope → UnitRecord → Option (Option Sections)
+abbrev pub read_of_unit : ReadingDepth → Scope → UnitRecord → Option (Option Sections)
     → Result (Unit {0}) Error
 read_of_unit reads scope u answer = read_of_view reads scope
     (verdict scope.file.sections u (decided_answer scope.file.sections u answer None))
 
 -- the same of the unit of a number; where there is no such unit nothing is read
-abbrev pub read_of_number : Reads → Scope → List UnitRecord → List (Option (Option Sections)) → ℕ
+abbrev pub read_of_number : ReadingDepth → Scope → List UnitRecord → FirstAnswers → ℕ
     → Result (Unit {0}) Error
 read_of_number reads scope us answers n = elim (slice_get us n)
     [ None ↦ Ok tt | Some u ↦ read_of_unit reads scope u (answer_of answers n) ]
 
 -- the first fault of what is read of units with these first answers, in their order
-abbrev pub read_of_units : Reads → Scope → List UnitRecord → List (Option (Option Sections))
+abbrev pub read_of_units : ReadingDepth → Scope → List UnitRecord → FirstAnswers
     → Result (Unit {0}) Error
 read_of_units reads scope (u ∷ us) (answer ∷ answers) =
     read_of_unit reads scope u answer >>= λ _. read_of_units reads scope us answers
 read_of_units reads scope _ _ = Ok tt
 
 -- all units before the one of a number can be read
-abbrev pub AreReadBefore : Reads → Scope → List UnitRecord → List (Option (Option Sections)) → ℕ
-    → Type 0
+abbrev pub AreReadBefore : ReadingDepth → Scope → List UnitRecord → FirstAnswers → ℕ → Type 0
 AreReadBefore reads scope us answers n =
     (m : ℕ) → m < n → read_of_number reads scope us answers m ≡ Ok tt
 
 -- what a parse reads of a unit that isn't open is known, up to the first fault, and that fault too
-abbrev pub IsReadyFor : Reads → KnownEntries → Type 0
+abbrev pub IsReadyFor : ReadingDepth → KnownEntries → Type 0
 IsReadyFor reads NothingKnown = ⊥
 IsReadyFor reads AllKnown = Unit {0}
 IsReadyFor reads.Functions (FunctionsKnown t) = Unit {0}
 IsReadyFor reads.Details (FunctionsKnown t) = AreCachedToFault t.functions
 
 -- the same of each unit before which all can be read; none of these is open
-abbrev pub AreReadyFor : Reads → Scope → List UnitRecord → List (Option (Option Sections))
+abbrev pub AreReadyFor : ReadingDepth → Scope → List UnitRecord → FirstAnswers
     → List KnownEntries → Type 0
 AreReadyFor reads scope us answers known = (n : ℕ) → AreReadBefore reads scope us answers n
     → (is_open_at scope.file.sections us answers n ≡ false)
     × IfSome (slice_get known n) (IsReadyFor reads)
 
 -- the first answers of units after one that was read, or as they were where it had a fault
-abbrev pub unless_fault : Result (Unit {0}) Error → List (Option (Option Sections))
-    → List (Option (Option Sections)) → List (Option (Option Sections))
+abbrev pub unless_fault : Result (Unit {0}) Error → FirstAnswers → FirstAnswers → FirstAnswers
 unless_fault (Ok x) after before = after
 unless_fault (Err e) after before = before
 
 -- the first answers after a parse: each unit that was open is decided by none, up to the first unit
 -- with a fault, and that one too
-abbrev pub answers_after_parse : Reads → Scope → List UnitRecord → List (Option (Option Sections))
-    → List (Option (Option Sections))
+abbrev pub answers_after_parse : ReadingDepth → Scope → List UnitRecord → FirstAnswers
+    → FirstAnswers
 answers_after_parse reads scope (u ∷ us) (answer ∷ answers) =
     decided_answer scope.file.sections u answer None
     ∷ unless_fault (read_of_unit reads scope u answer)
@@ -87,8 +87,7 @@ answers_after_parse reads scope (u ∷ us) (answer ∷ answers) =
 answers_after_parse reads scope _ answers = answers
 
 -- the first answers where those of the first units that were open, so many, are decided by none
-abbrev pub first_decided : Sections → ℕ → List UnitRecord → List (Option (Option Sections))
-    → List (Option (Option Sections))
+abbrev pub first_decided : Sections → ℕ → List UnitRecord → FirstAnswers → FirstAnswers
 first_decided d zero us answers = answers
 first_decided d (suc n) (u ∷ us) (answer ∷ answers) =
     decided_answer d u answer None ∷ first_decided d n us answers
@@ -96,8 +95,8 @@ first_decided d (suc n) _ answers = answers
 
 -- all units before the one of some number can be read, and those that were open are decided by
 -- none; that one may be, and no other
-abbrev pub AreFirstDecided : Reads → Scope → List UnitRecord → List (Option (Option Sections))
-    → List (Option (Option Sections)) → Type 0
+abbrev pub AreFirstDecided : ReadingDepth → Scope → List UnitRecord → FirstAnswers
+    → FirstAnswers → Type 0
 AreFirstDecided reads scope us old new = (n : ℕ) × AreReadBefore reads scope us old n
     × ((new ≡ first_decided scope.file.sections n us old)
     ⊎ (new ≡ first_decided scope.file.sections (suc n) us old))

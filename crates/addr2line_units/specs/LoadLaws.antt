@@ -9,7 +9,7 @@ use Rattle.addr2line_units.specs.declared.index.UnitRange.{UnitRange}
 use Rattle.addr2line_units.specs.FramesLookup.{Waits, asked_frames, stop_along, with_answer}
 use Rattle.addr2line_units.specs.Loads.{is_of_other, is_open_at, load_of_number, loads_along}
 use Rattle.addr2line_units.specs.RangedUnits.{IndexedUnit, unit_records}
-use Rattle.addr2line_units.specs.Views.{SplitLoad}
+use Rattle.addr2line_units.specs.Views.{FirstAnswers, SplitLoad}
 
 -- the load of the unit of a number is listed
 abbrev pub IsListed : ℕ → List SplitLoad → Type 0
@@ -17,14 +17,13 @@ IsListed n [] = ⊥
 IsListed n (load ∷ loads) = (load.unit ≡ n) ⊎ IsListed n loads
 
 -- the loads of the units along ranges that are open with these first answers
-abbrev pub loads_of : Sections → List UnitRecord → List (Option (Option Sections))
-    → List UnitRange → List SplitLoad
+abbrev pub loads_of : Sections → List UnitRecord → FirstAnswers → List UnitRange → List SplitLoad
 loads_of d us answers ranges = loads_along (load_of_number d us answers) ranges
 
 -- a lookup that waits for a unit waits for one that is open, and whose load is listed
 abbrev pub WaitForListed : Type 0
 WaitForListed = (faults : Faults) (scope : Scope) (units : List IndexedUnit)
-    (answers : List (Option (Option Sections))) (probe n : ℕ) (ranges : List UnitRange)
+    (answers : FirstAnswers) (probe n : ℕ) (ranges : List UnitRange)
     → stop_along (asked_frames faults scope units answers probe) ranges ≡ Ok (Waits n)
     → (is_open_at scope.file.sections (unit_records units) answers n ≡ true)
     × IsListed n (loads_of scope.file.sections (unit_records units) answers ranges)
@@ -32,20 +31,20 @@ WaitForListed = (faults : Faults) (scope : Scope) (units : List IndexedUnit)
 -- a lookup waits for no unit where no load is listed
 abbrev pub NeedLoadsToWait : Type 0
 NeedLoadsToWait = (faults : Faults) (scope : Scope) (units : List IndexedUnit)
-    (answers : List (Option (Option Sections))) (probe n : ℕ) (ranges : List UnitRange)
+    (answers : FirstAnswers) (probe n : ℕ) (ranges : List UnitRange)
     → loads_of scope.file.sections (unit_records units) answers ranges ≡ []
     → stop_along (asked_frames faults scope units answers probe) ranges ≢ Ok (Waits n)
 
 -- after an answer to a load the others are listed as before
 abbrev pub LeaveOthers : Type 0
-LeaveOthers = (d : Sections) (us : List UnitRecord) (answers : List (Option (Option Sections)))
+LeaveOthers = (d : Sections) (us : List UnitRecord) (answers : FirstAnswers)
     (n : ℕ) (given : Option Sections) (ranges : List UnitRange) → length us ≡ length answers
     → loads_of d us (with_answer d us answers n given) ranges
     ≡ filter (is_of_other n) (loads_of d us answers ranges)
 
 -- fewer loads are listed after an answer to one of them
 abbrev pub LeaveFewer : Type 0
-LeaveFewer = (d : Sections) (us : List UnitRecord) (answers : List (Option (Option Sections)))
+LeaveFewer = (d : Sections) (us : List UnitRecord) (answers : FirstAnswers)
     (n : ℕ) (given : Option Sections) (ranges : List UnitRange) → length us ≡ length answers
     → IsListed n (loads_of d us answers ranges)
     → length (loads_of d us (with_answer d us answers n given) ranges)

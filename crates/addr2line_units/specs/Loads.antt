@@ -9,10 +9,11 @@ use Rattle.gimli_read.specs.declared.error.Error.TheVariants.{UnknownToken}
 use Rattle.gimli_read.specs.Reading.{◌>>=◌}
 use Rattle.gimli.specs.Sections.{Sections}
 use Rattle.gimli.specs.Unit.{UnitRecord}
+use Rattle.gimli_line.specs.Opcode.{fault_of}
 use Rattle.addr2line_units.specs.declared.index.UnitRange.{UnitRange}
 use Rattle.addr2line_units.specs.declared.view.UnitToken.{UnitToken}
 use Rattle.addr2line_units.specs.FramesLookup.{answer_of}
-use Rattle.addr2line_units.specs.Views.{SplitLoad, View, awaited_load, decided_answer, is_open, verdict}
+use Rattle.addr2line_units.specs.Views.{FirstAnswers, SplitLoad, View, awaited_load, decided_answer, is_open, verdict}
 
 -- the number of the unit that a token names
 abbrev pub token_number : UnitToken → ℕ
@@ -25,36 +26,34 @@ unit_of_token us n = elim (slice_get us n) [ None ↦ Err UnknownToken | Some u 
 -- the fault of a view, if it has one
 abbrev pub view_fault : Option (Result View Error) → Result (Unit {0}) Error
 view_fault None = Ok tt
-view_fault (Some view) = view >>= λ _. Ok tt
+view_fault (Some view) = fault_of view
 
 -- what an answer to the load of the unit of a number gives: the fault of the view after it
-abbrev pub load_result : Sections → List UnitRecord → List (Option (Option Sections)) → ℕ
+abbrev pub load_result : Sections → List UnitRecord → FirstAnswers → ℕ
     → Option Sections → Result (Unit {0}) Error
 load_result d us answers n given = unit_of_token us n >>= λ u.
     view_fault (verdict d u (decided_answer d u (answer_of answers n) given))
 
 -- what it gives to forget the answer of the unit of a number
 abbrev pub forget_result : List UnitRecord → ℕ → Result (Unit {0}) Error
-forget_result us n = unit_of_token us n >>= λ _. Ok tt
+forget_result us n = fault_of (unit_of_token us n)
 
 -- the first answers without that of the unit of a number, if there is one
-abbrev pub forgotten : List (Option (Option Sections)) → ℕ → List (Option (Option Sections))
+abbrev pub forgotten : FirstAnswers → ℕ → FirstAnswers
 forgotten answers n = set answers n None
 
 -- whether there is a unit of a number and it is open
-abbrev pub is_open_at : Sections → List UnitRecord → List (Option (Option Sections)) → ℕ → Bool
+abbrev pub is_open_at : Sections → List UnitRecord → FirstAnswers → ℕ → Bool
 is_open_at d us answers n = elim (slice_get us n)
     [ None ↦ false | Some u ↦ is_open d u (answer_of answers n) ]
 
 -- none of the units that ranges lead to is open
-abbrev pub NoneOpen : Sections → List UnitRecord → List (Option (Option Sections))
-    → List UnitRange → Type 0
+abbrev pub NoneOpen : Sections → List UnitRecord → FirstAnswers → List UnitRange → Type 0
 NoneOpen d us answers ranges =
     AllByRecursion (λ r. is_open_at d us answers r.unit ≡ false) ranges
 
 -- the load that the unit of a number waits for, none where it is decided or there is no such unit
-abbrev pub load_of_number : Sections → List UnitRecord → List (Option (Option Sections)) → ℕ
-    → Option SplitLoad
+abbrev pub load_of_number : Sections → List UnitRecord → FirstAnswers → ℕ → Option SplitLoad
 load_of_number d us answers n = elim (slice_get us n)
     [ None ↦ None | Some u ↦ awaited_load d n u (answer_of answers n) ]
 

@@ -2,12 +2,13 @@
 -- Own: a lookup asks for the lines of the units that cover its address one after another, up to the
 -- first that has a location or a fault; a parse of all lines asks for those of the units in their
 -- order, up to the first that has a fault.
-use Rattle.std.specs.Prelude.{ℕ, ◌≡◌, ◌<◌, ◌⊎◌, Bool, true, false, ◌&&◌, ◌||◌, List, [], ◌∷◌, slice_get, Option, Some, None, unwrap_or, Result, Ok, Err, is_ok}
+use Rattle.std.specs.Prelude.{ℕ, ◌≡◌, ◌<◌, ◌⊎◌, Bool, true, false, List, [], ◌∷◌, slice_get, Option, Some, None, unwrap_or, Result, Ok, Err, is_ok}
 use Rattle.std.specs.List.{AllByRecursion}
 use Rattle.gimli_read.specs.declared.error.Error.{Error}
 use Rattle.gimli.specs.Sections.{Sections}
 use Rattle.addr2line_lines.specs.Location.{Location}
 use Rattle.addr2line_units.specs.declared.index.UnitRange.{UnitRange}
+use Rattle.addr2line_units.specs.Cover.{ComesTo, holds_until}
 use Rattle.addr2line_units.specs.RangedUnits.{IndexedUnit}
 use Rattle.addr2line_units.specs.Located.{lines_of_unit, location_in}
 
@@ -22,13 +23,14 @@ decides (Ok None) = false
 decides (Ok (Some l)) = true
 decides (Err e) = true
 
+-- whether the answer of the unit of a number ends a lookup of the probe
+abbrev pub unit_decides : Sections → List IndexedUnit → ℕ → ℕ → Bool
+unit_decides d units probe n = decides (location_in d probe (slice_get units n))
+
 -- whether along these ranges the lines of each unit are parsed, up to the one that decides
 abbrev pub ready_along : Sections → List IndexedUnit → List Bool → ℕ → List UnitRange → Bool
-ready_along d units parsed probe [] = true
-ready_along d units parsed probe (r ∷ ranges) =
-    has_parsed parsed r.unit
-    && (decides (location_in d probe (slice_get units r.unit))
-    || ready_along d units parsed probe ranges)
+ready_along d units parsed probe ranges =
+    holds_until (unit_decides d units probe) (has_parsed parsed) ranges
 
 -- along these ranges the lines of each unit are parsed
 abbrev pub AreParsed : List Bool → List UnitRange → Type 0
@@ -53,11 +55,7 @@ AreReadyForAll d units parsed = (n : ℕ) → AllAskFor d units n → has_parsed
 
 -- a lookup asks for the lines of a unit: a range leads to it, and no unit before it decides
 abbrev pub AsksFor : Sections → List IndexedUnit → ℕ → List UnitRange → ℕ → Type 0
-AsksFor d units probe [] n = ⊥
-AsksFor d units probe (r ∷ ranges) n =
-    (n ≡ r.unit)
-    ⊎ ((decides (location_in d probe (slice_get units r.unit)) ≡ false)
-    × AsksFor d units probe ranges n)
+AsksFor d units probe ranges n = ComesTo (unit_decides d units probe) ranges n
 
 -- one of these ranges leads to a unit
 abbrev pub LeadTo : List UnitRange → ℕ → Type 0

@@ -3,8 +3,8 @@
 -- version 5 has no range and no language. The first fault counts: of a set's header of
 -- .debug_aranges; then, in the order of the units, of a unit's header, of an index of its range
 -- attributes, of its range list.
--- Own: a unit without a range list has the ranges that .debug_aranges lists for its offset. One with
--- a range list, or without such ranges, has those of its attributes; where these give none, an
+-- Own: a unit without a range list has the ranges that .debug_aranges lists for its offset. One
+-- with a range list, or without such ranges, has those of its attributes; where these give none, an
 -- empty list too, those of its line sequences. Lines that can't be read give no ranges.
 use Rattle.std.specs.Prelude.{ℕ, ◌+◌, Bool, true, false, ◌&&◌, ◌||◌, not, List, [], ◌∷◌, ◌++◌, map, filter_map, is_some, Option, Some, None, Result, Ok, Err, if◌then◌else◌}
 use Rattle.gimli_read.specs.declared.error.Error.{Error}

@@ -15,6 +15,10 @@ use Rattle.addr2line_units.specs.Frames.{FoundFunction, FrameRecord, found_frame
 use Rattle.addr2line_units.specs.RangedUnits.{IndexedUnit}
 use Rattle.addr2line_units.specs.Views.{View, is_open, verdict, view_scope}
 
+-- the frames at a probe, none where an answer to a load is waited for; or the first fault
+abbrev pub FramesResult : Type 0
+FramesResult = Result (Option (List FrameRecord)) Error
+
 -- the function at the probe in a view, or the first fault of the view, its functions and the detail
 abbrev pub function_by : Scope → ℕ → Option (Result View Error)
     → Result (Option FoundFunction) Error
@@ -35,10 +39,6 @@ frames_by scope u probe found = do
   function ← found
   lines ← unit_lines scope.file.sections u.unit
   Ok (found_frames lines.files u.language function (location_at probe lines))
-
--- the frames at a probe, none where an answer to a load is waited for; or the first fault
-abbrev pub FramesResult : Type 0
-FramesResult = Result (Option (List FrameRecord)) Error
 
 -- the frames at the probe in a unit with this first answer
 unfoldable pub frames_in : Scope → IndexedUnit → Option (Option Sections) → ℕ → FramesResult

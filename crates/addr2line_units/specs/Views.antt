@@ -5,18 +5,24 @@
 -- unit, decide for the main view; else the first unit of the sections counts, its fault too.
 -- Own: the identifier of what is answered isn't compared. Lines and language stay those of the main
 -- unit. References lead to no other unit of a split file.
-use Rattle.std.specs.Prelude.{ℕ, Bool, true, false, List, [], ◌∷◌, Option, Some, None, is_none, option_map, Result, Ok, Err, if◌then◌else◌}
+use Rattle.std.specs.Prelude.{ℕ, ◌||◌, Bool, true, false, List, [], ◌∷◌, Option, Some, None, is_none, option_map, Result, Ok, Err, if◌then◌else◌}
 use Rattle.gimli_read.specs.declared.error.Error.{Error}
-use Rattle.gimli_read.specs.declared.value.AttributeValue.{AttributeValue}
 use Rattle.gimli_read.specs.Reading.{◌>>=◌}
 use Rattle.gimli_read.specs.Section.{Section}
 use Rattle.gimli.specs.declared.unit.DwoId.{DwoId}
 use Rattle.gimli.specs.Header.{UnitHeaderFields}
 use Rattle.gimli.specs.Sections.{Sections}
 use Rattle.gimli.specs.Split.{dwo_name_of, relocated}
-use Rattle.gimli.specs.Unit.{UnitRecord, attr_string_of, unit_record_of}
+use Rattle.gimli.specs.Unit.{UnitRecord, unit_record_of}
+use Rattle.gimli.specs.UnitMemory.{unit_takes_memory}
 use Rattle.gimli.specs.UnitsLeft.{all_headers}
+use Rattle.addr2line_lines.specs.FileTexts.{optional_string}
 use Rattle.addr2line_lines.specs.References.{Scope}
+
+-- of each unit the first answer to its load, none before it has one: the sections of its split
+-- file, or none
+abbrev pub FirstAnswers : Type 0
+FirstAnswers = List (Option (Option Sections))
 
 -- where the entries of a unit are read: its own file, or its split file
 pub record View : Type 0 where
@@ -52,15 +58,9 @@ view_scope scope v =
     then record { file = record { sections = v.sections; units = [] }; sup = scope.sup }
     else scope
 
--- the string of a value, if there is one
-abbrev pub string_if : Sections → UnitRecord → Option (AttributeValue Section)
-    → Result (Option Section) Error
-string_if d u None = Ok None
-string_if d u (Some value) = attr_string_of d u value >>= λ string. Ok (Some string)
-
 -- the name of the split file of a unit
 unfoldable pub split_name_of : Sections → UnitRecord → Result (Option Section) Error
-split_name_of d u = dwo_name_of u >>= string_if d u
+split_name_of d u = dwo_name_of u >>= optional_string d u
 
 -- the first unit of headers
 abbrev pub first_of : Sections → List (Result UnitHeaderFields Error)
@@ -71,6 +71,18 @@ first_of d (header ∷ headers) = header >>= unit_record_of d >>= λ u. Ok (Some
 -- the first unit of sections, none where they have no unit
 abbrev pub first_unit : Sections → Result (Option UnitRecord) Error
 first_unit d = first_of d (all_headers d.debug_info)
+
+-- whether memory may be taken for the unit of the first of headers
+abbrev pub first_takes_memory : Bool → Sections → List (Result UnitHeaderFields Error) → Bool
+first_takes_memory shares d [] = false
+first_takes_memory shares d (Ok header ∷ headers) = unit_takes_memory shares d header
+first_takes_memory shares d (Err e ∷ headers) = false
+
+-- whether memory may be taken for the first unit of sections: where readers share their bytes, or
+-- for the unit of a header that can be read
+abbrev pub first_unit_takes_memory : Bool → Sections → Bool
+first_unit_takes_memory shares d =
+    shares || first_takes_memory shares d (all_headers d.debug_info)
 
 -- the view of a first unit, if there is one
 abbrev pub first_view : Sections → UnitRecord → Sections → Option UnitRecord → View

@@ -33,9 +33,9 @@ impl<R: Reader> UnitEntries<R> {
         dw_unit: &Unit<R>,
         sections: Option<Rc<Dwarf<R>>>,
     ) -> Result<(), Error>
-        requires kept { AreEntriesOf (seen_scope scope) dw_unit.now self.old }
+        requires right { AreEntriesOf (seen_scope scope) dw_unit.now self.old }
         requires waits { waits self.old.view.state ≡ true }
-        ensures kept { AreEntriesOf (seen_scope scope.entry) dw_unit.now self.new }
+        ensures right { AreEntriesOf (seen_scope scope.entry) dw_unit.now self.new }
         ensures answer { OnOk result (first_answer_of self.new
             ≡ Some (option_map (λ d. d.value) sections)) }
         ensures decided { OnOk result (is_decided self.new.view.state ≡ true) }
@@ -48,8 +48,8 @@ impl<R: Reader> UnitEntries<R> {
     // Forgets the answer, if there is one, and what was read of its view: the unit waits for one
     // again. Takes no memory.
     pub(crate) fn forget(&mut self, scope: Scope<'_, R>, dw_unit: &Unit<R>)
-        requires kept { AreEntriesOf (seen_scope scope) dw_unit.now self.old }
-        ensures kept { AreEntriesOf (seen_scope scope.entry) dw_unit.now self.new }
+        requires right { AreEntriesOf (seen_scope scope) dw_unit.now self.old }
+        ensures right { AreEntriesOf (seen_scope scope.entry) dw_unit.now self.new }
         ensures answer { first_answer_of self.new ≡ None }
         ensures same { first_answer_of self.old ≡ None → self.new ≡ self.old }
     {
@@ -76,8 +76,8 @@ impl<R: Reader> UnitEntries<R> {
     }
 
     // Decides the unit by an answer if it is open, and else leaves it as it is. Refused
-    // `OutOfMemory` alone, and only of an open unit; then all that is cached stays, and only that
-    // it was looked at may be new.
+    // `OutOfMemory` alone, and only of an open unit that is given sections; then all that is cached
+    // stays, and only that it was looked at may be new.
     pub(crate) fn answer(
         &mut self,
         alloc: Global,
@@ -85,16 +85,16 @@ impl<R: Reader> UnitEntries<R> {
         dw_unit: &Unit<R>,
         sections: Option<Rc<Dwarf<R>>>,
     ) -> Result<(), Error>
-        requires kept { AreEntriesOf (seen_scope scope) dw_unit.now self.old }
-        ensures kept { AreEntriesOf (seen_scope scope.entry) dw_unit.now self.new }
+        requires right { AreEntriesOf (seen_scope scope) dw_unit.now self.old }
+        ensures right { AreEntriesOf (seen_scope scope.entry) dw_unit.now self.new }
         ensures answer { OnOk result (first_answer_of self.new
             ≡ decided_answer scope.entry.file.dwarf.now dw_unit.now (first_answer_of self.old)
             (option_map (λ d. d.value) sections)) }
         ensures decided { OnOk result (is_decided self.new.view.state ≡ true) }
         ensures refused { IfErr result (λ e. (e ≡ OutOfMemory)
-            × StayEntries self.old self.new) }
-        ensures functions { is_open scope.entry.file.dwarf.now dw_unit.now (first_answer_of self.old)
-            ≡ false → self.new.functions ≡ self.old.functions }
+            × StayEntries self.old self.new × (is_some sections ≡ true)) }
+        ensures functions { is_open scope.entry.file.dwarf.now dw_unit.now
+            (first_answer_of self.old) ≡ false → self.new.functions ≡ self.old.functions }
         ensures same { is_decided self.old.view.state ≡ true
             → (self.new ≡ self.old) × (result ≡ Ok tt) }
         ensures not_open { is_open scope.entry.file.dwarf.now dw_unit.now (first_answer_of self.old)

@@ -66,7 +66,7 @@ fn find_frames_at<R: Reader>(
 ) -> Result<UnitFrames, Error>
     requires in_order { IsScope (seen_scope scope) }
     requires read { HaveLinesOf scope.file.dwarf.now scope.file.units.now units.old.items }
-    requires kept { HaveEntriesOf (seen_scope scope) scope.file.units.now entries.old.items }
+    requires right { HaveEntriesOf (seen_scope scope) scope.file.units.now entries.old.items }
     ensures gives { ExactlyUnlessOom (frames_found_at units.new.items entries.new.items number)
         result (frames_of_number (seen_scope scope.entry)
         (indexed_units scope.entry.file.units.now units.old.items)
@@ -74,7 +74,7 @@ fn find_frames_at<R: Reader>(
     ensures there { IfOk result (AreFoundAt units.new.items entries.new.items number) }
     ensures read { HaveLinesOf scope.entry.file.dwarf.now scope.entry.file.units.now
         units.new.items }
-    ensures kept { HaveEntriesOf (seen_scope scope.entry) scope.entry.file.units.now
+    ensures right { HaveEntriesOf (seen_scope scope.entry) scope.entry.file.units.now
         entries.new.items }
     ensures stay_units { StayUnits units.old.items units.new.items }
     ensures stay { StayAllEntries entries.old.items entries.new.items }
@@ -158,7 +158,7 @@ pub(crate) fn find_frames_along<R: Reader>(
 ) -> Result<FramesStop, Error>
     requires in_order { IsScope (seen_scope scope) }
     requires read { HaveLinesOf scope.file.dwarf.now scope.file.units.now units.old.items }
-    requires kept { HaveEntriesOf (seen_scope scope) scope.file.units.now entries.old.items }
+    requires right { HaveEntriesOf (seen_scope scope) scope.file.units.now entries.old.items }
     ensures gives { ExactlyUnlessOom (seen_stop units.new.items entries.new.items) result
         (stop_along (asked_frames faults (seen_scope scope.entry)
         (indexed_units scope.entry.file.units.now units.old.items)
@@ -166,7 +166,7 @@ pub(crate) fn find_frames_along<R: Reader>(
     ensures there { IfOk result (IsStopIn units.new.items entries.new.items) }
     ensures read { HaveLinesOf scope.entry.file.dwarf.now scope.entry.file.units.now
         units.new.items }
-    ensures kept { HaveEntriesOf (seen_scope scope.entry) scope.entry.file.units.now
+    ensures right { HaveEntriesOf (seen_scope scope.entry) scope.entry.file.units.now
         entries.new.items }
     ensures stay_units { StayUnits units.old.items units.new.items }
     ensures stay { StayAllEntries entries.old.items entries.new.items }

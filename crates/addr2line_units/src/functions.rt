@@ -5,9 +5,10 @@ ghost use Rattle.std.specs.List.{AllByRecursion};
 ghost use Rattle.gimli_read.specs.declared.error.Error.TheVariants.{OutOfMemory};
 ghost use Rattle.gimli_read.specs.Reading.{ExactlyUnlessOomIf};
 ghost use Rattle.addr2line_lines.specs.FunctionDetails.{AreUnread, HasDetail, IsTableMore};
+ghost use Rattle.addr2line_lines.specs.Functions.{functions_of, functions_take_memory};
 ghost use Rattle.addr2line_lines.specs.References.{IsScope};
 ghost use Rattle.addr2line_lines.specs.SeenScope.{seen_scope};
-ghost use Rattle.addr2line_units.specs.declared.parses.Reads.TheVariants as kinds;
+ghost use Rattle.addr2line_units.specs.declared.parses.ReadingDepth.TheVariants as kinds;
 ghost use Rattle.addr2line_units.specs.Frames.{function_at};
 ghost use Rattle.addr2line_units.specs.FunctionParses.{IsReadyFor};
 ghost use Rattle.addr2line_units.specs.CachedFunctions.{AreFunctionsOf, ArePlacesIn, IsTableOf, ReadsNoOther, StayFunctions, table_has_many, find_takes_memory, function_of_place, functions_fault, cached_has_function, has_table, cached_functions, reading_takes_memory, table_takes_memory, were_read};
@@ -39,7 +40,8 @@ pub(crate) struct FunctionPlace {
     pub(crate) inlined: InlinedPlaces,
 }
 
-// The functions of a view, or their fault, as they are cached. Refused `OutOfMemory` alone.
+// The functions of a view, or their fault, as they are cached. Refused `OutOfMemory` alone, and
+// only where the functions take memory, or have that fault.
 fn read_functions<R: Reader>(
     alloc: Global,
     scope: Scope<'_, R>,
@@ -49,6 +51,8 @@ fn read_functions<R: Reader>(
     ensures read { IfOk result (λ f. were_read f ≡ true) }
     ensures unread { IfOk result (λ f. AreUnread (cached_functions f)) }
     ensures refused { IfErr result (λ e. e ≡ OutOfMemory) }
+    ensures memory { IfErr result (λ e. functions_take_memory R.shares scope.entry.file.dwarf.now
+        view.now ≡ false → functions_of scope.entry.file.dwarf.now view.now ≡ Err e) }
 {
     match Functions::parse(alloc, UnitRef::new(scope.file.dwarf, view)) {
         Ok(functions) => Ok(LazyFunctions::Read(functions)),
@@ -103,7 +107,7 @@ impl<R: Reader> LazyFunctions<R> {
     }
 
     // Reads the functions of a view, unless they were read, and caches them, or their fault.
-    // Refused `OutOfMemory` alone.
+    // Refused `OutOfMemory` alone, and only where the functions take memory, or have that fault.
     pub(crate) fn cache(
         &mut self,
         alloc: Global,
@@ -116,6 +120,9 @@ impl<R: Reader> LazyFunctions<R> {
         ensures unread { were_read self.old ≡ false → AreUnread (cached_functions self.new) }
         ensures kept { were_read self.old ≡ true → (self.new ≡ self.old) × (result ≡ Ok tt) }
         ensures refused { IfErr result (λ e. (e ≡ OutOfMemory) × (self.new ≡ self.old)) }
+        ensures memory { IfErr result (λ e. functions_take_memory R.shares
+            scope.entry.file.dwarf.now view.now ≡ false
+            → functions_of scope.entry.file.dwarf.now view.now ≡ Err e) }
     {
         if !self.were_read() {
             *self = read_functions(alloc, scope, view)?;
@@ -127,7 +134,8 @@ impl<R: Reader> LazyFunctions<R> {
     // read and cached, unless they are, their faults too.
     //
     // Refused by the fault of the functions or of the detail; may fail with `OutOfMemory` instead,
-    // only where functions or detail are not cached, or there are more than 16 inlined functions.
+    // only where the functions take memory and are not cached, the detail is not cached, or there
+    // are more than 16 inlined functions.
     pub(crate) fn find(
         &mut self,
         alloc: Global,
@@ -138,7 +146,8 @@ impl<R: Reader> LazyFunctions<R> {
         requires in_order { IsScope (seen_scope scope) }
         requires right { AreFunctionsOf (seen_scope scope) view.now self.old }
         ensures gives { ExactlyUnlessOomIf
-            (find_takes_memory probe self.old && find_takes_memory probe self.new)
+            (find_takes_memory R.shares (seen_scope scope.entry) view.now probe self.old
+            && find_takes_memory R.shares (seen_scope scope.entry) view.now probe self.new)
             (option_map (function_of_place (cached_functions self.new))) result
             (function_at (seen_scope scope.entry) view.now probe) }
         ensures there { IfOk result (λ found.
@@ -147,7 +156,8 @@ impl<R: Reader> LazyFunctions<R> {
         ensures stay { StayFunctions self.old self.new }
         ensures alone { ReadsNoOther probe (cached_functions self.old) (cached_functions self.new) }
         ensures ready { result ≢ Err OutOfMemory
-            → find_takes_memory probe self.new ≡ table_has_many probe (cached_functions self.new) }
+            → find_takes_memory R.shares (seen_scope scope.entry) view.now probe self.new
+            ≡ table_has_many probe (cached_functions self.new) }
         ensures kept { cached_has_function probe self.old ≡ true → self.new ≡ self.old }
         ensures known { HadMemory result → cached_has_function probe self.new ≡ true }
         ensures memory { cached_has_function probe self.new ≡ true
@@ -164,7 +174,8 @@ impl<R: Reader> LazyFunctions<R> {
 
     // Reads the functions of a view and all their details, in the order of their entries, up to the
     // first fault; what was read is cached, the fault too. May fail with `OutOfMemory` instead,
-    // only where the functions are not cached, or memory is taken for a detail before any fault.
+    // only where memory is taken for functions that are not cached, or for a detail before any
+    // fault.
     // Takes no memory, and changes nothing, where all is cached up to the first fault.
     pub(crate) fn read_all(
         &mut self,
@@ -183,7 +194,8 @@ impl<R: Reader> LazyFunctions<R> {
         ensures details { OnOk result
             (AllByRecursion HasDetail (cached_functions self.new).functions) }
         ensures ready { OnOk result ((probe : ℕ)
-            → find_takes_memory probe self.new ≡ table_has_many probe (cached_functions self.new)) }
+            → find_takes_memory R.shares (seen_scope scope.entry) view.now probe self.new
+            ≡ table_has_many probe (cached_functions self.new)) }
         ensures ready_for_all { HadMemory result
             → IsReadyFor kinds.Details (known_functions self.new) }
         ensures exact { IsReadyFor kinds.Details (known_functions self.old)

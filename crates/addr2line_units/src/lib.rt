@@ -16,12 +16,12 @@ mod loads;
 pub mod lookup;
 mod lookups;
 pub mod parses;
-pub mod place;
 pub mod range;
 pub mod range_iter;
 pub mod sup;
 pub mod unit;
 mod unit_frames;
+pub mod unit_row;
 pub mod units;
 pub mod view;
 

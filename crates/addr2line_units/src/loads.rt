@@ -10,13 +10,14 @@ ghost use Rattle.addr2line_lines.specs.SeenScope.{seen_scope};
 ghost use Rattle.addr2line_units.specs.Cover.{cover};
 ghost use Rattle.addr2line_units.specs.FramesLookup.{answer_of, with_answer};
 ghost use Rattle.addr2line_units.specs.CachedEntries.{AreEntriesOf, StayEntries, first_answer_of};
-ghost use Rattle.addr2line_units.specs.CachedUnits.{HaveEntriesOf, StayAllEntries, answers_in, decided_at, scope_in};
+ghost use Rattle.addr2line_units.specs.CachedUnits.{HaveEntriesOf, StayAllEntries, answers_in, decided_at};
 ghost use Rattle.addr2line_units.specs.CachedViews.{is_decided};
 ghost use Rattle.addr2line_units.specs.ListedLoads.{MarksLoad, MarksUnit, if_new, is_marked};
 ghost use Rattle.addr2line_units.specs.Loads.{NoneOpen, forget_result, forgotten, is_open_at, load_of_number, load_result, loads_along, view_fault};
 ghost use Rattle.gimli_read.specs.Alike.{HadMemory};
 ghost use Rattle.addr2line_units.specs.UnitRangesLeft.{ranges_left};
 ghost use Rattle.addr2line_units.specs.Views.{awaited_load, is_open, verdict};
+ghost use Rattle.addr2line_units.specs.SeenUnit.{scope_in};
 
 use crate::range_iter::UnitRangeIter;
 use crate::sup::SupUnits;
@@ -32,7 +33,7 @@ use std::rc::Rc;
 impl<R: Reader> UnitEntries<R> {
     // The fault of the unit's view, which is decided, if it has one. Takes no memory.
     fn check_view(&self, scope: Scope<'_, R>, dw_unit: &Unit<R>) -> Result<(), Error>
-        requires kept { AreEntriesOf (seen_scope scope) dw_unit.now self.now }
+        requires right { AreEntriesOf (seen_scope scope) dw_unit.now self.now }
         requires decided { is_decided self.now.view.state ≡ true }
         ensures gives { result ≡ view_fault
             (verdict scope.entry.file.dwarf.now dw_unit.now (first_answer_of self.now)) }
@@ -46,7 +47,7 @@ impl<R: Reader> ResUnits<R> {
     // The fault of the view of the unit of a number, which is decided, if it has one. Takes no
     // memory.
     fn check_view(&self, dwarf: &Dwarf<R>, sup: &SupUnits<R>, number: usize) -> Result<(), Error>
-        requires kept { HaveEntriesOf (scope_in dwarf.now self.now.dw_units.items sup.now)
+        requires right { HaveEntriesOf (scope_in dwarf.now self.now.dw_units.items sup.now)
             self.now.dw_units.items self.now.entries.items }
         requires decided { decided_at self.now.entries.items number ≡ true }
         ensures gives { (u : UnitRecord) → slice_get self.now.dw_units.items number ≡ Some u
@@ -67,8 +68,8 @@ impl<R: Reader> ResUnits<R> {
     ///
     /// Refused `UnknownToken` where there is no such unit; then nothing is changed. Refused by the
     /// fault of the view that the unit has then; the unit is decided all the same. May fail with
-    /// `OutOfMemory` instead, unless the unit is decided; then all that is cached stays, and only
-    /// that the unit was looked at may be new.
+    /// `OutOfMemory` instead, only of an open unit that is given sections; then all that is cached
+    /// stays, and only that the unit was looked at may be new.
     pub fn load_unit(
         &mut self,
         alloc: Global,
@@ -77,7 +78,7 @@ impl<R: Reader> ResUnits<R> {
         token: UnitToken,
         sections: Option<Rc<Dwarf<R>>>,
     ) -> Result<(), Error>
-        requires kept { HaveEntriesOf (scope_in dwarf.now self.old.dw_units.items sup.now)
+        requires right { HaveEntriesOf (scope_in dwarf.now self.old.dw_units.items sup.now)
             self.old.dw_units.items self.old.entries.items }
         ensures gives { ExactlyUnlessOom (λ x. x) result (load_result dwarf.now
             self.old.dw_units.items (answers_in self.old.entries.items) token.number
@@ -103,9 +104,11 @@ impl<R: Reader> ResUnits<R> {
             → result ≡ load_result dwarf.now self.old.dw_units.items
             (answers_in self.old.entries.items) token.number
             (option_map (λ d. d.value) sections) }
+        ensures no_sections { sections ≡ None → result ≡ load_result dwarf.now
+            self.old.dw_units.items (answers_in self.old.entries.items) token.number None }
         ensures others { (n : ℕ) → n ≢ token.number → slice_get self.new.entries.items n
             ≡ slice_get self.old.entries.items n }
-        ensures kept { HaveEntriesOf (scope_in dwarf.now self.new.dw_units.items sup.now)
+        ensures right { HaveEntriesOf (scope_in dwarf.now self.new.dw_units.items sup.now)
             self.new.dw_units.items self.new.entries.items }
         ensures dw_units { self.new.dw_units.items ≡ self.old.dw_units.items }
         ensures units { self.new.units.items ≡ self.old.units.items }
@@ -128,7 +131,7 @@ impl<R: Reader> ResUnits<R> {
         sup: &SupUnits<R>,
         token: UnitToken,
     ) -> Result<(), Error>
-        requires kept { HaveEntriesOf (scope_in dwarf.now self.old.dw_units.items sup.now)
+        requires right { HaveEntriesOf (scope_in dwarf.now self.old.dw_units.items sup.now)
             self.old.dw_units.items self.old.entries.items }
         ensures gives { result ≡ forget_result self.old.dw_units.items token.number }
         ensures answers { answers_in self.new.entries.items
@@ -137,7 +140,7 @@ impl<R: Reader> ResUnits<R> {
             → self.new.entries.items ≡ self.old.entries.items }
         ensures others { (n : ℕ) → n ≢ token.number → slice_get self.new.entries.items n
             ≡ slice_get self.old.entries.items n }
-        ensures kept { HaveEntriesOf (scope_in dwarf.now self.new.dw_units.items sup.now)
+        ensures right { HaveEntriesOf (scope_in dwarf.now self.new.dw_units.items sup.now)
             self.new.dw_units.items self.new.entries.items }
         ensures dw_units { self.new.dw_units.items ≡ self.old.dw_units.items }
         ensures units { self.new.units.items ≡ self.old.units.items }
@@ -182,7 +185,7 @@ impl<R: Reader> UnitEntries<R> {
     ) -> Result<Option<SplitDwarfLoad<R>>, Error>
         requires same { scope.file.dwarf.now ≡ dwarf.now.value }
         requires there { number < length scope.file.units.now }
-        requires kept { AreEntriesOf (seen_scope scope) dw_unit.now self.old }
+        requires right { AreEntriesOf (seen_scope scope) dw_unit.now self.old }
         ensures gives { IfOk result (λ load. load ≡ if_new marks.old.items
             (awaited_load dwarf.now.value number dw_unit.now (first_answer_of self.old))) }
         ensures marked { OnOk result (MarksLoad
@@ -192,7 +195,7 @@ impl<R: Reader> UnitEntries<R> {
         ensures not_open { is_open dwarf.now.value dw_unit.now (first_answer_of self.old) ≡ false
             → result ≡ Ok None }
         ensures refused { IfErr result (λ e. e ≡ OutOfMemory) }
-        ensures kept { AreEntriesOf (seen_scope scope.entry) dw_unit.now self.new }
+        ensures right { AreEntriesOf (seen_scope scope.entry) dw_unit.now self.new }
         ensures stay { StayEntries self.old self.new }
     {
         self.look(scope, dw_unit);
@@ -217,7 +220,7 @@ fn new_load_at<R: Reader>(
     marks: &mut Vec<bool>,
     number: usize,
 ) -> Result<Option<SplitDwarfLoad<R>>, Error>
-    requires kept { HaveEntriesOf (scope_in dwarf.now.value dw_units.now sup.now) dw_units.now
+    requires right { HaveEntriesOf (scope_in dwarf.now.value dw_units.now sup.now) dw_units.now
         entries.old.items }
     ensures gives { IfOk result (λ load. load ≡ if_new marks.old.items
         (load_of_number dwarf.now.value dw_units.now (answers_in entries.old.items) number)) }
@@ -228,7 +231,7 @@ fn new_load_at<R: Reader>(
     ensures not_open { is_open_at dwarf.now.value dw_units.now (answers_in entries.old.items) number
         ≡ false → result ≡ Ok None }
     ensures refused { IfErr result (λ e. e ≡ OutOfMemory) }
-    ensures kept { HaveEntriesOf (scope_in dwarf.now.value dw_units.now sup.now) dw_units.now
+    ensures right { HaveEntriesOf (scope_in dwarf.now.value dw_units.now sup.now) dw_units.now
         entries.new.items }
     ensures stay { StayAllEntries entries.old.items entries.new.items }
 {
@@ -273,7 +276,7 @@ fn read_loads<R: Reader>(
     entries: &mut Vec<UnitEntries<R>>,
     mut ranges: UnitRangeIter<'_>,
 ) -> Result<Vec<SplitDwarfLoad<R>>, Error>
-    requires kept { HaveEntriesOf (scope_in dwarf.now.value dw_units.now sup.now) dw_units.now
+    requires right { HaveEntriesOf (scope_in dwarf.now.value dw_units.now sup.now) dw_units.now
         entries.old.items }
     ensures gives { IfOk result (λ loads. loads.items ≡ loads_along
         (load_of_number dwarf.now.value dw_units.now (answers_in entries.old.items))
@@ -283,7 +286,7 @@ fn read_loads<R: Reader>(
         (ranges_left ranges.entry) → IsOk result }
     ensures none_open { NoneOpen dwarf.now.value dw_units.now (answers_in entries.old.items)
         (ranges_left ranges.entry) → IsOk result }
-    ensures kept { HaveEntriesOf (scope_in dwarf.now.value dw_units.now sup.now) dw_units.now
+    ensures right { HaveEntriesOf (scope_in dwarf.now.value dw_units.now sup.now) dw_units.now
         entries.new.items }
     ensures stay { StayAllEntries entries.old.items entries.new.items }
 {
@@ -308,7 +311,7 @@ impl<R: Reader> ResUnits<R> {
         sup: &SupUnits<R>,
         probe: u64,
     ) -> Result<Vec<SplitDwarfLoad<R>>, Error>
-        requires kept { HaveEntriesOf (scope_in dwarf.now.value self.old.dw_units.items sup.now)
+        requires right { HaveEntriesOf (scope_in dwarf.now.value self.old.dw_units.items sup.now)
             self.old.dw_units.items self.old.entries.items }
         ensures gives { IfOk result (λ loads. loads.items ≡ loads_along
             (load_of_number dwarf.now.value self.old.dw_units.items
@@ -321,7 +324,7 @@ impl<R: Reader> ResUnits<R> {
         ensures answers { answers_in self.new.entries.items
             ≡ answers_in self.old.entries.items }
         ensures stay { StayAllEntries self.old.entries.items self.new.entries.items }
-        ensures kept { HaveEntriesOf (scope_in dwarf.now.value self.new.dw_units.items sup.now)
+        ensures right { HaveEntriesOf (scope_in dwarf.now.value self.new.dw_units.items sup.now)
             self.new.dw_units.items self.new.entries.items }
         ensures dw_units { self.new.dw_units.items ≡ self.old.dw_units.items }
         ensures units { self.new.units.items ≡ self.old.units.items }

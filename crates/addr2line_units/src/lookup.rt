@@ -8,9 +8,9 @@ ghost use Rattle.addr2line_units.specs.Located.{all_lines, along, is_found, loca
 ghost use Rattle.gimli_read.specs.Alike.{HadMemory};
 ghost use Rattle.addr2line_units.specs.Parsed.{AllAskFor, AreAllParsed, AreParsed, AreReadyForAll, AsksFor, LeadTo, ParsesOnly, has_parsed, ready_along};
 ghost use Rattle.addr2line_units.specs.UnitRangesLeft.{ranges_left};
-ghost use Rattle.addr2line_units.specs.CachedLines.{HaveLinesOf, StayUnits, indexed_units, lines_answer_at, location_at_place, parsed_units, place_of_row};
+ghost use Rattle.addr2line_units.specs.CachedLines.{HaveLinesOf, StayUnits, indexed_units, lines_result_at, location_of_unit_row, parsed_units, unit_row};
 
-use crate::place::Place;
+use crate::unit_row::UnitRow;
 use crate::range_iter::UnitRangeIter;
 use crate::unit::ResUnit;
 use addr2line_lines::{Count, Row};
@@ -30,11 +30,11 @@ fn find_row_in<R: Reader>(
     probe: u64,
 ) -> Result<Option<Row>, Error>
     requires read { HaveLinesOf dwarf.now dw_units.now units.old.items }
-    ensures gives { ExactlyUnlessOom (option_map (λ row. location_at_place units.new.items
-        (place_of_row number row))) result (location_in dwarf.now probe
+    ensures gives { ExactlyUnlessOom (option_map (λ row. location_of_unit_row units.new.items
+        (unit_row number row))) result (location_in dwarf.now probe
         (slice_get (indexed_units dw_units.now units.old.items) number)) }
     ensures exact { has_parsed (parsed_units units.old.items) number ≡ true → Exactly
-        (option_map (λ row. location_at_place units.new.items (place_of_row number row))) result
+        (option_map (λ row. location_of_unit_row units.new.items (unit_row number row))) result
         (location_in dwarf.now probe
         (slice_get (indexed_units dw_units.now units.old.items) number)) }
     ensures parsed { HadMemory result → has_parsed (parsed_units units.new.items) number ≡ true }
@@ -65,14 +65,14 @@ pub(crate) fn find_place_along<R: Reader>(
     mut ranges: UnitRangeIter<'_>,
     looks: &mut Count,
     probe: u64,
-) -> Result<Option<Place>, Error>
+) -> Result<Option<UnitRow>, Error>
     requires read { HaveLinesOf dwarf.now dw_units.now units.old.items }
-    ensures gives { ExactlyUnlessOom (option_map (location_at_place units.new.items)) result
+    ensures gives { ExactlyUnlessOom (option_map (location_of_unit_row units.new.items)) result
         (along dwarf.now (indexed_units dw_units.now units.old.items) probe
         (ranges_left ranges.entry)) }
     ensures exact { ready_along dwarf.now (indexed_units dw_units.now units.old.items)
         (parsed_units units.old.items) probe (ranges_left ranges.entry) ≡ true → Exactly
-        (option_map (location_at_place units.new.items)) result
+        (option_map (location_of_unit_row units.new.items)) result
         (along dwarf.now (indexed_units dw_units.now units.old.items) probe
         (ranges_left ranges.entry)) }
     ensures ready { HadMemory result → ready_along dwarf.now
@@ -93,7 +93,7 @@ pub(crate) fn find_place_along<R: Reader>(
 {
     while let Some(range) = ranges.next() {
         if let Some(row) = find_row_in(alloc, dwarf, dw_units, units, range.unit, looks, probe)? {
-            return Ok(Some(Place {
+            return Ok(Some(UnitRow {
                 unit: range.unit,
                 row,
             }));
@@ -166,10 +166,10 @@ fn read_lines_in<R: Reader>(
 ) -> Result<(), Error>
     requires read { HaveLinesOf dwarf.now dw_units.now units.old.items }
     ensures gives { ExactlyUnlessOom (λ x. x) result
-        (lines_answer_at dwarf.now
+        (lines_result_at dwarf.now
         (slice_get (indexed_units dw_units.now units.old.items) number)) }
     ensures exact { has_parsed (parsed_units units.old.items) number ≡ true → Exactly (λ x. x)
-        result (lines_answer_at dwarf.now
+        result (lines_result_at dwarf.now
         (slice_get (indexed_units dw_units.now units.old.items) number)) }
     ensures parsed { HadMemory result → has_parsed (parsed_units units.new.items) number ≡ true }
     ensures memory { has_parsed (parsed_units units.new.items) number ≡ true → HadMemory result }

@@ -1,6 +1,6 @@
 //! Lookups of frames over the units of a context, and the answers to their loads.
 
-ghost use Rattle.std.specs.Prelude.{◌≡◌, ◌≢◌, ◌&&◌, ◌<◌, ◌≤◌, ℕ, None, Some, set, IfErr, IfOk, IfSome, Ok, OnOk, false, length, not, option_map, slice_get, true};
+ghost use Rattle.std.specs.Prelude.{◌≡◌, ◌≢◌, ◌&&◌, ◌<◌, ◌≤◌, ℕ, None, Some, set, IfErr, IfOk, IfSome, Ok, OnOk, false, is_some, length, not, option_map, slice_get, true};
 ghost use Rattle.gimli_read.specs.declared.error.Error.TheVariants.{OutOfMemory};
 ghost use Rattle.gimli_read.specs.Reading.{ExactlyUnlessOom};
 ghost use Rattle.addr2line_lines.specs.References.{IsScope};
@@ -15,9 +15,9 @@ ghost use Rattle.addr2line_units.specs.CachedLines.{cached_files};
 ghost use Rattle.addr2line_units.specs.Frames.{found_frames};
 ghost use Rattle.addr2line_units.specs.CachedEntries.{AreRead};
 ghost use Rattle.addr2line_units.specs.CachedFunctions.{ArePlacesIn, function_of_place, cached_functions};
-ghost use Rattle.addr2line_units.specs.CachedUnits.{HaveEntriesOf, HaveViewsOf, ReadsOnly, StayAllEntries, WaitsIn, answers_in, decided_at, scope_in, sup_file, waits_at};
+ghost use Rattle.addr2line_units.specs.CachedUnits.{HaveEntriesOf, HaveViewsOf, ReadsOnly, StayAllEntries, WaitsIn, answers_in, decided_at, waits_at};
 ghost use Rattle.addr2line_units.specs.CachedFrames.{IsFramePlaceIn, IsStopIn, frames_at_place, has_frames_at, seen_stop};
-ghost use Rattle.addr2line_units.specs.SeenUnit.{seen_unit};
+ghost use Rattle.addr2line_units.specs.SeenUnit.{scope_in, seen_unit, sup_file};
 ghost use Rattle.addr2line_units.specs.Loads.{is_open_at};
 ghost use Rattle.addr2line_units.specs.Views.{load_of_unit, parts_of};
 ghost use Rattle.gimli_read.specs.Alike.{HadMemory};
@@ -129,7 +129,7 @@ impl<R: Reader> ResUnits<R> {
     ) -> Result<FramesStop, Error>
         requires in_order { IsScope (scope_in dwarf.now self.old.dw_units.items sup.now) }
         requires read { HaveLinesOf dwarf.now self.old.dw_units.items self.old.units.items }
-        requires kept { HaveEntriesOf (scope_in dwarf.now self.old.dw_units.items sup.now)
+        requires right { HaveEntriesOf (scope_in dwarf.now self.old.dw_units.items sup.now)
             self.old.dw_units.items self.old.entries.items }
         ensures gives { ExactlyUnlessOom (seen_stop self.new.units.items self.new.entries.items)
             result (stop_along (asked_frames faults
@@ -138,7 +138,7 @@ impl<R: Reader> ResUnits<R> {
         ensures there { IfOk result (IsStopIn self.new.units.items self.new.entries.items) }
         ensures waits { IfOk result (WaitsIn self.new.entries.items) }
         ensures read { HaveLinesOf dwarf.now self.new.dw_units.items self.new.units.items }
-        ensures kept { HaveEntriesOf (scope_in dwarf.now self.new.dw_units.items sup.now)
+        ensures right { HaveEntriesOf (scope_in dwarf.now self.new.dw_units.items sup.now)
             self.new.dw_units.items self.new.entries.items }
         ensures stay_units { StayUnits self.old.units.items self.new.units.items }
         ensures stay { StayAllEntries self.old.entries.items self.new.entries.items }
@@ -225,8 +225,8 @@ impl<R: Reader> ResUnits<R> {
     /// Decides the unit of a number by an answer to its load if it is open, and else leaves it as
     /// it is.
     ///
-    /// Refused `OutOfMemory` alone, and only of an open unit; then all that is cached stays, and
-    /// only that the unit was looked at may be new.
+    /// Refused `OutOfMemory` alone, and only of an open unit that is given sections; then all that
+    /// is cached stays, and only that the unit was looked at may be new.
     pub fn answer(
         &mut self,
         alloc: Global,
@@ -235,10 +235,10 @@ impl<R: Reader> ResUnits<R> {
         number: usize,
         sections: Option<Rc<Dwarf<R>>>,
     ) -> Result<(), Error>
-        requires kept { HaveEntriesOf (scope_in dwarf.now self.old.dw_units.items sup.now)
+        requires right { HaveEntriesOf (scope_in dwarf.now self.old.dw_units.items sup.now)
             self.old.dw_units.items self.old.entries.items }
         requires there { number < length self.old.dw_units.items }
-        ensures kept { HaveEntriesOf (scope_in dwarf.now self.new.dw_units.items sup.now)
+        ensures right { HaveEntriesOf (scope_in dwarf.now self.new.dw_units.items sup.now)
             self.new.dw_units.items self.new.entries.items }
         ensures answers { OnOk result (answers_in self.new.entries.items
             ≡ with_answer dwarf.now self.old.dw_units.items (answers_in self.old.entries.items)
@@ -252,7 +252,8 @@ impl<R: Reader> ResUnits<R> {
             ≡ slice_get self.old.entries.items n }
         ensures refused { IfErr result (λ e. (e ≡ OutOfMemory)
             × (answers_in self.new.entries.items ≡ answers_in self.old.entries.items)
-            × StayAllEntries self.old.entries.items self.new.entries.items) }
+            × StayAllEntries self.old.entries.items self.new.entries.items
+            × (is_some sections ≡ true)) }
         ensures dw_units { self.new.dw_units.items ≡ self.old.dw_units.items }
         ensures units { self.new.units.items ≡ self.old.units.items }
         ensures ranges { self.new.ranges ≡ self.old.ranges }
@@ -271,10 +272,10 @@ impl<R: Reader> ResUnits<R> {
     /// Takes the answer to the load of the unit of a number back, if there is one, with what was
     /// read of its view; its lines stay. Takes no memory.
     pub fn forget(&mut self, dwarf: &Dwarf<R>, sup: &SupUnits<R>, number: usize)
-        requires kept { HaveEntriesOf (scope_in dwarf.now self.old.dw_units.items sup.now)
+        requires right { HaveEntriesOf (scope_in dwarf.now self.old.dw_units.items sup.now)
             self.old.dw_units.items self.old.entries.items }
         requires there { number < length self.old.dw_units.items }
-        ensures kept { HaveEntriesOf (scope_in dwarf.now self.new.dw_units.items sup.now)
+        ensures right { HaveEntriesOf (scope_in dwarf.now self.new.dw_units.items sup.now)
             self.new.dw_units.items self.new.entries.items }
         ensures answers { answers_in self.new.entries.items
             ≡ set (answers_in self.old.entries.items) number None }

@@ -4,17 +4,18 @@ ghost use Rattle.std.specs.Prelude.{◌≡◌, ◌⊎◌, ◌<◌, ℕ, IfSome, 
 ghost use Rattle.gimli_read.specs.Reading.{ExactlyUnlessOom};
 ghost use Rattle.addr2line_lines.specs.References.{IsScope};
 ghost use Rattle.addr2line_lines.specs.SeenScope.{seen_scope};
-ghost use Rattle.addr2line_units.specs.declared.parses.Reads.TheVariants.{Details, Functions};
+ghost use Rattle.addr2line_units.specs.declared.parses.ReadingDepth.TheVariants.{Details, Functions};
 ghost use Rattle.addr2line_units.specs.FramesLookup.{with_answer};
 ghost use Rattle.addr2line_units.specs.FunctionParses.{AreFirstDecided, AreReadBefore, AreReadyFor, IsReadyFor, answers_after_parse, read_of_functions, read_of_number, read_of_unit, read_of_units, read_of_view};
 ghost use Rattle.addr2line_units.specs.CachedEntries.{AreEntriesOf, StayEntries, first_answer_of};
 ghost use Rattle.addr2line_units.specs.CachedFunctions.{AreFunctionsOf, StayFunctions};
-ghost use Rattle.addr2line_units.specs.CachedUnits.{HaveEntriesOf, StayAllEntries, answers_in, has_entries_at, scope_in};
+ghost use Rattle.addr2line_units.specs.CachedUnits.{HaveEntriesOf, StayAllEntries, answers_in, has_entries_at};
 ghost use Rattle.addr2line_units.specs.CachedParses.{AreDecided, AreReadyUnits, ChangesOnly, HasRead, HaveFunctions, HaveRead, IsReadyUnit, StayDecided};
 ghost use Rattle.addr2line_units.specs.CachedViews.{is_decided, seen_first_answer};
 ghost use Rattle.addr2line_units.specs.KnownEntries.{known_by, known_functions, known_in};
 ghost use Rattle.gimli_read.specs.Alike.{HadMemory};
 ghost use Rattle.addr2line_units.specs.Views.{decided_answer, verdict};
+ghost use Rattle.addr2line_units.specs.SeenUnit.{scope_in};
 
 use crate::functions::LazyFunctions;
 use crate::sup::SupUnits;
@@ -28,7 +29,7 @@ use std::alloc::Global;
 
 /// What is read of each unit.
 #[derive(Clone, Copy)]
-pub enum Reads {
+pub enum ReadingDepth {
     /// Its functions.
     Functions,
     /// Its functions, and the detail of each.
@@ -72,7 +73,7 @@ impl<R: Reader> LazyFunctions<R> {
         alloc: Global,
         scope: Scope<'_, R>,
         view: &Unit<R>,
-        reads: Reads,
+        reads: ReadingDepth,
     ) -> Result<(), Error>
         requires in_order { IsScope (seen_scope scope) }
         requires right { AreFunctionsOf (seen_scope scope) view.now self.old }
@@ -88,8 +89,8 @@ impl<R: Reader> LazyFunctions<R> {
         ensures same { IsReadyFor reads (known_functions self.old) → self.new ≡ self.old }
     {
         match reads {
-            Reads::Functions => self.read_alone(alloc, scope, view),
-            Reads::Details => self.read_all(alloc, scope, view),
+            ReadingDepth::Functions => self.read_alone(alloc, scope, view),
+            ReadingDepth::Details => self.read_all(alloc, scope, view),
         }
     }
 }
@@ -101,15 +102,15 @@ fn read_in_view<'x, R: Reader>(
     functions: &mut LazyFunctions<R>,
     scope: Scope<'x, R>,
     dw_unit: &'x Unit<R>,
-    reads: Reads,
+    reads: ReadingDepth,
 ) -> Result<(), Error>
     requires in_order { IsScope (seen_scope scope) }
-    requires kept { AreEntriesOf (seen_scope scope) dw_unit.now
+    requires right { AreEntriesOf (seen_scope scope) dw_unit.now
         (record { view = view.now; functions = functions.old }) }
     requires decided { is_decided view.now.state ≡ true }
     ensures gives { ExactlyUnlessOom (λ x. x) result (read_of_view reads (seen_scope scope.entry)
         (verdict scope.entry.file.dwarf.now dw_unit.now (seen_first_answer view.now))) }
-    ensures kept { AreEntriesOf (seen_scope scope.entry) dw_unit.now
+    ensures right { AreEntriesOf (seen_scope scope.entry) dw_unit.now
         (record { view = view.now; functions = functions.new }) }
     ensures stay { StayFunctions functions.old functions.new }
     ensures read { OnOk result (HasRead reads
@@ -141,13 +142,13 @@ impl<R: Reader> UnitEntries<R> {
         alloc: Global,
         scope: Scope<'x, R>,
         dw_unit: &'x Unit<R>,
-        reads: Reads,
+        reads: ReadingDepth,
     ) -> Result<(), Error>
         requires in_order { IsScope (seen_scope scope) }
-        requires kept { AreEntriesOf (seen_scope scope) dw_unit.now self.old }
+        requires right { AreEntriesOf (seen_scope scope) dw_unit.now self.old }
         ensures gives { ExactlyUnlessOom (λ x. x) result (read_of_unit reads
             (seen_scope scope.entry) dw_unit.now (first_answer_of self.old)) }
-        ensures kept { AreEntriesOf (seen_scope scope.entry) dw_unit.now self.new }
+        ensures right { AreEntriesOf (seen_scope scope.entry) dw_unit.now self.new }
         ensures answer { HadMemory result → first_answer_of self.new ≡ decided_answer
             scope.entry.file.dwarf.now dw_unit.now (first_answer_of self.old) None }
         ensures memory_answer { (first_answer_of self.new ≡ first_answer_of self.old)
@@ -173,15 +174,15 @@ fn read_functions_in<R: Reader>(
     scope: Scope<'_, R>,
     entries: &mut Vec<UnitEntries<R>>,
     number: usize,
-    reads: Reads,
+    reads: ReadingDepth,
 ) -> Result<(), Error>
     requires in_order { IsScope (seen_scope scope) }
-    requires kept { HaveEntriesOf (seen_scope scope) scope.file.units.now entries.old.items }
+    requires right { HaveEntriesOf (seen_scope scope) scope.file.units.now entries.old.items }
     requires there { number < length entries.old.items }
     ensures gives { ExactlyUnlessOom (λ x. x) result (read_of_number reads
         (seen_scope scope.entry) scope.entry.file.units.now (answers_in entries.old.items)
         number) }
-    ensures kept { HaveEntriesOf (seen_scope scope.entry) scope.entry.file.units.now
+    ensures right { HaveEntriesOf (seen_scope scope.entry) scope.entry.file.units.now
         entries.new.items }
     ensures answers { HadMemory result → answers_in entries.new.items
         ≡ with_answer scope.entry.file.dwarf.now scope.entry.file.units.now
@@ -215,13 +216,13 @@ fn read_all_functions<R: Reader>(
     alloc: Global,
     scope: Scope<'_, R>,
     entries: &mut Vec<UnitEntries<R>>,
-    reads: Reads,
+    reads: ReadingDepth,
 ) -> Result<(), Error>
     requires in_order { IsScope (seen_scope scope) }
-    requires kept { HaveEntriesOf (seen_scope scope) scope.file.units.now entries.old.items }
+    requires right { HaveEntriesOf (seen_scope scope) scope.file.units.now entries.old.items }
     ensures gives { ExactlyUnlessOom (λ x. x) result (read_of_units reads
         (seen_scope scope.entry) scope.entry.file.units.now (answers_in entries.old.items)) }
-    ensures kept { HaveEntriesOf (seen_scope scope.entry) scope.entry.file.units.now
+    ensures right { HaveEntriesOf (seen_scope scope.entry) scope.entry.file.units.now
         entries.new.items }
     ensures answers { HadMemory result → answers_in entries.new.items
         ≡ answers_after_parse reads (seen_scope scope.entry) scope.entry.file.units.now
@@ -267,15 +268,15 @@ impl<R: Reader> ResUnits<R> {
         alloc: Global,
         dwarf: &Dwarf<R>,
         sup: &SupUnits<R>,
-        reads: Reads,
+        reads: ReadingDepth,
     ) -> Result<(), Error>
         requires in_order { IsScope (scope_in dwarf.now self.old.dw_units.items sup.now) }
-        requires kept { HaveEntriesOf (scope_in dwarf.now self.old.dw_units.items sup.now)
+        requires right { HaveEntriesOf (scope_in dwarf.now self.old.dw_units.items sup.now)
             self.old.dw_units.items self.old.entries.items }
         ensures gives { ExactlyUnlessOom (λ x. x) result (read_of_units reads
             (scope_in dwarf.now self.old.dw_units.items sup.now) self.old.dw_units.items
             (answers_in self.old.entries.items)) }
-        ensures kept { HaveEntriesOf (scope_in dwarf.now self.new.dw_units.items sup.now)
+        ensures right { HaveEntriesOf (scope_in dwarf.now self.new.dw_units.items sup.now)
             self.new.dw_units.items self.new.entries.items }
         ensures answers { HadMemory result → answers_in self.new.entries.items
             ≡ answers_after_parse reads (scope_in dwarf.now self.old.dw_units.items sup.now)

@@ -8,7 +8,7 @@ ghost use Rattle.addr2line_lines.specs.Location.{location_of_row};
 ghost use Rattle.addr2line_units.specs.RangedUnits.{is_partial, is_type_unit, given_in_unit, given_ranges, has_lines, asks_lines, ranged_unit, unit_ranges};
 ghost use Rattle.addr2line_units.specs.Located.{is_found, location_in, looks_in};
 ghost use Rattle.addr2line_units.specs.UnitAranges.{range_in};
-ghost use Rattle.addr2line_units.specs.CachedLines.{AreLinesOf, IsUnparsed, LinesStayCached, CachesAnswer, StaysUnit, cached_lines_answer, cached_files, cached_looks, cached_ranges, cached_row, indexed_unit, lines_answer, cached_lines, is_parsed, is_uncached};
+ghost use Rattle.addr2line_units.specs.CachedLines.{AreLinesOf, IsUnparsed, LinesStayCached, CachesResult, StaysUnit, cached_lines_result, cached_files, cached_looks, cached_ranges, cached_row, indexed_unit, lines_result, cached_lines, is_parsed, is_uncached};
 ghost use Rattle.addr2line_units.specs.Indexed.{ranged_seen};
 ghost use Rattle.gimli_read.specs.Alike.{HadMemory};
 
@@ -30,8 +30,8 @@ pub enum LazyLines {
     Faulty(Error),
 }
 
-/// What a context has of a unit, beside the unit itself: its language, and its lines, which are cached
-/// when they are first asked for.
+/// What a context has of a unit, beside the unit itself: its language, and its lines, which are
+/// cached when they are first asked for.
 #[derive(Drop)]
 pub struct ResUnit {
     /// Its language.
@@ -141,12 +141,12 @@ fn parse_lines<R: Reader>(
     dwarf: &Dwarf<R>,
     unit: &Unit<R>,
 ) -> Result<LazyLines, Error>
-    ensures gives { IfOk result (λ l. cached_lines_answer l
-        ≡ lines_answer dwarf.now unit.now) }
+    ensures gives { IfOk result (λ l. cached_lines_result l
+        ≡ lines_result dwarf.now unit.now) }
     ensures read { IfOk result
         (AreLinesOf dwarf.now unit.now) }
     ensures cached { IfOk result (λ l. is_uncached l ≡ false) }
-    ensures fault { IfOk result (λ l. cached_lines_answer l ≢ Err OutOfMemory) }
+    ensures fault { IfOk result (λ l. cached_lines_result l ≢ Err OutOfMemory) }
     ensures refused { IfErr result (λ e. e ≡ OutOfMemory) }
 {
     match Lines::parse(alloc, dwarf, unit) {
@@ -158,7 +158,7 @@ fn parse_lines<R: Reader>(
 
 // The cached fault, if there is one.
 fn check_lines(lines: &LazyLines) -> Result<(), Error>
-    ensures gives { Exactly (λ _. cached_lines lines.now) result (cached_lines_answer lines.now) }
+    ensures gives { Exactly (λ _. cached_lines lines.now) result (cached_lines_result lines.now) }
 {
     match lines {
         LazyLines::Faulty(error) => Err(*error),
@@ -214,12 +214,12 @@ impl ResUnit {
         dw_unit: &Unit<R>,
     ) -> Result<(), Error>
         requires read { AreLinesOf dwarf.now dw_unit.now self.old.lines }
-        ensures gives { OnOk result (cached_lines_answer self.new.lines
-            ≡ lines_answer dwarf.now dw_unit.now) }
+        ensures gives { OnOk result (cached_lines_result self.new.lines
+            ≡ lines_result dwarf.now dw_unit.now) }
         ensures exact { is_uncached self.old.lines ≡ false → result ≡ Ok tt }
         ensures cached { OnOk result (is_uncached self.new.lines ≡ false) }
         ensures fault { is_uncached self.old.lines ≡ true → OnOk result
-            (cached_lines_answer self.new.lines ≢ Err OutOfMemory) }
+            (cached_lines_result self.new.lines ≢ Err OutOfMemory) }
         ensures stays { LinesStayCached self.old.lines self.new.lines }
         ensures refused { IfErr result (λ e. e ≡ OutOfMemory) }
         ensures memory { OnErr result (self.new.lines ≡ self.old.lines) }
@@ -241,12 +241,12 @@ impl ResUnit {
     ) -> Result<(), Error>
         requires read { AreLinesOf dwarf.now dw_unit.now self.old.lines }
         ensures gives { ExactlyUnlessOom (λ _. cached_lines self.new.lines) result
-            (lines_answer dwarf.now dw_unit.now) }
+            (lines_result dwarf.now dw_unit.now) }
         ensures exact { is_uncached self.old.lines ≡ false →
             Exactly (λ _. cached_lines self.new.lines) result
-            (lines_answer dwarf.now dw_unit.now) }
+            (lines_result dwarf.now dw_unit.now) }
         ensures stays { LinesStayCached self.old.lines self.new.lines }
-        ensures caches { CachesAnswer self.old.lines result self.new.lines }
+        ensures caches { CachesResult self.old.lines result self.new.lines }
         ensures memory { is_uncached self.new.lines ≡ false → HadMemory result }
         ensures lang { self.new.lang ≡ self.old.lang }
         ensures read { AreLinesOf dwarf.now dw_unit.now self.new.lines }
@@ -299,7 +299,7 @@ impl ResUnit {
             (location_of_row (cached_files self.new.lines))) result
             (location_in dwarf.now probe (Some (indexed_unit dw_unit.now self.old))) }
         ensures stays { StaysUnit self.old self.new }
-        ensures caches { CachesAnswer self.old.lines result self.new.lines }
+        ensures caches { CachesResult self.old.lines result self.new.lines }
         ensures memory { is_uncached self.new.lines ≡ false → HadMemory result }
         ensures read { AreLinesOf dwarf.now dw_unit.now self.new.lines }
         ensures cost { looks.new ≤ looks.old

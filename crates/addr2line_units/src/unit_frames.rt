@@ -49,7 +49,7 @@ fn find_in_view<'x, R: Reader>(
     probe: u64,
 ) -> Result<Option<FunctionPlace>, Error>
     requires in_order { IsScope (seen_scope scope) }
-    requires kept { AreEntriesOf (seen_scope scope) dw_unit.now
+    requires right { AreEntriesOf (seen_scope scope) dw_unit.now
         (record { view = view.now; functions = functions.old }) }
     requires decided { is_decided view.now.state ≡ true }
     ensures gives { ExactlyUnlessOom
@@ -57,7 +57,7 @@ fn find_in_view<'x, R: Reader>(
         (function_in (seen_scope scope.entry) dw_unit.now (seen_first_answer view.now) probe) }
     ensures there { IfOk result (λ found. IfSome found
         (ArePlacesIn (cached_functions functions.new))) }
-    ensures kept { AreEntriesOf (seen_scope scope.entry) dw_unit.now
+    ensures right { AreEntriesOf (seen_scope scope.entry) dw_unit.now
         (record { view = view.now; functions = functions.new }) }
     ensures stay { StayFunctions functions.old functions.new }
     ensures alone { ReadsNoOther probe (cached_functions functions.old)
@@ -88,8 +88,8 @@ impl<R: Reader> UnitEntries<R> {
 
     // Looks whether the unit waits for an answer, unless that was done. Takes no memory.
     pub(crate) fn look(&mut self, scope: Scope<'_, R>, dw_unit: &Unit<R>)
-        requires kept { AreEntriesOf (seen_scope scope) dw_unit.now self.old }
-        ensures kept { AreEntriesOf (seen_scope scope.entry) dw_unit.now self.new }
+        requires right { AreEntriesOf (seen_scope scope) dw_unit.now self.old }
+        ensures right { AreEntriesOf (seen_scope scope.entry) dw_unit.now self.new }
         ensures looked { was_looked_at self.new.view.state ≡ true }
         ensures stay { StayEntries self.old self.new }
         ensures functions { self.new.functions ≡ self.old.functions }
@@ -112,7 +112,7 @@ impl<R: Reader> UnitEntries<R> {
         probe: u64,
     ) -> Result<Option<FunctionPlace>, Error>
         requires in_order { IsScope (seen_scope scope) }
-        requires kept { AreEntriesOf (seen_scope scope) dw_unit.now self.old }
+        requires right { AreEntriesOf (seen_scope scope) dw_unit.now self.old }
         requires looked { was_looked_at self.old.view.state ≡ true }
         requires decided { waits self.old.view.state ≡ false }
         ensures gives { ExactlyUnlessOom
@@ -120,7 +120,7 @@ impl<R: Reader> UnitEntries<R> {
             (function_in (seen_scope scope.entry) dw_unit.now (first_answer_of self.old) probe) }
         ensures there { IfOk result (λ found. IfSome found
             (ArePlacesIn (cached_functions self.new.functions))) }
-        ensures kept { AreEntriesOf (seen_scope scope.entry) dw_unit.now self.new }
+        ensures right { AreEntriesOf (seen_scope scope.entry) dw_unit.now self.new }
         ensures stay { StayEntries self.old self.new }
         ensures only { ReadsEntriesOf probe self.old self.new }
         ensures ready { HadMemory result → has_entries probe self.new ≡ true }
@@ -151,13 +151,13 @@ pub(crate) fn find_frames_in<'x, R: Reader>(
 ) -> Result<UnitFrames, Error>
     requires in_order { IsScope (seen_scope scope) }
     requires read { AreLinesOf scope.file.dwarf.now dw_unit.now unit.old.lines }
-    requires kept { AreEntriesOf (seen_scope scope) dw_unit.now entries.old }
+    requires right { AreEntriesOf (seen_scope scope) dw_unit.now entries.old }
     ensures gives { ExactlyUnlessOom (frames_of_place unit.new entries.new) result
         (frames_in (seen_scope scope.entry) (indexed_unit dw_unit.now unit.old)
         (first_answer_of entries.old) probe) }
     ensures there { IfOk result (AreFramesIn unit.new entries.new) }
     ensures read { AreLinesOf scope.entry.file.dwarf.now dw_unit.now unit.new.lines }
-    ensures kept { AreEntriesOf (seen_scope scope.entry) dw_unit.now entries.new }
+    ensures right { AreEntriesOf (seen_scope scope.entry) dw_unit.now entries.new }
     ensures stays { StaysUnit unit.old unit.new }
     ensures stay { StayEntries entries.old entries.new }
     ensures only { ReadsEntriesOf probe entries.old entries.new }

@@ -5,7 +5,7 @@ ghost use Rattle.gimli_read.specs.declared.error.Error.TheVariants.{OutOfMemory}
 ghost use Rattle.gimli_read.specs.Reading.{Exactly, ExactlyUnlessOom, ExactlyUnlessOomIf};
 ghost use Rattle.addr2line_units.specs.RangedUnits.{range_of_unit, unit_of_header};
 ghost use Rattle.addr2line_units.specs.Indexed.{index_seen, index_takes_memory, indexed, indexed_with, no_index, ranged_seen, indexed_unit_takes_memory, units_in, units_seen, units_take_memory, with_header, with_ranged};
-ghost use Rattle.addr2line_units.specs.CachedLines.{HaveLinesOf, IsUnparsed, StayUnits, cached_files, location_at_place, parsed_units};
+ghost use Rattle.addr2line_units.specs.CachedLines.{HaveLinesOf, IsUnparsed, StayUnits, cached_files, location_of_unit_row, parsed_units};
 ghost use Rattle.addr2line_units.specs.CachedUnits.{AreFreshOf};
 ghost use Rattle.addr2line_units.specs.LocationsLeft.{locations_left};
 ghost use Rattle.gimli_line.specs.Opcode.{fault_of};
@@ -22,7 +22,7 @@ use crate::aranges::UnitAranges;
 use crate::frames_lookup::FramesStop;
 use crate::index::{UnitRange, UnitRanges};
 use crate::lookup::{cache_lines_along, find_place_along, read_all_lines};
-use crate::place::Place;
+use crate::unit_row::UnitRow;
 use crate::range::LocationRangeIter;
 use crate::unit::{LazyLines, ResUnit, is_type_unit, read_ranged_unit};
 use crate::unit_frames::UnitEntries;
@@ -255,14 +255,14 @@ impl<R: Reader> ResUnits<R> {
         dwarf: &Dwarf<R>,
         looks: &mut Count,
         probe: u64,
-    ) -> Result<Option<Place>, Error>
+    ) -> Result<Option<UnitRow>, Error>
         requires read { HaveLinesOf dwarf.now self.old.dw_units.items self.old.units.items }
-        ensures gives { ExactlyUnlessOom (option_map (location_at_place self.new.units.items))
+        ensures gives { ExactlyUnlessOom (option_map (location_of_unit_row self.new.units.items))
             result (along dwarf.now (units_in self.old) probe
             (cover probe self.old.ranges)) }
         ensures exact { ready_along dwarf.now (units_in self.old)
             (parsed_units self.old.units.items) probe (cover probe self.old.ranges) ≡ true
-            → Exactly (option_map (location_at_place self.new.units.items)) result
+            → Exactly (option_map (location_of_unit_row self.new.units.items)) result
             (along dwarf.now (units_in self.old) probe
             (cover probe self.old.ranges)) }
         ensures ready { HadMemory result → ready_along dwarf.now
@@ -297,8 +297,8 @@ impl<R: Reader> ResUnits<R> {
     }
 
     /// The location of a row of a unit, by its cached lines. Takes no memory.
-    pub fn location(&self, place: Place) -> Location<'_>
-        ensures gives { seen_location result ≡ location_at_place self.now.units.items place }
+    pub fn location(&self, place: UnitRow) -> Location<'_>
+        ensures gives { seen_location result ≡ location_of_unit_row self.now.units.items place }
     {
         match self.units.get(place.unit) {
             Some(unit) => location_of(&unit.lines, place.row),

@@ -2,13 +2,13 @@
 
 ghost use Rattle.std.specs.Prelude.{◌≡◌, Err, None, Ok, Some, IfErr, IfOk, IfSome, OnOk, false, is_some, option_map, true};
 ghost use Rattle.gimli_read.specs.declared.error.Error.TheVariants.{OutOfMemory};
-ghost use Rattle.gimli_read.specs.Reading.{Exactly, ExactlyUnlessOom, ExactlyUnlessOomIf};
+ghost use Rattle.gimli_read.specs.Reading.{Exactly, ExactlyUnlessOomIf};
 ghost use Rattle.gimli.specs.Sections.{Sections};
 ghost use Rattle.gimli.specs.Unit.{UnitRecord};
 ghost use Rattle.addr2line_lines.specs.References.{IsScope};
 ghost use Rattle.addr2line_lines.specs.SeenScope.{seen_scope};
 ghost use Rattle.addr2line_units.specs.CachedViews.{IsViewOf, answer_in, is_decided, parts_or_fault, seen_first_answer, seen_sections, split_file_by, split_file_in, split_unit, verdict_in, view_in, waits, was_looked_at};
-ghost use Rattle.addr2line_units.specs.Views.{answered_view, first_unit, load_of_unit, split_name_of, verdict, view_scope};
+ghost use Rattle.addr2line_units.specs.Views.{answered_view, first_unit, first_unit_takes_memory, load_of_unit, split_name_of, verdict, view_scope};
 
 use addr2line_lines::{FileUnits, Scope};
 use gimli::read::{Error, Reader};
@@ -56,7 +56,7 @@ impl<R: Reader> Model for SplitDwarfLoad<R> {
 // The first answer to the load of a unit, and the split unit that it gives: none where it has no
 // sections, or these no unit; or the fault of that.
 #[derive(Drop)]
-struct Answer<R: Reader> {
+struct AnsweredLoad<R: Reader> {
     sections: Option<Rc<Dwarf<R>>>,
     unit: Result<Option<Unit<R>>, Error>,
 }
@@ -72,7 +72,7 @@ enum ViewState<R: Reader> {
     Main,
     // The fault of the split file's name.
     Unnamed(Error),
-    Answered(Answer<R>),
+    Answered(AnsweredLoad<R>),
 }
 
 // A unit's view.
@@ -132,10 +132,12 @@ fn read_load<R: Reader>(
 
 /// The first unit of sections, `None` where they have no unit.
 ///
-/// Refused for its header, else as `Dwarf::unit` is. May fail with `OutOfMemory` instead. Source:
-/// DWARF 5, section 7.5.1.
+/// Refused for its header, else as `Dwarf::unit` is. May fail with `OutOfMemory` instead, where
+/// bytes are shared or the header can be read of a unit that takes memory. Source: DWARF 5, section
+/// 7.5.1.
 pub fn read_first_unit<R: Reader>(alloc: Global, dwarf: &Dwarf<R>) -> Result<Option<Unit<R>>, Error>
-    ensures gives { ExactlyUnlessOom (λ u. u) result (first_unit dwarf.now) }
+    ensures gives { ExactlyUnlessOomIf (first_unit_takes_memory R.shares dwarf.now) (λ u. u) result
+        (first_unit dwarf.now) }
 {
     let mut headers = dwarf.units()?;
     match headers.next()? {
@@ -179,7 +181,7 @@ fn first_state<R: Reader>(dwarf: &Dwarf<R>, unit: &Unit<R>) -> ViewState<R>
     }
 }
 
-impl<R: Reader> Answer<R> {
+impl<R: Reader> AnsweredLoad<R> {
     // The sections that the answer has, where they have a unit.
     fn split_file(&self) -> Option<&Dwarf<R>>
         ensures gives { option_map (λ d. d.now) result
@@ -301,7 +303,7 @@ impl<R: Reader> UnitView<R> {
             Err(Error::OutOfMemory) => return Err(Error::OutOfMemory),
             Err(error) => Err(error),
         };
-        self.state = ViewState::Answered(Answer { sections, unit });
+        self.state = ViewState::Answered(AnsweredLoad { sections, unit });
         Ok(())
     }
 

@@ -17,7 +17,7 @@ returns-in_err-read_first_unit g c =
     let e = c.in_err-read_first_unit.field-0.0 in
     rw (p.1, p.2) (record {
       gives = λ ne.
-          split_is (g.S.SectionSource.given c.args.file.now) c.args.load.now c.in_ok-read_sections.field-0 c.as_dwarf-dwarf.result c.in_ok-read_sections.ensures.gives c.as_dwarf-dwarf.ensures.gives (Err e) (c.in_err-read_first_unit.ensures.gives (no_oom e ne));
+          split_is (g.S.SectionSource.given c.args.file.now) c.args.load.now c.in_ok-read_sections.field-0 c.as_dwarf-dwarf.result c.in_ok-read_sections.ensures.gives c.as_dwarf-dwarf.ensures.gives (Err e) (c.in_err-read_first_unit.ensures.gives (λ _. no_oom e ne));
     })
 
 pub returns-then-not-has_wanted : goal.returns-then-not-has_wanted

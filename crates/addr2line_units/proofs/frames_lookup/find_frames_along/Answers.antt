@@ -21,7 +21,7 @@ loop-range-init g c = record {
   stay_units = stay_all c.args.units.now.items;
   stay = stay_entries c.args.entries.now.items;
   read = c.requires.read;
-  kept = c.requires.kept;
+  kept = c.requires.right;
   rest = refl;
   less = λ holds e. e;
   more = λ holds known e. e;
@@ -244,7 +244,7 @@ loop-range-preserved g c =
       stay_units = stay_over c.args.units.now.items rs found.new.units.items i.stay_units found.ensures.stay_units;
       stay = stay_entries_over c.args.entries.now.items vs found.new.entries.items i.stay found.ensures.stay;
       read = found.ensures.read;
-      kept = found.ensures.kept;
+      kept = found.ensures.right;
       rest = sym (goes_on frames r rest nothing) ∙ ap (stop_along frames) (sym c.in-Some.ensures.steps) ∙ i.rest;
       less = λ holds e. holds_rest frames r rest holds goes (subst (λ xs. holds_along holds frames xs ≡ true) c.in-Some.ensures.steps (i.less holds e));
       more = λ holds known e. i.more holds
@@ -256,3 +256,13 @@ loop-range-preserved g c =
           (λ n q. (subst (LookupAsks frames all) (sym q.0) asked, q.1));
       raised = omega (arith, i.raised, found.ensures.raised);
     }
+
+pub returns-clause-ready : goal.returns-clause-ready
+returns-clause-ready g c _ =
+    let S = seen_scope c.args.scope in
+    let units = indexed_units c.args.scope.file.units.now c.args.units.now.items in
+    let answers = answers_in c.args.entries.now.items in
+    let frames = asked_frames c.args.faults S units answers c.args.probe in
+    let asks = asks_lines_of S units answers c.args.probe in
+    let known = has_frames_at asks c.args.probe (parsed_units c.loop-range.units.items) c.loop-range.entries.items in
+    c.loop-range.invariant.more known (λ n e. e) (subst (λ xs. holds_along known frames xs ≡ true) (sym c.in_default.ensures.steps.0) refl)

@@ -27,7 +27,7 @@ returns-in_default-clause-ready g c =
     let none : slice_get c.args.scope.file.units.now c.args.number ≡ None = slice_get_past c.args.scope.file.units.now c.args.number (ltb-false _ _ (sym c.in_default.ensures.lookup.0)) in
     let past = none_past c.args.scope.file.units.now c.args.number none in
     let units = subst (λ m. m ≤ c.args.number) (as_many c.args.scope.file.dwarf.now c.args.scope.file.units.now c.args.units.now.items c.requires.read) past in
-    let entries = subst (λ m. m ≤ c.args.number) (as_many_entries (seen_scope c.args.scope) c.args.scope.file.units.now c.args.entries.now.items c.requires.kept) past in
+    let entries = subst (λ m. m ≤ c.args.number) (as_many_entries (seen_scope c.args.scope) c.args.scope.file.units.now c.args.entries.now.items c.requires.right) past in
     λ answered. none_known (seen_scope c.args.scope) c.args.probe c.args.scope.file.units.now c.args.units.now.items c.args.entries.now.items c.args.number units entries
 
 pub index_mut-unit-requires : goal.index_mut-unit-requires
@@ -57,7 +57,7 @@ index_mut-entries-requires g c =
     let unit = sym (get_or_from_slice_get us n u u there) in
     let within = slice_get_within us n u there in
     let h = subst (λ m. n < m) (as_many d us rs c.requires.read) within in
-    let k : c.args.number < length c.args.entries.now.items = subst (λ m. n < m) (as_many_entries (seen_scope c.args.scope) us vs c.requires.kept) within in
+    let k : c.args.number < length c.args.entries.now.items = subst (λ m. n < m) (as_many_entries (seen_scope c.args.scope) us vs c.requires.right) within in
     omega (arith, k)
 
 pub find_frames_in-requires-clause-read : goal.find_frames_in-requires-clause-read
@@ -76,8 +76,8 @@ find_frames_in-requires-clause-read g c =
     let at = c.index_mut-unit.ensures.value in
     own_at d us rs n u r h unit at c.requires.read
 
-pub find_frames_in-requires-clause-kept : goal.find_frames_in-requires-clause-kept
-find_frames_in-requires-clause-kept g c =
+pub find_frames_in-requires-clause-right : goal.find_frames_in-requires-clause-right
+find_frames_in-requires-clause-right g c =
     let d = c.args.scope.file.dwarf.now in
     let us = c.args.scope.file.units.now in
     let rs = c.args.units.now.items in
@@ -90,8 +90,8 @@ find_frames_in-requires-clause-kept g c =
     let h = subst (λ m. n < m) (as_many d us rs c.requires.read) within in
     let v = c.index_mut-entries.result.now in
     let entries = c.index_mut-entries.ensures.value in
-    let k = subst (λ m. n < m) (as_many_entries (seen_scope c.args.scope) us vs c.requires.kept) within in
-    entries_at (seen_scope c.args.scope) us vs n u v k unit entries c.requires.kept
+    let k = subst (λ m. n < m) (as_many_entries (seen_scope c.args.scope) us vs c.requires.right) within in
+    entries_at (seen_scope c.args.scope) us vs n u v k unit entries c.requires.right
 
 pub returns-clause-gives : goal.returns-clause-gives
 returns-clause-gives g c =
@@ -111,8 +111,8 @@ returns-clause-gives g c =
     let entries = c.index_mut-entries.ensures.value in
     let s = c.find_frames_in.new.unit in
     let w = c.find_frames_in.new.entries in
-    let k = subst (λ m. n < m) (as_many_entries (seen_scope c.args.scope) us vs c.requires.kept) within in
-    frames_given (seen_scope c.args.scope) c.args.probe us rs vs n d c.requires.read c.requires.kept h u r s v w unit at entries c.find_frames_in.result c.find_frames_in.ensures.gives
+    let k = subst (λ m. n < m) (as_many_entries (seen_scope c.args.scope) us vs c.requires.right) within in
+    frames_given (seen_scope c.args.scope) c.args.probe us rs vs n d c.requires.read c.requires.right h u r s v w unit at entries c.find_frames_in.result c.find_frames_in.ensures.gives
 
 pub returns-clause-there : goal.returns-clause-there
 returns-clause-there g c =
@@ -132,8 +132,8 @@ returns-clause-there g c =
     let entries = c.index_mut-entries.ensures.value in
     let s = c.find_frames_in.new.unit in
     let w = c.find_frames_in.new.entries in
-    let k = subst (λ m. n < m) (as_many_entries (seen_scope c.args.scope) us vs c.requires.kept) within in
-    places_there (seen_scope c.args.scope) c.args.probe us rs vs n d c.requires.read c.requires.kept h u r s v w unit at entries c.find_frames_in.result c.find_frames_in.ensures.there
+    let k = subst (λ m. n < m) (as_many_entries (seen_scope c.args.scope) us vs c.requires.right) within in
+    places_there (seen_scope c.args.scope) c.args.probe us rs vs n d c.requires.read c.requires.right h u r s v w unit at entries c.find_frames_in.result c.find_frames_in.ensures.there
 
 pub returns-clause-read : goal.returns-clause-read
 returns-clause-read g c =
@@ -153,11 +153,11 @@ returns-clause-read g c =
     let entries = c.index_mut-entries.ensures.value in
     let s = c.find_frames_in.new.unit in
     let w = c.find_frames_in.new.entries in
-    let k = subst (λ m. n < m) (as_many_entries (seen_scope c.args.scope) us vs c.requires.kept) within in
+    let k = subst (λ m. n < m) (as_many_entries (seen_scope c.args.scope) us vs c.requires.right) within in
     own_set d us rs n u s unit c.requires.read c.find_frames_in.ensures.read
 
-pub returns-clause-kept : goal.returns-clause-kept
-returns-clause-kept g c =
+pub returns-clause-right : goal.returns-clause-right
+returns-clause-right g c =
     let d = c.args.scope.file.dwarf.now in
     let us = c.args.scope.file.units.now in
     let rs = c.args.units.now.items in
@@ -174,8 +174,8 @@ returns-clause-kept g c =
     let entries = c.index_mut-entries.ensures.value in
     let s = c.find_frames_in.new.unit in
     let w = c.find_frames_in.new.entries in
-    let k = subst (λ m. n < m) (as_many_entries (seen_scope c.args.scope) us vs c.requires.kept) within in
-    entries_set (seen_scope c.args.scope) us vs n u w unit c.requires.kept c.find_frames_in.ensures.kept
+    let k = subst (λ m. n < m) (as_many_entries (seen_scope c.args.scope) us vs c.requires.right) within in
+    entries_set (seen_scope c.args.scope) us vs n u w unit c.requires.right c.find_frames_in.ensures.right
 
 pub returns-clause-stay_units : goal.returns-clause-stay_units
 returns-clause-stay_units g c =
@@ -195,7 +195,7 @@ returns-clause-stay_units g c =
     let entries = c.index_mut-entries.ensures.value in
     let s = c.find_frames_in.new.unit in
     let w = c.find_frames_in.new.entries in
-    let k = subst (λ m. n < m) (as_many_entries (seen_scope c.args.scope) us vs c.requires.kept) within in
+    let k = subst (λ m. n < m) (as_many_entries (seen_scope c.args.scope) us vs c.requires.right) within in
     stay_set rs n r s h at c.find_frames_in.ensures.stays
 
 pub returns-clause-stay : goal.returns-clause-stay
@@ -216,7 +216,7 @@ returns-clause-stay g c =
     let entries = c.index_mut-entries.ensures.value in
     let s = c.find_frames_in.new.unit in
     let w = c.find_frames_in.new.entries in
-    let k = subst (λ m. n < m) (as_many_entries (seen_scope c.args.scope) us vs c.requires.kept) within in
+    let k = subst (λ m. n < m) (as_many_entries (seen_scope c.args.scope) us vs c.requires.right) within in
     stay_entries_set vs n v w k entries c.find_frames_in.ensures.stay
 
 pub returns-clause-only : goal.returns-clause-only
@@ -237,7 +237,7 @@ returns-clause-only g c =
     let entries = c.index_mut-entries.ensures.value in
     let s = c.find_frames_in.new.unit in
     let w = c.find_frames_in.new.entries in
-    let k = subst (λ m. n < m) (as_many_entries (seen_scope c.args.scope) us vs c.requires.kept) within in
+    let k = subst (λ m. n < m) (as_many_entries (seen_scope c.args.scope) us vs c.requires.right) within in
     reads_set c.args.probe vs n v w entries c.find_frames_in.ensures.only
 
 pub returns-clause-lines : goal.returns-clause-lines
@@ -258,8 +258,8 @@ returns-clause-lines g c =
     let entries = c.index_mut-entries.ensures.value in
     let s = c.find_frames_in.new.unit in
     let w = c.find_frames_in.new.entries in
-    let k = subst (λ m. n < m) (as_many_entries (seen_scope c.args.scope) us vs c.requires.kept) within in
-    lines_only (seen_scope c.args.scope) c.args.probe us rs vs n d c.requires.read c.requires.kept h u r s v w unit at entries c.find_frames_in.ensures.lines
+    let k = subst (λ m. n < m) (as_many_entries (seen_scope c.args.scope) us vs c.requires.right) within in
+    lines_only (seen_scope c.args.scope) c.args.probe us rs vs n d c.requires.read c.requires.right h u r s v w unit at entries c.find_frames_in.ensures.lines
 
 pub returns-clause-ready : goal.returns-clause-ready
 returns-clause-ready g c =
@@ -279,8 +279,8 @@ returns-clause-ready g c =
     let entries = c.index_mut-entries.ensures.value in
     let s = c.find_frames_in.new.unit in
     let w = c.find_frames_in.new.entries in
-    let k = subst (λ m. n < m) (as_many_entries (seen_scope c.args.scope) us vs c.requires.kept) within in
-    λ answered. known_then (seen_scope c.args.scope) c.args.probe us rs vs n d c.requires.read c.requires.kept h u r s v w unit at entries (c.find_frames_in.ensures.ready answered) (c.find_frames_in.ensures.parsed answered)
+    let k = subst (λ m. n < m) (as_many_entries (seen_scope c.args.scope) us vs c.requires.right) within in
+    λ answered. known_then (seen_scope c.args.scope) c.args.probe us rs vs n d c.requires.read c.requires.right h u r s v w unit at entries (c.find_frames_in.ensures.ready answered) (c.find_frames_in.ensures.parsed answered)
 
 pub returns-clause-memory : goal.returns-clause-memory
 returns-clause-memory g c =
@@ -300,5 +300,5 @@ returns-clause-memory g c =
     let entries = c.index_mut-entries.ensures.value in
     let s = c.find_frames_in.new.unit in
     let w = c.find_frames_in.new.entries in
-    let k = subst (λ m. n < m) (as_many_entries (seen_scope c.args.scope) us vs c.requires.kept) within in
-    λ known few. (let there = then_known (seen_scope c.args.scope) c.args.probe us rs vs n d c.requires.read c.requires.kept h u r s v w unit at entries known in c.find_frames_in.ensures.memory there.0 there.1 (sym (many_are (seen_scope c.args.scope) c.args.probe us rs vs n d c.requires.read c.requires.kept h u r s v w unit at entries) ∙ few))
+    let k = subst (λ m. n < m) (as_many_entries (seen_scope c.args.scope) us vs c.requires.right) within in
+    λ known few. (let there = then_known (seen_scope c.args.scope) c.args.probe us rs vs n d c.requires.read c.requires.right h u r s v w unit at entries known in c.find_frames_in.ensures.memory there.0 there.1 (sym (many_are (seen_scope c.args.scope) c.args.probe us rs vs n d c.requires.read c.requires.right h u r s v w unit at entries) ∙ few))

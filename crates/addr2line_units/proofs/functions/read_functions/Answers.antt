@@ -1,4 +1,8 @@
-use Rattle.std.proofs.Common.{refl}
+use Rattle.std.proofs.Common.{◌≡◌, ◌∙◌, Bool, ap, false, refl, sym, true}
+use Rattle.std.proofs.lemmas.Bool.{false≢true}
+use Rattle.gimli.specs.Sections.{Sections}
+use Rattle.gimli.specs.Unit.{UnitRecord}
+use Rattle.addr2line_lines.specs.Functions.{functions_take_memory}
 use Rattle.addr2line_lines.specs.SeenScope.{seen_scope}
 use Rattle.addr2line_units.proofs.CachedFunctionLemmas.{read_fault_of, read_table}
 use Rattle.addr2line_units.proofs.functions.read_functions.Goals as goal
@@ -13,4 +17,13 @@ returns-in_default g c = record {
   read = refl;
   unread = tt;
   refused = tt;
+  memory = tt;
 }
+
+none_taken : (shares : Bool) (d e : Sections) (u v : UnitRecord) → e ≡ d → v ≡ u → functions_take_memory shares d u ≡ false → functions_take_memory shares e v ≡ true → ⊥
+none_taken shares d e u v p q none takes = false≢true (sym none ∙ ap (λ x. functions_take_memory shares x u) (sym p) ∙ ap (functions_take_memory shares e) (sym q) ∙ takes)
+
+pub returns-in-OutOfMemory-clause-memory : goal.returns-in-OutOfMemory-clause-memory
+returns-in-OutOfMemory-clause-memory g c none =
+    read_fault_of (seen_scope c.args.scope) c.args.view.now c.new.result.dwarf.now c.new.result.unit.now c.in-Err.error c.new.ensures.dwarf c.new.ensures.unit
+    (c.in-Err.ensures.gives (λ takes. absurd (none_taken g.R.Reader.shares c.args.scope.file.dwarf.now c.new.result.dwarf.now c.args.view.now c.new.result.unit.now c.new.ensures.dwarf c.new.ensures.unit none takes)))

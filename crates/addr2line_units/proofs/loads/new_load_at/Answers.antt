@@ -3,7 +3,7 @@ use Rattle.std.specs.Prelude.{IfOk, OnOk}
 use Rattle.std.proofs.lemmas.Option.{get_or_from_slice_get, slice_get_past, slice_get_read, slice_get_within}
 use Rattle.addr2line_lines.specs.SeenScope.{seen_file}
 use Rattle.addr2line_units.specs.CachedEntries.{AreEntriesOf}
-use Rattle.addr2line_units.specs.CachedUnits.{answers_in, scope_in, sup_file}
+use Rattle.addr2line_units.specs.CachedUnits.{answers_in}
 use Rattle.addr2line_units.specs.ListedLoads.{MarksLoad, if_new}
 use Rattle.addr2line_units.specs.Loads.{load_of_number}
 use Rattle.addr2line_units.proofs.AnswerLemmas.{decided_there, in_same_scope}
@@ -11,6 +11,7 @@ use Rattle.addr2line_units.proofs.CachedUnitLemmas.{as_many_entries, entries_at,
 use Rattle.addr2line_units.proofs.LoadLemmas.{load_there, marks_none, no_load}
 use Rattle.addr2line_units.proofs.OpenLemmas.{not_open_there}
 use Rattle.addr2line_units.proofs.loads.new_load_at.Goals as goal
+use Rattle.addr2line_units.specs.SeenUnit.{scope_in, sup_file}
 
 pub returns-in_default-clause-gives : goal.returns-in_default-clause-gives
 returns-in_default-clause-gives g c =
@@ -33,11 +34,11 @@ index_mut-entries-requires g c =
     let u = c.in-Some.dw_unit.now in
     let there : slice_get us c.args.number ≡ Some u = slice_get_read us _ c.args.number u refl (ltb-true _ _ (sym c.in-Some.ensures.lookup.0)) c.in-Some.ensures.lookup.1 in
     let within = slice_get_within us c.args.number u there in
-    let many = as_many_entries (scope_in c.args.dwarf.now.value us c.args.sup.now) us c.args.entries.now.items c.requires.kept in
+    let many = as_many_entries (scope_in c.args.dwarf.now.value us c.args.sup.now) us c.args.entries.now.items c.requires.right in
     omega (arith, many, within)
 
-pub new_load-requires-clause-kept : goal.new_load-requires-clause-kept
-new_load-requires-clause-kept g c =
+pub new_load-requires-clause-right : goal.new_load-requires-clause-right
+new_load-requires-clause-right g c =
     let us = c.args.dw_units.now in
     let vs = c.args.entries.now.items in
     let n = c.args.number in
@@ -45,10 +46,10 @@ new_load-requires-clause-kept g c =
     let v = c.index_mut-entries.result.now in
     let there : slice_get us n ≡ Some u = slice_get_read us _ n u refl (ltb-true _ _ (sym c.in-Some.ensures.lookup.0)) c.in-Some.ensures.lookup.1 in
     let scope = scope_in c.args.dwarf.now.value us c.args.sup.now in
-    let within = subst (λ m. n < m) (as_many_entries scope us vs c.requires.kept) (slice_get_within us n u there) in
+    let within = subst (λ m. n < m) (as_many_entries scope us vs c.requires.right) (slice_get_within us n u there) in
     subst (λ x. AreEntriesOf (record { file = record { sections = x; units = us }; sup = option_map seen_file c.file.result }) u v) (sym c.deref.ensures)
     (in_same_scope c.args.dwarf.now.value us us (sup_file c.args.sup.now) (option_map seen_file c.file.result) u v refl (sym c.file.ensures.gives)
-    (entries_at scope us vs n u v within (sym (get_or_from_slice_get us n u u there)) c.index_mut-entries.ensures.value c.requires.kept))
+    (entries_at scope us vs n u v within (sym (get_or_from_slice_get us n u u there)) c.index_mut-entries.ensures.value c.requires.right))
 
 pub returns-clause-gives : goal.returns-clause-gives
 returns-clause-gives g c =
@@ -59,7 +60,7 @@ returns-clause-gives g c =
     let v = c.index_mut-entries.result.now in
     let there : slice_get us n ≡ Some u = slice_get_read us _ n u refl (ltb-true _ _ (sym c.in-Some.ensures.lookup.0)) c.in-Some.ensures.lookup.1 in
     let scope = scope_in c.args.dwarf.now.value us c.args.sup.now in
-    let within = subst (λ m. n < m) (as_many_entries scope us vs c.requires.kept) (slice_get_within us n u there) in
+    let within = subst (λ m. n < m) (as_many_entries scope us vs c.requires.right) (slice_get_within us n u there) in
     subst (λ o. IfOk c.new_load.result (λ load. load ≡ if_new c.args.marks.now.items o)) (sym (load_there c.args.dwarf.now.value us vs n u v there within c.index_mut-entries.ensures.value)) c.new_load.ensures.gives
 
 pub returns-clause-marked : goal.returns-clause-marked
@@ -71,15 +72,15 @@ returns-clause-marked g c =
     let v = c.index_mut-entries.result.now in
     let there : slice_get us n ≡ Some u = slice_get_read us _ n u refl (ltb-true _ _ (sym c.in-Some.ensures.lookup.0)) c.in-Some.ensures.lookup.1 in
     let scope = scope_in c.args.dwarf.now.value us c.args.sup.now in
-    let within = subst (λ m. n < m) (as_many_entries scope us vs c.requires.kept) (slice_get_within us n u there) in
+    let within = subst (λ m. n < m) (as_many_entries scope us vs c.requires.right) (slice_get_within us n u there) in
     subst (λ o. OnOk c.new_load.result (MarksLoad o c.args.marks.now.items c.new_load.new.marks.items)) (sym (load_there c.args.dwarf.now.value us vs n u v there within c.index_mut-entries.ensures.value)) c.new_load.ensures.marked
 
 pub returns-clause-decided : goal.returns-clause-decided
 returns-clause-decided g c h =
     c.new_load.ensures.decided (decided_there c.args.entries.now.items c.args.number c.index_mut-entries.result.now c.index_mut-entries.ensures.value h)
 
-pub returns-clause-kept : goal.returns-clause-kept
-returns-clause-kept g c =
+pub returns-clause-right : goal.returns-clause-right
+returns-clause-right g c =
     let us = c.args.dw_units.now in
     let vs = c.args.entries.now.items in
     let n = c.args.number in
@@ -88,8 +89,8 @@ returns-clause-kept g c =
     let w = c.new_load.new.self in
     let there : slice_get us n ≡ Some u = slice_get_read us _ n u refl (ltb-true _ _ (sym c.in-Some.ensures.lookup.0)) c.in-Some.ensures.lookup.1 in
     let own = in_same_scope c.args.dwarf.now.value us us (option_map seen_file c.file.result) (sup_file c.args.sup.now) u w refl c.file.ensures.gives
-    (subst (λ x. AreEntriesOf (record { file = record { sections = x; units = us }; sup = option_map seen_file c.file.result }) u w) c.deref.ensures c.new_load.ensures.kept) in
-    entries_set (scope_in c.args.dwarf.now.value us c.args.sup.now) us vs n u w (sym (get_or_from_slice_get us n u u there)) c.requires.kept own
+    (subst (λ x. AreEntriesOf (record { file = record { sections = x; units = us }; sup = option_map seen_file c.file.result }) u w) c.deref.ensures c.new_load.ensures.right) in
+    entries_set (scope_in c.args.dwarf.now.value us c.args.sup.now) us vs n u w (sym (get_or_from_slice_get us n u u there)) c.requires.right own
 
 pub returns-clause-stay : goal.returns-clause-stay
 returns-clause-stay g c =
@@ -100,7 +101,7 @@ returns-clause-stay g c =
     let v = c.index_mut-entries.result.now in
     let there : slice_get us n ≡ Some u = slice_get_read us _ n u refl (ltb-true _ _ (sym c.in-Some.ensures.lookup.0)) c.in-Some.ensures.lookup.1 in
     let scope = scope_in c.args.dwarf.now.value us c.args.sup.now in
-    let within = subst (λ m. n < m) (as_many_entries scope us vs c.requires.kept) (slice_get_within us n u there) in
+    let within = subst (λ m. n < m) (as_many_entries scope us vs c.requires.right) (slice_get_within us n u there) in
     stay_entries_set vs n v c.new_load.new.self within c.index_mut-entries.ensures.value c.new_load.ensures.stay
 
 pub returns-clause-not_open : goal.returns-clause-not_open
@@ -111,5 +112,5 @@ returns-clause-not_open g c h =
     let u = c.in-Some.dw_unit.now in
     let there : slice_get us n ≡ Some u = slice_get_read us _ n u refl (ltb-true _ _ (sym c.in-Some.ensures.lookup.0)) c.in-Some.ensures.lookup.1 in
     let scope = scope_in c.args.dwarf.now.value us c.args.sup.now in
-    let within = subst (λ m. n < m) (as_many_entries scope us vs c.requires.kept) (slice_get_within us n u there) in
+    let within = subst (λ m. n < m) (as_many_entries scope us vs c.requires.right) (slice_get_within us n u there) in
     c.new_load.ensures.not_open (not_open_there c.args.dwarf.now.value us vs n u c.index_mut-entries.result.now there within c.index_mut-entries.ensures.value h)

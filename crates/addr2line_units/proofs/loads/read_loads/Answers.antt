@@ -18,7 +18,7 @@ loop-range-init g c =
     let blank : c.new-marks.result.items ≡ [] = search rules in
     record {
       stay = stay_entries c.args.entries.now.items;
-      kept = c.requires.kept;
+      kept = c.requires.right;
       listed = ap (λ ls. ls ++ filter (is_new c.new-marks.result.items) all) none ∙ ap (λ m. filter (is_new m) all) blank ∙ none_marked all;
       decided = λ h. h;
       none_open = λ h. h;
@@ -56,7 +56,7 @@ loop-range-preserved g c =
     let now = c.new_load_at.new.marks.items in
     record {
       stay = stay_entries_over vs ws c.new_load_at.new.entries.items i.stay c.new_load_at.ensures.stay;
-      kept = c.new_load_at.ensures.kept;
+      kept = c.new_load_at.ensures.right;
       listed = ap (λ ls. ls ++ filter (is_new now) (loads_along (load_of_number d us (answers_in vs)) (ranges_left c.next.new.self))) c.in_ok-push_if.ensures.gives
           ∙ listed_step c.loop-range.loads.items d us (answers_in vs) (answers_in ws) c.in-Some.range old now (ranges_left c.next.new.self) (ranges_left c.loop-range.ranges) (loads_along (load_of_number d us (answers_in vs)) (ranges_left c.args.ranges))
           c.in_ok-load.load (same_answers vs ws i.stay) c.in-Some.ensures.steps c.in_ok-load.ensures.gives c.in_ok-load.ensures.marked i.listed;

@@ -1,11 +1,12 @@
 use Rattle.std.proofs.Common.{◌≡◌, ◌++◌, filter, length, true}
 use Rattle.std.specs.List.{AllByRecursion}
 use Rattle.addr2line_units.specs.declared.index.UnitRange.{UnitRange}
-use Rattle.addr2line_units.specs.CachedUnits.{HaveEntriesOf, StayAllEntries, answers_in, decided_at, scope_in}
+use Rattle.addr2line_units.specs.CachedUnits.{HaveEntriesOf, StayAllEntries, answers_in, decided_at}
 use Rattle.addr2line_units.specs.ListedLoads.{is_new}
 use Rattle.addr2line_units.specs.Loads.{NoneOpen, load_of_number, loads_along}
 use Rattle.addr2line_units.specs.UnitRangesLeft.{ranges_left}
 use Rattle.addr2line_units.proofs.loads.read_loads.Given as goal
+use Rattle.addr2line_units.specs.SeenUnit.{scope_in}
 
 -- the loads so far, and those along the ranges that are left whose units aren't marked
 abbrev pub invariant-loop-range : goal.invariant-loop-range

@@ -1,5 +1,5 @@
 use Rattle.std.proofs.Common.{ap, arith, inl, rules}
-use Rattle.addr2line_units.specs.CachedLines.{lines_answer_at}
+use Rattle.addr2line_units.specs.CachedLines.{lines_result_at}
 use Rattle.addr2line_units.proofs.UnitsLemmas.{no_parsed, no_unit, in_units, own_at, own_set, only_set, answer_cached, lines_read, lines_read_exactly, parsed_at, parsed_set, set_parsed, stay_all, stay_set}
 use Rattle.addr2line_units.proofs.lookup.read_lines_in.Goals as goal
 
@@ -46,7 +46,7 @@ pub returns-clause-read : goal.returns-clause-read
 returns-clause-read g c = own_set c.args.dwarf.now c.args.dw_units.now c.args.units.now.items c.args.number c.index-dw_units-number.result c.read_lines.new.self c.index-dw_units-number.is c.requires.read c.read_lines.ensures.read
 
 pub returns-then-number-len-clause-gives : goal.returns-then-number-len-clause-gives
-returns-then-number-len-clause-gives g c = ap (lines_answer_at c.args.dwarf.now) (no_unit c.args.dw_units.now c.args.units.now.items c.args.number (search rules))
+returns-then-number-len-clause-gives g c = ap (lines_result_at c.args.dwarf.now) (no_unit c.args.dw_units.now c.args.units.now.items c.args.number (search rules))
 
 pub returns-then-number-len-clause-exact : goal.returns-then-number-len-clause-exact
 returns-then-number-len-clause-exact g c = λ parsed. returns-then-number-len-clause-gives g c

@@ -17,7 +17,7 @@ loop-number-init g c =
     let count : c.len-count.result ≡ length c.args.entries.now.items = search rules in
     record {
       count = count;
-      kept = c.requires.kept;
+      kept = c.requires.right;
       answers = refl;
       before = λ m h. absurd (omega arith);
       stay = decided_same c.args.entries.now.items;
@@ -31,7 +31,7 @@ read_functions_in-requires-clause-there g c =
     let i = c.loop-number.invariant in
     let scope = seen_scope c.args.scope in
     let us = c.args.scope.file.units.now in
-    let first = as_many_entries scope us c.args.entries.now.items c.requires.kept in
+    let first = as_many_entries scope us c.args.entries.now.items c.requires.right in
     let now = as_many_entries scope us c.loop-number.entries.items i.kept in
     let below = c.loop-number-test.true in
     let count = i.count in
@@ -45,7 +45,7 @@ returns-in_err-read_functions_in-clause-gives g c =
     let us = c.args.scope.file.units.now in
     let vs = c.args.entries.now.items in
     let k = c.loop-number.number in
-    let many = many_answers scope us vs c.requires.kept in
+    let many = many_answers scope us vs c.requires.right in
     rw (p.1, p.2) (λ ne.
     let at = sym (number_behind c.args.reads scope us (answers_in vs) k) ∙ ap (λ a. read_of_number c.args.reads scope us a k) (sym i.answers) ∙ c.in_err-read_functions_in.ensures.gives ne in
     read_stop c.args.reads scope us (answers_in vs) k _ many i.before at)
@@ -59,11 +59,11 @@ returns-in_err-read_functions_in-clause-answers g c =
     let us = c.args.scope.file.units.now in
     let vs = c.args.entries.now.items in
     let k = c.loop-number.number in
-    let first = as_many_entries scope us vs c.requires.kept in
+    let first = as_many_entries scope us vs c.requires.right in
     let below = c.loop-number-test.true in
     let count = i.count in
     let h : k < length us = omega (arith, first, below, count) in
-    let many = many_answers scope us vs c.requires.kept in
+    let many = many_answers scope us vs c.requires.right in
     rw (p.1, p.2) (λ ne.
     let at = sym (number_behind c.args.reads scope us (answers_in vs) k) ∙ ap (λ a. read_of_number c.args.reads scope us a k) (sym i.answers) ∙ c.in_err-read_functions_in.ensures.gives ne in
     c.in_err-read_functions_in.ensures.answers ne ∙ ap (λ a. with_answer d us a k None) i.answers ∙ decided_more d us (answers_in vs) k h many
@@ -77,11 +77,11 @@ returns-in_err-read_functions_in-clause-begun g c =
     let us = c.args.scope.file.units.now in
     let vs = c.args.entries.now.items in
     let k = c.loop-number.number in
-    let first = as_many_entries scope us vs c.requires.kept in
+    let first = as_many_entries scope us vs c.requires.right in
     let below = c.loop-number-test.true in
     let count = i.count in
     let h : k < length us = omega (arith, first, below, count) in
-    let many = many_answers scope us vs c.requires.kept in
+    let many = many_answers scope us vs c.requires.right in
     elim c.in_err-read_functions_in.ensures.memory_answers [
       | inl e ↦ (k, i.before, inl (e ∙ i.answers))
       | inr e ↦ (k, i.before, inr (e ∙ ap (λ a. with_answer d us a k None) i.answers ∙ decided_more d us (answers_in vs) k h many))
@@ -118,17 +118,17 @@ loop-number-preserved g c =
     let mid = c.loop-number.entries.items in
     let new = c.read_functions_in.new.entries.items in
     let k = c.loop-number.number in
-    let first = as_many_entries scope us vs c.requires.kept in
+    let first = as_many_entries scope us vs c.requires.right in
     let below = c.loop-number-test.true in
     let count = i.count in
     let h : k < length us = omega (arith, first, below, count) in
-    let many = many_answers scope us vs c.requires.kept in
+    let many = many_answers scope us vs c.requires.right in
     let step = c.in_ok-read_functions_in.ensures in
     let at = sym (number_behind c.args.reads scope us (answers_in vs) k) ∙ ap (λ a. read_of_number c.args.reads scope us a k) (sym i.answers) ∙ step.gives in
     let one : suc k ≡ k + 1 = omega arith in
     record {
       count = i.count;
-      kept = step.kept;
+      kept = step.right;
       answers = step.answers tt ∙ ap (λ a. with_answer d us a k None) i.answers ∙ decided_more d us (answers_in vs) k h many ∙ ap (λ m. first_decided d m us (answers_in vs)) one;
       before = subst (AreReadBefore c.args.reads scope us (answers_in vs)) one (before_more c.args.reads scope us (answers_in vs) k i.before at);
       stay = decided_over vs mid new i.stay step.stay;
@@ -143,11 +143,11 @@ returns-clause-gives g c =
     let scope = seen_scope c.args.scope in
     let us = c.args.scope.file.units.now in
     let vs = c.args.entries.now.items in
-    let first = as_many_entries scope us vs c.requires.kept in
+    let first = as_many_entries scope us vs c.requires.right in
     let end = c.loop-number-test.false in
     let count = i.count in
     let past : length us ≤ c.loop-number.number = omega (arith, first, end, count) in
-    read_end c.args.reads scope us (answers_in vs) c.loop-number.number (many_answers scope us vs c.requires.kept) past i.before
+    read_end c.args.reads scope us (answers_in vs) c.loop-number.number (many_answers scope us vs c.requires.right) past i.before
 
 pub returns-clause-answers : goal.returns-clause-answers
 returns-clause-answers g c = λ ne.
@@ -155,11 +155,11 @@ returns-clause-answers g c = λ ne.
     let scope = seen_scope c.args.scope in
     let us = c.args.scope.file.units.now in
     let vs = c.args.entries.now.items in
-    let first = as_many_entries scope us vs c.requires.kept in
+    let first = as_many_entries scope us vs c.requires.right in
     let end = c.loop-number-test.false in
     let count = i.count in
     let past : length us ≤ c.loop-number.number = omega (arith, first, end, count) in
-    i.answers ∙ sym (after_end c.args.reads scope us (answers_in vs) c.loop-number.number (many_answers scope us vs c.requires.kept) past i.before)
+    i.answers ∙ sym (after_end c.args.reads scope us (answers_in vs) c.loop-number.number (many_answers scope us vs c.requires.right) past i.before)
 
 pub returns-clause-begun : goal.returns-clause-begun
 returns-clause-begun g c = (c.loop-number.number, c.loop-number.invariant.before, inl c.loop-number.invariant.answers)
@@ -178,7 +178,7 @@ returns-clause-read g c =
     let scope = seen_scope c.args.scope in
     let us = c.args.scope.file.units.now in
     let mid = c.loop-number.entries.items in
-    let first = as_many_entries scope us c.args.entries.now.items c.requires.kept in
+    let first = as_many_entries scope us c.args.entries.now.items c.requires.right in
     let now = as_many_entries scope us mid i.kept in
     let end = c.loop-number-test.false in
     let count = i.count in
@@ -205,7 +205,7 @@ returns-in_err-read_functions_in-clause-exact g c =
     let us = c.args.scope.file.units.now in
     let vs = c.args.entries.now.items in
     let k = c.loop-number.number in
-    let many = many_answers scope us vs c.requires.kept in
+    let many = many_answers scope us vs c.requires.right in
     rw (p.1, p.2) (λ ready.
     let known = subst (λ o. IfSome o (IsReadyUnit c.args.reads)) (sym (i.behind k (omega arith))) (ready k i.before) in
     let at = sym (number_behind c.args.reads scope us (answers_in vs) k) ∙ ap (λ a. read_of_number c.args.reads scope us a k) (sym i.answers) ∙ sym (c.in_err-read_functions_in.ensures.exact known) in
@@ -223,7 +223,7 @@ returns-clause-ready_for_all g c = λ _. λ n. λ _.
     let scope = seen_scope c.args.scope in
     let us = c.args.scope.file.units.now in
     let mid = c.loop-number.entries.items in
-    let first = as_many_entries scope us c.args.entries.now.items c.requires.kept in
+    let first = as_many_entries scope us c.args.entries.now.items c.requires.right in
     let now = as_many_entries scope us mid i.kept in
     let end = c.loop-number-test.false in
     let count = i.count in
@@ -236,11 +236,11 @@ returns-clause-exact g c = λ _.
     let scope = seen_scope c.args.scope in
     let us = c.args.scope.file.units.now in
     let vs = c.args.entries.now.items in
-    let first = as_many_entries scope us vs c.requires.kept in
+    let first = as_many_entries scope us vs c.requires.right in
     let end = c.loop-number-test.false in
     let count = i.count in
     let past : length us ≤ c.loop-number.number = omega (arith, first, end, count) in
-    sym (read_end c.args.reads scope us (answers_in vs) c.loop-number.number (many_answers scope us vs c.requires.kept) past i.before)
+    sym (read_end c.args.reads scope us (answers_in vs) c.loop-number.number (many_answers scope us vs c.requires.right) past i.before)
 
 pub returns-clause-same : goal.returns-clause-same
 returns-clause-same g c = c.loop-number.invariant.same

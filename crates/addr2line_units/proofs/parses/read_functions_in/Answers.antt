@@ -9,15 +9,15 @@ use Rattle.addr2line_units.proofs.NumberedFrames.{none_past}
 use Rattle.addr2line_units.proofs.ReadyLemmas.{ready_entry, ready_set, same_set}
 use Rattle.addr2line_units.proofs.parses.read_functions_in.Goals as goal
 
-pub read-requires-clause-kept : goal.read-requires-clause-kept
-read-requires-clause-kept g c =
+pub read-requires-clause-right : goal.read-requires-clause-right
+read-requires-clause-right g c =
     let us = c.args.scope.file.units.now in
     let vs = c.args.entries.now.items in
     let n = c.args.number in
     let u = c.in-Some.dw_unit.now in
     let there : slice_get c.args.scope.file.units.now c.args.number ≡ Some c.in-Some.dw_unit.now = slice_get_read c.args.scope.file.units.now _ c.args.number c.in-Some.dw_unit.now refl (ltb-true _ _ (sym c.in-Some.ensures.lookup.0)) c.in-Some.ensures.lookup.1 in
     let e = sym (get_or_from_slice_get us n u u there) in
-    entries_at (seen_scope c.args.scope) us vs n u c.index_mut-entries.result.now c.requires.there e c.index_mut-entries.ensures.value c.requires.kept
+    entries_at (seen_scope c.args.scope) us vs n u c.index_mut-entries.result.now c.requires.there e c.index_mut-entries.ensures.value c.requires.right
 
 pub returns-clause-gives : goal.returns-clause-gives
 returns-clause-gives g c =
@@ -28,18 +28,18 @@ returns-clause-gives g c =
     let there : slice_get c.args.scope.file.units.now c.args.number ≡ Some c.in-Some.dw_unit.now = slice_get_read c.args.scope.file.units.now _ c.args.number c.in-Some.dw_unit.now refl (ltb-true _ _ (sym c.in-Some.ensures.lookup.0)) c.in-Some.ensures.lookup.1 in
     let e = sym (get_or_from_slice_get us n u u there) in
     let v = c.index_mut-entries.result.now in
-    let h : n < length us = subst (λ m. n < m) (sym (as_many_entries (seen_scope c.args.scope) us vs c.requires.kept)) c.requires.there in
+    let h : n < length us = subst (λ m. n < m) (sym (as_many_entries (seen_scope c.args.scope) us vs c.requires.right)) c.requires.there in
     subst (ExactlyUnlessOom (λ y. y) c.read.result) (sym (number_is c.args.reads (seen_scope c.args.scope) us vs n u v h c.requires.there e c.index_mut-entries.ensures.value)) c.read.ensures.gives
 
-pub returns-clause-kept : goal.returns-clause-kept
-returns-clause-kept g c =
+pub returns-clause-right : goal.returns-clause-right
+returns-clause-right g c =
     let us = c.args.scope.file.units.now in
     let vs = c.args.entries.now.items in
     let n = c.args.number in
     let u = c.in-Some.dw_unit.now in
     let there : slice_get c.args.scope.file.units.now c.args.number ≡ Some c.in-Some.dw_unit.now = slice_get_read c.args.scope.file.units.now _ c.args.number c.in-Some.dw_unit.now refl (ltb-true _ _ (sym c.in-Some.ensures.lookup.0)) c.in-Some.ensures.lookup.1 in
     let e = sym (get_or_from_slice_get us n u u there) in
-    entries_set (seen_scope c.args.scope) us vs n u c.read.new.self e c.requires.kept c.read.ensures.kept
+    entries_set (seen_scope c.args.scope) us vs n u c.read.new.self e c.requires.right c.read.ensures.right
 
 pub returns-clause-answers : goal.returns-clause-answers
 returns-clause-answers g c = λ ne.
@@ -50,7 +50,7 @@ returns-clause-answers g c = λ ne.
     let there : slice_get c.args.scope.file.units.now c.args.number ≡ Some c.in-Some.dw_unit.now = slice_get_read c.args.scope.file.units.now _ c.args.number c.in-Some.dw_unit.now refl (ltb-true _ _ (sym c.in-Some.ensures.lookup.0)) c.in-Some.ensures.lookup.1 in
     let e = sym (get_or_from_slice_get us n u u there) in
     let v = c.index_mut-entries.result.now in
-    let h : n < length us = subst (λ m. n < m) (sym (as_many_entries (seen_scope c.args.scope) us vs c.requires.kept)) c.requires.there in
+    let h : n < length us = subst (λ m. n < m) (sym (as_many_entries (seen_scope c.args.scope) us vs c.requires.right)) c.requires.there in
     answered_all c.args.scope.file.dwarf.now us vs n u v c.read.new.self None h c.requires.there e c.index_mut-entries.ensures.value (c.read.ensures.answer ne)
 
 pub returns-clause-memory_answers : goal.returns-clause-memory_answers
@@ -62,7 +62,7 @@ returns-clause-memory_answers g c =
     let there : slice_get c.args.scope.file.units.now c.args.number ≡ Some c.in-Some.dw_unit.now = slice_get_read c.args.scope.file.units.now _ c.args.number c.in-Some.dw_unit.now refl (ltb-true _ _ (sym c.in-Some.ensures.lookup.0)) c.in-Some.ensures.lookup.1 in
     let e = sym (get_or_from_slice_get us n u u there) in
     let v = c.index_mut-entries.result.now in
-    let h : n < length us = subst (λ m. n < m) (sym (as_many_entries (seen_scope c.args.scope) us vs c.requires.kept)) c.requires.there in
+    let h : n < length us = subst (λ m. n < m) (sym (as_many_entries (seen_scope c.args.scope) us vs c.requires.right)) c.requires.there in
     elim c.read.ensures.memory_answer [
       | inl same ↦ inl (answers_stay vs n v c.read.new.self c.requires.there c.index_mut-entries.ensures.value same)
       | inr more ↦ inr (answered_all c.args.scope.file.dwarf.now us vs n u v c.read.new.self None h c.requires.there e c.index_mut-entries.ensures.value more)
@@ -87,7 +87,7 @@ returns-in_default-clause-gives g c =
     let us = c.args.scope.file.units.now in
     let none : slice_get c.args.scope.file.units.now c.args.number ≡ None = slice_get_past c.args.scope.file.units.now c.args.number (ltb-false _ _ (sym c.in_default.ensures.lookup.0)) in
     let past = none_past us c.args.number none in
-    let many = as_many_entries (seen_scope c.args.scope) us c.args.entries.now.items c.requires.kept in
+    let many = as_many_entries (seen_scope c.args.scope) us c.args.entries.now.items c.requires.right in
     let there = c.requires.there in
     absurd (omega (arith, past, many, there))
 
@@ -96,7 +96,7 @@ returns-in_default-clause-answers g c = λ ne.
     let us = c.args.scope.file.units.now in
     let none : slice_get c.args.scope.file.units.now c.args.number ≡ None = slice_get_past c.args.scope.file.units.now c.args.number (ltb-false _ _ (sym c.in_default.ensures.lookup.0)) in
     let past = none_past us c.args.number none in
-    let many = as_many_entries (seen_scope c.args.scope) us c.args.entries.now.items c.requires.kept in
+    let many = as_many_entries (seen_scope c.args.scope) us c.args.entries.now.items c.requires.right in
     let there = c.requires.there in
     absurd (omega (arith, past, many, there))
 
@@ -114,7 +114,7 @@ returns-in_default-clause-read g c =
     let us = c.args.scope.file.units.now in
     let none : slice_get c.args.scope.file.units.now c.args.number ≡ None = slice_get_past c.args.scope.file.units.now c.args.number (ltb-false _ _ (sym c.in_default.ensures.lookup.0)) in
     let past = none_past us c.args.number none in
-    let many = as_many_entries (seen_scope c.args.scope) us c.args.entries.now.items c.requires.kept in
+    let many = as_many_entries (seen_scope c.args.scope) us c.args.entries.now.items c.requires.right in
     let there = c.requires.there in
     absurd (omega (arith, past, many, there))
 
@@ -130,7 +130,7 @@ returns-clause-exact g c = λ ready.
     let there : slice_get c.args.scope.file.units.now c.args.number ≡ Some c.in-Some.dw_unit.now = slice_get_read c.args.scope.file.units.now _ c.args.number c.in-Some.dw_unit.now refl (ltb-true _ _ (sym c.in-Some.ensures.lookup.0)) c.in-Some.ensures.lookup.1 in
     let e = sym (get_or_from_slice_get us n u u there) in
     let v = c.index_mut-entries.result.now in
-    let h : n < length us = subst (λ m. n < m) (sym (as_many_entries (seen_scope c.args.scope) us vs c.requires.kept)) c.requires.there in
+    let h : n < length us = subst (λ m. n < m) (sym (as_many_entries (seen_scope c.args.scope) us vs c.requires.right)) c.requires.there in
     c.read.ensures.exact (ready_entry c.args.reads vs n v c.requires.there c.index_mut-entries.ensures.value ready)
     ∙ sym (number_is c.args.reads (seen_scope c.args.scope) us vs n u v h c.requires.there e c.index_mut-entries.ensures.value)
 
@@ -145,7 +145,7 @@ returns-in_default-clause-ready_for_all g c = λ ne.
     let us = c.args.scope.file.units.now in
     let none : slice_get c.args.scope.file.units.now c.args.number ≡ None = slice_get_past c.args.scope.file.units.now c.args.number (ltb-false _ _ (sym c.in_default.ensures.lookup.0)) in
     let past = none_past us c.args.number none in
-    let many = as_many_entries (seen_scope c.args.scope) us c.args.entries.now.items c.requires.kept in
+    let many = as_many_entries (seen_scope c.args.scope) us c.args.entries.now.items c.requires.right in
     let there = c.requires.there in
     absurd (omega (arith, past, many, there))
 
@@ -154,6 +154,6 @@ returns-in_default-clause-exact g c = λ ready.
     let us = c.args.scope.file.units.now in
     let none : slice_get c.args.scope.file.units.now c.args.number ≡ None = slice_get_past c.args.scope.file.units.now c.args.number (ltb-false _ _ (sym c.in_default.ensures.lookup.0)) in
     let past = none_past us c.args.number none in
-    let many = as_many_entries (seen_scope c.args.scope) us c.args.entries.now.items c.requires.kept in
+    let many = as_many_entries (seen_scope c.args.scope) us c.args.entries.now.items c.requires.right in
     let there = c.requires.there in
     absurd (omega (arith, past, many, there))

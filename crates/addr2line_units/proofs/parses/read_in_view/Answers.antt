@@ -19,8 +19,8 @@ returns-in_err-unit-clause-memory g c = λ have.
     let u = c.args.dw_unit.now in
     let old : UnitEntries g.row.R.Denot = record { view = c.args.view.now; functions = c.args.functions.now } in
     let x = c.in_err-unit.field-0.0 in
-    let is = fault_known scope u 0 old c.requires.kept c.requires.decided x c.in_err-unit.ensures.gives in
-    absurd (no_view scope.file.sections u (here scope u 0 old c.requires.kept c.requires.decided) x old.view.state c.requires.kept.view.right is have.view)
+    let is = fault_known scope u 0 old c.requires.right c.requires.decided x c.in_err-unit.ensures.gives in
+    absurd (no_view scope.file.sections u (here scope u 0 old c.requires.right c.requires.decided) x old.view.state c.requires.right.view.right is have.view)
 
 pub read-requires-clause-in_order : goal.read-requires-clause-in_order
 read-requires-clause-in_order g c =
@@ -33,8 +33,8 @@ read-requires-clause-right g c =
     let old : UnitEntries g.row.R.Denot = record { view = c.args.view.now; functions = c.args.functions.now } in
     let inner = seen_scope c.scope_of.result in
     let x = c.in_ok-unit.unit.unit.now in
-    let v = view_known scope u 0 old c.requires.kept c.requires.decided c.in_ok-unit.unit.dwarf.now x inner c.in_ok-unit.ensures.gives (c.scope_of.ensures.gives scope.file.sections u c.requires.kept.view) in
-    functions_right scope u 0 old c.requires.kept c.requires.decided inner x v
+    let v = view_known scope u 0 old c.requires.right c.requires.decided c.in_ok-unit.unit.dwarf.now x inner c.in_ok-unit.ensures.gives (c.scope_of.ensures.gives scope.file.sections u c.requires.right.view) in
+    functions_right scope u 0 old c.requires.right c.requires.decided inner x v
 
 pub returns-clause-gives : goal.returns-clause-gives
 returns-clause-gives g c =
@@ -43,18 +43,18 @@ returns-clause-gives g c =
     let old : UnitEntries g.row.R.Denot = record { view = c.args.view.now; functions = c.args.functions.now } in
     let inner = seen_scope c.scope_of.result in
     let x = c.in_ok-unit.unit.unit.now in
-    let v = view_known scope u 0 old c.requires.kept c.requires.decided c.in_ok-unit.unit.dwarf.now x inner c.in_ok-unit.ensures.gives (c.scope_of.ensures.gives scope.file.sections u c.requires.kept.view) in
+    let v = view_known scope u 0 old c.requires.right c.requires.decided c.in_ok-unit.unit.dwarf.now x inner c.in_ok-unit.ensures.gives (c.scope_of.ensures.gives scope.file.sections u c.requires.right.view) in
     subst (ExactlyUnlessOom (λ y. y) c.read.result) (sym (ap (read_of_view c.args.reads scope) v.is ∙ view_read c.args.reads scope v.view inner x v.unit v.leads)) c.read.ensures.gives
 
-pub returns-clause-kept : goal.returns-clause-kept
-returns-clause-kept g c =
+pub returns-clause-right : goal.returns-clause-right
+returns-clause-right g c =
     let scope = seen_scope c.args.scope in
     let u = c.args.dw_unit.now in
     let old : UnitEntries g.row.R.Denot = record { view = c.args.view.now; functions = c.args.functions.now } in
     let inner = seen_scope c.scope_of.result in
     let x = c.in_ok-unit.unit.unit.now in
-    let v = view_known scope u 0 old c.requires.kept c.requires.decided c.in_ok-unit.unit.dwarf.now x inner c.in_ok-unit.ensures.gives (c.scope_of.ensures.gives scope.file.sections u c.requires.kept.view) in
-    functions_keep scope u 0 old c.requires.kept c.requires.decided inner x v c.read.new.self c.read.ensures.right
+    let v = view_known scope u 0 old c.requires.right c.requires.decided c.in_ok-unit.unit.dwarf.now x inner c.in_ok-unit.ensures.gives (c.scope_of.ensures.gives scope.file.sections u c.requires.right.view) in
+    functions_keep scope u 0 old c.requires.right c.requires.decided inner x v c.read.new.self c.read.ensures.right
 
 pub returns-clause-read : goal.returns-clause-read
 returns-clause-read g c =
@@ -63,9 +63,9 @@ returns-clause-read g c =
     let old : UnitEntries g.row.R.Denot = record { view = c.args.view.now; functions = c.args.functions.now } in
     let inner = seen_scope c.scope_of.result in
     let x = c.in_ok-unit.unit.unit.now in
-    let v = view_known scope u 0 old c.requires.kept c.requires.decided c.in_ok-unit.unit.dwarf.now x inner c.in_ok-unit.ensures.gives (c.scope_of.ensures.gives scope.file.sections u c.requires.kept.view) in
+    let v = view_known scope u 0 old c.requires.right c.requires.decided c.in_ok-unit.unit.dwarf.now x inner c.in_ok-unit.ensures.gives (c.scope_of.ensures.gives scope.file.sections u c.requires.right.view) in
     read_if_view c.args.reads c.read.result c.args.view.now c.read.new.self
-    (known_view scope.file.sections u (here scope u 0 old c.requires.kept c.requires.decided) v.view old.view.state c.requires.decided c.requires.kept.view.right v.is) c.read.ensures.read
+    (known_view scope.file.sections u (here scope u 0 old c.requires.right c.requires.decided) v.view old.view.state c.requires.decided c.requires.right.view.right v.is) c.read.ensures.read
 
 pub returns-in_err-unit-clause-ready_for_all : goal.returns-in_err-unit-clause-ready_for_all
 returns-in_err-unit-clause-ready_for_all g c =
@@ -74,8 +74,8 @@ returns-in_err-unit-clause-ready_for_all g c =
     let u = c.args.dw_unit.now in
     let old : UnitEntries g.row.R.Denot = record { view = c.args.view.now; functions = c.args.functions.now } in
     let x = c.in_err-unit.field-0.0 in
-    let is = fault_known scope u 0 old c.requires.kept c.requires.decided x c.in_err-unit.ensures.gives in
-    rw (p.1, p.2) (λ ne. subst (IsReadyFor c.args.reads) (sym (fault_by_view scope.file.sections u (here scope u 0 old c.requires.kept c.requires.decided) x old.view.state old.functions c.requires.decided c.requires.kept.view.right is)) (ready_fault c.args.reads x ne))
+    let is = fault_known scope u 0 old c.requires.right c.requires.decided x c.in_err-unit.ensures.gives in
+    rw (p.1, p.2) (λ ne. subst (IsReadyFor c.args.reads) (sym (fault_by_view scope.file.sections u (here scope u 0 old c.requires.right c.requires.decided) x old.view.state old.functions c.requires.decided c.requires.right.view.right is)) (ready_fault c.args.reads x ne))
 
 pub returns-in_err-unit-clause-exact : goal.returns-in_err-unit-clause-exact
 returns-in_err-unit-clause-exact g c = λ _.
@@ -84,7 +84,7 @@ returns-in_err-unit-clause-exact g c = λ _.
     let u = c.args.dw_unit.now in
     let old : UnitEntries g.row.R.Denot = record { view = c.args.view.now; functions = c.args.functions.now } in
     let x = c.in_err-unit.field-0.0 in
-    let is = fault_known scope u 0 old c.requires.kept c.requires.decided x c.in_err-unit.ensures.gives in
+    let is = fault_known scope u 0 old c.requires.right c.requires.decided x c.in_err-unit.ensures.gives in
     rw (p.1, p.2) (sym (ap (read_of_view c.args.reads scope) is))
 
 pub returns-clause-ready_for_all : goal.returns-clause-ready_for_all
@@ -94,8 +94,8 @@ returns-clause-ready_for_all g c = λ ne.
     let old : UnitEntries g.row.R.Denot = record { view = c.args.view.now; functions = c.args.functions.now } in
     let inner = seen_scope c.scope_of.result in
     let x = c.in_ok-unit.unit.unit.now in
-    let v = view_known scope u 0 old c.requires.kept c.requires.decided c.in_ok-unit.unit.dwarf.now x inner c.in_ok-unit.ensures.gives (c.scope_of.ensures.gives scope.file.sections u c.requires.kept.view) in
-    subst (IsReadyFor c.args.reads) (sym (functions_by_view scope.file.sections u (here scope u 0 old c.requires.kept c.requires.decided) v.view old.view.state c.read.new.self c.requires.decided c.requires.kept.view.right v.is)) (c.read.ensures.ready_for_all ne)
+    let v = view_known scope u 0 old c.requires.right c.requires.decided c.in_ok-unit.unit.dwarf.now x inner c.in_ok-unit.ensures.gives (c.scope_of.ensures.gives scope.file.sections u c.requires.right.view) in
+    subst (IsReadyFor c.args.reads) (sym (functions_by_view scope.file.sections u (here scope u 0 old c.requires.right c.requires.decided) v.view old.view.state c.read.new.self c.requires.decided c.requires.right.view.right v.is)) (c.read.ensures.ready_for_all ne)
 
 pub returns-clause-exact : goal.returns-clause-exact
 returns-clause-exact g c = λ ready.
@@ -104,8 +104,8 @@ returns-clause-exact g c = λ ready.
     let old : UnitEntries g.row.R.Denot = record { view = c.args.view.now; functions = c.args.functions.now } in
     let inner = seen_scope c.scope_of.result in
     let x = c.in_ok-unit.unit.unit.now in
-    let v = view_known scope u 0 old c.requires.kept c.requires.decided c.in_ok-unit.unit.dwarf.now x inner c.in_ok-unit.ensures.gives (c.scope_of.ensures.gives scope.file.sections u c.requires.kept.view) in
-    c.read.ensures.exact (subst (IsReadyFor c.args.reads) (functions_by_view scope.file.sections u (here scope u 0 old c.requires.kept c.requires.decided) v.view old.view.state old.functions c.requires.decided c.requires.kept.view.right v.is) ready) ∙ sym (ap (read_of_view c.args.reads scope) v.is ∙ view_read c.args.reads scope v.view inner x v.unit v.leads)
+    let v = view_known scope u 0 old c.requires.right c.requires.decided c.in_ok-unit.unit.dwarf.now x inner c.in_ok-unit.ensures.gives (c.scope_of.ensures.gives scope.file.sections u c.requires.right.view) in
+    c.read.ensures.exact (subst (IsReadyFor c.args.reads) (functions_by_view scope.file.sections u (here scope u 0 old c.requires.right c.requires.decided) v.view old.view.state old.functions c.requires.decided c.requires.right.view.right v.is) ready) ∙ sym (ap (read_of_view c.args.reads scope) v.is ∙ view_read c.args.reads scope v.view inner x v.unit v.leads)
 
 pub returns-clause-same : goal.returns-clause-same
 returns-clause-same g c = λ ready.
@@ -114,5 +114,5 @@ returns-clause-same g c = λ ready.
     let old : UnitEntries g.row.R.Denot = record { view = c.args.view.now; functions = c.args.functions.now } in
     let inner = seen_scope c.scope_of.result in
     let x = c.in_ok-unit.unit.unit.now in
-    let v = view_known scope u 0 old c.requires.kept c.requires.decided c.in_ok-unit.unit.dwarf.now x inner c.in_ok-unit.ensures.gives (c.scope_of.ensures.gives scope.file.sections u c.requires.kept.view) in
-    c.read.ensures.same (subst (IsReadyFor c.args.reads) (functions_by_view scope.file.sections u (here scope u 0 old c.requires.kept c.requires.decided) v.view old.view.state old.functions c.requires.decided c.requires.kept.view.right v.is) ready)
+    let v = view_known scope u 0 old c.requires.right c.requires.decided c.in_ok-unit.unit.dwarf.now x inner c.in_ok-unit.ensures.gives (c.scope_of.ensures.gives scope.file.sections u c.requires.right.view) in
+    c.read.ensures.same (subst (IsReadyFor c.args.reads) (functions_by_view scope.file.sections u (here scope u 0 old c.requires.right c.requires.decided) v.view old.view.state old.functions c.requires.decided c.requires.right.view.right v.is) ready)

@@ -19,9 +19,9 @@ returns-in_err-unit-clause-ready g c =
     let probe = c.args.probe in
     let old : UnitEntries g.row.R.Denot = record { view = c.args.view.now; functions = c.args.functions.now } in
     let x = c.in_err-unit.field-0.0 in
-    let is = fault_known scope u probe old c.requires.kept c.requires.decided x c.in_err-unit.ensures.gives in
+    let is = fault_known scope u probe old c.requires.right c.requires.decided x c.in_err-unit.ensures.gives in
     let p = err_from_is_err_and c.from_residual.result c.from_residual.ensures.1 in
-    rw (p.1, p.2) (λ ne. fault_entries scope u probe old c.requires.kept c.requires.decided x is c.args.functions.now ∙ cached_unless_oom x ne)
+    rw (p.1, p.2) (λ ne. fault_entries scope u probe old c.requires.right c.requires.decided x is c.args.functions.now ∙ cached_unless_oom x ne)
 
 pub returns-in_err-unit-clause-memory : goal.returns-in_err-unit-clause-memory
 returns-in_err-unit-clause-memory g c =
@@ -30,9 +30,9 @@ returns-in_err-unit-clause-memory g c =
     let probe = c.args.probe in
     let old : UnitEntries g.row.R.Denot = record { view = c.args.view.now; functions = c.args.functions.now } in
     let x = c.in_err-unit.field-0.0 in
-    let is = fault_known scope u probe old c.requires.kept c.requires.decided x c.in_err-unit.ensures.gives in
+    let is = fault_known scope u probe old c.requires.right c.requires.decided x c.in_err-unit.ensures.gives in
     let p = err_from_is_err_and c.from_residual.result c.from_residual.ensures.1 in
-    rw (p.1, p.2) (λ has. λ few. cached_is_not_oom x (sym (fault_entries scope u probe old c.requires.kept c.requires.decided x is c.args.functions.now) ∙ has))
+    rw (p.1, p.2) (λ has. λ few. cached_is_not_oom x (sym (fault_entries scope u probe old c.requires.right c.requires.decided x is c.args.functions.now) ∙ has))
 
 pub find-requires-clause-in_order : goal.find-requires-clause-in_order
 find-requires-clause-in_order g c =
@@ -46,8 +46,8 @@ find-requires-clause-right g c =
     let old : UnitEntries g.row.R.Denot = record { view = c.args.view.now; functions = c.args.functions.now } in
     let inner = seen_scope c.scope_of.result in
     let x = c.in_ok-unit.unit.unit.now in
-    let v = view_known scope u probe old c.requires.kept c.requires.decided c.in_ok-unit.unit.dwarf.now x inner c.in_ok-unit.ensures.gives (c.scope_of.ensures.gives scope.file.sections u c.requires.kept.view) in
-    functions_right scope u probe old c.requires.kept c.requires.decided inner x v
+    let v = view_known scope u probe old c.requires.right c.requires.decided c.in_ok-unit.unit.dwarf.now x inner c.in_ok-unit.ensures.gives (c.scope_of.ensures.gives scope.file.sections u c.requires.right.view) in
+    functions_right scope u probe old c.requires.right c.requires.decided inner x v
 
 pub returns-clause-gives : goal.returns-clause-gives
 returns-clause-gives g c =
@@ -57,19 +57,19 @@ returns-clause-gives g c =
     let old : UnitEntries g.row.R.Denot = record { view = c.args.view.now; functions = c.args.functions.now } in
     let inner = seen_scope c.scope_of.result in
     let x = c.in_ok-unit.unit.unit.now in
-    let v = view_known scope u probe old c.requires.kept c.requires.decided c.in_ok-unit.unit.dwarf.now x inner c.in_ok-unit.ensures.gives (c.scope_of.ensures.gives scope.file.sections u c.requires.kept.view) in
-    subst (λ given. ExactlyUnlessOom (option_map (function_of_place (cached_functions c.find.new.self))) c.find.result given) (sym (function_is_in scope u probe old c.requires.kept c.requires.decided inner x v)) (exactly_unless_oom _ _ _ _ c.find.ensures.gives)
+    let v = view_known scope u probe old c.requires.right c.requires.decided c.in_ok-unit.unit.dwarf.now x inner c.in_ok-unit.ensures.gives (c.scope_of.ensures.gives scope.file.sections u c.requires.right.view) in
+    subst (λ given. ExactlyUnlessOom (option_map (function_of_place (cached_functions c.find.new.self))) c.find.result given) (sym (function_is_in scope u probe old c.requires.right c.requires.decided inner x v)) (exactly_unless_oom _ _ _ _ c.find.ensures.gives)
 
-pub returns-clause-kept : goal.returns-clause-kept
-returns-clause-kept g c =
+pub returns-clause-right : goal.returns-clause-right
+returns-clause-right g c =
     let scope = seen_scope c.args.scope in
     let u = c.args.dw_unit.now in
     let probe = c.args.probe in
     let old : UnitEntries g.row.R.Denot = record { view = c.args.view.now; functions = c.args.functions.now } in
     let inner = seen_scope c.scope_of.result in
     let x = c.in_ok-unit.unit.unit.now in
-    let v = view_known scope u probe old c.requires.kept c.requires.decided c.in_ok-unit.unit.dwarf.now x inner c.in_ok-unit.ensures.gives (c.scope_of.ensures.gives scope.file.sections u c.requires.kept.view) in
-    functions_keep scope u probe old c.requires.kept c.requires.decided inner x v c.find.new.self c.find.ensures.right
+    let v = view_known scope u probe old c.requires.right c.requires.decided c.in_ok-unit.unit.dwarf.now x inner c.in_ok-unit.ensures.gives (c.scope_of.ensures.gives scope.file.sections u c.requires.right.view) in
+    functions_keep scope u probe old c.requires.right c.requires.decided inner x v c.find.new.self c.find.ensures.right
 
 pub returns-clause-same : goal.returns-clause-same
 returns-clause-same g c =
@@ -79,8 +79,8 @@ returns-clause-same g c =
     let old : UnitEntries g.row.R.Denot = record { view = c.args.view.now; functions = c.args.functions.now } in
     let inner = seen_scope c.scope_of.result in
     let x = c.in_ok-unit.unit.unit.now in
-    let v = view_known scope u probe old c.requires.kept c.requires.decided c.in_ok-unit.unit.dwarf.now x inner c.in_ok-unit.ensures.gives (c.scope_of.ensures.gives scope.file.sections u c.requires.kept.view) in
-    λ has. c.find.ensures.kept (sym (function_entries scope u probe old c.requires.kept c.requires.decided inner x v c.args.functions.now) ∙ has)
+    let v = view_known scope u probe old c.requires.right c.requires.decided c.in_ok-unit.unit.dwarf.now x inner c.in_ok-unit.ensures.gives (c.scope_of.ensures.gives scope.file.sections u c.requires.right.view) in
+    λ has. c.find.ensures.kept (sym (function_entries scope u probe old c.requires.right c.requires.decided inner x v c.args.functions.now) ∙ has)
 
 pub returns-clause-ready : goal.returns-clause-ready
 returns-clause-ready g c =
@@ -90,8 +90,8 @@ returns-clause-ready g c =
     let old : UnitEntries g.row.R.Denot = record { view = c.args.view.now; functions = c.args.functions.now } in
     let inner = seen_scope c.scope_of.result in
     let x = c.in_ok-unit.unit.unit.now in
-    let v = view_known scope u probe old c.requires.kept c.requires.decided c.in_ok-unit.unit.dwarf.now x inner c.in_ok-unit.ensures.gives (c.scope_of.ensures.gives scope.file.sections u c.requires.kept.view) in
-    λ answered. function_entries scope u probe old c.requires.kept c.requires.decided inner x v c.find.new.self ∙ c.find.ensures.known answered
+    let v = view_known scope u probe old c.requires.right c.requires.decided c.in_ok-unit.unit.dwarf.now x inner c.in_ok-unit.ensures.gives (c.scope_of.ensures.gives scope.file.sections u c.requires.right.view) in
+    λ answered. function_entries scope u probe old c.requires.right c.requires.decided inner x v c.find.new.self ∙ c.find.ensures.known answered
 
 pub returns-clause-memory : goal.returns-clause-memory
 returns-clause-memory g c =
@@ -101,5 +101,5 @@ returns-clause-memory g c =
     let old : UnitEntries g.row.R.Denot = record { view = c.args.view.now; functions = c.args.functions.now } in
     let inner = seen_scope c.scope_of.result in
     let x = c.in_ok-unit.unit.unit.now in
-    let v = view_known scope u probe old c.requires.kept c.requires.decided c.in_ok-unit.unit.dwarf.now x inner c.in_ok-unit.ensures.gives (c.scope_of.ensures.gives scope.file.sections u c.requires.kept.view) in
-    λ has. λ few. c.find.ensures.memory (sym (function_entries scope u probe old c.requires.kept c.requires.decided inner x v c.find.new.self) ∙ has) (few_in scope u probe old c.requires.kept c.requires.decided inner x v few)
+    let v = view_known scope u probe old c.requires.right c.requires.decided c.in_ok-unit.unit.dwarf.now x inner c.in_ok-unit.ensures.gives (c.scope_of.ensures.gives scope.file.sections u c.requires.right.view) in
+    λ has. λ few. c.find.ensures.memory (sym (function_entries scope u probe old c.requires.right c.requires.decided inner x v c.find.new.self) ∙ has) (few_in scope u probe old c.requires.right c.requires.decided inner x v few)

@@ -7,13 +7,13 @@ use Rattle.addr2line.proofs.context.Context.forget.Goals as goal
 pub forget_unit-requires : goal.forget_unit-requires
 forget_unit-requires g c =
     let s = c.self.inside in
-    record { kept = rw c.deref.ensures (entries_in_scope s.dwarf.value s.units.dw_units.items s.units.units.items s.units.entries.items s.units.ranges s.sup_units c.self.invariant) }
+    record { right = rw c.deref.ensures (entries_in_scope s.dwarf.value s.units.dw_units.items s.units.units.items s.units.entries.items s.units.ranges s.sup_units c.self.invariant) }
 
 pub invariant_of-self : goal.invariant_of-self
 invariant_of-self g c =
     let s = c.self.inside in
     let e = rw c.deref.ensures at c.forget_unit.ensures in
-    still_answered s.dwarf.value s.units.dw_units.items s.units.units.items s.units.entries.items s.units.ranges s.sup_units c.self.invariant _ e.dw_units _ e.units _ e.kept _ e.ranges
+    still_answered s.dwarf.value s.units.dw_units.items s.units.units.items s.units.entries.items s.units.ranges s.sup_units c.self.invariant _ e.dw_units _ e.units _ e.right _ e.ranges
 
 pub returns-clause-gives : goal.returns-clause-gives
 returns-clause-gives g c =

@@ -8,13 +8,13 @@ use Rattle.addr2line.proofs.context.Context.preload_units.Goals as goal
 pub preload-requires : goal.preload-requires
 preload-requires g c =
     let s = c.self.inside in
-    record { kept = entries_in_scope s.dwarf.value s.units.dw_units.items s.units.units.items s.units.entries.items s.units.ranges s.sup_units c.self.invariant }
+    record { right = entries_in_scope s.dwarf.value s.units.dw_units.items s.units.units.items s.units.entries.items s.units.ranges s.sup_units c.self.invariant }
 
 pub invariant_of-self : goal.invariant_of-self
 invariant_of-self g c =
     let s = c.self.inside in
     let e = c.preload.ensures in
-    still_answered s.dwarf.value s.units.dw_units.items s.units.units.items s.units.entries.items s.units.ranges s.sup_units c.self.invariant _ e.dw_units _ e.units _ e.kept _ e.ranges
+    still_answered s.dwarf.value s.units.dw_units.items s.units.units.items s.units.entries.items s.units.ranges s.sup_units c.self.invariant _ e.dw_units _ e.units _ e.right _ e.ranges
 
 pub returns-clause-gives : goal.returns-clause-gives
 returns-clause-gives g c =

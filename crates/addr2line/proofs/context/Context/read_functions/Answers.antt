@@ -1,7 +1,7 @@
 use Rattle.std.proofs.Common.{◌≡◌, sym, subst}
 use Rattle.gimli_read.specs.Reading.{ExactlyUnlessOom}
 use Rattle.addr2line_units.specs.FunctionParses.{AreFirstDecided, AreReadBefore, AreReadyFor, answers_after_parse, read_of_units}
-use Rattle.addr2line_units.specs.CachedUnits.{answers_in, scope_in}
+use Rattle.addr2line_units.specs.CachedUnits.{answers_in}
 use Rattle.addr2line_units.specs.CachedParses.{ChangesOnly}
 use Rattle.addr2line_units.specs.KnownEntries.{known_in}
 use Rattle.gimli_read.specs.Alike.{HadMemory}
@@ -9,14 +9,15 @@ use Rattle.addr2line.proofs.AnsweredLemmas.{still_answered}
 use Rattle.addr2line.proofs.LoadLemmas.{after_parse, all_known, all_reached, parse_is}
 use Rattle.addr2line.proofs.LookupLemmas.{entries_in_scope, scope_in_order}
 use Rattle.addr2line.proofs.context.Context.read_functions.Goals as goal
+use Rattle.addr2line_units.specs.SeenUnit.{scope_in}
 
 pub read_functions-requires-clause-in_order : goal.read_functions-requires-clause-in_order
 read_functions-requires-clause-in_order g c =
     let s = c.self.inside in
     rw c.deref.ensures (scope_in_order s.dwarf.value s.units.dw_units.items s.units.units.items s.units.entries.items s.units.ranges s.sup_units c.self.invariant)
 
-pub read_functions-requires-clause-kept : goal.read_functions-requires-clause-kept
-read_functions-requires-clause-kept g c =
+pub read_functions-requires-clause-right : goal.read_functions-requires-clause-right
+read_functions-requires-clause-right g c =
     let s = c.self.inside in
     rw c.deref.ensures (entries_in_scope s.dwarf.value s.units.dw_units.items s.units.units.items s.units.entries.items s.units.ranges s.sup_units c.self.invariant)
 
@@ -24,7 +25,7 @@ pub invariant_of-self : goal.invariant_of-self
 invariant_of-self g c =
     let s = c.self.inside in
     let e = rw c.deref.ensures at c.read_functions.ensures in
-    still_answered s.dwarf.value s.units.dw_units.items s.units.units.items s.units.entries.items s.units.ranges s.sup_units c.self.invariant _ e.dw_units _ e.units _ e.kept _ e.ranges
+    still_answered s.dwarf.value s.units.dw_units.items s.units.units.items s.units.entries.items s.units.ranges s.sup_units c.self.invariant _ e.dw_units _ e.units _ e.right _ e.ranges
 
 pub returns-clause-gives : goal.returns-clause-gives
 returns-clause-gives g c =

@@ -7,8 +7,8 @@ find_frames-stop-requires-clause-in_order g c =
     let s = c.self.inside in
     rw c.deref.ensures (scope_in_order s.dwarf.value s.units.dw_units.items s.units.units.items s.units.entries.items s.units.ranges s.sup_units c.self.invariant)
 
-pub find_frames-stop-requires-clause-kept : goal.find_frames-stop-requires-clause-kept
-find_frames-stop-requires-clause-kept g c =
+pub find_frames-stop-requires-clause-right : goal.find_frames-stop-requires-clause-right
+find_frames-stop-requires-clause-right g c =
     let s = c.self.inside in
     rw c.deref.ensures (entries_in_scope s.dwarf.value s.units.dw_units.items s.units.units.items s.units.entries.items s.units.ranges s.sup_units c.self.invariant)
 
@@ -16,7 +16,7 @@ pub invariant_of-self : goal.invariant_of-self
 invariant_of-self g c =
     let s = c.self.inside in
     let e = rw c.deref.ensures at c.find_frames-stop.ensures in
-    still_context s.dwarf.value s.units.dw_units.items s.units.units.items s.units.entries.items s.units.ranges s.sup_units c.self.invariant _ e.dw_units _ e.stay_units _ e.kept _ e.ranges e.read
+    still_context s.dwarf.value s.units.dw_units.items s.units.units.items s.units.entries.items s.units.ranges s.sup_units c.self.invariant _ e.dw_units _ e.stay_units _ e.right _ e.ranges e.read
 
 pub returns-clause-gives : goal.returns-clause-gives
 returns-clause-gives g c =

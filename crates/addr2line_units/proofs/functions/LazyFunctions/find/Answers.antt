@@ -1,8 +1,12 @@
-use Rattle.std.proofs.Common.{Err, Ok, Result, ap, refl, true, ℕ, ◌&&◌, ◌≡◌, ◌∙◌, option_map, subst, sym}
+use Rattle.std.proofs.Common.{Bool, Err, Ok, Result, ap, false, refl, true, ℕ, ◌&&◌, ◌≡◌, ◌≢◌, ◌∙◌, option_map, subst, sym}
 use Rattle.std.proofs.lemmas.Bool.{false≢true}
 use Rattle.std.proofs.lemmas.Result.{err_from_is_err_and}
 use Rattle.gimli_read.specs.declared.error.Error.{Error}
+use Rattle.gimli_read.specs.declared.error.Error.TheVariants.{OutOfMemory}
+use Rattle.gimli.specs.Unit.{UnitRecord}
+use Rattle.addr2line_lines.specs.Functions.{functions_of, functions_take_memory}
 use Rattle.addr2line_lines.specs.FunctionTable.{cached_detail}
+use Rattle.addr2line_lines.specs.References.{Scope}
 use Rattle.addr2line_lines.specs.SeenScope.{seen_scope}
 use Rattle.addr2line_units.specs.declared.functions.LazyFunctions.{LazyFunctions}
 use Rattle.addr2line_units.specs.declared.functions.LazyFunctions.TheVariants as lazy
@@ -12,11 +16,18 @@ use Rattle.addr2line_units.proofs.CachedFunctionLemmas.{and_weaker, details_befo
 use Rattle.addr2line_units.proofs.CachedPlaceLemmas.{cached_is_not_oom, cached_unless_oom, same_known, table_known}
 use Rattle.addr2line_units.proofs.functions.LazyFunctions.find.Goals as goal
 
--- functions that weren't read take memory, and nothing of them is known
-not_read_takes : {R : Type 0} → (old new : LazyFunctions R) (probe : ℕ) → (were_read old ≡ true → ⊥) → new ≡ old → (find_takes_memory probe old && find_takes_memory probe new) ≡ true
-not_read_takes lazy.Unread new probe unread e = ap (find_takes_memory probe) e
-not_read_takes (lazy.Read t) new probe unread e = absurd (unread refl)
-not_read_takes (lazy.Faulty x) new probe unread e = absurd (unread refl)
+-- functions that weren't read take memory, or memory is their fault
+not_read_takes : {R : Type 0} (shares : Bool) (scope : Scope) (view : UnitRecord) (old new : LazyFunctions R) (probe : ℕ) (x : Error) → (were_read old ≡ true → ⊥) → new ≡ old → x ≡ OutOfMemory
+    → (functions_take_memory shares scope.file.sections view ≡ false → functions_of scope.file.sections view ≡ Err x)
+    → ((find_takes_memory shares scope view probe old && find_takes_memory shares scope view probe new) ≡ true → x ≢ OutOfMemory) → functions_of scope.file.sections view ≡ Err x
+not_read_takes {R} shares scope view lazy.Unread new probe x unread e oom fault may = by_test (functions_take_memory shares scope.file.sections view) fault
+    (subst (λ (f : LazyFunctions R). (functions_take_memory shares scope.file.sections view && find_takes_memory shares scope view probe f) ≡ true → x ≢ OutOfMemory) e may)
+  where
+    by_test : (b : Bool) → (b ≡ false → functions_of scope.file.sections view ≡ Err x) → ((b && b) ≡ true → x ≢ OutOfMemory) → functions_of scope.file.sections view ≡ Err x
+    by_test true h k = absurd (k refl oom)
+    by_test false h k = h refl
+not_read_takes shares scope view (lazy.Read t) new probe x unread e oom fault may = absurd (unread refl)
+not_read_takes shares scope view (lazy.Faulty y) new probe x unread e oom fault may = absurd (unread refl)
 
 not_read_stay : {R : Type 0} → (old new : LazyFunctions R) → (were_read old ≡ true → ⊥) → StayFunctions old new
 not_read_stay lazy.Unread new unread = tt
@@ -36,8 +47,12 @@ returns-in-Read-clause-gives g c =
     let probe = c.args.probe in
     let t = c.in-Read.functions in
     let new = c.find_place.new.functions in
-    exactly_weaker (table_takes_memory probe t && table_takes_memory probe new) (find_takes_memory probe c.args.self.now && table_takes_memory probe new) (option_map (function_of_place new)) c.find_place.result (function_at (seen_scope c.args.scope) c.args.view.now probe)
-    (and_weaker (table_takes_memory probe t) (find_takes_memory probe c.args.self.now) (table_takes_memory probe new) (memory_before c.args.self.now c.cache.new.self (λ read. (c.cache.ensures.kept read).0) t probe c.in-Read.is)) c.find_place.ensures.gives
+    let scope = seen_scope c.args.scope in
+    let view = c.args.view.now in
+    let before = find_takes_memory g.R.Reader.shares scope view probe c.args.self.now in
+    let table = subst (AreFunctionsOf scope view) c.in-Read.is c.cache.ensures.right in
+    exactly_weaker (table_takes_memory probe t && table_takes_memory probe new) (before && table_takes_memory probe new) (option_map (function_of_place new)) c.find_place.result (function_at scope view probe)
+    (and_weaker (table_takes_memory probe t) before (table_takes_memory probe new) (memory_before c.args.self.now c.cache.new.self (λ read. (c.cache.ensures.kept read).0) g.R.Reader.shares scope view t probe c.in-Read.is table)) c.find_place.ensures.gives
 
 pub returns-in-Read-clause-alone : goal.returns-in-Read-clause-alone
 returns-in-Read-clause-alone g c =
@@ -67,7 +82,10 @@ returns-in-Faulty-clause-kept g c =
 pub returns-in_err-cache-clause-gives : goal.returns-in_err-cache-clause-gives
 returns-in_err-cache-clause-gives g c =
     let p = err_from_is_err_and c.from_residual.result c.from_residual.ensures.1 in
-    rw (p.1, p.2) (λ may. absurd (may (not_read_takes c.args.self.now c.cache.new.self c.args.probe (λ read. read_not_refused _ (c.in_err-cache.ensures.kept read).1) c.in_err-cache.ensures.refused.1) c.in_err-cache.ensures.refused.0))
+    let scope = seen_scope c.args.scope in
+    let view = c.args.view.now in
+    rw (p.1, p.2) (λ may. function_is scope view c.args.probe (Err _)
+    (not_read_takes g.R.Reader.shares scope view c.args.self.now c.cache.new.self c.args.probe _ (λ read. read_not_refused _ (c.in_err-cache.ensures.kept read).1) c.in_err-cache.ensures.refused.1 c.in_err-cache.ensures.refused.0 c.in_err-cache.ensures.memory may))
 
 pub returns-in_err-cache-clause-right : goal.returns-in_err-cache-clause-right
 returns-in_err-cache-clause-right g c = c.cache.ensures.right

@@ -1,11 +1,17 @@
-use Rattle.std.proofs.Common.{Result, ◌∙◌, ap, subst, sym}
+use Rattle.std.proofs.Common.{◌≡◌, ◌≢◌, Bool, Err, Result, false, refl, true, ◌∙◌, ap, subst, sym}
+use Rattle.std.proofs.lemmas.Result.{err_from_is_err_and}
 use Rattle.gimli_read.specs.declared.error.Error.{Error}
 use Rattle.gimli_read.specs.Reading.{ExactlyUnlessOomIf}
+use Rattle.gimli_read.specs.declared.error.Error.TheVariants.{OutOfMemory}
+use Rattle.gimli.specs.Unit.{UnitRecord}
 use Rattle.addr2line_lines.specs.FunctionDetails.{details_take_memory}
+use Rattle.addr2line_lines.specs.Functions.{functions_of, functions_take_memory}
+use Rattle.addr2line_lines.specs.References.{Scope}
 use Rattle.addr2line_lines.specs.SeenScope.{seen_scope}
+use Rattle.addr2line_units.specs.declared.functions.LazyFunctions.{LazyFunctions}
 use Rattle.addr2line_units.specs.declared.functions.LazyFunctions.TheVariants as lazy
-use Rattle.addr2line_units.specs.declared.parses.Reads.TheVariants as reads
-use Rattle.addr2line_units.specs.CachedFunctions.{AreFunctionsOf, functions_fault, reading_takes_memory}
+use Rattle.addr2line_units.specs.declared.parses.ReadingDepth.TheVariants as reads
+use Rattle.addr2line_units.specs.CachedFunctions.{AreFunctionsOf, functions_fault, reading_takes_memory, were_read}
 use Rattle.addr2line_units.proofs.CachedFunctionLemmas.{all_ready, exactly_weaker, fault_is, on_ok, reading_before, stay_faulty, stay_read, table_more}
 use Rattle.addr2line_units.proofs.ReadyLemmas.{fault_of_functions, not_oom, ready_fault, ready_same, ready_then, ready_were_read}
 use Rattle.addr2line_units.proofs.functions.LazyFunctions.read_all.Goals as goal
@@ -18,7 +24,7 @@ returns-in-Read-clause-gives g c =
     let may = details_take_memory g.R.Reader.shares scope view t.functions in
     let table = subst (λ x. AreFunctionsOf scope view x) c.in-Read.is c.cache.ensures.right in
     exactly_weaker may (reading_takes_memory g.R.Reader.shares scope view c.args.self.now) (λ x. x) c.read_all.result (functions_fault scope view)
-    (reading_before c.args.self.now c.cache.new.self (λ read. (c.cache.ensures.kept read).0) g.R.Reader.shares scope view t c.in-Read.is)
+    (reading_before c.args.self.now c.cache.new.self (λ read. (c.cache.ensures.kept read).0) g.R.Reader.shares scope view t c.in-Read.is table)
     (subst (λ (r : Result (Unit {0}) Error). ExactlyUnlessOomIf may (λ x. x) c.read_all.result r) (sym (fault_is scope view t table)) (c.read_all.ensures.gives table.details))
 
 pub returns-in-Read-clause-right : goal.returns-in-Read-clause-right
@@ -72,3 +78,23 @@ returns-in-Faulty-clause-exact g c = λ _.
 pub returns-in-Faulty-clause-same : goal.returns-in-Faulty-clause-same
 returns-in-Faulty-clause-same g c = λ ready.
     sym c.in-Faulty.is ∙ ready_same reads.Details c.args.self.now c.cache.new.self (λ read. (c.cache.ensures.kept read).0) ready
+
+-- functions that weren't read take memory, or memory is their fault
+unread_takes : {R : Type 0} (shares : Bool) (scope : Scope) (view : UnitRecord) (old : LazyFunctions R) (x : Error) → (were_read old ≡ true → ⊥) → x ≡ OutOfMemory
+    → (functions_take_memory shares scope.file.sections view ≡ false → functions_of scope.file.sections view ≡ Err x)
+    → (reading_takes_memory shares scope view old ≡ true → x ≢ OutOfMemory) → functions_of scope.file.sections view ≡ Err x
+unread_takes shares scope view lazy.Unread x unread oom fault may = by_test (functions_take_memory shares scope.file.sections view) fault may
+  where
+    by_test : (b : Bool) → (b ≡ false → functions_of scope.file.sections view ≡ Err x) → (b ≡ true → x ≢ OutOfMemory) → functions_of scope.file.sections view ≡ Err x
+    by_test true h k = absurd (k refl oom)
+    by_test false h k = h refl
+unread_takes shares scope view (lazy.Read t) x unread oom fault may = absurd (unread refl)
+unread_takes shares scope view (lazy.Faulty y) x unread oom fault may = absurd (unread refl)
+
+pub returns-in_err-cache-clause-gives : goal.returns-in_err-cache-clause-gives
+returns-in_err-cache-clause-gives g c =
+    let p = err_from_is_err_and c.from_residual.result c.from_residual.ensures.1 in
+    let scope = seen_scope c.args.scope in
+    let view = c.args.view.now in
+    rw (p.1, p.2) (λ may. fault_of_functions scope view _
+    (unread_takes g.R.Reader.shares scope view c.args.self.now _ (λ read. let no = (c.in_err-cache.ensures.kept read).1 in cc) c.in_err-cache.ensures.refused.0 c.in_err-cache.ensures.memory may))

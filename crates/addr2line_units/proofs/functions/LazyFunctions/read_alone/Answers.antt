@@ -1,6 +1,6 @@
 use Rattle.std.proofs.Common.{subst, sym, ◌∙◌}
 use Rattle.addr2line_lines.specs.SeenScope.{seen_scope}
-use Rattle.addr2line_units.specs.declared.parses.Reads.TheVariants.{Functions}
+use Rattle.addr2line_units.specs.declared.parses.ReadingDepth.TheVariants.{Functions}
 use Rattle.addr2line_units.specs.CachedFunctions.{AreFunctionsOf, StayFunctions}
 use Rattle.addr2line_units.proofs.CachedParseLemmas.{alone_fault, cached_stay, have_no_fault, have_were_read}
 use Rattle.addr2line_units.proofs.ReadyLemmas.{ready_fault, ready_same, ready_were_read}

@@ -10,7 +10,7 @@ use Rattle.addr2line_units.proofs.unit_frames.UnitEntries.answer.Goals as goal
 pub returns-in_err-decide-clause-refused : goal.returns-in_err-decide-clause-refused
 returns-in_err-decide-clause-refused g c =
     let p = err_from_is_err_and c.from_residual.result c.from_residual.ensures.1 in
-    rw (p.1, p.2) (c.in_err-decide.ensures.refused.0, subst (λ x. StayEntries c.args.self.now x) (sym c.in_err-decide.ensures.refused.1) c.look.ensures.stay)
+    rw (p.1, p.2) (c.in_err-decide.ensures.refused.0, subst (λ x. StayEntries c.args.self.now x) (sym c.in_err-decide.ensures.refused.1) c.look.ensures.stay, c.in_err-decide.ensures.refused.2)
 
 pub returns-in_err-decide-clause-same : goal.returns-in_err-decide-clause-same
 returns-in_err-decide-clause-same g c h =
@@ -22,7 +22,7 @@ returns-in_ok-decide-clause-answer g c =
     let u = c.args.dw_unit.now in
     let s = c.args.self.now in
     let n = c.look.new.self in
-    let was : is_open d u (first_answer_of s) ≡ true = open_by_look d u s.view n.view true c.look.ensures.kept.view c.look.ensures.looked c.look.ensures.stay.answer (search rules) in
+    let was : is_open d u (first_answer_of s) ≡ true = open_by_look d u s.view n.view true c.look.ensures.right.view c.look.ensures.looked c.look.ensures.stay.answer (search rules) in
     c.in_ok-decide.ensures.answer ∙ sym (decided_if_open d u (first_answer_of s) (option_map (λ x. x.value) c.args.sections) was)
 
 pub returns-in_ok-decide-clause-functions : goal.returns-in_ok-decide-clause-functions
@@ -31,7 +31,7 @@ returns-in_ok-decide-clause-functions g c h =
     let u = c.args.dw_unit.now in
     let s = c.args.self.now in
     let n = c.look.new.self in
-    let was : is_open d u (first_answer_of s) ≡ true = open_by_look d u s.view n.view true c.look.ensures.kept.view c.look.ensures.looked c.look.ensures.stay.answer (search rules) in
+    let was : is_open d u (first_answer_of s) ≡ true = open_by_look d u s.view n.view true c.look.ensures.right.view c.look.ensures.looked c.look.ensures.stay.answer (search rules) in
     absurd (let e : true ≡ false = sym was ∙ h in cc)
 
 pub returns-in_ok-decide-clause-same : goal.returns-in_ok-decide-clause-same
@@ -44,7 +44,7 @@ returns-else-is_open-clause-answer g c =
     let u = c.args.dw_unit.now in
     let s = c.args.self.now in
     let n = c.look.new.self in
-    let was : is_open d u (first_answer_of s) ≡ false = open_by_look d u s.view n.view false c.look.ensures.kept.view c.look.ensures.looked c.look.ensures.stay.answer (search rules) in
+    let was : is_open d u (first_answer_of s) ≡ false = open_by_look d u s.view n.view false c.look.ensures.right.view c.look.ensures.looked c.look.ensures.stay.answer (search rules) in
     c.look.ensures.stay.answer ∙ sym (decided_if_not d u (first_answer_of s) (option_map (λ x. x.value) c.args.sections) was)
 
 pub returns-else-is_open-clause-decided : goal.returns-else-is_open-clause-decided
@@ -57,4 +57,4 @@ returns-else-is_open-clause-same g c h =
 
 pub returns-in_err-decide-clause-not_open : goal.returns-in_err-decide-clause-not_open
 returns-in_err-decide-clause-not_open g c h =
-    absurd (waits_only_open c.args.scope.file.dwarf.now c.args.dw_unit.now c.args.self.now.view c.look.new.self.view c.look.ensures.kept.view c.look.ensures.looked c.look.ensures.stay.answer (search rules) h)
+    absurd (waits_only_open c.args.scope.file.dwarf.now c.args.dw_unit.now c.args.self.now.view c.look.new.self.view c.look.ensures.right.view c.look.ensures.looked c.look.ensures.stay.answer (search rules) h)

@@ -5,8 +5,8 @@ use Rattle.addr2line_units.specs.CachedEntries.{first_answer_of}
 use Rattle.addr2line_units.proofs.AnswerLemmas.{no_answer, unread_entries}
 use Rattle.addr2line_units.proofs.unit_frames.UnitEntries.forget.Goals as goal
 
-pub returns-then-is_answered-clause-kept : goal.returns-then-is_answered-clause-kept
-returns-then-is_answered-clause-kept g c =
+pub returns-then-is_answered-clause-right : goal.returns-then-is_answered-clause-right
+returns-then-is_answered-clause-right g c =
     unread_entries (seen_scope c.args.scope) c.args.dw_unit.now c.forget.new.self Unread c.forget.ensures.view refl
 
 pub returns-else-is_answered-clause-answer : goal.returns-else-is_answered-clause-answer

@@ -3,8 +3,8 @@ use Rattle.addr2line_lines.specs.SeenScope.{seen_scope}
 use Rattle.addr2line_units.proofs.EntryLemmas.{look_keeps, look_stays}
 use Rattle.addr2line_units.proofs.unit_frames.UnitEntries.look.Goals as goal
 
-pub returns-clause-kept : goal.returns-clause-kept
-returns-clause-kept g c = look_keeps (seen_scope c.args.scope) c.args.dw_unit.now c.args.self.now c.look.new.self c.look.ensures.kept c.look.ensures.answer c.requires.kept c.look.ensures.view
+pub returns-clause-right : goal.returns-clause-right
+returns-clause-right g c = look_keeps (seen_scope c.args.scope) c.args.dw_unit.now c.args.self.now c.look.new.self c.look.ensures.kept c.look.ensures.answer c.requires.right c.look.ensures.view
 
 pub returns-clause-stay : goal.returns-clause-stay
 returns-clause-stay g c = look_stays (seen_scope c.args.scope) c.args.dw_unit.now c.args.self.now c.look.new.self c.look.ensures.kept c.look.ensures.answer

@@ -6,7 +6,7 @@ use Rattle.addr2line_units.specs.CachedLines.{indexed_units, parsed_units}
 use Rattle.addr2line_units.specs.Cover.{cover}
 use Rattle.addr2line_units.specs.FramesLookup.{LookupAsks, asked_frames, asks_lines_of, has_many_of, holds_along, stop_along}
 use Rattle.addr2line_units.specs.Indexed.{units_in}
-use Rattle.addr2line_units.specs.CachedUnits.{HaveEntriesOf, ReadsOnly, answers_in, scope_in, sup_file}
+use Rattle.addr2line_units.specs.CachedUnits.{HaveEntriesOf, ReadsOnly, answers_in}
 use Rattle.addr2line_units.specs.CachedFrames.{has_frames_at, seen_stop}
 use Rattle.gimli_read.specs.Alike.{HadMemory}
 use Rattle.addr2line_units.specs.Parsed.{ParsesOnly}
@@ -16,6 +16,7 @@ use Rattle.addr2line_units.proofs.UnitsLemmas.{stay_indexed}
 use Rattle.addr2line_units.proofs.WaitLemmas.{waits_if_found}
 use Rattle.addr2line_units.proofs.WalkLemmas.{in_scope}
 use Rattle.addr2line_units.proofs.units.ResUnits.find_frames.Goals as goal
+use Rattle.addr2line_units.specs.SeenUnit.{scope_in, sup_file}
 
 pub returns-clause-only : goal.returns-clause-only
 returns-clause-only g c =
@@ -68,7 +69,7 @@ returns-clause-waits g c =
     let us = s.dw_units.items in
     let S1 = scope_in c.args.dwarf.now us c.args.sup.now in
     let gives = at (λ S xs qs. ExactlyUnlessOom (seen_stop along.new.units.items along.new.entries.items) along.result (stop_along (asked_frames faults S (indexed_units xs s.units.items) answers probe) qs)) c.deref.ensures.value c.file.ensures.gives c.find.ensures.gives along.ensures.gives in
-    let kept = at (λ S xs qs. HaveEntriesOf S xs along.new.entries.items) c.deref.ensures.value c.file.ensures.gives c.find.ensures.gives along.ensures.kept in
+    let kept = at (λ S xs qs. HaveEntriesOf S xs along.new.entries.items) c.deref.ensures.value c.file.ensures.gives c.find.ensures.gives along.ensures.right in
     waits_if_found S1 probe faults us along.new.units.items along.new.entries.items (units_in s) answers (asks_lines_of S1 (units_in s) answers probe) (parsed_units along.new.units.items) (cover probe s.ranges) along.result kept
     (sym (stay_indexed us s.units.items along.new.units.items along.ensures.stay_units)) (sym (same_answers s.entries.items along.new.entries.items along.ensures.stay)) gives (returns-clause-ready g c)
 
@@ -79,12 +80,12 @@ returns-clause-gives g c =
     let at = in_scope c.args.dwarf.now c.deref.result.now s.dw_units.items (option_map seen_file c.file.result) (sup_file c.args.sup.now) (ranges_left c.find.result) (cover c.args.probe s.ranges) in
     at (λ S xs qs. ExactlyUnlessOom (seen_stop along.new.units.items along.new.entries.items) along.result (stop_along (asked_frames c.args.faults S (indexed_units xs s.units.items) (answers_in s.entries.items) c.args.probe) qs)) c.deref.ensures.value c.file.ensures.gives c.find.ensures.gives along.ensures.gives
 
-pub returns-clause-kept : goal.returns-clause-kept
-returns-clause-kept g c =
+pub returns-clause-right : goal.returns-clause-right
+returns-clause-right g c =
     let s = c.args.self.now in
     let along = c.find_frames_along in
     let at = in_scope c.args.dwarf.now c.deref.result.now s.dw_units.items (option_map seen_file c.file.result) (sup_file c.args.sup.now) (ranges_left c.find.result) (cover c.args.probe s.ranges) in
-    at (λ S xs qs. HaveEntriesOf S xs along.new.entries.items) c.deref.ensures.value c.file.ensures.gives c.find.ensures.gives along.ensures.kept
+    at (λ S xs qs. HaveEntriesOf S xs along.new.entries.items) c.deref.ensures.value c.file.ensures.gives c.find.ensures.gives along.ensures.right
 
 pub returns-clause-there : goal.returns-clause-there
 returns-clause-there g c = c.find_frames_along.ensures.there
@@ -114,5 +115,5 @@ find_frames_along-requires g c =
     record {
       in_order = back (λ S us qs. IsScope S) (sym c.deref.ensures.value) (sym c.file.ensures.gives) refl c.requires.in_order;
       read = rw c.deref.ensures.value c.requires.read;
-      kept = back (λ S us qs. HaveEntriesOf S us s.entries.items) (sym c.deref.ensures.value) (sym c.file.ensures.gives) refl c.requires.kept;
+      right = back (λ S us qs. HaveEntriesOf S us s.entries.items) (sym c.deref.ensures.value) (sym c.file.ensures.gives) refl c.requires.right;
     }

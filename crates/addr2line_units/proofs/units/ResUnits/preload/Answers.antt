@@ -34,8 +34,8 @@ returns-clause-memory g c = rw c.find.ensures.gives at c.read_loads.ensures.memo
 pub returns-clause-stay : goal.returns-clause-stay
 returns-clause-stay g c = c.read_loads.ensures.stay
 
-pub returns-clause-kept : goal.returns-clause-kept
-returns-clause-kept g c = rw c.deref.ensures.value at c.read_loads.ensures.kept
+pub returns-clause-right : goal.returns-clause-right
+returns-clause-right g c = rw c.deref.ensures.value at c.read_loads.ensures.right
 
 pub returns-clause-dw_units : goal.returns-clause-dw_units
 returns-clause-dw_units g c = refl
@@ -47,4 +47,4 @@ pub returns-clause-ranges : goal.returns-clause-ranges
 returns-clause-ranges g c = refl
 
 pub read_loads-requires : goal.read_loads-requires
-read_loads-requires g c = record { kept = rw c.deref.ensures.value c.requires.kept }
+read_loads-requires g c = record { right = rw c.deref.ensures.value c.requires.right }

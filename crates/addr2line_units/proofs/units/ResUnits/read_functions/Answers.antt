@@ -2,7 +2,7 @@ use Rattle.std.proofs.Common.{◌≡◌, [], option_map, refl, sym}
 use Rattle.addr2line_lines.specs.References.{IsScope}
 use Rattle.addr2line_lines.specs.SeenScope.{seen_file}
 use Rattle.addr2line_units.specs.FunctionParses.{AreFirstDecided, AreReadBefore, AreReadyFor, answers_after_parse, read_of_units}
-use Rattle.addr2line_units.specs.CachedUnits.{HaveEntriesOf, answers_in, sup_file}
+use Rattle.addr2line_units.specs.CachedUnits.{HaveEntriesOf, answers_in}
 use Rattle.addr2line_units.specs.CachedParses.{ChangesOnly}
 use Rattle.addr2line_units.proofs.CachedParseLemmas.{all_stay, decided_if_ok, found_if_ok}
 use Rattle.addr2line_units.specs.KnownEntries.{known_in}
@@ -11,6 +11,7 @@ use Rattle.gimli_read.specs.Reading.{ExactlyUnlessOom}
 use Rattle.addr2line_units.proofs.ReadyLemmas.{ready_after, ready_before}
 use Rattle.addr2line_units.proofs.WalkLemmas.{in_scope}
 use Rattle.addr2line_units.proofs.units.ResUnits.read_functions.Goals as goal
+use Rattle.addr2line_units.specs.SeenUnit.{sup_file}
 
 pub returns-clause-begun : goal.returns-clause-begun
 returns-clause-begun g c =
@@ -40,14 +41,14 @@ returns-clause-ready_for_all g c = λ ne.
     let at = in_scope c.args.dwarf.now c.deref.result.now s.dw_units.items (option_map seen_file c.file.result) (sup_file c.args.sup.now) [] [] in
     let e = c.read_all_functions.ensures in
     at (λ S us qs. AreReadyFor c.args.reads S us (answers_in new) (known_in new)) c.deref.ensures.value c.file.ensures.gives refl
-    (ready_after c.args.reads _ _ (answers_in s.entries.items) new e.kept (e.answers ne) (e.ready_for_all ne))
+    (ready_after c.args.reads _ _ (answers_in s.entries.items) new e.right (e.answers ne) (e.ready_for_all ne))
 
 pub returns-clause-exact : goal.returns-clause-exact
 returns-clause-exact g c =
     let s = c.args.self.now in
     let old = s.entries.items in
     let back = in_scope c.args.dwarf.now s.dw_units.items c.deref.result.now (sup_file c.args.sup.now) (option_map seen_file c.file.result) [] [] in
-    let kept = back (λ S us qs. HaveEntriesOf S us old) (sym c.deref.ensures.value) (sym c.file.ensures.gives) refl c.requires.kept in
+    let kept = back (λ S us qs. HaveEntriesOf S us old) (sym c.deref.ensures.value) (sym c.file.ensures.gives) refl c.requires.right in
     let at = in_scope c.args.dwarf.now c.deref.result.now s.dw_units.items (option_map seen_file c.file.result) (sup_file c.args.sup.now) [] [] in
     at (λ S us qs. AreReadyFor c.args.reads S us (answers_in old) (known_in old) → c.read_all_functions.result ≡ read_of_units c.args.reads S us (answers_in old)) c.deref.ensures.value c.file.ensures.gives refl
     (λ ready. c.read_all_functions.ensures.exact (ready_before c.args.reads _ _ old kept ready))
@@ -57,7 +58,7 @@ returns-clause-unchanged g c =
     let s = c.args.self.now in
     let old = s.entries.items in
     let back = in_scope c.args.dwarf.now s.dw_units.items c.deref.result.now (sup_file c.args.sup.now) (option_map seen_file c.file.result) [] [] in
-    let kept = back (λ S us qs. HaveEntriesOf S us old) (sym c.deref.ensures.value) (sym c.file.ensures.gives) refl c.requires.kept in
+    let kept = back (λ S us qs. HaveEntriesOf S us old) (sym c.deref.ensures.value) (sym c.file.ensures.gives) refl c.requires.right in
     let at = in_scope c.args.dwarf.now c.deref.result.now s.dw_units.items (option_map seen_file c.file.result) (sup_file c.args.sup.now) [] [] in
     at (λ S us qs. AreReadyFor c.args.reads S us (answers_in old) (known_in old) → c.read_all_functions.new.entries.items ≡ old) c.deref.ensures.value c.file.ensures.gives refl
     (λ ready. c.read_all_functions.ensures.same (ready_before c.args.reads _ _ old kept ready))
@@ -75,11 +76,11 @@ returns-clause-gives g c =
     let at = in_scope c.args.dwarf.now c.deref.result.now s.dw_units.items (option_map seen_file c.file.result) (sup_file c.args.sup.now) [] [] in
     at (λ S us qs. ExactlyUnlessOom (λ x. x) c.read_all_functions.result (read_of_units c.args.reads S us (answers_in s.entries.items))) c.deref.ensures.value c.file.ensures.gives refl c.read_all_functions.ensures.gives
 
-pub returns-clause-kept : goal.returns-clause-kept
-returns-clause-kept g c =
+pub returns-clause-right : goal.returns-clause-right
+returns-clause-right g c =
     let s = c.args.self.now in
     let at = in_scope c.args.dwarf.now c.deref.result.now s.dw_units.items (option_map seen_file c.file.result) (sup_file c.args.sup.now) [] [] in
-    at (λ S us qs. HaveEntriesOf S us c.read_all_functions.new.entries.items) c.deref.ensures.value c.file.ensures.gives refl c.read_all_functions.ensures.kept
+    at (λ S us qs. HaveEntriesOf S us c.read_all_functions.new.entries.items) c.deref.ensures.value c.file.ensures.gives refl c.read_all_functions.ensures.right
 
 pub returns-clause-stay : goal.returns-clause-stay
 returns-clause-stay g c = c.read_all_functions.ensures.stay
@@ -105,5 +106,5 @@ read_all_functions-requires g c =
     let back = in_scope c.args.dwarf.now s.dw_units.items c.deref.result.now (sup_file c.args.sup.now) (option_map seen_file c.file.result) [] [] in
     record {
       in_order = back (λ S us qs. IsScope S) (sym c.deref.ensures.value) (sym c.file.ensures.gives) refl c.requires.in_order;
-      kept = back (λ S us qs. HaveEntriesOf S us s.entries.items) (sym c.deref.ensures.value) (sym c.file.ensures.gives) refl c.requires.kept;
+      right = back (λ S us qs. HaveEntriesOf S us s.entries.items) (sym c.deref.ensures.value) (sym c.file.ensures.gives) refl c.requires.right;
     }

@@ -1,10 +1,10 @@
-//! Where a lookup found something.
+//! The row that a lookup found.
 
 use addr2line_lines::Row;
 
 /// A row of the lines of a unit.
 #[derive(Clone, Copy)]
-pub struct Place {
+pub struct UnitRow {
     /// The place of the unit in the list of units.
     pub unit: usize,
     /// The row.

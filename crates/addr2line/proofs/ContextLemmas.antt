@@ -3,13 +3,13 @@ use Rattle.std.proofs.Common.{◌≡◌, ℕ, zero, suc, ◌+◌, ◌<◌, ◌�
 use Rattle.std.specs.Prelude.{OnOk, is_ok}
 use Rattle.gimli_read.specs.declared.error.Error.{Error}
 use Rattle.gimli_read.specs.declared.range.Range.{Range}
-use Rattle.gimli_read.specs.Reading.{◌>>=◌, ExactlyUnlessOom}
+use Rattle.gimli_read.specs.Reading.{◌>>=◌, ExactlyUnlessOom, fault_of, result_map}
 use Rattle.gimli.specs.Sections.{Sections}
 use Rattle.gimli.specs.Unit.{UnitRecord}
 use Rattle.addr2line_lines.specs.Location.{LineTable, Location, location_at}
 use Rattle.addr2line_lines.specs.UnitLines.{unit_lines}
 use Rattle.addr2line_lines.specs.References.{Scope}
-use Rattle.addr2line_lines.specs.Rows.{read_all, result_map}
+use Rattle.addr2line_lines.specs.Rows.{read_all}
 use Rattle.addr2line_units.specs.declared.index.UnitRange.{UnitRange}
 use Rattle.addr2line_units.specs.declared.unit.LazyLines.{LazyLines}
 use Rattle.addr2line_units.specs.declared.unit.LazyLines.TheVariants.{Faulty, Read, Unread}
@@ -19,7 +19,6 @@ use Rattle.addr2line_units.specs.CachedLines.{AreLinesOf, HaveLinesOf, StayUnits
 use Rattle.addr2line_units.specs.FramesLookup.{main_scope}
 use Rattle.addr2line_units.specs.CachedUnits.{HaveEntriesOf, answers_in}
 use Rattle.addr2line_units.specs.KnownEntries.{known_in}
-use Rattle.gimli_line.specs.Opcode.{fault_of}
 use Rattle.addr2line_units.specs.Located.{along, all_lines, is_found, lines_of_unit, location_in, location_of, or_along, spans_in, spans_or_fault, looks_along, spans_along, spans_of}
 use Rattle.addr2line_units.specs.UnitIndex.{UnitIndex, index_units}
 use Rattle.addr2line_units.specs.RangedUnits.{IndexedUnit}

@@ -2,7 +2,7 @@
 use Rattle.std.specs.Prelude.{map, option_map, string_bytes}
 use Rattle.addr2line_lines.specs.Location.{Location}
 use Rattle.addr2line_lines.specs.RangeLocations.{LocatedSpan}
-use Rattle.addr2line_lines.specs.Rows.{result_map}
+use Rattle.gimli_read.specs.Reading.{result_map}
 use Rattle.addr2line_units.specs.Loads.{token_number}
 use Rattle.addr2line.specs.declared.reply.OwnedLocation.{OwnedLocation}
 use Rattle.addr2line.specs.declared.reply.OwnedSpan.{OwnedSpan}

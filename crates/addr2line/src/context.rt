@@ -3,7 +3,7 @@
 ghost use Rattle.std.specs.Prelude.{◌≡◌, ℕ, None, IfErr, IfOk, IsOk, Ok, OnOk, is_ok, option_map, true};
 ghost use Rattle.std.specs.Borrow.{sem};
 ghost use Rattle.gimli_read.specs.declared.error.Error.TheVariants.{OutOfMemory};
-ghost use Rattle.gimli_read.specs.Reading.{Exactly, ExactlyUnlessOom, ExactlyUnlessOomIf};
+ghost use Rattle.gimli_read.specs.Reading.{Exactly, ExactlyUnlessOom, IsUnlessOom, ExactlyUnlessOomIf};
 ghost use Rattle.gimli.specs.declared.dwarf.DwarfFileType.TheVariants.{Main};
 ghost use Rattle.addr2line_lines.specs.LastAddress.{last_address};
 ghost use Rattle.addr2line_lines.specs.SeenLocation.{seen_location};
@@ -75,7 +75,7 @@ impl<R: Reader> Context<R> {
     /// type unit and a unit whose record is faulty are passed over; a partial unit of version 5 has
     /// no range. Source: DWARF 5, sections 2.17, 3.1 and 6.1.2.
     pub fn from_dwarf(alloc: Global, dwarf: Dwarf<R>) -> Result<Context<R>, Error>
-        ensures gives { ExactlyUnlessOom (λ c. c) result (new_context dwarf) }
+        ensures gives { IsUnlessOom result (new_context dwarf) }
     {
         let dwarf = Rc::new(alloc, dwarf)?;
         Context::from_arc_dwarf(alloc, dwarf)
@@ -120,7 +120,7 @@ impl<R: Reader> Context<R> {
         debug_str_offsets: DebugStrOffsets<R>,
         default_section: R,
     ) -> Result<Context<R>, Error>
-        ensures gives { ExactlyUnlessOom (λ c. c) result (new_context (record {
+        ensures gives { IsUnlessOom result (new_context (record {
           debug_abbrev = R.section debug_abbrev.section;
           debug_addr = R.section debug_addr.section;
           debug_aranges = R.section debug_aranges.section;
@@ -221,7 +221,7 @@ impl<R: Reader> Context<R> {
     /// Takes no memory where the lines up to the first fault are parsed. Once it isn't refused,
     /// `find_location` takes no memory and finds no fault.
     pub fn parse_lines(&mut self) -> Result<(), Error>
-        ensures gives { ExactlyUnlessOom (λ x. x) result (lines_of_all self.old.sections) }
+        ensures gives { IsUnlessOom result (lines_of_all self.old.sections) }
         ensures exact { IsReadyForAll self.old
             → Exactly (λ x. x) result (lines_of_all self.old.sections) }
         ensures stays { Stays self.old self.new }

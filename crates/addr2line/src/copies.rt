@@ -3,8 +3,7 @@
 ghost use Rattle.std.specs.Prelude.{◌≡◌, ◌≢◌, Option, None, Some, Result, Ok, Err, IfErr, IfOk, IsOk, OnOk, map, option_map, false, true};
 ghost use Rattle.gimli_read.specs.declared.error.Error.{Error};
 ghost use Rattle.gimli_read.specs.declared.error.Error.TheVariants.{OutOfMemory};
-ghost use Rattle.gimli_read.specs.Reading.{ExactlyUnlessOom};
-ghost use Rattle.addr2line_lines.specs.Rows.{result_map};
+ghost use Rattle.gimli_read.specs.Reading.{ExactlyUnlessOom, result_map};
 ghost use Rattle.addr2line_lines.specs.SeenLocation.{seen_location};
 ghost use Rattle.addr2line_units.specs.FramesLeft.{frames_left};
 ghost use Rattle.addr2line_units.specs.FramesLookup.{Stop, is_waiting};

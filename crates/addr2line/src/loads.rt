@@ -2,7 +2,7 @@
 
 ghost use Rattle.std.specs.Prelude.{◌≡◌, IfErr, IfOk, IsOk, None, option_map};
 ghost use Rattle.gimli_read.specs.declared.error.Error.TheVariants.{OutOfMemory};
-ghost use Rattle.gimli_read.specs.Reading.{ExactlyUnlessOom};
+ghost use Rattle.gimli_read.specs.Reading.{IsUnlessOom};
 ghost use Rattle.addr2line_units.specs.Loads.{token_number};
 ghost use Rattle.addr2line.specs.Loads.{AfterForget, AfterLoad, AfterPreload, IsNotOpen, NoneOpenAt, forget_reply, load_reply};
 ghost use Rattle.addr2line.specs.Lookups.{loads_at};
@@ -46,7 +46,7 @@ impl<R: Reader> Context<R> {
         unit: UnitToken,
         sections: Option<Rc<Dwarf<R>>>,
     ) -> Result<(), Error>
-        ensures gives { ExactlyUnlessOom (λ x. x) result (load_reply self.old.sections
+        ensures gives { IsUnlessOom result (load_reply self.old.sections
             self.old.answers (token_number unit) (option_map (λ d. d.value) sections)) }
         ensures memory { IsNotOpen self.old (token_number unit) → result ≡ load_reply
             self.old.sections self.old.answers (token_number unit)

@@ -1,7 +1,7 @@
 //! Parses of the functions of all units.
 
 ghost use Rattle.std.specs.Prelude.{◌≡◌, OnOk};
-ghost use Rattle.gimli_read.specs.Reading.{ExactlyUnlessOom};
+ghost use Rattle.gimli_read.specs.Reading.{IsUnlessOom};
 ghost use Rattle.addr2line_units.specs.declared.parses.ReadingDepth.TheVariants as kinds;
 ghost use Rattle.addr2line.specs.Loads.{AfterParse, IsAllKnown, ReachesAllOf, parse_reply};
 
@@ -12,7 +12,7 @@ use gimli::read::{Error, Reader};
 impl<R: Reader> Context<R> {
     // Reads the functions of all units, with or without their details.
     fn read_functions(&mut self, reads: ReadingDepth) -> Result<(), Error>
-        ensures gives { ExactlyUnlessOom (λ x. x) result
+        ensures gives { IsUnlessOom result
             (parse_reply reads self.old.sections self.old.answers) }
         ensures after { AfterParse reads result self.old self.new }
         ensures known { reads ≡ kinds.Details → OnOk result (IsAllKnown self.new) }
@@ -33,7 +33,7 @@ impl<R: Reader> Context<R> {
     ///
     /// Source: DWARF 5, section 3.3.
     pub fn parse_functions(&mut self) -> Result<(), Error>
-        ensures gives { ExactlyUnlessOom (λ x. x) result
+        ensures gives { IsUnlessOom result
             (parse_reply kinds.Functions self.old.sections self.old.answers) }
         ensures after { AfterParse kinds.Functions result self.old self.new }
     {
@@ -51,7 +51,7 @@ impl<R: Reader> Context<R> {
     ///
     /// Source: DWARF 5, sections 3.3 and 3.3.8.
     pub fn parse_inlined_functions(&mut self) -> Result<(), Error>
-        ensures gives { ExactlyUnlessOom (λ x. x) result
+        ensures gives { IsUnlessOom result
             (parse_reply kinds.Details self.old.sections self.old.answers) }
         ensures after { AfterParse kinds.Details result self.old self.new }
         ensures known { OnOk result (IsAllKnown self.new) }

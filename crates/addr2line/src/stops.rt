@@ -2,7 +2,7 @@
 
 ghost use Rattle.std.specs.Prelude.{◌≡◌, IfErr, IfOk, Ok, false};
 ghost use Rattle.gimli_read.specs.declared.error.Error.TheVariants.{OutOfMemory};
-ghost use Rattle.gimli_read.specs.Reading.{ExactlyUnlessOom};
+ghost use Rattle.gimli_read.specs.Reading.{IsUnlessOom};
 ghost use Rattle.addr2line_lines.specs.LastAddress.{last_address};
 ghost use Rattle.addr2line_units.specs.declared.frames_lookup.Faults.{Faults};
 ghost use Rattle.addr2line_units.specs.declared.frames_lookup.Faults.TheVariants.{PassOver};
@@ -45,7 +45,7 @@ fn stop_by_number(stop: Result<FramesStop, Error>) -> Result<UnitStop, Error>
 impl<R: Reader> Context<R> {
     // What a lookup comes to. What it asks for is read and cached.
     pub(crate) fn stop(&mut self, probe: u64, faults: Faults) -> Result<UnitStop, Error>
-        ensures gives { ExactlyUnlessOom (λ s. s) result
+        ensures gives { IsUnlessOom result
             (unit_stop faults self.old.sections self.old.answers probe) }
         ensures refused { faults ≡ PassOver → IfErr result (λ e. e ≡ OutOfMemory) }
         ensures after { AfterFrames faults probe result self.old self.new }

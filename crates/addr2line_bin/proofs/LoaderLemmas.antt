@@ -2,7 +2,7 @@
 -- (on specs/LoaderAnswers.antt).
 use Rattle.std.proofs.Common.{◌≡◌, ◌∙◌, inl, inr, ◌⊎◌, ℕ, Bool, true, false, ◌&&◌, ◌||◌, List, [], ◌∷◌, Option, Some, None, Ok, Err, option_map, ap, refl, subst, sym}
 use Rattle.std.specs.Prelude.{IfSome, slice_get}
-use Rattle.gimli_read.specs.Reading.{Exactly}
+use Rattle.gimli_read.specs.Reading.{Exactly, result_map}
 use Rattle.gimli.specs.Sections.{Sections}
 use Rattle.elf.specs.Loading.{Loading, LoadsUnlessOom}
 use Rattle.elf.specs.ObjectFile.{ObjectFile}
@@ -10,7 +10,6 @@ use Rattle.elf.specs.Sections.{section_range_at}
 use Rattle.elf.specs.Symbols.{NamedAddress, symbol_at}
 use Rattle.addr2line_lines.specs.LastAddress.{last_address}
 use Rattle.addr2line_lines.specs.Location.{Location}
-use Rattle.addr2line_lines.specs.Rows.{result_map}
 use Rattle.addr2line_units.specs.declared.index.UnitRange.{UnitRange}
 use Rattle.addr2line_units.specs.Cover.{cover}
 use Rattle.addr2line_units.specs.declared.frames_lookup.Faults.TheVariants.{End}

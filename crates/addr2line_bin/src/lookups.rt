@@ -9,7 +9,7 @@ pub trait Lookups {
     ghost use Rattle.std.specs.Borrow.{sem};
     ghost use Rattle.std.specs.Io.BufRead.{Rests};
     ghost use Rattle.elf.specs.declared.error.LoaderError.TheVariants.{OutOfMemory};
-    ghost use Rattle.addr2line_lines.specs.Rows.{result_map};
+    ghost use Rattle.gimli_read.specs.Reading.{result_map};
     ghost use Rattle.addr2line_lines.specs.SeenLocation.{seen_location};
     ghost use Rattle.addr2line_units.specs.FramesLeft.{frames_left};
     ghost use Rattle.addr2line_units.specs.LocationsLeft.{locations_left};

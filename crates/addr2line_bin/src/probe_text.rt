@@ -2,7 +2,7 @@
 
 ghost use Rattle.std.specs.Prelude.{◌≡◌, ◌++◌, IfOk, List, [], ℕ, None, OnOk, Option, codes, option_map, string_bytes};
 ghost use Rattle.std.specs.Option.{option_copied};
-ghost use Rattle.addr2line_lines.specs.Rows.{result_map};
+ghost use Rattle.gimli_read.specs.Reading.{result_map};
 ghost use Rattle.addr2line_lines.specs.SeenLocation.{seen_location};
 ghost use Rattle.addr2line_units.specs.FramesLeft.{frames_left};
 ghost use Rattle.addr2line_bin.specs.AddressTexts.{location_text};

@@ -6,7 +6,7 @@ use Rattle.std.proofs.lemmas.Bool.Decides.{nat_tests}
 use Rattle.gimli_read.specs.declared.constants.DwLang.{DwLang}
 use Rattle.gimli_read.specs.declared.error.Error.{Error}
 use Rattle.gimli_read.specs.declared.error.Error.TheVariants.{OutOfMemory}
-use Rattle.gimli_read.specs.Reading.{◌>>=◌, ExactlyUnlessOomIf}
+use Rattle.gimli_read.specs.Reading.{◌>>=◌, ExactlyUnlessOomIf, fault_of}
 use Rattle.gimli_read.specs.Section.{Section}
 use Rattle.gimli.specs.Sections.{Sections}
 use Rattle.gimli.specs.Unit.{UnitRecord}
@@ -15,7 +15,6 @@ use Rattle.addr2line_lines.specs.InlinedEntries.{InlinedEntry}
 use Rattle.addr2line_lines.specs.InlinedChain.{inlined_chain}
 use Rattle.addr2line_lines.specs.FoundInlined.{entry_among}
 use Rattle.addr2line_lines.specs.Functions.{FunctionRange, entries_of, function_offset_at, functions_of}
-use Rattle.gimli_line.specs.Opcode.{fault_of}
 use Rattle.addr2line_lines.specs.FunctionDetails.{AreDetailsOf, AreUnread, HasDetail, IsDetailOf, IsFunctionMore, IsReadAt, IsReadOf, IsReadOnce, IsTableMore, IsWithDetail, details_fault, details_take_memory}
 use Rattle.addr2line_lines.specs.FunctionTable.{AreListed, CachedFunction, FunctionTable, cached_detail, cached_inlined, cached_name, function_place_at, inlined_of_detail, name_of_detail, cached_offset_at}
 use Rattle.addr2line_lines.specs.Location.{Location}

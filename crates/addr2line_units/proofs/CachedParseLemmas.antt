@@ -6,12 +6,11 @@ use Rattle.std.specs.Prelude.{IfSome, OnOk, position}
 use Rattle.std.specs.List.{AllByRecursion, position_or_len}
 use Rattle.std.proofs.lemmas.Bool.Decides.{nat_tests}
 use Rattle.gimli_read.specs.declared.error.Error.{Error}
-use Rattle.gimli_read.specs.Reading.{◌>>=◌, ExactlyUnlessOomIf}
+use Rattle.gimli_read.specs.Reading.{◌>>=◌, ExactlyUnlessOomIf, fault_of}
 use Rattle.gimli.specs.Sections.{Sections}
 use Rattle.gimli.specs.Unit.{UnitRecord}
 use Rattle.addr2line_lines.specs.Details.{Detail, detail_takes_memory as takes}
 use Rattle.addr2line_lines.specs.Functions.{FunctionRange, entries_of, function_offset_at, functions_of}
-use Rattle.gimli_line.specs.Opcode.{fault_of}
 use Rattle.addr2line_lines.specs.FunctionTable.{CachedFunction, FunctionTable, function_place_at}
 use Rattle.addr2line_lines.specs.FunctionDetails.{HasDetail, IsDetailOf, details_fault, details_take_memory, read_fault}
 use Rattle.addr2line_lines.specs.References.{Scope}

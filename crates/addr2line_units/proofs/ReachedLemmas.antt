@@ -3,14 +3,14 @@ use Rattle.std.proofs.Common.{◌≡◌, ◌∙◌, ℕ, zero, suc, ◌==◌, �
 use Rattle.std.specs.Prelude.{is_none, if◌then◌else◌}
 use Rattle.std.proofs.lemmas.Bool.{eqb-true}
 use Rattle.gimli_read.specs.declared.error.Error.{Error}
-use Rattle.gimli_read.specs.Reading.{◌>>=◌}
+use Rattle.gimli_read.specs.Reading.{◌>>=◌, fault_of, result_map}
 use Rattle.gimli.specs.Sections.{Sections}
 use Rattle.gimli.specs.Unit.{UnitRecord}
 use Rattle.addr2line_lines.specs.Details.{Detail, detail_at}
 use Rattle.addr2line_lines.specs.Functions.{FunctionRange, entries_of, function_begin, function_end, function_offset, functions_of, once_before}
 use Rattle.addr2line_lines.specs.Location.{LineTable, location_at}
 use Rattle.addr2line_lines.specs.References.{Scope}
-use Rattle.addr2line_lines.specs.Rows.{read_all, result_map}
+use Rattle.addr2line_lines.specs.Rows.{read_all}
 use Rattle.addr2line_lines.specs.Shortest.{shortest}
 use Rattle.addr2line_lines.specs.UnitLines.{unit_lines}
 use Rattle.gimli_read.proofs.TopmostLemmas.{In}
@@ -23,7 +23,6 @@ use Rattle.addr2line_units.specs.FramesLookup.{after_fault, asked_frames, frames
 use Rattle.addr2line_units.specs.FunctionParseLaws.{IsReached}
 use Rattle.addr2line_units.specs.FunctionParses.{answers_after_parse, read_of_unit, read_of_units, read_of_view, unless_fault}
 use Rattle.addr2line_units.specs.CachedFunctions.{details_at, functions_fault}
-use Rattle.gimli_line.specs.Opcode.{fault_of}
 use Rattle.addr2line_units.specs.Located.{all_lines, lines_of_unit}
 use Rattle.addr2line_units.specs.UnitFrames.{FramesResult, frames_by, frames_in, function_by, function_in}
 use Rattle.addr2line_units.specs.RangedUnits.{IndexedUnit, unit_records}

@@ -9,7 +9,7 @@ use Rattle.gimli_read.specs.declared.error.Error.{Error}
 use Rattle.gimli_read.specs.declared.error.Error.TheVariants.{OffsetOutOfBounds, OutOfMemory}
 use Rattle.gimli_read.specs.Abbrev.{table_at}
 use Rattle.gimli_read.specs.Section.{Section, after}
-use Rattle.gimli_read.specs.Reading.{◌>>=◌}
+use Rattle.gimli_read.specs.Reading.{◌>>=◌, result_map}
 use Rattle.gimli_read.specs.Yields.{next_given}
 use Rattle.gimli.specs.Aranges.{ArangeSet, arange_sets_of}
 use Rattle.gimli.specs.Header.{UnitHeaderFields}
@@ -19,7 +19,7 @@ use Rattle.gimli.specs.Text.{from_offset}
 use Rattle.gimli.specs.Unit.{UnitRecord, unit_by, unit_record_of}
 use Rattle.gimli.specs.UnitsLeft.{all_headers}
 use Rattle.addr2line_lines.specs.RangeAttributes.{begins_well}
-use Rattle.addr2line_lines.specs.Rows.{read_all, result_map}
+use Rattle.addr2line_lines.specs.Rows.{read_all}
 use Rattle.addr2line_units.specs.declared.aranges.UnitArange.{UnitArange}
 use Rattle.addr2line_units.specs.declared.index.UnitRange.{UnitRange}
 use Rattle.addr2line_units.specs.Indexed.{IndexState, appended, has_abbreviations, index_of, index_takes_memory, indexed, indexed_with, or_with_ranged, some_take_memory, indexed_unit_takes_memory, units_take_memory, with_header, with_ranged}

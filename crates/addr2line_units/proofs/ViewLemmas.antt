@@ -3,12 +3,11 @@ use Rattle.std.proofs.Common.{◌≡◌, ◌≢◌, ◌∙◌, ℕ, ap, sym, ref
 use Rattle.gimli_read.specs.declared.error.Error.{Error}
 use Rattle.gimli_read.specs.declared.error.Error.TheVariants.{OutOfMemory}
 use Rattle.gimli_read.specs.declared.value.AttributeValue.{AttributeValue}
-use Rattle.gimli_read.specs.Reading.{◌>>=◌}
+use Rattle.gimli_read.specs.Reading.{◌>>=◌, fault_of}
 use Rattle.gimli_read.specs.Section.{Section}
 use Rattle.gimli.specs.declared.unit.DwoId.{DwoId}
 use Rattle.gimli.specs.Sections.{Sections}
 use Rattle.gimli.specs.Split.{dwo_name_fault, dwo_name_of, relocated, string_fault_if}
-use Rattle.gimli_line.specs.Opcode.{fault_of}
 use Rattle.gimli.specs.Header.{UnitHeaderFields}
 use Rattle.gimli.specs.Unit.{UnitRecord, attr_string_of, unit_record_of}
 use Rattle.gimli.specs.UnitMemory.{unit_takes_memory}

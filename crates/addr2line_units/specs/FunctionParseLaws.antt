@@ -9,7 +9,7 @@ use Rattle.addr2line_units.specs.declared.parses.ReadingDepth.{ReadingDepth}
 use Rattle.addr2line_units.specs.declared.parses.ReadingDepth.TheVariants.{Details}
 use Rattle.addr2line_units.specs.FramesLookup.{Stop, Waits, asked_frames, stop_along}
 use Rattle.addr2line_units.specs.FunctionParses.{answers_after_parse, read_of_units}
-use Rattle.gimli_line.specs.Opcode.{fault_of}
+use Rattle.gimli_read.specs.Reading.{fault_of}
 use Rattle.addr2line_units.specs.Located.{all_lines}
 use Rattle.addr2line_units.specs.RangedUnits.{IndexedUnit, unit_records}
 use Rattle.addr2line_units.specs.Views.{FirstAnswers}

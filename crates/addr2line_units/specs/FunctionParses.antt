@@ -5,10 +5,9 @@
 -- and, where they are asked for, of their details in the order of the entries.
 use Rattle.std.specs.Prelude.{ℕ, zero, suc, ◌≡◌, ◌⊎◌, ◌<◌, false, List, ◌∷◌, slice_get, Option, Some, None, IfSome, Result, Ok, Err}
 use Rattle.gimli_read.specs.declared.error.Error.{Error}
-use Rattle.gimli_read.specs.Reading.{◌>>=◌}
+use Rattle.gimli_read.specs.Reading.{◌>>=◌, fault_of}
 use Rattle.gimli.specs.Sections.{Sections}
 use Rattle.gimli.specs.Unit.{UnitRecord}
-use Rattle.gimli_line.specs.Opcode.{fault_of}
 use Rattle.addr2line_lines.specs.Functions.{functions_of}
 use Rattle.addr2line_lines.specs.FunctionDetails.{AreCachedToFault}
 use Rattle.addr2line_lines.specs.References.{Scope}

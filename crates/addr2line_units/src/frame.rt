@@ -10,7 +10,7 @@ ghost use Rattle.gimli_read.specs.declared.constants.TheConstants.DwLang.{DW_LAN
 ghost use Rattle.gimli_read.specs.declared.error.Error.TheVariants.{OutOfMemory};
 ghost use Rattle.addr2line_lines.specs.FoundInlined.{entry_among};
 ghost use Rattle.addr2line_lines.specs.FunctionTable.{cached_name, cached_offset_at};
-ghost use Rattle.addr2line_lines.specs.Rows.{result_map};
+ghost use Rattle.gimli_read.specs.Reading.{result_map};
 ghost use Rattle.addr2line_lines.specs.SeenLocation.{seen_location};
 ghost use Rattle.addr2line_units.specs.Frames.{call_location, found_frames, frames_from, if_counted, location_frames};
 ghost use Rattle.addr2line_units.specs.FramesLeft.{entry_frame, frames_left, place_frame};

@@ -4,7 +4,7 @@ ghost use Rattle.std.specs.Prelude.{◌≡◌, ◌≢◌, ◌⊎◌, ◌++◌, �
 ghost use Rattle.std.specs.List.{AllByRecursion};
 ghost use Rattle.std.specs.Option.{option_to_list};
 ghost use Rattle.gimli_read.specs.declared.error.Error.TheVariants.{OutOfMemory};
-ghost use Rattle.gimli_read.specs.Reading.{ExactlyUnlessOom};
+ghost use Rattle.gimli_read.specs.Reading.{IsUnlessOom};
 ghost use Rattle.gimli.specs.Unit.{UnitRecord};
 ghost use Rattle.addr2line_lines.specs.SeenScope.{seen_scope};
 ghost use Rattle.addr2line_units.specs.Cover.{cover};
@@ -80,7 +80,7 @@ impl<R: Reader> ResUnits<R> {
     ) -> Result<(), Error>
         requires right { HaveEntriesOf (scope_in dwarf.now self.old.dw_units.items sup.now)
             self.old.dw_units.items self.old.entries.items }
-        ensures gives { ExactlyUnlessOom (λ x. x) result (load_result dwarf.now
+        ensures gives { IsUnlessOom result (load_result dwarf.now
             self.old.dw_units.items (answers_in self.old.entries.items) token.number
             (option_map (λ d. d.value) sections)) }
         ensures answers { HadMemory result → answers_in self.new.entries.items

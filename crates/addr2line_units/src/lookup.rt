@@ -2,8 +2,7 @@
 
 ghost use Rattle.std.specs.Prelude.{◌≡◌, ◌+◌, ◌<◌, ◌≤◌, [], None, true, IfErr, OnOk, Ok, option_map, slice_get};
 ghost use Rattle.gimli_read.specs.declared.error.Error.TheVariants.{OutOfMemory};
-ghost use Rattle.gimli_read.specs.Reading.{Exactly, ExactlyUnlessOom};
-ghost use Rattle.gimli_line.specs.Opcode.{fault_of};
+ghost use Rattle.gimli_read.specs.Reading.{Exactly, ExactlyUnlessOom, IsUnlessOom, fault_of};
 ghost use Rattle.addr2line_units.specs.Located.{all_lines, along, is_found, location_in, looks_along, looks_in};
 ghost use Rattle.gimli_read.specs.Alike.{HadMemory};
 ghost use Rattle.addr2line_units.specs.Parsed.{AllAskFor, AreAllParsed, AreParsed, AreReadyForAll, AsksFor, LeadTo, ParsesOnly, has_parsed, ready_along};
@@ -165,7 +164,7 @@ fn read_lines_in<R: Reader>(
     number: usize,
 ) -> Result<(), Error>
     requires read { HaveLinesOf dwarf.now dw_units.now units.old.items }
-    ensures gives { ExactlyUnlessOom (λ x. x) result
+    ensures gives { IsUnlessOom result
         (lines_result_at dwarf.now
         (slice_get (indexed_units dw_units.now units.old.items) number)) }
     ensures exact { has_parsed (parsed_units units.old.items) number ≡ true → Exactly (λ x. x)
@@ -194,7 +193,7 @@ pub(crate) fn read_all_lines<R: Reader>(
     units: &mut Vec<ResUnit>,
 ) -> Result<(), Error>
     requires read { HaveLinesOf dwarf.now dw_units.now units.old.items }
-    ensures gives { ExactlyUnlessOom (λ x. x) result
+    ensures gives { IsUnlessOom result
         (fault_of (all_lines dwarf.now (indexed_units dw_units.now units.old.items))) }
     ensures exact { AreReadyForAll dwarf.now (indexed_units dw_units.now units.old.items)
         (parsed_units units.old.items) → Exactly (λ x. x) result

@@ -1,7 +1,7 @@
 //! Parses of the functions of all units.
 
 ghost use Rattle.std.specs.Prelude.{◌≡◌, ◌⊎◌, ◌<◌, ℕ, IfSome, None, Ok, OnOk, length, slice_get, true};
-ghost use Rattle.gimli_read.specs.Reading.{ExactlyUnlessOom};
+ghost use Rattle.gimli_read.specs.Reading.{IsUnlessOom};
 ghost use Rattle.addr2line_lines.specs.References.{IsScope};
 ghost use Rattle.addr2line_lines.specs.SeenScope.{seen_scope};
 ghost use Rattle.addr2line_units.specs.declared.parses.ReadingDepth.TheVariants.{Details, Functions};
@@ -47,7 +47,7 @@ impl<R: Reader> LazyFunctions<R> {
         view: &Unit<R>,
     ) -> Result<(), Error>
         requires right { AreFunctionsOf (seen_scope scope) view.now self.old }
-        ensures gives { ExactlyUnlessOom (λ x. x) result
+        ensures gives { IsUnlessOom result
             (read_of_functions Functions (seen_scope scope.entry) view.now) }
         ensures right { AreFunctionsOf (seen_scope scope.entry) view.now self.new }
         ensures stay { StayFunctions self.old self.new }
@@ -77,7 +77,7 @@ impl<R: Reader> LazyFunctions<R> {
     ) -> Result<(), Error>
         requires in_order { IsScope (seen_scope scope) }
         requires right { AreFunctionsOf (seen_scope scope) view.now self.old }
-        ensures gives { ExactlyUnlessOom (λ x. x) result
+        ensures gives { IsUnlessOom result
             (read_of_functions reads (seen_scope scope.entry) view.now) }
         ensures right { AreFunctionsOf (seen_scope scope.entry) view.now self.new }
         ensures stay { StayFunctions self.old self.new }
@@ -108,7 +108,7 @@ fn read_in_view<'x, R: Reader>(
     requires right { AreEntriesOf (seen_scope scope) dw_unit.now
         (record { view = view.now; functions = functions.old }) }
     requires decided { is_decided view.now.state ≡ true }
-    ensures gives { ExactlyUnlessOom (λ x. x) result (read_of_view reads (seen_scope scope.entry)
+    ensures gives { IsUnlessOom result (read_of_view reads (seen_scope scope.entry)
         (verdict scope.entry.file.dwarf.now dw_unit.now (seen_first_answer view.now))) }
     ensures right { AreEntriesOf (seen_scope scope.entry) dw_unit.now
         (record { view = view.now; functions = functions.new }) }
@@ -146,7 +146,7 @@ impl<R: Reader> UnitEntries<R> {
     ) -> Result<(), Error>
         requires in_order { IsScope (seen_scope scope) }
         requires right { AreEntriesOf (seen_scope scope) dw_unit.now self.old }
-        ensures gives { ExactlyUnlessOom (λ x. x) result (read_of_unit reads
+        ensures gives { IsUnlessOom result (read_of_unit reads
             (seen_scope scope.entry) dw_unit.now (first_answer_of self.old)) }
         ensures right { AreEntriesOf (seen_scope scope.entry) dw_unit.now self.new }
         ensures answer { HadMemory result → first_answer_of self.new ≡ decided_answer
@@ -179,7 +179,7 @@ fn read_functions_in<R: Reader>(
     requires in_order { IsScope (seen_scope scope) }
     requires right { HaveEntriesOf (seen_scope scope) scope.file.units.now entries.old.items }
     requires there { number < length entries.old.items }
-    ensures gives { ExactlyUnlessOom (λ x. x) result (read_of_number reads
+    ensures gives { IsUnlessOom result (read_of_number reads
         (seen_scope scope.entry) scope.entry.file.units.now (answers_in entries.old.items)
         number) }
     ensures right { HaveEntriesOf (seen_scope scope.entry) scope.entry.file.units.now
@@ -220,7 +220,7 @@ fn read_all_functions<R: Reader>(
 ) -> Result<(), Error>
     requires in_order { IsScope (seen_scope scope) }
     requires right { HaveEntriesOf (seen_scope scope) scope.file.units.now entries.old.items }
-    ensures gives { ExactlyUnlessOom (λ x. x) result (read_of_units reads
+    ensures gives { IsUnlessOom result (read_of_units reads
         (seen_scope scope.entry) scope.entry.file.units.now (answers_in entries.old.items)) }
     ensures right { HaveEntriesOf (seen_scope scope.entry) scope.entry.file.units.now
         entries.new.items }
@@ -273,7 +273,7 @@ impl<R: Reader> ResUnits<R> {
         requires in_order { IsScope (scope_in dwarf.now self.old.dw_units.items sup.now) }
         requires right { HaveEntriesOf (scope_in dwarf.now self.old.dw_units.items sup.now)
             self.old.dw_units.items self.old.entries.items }
-        ensures gives { ExactlyUnlessOom (λ x. x) result (read_of_units reads
+        ensures gives { IsUnlessOom result (read_of_units reads
             (scope_in dwarf.now self.old.dw_units.items sup.now) self.old.dw_units.items
             (answers_in self.old.entries.items)) }
         ensures right { HaveEntriesOf (scope_in dwarf.now self.new.dw_units.items sup.now)

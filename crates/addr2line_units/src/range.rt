@@ -1,7 +1,7 @@
 //! Lookups of ranges of addresses among units.
 
 ghost use Rattle.std.specs.Prelude.{◌≡◌, option_map};
-ghost use Rattle.addr2line_lines.specs.Rows.{result_map};
+ghost use Rattle.gimli_read.specs.Reading.{result_map};
 ghost use Rattle.addr2line_units.specs.CachedLines.{cached_spans, lines_at};
 ghost use Rattle.addr2line_lines.specs.RangesLeft.{located_rows_left, seen_located};
 ghost use Rattle.addr2line_units.specs.LocationsLeft.{locations_left};

@@ -2,13 +2,12 @@
 
 ghost use Rattle.std.specs.Prelude.{◌≡◌, ◌+◌, ◌++◌, ◌<◌, ◌≤◌, [], None, IfErr, IfOk, IfSome, IsOk, Ok, OnOk, map, option_map, true};
 ghost use Rattle.gimli_read.specs.declared.error.Error.TheVariants.{OutOfMemory};
-ghost use Rattle.gimli_read.specs.Reading.{Exactly, ExactlyUnlessOom, ExactlyUnlessOomIf};
+ghost use Rattle.gimli_read.specs.Reading.{Exactly, ExactlyUnlessOom, IsUnlessOom, ExactlyUnlessOomIf, fault_of};
 ghost use Rattle.addr2line_units.specs.RangedUnits.{range_of_unit, unit_of_header};
 ghost use Rattle.addr2line_units.specs.Indexed.{index_seen, index_takes_memory, indexed, indexed_with, no_index, ranged_seen, indexed_unit_takes_memory, units_in, units_seen, units_take_memory, with_header, with_ranged};
 ghost use Rattle.addr2line_units.specs.CachedLines.{HaveLinesOf, IsUnparsed, StayUnits, cached_files, location_of_unit_row, parsed_units};
 ghost use Rattle.addr2line_units.specs.CachedUnits.{AreFreshOf};
 ghost use Rattle.addr2line_units.specs.LocationsLeft.{locations_left};
-ghost use Rattle.gimli_line.specs.Opcode.{fault_of};
 ghost use Rattle.addr2line_units.specs.Located.{all_lines, along, is_found, looks_along};
 ghost use Rattle.gimli_read.specs.Alike.{HadMemory};
 ghost use Rattle.addr2line_units.specs.Parsed.{AllAskFor, AreAllParsed, AreParsed, AreReadyForAll, AsksFor, LeadTo, ParsesOnly, ready_along};
@@ -357,7 +356,7 @@ impl<R: Reader> ResUnits<R> {
     /// Takes no memory where all lines are cached, up to the first fault.
     pub fn parse_lines(&mut self, alloc: Global, dwarf: &Dwarf<R>) -> Result<(), Error>
         requires read { HaveLinesOf dwarf.now self.old.dw_units.items self.old.units.items }
-        ensures gives { ExactlyUnlessOom (λ x. x) result
+        ensures gives { IsUnlessOom result
             (fault_of (all_lines dwarf.now (units_in self.old))) }
         ensures exact { AreReadyForAll dwarf.now (units_in self.old)
             (parsed_units self.old.units.items) → Exactly (λ x. x) result

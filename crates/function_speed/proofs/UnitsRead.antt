@@ -2,14 +2,14 @@
 use Rattle.std.proofs.Common.{◌≡◌, ◌<◌, List, [], ◌∷◌, ◌++◌, map, length, Option, Some, None, Result, Ok, Err, arith, refl, ap, subst, sym, ◌∙◌}
 use Rattle.std.specs.Prelude.{filter_map}
 use Rattle.gimli_read.specs.declared.error.Error.{Error}
-use Rattle.gimli_read.specs.Reading.{◌>>=◌}
+use Rattle.gimli_read.specs.Reading.{◌>>=◌, result_map}
 use Rattle.gimli_read.specs.Yields.{next_given}
 use Rattle.gimli.specs.Header.{UnitHeaderFields}
 use Rattle.gimli.specs.HeaderOrder.{AreHeadersInOrder}
 use Rattle.gimli.specs.Sections.{Sections}
 use Rattle.gimli.specs.Unit.{UnitRecord, unit_record_of}
 use Rattle.addr2line_lines.specs.References.{AreInOrder}
-use Rattle.addr2line_lines.specs.Rows.{read_all, result_map}
+use Rattle.addr2line_lines.specs.Rows.{read_all}
 use Rattle.addr2line_lines.proofs.UnitOrder.{units_read, kept_in_order, record_header}
 
 abbrev pub Headers : Type 0

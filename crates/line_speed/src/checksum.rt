@@ -1,7 +1,7 @@
 //! The checksum of rows.
 
 ghost use Rattle.std.specs.Prelude.{◌≡◌};
-ghost use Rattle.gimli_read.specs.Reading.{ExactlyUnlessOom};
+ghost use Rattle.gimli_read.specs.Reading.{ExactlyUnlessOom, IsUnlessOom};
 ghost use Rattle.line_speed.specs.Checksum.{with_row_sum, with_rows, program_at, with_program, checksum};
 
 use gimli_line::{IncompleteLineProgram, LineRow, LineRows, read_line_program};
@@ -25,7 +25,7 @@ fn with_row(sum: u64, row: LineRow) -> u64
 // A sum with the rows that are left of a program.
 #[tactic(auto, unfolding(crate::specs::Checksum::with_rows))]
 fn with_rows<R: Reader>(sum: u64, rows: &mut LineRows<R>) -> Result<u64, Error>
-    ensures gives { ExactlyUnlessOom (λ n. n) result (with_rows sum rows.old.left) }
+    ensures gives { IsUnlessOom result (with_rows sum rows.old.left) }
 {
     let mut sum = sum;
     while let Some(row) = rows.next_row()? {
@@ -55,7 +55,7 @@ fn next_program<R: Reader>(
 // A sum with the rows of a program.
 #[tactic(auto, unfolding(crate::specs::Checksum::with_program))]
 fn with_program<R: Reader>(sum: u64, program: &IncompleteLineProgram<R>) -> Result<u64, Error>
-    ensures gives { ExactlyUnlessOom (λ n. n) result (with_program sum program.now) }
+    ensures gives { IsUnlessOom result (with_program sum program.now) }
 {
     let mut rows = program.rows()?;
     with_rows(sum, &mut rows)
@@ -66,7 +66,7 @@ fn with_program<R: Reader>(sum: u64, program: &IncompleteLineProgram<R>) -> Resu
 ///
 /// Refused as `read_line_program`, `rows` and `next_row` are.
 pub fn checksum_of<R: Reader>(alloc: Global, section: R) -> Result<u64, Error>
-    ensures gives { ExactlyUnlessOom (λ n. n) result (checksum (R.section section)) }
+    ensures gives { IsUnlessOom result (checksum (R.section section)) }
 {
     let mut rest = section;
     let mut sum = 0;

@@ -1,5 +1,5 @@
 use Rattle.std.proofs.Common.{◌≡◌, ◌++◌, length, map}
-use Rattle.addr2line_lines.specs.Rows.{result_map}
+use Rattle.gimli_read.specs.Reading.{result_map}
 use Rattle.addr2line_units.specs.LocationsLeft.{locations_left}
 use Rattle.addr2line.specs.SeenReplies.{seen_owned_span}
 use Rattle.addr2line.proofs.copies.copy_rows.Given as goal

@@ -1,6 +1,6 @@
 use Rattle.std.proofs.Common.{ℕ, ◌≡◌, ◌<◌, drop, length, true}
 use Rattle.addr2line_units.specs.CachedLines.{HaveLinesOf, StayUnits, indexed_units, parsed_units}
-use Rattle.gimli_line.specs.Opcode.{fault_of}
+use Rattle.gimli_read.specs.Reading.{fault_of}
 use Rattle.addr2line_units.specs.Located.{all_lines}
 use Rattle.addr2line_units.specs.Parsed.{AllAskFor, ParsesOnly, has_parsed}
 use Rattle.addr2line_units.proofs.lookup.read_all_lines.Given as goal

@@ -15,15 +15,15 @@ use Rattle.std.proofs.lemmas.List.Elements.{All-contains}
 use Rattle.std.proofs.lemmas.Map.Views.{Contains-from_lookup}
 use Rattle.std.proofs.lemmas.Slice.Eq.{bytes_eq-Decides, starts_is}
 use Rattle.addr2line_units.proofs.LegacySteps.{and_left, and_right, some_if, some_inj, plain_skip}
-use Rattle.addr2line_units.specs.LegacyElements.{is_lower_hex, escapes, IsEscape, NoEscape, is_first, is_dot, IsPlain, IsElementText, AreTexts, by_name, by_number, nothing, dots, escape, as_it_stands, any_other, bare, other}
+use Rattle.addr2line_units.specs.LegacyElements.{after_code_points, after_surrogates, first_surrogate, is_scalar_value, is_lower_hex, escapes, IsEscape, NoEscape, is_first, is_dot, IsPlain, IsElementText, AreTexts, by_name, by_number, nothing, dots, escape, as_it_stands, any_other, bare, other}
 use Rattle.addr2line_units.specs.LegacyText.{shown_char, numbered_char, escape_char, escape_in, escape_text, plain_from, element_text}
 
 or_cond : (a b : Bool) → (a || b) ≡ cond a true b
 or_cond true b = refl
 or_cond false b = refl
 
-scalar_is : (n : ℕ) → (nat_lt n 0xD800 || (nat_le 0xE000 n && nat_lt n 0x11_0000)) ≡ true → IsScalar n
-scalar_is n h = sym (or_cond (nat_lt n 0xD800) (nat_le 0xE000 n && nat_lt n 0x11_0000)) ∙ h
+scalar_is : (n : ℕ) → is_scalar_value n ≡ true → IsScalar n
+scalar_is n h = sym (or_cond (nat_lt n first_surrogate) (nat_le after_surrogates n && nat_lt n after_code_points)) ∙ h
 
 not_is : (q : Bool) → not q ≡ true → q ≡ false
 not_is true h = let bad : ⊥ = cc in absurd bad
@@ -32,12 +32,12 @@ not_is false h = refl
 -- a character that is shown
 shown_is : (n c : ℕ) → shown_char n ≡ Some c → (n ≡ c) × IsScalar n × (is_control n ≡ false)
 shown_is n c h =
-    let chosen : (((nat_lt n 0xD800 || (nat_le 0xE000 n && nat_lt n 0x11_0000)) && not (is_control n)) ≡ true) × (Some n ≡ Some c) = some_if _ _ _ h in
+    let chosen : ((is_scalar_value n && not (is_control n)) ≡ true) × (Some n ≡ Some c) = some_if _ _ _ h in
     (some_inj _ _ chosen.1, scalar_is n (and_left _ _ chosen.0), not_is _ (and_right _ _ chosen.0))
 
 shown_if : (n : ℕ) → IsScalar n → is_control n ≡ false → shown_char n ≡ Some n
 shown_if n scalar control =
-    ap (λ q. if q && not (is_control n) then Some n else None) (or_cond (nat_lt n 0xD800) (nat_le 0xE000 n && nat_lt n 0x11_0000) ∙ scalar)
+    ap (λ q. if q && not (is_control n) then Some n else None) (or_cond (nat_lt n first_surrogate) (nat_le after_surrogates n && nat_lt n after_code_points) ∙ scalar)
     ∙ ap (λ q. if not q then Some n else None) control
 
 no_char : (c : ℕ) (P : Type 0) → None ≡ Some c → P

@@ -1,7 +1,7 @@
 -- The elements of legacy names of Rust, and their texts.
 -- Source: the mangling that rustc calls legacy: elements after their decimal lengths, escapes in
 -- dollar signs.
-use Rattle.std.specs.Prelude.{◌≡◌, ◌≢◌, ◌<◌, ◌==◌, ◌||◌, ◌&&◌, ℕ, Bool, true, false, List, [], ◌∷◌, ◌++◌, length, codes, encode_utf8}
+use Rattle.std.specs.Prelude.{◌≡◌, ◌≢◌, ◌<◌, ◌==◌, ◌||◌, ◌&&◌, ℕ, Bool, true, false, List, [], ◌∷◌, ◌++◌, length, codes, nat_le, nat_lt, encode_utf8}
 use Rattle.std.specs.Int.{is_in_range}
 use Rattle.std.specs.Char.{IsScalar, is_control, is_ascii, is_ascii_digit, is_ascii_hexdigit}
 use Rattle.std.specs.List.{Contains, list_all}
@@ -59,6 +59,23 @@ escapes =
     ∷ (codes "RP", byte ")")
     ∷ (codes "C", byte ",")
     ∷ []
+
+-- the first surrogate
+abbrev pub first_surrogate : ℕ
+first_surrogate = 0xD800
+
+-- the first code point above the surrogates
+abbrev pub after_surrogates : ℕ
+after_surrogates = 0xE000
+
+-- the first number above the code points
+abbrev pub after_code_points : ℕ
+after_code_points = 0x11_0000
+
+-- whether a number is a Unicode scalar value: a code point that is no surrogate
+abbrev pub is_scalar_value : ℕ → Bool
+is_scalar_value n =
+    nat_lt n first_surrogate || (nat_le after_surrogates n && nat_lt n after_code_points)
 
 -- what stands between two dollars, and the character that it means
 pub data IsEscape : List ℕ → ℕ → Type 0 where

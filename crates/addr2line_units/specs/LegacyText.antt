@@ -1,7 +1,7 @@
 -- The text of a legacy name of Rust as a function of the name. `LegacyLaws` says that it is what
 -- `IsLegacyName` relates the name to, and none where it relates the name to nothing.
 -- Own: a name is demangled only in Rust, and one without a language as one of Rust.
-use Rattle.std.specs.Prelude.{ℕ, zero, suc, ◌+◌, ◌==◌, ◌&&◌, ◌||◌, Bool, true, false, List, [], ◌∷◌, ◌++◌, length, take, drop, map, not, nat_lt, nat_le, nat_eq, if◌then◌else◌, Option, Some, None, option_map, option_and_then, codes, encode_utf8}
+use Rattle.std.specs.Prelude.{ℕ, zero, suc, ◌+◌, ◌==◌, ◌&&◌, Bool, true, false, List, [], ◌∷◌, ◌++◌, length, take, drop, map, not, nat_lt, nat_le, nat_eq, if◌then◌else◌, Option, Some, None, option_map, option_and_then, codes, encode_utf8}
 use Rattle.std.specs.Char.{is_ascii, is_ascii_digit, is_control}
 use Rattle.std.specs.List.{list_all, prefix_len, position, starts_with}
 use Rattle.std.specs.Map.{lookup}
@@ -10,7 +10,7 @@ use Rattle.std.specs.Str.{byte, bytes_eq}
 use Rattle.std.specs.Str.Parse.{digits_value}
 use Rattle.gimli_read.specs.declared.constants.TheConstants.DwLang.{DW_LANG_Rust}
 use Rattle.addr2line_units.specs.LegacyName.{llvm_mark, is_llvm_byte, prefixes, is_suffix, joined}
-use Rattle.addr2line_units.specs.LegacyElements.{is_lower_hex, is_hash, escapes, is_first, is_dot}
+use Rattle.addr2line_units.specs.LegacyElements.{is_lower_hex, is_hash, escapes, is_scalar_value, is_first, is_dot}
 
 -- the name up to the first mark of LLVM, where only such bytes follow it
 abbrev pub without_llvm : List ℕ → List ℕ
@@ -66,8 +66,7 @@ without_hash (e ∷ f ∷ es) = e ∷ without_hash (f ∷ es)
 -- the character of that number, if it is one and no control
 abbrev pub shown_char : ℕ → Option ℕ
 shown_char n =
-    if (nat_lt n 0xD800 || (nat_le 0xE000 n && nat_lt n 0x11_0000)) && not (is_control n)
-    then Some n else None
+    if is_scalar_value n && not (is_control n) then Some n else None
 
 -- the character that the digits after `u` name
 abbrev pub numbered_char : List ℕ → Option ℕ

@@ -73,8 +73,9 @@ fn strip_llvm(name: &[u8]) -> &[u8]
 {
     for at in 0..name.len() {
         let (front, back) = name.split_at(at);
-        if back.starts_with(b".llvm.".as_slice()) {
-            return if is_llvm_text(&back[6..]) {
+        let mark = b".llvm.";
+        if back.starts_with(mark.as_slice()) {
+            return if is_llvm_text(&back[mark.len()..]) {
                 front
             } else {
                 name
@@ -91,11 +92,11 @@ fn strip_start(name: &[u8]) -> Option<&[u8]>
         (λ rest. without_prefix name.now ≡ Some rest.now) }
 {
     if name.starts_with(b"_ZN".as_slice()) {
-        Some(&name[3..])
+        Some(&name[b"_ZN".len()..])
     } else if name.starts_with(b"ZN".as_slice()) {
-        Some(&name[2..])
+        Some(&name[b"ZN".len()..])
     } else if name.starts_with(b"__ZN".as_slice()) {
-        Some(&name[4..])
+        Some(&name[b"__ZN".len()..])
     } else {
         None
     }

@@ -40,7 +40,7 @@ fn numbered(body: &[u8]) -> Option<char>
     if *first != b'u' || digits.is_empty() || !is_lower_hex_text(digits) {
         return None;
     }
-    char_of(number_up_to(digits, 16, 0x10_ffff)? as u32)
+    char_of(number_up_to(digits, 16, u64::from(char::MAX))? as u32)
 }
 
 /// The character that stands between two dollars.

@@ -12,6 +12,7 @@ use Rattle.addr2line_lines.specs.Location.{Location}
 use Rattle.addr2line_lines.specs.RangeLocations.{LocatedSpan}
 use Rattle.addr2line_units.specs.Frames.{FrameRecord, NameRecord}
 use Rattle.addr2line_units.specs.FramesLookup.{Stop, Waits, Finds, FindsNothing}
+use Rattle.addr2line_units.specs.Located.{LocationResult}
 use Rattle.addr2line_units.specs.Views.{SplitLoad}
 use Rattle.addr2line.specs.Lookups.{UnitResult}
 
@@ -37,10 +38,6 @@ pub record CopiedLoad : Type 0 where
   pub dwo_id : DwoId
   pub comp_dir : Option (List ℕ)
   pub path : Option (List ℕ)
-
--- what a lookup of a location gives
-abbrev pub LocationResult : Type 0
-LocationResult = Result (Option Location) Error
 
 -- what one call gives
 pub data CopiedReply : Type 0 where

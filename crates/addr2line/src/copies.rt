@@ -13,7 +13,8 @@ ghost use Rattle.addr2line_lines.specs.RangesLeft.{seen_located};
 ghost use Rattle.addr2line_units.specs.SeenFrame.{seen_frame, seen_name};
 ghost use Rattle.addr2line_units.specs.SeenUnit.{seen_found, seen_unit};
 ghost use Rattle.addr2line.specs.Lookups.{UnitResult, frames_of_stop};
-ghost use Rattle.addr2line.specs.Replies.{LocationResult, Located, Ranged, Listed, Ended, section_bytes, copied_frame, copied_load, copied_name, copied_unit, reply_of_frames, reply_of_unit};
+ghost use Rattle.addr2line_units.specs.Located.{LocationResult};
+ghost use Rattle.addr2line.specs.Replies.{Located, Ranged, Listed, Ended, section_bytes, copied_frame, copied_load, copied_name, copied_unit, reply_of_frames, reply_of_unit};
 ghost use Rattle.addr2line.specs.SeenReplies.{seen_owned_frame, seen_owned_load, seen_owned_location, seen_owned_name, seen_owned_span, seen_owned_unit, seen_reply};
 
 use crate::reply::{FoundUnit, OwnedFrame, OwnedLoad, OwnedLocation, OwnedName, OwnedSpan, Reply};

@@ -55,7 +55,7 @@ detail_takes_memory_at scope u offset found = do
   a ← abbreviation_of offset code.0
   function_takes_memory_at scope u left.unit code.1 found a
 
--- whether it is so, where there is no such fault
+-- whether memory is taken inside, where there is no fault before
 abbrev pub is_memory_taken : Result Bool Error → Bool
 is_memory_taken (Ok takes) = takes
 is_memory_taken (Err e) = false

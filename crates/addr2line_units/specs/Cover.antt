@@ -1,9 +1,10 @@
 -- Which units hold an address: the ranges that lead to them, as they are listed, and those of them
 -- that hold an address or meet a range (DWARF 5, sections 2.17 and 6.1.2).
 -- Own: by end, then by unit, then by begin. A unit is met once for each such range.
-use Rattle.std.specs.Prelude.{◌≡◌, ◌⊎◌, ℕ, nat_lt, nat_le, Bool, true, false, ◌&&◌, ◌||◌, List, [], ◌∷◌, filter}
+use Rattle.std.specs.Prelude.{◌≡◌, ◌⊎◌, ℕ, nat_lt, Bool, true, false, ◌&&◌, ◌||◌, List, [], ◌∷◌, filter}
 use Rattle.std.specs.Ordering.{is_lt, nat_cmp, ordering_then}
 use Rattle.addr2line_lines.specs.InOrder.{in_order}
+use Rattle.addr2line_lines.specs.Shortest.{holds}
 use Rattle.addr2line_units.specs.declared.index.UnitRange.{UnitRange}
 
 -- by end, then by unit, then by begin
@@ -13,7 +14,8 @@ ends_sooner a b = is_lt (ordering_then (nat_cmp a.range.end b.range.end)
 
 -- the range holds the probe
 abbrev pub range_covers : ℕ → UnitRange → Bool
-range_covers probe r = nat_le r.range.begin probe && nat_lt probe r.range.end
+range_covers probe r =
+    holds (λ (x : UnitRange). x.range.begin) (λ (x : UnitRange). x.range.end) probe r
 
 -- the ranges that hold the probe, in order
 abbrev pub cover : ℕ → List UnitRange → List UnitRange
@@ -29,8 +31,8 @@ cover_range low high ranges = in_order ends_sooner (filter (range_overlaps low h
 
 -- whether this is so of each unit along ranges, up to the first that ends the lookup
 abbrev pub holds_until : (ℕ → Bool) → (ℕ → Bool) → List UnitRange → Bool
-holds_until ends holds [] = true
-holds_until ends holds (r ∷ ranges) = holds r.unit && (ends r.unit || holds_until ends holds ranges)
+holds_until ends such [] = true
+holds_until ends such (r ∷ ranges) = such r.unit && (ends r.unit || holds_until ends such ranges)
 
 -- a lookup comes to a unit: a range leads to it, and no unit before it ends the lookup
 abbrev pub ComesTo : (ℕ → Bool) → List UnitRange → ℕ → Type 0

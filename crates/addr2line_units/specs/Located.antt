@@ -22,8 +22,12 @@ use Rattle.addr2line_units.specs.Cover.{cover, cover_range}
 abbrev pub lines_of_unit : Sections → IndexedUnit → Result LineTable Error
 lines_of_unit d u = unit_lines d u.unit
 
+-- the location of an address, if it has one, or the first fault
+abbrev pub LocationResult : Type 0
+LocationResult = Result (Option Location) Error
+
 -- the location of the probe in a unit, or the fault of its lines
-abbrev pub location_in : Sections → ℕ → Option IndexedUnit → Result (Option Location) Error
+abbrev pub location_in : Sections → ℕ → Option IndexedUnit → LocationResult
 location_in d probe None = Ok None
 location_in d probe (Some u) = lines_of_unit d u >>= λ lines. Ok (location_at probe lines)
 
@@ -34,21 +38,19 @@ is_found (Ok (Some x)) = true
 is_found (Err e) = false
 
 -- the location that was found, else the one that is found further on
-abbrev pub or_along
-    : Result (Option Location) Error → Option Location → Result (Option Location) Error
+abbrev pub or_along : LocationResult → Option Location → LocationResult
 or_along rest None = rest
 or_along rest (Some location) = Ok (Some location)
 
 -- the location of the probe along ranges
-abbrev pub along : Sections → List IndexedUnit → ℕ → List UnitRange
-    → Result (Option Location) Error
+abbrev pub along : Sections → List IndexedUnit → ℕ → List UnitRange → LocationResult
 along d units probe [] = Ok None
 along d units probe (r ∷ ranges) =
     location_in d probe (slice_get units r.unit)
     >>= λ location. or_along (along d units probe ranges) location
 
 -- the location of an address, or the fault
-abbrev pub location_of : Sections → ℕ → Result (Option Location) Error
+abbrev pub location_of : Sections → ℕ → LocationResult
 location_of d probe = index_units d >>= λ m. along d m.units probe (cover probe m.ranges)
 
 -- each of them as one that was read

@@ -6,11 +6,10 @@ use Rattle.std.specs.Prelude.{ℕ, ◌≡◌, ◌<◌, ◌⊎◌, Bool, true, fa
 use Rattle.std.specs.List.{AllByRecursion}
 use Rattle.gimli_read.specs.declared.error.Error.{Error}
 use Rattle.gimli.specs.Sections.{Sections}
-use Rattle.addr2line_lines.specs.Location.{Location}
 use Rattle.addr2line_units.specs.declared.index.UnitRange.{UnitRange}
 use Rattle.addr2line_units.specs.Cover.{ComesTo, holds_until}
 use Rattle.addr2line_units.specs.RangedUnits.{IndexedUnit}
-use Rattle.addr2line_units.specs.Located.{lines_of_unit, location_in}
+use Rattle.addr2line_units.specs.Located.{LocationResult, lines_of_unit, location_in}
 
 -- whether the lines of a unit are parsed, by what is so of each unit; a number of no unit asks for
 -- none
@@ -18,7 +17,7 @@ abbrev pub has_parsed : List Bool → ℕ → Bool
 has_parsed parsed n = unwrap_or (slice_get parsed n) true
 
 -- whether a unit's answer ends a lookup: a location, or the fault of its lines
-abbrev pub decides : Result (Option Location) Error → Bool
+abbrev pub decides : LocationResult → Bool
 decides (Ok None) = false
 decides (Ok (Some l)) = true
 decides (Err e) = true

@@ -1,5 +1,5 @@
 -- Units that are read from the headers of a section, one after another.
-use Rattle.std.proofs.Common.{◌≡◌, ◌<◌, List, [], ◌∷◌, ◌++◌, map, length, Option, Some, None, Result, Ok, Err, arith, refl, ap, subst, sym, ◌∙◌}
+use Rattle.std.proofs.Common.{◌≡◌, List, [], ◌∷◌, ◌++◌, map, Option, Some, None, Result, Ok, Err, refl, ap, subst, sym, ◌∙◌}
 use Rattle.std.specs.Prelude.{filter_map}
 use Rattle.gimli_read.specs.declared.error.Error.{Error}
 use Rattle.gimli_read.specs.Reading.{◌>>=◌, result_map}
@@ -40,10 +40,6 @@ pub none_given : (xs rest : Headers) → next_given xs ≡ given None rest → x
 none_given [] rest h = refl
 none_given (Ok y ∷ ys) rest h = absurd (let e = (same_parts (Some y) None ys rest h).0 in cc)
 none_given (Err e ∷ ys) rest h = absurd cc
-
--- a header that is given is one fewer
-pub fewer : (xs : Headers) (x : UnitHeaderFields) (rest : Headers) → next_given xs ≡ given (Some x) rest → length rest < length xs
-fewer xs x rest h = let same = ap (λ (zs : Headers). length zs) (first_given xs x rest h) in omega (arith, same)
 
 -- the unit of a header, none of which is passed over
 abbrev pub read_of : Sections → UnitHeaderFields → Result (Option UnitRecord) Error

@@ -1,5 +1,5 @@
 -- A unit's header and its entries are the bytes at the front of the section (on specs/Header.antt).
-use Rattle.std.proofs.Common.{◌≡◌, ℕ, ◌+◌, ◌-◌, ◌≤◌, ◌==◌, ◌||◌, Bool, true, false, cond, not, List, length, take, drop, Option, Some, None, IfOk, Result, Ok, Err, ap, sym, refl, ◌∙◌, arith, ltb, nat_lt, length-drop}
+use Rattle.std.proofs.Common.{◌≡◌, ℕ, ◌+◌, ◌-◌, ◌≤◌, Bool, true, false, cond, not, List, length, take, drop, Option, Some, None, IfOk, Result, Ok, Err, ap, sym, refl, ◌∙◌, arith, ltb, nat_lt, length-drop}
 use Rattle.std.proofs.lemmas.List.{drop-drop, drop-take, length-take-le}
 use Rattle.std.proofs.lemmas.Bool.Decides.{nat_tests}
 use Rattle.std.proofs.lemmas.Result.{IfOk-at_ok}

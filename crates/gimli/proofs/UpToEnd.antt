@@ -1,5 +1,5 @@
 -- Parts one after another up to a section's end: what one reading takes from the parts that are left.
-use Rattle.std.proofs.Common.{◌≡◌, ℕ, ◌<◌, ◌==◌, Bool, true, false, cond, List, [], length, drop, ltb, Option, Some, None, IfOk, IfSome, Result, Ok, Err, ap, sym, ◌∙◌, arith, length-drop}
+use Rattle.std.proofs.Common.{◌≡◌, ℕ, ◌<◌, ◌==◌, Bool, true, false, cond, List, [], ◌∷◌, length, drop, ltb, Option, Some, None, IfOk, IfSome, Result, Ok, Err, ap, sym, ◌∙◌, arith, length-drop}
 use Rattle.gimli_read.specs.declared.error.Error.{Error}
 use Rattle.gimli_read.specs.declared.error.Error.TheVariants.{UnexpectedEof}
 use Rattle.gimli_read.specs.Section.{Section, after}
@@ -8,7 +8,7 @@ use Rattle.gimli_read.specs.Number.{skipped_at}
 use Rattle.gimli_read.specs.Run.{run_of, listed}
 use Rattle.gimli_read.specs.Yields.{next_given}
 use Rattle.gimli_read.proofs.Shorter.{Shorter, TakesBytes}
-use Rattle.gimli_read.proofs.Steps.{end_is_none, same_rest, guard_ok}
+use Rattle.gimli_read.proofs.Steps.{end_is_none, same_rest, same_value, guard_ok}
 use Rattle.gimli_read.proofs.Listed.{listed_ends, listed_more, listed_fault}
 
 -- the next part, or none at the section's end
@@ -60,3 +60,11 @@ skipped_all s t n u e h =
     let k : after n s ≡ t = ap (λ (x : Unit {0} × Section). x.1) p.1 in
     let len : length (drop n s.bytes) ≡ length t.bytes = ap (λ (x : Section). length x.bytes) k in
     omega (arith, length-drop n s.bytes)
+
+-- a list that gave one of its items is longer than what is left of it
+pub left_fewer : {X : Type 0} (xs rest : List (Result X Error)) (x : X) → next_given xs ≡ Ok (Some x, rest) → length rest < length xs
+left_fewer {X} [] rest x h = absurd (let none = same_value {A = Option X} {B = List (Result X Error)} (None, []) (Some x, rest) h in cc)
+left_fewer {X} (Ok y ∷ ys) rest x h =
+    let same = ap length (same_rest {A = Option X} {B = List (Result X Error)} (Some y, ys) (Some x, rest) h) in
+    omega (arith, same)
+left_fewer (Err e ∷ ys) rest x h = absurd cc

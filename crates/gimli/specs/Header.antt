@@ -1,9 +1,9 @@
 -- The headers of units (DWARF 5, section 7.5.1; DWARF 4, section 7.5.1.1).
 -- Own: versions 2 to 5; another is UnknownVersion. A unit type other than those of section 7.5.1 is
 -- UnknownUnitType.
-use Rattle.std.specs.Prelude.{ℕ, ◌-◌, ◌==◌, not, length, Option, Some, None, Result, Ok, Err, if◌then◌else◌}
+use Rattle.std.specs.Prelude.{ℕ, ◌-◌, ◌==◌, length, Option, Some, None, Result, Ok, Err, if◌then◌else◌}
 use Rattle.gimli_read.specs.declared.error.Error.{Error}
-use Rattle.gimli_read.specs.declared.error.Error.TheVariants.{UnknownVersion, UnknownUnitType, UnsupportedAddressSize}
+use Rattle.gimli_read.specs.declared.error.Error.TheVariants.{UnknownVersion, UnknownUnitType}
 use Rattle.gimli_read.specs.declared.constants.TheConstants.{DWARF_5}
 use Rattle.gimli_read.specs.declared.endian.Format.{Format}
 use Rattle.gimli_read.specs.Section.{Section}

@@ -9,7 +9,7 @@ use crate::dwarf::{Dwarf, DwarfFileType};
 use crate::record::line_offset;
 use crate::text::read_indexed_number;
 use crate::unit_record::Unit;
-use gimli_read::{DWARF_5, AttributeValue, Error, Reader};
+use gimli_read::{AttributeValue, DWARF_5, Error, Reader};
 
 // An offset that counts from a base.
 fn offset_from_base(base: u64, offset: u64) -> Result<Option<u64>, Error>

@@ -9,7 +9,7 @@ ghost use Rattle.gimli.specs.Record.{address_value, section_offset, line_offset,
 use crate::entries::EntriesRaw;
 use crate::unit::UnitHeader;
 use gimli_read::{
-    DWARF_4, DWARF_5, Abbreviations, Attribute, AttributeSpecification, AttributeValue, DwAt,
+    Abbreviations, Attribute, AttributeSpecification, AttributeValue, DWARF_4, DWARF_5, DwAt,
     Encoding, Error, Format, Reader,
 };
 use std::marker::Model;

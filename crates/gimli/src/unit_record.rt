@@ -15,7 +15,7 @@ use crate::record::{AddressValue, RootAttributes, read_root};
 use crate::text::{check_string, read_from, read_indexed_number, read_string};
 use crate::unit::{DwoId, UnitHeader};
 use gimli_line::{IncompleteLineProgram, read_line_program};
-use gimli_read::{DWARF_5, Abbreviations, AttributeValue, Encoding, Error, Format, Reader};
+use gimli_read::{Abbreviations, AttributeValue, DWARF_5, Encoding, Error, Format, Reader};
 use std::alloc::Global;
 use std::marker::Model;
 use std::rc::Rc;

@@ -6,7 +6,7 @@ use Rattle.gimli_read.specs.Section.{Section}
 use Rattle.gimli_read.specs.Reading.{fault_of}
 use Rattle.gimli_line.specs.Program.{HeaderFields, line_header_fields_at, line_program_at}
 use Rattle.gimli_line.specs.Tables.{tables_at}
-use Rattle.gimli_line.specs.TableMemory.{takes_after, tables_take, line_program_takes_memory}
+use Rattle.gimli_line.specs.TableMemory.{takes_memory_after, tables_take_memory, line_program_takes_memory}
 
 fault_is : {A : Type 0} (r : Result A Error) (e : Error) → fault_of r ≡ Err e → r ≡ Err e
 fault_is (Ok x) e h = absurd cc
@@ -23,5 +23,5 @@ unfolding line_program_at
 tables_refused unit_size s f e h k = rw (h, k) refl
 
 -- memory for the tables is memory for the program
-pub program_takes : (shares : Bool) (unit_size : ℕ) (s : Section) (f : HeaderFields) → line_header_fields_at unit_size s ≡ Ok f → (shares || tables_take f.encoding f.tables) ≡ true → line_program_takes_memory shares unit_size s ≡ true
-program_takes shares unit_size s f h k = ap (λ r. takes_after r (λ x. shares || tables_take x.encoding x.tables)) h ∙ k
+pub program_takes : (shares : Bool) (unit_size : ℕ) (s : Section) (f : HeaderFields) → line_header_fields_at unit_size s ≡ Ok f → (shares || tables_take_memory f.encoding f.tables) ≡ true → line_program_takes_memory shares unit_size s ≡ true
+program_takes shares unit_size s f h k = ap (λ r. takes_memory_after r (λ x. shares || tables_take_memory x.encoding x.tables)) h ∙ k

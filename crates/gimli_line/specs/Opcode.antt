@@ -1,9 +1,8 @@
 -- The opcodes of a line program (DWARF 5, sections 6.2.5 and 7.22).
 -- Own: a standard opcode that isn't known has as many LEB128 numbers as the header says.
 -- Own: bytes of an extended opcode that follow its operand are skipped.
-use Rattle.std.specs.Prelude.{ℕ, zero, suc, ◌-◌, ◌==◌, ◌&&◌, List, [], ◌∷◌, length, slice_index, Option, Some, None, Result, Ok, Err, nat_le, if◌then◌else◌, Bool, true, false}
+use Rattle.std.specs.Prelude.{ℕ, zero, suc, ◌-◌, ◌==◌, ◌&&◌, List, [], ◌∷◌, length, slice_index, Option, Some, None, Ok, Err, nat_le, if◌then◌else◌, Bool, true, false}
 use Rattle.gimli_read.specs.declared.value.AttributeValue.TheVariants.{String}
-use Rattle.gimli_read.specs.declared.error.Error.{Error}
 use Rattle.gimli_read.specs.Section.{Section}
 use Rattle.gimli_read.specs.Version.{is_before_5}
 use Rattle.gimli_read.specs.Reading.{Reading, mapped, ◌>>=◌}

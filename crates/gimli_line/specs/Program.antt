@@ -1,6 +1,6 @@
 -- A line program: its header, and the bytes of its opcodes (DWARF 5, section 6.2.4).
 -- Own: versions 2 to 4 have the unit's address size. A zero that may not be is BadLineHeader.
-use Rattle.std.specs.Prelude.{ℕ, ◌-◌, ◌==◌, ◌||◌, not, Result, Ok, nat_lt, if◌then◌else◌}
+use Rattle.std.specs.Prelude.{ℕ, ◌-◌, ◌==◌, not, Result, Ok, if◌then◌else◌}
 use Rattle.gimli_read.specs.declared.error.Error.{Error}
 use Rattle.gimli_read.specs.declared.error.Error.TheVariants.{UnknownVersion, UnsupportedAddressSize, UnsupportedSegmentSize, BadLineHeader}
 use Rattle.gimli_read.specs.declared.endian.Encoding.{Encoding}

@@ -4,7 +4,7 @@ ghost use Rattle.std.specs.Prelude.{◌≡◌, ◌==◌, ◌&&◌, ◌||◌, not
 ghost use Rattle.gimli_read.specs.Reading.{ExactlyUnlessOomIf, ReadsUnlessOomIf, Reads};
 ghost use Rattle.gimli_read.specs.Form.{seen_value};
 ghost use Rattle.gimli_line.specs.EntryTables.{times, format_at, formats_at, is_path, is_bad_path, is_sound_format, no_entry, with_value, values_at, entry_at, entry_front_at, entry_table_at};
-ghost use Rattle.gimli_line.specs.TableMemory.{gives_first, formats_take, entry_table_takes};
+ghost use Rattle.gimli_line.specs.TableMemory.{gives_first, formats_take_memory};
 
 use crate::constants::{DW_LNCT_directory_index, DW_LNCT_path};
 use crate::header::FileEntry;
@@ -73,7 +73,7 @@ fn read_times_format<R: Reader>(
 // Reads a count, and as many formats.
 #[tactic(auto, unfolding(crate::specs::EntryTables::formats_at))]
 fn read_formats<R: Reader>(alloc: Global, input: &mut R) -> Result<Vec<EntryFormat>, Error>
-    ensures gives { ExactlyUnlessOomIf (formats_take (R.section input.old))
+    ensures gives { ExactlyUnlessOomIf (formats_take_memory (R.section input.old))
         (λ v. (v.items, R.section input.new)) result (formats_at (R.section input.old)) }
 {
     let count = input.read_u8()?;
@@ -189,7 +189,7 @@ fn read_entries<R: Reader>(
 // What stands before the entries of a table: what the values of each are, and how many there are.
 #[tactic(auto, unfolding(crate::specs::EntryTables::entry_front_at))]
 fn read_front<R: Reader>(alloc: Global, input: &mut R) -> Result<(Vec<EntryFormat>, u64), Error>
-    ensures gives { ExactlyUnlessOomIf (formats_take (R.section input.old))
+    ensures gives { ExactlyUnlessOomIf (formats_take_memory (R.section input.old))
         (λ x. (record { formats = x.0.items; count = x.1 }, R.section input.new)) result
         (entry_front_at (R.section input.old)) }
 {
@@ -202,15 +202,14 @@ fn read_front<R: Reader>(alloc: Global, input: &mut R) -> Result<(Vec<EntryForma
 }
 
 /// Reads a table of version 5: directories or files. Takes memory only where bytes are shared, or
-/// the table has a format or an entry.
+/// the table has a format that can be read.
 #[tactic(auto, unfolding(crate::specs::EntryTables::entry_table_at))]
 pub(crate) fn read_table<R: Reader>(
     alloc: Global,
     encoding: Encoding,
     input: &mut R,
 ) -> Result<Vec<FileEntry<R>>, Error>
-    ensures gives { ExactlyUnlessOomIf
-        (R.shares || entry_table_takes encoding (R.section input.old))
+    ensures gives { ExactlyUnlessOomIf (R.shares || formats_take_memory (R.section input.old))
         (λ v. (v.items, R.section input.new)) result
         (entry_table_at encoding (R.section input.old)) }
 {

@@ -9,7 +9,7 @@ ghost use Rattle.gimli_line.specs.Header.{entry_of, file_of, directory_of, is_in
 
 use crate::copies::duplicate_value;
 use crate::header::{FileEntry, LineProgramHeader};
-use gimli_read::{DWARF_5, AttributeValue, Error, Reader};
+use gimli_read::{AttributeValue, DWARF_5, Error, Reader};
 
 // An entry of a table, counted from 1 below version 5 and from 0 in it.
 fn entry<T>(version: u16, index: u64, entries: &[T]) -> Option<&T>

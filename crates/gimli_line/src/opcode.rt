@@ -9,7 +9,7 @@ use crate::constants::{
     DW_LNE_define_file, DW_LNE_end_sequence, DW_LNE_set_address, DW_LNE_set_discriminator,
 };
 use crate::header::{FileEntry, LineProgramHeader};
-use gimli_read::{DWARF_5, AttributeValue, EndianSlice, Error, Reader, RunTimeEndian, zero_of};
+use gimli_read::{AttributeValue, DWARF_5, EndianSlice, Error, Reader, RunTimeEndian, zero_of};
 
 /// An opcode with its operands (DWARF 5, section 6.2.5).
 #[derive(Clone, Copy)]

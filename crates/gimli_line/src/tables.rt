@@ -6,12 +6,12 @@ ghost use Rattle.gimli_read.specs.Reading.{ExactlyUnlessOomFor, ExactlyUnlessOom
 ghost use Rattle.gimli_read.specs.Form.{seen_value};
 ghost use Rattle.gimli_read.specs.Run.{run_of, collected};
 ghost use Rattle.gimli_line.specs.Tables.{directory_at, file_at, old_tables_at, new_tables_at, tables_at};
-ghost use Rattle.gimli_line.specs.TableMemory.{gives_one, old_tables_take, new_tables_take, tables_take};
+ghost use Rattle.gimli_line.specs.TableMemory.{gives_one, old_tables_take_memory, new_tables_take_memory, tables_take_memory};
 
 use crate::entry_tables::{paths_of, read_table};
 use crate::header::FileEntry;
 use crate::opcode::read_file_with_path;
-use gimli_read::{DWARF_5, AttributeValue, Encoding, Error, Reader};
+use gimli_read::{AttributeValue, DWARF_5, Encoding, Error, Reader};
 use std::alloc::Global;
 use std::marker::Model;
 
@@ -96,7 +96,7 @@ fn read_files<R: Reader>(alloc: Global, input: &mut R) -> Result<Vec<FileEntry<R
 // The tables of versions 2 to 4.
 #[tactic(auto, unfolding(crate::specs::Tables::old_tables_at))]
 fn read_old_tables<R: Reader>(alloc: Global, input: &mut R) -> Result<HeaderTables<R>, Error>
-    ensures gives { ReadsUnlessOomIf (R.shares || old_tables_take (R.section input.old))
+    ensures gives { ReadsUnlessOomIf (R.shares || old_tables_take_memory (R.section input.old))
         R.section input.old input.new result old_tables_at }
 {
     let include_directories = read_directories(alloc, input)?;
@@ -114,7 +114,7 @@ fn read_new_tables<R: Reader>(
     encoding: Encoding,
     input: &mut R,
 ) -> Result<HeaderTables<R>, Error>
-    ensures gives { ReadsUnlessOomIf (R.shares || new_tables_take encoding (R.section input.old))
+    ensures gives { ReadsUnlessOomIf (R.shares || new_tables_take_memory encoding (R.section input.old))
         R.section input.old input.new result (new_tables_at encoding) }
 {
     let directories = read_table(alloc, encoding, input)?;
@@ -133,7 +133,7 @@ pub(crate) fn read_tables<R: Reader>(
     encoding: Encoding,
     input: &mut R,
 ) -> Result<HeaderTables<R>, Error>
-    ensures gives { ReadsUnlessOomIf (R.shares || tables_take encoding (R.section input.old))
+    ensures gives { ReadsUnlessOomIf (R.shares || tables_take_memory encoding (R.section input.old))
         R.section input.old input.new result (tables_at encoding) }
 {
     if encoding.version < DWARF_5 {

@@ -88,13 +88,7 @@ abbrev pub Reads : {R X : Type 0} → (R → Section) → R → R → Result X E
     → Type 0
 Reads see old new result reading = Exactly (λ x. (x, see new)) result (reading (see old))
 
--- the same, or OutOfMemory
-abbrev pub ReadsUnlessOom : {R X : Type 0} → (R → Section) → R → R → Result X Error
-    → (Section → Reading X) → Type 0
-ReadsUnlessOom see old new result reading =
-    ExactlyUnlessOom (λ x. (x, see new)) result (reading (see old))
-
--- the same, where OutOfMemory is an answer only if memory may be taken
+-- the same, or OutOfMemory, if memory may be taken
 abbrev pub ReadsUnlessOomIf : {R X : Type 0} → Bool → (R → Section) → R → R → Result X Error
     → (Section → Reading X) → Type 0
 ReadsUnlessOomIf may see old new result reading =

@@ -66,5 +66,6 @@ listed_with [] (Ok z) = []
 listed_with [] (Err e) = Err e ∷ []
 listed_with (x ∷ xs) end = Ok x ∷ listed_with xs end
 
+-- those of a run
 abbrev pub listed : {X Z : Type 0} → Run X Z → List (Result X Error)
 listed r = listed_with r.items r.end

@@ -264,8 +264,8 @@ pub fn read_initial_length<R: Reader>(input: &mut R) -> Result<(u64, Format), Er
 
 /// Reads an address size, in bytes (DWARF 5, section 7.5.1). Takes no memory.
 ///
-/// Refused `UnexpectedEof` where no byte is left, and `UnsupportedAddressSize` for a size other than
-/// 1, 2, 4 and 8. After a refusal the reader may stand anywhere.
+/// Refused `UnexpectedEof` where no byte is left, and `UnsupportedAddressSize` for a size other
+/// than 1, 2, 4 and 8. After a refusal the reader may stand anywhere.
 #[tactic(auto, unfolding(crate::specs::Number::address_size_at))]
 pub fn read_address_size<R: Reader>(input: &mut R) -> Result<u8, Error>
     ensures gives { Reads R.section input.old input.new result address_size_at }

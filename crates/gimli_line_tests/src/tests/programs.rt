@@ -176,3 +176,15 @@ fn a_faulty_field_is_refused_by_its_own_fault(rt: HostRuntime) {
         );
     }
 }
+
+// `PLAIN5` with one value for each file, its path, and 2^42 - 1 files, of which two are there.
+const COUNTED5: [u8; 68] = [
+    0x40, 0, 0, 0, 5, 0, 8, 0, 0x24, 0, 0, 0, 1, 1, 1, 0xfb, 0x0e, 0x0d, 0, 1, 1, 1, 1, 0, 0, 0, 1,
+    0, 0, 1, 1, 1, 8, 1, 0x2f, 0x77, 0, 1, 1, 8, 0xff, 0xff, 0xff, 0xff, 0xff, 0x7f, 0, 0, 0, 9, 2,
+    0x10, 0, 0, 0, 0, 0, 0, 0, 4, 0, 1, 0xf4, 2, 0x10, 0, 1, 1,
+];
+
+#[test]
+fn a_count_of_files_past_the_header_takes_no_memory(rt: HostRuntime) {
+    assert_eq!(rt; refusal(rt.alloc(), &COUNTED5), 2);
+}

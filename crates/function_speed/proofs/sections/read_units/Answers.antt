@@ -1,12 +1,13 @@
+use Rattle.gimli.proofs.UpToEnd.{left_fewer}
 use Rattle.gimli.proofs.HeaderOrder.{headers_in_order}
-use Rattle.function_speed.proofs.UnitsRead.{fewer, none_read, read_more, read_in_order}
+use Rattle.function_speed.proofs.UnitsRead.{none_read, read_more, read_in_order}
 use Rattle.function_speed.proofs.sections.read_units.Goals as goal
 
 pub loop-headers-init : goal.loop-headers-init
 loop-headers-init g c = none_read c.args.dwarf.now _ _ _ c.new-units.ensures.items c.in_ok-headers.ensures.gives
 
 pub loop-headers-smaller : goal.loop-headers-smaller
-loop-headers-smaller g c = fewer _ c.in-Some.header _ (rw c.in-Some.is at c.in_ok-header.ensures.gives)
+loop-headers-smaller g c = left_fewer _ _ c.in-Some.header (rw c.in-Some.is at c.in_ok-header.ensures.gives)
 
 pub loop-headers-preserved : goal.loop-headers-preserved
 loop-headers-preserved g c =

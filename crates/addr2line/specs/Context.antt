@@ -82,7 +82,7 @@ abbrev pub ParsesToFault : ContextState → ContextState → Type 0
 ParsesToFault old new = (m : UnitIndex) → index_units old.sections ≡ Ok m
     → ParsesOnly (AllAskFor old.sections m.units) old.parsed new.parsed
 
--- a lookup of the probe looks at lines at most as often as the units that cover it ask for
+-- a lookup of the probe looks at lines at most as often as lookups in the units that cover it do
 abbrev pub LooksWithin : ℕ → ContextState → ContextState → Type 0
 LooksWithin probe old new = (m : UnitIndex) → index_units old.sections ≡ Ok m
     → new.looks ≤ old.looks + looks_along old.sections m.units (cover probe m.ranges)

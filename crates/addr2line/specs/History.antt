@@ -102,7 +102,7 @@ abbrev pub answers_after : Sections → FirstAnswers → List HistoryCall → Fi
 answers_after d answers [] = answers
 answers_after d answers (call ∷ calls) = answers_after d (answers_left d answers call) calls
 
--- the first answers where a call has begun: none, or the first ones, of its decisions were made
+-- the first answers where a call has begun: none of its decisions were made, or the first of them
 abbrev pub HasBegun : Sections → FirstAnswers → HistoryCall → FirstAnswers → Type 0
 HasBegun d old (AsksFrames probe given) new =
     (n : ℕ) × (new ≡ answers_given End d probe old (take n given))

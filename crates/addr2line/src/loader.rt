@@ -144,8 +144,8 @@ impl<F: FileSource> LoaderOver<F> {
     /// |---|---|
     /// | `Io` | the file can't be read |
     /// | `NotElf`, `BadElf` | as `ElfFile::parse` is refused |
-    /// | `BadElf`, `CompressedSection`, `RelocationsNeeded` | a section is; the first by name |
-    /// | the same | by the supplementary file |
+    /// | `BadElf`, `CompressedSection`, `RelocationsNeeded` | the first section by name is |
+    /// | all of these | as those before, of the supplementary file |
     /// | `Dwarf` | as `Context::from_dwarf` is refused |
     ///
     /// May fail with `OutOfMemory` instead, but not where it is known that no file is at `path`. No

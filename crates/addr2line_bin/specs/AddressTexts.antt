@@ -11,12 +11,12 @@ use Rattle.std.specs.Str.{byte}
 use Rattle.elf.specs.declared.error.LoaderError.{LoaderError}
 use Rattle.elf.specs.Text.{loader_text_of}
 use Rattle.addr2line_lines.specs.Location.{Location}
-use Rattle.addr2line_bin.specs.declared.address.TheConstants.{ADDRESS_RADIX}
+use Rattle.addr2line_bin.specs.Address.{hex_radix}
 use Rattle.addr2line_bin.specs.declared.options.Style.{Style}
 
 -- lower case hexadecimal digits
 abbrev pub hex_digits : ℕ → List ℕ
-hex_digits n = radix_digits ADDRESS_RADIX false n
+hex_digits n = radix_digits hex_radix false n
 
 -- how many digits an address has: two of each byte of 64 bits
 abbrev pub address_digits : ℕ

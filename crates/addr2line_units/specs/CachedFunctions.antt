@@ -95,7 +95,7 @@ place_takes_memory probe t (Some n) = cached_detail_takes_memory probe (cached_d
 abbrev pub table_takes_memory : ℕ → FunctionTable → Bool
 table_takes_memory probe t = place_takes_memory probe t (function_place_at probe t)
 
--- the same of what is cached of a view: of functions that weren't read where they take memory
+-- the same of what is cached of a view; where its functions weren't read, whether they take memory
 abbrev pub find_takes_memory : {R : Type 0} → Bool → Scope → UnitRecord → ℕ → LazyFunctions R
     → Bool
 find_takes_memory shares scope view probe lazy.Unread =

@@ -130,7 +130,7 @@ pub record StaysUnit (old new : ResUnit) : Type 0 where
 abbrev pub StayUnits : List ResUnit → List ResUnit → Type 0
 StayUnits old new = AllZip StaysUnit old new
 
--- whether the lines of a unit can be read, none where there is no such unit
+-- the fault of the lines of a unit, if there is such a unit and they have one
 abbrev pub lines_result_at : Sections → Option IndexedUnit → Result (Unit {0}) Error
 lines_result_at d None = Ok tt
 lines_result_at d (Some u) = fault_of (unit_lines d u.unit)

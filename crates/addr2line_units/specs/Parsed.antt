@@ -2,9 +2,8 @@
 -- Own: a lookup asks for the lines of the units that cover its address one after another, up to the
 -- first that has a location or a fault; a parse of all lines asks for those of the units in their
 -- order, up to the first that has a fault.
-use Rattle.std.specs.Prelude.{ℕ, ◌≡◌, ◌<◌, ◌⊎◌, Bool, true, false, List, [], ◌∷◌, slice_get, Option, Some, None, unwrap_or, Result, Ok, Err, is_ok}
+use Rattle.std.specs.Prelude.{ℕ, ◌≡◌, ◌<◌, ◌⊎◌, Bool, true, false, List, [], ◌∷◌, slice_get, Option, Some, None, unwrap_or, Ok, Err, is_ok}
 use Rattle.std.specs.List.{AllByRecursion}
-use Rattle.gimli_read.specs.declared.error.Error.{Error}
 use Rattle.gimli.specs.Sections.{Sections}
 use Rattle.addr2line_units.specs.declared.index.UnitRange.{UnitRange}
 use Rattle.addr2line_units.specs.Cover.{ComesTo, holds_until}
@@ -16,13 +15,13 @@ use Rattle.addr2line_units.specs.Located.{LocationResult, lines_of_unit, locatio
 abbrev pub has_parsed : List Bool → ℕ → Bool
 has_parsed parsed n = unwrap_or (slice_get parsed n) true
 
--- whether a unit's answer ends a lookup: a location, or the fault of its lines
+-- whether what a unit gives ends a lookup: a location, or the fault of its lines
 abbrev pub decides : LocationResult → Bool
 decides (Ok None) = false
 decides (Ok (Some l)) = true
 decides (Err e) = true
 
--- whether the answer of the unit of a number ends a lookup of the probe
+-- whether what the unit of a number gives ends a lookup of the probe
 abbrev pub unit_decides : Sections → List IndexedUnit → ℕ → ℕ → Bool
 unit_decides d units probe n = decides (location_in d probe (slice_get units n))
 

@@ -41,7 +41,7 @@ pub(crate) struct FunctionPlace {
 }
 
 // The functions of a view, or their fault, as they are cached. Refused `OutOfMemory` alone, and
-// only where the functions take memory, or have that fault.
+// only where the functions take memory.
 fn read_functions<R: Reader>(
     alloc: Global,
     scope: Scope<'_, R>,
@@ -107,7 +107,7 @@ impl<R: Reader> LazyFunctions<R> {
     }
 
     // Reads the functions of a view, unless they were read, and caches them, or their fault.
-    // Refused `OutOfMemory` alone, and only where the functions take memory, or have that fault.
+    // Refused `OutOfMemory` alone, and only where the functions take memory.
     pub(crate) fn cache(
         &mut self,
         alloc: Global,

@@ -133,8 +133,8 @@ fn read_load<R: Reader>(
 /// The first unit of sections, `None` where they have no unit.
 ///
 /// Refused for its header, else as `Dwarf::unit` is. May fail with `OutOfMemory` instead, where
-/// bytes are shared or the header can be read of a unit that takes memory. Source: DWARF 5, section
-/// 7.5.1.
+/// bytes are shared, or the header can be read and `Dwarf::unit` takes memory for it. Source: DWARF
+/// 5, section 7.5.1.
 pub fn read_first_unit<R: Reader>(alloc: Global, dwarf: &Dwarf<R>) -> Result<Option<Unit<R>>, Error>
     ensures gives { ExactlyUnlessOomIf (first_unit_takes_memory R.shares dwarf.now) (λ u. u) result
         (first_unit dwarf.now) }

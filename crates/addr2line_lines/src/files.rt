@@ -7,7 +7,7 @@ ghost use Rattle.addr2line_lines.specs.FileTexts.{bytes_if_some, optional_string
 
 use crate::path::{make_file_text, make_own_text};
 use gimli::line::{FileEntry, LineProgramHeader};
-use gimli::read::{DWARF_5, AttributeValue, Error, Reader};
+use gimli::read::{AttributeValue, DWARF_5, Error, Reader};
 use gimli::{Dwarf, Unit};
 use std::alloc::Global;
 

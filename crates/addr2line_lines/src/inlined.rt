@@ -16,7 +16,7 @@ use crate::function::{RangeAttributes, is_range_name};
 use crate::name::{is_name_attribute, pass_over, take_name};
 use crate::references::Scope;
 use crate::row::low_bits;
-use gimli::read::{DWARF_5, Attribute, AttributeSpecification, DwAt, Error, Reader, UnitOffset};
+use gimli::read::{Attribute, AttributeSpecification, DWARF_5, DwAt, Error, Reader, UnitOffset};
 use gimli::{EntriesRaw, Unit, UnitRef};
 use std::marker::Model;
 

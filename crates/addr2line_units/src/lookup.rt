@@ -9,9 +9,9 @@ ghost use Rattle.addr2line_units.specs.Parsed.{AllAskFor, AreAllParsed, AreParse
 ghost use Rattle.addr2line_units.specs.UnitRangesLeft.{ranges_left};
 ghost use Rattle.addr2line_units.specs.CachedLines.{HaveLinesOf, StayUnits, indexed_units, lines_result_at, location_of_unit_row, parsed_units, unit_row};
 
-use crate::unit_row::UnitRow;
 use crate::range_iter::UnitRangeIter;
 use crate::unit::ResUnit;
+use crate::unit_row::UnitRow;
 use addr2line_lines::{Count, Row};
 use gimli::read::{Error, Reader};
 use gimli::{Dwarf, Unit};

@@ -1,0 +1,47 @@
+//! The functions that stand at an address, inlined ones included.
+
+use addr2line::gimli::Dwarf;
+use addr2line::gimli::read::Reader;
+use addr2line::{Context, Loader, Location};
+
+/// Prints the functions at an address of the ELF file at `path`, the innermost first, each with its
+/// file and line.
+pub fn print_frames(rt: HostRuntime, path: &str, address: u64) -> anyhow::Result<()> {
+    let mut loader = Loader::new(rt, path)?;
+    let mut frames = loader.find_frames(address)?;
+    while let Some(frame) = frames.next()? {
+        if let Some(function) = &frame.function {
+            print!(rt; "{} at ", function.demangle(rt.alloc())?)?;
+        }
+        let (file, line) = file_and_line(frame.location);
+        println!(rt; "{file}:{line}")?;
+    }
+    Ok(())
+}
+
+/// The same over sections that stand in memory. A unit that waits for a split file counts as one
+/// without.
+pub fn print_frames_of<R: Reader>(
+    rt: HostRuntime,
+    dwarf: Dwarf<R>,
+    address: u64,
+) -> anyhow::Result<()> {
+    let mut context = Context::from_dwarf(rt.alloc(), dwarf)?;
+    let mut frames = context.find_frames(address).skip_all_loads()?;
+    while let Some(frame) = frames.next()? {
+        if let Some(function) = &frame.function {
+            print!(rt; "{} at ", function.demangle(rt.alloc())?)?;
+        }
+        let (file, line) = file_and_line(frame.location);
+        println!(rt; "{file}:{line}")?;
+    }
+    Ok(())
+}
+
+/// The file and the line of a location, `??` and 0 for what isn't known.
+pub fn file_and_line(location: Option<Location<'_>>) -> (&str, u32) {
+    match location {
+        Some(location) => (location.file.unwrap_or("??"), location.line.unwrap_or(0)),
+        None => ("??", 0),
+    }
+}

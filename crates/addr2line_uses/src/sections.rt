@@ -1,0 +1,38 @@
+//! Sections that stand in memory, wherever they come from.
+
+use addr2line::Context;
+use addr2line::gimli::read::{EndianSlice, Error, RunTimeEndian};
+use addr2line::gimli::{Dwarf, SectionId};
+use std::alloc::Global;
+
+/// A section by its name, as `.debug_info`.
+pub type NamedSection<'a> = (&'a str, &'a [u8]);
+
+// The bytes of a section; a section that isn't there is empty.
+fn bytes_of<'a>(sections: &[NamedSection<'a>], id: SectionId) -> &'a [u8] {
+    for (name, bytes) in sections {
+        if *name == id.name() {
+            return bytes;
+        }
+    }
+    &[]
+}
+
+/// The context of sections of a file of little endian. The sections are borrowed, none is copied.
+pub fn context_of<'a>(
+    alloc: Global,
+    sections: &[NamedSection<'a>],
+) -> Result<Context<EndianSlice<'a>>, Error> {
+    let dwarf = Dwarf::load(|id| -> Result<EndianSlice<'_>, Error> {
+        Ok(EndianSlice::new(bytes_of(sections, id), RunTimeEndian::Little))
+    })?;
+    Context::from_dwarf(alloc, dwarf)
+}
+
+/// The line of an address, if it is known.
+pub fn line_at(context: &mut Context<EndianSlice<'_>>, address: u64) -> Result<Option<u32>, Error> {
+    match context.find_location(address)? {
+        Some(location) => Ok(location.line),
+        None => Ok(None),
+    }
+}

@@ -4,9 +4,10 @@ ghost use Rattle.std.specs.Prelude.{◌≡◌, ℕ, List, [], OnErr, OnOk};
 ghost use Rattle.addr2line.specs.Files.{listed_files, with_file};
 
 use std::alloc::{AllocError, Global};
-use std::fs;
-use std::io::ErrorKind;
+use std::fs::{self, File, OpenFile};
+use std::io::{self, ErrorKind};
 use std::marker::Model;
+use std::os::unix::fs::FileExt;
 
 /// What gives whole files by their paths.
 pub trait FileSource: Drop {
@@ -85,7 +86,8 @@ impl FileSource for MemoryFiles {
     }
 }
 
-/// The files of the host.
+/// The regular files of the host, as long as they say they are. What else stands at a path, as a
+/// directory, a pipe or a device, counts as a file that can't be read, and is never opened.
 #[derive(Drop)]
 pub struct HostFiles {
     rt: HostRuntime,
@@ -98,10 +100,23 @@ impl HostFiles {
     }
 }
 
+// The bytes of a regular file, as many as it says it has; nothing of anything else, which isn't
+// opened, since opening a pipe may wait for ever and a device may have no end.
+fn read_regular(rt: &HostRuntime, alloc: Global, path: &str) -> io::Result<Option<Vec<u8>>> {
+    if !fs::metadata(rt, path)?.is_file() {
+        return Ok(None);
+    }
+    let file = File::open(rt, path)?;
+    let len = file.metadata()?.len();
+    let mut bytes = Vec::from_elem(alloc, 0u8, len as usize)?;
+    file.read_exact_at(bytes.as_mut_slice(), 0)?;
+    Ok(Some(bytes))
+}
+
 impl FileSource for HostFiles {
-    fn read(&self, _alloc: Global, path: &str) -> Result<Option<Vec<u8>>, AllocError> {
-        match fs::read(&self.rt, path) {
-            Ok(bytes) => Ok(Some(bytes)),
+    fn read(&self, alloc: Global, path: &str) -> Result<Option<Vec<u8>>, AllocError> {
+        match read_regular(&self.rt, alloc, path) {
+            Ok(bytes) => Ok(bytes),
             Err(error) if error.kind() == ErrorKind::OutOfMemory => Err(AllocError),
             Err(_) => Ok(None),
         }

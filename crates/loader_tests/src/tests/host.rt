@@ -16,10 +16,9 @@ fn text_in(loader: Result<Loader, LoaderError>) -> [u64; 3] {
     }
 }
 
-// What loaders over the host's files say: of that file, of no file, of an empty one, and of these
-// beside each other.
-fn told(rt: HostRuntime, file: &str) -> [[u64; 3]; 6] {
-    let empty = "/dev/null";
+// What loaders over the host's files say: of that file, of no file, of an empty one, of these beside
+// each other, and of what is no regular file: a folder, a device without an end.
+fn told(rt: HostRuntime, file: &str, empty: &str) -> [[u64; 3]; 8] {
     let none = "/there/is/none";
     [
         text_in(Loader::new(rt, file)),
@@ -29,19 +28,32 @@ fn told(rt: HostRuntime, file: &str) -> [[u64; 3]; 6] {
         text_in(Loader::new_with_sup(rt, file, none)),
         // The main file is read first.
         text_in(Loader::new_with_sup(rt, empty, none)),
+        text_in(Loader::new(rt, "/")),
+        text_in(Loader::new(rt, "/dev/zero")),
     ]
 }
 
 #[test]
 fn files_of_the_host_are_loaded_or_refused(rt: HostRuntime) -> Result<(), Fail> {
     let name = format!(in rt.alloc(); "addr2line-{}", process::id(rt.process()))?;
+    let empty_name = format!(in rt.alloc(); "addr2line-{}-empty", process::id(rt.process()))?;
     let path = env::temp_dir(&rt)?.join(rt.alloc(), name.as_str())?;
+    let empty = env::temp_dir(&rt)?.join(rt.alloc(), empty_name.as_str())?;
     fs::write(&rt, path.as_path(), &plain_file(rt.alloc())?)?;
-    let told = told(rt, path.to_str().unwrap_or(""));
+    fs::write(&rt, empty.as_path(), &[])?;
+    let told = told(
+        rt,
+        path.to_str().unwrap_or(""),
+        empty.to_str().unwrap_or(""),
+    );
     fs::remove_file(&rt, path.as_path())?;
+    fs::remove_file(&rt, empty.as_path())?;
     let text = [0x10, 0x30, 3];
     let no_file = [21, 0, 9];
     let no_elf = [22, 0, 9];
-    assert_eq!(rt; told, [text, no_file, no_elf, text, no_file, no_elf]);
+    let wanted = [
+        text, no_file, no_elf, text, no_file, no_elf, no_file, no_file,
+    ];
+    assert_eq!(rt; told, wanted);
     Ok(())
 }

@@ -1,7 +1,10 @@
 //! Sections that stand in memory, wherever they come from.
 
+ghost use Rattle.gimli_read.specs.Reading.{ExactlyUnlessOom};
+ghost use Rattle.addr2line_uses.specs.Lines.{line_of};
+
 use addr2line::Context;
-use addr2line::gimli::read::{EndianSlice, Error, RunTimeEndian};
+use addr2line::gimli::read::{EndianSlice, Error, Reader, RunTimeEndian};
 use addr2line::gimli::{Dwarf, SectionId};
 use std::alloc::Global;
 
@@ -30,7 +33,9 @@ pub fn context_of<'a>(
 }
 
 /// The line of an address, if it is known.
-pub fn line_at(context: &mut Context<EndianSlice<'_>>, address: u64) -> Result<Option<u32>, Error> {
+pub fn line_at<R: Reader>(context: &mut Context<R>, address: u64) -> Result<Option<u32>, Error>
+    ensures gives { ExactlyUnlessOom (λ line. line) result (line_of context.old.sections address) }
+{
     match context.find_location(address)? {
         Some(location) => Ok(location.line),
         None => Ok(None),

@@ -8,3 +8,4 @@ pub mod Sections
 pub mod Symbols
 pub mod TextStarts
 pub mod SymbolTable
+pub mod Compressed

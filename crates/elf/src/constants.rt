@@ -61,3 +61,11 @@ pub(crate) const STT_FUNC: u8 = 2;
 pub(crate) const STB_GLOBAL: u8 = 1;
 
 pub(crate) const STB_WEAK: u8 = 2;
+
+// The type of a compression header whose section zlib packed.
+pub(crate) const ELFCOMPRESS_ZLIB: u64 = 1;
+
+// What a section named `.zdebug_` has before its stream: "ZLIB" and a size.
+pub(crate) const ZLIB_SIZE: usize = 8;
+
+pub(crate) const ZLIB_HEADER_SIZE: usize = 12;

@@ -2,12 +2,14 @@
 
 ghost use Rattle.std.specs.Prelude.{◌≡◌, ◌≤◌, ◌+◌, length, take, drop, option_map, Ok};
 ghost use Rattle.gimli_read.specs.Reading.{Exactly};
-ghost use Rattle.elf.specs.Loading.{LoadsUnlessOomFor};
+ghost use Rattle.elf.specs.Compressed.{unpacked_contents, decompressed_of, zdebug_of, missing_decompressed, decompressed_at};
+ghost use Rattle.elf.specs.Loading.{LoadsUnlessOom, LoadsUnlessOomFor};
 ghost use Rattle.elf.specs.ObjectFile.{ObjectFile, object_file_of, name_table_of, gives_sections};
 ghost use Rattle.elf.specs.Symbols.{named_address, nearest_symbol, symbol_names_of, symbols_of, symbol_at};
 ghost use Rattle.elf.specs.SymbolTable.{HasSymbols};
 ghost use Rattle.elf.specs.Sections.{section_names_of, number_named, first_named, section_range_at, empty_contents, contents_of, missing_section, section_at, gives_bytes_of_file};
 
+use crate::compressed;
 use crate::constants::SHN_XINDEX;
 use crate::error::LoaderError;
 use crate::header::{self, Ident};
@@ -134,6 +136,30 @@ impl ElfFile {
         }
     }
 
+    /// The bytes of the first section of a name, decompressed where zlib compressed them: behind a
+    /// compression header, or in a section with `.zdebug_` for `.debug_` where there is none of the
+    /// name. All else is as `section` has it. Takes memory for what they inflate to.
+    ///
+    /// | Refusal | When |
+    /// |---|---|
+    /// | `BadElf` | the section isn't wholly within the file; its stream is damaged or has another size than is told |
+    /// | `CompressedSection` | it is compressed, and not by zlib |
+    /// | `RelocationsNeeded` | a relocatable file has a nonempty REL or RELA section for it |
+    /// | `OutOfMemory` | a growth was refused |
+    #[tactic(auto, unfolding(crate::specs::Compressed::decompressed_at))]
+    pub fn decompressed_section(
+        &self,
+        alloc: Global,
+        name: &str,
+    ) -> Result<EndianBytes, LoaderError>
+        ensures gives { LoadsUnlessOom (λ b. b) result (decompressed_at name.now self.now) }
+    {
+        match self.first_named(name.as_bytes()) {
+            Some((number, section)) => self.decompressed(alloc, number, &section),
+            None => self.missing_decompressed(alloc, name.as_bytes()),
+        }
+    }
+
     /// The addresses of the first section of a name, whatever its type and flags; none where
     /// there is no such section, or where its end passes 64 bits. Takes no memory.
     pub fn section_range(&self, name: &[u8]) -> Option<Range>
@@ -238,5 +264,79 @@ impl ElfFile {
             return Err(LoaderError::CompressedSection);
         }
         Ok(self.empty_contents())
+    }
+
+    // The bytes of a section in the file's order, which a stream has.
+    #[tactic(auto, unfolding(crate::specs::Compressed::unpacked_contents))]
+    fn unpacked_contents(
+        &self,
+        alloc: Global,
+        number: usize,
+        size: u64,
+        text: &[u8],
+    ) -> Result<EndianBytes, LoaderError>
+        ensures gives { LoadsUnlessOom (λ b. b) result
+            (unpacked_contents self.now number (size, text.now)) }
+    {
+        if self.is_relocatable && section::is_relocated(&self.sections, number) {
+            return Err(LoaderError::RelocationsNeeded);
+        }
+        let bytes = compressed::unpacked(alloc, size, text)?;
+        match Bytes::from_vec(bytes) {
+            Ok(bytes) => Ok(EndianBytes::new(bytes, self.bytes.endian())),
+            Err(_) => Err(LoaderError::OutOfMemory),
+        }
+    }
+
+    // The bytes of a section, decompressed where they are compressed.
+    #[tactic(auto, unfolding(crate::specs::Compressed::decompressed_of))]
+    fn decompressed(
+        &self,
+        alloc: Global,
+        number: usize,
+        section: &SectionHeader,
+    ) -> Result<EndianBytes, LoaderError>
+        ensures gives { LoadsUnlessOom (λ b. b) result
+            (decompressed_of self.now number section.now) }
+    {
+        let file = self.bytes.to_slice();
+        if section.is_nobits() || section.is_outside(file) || !section.is_compressed() {
+            return self.contents(number, section);
+        }
+        let (_, rest) = file.split_at(section.offset as usize);
+        let (own, _) = rest.split_at(section.size as usize);
+        let (size, text) = compressed::packed(own, self.class, self.bytes.endian())?;
+        self.unpacked_contents(alloc, number, size, text)
+    }
+
+    // The bytes of a section with `.zdebug_` for `.debug_`.
+    #[tactic(auto, unfolding(crate::specs::Compressed::zdebug_of))]
+    fn zdebug(
+        &self,
+        alloc: Global,
+        number: usize,
+        section: &SectionHeader,
+    ) -> Result<EndianBytes, LoaderError>
+        ensures gives { LoadsUnlessOom (λ b. b) result (zdebug_of self.now number section.now) }
+    {
+        let Some(own) = section.bytes_in(self.bytes.to_slice()) else {
+            return Err(LoaderError::BadElf);
+        };
+        let (size, text) = compressed::zdebug_packed(own)?;
+        self.unpacked_contents(alloc, number, size, text)
+    }
+
+    // The answer for a name that no section has.
+    #[tactic(auto, unfolding(crate::specs::Compressed::missing_decompressed))]
+    fn missing_decompressed(&self, alloc: Global, name: &[u8]) -> Result<EndianBytes, LoaderError>
+        ensures gives { LoadsUnlessOom (λ b. b) result (missing_decompressed name.now self.now) }
+    {
+        let Some(number) = section::zdebug_number(&self.sections, self.section_names(), name) else {
+            return Ok(self.empty_contents());
+        };
+        let Some(section) = self.sections.get(number) else {
+            return Ok(self.empty_contents());
+        };
+        self.zdebug(alloc, number, section)
     }
 }

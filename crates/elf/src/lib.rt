@@ -1,6 +1,7 @@
 //! ELF files: their sections, the addresses of these, and their symbols.
 #![tactic(auto)]
 
+mod compressed;
 mod constants;
 mod error;
 mod file;

@@ -1,7 +1,7 @@
 //! Section headers, and the bytes of a section (System V ABI, Object Files: Sections).
 
 ghost use Rattle.std.specs.Prelude.{◌≡◌, ◌≤◌, ◌*◌, length, drop, option_map, IfOk, IsOk};
-ghost use Rattle.std.specs.List.{list_any};
+ghost use Rattle.std.specs.List.{list_any, position};
 ghost use Rattle.elf.specs.Layout.{layout_of};
 ghost use Rattle.elf.specs.Header.{section_in, sections_in};
 ghost use Rattle.elf.specs.SectionBytes.{is_nobits, is_outside, section_bytes_in, string_table_in, front_text, table_text_at, short_text_at};
@@ -159,6 +159,15 @@ pub(crate) fn has_zdebug(sections: &[SectionHeader], names: &[u8], name: &[u8]) 
     sections
         .iter()
         .any(|section| section.is_zdebug(names, name))
+}
+
+/// The number of the first section whose name is this one with `.zdebug_` in place of `.debug_`.
+pub(crate) fn zdebug_number(sections: &[SectionHeader], names: &[u8], name: &[u8]) -> Option<usize>
+    ensures gives { result ≡ position (is_zdebug names.now name.now) sections.now }
+{
+    sections
+        .iter()
+        .position(|section| section.is_zdebug(names, name))
 }
 
 // Whether a text is the name with `.zdebug_` in place of `.debug_`.

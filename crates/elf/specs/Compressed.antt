@@ -1,0 +1,81 @@
+-- Sections whose bytes are compressed (System V ABI, Object Files: Section Compression; the form
+-- that GNU's tools had before it, in sections named .zdebug_).
+-- Own: damage is BadElf: a header that isn't whole, a stream that isn't one, and one that inflates
+-- to another size than its header tells. Another compression than zlib's is CompressedSection.
+use Rattle.std.specs.Prelude.{ℕ, ◌+◌, ◌*◌, ◌==◌, ◌&&◌, ◌||◌, Bool, not, List, [], Option, Some, None, Result, Ok, Err, if◌then◌else◌, drop, length, nat_eq, nat_lt, codes}
+use Rattle.std.specs.List.{position, slice_get, starts_with}
+use Rattle.std.specs.Option.{option_map_or}
+use Rattle.gimli_read.specs.declared.endian.RunTimeEndian.{RunTimeEndian}
+use Rattle.gimli_read.specs.declared.endian.RunTimeEndian.TheVariants.{Big}
+use Rattle.gimli_read.specs.Reading.{◌>>=◌}
+use Rattle.gimli_read.specs.Section.{Section}
+use Rattle.inflate.specs.Reading.{OrFault}
+use Rattle.inflate.specs.Stream.{inflated}
+use Rattle.elf.specs.declared.constants.TheConstants.{WORD_SIZE, ELFCOMPRESS_ZLIB, ZLIB_SIZE, ZLIB_HEADER_SIZE}
+use Rattle.elf.specs.declared.error.LoaderError.TheVariants.{BadElf, CompressedSection, RelocationsNeeded}
+use Rattle.elf.specs.declared.section.SectionHeader.{SectionHeader}
+use Rattle.elf.specs.Layout.{number_at, layout_of}
+use Rattle.elf.specs.Loading.{Loading}
+use Rattle.elf.specs.ObjectFile.{ObjectFile}
+use Rattle.elf.specs.SectionBytes.{bytes_at, is_nobits, is_outside, section_bytes_in}
+use Rattle.elf.specs.Sections.{section_names_of, first_named, is_zdebug, is_compressed, is_relocated, empty_contents, contents_of}
+
+-- the size that a stream is to have, and the stream
+abbrev pub Packed : Type 0
+Packed = ℕ × List ℕ
+
+-- behind a compression header of three addresses' size: ch_type, ch_size, ch_addralign
+unfoldable pub packed_in : RunTimeEndian → ℕ → List ℕ → Loading Packed
+packed_in endian size bytes =
+    if nat_lt (length bytes) (3 * size) then Err BadElf
+    else if not (number_at endian 0 WORD_SIZE bytes == ELFCOMPRESS_ZLIB) then Err CompressedSection
+    else Ok (number_at endian size size bytes, drop (3 * size) bytes)
+
+-- behind "ZLIB" and the size in eight bytes, the highest first
+unfoldable pub zdebug_packed_in : List ℕ → Loading Packed
+zdebug_packed_in bytes =
+    if not (starts_with nat_eq bytes (codes "ZLIB")) then Err BadElf
+    else if nat_lt (length bytes) ZLIB_HEADER_SIZE then Err BadElf
+    else Ok (number_at Big 4 ZLIB_SIZE bytes, drop ZLIB_HEADER_SIZE bytes)
+
+-- what a stream gave, if it has the size
+abbrev pub of_size : ℕ → OrFault (List ℕ) → Loading (List ℕ)
+of_size size (Ok bytes) = if length bytes == size then Ok bytes else Err BadElf
+of_size size (Err e) = Err BadElf
+
+-- what a stream inflates to, if it has the size
+unfoldable pub unpacked : Packed → Loading (List ℕ)
+unpacked p = of_size p.0 (inflated p.0 p.1)
+
+-- the bytes of section n in a file's order, which a stream has
+unfoldable pub unpacked_contents : ObjectFile → ℕ → Packed → Loading Section
+unpacked_contents file n p = if is_relocated file n then Err RelocationsNeeded
+    else unpacked p >>= λ bytes. Ok (record { bytes = bytes; endian = file.endian })
+
+-- the bytes of section n, decompressed where they are compressed
+unfoldable pub decompressed_of : ObjectFile → ℕ → SectionHeader → Loading Section
+decompressed_of file n s =
+    if is_nobits s || (is_outside file.bytes s || not (is_compressed s)) then contents_of file n s
+    else packed_in file.endian (layout_of file.class).address_size (bytes_at file.bytes s)
+    >>= unpacked_contents file n
+
+-- the number of the first section with .zdebug_ for the .debug_ of a name
+abbrev pub number_zdebug : List ℕ → ObjectFile → Option ℕ
+number_zdebug name file = position (is_zdebug (section_names_of file) name) file.sections
+
+-- the bytes of a section of such a name
+unfoldable pub zdebug_of : ObjectFile → ℕ → SectionHeader → Loading Section
+zdebug_of file n s = option_map_or
+    (λ bytes. zdebug_packed_in bytes >>= unpacked_contents file n)
+    (section_bytes_in file.bytes s) (Err BadElf)
+
+-- the answer for a name that no section has: no bytes, or those of a section with .zdebug_ for it
+unfoldable pub missing_decompressed : List ℕ → ObjectFile → Loading Section
+missing_decompressed name file = option_map_or
+    (λ n. option_map_or (zdebug_of file n) (slice_get file.sections n) (Ok (empty_contents file)))
+    (number_zdebug name file) (Ok (empty_contents file))
+
+-- the bytes of the first section of a name, decompressed where they are compressed
+unfoldable pub decompressed_at : List ℕ → ObjectFile → Loading Section
+decompressed_at name file = option_map_or (λ found. decompressed_of file found.0 found.1)
+    (first_named name file) (missing_decompressed name file)

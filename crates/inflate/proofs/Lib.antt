@@ -1,0 +1,5 @@
+pub mod BitsLemmas
+pub mod CodeLemmas
+pub mod ItemLemmas
+pub mod AdlerLemmas
+pub mod BlockLemmas

@@ -1,0 +1,10 @@
+pub mod Reading
+pub mod Bits
+pub mod Codes
+pub mod Reader
+pub mod Tables
+pub mod Items
+pub mod Dynamic
+pub mod Blocks
+pub mod Stream
+pub mod CodesOf

@@ -2,6 +2,8 @@
 
 mod codes;
 mod context;
+mod cuts;
+mod deep;
 mod example;
 mod lines;
 mod location_ranges;

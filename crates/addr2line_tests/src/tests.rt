@@ -5,6 +5,7 @@ mod context;
 mod cuts;
 mod deep;
 mod example;
+mod large_tables;
 mod lines;
 mod location_ranges;
 mod lookups;

@@ -63,6 +63,7 @@ pub fn fault_code(error: Error) -> u32 {
         Error::UnsupportedSegmentSize => 9_300_000,
         Error::OffsetOutOfBounds => 9_400_000,
         Error::UnknownToken => 9_500_000,
+        Error::UnknownAbbreviation => 9_600_000,
         _ => 8_000_000,
     }
 }

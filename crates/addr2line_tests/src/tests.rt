@@ -2,7 +2,10 @@
 
 mod codes;
 mod context;
+mod cuts;
+mod deep;
 mod example;
+mod large_tables;
 mod lines;
 mod location_ranges;
 mod lookups;

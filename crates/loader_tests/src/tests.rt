@@ -58,9 +58,9 @@ const NO_TEXT_INFO: &[u8] = b"\x2a\0\0\0\x05\0\x04\x08\0\0\0\0\x88\x77\x66\x55\x
 const FOREIGN_INFO: &[u8] = b"\x23\0\0\0\x05\0\x05\x08\0\0\0\0\x89\x77\x66\x55\x44\x33\x22\x11\
     \x01\x1c\0\x02h\0\x10\0\0\0\0\0\0\0\x20\0\0\0\0";
 
-// The split unit without its last bytes.
+// The split unit without its last byte.
 const CUT_INFO: &[u8] = b"\x23\0\0\0\x05\0\x05\x08\0\0\0\0\x88\x77\x66\x55\x44\x33\x22\x11\
-    \x01\x1c\0\x02h\0\x10";
+    \x01\x1c\0\x02h\0\x10\0\0\0\0\0\0\0\x20\0\0\0";
 
 // "h" with the location of line 1, and the location alone.
 const H: [u64; 2] = [0x6868, 1];

@@ -105,8 +105,8 @@ fn frame_code<R: Reader>(frame: &Frame<'_, R>) -> [u64; 3] {
     [offset, name, location]
 }
 
-// The next frame; nines for a fault.
-fn next_code<R: Reader>(frames: &mut FrameIter<'_, R>) -> [u64; 3] {
+/// The next frame; nines for a fault.
+pub fn next_code<R: Reader>(frames: &mut FrameIter<'_, R>) -> [u64; 3] {
     match frames.next() {
         Ok(Some(frame)) => frame_code(&frame),
         Ok(None) => [0; 3],

@@ -20,6 +20,11 @@ const INFO_64: [u8; 47] = [
     0x2f, 0x77, 0x00, 0x10, 0x00, 0x00, 0x00, 0x00, 0x00, 0x00, 0x00, 0x20, 0x00, 0x00, 0x00,
 ];
 
+// The unit without addresses of its own.
+const NO_RANGE_ABBREV: &[u8] = b"\x01\x11\0\x10\x17\x1b\x08\0\0\0";
+
+const NO_RANGE_INFO: &[u8] = b"\x0f\0\0\0\x04\0\0\0\0\0\x08\x01\0\0\0\0/w\0";
+
 const CALLS: [Call; 8] = [
     Call::Location(0xf),
     Call::Location(0x10),
@@ -50,7 +55,10 @@ const FAULT: [u64; 8] = [
 fn lookups_over_three_sections(rt: HostRuntime) {
     let mut cut = LINE;
     cut[53] = 0x7f;
-    let cases: [(&[u8], &[u8], &[u8], [u64; 8]); 6] = [
+    // The sequence begins at the last address, where no code is.
+    let mut tombstone = LINE;
+    tombstone[40..48].fill(0xff);
+    let cases: [(&[u8], &[u8], &[u8], [u64; 8]); 8] = [
         (&ABBREV, &INFO, &LINE, FOUND),
         (&ABBREV, &INFO_V5, &LINE_V5, FOUND),
         (&ABBREV, &INFO_64, &LINE, FOUND),
@@ -58,6 +66,9 @@ fn lookups_over_three_sections(rt: HostRuntime) {
         (&[], &[], &[], NOTHING),
         (&ABBREV, &INFO, &[], NOTHING),
         (&ABBREV, &INFO, &cut, FAULT),
+        (&ABBREV, &INFO, &tombstone, NOTHING),
+        // The ranges of the unit are those of its sequences.
+        (NO_RANGE_ABBREV, NO_RANGE_INFO, &LINE, FOUND),
     ];
     for (abbrev, info, line, want) in cases {
         let told = told_each(rt.alloc(), three_sections(abbrev, info, line), CALLS);
@@ -67,9 +78,13 @@ fn lookups_over_three_sections(rt: HostRuntime) {
 
 #[test]
 fn sections_in_one_value_answer_alike(rt: HostRuntime) {
+    let plain = alone(&ABBREV, &INFO, &LINE);
+    let without_ranges = alone(NO_RANGE_ABBREV, NO_RANGE_INFO, &LINE);
     for way in [Way::Whole, Way::InRc] {
-        let told = told_borrowed(rt.alloc(), alone(&ABBREV, &INFO, &LINE), way, CALLS);
-        assert_eq!(rt; numbers(told), (FOUND, 0));
+        for files in [plain, without_ranges] {
+            let told = told_borrowed(rt.alloc(), files, way, CALLS);
+            assert_eq!(rt; numbers(told), (FOUND, 0));
+        }
     }
 }
 

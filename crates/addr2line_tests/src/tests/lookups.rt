@@ -9,11 +9,11 @@ use addr2line_lines_tests::vectors::{
 };
 use std::alloc::Global;
 
-// "g" at 0x31 at line 3, called at line 7 without a column by "f" at 0x22.
-const INLINED: Codes = Codes([0x31, 0x67, 1_003_000], [0x22, 0x66, 1_007_999], [0; 3]);
+/// "g" at 0x31 at line 3, called at line 7 without a column by "f" at 0x22.
+pub const INLINED: Codes = Codes([0x31, 0x67, 1_003_000], [0x22, 0x66, 1_007_999], [0; 3]);
 
-// "f" alone, at line 3.
-const ALONE: Codes = Codes([0x22, 0x66, 1_003_000], [0; 3], [0; 3]);
+/// "f" alone, at line 3.
+pub const ALONE: Codes = Codes([0x22, 0x66, 1_003_000], [0; 3], [0; 3]);
 
 // "g" at 0x55 without a location, called at line 9 by "e" at 0x46.
 const SECOND: Codes = Codes([0x55, 0x67, 0], [0x46, 0x65, 1_009_999], [0; 3]);
@@ -56,9 +56,11 @@ fn inlined_functions_stand_before_their_callers(rt: HostRuntime) {
         Call::Preload(0x24),
         Call::Forget(0),
         frames(0x24),
+        frames(0x2a),
+        frames(0x30),
     ];
     let want = [
-        INLINED, INLINED, ALONE, NONE, WHOLE, NONE, NONE, NONE, NONE, DONE, INLINED,
+        INLINED, INLINED, ALONE, NONE, WHOLE, NONE, NONE, NONE, NONE, DONE, INLINED, ALONE, NONE,
     ];
     // The unit is whole, or lacks its closing entry.
     for info in [NAMED_INFO, OPEN_UNIT] {
@@ -99,9 +101,9 @@ fn a_function_without_its_end_refuses_frames(rt: HostRuntime) {
     );
 }
 
-// A root entry and functions and inlined functions, all with children, DW_AT_low_pc and
-// DW_AT_high_pc; and a function with DW_AT_ranges.
-const RANGED: &[u8] = b"\x01\x11\x01\x11\x01\x12\x0b\0\0\x02\x2e\x01\x11\x01\x12\x0b\0\0\
+/// A root entry and functions and inlined functions, all with children, DW_AT_low_pc and
+/// DW_AT_high_pc; and a function with DW_AT_ranges.
+pub const RANGED: &[u8] = b"\x01\x11\x01\x11\x01\x12\x0b\0\0\x02\x2e\x01\x11\x01\x12\x0b\0\0\
     \x03\x1d\x01\x11\x01\x12\x0b\0\0\x04\x2e\0\x55\x17\0\0\0";
 
 // In [0, 100): [0x10, 0x30) at 0xf, and [0x20, 0x28) at 0x14.
@@ -118,8 +120,8 @@ const LISTED: &[u8] = b"\x16\0\0\0\x04\0\0\0\0\0\x02\x01\0\0\x64\x04\0\0\0\0\x02
 const SIBLINGS: &[u8] = b"\x20\0\0\0\x04\0\0\0\0\0\x02\x01\0\0\x64\x02\0\0\x30\x03\0\0\x0a\
     \x03\0\0\x02\0\x03\x06\0\x02\0\0\0\0";
 
-// A call whose file, line and column aren't said.
-const UNSAID: u64 = 2_000_999;
+/// A call whose file, line and column aren't said.
+pub const UNSAID: u64 = 2_000_999;
 
 fn only(offset: u64) -> Codes {
     first([offset, 0, 0])
@@ -146,5 +148,33 @@ fn functions_that_overlap_have_one_at_each_address(rt: HostRuntime) {
     ];
     for (info, probes, want) in cases {
         assert_eq!(rt; told_ranged(rt.alloc(), info, probes), [(want, 0); 2]);
+    }
+}
+
+#[test]
+fn empty_sections_answer_nothing_to_each_call(rt: HostRuntime) {
+    let unknown = first([0, 0, 9_500_000]);
+    let cases = [
+        (Call::Location(0x18), NONE),
+        (Call::Rows(0, u64::MAX, 0), NONE),
+        (Call::RowsAlone(0, u64::MAX, 0), NONE),
+        (frames(0x18), NONE),
+        (unit(0x18), NONE),
+        (Call::Preload(0x18), NONE),
+        (Call::LoadNothing(0), unknown),
+        (Call::Forget(0), unknown),
+        (Call::ParseLines, DONE),
+        (Call::ParseFunctions, DONE),
+        (Call::ParseInlined, DONE),
+    ];
+    let want = (cases.map(|(_, want)| want), 0);
+    for way in [Way::InRc, Way::Replayed] {
+        let told = told_both(
+            rt.alloc(),
+            alone(&[], &[], &[]),
+            way,
+            cases.map(|(call, _)| call),
+        );
+        assert_eq!(rt; told, [want; 2]);
     }
 }

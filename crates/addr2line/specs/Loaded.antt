@@ -65,6 +65,13 @@ abbrev pub sup_of_bytes : Option (List ℕ) → Loading (Option SupSections)
 sup_of_bytes None = Ok None
 sup_of_bytes (Some bytes) = as_sup (object_file_of bytes >>= sections_of_file)
 
+-- what bytes are, and those of a supplementary file: the file, and the context of its sections
+unfoldable pub loaded_bytes : List ℕ → Option (List ℕ) → Loading (ObjectFile × ContextState)
+loaded_bytes bytes sup = do
+  file ← object_file_of bytes
+  context ← context_at (dwarf_with file (sup_of_bytes sup))
+  Ok (file, context)
+
 -- there are bytes that are this file
 abbrev pub IsFileOfBytes : ObjectFile → Type 0
 IsFileOfBytes file = (bytes : List ℕ) × (object_file_of bytes ≡ Ok file)

@@ -12,6 +12,7 @@ mod frames;
 pub mod laws;
 mod loader;
 mod loads;
+mod opened;
 mod parses;
 mod reply;
 mod session;
@@ -24,10 +25,12 @@ pub use crate::context::Context;
 pub use crate::continuation::{FramesLookup, UnitLookup};
 pub use crate::files::{FileSource, HostFiles, MemoryFiles};
 pub use crate::loader::{Loader, LoaderOver};
+pub use crate::opened::open_bytes;
 pub use crate::reply::{
     FoundUnit, OwnedFrame, OwnedLoad, OwnedLocation, OwnedName, OwnedSpan, Reply,
 };
 pub use crate::session::{Answer, Call, replay};
+pub use crate::split_files::read_split_sections;
 pub use addr2line_lines::Location;
 pub use addr2line_units::continuation::{LookupContinuation, LookupResult};
 pub use addr2line_units::frame::{demangle, demangle_auto};

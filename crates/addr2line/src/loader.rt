@@ -52,7 +52,7 @@ fn open<F: FileSource>(alloc: Global, files: &F, path: &str) -> Result<ElfFile, 
 }
 
 // The sections of a supplementary file, shared, or their fault.
-fn share_sup<R: Reader>(
+pub(crate) fn share_sup<R: Reader>(
     alloc: Global,
     sections: Result<SupDwarf<R>, LoaderError>,
 ) -> Result<Option<Rc<SupDwarf<R>>>, LoaderError>
@@ -83,7 +83,7 @@ fn read_sup<F: FileSource>(
 }
 
 // The sections of a main file with those of a supplementary one, or the fault of these.
-fn with_sup<R: Reader>(
+pub(crate) fn with_sup<R: Reader>(
     main: SupDwarf<R>,
     sup: Result<Option<Rc<SupDwarf<R>>>, LoaderError>,
 ) -> Result<Dwarf<R>, LoaderError>
@@ -111,7 +111,7 @@ fn read_dwarf<F: FileSource>(
 }
 
 // The context of sections, or their fault.
-fn context_of<R: Reader>(
+pub(crate) fn context_of<R: Reader>(
     alloc: Global,
     dwarf: Result<Dwarf<R>, LoaderError>,
 ) -> Result<Context<R>, LoaderError>

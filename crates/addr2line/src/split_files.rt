@@ -20,11 +20,17 @@ use std::rc::Rc;
 use std::str;
 
 // The ELF file that bytes are. Byte 5 of them gives their order, whatever is given here.
+pub(crate) fn parse_bytes(alloc: Global, bytes: Bytes) -> Result<ElfFile, LoaderError>
+    ensures gives { LoadsUnlessOom (λ f. f) result (object_file_of bytes) }
+{
+    ElfFile::parse(alloc, EndianBytes::new(bytes, RunTimeEndian::Little))
+}
+
+// The ELF file that owned bytes are.
 pub(crate) fn parse_file(alloc: Global, bytes: Vec<u8>) -> Result<ElfFile, LoaderError>
     ensures gives { LoadsUnlessOom (λ f. f) result (object_file_of bytes.items) }
 {
-    let bytes = Bytes::from_vec(bytes)?;
-    ElfFile::parse(alloc, EndianBytes::new(bytes, RunTimeEndian::Little))
+    parse_bytes(alloc, Bytes::from_vec(bytes)?)
 }
 
 // The bytes of a text that may be there.
@@ -134,8 +140,25 @@ fn read_split<R: Reader, S: SectionSource<R>>(
     Ok(Some(Rc::new(alloc, dwarf)?))
 }
 
-// The split sections of a load that the bytes of a file are.
+/// The sections of the split file of a load that the bytes of a file are, none where the file is
+/// that of another unit or of none.
+///
+/// The bytes are shared, and none is copied. Refused as `ElfFile::parse` is, then as a section by
+/// name is, then `Dwarf` for the first unit and for what it needs of the sections that have the
+/// load's unit. May fail with `OutOfMemory` instead. Source: DWARF 5, sections 3.1.2 and 7.3.2.
 #[tactic(auto, unfolding(crate::specs::SplitFiles::split_of))]
+pub fn read_split_sections(
+    alloc: Global,
+    load: &SplitDwarfLoad<EndianBytes>,
+    bytes: Bytes,
+) -> Result<Option<Rc<Dwarf<EndianBytes>>>, LoaderError>
+    ensures gives { LoadsUnlessOom (option_map (λ d. d.value)) result (split_of load.now bytes) }
+{
+    let object = parse_bytes(alloc, bytes)?;
+    read_split(alloc, &SplitFile { object: &object }, load)
+}
+
+// The same of owned bytes.
 fn read_split_file(
     alloc: Global,
     load: &SplitDwarfLoad<EndianBytes>,
@@ -144,8 +167,7 @@ fn read_split_file(
     ensures gives { LoadsUnlessOom (option_map (λ d. d.value)) result
         (split_of load.now bytes.items) }
 {
-    let object = parse_file(alloc, bytes)?;
-    read_split(alloc, &SplitFile { object: &object }, load)
+    read_split_sections(alloc, load, Bytes::from_vec(bytes)?)
 }
 
 // What was read, or none in place of a fault.

@@ -1,0 +1,60 @@
+//! ELF files that are opened from shared bytes.
+
+ghost use Rattle.std.specs.Prelude.{option_map};
+ghost use Rattle.elf.specs.Loading.{LoadsUnlessOom};
+ghost use Rattle.addr2line.specs.Loaded.{dwarf_with, loaded_bytes, sup_of_bytes};
+
+use crate::context::Context;
+use crate::file_sections::{MainFile, read_sections};
+use crate::loader::{context_of, share_sup, with_sup};
+use crate::split_files::parse_bytes;
+use bytes::Bytes;
+use elf::{ElfFile, LoaderError};
+use gimli::read::EndianBytes;
+use gimli::{Dwarf, SupDwarf};
+use std::alloc::Global;
+use std::rc::Rc;
+
+// The sections of the supplementary file that bytes are, if there are any.
+fn sup_of_bytes(
+    alloc: Global,
+    bytes: Option<Bytes>,
+) -> Result<Option<Rc<SupDwarf<EndianBytes>>>, LoaderError>
+    ensures gives { LoadsUnlessOom (option_map (λ s. s.value)) result (sup_of_bytes bytes) }
+{
+    let Some(bytes) = bytes else {
+        return Ok(None);
+    };
+    let object = parse_bytes(alloc, bytes)?;
+    share_sup(alloc, read_sections(&MainFile { object: &object }))
+}
+
+// The sections of a main file, with those of the supplementary file that bytes are.
+fn dwarf_of_bytes(
+    alloc: Global,
+    object: &ElfFile,
+    sup: Option<Bytes>,
+) -> Result<Dwarf<EndianBytes>, LoaderError>
+    ensures gives { LoadsUnlessOom (λ d. d) result (dwarf_with object.now (sup_of_bytes sup)) }
+{
+    let main = read_sections(&MainFile { object })?;
+    with_sup(main, sup_of_bytes(alloc, sup))
+}
+
+/// The ELF file that bytes are, and a context of its sections and of those of the supplementary
+/// file that other bytes are, if there are any.
+///
+/// No byte is copied. Refused as `LoaderOver::over` is, but never `Io`; may fail with `OutOfMemory`
+/// instead. Source: DWARF 5, sections 7.3.6 and 7.5. Own: the order of the refusals.
+#[tactic(auto, unfolding(crate::specs::Loaded::loaded_bytes))]
+pub fn open_bytes(
+    alloc: Global,
+    bytes: Bytes,
+    sup: Option<Bytes>,
+) -> Result<(ElfFile, Context<EndianBytes>), LoaderError>
+    ensures gives { LoadsUnlessOom (λ l. (l.0, l.1)) result (loaded_bytes bytes sup) }
+{
+    let object = parse_bytes(alloc, bytes)?;
+    let context = context_of(alloc, dwarf_of_bytes(alloc, &object, sup))?;
+    Ok((object, context))
+}

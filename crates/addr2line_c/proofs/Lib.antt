@@ -1,0 +1,5 @@
+pub mod AnswerLemmas
+pub mod LoadLemmas
+pub mod SequenceLemmas
+pub mod Values
+pub mod Handles

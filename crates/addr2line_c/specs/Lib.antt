@@ -1,0 +1,10 @@
+pub mod Status
+pub mod Filled
+pub mod Texts
+pub mod Parts
+pub mod Answered
+pub mod Loads
+pub mod WrittenSymbols
+pub mod Sequence
+pub mod Held
+pub mod Written

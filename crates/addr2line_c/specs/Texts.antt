@@ -1,0 +1,19 @@
+-- Texts in a buffer: one after another, with a zero after each, named by offset and length.
+use Rattle.std.specs.Prelude.{◌++◌, ◌∷◌, ℕ, List, [], Option, Some, None, flat_map, length}
+use Rattle.addr2line_c.specs.declared.parts.TextPart.{TextPart}
+use Rattle.addr2line_c.specs.Filled.{saturated}
+
+-- texts one after another, with a zero after each
+abbrev pub joined : List (List ℕ) → List ℕ
+joined texts = flat_map (λ (text : List ℕ). text ++ 0 ∷ []) texts
+
+-- a text that may be there, as a list
+abbrev pub given_text : Option (List ℕ) → List (List ℕ)
+given_text None = []
+given_text (Some text) = text ∷ []
+
+-- where a text stands that follows others, if it is there
+abbrev pub text_after : List (List ℕ) → Option (List ℕ) → TextPart
+text_after before None = record { offset = 0; length = 0; is_there = 0 }
+text_after before (Some text) =
+    record { offset = saturated (length (joined before)); length = length text; is_there = 1 }

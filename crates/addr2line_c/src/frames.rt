@@ -1,0 +1,137 @@
+//! Frames, as C gets them.
+
+ghost use Rattle.std.specs.Prelude.{◌≡◌, ◌++◌, ℕ, List, [], length, IfErr, IfOk, OnOk, Some};
+ghost use Rattle.gimli_read.specs.declared.error.Error.TheVariants.{OutOfMemory};
+ghost use Rattle.addr2line_units.specs.FramesLeft.{frames_left};
+ghost use Rattle.addr2line_units.specs.SeenFrame.{seen_frame, seen_name};
+ghost use Rattle.addr2line_c.specs.Filled.{IsFilled};
+ghost use Rattle.addr2line_c.specs.Texts.{given_text, joined, text_after};
+ghost use Rattle.addr2line_c.specs.Written.{chosen_name, name_of, texts_of, texts_of_all, written_frame, written_frames};
+
+use crate::fill::fill;
+use crate::location::{WrittenLocation, put_location};
+use crate::parts::{OffsetPart, TextPart, offset_part, put_text};
+use addr2line::gimli::read::{Error, Reader};
+use addr2line::{Frame, FrameIter, FunctionName};
+use std::alloc::Global;
+
+/// A function at an address with its location there, as C gets it.
+#[repr(C)]
+#[derive(Clone, Copy)]
+pub struct WrittenFrame {
+    /// Where the entry of the function begins, in bytes from the start of the unit's length.
+    pub entry: OffsetPart,
+    /// The name of the function.
+    pub function: TextPart,
+    /// The location of the address, or that of the call of the frame before.
+    pub location: WrittenLocation,
+}
+
+// A name after the texts of the buffer: in its language, or as the file has it. Refused
+// `OutOfMemory` alone, and never as the file has it.
+fn put_name<R: Reader>(
+    alloc: Global,
+    name: &FunctionName<'_, R>,
+    demangles: bool,
+    buffer: &mut [u8],
+    used: &mut usize,
+) -> Result<TextPart, Error>
+    ensures gives { (before : List (List ℕ)) → IsFilled used.old buffer.old (joined before)
+        → OnOk result (IsFilled used.new buffer.new (joined (before
+        ++ given_text (Some (chosen_name demangles (seen_name R.section name.now)))))) }
+    ensures part { (before : List (List ℕ)) → IsFilled used.old buffer.old (joined before)
+        → IfOk result (λ p. p ≡ text_after before
+        (Some (chosen_name demangles (seen_name R.section name.now)))) }
+    ensures refused { IfErr result (λ e. e ≡ OutOfMemory) }
+    ensures same { length buffer.new ≡ length buffer.old }
+{
+    if !demangles {
+        return Ok(put_text(buffer, used, Some(name.name.to_slice())));
+    }
+    let text = name.demangle(alloc)?;
+    Ok(put_text(buffer, used, Some(text.as_str().as_bytes())))
+}
+
+// The name of a frame, if it has one.
+fn put_name_if<R: Reader>(
+    alloc: Global,
+    frame: &Frame<'_, R>,
+    demangles: bool,
+    buffer: &mut [u8],
+    used: &mut usize,
+) -> Result<TextPart, Error>
+    ensures gives { (before : List (List ℕ)) → IsFilled used.old buffer.old (joined before)
+        → OnOk result (IsFilled used.new buffer.new (joined (before
+        ++ given_text (name_of demangles (seen_frame R.section frame.now))))) }
+    ensures part { (before : List (List ℕ)) → IsFilled used.old buffer.old (joined before)
+        → IfOk result (λ p. p ≡ text_after before
+        (name_of demangles (seen_frame R.section frame.now))) }
+    ensures refused { IfErr result (λ e. e ≡ OutOfMemory) }
+    ensures same { length buffer.new ≡ length buffer.old }
+{
+    match &frame.function {
+        Some(name) => put_name(alloc, name, demangles, buffer, used),
+        None => Ok(put_text(buffer, used, None)),
+    }
+}
+
+// The offset of the entry of a frame's function.
+fn entry_of<R: Reader>(frame: &Frame<'_, R>) -> Option<u64>
+    ensures gives { result ≡ (seen_frame R.section frame.now).offset }
+{
+    Some(frame.dw_die_offset?.0)
+}
+
+// A frame, with its texts after those of the buffer. Refused `OutOfMemory` alone.
+fn put_frame<R: Reader>(
+    alloc: Global,
+    frame: &Frame<'_, R>,
+    demangles: bool,
+    buffer: &mut [u8],
+    used: &mut usize,
+) -> Result<WrittenFrame, Error>
+    ensures gives { (before : List (List ℕ)) → IsFilled used.old buffer.old (joined before)
+        → OnOk result (IsFilled used.new buffer.new (joined (before
+        ++ texts_of demangles (seen_frame R.section frame.now)))) }
+    ensures part { (before : List (List ℕ)) → IsFilled used.old buffer.old (joined before)
+        → IfOk result (λ p. p ≡ written_frame demangles before (seen_frame R.section frame.now)) }
+    ensures refused { IfErr result (λ e. e ≡ OutOfMemory) }
+    ensures same { length buffer.new ≡ length buffer.old }
+{
+    let function = put_name_if(alloc, frame, demangles, buffer, used)?;
+    let location = put_location(buffer, used, frame.location);
+    Ok(WrittenFrame {
+        entry: offset_part(entry_of(frame)),
+        function,
+        location,
+    })
+}
+
+/// The frames that are left, at the front of `out`, with their texts in the buffer. Gives how many
+/// frames there are, and writes how many bytes their texts need, up to the greatest number.
+///
+/// Refused `OutOfMemory` alone, and never where names aren't demangled.
+pub(crate) fn put_frames<R: Reader>(
+    alloc: Global,
+    frames: FrameIter<'_, R>,
+    demangles: bool,
+    out: &mut [WrittenFrame],
+    buffer: &mut [u8],
+    needed: &mut usize,
+) -> Result<usize, Error>
+    ensures gives { IfOk result (λ count. IsFilled count out.new
+        (written_frames demangles (frames_left frames.entry))) }
+    ensures texts { OnOk result (IsFilled needed.new buffer.new
+        (joined (texts_of_all demangles (frames_left frames.entry)))) }
+    ensures refused { IfErr result (λ e. e ≡ OutOfMemory) }
+    ensures same { (length out.new ≡ length out.old) × (length buffer.new ≡ length buffer.old) }
+{
+    let mut frames = frames;
+    let mut count = 0;
+    *needed = 0;
+    while let Some(frame) = frames.next()? {
+        let written = put_frame(alloc, &frame, demangles, buffer, needed)?;
+        count = fill(out, count, &[written]);
+    }
+    Ok(count)
+}

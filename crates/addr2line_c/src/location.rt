@@ -1,0 +1,66 @@
+//! Locations, as C gets them.
+
+ghost use Rattle.std.specs.Prelude.{◌≡◌, ◌++◌, ℕ, List, length, option_map};
+ghost use Rattle.addr2line_lines.specs.SeenLocation.{seen_location};
+ghost use Rattle.addr2line_c.specs.Filled.{IsFilled};
+ghost use Rattle.addr2line_c.specs.Texts.{given_text, joined};
+ghost use Rattle.addr2line_c.specs.Written.{column_of, file_of, line_of, written_location};
+
+use crate::parts::{NumberPart, TextPart, number_part, put_text};
+use addr2line::Location;
+
+/// A location in a source file, as C gets it.
+#[repr(C)]
+#[derive(Clone, Copy)]
+pub struct WrittenLocation {
+    /// The text of the file.
+    pub file: TextPart,
+    /// The line, counted from 1.
+    pub line: NumberPart,
+    /// The column, counted from 1; 0 is the left edge.
+    pub column: NumberPart,
+}
+
+// The bytes of the file of a location.
+fn file_of<'a>(location: Option<Location<'a>>) -> Option<&'a [u8]>
+    ensures gives { option_map (λ t. t.now) result
+        ≡ file_of (option_map seen_location location.entry) }
+{
+    let file = location?.file?;
+    Some(file.as_bytes())
+}
+
+// The line of a location.
+fn line_of(location: Option<Location<'_>>) -> Option<u32>
+    ensures gives { result ≡ line_of (option_map seen_location location.entry) }
+{
+    location?.line
+}
+
+// The column of a location.
+fn column_of(location: Option<Location<'_>>) -> Option<u32>
+    ensures gives { result ≡ column_of (option_map seen_location location.entry) }
+{
+    location?.column
+}
+
+/// A location that may be there, with its text after those of the buffer.
+pub(crate) fn put_location(
+    buffer: &mut [u8],
+    used: &mut usize,
+    location: Option<Location<'_>>,
+) -> WrittenLocation
+    ensures gives { (before : List (List ℕ)) → IsFilled used.old buffer.old (joined before)
+        → IsFilled used.new buffer.new (joined (before
+        ++ given_text (file_of (option_map seen_location location.entry)))) }
+    ensures part { (before : List (List ℕ)) → IsFilled used.old buffer.old (joined before)
+        → result ≡ written_location before (option_map seen_location location.entry) }
+    ensures same { length buffer.new ≡ length buffer.old }
+{
+    let file = put_text(buffer, used, file_of(location));
+    WrittenLocation {
+        file,
+        line: number_part(line_of(location)),
+        column: number_part(column_of(location)),
+    }
+}

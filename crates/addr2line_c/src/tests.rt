@@ -1,0 +1,20 @@
+use super::*;
+
+// What each call answers for a closed handle and an address, and for a number that is no status.
+fn answers_of_closed(alloc: Global) -> [u32; 4] {
+    let mut handle = Handle::closed(alloc);
+    let mut text = [0u8; 8];
+    let mut needed = 0;
+    addr2line_close(alloc, &mut handle);
+    [
+        addr2line_parse_all(alloc, &mut handle),
+        addr2line_preload(alloc, &mut handle, 0),
+        addr2line_forget(alloc, &mut handle, 0),
+        addr2line_status_text(99, &mut text, &mut needed),
+    ]
+}
+
+#[test]
+fn a_closed_handle_is_refused(rt: HostRuntime) {
+    assert_eq!(rt; answers_of_closed(rt.alloc()), [4, 4, 4, 3]);
+}

@@ -1,0 +1,286 @@
+"""From addresses to functions, files and lines, over libaddr2line.so.
+
+    import addr2line
+    with addr2line.open_file(path) as f:
+        for frame in f.frames(0x1234):
+            print(frame.function, frame.file, frame.line, frame.column)
+
+The library is looked for beside this file, then where the system looks; the environment variable
+ADDR2LINE_LIBRARY names another. A file is used by one call at a time, on the thread that opened it.
+"""
+import collections
+import ctypes
+import ctypes.util
+import mmap
+import os
+
+OK, TOO_SMALL, WAITS, NOTHING, CLOSED, OTHER_UNIT, OUT_OF_MEMORY = 0, 1, 2, 3, 4, 5, 16
+DEMANGLE = 1
+
+Location = collections.namedtuple("Location", "file line column")
+Frame = collections.namedtuple("Frame", "function file line column entry")
+Span = collections.namedtuple("Span", "address length file line column")
+Symbol = collections.namedtuple("Symbol", "address name")
+
+
+class Refused(Exception):
+    """A refusal, with its number in `status`."""
+
+    def __init__(self, status):
+        super().__init__(status_text(status))
+        self.status = status
+
+
+class _Handle(ctypes.Structure):
+    _fields_ = [("at", ctypes.c_void_p)]
+
+
+class _Text(ctypes.Structure):
+    _fields_ = [("offset", ctypes.c_size_t), ("length", ctypes.c_size_t), ("is_there", ctypes.c_uint32)]
+
+
+class _Number(ctypes.Structure):
+    _fields_ = [("value", ctypes.c_uint32), ("is_there", ctypes.c_uint32)]
+
+
+class _Offset(ctypes.Structure):
+    _fields_ = [("value", ctypes.c_uint64), ("is_there", ctypes.c_uint32)]
+
+
+class _Location(ctypes.Structure):
+    _fields_ = [("file", _Text), ("line", _Number), ("column", _Number)]
+
+
+class _Frame(ctypes.Structure):
+    _fields_ = [("entry", _Offset), ("function", _Text), ("location", _Location)]
+
+
+class _Span(ctypes.Structure):
+    _fields_ = [("address", ctypes.c_uint64), ("length", ctypes.c_uint64), ("location", _Location)]
+
+
+class _Symbol(ctypes.Structure):
+    _fields_ = [("address", ctypes.c_uint64), ("name", _Text)]
+
+
+class _Load(ctypes.Structure):
+    _fields_ = [("token", ctypes.c_uint64), ("dwo_id", ctypes.c_uint64), ("directory", _Text), ("path", _Text)]
+
+
+def _load_library():
+    beside = os.path.join(os.path.dirname(os.path.abspath(__file__)), "libaddr2line.so")
+    name = os.environ.get("ADDR2LINE_LIBRARY")
+    if name is None:
+        name = beside if os.path.exists(beside) else ctypes.util.find_library("addr2line") or "libaddr2line.so"
+    library = ctypes.CDLL(name)
+    handle, size = ctypes.POINTER(_Handle), ctypes.c_size_t
+    out = [ctypes.c_void_p, size, ctypes.POINTER(size)]
+    address = ctypes.c_uint64
+    calls = {
+        "version": [],
+        "status_text": [ctypes.c_uint32] + out,
+        "open": [ctypes.c_void_p, size, ctypes.c_void_p, size, handle],
+        "find_location": [handle, address, ctypes.POINTER(_Location)] + out,
+        "find_frames": [handle, address, ctypes.c_uint32, ctypes.POINTER(_Frame), size, ctypes.POINTER(size)] + out,
+        "get_load": [handle, ctypes.POINTER(_Load)] + out,
+        "answer_load": [handle, address, ctypes.c_void_p, size],
+        "forget": [handle, address],
+        "preload": [handle, address],
+        "parse_all": [handle],
+        "locations": [handle, address, address, address, ctypes.POINTER(_Span)] + out,
+        "find_symbol": [handle, address, ctypes.POINTER(_Symbol)] + out,
+        "section_range": [handle, ctypes.c_char_p, size, ctypes.POINTER(address), ctypes.POINTER(address)],
+    }
+    for call, arguments in calls.items():
+        function = getattr(library, "addr2line_" + call)
+        function.argtypes, function.restype = arguments, ctypes.c_uint32
+    library.addr2line_close.argtypes, library.addr2line_close.restype = [handle], None
+    return library
+
+
+_library = _load_library()
+
+
+def version():
+    """The number of what may be called."""
+    return _library.addr2line_version()
+
+
+def status_text(status):
+    """What a status says."""
+    text, needed = ctypes.create_string_buffer(80), ctypes.c_size_t()
+    if _library.addr2line_status_text(status, text, len(text), ctypes.byref(needed)) != OK:
+        return "unknown status %d" % status
+    return text.value.decode()
+
+
+class _Bytes:
+    """Bytes that stay where they are until they are released."""
+
+    def __init__(self, path):
+        with open(path, "rb") as file:
+            self.size = os.fstat(file.fileno()).st_size
+            # A private mapping may be written, which ctypes asks for; nothing writes it.
+            self.map = mmap.mmap(file.fileno(), 0, access=mmap.ACCESS_COPY) if self.size else None
+        self.view = (ctypes.c_char * self.size).from_buffer(self.map) if self.size else None
+        self.at = ctypes.addressof(self.view) if self.size else None
+
+    def release(self):
+        self.view = None
+        if self.map is not None:
+            self.map.close()
+
+
+class File:
+    """An open file."""
+
+    def __init__(self, path, sup=None):
+        self._handle = _Handle(None)
+        self._bytes = [_Bytes(path)]
+        if sup is not None:
+            self._bytes.append(_Bytes(sup))
+        main, more = self._bytes[0], self._bytes[-1] if sup is not None else None
+        self._text = ctypes.create_string_buffer(4096)
+        self._frames = (_Frame * 32)()
+        status = _library.addr2line_open(
+            main.at, main.size, more.at if more else None, more.size if more else 0, ctypes.byref(self._handle)
+        )
+        if status != OK:
+            self.close()
+            raise Refused(status)
+
+    def __enter__(self):
+        return self
+
+    def __exit__(self, *failure):
+        self.close()
+
+    def close(self):
+        """Closes the file; from then on its calls are refused."""
+        _library.addr2line_close(ctypes.byref(self._handle))
+        for held in self._bytes:
+            held.release()
+        self._bytes = []
+
+    def _call(self, name, *arguments):
+        """A call with the text's buffer, which grows as is needed; the status."""
+        needed = ctypes.c_size_t()
+        call = getattr(_library, "addr2line_" + name)
+        while True:
+            status = call(
+                ctypes.byref(self._handle), *arguments, self._text, len(self._text), ctypes.byref(needed)
+            )
+            if status != TOO_SMALL or needed.value <= len(self._text):
+                return status
+            self._text = ctypes.create_string_buffer(2 * needed.value)
+
+    def _text_of(self, part):
+        if not part.is_there:
+            return None
+        return self._text.raw[part.offset : part.offset + part.length].decode("utf-8", "replace")
+
+    def _location(self, part):
+        return Location(
+            self._text_of(part.file),
+            part.line.value if part.line.is_there else None,
+            part.column.value if part.column.is_there else None,
+        )
+
+    def _frame(self, part):
+        return Frame(
+            self._text_of(part.function), *self._location(part.location), part.entry.value if part.entry.is_there else None
+        )
+
+    def location(self, address):
+        """The location of an address, None where there is none."""
+        found = _Location()
+        status = self._call("find_location", address, ctypes.byref(found))
+        if status == NOTHING:
+            return None
+        if status != OK:
+            raise Refused(status)
+        return self._location(found)
+
+    def frames(self, address, demangle=False):
+        """The frames at an address, the innermost first; split files are read as they are asked for."""
+        count = ctypes.c_size_t()
+        while True:
+            flags = DEMANGLE if demangle else 0
+            frames = self._frames
+            status = self._call("find_frames", address, flags, frames, len(frames), ctypes.byref(count))
+            if status == OK:
+                return [self._frame(frames[i]) for i in range(count.value)]
+            if status == WAITS:
+                self.answer_loads()
+            elif status == TOO_SMALL:
+                self._frames = (_Frame * (2 * count.value))()
+            else:
+                raise Refused(status)
+
+    def answer_loads(self):
+        """Answers each load that waits by the file that it names, by none where there is none."""
+        load = _Load()
+        while self._call("get_load", ctypes.byref(load)) == OK:
+            held = self._split_file(self._text_of(load.directory), self._text_of(load.path))
+            status = _library.addr2line_answer_load(
+                ctypes.byref(self._handle), load.token, held.at if held else None, held.size if held else 0
+            )
+            if status == OUT_OF_MEMORY:
+                raise Refused(status)
+
+    def _split_file(self, directory, path):
+        if path is None:
+            return None
+        try:
+            held = _Bytes(os.path.join(directory or "", path))
+        except OSError:
+            return None
+        self._bytes.append(held)
+        return held
+
+    def parse_all(self):
+        """Reads the lines and functions of all units."""
+        status = _library.addr2line_parse_all(ctypes.byref(self._handle))
+        if status != OK:
+            raise Refused(status)
+
+    def locations(self, low, high):
+        """The rows that the addresses from low up to high meet."""
+        span = _Span()
+        index = 0
+        while True:
+            status = self._call("locations", low, high, index, ctypes.byref(span))
+            if status == NOTHING:
+                return
+            if status != OK:
+                raise Refused(status)
+            yield Span(span.address, span.length, *self._location(span.location))
+            index += 1
+
+    def symbol(self, address):
+        """The symbol of an address, None where there is none."""
+        symbol = _Symbol()
+        status = self._call("find_symbol", address, ctypes.byref(symbol))
+        if status == NOTHING:
+            return None
+        if status != OK:
+            raise Refused(status)
+        return Symbol(symbol.address, self._text_of(symbol.name))
+
+    def section(self, name):
+        """The addresses of a section, as a range; None where there is none."""
+        begin, end = ctypes.c_uint64(), ctypes.c_uint64()
+        encoded = name.encode()
+        status = _library.addr2line_section_range(
+            ctypes.byref(self._handle), encoded, len(encoded), ctypes.byref(begin), ctypes.byref(end)
+        )
+        if status == NOTHING:
+            return None
+        if status != OK:
+            raise Refused(status)
+        return range(begin.value, end.value)
+
+
+def open_file(path, sup=None):
+    """Opens the ELF file at a path, with its supplementary file if there is one."""
+    return File(path, sup)

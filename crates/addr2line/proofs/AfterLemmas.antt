@@ -1,63 +1,31 @@
--- What holds of a context after two steps of a lookup (on specs/AfterLookups.antt).
-use Rattle.std.proofs.Common.{◌≡◌, ◌⊎◌, inl, inr, ℕ, arith, true, false, slice_get, Result, Ok, Err, refl, sym, ap, subst, ◌∙◌}
-use Rattle.std.specs.Prelude.{IfErr, IfOk}
+-- What holds of a context once a lookup was lent from it that it had stored (on
+-- specs/AfterLookups.antt and specs/Skips.antt).
+use Rattle.std.proofs.Common.{◌≡◌, ℕ, true, false, List, Option, Some, None, Result, Ok, Err, refl, sym, ap, subst, ◌∙◌}
+use Rattle.std.specs.Prelude.{OnOk}
+use Rattle.gimli_read.specs.Alike.{HadMemory}
 use Rattle.gimli_read.specs.declared.error.Error.{Error}
 use Rattle.gimli_read.specs.Reading.{◌>>=◌, ExactlyUnlessOom}
 use Rattle.gimli.specs.Sections.{Sections}
+use Rattle.gimli.specs.Unit.{UnitRecord}
 use Rattle.addr2line_units.specs.declared.continuation.LookupResult.{LookupResult}
 use Rattle.addr2line_units.specs.declared.continuation.LookupResult.TheVariants.{Load, Output}
 use Rattle.addr2line_units.specs.declared.frames_lookup.Faults.{Faults}
-use Rattle.addr2line_units.specs.Cover.{cover}
-use Rattle.addr2line_units.specs.FramesLookup.{Stop, Waits, Finds, FindsNothing, LookupAsks, asked_frames, asks_lines_of, is_waiting, main_scope}
-use Rattle.gimli_read.specs.Alike.{HadMemory}
-use Rattle.addr2line_units.specs.Parsed.{ParsesOnly}
+use Rattle.addr2line_units.specs.declared.frames_lookup.Faults.TheVariants.{PassOver}
+use Rattle.addr2line_units.specs.Frames.{FrameRecord}
+use Rattle.addr2line_units.specs.FramesLookup.{Stop, Waits, Finds, FindsNothing, frames_found, is_waiting, unit_found}
+use Rattle.addr2line_units.specs.RangedUnits.{unit_records}
 use Rattle.addr2line_units.specs.Suspended.{IfLoad, IfOutput}
 use Rattle.addr2line_units.specs.UnitIndex.{UnitIndex, index_units}
-use Rattle.addr2line_units.proofs.FramesLookupLemmas.{parses_more}
-use Rattle.addr2line.proofs.StayLemmas.{known_twice}
-use Rattle.addr2line.specs.declared.stops.UnitStop.TheVariants as units
+use Rattle.addr2line_units.specs.Views.{FirstAnswers, SplitLoad}
+use Rattle.addr2line.specs.AfterLookups.{AfterFrames, IsFoundUnit, IsLent, IsStored, Suspends}
 use Rattle.addr2line.specs.Context.{ContextState}
-use Rattle.addr2line.specs.UnitStops.{stop_at_unit, unit_stop}
-use Rattle.addr2line.specs.AfterLookups.{AfterFrames}
-use Rattle.addr2line.specs.Lookups.{lookup_stop}
-use Rattle.addr2line_units.specs.Views.{FirstAnswers}
+use Rattle.addr2line.specs.Lookups.{IsLoadOf, frames_told, lookup_stop, stop_in, unit_of, unit_told, waiting_unit}
+use Rattle.addr2line.specs.Skips.{AfterSkip, skipped_answers}
 
-module _ (faults : Faults) (probe : ℕ) (old mid new : ContextState) where
-  -- the second step asks for what the first one did
-  abbrev ParsesBy : Sections → FirstAnswers → Type 0
-  ParsesBy d answers = (m : UnitIndex) → index_units d ≡ Ok m
-      → ParsesOnly (λ n. LookupAsks (asked_frames faults (main_scope d m) m.units answers probe) (cover probe m.ranges) n × (asks_lines_of (main_scope d m) m.units answers probe n ≡ true)) mid.parsed new.parsed
-
-  abbrev LearnsBy : Sections → FirstAnswers → Type 0
-  LearnsBy d answers = (m : UnitIndex) → index_units d ≡ Ok m
-      → (n : ℕ) → (slice_get new.known n ≡ slice_get mid.known n) ⊎ LookupAsks (asked_frames faults (main_scope d m) m.units answers probe) (cover probe m.ranges) n
-
-  pub both_after : {X Y : Type 0} (r : Result X Error) (s : Result Y Error) → AfterFrames faults probe r old mid → AfterFrames faults probe s mid new → AfterFrames faults probe s old new
-  both_after r s a b = record {
-    sections = b.sections ∙ a.sections;
-    answers = b.answers ∙ a.answers;
-    parsed = λ n e. b.parsed n (a.parsed n e);
-    known = known_twice old.known mid.known new.known a.known b.known;
-    only = λ m e. parses_more _ _ old.parsed mid.parsed new.parsed (a.only m e) (only m e) (λ n q. q);
-    learns = λ m e n. elim (learns m e n) [
-      | inl x ↦ elim (a.learns m e n) [ inl y ↦ inl (x ∙ y) | inr q ↦ inr q ]
-      | inr q ↦ inr q
-    ];
-    raised = let x = a.raised in let y = b.raised in omega (arith, x, y);
-    ready = b.ready;
-    memory = λ few ended. b.memory few (subst (λ x. is_waiting (lookup_stop faults x mid.answers probe) ≡ false) (sym a.sections) (subst (λ x. is_waiting (lookup_stop faults old.sections x probe) ≡ false) (sym a.answers) ended));
-  }
-    where
-      only : ParsesBy old.sections old.answers
-      only = subst (λ x. ParsesBy x old.answers) a.sections (subst (λ x. ParsesBy mid.sections x) a.answers b.only)
-
-      learns : LearnsBy old.sections old.answers
-      learns = subst (λ x. LearnsBy x old.answers) a.sections (subst (λ x. LearnsBy mid.sections x) a.answers b.learns)
-
-  -- the same of an output
-  pub outputs_after : {L X Y D S : Type 0} (r : Result X Error) (result : LookupResult L (Result Y Error) D S) → AfterFrames faults probe r old mid → IfOutput result (λ o. AfterFrames faults probe o mid new) → IfOutput result (λ o. AfterFrames faults probe o old new)
-  outputs_after r (Load c) a b = tt
-  outputs_after r (Output o) a b = both_after r o a b
+-- what holds of a lookup that waits
+pub if_load : {L O D S : Type 0} (P Q : L → Type 0) (result : LookupResult L O D S) → ((c : L) → P c → Q c) → IfLoad result P → IfLoad result Q
+if_load P Q (Load c) f h = f c h
+if_load P Q (Output o) f h = tt
 
 -- a lookup that has ended gives the same in a context with the same sections and first answers
 pub outputs_same : {L V X D S : Type 0} (reading : Sections → FirstAnswers → ℕ → Result V Error) (see : X → V) (probe : ℕ) (old mid : ContextState) (result : LookupResult L (Result X Error) D S) → mid.sections ≡ old.sections → mid.answers ≡ old.answers
@@ -66,65 +34,102 @@ outputs_same reading see probe old mid result s a h =
     subst (λ x. IfOutput result (λ o. ExactlyUnlessOom see o (reading x old.answers probe))) s
     (subst (λ x. IfOutput result (λ o. ExactlyUnlessOom see o (reading mid.sections x probe))) a h)
 
--- a lookup that never waits
-pub never_loads : {L O D S : Type 0} (P : L → Type 0) (result : LookupResult L O D S) → IfLoad result (λ c. ⊥) → IfLoad result P
-never_loads P (Load c) h = absurd h
-never_loads P (Output o) h = tt
+stop_ended : (walked : Result (Unit {0}) Error) (stop : Stop) (r : Result Stop Error) → ExactlyUnlessOom (λ _. stop) walked r → is_waiting r ≡ false → is_waiting (walked >>= λ _. Ok stop) ≡ false
+stop_ended (Ok x) stop r h w = sym (ap is_waiting h) ∙ w
+stop_ended (Err e) stop r h w = refl
 
--- what holds of a lookup that waits
-pub if_load : {L O D S : Type 0} (P Q : L → Type 0) (result : LookupResult L O D S) → ((c : L) → P c → Q c) → IfLoad result P → IfLoad result Q
-if_load P Q (Load c) f h = f c h
-if_load P Q (Output o) f h = tt
+-- a lookup that was stored and has ended waits for no unit
+pub never_waits : (walked : Result (Unit {0}) Error) (stop : Stop) (n : ℕ) → OnOk walked (waiting_unit stop ≡ None) → walked ≡ Ok tt → stop ≡ Waits n → ⊥
+never_waits walked stop n ended is waits =
+    let none : waiting_unit stop ≡ None = subst (λ r. OnOk r (waiting_unit stop ≡ None)) is ended in
+    let f : ◌≡◌ {A = Option ℕ} (Some n) None = sym (ap waiting_unit waits) ∙ none in
+    cc
 
--- a lookup that has found something waits for no unit
-pub found_ended : (faults : Faults) (probe n : ℕ) (old mid : ContextState) → mid.sections ≡ old.sections → mid.answers ≡ old.answers → unit_stop faults old.sections old.answers probe ≡ Ok (units.Finds n)
-    → is_waiting (lookup_stop faults mid.sections mid.answers probe) ≡ false
-found_ended faults probe n old mid s a e =
-    ap (λ x. is_waiting (lookup_stop faults x mid.answers probe)) s ∙ ap (λ x. is_waiting (lookup_stop faults old.sections x probe)) a ∙ by (lookup_stop faults old.sections old.answers probe) e
-  where
-    by : (r : Result Stop Error) → (r >>= λ s. Ok (stop_at_unit s)) ≡ Ok (units.Finds n) → is_waiting r ≡ false
-    by (Ok (Waits k)) h = absurd cc
-    by (Ok (Finds k frames)) h = refl
-    by (Ok FindsNothing) h = absurd cc
-    by (Err f) h = refl
+module _ (faults : Faults) (probe : ℕ) (old mid : ContextState) (walked : Result (Unit {0}) Error) where
+  module _ (a : AfterFrames faults probe walked old mid) (stored : IsStored faults probe walked mid) where
+    same_lookup : lookup_stop faults mid.sections mid.answers probe ≡ lookup_stop faults old.sections old.answers probe
+    same_lookup = ap (λ d. lookup_stop faults d mid.answers probe) a.sections ∙ ap (λ x. lookup_stop faults old.sections x probe) a.answers
 
--- it finds the same in a context with the same sections and first answers
-pub found_same : (faults : Faults) (probe n : ℕ) (old mid : ContextState) → mid.sections ≡ old.sections → mid.answers ≡ old.answers → unit_stop faults old.sections old.answers probe ≡ Ok (units.Finds n)
-    → unit_stop faults mid.sections mid.answers probe ≡ Ok (units.Finds n)
-found_same faults probe n old mid s a e = ap (λ x. unit_stop faults x mid.answers probe) s ∙ ap (λ x. unit_stop faults old.sections x probe) a ∙ e
+    -- the output of a lookup
+    pub frames_after : {L X D S : Type 0} (new : ContextState) (result : LookupResult L (Result X Error) D S) → IfOutput result (λ o. (new ≡ mid) × IsLent walked mid.stop o) → IfOutput result (λ o. AfterFrames faults probe o old new)
+    frames_after new (Load c) h = tt
+    frames_after {X = X} new (Output o) h = subst (λ n. AfterFrames {X = X} faults probe o old n) (sym h.0) (record {
+      sections = a.sections;
+      answers = a.answers;
+      parsed = a.parsed;
+      known = a.known;
+      only = a.only;
+      learns = a.learns;
+      raised = a.raised;
+      ready = λ told. a.ready (h.1.ready told);
+      memory = λ few ended. h.1.memory (stop_ended walked mid.stop (lookup_stop faults mid.sections mid.answers probe) stored (ap is_waiting same_lookup ∙ ended)) (a.memory few ended);
+    })
 
--- the same of another result that is refused memory where this one is
-pub same_after : {X Y : Type 0} (faults : Faults) (probe : ℕ) (old new : ContextState) (r : Result Y Error) (s : Result X Error) → (HadMemory s → HadMemory r) → (HadMemory r → HadMemory s) → AfterFrames faults probe r old new → AfterFrames faults probe s old new
-same_after faults probe old new r s back on a = record {
-  sections = a.sections;
-  answers = a.answers;
-  parsed = a.parsed;
-  known = a.known;
-  only = a.only;
-  learns = a.learns;
-  raised = a.raised;
-  ready = λ told. a.ready (back told);
-  memory = λ few ended. on (a.memory few ended);
+    -- the rest of a lookup that waits
+    pub suspends : (number : ℕ) (load : SplitLoad) (new : ContextState) → new ≡ mid → walked ≡ Ok tt → mid.stop ≡ Waits number → IsLoadOf mid.sections number load → Suspends faults probe number load old new
+    suspends number load new held is waits of = record {
+      waits = sym same_lookup ∙ subst (λ r. ExactlyUnlessOom (λ _. mid.stop) r (lookup_stop faults mid.sections mid.answers probe)) is stored ∙ ap (λ s. Ok s) waits;
+      load = subst (λ d. IsLoadOf d number load) a.sections of;
+      after = subst (λ n. AfterFrames {X = Unit {0}} faults probe (Ok tt) old n) (sym held) (subst (λ r. AfterFrames {X = Unit {0}} faults probe r old mid) is a);
+    }
+
+  module _ (a : AfterSkip faults probe walked old mid) where
+    -- the output of a lookup of which none was answered to each load
+    pub skip_after : {L X D S : Type 0} (new : ContextState) (result : LookupResult L (Result X Error) D S) → IfOutput result (λ o. (new ≡ mid) × IsLent walked mid.stop o) → IfOutput result (λ o. AfterSkip faults probe o old new)
+    skip_after new (Load c) h = tt
+    skip_after {X = X} new (Output o) h = subst (λ n. AfterSkip {X = X} faults probe o old n) (sym h.0) (record {
+      sections = a.sections;
+      answers = λ told. a.answers (h.1.ready told);
+      begun = a.begun;
+      parsed = a.parsed;
+      raised = a.raised;
+      ready = λ told. a.ready (h.1.ready told);
+    })
+
+    pub outputs_skipped : {L V X D S : Type 0} (reading : Sections → FirstAnswers → ℕ → Result V Error) (see : X → V) (new : ContextState) (result : LookupResult L (Result X Error) D S) → IfOutput result (λ o. (new ≡ mid) × IsLent walked mid.stop o)
+        → IfOutput result (λ o. ExactlyUnlessOom see o (reading mid.sections mid.answers probe)) → IfOutput result (λ o. ExactlyUnlessOom see o (reading old.sections (skipped_answers faults old.sections probe old.answers) probe))
+    outputs_skipped {L = L} {X = X} {D = D} {S = S} reading see new result l h = by result l h
+      where
+        same : HadMemory walked → reading mid.sections mid.answers probe ≡ reading old.sections (skipped_answers faults old.sections probe old.answers) probe
+        same told = ap (λ d. reading d mid.answers probe) a.sections ∙ ap (λ x. reading old.sections x probe) (a.answers told)
+
+        by : (r : LookupResult L (Result X Error) D S) → IfOutput r (λ o. (new ≡ mid) × IsLent walked mid.stop o) → IfOutput r (λ o. ExactlyUnlessOom see o (reading mid.sections mid.answers probe))
+            → IfOutput r (λ o. ExactlyUnlessOom see o (reading old.sections (skipped_answers faults old.sections probe old.answers) probe))
+        by (Load c) l h = tt
+        by (Output (Ok x)) l h = sym (same (l.1.ready tt)) ∙ h
+        by (Output (Err e)) l h = λ ne. sym (same (l.1.ready ne)) ∙ h ne
+
+-- what is lent of a lookup that has ended, of one that was refused, and of one whose load is refused
+pub lent_ok : {X : Type 0} (stop : Stop) (x : X) → IsLent (Ok tt) stop (Ok x)
+lent_ok stop x = record { ready = λ told. tt; memory = λ ended told. tt }
+
+pub lent_fault : {X : Type 0} (stop : Stop) (e : Error) → IsLent {X = X} (Err e) stop (Err e)
+lent_fault stop e = record { ready = λ told. told; memory = λ ended told. told }
+
+pub lent_no_load : {X : Type 0} (stop : Stop) (n : ℕ) (e : Error) → stop ≡ Waits n → IsLent {X = X} (Ok tt) stop (Err e)
+lent_no_load stop n e waits = record {
+  ready = λ told. tt;
+  memory = λ ended told. let f : true ≡ false = sym (ap (λ s. is_waiting (Ok s)) waits) ∙ ended in absurd cc;
 }
 
--- what is told of a lookup holds of its output, where it isn't refused and changes nothing more
-pub outputs_kept : {L X Y D S : Type 0} (faults : Faults) (probe : ℕ) (old mid new : ContextState) (y : Y) (result : LookupResult L (Result X Error) D S) → AfterFrames {X = Y} faults probe (Ok y) old mid
-    → IfOutput result (λ o. IfErr o (λ e. ⊥)) → IfOutput result (λ o. new ≡ mid) → IfOutput result (λ o. AfterFrames faults probe o old new)
-outputs_kept faults probe old mid new y (Load c) a never kept = tt
-outputs_kept faults probe old mid new y (Output (Err e)) a never kept = absurd never
-outputs_kept {X = X} faults probe old mid new y (Output (Ok x)) a never kept =
-    subst (λ n. AfterFrames {X = X} faults probe (Ok x) old n) (sym kept) (same_after faults probe old mid (Ok y) (Ok x) (λ t. t) (λ t. t) a)
+-- the frames of a lookup that has ended
+pub frames_lent : (stop : Stop) (r : Result Stop Error) (frames : List FrameRecord) → r ≡ Ok stop → waiting_unit stop ≡ None → frames ≡ frames_found stop → (r >>= λ s. Ok (frames_told s)) ≡ Ok (Some frames)
+frames_lent stop r frames h w f = ap (λ r. r >>= λ s. Ok (frames_told s)) h ∙ ap (λ o. Ok o) (told stop w ∙ ap (λ fs. Some fs) (sym f))
+  where
+    told : (s : Stop) → waiting_unit s ≡ None → frames_told s ≡ Some (frames_found s)
+    told (Waits n) e = absurd cc
+    told (Finds n fs) e = refl
+    told FindsNothing e = refl
 
--- an output that isn't refused is exact
-pub outputs_exact : {L V X D S : Type 0} (reading : Sections → FirstAnswers → ℕ → Result V Error) (see : X → V) (probe : ℕ) (old mid : ContextState) (result : LookupResult L (Result X Error) D S) → mid.sections ≡ old.sections → mid.answers ≡ old.answers
-    → IfOutput result (λ o. IfErr o (λ e. ⊥)) → IfOutput result (λ o. IfOk o (λ x. reading mid.sections mid.answers probe ≡ Ok (see x))) → IfOutput result (λ o. ExactlyUnlessOom see o (reading old.sections old.answers probe))
-outputs_exact reading see probe old mid (Load c) s a never h = tt
-outputs_exact reading see probe old mid (Output (Err e)) s a never h = absurd never
-outputs_exact reading see probe old mid (Output (Ok x)) s a never h =
-    subst (λ d. reading d old.answers probe ≡ Ok (see x)) s (subst (λ q. reading mid.sections q probe ≡ Ok (see x)) a h)
+-- the sections and the unit of one
+pub unit_lent : (c : ContextState) (probe : ℕ) (found : Option (Sections × UnitRecord)) → lookup_stop PassOver c.sections c.answers probe ≡ Ok c.stop → waiting_unit c.stop ≡ None → IsFoundUnit c found → unit_of c.sections c.answers probe ≡ Ok (Some found)
+unit_lent c probe found h w f = by (index_units c.sections) refl h
+  where
+    told : (m : UnitIndex) (s : Stop) → waiting_unit s ≡ None → unit_told c.sections c.answers m s ≡ Some (unit_found c.sections (unit_records m.units) c.answers s)
+    told m (Waits n) e = absurd cc
+    told m (Finds n fs) e = refl
+    told m FindsNothing e = refl
 
--- nor where memory is refused
-pub outputs_told : {L X D S : Type 0} (P : Error → Type 0) (result : LookupResult L (Result X Error) D S) → IfOutput result (λ o. IfErr o (λ e. ⊥)) → IfOutput result (λ o. IfErr o P)
-outputs_told P (Load c) never = tt
-outputs_told P (Output (Ok x)) never = tt
-outputs_told P (Output (Err e)) never = absurd never
+    by : (r : Result UnitIndex Error) → index_units c.sections ≡ r → (r >>= stop_in PassOver c.sections c.answers probe) ≡ Ok c.stop → (r >>= λ m. stop_in PassOver c.sections c.answers probe m >>= λ s. Ok (unit_told c.sections c.answers m s)) ≡ Ok (Some found)
+    by (Err e) k q = absurd cc
+    by (Ok m) k q = ap (λ r. r >>= λ s. Ok (unit_told c.sections c.answers m s)) q ∙ ap (λ o. Ok o) (told m c.stop w ∙ ap (λ o. Some o) (sym (f m k)))

@@ -109,9 +109,9 @@ module _ {R : Type 0} (d : Sections) (us : List UnitRecord) (old : List ResUnit)
       }
 
   module _ (new : List ResUnit) (same : new ≡ old) (entries : List (UnitEntries R)) (n looks : ℕ) (given : Option Sections) (result : Result (Unit {0}) Error) where
-    pub after_answer : {P : Type 0} → (P → is_some given ≡ true) → OnOk result (answers_in entries ≡ with_answer d us (answers_in held) n given) → IfErr result (λ e. (e ≡ OutOfMemory) × (answers_in entries ≡ answers_in held) × StayAllEntries held entries × P)
+    pub after_answer : {was is : Stop} {P : Type 0} → (P → is_some given ≡ true) → OnOk result (answers_in entries ≡ with_answer d us (answers_in held) n given) → IfErr result (λ e. (e ≡ OutOfMemory) × (answers_in entries ≡ answers_in held) × StayAllEntries held entries × P)
         → ((k : ℕ) → k ≢ n → slice_get entries k ≡ slice_get held k)
-        → AfterAnswer n given result (record { sections = d; answers = answers_in held; parsed = parsed_units old; known = known_in held; looks = looks }) (record { sections = d; answers = answers_in entries; parsed = parsed_units new; known = known_in entries; looks = looks })
+        → AfterAnswer n given result (record { sections = d; answers = answers_in held; parsed = parsed_units old; known = known_in held; looks = looks; stop = was }) (record { sections = d; answers = answers_in entries; parsed = parsed_units new; known = known_in entries; looks = looks; stop = is })
     after_answer {P = P} wants answers refused others = record {
       sections = refl;
       parsed = ap parsed_units same;

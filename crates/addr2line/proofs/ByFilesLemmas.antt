@@ -1,39 +1,33 @@
 -- Loads that files answer, one after another (on specs/LoadsByFiles.antt, specs/Loader.antt and
 -- specs/FramesByFiles.antt).
-use Rattle.std.proofs.Common.{◌≡◌, ◌≢◌, ◌<◌, ◌≤◌, inl, inr, ℕ, List, [], ◌∷◌, ◌++◌, length, Option, Some, None, Result, Ok, Err, false, arith, true, refl, sym, ap, subst, ◌∙◌}
+use Rattle.std.proofs.Common.{◌≡◌, ◌≢◌, ◌<◌, ◌≤◌, inl, inr, ℕ, List, [], ◌∷◌, ◌++◌, length, Option, Some, None, Result, Ok, Err, arith, true, refl, sym, ap, subst, ◌∙◌}
 use Rattle.std.proofs.lemmas.Bool.Decides.{eqb_tells}
 use Rattle.std.proofs.lemmas.List.{append_assoc}
 use Rattle.std.specs.Prelude.{IfSome, OnErr, OnOk}
 use Rattle.gimli_read.specs.declared.error.Error.{Error}
-use Rattle.gimli_read.specs.Reading.{◌>>=◌}
 use Rattle.gimli.specs.Sections.{Sections}
 use Rattle.elf.specs.declared.error.LoaderError.{LoaderError}
 use Rattle.elf.specs.declared.error.LoaderError.TheVariants.{OutOfMemory}
-use Rattle.elf.specs.ObjectFile.{ObjectFile}
 use Rattle.elf.specs.Text.{loader_error_of}
 use Rattle.addr2line_units.specs.declared.frames_lookup.Faults.TheVariants.{End}
 use Rattle.addr2line_units.specs.Frames.{FrameRecord}
-use Rattle.addr2line_units.specs.FramesLookup.{Stop, Waits, Finds, FindsNothing, answer_of, is_waiting}
+use Rattle.addr2line_units.specs.FramesLookup.{Waits, answer_of, is_waiting}
 use Rattle.gimli_read.specs.Alike.{HadMemory}
 use Rattle.addr2line_units.specs.Parsed.{has_parsed}
 use Rattle.addr2line_units.specs.Views.{FirstAnswers, SplitLoad}
-use Rattle.addr2line.specs.declared.stops.UnitStop.TheVariants as units
 use Rattle.addr2line.specs.Answers.{AfterAnswer, answered}
 use Rattle.addr2line.specs.Context.{ContextState}
 use Rattle.addr2line.specs.Files.{Files}
 use Rattle.addr2line.specs.FramesByFiles.{ended_frames_of, frames_by_files, stop_frames}
-use Rattle.addr2line.specs.History.{Given, Gives}
-use Rattle.addr2line.specs.UnitStops.{stop_at_unit, unit_stop}
-use Rattle.addr2line.specs.Loader.{AfterLoads, LoaderState}
+use Rattle.addr2line.specs.History.{Given, Answered}
 use Rattle.addr2line.specs.LoadsByFiles.{AfterAnswers, AnswersInTurn, AnswersOne, IsFaultByFiles, ReadsAsked, StayAnswered, WaitsForNone}
 use Rattle.addr2line.specs.AfterLookups.{AfterFrames, IsKnownFew}
-use Rattle.addr2line.specs.Lookups.{IsLoadOf, frames_of, frames_told, loads_at, lookup_stop}
+use Rattle.addr2line.specs.Lookups.{IsLoadOf, loads_at, lookup_stop}
 use Rattle.addr2line.specs.SplitFiles.{given_by_files}
 use Rattle.addr2line.proofs.AskedLemmas.{reads_more, reads_nothing}
 use Rattle.addr2line.proofs.FilesLookupLemmas.{answer_changes, first_answers_stay, frames_ended, frames_stay, refused_frames, stop_stays}
 use Rattle.addr2line.proofs.HistoryLemmas.{HasGiven, given_all, given_more}
-use Rattle.addr2line.proofs.LoadingLemmas.{if_some_both, no_oom, no_path, not_told}
-use Rattle.addr2line.proofs.SkippedLemmas.{then_waits}
+use Rattle.addr2line.proofs.LoadingLemmas.{if_some_both, not_told}
 use Rattle.addr2line.proofs.StayLemmas.{known_of_twice, same_stays_known}
 
 -- what holds of each files holds where they are known
@@ -177,41 +171,19 @@ module _ (files : Option Files) (probe : ℕ) (first : ContextState) where
     has_answered_one n new waits b only (inr p) = record {
       after = then_answered files first now new h.after b;
       only = only first h.only;
-      given = h.given ++ (Gives p.0 ∷ []);
-      so = subst (λ x. HasGiven End first.sections probe first.answers (h.given ++ (Gives p.0 ∷ [])) x) (sym (p.1 ∙ ap (λ d. answered d now.answers n p.0) h.after.sections))
-          (given_more End first.sections probe first.answers now.answers h.given h.so n p.0 (ap (λ d. lookup_stop End d now.answers probe) (sym h.after.sections) ∙ waits) (h.given ++ (Gives p.0 ∷ [])) (append_assoc h.given (Gives p.0 ∷ [])));
+      given = h.given ++ (Answered p.0 ∷ []);
+      so = subst (λ x. HasGiven End first.sections probe first.answers (h.given ++ (Answered p.0 ∷ [])) x) (sym (p.1 ∙ ap (λ d. answered d now.answers n p.0) h.after.sections))
+          (given_more End first.sections probe first.answers now.answers h.given h.so n p.0 (ap (λ d. lookup_stop End d now.answers probe) (sym h.after.sections) ∙ waits) (h.given ++ (Answered p.0 ∷ [])) (append_assoc h.given (Answered p.0 ∷ [])));
     }
 
     pub in_turn : AnswersInTurn probe first now
     in_turn = (h.given, sym (given_all End first.sections probe first.answers now.answers h.given h.so))
 
   -- the unit that a lookup waits for by then was answered
-  pub has_answered_after : {X : Type 0} (now : ContextState) → HasAnswered files probe first now → (r : Result X Error) (mid : ContextState) → AfterFrames End probe r now mid → (n : ℕ) → unit_stop End now.sections now.answers probe ≡ Ok (units.Waits n)
+  pub has_answered_after : {X : Type 0} (now : ContextState) → HasAnswered files probe first now → (r : Result X Error) (mid : ContextState) → AfterFrames End probe r now mid → (n : ℕ) → lookup_stop End mid.sections mid.answers probe ≡ Ok (Waits n)
       → (new : ContextState) → AfterAnswers files mid new → ((c : ContextState) → ReadsAsked probe c mid → ReadsAsked probe c new) → AnswersOne n mid new → HasAnswered files probe first new
   has_answered_after now h r mid a n stop new b only one =
-      has_answered_one mid (has_looked now h r mid a) n new (then_waits End probe r now mid a n stop) b only one
-
--- what a fault says of the lookup that it ends
-pub failed_stop : (e : Error) (r : Result Stop Error) → (r >>= λ s. Ok (stop_at_unit s)) ≡ Err e → (is_waiting r ≡ false) × (stop_frames r ≡ Err (loader_error_of e))
-failed_stop e (Ok s) h = absurd cc
-failed_stop e (Err f) h = (refl, cc)
-
--- what a lookup reads doesn't decide whether it waits
-pub still_ended : {X : Type 0} (probe : ℕ) (r : Result X Error) (old new : ContextState) → AfterFrames End probe r old new → WaitsForNone old probe → WaitsForNone new probe
-still_ended probe r old new a w =
-    ap (λ d. is_waiting (lookup_stop End d new.answers probe)) a.sections
-    ∙ ap (λ x. is_waiting (lookup_stop End old.sections x probe)) a.answers
-    ∙ w
-
--- nor which frames it gives
-pub ended_later : {X : Type 0} (probe : ℕ) (r : Result X Error) (old new : ContextState) → AfterFrames End probe r old new → ended_frames_of new probe ≡ ended_frames_of old probe
-ended_later probe r old new a =
-    ap (λ d. stop_frames (lookup_stop End d new.answers probe)) a.sections
-    ∙ ap (λ x. stop_frames (lookup_stop End old.sections x probe)) a.answers
-
--- the fault of a lookup that was read for is that of the frames afterwards
-pub stop_told : {X : Type 0} (probe : ℕ) (e : Error) (r : Result X Error) (old new : ContextState) → AfterFrames End probe r old new → unit_stop End old.sections old.answers probe ≡ Err e → ended_frames_of new probe ≡ Err (loader_error_of e)
-stop_told probe e r old new a h = ended_later probe r old new a ∙ (failed_stop e (lookup_stop End old.sections old.answers probe) h).1
+      has_answered_one mid (has_looked now h r mid a) n new stop b only one
 
 -- what it reads takes memory only where something is left to read, or more than 16 inlined functions
 -- stand there
@@ -221,70 +193,14 @@ looked_memory {X = X} probe e r old new is a w few =
     not_told e (subst (λ (x : Result X Error). HadMemory x) is (a.memory few ended))
 
 -- a fault that ends a lookup is one by the files
-pub stop_fault : (files : Option Files) (c : ContextState) (probe : ℕ) (e : Error) → (loader_error_of e ≢ OutOfMemory → unit_stop End c.sections c.answers probe ≡ Err e) → IsFaultByFiles files c probe (loader_error_of e)
+pub stop_fault : (files : Option Files) (c : ContextState) (probe : ℕ) (e : Error) → (loader_error_of e ≢ OutOfMemory → lookup_stop End c.sections c.answers probe ≡ Err e) → IsFaultByFiles files c probe (loader_error_of e)
 stop_fault files c probe e h = always files by
   where
     by : (held : Files) → loader_error_of e ≢ OutOfMemory → frames_by_files held c.sections c.answers probe ≡ Err (loader_error_of e)
-    by held ne =
-        let p = failed_stop e (lookup_stop End c.sections c.answers probe) (h ne) in
-        frames_ended (given_by_files held) c.sections c.answers probe p.0 ∙ p.1
+    by held ne = frames_ended (given_by_files held) c.sections c.answers probe (ap is_waiting (h ne)) ∙ ap stop_frames (h ne)
 
--- what the frames of a lookup say of what it comes to
-pub found_told : (frames : List FrameRecord) (stop : Result Stop Error) → (stop >>= λ s. Ok (frames_told s)) ≡ Ok (Some frames) → stop_frames stop ≡ Ok frames
-found_told frames (Ok (Waits n)) h = absurd cc
-found_told frames (Ok (Finds n fs)) h = cc
-found_told frames (Ok FindsNothing) h = cc
-found_told frames (Err e) h = absurd cc
-
-pub failed_told : (e : Error) (stop : Result Stop Error) → (stop >>= λ s. Ok (frames_told s)) ≡ Err e → stop_frames stop ≡ Err (loader_error_of e)
-failed_told e (Ok s) h = absurd cc
-failed_told e (Err f) h = cc
-
-module _ (files : Option Files) (probe : ℕ) (first mid : ContextState) (a : AfterAnswers files first mid) where
-  -- after the lookup of answers that were given in turn
-  still_in_turn : {X : Type 0} (r : Result X Error) (new : ContextState) → AnswersInTurn probe first mid → AfterFrames End probe r mid new → AnswersInTurn probe first new
-  still_in_turn r new t b = (t.0, b.answers ∙ t.1)
-
-  -- the frames, and the fault, of a lookup that waits no more are those by the files
-  module _ (ended : is_waiting (lookup_stop End mid.sections mid.answers probe) ≡ false) where
-    pub found_by_files : (frames : List FrameRecord) → frames_of mid.sections mid.answers probe ≡ Ok (Some frames) → IfSome files (λ held. frames_by_files held first.sections first.answers probe ≡ Ok frames)
-    found_by_files frames h = if_some_map files a.frames
-        (λ held p. sym (p probe) ∙ frames_ended (given_by_files held) mid.sections mid.answers probe ended ∙ found_told frames (lookup_stop End mid.sections mid.answers probe) h)
-
-    pub failed_by_files : (e : Error) → (loader_error_of e ≢ OutOfMemory → frames_of mid.sections mid.answers probe ≡ Err e)
-        → IfSome files (λ held. loader_error_of e ≢ OutOfMemory → frames_by_files held first.sections first.answers probe ≡ Err (loader_error_of e))
-    failed_by_files e h = if_some_map files a.frames
-        (λ held p ne. sym (p probe) ∙ frames_ended (given_by_files held) mid.sections mid.answers probe ended ∙ failed_told e (lookup_stop End mid.sections mid.answers probe) (h ne))
-
-  -- the loader after its lookup
-  module _ {X : Type 0} (object : ObjectFile) (r : Result X Error) (new : ContextState) (b : AfterFrames End probe r mid new) (t : AnswersInTurn probe first mid) (o : ReadsAsked probe first mid) (ended : WaitsForNone mid probe) where
-    abbrev loader : ContextState → LoaderState
-    loader c = record { files = files; object = object; context = c }
-
-    pub loader_found : (see : X → List FrameRecord) (x : X) → r ≡ Ok x → frames_of mid.sections mid.answers probe ≡ Ok (Some (see x)) → AfterLoads see probe (Ok x) (loader first) (loader new)
-    loader_found see x is h = record {
-      files = refl;
-      object = refl;
-      context = then_answered files first mid new a (after_look files probe r mid new b);
-      in_turn = still_in_turn r new t b;
-      only = reads_more probe r first mid new b o;
-      ended = λ _. still_ended probe r mid new b ended;
-      ready = λ _. b.ready (subst (λ (y : Result X Error). HadMemory y) (sym is) tt);
-      told = λ _. ended_later probe r mid new b ∙ found_told (see x) (lookup_stop End mid.sections mid.answers probe) h;
-      waits = tt;
-      memory = λ w few. tt;
-    }
-
-    pub loader_failed : (see : X → List FrameRecord) (e : Error) → r ≡ Err e → (loader_error_of e ≢ OutOfMemory → frames_of mid.sections mid.answers probe ≡ Err e) → AfterLoads see probe (Err (loader_error_of e)) (loader first) (loader new)
-    loader_failed see e is h = record {
-      files = refl;
-      object = refl;
-      context = then_answered files first mid new a (after_look files probe r mid new b);
-      in_turn = still_in_turn r new t b;
-      only = reads_more probe r first mid new b o;
-      ended = λ _. still_ended probe r mid new b ended;
-      ready = λ fault. b.ready (subst (λ (y : Result X Error). HadMemory y) (sym is) (no_oom e fault.0));
-      told = λ fault. ended_later probe r mid new b ∙ failed_told e (lookup_stop End mid.sections mid.answers probe) (h fault.0);
-      waits = λ q. absurd (no_path e q);
-      memory = looked_memory probe e r mid new is b;
-    }
+-- the frames of a lookup that waits no more are those by the files
+pub found_by_files : (files : Option Files) (probe : ℕ) (first mid : ContextState) → AfterAnswers files first mid → WaitsForNone mid probe → (frames : List FrameRecord) → ended_frames_of mid probe ≡ Ok frames
+    → IfSome files (λ held. frames_by_files held first.sections first.answers probe ≡ Ok frames)
+found_by_files files probe first mid a ended frames h = if_some_map files a.frames
+    (λ held p. sym (p probe) ∙ frames_ended (given_by_files held) mid.sections mid.answers probe ended ∙ h)

@@ -16,7 +16,7 @@ use Rattle.addr2line_units.specs.declared.unit.LazyLines.TheVariants.{Faulty, Re
 use Rattle.addr2line_units.specs.declared.unit.ResUnit.{ResUnit}
 use Rattle.addr2line_units.specs.declared.unit_frames.UnitEntries.{UnitEntries}
 use Rattle.addr2line_units.specs.CachedLines.{AreLinesOf, HaveLinesOf, StayUnits, cached_spans, indexed_units, is_parsed, is_uncached, lines_at, parsed_units}
-use Rattle.addr2line_units.specs.FramesLookup.{main_scope}
+use Rattle.addr2line_units.specs.FramesLookup.{Stop, main_scope}
 use Rattle.addr2line_units.specs.CachedUnits.{HaveEntriesOf, answers_in}
 use Rattle.addr2line_units.specs.KnownEntries.{known_in}
 use Rattle.addr2line_units.specs.Located.{along, all_lines, is_found, lines_of_unit, location_in, location_of, or_along, spans_in, spans_or_fault, looks_along, spans_along, spans_of}
@@ -81,12 +81,12 @@ module _ (d : Sections) (us : List UnitRecord) (old : List ResUnit) (ranges : Li
   of_made : (P : UnitIndex → Type 0) → P (record { units = indexed_units us old; ranges = ranges; sup_units = sup }) → (m : UnitIndex) → index_units d ≡ Ok m → P m
   of_made P h m e = subst P (ok_is _ _ (sym made_is ∙ e)) h
 
-  module _ {R : Type 0} (new : List ResUnit) (stay : StayUnits old new) (held then : List (UnitEntries R)) (same : then ≡ held) (looks now : ℕ) where
+  module _ {R : Type 0} (new : List ResUnit) (stay : StayUnits old new) (held then : List (UnitEntries R)) (same : then ≡ held) (looks now : ℕ) (was is : Stop) where
     abbrev before : ContextState
-    before = record { sections = d; answers = answers_in held; parsed = parsed_units old; known = known_in held; looks = looks }
+    before = record { sections = d; answers = answers_in held; parsed = parsed_units old; known = known_in held; looks = looks; stop = was }
 
     abbrev after : ContextState
-    after = record { sections = d; answers = answers_in then; parsed = parsed_units new; known = known_in then; looks = now }
+    after = record { sections = d; answers = answers_in then; parsed = parsed_units new; known = known_in then; looks = now; stop = is }
 
     pub all_stays : Stays before after
     all_stays = record { sections = refl; answers = ap answers_in same; known = ap known_in same; parsed = stay_parsed old new stay }
@@ -116,10 +116,10 @@ module _ (d : Sections) (us : List UnitRecord) (old : List ResUnit) (ranges : Li
     pub ready_after_parse : AreReadyForAll d (indexed_units us old) (parsed_units new) → IsReadyForAll after
     ready_after_parse ready = of_made (λ m. AreReadyForAll d m.units (parsed_units new)) ready
 
-  pub after_range_lookup : {R : Type 0} (new : List ResUnit) → StayUnits old new → (held then : List (UnitEntries R)) → then ≡ held → (looks : ℕ) → {X : Type 0} (low high : ℕ) (result : Result X Error) → (HadMemory result → AreParsed (parsed_units new) (cover_range low high ranges)) → (AreParsed (parsed_units new) (cover_range low high ranges) → HadMemory result) → ParsesOnly (LeadTo (cover_range low high ranges)) (parsed_units old) (parsed_units new)
-      → AfterRangeLookup low high result (record { sections = d; answers = answers_in held; parsed = parsed_units old; known = known_in held; looks = looks }) (record { sections = d; answers = answers_in then; parsed = parsed_units new; known = known_in then; looks = looks })
-  after_range_lookup new stay held then kept looks low high result ready memory only = record {
-    stays = all_stays new stay held then kept looks looks;
+  pub after_range_lookup : {R : Type 0} (new : List ResUnit) → StayUnits old new → (held then : List (UnitEntries R)) → then ≡ held → (looks : ℕ) (was is : Stop) → {X : Type 0} (low high : ℕ) (result : Result X Error) → (HadMemory result → AreParsed (parsed_units new) (cover_range low high ranges)) → (AreParsed (parsed_units new) (cover_range low high ranges) → HadMemory result) → ParsesOnly (LeadTo (cover_range low high ranges)) (parsed_units old) (parsed_units new)
+      → AfterRangeLookup low high result (record { sections = d; answers = answers_in held; parsed = parsed_units old; known = known_in held; looks = looks; stop = was }) (record { sections = d; answers = answers_in then; parsed = parsed_units new; known = known_in then; looks = looks; stop = is })
+  after_range_lookup new stay held then kept looks was is low high result ready memory only = record {
+    stays = all_stays new stay held then kept looks looks was is;
     ready = λ answered. of_made (λ m. AreParsed (parsed_units new) (cover_range low high m.ranges)) (ready answered);
     memory = λ at_last. memory (at_last _ made_is);
     only = of_made (λ m. ParsesOnly (LeadTo (cover_range low high m.ranges)) (parsed_units old) (parsed_units new)) only;

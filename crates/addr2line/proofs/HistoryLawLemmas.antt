@@ -19,7 +19,7 @@ use Rattle.addr2line_units.specs.RangedUnits.{IndexedUnit, unit_records}
 use Rattle.addr2line_units.specs.Views.{FirstAnswers, SplitLoad, decided_answer}
 use Rattle.addr2line_units.proofs.LoadLawLemmas.{others_left, waits_listed}
 use Rattle.addr2line.specs.Answers.{answered}
-use Rattle.addr2line.specs.History.{Given, Gives, GivesUp, where_waiting}
+use Rattle.addr2line.specs.History.{Given, Answered, Abandoned, where_waiting}
 use Rattle.addr2line.specs.HistoryLaws.{AreDistinct, WaitsForEachOnce, waited_for}
 use Rattle.addr2line.specs.Lookups.{loads_at, lookup_stop, stop_in}
 
@@ -88,8 +88,8 @@ module _ (faults : Faults) (d : Sections) (m : UnitIndex) (probe : ℕ) (e : ind
 
   once : (answers : FirstAnswers) (given : List Given) → length us ≡ length answers → Once answers (waited_for faults d probe answers given)
   once answers [] many = by_stop answers (λ n. n ∷ []) (λ n w. ((tt, tt), (waits_for_listed answers n w, tt))) (lookup_stop faults d answers probe) refl
-  once answers (GivesUp ∷ given) many = by_stop answers (λ n. n ∷ []) (λ n w. ((tt, tt), (waits_for_listed answers n w, tt))) (lookup_stop faults d answers probe) refl
-  once answers (Gives x ∷ given) many = by_stop answers (λ n. n ∷ waited_for faults d probe (answered d answers n x) given)
+  once answers (Abandoned ∷ given) many = by_stop answers (λ n. n ∷ []) (λ n w. ((tt, tt), (waits_for_listed answers n w, tt))) (lookup_stop faults d answers probe) refl
+  once answers (Answered x ∷ given) many = by_stop answers (λ n. n ∷ waited_for faults d probe (answered d answers n x) given)
       (λ n w. once_more answers n x _ many (waits_for_listed answers n w) (once (answered d answers n x) given (many ∙ sym (ap length (answers_are answers n x) ∙ as_many answers n x))))
       (lookup_stop faults d answers probe) refl
 

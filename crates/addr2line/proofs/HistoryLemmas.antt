@@ -10,7 +10,7 @@ use Rattle.gimli_read.specs.Alike.{HadMemory}
 use Rattle.addr2line_units.specs.Parsed.{StaysParsed, has_parsed}
 use Rattle.addr2line.specs.Answers.{AfterResume, answered}
 use Rattle.addr2line.specs.Context.{ContextState}
-use Rattle.addr2line.specs.History.{Given, Gives, GivesUp, answers_given, where_waiting}
+use Rattle.addr2line.specs.History.{Given, Answered, Abandoned, answers_given, where_waiting}
 use Rattle.addr2line.specs.Lookups.{lookup_stop}
 use Rattle.addr2line_units.specs.Views.{FirstAnswers}
 
@@ -28,14 +28,14 @@ where_ended f x (Err e) h = refl
 module _ (faults : Faults) (d : Sections) (probe : ℕ) where
   -- a lookup that waits, given one more answer
   pub given_one : (answers : FirstAnswers) (n : ℕ) (x : Option Sections) (given : List Given) → lookup_stop faults d answers probe ≡ Ok (Waits n)
-      → answers_given faults d probe answers (Gives x ∷ given) ≡ answers_given faults d probe (answered d answers n x) given
+      → answers_given faults d probe answers (Answered x ∷ given) ≡ answers_given faults d probe (answered d answers n x) given
   given_one answers n x given e = where_waits (λ k. answers_given faults d probe (answered d answers k x) given) answers _ n e
 
   -- a lookup that has ended takes no more answers
   pub given_ended : (answers : FirstAnswers) (given : List Given) → is_waiting (lookup_stop faults d answers probe) ≡ false → answers_given faults d probe answers given ≡ answers
   given_ended answers [] e = refl
-  given_ended answers (GivesUp ∷ given) e = refl
-  given_ended answers (Gives x ∷ given) e = where_ended (λ k. answers_given faults d probe (answered d answers k x) given) answers _ e
+  given_ended answers (Abandoned ∷ given) e = refl
+  given_ended answers (Answered x ∷ given) e = where_ended (λ k. answers_given faults d probe (answered d answers k x) given) answers _ e
 
 -- the answers of a list, one by one
 module _ {A B : Type 0} (f : A → B) (xs : List A) (i : ℕ) (a : A) (h : i < length xs) (e : a ≡ get_or xs i a) where
@@ -67,16 +67,16 @@ module _ (faults : Faults) (d : Sections) (probe : ℕ) (first now : FirstAnswer
   pub given_all : answers_given faults d probe first given ≡ now
   given_all = ap (answers_given faults d probe first) (sym (append-nil given)) ∙ so []
 
-  pub given_up : (rest all : List Given) → given ++ (GivesUp ∷ rest) ≡ all → answers_given faults d probe first all ≡ now
-  given_up rest all e = ap (answers_given faults d probe first) (sym e) ∙ so (GivesUp ∷ rest)
+  pub given_up : (rest all : List Given) → given ++ (Abandoned ∷ rest) ≡ all → answers_given faults d probe first all ≡ now
+  given_up rest all e = ap (answers_given faults d probe first) (sym e) ∙ so (Abandoned ∷ rest)
 
   -- one more answer is given
   module _ (n : ℕ) (x : Option Sections) (waits : lookup_stop faults d now probe ≡ Ok (Waits n)) where
-    pub given_more : (more : List Given) → ((rest : List Given) → more ++ rest ≡ given ++ (Gives x ∷ rest)) → HasGiven faults d probe first more (answered d now n x)
-    given_more more e rest = ap (answers_given faults d probe first) (e rest) ∙ so (Gives x ∷ rest) ∙ given_one faults d probe now n x rest waits
+    pub given_more : (more : List Given) → ((rest : List Given) → more ++ rest ≡ given ++ (Answered x ∷ rest)) → HasGiven faults d probe first more (answered d now n x)
+    given_more more e rest = ap (answers_given faults d probe first) (e rest) ∙ so (Answered x ∷ rest) ∙ given_one faults d probe now n x rest waits
 
-    pub given_last : (rest all : List Given) → given ++ (Gives x ∷ rest) ≡ all → is_waiting (lookup_stop faults d (answered d now n x) probe) ≡ false → answers_given faults d probe first all ≡ answered d now n x
-    given_last rest all e ended = ap (answers_given faults d probe first) (sym e) ∙ so (Gives x ∷ rest) ∙ given_one faults d probe now n x rest waits ∙ given_ended faults d probe (answered d now n x) rest ended
+    pub given_last : (rest all : List Given) → given ++ (Answered x ∷ rest) ≡ all → is_waiting (lookup_stop faults d (answered d now n x) probe) ≡ false → answers_given faults d probe first all ≡ answered d now n x
+    given_last rest all e ended = ap (answers_given faults d probe first) (sym e) ∙ so (Answered x ∷ rest) ∙ given_one faults d probe now n x rest waits ∙ given_ended faults d probe (answered d now n x) rest ended
 
 -- a context after an answer with which a lookup went on
 module _ {X : Type 0} (faults : Faults) (probe n : ℕ) (x : Option Sections) (o : Result X Error) (old new : ContextState) (after : AfterResume faults probe n x o old new) where

@@ -15,7 +15,7 @@ use Rattle.addr2line_units.specs.declared.unit.ResUnit.{ResUnit}
 use Rattle.addr2line_units.specs.declared.unit_frames.UnitEntries.{UnitEntries}
 use Rattle.addr2line_units.specs.CachedLines.{parsed_units}
 use Rattle.addr2line_units.specs.Cover.{cover}
-use Rattle.addr2line_units.specs.FramesLookup.{answer_of, asked_frames, main_scope, stop_along, with_answer}
+use Rattle.addr2line_units.specs.FramesLookup.{FindsNothing, Stop, answer_of, asked_frames, main_scope, stop_along, with_answer}
 use Rattle.addr2line_units.specs.FunctionParseLaws.{IsReached}
 use Rattle.addr2line_units.specs.FunctionParses.{AreFirstDecided, AreReadBefore, AreReadyFor, IsReadyFor, answers_after_parse, read_of_units}
 use Rattle.addr2line_units.specs.CachedEntries.{has_entries}
@@ -62,10 +62,10 @@ module _ {R : Type 0} (d : Sections) (us : List UnitRecord) (old : List ResUnit)
   pub listed_are : (probe : ℕ) → loads_at d (answers_in held) probe ≡ loads_along (load_of_number d us (answers_in held)) (cover probe ranges)
   listed_are probe = loads_are d us old held ranges sup i (answers_in held) probe
 
-  pub not_open_is : (n looks : ℕ) → IsNotOpen (record { sections = d; answers = answers_in held; parsed = parsed_units old; known = known_in held; looks = looks }) n → is_open_at d us (answers_in held) n ≡ false
+  pub not_open_is : (n looks : ℕ) → IsNotOpen (record { sections = d; answers = answers_in held; parsed = parsed_units old; known = known_in held; looks = looks; stop = FindsNothing }) n → is_open_at d us (answers_in held) n ≡ false
   not_open_is n looks h = subst (λ xs. is_open_at d xs (answers_in held) n ≡ false) same_units (h made i.made_is)
 
-  pub none_open_are : (probe looks : ℕ) → NoneOpenAt (record { sections = d; answers = answers_in held; parsed = parsed_units old; known = known_in held; looks = looks }) probe → NoneOpen d us (answers_in held) (cover probe ranges)
+  pub none_open_are : (probe looks : ℕ) → NoneOpenAt (record { sections = d; answers = answers_in held; parsed = parsed_units old; known = known_in held; looks = looks; stop = FindsNothing }) probe → NoneOpen d us (answers_in held) (cover probe ranges)
   none_open_are probe looks h = subst (λ xs. NoneOpen d xs (answers_in held) (cover probe ranges)) same_units (h made i.made_is)
 
   pub parse_is : (reads : ReadingDepth) → parse_reply reads d (answers_in held) ≡ read_of_units reads (scope_in d us sup) us (answers_in held)
@@ -80,12 +80,12 @@ module _ {R : Type 0} (d : Sections) (us : List UnitRecord) (old : List ResUnit)
       ∙ ap (λ xs. answers_after_parse reads (main_scope d made) xs (answers_in held)) same_units
       ∙ ap (λ s. answers_after_parse reads s us (answers_in held)) (sym (scope_is d us old held ranges sup i))
 
-  module _ (new : List ResUnit) (same : new ≡ old) (entries : List (UnitEntries R)) (looks : ℕ) where
+  module _ (new : List ResUnit) (same : new ≡ old) (entries : List (UnitEntries R)) (looks : ℕ) (was is : Stop) where
     abbrev before : ContextState
-    before = record { sections = d; answers = answers_in held; parsed = parsed_units old; known = known_in held; looks = looks }
+    before = record { sections = d; answers = answers_in held; parsed = parsed_units old; known = known_in held; looks = looks; stop = was }
 
     abbrev after : ContextState
-    after = record { sections = d; answers = answers_in entries; parsed = parsed_units new; known = known_in entries; looks = looks }
+    after = record { sections = d; answers = answers_in entries; parsed = parsed_units new; known = known_in entries; looks = looks; stop = is }
 
     stays_read : StaysRead before after
     stays_read = record { sections = refl; parsed = ap parsed_units same; looks = refl }
@@ -160,9 +160,7 @@ module _ {R : Type 0} (d : Sections) (us : List UnitRecord) (old : List ResUnit)
       ready = λ told. λ m e. subst (λ x. AreReadyFor reads (main_scope d x) (unit_records x.units) (answers_in entries) (known_in entries)) (ok_is _ _ (sym i.made_is ∙ e))
           (subst (λ xs. AreReadyFor reads (main_scope d made) xs (answers_in entries) (known_in entries)) (sym same_units) (subst (λ s. AreReadyFor reads s us (answers_in entries) (known_in entries)) (scope_is d us old held ranges sup i) (ready told)));
       exact = λ known. exact (were_ready reads known) ∙ sym (parse_is reads);
-      same = λ known.
-          ap (λ vs. record { sections = d; answers = answers_in vs; parsed = parsed_units new; known = known_in vs; looks = looks }) (unchanged (were_ready reads known))
-          ∙ ap (λ rs. record { sections = d; answers = answers_in held; parsed = parsed_units rs; known = known_in held; looks = looks }) same;
+      same = λ known. let e = unchanged (were_ready reads known) in (ap answers_in e, ap known_in e);
     }
       where
         were_ready : (r : ReadingDepth) → IsReadyToRead r before → AreReadyFor r (scope_in d us sup) us (answers_in held) (known_in held)

@@ -6,7 +6,8 @@ use Rattle.gimli.specs.Sections.{Sections, SupSections}
 use Rattle.elf.specs.Loading.{Loading, LoadsUnlessOom}
 use Rattle.elf.specs.ObjectFile.{ObjectFile, object_file_of}
 use Rattle.addr2line.specs.Context.{ContextState, new_context}
-use Rattle.addr2line.specs.Loaded.{AreSectionsOf, AreSupOfBytes, IsFileOfBytes, IsLoaded, as_sup, context_at, main_with_sup, sections_of_file}
+use Rattle.addr2line.specs.Files.{Files}
+use Rattle.addr2line.specs.Loaded.{AreSectionsOf, AreSupOfBytes, IsFileOfBytes, IsLoaded, as_sup, context_at, dwarf_at, loaded, main_with_sup, object_at, sections_of_file}
 use Rattle.addr2line.specs.SplitFiles.{of_file}
 
 -- a file that was parsed
@@ -40,3 +41,10 @@ loader_made has_sup file is (Ok d) are c gives = record { file_is = is; sections
     of_loading (Ok x) h = cc
     of_loading (Err e) h = absurd cc
 loader_made has_sup file is (Err e) are c gives = absurd (let no = gives (Err e) (λ ne. refl) in cc)
+
+-- what is loaded, by its two steps
+pub loaded_by : (held : Files) (path : List ℕ) (sup_path : Option (List ℕ)) (object : ObjectFile) (context : ContextState) → object_at held path ≡ Ok object → context_at (dwarf_at held object sup_path) ≡ Ok context → loaded held path sup_path ≡ Ok (object, context)
+unfolding loaded
+loaded_by held path sup_path object context e f =
+    ap (λ r. r >>= λ file. context_at (dwarf_at held file sup_path) >>= λ c. Ok (file, c)) e
+    ∙ ap (λ r. r >>= λ c. Ok (object, c)) f

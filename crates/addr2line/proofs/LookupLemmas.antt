@@ -1,15 +1,16 @@
 -- What a lookup of frames comes to in a context, by what is cached (on specs/Lookups.antt and
 -- specs/AfterLookups.antt).
-use Rattle.std.proofs.Common.{◌≡◌, ◌≢◌, ◌⊎◌, inl, inr, ℕ, zero, suc, arith, length, ◌<◌, ◌≤◌, ◌&&◌, ◌||◌, Bool, true, false, not, List, [], ◌∷◌, slice_get, Option, Some, None, option_map, Result, Ok, Err, refl, sym, ap, subst, ◌∙◌}
-use Rattle.std.specs.Prelude.{IfErr, IfOk, IfSome}
+use Rattle.std.proofs.Common.{◌≡◌, ◌≢◌, ◌⊎◌, inl, inr, ℕ, zero, suc, arith, length, ◌<◌, ◌≤◌, ◌&&◌, ◌||◌, Bool, true, not, List, [], ◌∷◌, slice_get, Option, Some, None, option_map, Result, Ok, Err, refl, sym, ap, subst, ◌∙◌}
+use Rattle.std.specs.Prelude.{IfOk, IfSome}
 use Rattle.gimli_read.specs.declared.error.Error.{Error}
 use Rattle.gimli_read.specs.declared.error.Error.TheVariants.{OutOfMemory}
-use Rattle.gimli_read.specs.Reading.{◌>>=◌, ExactlyUnlessOom}
+use Rattle.gimli_read.specs.Reading.{◌>>=◌}
 use Rattle.gimli.specs.Sections.{Sections, SupSections}
 use Rattle.gimli.specs.Unit.{UnitRecord}
 use Rattle.addr2line_lines.specs.References.{FileRecord, IsScope, Scope}
 use Rattle.addr2line_units.specs.declared.frames_lookup.Faults.{Faults}
 use Rattle.addr2line_units.specs.declared.frames_lookup.Faults.TheVariants.{PassOver}
+use Rattle.addr2line_units.specs.declared.frames_lookup.FramePlace.{FramePlace}
 use Rattle.addr2line_units.specs.declared.frames_lookup.FramesStop.{FramesStop}
 use Rattle.addr2line_units.specs.declared.frames_lookup.FramesStop.TheVariants as stops
 use Rattle.addr2line_units.specs.declared.index.UnitRange.{UnitRange}
@@ -19,9 +20,9 @@ use Rattle.addr2line_units.specs.declared.unit_frames.UnitEntries.{UnitEntries}
 use Rattle.addr2line_units.specs.CachedLines.{HaveLinesOf, StayUnits, indexed_units, parsed_units}
 use Rattle.addr2line_units.specs.Cover.{cover}
 use Rattle.addr2line_units.specs.Frames.{FrameRecord}
-use Rattle.addr2line_units.specs.FramesLookup.{LookupAsks, Stop, Waits, Finds, FindsNothing, after_fault, asked_frames, asks_lines_of, ends_lookup, frames_found, frames_of_number, has_many_of, holds_along, is_waiting, main_scope, or_stop, readable_view, stop_along, view_of_number}
-use Rattle.addr2line_units.specs.CachedUnits.{HaveEntriesOf, HaveViewsOf, ReadsOnly, StayAllEntries, answers_in, decided_along, decided_at, waits_at}
-use Rattle.addr2line_units.specs.CachedFrames.{has_frames_at, seen_stop}
+use Rattle.addr2line_units.specs.FramesLookup.{LookupAsks, Stop, Waits, Finds, FindsNothing, after_fault, asked_frames, asks_lines_of, ends_lookup, frames_of_number, has_many_of, holds_along, main_scope, or_stop, readable_view, stop_along, unit_found, view_of_number}
+use Rattle.addr2line_units.specs.CachedUnits.{HaveEntriesOf, HaveViewsOf, ReadsOnly, StayAllEntries, answers_in, decided_at, waits_at}
+use Rattle.addr2line_units.specs.CachedFrames.{IsLendable, frames_at_place, has_frames_at, seen_stop}
 use Rattle.addr2line_units.specs.KnownEntries.{known_in}
 use Rattle.gimli_read.specs.Alike.{HadMemory}
 use Rattle.addr2line_units.specs.Parsed.{ParsesOnly, has_parsed}
@@ -29,21 +30,16 @@ use Rattle.addr2line_units.specs.UnitIndex.{UnitIndex, index_units, sup_sections
 use Rattle.addr2line_units.specs.RangedUnits.{IndexedUnit, unit_records}
 use Rattle.addr2line_units.specs.Views.{FirstAnswers, SplitLoad, load_of_unit, parts_of}
 use Rattle.addr2line_units.specs.UnitFrames.{FramesResult}
-use Rattle.addr2line_units.proofs.EndedLemmas.{ended_where_decided}
-use Rattle.addr2line_units.proofs.FoundLemmas.{known_where_found}
 use Rattle.addr2line_units.proofs.CachedUnitLemmas.{same_answers}
 use Rattle.addr2line_units.proofs.KnownLemmas.{known_is, known_unchanged}
 use Rattle.addr2line_units.proofs.ScopeLemmas.{main_scope_in_order, records_beside}
 use Rattle.addr2line_units.proofs.UnitsLemmas.{stay_indexed, stay_parsed}
-use Rattle.addr2line_units.proofs.WaitLemmas.{as_many_views, views_of_entries, waits_where_told, waits_within}
+use Rattle.addr2line_units.proofs.WaitLemmas.{as_many_views, views_of_entries, waits_within}
 use Rattle.addr2line.proofs.NewContextLemmas.{ok_is}
 use Rattle.addr2line.proofs.StayLemmas.{stays_known}
 use Rattle.addr2line.specs.Context.{ContextState, IsContext, index_by}
-use Rattle.addr2line.specs.declared.stops.UnitStop.{UnitStop}
-use Rattle.addr2line.specs.declared.stops.UnitStop.TheVariants as units
-use Rattle.addr2line.specs.UnitStops.{cached_stop_at_unit, stop_at_unit, unit_stop}
 use Rattle.addr2line.specs.AfterLookups.{AfterFrames, IsKnown, IsKnownFew, has_all_of, has_few_of}
-use Rattle.addr2line.specs.Lookups.{IsLoadOf, frames_told, lookup_stop, stop_in, unit_of, unit_told}
+use Rattle.addr2line.specs.Lookups.{IsLoadOf, lookup_stop, stop_in}
 use Rattle.addr2line_units.specs.SeenUnit.{scope_in}
 
 -- along ranges what is equal of each number
@@ -52,16 +48,6 @@ holds_same h k frames [] e = refl
 holds_same h k frames (r ∷ ranges) e =
     ap (λ b. b && (ends_lookup (frames r.unit) || holds_along h frames ranges)) (e r.unit)
     ∙ ap (λ b. k r.unit && (ends_lookup (frames r.unit) || b)) (holds_same h k frames ranges e)
-
--- a lookup by number
-finds_by : (n : ℕ) (r : Result Stop Error) → (r >>= λ s. Ok (stop_at_unit s)) ≡ Ok (units.Finds n) → (fs : List FrameRecord) × (r ≡ Ok (Finds n fs))
-finds_by n (Err e) h = absurd cc
-finds_by n (Ok (Waits k)) h = absurd cc
-finds_by n (Ok FindsNothing) h = absurd cc
-finds_by n (Ok (Finds k fs)) h = (fs, ap (λ j. Ok (Finds j fs)) (same_number k n h))
-  where
-    same_number : (k n : ℕ) → ◌≡◌ {A = Result UnitStop Error} (Ok (units.Finds k)) (Ok (units.Finds n)) → k ≡ n
-    same_number k n e = cc
 
 module _ {R : Type 0} where
   module _ (d : Sections) (us : List UnitRecord) (old : List ResUnit) (held : List (UnitEntries R)) (ranges : List UnitRange) (sup : SupUnits R) (i : IsContext d us old held ranges sup.units.items sup.dwarf) where
@@ -121,51 +107,19 @@ module _ {R : Type 0} where
         scope_stays : scope_in d vs sup ≡ main_scope d (index_by vs new now sup.units.items)
         scope_stays = ap (λ (xs : List UnitRecord). scope_in d xs sup) whole ∙ scope_is ∙ ap (main_scope d) (sym made_stays)
 
-    -- a lookup that waits for a unit, where what it asks for is known, waits for one that waits
-    pub waits_told : (faults : Faults) (probe n looks : ℕ) → lookup_stop faults d (answers_in held) probe ≡ Ok (Waits n)
-        → IsKnown faults (record { sections = d; answers = answers_in held; parsed = parsed_units old; known = known_in held; looks = looks }) probe → waits_at held n ≡ true
-    waits_told faults probe n looks w known =
-        waits_where_told (main_scope d made) probe faults us old held (asks_lines_of (main_scope d made) (indexed_units us old) (answers_in held) probe) (parsed_units old) (cover probe ranges) n i.entries
-        (sym (holds_same _ _ (asked_frames faults (main_scope d made) (indexed_units us old) (answers_in held) probe) (cover probe ranges) all_is) ∙ known made i.made_is)
-        (sym (ap (λ r. r >>= stop_in faults d (answers_in held) probe) i.made_is) ∙ w)
-      where
-        all_is : (k : ℕ) → has_all_of (record { sections = d; answers = answers_in held; parsed = parsed_units old; known = known_in held; looks = looks }) probe made k
-            ≡ has_frames_at (asks_lines_of (main_scope d made) (indexed_units us old) (answers_in held) probe) probe (parsed_units old) held k
-        all_is k = ap (λ b. b && (not (asks_lines_of (main_scope d made) (indexed_units us old) (answers_in held) probe k) || has_parsed (parsed_units old) k)) (known_is probe held k)
+    -- the view of the unit of a number is that of what is found there
+    pub unit_told_of : (n : ℕ) (frames : List FrameRecord) (found : Option (Sections × UnitRecord)) → found ≡ option_map parts_of (readable_view (view_of_number d us (answers_in held) n))
+        → (m : UnitIndex) → index_units d ≡ Ok m → found ≡ unit_found d (unit_records m.units) (answers_in held) (Finds n frames)
+    unit_told_of n frames found e =
+        of_made (λ m. found ≡ unit_found d (unit_records m.units) (answers_in held) (Finds n frames))
+        (e ∙ ap (λ xs. option_map parts_of (readable_view (view_of_number d xs (answers_in held) n))) (sym (records_beside d us old i.lines)))
 
-    -- a lookup waits for no unit where all views are known
-    pub never_waits : (faults : Faults) (probe : ℕ) → not (decided_along held (cover probe ranges)) ≡ false → is_waiting (lookup_stop faults d (answers_in held) probe) ≡ false
-    never_waits faults probe decided =
-        ap is_waiting (stop_is faults probe) ∙ ended_where_decided (scope_in d us sup) probe faults us old held (cover probe ranges) entries_in_scope (by (decided_along held (cover probe ranges)) decided)
-      where
-        by : (b : Bool) → not b ≡ false → b ≡ true
-        by true e = refl
-        by false e = absurd cc
-
-    -- a lookup of a unit that has found one, where what it asks for is known, has found one whose view
-    -- is known
-    pub found_told : (probe n looks : ℕ) → unit_stop PassOver d (answers_in held) probe ≡ Ok (units.Finds n)
-        → IsKnown PassOver (record { sections = d; answers = answers_in held; parsed = parsed_units old; known = known_in held; looks = looks }) probe → decided_at held n ≡ true
-    found_told probe n looks w known =
-        let f = finds_by n (lookup_stop PassOver d (answers_in held) probe) w in
-        known_where_found (main_scope d made) probe PassOver us old held (asks_lines_of (main_scope d made) (indexed_units us old) (answers_in held) probe) (parsed_units old) (cover probe ranges) n f.0 i.entries
-        (sym (holds_same _ _ (asked_frames PassOver (main_scope d made) (indexed_units us old) (answers_in held) probe) (cover probe ranges) all_is) ∙ known made i.made_is)
-        (sym (ap (λ r. r >>= stop_in PassOver d (answers_in held) probe) i.made_is) ∙ f.1)
-      where
-        all_is : (k : ℕ) → has_all_of (record { sections = d; answers = answers_in held; parsed = parsed_units old; known = known_in held; looks = looks }) probe made k
-            ≡ has_frames_at (asks_lines_of (main_scope d made) (indexed_units us old) (answers_in held) probe) probe (parsed_units old) held k
-        all_is k = ap (λ b. b && (not (asks_lines_of (main_scope d made) (indexed_units us old) (answers_in held) probe k) || has_parsed (parsed_units old) k)) (known_is probe held k)
-
-    -- its view
-    pub unit_told_of : (probe n : ℕ) (found : Option (Sections × UnitRecord)) → unit_stop PassOver d (answers_in held) probe ≡ Ok (units.Finds n) → found ≡ option_map parts_of (readable_view (view_of_number d us (answers_in held) n))
-        → unit_of d (answers_in held) probe ≡ Ok (Some found)
-    unit_told_of probe n found w e =
-        let f = finds_by n (lookup_stop PassOver d (answers_in held) probe) w in
-        let stop : stop_in PassOver d (answers_in held) probe made ≡ Ok (Finds n f.0) = sym (ap (λ r. r >>= stop_in PassOver d (answers_in held) probe) i.made_is) ∙ f.1 in
-        ap (λ r. r >>= λ m. stop_in PassOver d (answers_in held) probe m >>= λ s. Ok (unit_told d (answers_in held) m s)) i.made_is
-        ∙ ap (λ r. r >>= λ s. Ok (unit_told d (answers_in held) made s)) stop
-        ∙ ap (λ xs. Ok (Some (option_map parts_of (readable_view (view_of_number d xs (answers_in held) n))))) (records_beside d us old i.lines)
-        ∙ ap (λ o. Ok (Some o)) (sym e)
+    -- the same of what a lookup has stored
+    pub found_if_stored : (last : FramesStop) (p : FramePlace) (n : ℕ) (found : Option (Sections × UnitRecord)) → last ≡ stops.Finds p → n ≡ p.unit → found ≡ option_map parts_of (readable_view (view_of_number d us (answers_in held) n))
+        → (m : UnitIndex) → index_units d ≡ Ok m → found ≡ unit_found d (unit_records m.units) (answers_in held) (seen_stop old held last)
+    found_if_stored last p n found e k h m is =
+        subst (λ l. found ≡ unit_found d (unit_records m.units) (answers_in held) (seen_stop old held l)) (sym e)
+        (unit_told_of p.unit (frames_at_place old held p) found (subst (λ j. found ≡ option_map parts_of (readable_view (view_of_number d us (answers_in held) j))) k h) m is)
 
     pub views_are : HaveViewsOf d us held
     views_are = views_of_entries (main_scope d made) us held i.entries
@@ -189,12 +143,12 @@ module _ {R : Type 0} where
         of None e k = absurd (within_some us n there e)
         of (Some u) e k = ap Some k
 
-    module _ (new : List ResUnit) (stay : StayUnits old new) (entries : List (UnitEntries R)) (stays : StayAllEntries held entries) (looks now : ℕ) where
+    module _ (new : List ResUnit) (stay : StayUnits old new) (entries : List (UnitEntries R)) (stays : StayAllEntries held entries) (looks now : ℕ) (was is : Stop) where
       abbrev before : ContextState
-      before = record { sections = d; answers = answers_in held; parsed = parsed_units old; known = known_in held; looks = looks }
+      before = record { sections = d; answers = answers_in held; parsed = parsed_units old; known = known_in held; looks = looks; stop = was }
 
       abbrev after : ContextState
-      after = record { sections = d; answers = answers_in entries; parsed = parsed_units new; known = known_in entries; looks = now }
+      after = record { sections = d; answers = answers_in entries; parsed = parsed_units new; known = known_in entries; looks = now; stop = is }
 
       same : answers_in entries ≡ answers_in held
       same = same_answers held entries stays
@@ -260,38 +214,6 @@ module _ {R : Type 0} where
         pub after_frames : {X : Type 0} (x : Sections) → d ≡ x → (result : Result X Error) → ShowsAfter x result
         after_frames x e result = subst (λ y. ShowsAfter y result) e (shows_after result)
 
--- what a lookup comes to by number
-module _ {R : Type 0} (units : List ResUnit) (views : List (UnitEntries R)) where
-  seen_at_unit : (stop : FramesStop) → stop_at_unit (seen_stop units views stop) ≡ cached_stop_at_unit stop
-  seen_at_unit (stops.Waits n) = refl
-  seen_at_unit (stops.Finds p) = refl
-  seen_at_unit stops.FindsNothing = refl
-
-  pub stop_told : (r : Result FramesStop Error) (given : Result Stop Error) → ExactlyUnlessOom (seen_stop units views) r given
-      → ExactlyUnlessOom (λ s. s) (r >>= λ s. Ok (cached_stop_at_unit s)) (given >>= λ s. Ok (stop_at_unit s))
-  stop_told (Ok stop) given h = ap (λ r. r >>= λ s. Ok (stop_at_unit s)) h ∙ ap (λ s. Ok s) (seen_at_unit stop)
-  stop_told (Err e) given h = λ ne. ap (λ r. r >>= λ s. Ok (stop_at_unit s)) (h ne)
-
-  -- the frames of a lookup that has ended
-  pub told_frames : (stop : FramesStop) (given : Result Stop Error) (frames : List FrameRecord) → is_waiting given ≡ false → given ≡ Ok (seen_stop units views stop) → frames ≡ frames_found (seen_stop units views stop)
-      → (given >>= λ s. Ok (frames_told s)) ≡ Ok (Some frames)
-  told_frames stop given frames ended h f =
-      ap (λ r. r >>= λ s. Ok (frames_told s)) h ∙ by (seen_stop units views stop) (sym (ap is_waiting h) ∙ ended) ∙ ap (λ fs. Ok (Some fs)) (sym f)
-    where
-      by : (s : Stop) → is_waiting (Ok s) ≡ false → ◌≡◌ {A = FramesResult} (Ok (frames_told s)) (Ok (Some (frames_found s)))
-      by (Waits n) k = absurd cc
-      by (Finds n frames) k = refl
-      by FindsNothing k = refl
-
--- it is refused memory where the lookup is
-pub oom_told : {X Y : Type 0} (f : X → Y) (r : Result X Error) → HadMemory (r >>= λ x. Ok (f x)) → HadMemory r
-oom_told f (Ok x) h = h
-oom_told f (Err e) h = h
-
-pub told_oom : {X Y : Type 0} (f : X → Y) (r : Result X Error) → HadMemory r → HadMemory (r >>= λ x. Ok (f x))
-told_oom f (Ok x) h = h
-told_oom f (Err e) h = h
-
 -- a lookup that passes over faults has none
 passes_step : (n : ℕ) (rest : Result Stop Error) (e : Error) (x : FramesResult) → rest ≢ Err e → (after_fault PassOver x >>= or_stop n rest) ≢ Err e
 passes_step n rest e (Err f) never h = never h
@@ -305,22 +227,17 @@ passes_over scope units answers probe (r ∷ ranges) e h =
     passes_step r.unit (stop_along (asked_frames PassOver scope units answers probe) ranges) e (frames_of_number scope units answers probe r.unit) (passes_over scope units answers probe ranges e) h
 
 -- so a lookup of a unit in a context is refused memory alone
-only_oom : (e : Error) {given : Result UnitStop Error} → given ≢ Err e → (e ≢ OutOfMemory → given ≡ Err e) → e ≡ OutOfMemory
+only_oom : (e : Error) {given : Result Stop Error} → given ≢ Err e → (e ≢ OutOfMemory → given ≡ Err e) → e ≡ OutOfMemory
 only_oom OutOfMemory never h = refl
 only_oom e never h = absurd (never (h (λ q. absurd cc)))
 
-pub refused_for_memory : {R : Type 0} (d : Sections) (us : List UnitRecord) (old : List ResUnit) (held : List (UnitEntries R)) (ranges : List UnitRange) (sup : SupUnits R) (i : IsContext d us old held ranges sup.units.items sup.dwarf) (faults : Faults) (probe : ℕ) (r : Result UnitStop Error)
-    → faults ≡ PassOver → ExactlyUnlessOom (λ s. s) r (unit_stop faults d (answers_in held) probe) → IfErr r (λ e. e ≡ OutOfMemory)
-refused_for_memory d us old held ranges sup i faults probe (Ok s) p h = tt
-refused_for_memory d us old held ranges sup i faults probe (Err e) p h = only_oom e never h
+pub refused_for_memory : {R : Type 0} (d : Sections) (us : List UnitRecord) (old : List ResUnit) (held : List (UnitEntries R)) (ranges : List UnitRange) (sup : SupUnits R) (i : IsContext d us old held ranges sup.units.items sup.dwarf) (faults : Faults) (probe : ℕ) (e : Error)
+    → faults ≡ PassOver → (e ≢ OutOfMemory → lookup_stop faults d (answers_in held) probe ≡ Err e) → e ≡ OutOfMemory
+refused_for_memory d us old held ranges sup i faults probe e p h = only_oom e never h
   where
-    by : (r : Result Stop Error) → (r >>= λ s. Ok (stop_at_unit s)) ≡ Err e → r ≡ Err e
-    by (Ok s) k = absurd cc
-    by (Err f) k = cc
-
-    never : unit_stop faults d (answers_in held) probe ≢ Err e
+    never : lookup_stop faults d (answers_in held) probe ≢ Err e
     never k = passes_over (scope_in d us sup) (indexed_units us old) (answers_in held) probe (cover probe ranges) e
-        (sym (stop_is d us old held ranges sup i PassOver probe) ∙ by (lookup_stop PassOver d (answers_in held) probe) (ap (λ f. unit_stop f d (answers_in held) probe) (sym p) ∙ k))
+        (sym (stop_is d us old held ranges sup i PassOver probe) ∙ ap (λ f. lookup_stop f d (answers_in held) probe) (sym p) ∙ k)
 
 -- beside each unit stand its lines
 pub as_many_lines : (d : Sections) (us : List UnitRecord) (rs : List ResUnit) → HaveLinesOf d us rs → length us ≡ length rs
@@ -328,3 +245,17 @@ as_many_lines d [] [] own = refl
 as_many_lines d [] (r ∷ rs) own = absurd own
 as_many_lines d (u ∷ us) [] own = absurd own
 as_many_lines d (u ∷ us) (r ∷ rs) own = ap suc (as_many_lines d us rs own.1)
+
+-- a lookup that is stored and waits for a unit waits for one that waits
+pub waits_if_stored : {R : Type 0} (units : List ResUnit) (views : List (UnitEntries R)) (last : FramesStop) (n : ℕ) → seen_stop units views last ≡ Waits n → IsLendable units views last → waits_at views n ≡ true
+waits_if_stored units views (stops.Waits k) n e h = subst (λ j. waits_at views j ≡ true) (same_wait e) h
+  where
+    same_wait : ◌≡◌ {A = Stop} (Waits k) (Waits n) → k ≡ n
+    same_wait q = cc
+waits_if_stored units views (stops.Finds p) n e h = absurd cc
+waits_if_stored units views stops.FindsNothing n e h = absurd cc
+
+-- a unit in which a lookup has found something is one whose view is known
+pub decided_if_stored : {R : Type 0} (units : List ResUnit) (views : List (UnitEntries R)) (last : FramesStop) (p : FramePlace) (n : ℕ) → last ≡ stops.Finds p → n ≡ p.unit → IsLendable units views last → decided_at views n ≡ true
+decided_if_stored units views last p n e k h =
+    subst (λ j. decided_at views j ≡ true) (sym k) (subst (λ l. IsLendable units views l) e h).1

@@ -11,6 +11,7 @@ use Rattle.addr2line_units.specs.declared.unit_frames.UnitEntries.{UnitEntries}
 use Rattle.addr2line_units.specs.CachedLines.{HaveLinesOf, indexed_units, parsed_units}
 use Rattle.addr2line_units.specs.Indexed.{IndexState, context_takes_memory, index_of, index_takes_memory, sup_takes_memory}
 use Rattle.addr2line_units.specs.CachedUnits.{AreFreshOf, answers_in}
+use Rattle.addr2line_units.specs.FramesLookup.{FindsNothing}
 use Rattle.addr2line_units.specs.KnownEntries.{KnownEntries, NothingKnown, known_in}
 use Rattle.addr2line_units.specs.UnitIndex.{UnitIndex, index_units, sup_units}
 use Rattle.addr2line_units.specs.RangedUnits.{IndexedUnit, indexed_of, unit_records, RangedUnit, has_lines, ranged_units, unit_ranges_from}
@@ -41,11 +42,11 @@ no_more_known (u ∷ units) = ap (λ (xs : List KnownEntries). NothingKnown ∷ 
 -- a context that is made
 pub context_made : {R : Type 0} (d : Sections) (us : List UnitRecord) (rs : List ResUnit) (ranges : List UnitRange) (vs : List (UnitEntries R)) (sup : List UnitRecord)
     → (ranged_units d >>= λ units. Ok (index_of d units)) ≡ Ok (record { units = indexed_units us rs; ranges = ranges; parsed = parsed_units rs }) → sup_units d.sup ≡ Ok sup → HaveLinesOf d us rs → AreFreshOf us vs
-    → new_context d ≡ Ok (record { sections = d; answers = answers_in vs; parsed = parsed_units rs; known = known_in vs; looks = 0 })
+    → new_context d ≡ Ok (record { sections = d; answers = answers_in vs; parsed = parsed_units rs; known = known_in vs; looks = 0; stop = FindsNothing })
 context_made d us rs ranges vs sup e f own fresh = of_units (ranged_units d) e ∙ ap (λ xs. state xs (nothing_known_of (unit_records (indexed_units us rs))) (parsed_units rs)) (sym none) ∙ ap (λ xs. state (answers_in vs) xs (parsed_units rs)) (sym not_known)
   where
     state : FirstAnswers → List KnownEntries → List Bool → Result ContextState Error
-    state answers known parsed = Ok (record { sections = d; answers = answers; parsed = parsed; known = known; looks = 0 })
+    state answers known parsed = Ok (record { sections = d; answers = answers; parsed = parsed; known = known; looks = 0; stop = FindsNothing })
 
     of_index : IndexState → Result ContextState Error
     of_index x = state (no_answers_of (unit_records x.units)) (nothing_known_of (unit_records x.units)) x.parsed
@@ -93,7 +94,7 @@ pub context_fault : (d : Sections) (i : IndexState) (f : Error) → (ranged_unit
 context_fault d i f e h = of_units (ranged_units d) e
   where
     state : List RangedUnit → Result ContextState Error
-    state units = Ok (record { sections = d; answers = no_answers_of units; parsed = map has_lines units; known = nothing_known_of units; looks = 0 })
+    state units = Ok (record { sections = d; answers = no_answers_of units; parsed = map has_lines units; known = nothing_known_of units; looks = 0; stop = FindsNothing })
 
     of_units : (r : Result (List RangedUnit) Error) → (r >>= λ units. Ok (index_of d units)) ≡ Ok i → (r >>= λ units. sup_units d.sup >>= λ s. state units) ≡ Err f
     of_units (Ok units) k = ap (λ (r : Result (List UnitRecord) Error). r >>= λ s. state units) h
@@ -107,7 +108,7 @@ pub units_fault : (d : Sections) (f : Error) → (ranged_units d >>= λ units. O
 units_fault d f e = of_units (ranged_units d) e
   where
     state : List RangedUnit → Result ContextState Error
-    state units = Ok (record { sections = d; answers = no_answers_of units; parsed = map has_lines units; known = nothing_known_of units; looks = 0 })
+    state units = Ok (record { sections = d; answers = no_answers_of units; parsed = map has_lines units; known = nothing_known_of units; looks = 0; stop = FindsNothing })
 
     of_units : (r : Result (List RangedUnit) Error) → (r >>= λ units. Ok (index_of d units)) ≡ Err f → (r >>= λ units. sup_units d.sup >>= λ s. state units) ≡ Err f
     of_units (Ok units) k = absurd (ok_err k)

@@ -1,5 +1,5 @@
 -- Lookups by files that answer no load (on specs/LoadsByFiles.antt).
-use Rattle.std.proofs.Common.{◌≡◌, ◌≢◌, ◌&&◌, ◌||◌, ℕ, Bool, true, false, not, List, [], ◌∷◌, Option, Some, Result, Ok, Err, refl, sym, ap, subst, ◌∙◌}
+use Rattle.std.proofs.Common.{◌≡◌, ◌≢◌, ◌&&◌, ◌||◌, ℕ, Bool, true, false, not, List, [], ◌∷◌, Option, Ok, Err, refl, sym, ap, subst, ◌∙◌}
 use Rattle.gimli_read.specs.declared.error.Error.{Error}
 use Rattle.gimli_read.specs.Reading.{◌>>=◌}
 use Rattle.gimli.specs.Sections.{Sections}
@@ -19,11 +19,9 @@ use Rattle.addr2line_units.specs.UnitFrames.{FramesResult}
 use Rattle.addr2line.specs.Context.{ContextState, IsUncovered}
 use Rattle.addr2line.specs.Files.{Files}
 use Rattle.addr2line.specs.FramesByFiles.{ended_frames_of, stop_frames}
-use Rattle.addr2line.specs.UnitStops.{unit_stop}
 use Rattle.addr2line.specs.LoadsByFiles.{AfterAnswers, AnswersInTurn, WaitsForNone}
-use Rattle.addr2line.specs.AfterLookups.{AfterFrames, IsKnownFew, StaysKnown, has_few_of}
-use Rattle.addr2line.specs.Lookups.{asked_of, frames_of, lookup_stop, stop_in}
-use Rattle.addr2line.proofs.ByFilesLemmas.{failed_stop, failed_told, found_told, looked_memory, still_ended}
+use Rattle.addr2line.specs.AfterLookups.{IsKnownFew, StaysKnown, has_few_of}
+use Rattle.addr2line.specs.Lookups.{asked_of, lookup_stop, stop_in}
 use Rattle.addr2line.proofs.HistoryLemmas.{given_ended}
 use Rattle.addr2line.proofs.NewContextLemmas.{ok_is}
 use Rattle.addr2line_units.specs.Views.{FirstAnswers}
@@ -68,8 +66,8 @@ module _ (files : Option Files) (probe : ℕ) (first now : ContextState) (a : Af
       absurd cc
 
   -- its fault is that of what it comes to
-  pub stop_fault_is : (e : Error) → (loader_error_of e ≢ OutOfMemory → unit_stop End now.sections now.answers probe ≡ Err e) → loader_error_of e ≢ OutOfMemory → ended_frames_of first probe ≡ Err (loader_error_of e)
-  stop_fault_is e h ne = ap stop_frames (sym (a.ended probe w)) ∙ (failed_stop e (lookup_stop End now.sections now.answers probe) (h ne)).1
+  pub stop_fault_is : (e : Error) → (loader_error_of e ≢ OutOfMemory → lookup_stop End now.sections now.answers probe ≡ Err e) → loader_error_of e ≢ OutOfMemory → ended_frames_of first probe ≡ Err (loader_error_of e)
+  stop_fault_is e h ne = ap stop_frames (sym (a.ended probe w) ∙ h ne)
 
   -- none was given to it, and all that was known that it asks for still is
   few_later : AnswersInTurn probe first now → IsKnownFew End first probe → IsKnownFew End now probe
@@ -82,19 +80,9 @@ module _ (files : Option Files) (probe : ℕ) (first now : ContextState) (a : Af
       → ended_frames_of first probe ≡ Err e
   refused_exactly t e fault memory few = fault (memory (ap is_waiting (a.ended probe w) ∙ w) (few_later t few))
 
-  -- its frames and its fault
-  pub found_ended : (frames : List FrameRecord) → frames_of now.sections now.answers probe ≡ Ok (Some frames) → ended_frames_of first probe ≡ Ok frames
-  found_ended frames h = ap stop_frames (sym (a.ended probe w)) ∙ found_told frames (lookup_stop End now.sections now.answers probe) h
-
-  pub failed_ended : (e : Error) → (loader_error_of e ≢ OutOfMemory → frames_of now.sections now.answers probe ≡ Err e) → loader_error_of e ≢ OutOfMemory → ended_frames_of first probe ≡ Err (loader_error_of e)
-  failed_ended e h ne = ap stop_frames (sym (a.ended probe w)) ∙ failed_told e (lookup_stop End now.sections now.answers probe) (h ne)
-
-  -- where all is known that it asks for, it takes no memory
-  pub failed_exactly : {X : Type 0} (r : Result X Error) (new : ContextState) → AnswersInTurn probe first now → AfterFrames End probe r now new → (e : Error) → r ≡ Err e
-      → (loader_error_of e ≢ OutOfMemory → frames_of now.sections now.answers probe ≡ Err e) → IsKnownFew End first probe → ended_frames_of first probe ≡ Err (loader_error_of e)
-  failed_exactly r new t b e is h few =
-      let known = few_stays probe now new b.sections b.answers b.known b.parsed (few_later t few) in
-      failed_ended e h (looked_memory probe e r now new is b (still_ended probe r now new b (ap is_waiting (a.ended probe w) ∙ w)) known)
+  -- its frames
+  pub found_ended : (frames : List FrameRecord) → ended_frames_of now probe ≡ Ok frames → ended_frames_of first probe ≡ Ok frames
+  found_ended frames h = ap stop_frames (sym (a.ended probe w)) ∙ h
 
 -- no unit covers the probe
 module _ (probe : ℕ) (c : ContextState) (u : IsUncovered c probe) where
@@ -117,3 +105,7 @@ module _ (probe : ℕ) (c : ContextState) (u : IsUncovered c probe) where
 -- what it comes to there, where no memory is refused
 pub last_frames : (probe : ℕ) (c : ContextState) → IsUncovered c probe → (given : Loading (List FrameRecord)) → (WaitsForNone c probe → IsKnownFew End c probe → ended_frames_of c probe ≡ given) → ◌≡◌ {A = Loading (List FrameRecord)} (Ok []) given
 last_frames probe c u given h = sym (uncovered_frames probe c u) ∙ h (uncovered_ended probe c u) (uncovered_few probe c u)
+
+-- which units cover it is told by the sections alone
+pub still_uncovered : (probe : ℕ) (old new : ContextState) → new.sections ≡ old.sections → IsUncovered new probe → IsUncovered old probe
+still_uncovered probe old new s u = (u.0, ap index_units (sym s) ∙ u.1, u.2)

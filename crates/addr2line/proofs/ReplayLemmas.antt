@@ -24,7 +24,7 @@ use Rattle.addr2line_units.specs.Views.{FirstAnswers, SplitLoad, load_by, load_o
 use Rattle.addr2line.proofs.HistoryLemmas.{HasGiven, given_all, given_last, given_more, given_up, resumed_answers, resumed_begun, resumed_parsed, resumed_sections}
 use Rattle.addr2line.specs.Answers.{AfterResume, SuspendsAgain, answered}
 use Rattle.addr2line.specs.Context.{ContextState}
-use Rattle.addr2line.specs.History.{Given, Gives, GivesUp, Leaves, answers_given}
+use Rattle.addr2line.specs.History.{Given, Answered, Abandoned, Leaves, answers_given}
 use Rattle.addr2line.specs.AfterLookups.{AfterFrames, Suspends}
 use Rattle.addr2line.specs.Lookups.{IsLoadOf, lookup_stop, stop_in, unit_of, unit_told}
 use Rattle.addr2line.specs.Replies.{CopiedReply, SuspendedAt}
@@ -86,7 +86,7 @@ module _ (faults : Faults) (probe : ℕ) (first : ContextState) (all : List Give
     own_answered x = ap (λ d. answered d now.answers number x) so.sections
 
     -- it waits again
-    pub goes_on : (x : Option Sections) → ((rest : List Given) → take (i + 1) all ++ rest ≡ take i all ++ (Gives x ∷ rest)) → (next : ℕ) (load : SplitLoad) (new : ContextState)
+    pub goes_on : (x : Option Sections) → ((rest : List Given) → take (i + 1) all ++ rest ≡ take i all ++ (Answered x ∷ rest)) → (next : ℕ) (load : SplitLoad) (new : ContextState)
         → SuspendsAgain faults probe number x next load now new → HasAnswered faults probe first all (i + 1) next new
     goes_on x more next load new (mid, a, s) = record {
       sections = s.after.sections ∙ a.sections ∙ so.sections;
@@ -97,7 +97,7 @@ module _ (faults : Faults) (probe : ℕ) (first : ContextState) (all : List Give
     }
 
     -- it has ended after one more answer
-    pub ended_by : (x : Option Sections) (rest : List Given) → take i all ++ (Gives x ∷ rest) ≡ all → is_waiting (lookup_stop faults first.sections (answered now.sections now.answers number x) probe) ≡ false
+    pub ended_by : (x : Option Sections) (rest : List Given) → take i all ++ (Answered x ∷ rest) ≡ all → is_waiting (lookup_stop faults first.sections (answered now.sections now.answers number x) probe) ≡ false
         → answers_given faults first.sections probe first.answers all ≡ answered now.sections now.answers number x
     ended_by x rest whole ended =
         given_last faults first.sections probe first.answers now.answers (take i all) so.given number x own_waits rest all whole
@@ -105,7 +105,7 @@ module _ (faults : Faults) (probe : ℕ) (first : ContextState) (all : List Give
         ∙ sym (own_answered x)
 
     -- it is given up, or no answer is left
-    pub left_by : (rest : List Given) → take i all ++ (GivesUp ∷ rest) ≡ all → answers_given faults first.sections probe first.answers all ≡ now.answers
+    pub left_by : (rest : List Given) → take i all ++ (Abandoned ∷ rest) ≡ all → answers_given faults first.sections probe first.answers all ≡ now.answers
     left_by rest whole = given_up faults first.sections probe first.answers now.answers (take i all) so.given rest all whole
 
     pub left_at_end : length all ≤ i → answers_given faults first.sections probe first.answers all ≡ now.answers
@@ -115,7 +115,7 @@ module _ (faults : Faults) (probe : ℕ) (first : ContextState) (all : List Give
     pub begun_so : (new : ContextState) → new.answers ≡ now.answers → (n : ℕ) × (new.answers ≡ answers_given faults first.sections probe first.answers (take n all))
     begun_so new e = (i, e ∙ sym (given_all faults first.sections probe first.answers now.answers (take i all) so.given))
 
-    pub begun_more : {X : Type 0} (x : Option Sections) → ((rest : List Given) → take (i + 1) all ++ rest ≡ take i all ++ (Gives x ∷ rest)) → (o : Result X Error) (new : ContextState) → AfterResume faults probe number x o now new
+    pub begun_more : {X : Type 0} (x : Option Sections) → ((rest : List Given) → take (i + 1) all ++ rest ≡ take i all ++ (Answered x ∷ rest)) → (o : Result X Error) (new : ContextState) → AfterResume faults probe number x o now new
         → (n : ℕ) × (new.answers ≡ answers_given faults first.sections probe first.answers (take n all))
     begun_more x more o new after = elim (resumed_begun faults probe number x o now new after) [
       | inl e ↦ begun_so new e
@@ -156,7 +156,7 @@ module _ (faults : Faults) (probe : ℕ) (first : ContextState) (all : List Give
     }
 
     -- it has ended with an answer
-    pub resumed_leaves : {L D S X Y ended : Type 0} (result : LookupResult L (Result X Error) D S) (x : Option Sections) → ((rest : List Given) → take (i + 1) all ++ rest ≡ take i all ++ (Gives x ∷ rest)) → (o : Result X Error) (new : ContextState) (asked : ℕ) → asked ≡ probe → result ≡ Output o → (lender : ContextState) → new ≡ lender → IfOutput result (λ p. AfterResume faults asked number x p now lender) → (r : Result Y Error)
+    pub resumed_leaves : {L D S X Y ended : Type 0} (result : LookupResult L (Result X Error) D S) (x : Option Sections) → ((rest : List Given) → take (i + 1) all ++ rest ≡ take i all ++ (Answered x ∷ rest)) → (o : Result X Error) (new : ContextState) (asked : ℕ) → asked ≡ probe → result ≡ Output o → (lender : ContextState) → new ≡ lender → IfOutput result (λ p. AfterResume faults asked number x p now lender) → (r : Result Y Error)
         → (P : Y → Type 0) → IfOk r (λ y. P y × ended) → (ended → all_given ≡ answered now.sections now.answers number x) → OnOk r (HadMemory o) → IfErr r (λ e. e ≡ OutOfMemory) → Leaves all_given SomeGiven r first new
     resumed_leaves {ended = ended} result x more o new asked same_probe is lender ends rests r P h same told oom = record {
       sections = resumed_sections faults asked number x o now new after ∙ so.sections;

@@ -2,53 +2,46 @@
 use Rattle.std.proofs.Common.{◌≡◌, ℕ, zero, suc, ◌+◌, ◌-◌, ◌<◌, ◌≤◌, arith, true, false, List, ◌∷◌, ◌++◌, length, Option, Some, None, Result, Ok, Err, refl, sym, ap, subst, ◌∙◌}
 use Rattle.std.proofs.lemmas.Bool.{eq-eqb}
 use Rattle.gimli_read.specs.declared.error.Error.{Error}
-use Rattle.gimli_read.specs.Reading.{◌>>=◌}
 use Rattle.addr2line_units.specs.declared.frames_lookup.Faults.{Faults}
 use Rattle.addr2line_units.specs.FramesLookup.{Stop, Waits, Finds, FindsNothing, is_waiting}
 use Rattle.gimli_read.specs.Alike.{HadMemory}
 use Rattle.addr2line_units.specs.Parsed.{StaysParsed, has_parsed}
 use Rattle.addr2line.proofs.HistoryLemmas.{HasGiven, given_all, given_ended, given_more}
-use Rattle.addr2line.specs.declared.stops.UnitStop.{UnitStop}
-use Rattle.addr2line.specs.declared.stops.UnitStop.TheVariants as units
 use Rattle.addr2line.specs.Answers.{AfterAnswer, answered}
 use Rattle.addr2line.specs.Context.{ContextState}
-use Rattle.addr2line.specs.History.{Given, Gives, answers_given}
-use Rattle.addr2line.specs.UnitStops.{stop_at_unit, unit_stop}
+use Rattle.addr2line.specs.History.{Given, Answered, answers_given}
 use Rattle.addr2line.specs.AfterLookups.{AfterFrames, IsKnown}
-use Rattle.addr2line.specs.Lookups.{loads_at, lookup_stop, waits_for}
-use Rattle.addr2line.specs.Skips.{AfterSkip, found_stop, nones, skipped_answers}
+use Rattle.addr2line.specs.Lookups.{loads_at, lookup_stop, waiting_unit, waits_for}
+use Rattle.addr2line.specs.Skips.{AfterSkip, nones, skipped_answers}
 
 -- none as an answer, so often
-nones_then : (k : ℕ) (rest : List Given) → nones (suc k) ++ rest ≡ nones k ++ (Gives None ∷ rest)
+nones_then : (k : ℕ) (rest : List Given) → nones (suc k) ++ rest ≡ nones k ++ (Answered None ∷ rest)
 nones_then zero rest = refl
-nones_then (suc k) rest = ap (λ ys. Gives None ∷ ys) (nones_then k rest)
+nones_then (suc k) rest = ap (λ ys. Answered None ∷ ys) (nones_then k rest)
 
 nones_both : (k r : ℕ) → nones k ++ nones r ≡ nones (k + r)
 nones_both zero r = ap nones (let e : r ≡ 0 + r = omega arith in e)
-nones_both (suc k) r = ap (λ ys. Gives None ∷ ys) (nones_both k r) ∙ ap nones (let e : suc (k + r) ≡ suc k + r = omega arith in e)
+nones_both (suc k) r = ap (λ ys. Answered None ∷ ys) (nones_both k r) ∙ ap nones (let e : suc (k + r) ≡ suc k + r = omega arith in e)
 
--- what a lookup has come to, by the number of a unit
-pub stop_waits : (n : ℕ) (r : Result Stop Error) → (r >>= λ s. Ok (stop_at_unit s)) ≡ Ok (units.Waits n) → r ≡ Ok (Waits n)
-stop_waits n (Ok (Waits k)) e = ap (λ j. Ok (Waits j)) (same_unit e)
+-- what a lookup has come to, by what was stored of it
+pub stored_waits : (n : ℕ) (stop : Stop) → waiting_unit stop ≡ Some n → stop ≡ Waits n
+stored_waits n (Waits k) e = ap Waits (same e)
   where
-    same_unit : ◌≡◌ {A = Result UnitStop Error} (Ok (units.Waits k)) (Ok (units.Waits n)) → k ≡ n
-    same_unit q = cc
-stop_waits n (Ok (Finds k frames)) e = absurd cc
-stop_waits n (Ok FindsNothing) e = absurd cc
-stop_waits n (Err f) e = absurd cc
+    same : ◌≡◌ {A = Option ℕ} (Some k) (Some n) → k ≡ n
+    same u = cc
+stored_waits n (Finds k frames) e = absurd cc
+stored_waits n FindsNothing e = absurd cc
 
-stop_ended : (o : Option ℕ) (r : Result Stop Error) → (r >>= λ s. Ok (stop_at_unit s)) ≡ Ok (found_stop o) → is_waiting r ≡ false
-stop_ended o (Ok (Finds k frames)) e = refl
-stop_ended o (Ok FindsNothing) e = refl
-stop_ended o (Err f) e = refl
-stop_ended None (Ok (Waits k)) e = absurd cc
-stop_ended (Some n) (Ok (Waits k)) e = absurd cc
+pub told_waits : (n : ℕ) (stop : Stop) (r : Result Stop Error) → r ≡ Ok stop → waiting_unit stop ≡ Some n → r ≡ Ok (Waits n)
+told_waits n stop r e w = e ∙ ap (λ s. Ok s) (stored_waits n stop w)
 
-stop_failed : (f : Error) (r : Result Stop Error) → (r >>= λ s. Ok (stop_at_unit s)) ≡ Err f → is_waiting r ≡ false
-stop_failed f (Ok (Finds k frames)) e = refl
-stop_failed f (Ok FindsNothing) e = refl
-stop_failed f (Err g) e = refl
-stop_failed f (Ok (Waits k)) e = absurd cc
+pub told_ended : (stop : Stop) (r : Result Stop Error) → r ≡ Ok stop → waiting_unit stop ≡ None → is_waiting r ≡ false
+told_ended stop r e w = ap is_waiting e ∙ by stop w
+  where
+    by : (s : Stop) → waiting_unit s ≡ None → is_waiting (Ok s) ≡ false
+    by (Waits k) q = absurd cc
+    by (Finds k frames) q = refl
+    by FindsNothing q = refl
 
 -- of so many loads none was the answer, and no more are left than there were less these
 pub record HasSkipped (faults : Faults) (probe : ℕ) (first now : ContextState) : Type 0 where
@@ -121,15 +114,6 @@ module _ (faults : Faults) (probe : ℕ) (first : ContextState) where
         ∙ so.given (nones (total - so.count))
         ∙ given_ended faults first.sections probe now.answers (nones (total - so.count)) (ap (λ d. is_waiting (lookup_stop faults d now.answers probe)) (sym so.sections) ∙ ended)
 
-    pub skip_stop : is_waiting (lookup_stop faults now.sections now.answers probe) ≡ false → unit_stop faults first.sections (skipped_answers faults first.sections probe first.answers) probe ≡ unit_stop faults now.sections now.answers probe
-    skip_stop ended = ap (λ x. unit_stop faults first.sections x probe) (skip_end ended) ∙ ap (λ d. unit_stop faults d now.answers probe) (sym so.sections)
-
-    pub skip_found : (o : Option ℕ) → unit_stop faults now.sections now.answers probe ≡ Ok (found_stop o) → unit_stop faults first.sections (skipped_answers faults first.sections probe first.answers) probe ≡ Ok (found_stop o)
-    skip_found o e = skip_stop (stop_ended o (lookup_stop faults now.sections now.answers probe) e) ∙ e
-
-    pub skip_failed : (f : Error) → unit_stop faults now.sections now.answers probe ≡ Err f → unit_stop faults first.sections (skipped_answers faults first.sections probe first.answers) probe ≡ Err f
-    skip_failed f e = skip_stop (stop_failed f (lookup_stop faults now.sections now.answers probe) e) ∙ e
-
     -- the state that is left
     pub after_skip : {X : Type 0} (r : Result X Error) → (HadMemory r → is_waiting (lookup_stop faults now.sections now.answers probe) ≡ false) → (HadMemory r → IsKnown faults now probe) → AfterSkip faults probe r first now
     after_skip r ended ready = record {
@@ -140,20 +124,6 @@ module _ (faults : Faults) (probe : ℕ) (first : ContextState) where
       raised = so.raised;
       ready = ready;
     }
-
--- a lookup comes to the same after one
-module _ {X : Type 0} (faults : Faults) (probe : ℕ) (r : Result X Error) (old new : ContextState) (a : AfterFrames faults probe r old new) where
-  same_lookup : lookup_stop faults new.sections new.answers probe ≡ lookup_stop faults old.sections old.answers probe
-  same_lookup = ap (λ d. lookup_stop faults d new.answers probe) a.sections ∙ ap (λ x. lookup_stop faults old.sections x probe) a.answers
-
-  pub then_waits : (n : ℕ) → unit_stop faults old.sections old.answers probe ≡ Ok (units.Waits n) → lookup_stop faults new.sections new.answers probe ≡ Ok (Waits n)
-  then_waits n e = same_lookup ∙ stop_waits n (lookup_stop faults old.sections old.answers probe) e
-
-  pub then_found : (o : Option ℕ) → unit_stop faults old.sections old.answers probe ≡ Ok (found_stop o) → is_waiting (lookup_stop faults new.sections new.answers probe) ≡ false
-  then_found o e = ap is_waiting same_lookup ∙ stop_ended o (lookup_stop faults old.sections old.answers probe) e
-
-  pub then_failed : (f : Error) → unit_stop faults old.sections old.answers probe ≡ Err f → is_waiting (lookup_stop faults new.sections new.answers probe) ≡ false
-  then_failed f e = ap is_waiting same_lookup ∙ stop_failed f (lookup_stop faults old.sections old.answers probe) e
 
 pub waits_true : (n : ℕ) (r : Result Stop Error) → r ≡ Ok (Waits n) → waits_for n r ≡ true
 waits_true n r e = ap (waits_for n) e ∙ eq-eqb n n refl

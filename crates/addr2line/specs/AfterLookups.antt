@@ -2,16 +2,20 @@
 -- parsed for them (DWARF 5, sections 3.1.2, 3.3 and 7.3.2).
 -- Own: a lookup parses what it asks for and nothing else, and nothing that is known is parsed
 -- again.
-use Rattle.std.specs.Prelude.{◌≡◌, ◌⊎◌, ℕ, ◌≤◌, Bool, true, false, ◌&&◌, ◌||◌, not, List, slice_get, IfSome, Result, Ok}
+use Rattle.std.specs.Prelude.{◌≡◌, ◌⊎◌, ℕ, ◌≤◌, Bool, true, false, ◌&&◌, ◌||◌, not, List, slice_get, Option, IfSome, Result, Ok}
 use Rattle.gimli_read.specs.declared.error.Error.{Error}
+use Rattle.gimli_read.specs.Reading.{◌>>=◌, ExactlyUnlessOom}
+use Rattle.gimli.specs.Sections.{Sections}
+use Rattle.gimli.specs.Unit.{UnitRecord}
 use Rattle.addr2line_units.specs.declared.frames_lookup.Faults.{Faults}
 use Rattle.addr2line_units.specs.declared.parses.ReadingDepth.{ReadingDepth}
 use Rattle.addr2line_units.specs.Cover.{cover}
-use Rattle.addr2line_units.specs.FramesLookup.{Waits, LookupAsks, asks_lines_of, has_many_of, holds_along, is_waiting, main_scope}
+use Rattle.addr2line_units.specs.FramesLookup.{Stop, Waits, LookupAsks, asks_lines_of, has_many_of, holds_along, is_waiting, main_scope, unit_found}
 use Rattle.addr2line_units.specs.FunctionParses.{IsReadyFor}
 use Rattle.addr2line_units.specs.KnownEntries.{KnownEntries, knows_at}
 use Rattle.gimli_read.specs.Alike.{HadMemory}
 use Rattle.addr2line_units.specs.Parsed.{ParsesOnly, StaysParsed, has_parsed}
+use Rattle.addr2line_units.specs.RangedUnits.{unit_records}
 use Rattle.addr2line_units.specs.UnitIndex.{UnitIndex, index_units}
 use Rattle.addr2line_units.specs.Views.{SplitLoad}
 use Rattle.addr2line.specs.Context.{ContextState}
@@ -87,6 +91,23 @@ pub record AfterFrames {X : Type 0} (faults : Faults) (probe : ℕ) (result : Re
   pub ready : HadMemory result → IsKnown faults new probe
   pub memory : IsKnownFew faults new probe
       → is_waiting (lookup_stop faults old.sections old.answers probe) ≡ false → HadMemory result
+
+-- a context has stored what a lookup of the probe comes to, or the lookup was refused
+abbrev pub IsStored : Faults → ℕ → Result (Unit {0}) Error → ContextState → Type 0
+IsStored faults probe walked c =
+    ExactlyUnlessOom (λ _. c.stop) walked (lookup_stop faults c.sections c.answers probe)
+
+-- these are the sections and the unit of the view of what a lookup has found, if it has found one
+abbrev pub IsFoundUnit : ContextState → Option (Sections × UnitRecord) → Type 0
+IsFoundUnit c found = (m : UnitIndex) → index_units c.sections ≡ Ok m
+    → found ≡ unit_found c.sections (unit_records m.units) c.answers c.stop
+
+-- what is lent after a lookup: memory is refused where it was for the lookup, and elsewhere only
+-- where it waits
+pub record IsLent {X : Type 0} (walked : Result (Unit {0}) Error) (stop : Stop)
+    (result : Result X Error) : Type 0 where
+  pub ready : HadMemory result → HadMemory walked
+  pub memory : is_waiting (walked >>= λ _. Ok stop) ≡ false → HadMemory walked → HadMemory result
 
 -- a lookup that waits for the unit of a number has this load
 pub record Suspends (faults : Faults) (probe number : ℕ) (wanted : SplitLoad)

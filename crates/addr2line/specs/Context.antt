@@ -1,6 +1,6 @@
 -- A context as callers see it: the sections that it was made from (DWARF 5, section 7.5), the first
 -- answers to the loads of its units, of which units it has parsed the lines, what it knows of the
--- entries of units, and how often it looked at lines.
+-- entries of units, how often it looked at lines, and what its last lookup of frames has come to.
 -- Own: the lines of a unit, or their fault, are parsed when a lookup first asks for them, and stay
 -- parsed; a context that is made has parsed them only where they give a unit its ranges, and a unit
 -- without a line program has its lines, which are none.
@@ -14,7 +14,7 @@ use Rattle.addr2line_units.specs.declared.index.UnitRange.{UnitRange}
 use Rattle.addr2line_units.specs.declared.unit.ResUnit.{ResUnit}
 use Rattle.addr2line_units.specs.declared.unit_frames.UnitEntries.{UnitEntries}
 use Rattle.addr2line_units.specs.CachedLines.{HaveLinesOf, indexed_units}
-use Rattle.addr2line_units.specs.FramesLookup.{main_scope}
+use Rattle.addr2line_units.specs.FramesLookup.{FindsNothing, Stop, main_scope}
 use Rattle.addr2line_units.specs.CachedUnits.{HaveEntriesOf}
 use Rattle.addr2line_units.specs.KnownEntries.{KnownEntries, NothingKnown}
 use Rattle.addr2line_units.specs.Located.{all_lines, is_found, looks_along}
@@ -26,13 +26,15 @@ use Rattle.addr2line_units.specs.Cover.{cover, cover_range}
 use Rattle.addr2line_units.specs.Views.{FirstAnswers}
 
 -- the sections, the first answer of each unit, none before it has one, of which units the lines are
--- parsed, what is known of each unit's entries, and how often lines were looked at
+-- parsed, what is known of each unit's entries, how often lines were looked at, and what the last
+-- lookup of frames or of a unit has come to, nothing once the context has changed after it
 pub record ContextState : Type 0 where
   pub sections : Sections
   pub answers : FirstAnswers
   pub parsed : List Bool
   pub known : List KnownEntries
   pub looks : ℕ
+  pub stop : Stop
 
 -- a context of sections as it is made, or the fault that refuses it
 abbrev pub new_context : Sections → Result ContextState Error
@@ -45,6 +47,7 @@ new_context d = do
     parsed = map has_lines units;
     known = map (λ _. NothingKnown) units;
     looks = 0;
+    stop = FindsNothing;
   })
 
 -- a lookup of the probe parses nothing: no unit covers it, or the lines that it asks for are parsed

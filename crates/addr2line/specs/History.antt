@@ -26,8 +26,8 @@ use Rattle.addr2line_units.specs.Views.{FirstAnswers}
 
 -- what a lookup is given that waits: the sections of the split file, or none; or it is given up
 pub data Given : Type 0 where
-  Gives : Option Sections → Given
-  GivesUp : Given
+  Answered : Option Sections → Given
+  Abandoned : Given
 
 -- a call
 pub data HistoryCall : Type 0 where
@@ -51,8 +51,8 @@ where_waiting goes_on x (Err e) = x
 -- the first answers once a lookup was given these answers, each for the unit that it waits for then
 abbrev pub answers_given : Faults → Sections → ℕ → FirstAnswers → List Given → FirstAnswers
 answers_given faults d probe answers [] = answers
-answers_given faults d probe answers (GivesUp ∷ given) = answers
-answers_given faults d probe answers (Gives x ∷ given) = where_waiting
+answers_given faults d probe answers (Abandoned ∷ given) = answers
+answers_given faults d probe answers (Answered x ∷ given) = where_waiting
     (λ n. answers_given faults d probe (answered d answers n x) given) answers
     (lookup_stop faults d answers probe)
 

@@ -6,7 +6,7 @@ use Rattle.addr2line_units.specs.declared.frames_lookup.Faults.{Faults}
 use Rattle.addr2line_units.specs.LoadLaws.{IsListed}
 use Rattle.addr2line_units.specs.UnitIndex.{UnitIndex, index_units}
 use Rattle.addr2line.specs.Answers.{answered}
-use Rattle.addr2line.specs.History.{Given, Gives, GivesUp, where_waiting}
+use Rattle.addr2line.specs.History.{Given, Answered, Abandoned, where_waiting}
 use Rattle.addr2line.specs.Lookups.{loads_at, lookup_stop}
 use Rattle.addr2line_units.specs.Views.{FirstAnswers}
 
@@ -14,9 +14,9 @@ use Rattle.addr2line_units.specs.Views.{FirstAnswers}
 abbrev pub waited_for : Faults → Sections → ℕ → FirstAnswers → List Given → List ℕ
 waited_for faults d probe answers [] =
     where_waiting (λ n. n ∷ []) [] (lookup_stop faults d answers probe)
-waited_for faults d probe answers (GivesUp ∷ given) =
+waited_for faults d probe answers (Abandoned ∷ given) =
     where_waiting (λ n. n ∷ []) [] (lookup_stop faults d answers probe)
-waited_for faults d probe answers (Gives x ∷ given) = where_waiting
+waited_for faults d probe answers (Answered x ∷ given) = where_waiting
     (λ n. n ∷ waited_for faults d probe (answered d answers n x) given) []
     (lookup_stop faults d answers probe)
 

@@ -2,7 +2,6 @@ pub mod Context
 pub mod Borrowed
 pub mod AfterLookups
 pub mod Lookups
-pub mod UnitStops
 pub mod Answers
 pub mod Loads
 pub mod Replies

@@ -116,7 +116,7 @@ IsReadyToRead reads c = (m : UnitIndex) → index_units c.sections ≡ Ok m
 -- after a parse of all functions open units are decided by none, up to the first fault; where
 -- memory was refused, some of the first ones. What was known of the others stays. Unless memory was
 -- refused all is known that the parse reads; where it was before, no memory is wanted, and nothing
--- is changed
+-- is changed of what is known and answered
 pub record AfterParse (reads : ReadingDepth) (result : Result (Unit {0}) Error)
     (old new : ContextState) : Type 0 where
   pub stays : StaysRead old new
@@ -137,7 +137,7 @@ pub record AfterParse (reads : ReadingDepth) (result : Result (Unit {0}) Error)
   pub memory : AreReadBy reads old → result ≡ Ok tt
   pub ready : HadMemory result → IsReadyToRead reads new
   pub exact : IsReadyToRead reads old → result ≡ parse_reply reads old.sections old.answers
-  pub same : IsReadyToRead reads old → new ≡ old
+  pub same : IsReadyToRead reads old → (new.answers ≡ old.answers) × (new.known ≡ old.known)
 
 -- what every lookup asks of units' entries is known
 abbrev pub IsAllKnown : ContextState → Type 0

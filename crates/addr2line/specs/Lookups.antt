@@ -62,6 +62,11 @@ abbrev pub unit_of : Sections → FirstAnswers → ℕ → UnitResult
 unit_of d answers probe = index_units d >>= λ m.
     stop_in PassOver d answers probe m >>= λ s. Ok (unit_told d answers m s)
 
+-- the unit that a lookup waits for, if it waits for one
+abbrev pub waiting_unit : Stop → Option ℕ
+waiting_unit (Waits n) = Some n
+waiting_unit stop = None
+
 -- whether a lookup waits for the unit of this number
 abbrev pub waits_for : ℕ → Result Stop Error → Bool
 waits_for k (Ok (Waits n)) = n == k

@@ -7,17 +7,17 @@ use Rattle.addr2line.specs.declared.session.Answer.{Answer}
 use Rattle.addr2line.specs.declared.session.Answer.TheVariants.{Give, Abandon}
 use Rattle.addr2line.specs.declared.session.Call.{Call}
 use Rattle.addr2line.specs.declared.session.Call.TheVariants as calls
-use Rattle.addr2line.specs.History.{Given, Gives, GivesUp, HistoryCall, AsksLocation, AsksRange, AsksFrames, AsksUnit, AsksLoads, AnswersLoad, Forgets, ParsesLines, ParsesFunctions}
+use Rattle.addr2line.specs.History.{Given, Answered, Abandoned, HistoryCall, AsksLocation, AsksRange, AsksFrames, AsksUnit, AsksLoads, AnswersLoad, Forgets, ParsesLines, ParsesFunctions}
 
 -- what is given: sections or none, or nothing where a lookup is given up
 abbrev pub given_by : Option (Option Sections) → Given
-given_by None = GivesUp
-given_by (Some sections) = Gives sections
+given_by None = Abandoned
+given_by (Some sections) = Answered sections
 
 -- an answer
 abbrev pub seen_given : {R : Type 0} → Answer R → Given
-seen_given (Give sections) = Gives (option_map (λ d. d.value) sections)
-seen_given Abandon = GivesUp
+seen_given (Give sections) = Answered (option_map (λ d. d.value) sections)
+seen_given Abandon = Abandoned
 
 -- a call
 abbrev pub seen_call : {R : Type 0} → Call R → HistoryCall

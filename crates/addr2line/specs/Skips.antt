@@ -1,32 +1,25 @@
 -- Lookups of which none is answered to each load (DWARF 5, section 7.3.2).
 -- Own: a unit that waits is decided by none then, and stays so until it is forgotten.
-use Rattle.std.specs.Prelude.{◌≡◌, ℕ, ◌≤◌, length, replicate, List, Option, Some, None, Result}
+use Rattle.std.specs.Prelude.{◌≡◌, ℕ, ◌≤◌, length, replicate, List, None, Result}
 use Rattle.gimli_read.specs.declared.error.Error.{Error}
 use Rattle.gimli.specs.Sections.{Sections}
 use Rattle.addr2line_units.specs.declared.frames_lookup.Faults.{Faults}
 use Rattle.gimli_read.specs.Alike.{HadMemory}
 use Rattle.addr2line_units.specs.Parsed.{StaysParsed}
-use Rattle.addr2line.specs.declared.stops.UnitStop.{UnitStop}
-use Rattle.addr2line.specs.declared.stops.UnitStop.TheVariants as stops
 use Rattle.addr2line.specs.Context.{ContextState}
-use Rattle.addr2line.specs.History.{Given, Gives, answers_given}
+use Rattle.addr2line.specs.History.{Given, Answered, answers_given}
 use Rattle.addr2line.specs.Lookups.{loads_at}
 use Rattle.addr2line.specs.AfterLookups.{IsKnown}
 use Rattle.addr2line_units.specs.Views.{FirstAnswers}
 
 -- none as the answer to each of so many loads
 abbrev pub nones : ℕ → List Given
-nones n = replicate n (Gives None)
+nones n = replicate n (Answered None)
 
 -- the first answers after none to each load of a lookup
 abbrev pub skipped_answers : Faults → Sections → ℕ → FirstAnswers → FirstAnswers
 skipped_answers faults d probe answers =
     answers_given faults d probe answers (nones (length (loads_at d answers probe)))
-
--- what a lookup comes to that has found something in the unit of a number, or nothing
-abbrev pub found_stop : Option ℕ → UnitStop
-found_stop (Some n) = stops.Finds n
-found_stop None = stops.FindsNothing
 
 -- after a lookup of which none is answered to each load: the units that waited are decided by none,
 -- and stay so; after OutOfMemory some of the first ones

@@ -1,15 +1,17 @@
 -- Lookups that may wait, by the context that they are made in (on Lookups, Answers and Skips).
-use Rattle.std.specs.Prelude.{◌≡◌, ℕ, length, Option}
+use Rattle.std.specs.Prelude.{◌≡◌, ℕ, length, Option, Result, Ok}
 use Rattle.std.specs.Borrow.{MutBor}
+use Rattle.gimli_read.specs.declared.error.Error.{Error}
 use Rattle.gimli.specs.Sections.{Sections}
 use Rattle.addr2line_units.specs.declared.frames_lookup.Faults.{Faults}
 use Rattle.addr2line_units.specs.declared.frames_lookup.Faults.TheVariants.{End, PassOver}
+use Rattle.addr2line_units.specs.FramesLookup.{Waits}
 use Rattle.addr2line_units.specs.Views.{SplitLoad}
 use Rattle.addr2line_units.specs.UnitFrames.{FramesResult}
 use Rattle.addr2line.specs.Answers.{SuspendsAgain, answered}
 use Rattle.addr2line.specs.Context.{ContextState}
 use Rattle.addr2line.specs.AfterLookups.{Suspends}
-use Rattle.addr2line.specs.Lookups.{UnitResult, frames_of, loads_at, unit_of, with_none}
+use Rattle.addr2line.specs.Lookups.{IsLoadOf, UnitResult, frames_of, loads_at, unit_of, with_none}
 use Rattle.addr2line.specs.Skips.{skipped_answers}
 
 -- a lookup of this context at this probe waits for the unit of a number, with this load
@@ -25,6 +27,15 @@ abbrev pub SuspendsAgainIn : Faults → MutBor ContextState → ℕ → ℕ → 
 SuspendsAgainIn faults context probe n given held at number load =
     (held.ghost_name ≡ context.ghost_name) × (at ≡ probe)
     × SuspendsAgain faults probe n given number load context.now held.now
+
+-- the context is held by the rest of a lookup that it has stored, which waits for the unit of a
+-- number, with this load
+abbrev pub HoldsIn : MutBor ContextState → ℕ → Result (Unit {0}) Error → MutBor ContextState → ℕ → ℕ
+    → SplitLoad → Type 0
+HoldsIn context probe walked held at number load =
+    (held.ghost_name ≡ context.ghost_name) × (at ≡ probe) × (held.now ≡ context.now)
+    × (walked ≡ Ok tt) × (context.now.stop ≡ Waits number)
+    × IsLoadOf context.now.sections number load
 
 -- how many loads a lookup of the probe may wait for
 abbrev pub count_loads : ContextState → ℕ → ℕ

@@ -7,6 +7,7 @@ ghost use Rattle.addr2line.specs.Lookups.{IsUnitOf, lookup_stop, waits_for};
 ghost use Rattle.addr2line.specs.WaitingLookups.{count_loads};
 
 use crate::context::Context;
+use addr2line_units::frames_lookup::FramesStop;
 use gimli::Dwarf;
 use gimli::read::{Error, Reader};
 use std::rc::Rc;
@@ -26,6 +27,7 @@ impl<R: Reader> Context<R> {
             (lookup_stop faults self.old.sections self.old.answers probe) ≡ true
             → OnOk result (count_loads self.new probe < count_loads self.old probe) }
     {
+        self.stop = FramesStop::FindsNothing;
         self.units
             .answer(self.alloc, &self.dwarf, &self.sup_units, number, sections)
     }

@@ -16,7 +16,6 @@ ghost use Rattle.addr2line.specs.WaitingLookups.{count_loads};
 use crate::context::Context;
 use crate::files::FileSource;
 use crate::split_files::answer_to;
-use crate::stops::UnitStop;
 use addr2line_units::frames_lookup::Faults;
 use elf::LoaderError;
 use gimli::Dwarf;
@@ -33,13 +32,13 @@ fn read_answer<F: FileSource>(
     number: usize,
 ) -> Result<Option<Rc<Dwarf<EndianBytes>>>, LoaderError>
     requires waits { lookup_stop End ctx.now.sections ctx.now.answers probe ≡ Ok (Waits number) }
-    requires known { IsKnown End ctx.now probe }
+    requires stored { ctx.now.stop ≡ Waits number }
     ensures gives { IfOk result (λ given. IsAnswerByFiles (F.files files.now) ctx.now.sections
         number (option_map (λ d. d.value) given)) }
     ensures refused { IfErr result (IsFaultByFiles (F.files files.now) ctx.now probe) }
     ensures stays_open { IfErr result LeavesOpen }
 {
-    let load = ctx.load_of(probe, Faults::End, number)?;
+    let load = ctx.load_of(number)?;
     answer_to(alloc, files, &load)
 }
 
@@ -52,7 +51,7 @@ fn answer_load<F: FileSource>(
     number: usize,
 ) -> Result<(), LoaderError>
     requires waits { lookup_stop End ctx.old.sections ctx.old.answers probe ≡ Ok (Waits number) }
-    requires known { IsKnown End ctx.old probe }
+    requires stored { ctx.old.stop ≡ Waits number }
     ensures after { AfterAnswers (F.files files.now) ctx.old ctx.new }
     ensures one { AnswersOne number ctx.old ctx.new }
     ensures only { (first : ContextState) → ReadsAsked probe first ctx.old
@@ -67,7 +66,8 @@ fn answer_load<F: FileSource>(
     Ok(ctx.answer(number, sections)?)
 }
 
-// Answers each load that a lookup of frames waits for by files, until it waits for none.
+// Answers each load that a lookup of frames waits for by files, until it waits for none, and stores
+// what it comes to.
 pub(crate) fn answer_loads<F: FileSource>(
     alloc: Global,
     files: &F,
@@ -77,8 +77,10 @@ pub(crate) fn answer_loads<F: FileSource>(
     ensures after { AfterAnswers (F.files files.now) ctx.old ctx.new }
     ensures in_turn { AnswersInTurn probe ctx.old ctx.new }
     ensures only { ReadsAsked probe ctx.old ctx.new }
+    ensures stored { OnOk result
+        (lookup_stop End ctx.new.sections ctx.new.answers probe ≡ Ok ctx.new.stop) }
     ensures ended { HasEnded result → WaitsForNone ctx.new probe }
-    ensures ready { IfErr result (λ e. IsUnitFault e → IsKnown End ctx.new probe) }
+    ensures ready { HasEnded result → IsKnown End ctx.new probe }
     ensures told { IfErr result (λ e. IsUnitFault e → ended_frames_of ctx.new probe ≡ Err e) }
     ensures waits { IfErr result (λ e. e ≡ PathNotUtf8 → WaitsForOne ctx.new probe) }
     ensures memory { WaitsForNone ctx.new probe → IsKnownFew End ctx.new probe
@@ -88,13 +90,11 @@ pub(crate) fn answer_loads<F: FileSource>(
         → IfErr result (λ e. e ≢ OutOfMemory → ended_frames_of ctx.old probe ≡ Err e) }
     ensures last { probe ≡ last_address → IsUncovered ctx.old probe }
 {
-    if !ctx.may_wait(probe) {
-        return Ok(());
-    }
     loop {
-        match ctx.stop(probe, Faults::End)? {
-            UnitStop::Waits(number) => answer_load(alloc, files, ctx, probe, number)?,
-            UnitStop::Finds(_) | UnitStop::FindsNothing => return Ok(()),
+        ctx.walk(probe, Faults::End)?;
+        match ctx.waits_for() {
+            Some(number) => answer_load(alloc, files, ctx, probe, number)?,
+            None => return Ok(()),
         }
     }
 }

@@ -15,6 +15,7 @@ ghost use Rattle.addr2line_units.specs.Parsed.{AreAllParsed};
 ghost use Rattle.addr2line.specs.Context.{new_context, lines_of_all, AfterLookup, AfterRangeLookup, IsReady, IsReadyForAll, IsReadyForRange, ParsesToFault, Stays};
 
 use addr2line_lines::{Count, Location};
+use addr2line_units::frames_lookup::FramesStop;
 use addr2line_units::range::LocationRangeIter;
 use addr2line_units::sup::SupUnits;
 use addr2line_units::units::ResUnits;
@@ -37,9 +38,12 @@ pub struct Context<R: Reader> {
     pub(crate) sup_units: SupUnits<R>,
     // How often the lines of units were looked at, for contracts alone: it has no bytes.
     pub(crate) looks: Count,
+    // What the last lookup of frames or of a unit has come to, from which it is lent.
+    pub(crate) stop: FramesStop,
 }
 
 impl<R: Reader> Model for Context<R> {
+    ghost use Rattle.addr2line_units.specs.CachedFrames.{IsLendable, seen_stop};
     ghost use Rattle.addr2line_units.specs.CachedLines.{parsed_units};
     ghost use Rattle.addr2line_units.specs.CachedUnits.{answers_in};
     ghost use Rattle.addr2line_units.specs.KnownEntries.{known_in};
@@ -53,10 +57,12 @@ impl<R: Reader> Model for Context<R> {
       parsed = parsed_units c.units.units.items;
       known = known_in c.units.entries.items;
       looks = c.looks;
+      stop = seen_stop c.units.units.items c.units.entries.items c.stop;
     } };
 
     ghost invariant = { λ c. IsContext c.dwarf.value c.units.dw_units.items c.units.units.items
-        c.units.entries.items c.units.ranges c.sup_units.units.items c.sup_units.dwarf };
+        c.units.entries.items c.units.ranges c.sup_units.units.items c.sup_units.dwarf
+        × IsLendable c.units.units.items c.units.entries.items c.stop };
 }
 
 impl<R: Reader> Context<R> {
@@ -100,6 +106,7 @@ impl<R: Reader> Context<R> {
             units,
             sup_units,
             looks: Count::new(),
+            stop: FramesStop::FindsNothing,
         })
     }
 
@@ -177,6 +184,7 @@ impl<R: Reader> Context<R> {
         ensures* kept { sem 𝓛 (EndsAs R.row R.Reader self.entry
             (AfterLookup probe result self.old)) }
     {
+        self.stop = FramesStop::FindsNothing;
         let place = self
             .units
             .find_place(self.alloc, &self.dwarf, &mut self.looks, probe)?;
@@ -209,6 +217,7 @@ impl<R: Reader> Context<R> {
         ensures* kept { sem 𝓛 (EndsAs R.row R.Reader self.entry
             (AfterRangeLookup low high result self.old)) }
     {
+        self.stop = FramesStop::FindsNothing;
         self.units.cache_lines(self.alloc, &self.dwarf, low, high)?;
         Ok(self.units.find_location_range(low, high))
     }
@@ -237,6 +246,7 @@ impl<R: Reader> Context<R> {
         ensures found { OnOk result ((probe : ℕ) → is_ok
             (location_of self.new.sections probe) ≡ true) }
     {
+        self.stop = FramesStop::FindsNothing;
         self.units.parse_lines(self.alloc, &self.dwarf)
     }
 }

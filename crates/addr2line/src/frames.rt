@@ -1,22 +1,20 @@
 //! Lookups of frames, which may wait for split files.
 
-ghost use Rattle.std.specs.Prelude.{◌≡◌, ◌<◌, None, Some, false, option_map, true};
+ghost use Rattle.std.specs.Prelude.{◌≡◌, ◌<◌, None, Some, option_map, true};
 ghost use Rattle.std.specs.Borrow.{sem};
 ghost use Rattle.gimli_read.specs.Reading.{ExactlyUnlessOom};
 ghost use Rattle.addr2line_units.specs.declared.frames_lookup.Faults.TheVariants.{End};
 ghost use Rattle.addr2line_units.specs.FramesLeft.{frames_left};
-ghost use Rattle.addr2line_units.specs.FramesLookup.{is_waiting};
 ghost use Rattle.addr2line_units.specs.Suspended.{IfLoad, IfOutput, SkipsTo};
 ghost use Rattle.addr2line.specs.Answers.{AfterResume};
-ghost use Rattle.addr2line.specs.Borrowed.{EndsAs, RestsAs};
-ghost use Rattle.addr2line.specs.AfterLookups.{AfterFrames};
+ghost use Rattle.addr2line.specs.Borrowed.{RestsAs};
+ghost use Rattle.addr2line.specs.AfterLookups.{AfterFrames, IsLent, IsStored};
 ghost use Rattle.addr2line.specs.Lookups.{lookup_stop, waits_for};
 ghost use Rattle.addr2line.specs.Skips.{AfterSkip};
-ghost use Rattle.addr2line.specs.WaitingLookups.{SuspendsAgainIn, SuspendsIn, count_loads, frames_answered, frames_of_context, frames_skipped, frames_with_none};
+ghost use Rattle.addr2line.specs.WaitingLookups.{HoldsIn, SuspendsAgainIn, SuspendsIn, count_loads, frames_answered, frames_of_context, frames_skipped, frames_with_none};
 
 use crate::context::Context;
 use crate::continuation::{FramesLookup, FramesLookupWith};
-use crate::stops::UnitStop;
 use addr2line_units::FrameIter;
 use addr2line_units::continuation::{LookupContinuation, LookupResult};
 use addr2line_units::frames_lookup::Faults;
@@ -25,48 +23,41 @@ use gimli::Dwarf;
 use gimli::read::{Error, Reader};
 use std::rc::Rc;
 
-// The end of a lookup of frames that doesn't wait.
-fn end<R: Reader>(ctx: &mut Context<R>, probe: u64) -> LookupResult<FramesLookup<'_, R>>
-    requires ended { is_waiting (lookup_stop End ctx.old.sections ctx.old.answers probe)
-        ≡ false }
+// What a lookup of frames gives that the context has stored.
+fn lend<R: Reader>(
+    ctx: &mut Context<R>,
+    probe: u64,
+    walked: Result<(), Error>,
+) -> LookupResult<FramesLookup<'_, R>>
+    requires stored { IsStored End probe walked ctx.old }
     ensures* ends { sem 𝓛 (RestsAs (λ c. c.ctx.ghost_name) R.row R.Reader ctx.entry result
-        (λ o n. AfterFrames End probe o ctx.old n)) }
-    ensures load { IfLoad result (λ c. ⊥) }
-    ensures output { IfOutput result (λ o. ExactlyUnlessOom (λ i. Some (frames_left i)) o
-        (frames_of_context ctx.old probe)) }
-{
-    LookupResult::Output(ctx.ended_frames(probe))
-}
-
-// A lookup of frames that may wait: it asks once whether it does, and then once for what to lend.
-fn ask_units<R: Reader>(ctx: &mut Context<R>, probe: u64) -> LookupResult<FramesLookup<'_, R>>
-    ensures* ends { sem 𝓛 (RestsAs (λ c. c.ctx.ghost_name) R.row R.Reader ctx.entry result
-        (λ o n. AfterFrames End probe o ctx.old n)) }
+        (λ o n. (n ≡ ctx.old) × IsLent walked ctx.old.stop o)) }
     ensures load { IfLoad result (λ c.
-        SuspendsIn End ctx.entry probe c.ctx c.probe c.number c.load) }
+        HoldsIn ctx.entry probe walked c.ctx c.probe c.number c.load) }
     ensures output { IfOutput result (λ o. ExactlyUnlessOom (λ i. Some (frames_left i)) o
         (frames_of_context ctx.old probe)) }
 {
-    match ctx.stop(probe, Faults::End) {
-        Ok(UnitStop::Waits(number)) => match ctx.load_of(probe, Faults::End, number) {
-            Ok(load) => LookupResult::Load {
-                continuation: FramesLookupWith {
-                    ctx,
-                    probe,
-                    number,
-                    load,
+    match walked {
+        Ok(()) => match ctx.waits_for() {
+            Some(number) => match ctx.load_of(number) {
+                Ok(load) => LookupResult::Load {
+                    continuation: FramesLookupWith {
+                        ctx,
+                        probe,
+                        number,
+                        load,
+                    },
                 },
+                Err(error) => LookupResult::Output(Err(error)),
             },
-            Err(error) => LookupResult::Output(Err(error)),
+            None => LookupResult::Output(Ok(ctx.found_frames())),
         },
-        Ok(UnitStop::Finds(_)) => end(ctx, probe),
-        Ok(UnitStop::FindsNothing) => LookupResult::Output(Ok(FrameIter::new_empty())),
         Err(error) => LookupResult::Output(Err(error)),
     }
 }
 
 // A lookup of frames from its beginning, by what is cached.
-fn go<R: Reader>(ctx: &mut Context<R>, probe: u64) -> LookupResult<FramesLookup<'_, R>>
+fn begin<R: Reader>(ctx: &mut Context<R>, probe: u64) -> LookupResult<FramesLookup<'_, R>>
     ensures* ends { sem 𝓛 (RestsAs (λ c. c.ctx.ghost_name) R.row R.Reader ctx.entry result
         (λ o n. AfterFrames End probe o ctx.old n)) }
     ensures load { IfLoad result (λ c.
@@ -74,15 +65,12 @@ fn go<R: Reader>(ctx: &mut Context<R>, probe: u64) -> LookupResult<FramesLookup<
     ensures output { IfOutput result (λ o. ExactlyUnlessOom (λ i. Some (frames_left i)) o
         (frames_of_context ctx.old probe)) }
 {
-    if ctx.may_wait(probe) {
-        ask_units(ctx, probe)
-    } else {
-        end(ctx, probe)
-    }
+    let walked = ctx.walk(probe, Faults::End);
+    lend(ctx, probe, walked)
 }
 
 // The rest of a lookup of frames after an answer to the load that it waited for.
-fn go_on<R: Reader>(
+fn resume_with<R: Reader>(
     ctx: &mut Context<R>,
     probe: u64,
     number: usize,
@@ -99,7 +87,7 @@ fn go_on<R: Reader>(
         (frames_answered ctx.old number (option_map (λ d. d.value) input) probe)) }
 {
     match ctx.answer(number, input) {
-        Ok(()) => go(ctx, probe),
+        Ok(()) => begin(ctx, probe),
         Err(error) => LookupResult::Output(Err(error)),
     }
 }
@@ -112,10 +100,8 @@ fn skip<R: Reader>(ctx: &mut Context<R>, probe: u64) -> LookupResult<FramesLooku
     ensures output { IfOutput result (λ o. ExactlyUnlessOom (λ i. Some (frames_left i)) o
         (frames_skipped ctx.old probe)) }
 {
-    match ctx.skip_loads(probe, Faults::End) {
-        Ok(_) => end(ctx, probe),
-        Err(error) => LookupResult::Output(Err(error)),
-    }
+    let walked = ctx.skip_loads(probe, Faults::End);
+    lend(ctx, probe, walked)
 }
 
 impl<'ctx, R: Reader> LookupContinuation for FramesLookup<'ctx, R> {
@@ -159,7 +145,7 @@ impl<'ctx, R: Reader> LookupContinuation for FramesLookup<'ctx, R> {
             number,
             load: _,
         } = self;
-        go_on(ctx, probe, number, input)
+        resume_with(ctx, probe, number, input)
     }
 }
 
@@ -216,27 +202,6 @@ impl<'ctx, R: Reader, B: Drop> FramesLookupWith<'ctx, R, B> {
 }
 
 impl<R: Reader> Context<R> {
-    // The frames of a lookup that doesn't wait.
-    pub(crate) fn ended_frames(&mut self, probe: u64) -> Result<FrameIter<'_, R>, Error>
-        requires ended { is_waiting (lookup_stop End self.old.sections self.old.answers probe)
-            ≡ false }
-        ensures gives { ExactlyUnlessOom (λ i. Some (frames_left i)) result
-            (frames_of_context self.old probe) }
-        ensures* kept { sem 𝓛 (EndsAs R.row R.Reader self.entry
-            (AfterFrames End probe result self.old)) }
-    {
-        let stop = self.units.find_frames(
-            self.alloc,
-            &self.dwarf,
-            &self.sup_units,
-            &mut self.looks,
-            probe,
-            Faults::End,
-        )?;
-        self.units.set_stop(stop);
-        Ok(self.units.stop_frames())
-    }
-
     /// The frames at an address, from the innermost inlined function out: of the first unit among
     /// those that cover it that has a function or a location there; none where no unit has.
     ///
@@ -259,6 +224,6 @@ impl<R: Reader> Context<R> {
         ensures output { IfOutput result (λ o. ExactlyUnlessOom (λ i. Some (frames_left i)) o
             (frames_of_context self.old probe)) }
     {
-        go(self, probe)
+        begin(self, probe)
     }
 }

@@ -262,10 +262,7 @@ impl<F: FileSource> LoaderOver<F> {
             (AfterLoads frames_left probe result (seen_loader F.files self.old))) }
     {
         answer_loads(self.alloc, &self.files, &mut self.context, probe)?;
-        match self.context.ended_frames(probe) {
-            Ok(frames) => Ok(frames),
-            Err(error) => Err(LoaderError::from(error)),
-        }
+        Ok(self.context.found_frames())
     }
 
     /// The name of the symbol of an address, as `ElfFile::symbol` chooses it. Takes no memory.

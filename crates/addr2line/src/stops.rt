@@ -1,55 +1,33 @@
-//! What lookups come to, by the number of a unit.
+//! What the last lookup of frames or of a unit has come to, and what is lent of it.
 
-ghost use Rattle.std.specs.Prelude.{◌≡◌, IfErr, IfOk, Ok, false};
+ghost use Rattle.std.specs.Prelude.{◌≡◌, IfErr, IfOk};
 ghost use Rattle.gimli_read.specs.declared.error.Error.TheVariants.{OutOfMemory};
-ghost use Rattle.gimli_read.specs.Reading.{IsUnlessOom};
 ghost use Rattle.addr2line_lines.specs.LastAddress.{last_address};
-ghost use Rattle.addr2line_units.specs.declared.frames_lookup.Faults.{Faults};
 ghost use Rattle.addr2line_units.specs.declared.frames_lookup.Faults.TheVariants.{PassOver};
-ghost use Rattle.addr2line_units.specs.FramesLookup.{Waits, is_waiting};
-ghost use Rattle.addr2line_units.specs.SeenUnit.{seen_found};
+ghost use Rattle.addr2line_units.specs.FramesLeft.{frames_left};
+ghost use Rattle.addr2line_units.specs.FramesLookup.{Waits, frames_found};
+ghost use Rattle.addr2line_units.specs.SeenUnit.{seen_unit};
 ghost use Rattle.addr2line.specs.Context.{IsUncovered};
-ghost use Rattle.addr2line.specs.declared.stops.UnitStop.TheVariants.{Finds};
-ghost use Rattle.addr2line.specs.UnitStops.{stop_by_number, unit_stop};
-ghost use Rattle.addr2line.specs.AfterLookups.{AfterFrames, IsKnown};
-ghost use Rattle.addr2line.specs.Lookups.{IsLoadOf, lookup_stop, unit_of};
+ghost use Rattle.addr2line.specs.AfterLookups.{AfterFrames, IsFoundUnit, IsStored};
+ghost use Rattle.addr2line.specs.Lookups.{IsLoadOf, waiting_unit};
+ghost use Rattle.std.specs.Prelude.{option_map};
 
 use crate::context::Context;
+use addr2line_units::FrameIter;
 use addr2line_units::frames_lookup::{Faults, FramesStop};
 use addr2line_units::view::SplitDwarfLoad;
 use gimli::UnitRef;
 use gimli::read::{Error, Reader};
 
-// What a lookup comes to, by the number of a unit.
-#[derive(Drop)]
-pub(crate) enum UnitStop {
-    // This unit waits for an answer.
-    Waits(usize),
-    // A function or a location stands there in this unit.
-    Finds(usize),
-    FindsNothing,
-}
-
-// What a lookup comes to, by the number of a unit.
-fn stop_by_number(stop: Result<FramesStop, Error>) -> Result<UnitStop, Error>
-    ensures gives { result ≡ stop_by_number stop }
-{
-    match stop {
-        Ok(FramesStop::Waits(number)) => Ok(UnitStop::Waits(number)),
-        Ok(FramesStop::Finds(place)) => Ok(UnitStop::Finds(place.unit())),
-        Ok(FramesStop::FindsNothing) => Ok(UnitStop::FindsNothing),
-        Err(error) => Err(error),
-    }
-}
-
 impl<R: Reader> Context<R> {
-    // What a lookup comes to. What it asks for is read and cached.
-    pub(crate) fn stop(&mut self, probe: u64, faults: Faults) -> Result<UnitStop, Error>
-        ensures gives { IsUnlessOom result
-            (unit_stop faults self.old.sections self.old.answers probe) }
+    // Stores what a lookup comes to. What it asks for is read and cached.
+    pub(crate) fn walk(&mut self, probe: u64, faults: Faults) -> Result<(), Error>
+        ensures gives { IsStored faults probe result self.new }
         ensures refused { faults ≡ PassOver → IfErr result (λ e. e ≡ OutOfMemory) }
+        ensures last { probe ≡ last_address → IsUncovered self.old probe }
         ensures after { AfterFrames faults probe result self.old self.new }
     {
+        self.stop = FramesStop::FindsNothing;
         let stop = self.units.find_frames(
             self.alloc,
             &self.dwarf,
@@ -57,43 +35,45 @@ impl<R: Reader> Context<R> {
             &mut self.looks,
             probe,
             faults,
-        );
-        stop_by_number(stop)
+        )?;
+        self.stop = stop;
+        Ok(())
     }
 
-    // Whether a lookup may wait for an answer, by what is cached. Takes no memory.
-    pub(crate) fn may_wait(&self, probe: u64) -> bool
-        ensures ends { result ≡ false → (faults : Faults)
-            → is_waiting (lookup_stop faults self.now.sections self.now.answers probe) ≡ false }
-        ensures last { probe ≡ last_address → IsUncovered self.now probe }
+    // The unit that the last lookup waits for, if it waits for one.
+    pub(crate) fn waits_for(&self) -> Option<usize>
+        ensures gives { result ≡ waiting_unit self.now.stop }
     {
-        self.units.may_wait(probe)
+        match &self.stop {
+            FramesStop::Waits(number) => Some(*number),
+            FramesStop::Finds(_) | FramesStop::FindsNothing => None,
+        }
     }
 
-    // The load of the unit that a lookup waits for. Refused `OutOfMemory` alone.
-    pub(crate) fn load_of(
-        &self,
-        probe: u64,
-        faults: Faults,
-        number: usize,
-    ) -> Result<SplitDwarfLoad<R>, Error>
-        requires waits { lookup_stop faults self.now.sections self.now.answers probe
-            ≡ Ok (Waits number) }
-        requires known { IsKnown faults self.now probe }
+    // The load of the unit that the last lookup waits for. Refused `OutOfMemory` alone.
+    pub(crate) fn load_of(&self, number: usize) -> Result<SplitDwarfLoad<R>, Error>
+        requires waits { self.now.stop ≡ Waits number }
         ensures gives { IfOk result (λ l. IsLoadOf self.now.sections number l) }
         ensures refused { IfErr result (λ e. e ≡ OutOfMemory) }
     {
         self.units.load(&self.dwarf, number)
     }
 
-    // The sections and the unit of the view that a lookup of a unit has found in a unit.
-    pub(crate) fn unit_at(&self, probe: u64, number: usize) -> Option<UnitRef<'_, R>>
-        requires found { unit_stop PassOver self.now.sections self.now.answers probe
-            ≡ Ok (Finds number) }
-        requires known { IsKnown PassOver self.now probe }
-        ensures gives { unit_of self.now.sections self.now.answers probe
-            ≡ Ok (seen_found result) }
+    // The frames that the last lookup has found, none where it waits or has found nothing.
+    pub(crate) fn found_frames(&self) -> FrameIter<'_, R>
+        ensures gives { frames_left result ≡ frames_found self.now.stop }
     {
-        self.units.unit_ref(&self.dwarf, number)
+        self.units.found_frames(&self.stop)
+    }
+
+    // The sections and the unit of the view of the unit in which the last lookup has found
+    // something, none where it waits or has found nothing.
+    pub(crate) fn found_unit(&self) -> Option<UnitRef<'_, R>>
+        ensures gives { IsFoundUnit self.now (option_map seen_unit result) }
+    {
+        match &self.stop {
+            FramesStop::Finds(place) => self.units.unit_ref(&self.dwarf, place.unit()),
+            FramesStop::Waits(_) | FramesStop::FindsNothing => None,
+        }
     }
 }

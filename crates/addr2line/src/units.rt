@@ -1,24 +1,21 @@
 //! Lookups of units, which may wait for split files.
 
-ghost use Rattle.std.specs.Prelude.{◌≡◌, ◌<◌, None, IfErr, IfOk, Ok, option_map, true};
+ghost use Rattle.std.specs.Prelude.{◌≡◌, ◌<◌, None, IfErr, option_map, true};
 ghost use Rattle.std.specs.Borrow.{sem};
 ghost use Rattle.gimli_read.specs.declared.error.Error.TheVariants.{OutOfMemory};
 ghost use Rattle.gimli_read.specs.Reading.{ExactlyUnlessOom};
 ghost use Rattle.addr2line_units.specs.declared.frames_lookup.Faults.TheVariants.{PassOver};
 ghost use Rattle.addr2line_units.specs.SeenUnit.{seen_found};
 ghost use Rattle.addr2line_units.specs.Suspended.{IfLoad, IfOutput, SkipsTo};
-ghost use Rattle.addr2line.specs.declared.stops.UnitStop.TheVariants.{Finds};
 ghost use Rattle.addr2line.specs.Answers.{AfterResume};
 ghost use Rattle.addr2line.specs.Borrowed.{RestsAs};
-ghost use Rattle.addr2line.specs.UnitStops.{unit_stop};
-ghost use Rattle.addr2line.specs.AfterLookups.{AfterFrames, IsKnown};
-ghost use Rattle.addr2line.specs.Lookups.{lookup_stop, unit_of, waits_for};
+ghost use Rattle.addr2line.specs.AfterLookups.{AfterFrames, IsLent, IsStored};
+ghost use Rattle.addr2line.specs.Lookups.{lookup_stop, waits_for};
 ghost use Rattle.addr2line.specs.Skips.{AfterSkip};
-ghost use Rattle.addr2line.specs.WaitingLookups.{SuspendsAgainIn, SuspendsIn, count_loads, unit_answered, unit_of_context, unit_skipped, unit_with_none};
+ghost use Rattle.addr2line.specs.WaitingLookups.{HoldsIn, SuspendsAgainIn, SuspendsIn, count_loads, unit_answered, unit_of_context, unit_skipped, unit_with_none};
 
 use crate::context::Context;
 use crate::continuation::{UnitLookup, UnitLookupWith};
-use crate::stops::UnitStop;
 use addr2line_units::continuation::{LookupContinuation, LookupResult};
 use addr2line_units::frames_lookup::Faults;
 use addr2line_units::view::SplitDwarfLoad;
@@ -26,27 +23,43 @@ use gimli::read::{Error, Reader};
 use gimli::{Dwarf, UnitRef};
 use std::rc::Rc;
 
-// The end of a lookup of a unit that has found one. Takes no memory.
-fn end<R: Reader>(
+// What a lookup of a unit gives that the context has stored.
+fn lend<R: Reader>(
     ctx: &mut Context<R>,
     probe: u64,
-    number: usize,
+    walked: Result<(), Error>,
 ) -> LookupResult<UnitLookup<'_, R>>
-    requires found { unit_stop PassOver ctx.old.sections ctx.old.answers probe
-        ≡ Ok (Finds number) }
-    requires known { IsKnown PassOver ctx.old probe }
+    requires stored { IsStored PassOver probe walked ctx.old }
+    requires refused { IfErr walked (λ e. e ≡ OutOfMemory) }
     ensures* ends { sem 𝓛 (RestsAs (λ c. c.ctx.ghost_name) R.row R.Reader ctx.entry result
-        (λ o n. n ≡ ctx.old)) }
-    ensures load { IfLoad result (λ c. ⊥) }
-    ensures output { IfOutput result (λ o. IfOk o (λ u.
-        unit_of ctx.old.sections ctx.old.answers probe ≡ Ok (seen_found u))) }
-    ensures refused { IfOutput result (λ o. IfErr o (λ e. ⊥)) }
+        (λ o n. (n ≡ ctx.old) × IsLent walked ctx.old.stop o)) }
+    ensures load { IfLoad result (λ c.
+        HoldsIn ctx.entry probe walked c.ctx c.probe c.number c.load) }
+    ensures output { IfOutput result (λ o. ExactlyUnlessOom seen_found o
+        (unit_of_context ctx.old probe)) }
+    ensures refused { IfOutput result (λ o. IfErr o (λ e. e ≡ OutOfMemory)) }
 {
-    LookupResult::Output(Ok(ctx.unit_at(probe, number)))
+    match walked {
+        Ok(()) => match ctx.waits_for() {
+            Some(number) => match ctx.load_of(number) {
+                Ok(load) => LookupResult::Load {
+                    continuation: UnitLookupWith {
+                        ctx,
+                        probe,
+                        number,
+                        load,
+                    },
+                },
+                Err(error) => LookupResult::Output(Err(error)),
+            },
+            None => LookupResult::Output(Ok(ctx.found_unit())),
+        },
+        Err(error) => LookupResult::Output(Err(error)),
+    }
 }
 
 // A lookup of a unit from its beginning, by what is cached.
-fn go<R: Reader>(ctx: &mut Context<R>, probe: u64) -> LookupResult<UnitLookup<'_, R>>
+fn begin<R: Reader>(ctx: &mut Context<R>, probe: u64) -> LookupResult<UnitLookup<'_, R>>
     ensures* ends { sem 𝓛 (RestsAs (λ c. c.ctx.ghost_name) R.row R.Reader ctx.entry result
         (λ o n. AfterFrames PassOver probe o ctx.old n)) }
     ensures load { IfLoad result (λ c.
@@ -55,26 +68,12 @@ fn go<R: Reader>(ctx: &mut Context<R>, probe: u64) -> LookupResult<UnitLookup<'_
         (unit_of_context ctx.old probe)) }
     ensures refused { IfOutput result (λ o. IfErr o (λ e. e ≡ OutOfMemory)) }
 {
-    match ctx.stop(probe, Faults::PassOver) {
-        Ok(UnitStop::Waits(number)) => match ctx.load_of(probe, Faults::PassOver, number) {
-            Ok(load) => LookupResult::Load {
-                continuation: UnitLookupWith {
-                    ctx,
-                    probe,
-                    number,
-                    load,
-                },
-            },
-            Err(error) => LookupResult::Output(Err(error)),
-        },
-        Ok(UnitStop::Finds(number)) => end(ctx, probe, number),
-        Ok(UnitStop::FindsNothing) => LookupResult::Output(Ok(None)),
-        Err(error) => LookupResult::Output(Err(error)),
-    }
+    let walked = ctx.walk(probe, Faults::PassOver);
+    lend(ctx, probe, walked)
 }
 
 // The rest of a lookup of a unit after an answer to the load that it waited for.
-fn go_on<R: Reader>(
+fn resume_with<R: Reader>(
     ctx: &mut Context<R>,
     probe: u64,
     number: usize,
@@ -92,7 +91,7 @@ fn go_on<R: Reader>(
     ensures refused { IfOutput result (λ o. IfErr o (λ e. e ≡ OutOfMemory)) }
 {
     match ctx.answer(number, input) {
-        Ok(()) => go(ctx, probe),
+        Ok(()) => begin(ctx, probe),
         Err(error) => LookupResult::Output(Err(error)),
     }
 }
@@ -106,11 +105,8 @@ fn skip<R: Reader>(ctx: &mut Context<R>, probe: u64) -> LookupResult<UnitLookup<
         (unit_skipped ctx.old probe)) }
     ensures refused { IfOutput result (λ o. IfErr o (λ e. e ≡ OutOfMemory)) }
 {
-    match ctx.skip_loads(probe, Faults::PassOver) {
-        Ok(Some(number)) => end(ctx, probe, number),
-        Ok(None) => LookupResult::Output(Ok(None)),
-        Err(error) => LookupResult::Output(Err(error)),
-    }
+    let walked = ctx.skip_loads(probe, Faults::PassOver);
+    lend(ctx, probe, walked)
 }
 
 impl<'ctx, R: Reader> LookupContinuation for UnitLookup<'ctx, R> {
@@ -153,7 +149,7 @@ impl<'ctx, R: Reader> LookupContinuation for UnitLookup<'ctx, R> {
             number,
             load: _,
         } = self;
-        go_on(ctx, probe, number, input)
+        resume_with(ctx, probe, number, input)
     }
 }
 
@@ -236,6 +232,6 @@ impl<R: Reader> Context<R> {
             (λ o. ExactlyUnlessOom seen_found o (unit_of_context self.old probe)) }
         ensures refused { IfOutput result (λ o. IfErr o (λ e. e ≡ OutOfMemory)) }
     {
-        go(self, probe)
+        begin(self, probe)
     }
 }

@@ -1,14 +1,17 @@
 -- The unit in which a lookup of frames has found something (on specs/FramesLookup.antt and
 -- specs/CachedUnits.antt).
 use Rattle.std.proofs.Common.{◌≡◌, ℕ, zero, suc, Bool, true, false, ◌&&◌, ◌||◌, List, [], ◌∷◌, Option, Some, None, Result, Ok, Err, ap, refl, subst, ◌∙◌}
-use Rattle.std.specs.Prelude.{if◌then◌else◌}
+use Rattle.std.specs.Prelude.{IfOk, if◌then◌else◌}
 use Rattle.gimli_read.specs.declared.error.Error.{Error}
-use Rattle.gimli_read.specs.Reading.{◌>>=◌}
+use Rattle.gimli_read.specs.Alike.{HadMemory}
+use Rattle.gimli_read.specs.Reading.{◌>>=◌, ExactlyUnlessOom}
 use Rattle.gimli.specs.Sections.{Sections}
 use Rattle.gimli.specs.Unit.{UnitRecord}
 use Rattle.addr2line_lines.specs.References.{Scope}
 use Rattle.addr2line_units.specs.declared.frames_lookup.Faults.{Faults}
 use Rattle.addr2line_units.specs.declared.frames_lookup.Faults.TheVariants.{End, PassOver}
+use Rattle.addr2line_units.specs.declared.frames_lookup.FramesStop.{FramesStop}
+use Rattle.addr2line_units.specs.declared.frames_lookup.FramesStop.TheVariants as stops
 use Rattle.addr2line_units.specs.declared.index.UnitRange.{UnitRange}
 use Rattle.addr2line_units.specs.declared.unit.ResUnit.{ResUnit}
 use Rattle.addr2line_units.specs.declared.unit_frames.UnitEntries.{UnitEntries}
@@ -19,13 +22,13 @@ use Rattle.addr2line_units.specs.Frames.{FrameRecord}
 use Rattle.addr2line_units.specs.FramesLookup.{Stop, Waits, Finds, FindsNothing, after_fault, asked_frames, ends_lookup, frames_of_number, holds_along, or_stop, stop_along}
 use Rattle.addr2line_units.specs.CachedEntries.{first_answer_of}
 use Rattle.addr2line_units.specs.CachedUnits.{HaveEntriesOf, answers_in, decided_at, has_entries_at}
-use Rattle.addr2line_units.specs.CachedFrames.{has_frames_at}
+use Rattle.addr2line_units.specs.CachedFrames.{IsLendable, IsStopIn, frames_at_place, has_frames_at, seen_stop}
 use Rattle.addr2line_units.specs.CachedViews.{is_decided, waits, was_looked_at}
 use Rattle.addr2line_units.specs.UnitFrames.{FramesResult, frames_by, frames_in, function_in}
 use Rattle.addr2line_units.specs.RangedUnits.{IndexedUnit}
-use Rattle.addr2line_units.specs.Views.{is_open}
+use Rattle.addr2line_units.specs.Views.{FirstAnswers, is_open}
 use Rattle.addr2line_units.proofs.AnswerLemmas.{looked_waits}
-use Rattle.addr2line_units.proofs.WaitLemmas.{and_first, and_second, known_was_looked_at}
+use Rattle.addr2line_units.proofs.WaitLemmas.{and_first, and_second, known_was_looked_at, waits_where_told}
 
 number_of : Stop → ℕ → ℕ
 number_of (Waits n) d = d
@@ -113,3 +116,25 @@ module _ {R : Type 0} (scope : Scope) (probe : ℕ) where
       let t = found_along (has_frames_at asks_lines probe parsed vs) (asked_frames faults scope (indexed_units us rs) (answers_in vs) probe) n fs ranges h w in
       decided_there us rs vs n own (found_by_unit faults (frames_of_number scope (indexed_units us rs) (answers_in vs) probe n) t.0)
       (and_first (has_entries_at probe vs n) _ t.1)
+
+  -- so what a lookup has come to can be lent
+  pub lendable_if_told : (faults : Faults) (us : List UnitRecord) (rs : List ResUnit) (vs : List (UnitEntries R)) (units : List IndexedUnit) (answers : FirstAnswers) (asks_lines : ℕ → Bool)
+      (parsed : List Bool) (ranges : List UnitRange) (r : Result FramesStop Error) → HaveEntriesOf scope us vs → units ≡ indexed_units us rs → answers ≡ answers_in vs → IfOk r (IsStopIn rs vs)
+      → ExactlyUnlessOom (seen_stop rs vs) r (stop_along (asked_frames faults scope units answers probe) ranges)
+      → (HadMemory r → holds_along (has_frames_at asks_lines probe parsed vs) (asked_frames faults scope units answers probe) ranges ≡ true) → IfOk r (IsLendable rs vs)
+  lendable_if_told faults us rs vs units answers asks_lines parsed ranges (Err x) own e f there gives ready = tt
+  lendable_if_told faults us rs vs units answers asks_lines parsed ranges (Ok stops.FindsNothing) own e f there gives ready = tt
+  lendable_if_told faults us rs vs units answers asks_lines parsed ranges (Ok (stops.Finds p)) own e f there gives ready = (
+    there,
+    known_where_found faults us rs vs asks_lines parsed ranges p.unit (frames_at_place rs vs p) own
+        (subst (λ a. holds_along (has_frames_at asks_lines probe parsed vs) (asked_frames faults scope (indexed_units us rs) a probe) ranges ≡ true) f
+        (subst (λ xs. holds_along (has_frames_at asks_lines probe parsed vs) (asked_frames faults scope xs answers probe) ranges ≡ true) e (ready tt)))
+        (subst (λ a. stop_along (asked_frames faults scope (indexed_units us rs) a probe) ranges ≡ Ok (Finds p.unit (frames_at_place rs vs p))) f
+        (subst (λ xs. stop_along (asked_frames faults scope xs answers probe) ranges ≡ Ok (Finds p.unit (frames_at_place rs vs p))) e gives)),
+  )
+  lendable_if_told faults us rs vs units answers asks_lines parsed ranges (Ok (stops.Waits n)) own e f there gives ready =
+      waits_where_told scope probe faults us rs vs asks_lines parsed ranges n own
+      (subst (λ a. holds_along (has_frames_at asks_lines probe parsed vs) (asked_frames faults scope (indexed_units us rs) a probe) ranges ≡ true) f
+      (subst (λ xs. holds_along (has_frames_at asks_lines probe parsed vs) (asked_frames faults scope xs answers probe) ranges ≡ true) e (ready tt)))
+      (subst (λ a. stop_along (asked_frames faults scope (indexed_units us rs) a probe) ranges ≡ Ok (Waits n)) f
+      (subst (λ xs. stop_along (asked_frames faults scope xs answers probe) ranges ≡ Ok (Waits n)) e gives))

@@ -22,7 +22,6 @@ pub mod ScopeLemmas
 pub mod WaitLemmas
 pub mod FoundLemmas
 pub mod DecidedLemmas
-pub mod EndedLemmas
 pub mod KnownLemmas
 pub mod CachedUnitLemmas
 pub mod ParseLemmas

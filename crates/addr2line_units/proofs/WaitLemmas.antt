@@ -3,14 +3,12 @@
 use Rattle.std.proofs.Common.{◌≡◌, ℕ, zero, suc, ◌<◌, arith, get_or, Bool, true, false, ◌&&◌, ◌||◌, List, [], ◌∷◌, length, slice_get, Option, Some, None, Result, Ok, Err, ap, refl, sym, subst, ◌∙◌}
 use Rattle.std.specs.Prelude.{IfOk, IfSome, if◌then◌else◌}
 use Rattle.gimli_read.specs.declared.error.Error.{Error}
-use Rattle.gimli_read.specs.Reading.{◌>>=◌, ExactlyUnlessOom}
+use Rattle.gimli_read.specs.Reading.{◌>>=◌}
 use Rattle.gimli.specs.Sections.{Sections}
 use Rattle.gimli.specs.Unit.{UnitRecord}
 use Rattle.addr2line_lines.specs.References.{Scope}
 use Rattle.addr2line_units.specs.declared.frames_lookup.Faults.{Faults}
 use Rattle.addr2line_units.specs.declared.frames_lookup.Faults.TheVariants.{End, PassOver}
-use Rattle.addr2line_units.specs.declared.frames_lookup.FramesStop.{FramesStop}
-use Rattle.addr2line_units.specs.declared.frames_lookup.FramesStop.TheVariants as stops
 use Rattle.addr2line_units.specs.declared.index.UnitRange.{UnitRange}
 use Rattle.addr2line_units.specs.declared.unit.ResUnit.{ResUnit}
 use Rattle.addr2line_units.specs.declared.unit_frames.UnitEntries.{UnitEntries}
@@ -20,13 +18,12 @@ use Rattle.addr2line_units.specs.CachedLines.{indexed_units}
 use Rattle.addr2line_units.specs.Frames.{FrameRecord}
 use Rattle.addr2line_units.specs.FramesLookup.{Stop, Waits, Finds, FindsNothing, after_fault, asked_frames, ends_lookup, frames_of_number, holds_along, or_stop, stop_along}
 use Rattle.addr2line_units.specs.CachedEntries.{has_entries, first_answer_of}
-use Rattle.addr2line_units.specs.CachedUnits.{HaveEntriesOf, HaveViewsOf, answers_in, has_entries_at, WaitsIn, waits_at}
-use Rattle.addr2line_units.specs.CachedFrames.{has_frames_at, seen_stop}
+use Rattle.addr2line_units.specs.CachedUnits.{HaveEntriesOf, HaveViewsOf, answers_in, has_entries_at, waits_at}
+use Rattle.addr2line_units.specs.CachedFrames.{has_frames_at}
 use Rattle.addr2line_units.specs.CachedViews.{IsViewOf, was_looked_at, waits}
-use Rattle.gimli_read.specs.Alike.{HadMemory}
 use Rattle.addr2line_units.specs.UnitFrames.{FramesResult, frames_by, frames_in, function_in}
 use Rattle.addr2line_units.specs.RangedUnits.{IndexedUnit}
-use Rattle.addr2line_units.specs.Views.{FirstAnswers, is_open}
+use Rattle.addr2line_units.specs.Views.{is_open}
 use Rattle.addr2line_units.proofs.AnswerLemmas.{got_unit, looked_waits}
 
 number_of : Stop → ℕ → ℕ
@@ -107,21 +104,6 @@ module _ {R : Type 0} (scope : Scope) (probe : ℕ) where
       let t = told_along (has_frames_at asks_lines probe parsed vs) (asked_frames faults scope (indexed_units us rs) (answers_in vs) probe) n ranges h w in
       waits_there us rs vs n own (told_by_unit faults (frames_of_number scope (indexed_units us rs) (answers_in vs) probe n) t.0)
       (and_first (has_entries_at probe vs n) _ t.1)
-
-  -- the same by what a lookup says of itself
-  pub waits_if_found : (faults : Faults) (us : List UnitRecord) (rs : List ResUnit) (vs : List (UnitEntries R)) (units : List IndexedUnit) (answers : FirstAnswers) (asks_lines : ℕ → Bool)
-      (parsed : List Bool) (ranges : List UnitRange) (r : Result FramesStop Error) → HaveEntriesOf scope us vs → units ≡ indexed_units us rs → answers ≡ answers_in vs
-      → ExactlyUnlessOom (seen_stop rs vs) r (stop_along (asked_frames faults scope units answers probe) ranges)
-      → (HadMemory r → holds_along (has_frames_at asks_lines probe parsed vs) (asked_frames faults scope units answers probe) ranges ≡ true) → IfOk r (WaitsIn vs)
-  waits_if_found faults us rs vs units answers asks_lines parsed ranges (Err x) own e f gives ready = tt
-  waits_if_found faults us rs vs units answers asks_lines parsed ranges (Ok (stops.Finds p)) own e f gives ready = tt
-  waits_if_found faults us rs vs units answers asks_lines parsed ranges (Ok stops.FindsNothing) own e f gives ready = tt
-  waits_if_found faults us rs vs units answers asks_lines parsed ranges (Ok (stops.Waits n)) own e f gives ready =
-      waits_where_told faults us rs vs asks_lines parsed ranges n own
-      (subst (λ a. holds_along (has_frames_at asks_lines probe parsed vs) (asked_frames faults scope (indexed_units us rs) a probe) ranges ≡ true) f
-      (subst (λ xs. holds_along (has_frames_at asks_lines probe parsed vs) (asked_frames faults scope xs answers probe) ranges ≡ true) e (ready tt)))
-      (subst (λ a. stop_along (asked_frames faults scope (indexed_units us rs) a probe) ranges ≡ Ok (Waits n)) f
-      (subst (λ xs. stop_along (asked_frames faults scope xs answers probe) ranges ≡ Ok (Waits n)) e gives))
 
 -- beside each unit stands its view
 pub views_of_entries : {R : Type 0} (scope : Scope) (us : List UnitRecord) (vs : List (UnitEntries R)) → HaveEntriesOf scope us vs → HaveViewsOf scope.file.sections us vs

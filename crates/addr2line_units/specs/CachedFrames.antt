@@ -1,5 +1,5 @@
 -- The frames that lookups find in what is cached of units, as the private functions see them.
-use Rattle.std.specs.Prelude.{◌<◌, ℕ, Bool, ◌&&◌, ◌||◌, not, length, List, Option, Some, None, IfSome, option_map, slice_get, Result, Ok, Err}
+use Rattle.std.specs.Prelude.{◌≡◌, ◌<◌, ℕ, Bool, true, ◌&&◌, ◌||◌, not, length, List, Option, Some, None, IfSome, option_map, slice_get, Result, Ok, Err}
 use Rattle.gimli_read.specs.declared.constants.DwLang.{DwLang}
 use Rattle.gimli_read.specs.declared.error.Error.{Error}
 use Rattle.gimli_read.specs.declared.error.Error.TheVariants.{OutOfMemory}
@@ -20,7 +20,7 @@ use Rattle.addr2line_units.specs.FramesLookup.{Stop, Waits, Finds, FindsNothing}
 use Rattle.addr2line_units.specs.CachedFunctions.{ArePlacesIn, function_of_place, cached_functions, no_functions}
 use Rattle.addr2line_units.specs.Parsed.{has_parsed}
 use Rattle.addr2line_units.specs.CachedEntries.{AreRead}
-use Rattle.addr2line_units.specs.CachedUnits.{has_entries_at}
+use Rattle.addr2line_units.specs.CachedUnits.{decided_at, has_entries_at, waits_at}
 
 -- the functions that are cached of the unit of a number, none where there is no such unit
 abbrev pub functions_at : {R : Type 0} → List (UnitEntries R) → ℕ → FunctionTable
@@ -61,6 +61,14 @@ pub record IsFramePlaceIn {R : Type 0} (units : List ResUnit) (views : List (Uni
 abbrev pub IsStopIn : {R : Type 0} → List ResUnit → List (UnitEntries R) → FramesStop → Type 0
 IsStopIn units views (stops.Finds p) = IsFramePlaceIn units views p
 IsStopIn units views _ = Unit {0}
+
+-- what a lookup comes to can be lent: the unit waits that it waits for, or the places of what it has
+-- found are among what is cached, and the view of their unit is known
+abbrev pub IsLendable : {R : Type 0} → List ResUnit → List (UnitEntries R) → FramesStop → Type 0
+IsLendable units views (stops.Waits n) = waits_at views n ≡ true
+IsLendable units views (stops.Finds p) =
+    IsFramePlaceIn units views p × (decided_at views p.unit ≡ true)
+IsLendable units views stops.FindsNothing = Unit {0}
 
 -- whether what the unit of a number has at the probe is known by what is cached of its entries, and
 -- its lines too if they are asked for

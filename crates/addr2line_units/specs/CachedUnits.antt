@@ -1,13 +1,10 @@
 -- What is cached of all units of a context, as the private functions see it: their views, their
 -- functions and their first answers side by side, and which units wait.
-use Rattle.std.specs.Prelude.{◌≡◌, ◌⊎◌, ℕ, Bool, true, false, ◌&&◌, List, [], ◌∷◌, map, IfSome, option_map, slice_get, unwrap_or}
+use Rattle.std.specs.Prelude.{◌≡◌, ◌⊎◌, ℕ, Bool, true, false, List, map, IfSome, option_map, slice_get, unwrap_or}
 use Rattle.std.specs.List.{AllZip}
 use Rattle.gimli.specs.Sections.{Sections}
 use Rattle.gimli.specs.Unit.{UnitRecord}
 use Rattle.addr2line_lines.specs.References.{Scope}
-use Rattle.addr2line_units.specs.declared.frames_lookup.FramesStop.{FramesStop}
-use Rattle.addr2line_units.specs.declared.frames_lookup.FramesStop.TheVariants as stops
-use Rattle.addr2line_units.specs.declared.index.UnitRange.{UnitRange}
 use Rattle.addr2line_units.specs.declared.unit_frames.UnitEntries.{UnitEntries}
 use Rattle.addr2line_units.specs.CachedViews.{IsViewOf, is_decided, waits}
 use Rattle.addr2line_units.specs.CachedEntries.{AreEntriesOf, AreFresh, ReadsEntriesOf, StayEntries, has_entries, first_answer_of}
@@ -54,13 +51,3 @@ waits_at views n = unwrap_or (option_map (λ v. waits v.view.state) (slice_get v
 abbrev pub decided_at : {R : Type 0} → List (UnitEntries R) → ℕ → Bool
 decided_at views n =
     unwrap_or (option_map (λ v. is_decided v.view.state) (slice_get views n)) false
-
--- the same of each unit along ranges
-abbrev pub decided_along : {R : Type 0} → List (UnitEntries R) → List UnitRange → Bool
-decided_along views [] = true
-decided_along views (r ∷ ranges) = decided_at views r.unit && decided_along views ranges
-
--- the unit that a lookup waits for does
-abbrev pub WaitsIn : {R : Type 0} → List (UnitEntries R) → FramesStop → Type 0
-WaitsIn views (stops.Waits n) = waits_at views n ≡ true
-WaitsIn views _ = Unit {0}

@@ -5,7 +5,6 @@ mod answers;
 pub mod aranges;
 pub mod attributes;
 pub mod continuation;
-mod decided;
 pub mod frame;
 pub mod frames_lookup;
 mod functions;

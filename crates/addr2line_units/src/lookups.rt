@@ -1,9 +1,10 @@
 //! Lookups of frames over the units of a context, and the answers to their loads.
 
-ghost use Rattle.std.specs.Prelude.{◌≡◌, ◌≢◌, ◌&&◌, ◌<◌, ◌≤◌, ℕ, None, Some, set, IfErr, IfOk, IfSome, Ok, OnOk, false, is_some, length, not, option_map, slice_get, true};
+ghost use Rattle.std.specs.Prelude.{◌≡◌, ◌≢◌, ◌&&◌, ◌<◌, ◌≤◌, [], ℕ, None, Some, set, IfErr, IfOk, IfSome, Ok, OnOk, false, is_some, length, not, option_map, slice_get, true};
 ghost use Rattle.gimli_read.specs.declared.error.Error.TheVariants.{OutOfMemory};
 ghost use Rattle.gimli_read.specs.Reading.{ExactlyUnlessOom};
 ghost use Rattle.addr2line_lines.specs.References.{IsScope};
+ghost use Rattle.addr2line_lines.specs.LastAddress.{last_address};
 ghost use Rattle.addr2line_lines.specs.SeenScope.{seen_file};
 ghost use Rattle.addr2line_units.specs.CachedLines.{HaveLinesOf, StayUnits, parsed_units};
 ghost use Rattle.addr2line_units.specs.Cover.{cover};
@@ -15,8 +16,8 @@ ghost use Rattle.addr2line_units.specs.CachedLines.{cached_files};
 ghost use Rattle.addr2line_units.specs.Frames.{found_frames};
 ghost use Rattle.addr2line_units.specs.CachedEntries.{AreRead};
 ghost use Rattle.addr2line_units.specs.CachedFunctions.{ArePlacesIn, function_of_place, cached_functions};
-ghost use Rattle.addr2line_units.specs.CachedUnits.{HaveEntriesOf, HaveViewsOf, ReadsOnly, StayAllEntries, WaitsIn, answers_in, decided_at, waits_at};
-ghost use Rattle.addr2line_units.specs.CachedFrames.{IsFramePlaceIn, IsStopIn, frames_at_place, has_frames_at, seen_stop};
+ghost use Rattle.addr2line_units.specs.CachedUnits.{HaveEntriesOf, HaveViewsOf, ReadsOnly, StayAllEntries, answers_in, decided_at, waits_at};
+ghost use Rattle.addr2line_units.specs.CachedFrames.{IsFramePlaceIn, IsLendable, frames_at_place, has_frames_at, seen_stop};
 ghost use Rattle.addr2line_units.specs.SeenUnit.{scope_in, seen_unit, sup_file};
 ghost use Rattle.addr2line_units.specs.Loads.{is_open_at};
 ghost use Rattle.addr2line_units.specs.Views.{load_of_unit, parts_of};
@@ -88,22 +89,15 @@ impl<R: Reader> ResUnits<R> {
         frames_in_unit(unit, &self.entries[place.unit], &place.function, place.row)
     }
 
-    /// Stores what a lookup has come to, so that its frames can be lent. Takes no memory.
-    pub fn set_stop(&mut self, stop: FramesStop)
-        ensures kept { self.new ≡ record self.old { stop = stop } }
-    {
-        self.stop = stop;
-    }
-
-    /// The frames that the lookup has found whose stop is stored, none where it waits or has found
-    /// nothing. Takes no memory.
-    pub fn stop_frames(&self) -> FrameIter<'_, R>
-        requires there { IsStopIn self.now.units.items self.now.entries.items self.now.stop }
+    /// The frames that a lookup has found, none where it waits or has found nothing. Takes no
+    /// memory.
+    pub fn found_frames<'x>(&'x self, stop: &'x FramesStop) -> FrameIter<'x, R>
+        requires there { IsLendable self.now.units.items self.now.entries.items stop.now }
         requires beside { length self.now.entries.items ≡ length self.now.units.items }
         ensures gives { frames_left result
-            ≡ frames_found (seen_stop self.now.units.items self.now.entries.items self.now.stop) }
+            ≡ frames_found (seen_stop self.now.units.items self.now.entries.items stop.now) }
     {
-        let FramesStop::Finds(place) = &self.stop else {
+        let FramesStop::Finds(place) = stop else {
             return FrameIter::new_empty();
         };
         self.frames(place)
@@ -117,7 +111,7 @@ impl<R: Reader> ResUnits<R> {
     /// is read of others.
     ///
     /// Refused by that fault; may fail with `OutOfMemory` instead, only where something of what is
-    /// asked for isn't cached, or there are more than 16 inlined functions.
+    /// asked for isn't cached, or there are more than 16 inlined functions. No unit covers 2^64 - 1.
     pub fn find_frames(
         &mut self,
         alloc: Global,
@@ -135,8 +129,8 @@ impl<R: Reader> ResUnits<R> {
             result (stop_along (asked_frames faults
             (scope_in dwarf.now self.old.dw_units.items sup.now) (units_in self.old)
             (answers_in self.old.entries.items) probe) (cover probe self.old.ranges)) }
-        ensures there { IfOk result (IsStopIn self.new.units.items self.new.entries.items) }
-        ensures waits { IfOk result (WaitsIn self.new.entries.items) }
+        ensures there { IfOk result (IsLendable self.new.units.items self.new.entries.items) }
+        ensures last { probe ≡ last_address → cover probe self.old.ranges ≡ [] }
         ensures read { HaveLinesOf dwarf.now self.new.dw_units.items self.new.units.items }
         ensures right { HaveEntriesOf (scope_in dwarf.now self.new.dw_units.items sup.now)
             self.new.dw_units.items self.new.entries.items }

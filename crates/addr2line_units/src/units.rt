@@ -18,7 +18,6 @@ ghost use Rattle.addr2line_lines.specs.Location.{location_of_row};
 ghost use Rattle.addr2line_lines.specs.SeenLocation.{seen_location};
 
 use crate::aranges::UnitAranges;
-use crate::frames_lookup::FramesStop;
 use crate::index::{UnitRange, UnitRanges};
 use crate::lookup::{cache_lines_along, find_place_along, read_all_lines};
 use crate::range::LocationRangeIter;
@@ -41,8 +40,6 @@ pub struct ResUnits<R: Reader> {
     pub(crate) entries: Vec<UnitEntries<R>>,
     /// The ranges that lead to them.
     pub ranges: UnitRanges,
-    // What the last lookup of frames has come to, whose frames are lent from here.
-    pub(crate) stop: FramesStop,
 }
 
 // The units and ranges that were read so far.
@@ -235,7 +232,6 @@ impl<R: Reader> ResUnits<R> {
             units,
             entries,
             ranges,
-            stop: FramesStop::FindsNothing,
         })
     }
 }

@@ -241,16 +241,6 @@ impl<R: Reader> UnitView<R> {
         matches!(self.state, ViewState::Open)
     }
 
-    // Whether the view is known, or its fault.
-    pub(crate) fn is_decided(&self) -> bool
-        ensures gives { result ≡ is_decided self.now.state }
-    {
-        matches!(
-            self.state,
-            ViewState::Main | ViewState::Unnamed(_) | ViewState::Answered(_)
-        )
-    }
-
     // Whether the unit has an answer.
     pub(crate) fn is_answered(&self) -> bool
         ensures gives { result ≡ is_some (seen_first_answer self.now) }

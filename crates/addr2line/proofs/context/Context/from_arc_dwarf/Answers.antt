@@ -23,13 +23,15 @@ returns-in_err-sup_units g c =
 pub invariant_of-result : goal.invariant_of-result
 invariant_of-result g c =
     let units = rw c.deref.ensures at c.in_ok-units.ensures.gives in
-    let sup = rw c.deref-2.ensures at c.in_ok-sup_units.ensures.gives in
-    record {
-      made_is = what_is_made c.args.dwarf.value _ _ units sup;
-      lines = subst (λ d. HaveLinesOf d c.in_ok-units.units.dw_units.items c.in_ok-units.units.units.items) c.deref.ensures c.in_ok-units.ensures.read;
-      entries = fresh_entries _ _ _ c.in_ok-units.ensures.fresh;
-      sup_dwarf_is = rw c.deref-2.ensures at c.in_ok-sup_units.ensures.dwarf;
-    }
+    let sup = rw c.deref-2.ensures at c.in_ok-sup_units.ensures.gives in (
+      record {
+        made_is = what_is_made c.args.dwarf.value _ _ units sup;
+        lines = subst (λ d. HaveLinesOf d c.in_ok-units.units.dw_units.items c.in_ok-units.units.units.items) c.deref.ensures c.in_ok-units.ensures.read;
+        entries = fresh_entries _ _ _ c.in_ok-units.ensures.fresh;
+        sup_dwarf_is = rw c.deref-2.ensures at c.in_ok-sup_units.ensures.dwarf;
+      },
+      tt,
+    )
 
 pub returns : goal.returns
 returns g c =

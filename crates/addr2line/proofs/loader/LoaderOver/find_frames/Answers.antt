@@ -1,14 +1,12 @@
-use Rattle.std.proofs.Common.{◌≢◌, refl}
+use Rattle.std.proofs.Common.{◌≡◌, Ok, ap, refl, sym, ◌∙◌}
 use Rattle.std.proofs.lemmas.Result.{err_from_is_err_and}
-use Rattle.elf.specs.declared.error.LoaderError.TheVariants.{OutOfMemory}
-use Rattle.elf.specs.Text.{loader_error_of}
 use Rattle.addr2line_units.specs.declared.frames_lookup.Faults.TheVariants.{End}
 use Rattle.addr2line_units.specs.FramesLeft.{frames_left}
+use Rattle.addr2line.specs.FramesByFiles.{ended_frames_of, stop_frames}
 use Rattle.addr2line.specs.LoadsByFiles.{WaitsForNone}
 use Rattle.addr2line.specs.AfterLookups.{IsKnownFew}
-use Rattle.addr2line.proofs.ByFilesLemmas.{failed_by_files, found_by_files, loader_failed, loader_found}
-use Rattle.addr2line.proofs.LoadingLemmas.{no_oom}
-use Rattle.addr2line.proofs.NoLoadLemmas.{failed_ended, failed_exactly, found_ended, last_frames, refused_exactly}
+use Rattle.addr2line.proofs.ByFilesLemmas.{found_by_files}
+use Rattle.addr2line.proofs.NoLoadLemmas.{found_ended, last_frames, refused_exactly}
 use Rattle.addr2line.proofs.loader.LoaderOver.find_frames.Goals as goal
 
 pub returns-in_err-answer_loads : goal.returns-in_err-answer_loads
@@ -49,51 +47,39 @@ returns-in_err-answer_loads g c =
       },
     )
 
-pub returns-in-Ok : goal.returns-in-Ok
-returns-in-Ok g c =
+pub returns : goal.returns
+returns g c =
     let files = g.F.FileSource.files c.args.self.now.files in
     let probe = c.args.probe in
     let first = c.args.self.now.context in
     let mid = c.answer_loads.new.ctx in
-    let new = c.ended_frames.follows.lender-at-none in
     let a = c.answer_loads.ensures.after in
-    let t = c.answer_loads.ensures.in_turn in
-    let b = c.ended_frames.follows.holds-at-none in
-    let frames = c.in-Ok.frames in
-    let waits = c.in_ok-answer_loads.ensures.ended tt in
-    let ended = λ (w : WaitsForNone first probe). found_ended files probe first mid a w (frames_left frames) c.in-Ok.ensures.gives in (
-      (refl, (λ _. tt), loader_found files probe first mid a c.args.self.now.object c.ended_frames.result new b t c.answer_loads.ensures.only waits frames_left frames c.in-Ok.is c.in-Ok.ensures.gives),
+    let so = c.in_ok-answer_loads.ensures in
+    let frames = frames_left c.found_frames.result in
+    let waits = so.ended tt in
+    let told : ended_frames_of mid probe ≡ Ok frames = ap stop_frames so.stored ∙ ap (λ fs. Ok fs) (sym c.found_frames.ensures.gives) in
+    let ended = λ (w : WaitsForNone first probe). found_ended files probe first mid a w frames told in (
+      (
+        refl,
+        (λ _. tt),
+        record {
+          files = refl;
+          object = refl;
+          context = a;
+          in_turn = c.answer_loads.ensures.in_turn;
+          only = c.answer_loads.ensures.only;
+          ended = λ _. waits;
+          ready = so.ready;
+          told = λ _. told;
+          waits = tt;
+          memory = λ w few. tt;
+        },
+      ),
       record {
-        gives = found_by_files files probe first mid a waits (frames_left frames) c.in-Ok.ensures.gives;
+        gives = found_by_files files probe first mid a waits frames told;
         ended = ended;
         exact = λ w few. ended w;
         last = λ q. last_frames probe first (c.answer_loads.ensures.last q) _ (λ w few. ended w);
-        kept = tt;
-      },
-    )
-
-pub returns-in-Err : goal.returns-in-Err
-returns-in-Err g c =
-    let files = g.F.FileSource.files c.args.self.now.files in
-    let probe = c.args.probe in
-    let first = c.args.self.now.context in
-    let mid = c.answer_loads.new.ctx in
-    let new = c.ended_frames.follows.lender-at-none in
-    let a = c.answer_loads.ensures.after in
-    let t = c.answer_loads.ensures.in_turn in
-    let b = c.ended_frames.follows.holds-at-none in
-    let r = c.ended_frames.result in
-    let e = c.in-Err.error in
-    let waits = c.in_ok-answer_loads.ensures.ended tt in
-    let gives = λ (ne : loader_error_of e ≢ OutOfMemory). c.in-Err.ensures.gives (no_oom e ne) in
-    let exact = λ (w : WaitsForNone first probe) (few : IsKnownFew End first probe). failed_exactly files probe first mid a w r new t b e c.in-Err.is gives few in
-    rw c.from.ensures (
-      (refl, (λ _. tt), loader_failed files probe first mid a c.args.self.now.object r new b t c.answer_loads.ensures.only waits frames_left e c.in-Err.is gives),
-      record {
-        gives = failed_by_files files probe first mid a waits e gives;
-        ended = λ w. failed_ended files probe first mid a w e gives;
-        exact = exact;
-        last = λ q. last_frames probe first (c.answer_loads.ensures.last q) _ exact;
         kept = tt;
       },
     )

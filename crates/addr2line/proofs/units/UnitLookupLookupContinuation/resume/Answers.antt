@@ -13,18 +13,18 @@ returns g c =
     let l = c.args.self in
     let d = l.ctx.now.sections in
     let answers = l.ctx.now.answers in
-    let f = c.go_on.follows in (
+    let f = c.resume_with.follows in (
       (refl, f.holds, f.holds-at-none),
       record {
         ends = tt;
-        load = c.go_on.ensures.load;
-        fewer = c.go_on.ensures.fewer;
-        output = c.go_on.ensures.output;
-        refused = c.go_on.ensures.refused;
+        load = c.resume_with.ensures.load;
+        fewer = c.resume_with.ensures.fewer;
+        output = c.resume_with.ensures.output;
+        refused = c.resume_with.ensures.refused;
         skips = λ none.
             let given = ap (λ o. option_map (λ x. x.value) o) none in
-            skip_told unit_of decided_unit_of (option_map seen_unit) d answers l.probe l.number (λ x. x.ctx.now.sections) (λ x. x.ctx.now.answers) (λ x. x.probe) c.go_on.result
-            (if_load _ _ c.go_on.result (λ x h. (h.2.2.after.sections ∙ h.2.1.sections, h.2.2.after.answers ∙ h.2.1.answers ∙ ap (answered d answers l.number) given, h.1)) c.go_on.ensures.load)
-            (subst (λ x. IfOutput c.go_on.result (λ o. ExactlyUnlessOom seen_found o (unit_of d (answered d answers l.number x) l.probe))) given c.go_on.ensures.output);
+            skip_told unit_of decided_unit_of (option_map seen_unit) d answers l.probe l.number (λ x. x.ctx.now.sections) (λ x. x.ctx.now.answers) (λ x. x.probe) c.resume_with.result
+            (if_load _ _ c.resume_with.result (λ x h. (h.2.2.after.sections ∙ h.2.1.sections, h.2.2.after.answers ∙ h.2.1.answers ∙ ap (answered d answers l.number) given, h.1)) c.resume_with.ensures.load)
+            (subst (λ x. IfOutput c.resume_with.result (λ o. ExactlyUnlessOom seen_found o (unit_of d (answered d answers l.number x) l.probe))) given c.resume_with.ensures.output);
       },
     )

@@ -1,4 +1,4 @@
-use Rattle.std.proofs.Common.{[], option_map, refl, sym, true, ◌&&◌, ◌≡◌, not}
+use Rattle.std.proofs.Common.{[], option_map, refl, sym, true, ◌&&◌, ◌≡◌, ◌∙◌, not}
 use Rattle.gimli_read.specs.Reading.{ExactlyUnlessOom}
 use Rattle.addr2line_lines.specs.References.{IsScope}
 use Rattle.addr2line_lines.specs.SeenScope.{seen_file}
@@ -13,7 +13,7 @@ use Rattle.addr2line_units.specs.Parsed.{ParsesOnly}
 use Rattle.addr2line_units.specs.UnitRangesLeft.{ranges_left}
 use Rattle.addr2line_units.proofs.CachedUnitLemmas.{same_answers}
 use Rattle.addr2line_units.proofs.UnitsLemmas.{stay_indexed}
-use Rattle.addr2line_units.proofs.WaitLemmas.{waits_if_found}
+use Rattle.addr2line_units.proofs.FoundLemmas.{lendable_if_told}
 use Rattle.addr2line_units.proofs.WalkLemmas.{in_scope}
 use Rattle.addr2line_units.proofs.units.ResUnits.find_frames.Goals as goal
 use Rattle.addr2line_units.specs.SeenUnit.{scope_in, sup_file}
@@ -58,8 +58,8 @@ returns-clause-memory g c =
     let at = in_scope c.args.dwarf.now c.deref.result.now s.dw_units.items (option_map seen_file c.file.result) (sup_file c.args.sup.now) (ranges_left c.find.result) (cover probe s.ranges) in
     at (λ S us qs. holds_along (λ n. (has_frames_at (asks_lines_of S (indexed_units us s.units.items) answers probe) probe (parsed_units along.new.units.items) along.new.entries.items) n && not (has_many_of S (indexed_units us s.units.items) answers probe n)) (asked_frames faults S (indexed_units us s.units.items) answers probe) qs ≡ true → HadMemory along.result) c.deref.ensures.value c.file.ensures.gives c.find.ensures.gives along.ensures.memory
 
-pub returns-clause-waits : goal.returns-clause-waits
-returns-clause-waits g c =
+pub returns-clause-there : goal.returns-clause-there
+returns-clause-there g c =
     let s = c.args.self.now in
     let along = c.find_frames_along in
     let faults = c.args.faults in
@@ -70,8 +70,8 @@ returns-clause-waits g c =
     let S1 = scope_in c.args.dwarf.now us c.args.sup.now in
     let gives = at (λ S xs qs. ExactlyUnlessOom (seen_stop along.new.units.items along.new.entries.items) along.result (stop_along (asked_frames faults S (indexed_units xs s.units.items) answers probe) qs)) c.deref.ensures.value c.file.ensures.gives c.find.ensures.gives along.ensures.gives in
     let kept = at (λ S xs qs. HaveEntriesOf S xs along.new.entries.items) c.deref.ensures.value c.file.ensures.gives c.find.ensures.gives along.ensures.right in
-    waits_if_found S1 probe faults us along.new.units.items along.new.entries.items (units_in s) answers (asks_lines_of S1 (units_in s) answers probe) (parsed_units along.new.units.items) (cover probe s.ranges) along.result kept
-    (sym (stay_indexed us s.units.items along.new.units.items along.ensures.stay_units)) (sym (same_answers s.entries.items along.new.entries.items along.ensures.stay)) gives (returns-clause-ready g c)
+    lendable_if_told S1 probe faults us along.new.units.items along.new.entries.items (units_in s) answers (asks_lines_of S1 (units_in s) answers probe) (parsed_units along.new.units.items) (cover probe s.ranges) along.result kept
+    (sym (stay_indexed us s.units.items along.new.units.items along.ensures.stay_units)) (sym (same_answers s.entries.items along.new.entries.items along.ensures.stay)) along.ensures.there gives (returns-clause-ready g c)
 
 pub returns-clause-gives : goal.returns-clause-gives
 returns-clause-gives g c =
@@ -87,8 +87,8 @@ returns-clause-right g c =
     let at = in_scope c.args.dwarf.now c.deref.result.now s.dw_units.items (option_map seen_file c.file.result) (sup_file c.args.sup.now) (ranges_left c.find.result) (cover c.args.probe s.ranges) in
     at (λ S xs qs. HaveEntriesOf S xs along.new.entries.items) c.deref.ensures.value c.file.ensures.gives c.find.ensures.gives along.ensures.right
 
-pub returns-clause-there : goal.returns-clause-there
-returns-clause-there g c = c.find_frames_along.ensures.there
+pub returns-clause-last : goal.returns-clause-last
+returns-clause-last g c = λ q. sym c.find.ensures.gives ∙ c.find.ensures.last q
 
 pub returns-clause-read : goal.returns-clause-read
 returns-clause-read g c = rw c.deref.ensures.value at c.find_frames_along.ensures.read

@@ -1,6 +1,6 @@
 use Rattle.addr2line_units.specs.declared.frames_lookup.Faults.TheVariants.{PassOver}
 use Rattle.addr2line.proofs.AnsweredLemmas.{unit_waited_for}
-use Rattle.addr2line.proofs.units.go_on.Goals as goal
+use Rattle.addr2line.proofs.units.resume_with.Goals as goal
 
 pub answer-requires : goal.answer-requires
 answer-requires g c =

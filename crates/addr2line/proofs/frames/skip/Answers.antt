@@ -1,0 +1,20 @@
+use Rattle.std.proofs.Common.{Some, refl}
+use Rattle.addr2line_units.specs.declared.frames_lookup.Faults.TheVariants.{End}
+use Rattle.addr2line_units.specs.FramesLeft.{frames_left}
+use Rattle.addr2line.proofs.AfterLemmas.{if_load, never_waits, outputs_skipped, skip_after}
+use Rattle.addr2line.specs.Lookups.{frames_of}
+use Rattle.addr2line.proofs.frames.skip.Goals as goal
+
+pub returns : goal.returns
+returns g c =
+    let e = c.skip_loads-walked.ensures in
+    let old = c.args.ctx.now in
+    let mid = c.skip_loads-walked.new.self in
+    let f = c.lend.follows in (
+      (refl, f.holds, skip_after End c.args.probe old mid _ e.after _ c.lend.result f.holds-at-none),
+      record {
+        ends = tt;
+        load = if_load _ _ c.lend.result (λ x h. never_waits c.skip_loads-walked.result mid.stop x.number e.ended h.3 h.4) c.lend.ensures.load;
+        output = outputs_skipped End c.args.probe old mid _ e.after frames_of (λ i. Some (frames_left i)) _ c.lend.result f.holds-at-none c.lend.ensures.output;
+      },
+    )

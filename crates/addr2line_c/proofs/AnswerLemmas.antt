@@ -1,9 +1,13 @@
 -- What statuses say of what was written (on specs/Answered.antt).
-use Rattle.std.proofs.Common.{◌≡◌, Bool, true, false, refl, sym, subst}
-use Rattle.std.specs.Prelude.{Option}
+use Rattle.std.proofs.Common.{◌≡◌, ◌≢◌, ◌∙◌, Bool, true, false, Result, Ok, Err, Option, None, ap, refl, sym, subst}
+use Rattle.gimli_read.specs.declared.error.Error.{Error}
+use Rattle.gimli_read.specs.declared.error.Error.TheVariants as reading
+use Rattle.elf.specs.Text.{loader_error_of}
+use Rattle.addr2line.specs.SplitFiles.{of_file}
 use Rattle.elf.specs.Loading.{Loading}
 use Rattle.addr2line_c.specs.declared.status.Status.{Status}
 use Rattle.addr2line_c.specs.Answered.{IsThere, SaysOrWaits, SaysWhatIsThere, done_if}
+use Rattle.addr2line_c.specs.Status.{status_of_error}
 
 -- what is there was written, whole or not
 pub says_there : {A : Type 0} (given : Loading (Option A)) (written : A → Type 0) (fits : Bool)
@@ -20,3 +24,29 @@ says_frames given written true s is there =
     subst (SaysOrWaits given written true) (sym is) (refl, there)
 says_frames given written false s is there =
     subst (SaysOrWaits given written false) (sym is) (refl, there)
+
+-- a refused reading of DWARF bytes
+pub says_refused : {A : Type 0} (written : A → Type 0) (fits : Bool) (e : Error)
+    (given : Result (Option A) Error) (s : Status) → s ≡ status_of_error e
+    → (e ≢ reading.OutOfMemory → given ≡ Err e) → SaysWhatIsThere (of_file given) written fits s
+says_refused written fits e given s is told = subst (SaysWhatIsThere (of_file given) written fits)
+    (sym is) (λ n. ap of_file (told (λ same. n (ap loader_error_of same))))
+
+-- the same of a lookup that may wait
+pub frames_refused : {A : Type 0} (written : A → Type 0) (fits : Bool) (e : Error)
+    (given : Result (Option A) Error) (s : Status) → s ≡ status_of_error e
+    → (e ≢ reading.OutOfMemory → given ≡ Err e) → SaysOrWaits (of_file given) written fits s
+frames_refused written fits e given s is told = subst (SaysOrWaits (of_file given) written fits)
+    (sym is) (λ n. ap of_file (told (λ same. n (ap loader_error_of same))))
+
+-- there is nothing
+pub nothing_there : {A : Type 0} (given : Result (Option A) Error) → given ≡ Ok None
+    → of_file given ≡ Ok None
+nothing_there given none = ap of_file none
+
+-- refused memory says nothing of what is there
+pub frames_unknown : {A : Type 0} (given : Loading (Option A)) (written : A → Type 0) (fits : Bool)
+    (e : Error) (s : Status) → s ≡ status_of_error e → e ≡ reading.OutOfMemory
+    → SaysOrWaits given written fits s
+frames_unknown given written fits e s is oom = subst (SaysOrWaits given written fits)
+    (sym (is ∙ ap status_of_error oom)) (λ n. absurd (n refl))

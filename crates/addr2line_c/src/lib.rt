@@ -6,6 +6,7 @@ ghost use Rattle.std.specs.Prelude.{◌≡◌, None};
 mod answers;
 mod file;
 mod fill;
+mod found;
 mod frames;
 mod handle;
 mod loads;

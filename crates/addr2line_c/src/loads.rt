@@ -1,6 +1,7 @@
 //! The loads that a handle was asked to answer, by their places.
 
-ghost use Rattle.std.specs.Prelude.{◌≡◌, length, option_map};
+ghost use Rattle.std.specs.Prelude.{◌≡◌, length, option_map, IfErr};
+ghost use Rattle.gimli_read.specs.declared.error.Error.TheVariants.{OutOfMemory};
 ghost use Rattle.addr2line_c.specs.Filled.{IsFilled};
 ghost use Rattle.addr2line_c.specs.Loads.{bytes_if, texts_of_load, written_load};
 ghost use Rattle.addr2line_c.specs.Texts.{joined};
@@ -90,7 +91,9 @@ impl<R: Reader> AskedLoads<R> {
     }
 
     /// Adds a load that is to be answered. Refused `OutOfMemory` alone.
-    pub(crate) fn ask(&mut self, load: SplitDwarfLoad<R>) -> Result<(), Error> {
+    pub(crate) fn ask(&mut self, load: SplitDwarfLoad<R>) -> Result<(), Error>
+        ensures refused { IfErr result (λ e. e ≡ OutOfMemory) }
+    {
         match self.place_of(load.unit) {
             Some(place) => self.set_waits(place, true),
             None => self.loads.push(AskedLoad { load, waits: true })?,

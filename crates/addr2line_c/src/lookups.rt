@@ -1,46 +1,20 @@
 //! Lookups, with what C gets of them.
 
-ghost use Rattle.std.specs.Prelude.{◌≡◌, ◌&&◌, [], length, option_map, nat_le, Some};
-ghost use Rattle.gimli_read.specs.Reading.{ExactlyUnlessOom};
-ghost use Rattle.addr2line_lines.specs.SeenLocation.{seen_location};
-ghost use Rattle.addr2line_units.specs.FramesLeft.{frames_left};
-ghost use Rattle.addr2line_units.specs.Located.{LocationResult, location_of};
-ghost use Rattle.addr2line_units.specs.UnitFrames.{FramesResult};
+ghost use Rattle.std.specs.Prelude.{◌&&◌, length, nat_le};
+ghost use Rattle.addr2line_units.specs.Located.{location_of};
 ghost use Rattle.addr2line.specs.SplitFiles.{of_file};
 ghost use Rattle.addr2line.specs.WaitingLookups.{frames_of_context};
 ghost use Rattle.addr2line_c.specs.Answered.{SaysOrWaits, SaysWhatIsThere};
 ghost use Rattle.addr2line_c.specs.Written.{IsWrittenFrames, IsWrittenLocation};
 
-use crate::frames::{WrittenFrame, put_frames};
+use crate::found::{put_found, put_found_frames};
+use crate::frames::WrittenFrame;
 use crate::loads::AskedLoads;
-use crate::location::{WrittenLocation, put_location};
-use crate::status::{Status, done_if, status_of_error};
-use addr2line::gimli::read::{Error, Reader};
-use addr2line::{Context, FrameIter, Location, LookupResult};
+use crate::location::WrittenLocation;
+use crate::status::{Status, status_of_error};
+use addr2line::gimli::read::Reader;
+use addr2line::{Context, LookupResult};
 use std::alloc::Global;
-
-// What was found of a location, with its text in the buffer.
-fn put_found(
-    found: Result<Option<Location<'_>>, Error>,
-    out: &mut WrittenLocation,
-    buffer: &mut [u8],
-    needed: &mut usize,
-) -> Status
-    ensures gives { (given : LocationResult)
-        → ExactlyUnlessOom (option_map seen_location) found.entry given
-        → SaysWhatIsThere (of_file given) (IsWrittenLocation out.new buffer.new needed.new)
-        (nat_le needed.new (length buffer.new)) result }
-{
-    *needed = 0;
-    match found {
-        Ok(Some(location)) => {
-            *out = put_location(buffer, needed, Some(location));
-            done_if(*needed <= buffer.len())
-        }
-        Ok(None) => Status::Nothing,
-        Err(error) => status_of_error(error),
-    }
-}
 
 /// `Context::find_location`, with its text in the buffer.
 pub(crate) fn find_location<R: Reader>(
@@ -57,39 +31,9 @@ pub(crate) fn find_location<R: Reader>(
     put_found(context.find_location(probe), out, buffer, needed)
 }
 
-// What was found of frames, with their texts in the buffer.
-fn put_found_frames<R: Reader>(
-    alloc: Global,
-    found: Result<FrameIter<'_, R>, Error>,
-    demangles: bool,
-    out: &mut [WrittenFrame],
-    count: &mut usize,
-    buffer: &mut [u8],
-    needed: &mut usize,
-) -> Status
-    ensures gives { (given : FramesResult)
-        → ExactlyUnlessOom (λ i. Some (frames_left i)) found.entry given
-        → SaysOrWaits (of_file given)
-        (IsWrittenFrames demangles out.new count.new buffer.new needed.new)
-        (nat_le count.new (length out.new) && nat_le needed.new (length buffer.new)) result }
-{
-    *count = 0;
-    *needed = 0;
-    let frames = match found {
-        Ok(frames) => frames,
-        Err(error) => return status_of_error(error),
-    };
-    match put_frames(alloc, frames, demangles, out, buffer, needed) {
-        Ok(found) => {
-            *count = found;
-            done_if(found <= out.len() && *needed <= buffer.len())
-        }
-        Err(error) => status_of_error(error),
-    }
-}
-
 /// `Context::find_frames`, with the texts of the frames in the buffer. A load that is waited for is
 /// added to those that were asked for.
+#[tactic(auto, using(crate::proofs::WaitLemmas::waits_for_frames, crate::proofs::AnswerLemmas::frames_unknown))]
 pub(crate) fn find_frames<R: Reader>(
     alloc: Global,
     context: &mut Context<R>,

@@ -1,0 +1,72 @@
+//! What lookups found, with what C gets of it.
+
+ghost use Rattle.std.specs.Prelude.{◌&&◌, length, option_map, nat_le, Some};
+ghost use Rattle.gimli_read.specs.Reading.{ExactlyUnlessOom};
+ghost use Rattle.addr2line_lines.specs.SeenLocation.{seen_location};
+ghost use Rattle.addr2line_units.specs.FramesLeft.{frames_left};
+ghost use Rattle.addr2line_units.specs.Located.{LocationResult};
+ghost use Rattle.addr2line_units.specs.UnitFrames.{FramesResult};
+ghost use Rattle.addr2line.specs.SplitFiles.{of_file};
+ghost use Rattle.addr2line_c.specs.Answered.{SaysOrWaits, SaysWhatIsThere};
+ghost use Rattle.addr2line_c.specs.Written.{IsWrittenFrames, IsWrittenLocation};
+
+use crate::frames::{WrittenFrame, put_frames};
+use crate::location::{WrittenLocation, put_location};
+use crate::status::{Status, done_if, status_of_error};
+use addr2line::gimli::read::{Error, Reader};
+use addr2line::{FrameIter, Location};
+use std::alloc::Global;
+
+/// What was found of a location, with its text in the buffer.
+pub(crate) fn put_found(
+    found: Result<Option<Location<'_>>, Error>,
+    out: &mut WrittenLocation,
+    buffer: &mut [u8],
+    needed: &mut usize,
+) -> Status
+    ensures gives { (given : LocationResult)
+        → ExactlyUnlessOom (option_map seen_location) found.entry given
+        → SaysWhatIsThere (of_file given) (IsWrittenLocation out.new buffer.new needed.new)
+        (nat_le needed.new (length buffer.new)) result }
+{
+    *needed = 0;
+    match found {
+        Ok(Some(location)) => {
+            *out = put_location(buffer, needed, Some(location));
+            done_if(*needed <= buffer.len())
+        }
+        Ok(None) => Status::Nothing,
+        Err(error) => status_of_error(error),
+    }
+}
+
+/// What was found of frames, with their texts in the buffer.
+pub(crate) fn put_found_frames<R: Reader>(
+    alloc: Global,
+    found: Result<FrameIter<'_, R>, Error>,
+    demangles: bool,
+    out: &mut [WrittenFrame],
+    count: &mut usize,
+    buffer: &mut [u8],
+    needed: &mut usize,
+) -> Status
+    ensures gives { (given : FramesResult)
+        → ExactlyUnlessOom (λ i. Some (frames_left i)) found.entry given
+        → SaysOrWaits (of_file given)
+        (IsWrittenFrames demangles out.new count.new buffer.new needed.new)
+        (nat_le count.new (length out.new) && nat_le needed.new (length buffer.new)) result }
+{
+    *count = 0;
+    *needed = 0;
+    let frames = match found {
+        Ok(frames) => frames,
+        Err(error) => return status_of_error(error),
+    };
+    match put_frames(alloc, frames, demangles, out, buffer, needed) {
+        Ok(found) => {
+            *count = found;
+            done_if(found <= out.len() && *needed <= buffer.len())
+        }
+        Err(error) => status_of_error(error),
+    }
+}

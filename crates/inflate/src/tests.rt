@@ -163,7 +163,7 @@ fn a_wrong_sum_is_refused(rt: HostRuntime) {
 fn a_copy_reaches_32_kilobytes_back(rt: HostRuntime) -> Result<(), Fail> {
     let alloc = rt.alloc();
     let mut stream = [0x78, 0x9c, 0x00, 0x00, 0x80, 0xff, 0x7f].to_vec(alloc)?;
-    for i in 0..32768 {
+    for i in 0..32768usize {
         stream.push((i % 251) as u8)?;
     }
     stream.extend_from_slice(FAR.as_slice())?;

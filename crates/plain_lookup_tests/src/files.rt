@@ -1,7 +1,7 @@
 //! The sections of files over borrowed and over shared bytes.
 
 use crate::vectors::FileBytes;
-use addr2line::gimli::read::{EndianBytes, EndianSlice, Reader, RunTimeEndian};
+use addr2line::gimli::read::{EndianBytes, EndianSlice, RunTimeEndian};
 use addr2line::gimli::{
     DebugAbbrev, DebugAddr, DebugAranges, DebugInfo, DebugLine, DebugLineStr, DebugRanges,
     DebugRngLists, DebugStr, DebugStrOffsets, Dwarf, DwarfFileType,
@@ -9,40 +9,34 @@ use addr2line::gimli::{
 use bytes::Bytes;
 use std::alloc::Global;
 
-// Sections of these readers; the others are empty. The last four are those.
-fn dwarf<R: Reader>(
-    [abbrev, aranges, info, line]: [R; 4],
-    [ranges, rnglists]: [R; 2],
-    [addr, line_str, str, str_offsets]: [R; 4],
-    file_type: DwarfFileType,
-) -> Dwarf<R> {
+fn little(bytes: &[u8]) -> EndianSlice<'_> {
+    EndianSlice::new(bytes, RunTimeEndian::Little)
+}
+
+// Six sections; the others are empty.
+fn borrowed_sections(sections: [&[u8]; 6], file_type: DwarfFileType) -> Dwarf<EndianSlice<'_>> {
+    let [abbrev, aranges, info, line, ranges, rnglists] = sections;
     Dwarf {
-        debug_abbrev: DebugAbbrev::from(abbrev),
-        debug_addr: DebugAddr::from(addr),
-        debug_aranges: DebugAranges::from(aranges),
-        debug_info: DebugInfo::from(info),
-        debug_line: DebugLine::from(line),
-        debug_line_str: DebugLineStr::from(line_str),
-        debug_ranges: DebugRanges::from(ranges),
-        debug_rnglists: DebugRngLists::from(rnglists),
-        debug_str: DebugStr::from(str),
-        debug_str_offsets: DebugStrOffsets::from(str_offsets),
+        debug_abbrev: DebugAbbrev::from(little(abbrev)),
+        debug_addr: DebugAddr::from(little(&[])),
+        debug_aranges: DebugAranges::from(little(aranges)),
+        debug_info: DebugInfo::from(little(info)),
+        debug_line: DebugLine::from(little(line)),
+        debug_line_str: DebugLineStr::from(little(&[])),
+        debug_ranges: DebugRanges::from(little(ranges)),
+        debug_rnglists: DebugRngLists::from(little(rnglists)),
+        debug_str: DebugStr::from(little(&[])),
+        debug_str_offsets: DebugStrOffsets::from(little(&[])),
         file_type,
         sup: None,
     }
 }
 
-fn little(bytes: &[u8]) -> EndianSlice<'_> {
-    EndianSlice::new(bytes, RunTimeEndian::Little)
-}
-
 /// The sections of the file.
 pub fn borrowed(file: FileBytes<'_>) -> Dwarf<EndianSlice<'_>> {
     let [abbrev, aranges, info, line, ranges, rnglists, _, _] = file;
-    dwarf(
-        [little(abbrev), little(aranges), little(info), little(line)],
-        [little(ranges), little(rnglists)],
-        [little(&[]), little(&[]), little(&[]), little(&[])],
+    borrowed_sections(
+        [abbrev, aranges, info, line, ranges, rnglists],
         DwarfFileType::Main,
     )
 }
@@ -50,38 +44,46 @@ pub fn borrowed(file: FileBytes<'_>) -> Dwarf<EndianSlice<'_>> {
 /// The sections of its split file.
 pub fn borrowed_split(file: FileBytes<'_>) -> Dwarf<EndianSlice<'_>> {
     let [_, _, _, _, _, _, abbrev, info] = file;
-    dwarf(
-        [little(abbrev), little(&[]), little(info), little(&[])],
-        [little(&[]), little(&[])],
-        [little(&[]), little(&[]), little(&[]), little(&[])],
-        DwarfFileType::Dwo,
-    )
+    borrowed_sections([abbrev, &[], info, &[], &[], &[]], DwarfFileType::Dwo)
 }
 
 // A reader of a copy of the bytes; of none where there is no memory for it.
 fn little_shared(alloc: Global, bytes: &[u8]) -> EndianBytes {
     match Bytes::copy_from_slice(alloc, bytes) {
         Ok(bytes) => EndianBytes::new(bytes, RunTimeEndian::Little),
-        Err(_) => nothing(),
+        Err(_) => EndianBytes::new(Bytes::from_static(&[]), RunTimeEndian::Little),
     }
 }
 
-fn nothing() -> EndianBytes {
-    EndianBytes::new(Bytes::from_static(&[]), RunTimeEndian::Little)
+// Copies of six sections; the others are empty.
+fn shared_sections(
+    alloc: Global,
+    sections: [&[u8]; 6],
+    file_type: DwarfFileType,
+) -> Dwarf<EndianBytes> {
+    let [abbrev, aranges, info, line, ranges, rnglists] = sections;
+    Dwarf {
+        debug_abbrev: DebugAbbrev::from(little_shared(alloc, abbrev)),
+        debug_addr: DebugAddr::from(little_shared(alloc, &[])),
+        debug_aranges: DebugAranges::from(little_shared(alloc, aranges)),
+        debug_info: DebugInfo::from(little_shared(alloc, info)),
+        debug_line: DebugLine::from(little_shared(alloc, line)),
+        debug_line_str: DebugLineStr::from(little_shared(alloc, &[])),
+        debug_ranges: DebugRanges::from(little_shared(alloc, ranges)),
+        debug_rnglists: DebugRngLists::from(little_shared(alloc, rnglists)),
+        debug_str: DebugStr::from(little_shared(alloc, &[])),
+        debug_str_offsets: DebugStrOffsets::from(little_shared(alloc, &[])),
+        file_type,
+        sup: None,
+    }
 }
 
 /// The sections of the file, over copies of its bytes.
 pub fn shared(alloc: Global, file: FileBytes<'_>) -> Dwarf<EndianBytes> {
     let [abbrev, aranges, info, line, ranges, rnglists, _, _] = file;
-    dwarf(
-        [
-            little_shared(alloc, abbrev),
-            little_shared(alloc, aranges),
-            little_shared(alloc, info),
-            little_shared(alloc, line),
-        ],
-        [little_shared(alloc, ranges), little_shared(alloc, rnglists)],
-        [nothing(), nothing(), nothing(), nothing()],
+    shared_sections(
+        alloc,
+        [abbrev, aranges, info, line, ranges, rnglists],
         DwarfFileType::Main,
     )
 }
@@ -89,15 +91,9 @@ pub fn shared(alloc: Global, file: FileBytes<'_>) -> Dwarf<EndianBytes> {
 /// The sections of its split file, over copies of their bytes.
 pub fn shared_split(alloc: Global, file: FileBytes<'_>) -> Dwarf<EndianBytes> {
     let [_, _, _, _, _, _, abbrev, info] = file;
-    dwarf(
-        [
-            little_shared(alloc, abbrev),
-            nothing(),
-            little_shared(alloc, info),
-            nothing(),
-        ],
-        [nothing(), nothing()],
-        [nothing(), nothing(), nothing(), nothing()],
+    shared_sections(
+        alloc,
+        [abbrev, &[], info, &[], &[], &[]],
         DwarfFileType::Dwo,
     )
 }

@@ -76,13 +76,33 @@ pub fn tokens(alloc: Global) -> Result<[UnitToken; 2], Error> {
     }
 }
 
+// The new bytes at this place alone.
+fn chosen<'a>(is_here: bool, new: &'a [u8], old: &'a [u8]) -> &'a [u8] {
+    if is_here { new } else { old }
+}
+
 // The file with other bytes for a section.
-fn with_section<'a>(file: FileBytes<'a>, section: usize, bytes: &'a [u8]) -> FileBytes<'a> {
-    let mut changed = file;
-    if let Some(old) = changed.get_mut(section) {
-        *old = bytes;
-    }
-    changed
+fn with_section<'a>(file: FileBytes<'static>, section: usize, bytes: &'a [u8]) -> FileBytes<'a> {
+    let [
+        abbrev,
+        aranges,
+        info,
+        line,
+        ranges,
+        rnglists,
+        split_abbrev,
+        split_info,
+    ] = file;
+    [
+        chosen(section == 0, bytes, abbrev),
+        chosen(section == 1, bytes, aranges),
+        chosen(section == 2, bytes, info),
+        chosen(section == 3, bytes, line),
+        chosen(section == 4, bytes, ranges),
+        chosen(section == 5, bytes, rnglists),
+        chosen(section == 6, bytes, split_abbrev),
+        chosen(section == 7, bytes, split_info),
+    ]
 }
 
 // A section with one byte changed, or cut there.
@@ -104,16 +124,13 @@ fn changed(alloc: Global, bytes: &[u8], place: usize, value: u64) -> Result<Vec<
 fn compare(
     alloc: Global,
     change: Change,
-    file: FileBytes<'_>,
+    file: FileBytes<'static>,
+    bytes: &[u8],
     tokens: [UnitToken; 2],
 ) -> Result<Option<Difference>, Error> {
-    let bytes = file.get(change.section).copied().unwrap_or(&[]);
     let bytes = changed(alloc, bytes, change.place, change.value)?;
-    compare_replies(
-        alloc,
-        with_section(file, change.section, bytes.as_slice()),
-        tokens,
-    )
+    let file = with_section(file, change.section, bytes.as_slice());
+    compare_replies(alloc, file, tokens)
 }
 
 impl Sweep {
@@ -178,7 +195,7 @@ impl Sweep {
                         place,
                         value: *value,
                     };
-                    sweep = sweep.with(change, compare(alloc, change, file, tokens));
+                    sweep = sweep.with(change, compare(alloc, change, file, bytes, tokens));
                 }
             }
         }

@@ -104,17 +104,17 @@ const INFO_64: &[u8] = b"\xff\xff\xff\xff\x23\0\0\0\0\0\0\0\x04\0\0\0\0\0\0\0\0\
 const LISTED_ABBREV: &[u8] = b"\x01\x11\x01\x10\x17\x1b\x08\x11\x01\x55\x17\0\0\
     \x02\x2e\0\x03\x08\x55\x17\0\0\0";
 
-const LISTED_INFO_4: &[u8] = b"\x1e\0\0\0\x04\0\0\0\0\0\x04\
+const LISTED_INFO_4: &[u8] = b"\x1f\0\0\0\x04\0\0\0\0\0\x04\
     \x01\0\0\0\0/w\0\0\0\0\0\0\0\0\0\x02f\0\0\0\0\0\0";
 
-const LISTED_INFO_5: &[u8] = b"\x23\0\0\0\x05\0\x01\x08\0\0\0\0\
+const LISTED_INFO_5: &[u8] = b"\x24\0\0\0\x05\0\x01\x08\0\0\0\0\
     \x01\0\0\0\0/w\0\0\0\0\0\0\0\0\0\0\0\0\0\x02f\0\0\0\0\0\0";
 
 // The same with DW_AT_rnglists_base, and DW_AT_ranges as an index.
 const INDEXED_ABBREV: &[u8] = b"\x01\x11\x01\x10\x17\x1b\x08\x11\x01\x74\x17\x55\x23\0\0\
     \x02\x2e\0\x03\x08\x55\x23\0\0\0";
 
-const INDEXED_INFO: &[u8] = b"\x21\0\0\0\x05\0\x01\x08\0\0\0\0\
+const INDEXED_INFO: &[u8] = b"\x22\0\0\0\x05\0\x01\x08\0\0\0\0\
     \x01\0\0\0\0/w\0\0\0\0\0\0\0\0\0\x0c\0\0\0\0\x02f\0\0\0";
 
 // [0x10, 0x20) from the base 0, and [0x101, 0x105) from the base 0x100.

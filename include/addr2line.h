@@ -158,17 +158,22 @@ uint32_t addr2line_version(void);
 addr2line_status addr2line_status_text(addr2line_status status, char *text, size_t text_size, size_t *needed);
 
 /*
- * Opens the ELF file that bytes are. `sup` are the bytes of its supplementary file (what dwz -m wrote), none
- * where sup_size is 0. What the handle held is closed first; where the file is refused it stays closed.
+ * Opens the ELF file that bytes are. `sup` are the bytes of its supplementary file (what dwz -m
+ * wrote), none where sup_size is 0. What the handle held is closed first; where the file is refused it
+ * stays closed.
  *
- * Refused ADDR2LINE_NOT_ELF, then ADDR2LINE_BAD_ELF, then for the first of its debug sections by name that
- * is, then the same for the supplementary file, then by the first fault of a unit's header or ranges. May
- * be refused ADDR2LINE_OUT_OF_MEMORY instead. Line programs are read by the lookups that need them, once.
+ * Refused ADDR2LINE_NOT_ELF, then ADDR2LINE_BAD_ELF, then for the first of its debug sections by name
+ * that is, then the same for the supplementary file, then by the first fault of a unit's header or
+ * ranges. May be refused ADDR2LINE_OUT_OF_MEMORY instead. Line programs are read by the lookups that
+ * need them, once.
  */
 addr2line_status addr2line_open(const void *bytes, size_t size, const void *sup, size_t sup_size,
                                 addr2line *handle);
 
-/* Closes a handle: all its memory is given back, and the bytes of its files may go. A closed one stays so. */
+/*
+ * Closes a handle: all its memory is given back, and the bytes of its files may go. A closed one stays
+ * so.
+ */
 void addr2line_close(addr2line *handle);
 
 /*
@@ -185,29 +190,33 @@ addr2line_status addr2line_find_location(addr2line *handle, uint64_t address, ad
 #define ADDR2LINE_DEMANGLE 1u
 
 /*
- * The frames at an address: the innermost inlined function first, the one that is no inlined call last. `count` is how many
- * there are, 0 where nothing is known; where that is above `capacity`, or the text has no room, the status is
- * ADDR2LINE_TOO_SMALL. `flags` is 0 or ADDR2LINE_DEMANGLE.
+ * The frames at an address: the innermost inlined function first, the one that is no inlined call
+ * last. `count` is how many there are, 0 where nothing is known; where that is above `capacity`, or
+ * the text has no room, the status is ADDR2LINE_TOO_SMALL. `flags` is 0 or ADDR2LINE_DEMANGLE.
  *
- * ADDR2LINE_WAITS, with 0 frames, where a split file has to be answered first; then make the call again.
- * Refused by the first fault of a unit that has the address. Takes memory where something is read that wasn't
- * before, where names are demangled, and where more than 16 functions are inlined at the address.
+ * ADDR2LINE_WAITS, with 0 frames, where a split file has to be answered first; then make the call
+ * again. Refused by the first fault of a unit that has the address. Takes memory where something is
+ * read that wasn't before, where names are demangled, and where more than 16 functions are inlined at
+ * the address.
  */
 addr2line_status addr2line_find_frames(addr2line *handle, uint64_t address, uint32_t flags,
                                        addr2line_frame *frames, size_t capacity, size_t *count,
                                        char *text, size_t text_size, size_t *needed);
 
-/* The first load, by token, that was asked for and has no answer yet; ADDR2LINE_NOTHING where there is none. Takes no
- * memory. */
+/*
+ * The first load, by token, that was asked for and has no answer yet; ADDR2LINE_NOTHING where there is
+ * none. Takes no memory.
+ */
 addr2line_status addr2line_get_load(addr2line *handle, addr2line_load *load,
                                     char *text, size_t text_size, size_t *needed);
 
 /*
- * Answers a load by the ELF file that bytes are, and by none where size is 0: then the unit is looked up without its split
- * file. The first answer of a unit counts. A file that is refused, and one of another unit
- * (ADDR2LINE_OTHER_UNIT), is answered none too, and the status says why.
+ * Answers a load by the ELF file that bytes are, and by none where size is 0: then the unit is looked
+ * up without its split file. The first answer of a unit counts. A file that is refused, and one of
+ * another unit (ADDR2LINE_OTHER_UNIT), is answered none too, and the status says why.
  *
- * Refused ADDR2LINE_UNKNOWN_TOKEN where there is no such load; ADDR2LINE_OUT_OF_MEMORY leaves it waiting.
+ * Refused ADDR2LINE_UNKNOWN_TOKEN where there is no such load; ADDR2LINE_OUT_OF_MEMORY leaves it
+ * waiting.
  */
 addr2line_status addr2line_answer_load(addr2line *handle, uint64_t token, const void *bytes, size_t size);
 
@@ -221,17 +230,17 @@ addr2line_status addr2line_forget(addr2line *handle, uint64_t token);
 addr2line_status addr2line_preload(addr2line *handle, uint64_t address);
 
 /*
- * Reads the lines and functions of all units. Where it gives ADDR2LINE_OK, later lookups take no memory, wait for no
- * split file and have no fault, but those of more than 16 inlined functions and those that demangle. Units that wait
- * are answered none; so answer the loads that are wanted before. Where a unit is refused, all that stands before it
- * is read.
+ * Reads the lines and functions of all units. Where it gives ADDR2LINE_OK, later lookups take no
+ * memory, wait for no split file and have no fault, but those of more than 16 inlined functions and
+ * those that demangle. Units that wait are answered none; so answer the loads that are wanted before.
+ * Where a unit is refused, all that stands before it is read.
  */
 addr2line_status addr2line_parse_all(addr2line *handle);
 
 /*
- * The row of line information that has `index` rows before it among those that the addresses from `low` up to `high`
- * meet: unit range after unit range, by their ends. ADDR2LINE_NOTHING past the last one. A fault stands in the
- * place of a unit's rows. Each call walks over the rows before.
+ * The row of line information that has `index` rows before it among those that the addresses from
+ * `low` up to `high` meet: unit range after unit range, by their ends. ADDR2LINE_NOTHING past the last
+ * one. A fault stands in the place of a unit's rows. Each call walks over the rows before.
  */
 addr2line_status addr2line_locations(addr2line *handle, uint64_t low, uint64_t high, uint64_t index,
                                      addr2line_span *span, char *text, size_t text_size, size_t *needed);

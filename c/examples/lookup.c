@@ -1,7 +1,7 @@
 /*
- * A small addr2line: lookup [-C] FILE [--sup FILE] ADDRESS..
- * Prints for each address the frames there, from the innermost inlined function out, one a line. With no address,
- * those of standard input are taken, one a line.
+ * A small addr2line: lookup [-C] FILE [--sup FILE] ADDRESS.. Prints for each address the frames there,
+ * from the innermost inlined function out, one a line. With no address, those of standard input are
+ * taken, one a line.
  */
 #include "addr2line_file.h"
 

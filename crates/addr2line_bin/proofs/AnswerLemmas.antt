@@ -1,6 +1,6 @@
 -- What files answer after lookups.
 use Rattle.std.proofs.Common.{◌∙◌, ℕ, List, Option, Some, None, ap, refl}
-use Rattle.addr2line_bin.specs.declared.options.Setup.{Setup}
+use Rattle.addr2line_bin.specs.declared.options.RunContext.{RunContext}
 use Rattle.addr2line_bin.specs.declared.options.Style.{Style}
 use Rattle.addr2line_bin.specs.FileAnswers.{FileAnswers, StaysAnswered}
 use Rattle.addr2line_bin.specs.ProbeTexts.{ProbeAnswer, GivesFrames, GivesLocation, IsAnswerAt, IsText, MayBeGiven, asked_symbol, looked_up}
@@ -26,12 +26,12 @@ may_before : (a b : FileAnswers) → StaysAnswered a b → (style : Style) (addr
 may_before a b st style address (GivesLocation found) h = (h.0, st.locations address found h.1)
 may_before a b st style address (GivesFrames frames symbol) h = (h.0, st.frames address frames h.1, h.2 ∙ ap (λ f. asked_symbol style (f address)) st.symbol_at)
 
-answer_before : (a b : FileAnswers) → StaysAnswered a b → (s : Setup) (address : Option ℕ) (found fault : List ℕ) → IsAnswerAt b s address found fault → IsAnswerAt a s address found fault
+answer_before : (a b : FileAnswers) → StaysAnswered a b → (s : RunContext) (address : Option ℕ) (found fault : List ℕ) → IsAnswerAt b s address found fault → IsAnswerAt a s address found fault
 answer_before a b st s None found fault h = h
 answer_before a b st s (Some address) found fault h = (h.0, may_before a b st s.style address h.0 h.1, h.2, h.3)
 
 -- a text after lookups could be one before
-pub text_before : (a b : FileAnswers) → StaysAnswered a b → (s : Setup) → Weaker (IsText b s) (IsText a s)
+pub text_before : (a b : FileAnswers) → StaysAnswered a b → (s : RunContext) → Weaker (IsText b s) (IsText a s)
 text_before a b st s p t h = record {
   found = h.found;
   fault = h.fault;

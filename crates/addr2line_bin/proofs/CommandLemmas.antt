@@ -1,7 +1,8 @@
 -- Lemmas on the words of the command line (specs/CommandLine): matches and their rows, and faults.
 use Rattle.std.proofs.Common.{◌≡◌, ◌∙◌, ap, refl, sym, subst, inl, inr, true, false, List, []}
-use Rattle.std.proofs.Common.{Result, Ok, Err, IfErr, IfOk, IsErrAnd, option_map}
-use Rattle.clap.specs.Words.{App, Text, is_simple, is_simple_and_free, takes}
+use Rattle.std.proofs.Common.{Result, Ok, Err, IfErr, IfOk, IsErrAnd, Option, Some, None, IsSomeAnd, MatchOption, option_map}
+use Rattle.std.specs.Option.{option_copied}
+use Rattle.clap.specs.Words.{App, Rule, Text, is_simple, is_simple_and_free, takes, with_rule}
 use Rattle.clap.specs.Words.{HasKind, IsAmong, Kinds, fault_of, kind_of}
 use Rattle.clap.specs.Words.{Row, all_of, first_of, first_value, matched_of, matches_of, raw_values, rows_of}
 use Rattle.clap.specs.declared.error.Error.{Error}
@@ -9,7 +10,8 @@ use Rattle.clap.specs.declared.error.kind.ErrorKind.TheVariants as kind
 use Rattle.clap.specs.declared.parser.matches.Found.{Found}
 use Rattle.clap.proofs.WalkLemmas.{first_value-rows, raw_values-rows}
 use Rattle.addr2line_bin.specs.CommandLine.{IsFaultOf, IsUnasked, IsWordFault, is_complete}
-use Rattle.addr2line_bin.specs.CommandLine.{are_taken, faults_in, matches_in, whole_command}
+use Rattle.addr2line_bin.specs.Command.{whole_command}
+use Rattle.addr2line_bin.specs.CommandLine.{are_taken, faults_in, matches_in}
 use Rattle.addr2line_bin.specs.declared.command_line.WordFault.{WordFault}
 use Rattle.addr2line_bin.specs.declared.command_line.WordFault.TheVariants as fault
 
@@ -21,6 +23,13 @@ first_of_matches f id = first_value-rows f id
 pub all_of_matches : (f : Found) (id : Text)
     → option_map raw_values (matched_of f id) ≡ all_of id (rows_of f)
 all_of_matches f id = raw_values-rows f id
+
+-- ---- arguments
+
+-- a command with one more argument, by what the command was before
+pub adds_next : {new old known : App} (rule : Rule) → new ≡ with_rule old rule → old ≡ known
+    → new ≡ with_rule known rule
+adds_next rule adds same = adds ∙ ap (λ a. with_rule a rule) same
 
 -- ---- what a parse by the command says of the words
 
@@ -83,3 +92,14 @@ pub ok_of_both : {X E : Type 0} (r : Result X E) (P Q R : X → Type 0) → IfOk
     → ((x : X) → P x → Q x → R x) → IfOk r R
 ok_of_both (Ok x) P Q R p q f = f x p q
 ok_of_both (Err e) P Q R p q f = tt
+
+-- ---- of options
+
+-- a text that there may be, and what it lends
+pub deref_text : {A : Type 0} (bytes : A → List ℕ) (text : Option A) (lent : Option (Bor (List ℕ)))
+    → MatchOption text (lent ≡ None) (λ x. IsSomeAnd lent (λ y. y.now ≡ bytes x))
+    → option_copied lent ≡ option_map bytes text
+deref_text bytes None None h = refl
+deref_text bytes None (Some y) h = absurd cc
+deref_text bytes (Some x) None h = absurd h
+deref_text bytes (Some x) (Some y) h = ap Some h

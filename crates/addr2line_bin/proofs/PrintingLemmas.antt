@@ -8,8 +8,8 @@ use Rattle.addr2line_bin.specs.Stopped.{IsFault}
 use Rattle.addr2line_bin.specs.Print.{ProbeText, AllTexts, errs, exit_at, last_text, outs}
 use Rattle.addr2line_bin.specs.Printing.{TextOf, EndsAt, EndsEarly, IsCutAtRead, IsCutOff, PrintsOf, PrintsReadUnlessStopped, PrintsRun, PrintsUnlessStopped}
 use Rattle.addr2line_bin.specs.InputLines.{AreFirstLines, AreLinesToRefusal, InputState, line_probes}
-use Rattle.addr2line_bin.specs.declared.engine.Exit.{Exit}
-use Rattle.addr2line_bin.specs.declared.engine.Exit.TheVariants as exit
+use Rattle.addr2line_bin.specs.declared.exit.Exit.{Exit}
+use Rattle.addr2line_bin.specs.declared.exit.Exit.TheVariants as exit
 use Rattle.addr2line_bin.specs.declared.stream.StopReason.{StopReason}
 use Rattle.addr2line_bin.specs.declared.stream.StopReason.TheVariants as stop
 use Rattle.addr2line_bin.proofs.Parts.{appends_both, appends_nothing, keeps_itself, sends_nothing, sends_on}

@@ -1,73 +1,24 @@
--- The words of the command line: the command that takes them, and what its matches ask for.
--- Own: the names of the options; `-e` has a value; `--all` stands beside no address word; where
--- neither `--all` nor an address word stands, the lines of standard input are asked for.
+-- What the words of the command line ask for, by the matches of the command that takes them.
+-- Own: `-e` has a value; `--all` stands beside no address word; where neither `--all` nor an
+-- address word stands, the lines of standard input are asked for.
 use Rattle.std.specs.Prelude.{◌≡◌, ◌≢◌, ◌⊎◌, ℕ, Bool, true, false, ◌&&◌, not, List, [], map}
 use Rattle.std.specs.Prelude.{Some, None, is_some, option_map, codes, string_bytes}
 use Rattle.std.specs.Option.{option_map_or}
-use Rattle.std.specs.Str.{byte, bytes_eq}
+use Rattle.std.specs.Str.{bytes_eq}
 use Rattle.std.specs.declared.string.String.{String}
 use Rattle.std.specs.declared.alloc.Global.{Global}
-use Rattle.clap.specs.Words.{App, Rule, Text, app_of, new_app, new_rule, with_rule}
-use Rattle.clap.specs.Words.{Row, all_of, first_of, matches_of, takes}
+use Rattle.clap.specs.Words.{Text, Row, all_of, first_of, matches_of, takes}
 use Rattle.clap.specs.Words.{IsAmong, Kinds, fault_of, kind_of}
-use Rattle.clap.specs.Simple.{on_top}
 use Rattle.clap.specs.declared.error.Error.{Error}
 use Rattle.clap.specs.declared.error.kind.ErrorKind.TheVariants as kind
-use Rattle.clap.specs.declared.builder.command.Command.{Command}
-use Rattle.clap.specs.declared.builder.ArgAction.TheVariants.{Append, Set, SetTrue}
-use Rattle.addr2line_bin.specs.Command.{name_in}
+use Rattle.addr2line_bin.specs.Command.{whole_command}
+use Rattle.addr2line_bin.specs.ProgramName.{program_name}
 use Rattle.addr2line_bin.specs.declared.command_line.Request.{Request}
 use Rattle.addr2line_bin.specs.declared.command_line.WordFault.{WordFault}
 use Rattle.addr2line_bin.specs.declared.command_line.WordFault.TheVariants as fault
 use Rattle.addr2line_bin.specs.declared.options.Probes.{Probes}
 use Rattle.addr2line_bin.specs.declared.options.Probes.TheVariants as probes
-
--- ---- the command
-
--- a switch by its name after two dashes
-abbrev pub long_switch : Text → Rule
-long_switch id = record (new_rule id) { long = Some id; action = Some SetTrue }
-
--- a switch by a letter after one dash too
-abbrev pub switch : Text → ℕ → Rule
-switch id short = record (long_switch id) { short = Some short }
-
--- an option with one value, by its name after two dashes
-abbrev pub long_option : Text → Rule
-long_option id = record (new_rule id) { long = Some id; value_names = 1; action = Some Set }
-
--- an option with one value, by a letter after one dash too
-abbrev pub option : Text → ℕ → Rule
-option id short = record (long_option id) { short = Some short }
-
--- the words that belong to no option
-abbrev pub address_words : Rule
-address_words = record (new_rule (codes "probes")) { value_names = 1; action = Some Append }
-
--- the command before its arguments
-abbrev pub bare_command : App
-bare_command = on_top (λ s. record s { has_version = true }) (new_app (codes "addr2line"))
-
--- the command
-abbrev pub whole_command : App
-whole_command =
-    let c = bare_command in
-    let c = with_rule c (option (codes "exe") (byte "e")) in
-    let c = with_rule c (long_option (codes "sup")) in
-    let c = with_rule c (option (codes "section") (byte "j")) in
-    let c = with_rule c (long_switch (codes "all")) in
-    let c = with_rule c (switch (codes "functions") (byte "f")) in
-    let c = with_rule c (switch (codes "pretty-print") (byte "p")) in
-    let c = with_rule c (switch (codes "inlines") (byte "i")) in
-    let c = with_rule c (switch (codes "addresses") (byte "a")) in
-    let c = with_rule c (switch (codes "basenames") (byte "s")) in
-    let c = with_rule c (switch (codes "demangle") (byte "C")) in
-    let c = with_rule c (long_switch (codes "llvm")) in
-    with_rule c address_words
-
--- the second command is the first with one more argument
-abbrev pub Adds : Command → Rule → Command → Type 0
-Adds old rule new = app_of new ≡ with_rule (app_of old) rule
+use Rattle.addr2line_bin.specs.declared.options.Style.{Style}
 
 -- the words of a command line as texts
 abbrev pub texts_in : List (String Global) → List Text
@@ -84,8 +35,6 @@ are_taken words = takes whole_command words
 -- the kinds of the first fault of the words, none where there are matches
 unfoldable pub faults_in : List Text → Kinds
 faults_in words = fault_of whole_command words
-
--- ---- what matches ask for
 
 -- whether a switch is on
 abbrev pub is_on : Text → List Row → Bool
@@ -105,19 +54,25 @@ AreProbes rows (probes.Words v) =
 AreProbes rows probes.Lines =
     (is_on (codes "all") rows ≡ false) × (all_of (codes "probes") rows ≡ None)
 
+-- how addresses are printed: each switch by its own name
+abbrev pub asked_style : List Row → Style
+asked_style rows = record {
+  functions = is_on (codes "functions") rows;
+  pretty = is_on (codes "pretty-print") rows;
+  inlines = is_on (codes "inlines") rows;
+  addresses = is_on (codes "addresses") rows;
+  basenames = is_on (codes "basenames") rows;
+  demangle = is_on (codes "demangle") rows;
+  llvm = is_on (codes "llvm") rows;
+}
+
 -- the request is what matches ask for
 pub record IsAsked (rows : List Row) (r : Request) : Type 0 where
   pub exe : first_of (codes "exe") rows ≡ Some (string_bytes r.exe)
   pub sup : first_of (codes "sup") rows ≡ option_map string_bytes r.sup
   pub section : first_of (codes "section") rows ≡ option_map string_bytes r.options.section
   pub probes : AreProbes rows r.options.probes
-  pub functions : r.options.functions ≡ is_on (codes "functions") rows
-  pub pretty : r.options.pretty ≡ is_on (codes "pretty-print") rows
-  pub inlines : r.options.inlines ≡ is_on (codes "inlines") rows
-  pub addresses : r.options.addresses ≡ is_on (codes "addresses") rows
-  pub basenames : r.options.basenames ≡ is_on (codes "basenames") rows
-  pub demangle : r.options.demangle ≡ is_on (codes "demangle") rows
-  pub llvm : r.options.llvm ≡ is_on (codes "llvm") rows
+  pub style : r.options.style ≡ asked_style rows
 
 -- a fault of the parse as a fault of the words
 abbrev pub IsFaultOf : Error → WordFault → Type 0
@@ -131,12 +86,21 @@ IsUnasked rows e = (e ≡ fault.OutOfMemory) ⊎ ((e ≡ fault.Usage) × (is_com
 -- the request is what the words ask for; the matches are those of words without a fault
 pub record IsRequest (words : List (String Global)) (r : Request) : Type 0 where
   pub taken : faults_in (texts_in words) ≡ []
-  pub name : string_bytes r.options.name ≡ name_in words
+  pub name : string_bytes r.options.name ≡ program_name words
   pub asked : IsAsked (matches_in (texts_in words)) r
 
--- why there is no request: a fault of the words, no fault but incomplete words, or refused memory
+-- a fault of the words, no fault but incomplete words, or refused memory
 abbrev pub IsWordFault : List Text → WordFault → Type 0
 IsWordFault words (fault.Clap e) = IsAmong (kind_of e) (faults_in words)
 IsWordFault words fault.Usage =
     (faults_in words ≡ []) × (is_complete (matches_in words) ≡ false)
 IsWordFault words fault.OutOfMemory = Unit {0}
+
+-- complete words that the command takes want memory alone
+abbrev pub WantsMemoryAlone : List Text → WordFault → Type 0
+WantsMemoryAlone words e =
+    are_taken words ≡ true → is_complete (matches_in words) ≡ true → e ≡ fault.OutOfMemory
+
+-- why words ask for nothing
+abbrev pub IsRefusal : List (String Global) → WordFault → Type 0
+IsRefusal words e = IsWordFault (texts_in words) e × WantsMemoryAlone (texts_in words) e

@@ -19,10 +19,6 @@ abbrev pub symbol_name : Style → List ℕ → List ℕ
 symbol_name style name =
     if style.demangle then unwrap_or (demangled_auto None name) name else name
 
--- the name of the function of a frame
-abbrev pub own_name : Style → FrameRecord → Option (List ℕ)
-own_name style f = option_map (function_name style) f.function
-
 -- the symbol's name where no frame follows
 abbrev pub symbol_before : Option (List ℕ) → List FrameRecord → Option (List ℕ)
 symbol_before symbol [] = symbol
@@ -40,7 +36,8 @@ function_text style name =
 -- a frame, by the symbol's name if there is one
 abbrev pub frame_text : Style → Option (List ℕ) → FrameRecord → List ℕ
 frame_text style symbol f =
-    function_text style (option_or symbol (own_name style f)) ++ location_text style f.location
+    function_text style (option_or symbol (option_map (function_name style) f.function))
+    ++ location_text style f.location
 
 -- what stands before each frame but the first
 abbrev pub caller_mark : Style → List ℕ
@@ -53,19 +50,16 @@ callers_text style symbol (f ∷ rest) =
     caller_mark style
     ++ (frame_text style (symbol_before symbol rest) f ++ callers_text style symbol rest)
 
--- the same, where inlined functions are printed
-abbrev pub more_text : Style → Option (List ℕ) → List FrameRecord → List ℕ
-more_text style symbol rest = if style.inlines then callers_text style symbol rest else []
-
 -- where there is no frame
 abbrev pub missing_text : Style → Option (List ℕ) → List ℕ
 missing_text style symbol = function_text style symbol ++ location_text style None
 
--- all frames
+-- all frames, where inlined functions are printed, else the first
 abbrev pub frames_text : Style → Option (List ℕ) → List FrameRecord → List ℕ
 frames_text style symbol [] = missing_text style symbol
 frames_text style symbol (f ∷ rest) =
-    frame_text style (symbol_before symbol rest) f ++ more_text style symbol rest
+    frame_text style (symbol_before symbol rest) f
+    ++ (if style.inlines then callers_text style symbol rest else [])
 
 -- the next frame, if there is one, and those after it
 abbrev pub next_and : Option FrameRecord → List FrameRecord → List FrameRecord

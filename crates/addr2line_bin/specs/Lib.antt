@@ -9,9 +9,11 @@ pub mod InputLines
 pub mod Stopped
 pub mod Print
 pub mod Printing
+pub mod ProgramName
 pub mod Command
 pub mod CommandLine
 pub mod Told
 pub mod AllAddresses
 pub mod ProgramRun
 pub mod WordAnswers
+pub mod WholeRun

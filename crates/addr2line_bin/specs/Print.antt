@@ -4,8 +4,8 @@
 use Rattle.std.specs.Prelude.{◌≡◌, ℕ, true, false, List, [], ◌∷◌, ◌++◌, length, codes, flat_map}
 use Rattle.std.specs.Io.KnownBytes.{Appends}
 use Rattle.addr2line_bin.specs.Put.{StreamState, Reports, plus}
-use Rattle.addr2line_bin.specs.declared.engine.Exit.{Exit}
-use Rattle.addr2line_bin.specs.declared.engine.Exit.TheVariants as exit
+use Rattle.addr2line_bin.specs.declared.exit.Exit.{Exit}
+use Rattle.addr2line_bin.specs.declared.exit.Exit.TheVariants as exit
 use Rattle.addr2line_bin.specs.declared.stream.StopReason.{StopReason}
 use Rattle.addr2line_bin.specs.declared.stream.StopReason.TheVariants as stop
 

@@ -8,8 +8,8 @@ use Rattle.addr2line_bin.specs.InputLines.{AreFirstLines, AreLines, AreLinesToRe
 use Rattle.addr2line_bin.specs.Put.{StreamState, Reports, plus}
 use Rattle.addr2line_bin.specs.Stopped.{Stops}
 use Rattle.addr2line_bin.specs.Print.{ProbeText, AllTexts, Prints, errs, exit_at, last_text, outs}
-use Rattle.addr2line_bin.specs.declared.engine.Exit.{Exit}
-use Rattle.addr2line_bin.specs.declared.engine.Exit.TheVariants as exit
+use Rattle.addr2line_bin.specs.declared.exit.Exit.{Exit}
+use Rattle.addr2line_bin.specs.declared.exit.Exit.TheVariants as exit
 use Rattle.addr2line_bin.specs.declared.stream.StopReason.{StopReason}
 use Rattle.addr2line_bin.specs.declared.stream.StopReason.TheVariants as stop
 

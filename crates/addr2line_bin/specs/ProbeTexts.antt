@@ -2,13 +2,14 @@
 -- Own: with a section an address below its size is an offset in it, and another is no address.
 -- Own: a fault is written to standard error, and its address is printed as one without a location;
 -- a refused growth within a lookup is such a fault.
-use Rattle.std.specs.Prelude.{◌≡◌, ◌-◌, ◌+◌, ℕ, Bool, true, false, ◌||◌, List, [], ◌++◌, Option, Some, None, Ok, Err, codes, nat_lt, option_and_then, option_map, if◌then◌else◌}
+use Rattle.std.specs.Prelude.{◌≡◌, ◌-◌, ◌+◌, ℕ, Bool, true, false, ◌||◌, List, [], ◌++◌, Option, Some, None, Ok, Err, codes, nat_lt, option_and_then, option_map, string_bytes, if◌then◌else◌}
 use Rattle.gimli_read.specs.declared.range.Range.{Range}
 use Rattle.elf.specs.Loading.{Loading}
 use Rattle.addr2line_lines.specs.Location.{Location}
 use Rattle.addr2line_units.specs.Frames.{FrameRecord}
-use Rattle.addr2line_bin.specs.declared.options.Setup.{Setup}
+use Rattle.addr2line_bin.specs.declared.options.RunContext.{RunContext}
 use Rattle.addr2line_bin.specs.declared.options.Style.{Style}
+use Rattle.addr2line_bin.specs.declared.probe_text.Texts.{Texts}
 use Rattle.addr2line_bin.specs.AddressTexts.{address_text, fault_line, location_text, probe_end}
 use Rattle.addr2line_bin.specs.FileAnswers.{FileAnswers}
 use Rattle.addr2line_bin.specs.FrameTexts.{frames_text, missing_text, symbol_name}
@@ -36,18 +37,10 @@ asks_frames style = style.functions || style.inlines
 abbrev pub asked_symbol : Style → Option (List ℕ) → Option (List ℕ)
 asked_symbol style symbol = if style.functions then option_map (symbol_name style) symbol else None
 
--- what a lookup of a location gives
-abbrev pub FoundLocation : Type 0
-FoundLocation = Loading (Option Location)
-
--- what a lookup of frames gives
-abbrev pub FoundFrames : Type 0
-FoundFrames = Loading (List FrameRecord)
-
 -- what the lookups of an address gave: its location; or its frames, and the name of its symbol
 pub data ProbeAnswer : Type 0 where
-  GivesLocation : FoundLocation → ProbeAnswer
-  GivesFrames : FoundFrames → Option (List ℕ) → ProbeAnswer
+  GivesLocation : Loading (Option Location) → ProbeAnswer
+  GivesFrames : Loading (List FrameRecord) → Option (List ℕ) → ProbeAnswer
 
 -- the lookups of an address may give this
 abbrev pub MayBeGiven : FileAnswers → Style → ℕ → ProbeAnswer → Type 0
@@ -78,18 +71,24 @@ given_fault name address (GivesLocation found) = fault_text name (codes "locatio
 given_fault name address (GivesFrames frames symbol) =
     fault_text name (codes "frames") address frames
 
+-- the text and the line of a fault of what was given are added to both texts
+abbrev pub AddsAnswer : RunContext → ℕ → Texts → Texts → ProbeAnswer → Type 0
+AddsAnswer c address old new given =
+    (string_bytes new.out ≡ string_bytes old.out ++ given_text c.style given)
+    × (string_bytes new.err ≡ string_bytes old.err ++ given_fault c.name.now address given)
+
 -- the text and the line of a fault, by the address that is looked up, if there is one
-abbrev pub IsAnswerAt : FileAnswers → Setup → Option ℕ → List ℕ → List ℕ → Type 0
-IsAnswerAt answers s None found fault = (found ≡ missing_text s.style None) × (fault ≡ [])
-IsAnswerAt answers s (Some address) found fault = (given : ProbeAnswer)
-    × MayBeGiven answers s.style address given
-    × (found ≡ given_text s.style given) × (fault ≡ given_fault s.name.now address given)
+abbrev pub IsAnswerAt : FileAnswers → RunContext → Option ℕ → List ℕ → List ℕ → Type 0
+IsAnswerAt answers c None found fault = (found ≡ missing_text c.style None) × (fault ≡ [])
+IsAnswerAt answers c (Some address) found fault = (given : ProbeAnswer)
+    × MayBeGiven answers c.style address given
+    × (found ≡ given_text c.style given) × (fault ≡ given_fault c.name.now address given)
 
 -- what goes to both streams for what is asked for, if that is an address
-pub record IsText (answers : FileAnswers) (s : Setup) (probe : Option ℕ) (text : ProbeText)
+pub record IsText (answers : FileAnswers) (c : RunContext) (probe : Option ℕ) (text : ProbeText)
     : Type 0 where
   pub found : List ℕ
   pub fault : List ℕ
-  pub given : IsAnswerAt answers s (looked_up s.section probe) found fault
-  pub out : text.out ≡ address_text s.style probe ++ (found ++ probe_end s.style)
+  pub given : IsAnswerAt answers c (looked_up c.section probe) found fault
+  pub out : text.out ≡ address_text c.style probe ++ (found ++ probe_end c.style)
   pub err : text.err ≡ fault

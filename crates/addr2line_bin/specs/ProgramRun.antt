@@ -13,14 +13,13 @@ use Rattle.addr2line_bin.specs.Printing.{IsCutAtRead, IsCutOff, PrintsOf, Prints
 use Rattle.addr2line_bin.specs.ProbeTexts.{IsText}
 use Rattle.addr2line_bin.specs.Address.{probes_in}
 use Rattle.addr2line_bin.specs.Told.{addresses_fault_text, load_fault_text, section_fault_text}
-use Rattle.addr2line_bin.specs.declared.engine.TheConstants.{DONE_STATUS, FAILED_STATUS}
-use Rattle.addr2line_bin.specs.declared.engine.Exit.{Exit}
-use Rattle.addr2line_bin.specs.declared.engine.Exit.TheVariants as exit
+use Rattle.addr2line_bin.specs.declared.exit.TheConstants.{DONE_STATUS, FAILED_STATUS}
+use Rattle.addr2line_bin.specs.declared.exit.Exit.{Exit}
+use Rattle.addr2line_bin.specs.declared.exit.Exit.TheVariants as exit
 use Rattle.addr2line_bin.specs.declared.options.Options.{Options}
 use Rattle.addr2line_bin.specs.declared.options.Probes.{Probes}
 use Rattle.addr2line_bin.specs.declared.options.Probes.TheVariants as probes
-use Rattle.addr2line_bin.specs.declared.options.Setup.{Setup}
-use Rattle.addr2line_bin.specs.declared.options.Style.{Style}
+use Rattle.addr2line_bin.specs.declared.options.RunContext.{RunContext}
 
 -- the status that the program ends with
 abbrev pub status_at : Exit → ℕ
@@ -35,33 +34,33 @@ OnlyFails oo on eo en line e = OnlyReports oo on eo en line × (e ≡ exit.Faile
 -- what the lines of an input ask for is printed: of all; or of the first ones where the run ended
 -- early, at the last that was read or where memory was refused for one. No line was read before the
 -- text of the one before it was written
-abbrev pub PrintsLines : FileAnswers → Setup → InputState → InputState → StreamState → StreamState
-    → StreamState → StreamState → Exit → Type 0
-PrintsLines answers s io inn oo on eo en e = (lines : List (List ℕ))
-    × ((AreLines io inn lines × PrintsOf (IsText answers s) oo on eo en (line_probes lines)
+abbrev pub PrintsLines : FileAnswers → RunContext → InputState → InputState → StreamState
+    → StreamState → StreamState → StreamState → Exit → Type 0
+PrintsLines answers c io inn oo on eo en e = (lines : List (List ℕ))
+    × ((AreLines io inn lines × PrintsOf (IsText answers c) oo on eo en (line_probes lines)
     × (e ≡ exit.Done))
-    ⊎ (((cut : IsCutOff (IsText answers s) s.name.now oo on eo en (line_probes lines) e)
+    ⊎ (((cut : IsCutOff (IsText answers c) c.name.now oo on eo en (line_probes lines) e)
     × AreFirstLines io inn lines × (length cut.prints.later ≡ 1))
     ⊎ (AreLinesToRefusal io inn lines
-    × IsCutAtRead (IsText answers s) s.name.now oo on eo en (line_probes lines) e)))
+    × IsCutAtRead (IsText answers c) c.name.now oo on eo en (line_probes lines) e)))
 
 -- what the addresses of all rows ask for is printed; or memory was refused for them
-abbrev pub PrintsAllRows : FileAnswers → Setup → StreamState → StreamState → StreamState
+abbrev pub PrintsAllRows : FileAnswers → RunContext → StreamState → StreamState → StreamState
     → StreamState → Exit → Type 0
-PrintsAllRows answers s oo on eo en e =
+PrintsAllRows answers c oo on eo en e =
     ((addresses : List ℕ) × AreAllAddresses answers addresses
-    × PrintsRun (IsText answers s) s.name.now oo on eo en (map Some addresses) e)
-    ⊎ OnlyFails oo on eo en (addresses_fault_text s.name.now OutOfMemory) e
+    × PrintsRun (IsText answers c) c.name.now oo on eo en (map Some addresses) e)
+    ⊎ OnlyFails oo on eo en (addresses_fault_text c.name.now OutOfMemory) e
 
 -- what is asked for is printed; the input is read for its lines alone
-abbrev pub PrintsAsked : FileAnswers → Setup → Probes → InputState → InputState → StreamState
+abbrev pub PrintsAsked : FileAnswers → RunContext → Probes → InputState → InputState → StreamState
     → StreamState → StreamState → StreamState → Exit → Type 0
-PrintsAsked answers s probes.All io inn oo on eo en e =
-    PrintsAllRows answers s oo on eo en e × (inn ≡ io)
-PrintsAsked answers s (probes.Words v) io inn oo on eo en e =
-    PrintsRun (IsText answers s) s.name.now oo on eo en (probes_in v.items) e × (inn ≡ io)
-PrintsAsked answers s probes.Lines io inn oo on eo en e =
-    PrintsLines answers s io inn oo on eo en e
+PrintsAsked answers c probes.All io inn oo on eo en e =
+    PrintsAllRows answers c oo on eo en e × (inn ≡ io)
+PrintsAsked answers c (probes.Words v) io inn oo on eo en e =
+    PrintsRun (IsText answers c) c.name.now oo on eo en (probes_in v.items) e × (inn ≡ io)
+PrintsAsked answers c probes.Lines io inn oo on eo en e =
+    PrintsLines answers c io inn oo on eo en e
 
 -- the addresses of a section, or its name where it isn't there
 abbrev pub section_or_name : List ℕ → Option Range → Result (Option Range) (List ℕ)
@@ -73,31 +72,20 @@ abbrev pub section_by : FileAnswers → Option (List ℕ) → Result (Option Ran
 section_by answers None = Ok None
 section_by answers (Some name) = section_or_name name (answers.section_at name)
 
--- the switches of options
-abbrev pub style_of : Options → Style
-style_of o = record {
-  functions = o.functions;
-  pretty = o.pretty;
-  inlines = o.inlines;
-  addresses = o.addresses;
-  basenames = o.basenames;
-  demangle = o.demangle;
-  llvm = o.llvm;
-}
-
--- a setup is that of options, with the addresses of their section
-pub record IsSetup (o : Options) (section : Option Range) (s : Setup) : Type 0 where
-  pub name : s.name.now ≡ string_bytes o.name
-  pub style : s.style ≡ style_of o
-  pub range : s.section ≡ section
+-- what is the same for each address: the name and the style that options have, and the section's
+-- addresses
+pub record IsRunContext (o : Options) (section : Option Range) (c : RunContext) : Type 0 where
+  pub name : c.name.now ≡ string_bytes o.name
+  pub style : c.style ≡ o.style
+  pub range : c.section ≡ section
 
 -- a run by the section that is named, if it is there
 abbrev pub RunsBy : Result (Option Range) (List ℕ) → FileAnswers → Options → InputState → InputState
     → StreamState → StreamState → StreamState → StreamState → Exit → Type 0
 RunsBy (Err name) answers o io inn oo on eo en e =
     OnlyFails oo on eo en (section_fault_text (string_bytes o.name) name) e × (inn ≡ io)
-RunsBy (Ok section) answers o io inn oo on eo en e = (s : Setup)
-    × IsSetup o section s × PrintsAsked answers s o.probes io inn oo on eo en e
+RunsBy (Ok section) answers o io inn oo on eo en e = (c : RunContext)
+    × IsRunContext o section c × PrintsAsked answers c o.probes io inn oo on eo en e
 
 -- a run over a file
 abbrev pub RunsOver : FileAnswers → Options → InputState → InputState → StreamState → StreamState

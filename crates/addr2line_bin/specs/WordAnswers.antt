@@ -11,7 +11,7 @@ use Rattle.addr2line_bin.specs.Print.{exit_at, last_text}
 use Rattle.addr2line_bin.specs.ProgramRun.{status_at}
 use Rattle.addr2line_bin.specs.Stopped.{IsFault}
 use Rattle.addr2line_bin.specs.Told.{usage_text}
-use Rattle.addr2line_bin.specs.declared.engine.TheConstants.{DONE_STATUS, FAILED_STATUS, USAGE_STATUS}
+use Rattle.addr2line_bin.specs.declared.exit.TheConstants.{DONE_STATUS, FAILED_STATUS, USAGE_STATUS}
 use Rattle.addr2line_bin.specs.declared.command_line.WordFault.{WordFault}
 use Rattle.addr2line_bin.specs.declared.command_line.WordFault.TheVariants as fault
 use Rattle.addr2line_bin.specs.declared.stream.StopReason.{StopReason}

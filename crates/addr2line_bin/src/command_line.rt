@@ -2,19 +2,16 @@
 
 ghost use Rattle.std.specs.Prelude.{◌≡◌, IfOk, IfErr, codes, map, true, false};
 ghost use Rattle.std.specs.Prelude.{string_bytes, option_map};
-ghost use Rattle.clap.specs.Words.{app_of, rule_of};
 ghost use Rattle.clap.specs.Words.{rows_of, found_of, first_of, all_of};
-ghost use Rattle.addr2line_bin.specs.CommandLine.{bare_command, whole_command, address_words, Adds};
-ghost use Rattle.addr2line_bin.specs.CommandLine.{switch, long_switch, option, long_option};
-ghost use Rattle.addr2line_bin.specs.CommandLine.{is_on, is_complete, IsAsked, IsUnasked};
-ghost use Rattle.addr2line_bin.specs.CommandLine.{IsFaultOf, IsRequest, IsWordFault};
-ghost use Rattle.addr2line_bin.specs.CommandLine.{matches_in, are_taken, texts_in};
+ghost use Rattle.addr2line_bin.specs.CommandLine.{asked_style, is_on, IsAsked, IsFaultOf, IsRequest};
+ghost use Rattle.addr2line_bin.specs.CommandLine.{IsUnasked, IsWordFault, WantsMemoryAlone, texts_in};
 ghost use Rattle.addr2line_bin.specs.declared.command_line.WordFault.TheVariants as fault;
 
-use crate::command::name_of;
-use crate::options::{Options, Probes};
+use crate::command::{HelpTexts, whole_command};
+use crate::options::{Options, Probes, Style};
+use crate::program_name::program_name;
+use clap::ArgMatches;
 use clap::error::ErrorKind;
-use clap::{Arg, ArgAction, ArgMatches, Command};
 use std::alloc::{AllocError, Global};
 
 /// What the words ask for.
@@ -58,107 +55,6 @@ impl From<clap::Error> for WordFault {
     }
 }
 
-// The command before its arguments.
-fn bare_command<'a>(alloc: Global) -> Command<'a>
-    ensures gives { app_of result ≡ bare_command }
-{
-    Command::new(alloc, "addr2line")
-        .version("0.27.1")
-        .about("The file and line of addresses")
-}
-
-// The command with one more argument.
-fn with<'a>(command: Command<'a>, arg: Arg<'a>) -> Result<Command<'a>, AllocError>
-    requires local { arg.global ≡ false }
-    ensures gives { IfOk result (Adds command.entry (rule_of arg.entry)) }
-{
-    command.arg(arg)
-}
-
-// The command with a switch by its name.
-fn with_long_switch<'a>(
-    command: Command<'a>,
-    alloc: Global,
-    id: &'a str,
-    help: &'a str,
-) -> Result<Command<'a>, AllocError>
-    ensures gives { IfOk result (Adds command.entry (long_switch id.entry.now)) }
-{
-    let arg = Arg::new(alloc, id).long(id).help(help);
-    with(command, arg.action(ArgAction::SetTrue))
-}
-
-// The command with a switch by a letter too.
-fn with_switch<'a>(
-    command: Command<'a>,
-    alloc: Global,
-    id: &'a str,
-    short: char,
-    help: &'a str,
-) -> Result<Command<'a>, AllocError>
-    ensures gives { IfOk result (Adds command.entry (switch id.entry.now short)) }
-{
-    let arg = Arg::new(alloc, id).long(id).short(short).help(help);
-    with(command, arg.action(ArgAction::SetTrue))
-}
-
-// The command with an option, which takes one value, by its name.
-fn with_long_option<'a>(
-    command: Command<'a>,
-    alloc: Global,
-    id: &'a str,
-    value: &'a str,
-    help: &'a str,
-) -> Result<Command<'a>, AllocError>
-    ensures gives { IfOk result (Adds command.entry (long_option id.entry.now)) }
-{
-    let arg = Arg::new(alloc, id).long(id).value_name(value).help(help);
-    with(command, arg.action(ArgAction::Set))
-}
-
-// The command with an option by a letter too.
-fn with_option<'a>(
-    command: Command<'a>,
-    alloc: Global,
-    id: &'a str,
-    short: char,
-    value: &'a str,
-    help: &'a str,
-) -> Result<Command<'a>, AllocError>
-    ensures gives { IfOk result (Adds command.entry (option id.entry.now short)) }
-{
-    let arg = Arg::new(alloc, id).long(id).short(short).value_name(value);
-    with(command, arg.help(help).action(ArgAction::Set))
-}
-
-// The command with the words that belong to no option.
-fn with_address_words<'a>(command: Command<'a>, alloc: Global) -> Result<Command<'a>, AllocError>
-    ensures gives { IfOk result (Adds command.entry address_words) }
-{
-    let arg = Arg::new(alloc, "probes").value_name("ADDR");
-    let arg = arg.help("Addresses; without any, the lines of standard input");
-    with(command, arg.action(ArgAction::Append))
-}
-
-// The command that takes the words.
-fn whole_command<'a>(alloc: Global) -> Result<Command<'a>, AllocError>
-    ensures gives { IfOk result (λ c. app_of c ≡ whole_command) }
-{
-    let c = bare_command(alloc);
-    let c = with_option(c, alloc, "exe", 'e', "FILE", "The ELF file to look into")?;
-    let c = with_long_option(c, alloc, "sup", "FILE", "Its supplementary file")?;
-    let c = with_option(c, alloc, "section", 'j', "NAME", "Offsets in this section")?;
-    let c = with_long_switch(c, alloc, "all", "Each address that has a line")?;
-    let c = with_switch(c, alloc, "functions", 'f', "Print functions")?;
-    let c = with_switch(c, alloc, "pretty-print", 'p', "Print one line a frame")?;
-    let c = with_switch(c, alloc, "inlines", 'i', "Print inlined functions")?;
-    let c = with_switch(c, alloc, "addresses", 'a', "Print each address first")?;
-    let c = with_switch(c, alloc, "basenames", 's', "Print file names alone")?;
-    let c = with_switch(c, alloc, "demangle", 'C', "Print demangled names")?;
-    let c = with_long_switch(c, alloc, "llvm", "Print as llvm-addr2line does")?;
-    with_address_words(c, alloc)
-}
-
 // Whether a switch is on.
 #[tactic(auto, using(crate::proofs::CommandLemmas::first_of_matches))]
 fn is_on(matches: &ArgMatches<'_>, id: &str) -> bool
@@ -191,6 +87,21 @@ fn strings_of(alloc: Global, texts: &[&str]) -> Result<Vec<String>, AllocError>
         strings.push(String::from_str(alloc, text)?)?;
     }
     Ok(strings)
+}
+
+// How addresses are printed.
+fn style_of(matches: &ArgMatches<'_>) -> Style
+    ensures gives { result ≡ asked_style (rows_of (found_of matches.now)) }
+{
+    Style {
+        functions: is_on(matches, "functions"),
+        pretty: is_on(matches, "pretty-print"),
+        inlines: is_on(matches, "inlines"),
+        addresses: is_on(matches, "addresses"),
+        basenames: is_on(matches, "basenames"),
+        demangle: is_on(matches, "demangle"),
+        llvm: is_on(matches, "llvm"),
+    }
 }
 
 // The words that belong to no option, if there are any.
@@ -228,13 +139,7 @@ fn request_of(alloc: Global, name: String, matches: &ArgMatches<'_>) -> Result<R
         name,
         section,
         probes,
-        functions: is_on(matches, "functions"),
-        pretty: is_on(matches, "pretty-print"),
-        inlines: is_on(matches, "inlines"),
-        addresses: is_on(matches, "addresses"),
-        basenames: is_on(matches, "basenames"),
-        demangle: is_on(matches, "demangle"),
-        llvm: is_on(matches, "llvm"),
+        style: style_of(matches),
     };
     Ok(Request { exe, sup, options })
 }
@@ -255,13 +160,11 @@ fn request_of(alloc: Global, name: String, matches: &ArgMatches<'_>) -> Result<R
 pub fn command_line(alloc: Global, words: &[String]) -> Result<Request, WordFault>
     ensures gives { IfOk result (IsRequest words.now) }
     ensures refused { IfErr result (IsWordFault (texts_in words.now)) }
-    ensures taken { IfErr result (λ e. are_taken (texts_in words.now) ≡ true
-        → is_complete (matches_in (texts_in words.now)) ≡ true → e ≡ fault.OutOfMemory) }
+    ensures memory { IfErr result (WantsMemoryAlone (texts_in words.now)) }
 {
-    let name = String::from_str(alloc, name_of(words))?;
-    let matches = whole_command(alloc)?.try_get_matches_from(words)?;
+    let name = String::from_str(alloc, program_name(words))?;
+    let texts = HelpTexts::new(alloc, name.as_str())?;
+    let command = whole_command(alloc, name.as_str(), &texts)?;
+    let matches = command.try_get_matches_from(words)?;
     request_of(alloc, name, &matches)
 }
-
-#[cfg(test)]
-mod tests;

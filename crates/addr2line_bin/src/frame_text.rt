@@ -19,7 +19,7 @@ use std::alloc::{AllocError, Global};
 use std::borrow::CowStr;
 
 // A function's name as it is printed.
-fn name_of<'ctx, R: Reader>(
+fn function_name<'ctx, R: Reader>(
     alloc: Global,
     style: Style,
     function: &FunctionName<'ctx, R>,
@@ -81,7 +81,7 @@ fn push_own_function<R: Reader>(
     let Some(function) = function else {
         return push_function(text, style, None);
     };
-    match name_of(alloc, style, function) {
+    match function_name(alloc, style, function) {
         Ok(name) => push_function(text, style, Some(name.as_str())),
         Err(_) => Err(AllocError),
     }

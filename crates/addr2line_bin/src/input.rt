@@ -23,7 +23,7 @@ pub trait Input {
     fn read_line(&mut self, line: &mut Vec<u8>) -> Result<bool, ErrorKind>
         ensures gives { IfOk result (λ is_read.
             TakesLine is_read (state self.old).bytes (state self.new).bytes line.new.items) }
-        ensures lost { OnErr result (TakesPart (state self.old).bytes (state self.new).bytes) }
+        ensures refused { OnErr result (TakesPart (state self.old).bytes (state self.new).bytes) }
         ensures reads { (state self.new).reads ≡ plus (state self.old).reads 1 }
         ensures fault { (state self.new).fault ≡ fault_after (state self.old).fault result };
 }
@@ -66,8 +66,8 @@ impl<R: BufRead> ReaderInput<R> {
 
 // Cuts the last byte if it is this one; whether it was.
 fn cut_last(bytes: &mut Vec<u8>, byte: u8) -> bool
-    ensures was { result ≡ ends_with_byte byte bytes.old.items }
-    ensures cuts { bytes.new.items ≡ strip_last byte bytes.old.items }
+    ensures gives { result ≡ ends_with_byte byte bytes.old.items }
+    ensures bytes { bytes.new.items ≡ strip_last byte bytes.old.items }
 {
     let count = bytes.len();
     if count == 0 {
@@ -82,7 +82,7 @@ fn cut_last(bytes: &mut Vec<u8>, byte: u8) -> bool
 
 // Cuts a line feed at the end, and a carriage return before it.
 fn cut_line_end(line: &mut Vec<u8>)
-    ensures cuts { line.new.items ≡ (if ends_with_byte (byte "\n") line.old.items
+    ensures gives { line.new.items ≡ (if ends_with_byte (byte "\n") line.old.items
         then strip_last (byte "\r") (strip_last (byte "\n") line.old.items) else line.old.items) }
 {
     if cut_last(line, b'\n') {

@@ -1,8 +1,5 @@
 //! What is asked of the program.
 
-ghost use Rattle.std.specs.Prelude.{◌≡◌};
-ghost use Rattle.addr2line_bin.specs.ProgramRun.{style_of};
-
 use addr2line::Range;
 use std::alloc::Global;
 
@@ -26,23 +23,11 @@ pub struct Options {
     pub section: Option<String>,
     /// The addresses that are asked for.
     pub probes: Probes,
-    /// Whether functions are printed.
-    pub functions: bool,
-    /// Whether a function and its location stand on one line.
-    pub pretty: bool,
-    /// Whether inlined functions are printed.
-    pub inlines: bool,
-    /// Whether addresses are printed.
-    pub addresses: bool,
-    /// Whether only the last part of a path is printed.
-    pub basenames: bool,
-    /// Whether names are demangled.
-    pub demangle: bool,
-    /// Whether the texts are LLVM's.
-    pub llvm: bool,
+    /// How addresses are printed.
+    pub style: Style,
 }
 
-/// The switches of options.
+/// How addresses are printed.
 #[derive(Clone, Copy)]
 pub struct Style {
     /// Whether functions are printed.
@@ -61,26 +46,9 @@ pub struct Style {
     pub llvm: bool,
 }
 
-impl Options {
-    /// The switches.
-    pub fn style(&self) -> Style
-        ensures gives { result ≡ style_of self.now }
-    {
-        Style {
-            functions: self.functions,
-            pretty: self.pretty,
-            inlines: self.inlines,
-            addresses: self.addresses,
-            basenames: self.basenames,
-            demangle: self.demangle,
-            llvm: self.llvm,
-        }
-    }
-}
-
 /// What is the same for each address of a run.
 #[derive(Clone, Copy)]
-pub struct Setup<'a> {
+pub struct RunContext<'a> {
     /// Where memory comes from.
     pub alloc: Global,
     /// What the program calls itself.

@@ -1,21 +1,19 @@
 //! The texts of an address that is asked for.
 
-ghost use Rattle.std.specs.Prelude.{◌≡◌, ◌++◌, IfOk, List, [], ℕ, None, OnOk, Option, codes, option_map, string_bytes};
+ghost use Rattle.std.specs.Prelude.{◌≡◌, ◌++◌, IfOk, List, ℕ, OnOk, option_map, string_bytes};
 ghost use Rattle.std.specs.Option.{option_copied};
 ghost use Rattle.gimli_read.specs.Reading.{result_map};
 ghost use Rattle.addr2line_lines.specs.SeenLocation.{seen_location};
 ghost use Rattle.addr2line_units.specs.FramesLeft.{frames_left};
-ghost use Rattle.addr2line_bin.specs.AddressTexts.{location_text};
 ghost use Rattle.addr2line_bin.specs.FileAnswers.{StaysAnswered};
-ghost use Rattle.addr2line_bin.specs.FrameTexts.{frames_text};
-ghost use Rattle.addr2line_bin.specs.ProbeTexts.{FoundLocation, FoundFrames, ProbeAnswer, IsAnswerAt, IsText, MayBeGiven, asked_symbol, asks_frames};
-ghost use Rattle.addr2line_bin.specs.ProbeTexts.{fault_text, given_fault, given_or, given_text};
-ghost use Rattle.addr2line_bin.specs.ProbeTexts.{looked_up, offset_in};
+ghost use Rattle.addr2line_bin.specs.ProbeTexts.{AddsAnswer, GivesFrames, GivesLocation, ProbeAnswer};
+ghost use Rattle.addr2line_bin.specs.ProbeTexts.{IsAnswerAt, IsText, MayBeGiven, asked_symbol};
+ghost use Rattle.addr2line_bin.specs.ProbeTexts.{asks_frames, looked_up, offset_in};
 
 use crate::address_text::{push_address, push_fault, push_location, push_probe_end};
 use crate::frame_text::{push_frames, push_missing, symbol_name};
 use crate::lookups::Lookups;
-use crate::options::{Setup, Style};
+use crate::options::{RunContext, Style};
 use addr2line::gimli::read::Reader;
 use addr2line::{FrameIter, LoaderError, Location, Range};
 use std::alloc::{AllocError, Global};
@@ -65,22 +63,18 @@ fn looked_up(section: Option<Range>, probe: Option<u64>) -> Option<u64>
 // Adds the location that a lookup found, or tells its fault.
 fn push_found(
     texts: &mut Texts,
-    setup: &Setup<'_>,
+    context: &RunContext<'_>,
     address: u64,
     found: Result<Option<Location<'_>>, LoaderError>,
 ) -> Result<(), AllocError>
-    ensures out { OnOk result (string_bytes texts.new.out ≡ string_bytes texts.old.out
-        ++ location_text setup.now.style
-        (given_or None (result_map (option_map seen_location) found.entry))) }
-    ensures err { OnOk result (string_bytes texts.new.err ≡ string_bytes texts.old.err
-        ++ fault_text setup.now.name.now (codes "location") address
-        (result_map (option_map seen_location) found.entry)) }
+    ensures gives { OnOk result (AddsAnswer context.now address texts.old texts.new
+        (GivesLocation (result_map (option_map seen_location) found.entry))) }
 {
     match found {
-        Ok(location) => push_location(&mut texts.out, setup.style, location),
+        Ok(location) => push_location(&mut texts.out, context.style, location),
         Err(error) => {
-            push_fault(&mut texts.err, setup.name, "location", address, error)?;
-            push_location(&mut texts.out, setup.style, None)
+            push_fault(&mut texts.err, context.name, "location", address, error)?;
+            push_location(&mut texts.out, context.style, None)
         }
     }
 }
@@ -88,113 +82,39 @@ fn push_found(
 // Adds the frames that a lookup found, or tells its fault.
 fn push_found_frames<R: Reader>(
     texts: &mut Texts,
-    setup: &Setup<'_>,
+    context: &RunContext<'_>,
     address: u64,
     symbol: Option<&str>,
     found: Result<FrameIter<'_, R>, LoaderError>,
 ) -> Result<(), AllocError>
-    ensures out { OnOk result (string_bytes texts.new.out ≡ string_bytes texts.old.out
-        ++ frames_text setup.now.style (option_copied symbol.entry)
-        (given_or [] (result_map frames_left found.entry))) }
-    ensures err { OnOk result (string_bytes texts.new.err ≡ string_bytes texts.old.err
-        ++ fault_text setup.now.name.now (codes "frames") address
-        (result_map frames_left found.entry)) }
+    ensures gives { OnOk result (AddsAnswer context.now address texts.old texts.new
+        (GivesFrames (result_map frames_left found.entry) (option_copied symbol.entry))) }
 {
     match found {
-        Ok(frames) => push_frames(&mut texts.out, setup.alloc, setup.style, symbol, frames),
+        Ok(frames) => push_frames(&mut texts.out, context.alloc, context.style, symbol, frames),
         Err(error) => {
-            push_fault(&mut texts.err, setup.name, "frames", address, error)?;
-            push_missing(&mut texts.out, setup.style, symbol)
+            push_fault(&mut texts.err, context.name, "frames", address, error)?;
+            push_missing(&mut texts.out, context.style, symbol)
         }
     }
 }
 
 // The symbol's name as it is printed, where functions are printed.
 fn symbol_of<L: Lookups>(
-    setup: &Setup<'_>,
+    context: &RunContext<'_>,
     lookups: &L,
     address: u64,
 ) -> Result<Option<String>, AllocError>
     ensures gives { IfOk result (λ symbol. option_map string_bytes symbol
-        ≡ asked_symbol setup.now.style ((L.answers lookups.now).symbol_at address)) }
+        ≡ asked_symbol context.now.style ((L.answers lookups.now).symbol_at address)) }
 {
-    if !setup.style.functions {
+    if !context.style.functions {
         return Ok(None);
     }
     match lookups.find_symbol(address) {
-        Some(name) => Ok(Some(symbol_name(setup.alloc, setup.style, name)?)),
+        Some(name) => Ok(Some(symbol_name(context.alloc, context.style, name)?)),
         None => Ok(None),
     }
-}
-
-/// A text that there may be.
-pub fn as_text(text: &Option<String>) -> Option<&str>
-    ensures gives { option_copied result ≡ option_map string_bytes text.now }
-{
-    match text {
-        Some(text) => Some(text.as_str()),
-        None => None,
-    }
-}
-
-// Adds the frames of an address by its symbol's name, or tells why they can't be looked up.
-fn push_frames_by<L: Lookups>(
-    texts: &mut Texts,
-    setup: &Setup<'_>,
-    lookups: &mut L,
-    address: u64,
-    symbol: Option<&str>,
-) -> Result<(), AllocError>
-    ensures gives { OnOk result ((frames : FoundFrames)
-        × (L.answers lookups.old).MayGive address frames
-        × (string_bytes texts.new.out ≡ string_bytes texts.old.out
-        ++ frames_text setup.now.style (option_copied symbol.entry)
-        (given_or [] frames))
-        × (string_bytes texts.new.err ≡ string_bytes texts.old.err
-        ++ fault_text setup.now.name.now (codes "frames") address frames)) }
-    ensures kept { StaysAnswered (L.answers lookups.old) (L.answers lookups.new) }
-{
-    push_found_frames(texts, setup, address, symbol, lookups.find_frames(address))
-}
-
-// Adds the frames of an address, or tells why they can't be looked up.
-#[tactic(auto, using(crate::proofs::AnswerLemmas::stays_itself))]
-fn push_frames_at<L: Lookups>(
-    texts: &mut Texts,
-    setup: &Setup<'_>,
-    lookups: &mut L,
-    address: u64,
-) -> Result<(), AllocError>
-    ensures gives { OnOk result ((frames : FoundFrames)
-        × (L.answers lookups.old).MayGive address frames
-        × (string_bytes texts.new.out ≡ string_bytes texts.old.out
-        ++ frames_text setup.now.style
-        (asked_symbol setup.now.style ((L.answers lookups.old).symbol_at address))
-        (given_or [] frames))
-        × (string_bytes texts.new.err ≡ string_bytes texts.old.err
-        ++ fault_text setup.now.name.now (codes "frames") address frames)) }
-    ensures kept { StaysAnswered (L.answers lookups.old) (L.answers lookups.new) }
-{
-    let symbol = symbol_of(setup, lookups, address)?;
-    push_frames_by(texts, setup, lookups, address, as_text(&symbol))
-}
-
-// Adds the location of an address, or tells why it can't be looked up.
-fn push_location_at<L: Lookups>(
-    texts: &mut Texts,
-    setup: &Setup<'_>,
-    lookups: &mut L,
-    address: u64,
-) -> Result<(), AllocError>
-    ensures gives { OnOk result ((found : FoundLocation)
-        × (L.answers lookups.old).MayFind address found
-        × (string_bytes texts.new.out ≡ string_bytes texts.old.out
-        ++ location_text setup.now.style (given_or None found))
-        × (string_bytes texts.new.err ≡ string_bytes texts.old.err
-        ++ fault_text setup.now.name.now (codes "location") address found)) }
-    ensures kept { StaysAnswered (L.answers lookups.old) (L.answers lookups.new) }
-{
-    push_found(texts, setup, address, lookups.find_location(address))
 }
 
 // Whether frames are looked up.
@@ -205,43 +125,49 @@ fn asks_frames(style: Style) -> bool
 }
 
 // Adds what the lookups of an address give.
+#[tactic(auto, using(crate::proofs::AnswerLemmas::stays_itself))]
 fn push_given<L: Lookups>(
     texts: &mut Texts,
-    setup: &Setup<'_>,
+    context: &RunContext<'_>,
     lookups: &mut L,
     address: u64,
 ) -> Result<(), AllocError>
     ensures gives { OnOk result ((given : ProbeAnswer)
-        × MayBeGiven (L.answers lookups.old) setup.now.style address given
-        × (string_bytes texts.new.out ≡ string_bytes texts.old.out
-        ++ given_text setup.now.style given)
-        × (string_bytes texts.new.err ≡ string_bytes texts.old.err
-        ++ given_fault setup.now.name.now address given)) }
+        × MayBeGiven (L.answers lookups.old) context.now.style address given
+        × AddsAnswer context.now address texts.old texts.new given) }
     ensures kept { StaysAnswered (L.answers lookups.old) (L.answers lookups.new) }
 {
-    if asks_frames(setup.style) {
-        return push_frames_at(texts, setup, lookups, address);
+    if !asks_frames(context.style) {
+        return push_found(texts, context, address, lookups.find_location(address));
     }
-    push_location_at(texts, setup, lookups, address)
+    let symbol = symbol_of(context, lookups, address)?;
+    let symbol = symbol.as_deref();
+    push_found_frames(
+        texts,
+        context,
+        address,
+        symbol,
+        lookups.find_frames(address),
+    )
 }
 
 // Adds what stands for what is asked for, by the address that is looked up.
 #[tactic(auto, using(crate::proofs::AnswerLemmas::stays_itself))]
 fn push_answer<L: Lookups>(
     texts: &mut Texts,
-    setup: &Setup<'_>,
+    context: &RunContext<'_>,
     lookups: &mut L,
     address: Option<u64>,
 ) -> Result<(), AllocError>
     ensures gives { OnOk result ((found : List ℕ) × (fault : List ℕ)
-        × IsAnswerAt (L.answers lookups.old) setup.now address found fault
+        × IsAnswerAt (L.answers lookups.old) context.now address found fault
         × (string_bytes texts.new.out ≡ string_bytes texts.old.out ++ found)
         × (string_bytes texts.new.err ≡ string_bytes texts.old.err ++ fault)) }
     ensures kept { StaysAnswered (L.answers lookups.old) (L.answers lookups.new) }
 {
     match address {
-        Some(address) => push_given(texts, setup, lookups, address),
-        None => push_missing(&mut texts.out, setup.style, None),
+        Some(address) => push_given(texts, context, lookups, address),
+        None => push_missing(&mut texts.out, context.style, None),
     }
 }
 
@@ -249,17 +175,17 @@ fn push_answer<L: Lookups>(
 #[tactic(auto, using(crate::proofs::AnswerLemmas::stays_itself))]
 pub fn make_texts<L: Lookups>(
     texts: &mut Texts,
-    setup: &Setup<'_>,
+    context: &RunContext<'_>,
     lookups: &mut L,
     probe: Option<u64>,
 ) -> Result<(), AllocError>
-    ensures gives { OnOk result (IsText (L.answers lookups.old) setup.now probe
+    ensures gives { OnOk result (IsText (L.answers lookups.old) context.now probe
         (record { out = string_bytes texts.new.out; err = string_bytes texts.new.err })) }
     ensures kept { StaysAnswered (L.answers lookups.old) (L.answers lookups.new) }
 {
     texts.out.clear();
     texts.err.clear();
-    push_address(&mut texts.out, setup.style, probe)?;
-    push_answer(texts, setup, lookups, looked_up(setup.section, probe))?;
-    push_probe_end(&mut texts.out, setup.style)
+    push_address(&mut texts.out, context.style, probe)?;
+    push_answer(texts, context, lookups, looked_up(context.section, probe))?;
+    push_probe_end(&mut texts.out, context.style)
 }

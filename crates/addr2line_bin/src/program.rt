@@ -3,19 +3,19 @@
 ghost use Rattle.std.specs.Prelude.{◌≡◌, map, Ok, Err, Option, Some, option_map, string_bytes};
 ghost use Rattle.addr2line_bin.specs.Printing.{PrintsRun};
 ghost use Rattle.addr2line_bin.specs.ProbeTexts.{IsText};
-ghost use Rattle.addr2line_bin.specs.ProgramRun.{IsRun, IsSetup, PrintsAllRows, PrintsAsked};
+ghost use Rattle.addr2line_bin.specs.ProgramRun.{IsRun, IsRunContext, PrintsAllRows, PrintsAsked};
 ghost use Rattle.addr2line_bin.specs.ProgramRun.{PrintsLines, RunsOver, section_by};
 ghost use Rattle.addr2line_bin.specs.Put.{Reports};
 ghost use Rattle.addr2line_bin.specs.Address.{probes_in};
 ghost use Rattle.addr2line_bin.specs.Told.{addresses_fault_text, section_fault_text};
-ghost use Rattle.addr2line_bin.specs.declared.engine.Exit.TheVariants as exit;
+ghost use Rattle.addr2line_bin.specs.declared.exit.Exit.TheVariants as exit;
 ghost use Rattle.std.specs.Result.{result_map_both};
 
 use crate::all_addresses::all_addresses;
-use crate::engine::{Exit, tell_last, tell_load_fault};
+use crate::exit::{Exit, tell_last, tell_load_fault};
 use crate::input::Input;
 use crate::lookups::Lookups;
-use crate::options::{Options, Probes, Setup};
+use crate::options::{Options, Probes, RunContext};
 use crate::printing::{print_addresses, print_lines, print_words};
 use crate::stream::{Stream, tell_both};
 use addr2line::{LoaderError, Range};
@@ -46,91 +46,91 @@ fn tell_addresses_fault<E: Stream>(name: &str, fault: LoaderError, err: &mut E) 
 
 // Prints what the words ask for.
 fn run_words<L: Lookups, W: Stream, E: Stream>(
-    setup: &Setup<'_>,
+    context: &RunContext<'_>,
     lookups: &mut L,
     words: &[String],
     out: &mut W,
     err: &mut E,
 ) -> Exit
-    ensures gives { PrintsRun (IsText (L.answers lookups.old) setup.now) setup.now.name.now
+    ensures gives { PrintsRun (IsText (L.answers lookups.old) context.now) context.now.name.now
         (W.state out.old) (W.state out.new) (E.state err.old) (E.state err.new)
         (probes_in words.now) result }
 {
-    match print_words(setup, lookups, words, out, err) {
+    match print_words(context, lookups, words, out, err) {
         Ok(()) => Exit::Done,
-        Err(stop) => tell_last(setup.name, stop, err),
+        Err(stop) => tell_last(context.name, stop, err),
     }
 }
 
 // Prints what addresses ask for.
 fn run_addresses<L: Lookups, W: Stream, E: Stream>(
-    setup: &Setup<'_>,
+    context: &RunContext<'_>,
     lookups: &mut L,
     addresses: &[u64],
     out: &mut W,
     err: &mut E,
 ) -> Exit
-    ensures gives { PrintsRun (IsText (L.answers lookups.old) setup.now) setup.now.name.now
+    ensures gives { PrintsRun (IsText (L.answers lookups.old) context.now) context.now.name.now
         (W.state out.old) (W.state out.new) (E.state err.old) (E.state err.new)
         (map Some addresses.now) result }
 {
-    match print_addresses(setup, lookups, addresses, out, err) {
+    match print_addresses(context, lookups, addresses, out, err) {
         Ok(()) => Exit::Done,
-        Err(stop) => tell_last(setup.name, stop, err),
+        Err(stop) => tell_last(context.name, stop, err),
     }
 }
 
 // Prints what the lines of an input ask for.
 fn run_lines<L: Lookups, I: Input, W: Stream, E: Stream>(
-    setup: &Setup<'_>,
+    context: &RunContext<'_>,
     lookups: &mut L,
     input: &mut I,
     out: &mut W,
     err: &mut E,
 ) -> Exit
-    ensures gives { PrintsLines (L.answers lookups.old) setup.now
+    ensures gives { PrintsLines (L.answers lookups.old) context.now
         (I.state input.old) (I.state input.new) (W.state out.old) (W.state out.new)
         (E.state err.old) (E.state err.new) result }
 {
-    match print_lines(setup, lookups, input, out, err) {
+    match print_lines(context, lookups, input, out, err) {
         Ok(()) => Exit::Done,
-        Err(stop) => tell_last(setup.name, stop, err),
+        Err(stop) => tell_last(context.name, stop, err),
     }
 }
 
 // Prints what the addresses of all rows ask for.
 fn run_all<L: Lookups, W: Stream, E: Stream>(
-    setup: &Setup<'_>,
+    context: &RunContext<'_>,
     lookups: &mut L,
     out: &mut W,
     err: &mut E,
 ) -> Exit
-    ensures gives { PrintsAllRows (L.answers lookups.old) setup.now
+    ensures gives { PrintsAllRows (L.answers lookups.old) context.now
         (W.state out.old) (W.state out.new) (E.state err.old) (E.state err.new) result }
 {
-    match all_addresses(setup.alloc, lookups) {
-        Ok(addresses) => run_addresses(setup, lookups, addresses.as_slice(), out, err),
-        Err(fault) => tell_addresses_fault(setup.name, fault, err),
+    match all_addresses(context.alloc, lookups) {
+        Ok(addresses) => run_addresses(context, lookups, addresses.as_slice(), out, err),
+        Err(fault) => tell_addresses_fault(context.name, fault, err),
     }
 }
 
 // Prints what is asked for.
 fn run_asked<L: Lookups, I: Input, W: Stream, E: Stream>(
-    setup: &Setup<'_>,
+    context: &RunContext<'_>,
     probes: &Probes,
     lookups: &mut L,
     input: &mut I,
     out: &mut W,
     err: &mut E,
 ) -> Exit
-    ensures gives { PrintsAsked (L.answers lookups.old) setup.now probes.now
+    ensures gives { PrintsAsked (L.answers lookups.old) context.now probes.now
         (I.state input.old) (I.state input.new) (W.state out.old) (W.state out.new)
         (E.state err.old) (E.state err.new) result }
 {
     match probes {
-        Probes::All => run_all(setup, lookups, out, err),
-        Probes::Words(words) => run_words(setup, lookups, words.as_slice(), out, err),
-        Probes::Lines => run_lines(setup, lookups, input, out, err),
+        Probes::All => run_all(context, lookups, out, err),
+        Probes::Words(words) => run_words(context, lookups, words.as_slice(), out, err),
+        Probes::Lines => run_lines(context, lookups, input, out, err),
     }
 }
 
@@ -152,13 +152,13 @@ fn section_of<'a, L: Lookups>(
 }
 
 // What is the same for each address.
-fn setup_of<'a>(alloc: Global, options: &'a Options, section: Option<Range>) -> Setup<'a>
-    ensures gives { IsSetup options.entry.now section result }
+fn run_context<'a>(alloc: Global, options: &'a Options, section: Option<Range>) -> RunContext<'a>
+    ensures gives { IsRunContext options.entry.now section result }
 {
-    Setup {
+    RunContext {
         alloc,
         name: options.name.as_str(),
-        style: options.style(),
+        style: options.style,
         section,
     }
 }
@@ -179,7 +179,7 @@ fn run_over<L: Lookups + Drop, I: Input, W: Stream, E: Stream>(
     let mut lookups = lookups;
     match section_of(&options.section, &lookups) {
         Ok(section) => run_asked(
-            &setup_of(alloc, options, section),
+            &run_context(alloc, options, section),
             &options.probes,
             &mut lookups,
             input,

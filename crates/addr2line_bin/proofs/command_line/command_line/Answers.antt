@@ -14,8 +14,8 @@ returns-in_err-matches-clause-refused c =
     err_weaker c.from_residual-in_err-matches.result _ _ c.from_residual-in_err-matches.ensures.1
     (λ e h. word_fault_of _ _ c.in_err-matches.field-0.0 e (faults_by _ _ command) told h)
 
-pub returns-in_err-matches-clause-taken : goal.returns-in_err-matches-clause-taken
-returns-in_err-matches-clause-taken c =
+pub returns-in_err-matches-clause-memory : goal.returns-in_err-matches-clause-memory
+returns-in_err-matches-clause-memory c =
     let command = c.in_ok-whole_command.ensures.gives in
     err_weaker c.from_residual-in_err-matches.result _ _ c.from_residual-in_err-matches.ensures.1
     (λ e h t k. taken_fault c.in_err-matches.field-0.0 e
@@ -29,7 +29,7 @@ returns-clause-gives c =
     ok_of_both c.request_of.result _ _ _ c.request_of.ensures.gives c.request_of.ensures.name
     (λ r asked named. record {
       taken = sym (faults_by _ _ command) ∙ parsed.kinds (is_free_by _ command);
-      name = ap string_bytes named ∙ c.in_ok-name.ensures.ok ∙ c.name_of.ensures.gives;
+      name = ap string_bytes named ∙ c.in_ok-name.ensures.ok ∙ c.program_name.ensures.gives;
       asked = subst (λ m. IsAsked m r) rows asked;
     })
 
@@ -42,8 +42,8 @@ returns-clause-refused c =
     IfErr-weaker c.request_of.result _ _
     (λ e h. unasked_fault _ e taken (subst (λ m. IsUnasked m e) rows h)) c.request_of.ensures.refused
 
-pub returns-clause-taken : goal.returns-clause-taken
-returns-clause-taken c =
+pub returns-clause-memory : goal.returns-clause-memory
+returns-clause-memory c =
     let command = c.in_ok-whole_command.ensures.gives in
     let rows = matches_by _ _ _ command (c.in_ok-matches.ensures.matches (is_simple_by _ command)).0 in
     IfErr-weaker c.request_of.result _ _

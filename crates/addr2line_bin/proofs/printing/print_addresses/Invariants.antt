@@ -11,4 +11,4 @@ invariant-loop-address g l =
     StaysAnswered first (g.L.Lookups.answers l.lookups)
     × ((done : List (Option ℕ))
     × (map Some l.addresses ≡ done ++ map Some (drop l.address-index l.addresses))
-    × PrintsOf (IsText first l.setup) (g.W.Stream.state l.fn.out) (g.W.Stream.state l.out) (g.E.Stream.state l.fn.err) (g.E.Stream.state l.err) done)
+    × PrintsOf (IsText first l.context) (g.W.Stream.state l.fn.out) (g.W.Stream.state l.out) (g.E.Stream.state l.fn.err) (g.E.Stream.state l.err) done)

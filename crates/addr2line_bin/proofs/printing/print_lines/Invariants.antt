@@ -18,4 +18,4 @@ invariant-loop g l =
     × ((i l.input).fault ≡ (i l.fn.input).fault)
     × ((i l.input).reads ≡ plus (i l.fn.input).reads (length lines))
     × ReadSoFar (i l.fn.input).bytes (i l.input).bytes lines
-    × PrintsOf (IsText first l.setup) (g.W.Stream.state l.fn.out) (g.W.Stream.state l.out) (g.E.Stream.state l.fn.err) (g.E.Stream.state l.err) (line_probes lines))
+    × PrintsOf (IsText first l.context) (g.W.Stream.state l.fn.out) (g.W.Stream.state l.out) (g.E.Stream.state l.fn.err) (g.E.Stream.state l.err) (line_probes lines))

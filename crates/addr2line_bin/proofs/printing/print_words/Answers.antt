@@ -13,14 +13,14 @@ use Rattle.addr2line_bin.proofs.printing.print_words.Goals as goal
 pub loop-word-init : goal.loop-word-init
 loop-word-init g c =
     let first = g.L.Lookups.answers c.args.lookups.now in
-    (stays_itself first, ([], refl, prints_none (IsText first c.args.setup.now) (g.W.Stream.state c.args.out.now) (g.E.Stream.state c.args.err.now)))
+    (stays_itself first, ([], refl, prints_none (IsText first c.args.context.now) (g.W.Stream.state c.args.out.now) (g.E.Stream.state c.args.err.now)))
 
-pub returns-in_err-step : goal.returns-in_err-step
-returns-in_err-step g c =
+pub returns-in_err-print_one : goal.returns-in_err-print_one
+returns-in_err-print_one g c =
     let inv = c.loop-word.invariant in
     let first = g.L.Lookups.answers c.args.lookups.now in
     let now = g.L.Lookups.answers c.loop-word.lookups in
-    let setup = c.args.setup.now in
+    let context = c.args.context.now in
     let o = g.W.Stream.state in
     let e = g.E.Stream.state in
     let probe = c.address_of-probe.result in
@@ -28,8 +28,8 @@ returns-in_err-step g c =
     let next = probes_next c.args.words.now c.loop-word.word-index c.word-item.result probe c.loop-word-test.true c.word-item.is (c.address_of-probe.ensures.gives ∙ ap address_in c.as_str.ensures.value) in
     let p = err_from_is_err_and c.from_residual.result c.from_residual.ensures.1 in
     record {
-      gives = rw (p.1, p.2) (ends_next (IsText now setup) (IsText first setup) (o c.args.out.now) (o c.loop-word.out) (o c.step.new.out) (e c.args.err.now) (e c.loop-word.err) (e c.step.new.err)
-          inv.1.0 (probe ∷ []) rest (probes_in c.args.words.now) _ (text_before first now inv.0 setup) inv.1.2 c.in_err-step.ensures.gives (inv.1.1 ∙ ap (λ xs. inv.1.0 ++ xs) next));
+      gives = rw (p.1, p.2) (ends_next (IsText now context) (IsText first context) (o c.args.out.now) (o c.loop-word.out) (o c.print_one.new.out) (e c.args.err.now) (e c.loop-word.err) (e c.print_one.new.err)
+          inv.1.0 (probe ∷ []) rest (probes_in c.args.words.now) _ (text_before first now inv.0 context) inv.1.2 c.in_err-print_one.ensures.gives (inv.1.1 ∙ ap (λ xs. inv.1.0 ++ xs) next));
     }
 
 pub loop-word-preserved : goal.loop-word-preserved
@@ -37,19 +37,19 @@ loop-word-preserved g c =
     let inv = c.loop-word.invariant in
     let first = g.L.Lookups.answers c.args.lookups.now in
     let now = g.L.Lookups.answers c.loop-word.lookups in
-    let new = g.L.Lookups.answers c.step.new.lookups in
-    let setup = c.args.setup.now in
+    let new = g.L.Lookups.answers c.print_one.new.lookups in
+    let context = c.args.context.now in
     let o = g.W.Stream.state in
     let e = g.E.Stream.state in
     let probe = c.address_of-probe.result in
     let rest = probes_in (drop (c.loop-word.word-index + 1) c.args.words.now) in
     let next = probes_next c.args.words.now c.loop-word.word-index c.word-item.result probe c.loop-word-test.true c.word-item.is (c.address_of-probe.ensures.gives ∙ ap address_in c.as_str.ensures.value) in (
-      stays_on first now new inv.0 c.in_ok-step.ensures.kept,
+      stays_on first now new inv.0 c.in_ok-print_one.ensures.kept,
       (
         inv.1.0 ++ probe ∷ [],
         inv.1.1 ∙ ap (λ xs. inv.1.0 ++ xs) next ∙ sym (append_assoc inv.1.0 (probe ∷ []) rest),
-        prints_next (IsText now setup) (IsText first setup) (o c.args.out.now) (o c.loop-word.out) (o c.step.new.out) (e c.args.err.now) (e c.loop-word.err) (e c.step.new.err)
-            inv.1.0 (probe ∷ []) (text_before first now inv.0 setup) inv.1.2 c.in_ok-step.ensures.gives,
+        prints_next (IsText now context) (IsText first context) (o c.args.out.now) (o c.loop-word.out) (o c.print_one.new.out) (e c.args.err.now) (e c.loop-word.err) (e c.print_one.new.err)
+            inv.1.0 (probe ∷ []) (text_before first now inv.0 context) inv.1.2 c.in_ok-print_one.ensures.gives,
       ),
     )
 
@@ -63,5 +63,5 @@ returns g c =
     let none : drop c.loop-word.word-index c.args.words.now ≡ [] = drop_all c.loop-word.word-index c.args.words.now past in
     let all : probes_in c.args.words.now ≡ inv.1.0 = inv.1.1 ∙ ap (λ ws. inv.1.0 ++ probes_in ws) none ∙ append-nil inv.1.0 in
     record {
-      gives = subst (λ ps. PrintsOf (IsText first c.args.setup.now) (o c.args.out.now) (o c.loop-word.out) (e c.args.err.now) (e c.loop-word.err) ps) (sym all) inv.1.2;
+      gives = subst (λ ps. PrintsOf (IsText first c.args.context.now) (o c.args.out.now) (o c.loop-word.out) (e c.args.err.now) (e c.loop-word.err) ps) (sym all) inv.1.2;
     }

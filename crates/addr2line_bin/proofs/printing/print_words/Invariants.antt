@@ -12,4 +12,4 @@ invariant-loop-word g l =
     StaysAnswered first (g.L.Lookups.answers l.lookups)
     × ((done : List (Option ℕ))
     × (probes_in l.words ≡ done ++ probes_in (drop l.word-index l.words))
-    × PrintsOf (IsText first l.setup) (g.W.Stream.state l.fn.out) (g.W.Stream.state l.out) (g.E.Stream.state l.fn.err) (g.E.Stream.state l.err) done)
+    × PrintsOf (IsText first l.context) (g.W.Stream.state l.fn.out) (g.W.Stream.state l.out) (g.E.Stream.state l.fn.err) (g.E.Stream.state l.err) done)

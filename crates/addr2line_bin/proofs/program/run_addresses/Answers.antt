@@ -8,7 +8,7 @@ returns-in-Ok g c = record { gives = inl (c.in-Ok.ensures.gives, refl) }
 
 pub returns-in-Err : goal.returns-in-Err
 returns-in-Err g c =
-    let Is = IsText (g.L.Lookups.answers c.args.lookups.now) c.args.setup.now in
+    let Is = IsText (g.L.Lookups.answers c.args.lookups.now) c.args.context.now in
     let o = g.W.Stream.state in
     let e = g.E.Stream.state in
     record {

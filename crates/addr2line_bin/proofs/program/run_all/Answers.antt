@@ -8,7 +8,7 @@ pub returns-in-Ok : goal.returns-in-Ok
 returns-in-Ok g c =
     let a = g.L.Lookups.answers c.args.lookups.now in
     let b = g.L.Lookups.answers c.all_addresses.new.lookups in
-    let setup = c.args.setup.now in
+    let context = c.args.context.now in
     let o = g.W.Stream.state in
     let e = g.E.Stream.state in
     let items = c.in-Ok.addresses.items in
@@ -16,7 +16,7 @@ returns-in-Ok g c =
       gives = inl (
         items,
         c.in-Ok.ensures.gives,
-        run_before (IsText b setup) (IsText a setup) (text_before a b c.all_addresses.ensures.kept setup) setup.name.now (o c.args.out.now) (o c.run_addresses.new.out) (e c.args.err.now) (e c.run_addresses.new.err)
+        run_before (IsText b context) (IsText a context) (text_before a b c.all_addresses.ensures.kept context) context.name.now (o c.args.out.now) (o c.run_addresses.new.out) (e c.args.err.now) (e c.run_addresses.new.err)
             (map Some items) c.run_addresses.result (rw c.as_slice.ensures.value at c.run_addresses.ensures.gives),
       );
     }

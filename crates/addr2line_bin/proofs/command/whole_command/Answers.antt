@@ -1,0 +1,15 @@
+-- Each part adds its rules, in turn.
+use Rattle.std.proofs.Common.{◌∙◌, ap}
+use Rattle.std.proofs.lemmas.Result.{IfOk-weaker}
+use Rattle.addr2line_bin.specs.Command.{address_words, with_lookup_options, with_style_options}
+use Rattle.addr2line_bin.proofs.CommandLemmas.{adds_next}
+use Rattle.addr2line_bin.proofs.command.whole_command.Goals as goal
+
+pub returns : goal.returns
+returns c =
+    let words = adds_next address_words c.in_ok-c-2.ensures.gives c.in_ok-c.ensures.gives in
+    let looked_up = c.in_ok-c-3.ensures.gives ∙ ap with_lookup_options words in
+    record {
+      gives = IfOk-weaker c.with_style_options.result _ _ (λ m adds. adds ∙ ap with_style_options looked_up)
+          c.with_style_options.ensures.gives;
+    }

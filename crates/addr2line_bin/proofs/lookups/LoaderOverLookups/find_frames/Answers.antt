@@ -1,0 +1,17 @@
+use Rattle.std.proofs.Common.{refl}
+use Rattle.addr2line.specs.Loader.{seen_loader}
+use Rattle.addr2line_bin.proofs.LoaderLemmas.{gives_frames, same_after_loads}
+use Rattle.addr2line_units.specs.FramesLeft.{frames_left}
+use Rattle.addr2line_bin.proofs.lookups.LoaderOverLookups.find_frames.Goals as goal
+
+pub returns : goal.returns
+returns g c =
+    let files = g.F.FileSource.files in
+    let loader = c.args.self.now in (
+      (
+        refl,
+        (λ _. tt),
+        same_after_loads frames_left c.args.probe c.find_frames.result (seen_loader files loader) (seen_loader files c.find_frames.follows.lender-at-none) c.find_frames.follows.holds-at-none,
+      ),
+      record { gives = gives_frames frames_left (seen_loader files loader) c.args.probe c.find_frames.result c.find_frames.ensures.gives c.find_frames.ensures.ended c.find_frames.ensures.last c.find_frames.ensures.exact; kept = tt },
+    )

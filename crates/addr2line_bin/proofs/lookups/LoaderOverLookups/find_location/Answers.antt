@@ -1,0 +1,13 @@
+use Rattle.std.proofs.Common.{refl}
+use Rattle.addr2line_lines.specs.SeenLocation.{seen_location}
+use Rattle.addr2line.specs.Loader.{seen_loader}
+use Rattle.addr2line_bin.proofs.LoaderLemmas.{finds, same_after_location}
+use Rattle.addr2line_bin.proofs.lookups.LoaderOverLookups.find_location.Goals as goal
+
+pub returns : goal.returns
+returns g c =
+    let files = g.F.FileSource.files in
+    let found = c.find_location.ensures in (
+      (refl, (λ _. tt), same_after_location c.args.probe c.find_location.result (seen_loader files c.args.self.now) (seen_loader files c.find_location.follows.lender-at-none) c.find_location.follows.holds-at-none),
+      record { gives = finds seen_location c.args.self.now.context c.args.probe c.find_location.result found.gives found.exact found.last; kept = tt },
+    )

@@ -1,0 +1,74 @@
+-- The whole run: from the words of the command line to the status of the program.
+-- Own: where the words can't be had, the program has the name that it has without any, and they are
+-- misuse unless memory was refused for them.
+use Rattle.std.specs.Prelude.{◌≡◌, ◌⊎◌, ℕ, List, [], Option, IfOk, IfSome, Result, Ok, Err, Vec}
+use Rattle.std.specs.Prelude.{option_map, string_bytes}
+use Rattle.std.specs.declared.string.String.{String}
+use Rattle.std.specs.declared.alloc.Global.{Global}
+use Rattle.std.specs.declared.alloc.AllocError.{AllocError}
+use Rattle.std.specs.declared.io.ErrorKind.{ErrorKind}
+use Rattle.std.specs.declared.io.ErrorKind.TheVariants as kind
+use Rattle.elf.specs.Loading.{Loading, LoadsUnlessOom}
+use Rattle.addr2line.specs.Files.{Files}
+use Rattle.addr2line.specs.Loaded.{loaded}
+use Rattle.addr2line.specs.Loader.{seen_loader}
+use Rattle.addr2line.specs.declared.loader.LoaderOver.{LoaderOver}
+use Rattle.addr2line_bin.specs.CommandLine.{IsRefusal, IsRequest}
+use Rattle.addr2line_bin.specs.InputLines.{InputState}
+use Rattle.addr2line_bin.specs.LoaderAnswers.{loader_answers}
+use Rattle.addr2line_bin.specs.Print.{last_text}
+use Rattle.addr2line_bin.specs.ProgramName.{program_name}
+use Rattle.addr2line_bin.specs.ProgramRun.{IsRun, OnlyFails, status_at}
+use Rattle.addr2line_bin.specs.Put.{OnlyReports, StreamState}
+use Rattle.addr2line_bin.specs.Told.{usage_text}
+use Rattle.addr2line_bin.specs.WordAnswers.{AnswersFault, TellsNoMemory}
+use Rattle.addr2line_bin.specs.declared.command_line.Request.{Request}
+use Rattle.addr2line_bin.specs.declared.command_line.WordFault.{WordFault}
+use Rattle.addr2line_bin.specs.declared.exit.Exit.{Exit}
+use Rattle.addr2line_bin.specs.declared.exit.TheConstants.{USAGE_STATUS}
+use Rattle.addr2line_bin.specs.declared.stream.StopReason.TheVariants as stop
+
+-- a loader over the files, or the fault of its loading: what they say, where they are known
+abbrev pub IsLoaded : {F : Type 0} → (F → Option Files) → F → Request → Loading (LoaderOver F)
+    → Type 0
+IsLoaded known files request loader =
+    IfSome (known files) (λ held. LoadsUnlessOom (λ l. (l.object, l.context)) loader
+    (loaded held (string_bytes request.exe) (option_map string_bytes request.sup)))
+    × IfOk loader (λ l. l.files ≡ files)
+
+-- what is asked of the files that a request names is printed
+abbrev pub RunsRequest : {F : Type 0} → (F → Option Files) → F → Request → InputState → InputState
+    → StreamState → StreamState → StreamState → StreamState → Exit → Type 0
+RunsRequest {F} known files request io inn oo on eo en e = (loader : Loading (LoaderOver F))
+    × IsLoaded known files request loader
+    × IsRun (λ l. loader_answers (seen_loader known l)) loader request.options io inn oo on eo en e
+
+-- the same with an input, where there is memory for one; the input isn't seen afterwards
+abbrev pub RunsWith : {F I : Type 0} → (F → Option Files) → F → Request → (I → InputState)
+    → Result I AllocError → StreamState → StreamState → StreamState → StreamState → Exit → Type 0
+RunsWith known files request state (Ok input) oo on eo en e =
+    (inn : InputState) × RunsRequest known files request (state input) inn oo on eo en e
+RunsWith known files request state (Err _) oo on eo en e =
+    OnlyFails oo on eo en (last_text (string_bytes request.options.name) stop.OutOfMemory) e
+
+-- words are answered: what they ask for is printed, or why there is nothing that they ask for
+abbrev pub AnswersCommand : {F I : Type 0} → (F → Option Files) → F → List (String Global)
+    → (I → InputState) → Result I AllocError → StreamState → StreamState → StreamState
+    → StreamState → ℕ → Type 0
+AnswersCommand known files words state input oo on eo en status =
+    ((request : Request) × IsRequest words request
+    × ((e : Exit) × RunsWith known files request state input oo on eo en e
+    × (status ≡ status_at e)))
+    ⊎ ((fault : WordFault) × IsRefusal words fault
+    × AnswersFault (program_name words) fault oo on eo en status)
+
+-- the same, or it is told that there are no words
+abbrev pub IsWholeRun : {F I : Type 0} → (F → Option Files) → F
+    → Result (Vec (String Global) Global) ErrorKind → (I → InputState) → Result I AllocError
+    → StreamState → StreamState → StreamState → StreamState → ℕ → Type 0
+IsWholeRun known files (Ok words) state input oo on eo en status =
+    AnswersCommand known files words.items state input oo on eo en status
+IsWholeRun known files (Err kind.OutOfMemory) state input oo on eo en status =
+    TellsNoMemory (program_name []) oo on eo en status
+IsWholeRun known files (Err _) state input oo on eo en status =
+    OnlyReports oo on eo en (usage_text (program_name [])) × (status ≡ USAGE_STATUS)

@@ -1,13 +1,20 @@
-use Rattle.std.proofs.Common.{◌∙◌, refl, sym}
+use Rattle.std.proofs.Common.{◌∙◌, option_map, string_bytes, sym}
 use Rattle.std.proofs.lemmas.Result.{on_ok_weaker}
-use Rattle.addr2line_bin.specs.ProbeTexts.{GivesFrames, GivesLocation, asked_symbol}
+use Rattle.std.specs.Option.{option_copied}
+use Rattle.gimli_read.specs.Reading.{result_map}
+use Rattle.addr2line_lines.specs.SeenLocation.{seen_location}
+use Rattle.addr2line_units.specs.FramesLeft.{frames_left}
+use Rattle.addr2line_bin.specs.ProbeTexts.{GivesFrames, GivesLocation}
+use Rattle.addr2line_bin.proofs.CommandLemmas.{deref_text}
 use Rattle.addr2line_bin.proofs.probe_text.push_given.Goals as goal
 
-pub returns-then-asks_frames-clause-gives : goal.returns-then-asks_frames-clause-gives
-returns-then-asks_frames-clause-gives g c =
-    let symbol = asked_symbol c.args.context.now.style ((g.L.Lookups.answers c.args.lookups.now).symbol_at c.args.address) in
-    on_ok_weaker c.push_frames_at.result (λ p. (GivesFrames p.0 symbol, (sym c.asks_frames.ensures.gives ∙ c.if-asks_frames.true, p.1, refl), p.2, p.3)) c.push_frames_at.ensures.gives
+pub returns-then-not-asks_frames-clause-gives : goal.returns-then-not-asks_frames-clause-gives
+returns-then-not-asks_frames-clause-gives g c =
+    let found = result_map (option_map seen_location) c.find_location.result in
+    on_ok_weaker c.push_found.result (λ p. (GivesLocation found, (sym c.asks_frames.ensures.gives ∙ c.if-not-asks_frames.true, c.find_location.ensures.gives), p)) c.push_found.ensures.gives
 
 pub returns-clause-gives : goal.returns-clause-gives
 returns-clause-gives g c =
-    on_ok_weaker c.push_location_at.result (λ p. (GivesLocation p.0, (sym c.asks_frames.ensures.gives ∙ c.if-asks_frames.false, p.1), p.2, p.3)) c.push_location_at.ensures.gives
+    let frames = result_map frames_left c.find_frames.result in
+    let lent = deref_text string_bytes c.in_ok-symbol.symbol c.as_deref-symbol.result c.as_deref-symbol.ensures.cases in
+    on_ok_weaker c.push_found_frames.result (λ p. (GivesFrames frames (option_copied c.as_deref-symbol.result), (sym c.asks_frames.ensures.gives ∙ c.if-not-asks_frames.false, c.find_frames.ensures.gives, lent ∙ c.in_ok-symbol.ensures.gives), p)) c.push_found_frames.ensures.gives

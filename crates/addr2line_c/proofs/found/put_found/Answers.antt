@@ -14,7 +14,9 @@ returns-in-Ok-Some c =
     let new = c.put_location.new in
     let empty : IsFilled 0 c.args.buffer.now (joined []) = record { needed = refl; front = λ _. refl } in
     let found : c.args.found ≡ Ok (Some c.in-Ok-Some.location) = search rules in
-    record { gives = λ given told.
-        let is : given ≡ Ok (Some l) = subst (λ r. ExactlyUnlessOom (option_map seen_location) r given) found told in
-        says_there (of_file given) (IsWrittenLocation c.put_location.result new.buffer new.used) (nat_le new.used (length new.buffer)) c.done_if.result c.done_if.ensures.gives
-        (l, ap of_file is, record { parts = c.put_location.ensures.part [] empty; texts = c.put_location.ensures.gives [] empty }) }
+    record {
+      gives = λ given told.
+          let is : given ≡ Ok (Some l) = subst (λ r. ExactlyUnlessOom (option_map seen_location) r given) found told in
+          says_there (of_file given) (IsWrittenLocation c.put_location.result new.buffer new.used) (nat_le new.used (length new.buffer)) c.done_if.result c.done_if.ensures.gives
+          (l, ap of_file is, record { parts = c.put_location.ensures.part [] empty; texts = c.put_location.ensures.gives [] empty });
+    }

@@ -4,6 +4,8 @@
 #[cfg(test)]
 mod answers;
 #[cfg(test)]
+mod compressed;
+#[cfg(test)]
 mod damage;
 #[cfg(test)]
 mod growths;

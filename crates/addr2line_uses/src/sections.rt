@@ -12,7 +12,7 @@ use std::alloc::Global;
 pub type NamedSection<'a> = (&'a str, &'a [u8]);
 
 // The bytes of a section; a section that isn't there is empty.
-fn bytes_of<'a>(sections: &[NamedSection<'a>], id: SectionId) -> &'a [u8] {
+fn bytes_of<'a>(sections: &'a [NamedSection<'a>], id: SectionId) -> &'a [u8] {
     for (name, bytes) in sections {
         if *name == id.name() {
             return bytes;
@@ -24,7 +24,7 @@ fn bytes_of<'a>(sections: &[NamedSection<'a>], id: SectionId) -> &'a [u8] {
 /// The context of sections of a file of little endian. The sections are borrowed, none is copied.
 pub fn context_of<'a>(
     alloc: Global,
-    sections: &[NamedSection<'a>],
+    sections: &'a [NamedSection<'a>],
 ) -> Result<Context<EndianSlice<'a>>, Error> {
     let dwarf = Dwarf::load(|id| -> Result<EndianSlice<'_>, Error> {
         Ok(EndianSlice::new(bytes_of(sections, id), RunTimeEndian::Little))

@@ -69,6 +69,9 @@ static void print_backtrace(void)
 
 static volatile int depth_wanted = 3;
 
+/* Written after each call, so that no compiler makes a loop of the recursion. */
+static volatile int reached;
+
 static __inline__ __attribute__((always_inline)) void inlined_into_descend(int left)
 {
     if (left == 0) {
@@ -82,6 +85,7 @@ static __attribute__((noinline)) int descend(int left)
     inlined_into_descend(left);
     if (left > 0) {
         below = descend(left - 1);
+        reached = below;
     }
     return below + left;
 }

@@ -2,21 +2,13 @@
 
 use addr2line::gimli::Dwarf;
 use addr2line::gimli::read::Reader;
-use addr2line::{Context, Loader, Location};
+use addr2line::{Context, Frame, FrameIter, Loader, Location};
 
 /// Prints the functions at an address of the ELF file at `path`, the innermost first, each with its
 /// file and line.
 pub fn print_frames(rt: HostRuntime, path: &str, address: u64) -> anyhow::Result<()> {
     let mut loader = Loader::new(rt, path)?;
-    let mut frames = loader.find_frames(address)?;
-    while let Some(frame) = frames.next()? {
-        if let Some(function) = &frame.function {
-            print!(rt; "{} at ", function.demangle(rt.alloc())?)?;
-        }
-        let (file, line) = file_and_line(frame.location);
-        println!(rt; "{file}:{line}")?;
-    }
-    Ok(())
+    print_each(rt, loader.find_frames(address)?)
 }
 
 /// The same over sections that stand in memory. A unit that waits for a split file counts as one
@@ -27,14 +19,23 @@ pub fn print_frames_of<R: Reader>(
     address: u64,
 ) -> anyhow::Result<()> {
     let mut context = Context::from_dwarf(rt.alloc(), dwarf)?;
-    let mut frames = context.find_frames(address).skip_all_loads()?;
+    print_each(rt, context.find_frames(address).skip_all_loads()?)
+}
+
+fn print_each<R: Reader>(rt: HostRuntime, frames: FrameIter<'_, R>) -> anyhow::Result<()> {
+    let mut frames = frames;
     while let Some(frame) = frames.next()? {
-        if let Some(function) = &frame.function {
-            print!(rt; "{} at ", function.demangle(rt.alloc())?)?;
-        }
-        let (file, line) = file_and_line(frame.location);
-        println!(rt; "{file}:{line}")?;
+        print_frame(rt, &frame)?;
     }
+    Ok(())
+}
+
+fn print_frame<R: Reader>(rt: HostRuntime, frame: &Frame<'_, R>) -> anyhow::Result<()> {
+    if let Some(function) = &frame.function {
+        print!(rt; "{} at ", function.demangle(rt.alloc())?)?;
+    }
+    let (file, line) = file_and_line(frame.location);
+    println!(rt; "{file}:{line}")?;
     Ok(())
 }
 

@@ -49,20 +49,25 @@ fn counted<R: Reader>(frames: FrameIter<'_, R>) -> Counted {
     (count, [first, second, last])
 }
 
-// The frames at 0x18 of a unit without lines; nines where there are none.
+// The frames at 0x18; nines where there are none, eights where they wait.
+fn counted_in<R: Reader>(context: &mut Context<R>) -> Counted {
+    match context.find_frames(0x18) {
+        LookupResult::Output(Ok(frames)) => counted(frames),
+        LookupResult::Output(Err(_)) => (9, [[9; 3]; 3]),
+        LookupResult::Load { continuation } => {
+            continuation.abandon();
+            (9, [[8; 3]; 3])
+        }
+    }
+}
+
+// The frames of a unit without lines; nines where there is no context.
 fn counted_at(alloc: Global, info: &[u8]) -> Counted {
     let sections = borrowed(three_sections(RANGED, info, &[]), DwarfFileType::Main);
     match Context::from_dwarf(alloc, sections) {
         Ok(context) => {
             let mut context = context;
-            match context.find_frames(0x18) {
-                LookupResult::Output(Ok(frames)) => counted(frames),
-                LookupResult::Output(Err(_)) => (9, [[9; 3]; 3]),
-                LookupResult::Load { continuation } => {
-                    continuation.abandon();
-                    (9, [[8; 3]; 3])
-                }
-            }
+            counted_in(&mut context)
         }
         Err(_) => (9, [[9; 3]; 3]),
     }

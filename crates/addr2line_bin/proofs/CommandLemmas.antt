@@ -1,5 +1,5 @@
 -- Lemmas on the words of the command line (specs/CommandLine): matches and their rows, and faults.
-use Rattle.std.proofs.Common.{◌≡◌, ◌∙◌, ap, refl, sym, subst, inl, inr, true, false, List, []}
+use Rattle.std.proofs.Common.{◌≡◌, ◌∙◌, ap, refl, sym, subst, inl, inr, true, false, ℕ, List, [], Bor}
 use Rattle.std.proofs.Common.{Result, Ok, Err, IfErr, IfOk, IsErrAnd, Option, Some, None, IsSomeAnd, MatchOption, option_map}
 use Rattle.std.specs.Option.{option_copied}
 use Rattle.clap.specs.Words.{App, Rule, Text, is_simple, is_simple_and_free, takes, with_rule}

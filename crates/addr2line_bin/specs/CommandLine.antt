@@ -1,7 +1,7 @@
 -- What the words of the command line ask for, by the matches of the command that takes them.
 -- Own: `-e` has a value; `--all` stands beside no address word; where neither `--all` nor an
 -- address word stands, the lines of standard input are asked for.
-use Rattle.std.specs.Prelude.{◌≡◌, ◌≢◌, ◌⊎◌, ℕ, Bool, true, false, ◌&&◌, not, List, [], map}
+use Rattle.std.specs.Prelude.{◌≡◌, ◌≢◌, ◌⊎◌, Bool, true, false, ◌&&◌, not, List, [], map}
 use Rattle.std.specs.Prelude.{Some, None, is_some, option_map, codes, string_bytes}
 use Rattle.std.specs.Option.{option_map_or}
 use Rattle.std.specs.Str.{bytes_eq}

@@ -1,7 +1,7 @@
 -- The whole run: from the words of the command line to the status of the program.
 -- Own: where the words can't be had, the program has the name that it has without any, and they are
 -- misuse unless memory was refused for them.
-use Rattle.std.specs.Prelude.{◌≡◌, ◌⊎◌, ℕ, List, [], Option, IfOk, IfSome, Result, Ok, Err, Vec}
+use Rattle.std.specs.Prelude.{◌≡◌, ◌≢◌, ◌⊎◌, ℕ, List, [], Option, IfOk, IfSome, Result, Ok, Err, Vec}
 use Rattle.std.specs.Prelude.{option_map, string_bytes}
 use Rattle.std.specs.declared.string.String.{String}
 use Rattle.std.specs.declared.alloc.Global.{Global}
@@ -68,7 +68,7 @@ abbrev pub IsWholeRun : {F I : Type 0} → (F → Option Files) → F
     → StreamState → StreamState → StreamState → StreamState → ℕ → Type 0
 IsWholeRun known files (Ok words) state input oo on eo en status =
     AnswersCommand known files words.items state input oo on eo en status
-IsWholeRun known files (Err kind.OutOfMemory) state input oo on eo en status =
-    TellsNoMemory (program_name []) oo on eo en status
-IsWholeRun known files (Err _) state input oo on eo en status =
-    OnlyReports oo on eo en (usage_text (program_name [])) × (status ≡ USAGE_STATUS)
+IsWholeRun known files (Err fault) state input oo on eo en status =
+    ((fault ≡ kind.OutOfMemory) × TellsNoMemory (program_name []) oo on eo en status)
+    ⊎ ((fault ≢ kind.OutOfMemory)
+    × OnlyReports oo on eo en (usage_text (program_name [])) × (status ≡ USAGE_STATUS))

@@ -8,7 +8,7 @@ ghost use Rattle.addr2line_bin.specs.ProgramRun.{status_at};
 ghost use Rattle.addr2line_bin.specs.Told.{load_fault_text, usage_text};
 ghost use Rattle.addr2line_bin.specs.declared.exit.Exit.TheVariants as exit;
 
-use crate::stream::{StopReason, Stream, tell, tell_both};
+use crate::stream::{StopReason, Stream, tell_both};
 use addr2line::LoaderError;
 use std::process::ExitCode;
 
@@ -20,9 +20,6 @@ pub const FAILED_STATUS: u8 = 1;
 
 /// The status of words that ask for nothing.
 pub const USAGE_STATUS: u8 = 2;
-
-/// What follows the program's name where it is said how it is used.
-pub const SYNOPSIS: &str = " -e FILE [OPTION].. [ADDR..]";
 
 /// How a run ends.
 #[derive(Clone, Copy, Debug, PartialEq, Eq)]
@@ -80,6 +77,5 @@ pub fn tell_usage<E: Stream>(name: &str, err: &mut E)
     ensures err { Reports (E.state err.old) (E.state err.new) (usage_text name.now) }
 {
     tell_both(err, name, ": usage: ");
-    tell_both(err, name, SYNOPSIS);
-    tell(err, "\n");
+    tell_both(err, name, " -e FILE [OPTION].. [ADDR..]\n");
 }

@@ -6,8 +6,8 @@ use crate::tests::runs::run_files;
 use crate::tests::streams::{Streams, failing, words};
 use crate::whole_run::run_program;
 use addr2line::MemoryFiles;
-use std::alloc::AllocError;
-use std::io::ErrorKind;
+use std::alloc::{AllocError, Global};
+use std::io::{Empty, ErrorKind};
 use std::process::ExitCode;
 use std::test::Fail;
 
@@ -134,34 +134,33 @@ fn help_that_cannot_be_written_is_told(rt: HostRuntime) -> Result<(), Fail> {
     Ok(())
 }
 
-// Where there are no words, and where there is no memory for the input.
+// Whether a run by these words, without memory for its input, only tells this and ends so.
+fn is_told(
+    alloc: Global,
+    given: Result<Vec<String>, ErrorKind>,
+    line: &str,
+    status: u8,
+) -> Result<bool, Fail> {
+    let mut streams = Streams::sound(alloc);
+    let input: Result<ReaderInput<Empty>, AllocError> = Err(AllocError);
+    let got = run_program(
+        alloc,
+        MemoryFiles::new(alloc),
+        given,
+        input,
+        &mut streams.out,
+        &mut streams.err,
+    );
+    Ok(got == ExitCode::from(status) && streams.have("", line))
+}
+
 #[test]
 fn words_or_an_input_that_cannot_be_had_are_told(rt: HostRuntime) -> Result<(), Fail> {
     let usage = "addr2line: usage: addr2line -e FILE [OPTION].. [ADDR..]\n";
-    let cases = [
-        (Err(ErrorKind::InvalidData), usage, 2),
-        (Err(ErrorKind::OutOfMemory), "addr2line: out of memory\n", 1),
-        (Ok(["/bin/a2l", "-e", "f"]), "a2l: out of memory\n", 1),
-    ];
-    for (given, err, status) in cases {
-        let mut streams = Streams::sound(rt.alloc());
-        let given = match given {
-            Ok(given) => Ok(words(rt.alloc(), &given)?),
-            Err(kind) => Err(kind),
-        };
-        let input: Result<ReaderInput<&[u8]>, AllocError> = Err(AllocError);
-        let got = run_program(
-            rt.alloc(),
-            MemoryFiles::new(rt.alloc()),
-            given,
-            input,
-            &mut streams.out,
-            &mut streams.err,
-        );
-        assert!(rt;
-            got == ExitCode::from(status) && streams.have("", err),
-            "{err}"
-        );
-    }
+    let refused = "addr2line: out of memory\n";
+    assert!(rt; is_told(rt.alloc(), Err(ErrorKind::InvalidData), usage, 2)?);
+    assert!(rt; is_told(rt.alloc(), Err(ErrorKind::OutOfMemory), refused, 1)?);
+    let given = words(rt.alloc(), &["/bin/a2l", "-e", "f"])?;
+    assert!(rt; is_told(rt.alloc(), Ok(given), "a2l: out of memory\n", 1)?);
     Ok(())
 }

@@ -9,21 +9,21 @@ use Rattle.addr2line_bin.proofs.command_line.command_line.Goals as goal
 
 pub returns-in_err-matches-clause-refused : goal.returns-in_err-matches-clause-refused
 returns-in_err-matches-clause-refused c =
-    let command = c.in_ok-whole_command.ensures.gives in
+    let command = c.in_ok-command.ensures.gives in
     let told = c.in_err-matches.ensures.kinds (is_free_by _ command) in
     err_weaker c.from_residual-in_err-matches.result _ _ c.from_residual-in_err-matches.ensures.1
     (λ e h. word_fault_of _ _ c.in_err-matches.field-0.0 e (faults_by _ _ command) told h)
 
 pub returns-in_err-matches-clause-memory : goal.returns-in_err-matches-clause-memory
 returns-in_err-matches-clause-memory c =
-    let command = c.in_ok-whole_command.ensures.gives in
+    let command = c.in_ok-command.ensures.gives in
     err_weaker c.from_residual-in_err-matches.result _ _ c.from_residual-in_err-matches.ensures.1
     (λ e h t k. taken_fault c.in_err-matches.field-0.0 e
     (c.in_err-matches.ensures.passes (taken_by _ _ command t)) h)
 
 pub returns-clause-gives : goal.returns-clause-gives
 returns-clause-gives c =
-    let command = c.in_ok-whole_command.ensures.gives in
+    let command = c.in_ok-command.ensures.gives in
     let parsed = c.in_ok-matches.ensures in
     let rows = matches_by _ _ _ command (parsed.matches (is_simple_by _ command)).0 in
     ok_of_both c.request_of.result _ _ _ c.request_of.ensures.gives c.request_of.ensures.name
@@ -35,7 +35,7 @@ returns-clause-gives c =
 
 pub returns-clause-refused : goal.returns-clause-refused
 returns-clause-refused c =
-    let command = c.in_ok-whole_command.ensures.gives in
+    let command = c.in_ok-command.ensures.gives in
     let parsed = c.in_ok-matches.ensures in
     let rows = matches_by _ _ _ command (parsed.matches (is_simple_by _ command)).0 in
     let taken = sym (faults_by _ _ command) ∙ parsed.kinds (is_free_by _ command) in
@@ -44,7 +44,7 @@ returns-clause-refused c =
 
 pub returns-clause-memory : goal.returns-clause-memory
 returns-clause-memory c =
-    let command = c.in_ok-whole_command.ensures.gives in
+    let command = c.in_ok-command.ensures.gives in
     let rows = matches_by _ _ _ command (c.in_ok-matches.ensures.matches (is_simple_by _ command)).0 in
     IfErr-weaker c.request_of.result _ _
     (λ e h t k. complete_fault (matches_in _) e (subst (λ m. IsUnasked m e) rows h) k)

@@ -1,8 +1,5 @@
-use Rattle.std.proofs.Common.{inl, inr}
+use Rattle.std.proofs.Common.{inl}
 use Rattle.addr2line_bin.proofs.whole_run.answer_command.Goals as goal
 
 pub returns-in-Ok : goal.returns-in-Ok
 returns-in-Ok g c = record { gives = inl (c.in-Ok.request, c.in-Ok.ensures.gives, (c.run_with.result, c.run_with.ensures.gives, c.status_of.ensures.gives)) }
-
-pub returns-in-Err : goal.returns-in-Err
-returns-in-Err g c = record { gives = inr (c.in-Err.fault, (c.in-Err.ensures.refused, c.in-Err.ensures.memory), rw c.program_name.ensures.gives at c.answer_fault.ensures.gives) }

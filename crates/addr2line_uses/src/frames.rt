@@ -1,24 +1,19 @@
 //! The functions that stand at an address, inlined ones included.
 
-use addr2line::gimli::Dwarf;
 use addr2line::gimli::read::Reader;
 use addr2line::{Context, Frame, FrameIter, Loader, Location};
 
-/// Prints the functions at an address of the ELF file at `path`, the innermost first, each with its
-/// file and line.
-pub fn print_frames(rt: HostRuntime, path: &str, address: u64) -> anyhow::Result<()> {
-    let mut loader = Loader::new(rt, path)?;
+/// Prints the functions at an address of a file, the innermost first, each with its file and line.
+pub fn print_frames(rt: HostRuntime, loader: &mut Loader, address: u64) -> anyhow::Result<()> {
     print_each(rt, loader.find_frames(address)?)
 }
 
-/// The same over sections that stand in memory. A unit that waits for a split file counts as one
-/// without.
+/// The same of a context. A unit that waits for a split file counts as one without.
 pub fn print_frames_of<R: Reader>(
     rt: HostRuntime,
-    dwarf: Dwarf<R>,
+    context: &mut Context<R>,
     address: u64,
 ) -> anyhow::Result<()> {
-    let mut context = Context::from_dwarf(rt.alloc(), dwarf)?;
     print_each(rt, context.find_frames(address).skip_all_loads()?)
 }
 

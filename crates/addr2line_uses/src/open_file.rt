@@ -1,18 +1,16 @@
 //! A file opened in one call.
 
 use crate::frames::file_and_line;
-use addr2line::{Loader, Location};
-use std::io;
+use addr2line::{Loader, LoaderError};
 
-/// Prints the file and line of an address of the ELF file at `path`.
-pub fn print_location(rt: HostRuntime, path: &str, address: u64) -> anyhow::Result<()> {
-    let mut loader = Loader::new(rt, path)?;
-    let location = loader.find_location(address)?;
-    print_place(rt, location)?;
-    Ok(())
+/// The ELF file at a path, with its debug information.
+pub fn open_file(rt: HostRuntime, path: &str) -> Result<Loader, LoaderError> {
+    Loader::new(rt, path)
 }
 
-fn print_place(rt: HostRuntime, location: Option<Location<'_>>) -> io::Result<()> {
-    let (file, line) = file_and_line(location);
-    println!(rt; "{file}:{line}")
+/// Prints the file and line of an address.
+pub fn print_location(rt: HostRuntime, loader: &mut Loader, address: u64) -> anyhow::Result<()> {
+    let (file, line) = file_and_line(loader.find_location(address)?);
+    println!(rt; "{file}:{line}")?;
+    Ok(())
 }

@@ -1,15 +1,14 @@
-//! Each use that prints nothing, once, over `plain`: lines 1 and 3 of [0x10, 0x30), no function.
+//! Each use that prints nothing and answers no split file, once, over `plain`: lines 1 and 3 of
+//! [0x10, 0x30), no function.
 
-use crate::address_range::{LineRun, lines_between};
+use crate::address_range::lines_between;
 use crate::recorded_calls::replies_at;
 use crate::samples::{depth_at, warm_up};
 use crate::sections::{NamedSection, context_of, line_at};
-use crate::split_files::{SplitFile, frames_at};
-use addr2line::Reply;
-use addr2line::gimli::read::{EndianSlice, Error};
+use addr2line::gimli::read::Reader;
+use addr2line::{Context, Reply};
 use addr2line_lines_tests::vectors::{ABBREV, INFO, LINE};
 use std::alloc::Global;
-use std::test::Fail;
 
 const SECTIONS: [NamedSection<'static>; 3] = [
     (".debug_abbrev", &ABBREV),
@@ -17,85 +16,76 @@ const SECTIONS: [NamedSection<'static>; 3] = [
     (".debug_line", &LINE),
 ];
 
-// The line of an address after a 1, 0 where it has none, 9 for a refusal.
-fn line_number(alloc: Global, address: u64) -> u32 {
-    let Ok(mut context) = context_of(alloc, &SECTIONS) else {
-        return 9;
-    };
-    match line_at(&mut context, address) {
-        Ok(Some(line)) => line.saturating_add(10),
+const FAULT: u64 = 99;
+
+fn line_number<R: Reader>(context: &mut Context<R>, address: u64) -> u64 {
+    match line_at(context, address) {
+        Ok(Some(line)) => u64::from(line),
         Ok(None) => 0,
-        Err(_) => 9,
+        Err(_) => FAULT,
     }
 }
 
-#[test]
-fn sections_have_their_lines(rt: HostRuntime) {
-    let found = [0x10, 0x2f, 0x30].map(|address| line_number(rt.alloc(), address));
-    assert_eq!(rt; found, [11, 13, 0]);
-}
-
-// The two rows of an address range, as numbers.
-fn rows(alloc: Global) -> Result<[LineRun; 2], Error> {
-    let mut context = context_of(alloc, &SECTIONS)?;
-    let runs = lines_between(alloc, &mut context, 0, u64::MAX)?;
-    match runs.as_slice() {
-        [first, second] => Ok([*first, *second]),
-        _ => Err(Error::MissingUnitDie),
+// The address, the length and the line of the second row of all.
+fn second_row<R: Reader>(alloc: Global, context: &mut Context<R>) -> [u64; 3] {
+    match lines_between(alloc, context, 0, u64::MAX) {
+        Ok(runs) => match runs.as_slice() {
+            [_, run] => [run.address, run.length, u64::from(run.line.unwrap_or(0))],
+            _ => [0; 3],
+        },
+        Err(_) => [FAULT; 3],
     }
 }
 
-fn run(address: u64, line: u32) -> LineRun {
-    LineRun {
+fn depth<R: Reader>(context: &mut Context<R>, address: u64) -> u64 {
+    match warm_up(context) {
+        Ok(()) => match depth_at(context, address) {
+            Ok(depth) => depth as u64,
+            Err(_) => FAULT,
+        },
+        Err(_) => FAULT,
+    }
+}
+
+// How many replies there are to three calls, and how many frames the second has.
+fn replies<R: Reader>(alloc: Global, context: &mut Context<R>) -> [u64; 2] {
+    match replies_at(alloc, context, 0x10) {
+        Ok(replies) => match replies.as_slice() {
+            [_, Reply::Frames(Ok(frames)), _] => [3, frames.len() as u64],
+            _ => [0; 2],
+        },
+        Err(_) => [FAULT; 2],
+    }
+}
+
+fn answers<R: Reader>(alloc: Global, context: &mut Context<R>) -> [u64; 9] {
+    let [address, length, line] = second_row(alloc, context);
+    let [count, frames] = replies(alloc, context);
+    [
+        line_number(context, 0x10),
+        line_number(context, 0x30),
         address,
-        length: 0x10,
-        line: Some(line),
+        length,
+        line,
+        depth(context, 0x10),
+        depth(context, 0x30),
+        count,
+        frames,
+    ]
+}
+
+fn answers_of_sections(alloc: Global) -> [u64; 9] {
+    match context_of(alloc, &SECTIONS) {
+        Ok(context) => {
+            let mut context = context;
+            answers(alloc, &mut context)
+        }
+        Err(_) => [FAULT; 9],
     }
 }
 
 #[test]
-fn a_range_has_its_rows(rt: HostRuntime) -> Result<(), Fail> {
-    assert_eq!(rt; rows(rt.alloc())?, [run(0x10, 1), run(0x20, 3)]);
-    Ok(())
-}
-
-// How many frames an address has after the warm-up, and where split files are answered.
-fn depths(alloc: Global, address: u64) -> Result<[usize; 2], Error> {
-    let mut context = context_of(alloc, &SECTIONS)?;
-    warm_up(&mut context)?;
-    let depth = depth_at(&mut context, address)?;
-    let files: [SplitFile<EndianSlice<'_>>; 0] = [];
-    let mut frames = frames_at(&mut context, &files, address)?;
-    let mut count: usize = 0;
-    while let Some(_frame) = frames.next()? {
-        count = count.saturating_add(1);
-    }
-    Ok([depth, count])
-}
-
-#[test]
-fn a_location_alone_is_one_frame(rt: HostRuntime) -> Result<(), Fail> {
-    assert_eq!(rt; depths(rt.alloc(), 0x10)?, [1, 1]);
-    assert_eq!(rt; depths(rt.alloc(), 0x30)?, [0, 0]);
-    Ok(())
-}
-
-// Of the replies to three calls how many there are, and how many frames the second has.
-fn replies(alloc: Global) -> Result<[usize; 2], Error> {
-    let mut context = context_of(alloc, &SECTIONS)?;
-    let replies = replies_at(alloc, &mut context, 0x10)?;
-    match replies.as_slice() {
-        [
-            Reply::Location(Ok(Some(_))),
-            Reply::Frames(Ok(frames)),
-            Reply::Done(Ok(())),
-        ] => { Ok([3, frames.len()]) }
-        others => Ok([others.len(), 9]),
-    }
-}
-
-#[test]
-fn recorded_calls_have_their_replies(rt: HostRuntime) -> Result<(), Fail> {
-    assert_eq!(rt; replies(rt.alloc())?, [3, 1]);
-    Ok(())
+fn each_use_gives_what_the_sections_say(rt: HostRuntime) {
+    let want = [1, 0, 0x20, 0x10, 3, 1, 0, 3, 1];
+    assert_eq!(rt; answers_of_sections(rt.alloc()), want);
 }

@@ -17,7 +17,8 @@
  * Texts go into a buffer of the caller, one after another, each with a zero byte after it that its length
  * doesn't count. A part names its text by the offset in that buffer. `needed` is how many bytes the buffer
  * needs for all of them: where it has fewer the status is ADDR2LINE_TOO_SMALL, and the same call with
- * more room gives everything.
+ * more room gives everything. Until then a part may name what lies past the buffer, and where there are
+ * more items than an array has room for, nothing is promised of the array.
  */
 #ifndef ADDR2LINE_H
 #define ADDR2LINE_H
@@ -30,7 +31,7 @@ extern "C" {
 #endif
 
 /* What addr2line_version gives for this header. */
-#define ADDR2LINE_VERSION 1
+#define ADDR2LINE_VERSION 2
 
 /* What a call comes to. */
 typedef uint32_t addr2line_status;
@@ -43,7 +44,7 @@ typedef uint32_t addr2line_status;
 #define ADDR2LINE_WAITS 2u
 /* There is nothing that was asked for, or nothing more. */
 #define ADDR2LINE_NOTHING 3u
-/* The handle is not open. */
+/* The handle is not open; nothing is written, neither counts nor what is needed. */
 #define ADDR2LINE_CLOSED 4u
 /* The split file that was given is that of another unit, which was answered as if there were none. */
 #define ADDR2LINE_OTHER_UNIT 5u
@@ -123,11 +124,12 @@ typedef struct addr2line_frame {
     addr2line_location location; /* that of the address, or that of the call of the frame before */
 } addr2line_frame;
 
-/* A row of line information. */
+/* A row of line information, or a fault of a unit's lines in the place of its rows. */
 typedef struct addr2line_span {
     uint64_t address;
     uint64_t length; /* how many addresses it describes */
     addr2line_location location;
+    addr2line_status status; /* ADDR2LINE_OK; of a fault its status, and the others are 0 */
 } addr2line_span;
 
 /* A symbol. */
@@ -204,23 +206,28 @@ addr2line_status addr2line_find_frames(addr2line *handle, uint64_t address, uint
                                        char *text, size_t text_size, size_t *needed);
 
 /*
- * The first load, by token, that was asked for and has no answer yet; ADDR2LINE_NOTHING where there is
- * none. Takes no memory.
+ * The first load, by token, that was asked for and neither answered nor forgotten since;
+ * ADDR2LINE_NOTHING where there is none. Takes no memory.
  */
 addr2line_status addr2line_get_load(addr2line *handle, addr2line_load *load,
                                     char *text, size_t text_size, size_t *needed);
 
 /*
  * Answers a load by the ELF file that bytes are, and by none where size is 0: then the unit is looked
- * up without its split file. The first answer of a unit counts. A file that is refused, and one of
- * another unit (ADDR2LINE_OTHER_UNIT), is answered none too, and the status says why.
+ * up without its split file. The first answer of a unit counts: a later one changes nothing, whatever
+ * its status. A file that is refused, and one of another unit (ADDR2LINE_OTHER_UNIT), is answered none
+ * too, and the status says why. A fault of the unit in the file is told too; lookups have it until the
+ * answer is forgotten.
  *
  * Refused ADDR2LINE_UNKNOWN_TOKEN where there is no such load; ADDR2LINE_OUT_OF_MEMORY leaves it
  * waiting.
  */
 addr2line_status addr2line_answer_load(addr2line *handle, uint64_t token, const void *bytes, size_t size);
 
-/* Takes the answer to a load back: the next lookup that needs it asks again. Takes no memory. */
+/*
+ * Takes the answer to a load back: the next lookup that needs it asks again. Refused
+ * ADDR2LINE_UNKNOWN_TOKEN where there is no such load. Takes no memory.
+ */
 addr2line_status addr2line_forget(addr2line *handle, uint64_t token);
 
 /*
@@ -233,23 +240,41 @@ addr2line_status addr2line_preload(addr2line *handle, uint64_t address);
  * Reads the lines and functions of all units. Where it gives ADDR2LINE_OK, later lookups take no
  * memory, wait for no split file and have no fault, but those of more than 16 inlined functions and
  * those that demangle. Units that wait are answered none; so answer the loads that are wanted before.
- * Where a unit is refused, all that stands before it is read.
+ * Loads that were asked for are told as before: forget one before you answer it.
+ *
+ * Lines are read up to the first unit whose lines are refused, and functions up to the first whose
+ * functions are. The refusal of lines is told first.
  */
 addr2line_status addr2line_parse_all(addr2line *handle);
 
 /*
- * The row of line information that has `index` rows before it among those that the addresses from
- * `low` up to `high` meet: unit range after unit range, by their ends. ADDR2LINE_NOTHING past the last
- * one. A fault stands in the place of a unit's rows. Each call walks over the rows before.
+ * The rows of line information that the addresses from `low` up to `high` meet: unit range after unit
+ * range, by their ends. They are numbered from 0; `spans` gets those from `first` on, as many as there
+ * are or as it has room for. `count` is how many it got: fewer than `capacity` where these are the last
+ * ones. A fault stands in the place of a unit's rows. ADDR2LINE_TOO_SMALL where the text has no room.
+ *
+ * A call walks once over the rows up to the last one that it gives, also over those before `first`: so
+ * ask for many at a time. To go on with the same range add `count` to `first`, and double the capacity:
+ * then all calls together take time by the number of rows.
+ *
+ * Takes memory where lines are read that weren't before; may then be refused ADDR2LINE_OUT_OF_MEMORY,
+ * and for nothing else.
  */
-addr2line_status addr2line_locations(addr2line *handle, uint64_t low, uint64_t high, uint64_t index,
-                                     addr2line_span *span, char *text, size_t text_size, size_t *needed);
+addr2line_status addr2line_locations(addr2line *handle, uint64_t low, uint64_t high, uint64_t first,
+                                     addr2line_span *spans, size_t capacity, size_t *count,
+                                     char *text, size_t text_size, size_t *needed);
 
-/* The symbol at or nearest below an address, if its size allows. Takes no memory. */
+/*
+ * The symbol at or nearest below an address, if its size allows: of a function, an object or of no type,
+ * with a name in UTF-8. ADDR2LINE_NOTHING where there is none. Takes no memory.
+ */
 addr2line_status addr2line_find_symbol(addr2line *handle, uint64_t address, addr2line_symbol *symbol,
                                        char *text, size_t text_size, size_t *needed);
 
-/* The addresses of the first section of a name, up to `end`. Takes no memory. */
+/*
+ * The addresses of the first section of a name, up to `end`. ADDR2LINE_NOTHING where there is none, or it
+ * ends past 2^64 - 1; nothing is promised of `begin` and `end` then. Takes no memory.
+ */
 addr2line_status addr2line_section_range(addr2line *handle, const void *name, size_t name_size,
                                          uint64_t *begin, uint64_t *end);
 

@@ -56,7 +56,12 @@ class _Frame(ctypes.Structure):
 
 
 class _Span(ctypes.Structure):
-    _fields_ = [("address", ctypes.c_uint64), ("length", ctypes.c_uint64), ("location", _Location)]
+    _fields_ = [
+        ("address", ctypes.c_uint64),
+        ("length", ctypes.c_uint64),
+        ("location", _Location),
+        ("status", ctypes.c_uint32),
+    ]
 
 
 class _Symbol(ctypes.Structure):
@@ -87,7 +92,7 @@ def _load_library():
         "forget": [handle, address],
         "preload": [handle, address],
         "parse_all": [handle],
-        "locations": [handle, address, address, address, ctypes.POINTER(_Span)] + out,
+        "locations": [handle, address, address, address, ctypes.POINTER(_Span), size, ctypes.POINTER(size)] + out,
         "find_symbol": [handle, address, ctypes.POINTER(_Symbol)] + out,
         "section_range": [handle, ctypes.c_char_p, size, ctypes.POINTER(address), ctypes.POINTER(address)],
     }
@@ -177,7 +182,7 @@ class File:
     def _text_of(self, part):
         if not part.is_there:
             return None
-        return self._text.raw[part.offset : part.offset + part.length].decode("utf-8", "replace")
+        return ctypes.string_at(ctypes.addressof(self._text) + part.offset, part.length).decode("utf-8", "replace")
 
     def _location(self, part):
         return Location(
@@ -217,6 +222,19 @@ class File:
             else:
                 raise Refused(status)
 
+    def preload(self, address):
+        """Asks for the split files of an address; whether there are some, for answer_loads."""
+        status = _library.addr2line_preload(ctypes.byref(self._handle), address)
+        if status not in (OK, WAITS):
+            raise Refused(status)
+        return status == WAITS
+
+    def forget(self, token):
+        """Takes the answer to a load back: what needs it next asks again. Tokens count from 0."""
+        status = _library.addr2line_forget(ctypes.byref(self._handle), token)
+        if status != OK:
+            raise Refused(status)
+
     def answer_loads(self):
         """Answers each load that waits by the file that it names, by none where there is none."""
         load = _Load()
@@ -245,17 +263,27 @@ class File:
             raise Refused(status)
 
     def locations(self, low, high):
-        """The rows that the addresses from low up to high meet."""
-        span = _Span()
-        index = 0
+        """The rows that the addresses from low up to high meet; a fault is raised in its place."""
+        first, count, capacity = 0, ctypes.c_size_t(), 256
         while True:
-            status = self._call("locations", low, high, index, ctypes.byref(span))
-            if status == NOTHING:
-                return
+            spans = (_Span * capacity)()
+            status = self._call("locations", low, high, first, spans, capacity, ctypes.byref(count))
             if status != OK:
                 raise Refused(status)
-            yield Span(span.address, span.length, *self._location(span.location))
-            index += 1
+            # The caller may make other calls between two rows, which use the same text.
+            for span in [self._span(span) for span in spans[: count.value]]:
+                if isinstance(span, Refused):
+                    raise span
+                yield span
+            if count.value < capacity:
+                return
+            first += capacity
+            capacity *= 2
+
+    def _span(self, part):
+        if part.status != OK:
+            return Refused(part.status)
+        return Span(part.address, part.length, *self._location(part.location))
 
     def symbol(self, address):
         """The symbol of an address, None where there is none."""

@@ -19,7 +19,8 @@ use Rattle.addr2line_units.specs.UnitIndex.{UnitIndex, index_units}
 use Rattle.addr2line_units.specs.Views.{FirstAnswers, SplitLoad}
 use Rattle.addr2line.specs.AfterLookups.{AfterFrames, IsFoundUnit, IsLent, IsStored, Suspends}
 use Rattle.addr2line.specs.Context.{ContextState}
-use Rattle.addr2line.specs.Lookups.{IsLoadOf, frames_told, lookup_stop, stop_in, unit_of, unit_told, waiting_unit}
+use Rattle.addr2line.specs.Lookups.{IsLoadOf, frames_told, lookup_stop, stop_in, unit_of, unit_told}
+use Rattle.addr2line_units.specs.UnitsState.{waiting_unit}
 use Rattle.addr2line.specs.Skips.{AfterSkip, skipped_answers}
 
 -- what holds of a lookup that waits

@@ -17,7 +17,7 @@ use Rattle.addr2line_units.specs.Parsed.{has_parsed}
 use Rattle.addr2line_units.specs.Views.{FirstAnswers, SplitLoad}
 use Rattle.addr2line.specs.Answers.{AfterAnswer, answered}
 use Rattle.addr2line.specs.Context.{ContextState}
-use Rattle.addr2line.specs.Files.{Files}
+use Rattle.addr2line.specs.Files.{ReadFiles}
 use Rattle.addr2line.specs.FramesByFiles.{ended_frames_of, frames_by_files, stop_frames}
 use Rattle.addr2line.specs.History.{Given, Answered}
 use Rattle.addr2line.specs.LoadsByFiles.{AfterAnswers, AnswersInTurn, AnswersOne, IsFaultByFiles, ReadsAsked, StayAnswered, WaitsForNone}
@@ -28,7 +28,7 @@ use Rattle.addr2line.proofs.AskedLemmas.{reads_more, reads_nothing}
 use Rattle.addr2line.proofs.FilesLookupLemmas.{answer_changes, first_answers_stay, frames_ended, frames_stay, refused_frames, stop_stays}
 use Rattle.addr2line.proofs.HistoryLemmas.{HasGiven, given_all, given_more}
 use Rattle.addr2line.proofs.LoadingLemmas.{if_some_both, not_told}
-use Rattle.addr2line.proofs.StayLemmas.{known_of_twice, same_stays_known}
+use Rattle.addr2line_units.proofs.StayLemmas.{known_of_twice, same_stays_known}
 
 -- what holds of each files holds where they are known
 always : {X : Type 0} (o : Option X) {P : X → Type 0} → ((x : X) → P x) → IfSome o P
@@ -48,7 +48,7 @@ same_between old mid new a b n same = by (answer_of old n) (answer_of mid n) ref
     by None (Some given) p q = let f : ◌≡◌ {A = Option (Option Sections)} (Some given) None = sym (b n given q) ∙ same ∙ p in absurd cc
     by (Some given) y p q = a n given p ∙ sym p
 
-module _ (files : Option Files) where
+module _ (files : Option ReadFiles) where
   -- a lookup changes neither sections nor first answers
   pub after_look : {X : Type 0} (probe : ℕ) (r : Result X Error) (old new : ContextState) → AfterFrames End probe r old new → AfterAnswers files old new
   after_look probe r old new a = record {
@@ -142,13 +142,13 @@ pub waits_no_more : (probe n : ℕ) (c : ContextState) → WaitsForNone c probe 
 waits_no_more probe n c w waits = let no = sym (ap is_waiting waits) ∙ w in absurd cc
 
 -- loads of a lookup were answered by files, in turn
-pub record HasAnswered (files : Option Files) (probe : ℕ) (first now : ContextState) : Type 0 where
+pub record HasAnswered (files : Option ReadFiles) (probe : ℕ) (first now : ContextState) : Type 0 where
   pub after : AfterAnswers files first now
   pub only : ReadsAsked probe first now
   pub given : List Given
   pub so : HasGiven End first.sections probe first.answers given now.answers
 
-module _ (files : Option Files) (probe : ℕ) (first : ContextState) where
+module _ (files : Option ReadFiles) (probe : ℕ) (first : ContextState) where
   pub has_answered_none : HasAnswered files probe first first
   has_answered_none = record { after = unanswered files first; only = reads_nothing probe first; given = []; so = λ rest. refl }
 
@@ -193,14 +193,14 @@ looked_memory {X = X} probe e r old new is a w few =
     not_told e (subst (λ (x : Result X Error). HadMemory x) is (a.memory few ended))
 
 -- a fault that ends a lookup is one by the files
-pub stop_fault : (files : Option Files) (c : ContextState) (probe : ℕ) (e : Error) → (loader_error_of e ≢ OutOfMemory → lookup_stop End c.sections c.answers probe ≡ Err e) → IsFaultByFiles files c probe (loader_error_of e)
+pub stop_fault : (files : Option ReadFiles) (c : ContextState) (probe : ℕ) (e : Error) → (loader_error_of e ≢ OutOfMemory → lookup_stop End c.sections c.answers probe ≡ Err e) → IsFaultByFiles files c probe (loader_error_of e)
 stop_fault files c probe e h = always files by
   where
-    by : (held : Files) → loader_error_of e ≢ OutOfMemory → frames_by_files held c.sections c.answers probe ≡ Err (loader_error_of e)
+    by : (held : ReadFiles) → loader_error_of e ≢ OutOfMemory → frames_by_files held c.sections c.answers probe ≡ Err (loader_error_of e)
     by held ne = frames_ended (given_by_files held) c.sections c.answers probe (ap is_waiting (h ne)) ∙ ap stop_frames (h ne)
 
 -- the frames of a lookup that waits no more are those by the files
-pub found_by_files : (files : Option Files) (probe : ℕ) (first mid : ContextState) → AfterAnswers files first mid → WaitsForNone mid probe → (frames : List FrameRecord) → ended_frames_of mid probe ≡ Ok frames
+pub found_by_files : (files : Option ReadFiles) (probe : ℕ) (first mid : ContextState) → AfterAnswers files first mid → WaitsForNone mid probe → (frames : List FrameRecord) → ended_frames_of mid probe ≡ Ok frames
     → IfSome files (λ held. frames_by_files held first.sections first.answers probe ≡ Ok frames)
 found_by_files files probe first mid a ended frames h = if_some_map files a.frames
     (λ held p. sym (p probe) ∙ frames_ended (given_by_files held) mid.sections mid.answers probe ended ∙ h)

@@ -1,34 +1,33 @@
 -- What a context has and what its sections give (on specs/Context.antt).
-use Rattle.std.proofs.Common.{◌≡◌, ℕ, zero, suc, ◌+◌, ◌<◌, ◌≤◌, ◌&&◌, ◌||◌, inl, inr, Bool, true, false, List, [], ◌∷◌, ◌++◌, not, map, slice_get, Option, Some, None, Result, Ok, Err, refl, sym, ap, subst, ◌∙◌}
-use Rattle.std.specs.Prelude.{OnOk, is_ok}
+use Rattle.std.proofs.Common.{◌≡◌, ◌≢◌, ℕ, zero, suc, ◌<◌, ◌≤◌, ◌&&◌, ◌||◌, inl, inr, Bool, true, false, List, [], ◌∷◌, length, map, slice_get, Option, Some, None, option_map, Result, Ok, Err, refl, sym, ap, subst, ◌∙◌, arith, ◌+◌}
+use Rattle.std.specs.Prelude.{IfErr, IfOk, OnOk, is_ok}
 use Rattle.gimli_read.specs.declared.error.Error.{Error}
-use Rattle.gimli_read.specs.declared.range.Range.{Range}
-use Rattle.gimli_read.specs.Reading.{◌>>=◌, ExactlyUnlessOom, fault_of, result_map}
+use Rattle.gimli_read.specs.declared.error.Error.TheVariants.{OutOfMemory}
+use Rattle.gimli_read.specs.Alike.{HadMemory}
+use Rattle.gimli_read.specs.Reading.{◌>>=◌, Exactly, ExactlyUnlessOom, fault_of, result_map}
 use Rattle.gimli.specs.Sections.{Sections}
 use Rattle.gimli.specs.Unit.{UnitRecord}
 use Rattle.addr2line_lines.specs.Location.{LineTable, Location, location_at}
-use Rattle.addr2line_lines.specs.UnitLines.{unit_lines}
 use Rattle.addr2line_lines.specs.References.{Scope}
 use Rattle.addr2line_lines.specs.Rows.{read_all}
 use Rattle.addr2line_units.specs.declared.index.UnitRange.{UnitRange}
-use Rattle.addr2line_units.specs.declared.unit.LazyLines.{LazyLines}
-use Rattle.addr2line_units.specs.declared.unit.LazyLines.TheVariants.{Faulty, Read, Unread}
-use Rattle.addr2line_units.specs.declared.unit.ResUnit.{ResUnit}
-use Rattle.addr2line_units.specs.declared.unit_frames.UnitEntries.{UnitEntries}
-use Rattle.addr2line_units.specs.CachedLines.{AreLinesOf, HaveLinesOf, StayUnits, cached_spans, indexed_units, is_parsed, is_uncached, lines_at, parsed_units}
-use Rattle.addr2line_units.specs.FramesLookup.{Stop, main_scope}
-use Rattle.addr2line_units.specs.CachedUnits.{HaveEntriesOf, answers_in}
-use Rattle.addr2line_units.specs.KnownEntries.{known_in}
-use Rattle.addr2line_units.specs.Located.{along, all_lines, is_found, lines_of_unit, location_in, location_of, or_along, spans_in, spans_or_fault, looks_along, spans_along, spans_of}
-use Rattle.addr2line_units.specs.UnitIndex.{UnitIndex, index_units}
-use Rattle.addr2line_units.specs.RangedUnits.{IndexedUnit}
-use Rattle.gimli_read.specs.Alike.{HadMemory}
-use Rattle.addr2line_units.specs.Parsed.{AllAskFor, AreAllParsed, AreParsed, AreReadyForAll, AsksFor, LeadTo, ParsesOnly, StaysParsed, decides, has_parsed, ready_along}
-use Rattle.addr2line_units.specs.RangeLookup.{cached_along}
+use Rattle.addr2line_units.specs.AfterUnits as left
 use Rattle.addr2line_units.specs.Cover.{cover, cover_range}
-use Rattle.addr2line_units.proofs.UnitsLemmas.{ready_both, ready_first, stay_indexed, stay_parsed}
-use Rattle.addr2line.proofs.NewContextLemmas.{ok_is}
-use Rattle.addr2line.specs.Context.{AfterLookup, AfterRangeLookup, ContextState, IsContext, IsReady, IsReadyForAll, IsReadyForRange, ParsesToFault, Stays, index_by, lines_of_all}
+use Rattle.addr2line_units.specs.FramesLookup.{FindsNothing, main_scope}
+use Rattle.addr2line_units.specs.Located.{LocationResult, along, all_lines, is_found, lines_of_unit, location_in, location_of, looks_along, or_along, spans_along, spans_of}
+use Rattle.addr2line_units.specs.Parsed.{AllAskFor, AreAllParsed, AreParsed, AreReadyForAll, AsksFor, LeadTo, ParsesOnly, StaysParsed, decides, has_parsed, ready_along}
+use Rattle.addr2line_units.specs.KnownEntries.{NothingKnown}
+use Rattle.addr2line_units.specs.RangedUnits.{IndexedUnit, RangedUnit, has_lines, indexed_of, ranged_units, unit_ranges_from}
+use Rattle.addr2line_units.specs.UnitIndex.{UnitIndex, index_units, sup_units}
+use Rattle.addr2line_units.specs.UnitsState.{UnitsState, first_state, new_units}
+use Rattle.addr2line_units.proofs.NewUnitsLemmas.{ok_is}
+use Rattle.addr2line_units.proofs.UnitsLemmas.{ready_both, ready_first}
+use Rattle.addr2line.specs.Context.{AfterLookup, AfterRangeLookup, ContextState, IsContext, IsReady, IsReadyForAll, IsReadyForRange, ParsesToFault, Stays, lines_of_all, new_context, seen_context}
+
+-- an answer that isn't OutOfMemory is exactly what is given
+pub exactly_told : {X Y : Type 0} (see : X → Y) (r : Result X Error) (given : Result Y Error) → ExactlyUnlessOom see r given → HadMemory r → Exactly see r given
+exactly_told see (Ok x) given g h = g
+exactly_told see (Err e) given g h = g h
 
 -- where nothing is parsed that wasn't, the same is parsed
 parsed_both : (a b : Bool) → (a ≡ true → b ≡ true) → (b ≡ true → a ≡ true) → b ≡ a
@@ -36,14 +35,14 @@ parsed_both true b f h = f refl
 parsed_both false true f h = sym (h refl)
 parsed_both false false f h = refl
 
-same_parsed : (us vs : List ResUnit) → StayUnits us vs → StaysParsed (parsed_units us) (parsed_units vs) → StaysParsed (parsed_units vs) (parsed_units us) → parsed_units vs ≡ parsed_units us
-same_parsed [] [] a f h = refl
-same_parsed [] (v ∷ vs) a f h = absurd a
-same_parsed (u ∷ us) [] a f h = absurd a
-same_parsed (u ∷ us) (v ∷ vs) a f h = ap (λ b. b ∷ parsed_units vs) (parsed_both (is_parsed u) (is_parsed v) (f 0) (h 0)) ∙ ap (λ bs. is_parsed u ∷ bs) (same_parsed us vs a.1 (λ n. f (suc n)) (λ n. h (suc n)))
+same_bools : (p q : List Bool) → length q ≡ length p → StaysParsed p q → StaysParsed q p → q ≡ p
+same_bools [] [] e f h = refl
+same_bools [] (b ∷ q) e f h = absurd (omega (arith, e))
+same_bools (a ∷ p) [] e f h = absurd (omega (arith, e))
+same_bools (a ∷ p) (b ∷ q) e f h = ap (λ x. x ∷ q) (parsed_both a b (f 0) (h 0)) ∙ ap (λ xs. a ∷ xs) (same_bools p q (omega (arith, e)) (λ n. f (suc n)) (λ n. h (suc n)))
 
-same_if_asked : (us vs : List ResUnit) → StayUnits us vs → (IsAsked : ℕ → Type 0) → ParsesOnly IsAsked (parsed_units us) (parsed_units vs) → ((n : ℕ) → IsAsked n → has_parsed (parsed_units us) n ≡ true) → parsed_units vs ≡ parsed_units us
-same_if_asked us vs stay IsAsked only ready = same_parsed us vs stay (stay_parsed us vs stay) (λ n e. elim (only n e) [ inl p ↦ p | inr asked ↦ ready n asked ])
+pub same_if_asked : (asks : ℕ → Type 0) (old new : UnitsState) → left.AfterLines asks old new → ((n : ℕ) → asks n → has_parsed old.parsed n ≡ true) → new.parsed ≡ old.parsed
+same_if_asked asks old new a ready = same_bools old.parsed new.parsed a.many a.parsed (λ n e. elim (a.only n e) [ inl p ↦ p | inr asked ↦ ready n asked ])
 
 -- a lookup that is ready asks for lines that are parsed
 asked_ready : (d : Sections) (us : List IndexedUnit) (p : List Bool) (probe : ℕ) (ranges : List UnitRange) → ready_along d us p probe ranges ≡ true → (n : ℕ) → AsksFor d us probe ranges n → has_parsed p n ≡ true
@@ -65,90 +64,150 @@ led_ready : (p : List Bool) (ranges : List UnitRange) → AreParsed p ranges →
 led_ready p [] ready n led = absurd led
 led_ready p (r ∷ ranges) ready n led = elim led [ inl e ↦ ap (has_parsed p) e ∙ ready.0 | inr more ↦ led_ready p ranges ready.1 n more ]
 
-module _ (d : Sections) (us : List UnitRecord) (old : List ResUnit) (ranges : List UnitRange) (sup : List UnitRecord)
-    (made_is : index_units d ≡ Ok (record { units = indexed_units us old; ranges = ranges; sup_units = sup })) where
-  -- the answers of a context by its parts
-  pub location_is : (probe : ℕ) → location_of d probe ≡ along d (indexed_units us old) probe (cover probe ranges)
-  location_is probe = ap (λ r. r >>= λ (m : UnitIndex). along d m.units probe (cover probe m.ranges)) made_is
+-- the units of a context are those of its sections
+module _ (ranges : List UnitRange) (u : UnitsState) (i : IsContext ranges u) where
+  abbrev d : Sections
+  d = u.scope.file.sections
 
-  pub spans_are : (low high : ℕ) → spans_of d low high ≡ Ok (spans_along d (indexed_units us old) low high (cover_range low high ranges))
-  spans_are low high = ap (λ r. r >>= λ (m : UnitIndex). Ok (spans_along d m.units low high (cover_range low high m.ranges))) made_is
+  -- what holds of all that is made holds of what a context has, and the other way around
+  pub of_made : (P : Scope → List IndexedUnit → List UnitRange → Type 0) → P u.scope u.units ranges → (m : UnitIndex) → index_units d ≡ Ok m → P (main_scope d m) m.units m.ranges
+  of_made P h m e = subst (λ (x : UnitIndex). P (main_scope d x) x.units x.ranges) (ok_is i.made m (sym i.made_is ∙ e))
+      (subst (λ s. P s i.made.units i.made.ranges) i.scope (subst (λ xs. P u.scope xs i.made.ranges) i.units (subst (λ rs. P u.scope u.units rs) i.ranges h)))
 
-  pub lines_are : lines_of_all d ≡ fault_of (all_lines d (indexed_units us old))
-  lines_are = ap (λ r. r >>= λ (m : UnitIndex). fault_of (all_lines d m.units)) made_is
+  pub at_made : (P : Scope → List IndexedUnit → List UnitRange → Type 0) → ((m : UnitIndex) → index_units d ≡ Ok m → P (main_scope d m) m.units m.ranges) → P u.scope u.units ranges
+  at_made P h = subst (λ s. P s u.units ranges) (sym i.scope) (subst (λ xs. P (main_scope d i.made) xs ranges) (sym i.units) (subst (λ rs. P (main_scope d i.made) i.made.units rs) (sym i.ranges) (h i.made i.made_is)))
 
-  -- what holds of all that may be made holds of what is made
-  of_made : (P : UnitIndex → Type 0) → P (record { units = indexed_units us old; ranges = ranges; sup_units = sup }) → (m : UnitIndex) → index_units d ≡ Ok m → P m
-  of_made P h m e = subst P (ok_is _ _ (sym made_is ∙ e)) h
+  -- what is read of the units
+  pub by_made : {X : Type 0} (f : Scope → List IndexedUnit → List UnitRange → Result X Error) → (index_units d >>= λ (m : UnitIndex). f (main_scope d m) m.units m.ranges) ≡ f u.scope u.units ranges
+  by_made f =
+      ap (λ (r : Result UnitIndex Error). r >>= λ (m : UnitIndex). f (main_scope d m) m.units m.ranges) i.made_is
+      ∙ ap (λ s. f s i.made.units i.made.ranges) (sym i.scope) ∙ ap (λ xs. f u.scope xs i.made.ranges) (sym i.units) ∙ ap (λ rs. f u.scope u.units rs) (sym i.ranges)
 
-  module _ {R : Type 0} (new : List ResUnit) (stay : StayUnits old new) (held then : List (UnitEntries R)) (same : then ≡ held) (looks now : ℕ) (was is : Stop) where
-    abbrev before : ContextState
-    before = record { sections = d; answers = answers_in held; parsed = parsed_units old; known = known_in held; looks = looks; stop = was }
+  pub or_made : {X : Type 0} (x : X) (f : Scope → List IndexedUnit → List UnitRange → X) → elim (index_units d) [ Err e ↦ x | Ok m ↦ f (main_scope d m) m.units m.ranges ] ≡ f u.scope u.units ranges
+  or_made {X} x f =
+      ap (λ (r : Result UnitIndex Error). of_index r) i.made_is
+      ∙ ap (λ s. f s i.made.units i.made.ranges) (sym i.scope) ∙ ap (λ xs. f u.scope xs i.made.ranges) (sym i.units) ∙ ap (λ rs. f u.scope u.units rs) (sym i.ranges)
+    where
+      of_index : Result UnitIndex Error → X
+      of_index r = elim r [ Err e ↦ x | Ok m ↦ f (main_scope d m) m.units m.ranges ]
 
-    abbrev after : ContextState
-    after = record { sections = d; answers = answers_in then; parsed = parsed_units new; known = known_in then; looks = now; stop = is }
+  pub location_is : (probe : ℕ) → location_of d probe ≡ along d u.units probe (cover probe ranges)
+  location_is probe = by_made (λ s xs rs. along s.file.sections xs probe (cover probe rs))
 
-    pub all_stays : Stays before after
-    all_stays = record { sections = refl; answers = ap answers_in same; known = ap known_in same; parsed = stay_parsed old new stay }
+  pub spans_are : (low high : ℕ) → spans_of d low high ≡ Ok (spans_along d u.units low high (cover_range low high ranges))
+  spans_are low high = by_made (λ s xs rs. Ok (spans_along s.file.sections xs low high (cover_range low high rs)))
 
-    pub after_lookup : {X : Type 0} (probe : ℕ) (result : Result (Option X) Error)
-        → (HadMemory result → ready_along d (indexed_units us old) (parsed_units new) probe (cover probe ranges) ≡ true) → (ready_along d (indexed_units us old) (parsed_units new) probe (cover probe ranges) ≡ true → HadMemory result) → ParsesOnly (AsksFor d (indexed_units us old) probe (cover probe ranges)) (parsed_units old) (parsed_units new) → looks ≤ now → (is_found result ≡ true → looks < now) → now ≤ looks + looks_along d (indexed_units us old) (cover probe ranges)
-        → AfterLookup probe result before after
-    after_lookup probe result ready memory only raised counted cost = record {
-      stays = all_stays;
-      ready = λ answered. of_made (λ m. ready_along d m.units (parsed_units new) probe (cover probe m.ranges) ≡ true) (ready answered);
-      memory = λ at_last. memory (at_last _ made_is);
-      only = of_made (λ m. ParsesOnly (AsksFor d m.units probe (cover probe m.ranges)) (parsed_units old) (parsed_units new)) only;
-      same = λ ready. same_if_asked old new stay _ only (asked_ready d (indexed_units us old) (parsed_units old) probe (cover probe ranges) (ready _ made_is));
-      raised = raised;
-      counted = counted;
-      cost = of_made (λ m. now ≤ looks + looks_along d m.units (cover probe m.ranges)) cost;
+  pub lines_are : lines_of_all d ≡ fault_of (all_lines d u.units)
+  lines_are = by_made (λ s xs rs. fault_of (all_lines s.file.sections xs))
+
+  -- units that are the same are still those of the sections
+  module _ (now : UnitsState) (a : now.scope ≡ u.scope) (b : now.units ≡ u.units) where
+    pub still_context : IsContext ranges now
+    still_context = record {
+      made = i.made;
+      made_is = ap (λ (s : Scope). index_units s.file.sections) a ∙ i.made_is;
+      scope = a ∙ i.scope ∙ ap (λ (s : Scope). main_scope s.file.sections i.made) (sym a);
+      units = b ∙ i.units;
+      ranges = i.ranges;
     }
 
-    pub after_parse : ParsesOnly (AllAskFor d (indexed_units us old)) (parsed_units old) (parsed_units new)
-        → ParsesToFault before after
-    after_parse only = of_made (λ m. ParsesOnly (AllAskFor d m.units) (parsed_units old) (parsed_units new)) only
+  pub of_now : (now : UnitsState) → now.scope ≡ u.scope → now.units ≡ u.units → (P : Scope → List IndexedUnit → List UnitRange → Type 0) → P u.scope u.units ranges
+      → (m : UnitIndex) → index_units now.scope.file.sections ≡ Ok m → P (main_scope now.scope.file.sections m) m.units m.ranges
+  of_now now a b P h m e =
+      subst (λ (s : Scope). index_units s.file.sections ≡ Ok m → P (main_scope s.file.sections m) m.units m.ranges) (sym a) (of_made P h m) e
 
-    pub same_after_parse : ParsesOnly (AllAskFor d (indexed_units us old)) (parsed_units old) (parsed_units new)
-        → IsReadyForAll before → parsed_units new ≡ parsed_units old
-    same_after_parse only ready = same_if_asked old new stay _ only (ready _ made_is)
+  pub at_now : (now : UnitsState) → now.scope ≡ u.scope → now.units ≡ u.units → (P : Scope → List IndexedUnit → List UnitRange → Type 0)
+      → ((m : UnitIndex) → index_units now.scope.file.sections ≡ Ok m → P (main_scope now.scope.file.sections m) m.units m.ranges) → P u.scope u.units ranges
+  at_now now a b P h =
+      at_made P (subst (λ (s : Scope). (m : UnitIndex) → index_units s.file.sections ≡ Ok m → P (main_scope s.file.sections m) m.units m.ranges) a h)
 
-    pub ready_after_parse : AreReadyForAll d (indexed_units us old) (parsed_units new) → IsReadyForAll after
-    ready_after_parse ready = of_made (λ m. AreReadyForAll d m.units (parsed_units new)) ready
+  -- after lines were parsed
+  module _ (asks : ℕ → Type 0) (now : UnitsState) (l : left.AfterLines asks u now) where
+    scope_same : now.scope ≡ u.scope
+    scope_same = ap (λ (x : UnitsState). x.scope) l.same
 
-  pub after_range_lookup : {R : Type 0} (new : List ResUnit) → StayUnits old new → (held then : List (UnitEntries R)) → then ≡ held → (looks : ℕ) (was is : Stop) → {X : Type 0} (low high : ℕ) (result : Result X Error) → (HadMemory result → AreParsed (parsed_units new) (cover_range low high ranges)) → (AreParsed (parsed_units new) (cover_range low high ranges) → HadMemory result) → ParsesOnly (LeadTo (cover_range low high ranges)) (parsed_units old) (parsed_units new)
-      → AfterRangeLookup low high result (record { sections = d; answers = answers_in held; parsed = parsed_units old; known = known_in held; looks = looks; stop = was }) (record { sections = d; answers = answers_in then; parsed = parsed_units new; known = known_in then; looks = looks; stop = is })
-  after_range_lookup new stay held then kept looks was is low high result ready memory only = record {
-    stays = all_stays new stay held then kept looks looks was is;
-    ready = λ answered. of_made (λ m. AreParsed (parsed_units new) (cover_range low high m.ranges)) (ready answered);
-    memory = λ at_last. memory (at_last _ made_is);
-    only = of_made (λ m. ParsesOnly (LeadTo (cover_range low high m.ranges)) (parsed_units old) (parsed_units new)) only;
-    same = λ before. same_if_asked old new stay _ only (led_ready (parsed_units old) (cover_range low high ranges) (before _ made_is));
-    looks = refl;
+    units_same : now.units ≡ u.units
+    units_same = ap (λ (x : UnitsState). x.units) l.same
+
+    pub lines_context : IsContext ranges now
+    lines_context = still_context now scope_same units_same
+
+    pub lines_stay : Stays (seen_context u) (seen_context now)
+    lines_stay = record {
+      sections = ap (λ (x : UnitsState). x.scope.file.sections) l.same;
+      answers = ap (λ (x : UnitsState). x.answers) l.same;
+      known = ap (λ (x : UnitsState). x.known) l.same;
+      parsed = l.parsed;
+    }
+
+    pub of_lines : (P : Scope → List IndexedUnit → List UnitRange → Type 0) → P u.scope u.units ranges → (m : UnitIndex) → index_units now.scope.file.sections ≡ Ok m → P (main_scope now.scope.file.sections m) m.units m.ranges
+    of_lines = of_now now scope_same units_same
+
+    pub at_lines : (P : Scope → List IndexedUnit → List UnitRange → Type 0) → ((m : UnitIndex) → index_units now.scope.file.sections ≡ Ok m → P (main_scope now.scope.file.sections m) m.units m.ranges) → P u.scope u.units ranges
+    at_lines = at_now now scope_same units_same
+
+  -- after a lookup of a row
+  module _ {Y : Type 0} (probe : ℕ) (r : Result (Option Y) Error) (now : UnitsState) (a : left.AfterRow probe (cover probe ranges) r u now) where
+    abbrev asked : ℕ → Type 0
+    asked = AsksFor d u.units probe (cover probe ranges)
+
+    abbrev ready_by : List Bool → Scope → List IndexedUnit → List UnitRange → Type 0
+    ready_by p s xs rs = ready_along s.file.sections xs p probe (cover probe rs) ≡ true
+
+    pub ready_told : IsReady (seen_context u) probe → HadMemory r
+    ready_told ready = a.memory (more (cover probe ranges) (at_made (ready_by u.parsed) ready))
+      where
+        more : (rs : List UnitRange) → ready_along d u.units u.parsed probe rs ≡ true → ready_along d u.units now.parsed probe rs ≡ true
+        more [] h = refl
+        more (x ∷ rs) h = step (has_parsed u.parsed x.unit) (has_parsed now.parsed x.unit) (decides (location_in d probe (slice_get u.units x.unit))) (ready_along d u.units u.parsed probe rs) (ready_along d u.units now.parsed probe rs) (a.lines.parsed x.unit) (more rs) h
+          where
+            step : (p q e f g : Bool) → (p ≡ true → q ≡ true) → (f ≡ true → g ≡ true) → (p && (e || f)) ≡ true → (q && (e || g)) ≡ true
+            step true true true f g k l h = refl
+            step true true false f g k l h = l h
+            step true false e f g k l h = k refl
+            step false q e f g k l h = cc
+
+    pub after_lookup : {X : Type 0} (result : Result (Option X) Error) → (HadMemory result → HadMemory r) → (HadMemory r → HadMemory result) → (is_found result ≡ true → is_found r ≡ true) → AfterLookup probe result (seen_context u) (seen_context now)
+    after_lookup result f h k = record {
+      stays = lines_stay asked now a.lines;
+      ready = λ told. of_lines asked now a.lines (ready_by now.parsed) (a.ready (f told));
+      memory = λ ready. h (a.memory (at_lines asked now a.lines (ready_by now.parsed) ready));
+      only = of_made (λ s xs rs. ParsesOnly (AsksFor s.file.sections xs probe (cover probe rs)) u.parsed now.parsed) a.lines.only;
+      same = λ ready. same_if_asked asked u now a.lines (asked_ready d u.units u.parsed probe (cover probe ranges) (at_made (ready_by u.parsed) ready));
+      raised = a.raised;
+      counted = λ found. a.counted (k found);
+      cost = of_made (λ s xs rs. now.looks ≤ u.looks + looks_along s.file.sections xs (cover probe rs)) a.cost;
+    }
+
+  -- where no unit covers the probe nothing is found, and no memory is taken
+  pub none_covered : {Y : Type 0} (see : Y → Location) (probe : ℕ) (r : Result (Option Y) Error) (now : UnitsState) → left.AfterRow probe (cover probe ranges) r u now → ExactlyUnlessOom (option_map see) r (along d u.units probe (cover probe ranges))
+      → cover probe ranges ≡ [] → r ≡ Ok None
+  none_covered see probe r now a gives none = of_result r (exactly_told (option_map see) r (along d u.units probe (cover probe ranges)) gives told)
+    where
+      told : HadMemory r
+      told = a.memory (subst (λ rs. ready_along d u.units now.parsed probe rs ≡ true) (sym none) refl)
+
+      of_result : (q : Result (Option _) Error) → Exactly (option_map see) q (along d u.units probe (cover probe ranges)) → q ≡ Ok None
+      of_result (Ok None) h = refl
+      of_result (Ok (Some y)) h = absurd (let e : ◌≡◌ {A = LocationResult} (Ok None) (Ok (Some (see y))) = sym (ap (along d u.units probe) none) ∙ h in cc)
+      of_result (Err e) h = absurd (let f : ◌≡◌ {A = LocationResult} (Ok None) (Err e) = sym (ap (along d u.units probe) none) ∙ h in cc)
+
+  -- after a lookup of a range
+  pub after_range_lookup : {X Y : Type 0} (low high : ℕ) (r : Result Y Error) (now : UnitsState) → left.AfterCaching (cover_range low high ranges) r u now → (result : Result X Error) → (HadMemory result → OnOk r (AreParsed now.parsed (cover_range low high ranges)) → AreParsed now.parsed (cover_range low high ranges))
+      → (HadMemory r → HadMemory result) → AfterRangeLookup low high result (seen_context u) (seen_context now)
+  after_range_lookup low high r now a result f h = record {
+    stays = lines_stay (LeadTo (cover_range low high ranges)) now a.lines;
+    ready = λ told. of_lines (LeadTo (cover_range low high ranges)) now a.lines (λ s xs rs. AreParsed now.parsed (cover_range low high rs)) (f told a.parsed);
+    memory = λ ready. h (a.memory (at_lines (LeadTo (cover_range low high ranges)) now a.lines (λ s xs rs. AreParsed now.parsed (cover_range low high rs)) ready));
+    only = of_made (λ s xs rs. ParsesOnly (LeadTo (cover_range low high rs)) u.parsed now.parsed) a.lines.only;
+    same = λ ready. same_if_asked (LeadTo (cover_range low high ranges)) u now a.lines (led_ready u.parsed (cover_range low high ranges) (at_made (λ s xs rs. AreParsed u.parsed (cover_range low high rs)) ready));
+    looks = a.looks;
   }
 
--- what a context has after a call is still what its sections give
-pub still_a_context : {R : Type 0} (d : Sections) (us : List UnitRecord) (old : List ResUnit) (held : List (UnitEntries R)) (ranges : List UnitRange) (sup : List UnitRecord) (sup_dwarf : Option Sections) → IsContext d us old held ranges sup sup_dwarf
-    → (vs : List UnitRecord) → vs ≡ us → (new : List ResUnit) → StayUnits old new → (entries : List (UnitEntries R)) → entries ≡ held → (now : List UnitRange) → now ≡ ranges → HaveLinesOf d vs new
-    → IsContext d vs new entries now sup sup_dwarf
-still_a_context {R} d us old held ranges sup sup_dwarf c vs whole new stay entries same_entries now same lines = record {
-  made_is = c.made_is ∙ ap (λ (m : UnitIndex). Ok m) (sym index_stays);
-  lines = lines;
-  entries =
-      subst (λ (m : UnitIndex). HaveEntriesOf (main_scope d m) vs entries) (sym index_stays)
-      (subst (λ (xs : List UnitRecord). HaveEntriesOf scope xs entries) (sym whole)
-      (subst (λ (es : List (UnitEntries R)). HaveEntriesOf scope us es) (sym same_entries) c.entries));
-  sup_dwarf_is = c.sup_dwarf_is;
-}
-  where
-    scope : Scope
-    scope = main_scope d (index_by us old ranges sup)
-
-    index_stays : index_by vs new now sup ≡ index_by us old ranges sup
-    index_stays =
-        ap (λ (rs : List UnitRange). index_by vs new rs sup) same
-        ∙ ap (λ (xs : List UnitRecord). index_by xs new ranges sup) whole
-        ∙ ap (λ is. record { units = is; ranges = ranges; sup_units = sup }) (stay_indexed us old new stay)
+-- lines that were parsed along ranges still are
+pub parsed_more : (p q : List Bool) → StaysParsed p q → (rs : List UnitRange) → AreParsed p rs → AreParsed q rs
+parsed_more p q stay [] h = tt
+parsed_more p q stay (r ∷ rs) h = (stay r.unit h.0, parsed_more p q stay rs h.1)
 
 -- whether lines can be read, of each unit and along ranges
 module _ (d : Sections) where
@@ -210,25 +269,48 @@ range_ready_if_ok (Err e) c all = tt
 pub err_is_not_ok : {X : Type 0} (e : Error) (x : X) → ◌≡◌ {A = Result X Error} (Err e) (Ok x) → ⊥
 err_is_not_ok e x k = cc
 
--- what cached lines have in ranges is what the lines of the units have
-module _ (d : Sections) (low high : ℕ) where
-  spans_at : (us : List UnitRecord) (rs : List ResUnit) (n : ℕ) (range : Range) → HaveLinesOf d us rs → has_parsed (parsed_units rs) n ≡ true → spans_in d low high range (slice_get (indexed_units us rs) n) ≡ cached_spans range low high (lines_at rs n)
-  spans_at [] [] n range own e = refl
-  spans_at [] (r ∷ rs) n range own e = absurd own
-  spans_at (u ∷ us) [] n range own e = absurd own
-  spans_at (u ∷ us) (r ∷ rs) zero range own e = of_lines r.lines own.0 e
-    where
-      of_lines : (l : LazyLines) → AreLinesOf d u l → not (is_uncached l) ≡ true → spans_or_fault range low high (unit_lines d u) ≡ cached_spans range low high l
-      of_lines Unread h k = absurd (false_true k)
-        where
-          false_true : false ≡ true → ⊥
-          false_true q = cc
-      of_lines (Read lines) h k = ap (spans_or_fault range low high) h
-      of_lines (Faulty f) h k = ap (spans_or_fault range low high) h.0
-  spans_at (u ∷ us) (r ∷ rs) (suc n) range own e = spans_at us rs n range own.1 e
+-- a context that is made
+module _ (d : Sections) where
+  abbrev state : List RangedUnit → ContextState
+  state units = record { sections = d; answers = map (λ _. None) units; parsed = map has_lines units; known = map (λ _. NothingKnown) units; looks = 0; stop = FindsNothing }
 
-  pub spans_cached : (us : List UnitRecord) (rs : List ResUnit) (ranges : List UnitRange) → HaveLinesOf d us rs → AreParsed (parsed_units rs) ranges → spans_along d (indexed_units us rs) low high ranges ≡ cached_along rs low high ranges
-  spans_cached us rs [] own all = refl
-  spans_cached us rs (r ∷ ranges) own all =
-      ap (λ xs. xs ++ spans_along d (indexed_units us rs) low high ranges) (spans_at us rs r.unit r.range own all.0)
-      ∙ ap (λ xs. cached_spans r.range low high (lines_at rs r.unit) ++ xs) (spans_cached us rs ranges own all.1)
+  abbrev made_of : List RangedUnit → List UnitRecord → UnitIndex
+  made_of units sup = record { units = map indexed_of units; ranges = unit_ranges_from d 0 units; sup_units = sup }
+
+  abbrev pair_of : List RangedUnit → List UnitRecord → UnitsState × List UnitRange
+  pair_of units sup = (first_state d units sup, unit_ranges_from d 0 units)
+
+  pub context_made : (u : UnitsState) (ranges : List UnitRange) → new_units d ≡ Ok (u, ranges) → IsContext ranges u × (new_context d ≡ Ok (seen_context u))
+  context_made u ranges e = of_units (ranged_units d) refl e
+    where
+      pair_is : (x y : UnitsState × List UnitRange) → ◌≡◌ {A = Result (UnitsState × List UnitRange) Error} (Ok x) (Ok y) → x ≡ y
+      pair_is x y k = cc
+
+      of_sup : (units : List RangedUnit) (r : Result (List UnitRecord) Error) → ranged_units d ≡ Ok units → sup_units d.sup ≡ r → (r >>= λ sup. Ok (pair_of units sup)) ≡ Ok (u, ranges) → IsContext ranges u × ((r >>= λ sup. Ok (state units)) ≡ Ok (seen_context u))
+      of_sup units (Err f) q l k = absurd cc
+      of_sup units (Ok sup) q l k =
+          let p = pair_is (pair_of units sup) (u, ranges) k in (
+            subst (λ (x : UnitsState × List UnitRange). IsContext x.1 x.0) p (record {
+              made = made_of units sup;
+              made_is = ap (λ (r : Result (List RangedUnit) Error). r >>= λ xs. sup_units d.sup >>= λ s. Ok (made_of xs s)) q ∙ ap (λ (r : Result (List UnitRecord) Error). r >>= λ s. Ok (made_of units s)) l;
+              scope = refl;
+              units = refl;
+              ranges = refl;
+            }),
+            ap (λ (x : UnitsState × List UnitRange). Ok (seen_context x.0)) p,
+          )
+
+      of_units : (r : Result (List RangedUnit) Error) → ranged_units d ≡ r → (r >>= λ units. sup_units d.sup >>= λ sup. Ok (pair_of units sup)) ≡ Ok (u, ranges) → IsContext ranges u × ((r >>= λ units. sup_units d.sup >>= λ sup. Ok (state units)) ≡ Ok (seen_context u))
+      of_units (Err f) q k = absurd cc
+      of_units (Ok units) q k = of_sup units (sup_units d.sup) q refl k
+
+  pub context_fault : (f : Error) → new_units d ≡ Err f → new_context d ≡ Err f
+  context_fault f e = of_units (ranged_units d) e
+    where
+      of_sup : (units : List RangedUnit) (r : Result (List UnitRecord) Error) → (r >>= λ sup. Ok (pair_of units sup)) ≡ Err f → (r >>= λ sup. Ok (state units)) ≡ Err f
+      of_sup units (Ok sup) k = absurd cc
+      of_sup units (Err x) k = let same : x ≡ f = cc in ap (λ y. Err y) same
+
+      of_units : (r : Result (List RangedUnit) Error) → (r >>= λ units. sup_units d.sup >>= λ sup. Ok (pair_of units sup)) ≡ Err f → (r >>= λ units. sup_units d.sup >>= λ sup. Ok (state units)) ≡ Err f
+      of_units (Ok units) k = of_sup units (sup_units d.sup) k
+      of_units (Err x) k = let same : x ≡ f = cc in ap (λ y. Err y) same

@@ -52,10 +52,10 @@ module _ (faults : Faults) (d : Sections) (m : UnitIndex) (probe : ℕ) (e : ind
   abbrev listed : FirstAnswers → List SplitLoad
   listed answers = laws.loads_of d us answers (cover probe m.ranges)
 
-  loads_are : (answers : FirstAnswers) → loads_at d answers probe ≡ listed answers
+  pub loads_are : (answers : FirstAnswers) → loads_at d answers probe ≡ listed answers
   loads_are answers = ap (λ (r : Result UnitIndex Error). elim r [ Err x ↦ [] | Ok i ↦ loads_along (load_of_number d (unit_records i.units) answers) (cover probe i.ranges) ]) e
 
-  answers_are : (answers : FirstAnswers) (n : ℕ) (x : Option Sections) → answered d answers n x ≡ with_answer d us answers n x
+  pub answers_are : (answers : FirstAnswers) (n : ℕ) (x : Option Sections) → answered d answers n x ≡ with_answer d us answers n x
   answers_are answers n x = ap (λ (r : Result UnitIndex Error). elim r [ Err f ↦ answers | Ok i ↦ with_answer d (unit_records i.units) answers n x ]) e
 
   waits_for_listed : (answers : FirstAnswers) (n : ℕ) → lookup_stop faults d answers probe ≡ Ok (Waits n) → IsListed n (listed answers)
@@ -63,7 +63,7 @@ module _ (faults : Faults) (d : Sections) (m : UnitIndex) (probe : ℕ) (e : ind
       let stop : stop_in faults d answers probe m ≡ Ok (Waits n) = sym (ap (λ r. r >>= stop_in faults d answers probe) e) ∙ w in
       (waits_listed faults (main_scope d m) m.units answers probe n (cover probe m.ranges) stop).1
 
-  as_many : (answers : FirstAnswers) (n : ℕ) (x : Option Sections) → length (with_answer d us answers n x) ≡ length answers
+  pub as_many : (answers : FirstAnswers) (n : ℕ) (x : Option Sections) → length (with_answer d us answers n x) ≡ length answers
   as_many answers n x = by (slice_get us n)
     where
       by : (o : Option UnitRecord) → length {A = Option (Option Sections)} (elim o [ None ↦ answers | Some u ↦ set answers n (decided_answer d u (answer_of answers n) x) ]) ≡ length answers

@@ -1,14 +1,14 @@
 pub mod ContextLemmas
-pub mod NewContextLemmas
-pub mod StayLemmas
 pub mod LookupLemmas
 pub mod AnsweredLemmas
 pub mod AfterLemmas
 pub mod SkipLemmas
-pub mod ParseLemmas
 pub mod LoadLemmas
 pub mod HistoryLemmas
 pub mod HistoryLawLemmas
+pub mod AnswerLawLemmas
+pub mod WarmUpLemmas
+pub mod FrameLawLemmas
 pub mod SkippedLemmas
 pub mod ReplayLemmas
 pub mod RunLemmas

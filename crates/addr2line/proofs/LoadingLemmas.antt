@@ -10,7 +10,7 @@ use Rattle.elf.specs.Loading.{Loading, LoadsUnlessOom, LoadsUnlessOomFor}
 use Rattle.elf.specs.ObjectFile.{ObjectFile}
 use Rattle.elf.specs.Text.{loader_error_of}
 use Rattle.addr2line.specs.Context.{ContextState}
-use Rattle.addr2line.specs.Files.{Files}
+use Rattle.addr2line.specs.Files.{ReadFiles}
 use Rattle.addr2line.specs.Loader.{AfterContext}
 use Rattle.addr2line.specs.SplitFiles.{LeavesOpen, of_file}
 
@@ -49,7 +49,7 @@ if_some_both None p q f = tt
 if_some_both (Some x) p q f = f x p q
 
 -- after a lookup of locations in its context, a loader
-pub looked_in_context : {X : Type 0} (IsAfter : Result X Error → ContextState → ContextState → Type 0) (files : Option Files) (object : ObjectFile) (r : Result X Error) (result : Loading X) (old new : ContextState) → result ≡ of_file r → IsAfter r old new
+pub looked_in_context : {X : Type 0} (IsAfter : Result X Error → ContextState → ContextState → Type 0) (files : Option ReadFiles) (object : ObjectFile) (r : Result X Error) (result : Loading X) (old new : ContextState) → result ≡ of_file r → IsAfter r old new
     → AfterContext IsAfter result (record { files = files; object = object; context = old }) (record { files = files; object = object; context = new })
 looked_in_context IsAfter files object r result old new is after =
     record { files = refl; object = refl; given = r; answer = is; context = after }

@@ -17,13 +17,14 @@ use Rattle.addr2line_units.specs.Parsed.{StaysParsed, has_parsed}
 use Rattle.addr2line_units.specs.UnitIndex.{UnitIndex, index_units}
 use Rattle.addr2line_units.specs.UnitFrames.{FramesResult}
 use Rattle.addr2line.specs.Context.{ContextState, IsUncovered}
-use Rattle.addr2line.specs.Files.{Files}
+use Rattle.addr2line.specs.Files.{ReadFiles}
 use Rattle.addr2line.specs.FramesByFiles.{ended_frames_of, stop_frames}
 use Rattle.addr2line.specs.LoadsByFiles.{AfterAnswers, AnswersInTurn, WaitsForNone}
-use Rattle.addr2line.specs.AfterLookups.{IsKnownFew, StaysKnown, has_few_of}
+use Rattle.addr2line.specs.AfterLookups.{IsKnownFew, has_few_of}
+use Rattle.addr2line_units.specs.StaysKnown.{StaysKnown}
 use Rattle.addr2line.specs.Lookups.{asked_of, lookup_stop, stop_in}
 use Rattle.addr2line.proofs.HistoryLemmas.{given_ended}
-use Rattle.addr2line.proofs.NewContextLemmas.{ok_is}
+use Rattle.addr2line_units.proofs.NewUnitsLemmas.{ok_is}
 use Rattle.addr2line_units.specs.Views.{FirstAnswers}
 
 more : (a b c x y : Bool) → (a ≡ true → x ≡ true) → (c ≡ true → y ≡ true) → (a && (b || c)) ≡ true → (x && (b || y)) ≡ true
@@ -32,7 +33,7 @@ more true false c x y f g e = rw (f refl, g e) refl
 more false b c x y f g e = cc
 
 -- along ranges what follows of each number
-holds_more : (h k : ℕ → Bool) (frames : ℕ → FramesResult) (ranges : List UnitRange) → ((n : ℕ) → h n ≡ true → k n ≡ true) → holds_along h frames ranges ≡ true → holds_along k frames ranges ≡ true
+pub holds_more : (h k : ℕ → Bool) (frames : ℕ → FramesResult) (ranges : List UnitRange) → ((n : ℕ) → h n ≡ true → k n ≡ true) → holds_along h frames ranges ≡ true → holds_along k frames ranges ≡ true
 holds_more h k frames [] f e = refl
 holds_more h k frames (r ∷ ranges) f e =
     more (h r.unit) (ends_lookup (frames r.unit)) (holds_along h frames ranges) (k r.unit) (holds_along k frames ranges) (f r.unit) (holds_more h k frames ranges f) e
@@ -59,7 +60,7 @@ module _ (probe : ℕ) (old new : ContextState) where
           more before false few_there after few_there (more _ asks (has_parsed old.parsed n) _ (has_parsed new.parsed n) ((known n).at probe) (parsed n)) (λ q. q) e
 
 -- a lookup that waits for no answer, after loads were answered
-module _ (files : Option Files) (probe : ℕ) (first now : ContextState) (a : AfterAnswers files first now) (w : WaitsForNone first probe) where
+module _ (files : Option ReadFiles) (probe : ℕ) (first now : ContextState) (a : AfterAnswers files first now) (w : WaitsForNone first probe) where
   pub waits_never : (n : ℕ) → lookup_stop End now.sections now.answers probe ≡ Ok (Waits n) → ⊥
   waits_never n waits =
       let no = sym (ap is_waiting waits) ∙ ap is_waiting (a.ended probe w) ∙ w in

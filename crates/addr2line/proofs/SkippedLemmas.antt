@@ -11,7 +11,8 @@ use Rattle.addr2line.specs.Answers.{AfterAnswer, answered}
 use Rattle.addr2line.specs.Context.{ContextState}
 use Rattle.addr2line.specs.History.{Given, Answered, answers_given}
 use Rattle.addr2line.specs.AfterLookups.{AfterFrames, IsKnown}
-use Rattle.addr2line.specs.Lookups.{loads_at, lookup_stop, waiting_unit, waits_for}
+use Rattle.addr2line.specs.Lookups.{loads_at, lookup_stop, waits_for}
+use Rattle.addr2line_units.specs.UnitsState.{waiting_unit}
 use Rattle.addr2line.specs.Skips.{AfterSkip, nones, skipped_answers}
 
 -- none as an answer, so often

@@ -16,25 +16,11 @@ use Rattle.addr2line_units.specs.KnownEntries.{KnownEntries, knows_at}
 use Rattle.gimli_read.specs.Alike.{HadMemory}
 use Rattle.addr2line_units.specs.Parsed.{ParsesOnly, StaysParsed, has_parsed}
 use Rattle.addr2line_units.specs.RangedUnits.{unit_records}
+use Rattle.addr2line_units.specs.StaysKnown.{StaysKnown}
 use Rattle.addr2line_units.specs.UnitIndex.{UnitIndex, index_units}
 use Rattle.addr2line_units.specs.Views.{SplitLoad}
 use Rattle.addr2line.specs.Context.{ContextState}
 use Rattle.addr2line.specs.Lookups.{asked_of, lookup_stop, IsLoadOf}
-
--- all is known that a parse of functions reads of the unit of a number that isn't open, up to the
--- first fault, and that fault too
-abbrev pub IsReadyAt : ReadingDepth → List KnownEntries → ℕ → Type 0
-IsReadyAt reads known n = IfSome (slice_get known n) (IsReadyFor reads)
-
--- what was known of the unit of a number stays known: what a lookup asks, and all that a parse of
--- functions reads
-pub record StaysKnownOf (n : ℕ) (old new : List KnownEntries) : Type 0 where
-  pub at : (probe : ℕ) → knows_at old probe n ≡ true → knows_at new probe n ≡ true
-  pub whole : (reads : ReadingDepth) → IsReadyAt reads old n → IsReadyAt reads new n
-
--- the same of all units
-abbrev pub StaysKnown : List KnownEntries → List KnownEntries → Type 0
-StaysKnown old new = (n : ℕ) → StaysKnownOf n old new
 
 -- whether all is known that a lookup asks the unit of a number for
 abbrev pub has_all_of : ContextState → ℕ → UnitIndex → ℕ → Bool

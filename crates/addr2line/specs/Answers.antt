@@ -10,7 +10,8 @@ use Rattle.addr2line_units.specs.FramesLookup.{with_answer}
 use Rattle.addr2line_units.specs.UnitIndex.{index_units}
 use Rattle.addr2line_units.specs.RangedUnits.{unit_records}
 use Rattle.addr2line.specs.Context.{ContextState}
-use Rattle.addr2line.specs.AfterLookups.{AfterFrames, StaysKnown, Suspends}
+use Rattle.addr2line.specs.AfterLookups.{AfterFrames, Suspends}
+use Rattle.addr2line_units.specs.StaysKnown.{StaysKnown}
 use Rattle.addr2line_units.specs.Views.{FirstAnswers, SplitLoad}
 
 -- the first answers after one more to the load of the unit of a number, which counts where the unit

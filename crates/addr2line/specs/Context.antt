@@ -5,24 +5,20 @@
 -- parsed; a context that is made has parsed them only where they give a unit its ranges, and a unit
 -- without a line program has its lines, which are none.
 -- Own: of a unit the first answer to its load counts: the sections of a split file, or none.
-use Rattle.std.specs.Prelude.{◌≡◌, ℕ, ◌+◌, ◌<◌, ◌≤◌, Bool, true, List, [], map, Option, None, option_map, Result, Ok}
+use Rattle.std.specs.Prelude.{◌≡◌, ℕ, ◌+◌, ◌<◌, ◌≤◌, Bool, true, List, [], map, Option, None, Result, Ok}
 use Rattle.gimli_read.specs.declared.error.Error.{Error}
 use Rattle.gimli_read.specs.Reading.{◌>>=◌, fault_of}
 use Rattle.gimli.specs.Sections.{Sections}
-use Rattle.gimli.specs.Unit.{UnitRecord}
 use Rattle.addr2line_units.specs.declared.index.UnitRange.{UnitRange}
-use Rattle.addr2line_units.specs.declared.unit.ResUnit.{ResUnit}
-use Rattle.addr2line_units.specs.declared.unit_frames.UnitEntries.{UnitEntries}
-use Rattle.addr2line_units.specs.CachedLines.{HaveLinesOf, indexed_units}
 use Rattle.addr2line_units.specs.FramesLookup.{FindsNothing, Stop, main_scope}
-use Rattle.addr2line_units.specs.CachedUnits.{HaveEntriesOf}
 use Rattle.addr2line_units.specs.KnownEntries.{KnownEntries, NothingKnown}
 use Rattle.addr2line_units.specs.Located.{all_lines, is_found, looks_along}
-use Rattle.addr2line_units.specs.UnitIndex.{UnitIndex, index_units, sup_sections, sup_units}
+use Rattle.addr2line_units.specs.UnitIndex.{UnitIndex, index_units, sup_units}
 use Rattle.addr2line_units.specs.RangedUnits.{has_lines, ranged_units}
 use Rattle.gimli_read.specs.Alike.{HadMemory}
 use Rattle.addr2line_units.specs.Parsed.{AllAskFor, AreParsed, AreReadyForAll, AsksFor, LeadTo, ParsesOnly, StaysParsed, ready_along}
 use Rattle.addr2line_units.specs.Cover.{cover, cover_range}
+use Rattle.addr2line_units.specs.UnitsState.{UnitsState}
 use Rattle.addr2line_units.specs.Views.{FirstAnswers}
 
 -- the sections, the first answer of each unit, none before it has one, of which units the lines are
@@ -126,17 +122,21 @@ pub record AfterRangeLookup {X : Type 0} (low high : ℕ) (result : Result X Err
 abbrev pub lines_of_all : Sections → Result (Unit {0}) Error
 lines_of_all d = index_units d >>= λ m. fault_of (all_lines d m.units)
 
--- what a context is made of, by its parts
-abbrev pub index_by : List UnitRecord → List ResUnit → List UnitRange → List UnitRecord
-    → UnitIndex
-index_by dw_units units ranges sup =
-    record { units = indexed_units dw_units units; ranges = ranges; sup_units = sup }
+-- a context by its units
+abbrev pub seen_context : UnitsState → ContextState
+seen_context u = record {
+  sections = u.scope.file.sections;
+  answers = u.answers;
+  parsed = u.parsed;
+  known = u.known;
+  looks = u.looks;
+  stop = u.stop;
+}
 
--- what a context has is what its sections give
-pub record IsContext {R : Type 0} (d : Sections) (dw_units : List UnitRecord)
-    (units : List ResUnit) (held : List (UnitEntries R)) (ranges : List UnitRange)
-    (sup : List UnitRecord) (sup_dwarf : Option Sections) : Type 0 where
-  pub made_is : index_units d ≡ Ok (index_by dw_units units ranges sup)
-  pub lines : HaveLinesOf d dw_units units
-  pub entries : HaveEntriesOf (main_scope d (index_by dw_units units ranges sup)) dw_units held
-  pub sup_dwarf_is : sup_dwarf ≡ option_map sup_sections d.sup
+-- the units of a context, and the ranges that lead to them, are what its sections give
+pub record IsContext (listed : List UnitRange) (u : UnitsState) : Type 0 where
+  pub made : UnitIndex
+  pub made_is : index_units u.scope.file.sections ≡ Ok made
+  pub scope : u.scope ≡ main_scope u.scope.file.sections made
+  pub units : u.units ≡ made.units
+  pub ranges : listed ≡ made.ranges

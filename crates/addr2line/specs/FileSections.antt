@@ -1,7 +1,8 @@
 -- The sections of an ELF file that DWARF is read from (DWARF 5, section 7.5 and appendix B; split
 -- files: section 7.3.2.2).
 -- Own: they are taken in the order of their names, and the first fault counts. A section that split
--- files don't have is empty.
+-- files don't have is empty. A section that is compressed is refused or decompressed, as it is
+-- chosen for the file.
 use Rattle.std.specs.Prelude.{List, ℕ, Option, Some, None, Ok}
 use Rattle.gimli_read.specs.Reading.{◌>>=◌}
 use Rattle.gimli_read.specs.Section.{Section}
@@ -10,11 +11,14 @@ use Rattle.gimli.specs.declared.load.SectionId.{SectionId}
 use Rattle.gimli.specs.declared.load.SectionId.TheVariants.{DebugAbbrev, DebugAddr, DebugAranges, DebugInfo, DebugLine, DebugLineStr, DebugRanges, DebugRngLists, DebugStr, DebugStrOffsets}
 use Rattle.gimli.specs.Asked.{dwo_section_name, section_name}
 use Rattle.gimli.specs.Sections.{Sections, SupSections}
+use Rattle.elf.specs.Compressed.{decompressed_at}
 use Rattle.elf.specs.Loading.{Loading}
 use Rattle.elf.specs.ObjectFile.{ObjectFile}
 use Rattle.elf.specs.Sections.{section_at}
 use Rattle.gimli_read.specs.StringForm.{no_bytes}
 use Rattle.addr2line_units.specs.UnitIndex.{sup_sections}
+use Rattle.addr2line.specs.declared.compressed.CompressedSections.{CompressedSections}
+use Rattle.addr2line.specs.declared.compressed.CompressedSections.TheVariants.{Decompressed, Refused}
 
 -- the ten sections, by what each is given as, or the first fault
 unfoldable pub sections_by : (SectionId → Loading Section) → Loading SupSections
@@ -42,18 +46,23 @@ sections_by given = do
     debug_str_offsets = str_offsets;
   })
 
+-- the section of a name, by what becomes of one that is compressed
+abbrev pub section_by : CompressedSections → List ℕ → ObjectFile → Loading Section
+section_by Refused name file = section_at name file
+section_by Decompressed name file = decompressed_at name file
+
 -- a section of a file that isn't split
-abbrev pub main_section : ObjectFile → SectionId → Loading Section
-main_section file id = section_at (section_name id) file
+abbrev pub main_section : CompressedSections → ObjectFile → SectionId → Loading Section
+main_section compressed file id = section_by compressed (section_name id) file
 
 -- the section of a name in a split file, if split files have it
-abbrev pub section_if : ObjectFile → Option (List ℕ) → Loading Section
-section_if file None = Ok no_bytes
-section_if file (Some name) = section_at name file
+abbrev pub section_if : CompressedSections → ObjectFile → Option (List ℕ) → Loading Section
+section_if compressed file None = Ok no_bytes
+section_if compressed file (Some name) = section_by compressed name file
 
 -- a section of a split file
-abbrev pub split_section : ObjectFile → SectionId → Loading Section
-split_section file id = section_if file (dwo_section_name id)
+abbrev pub split_section : CompressedSections → ObjectFile → SectionId → Loading Section
+split_section compressed file id = section_if compressed file (dwo_section_name id)
 
 -- ten sections as those of a file of a kind with a supplementary file, or none
 abbrev pub as_file : DwarfFileType → Option SupSections → SupSections → Sections

@@ -18,7 +18,7 @@ use Rattle.addr2line_units.specs.UnitIndex.{UnitIndex, index_units}
 use Rattle.addr2line_units.specs.RangedUnits.{IndexedUnit}
 use Rattle.addr2line_units.specs.Views.{FirstAnswers, SplitLoad, awaited_load}
 use Rattle.addr2line.specs.Context.{ContextState}
-use Rattle.addr2line.specs.Files.{Files}
+use Rattle.addr2line.specs.Files.{ReadFiles}
 use Rattle.addr2line.specs.Lookups.{lookup_stop}
 use Rattle.addr2line.specs.SplitFiles.{given_by_files, of_file}
 
@@ -81,5 +81,5 @@ frames_by_answers give d answers probe =
     of_file (index_units d) >>= frames_in_units give d answers probe
 
 -- the same, by files
-abbrev pub frames_by_files : Files → Sections → FirstAnswers → ℕ → Loading (List FrameRecord)
-frames_by_files files d answers probe = frames_by_answers (given_by_files files) d answers probe
+abbrev pub frames_by_files : ReadFiles → Sections → FirstAnswers → ℕ → Loading (List FrameRecord)
+frames_by_files read d answers probe = frames_by_answers (given_by_files read) d answers probe

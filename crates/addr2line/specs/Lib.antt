@@ -9,6 +9,9 @@ pub mod History
 pub mod Skips
 pub mod WaitingLookups
 pub mod HistoryLaws
+pub mod AnswerLaws
+pub mod WarmUp
+pub mod FrameLaws
 pub mod SeenReplies
 pub mod SeenCalls
 pub mod Files

@@ -12,21 +12,25 @@ use Rattle.addr2line_units.specs.declared.frames_lookup.Faults.TheVariants.{End}
 use Rattle.addr2line_units.specs.Frames.{FrameRecord}
 use Rattle.addr2line.specs.declared.loader.LoaderOver.{LoaderOver}
 use Rattle.addr2line.specs.Context.{AfterLookup, AfterRangeLookup, ContextState}
-use Rattle.addr2line.specs.Files.{Files}
+use Rattle.addr2line.specs.Files.{Files, ReadFiles, as_read_if_known}
 use Rattle.addr2line.specs.FramesByFiles.{ended_frames_of}
 use Rattle.addr2line.specs.LoadsByFiles.{AfterAnswers, AnswersInTurn, HasEnded, ReadsAsked, WaitsForNone, WaitsForOne}
 use Rattle.addr2line.specs.AfterLookups.{IsKnown, IsKnownFew}
 use Rattle.addr2line.specs.SplitFiles.{of_file}
 
--- the files, where they are known, the main file, and the context
+-- the files, where they are known, as they are read, the main file, and the context
 pub record LoaderState : Type 0 where
-  pub files : Option Files
+  pub files : Option ReadFiles
   pub object : ObjectFile
   pub context : ContextState
 
 -- a loader, by what its files are
 abbrev pub seen_loader : {F : Type 0} → (F → Option Files) → LoaderOver F → LoaderState
-seen_loader files l = record { files = files l.files; object = l.object; context = l.context }
+seen_loader files l = record {
+  files = as_read_if_known l.compressed (files l.files);
+  object = l.object;
+  context = l.context;
+}
 
 -- a lookup of frames at the probe has answered the loads that it came to by files: the files and
 -- the main file are the same, and nothing was read but what it asks for; once it has ended, at a

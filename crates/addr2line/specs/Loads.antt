@@ -23,7 +23,7 @@ use Rattle.addr2line_units.specs.RangedUnits.{unit_records}
 use Rattle.addr2line.specs.Answers.{answered}
 use Rattle.addr2line.specs.Context.{ContextState, lines_of_all}
 use Rattle.addr2line.specs.Lookups.{lookup_stop}
-use Rattle.addr2line.specs.AfterLookups.{IsReadyAt, StaysKnown}
+use Rattle.addr2line_units.specs.StaysKnown.{IsReadBy, IsReadyAt, StaysKnown}
 use Rattle.addr2line_units.specs.Views.{FirstAnswers}
 
 -- what an answer to the load of the unit of a number gives: UnknownToken where there is none, or
@@ -96,14 +96,7 @@ pub record AfterPreload (old new : ContextState) : Type 0 where
   pub answers : new.answers ≡ old.answers
   pub known : StaysKnown old.known new.known
 
--- all is known that a parse of functions reads of a unit
-abbrev pub IsReadBy : ReadingDepth → KnownEntries → Type 0
-IsReadBy reads NothingKnown = ⊥
-IsReadBy reads AllKnown = ⊥
-IsReadBy kinds.Functions (FunctionsKnown t) = Unit {0}
-IsReadBy kinds.Details (FunctionsKnown t) = AllByRecursion HasDetail t.functions
-
--- the same of all units
+-- all is known that a parse of functions reads of all units
 abbrev pub AreReadBy : ReadingDepth → ContextState → Type 0
 AreReadBy reads c = AllByRecursion (IsReadBy reads) c.known
 

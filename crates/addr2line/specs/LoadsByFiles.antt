@@ -13,11 +13,12 @@ use Rattle.addr2line_units.specs.Parsed.{StaysParsed}
 use Rattle.addr2line_units.specs.Views.{FirstAnswers, SplitLoad}
 use Rattle.addr2line.specs.Answers.{answered}
 use Rattle.addr2line.specs.Context.{ContextState}
-use Rattle.addr2line.specs.Files.{Files}
+use Rattle.addr2line.specs.Files.{ReadFiles}
 use Rattle.addr2line.specs.FramesByFiles.{frames_by_files}
 use Rattle.addr2line.specs.History.{Given, answers_given}
 use Rattle.addr2line.specs.Lookups.{IsLoadOf, lookup_stop}
-use Rattle.addr2line.specs.AfterLookups.{LearnsAsked, ParsesAsked, StaysKnownOf}
+use Rattle.addr2line.specs.AfterLookups.{LearnsAsked, ParsesAsked}
+use Rattle.addr2line_units.specs.StaysKnown.{StaysKnownOf}
 use Rattle.addr2line.specs.SplitFiles.{given_by_files}
 
 -- first answers stay
@@ -26,7 +27,7 @@ StayAnswered old new = (n : ℕ) (answer : Option Sections) → answer_of old n 
     → answer_of new n ≡ Some answer
 
 -- where files answer loads, all lookups of frames give the same
-abbrev pub GivesSameFrames : Files → ContextState → ContextState → Type 0
+abbrev pub GivesSameFrames : ReadFiles → ContextState → ContextState → Type 0
 GivesSameFrames files old new = (probe : ℕ) → frames_by_files files new.sections new.answers probe
     ≡ frames_by_files files old.sections old.answers probe
 
@@ -52,7 +53,7 @@ StayKnownUnanswered old new = (n : ℕ) → answer_of new.answers n ≡ answer_o
 -- loads of a context were answered by files: the sections are the same, first answers stay, all
 -- lookups of frames give the same, those that wait for none whatever the files are, what was parsed
 -- of lines stays parsed, and what was known of the units that weren't answered stays known
-pub record AfterAnswers (files : Option Files) (old new : ContextState) : Type 0 where
+pub record AfterAnswers (files : Option ReadFiles) (old new : ContextState) : Type 0 where
   pub sections : new.sections ≡ old.sections
   pub answers : StayAnswered old.answers new.answers
   pub frames : IfSome files (λ held. GivesSameFrames held old new)
@@ -88,11 +89,11 @@ HasEnded (Ok x) = Unit {0}
 HasEnded (Err e) = IsUnitFault e
 
 -- this is what the files, where they are known, answer to the load of the unit of a number
-abbrev pub IsAnswerByFiles : Option Files → Sections → ℕ → Option Sections → Type 0
+abbrev pub IsAnswerByFiles : Option ReadFiles → Sections → ℕ → Option Sections → Type 0
 IsAnswerByFiles files d n given = (load : SplitLoad) × IsLoadOf d n load
     × IfSome files (λ held. given_by_files held load ≡ Ok given)
 
 -- where the files are known, the refusal is the fault of the frames by them, or OutOfMemory
-abbrev pub IsFaultByFiles : Option Files → ContextState → ℕ → LoaderError → Type 0
+abbrev pub IsFaultByFiles : Option ReadFiles → ContextState → ℕ → LoaderError → Type 0
 IsFaultByFiles files c probe e = IfSome files (λ held. e ≢ OutOfMemory
     → frames_by_files held c.sections c.answers probe ≡ Err e)

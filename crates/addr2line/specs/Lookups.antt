@@ -2,7 +2,7 @@
 -- 2.17, 3.1.2, 3.3 and 7.3.2).
 -- Own: a lookup asks the units that cover an address one after another; a unit that is open ends it
 -- until its load is answered.
-use Rattle.std.specs.Prelude.{◌≡◌, ℕ, ◌==◌, ◌<◌, Bool, false, length, List, [], map, slice_get, Option, Some, None, option_map, unwrap_or, Result, Ok, Err}
+use Rattle.std.specs.Prelude.{◌≡◌, ℕ, ◌==◌, Bool, false, List, [], map, slice_get, Option, Some, None, option_map, unwrap_or, Result, Ok, Err}
 use Rattle.gimli_read.specs.declared.error.Error.{Error}
 use Rattle.gimli_read.specs.Reading.{◌>>=◌}
 use Rattle.gimli.specs.Sections.{Sections}
@@ -62,11 +62,6 @@ abbrev pub unit_of : Sections → FirstAnswers → ℕ → UnitResult
 unit_of d answers probe = index_units d >>= λ m.
     stop_in PassOver d answers probe m >>= λ s. Ok (unit_told d answers m s)
 
--- the unit that a lookup waits for, if it waits for one
-abbrev pub waiting_unit : Stop → Option ℕ
-waiting_unit (Waits n) = Some n
-waiting_unit stop = None
-
 -- whether a lookup waits for the unit of this number
 abbrev pub waits_for : ℕ → Result Stop Error → Bool
 waits_for k (Ok (Waits n)) = n == k
@@ -78,10 +73,6 @@ loads_at d answers probe = elim (index_units d) [
   | Err e ↦ []
   | Ok m ↦ loads_of d (unit_records m.units) answers (cover probe m.ranges)
 ]
-
--- there is a unit of this number
-abbrev pub IsUnitOf : Sections → ℕ → Type 0
-IsUnitOf d n = (m : UnitIndex) → index_units d ≡ Ok m → n < length m.units
 
 -- the first answers where each unit that has none is answered none
 abbrev pub with_none : FirstAnswers → FirstAnswers

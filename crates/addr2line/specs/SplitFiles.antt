@@ -23,8 +23,9 @@ use Rattle.elf.specs.Symbols.{utf8_from}
 use Rattle.elf.specs.Text.{loader_error_of}
 use Rattle.addr2line_lines.specs.Paths.{lacks, slash}
 use Rattle.addr2line_units.specs.Views.{SplitLoad, first_unit}
+use Rattle.addr2line.specs.declared.compressed.CompressedSections.{CompressedSections}
 use Rattle.addr2line.specs.FileSections.{as_file, sections_by, split_section}
-use Rattle.addr2line.specs.Files.{Files}
+use Rattle.addr2line.specs.Files.{ReadFiles}
 
 -- what DWARF bytes give, as an answer about their file
 abbrev pub of_file : {A : Type 0} → Result A Error → Loading A
@@ -74,8 +75,9 @@ split_by given load = do
       else None)
 
 -- the same of the bytes of a file
-unfoldable pub split_of : SplitLoad → List ℕ → Loading (Option Sections)
-split_of load bytes = object_file_of bytes >>= λ file. split_by (split_section file) load
+unfoldable pub split_of : CompressedSections → SplitLoad → List ℕ → Loading (Option Sections)
+split_of compressed load bytes =
+    object_file_of bytes >>= λ file. split_by (split_section compressed file) load
 
 -- what is loaded, or none in place of a fault
 abbrev pub or_none : Loading (Option Sections) → Option Sections
@@ -87,18 +89,18 @@ abbrev pub utf8_path : List ℕ → Loading (List ℕ)
 utf8_path path = elim (utf8_from path) [ None ↦ Err PathNotUtf8 | Some text ↦ Ok text ]
 
 -- the split sections at a path, if they are there
-abbrev pub split_at_path : Files → SplitLoad → List ℕ → Option Sections
-split_at_path files load path =
-    option_and_then (λ bytes. or_none (split_of load bytes)) (files path)
+abbrev pub split_at_path : ReadFiles → SplitLoad → List ℕ → Option Sections
+split_at_path read load path =
+    option_and_then (λ bytes. or_none (split_of read.compressed load bytes)) (read.files path)
 
 -- the answer to the load of a unit by the file at a path
-abbrev pub given_at_path : Files → SplitLoad → List ℕ → Loading (Option Sections)
-given_at_path files load path = utf8_path path >>= λ text. Ok (split_at_path files load text)
+abbrev pub given_at_path : ReadFiles → SplitLoad → List ℕ → Loading (Option Sections)
+given_at_path read load path = utf8_path path >>= λ text. Ok (split_at_path read load text)
 
 -- the answer to the load of a unit
-unfoldable pub given_by_files : Files → SplitLoad → Loading (Option Sections)
-given_by_files files load = elim (split_path load)
-    [ None ↦ Ok None | Some path ↦ given_at_path files load path ]
+unfoldable pub given_by_files : ReadFiles → SplitLoad → Loading (Option Sections)
+given_by_files read load = elim (split_path load)
+    [ None ↦ Ok None | Some path ↦ given_at_path read load path ]
 
 -- a refusal that leaves the unit open whose load it refuses
 abbrev pub LeavesOpen : LoaderError → Type 0

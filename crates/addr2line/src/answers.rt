@@ -3,11 +3,10 @@
 ghost use Rattle.std.specs.Prelude.{◌≡◌, ◌<◌, ℕ, OnOk, option_map, true};
 ghost use Rattle.addr2line_units.specs.declared.frames_lookup.Faults.{Faults};
 ghost use Rattle.addr2line.specs.Answers.{AfterAnswer};
-ghost use Rattle.addr2line.specs.Lookups.{IsUnitOf, lookup_stop, waits_for};
+ghost use Rattle.addr2line.specs.Lookups.{lookup_stop, waits_for};
 ghost use Rattle.addr2line.specs.WaitingLookups.{count_loads};
 
 use crate::context::Context;
-use addr2line_units::frames_lookup::FramesStop;
 use gimli::Dwarf;
 use gimli::read::{Error, Reader};
 use std::rc::Rc;
@@ -20,15 +19,12 @@ impl<R: Reader> Context<R> {
         number: usize,
         sections: Option<Rc<Dwarf<R>>>,
     ) -> Result<(), Error>
-        requires there { IsUnitOf self.old.sections number }
         ensures after { AfterAnswer number (option_map (λ d. d.value) sections) result self.old
             self.new }
         ensures fewer { (faults : Faults) (probe : ℕ) → waits_for number
             (lookup_stop faults self.old.sections self.old.answers probe) ≡ true
             → OnOk result (count_loads self.new probe < count_loads self.old probe) }
     {
-        self.stop = FramesStop::FindsNothing;
-        self.units
-            .answer(self.alloc, &self.dwarf, &self.sup_units, number, sections)
+        self.units.answer(number, sections)
     }
 }

@@ -6,6 +6,7 @@ ghost use Rattle.addr2line_lines.specs.LastAddress.{last_address};
 ghost use Rattle.addr2line_units.specs.declared.frames_lookup.Faults.TheVariants.{End};
 ghost use Rattle.addr2line_units.specs.FramesLookup.{Waits};
 ghost use Rattle.addr2line.specs.Context.{ContextState, IsUncovered};
+ghost use Rattle.addr2line.specs.Files.{as_read_if_known};
 ghost use Rattle.addr2line.specs.LoadsByFiles.{AfterAnswers, AnswersInTurn, AnswersOne, HasEnded, IsAnswerByFiles, IsFaultByFiles, IsUnitFault, ReadsAsked, WaitsForNone, WaitsForOne};
 ghost use Rattle.addr2line.specs.FramesByFiles.{ended_frames_of};
 ghost use Rattle.addr2line.specs.SplitFiles.{LeavesOpen};
@@ -13,6 +14,7 @@ ghost use Rattle.addr2line.specs.AfterLookups.{IsKnown, IsKnownFew};
 ghost use Rattle.addr2line.specs.Lookups.{lookup_stop};
 ghost use Rattle.addr2line.specs.WaitingLookups.{count_loads};
 
+use crate::compressed::CompressedSections;
 use crate::context::Context;
 use crate::files::FileSource;
 use crate::split_files::answer_to;
@@ -27,42 +29,47 @@ use std::rc::Rc;
 fn read_answer<F: FileSource>(
     alloc: Global,
     files: &F,
+    compressed: CompressedSections,
     ctx: &Context<EndianBytes>,
     probe: u64,
     number: usize,
 ) -> Result<Option<Rc<Dwarf<EndianBytes>>>, LoaderError>
     requires waits { lookup_stop End ctx.now.sections ctx.now.answers probe ≡ Ok (Waits number) }
     requires stored { ctx.now.stop ≡ Waits number }
-    ensures gives { IfOk result (λ given. IsAnswerByFiles (F.files files.now) ctx.now.sections
+    ensures gives { IfOk result (λ given.
+        IsAnswerByFiles (as_read_if_known compressed (F.files files.now)) ctx.now.sections
         number (option_map (λ d. d.value) given)) }
-    ensures refused { IfErr result (IsFaultByFiles (F.files files.now) ctx.now probe) }
+    ensures refused { IfErr result
+        (IsFaultByFiles (as_read_if_known compressed (F.files files.now)) ctx.now probe) }
     ensures stays_open { IfErr result LeavesOpen }
 {
     let load = ctx.load_of(number)?;
-    answer_to(alloc, files, &load)
+    answer_to(alloc, files, compressed, &load)
 }
 
 // Answers the load that a lookup of frames waits for by files.
 fn answer_load<F: FileSource>(
     alloc: Global,
     files: &F,
+    compressed: CompressedSections,
     ctx: &mut Context<EndianBytes>,
     probe: u64,
     number: usize,
 ) -> Result<(), LoaderError>
     requires waits { lookup_stop End ctx.old.sections ctx.old.answers probe ≡ Ok (Waits number) }
     requires stored { ctx.old.stop ≡ Waits number }
-    ensures after { AfterAnswers (F.files files.now) ctx.old ctx.new }
+    ensures after { AfterAnswers (as_read_if_known compressed (F.files files.now)) ctx.old ctx.new }
     ensures one { AnswersOne number ctx.old ctx.new }
     ensures only { (first : ContextState) → ReadsAsked probe first ctx.old
         → ReadsAsked probe first ctx.new }
     ensures fewer { OnOk result (count_loads ctx.new probe < count_loads ctx.old probe) }
-    ensures refused { IfErr result (IsFaultByFiles (F.files files.now) ctx.old probe) }
+    ensures refused { IfErr result
+        (IsFaultByFiles (as_read_if_known compressed (F.files files.now)) ctx.old probe) }
     ensures stays_open { IfErr result LeavesOpen }
     ensures still_waits { OnErr result
         (lookup_stop End ctx.new.sections ctx.new.answers probe ≡ Ok (Waits number)) }
 {
-    let sections = read_answer(alloc, files, ctx, probe, number)?;
+    let sections = read_answer(alloc, files, compressed, ctx, probe, number)?;
     Ok(ctx.answer(number, sections)?)
 }
 
@@ -71,10 +78,11 @@ fn answer_load<F: FileSource>(
 pub(crate) fn answer_loads<F: FileSource>(
     alloc: Global,
     files: &F,
+    compressed: CompressedSections,
     ctx: &mut Context<EndianBytes>,
     probe: u64,
 ) -> Result<(), LoaderError>
-    ensures after { AfterAnswers (F.files files.now) ctx.old ctx.new }
+    ensures after { AfterAnswers (as_read_if_known compressed (F.files files.now)) ctx.old ctx.new }
     ensures in_turn { AnswersInTurn probe ctx.old ctx.new }
     ensures only { ReadsAsked probe ctx.old ctx.new }
     ensures stored { OnOk result
@@ -85,7 +93,8 @@ pub(crate) fn answer_loads<F: FileSource>(
     ensures waits { IfErr result (λ e. e ≡ PathNotUtf8 → WaitsForOne ctx.new probe) }
     ensures memory { WaitsForNone ctx.new probe → IsKnownFew End ctx.new probe
         → IfErr result (λ e. e ≢ OutOfMemory) }
-    ensures refused { IfErr result (IsFaultByFiles (F.files files.now) ctx.old probe) }
+    ensures refused { IfErr result
+        (IsFaultByFiles (as_read_if_known compressed (F.files files.now)) ctx.old probe) }
     ensures fault { WaitsForNone ctx.old probe
         → IfErr result (λ e. e ≢ OutOfMemory → ended_frames_of ctx.old probe ≡ Err e) }
     ensures last { probe ≡ last_address → IsUncovered ctx.old probe }
@@ -93,7 +102,7 @@ pub(crate) fn answer_loads<F: FileSource>(
     loop {
         ctx.walk(probe, Faults::End)?;
         match ctx.waits_for() {
-            Some(number) => answer_load(alloc, files, ctx, probe, number)?,
+            Some(number) => answer_load(alloc, files, compressed, ctx, probe, number)?,
             None => return Ok(()),
         }
     }

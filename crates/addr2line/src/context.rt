@@ -14,11 +14,10 @@ ghost use Rattle.gimli_read.specs.Alike.{HadMemory};
 ghost use Rattle.addr2line_units.specs.Parsed.{AreAllParsed};
 ghost use Rattle.addr2line.specs.Context.{new_context, lines_of_all, AfterLookup, AfterRangeLookup, IsReady, IsReadyForAll, IsReadyForRange, ParsesToFault, Stays};
 
-use addr2line_lines::{Count, Location};
-use addr2line_units::frames_lookup::FramesStop;
+use addr2line_lines::Location;
+use addr2line_units::index::UnitRanges;
 use addr2line_units::range::LocationRangeIter;
-use addr2line_units::sup::SupUnits;
-use addr2line_units::units::ResUnits;
+use addr2line_units::units::Units;
 use gimli::read::{Error, Reader};
 use gimli::{
     DebugAbbrev, DebugAddr, DebugAranges, DebugInfo, DebugLine, DebugLineStr, DebugRanges,
@@ -28,41 +27,23 @@ use std::alloc::Global;
 use std::marker::Model;
 use std::rc::Rc;
 
-/// What addresses are looked up in: the sections of a file, its units, and their lines as far as
-/// they are parsed.
+/// What addresses are looked up in: the units of a file, with what is parsed of them, and the ranges
+/// of addresses that lead to them.
 #[derive(Drop)]
 pub struct Context<R: Reader> {
     pub(crate) alloc: Global,
-    pub(crate) dwarf: Rc<Dwarf<R>>,
-    pub(crate) units: ResUnits<R>,
-    pub(crate) sup_units: SupUnits<R>,
-    // How often the lines of units were looked at, for contracts alone: it has no bytes.
-    pub(crate) looks: Count,
-    // What the last lookup of frames or of a unit has come to, from which it is lent.
-    pub(crate) stop: FramesStop,
+    pub(crate) ranges: UnitRanges,
+    pub(crate) units: Units<R>,
 }
 
 impl<R: Reader> Model for Context<R> {
-    ghost use Rattle.addr2line_units.specs.CachedFrames.{IsLendable, seen_stop};
-    ghost use Rattle.addr2line_units.specs.CachedLines.{parsed_units};
-    ghost use Rattle.addr2line_units.specs.CachedUnits.{answers_in};
-    ghost use Rattle.addr2line_units.specs.KnownEntries.{known_in};
-    ghost use Rattle.addr2line.specs.Context.{ContextState, IsContext};
+    ghost use Rattle.addr2line.specs.Context.{ContextState, IsContext, seen_context};
 
     ghost Value = { ContextState };
 
-    ghost view = { λ c. record {
-      sections = c.dwarf.value;
-      answers = answers_in c.units.entries.items;
-      parsed = parsed_units c.units.units.items;
-      known = known_in c.units.entries.items;
-      looks = c.looks;
-      stop = seen_stop c.units.units.items c.units.entries.items c.stop;
-    } };
+    ghost view = { λ c. seen_context c.units };
 
-    ghost invariant = { λ c. IsContext c.dwarf.value c.units.dw_units.items c.units.units.items
-        c.units.entries.items c.units.ranges c.sup_units.units.items c.sup_units.dwarf
-        × IsLendable c.units.units.items c.units.entries.items c.stop };
+    ghost invariant = { λ c. IsContext c.ranges c.units };
 }
 
 impl<R: Reader> Context<R> {
@@ -98,15 +79,11 @@ impl<R: Reader> Context<R> {
         ensures gives { ExactlyUnlessOomIf (context_takes_memory R.shares dwarf.value) (λ c. c)
             result (new_context dwarf.value) }
     {
-        let units = ResUnits::parse(alloc, &dwarf)?;
-        let sup_units = SupUnits::parse(alloc, &dwarf)?;
+        let (units, ranges) = Units::parse(alloc, dwarf)?;
         Ok(Context {
             alloc,
-            dwarf,
+            ranges,
             units,
-            sup_units,
-            looks: Count::new(),
-            stop: FramesStop::FindsNothing,
         })
     }
 
@@ -184,11 +161,7 @@ impl<R: Reader> Context<R> {
         ensures* kept { sem 𝓛 (EndsAs R.row R.Reader self.entry
             (AfterLookup probe result self.old)) }
     {
-        self.stop = FramesStop::FindsNothing;
-        let place = self
-            .units
-            .find_place(self.alloc, &self.dwarf, &mut self.looks, probe)?;
-        match place {
+        match self.units.find_row(self.ranges.find(probe), probe)? {
             Some(place) => Ok(Some(self.units.location(place))),
             None => Ok(None),
         }
@@ -217,9 +190,17 @@ impl<R: Reader> Context<R> {
         ensures* kept { sem 𝓛 (EndsAs R.row R.Reader self.entry
             (AfterRangeLookup low high result self.old)) }
     {
-        self.stop = FramesStop::FindsNothing;
-        self.units.cache_lines(self.alloc, &self.dwarf, low, high)?;
-        Ok(self.units.find_location_range(low, high))
+        self.units.cache_lines(self.ranges.find_range(low, high))?;
+        Ok(self.cached_rows(low, high))
+    }
+
+    // The rows of a range whose lines are parsed. Takes no memory.
+    fn cached_rows(&self, low: u64, high: u64) -> LocationRangeIter<'_, R>
+        requires parsed { IsReadyForRange self.now low high }
+        ensures gives { spans_of self.now.sections low high ≡ Ok (locations_left result) }
+    {
+        let ranges = self.ranges.find_range(low, high);
+        self.units.find_location_range(ranges, low, high)
     }
 
     /// Parses the lines of all units in their order, unless they are parsed, up to the first fault;
@@ -246,7 +227,6 @@ impl<R: Reader> Context<R> {
         ensures found { OnOk result ((probe : ℕ) → is_ok
             (location_of self.new.sections probe) ≡ true) }
     {
-        self.stop = FramesStop::FindsNothing;
-        self.units.parse_lines(self.alloc, &self.dwarf)
+        self.units.parse_lines()
     }
 }

@@ -2,8 +2,9 @@
 
 ghost use Rattle.std.specs.Prelude.{◌≡◌, option_map};
 ghost use Rattle.elf.specs.Loading.{LoadsUnlessOom};
-ghost use Rattle.addr2line.specs.FileSections.{as_file, sections_by};
+ghost use Rattle.addr2line.specs.FileSections.{as_file, section_by, sections_by};
 
+use crate::compressed::CompressedSections;
 use bytes::Bytes;
 use elf::{ElfFile, LoaderError};
 use gimli::read::{EndianBytes, Reader, RunTimeEndian};
@@ -11,6 +12,7 @@ use gimli::{
     DebugAbbrev, DebugAddr, DebugAranges, DebugInfo, DebugLine, DebugLineStr, DebugRanges,
     DebugRngLists, DebugStr, DebugStrOffsets, Dwarf, DwarfFileType, SectionId, SupDwarf,
 };
+use std::alloc::Global;
 use std::rc::Rc;
 
 // What gives the sections of a file, main or split. It gives them as any reader, since a function
@@ -28,36 +30,53 @@ pub(crate) trait SectionSource<R: Reader> {
         ensures gives { LoadsUnlessOom R.section result (given self.now id) };
 }
 
-// A file that isn't split.
+// A file whose sections are read, and what becomes of those that are compressed.
 #[derive(Clone, Copy)]
-pub(crate) struct MainFile<'a> {
+pub(crate) struct OpenFile<'a> {
+    pub(crate) alloc: Global,
+    pub(crate) compressed: CompressedSections,
     pub(crate) object: &'a ElfFile,
 }
+
+impl OpenFile<'_> {
+    // The section of a name.
+    fn named(&self, name: &str) -> Result<EndianBytes, LoaderError>
+        ensures gives { LoadsUnlessOom (λ b. b) result
+            (section_by self.now.compressed name.now self.now.object.now) }
+    {
+        match self.compressed {
+            CompressedSections::Refused => self.object.section(name),
+            CompressedSections::Decompressed => self.object.decompressed_section(self.alloc, name),
+        }
+    }
+}
+
+// A file that isn't split.
+#[derive(Clone, Copy)]
+pub(crate) struct MainFile<'a>(pub(crate) OpenFile<'a>);
 
 impl SectionSource<EndianBytes> for MainFile<'_> {
     ghost use Rattle.addr2line.specs.FileSections.{main_section};
 
-    ghost given = { λ s id. main_section s.object.now id };
+    ghost given = { λ s id. main_section s.0.compressed s.0.object.now id };
 
     fn section(&self, id: SectionId) -> Result<EndianBytes, LoaderError> {
-        self.object.section(id.name())
+        self.0.named(id.name())
     }
 }
 
 // A split file.
 #[derive(Clone, Copy)]
-pub(crate) struct SplitFile<'a> {
-    pub(crate) object: &'a ElfFile,
-}
+pub(crate) struct SplitFile<'a>(pub(crate) OpenFile<'a>);
 
 impl SectionSource<EndianBytes> for SplitFile<'_> {
     ghost use Rattle.addr2line.specs.FileSections.{split_section};
 
-    ghost given = { λ s id. split_section s.object.now id };
+    ghost given = { λ s id. split_section s.0.compressed s.0.object.now id };
 
     fn section(&self, id: SectionId) -> Result<EndianBytes, LoaderError> {
         match id.dwo_name() {
-            Some(name) => self.object.section(name),
+            Some(name) => self.0.named(name),
             None => Ok(EndianBytes::new(Bytes::new(), RunTimeEndian::Little)),
         }
     }

@@ -1,9 +1,33 @@
-//! A law of lookups that wait, with no code.
+//! Laws of lookups and of what they are answered, with no code.
 
+ghost use Rattle.addr2line.specs.AnswerLaws.{FirstAnswersStay, WaitsForNoneAnswered};
+ghost use Rattle.addr2line.specs.FrameLaws.{HasFrameOfEach};
 ghost use Rattle.addr2line.specs.HistoryLaws.{WaitsForEachOnce};
+ghost use Rattle.addr2line.specs.WarmUp.{FindsAllWhenWarm, LocatesWhenWarm};
 
 /// Whatever its loads are answered, a lookup waits for different units, one after another: for
 /// those that cover its address and are open when it begins.
 pub fn waits_for_each_once()
     ensures once { WaitsForEachOnce }
+{}
+
+/// The first answer to a load counts, whatever calls come after it, until its unit is forgotten. So
+/// once each load that `preload_units` lists for an address has an answer, no lookup of the address
+/// waits until a unit that covers it is forgotten.
+pub fn answers_stay()
+    ensures first { FirstAnswersStay }
+    ensures none { WaitsForNoneAnswered }
+{}
+
+/// What `find_frames` finds has one frame more than functions are inlined at the address; a
+/// location without a function is one frame.
+pub fn has_frame_of_each()
+    ensures counted { HasFrameOfEach }
+{}
+
+/// Once `parse_lines` and `parse_inlined_functions` weren't refused, lookups wait for nothing and
+/// have no fault, and take no memory where at most 16 functions are inlined, one after another.
+pub fn finds_all_when_warm()
+    ensures found { FindsAllWhenWarm }
+    ensures located { LocatesWhenWarm }
 {}

@@ -3,6 +3,7 @@
 
 mod answers;
 mod by_files;
+mod compressed;
 mod context;
 mod continuation;
 mod copies;
@@ -21,6 +22,7 @@ mod split_files;
 mod stops;
 mod units;
 
+pub use crate::compressed::CompressedSections;
 pub use crate::context::Context;
 pub use crate::continuation::{FramesLookup, UnitLookup};
 pub use crate::files::{FileSource, HostFiles, MemoryFiles};

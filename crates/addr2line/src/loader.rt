@@ -14,8 +14,9 @@ ghost use Rattle.addr2line_units.specs.declared.frames_lookup.Faults.TheVariants
 ghost use Rattle.addr2line_units.specs.FramesLeft.{frames_left};
 ghost use Rattle.addr2line_units.specs.Located.{location_of, spans_of};
 ghost use Rattle.addr2line_units.specs.LocationsLeft.{locations_left};
+ghost use Rattle.addr2line.specs.declared.compressed.CompressedSections.TheVariants.{Decompressed, Refused};
 ghost use Rattle.addr2line.specs.Context.{IsReady, IsReadyForRange};
-ghost use Rattle.addr2line.specs.Files.{HasNoFile};
+ghost use Rattle.addr2line.specs.Files.{HasNoFile, as_read, as_read_if_known};
 ghost use Rattle.addr2line.specs.FramesByFiles.{ended_frames_of, frames_by_files};
 ghost use Rattle.addr2line.specs.Loaded.{AreSectionsOf, AreSupOfBytes, IsFileOfBytes, IsLoaded, as_sup, context_at, dwarf_at, loaded, main_with_sup, object_at, sup_at};
 ghost use Rattle.addr2line.specs.Loader.{AfterLoads, AfterLocation, AfterLocationRange, seen_loader};
@@ -24,8 +25,9 @@ ghost use Rattle.addr2line.specs.AfterLookups.{IsKnownFew};
 ghost use Rattle.addr2line.specs.SplitFiles.{of_file};
 
 use crate::by_files::answer_loads;
+use crate::compressed::CompressedSections;
 use crate::context::Context;
-use crate::file_sections::{MainFile, as_dwarf, read_sections};
+use crate::file_sections::{MainFile, OpenFile, as_dwarf, read_sections};
 use crate::files::{FileSource, HostFiles};
 use crate::split_files::parse_file;
 use addr2line_lines::Location;
@@ -67,19 +69,25 @@ pub(crate) fn share_sup<R: Reader>(
 fn read_sup<F: FileSource>(
     alloc: Global,
     files: &F,
+    compressed: CompressedSections,
     path: Option<&str>,
 ) -> Result<Option<Rc<SupDwarf<EndianBytes>>>, LoaderError>
     ensures gives { IfSome (F.files files.now) (λ held.
         LoadsUnlessOom (option_map (λ s. s.value)) result
-        (sup_at held (option_map (λ p. p.now) path.entry))) }
-    ensures made { IfOk result (λ s. AreSupOfBytes (is_some path.entry)
+        (sup_at (as_read compressed held) (option_map (λ p. p.now) path.entry))) }
+    ensures made { IfOk result (λ s. AreSupOfBytes compressed (is_some path.entry)
         (option_map (λ x. x.value) s)) }
 {
     let Some(path) = path else {
         return Ok(None);
     };
     let object = open(alloc, files, path)?;
-    share_sup(alloc, read_sections(&MainFile { object: &object }))
+    let file = OpenFile {
+        alloc,
+        compressed,
+        object: &object,
+    };
+    share_sup(alloc, read_sections(&MainFile(file)))
 }
 
 // The sections of a main file with those of a supplementary one, or the fault of these.
@@ -99,15 +107,21 @@ pub(crate) fn with_sup<R: Reader>(
 fn read_dwarf<F: FileSource>(
     alloc: Global,
     files: &F,
+    compressed: CompressedSections,
     object: &ElfFile,
     sup_path: Option<&str>,
 ) -> Result<Dwarf<EndianBytes>, LoaderError>
     ensures gives { IfSome (F.files files.now) (λ held. LoadsUnlessOom (λ d. d) result
-        (dwarf_at held object.now (option_map (λ p. p.now) sup_path.entry))) }
-    ensures made { IfOk result (AreSectionsOf (is_some sup_path.entry) object.now) }
+        (dwarf_at (as_read compressed held) object.now
+        (option_map (λ p. p.now) sup_path.entry))) }
+    ensures made { IfOk result (AreSectionsOf compressed (is_some sup_path.entry) object.now) }
 {
-    let main = read_sections(&MainFile { object })?;
-    with_sup(main, read_sup(alloc, files, sup_path))
+    let main = read_sections(&MainFile(OpenFile {
+        alloc,
+        compressed,
+        object,
+    }))?;
+    with_sup(main, read_sup(alloc, files, compressed, sup_path))
 }
 
 // The context of sections, or their fault.
@@ -127,6 +141,7 @@ pub(crate) fn context_of<R: Reader>(
 pub struct LoaderOver<F: FileSource> {
     alloc: Global,
     files: F,
+    compressed: CompressedSections,
     object: ElfFile,
     context: Context<EndianBytes>,
 }
@@ -150,7 +165,6 @@ impl<F: FileSource> LoaderOver<F> {
     ///
     /// May fail with `OutOfMemory` instead, but not where it is known that no file is at `path`. No
     /// section is copied. Source: DWARF 5, sections 7.3.6 and 7.5. Own: the order.
-    #[tactic(auto, unfolding(crate::specs::Loaded::loaded))]
     pub fn over(
         alloc: Global,
         files: F,
@@ -159,16 +173,76 @@ impl<F: FileSource> LoaderOver<F> {
     ) -> Result<LoaderOver<F>, LoaderError>
         ensures gives { IfSome (F.files files) (λ held.
             LoadsUnlessOom (λ l. (l.object, l.context)) result
-            (loaded held path.now (option_map (λ p. p.now) sup_path.entry))) }
+            (loaded (as_read Refused held) path.now (option_map (λ p. p.now) sup_path.entry))) }
         ensures none { HasNoFile (F.files files) path.now → result ≡ Err Io }
-        ensures made { IfOk result (λ l. IsLoaded (is_some sup_path.entry) l.object l.context) }
+        ensures made { IfOk result
+            (λ l. IsLoaded Refused (is_some sup_path.entry) l.object l.context) }
         ensures files { IfOk result (λ l. l.files ≡ files) }
+        ensures compressed { IfOk result (λ l. l.compressed ≡ Refused) }
+    {
+        LoaderOver::over_with(alloc, files, CompressedSections::Refused, path, sup_path)
+    }
+
+    /// The same, but that a section compressed by zlib has the bytes that it inflates to: one with
+    /// `SHF_COMPRESSED` and `ELFCOMPRESS_ZLIB`, and one with `.zdebug_` for `.debug_` where there
+    /// is none of the name. So it is for the main, the supplementary and the split files.
+    ///
+    /// Refused as `over` is, but `BadElf` where the header of such a section isn't whole, its
+    /// stream is damaged, or it inflates to another size than the header tells, and
+    /// `CompressedSection` for another compression alone. A split file with such a fault is
+    /// answered none. Takes memory for what a section inflates to, as its stream is read. Source:
+    /// as `over`, System V ABI, Section Compression; RFC 1950, RFC 1951.
+    pub fn over_decompressing(
+        alloc: Global,
+        files: F,
+        path: &str,
+        sup_path: Option<&str>,
+    ) -> Result<LoaderOver<F>, LoaderError>
+        ensures gives { IfSome (F.files files) (λ held.
+            LoadsUnlessOom (λ l. (l.object, l.context)) result
+            (loaded (as_read Decompressed held) path.now
+            (option_map (λ p. p.now) sup_path.entry))) }
+        ensures none { HasNoFile (F.files files) path.now → result ≡ Err Io }
+        ensures made { IfOk result
+            (λ l. IsLoaded Decompressed (is_some sup_path.entry) l.object l.context) }
+        ensures files { IfOk result (λ l. l.files ≡ files) }
+        ensures compressed { IfOk result (λ l. l.compressed ≡ Decompressed) }
+    {
+        LoaderOver::over_with(
+            alloc,
+            files,
+            CompressedSections::Decompressed,
+            path,
+            sup_path,
+        )
+    }
+
+    /// `over` or `over_decompressing`, by what becomes of sections that are compressed.
+    #[tactic(auto, unfolding(crate::specs::Loaded::loaded))]
+    pub fn over_with(
+        alloc: Global,
+        files: F,
+        compressed: CompressedSections,
+        path: &str,
+        sup_path: Option<&str>,
+    ) -> Result<LoaderOver<F>, LoaderError>
+        ensures gives { IfSome (F.files files) (λ held.
+            LoadsUnlessOom (λ l. (l.object, l.context)) result
+            (loaded (as_read compressed held) path.now
+            (option_map (λ p. p.now) sup_path.entry))) }
+        ensures none { HasNoFile (F.files files) path.now → result ≡ Err Io }
+        ensures made { IfOk result
+            (λ l. IsLoaded compressed (is_some sup_path.entry) l.object l.context) }
+        ensures files { IfOk result (λ l. l.files ≡ files) }
+        ensures compressed { IfOk result (λ l. l.compressed ≡ compressed) }
     {
         let object = open(alloc, &files, path)?;
-        let context = context_of(alloc, read_dwarf(alloc, &files, &object, sup_path))?;
+        let dwarf = read_dwarf(alloc, &files, compressed, &object, sup_path);
+        let context = context_of(alloc, dwarf)?;
         Ok(LoaderOver {
             alloc,
             files,
+            compressed,
             object,
             context,
         })
@@ -250,8 +324,9 @@ impl<F: FileSource> LoaderOver<F> {
     /// cached and at most 16 inlined functions stand there. No unit covers 2^64 - 1. Source: DWARF
     /// 5, sections 3.1.2 and 7.3.2. Own: the path, and what counts as none.
     pub fn find_frames(&mut self, probe: u64) -> Result<FrameIter<'_, EndianBytes>, LoaderError>
-        ensures gives { IfSome (F.files self.old.files) (λ held. LoadsUnlessOom frames_left result
-            (frames_by_files held self.old.context.sections self.old.context.answers probe)) }
+        ensures gives { IfSome (as_read_if_known self.old.compressed (F.files self.old.files))
+            (λ read. LoadsUnlessOom frames_left result
+            (frames_by_files read self.old.context.sections self.old.context.answers probe)) }
         ensures ended { WaitsForNone self.old.context probe → LoadsUnlessOom frames_left result
             (ended_frames_of self.old.context probe) }
         ensures exact { WaitsForNone self.old.context probe
@@ -261,7 +336,13 @@ impl<F: FileSource> LoaderOver<F> {
         ensures* kept { sem 𝓛 (LoaderEndsAs F.row F.files self.entry
             (AfterLoads frames_left probe result (seen_loader F.files self.old))) }
     {
-        answer_loads(self.alloc, &self.files, &mut self.context, probe)?;
+        answer_loads(
+            self.alloc,
+            &self.files,
+            self.compressed,
+            &mut self.context,
+            probe,
+        )?;
         Ok(self.context.found_frames())
     }
 
@@ -293,14 +374,24 @@ impl<F: FileSource> LoaderOver<F> {
 impl LoaderOver<HostFiles> {
     /// A loader of a file of the host, as `over` makes it.
     pub fn new(rt: HostRuntime, path: &str) -> Result<Loader, LoaderError>
-        ensures made { IfOk result (λ l. IsLoaded false l.object l.context) }
+        ensures made { IfOk result (λ l. IsLoaded Refused false l.object l.context) }
+        ensures compressed { IfOk result (λ l. l.compressed ≡ Refused) }
     {
         LoaderOver::over(rt.alloc(), HostFiles::new(rt), path, None)
     }
 
-    /// The same with a supplementary file.
+    /// A loader of a file of the host, as `over_decompressing` makes it.
+    pub fn new_decompressing(rt: HostRuntime, path: &str) -> Result<Loader, LoaderError>
+        ensures made { IfOk result (λ l. IsLoaded Decompressed false l.object l.context) }
+        ensures compressed { IfOk result (λ l. l.compressed ≡ Decompressed) }
+    {
+        LoaderOver::over_decompressing(rt.alloc(), HostFiles::new(rt), path, None)
+    }
+
+    /// A loader of a file of the host with a supplementary file, as `over` makes it.
     pub fn new_with_sup(rt: HostRuntime, path: &str, sup_path: &str) -> Result<Loader, LoaderError>
-        ensures made { IfOk result (λ l. IsLoaded true l.object l.context) }
+        ensures made { IfOk result (λ l. IsLoaded Refused true l.object l.context) }
+        ensures compressed { IfOk result (λ l. l.compressed ≡ Refused) }
     {
         LoaderOver::over(rt.alloc(), HostFiles::new(rt), path, Some(sup_path))
     }

@@ -8,7 +8,6 @@ ghost use Rattle.addr2line.specs.Loads.{AfterForget, AfterLoad, AfterPreload, Is
 ghost use Rattle.addr2line.specs.Lookups.{loads_at};
 
 use crate::context::Context;
-use addr2line_units::frames_lookup::FramesStop;
 use addr2line_units::view::{SplitDwarfLoad, UnitToken};
 use gimli::Dwarf;
 use gimli::read::{Error, Reader};
@@ -29,9 +28,7 @@ impl<R: Reader> Context<R> {
         ensures memory { NoneOpenAt self.old probe → IsOk result }
         ensures after { AfterPreload self.old self.new }
     {
-        self.stop = FramesStop::FindsNothing;
-        self.units
-            .preload(self.alloc, &self.dwarf, &self.sup_units, probe)
+        self.units.preload(self.ranges.find(probe))
     }
 
     /// Answers the load of a unit: decides it if it is open, by the sections of its split file or
@@ -58,9 +55,7 @@ impl<R: Reader> Context<R> {
         ensures after { AfterLoad (token_number unit) (option_map (λ d. d.value) sections) result
             self.old self.new }
     {
-        self.stop = FramesStop::FindsNothing;
-        self.units
-            .load_unit(self.alloc, &self.dwarf, &self.sup_units, unit, sections)
+        self.units.load_unit(unit, sections)
     }
 
     /// Takes the answer to the load of a unit back, if there is one, with what was read of its
@@ -72,7 +67,6 @@ impl<R: Reader> Context<R> {
         ensures gives { result ≡ forget_reply self.old.sections (token_number unit) }
         ensures after { AfterForget (token_number unit) self.old self.new }
     {
-        self.stop = FramesStop::FindsNothing;
-        self.units.forget_unit(&self.dwarf, &self.sup_units, unit)
+        self.units.forget(unit)
     }
 }

@@ -1,11 +1,13 @@
 //! ELF files that are opened from shared bytes.
 
-ghost use Rattle.std.specs.Prelude.{option_map};
+ghost use Rattle.std.specs.Prelude.{◌≡◌, option_map};
 ghost use Rattle.elf.specs.Loading.{LoadsUnlessOom};
+ghost use Rattle.addr2line.specs.declared.compressed.CompressedSections.TheVariants.{Refused};
 ghost use Rattle.addr2line.specs.Loaded.{dwarf_with, loaded_bytes, sup_of_bytes};
 
+use crate::compressed::CompressedSections;
 use crate::context::Context;
-use crate::file_sections::{MainFile, read_sections};
+use crate::file_sections::{MainFile, OpenFile, read_sections};
 use crate::loader::{context_of, share_sup, with_sup};
 use crate::split_files::parse_bytes;
 use bytes::Bytes;
@@ -15,18 +17,29 @@ use gimli::{Dwarf, SupDwarf};
 use std::alloc::Global;
 use std::rc::Rc;
 
+// A file that isn't split, and whose compressed sections are refused.
+fn plain_file(alloc: Global, object: &ElfFile) -> MainFile<'_>
+    ensures gives { (result.0.compressed ≡ Refused) × (result.0.object.now ≡ object.now) }
+{
+    MainFile(OpenFile {
+        alloc,
+        compressed: CompressedSections::Refused,
+        object,
+    })
+}
+
 // The sections of the supplementary file that bytes are, if there are any.
 fn sup_of_bytes(
     alloc: Global,
     bytes: Option<Bytes>,
 ) -> Result<Option<Rc<SupDwarf<EndianBytes>>>, LoaderError>
-    ensures gives { LoadsUnlessOom (option_map (λ s. s.value)) result (sup_of_bytes bytes) }
+    ensures gives { LoadsUnlessOom (option_map (λ s. s.value)) result (sup_of_bytes Refused bytes) }
 {
     let Some(bytes) = bytes else {
         return Ok(None);
     };
     let object = parse_bytes(alloc, bytes)?;
-    share_sup(alloc, read_sections(&MainFile { object: &object }))
+    share_sup(alloc, read_sections(&plain_file(alloc, &object)))
 }
 
 // The sections of a main file, with those of the supplementary file that bytes are.
@@ -35,9 +48,10 @@ fn dwarf_of_bytes(
     object: &ElfFile,
     sup: Option<Bytes>,
 ) -> Result<Dwarf<EndianBytes>, LoaderError>
-    ensures gives { LoadsUnlessOom (λ d. d) result (dwarf_with object.now (sup_of_bytes sup)) }
+    ensures gives { LoadsUnlessOom (λ d. d) result
+        (dwarf_with Refused object.now (sup_of_bytes Refused sup)) }
 {
-    let main = read_sections(&MainFile { object })?;
+    let main = read_sections(&plain_file(alloc, object))?;
     with_sup(main, sup_of_bytes(alloc, sup))
 }
 
@@ -52,7 +66,7 @@ pub fn open_bytes(
     bytes: Bytes,
     sup: Option<Bytes>,
 ) -> Result<(ElfFile, Context<EndianBytes>), LoaderError>
-    ensures gives { LoadsUnlessOom (λ l. (l.0, l.1)) result (loaded_bytes bytes sup) }
+    ensures gives { LoadsUnlessOom (λ l. (l.0, l.1)) result (loaded_bytes Refused bytes sup) }
 {
     let object = parse_bytes(alloc, bytes)?;
     let context = context_of(alloc, dwarf_of_bytes(alloc, &object, sup))?;

@@ -6,7 +6,6 @@ ghost use Rattle.addr2line_units.specs.declared.parses.ReadingDepth.TheVariants 
 ghost use Rattle.addr2line.specs.Loads.{AfterParse, IsAllKnown, ReachesAllOf, parse_reply};
 
 use crate::context::Context;
-use addr2line_units::frames_lookup::FramesStop;
 use addr2line_units::parses::ReadingDepth;
 use gimli::read::{Error, Reader};
 
@@ -19,9 +18,7 @@ impl<R: Reader> Context<R> {
         ensures known { reads ≡ kinds.Details → OnOk result (IsAllKnown self.new) }
         ensures reaches { reads ≡ kinds.Details → OnOk result (ReachesAllOf self.new) }
     {
-        self.stop = FramesStop::FindsNothing;
-        self.units
-            .read_functions(self.alloc, &self.dwarf, &self.sup_units, reads)
+        self.units.read_functions(reads)
     }
 
     /// Parses the functions of all units in their order, up to the first fault, and caches them,

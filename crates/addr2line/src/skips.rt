@@ -4,7 +4,7 @@ ghost use Rattle.std.specs.Prelude.{◌≡◌, IfErr, None, OnOk};
 ghost use Rattle.gimli_read.specs.declared.error.Error.TheVariants.{OutOfMemory};
 ghost use Rattle.addr2line_units.specs.declared.frames_lookup.Faults.TheVariants.{PassOver};
 ghost use Rattle.addr2line.specs.AfterLookups.{IsStored};
-ghost use Rattle.addr2line.specs.Lookups.{waiting_unit};
+ghost use Rattle.addr2line_units.specs.UnitsState.{waiting_unit};
 ghost use Rattle.addr2line.specs.Skips.{AfterSkip};
 
 use crate::context::Context;

@@ -6,9 +6,12 @@ ghost use Rattle.gimli.specs.Sections.{Sections};
 ghost use Rattle.elf.specs.declared.error.LoaderError.TheVariants.{OutOfMemory, PathNotUtf8};
 ghost use Rattle.elf.specs.Loading.{Loading, LoadsUnlessOom};
 ghost use Rattle.elf.specs.ObjectFile.{object_file_of};
+ghost use Rattle.addr2line.specs.declared.compressed.CompressedSections.TheVariants.{Refused};
+ghost use Rattle.addr2line.specs.Files.{as_read};
 ghost use Rattle.addr2line.specs.SplitFiles.{LeavesOpen, bytes_or_none, given_by_files, has_wanted_id, is_absolute, is_same_id, or_none, path_in, separated, split_by, split_of, split_path, utf8_path};
 
-use crate::file_sections::{SectionSource, SplitFile, as_dwarf, read_sections};
+use crate::compressed::CompressedSections;
+use crate::file_sections::{OpenFile, SectionSource, SplitFile, as_dwarf, read_sections};
 use crate::files::FileSource;
 use addr2line_units::view::{SplitDwarfLoad, read_first_unit};
 use bytes::Bytes;
@@ -140,34 +143,55 @@ fn read_split<R: Reader, S: SectionSource<R>>(
     Ok(Some(Rc::new(alloc, dwarf)?))
 }
 
+// The sections of the split file of a load that the bytes of a file are, by what becomes of those
+// that are compressed.
+#[tactic(auto, unfolding(crate::specs::SplitFiles::split_of))]
+fn read_split_bytes(
+    alloc: Global,
+    compressed: CompressedSections,
+    load: &SplitDwarfLoad<EndianBytes>,
+    bytes: Bytes,
+) -> Result<Option<Rc<Dwarf<EndianBytes>>>, LoaderError>
+    ensures gives { LoadsUnlessOom (option_map (λ d. d.value)) result
+        (split_of compressed load.now bytes) }
+{
+    let object = parse_bytes(alloc, bytes)?;
+    let file = OpenFile {
+        alloc,
+        compressed,
+        object: &object,
+    };
+    read_split(alloc, &SplitFile(file), load)
+}
+
 /// The sections of the split file of a load that the bytes of a file are, none where the file is
 /// that of another unit or of none.
 ///
 /// The bytes are shared, and none is copied. Refused as `ElfFile::parse` is, then as a section by
 /// name is, then `Dwarf` for the first unit and for what it needs of the sections that have the
 /// load's unit. May fail with `OutOfMemory` instead. Source: DWARF 5, sections 3.1.2 and 7.3.2.
-#[tactic(auto, unfolding(crate::specs::SplitFiles::split_of))]
 pub fn read_split_sections(
     alloc: Global,
     load: &SplitDwarfLoad<EndianBytes>,
     bytes: Bytes,
 ) -> Result<Option<Rc<Dwarf<EndianBytes>>>, LoaderError>
-    ensures gives { LoadsUnlessOom (option_map (λ d. d.value)) result (split_of load.now bytes) }
+    ensures gives { LoadsUnlessOom (option_map (λ d. d.value)) result
+        (split_of Refused load.now bytes) }
 {
-    let object = parse_bytes(alloc, bytes)?;
-    read_split(alloc, &SplitFile { object: &object }, load)
+    read_split_bytes(alloc, CompressedSections::Refused, load, bytes)
 }
 
-// The same of owned bytes.
+// The same of owned bytes, by what becomes of sections that are compressed.
 fn read_split_file(
     alloc: Global,
+    compressed: CompressedSections,
     load: &SplitDwarfLoad<EndianBytes>,
     bytes: Vec<u8>,
 ) -> Result<Option<Rc<Dwarf<EndianBytes>>>, LoaderError>
     ensures gives { LoadsUnlessOom (option_map (λ d. d.value)) result
-        (split_of load.now bytes.items) }
+        (split_of compressed load.now bytes.items) }
 {
-    read_split_sections(alloc, load, Bytes::from_vec(bytes)?)
+    read_split_bytes(alloc, compressed, load, Bytes::from_vec(bytes)?)
 }
 
 // What was read, or none in place of a fault.
@@ -191,17 +215,19 @@ fn without_fault<R: Reader>(
 pub(crate) fn answer_to<F: FileSource>(
     alloc: Global,
     files: &F,
+    compressed: CompressedSections,
     load: &SplitDwarfLoad<EndianBytes>,
 ) -> Result<Option<Rc<Dwarf<EndianBytes>>>, LoaderError>
     ensures gives { IfSome (F.files files.now) (λ held.
-        LoadsUnlessOom (option_map (λ d. d.value)) result (given_by_files held load.now)) }
+        LoadsUnlessOom (option_map (λ d. d.value)) result
+        (given_by_files (as_read compressed held) load.now)) }
     ensures stays_open { IfErr result LeavesOpen }
 {
     let Some(path) = path_of(alloc, load)? else {
         return Ok(None);
     };
     match files.read(alloc, text_of(&path)?)? {
-        Some(bytes) => without_fault(read_split_file(alloc, load, bytes)),
+        Some(bytes) => without_fault(read_split_file(alloc, compressed, load, bytes)),
         None => Ok(None),
     }
 }

@@ -9,12 +9,13 @@ ghost use Rattle.addr2line_units.specs.FramesLookup.{Waits, frames_found};
 ghost use Rattle.addr2line_units.specs.SeenUnit.{seen_unit};
 ghost use Rattle.addr2line.specs.Context.{IsUncovered};
 ghost use Rattle.addr2line.specs.AfterLookups.{AfterFrames, IsFoundUnit, IsStored};
-ghost use Rattle.addr2line.specs.Lookups.{IsLoadOf, waiting_unit};
+ghost use Rattle.addr2line.specs.Lookups.{IsLoadOf};
+ghost use Rattle.addr2line_units.specs.UnitsState.{waiting_unit};
 ghost use Rattle.std.specs.Prelude.{option_map};
 
 use crate::context::Context;
 use addr2line_units::FrameIter;
-use addr2line_units::frames_lookup::{Faults, FramesStop};
+use addr2line_units::frames_lookup::Faults;
 use addr2line_units::view::SplitDwarfLoad;
 use gimli::UnitRef;
 use gimli::read::{Error, Reader};
@@ -27,27 +28,14 @@ impl<R: Reader> Context<R> {
         ensures last { probe ≡ last_address → IsUncovered self.old probe }
         ensures after { AfterFrames faults probe result self.old self.new }
     {
-        self.stop = FramesStop::FindsNothing;
-        let stop = self.units.find_frames(
-            self.alloc,
-            &self.dwarf,
-            &self.sup_units,
-            &mut self.looks,
-            probe,
-            faults,
-        )?;
-        self.stop = stop;
-        Ok(())
+        self.units.walk(self.ranges.find(probe), probe, faults)
     }
 
     // The unit that the last lookup waits for, if it waits for one.
     pub(crate) fn waits_for(&self) -> Option<usize>
         ensures gives { result ≡ waiting_unit self.now.stop }
     {
-        match &self.stop {
-            FramesStop::Waits(number) => Some(*number),
-            FramesStop::Finds(_) | FramesStop::FindsNothing => None,
-        }
+        self.units.waits_for()
     }
 
     // The load of the unit that the last lookup waits for. Refused `OutOfMemory` alone.
@@ -56,14 +44,14 @@ impl<R: Reader> Context<R> {
         ensures gives { IfOk result (λ l. IsLoadOf self.now.sections number l) }
         ensures refused { IfErr result (λ e. e ≡ OutOfMemory) }
     {
-        self.units.load(&self.dwarf, number)
+        self.units.load(number)
     }
 
     // The frames that the last lookup has found, none where it waits or has found nothing.
     pub(crate) fn found_frames(&self) -> FrameIter<'_, R>
         ensures gives { frames_left result ≡ frames_found self.now.stop }
     {
-        self.units.found_frames(&self.stop)
+        self.units.frames()
     }
 
     // The sections and the unit of the view of the unit in which the last lookup has found
@@ -71,9 +59,6 @@ impl<R: Reader> Context<R> {
     pub(crate) fn found_unit(&self) -> Option<UnitRef<'_, R>>
         ensures gives { IsFoundUnit self.now (option_map seen_unit result) }
     {
-        match &self.stop {
-            FramesStop::Finds(place) => self.units.unit_ref(&self.dwarf, place.unit()),
-            FramesStop::Waits(_) | FramesStop::FindsNothing => None,
-        }
+        self.units.unit()
     }
 }

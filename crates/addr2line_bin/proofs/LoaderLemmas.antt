@@ -21,7 +21,7 @@ use Rattle.addr2line_units.specs.UnitIndex.{index_units}
 use Rattle.addr2line_units.specs.RangedUnits.{IndexedUnit}
 use Rattle.addr2line.proofs.NoLoadLemmas.{last_frames}
 use Rattle.addr2line.specs.Context.{ContextState, IsReady, IsUncovered, Stays}
-use Rattle.addr2line.specs.Files.{Files}
+use Rattle.addr2line.specs.Files.{ReadFiles}
 use Rattle.addr2line.specs.FramesByFiles.{ended_frames_of, frames_by_files, stop_frames}
 use Rattle.addr2line.specs.Loader.{AfterLoads, AfterLocation, AfterLocationRange, LoaderState}
 use Rattle.addr2line.specs.LoadsByFiles.{GivesSameFrames, StayEnded, WaitsForNone}
@@ -74,7 +74,7 @@ same_answers old new files object s = record {
   frames = λ address given h. (
     subst (λ d. IfSome old.files (λ held. LoadsUnlessOom (λ frames. frames) given (frames_by_files held d old.context.answers address))) s.sections
         (subst (λ x. IfSome old.files (λ held. LoadsUnlessOom (λ frames. frames) given (frames_by_files held new.context.sections x address))) s.answers
-        (subst (λ (f : Option Files). IfSome f (λ held. LoadsUnlessOom (λ frames. frames) given (frames_by_files held new.context.sections new.context.answers address))) files h.0)),
+        (subst (λ (f : Option ReadFiles). IfSome f (λ held. LoadsUnlessOom (λ frames. frames) given (frames_by_files held new.context.sections new.context.answers address))) files h.0)),
     ended_before old.context new.context (λ q w. ap (λ d. lookup_stop End d new.context.answers q) s.sections ∙ ap (λ x. lookup_stop End old.context.sections x q) s.answers) address given h.1,
     λ bare. h.2 (bare_later old.context new.context s.sections address bare),
   );
@@ -89,7 +89,7 @@ same_after_location probe result old new a = same_answers old new a.files a.obje
 pub same_after_range : {X : Type 0} (low high : ℕ) (result : Loading X) (old new : LoaderState) → AfterLocationRange low high result old new → StaysAnswered (loader_answers old) (loader_answers new)
 same_after_range low high result old new a = same_answers old new a.files a.object a.context.stays
 
-same_frames : (files : Option Files) (old new : ContextState) → IfSome files (λ held. GivesSameFrames held old new) → (address : ℕ) (given : Loading (List FrameRecord))
+same_frames : (files : Option ReadFiles) (old new : ContextState) → IfSome files (λ held. GivesSameFrames held old new) → (address : ℕ) (given : Loading (List FrameRecord))
     → IfSome files (λ held. LoadsUnlessOom (λ frames. frames) given (frames_by_files held new.sections new.answers address)) → IfSome files (λ held. LoadsUnlessOom (λ frames. frames) given (frames_by_files held old.sections old.answers address))
 same_frames None old new same address given h = tt
 same_frames (Some held) old new same address given h = subst (λ frames. LoadsUnlessOom (λ x. x) given frames) (same address) h
@@ -100,7 +100,7 @@ same_after_loads see probe result old new a = record {
   locations = found_before old.context new.context a.context.sections a.context.parsed;
   frames = λ address given h. (
     same_frames old.files old.context new.context a.context.frames address given
-        (subst (λ (f : Option Files). IfSome f (λ held. LoadsUnlessOom (λ frames. frames) given (frames_by_files held new.context.sections new.context.answers address))) a.files h.0),
+        (subst (λ (f : Option ReadFiles). IfSome f (λ held. LoadsUnlessOom (λ frames. frames) given (frames_by_files held new.context.sections new.context.answers address))) a.files h.0),
     ended_before old.context new.context a.context.ended address given h.1,
     λ bare. h.2 (bare_later old.context new.context a.context.sections address bare),
   );
@@ -117,7 +117,7 @@ seen_exactly : {X Y : Type 0} (view : X → Y) (r : Loading X) (given : Loading 
 seen_exactly view (Ok x) given h = h
 seen_exactly view (Err e) given h = h
 
-by_files : {X : Type 0} (view : X → List FrameRecord) (files : Option Files) (c : ContextState) (address : ℕ) (r : Loading X) → IfSome files (λ held. LoadsUnlessOom view r (frames_by_files held c.sections c.answers address))
+by_files : {X : Type 0} (view : X → List FrameRecord) (files : Option ReadFiles) (c : ContextState) (address : ℕ) (r : Loading X) → IfSome files (λ held. LoadsUnlessOom view r (frames_by_files held c.sections c.answers address))
     → IfSome files (λ held. LoadsUnlessOom (λ frames. frames) (result_map view r) (frames_by_files held c.sections c.answers address))
 by_files view None c address r h = tt
 by_files view (Some held) c address r h = seen_unless view r (frames_by_files held c.sections c.answers address) h

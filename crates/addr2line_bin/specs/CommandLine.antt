@@ -2,7 +2,7 @@
 -- Own: `-e` has a value; `--all` stands beside no address word; where neither `--all` nor an
 -- address word stands, the lines of standard input are asked for.
 use Rattle.std.specs.Prelude.{◌≡◌, ◌≢◌, ◌⊎◌, Bool, true, false, ◌&&◌, not, List, [], map}
-use Rattle.std.specs.Prelude.{Some, None, is_some, option_map, codes, string_bytes}
+use Rattle.std.specs.Prelude.{Some, None, if◌then◌else◌, is_some, option_map, codes, string_bytes}
 use Rattle.std.specs.Option.{option_map_or}
 use Rattle.std.specs.Str.{bytes_eq}
 use Rattle.std.specs.declared.string.String.{String}
@@ -11,6 +11,8 @@ use Rattle.clap.specs.Words.{Text, Row, all_of, first_of, matches_of, takes}
 use Rattle.clap.specs.Words.{IsAmong, Kinds, fault_of, kind_of}
 use Rattle.clap.specs.declared.error.Error.{Error}
 use Rattle.clap.specs.declared.error.kind.ErrorKind.TheVariants as kind
+use Rattle.addr2line.specs.declared.compressed.CompressedSections.{CompressedSections}
+use Rattle.addr2line.specs.declared.compressed.CompressedSections.TheVariants.{Decompressed, Refused}
 use Rattle.addr2line_bin.specs.Command.{whole_command}
 use Rattle.addr2line_bin.specs.ProgramName.{program_name}
 use Rattle.addr2line_bin.specs.declared.command_line.Request.{Request}
@@ -66,10 +68,15 @@ asked_style rows = record {
   llvm = is_on (codes "llvm") rows;
 }
 
+-- what becomes of sections that are compressed
+abbrev pub asked_compressed : List Row → CompressedSections
+asked_compressed rows = if is_on (codes "decompress") rows then Decompressed else Refused
+
 -- the request is what matches ask for
 pub record IsAsked (rows : List Row) (r : Request) : Type 0 where
   pub exe : first_of (codes "exe") rows ≡ Some (string_bytes r.exe)
   pub sup : first_of (codes "sup") rows ≡ option_map string_bytes r.sup
+  pub compressed : r.compressed ≡ asked_compressed rows
   pub section : first_of (codes "section") rows ≡ option_map string_bytes r.options.section
   pub probes : AreProbes rows r.options.probes
   pub style : r.options.style ≡ asked_style rows

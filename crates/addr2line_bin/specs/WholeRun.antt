@@ -9,7 +9,7 @@ use Rattle.std.specs.declared.alloc.AllocError.{AllocError}
 use Rattle.std.specs.declared.io.ErrorKind.{ErrorKind}
 use Rattle.std.specs.declared.io.ErrorKind.TheVariants as kind
 use Rattle.elf.specs.Loading.{Loading, LoadsUnlessOom}
-use Rattle.addr2line.specs.Files.{Files}
+use Rattle.addr2line.specs.Files.{Files, as_read}
 use Rattle.addr2line.specs.Loaded.{loaded}
 use Rattle.addr2line.specs.Loader.{seen_loader}
 use Rattle.addr2line.specs.declared.loader.LoaderOver.{LoaderOver}
@@ -28,13 +28,16 @@ use Rattle.addr2line_bin.specs.declared.exit.Exit.{Exit}
 use Rattle.addr2line_bin.specs.declared.exit.TheConstants.{USAGE_STATUS}
 use Rattle.addr2line_bin.specs.declared.stream.StopReason.TheVariants as stop
 
--- a loader over the files, or the fault of its loading: what they say, where they are known
+-- a loader over the files, or the fault of its loading: what they say, where they are known, as
+-- they are read for the request
 abbrev pub IsLoaded : {F : Type 0} → (F → Option Files) → F → Request → Loading (LoaderOver F)
     → Type 0
 IsLoaded known files request loader =
     IfSome (known files) (λ held. LoadsUnlessOom (λ l. (l.object, l.context)) loader
-    (loaded held (string_bytes request.exe) (option_map string_bytes request.sup)))
+    (loaded (as_read request.compressed held) (string_bytes request.exe)
+    (option_map string_bytes request.sup)))
     × IfOk loader (λ l. l.files ≡ files)
+    × IfOk loader (λ l. l.compressed ≡ request.compressed)
 
 -- what is asked of the files that a request names is printed
 abbrev pub RunsRequest : {F : Type 0} → (F → Option Files) → F → Request → InputState → InputState

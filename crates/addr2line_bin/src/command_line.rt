@@ -3,13 +3,14 @@
 ghost use Rattle.std.specs.Prelude.{◌≡◌, IfOk, IfErr, codes, map, true, false};
 ghost use Rattle.std.specs.Prelude.{string_bytes, option_map};
 ghost use Rattle.clap.specs.Words.{rows_of, found_of, first_of, all_of};
-ghost use Rattle.addr2line_bin.specs.CommandLine.{asked_style, is_on, IsAsked, IsFaultOf, IsRequest};
+ghost use Rattle.addr2line_bin.specs.CommandLine.{asked_compressed, asked_style, is_on, IsAsked, IsFaultOf, IsRequest};
 ghost use Rattle.addr2line_bin.specs.CommandLine.{IsUnasked, IsWordFault, WantsMemoryAlone, texts_in};
 ghost use Rattle.addr2line_bin.specs.declared.command_line.WordFault.TheVariants as fault;
 
 use crate::command::{HelpTexts, whole_command};
 use crate::options::{Options, Probes, Style};
 use crate::program_name::program_name;
+use addr2line::CompressedSections;
 use clap::ArgMatches;
 use clap::error::ErrorKind;
 use std::alloc::{AllocError, Global};
@@ -21,6 +22,8 @@ pub struct Request {
     pub exe: String,
     /// The path of its supplementary file, if one is named.
     pub sup: Option<String>,
+    /// What becomes of sections of the files that are compressed.
+    pub compressed: CompressedSections,
     /// What is asked of the file.
     pub options: Options,
 }
@@ -104,6 +107,17 @@ fn style_of(matches: &ArgMatches<'_>) -> Style
     }
 }
 
+// What becomes of sections that are compressed.
+fn compressed_of(matches: &ArgMatches<'_>) -> CompressedSections
+    ensures gives { result ≡ asked_compressed (rows_of (found_of matches.now)) }
+{
+    if is_on(matches, "decompress") {
+        CompressedSections::Decompressed
+    } else {
+        CompressedSections::Refused
+    }
+}
+
 // The words that belong to no option, if there are any.
 #[tactic(auto, using(crate::proofs::CommandLemmas::all_of_matches))]
 fn words_of(alloc: Global, matches: &ArgMatches<'_>) -> Result<Option<Vec<String>>, AllocError>
@@ -141,7 +155,12 @@ fn request_of(alloc: Global, name: String, matches: &ArgMatches<'_>) -> Result<R
         probes,
         style: style_of(matches),
     };
-    Ok(Request { exe, sup, options })
+    Ok(Request {
+        exe,
+        sup,
+        compressed: compressed_of(matches),
+        options,
+    })
 }
 
 /// What the words of a command line ask for.

@@ -30,7 +30,13 @@ fn run_request<F: FileSource, I: Input, W: Stream, E: Stream>(
         (I.state input.old) (I.state input.new) (W.state out.old) (W.state out.new)
         (E.state err.old) (E.state err.new) result }
 {
-    let loader = LoaderOver::over(alloc, files, request.exe.as_str(), request.sup.as_deref());
+    let loader = LoaderOver::over_with(
+        alloc,
+        files,
+        request.compressed,
+        request.exe.as_str(),
+        request.sup.as_deref(),
+    );
     run(alloc, &request.options, loader, input, out, err)
 }
 

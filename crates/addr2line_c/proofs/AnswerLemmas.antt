@@ -1,8 +1,12 @@
 -- What statuses say of what was written (on specs/Answered.antt).
-use Rattle.std.proofs.Common.{◌≡◌, ◌≢◌, ◌∙◌, Bool, true, false, Result, Ok, Err, Option, None, ap, refl, sym, subst}
+use Rattle.std.proofs.Common.{◌≡◌, ◌≢◌, ◌∙◌, Bool, true, false, Result, Ok, Err, Option, Some, None, ap, refl, sym, subst}
 use Rattle.gimli_read.specs.declared.error.Error.{Error}
 use Rattle.gimli_read.specs.declared.error.Error.TheVariants as reading
+use Rattle.gimli_read.specs.Reading.{ExactlyUnlessOom}
 use Rattle.elf.specs.Text.{loader_error_of}
+use Rattle.addr2line_units.specs.declared.frame.FrameIter.{FrameIter}
+use Rattle.addr2line_units.specs.FramesLeft.{frames_left}
+use Rattle.addr2line_units.specs.UnitFrames.{FramesResult}
 use Rattle.addr2line.specs.SplitFiles.{of_file}
 use Rattle.elf.specs.Loading.{Loading}
 use Rattle.addr2line_c.specs.declared.status.Status.{Status}
@@ -50,3 +54,11 @@ pub frames_unknown : {A : Type 0} (given : Loading (Option A)) (written : A → 
     → SaysOrWaits given written fits s
 frames_unknown given written fits e s is oom = subst (SaysOrWaits given written fits)
     (sym (is ∙ ap status_of_error oom)) (λ n. absurd (n refl))
+
+-- the frames that were found
+pub frames_given : {R : Type 0} (found : Result (FrameIter R) Error) (frames : FrameIter R)
+    (given : FramesResult) → found ≡ Ok frames
+    → ExactlyUnlessOom (λ (i : FrameIter R). Some (frames_left i)) found given
+    → given ≡ Ok (Some (frames_left frames))
+frames_given found frames given is told =
+    subst (λ r. ExactlyUnlessOom (λ i. Some (frames_left i)) r given) is told

@@ -1,6 +1,11 @@
 pub mod AnswerLemmas
 pub mod LoadLemmas
 pub mod SequenceLemmas
+pub mod TextLemmas
+pub mod SpanLemmas
+pub mod LeftLemmas
+pub mod CallLemmas
+pub mod LoadCallLemmas
 pub mod WaitLemmas
 pub mod Values
 pub mod Handles

@@ -31,6 +31,16 @@ SaysOrWaits given written fits Nothing = ⊥
 SaysOrWaits given written fits Closed = ⊥
 SaysOrWaits given written fits OtherUnit = ⊥
 
+-- memory wasn't refused
+abbrev pub HasMemory : Status → Type 0
+HasMemory s = s ≢ Refused OutOfMemory
+
+-- what holds where nothing was found to be written
+abbrev pub IfNothing : Status → Type 0 → Type 0
+IfNothing Done holds = Unit {0}
+IfNothing TooSmall holds = Unit {0}
+IfNothing s holds = holds
+
 -- the status of what was written, by whether it had room
 abbrev pub done_if : Bool → Status
 done_if fits = if fits then Done else TooSmall

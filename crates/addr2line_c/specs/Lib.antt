@@ -4,7 +4,12 @@ pub mod Texts
 pub mod Parts
 pub mod Answered
 pub mod Loads
+pub mod AskedLoads
 pub mod WrittenSymbols
 pub mod Sequence
 pub mod Held
 pub mod Written
+pub mod WrittenSpans
+pub mod Left
+pub mod LoadCalls
+pub mod Calls

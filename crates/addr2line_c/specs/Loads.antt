@@ -1,10 +1,11 @@
 -- What C gets for a load (DWARF 5, section 7.3.2).
 -- Own: its texts are its directory and its path, in this order.
-use Rattle.std.specs.Prelude.{◌++◌, ℕ, List, [], Option, option_map}
+use Rattle.std.specs.Prelude.{◌≡◌, ◌++◌, ◌≤◌, ℕ, List, [], length, Option, option_map}
 use Rattle.gimli_read.specs.Section.{Section}
 use Rattle.addr2line_units.specs.Views.{SplitLoad}
 use Rattle.addr2line_c.specs.declared.loads.WrittenLoad.{WrittenLoad}
-use Rattle.addr2line_c.specs.Texts.{given_text, text_after}
+use Rattle.addr2line_c.specs.Filled.{IsFilled}
+use Rattle.addr2line_c.specs.Texts.{NamesText, given_text, joined, text_after}
 
 -- the bytes of a text that may be there
 abbrev pub bytes_if : Option Section → Option (List ℕ)
@@ -22,3 +23,17 @@ written_load token load = record {
   directory = text_after [] (bytes_if load.comp_dir);
   path = text_after (given_text (bytes_if load.comp_dir)) (bytes_if load.path);
 }
+
+-- the parts of a load name its texts in a buffer
+abbrev pub NamesLoad : List ℕ → WrittenLoad → SplitLoad → Type 0
+NamesLoad buffer out load =
+    NamesText buffer out.directory (bytes_if load.comp_dir)
+    × NamesText buffer out.path (bytes_if load.path)
+
+-- this load is written after its token, with its texts
+pub record IsWrittenLoad (out : WrittenLoad) (buffer : List ℕ) (needed : ℕ) (load : ℕ × SplitLoad)
+    : Type 0 where
+  pub parts : out ≡ written_load load.0 load.1
+  pub texts : IsFilled needed buffer (joined (texts_of_load load.1))
+  pub named : length (joined (texts_of_load load.1)) ≤ length buffer
+      → NamesLoad buffer out load.1

@@ -11,3 +11,9 @@ abbrev pub written_items : {F W : Type 0} → (F → List (List ℕ)) → (List 
 written_items texts write before [] = []
 written_items texts write before (f ∷ items) =
     write before f ∷ written_items texts write (before ++ texts f) items
+
+-- of each item there is one that was written, in their order, and that names the item's texts
+abbrev pub EachNames : {F W : Type 0} → (W → F → Type 0) → List W → List F → Type 0
+EachNames names written [] = Unit {0}
+EachNames names [] (f ∷ items) = ⊥
+EachNames names (w ∷ written) (f ∷ items) = names w f × EachNames names written items

@@ -1,7 +1,7 @@
 -- The numbers of statuses, and what they say.
 -- Own: the library's own statuses come first, then refusals of files, then those of DWARF bytes; a refused growth has one
 -- number, wherever it was refused.
-use Rattle.std.specs.Prelude.{ℕ, List, codes}
+use Rattle.std.specs.Prelude.{ℕ, List, codes, Result, Ok, Err}
 use Rattle.gimli_read.specs.declared.error.Error.{Error}
 use Rattle.gimli_read.specs.declared.error.Error.TheVariants as reading
 use Rattle.elf.specs.declared.error.LoaderError.{LoaderError}
@@ -67,3 +67,8 @@ status_text (Refused e) = loader_text_of e
 -- the status of a refused reading of DWARF bytes
 abbrev pub status_of_error : Error → Status
 status_of_error e = Refused (loader_error_of e)
+
+-- a status, but where something was refused before it
+abbrev pub after_reply : Result (Unit {0}) Error → Status → Status
+after_reply (Ok x) s = s
+after_reply (Err e) s = status_of_error e

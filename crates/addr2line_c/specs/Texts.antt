@@ -1,5 +1,5 @@
 -- Texts in a buffer: one after another, with a zero after each, named by offset and length.
-use Rattle.std.specs.Prelude.{◌++◌, ◌∷◌, ℕ, List, [], Option, Some, None, flat_map, length}
+use Rattle.std.specs.Prelude.{◌≡◌, ◌++◌, ◌∷◌, ◌+◌, ℕ, List, [], Option, Some, None, drop, flat_map, length, take}
 use Rattle.addr2line_c.specs.declared.parts.TextPart.{TextPart}
 use Rattle.addr2line_c.specs.Filled.{saturated}
 
@@ -17,3 +17,9 @@ abbrev pub text_after : List (List ℕ) → Option (List ℕ) → TextPart
 text_after before None = record { offset = 0; length = 0; is_there = 0 }
 text_after before (Some text) =
     record { offset = saturated (length (joined before)); length = length text; is_there = 1 }
+
+-- a part names this text, which stands in the buffer with a zero after it, or says that there is none
+abbrev pub NamesText : List ℕ → TextPart → Option (List ℕ) → Type 0
+NamesText buffer part None = part ≡ record { offset = 0; length = 0; is_there = 0 }
+NamesText buffer part (Some text) = (part.is_there ≡ 1) × (part.length ≡ length text)
+    × (take (length text + 1) (drop part.offset buffer) ≡ text ++ 0 ∷ [])

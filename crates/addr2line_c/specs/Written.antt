@@ -1,6 +1,6 @@
 -- What C gets for locations, frames and spans: their parts, and their texts in a buffer.
 -- Own: the texts of an item stand in the order function, file, after those of the items before it.
-use Rattle.std.specs.Prelude.{◌≡◌, ◌++◌, ℕ, Bool, List, [], option_and_then, option_map, Option, Some, if◌then◌else◌}
+use Rattle.std.specs.Prelude.{◌≡◌, ◌++◌, ◌≤◌, ℕ, Bool, List, [], length, option_and_then, option_map, Option, Some, if◌then◌else◌}
 use Rattle.addr2line_lines.specs.Location.{Location}
 use Rattle.addr2line_units.specs.Frames.{FrameRecord, NameRecord}
 use Rattle.addr2line_units.specs.SeenFrame.{name_text}
@@ -8,8 +8,8 @@ use Rattle.addr2line_c.specs.declared.location.WrittenLocation.{WrittenLocation}
 use Rattle.addr2line_c.specs.declared.frames.WrittenFrame.{WrittenFrame}
 use Rattle.addr2line_c.specs.Parts.{number_part, offset_part}
 use Rattle.addr2line_c.specs.Filled.{IsFilled}
-use Rattle.addr2line_c.specs.Sequence.{texts_of_items, written_items}
-use Rattle.addr2line_c.specs.Texts.{given_text, joined, text_after}
+use Rattle.addr2line_c.specs.Sequence.{EachNames, texts_of_items, written_items}
+use Rattle.addr2line_c.specs.Texts.{NamesText, given_text, joined, text_after}
 
 -- the text of the file of a location
 abbrev pub file_of : Option Location → Option (List ℕ)
@@ -65,9 +65,19 @@ pub record IsWrittenLocation (out : WrittenLocation) (buffer : List ℕ) (needed
     : Type 0 where
   pub parts : out ≡ written_location [] (Some l)
   pub texts : IsFilled needed buffer (joined (given_text (file_of (Some l))))
+  pub named : length (joined (given_text (file_of (Some l)))) ≤ length buffer
+      → NamesText buffer out.file (file_of (Some l))
+
+-- the parts of a frame name its texts in a buffer
+abbrev pub NamesFrame : Bool → List ℕ → WrittenFrame → FrameRecord → Type 0
+NamesFrame demangles buffer w f = NamesText buffer w.function (name_of demangles f)
+    × NamesText buffer w.location.file (file_of f.location)
 
 -- these frames are written, with their texts
 pub record IsWrittenFrames (demangles : Bool) (out : List WrittenFrame) (count : ℕ)
     (buffer : List ℕ) (needed : ℕ) (frames : List FrameRecord) : Type 0 where
   pub parts : IsFilled count out (written_frames demangles frames)
   pub texts : IsFilled needed buffer (joined (texts_of_all demangles frames))
+  pub named : length frames ≤ length out
+      → length (joined (texts_of_all demangles frames)) ≤ length buffer
+      → EachNames (NamesFrame demangles buffer) out frames

@@ -1,5 +1,18 @@
 //! Answers to loads, and what forgets them.
 
+ghost use Rattle.std.specs.Prelude.{◌≡◌, ◌≢◌, Err, OnErr, OnOk, IfErr, Ok, Option, is_some, option_map};
+ghost use Rattle.gimli_read.specs.declared.error.Error.TheVariants.{OutOfMemory};
+ghost use Rattle.gimli.specs.Sections.{Sections};
+ghost use Rattle.elf.specs.declared.error.LoaderError.TheVariants.{OutOfMemory as NoMemory};
+ghost use Rattle.elf.specs.Loading.{Loading, LoadsUnlessOom};
+ghost use Rattle.addr2line_units.specs.Loads.{token_number};
+ghost use Rattle.addr2line.specs.Loads.{AfterPreload};
+ghost use Rattle.addr2line.specs.WarmUp.{IsWarm};
+ghost use Rattle.addr2line_c.specs.declared.status.Status.TheVariants.{Done};
+ghost use Rattle.addr2line_c.specs.AskedLoads.{with_loads};
+ghost use Rattle.addr2line_c.specs.LoadCalls.{AnswersLoadAs, AnswersTokenAs, AsksForSome, ForgetsToken, ParsesAllAs, PreloadsAs, answer_of_bytes, is_out_of_memory, status_of_answer};
+ghost use Rattle.addr2line_c.specs.Status.{after_reply};
+
 use crate::loads::AskedLoads;
 use crate::status::{Status, status_of_error};
 use addr2line::gimli::Dwarf;
@@ -9,64 +22,106 @@ use bytes::Bytes;
 use std::alloc::Global;
 use std::rc::Rc;
 
-// The status of an answer whose file gives sections or none.
-fn status_of_answer(is_there: bool, answered: Result<(), Error>) -> Status {
-    match answered {
-        Ok(()) if is_there => Status::Done,
-        Ok(()) => Status::OtherUnit,
+// What the file that bytes are has for a load, nothing where there are no bytes.
+fn read_answer(
+    alloc: Global,
+    load: &SplitDwarfLoad<EndianBytes>,
+    bytes: &'static [u8],
+) -> Result<Option<Rc<Dwarf<EndianBytes>>>, LoaderError>
+    ensures gives { LoadsUnlessOom (option_map (λ d. d.value)) result
+        (answer_of_bytes load.now bytes.now) }
+{
+    if bytes.is_empty() {
+        return Ok(None);
+    }
+    read_split_sections(alloc, load, Bytes::from_static(bytes))
+}
+
+// What is said of an answer whose file could be read.
+fn status_of_found(has_file: bool, is_found: bool) -> Status
+    ensures gives { (found : Option Sections) → is_some found ≡ is_found
+        → result ≡ status_of_answer has_file (Ok found) }
+{
+    if has_file && !is_found {
+        Status::OtherUnit
+    } else {
+        Status::Done
+    }
+}
+
+// A status, but where the context has refused.
+fn after_reply(reply: Result<(), Error>, status: Status) -> Status
+    ensures gives { result ≡ after_reply reply status }
+{
+    match reply {
+        Ok(()) => status,
         Err(error) => status_of_error(error),
     }
 }
 
-// Answers the load of a unit by what was read of its file; by none where the file is refused, and
-// where it is another unit's.
-fn answer_by<R: Reader>(
-    context: &mut Context<R>,
-    unit: UnitToken,
-    read: Result<Option<Rc<Dwarf<R>>>, LoaderError>,
-) -> Status {
-    match read {
-        Ok(sections) => {
-            let is_there = sections.is_some();
-            status_of_answer(is_there, context.load_unit(unit, sections))
-        }
-        Err(LoaderError::OutOfMemory) => Status::Refused(LoaderError::OutOfMemory),
-        Err(refusal) => match context.load_unit(unit, None) {
-            Ok(()) => Status::Refused(refusal),
-            Err(error) => status_of_error(error),
-        },
-    }
-}
-
-// Answers the load of a unit by the file that bytes are, by none where there are no bytes.
-fn answer_load(
-    alloc: Global,
-    context: &mut Context<EndianBytes>,
-    load: &SplitDwarfLoad<EndianBytes>,
-    bytes: &'static [u8],
-) -> Status {
-    if bytes.is_empty() {
-        return status_of_answer(true, context.load_unit(load.unit, None));
-    }
-    let read = read_split_sections(alloc, load, Bytes::from_static(bytes));
-    answer_by(context, load.unit, read)
-}
-
-// Whether a status leaves the unit as it was.
-fn is_out_of_memory(status: Status) -> bool {
+// Whether a status says that memory was refused.
+fn is_out_of_memory(status: Status) -> bool
+    ensures gives { result ≡ is_out_of_memory status }
+{
     matches!(status, Status::Refused(LoaderError::OutOfMemory))
 }
 
-/// Answers the load of a token. A unit that is answered waits no more.
+// Answers none to the load of a unit whose file is refused, but where memory was refused for it.
+fn answer_none<R: Reader>(
+    context: &mut Context<R>,
+    unit: UnitToken,
+    has_file: bool,
+    refusal: LoaderError,
+) -> Status
+    ensures gives { (given : Loading (Option Sections))
+        → (refusal ≢ NoMemory → given ≡ Err refusal)
+        → AnswersLoadAs has_file given (token_number unit) result context.old context.new }
+{
+    let refused = Status::Refused(refusal);
+    if is_out_of_memory(refused) {
+        return refused;
+    }
+    after_reply(context.load_unit(unit, None), refused)
+}
+
+// Answers the load of a unit by what was read of its file; by none where the file is refused.
+fn answer_by<R: Reader>(
+    context: &mut Context<R>,
+    unit: UnitToken,
+    has_file: bool,
+    read: Result<Option<Rc<Dwarf<R>>>, LoaderError>,
+) -> Status
+    ensures gives { (given : Loading (Option Sections))
+        → LoadsUnlessOom (option_map (λ d. d.value)) read given
+        → AnswersLoadAs has_file given (token_number unit) result context.old context.new }
+{
+    match read {
+        Ok(sections) => {
+            let status = status_of_found(has_file, sections.is_some());
+            after_reply(context.load_unit(unit, sections), status)
+        }
+        Err(refusal) => answer_none(context, unit, has_file, refusal),
+    }
+}
+
+/// Answers the load of a token by the file that bytes are, by none where there are no bytes.
+///
+/// A load that is answered waits no more. Refused memory leaves it waiting.
 pub(crate) fn answer(
     alloc: Global,
     context: &mut Context<EndianBytes>,
     loads: &mut AskedLoads<EndianBytes>,
     token: u64,
     bytes: &'static [u8],
-) -> Status {
+) -> Status
+    ensures gives { AnswersTokenAs token bytes.now result context.old context.new
+        loads.old.loads.items loads.new.loads.items }
+{
     let status = match loads.get(token) {
-        Some(load) => answer_load(alloc, context, load, bytes),
+        Some(load) => {
+            let read = read_answer(alloc, load, bytes);
+            answer_by(context, load.unit, !bytes.is_empty(), read)
+        }
         None => return status_of_error(Error::UnknownToken),
     };
     if !is_out_of_memory(status) {
@@ -75,28 +130,35 @@ pub(crate) fn answer(
     status
 }
 
-/// Takes the answer to the load of a token back. Takes no memory.
+/// Takes the answer to the load of a token back; it waits no more until it is asked for again.
+/// Takes no memory.
 pub(crate) fn forget<R: Reader>(
     context: &mut Context<R>,
     loads: &mut AskedLoads<R>,
     token: u64,
-) -> Status {
+) -> Status
+    ensures gives { ForgetsToken token result context.old context.new
+        loads.old.loads.items loads.new.loads.items }
+{
     let unit = match loads.get(token) {
         Some(load) => load.unit,
         None => return status_of_error(Error::UnknownToken),
     };
     loads.stop_waiting(token);
-    match context.forget(unit) {
-        Ok(()) => Status::Done,
-        Err(error) => status_of_error(error),
-    }
+    after_reply(context.forget(unit), Status::Done)
 }
 
-// Adds loads to those that were asked for.
+// Asks for loads, one after another, up to the first for which memory is refused.
 fn ask_all<R: Reader>(
     loads: &mut AskedLoads<R>,
     wanted: Vec<SplitDwarfLoad<R>>,
-) -> Result<(), Error> {
+) -> Result<(), Error>
+    ensures gives { OnOk result (loads.new.loads.items
+        ≡ with_loads loads.old.loads.items wanted.items) }
+    ensures kept { OnErr result (AsksForSome wanted.items loads.old.loads.items
+        loads.new.loads.items) }
+    ensures refused { IfErr result (λ e. e ≡ OutOfMemory) }
+{
     for load in wanted {
         loads.ask(load)?;
     }
@@ -108,7 +170,11 @@ pub(crate) fn preload<R: Reader>(
     context: &mut Context<R>,
     loads: &mut AskedLoads<R>,
     probe: u64,
-) -> Status {
+) -> Status
+    ensures gives { PreloadsAs probe context.old loads.old.loads.items loads.new.loads.items
+        result }
+    ensures after { AfterPreload context.old context.new }
+{
     let wanted = match context.preload_units(probe) {
         Ok(wanted) => wanted,
         Err(error) => return status_of_error(error),
@@ -121,20 +187,12 @@ pub(crate) fn preload<R: Reader>(
     }
 }
 
-// The status of a parse.
-fn status_of_parse(parsed: Result<(), Error>) -> Status {
-    match parsed {
-        Ok(()) => Status::Done,
-        Err(error) => status_of_error(error),
-    }
-}
-
 /// Parses the lines of all units, and their functions.
-pub(crate) fn parse_all<R: Reader>(context: &mut Context<R>) -> Status {
+pub(crate) fn parse_all<R: Reader>(context: &mut Context<R>) -> Status
+    ensures gives { ParsesAllAs result context.old context.new }
+    ensures ready { result ≡ Done → IsWarm context.new }
+{
     let lines = context.parse_lines();
     let functions = context.parse_inlined_functions();
-    match lines {
-        Ok(()) => status_of_parse(functions),
-        Err(error) => status_of_error(error),
-    }
+    after_reply(lines, after_reply(functions, Status::Done))
 }

@@ -1,10 +1,16 @@
 //! An open file.
 
+ghost use Rattle.std.specs.Prelude.{◌≡◌, [], IfOk, length, option_map};
+ghost use Rattle.elf.specs.Loading.{LoadsUnlessOom};
+ghost use Rattle.addr2line.specs.declared.compressed.CompressedSections.TheVariants as compressed;
+ghost use Rattle.addr2line.specs.Loaded.{loaded_bytes};
+ghost use Rattle.addr2line_c.specs.Calls.{given_sup};
+
 use crate::frames::WrittenFrame;
-use crate::loads::{AskedLoads, WrittenLoad, put_load};
+use crate::loads::{AskedLoads, WrittenLoad};
 use crate::location::WrittenLocation;
 use crate::spans::{self, WrittenSpan};
-use crate::status::{Status, done_if};
+use crate::status::Status;
 use crate::symbols::{self, WrittenSymbol};
 use crate::{answers, lookups};
 use addr2line::gimli::read::EndianBytes;
@@ -22,7 +28,9 @@ pub(crate) struct OpenFile {
 }
 
 // The bytes of a supplementary file, none where there is none.
-fn bytes_if(bytes: &'static [u8]) -> Option<Bytes> {
+fn bytes_if(bytes: &'static [u8]) -> Option<Bytes>
+    ensures gives { result ≡ given_sup bytes.now }
+{
     if bytes.is_empty() {
         return None;
     }
@@ -35,7 +43,11 @@ pub(crate) fn open(
     alloc: Global,
     bytes: &'static [u8],
     sup: &'static [u8],
-) -> Result<Box<OpenFile>, LoaderError> {
+) -> Result<Box<OpenFile>, LoaderError>
+    ensures gives { LoadsUnlessOom (λ b. (b.value.object, b.value.context)) result
+        (loaded_bytes compressed.Refused bytes.now (given_sup sup.now)) }
+    ensures loads { IfOk result (λ b. b.value.loads.loads.items ≡ []) }
+{
     let (object, context) = open_bytes(alloc, Bytes::from_static(bytes), bytes_if(sup))?;
     let file = Box::new(
         alloc,
@@ -50,6 +62,8 @@ pub(crate) fn open(
 }
 
 impl OpenFile {
+    ghost use Rattle.addr2line_c.specs.Calls.{AnswersToken, ForgetsAnswer, FramesAt, LocatesAt, ParsesAll, PreloadsAt, SectionNamed, SpansFrom, SymbolAt, TellsLoad};
+
     /// The location of an address.
     pub(crate) fn find_location(
         &mut self,
@@ -57,7 +71,9 @@ impl OpenFile {
         out: &mut WrittenLocation,
         buffer: &mut [u8],
         needed: &mut usize,
-    ) -> Status {
+    ) -> Status
+        ensures gives { LocatesAt probe out.new buffer.new needed.new self.old self.new result }
+    {
         lookups::find_location(&mut self.context, probe, out, buffer, needed)
     }
 
@@ -70,7 +86,10 @@ impl OpenFile {
         count: &mut usize,
         buffer: &mut [u8],
         needed: &mut usize,
-    ) -> Status {
+    ) -> Status
+        ensures gives { FramesAt probe demangles out.new count.new buffer.new needed.new
+            self.old self.new result }
+    {
         lookups::find_frames(
             self.alloc,
             &mut self.context,
@@ -90,49 +109,64 @@ impl OpenFile {
         out: &mut WrittenLoad,
         buffer: &mut [u8],
         needed: &mut usize,
-    ) -> Status {
-        *needed = 0;
-        let Some(token) = self.loads.first_waiting() else {
-            return Status::Nothing;
-        };
-        let Some(load) = self.loads.get(token) else {
-            return Status::Nothing;
-        };
-        *out = put_load(load, token, buffer, needed);
-        done_if(*needed <= buffer.len())
+    ) -> Status
+        ensures gives { TellsLoad out.new buffer.new needed.new self.now self.now result }
+    {
+        self.loads.put_first(out, buffer, needed)
     }
 
     /// Answers the load of a token.
-    pub(crate) fn answer_load(&mut self, token: u64, bytes: &'static [u8]) -> Status {
+    pub(crate) fn answer_load(&mut self, token: u64, bytes: &'static [u8]) -> Status
+        ensures gives { AnswersToken token bytes.now self.old self.new result }
+    {
         answers::answer(self.alloc, &mut self.context, &mut self.loads, token, bytes)
     }
 
     /// Takes the answer to the load of a token back.
-    pub(crate) fn forget(&mut self, token: u64) -> Status {
+    pub(crate) fn forget(&mut self, token: u64) -> Status
+        ensures gives { ForgetsAnswer token self.old self.new result }
+    {
         answers::forget(&mut self.context, &mut self.loads, token)
     }
 
     /// Asks for the loads of an address.
-    pub(crate) fn preload(&mut self, probe: u64) -> Status {
+    pub(crate) fn preload(&mut self, probe: u64) -> Status
+        ensures gives { PreloadsAt probe self.old self.new result }
+    {
         answers::preload(&mut self.context, &mut self.loads, probe)
     }
 
     /// Parses the lines and the functions of all units.
-    pub(crate) fn parse_all(&mut self) -> Status {
+    pub(crate) fn parse_all(&mut self) -> Status
+        ensures gives { ParsesAll self.old self.new result }
+    {
         answers::parse_all(&mut self.context)
     }
 
-    /// The row that has so many before it among those that a range of addresses meets.
-    pub(crate) fn find_row(
+    /// The rows that a range of addresses meets, from a place on.
+    pub(crate) fn find_spans(
         &mut self,
         low: u64,
         high: u64,
-        index: u64,
-        out: &mut WrittenSpan,
+        first: u64,
+        out: &mut [WrittenSpan],
+        count: &mut usize,
         buffer: &mut [u8],
         needed: &mut usize,
-    ) -> Status {
-        spans::find_row(&mut self.context, low, high, index, out, buffer, needed)
+    ) -> Status
+        ensures gives { SpansFrom low high first (length out.old) out.new count.new
+            buffer.new needed.new self.old self.new result }
+    {
+        spans::find_spans(
+            &mut self.context,
+            low,
+            high,
+            first,
+            out,
+            count,
+            buffer,
+            needed,
+        )
     }
 
     /// The symbol of an address.
@@ -142,12 +176,16 @@ impl OpenFile {
         out: &mut WrittenSymbol,
         buffer: &mut [u8],
         needed: &mut usize,
-    ) -> Status {
+    ) -> Status
+        ensures gives { SymbolAt probe out.new buffer.new needed.new self.now self.now result }
+    {
         symbols::find_symbol(&self.object, probe, out, buffer, needed)
     }
 
     /// The addresses of the first section of a name.
-    pub(crate) fn section_range(&self, name: &[u8], begin: &mut u64, end: &mut u64) -> Status {
+    pub(crate) fn section_range(&self, name: &[u8], begin: &mut u64, end: &mut u64) -> Status
+        ensures gives { SectionNamed name.now begin.new end.new self.now self.now result }
+    {
         symbols::section_range(&self.object, name, begin, end)
     }
 }

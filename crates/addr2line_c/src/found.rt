@@ -1,13 +1,16 @@
 //! What lookups found, with what C gets of it.
 
-ghost use Rattle.std.specs.Prelude.{◌&&◌, length, option_map, nat_le, Some};
+ghost use Rattle.std.specs.Prelude.{◌≡◌, ◌⊎◌, ◌&&◌, Some, false, length, nat_le, option_map};
 ghost use Rattle.gimli_read.specs.Reading.{ExactlyUnlessOom};
+ghost use Rattle.elf.specs.declared.error.LoaderError.TheVariants.{OutOfMemory};
 ghost use Rattle.addr2line_lines.specs.SeenLocation.{seen_location};
 ghost use Rattle.addr2line_units.specs.FramesLeft.{frames_left};
 ghost use Rattle.addr2line_units.specs.Located.{LocationResult};
 ghost use Rattle.addr2line_units.specs.UnitFrames.{FramesResult};
 ghost use Rattle.addr2line.specs.SplitFiles.{of_file};
-ghost use Rattle.addr2line_c.specs.Answered.{SaysOrWaits, SaysWhatIsThere};
+ghost use Rattle.addr2line_c.specs.declared.status.Status.TheVariants.{Nothing, Refused, Waits};
+ghost use Rattle.addr2line_c.specs.Answered.{IfNothing, SaysOrWaits, SaysWhatIsThere};
+ghost use Rattle.addr2line_c.specs.Left.{found_some, status_by};
 ghost use Rattle.addr2line_c.specs.Written.{IsWrittenFrames, IsWrittenLocation};
 
 use crate::frames::{WrittenFrame, put_frames};
@@ -28,6 +31,9 @@ pub(crate) fn put_found(
         → ExactlyUnlessOom (option_map seen_location) found.entry given
         → SaysWhatIsThere (of_file given) (IsWrittenLocation out.new buffer.new needed.new)
         (nat_le needed.new (length buffer.new)) result }
+    ensures none { IfNothing result (needed.new ≡ 0) }
+    ensures status { result
+        ≡ status_by Nothing (nat_le needed.new (length buffer.new)) found.entry }
 {
     *needed = 0;
     match found {
@@ -55,6 +61,13 @@ pub(crate) fn put_found_frames<R: Reader>(
         → SaysOrWaits (of_file given)
         (IsWrittenFrames demangles out.new count.new buffer.new needed.new)
         (nat_le count.new (length out.new) && nat_le needed.new (length buffer.new)) result }
+    ensures none { IfNothing result ((count.new ≡ 0) × (needed.new ≡ 0)) }
+    ensures status { (result ≡ Refused OutOfMemory) ⊎ (result ≡ status_by Waits
+        (nat_le count.new (length out.new) && nat_le needed.new (length buffer.new))
+        (found_some found.entry)) }
+    ensures memory { demangles ≡ false → result ≡ status_by Waits
+        (nat_le count.new (length out.new) && nat_le needed.new (length buffer.new))
+        (found_some found.entry) }
 {
     *count = 0;
     *needed = 0;
@@ -67,6 +80,9 @@ pub(crate) fn put_found_frames<R: Reader>(
             *count = found;
             done_if(found <= out.len() && *needed <= buffer.len())
         }
-        Err(error) => status_of_error(error),
+        Err(error) => {
+            *needed = 0;
+            status_of_error(error)
+        }
     }
 }

@@ -1,6 +1,6 @@
 //! Frames, as C gets them.
 
-ghost use Rattle.std.specs.Prelude.{◌≡◌, ◌++◌, ℕ, List, [], length, IfErr, IfOk, OnOk, Some};
+ghost use Rattle.std.specs.Prelude.{◌≡◌, ◌++◌, ℕ, List, [], false, length, IfErr, IfOk, IsOk, OnOk, Some};
 ghost use Rattle.gimli_read.specs.declared.error.Error.TheVariants.{OutOfMemory};
 ghost use Rattle.addr2line_units.specs.FramesLeft.{frames_left};
 ghost use Rattle.addr2line_units.specs.SeenFrame.{seen_frame, seen_name};
@@ -43,6 +43,7 @@ fn put_name<R: Reader>(
         → IfOk result (λ p. p ≡ text_after before
         (Some (chosen_name demangles (seen_name R.section name.now)))) }
     ensures refused { IfErr result (λ e. e ≡ OutOfMemory) }
+    ensures memory { demangles ≡ false → IsOk result }
     ensures same { length buffer.new ≡ length buffer.old }
 {
     if !demangles {
@@ -67,6 +68,7 @@ fn put_name_if<R: Reader>(
         → IfOk result (λ p. p ≡ text_after before
         (name_of demangles (seen_frame R.section frame.now))) }
     ensures refused { IfErr result (λ e. e ≡ OutOfMemory) }
+    ensures memory { demangles ≡ false → IsOk result }
     ensures same { length buffer.new ≡ length buffer.old }
 {
     match &frame.function {
@@ -96,6 +98,7 @@ fn put_frame<R: Reader>(
     ensures part { (before : List (List ℕ)) → IsFilled used.old buffer.old (joined before)
         → IfOk result (λ p. p ≡ written_frame demangles before (seen_frame R.section frame.now)) }
     ensures refused { IfErr result (λ e. e ≡ OutOfMemory) }
+    ensures memory { demangles ≡ false → IsOk result }
     ensures same { length buffer.new ≡ length buffer.old }
 {
     let function = put_name_if(alloc, frame, demangles, buffer, used)?;
@@ -124,6 +127,7 @@ pub(crate) fn put_frames<R: Reader>(
     ensures texts { OnOk result (IsFilled needed.new buffer.new
         (joined (texts_of_all demangles (frames_left frames.entry)))) }
     ensures refused { IfErr result (λ e. e ≡ OutOfMemory) }
+    ensures memory { demangles ≡ false → IsOk result }
     ensures same { (length out.new ≡ length out.old) × (length buffer.new ≡ length buffer.old) }
 {
     let mut frames = frames;

@@ -13,8 +13,8 @@ use std::mem;
 use std::ptr::null_mut;
 
 /// A file, as C holds it: one pointer, null where it is closed.
+// It isn't `Drop`, so that no handle can be let go with the file that it owns.
 #[repr(C)]
-#[derive(Drop)]
 pub struct Handle {
     at: *mut u8,
     alloc: Global,
@@ -26,6 +26,7 @@ impl Model for Handle {
 }
 
 impl Handle {
+    /// A handle that owns nothing.
     pub(crate) fn closed(alloc: Global) -> Handle
         ensures { result.value ≡ None }
     {
@@ -59,7 +60,8 @@ impl Handle {
         }
     }
 
-    fn into_box(self) -> Option<Box<OpenFile>>
+    /// The file that the handle owns, if it is open.
+    pub(crate) fn into_box(self) -> Option<Box<OpenFile>>
         ensures { option_map (λ b. b.value) result ≡ self.value }
     {
         match self.into_loose() {
@@ -68,6 +70,7 @@ impl Handle {
         }
     }
 
+    /// Takes the file out of the handle, which is closed then.
     pub(crate) fn take(&mut self, alloc: Global) -> Option<Box<OpenFile>>
         ensures gives { option_map (λ b. b.value) result ≡ self.old.value }
         ensures closed { self.new.value ≡ None }
@@ -75,10 +78,11 @@ impl Handle {
         mem::replace(self, Handle::closed(alloc)).into_box()
     }
 
+    /// The handle owns a file; what it owned is dropped.
     pub(crate) fn put(&mut self, file: Box<OpenFile>)
         ensures { self.new.value ≡ Some file.value }
     {
-        *self = Handle::of_loose(Loose::of(file));
+        let _ = mem::replace(self, Handle::of_loose(Loose::of(file))).into_box();
     }
 
     /// Closes the handle: what it owned is dropped.

@@ -1,7 +1,8 @@
 //! What C calls: lookups in ELF files, by handles, into buffers of the caller (`include/addr2line.h`).
 #![tactic(auto)]
 
-ghost use Rattle.std.specs.Prelude.{◌≡◌, None};
+ghost use Rattle.std.specs.Prelude.{◌≡◌, ◌==◌, None, length, not};
+ghost use Rattle.addr2line_c.specs.Calls.{AnswersToken, CallsFile, ForgetsAnswer, FramesAt, LocatesAt, OpensFile, ParsesAll, PreloadsAt, SectionNamed, SpansFrom, SymbolAt, TellsLoad, TellsStatusIfAny};
 
 mod answers;
 mod file;
@@ -31,14 +32,16 @@ use std::alloc::Global;
 /// The number of what a C program may call: it grows with each change.
 #[unsafe(no_mangle)]
 pub extern "C" fn addr2line_version() -> u32
-    ensures gives { result ≡ 1 }
+    ensures gives { result ≡ 2 }
 {
-    1
+    2
 }
 
 /// What a status says, with a zero after it; nothing of a number that is no status.
 #[unsafe(no_mangle)]
-pub extern "C" fn addr2line_status_text(status: u32, text: &mut [u8], needed: &mut usize) -> u32 {
+pub extern "C" fn addr2line_status_text(status: u32, text: &mut [u8], needed: &mut usize) -> u32
+    ensures gives { TellsStatusIfAny status text.new needed.new result }
+{
     *needed = 0;
     let Some(status) = Status::of_number(status) else {
         return Status::Nothing.number();
@@ -56,7 +59,9 @@ pub extern "C" fn addr2line_open(
     bytes: &'static [u8],
     sup: &'static [u8],
     handle: &mut Handle,
-) -> u32 {
+) -> u32
+    ensures gives { OpensFile bytes.now sup.now handle.new.value result }
+{
     handle.close(alloc);
     match file::open(alloc, bytes, sup) {
         Ok(file) => {
@@ -84,7 +89,10 @@ pub extern "C" fn addr2line_find_location(
     location: &mut WrittenLocation,
     text: &mut [u8],
     needed: &mut usize,
-) -> u32 {
+) -> u32
+    ensures gives { CallsFile handle.old.value handle.new.value result
+        (LocatesAt address location.new text.new needed.new) }
+{
     let Some(mut file) = handle.take(alloc) else {
         return Status::Closed.number();
     };
@@ -104,7 +112,10 @@ pub extern "C" fn addr2line_find_frames(
     count: &mut usize,
     text: &mut [u8],
     needed: &mut usize,
-) -> u32 {
+) -> u32
+    ensures gives { CallsFile handle.old.value handle.new.value result
+        (FramesAt address (not (demangles == 0)) frames.new count.new text.new needed.new) }
+{
     let Some(mut file) = handle.take(alloc) else {
         return Status::Closed.number();
     };
@@ -121,7 +132,10 @@ pub extern "C" fn addr2line_get_load(
     load: &mut WrittenLoad,
     text: &mut [u8],
     needed: &mut usize,
-) -> u32 {
+) -> u32
+    ensures gives { CallsFile handle.old.value handle.new.value result
+        (TellsLoad load.new text.new needed.new) }
+{
     let Some(file) = handle.take(alloc) else {
         return Status::Closed.number();
     };
@@ -137,7 +151,10 @@ pub extern "C" fn addr2line_answer_load(
     handle: &mut Handle,
     token: u64,
     bytes: &'static [u8],
-) -> u32 {
+) -> u32
+    ensures gives { CallsFile handle.old.value handle.new.value result
+        (AnswersToken token bytes.now) }
+{
     let Some(mut file) = handle.take(alloc) else {
         return Status::Closed.number();
     };
@@ -148,7 +165,10 @@ pub extern "C" fn addr2line_answer_load(
 
 /// Takes the answer to the load of a token back.
 #[unsafe(no_mangle)]
-pub extern "C" fn addr2line_forget(alloc: Global, handle: &mut Handle, token: u64) -> u32 {
+pub extern "C" fn addr2line_forget(alloc: Global, handle: &mut Handle, token: u64) -> u32
+    ensures gives { CallsFile handle.old.value handle.new.value result
+        (ForgetsAnswer token) }
+{
     let Some(mut file) = handle.take(alloc) else {
         return Status::Closed.number();
     };
@@ -159,7 +179,10 @@ pub extern "C" fn addr2line_forget(alloc: Global, handle: &mut Handle, token: u6
 
 /// Asks for the loads of an address, before a lookup does.
 #[unsafe(no_mangle)]
-pub extern "C" fn addr2line_preload(alloc: Global, handle: &mut Handle, address: u64) -> u32 {
+pub extern "C" fn addr2line_preload(alloc: Global, handle: &mut Handle, address: u64) -> u32
+    ensures gives { CallsFile handle.old.value handle.new.value result
+        (PreloadsAt address) }
+{
     let Some(mut file) = handle.take(alloc) else {
         return Status::Closed.number();
     };
@@ -170,7 +193,10 @@ pub extern "C" fn addr2line_preload(alloc: Global, handle: &mut Handle, address:
 
 /// Parses the lines and the functions of all units, so that lookups take no memory afterwards.
 #[unsafe(no_mangle)]
-pub extern "C" fn addr2line_parse_all(alloc: Global, handle: &mut Handle) -> u32 {
+pub extern "C" fn addr2line_parse_all(alloc: Global, handle: &mut Handle) -> u32
+    ensures gives { CallsFile handle.old.value handle.new.value result
+        (ParsesAll) }
+{
     let Some(mut file) = handle.take(alloc) else {
         return Status::Closed.number();
     };
@@ -179,23 +205,27 @@ pub extern "C" fn addr2line_parse_all(alloc: Global, handle: &mut Handle) -> u32
     status.number()
 }
 
-/// The row that has `index` rows and faults before it among those that the addresses from `low` up
-/// to `high` meet.
+/// The rows that the addresses from `low` up to `high` meet, from the one that has `first` rows and
+/// faults before it on, as many as `spans` has room for.
 #[unsafe(no_mangle)]
 pub extern "C" fn addr2line_locations(
     alloc: Global,
     handle: &mut Handle,
     low: u64,
     high: u64,
-    index: u64,
-    span: &mut WrittenSpan,
+    first: u64,
+    spans: &mut [WrittenSpan],
+    count: &mut usize,
     text: &mut [u8],
     needed: &mut usize,
-) -> u32 {
+) -> u32
+    ensures gives { CallsFile handle.old.value handle.new.value result
+        (SpansFrom low high first (length spans.old) spans.new count.new text.new needed.new) }
+{
     let Some(mut file) = handle.take(alloc) else {
         return Status::Closed.number();
     };
-    let status = file.find_row(low, high, index, span, text, needed);
+    let status = file.find_spans(low, high, first, spans, count, text, needed);
     handle.put(file);
     status.number()
 }
@@ -209,7 +239,10 @@ pub extern "C" fn addr2line_find_symbol(
     symbol: &mut WrittenSymbol,
     text: &mut [u8],
     needed: &mut usize,
-) -> u32 {
+) -> u32
+    ensures gives { CallsFile handle.old.value handle.new.value result
+        (SymbolAt address symbol.new text.new needed.new) }
+{
     let Some(file) = handle.take(alloc) else {
         return Status::Closed.number();
     };
@@ -226,7 +259,10 @@ pub extern "C" fn addr2line_section_range(
     name: &[u8],
     begin: &mut u64,
     end: &mut u64,
-) -> u32 {
+) -> u32
+    ensures gives { CallsFile handle.old.value handle.new.value result
+        (SectionNamed name.now begin.new end.new) }
+{
     let Some(file) = handle.take(alloc) else {
         return Status::Closed.number();
     };

@@ -1,10 +1,17 @@
 //! Lookups, with what C gets of them.
 
-ghost use Rattle.std.specs.Prelude.{◌&&◌, length, nat_le};
+ghost use Rattle.std.specs.Prelude.{◌≡◌, ◌≢◌, ◌&&◌, false, length, nat_le};
+ghost use Rattle.elf.specs.declared.error.LoaderError.TheVariants.{OutOfMemory};
+ghost use Rattle.addr2line_units.specs.declared.frames_lookup.Faults.TheVariants.{End};
 ghost use Rattle.addr2line_units.specs.Located.{location_of};
+ghost use Rattle.addr2line.specs.AfterLookups.{IsKnownFew};
+ghost use Rattle.addr2line.specs.Context.{IsReady};
+ghost use Rattle.addr2line.specs.LoadsByFiles.{WaitsForNone};
 ghost use Rattle.addr2line.specs.SplitFiles.{of_file};
 ghost use Rattle.addr2line.specs.WaitingLookups.{frames_of_context};
-ghost use Rattle.addr2line_c.specs.Answered.{SaysOrWaits, SaysWhatIsThere};
+ghost use Rattle.addr2line_c.specs.declared.status.Status.TheVariants.{Refused};
+ghost use Rattle.addr2line_c.specs.Answered.{IfNothing, SaysOrWaits, SaysWhatIsThere};
+ghost use Rattle.addr2line_c.specs.Left.{AsksIfWaiting, LeavesFrames, LeavesLocation};
 ghost use Rattle.addr2line_c.specs.Written.{IsWrittenFrames, IsWrittenLocation};
 
 use crate::found::{put_found, put_found_frames};
@@ -27,6 +34,10 @@ pub(crate) fn find_location<R: Reader>(
     ensures gives { SaysWhatIsThere (of_file (location_of context.old.sections probe))
         (IsWrittenLocation out.new buffer.new needed.new)
         (nat_le needed.new (length buffer.new)) result }
+    ensures none { IfNothing result (needed.new ≡ 0) }
+    ensures left { LeavesLocation probe (nat_le needed.new (length buffer.new)) result
+        context.old context.new }
+    ensures memory { IsReady context.old probe → result ≢ Refused OutOfMemory }
 {
     put_found(context.find_location(probe), out, buffer, needed)
 }
@@ -48,6 +59,13 @@ pub(crate) fn find_frames<R: Reader>(
     ensures gives { SaysOrWaits (of_file (frames_of_context context.old probe))
         (IsWrittenFrames demangles out.new count.new buffer.new needed.new)
         (nat_le count.new (length out.new) && nat_le needed.new (length buffer.new)) result }
+    ensures none { IfNothing result ((count.new ≡ 0) × (needed.new ≡ 0)) }
+    ensures left { LeavesFrames probe (nat_le count.new (length out.new)
+        && nat_le needed.new (length buffer.new)) result context.old context.new }
+    ensures asks { AsksIfWaiting probe context.old loads.old.loads.items loads.new.loads.items
+        result }
+    ensures memory { demangles ≡ false → WaitsForNone context.old probe
+        → IsKnownFew End context.old probe → result ≢ Refused OutOfMemory }
 {
     match context.find_frames(probe) {
         LookupResult::Output(found) => {

@@ -1,7 +1,11 @@
 //! What calls come to, as the number that C gets.
 
-ghost use Rattle.std.specs.Prelude.{◌≡◌, IfSome};
-ghost use Rattle.addr2line_c.specs.Answered.{done_if};
+ghost use Rattle.std.specs.Prelude.{◌≡◌, ◌≢◌, IfNone, IfSome};
+ghost use Rattle.gimli_read.specs.declared.error.Error.{Error as RefusedReading};
+ghost use Rattle.gimli_read.specs.declared.error.Error.TheVariants.{OutOfMemory};
+ghost use Rattle.elf.specs.declared.error.LoaderError.{LoaderError as RefusedLoading};
+ghost use Rattle.addr2line_c.specs.declared.status.Status.{Status as AnyStatus};
+ghost use Rattle.addr2line_c.specs.Answered.{HasMemory, done_if};
 ghost use Rattle.addr2line_c.specs.Status.{dwarf_number, loader_number, status_number, status_of_error, status_text};
 
 use addr2line::LoaderError;
@@ -73,6 +77,7 @@ fn loader_number(error: LoaderError) -> u32
 // The refusal of a reading that a number stands for; an offset that it had is 0.
 fn dwarf_of_number(number: u32) -> Option<Error>
     ensures gives { IfSome result (λ e. dwarf_number e ≡ number) }
+    ensures none { IfNone result ((e : RefusedReading) → e ≢ OutOfMemory → dwarf_number e ≢ number) }
 {
     match number {
         32 => Some(Error::UnexpectedEof),
@@ -101,6 +106,7 @@ fn dwarf_of_number(number: u32) -> Option<Error>
 // The refusal that a number stands for.
 fn loader_of_number(number: u32) -> Option<LoaderError>
     ensures gives { IfSome result (λ e. loader_number e ≡ number) }
+    ensures none { IfNone result ((e : RefusedLoading) → loader_number e ≢ number) }
 {
     match number {
         16 => Some(LoaderError::OutOfMemory),
@@ -133,6 +139,7 @@ impl Status {
     /// The status that a number stands for.
     pub(crate) fn of_number(number: u32) -> Option<Status>
         ensures gives { IfSome result (λ s. status_number s ≡ number) }
+        ensures none { IfNone result ((s : AnyStatus) → status_number s ≢ number) }
     {
         match number {
             0 => Some(Status::Done),
@@ -171,6 +178,7 @@ pub(crate) fn status_of_error(error: Error) -> Status
 /// The status of what was written, by whether it had room.
 pub(crate) fn done_if(fits: bool) -> Status
     ensures gives { result ≡ done_if fits }
+    ensures memory { HasMemory result }
 {
     if fits { Status::Done } else { Status::TooSmall }
 }

@@ -1,9 +1,9 @@
 //! Symbols and sections, as C gets them.
 
-ghost use Rattle.std.specs.Prelude.{length, nat_le, Ok, true};
+ghost use Rattle.std.specs.Prelude.{◌≡◌, length, nat_le, Ok, true};
 ghost use Rattle.elf.specs.Sections.{section_range_at};
 ghost use Rattle.elf.specs.Symbols.{symbol_at};
-ghost use Rattle.addr2line_c.specs.Answered.{SaysWhatIsThere};
+ghost use Rattle.addr2line_c.specs.Answered.{HasMemory, IfNothing, SaysWhatIsThere};
 ghost use Rattle.addr2line_c.specs.WrittenSymbols.{IsWrittenRange, IsWrittenSymbol};
 
 use crate::parts::{TextPart, put_text};
@@ -31,6 +31,8 @@ pub(crate) fn find_symbol(
     ensures gives { SaysWhatIsThere (Ok (symbol_at probe object.now))
         (IsWrittenSymbol out.new buffer.new needed.new)
         (nat_le needed.new (length buffer.new)) result }
+    ensures none { IfNothing result (needed.new ≡ 0) }
+    ensures memory { HasMemory result }
 {
     *needed = 0;
     let Some(symbol) = object.symbol(probe) else {
@@ -47,6 +49,7 @@ pub(crate) fn find_symbol(
 pub(crate) fn section_range(object: &ElfFile, name: &[u8], begin: &mut u64, end: &mut u64) -> Status
     ensures gives { SaysWhatIsThere (Ok (section_range_at name.now object.now))
         (IsWrittenRange begin.new end.new) true result }
+    ensures memory { HasMemory result }
 {
     let Some(range) = object.section_range(name) else {
         return Status::Nothing;

@@ -5,13 +5,16 @@ use Rattle.std.proofs.lemmas.List.Sums.{sum_by_push}
 use Rattle.std.specs.Option.{option_to_list}
 use Rattle.std.proofs.lemmas.Bool.{cases_lt}
 use Rattle.std.proofs.lemmas.Bool.Decides.{nat_tests}
-use Rattle.std.proofs.lemmas.List.{drop-append-le, drop-take, drop_all, get_or-drop, length_push, length-drop, map_push, take-append-le, take-take, take_at}
+use Rattle.std.proofs.lemmas.List.{drop-append-le, drop-take, drop_all, get_or-drop, length_push, length-drop, length-take-le, map_push, take-append-le, take-take, take_at}
 use Rattle.std.proofs.lemmas.Option.{slice_get-get_or}
+use Rattle.gimli_read.specs.declared.error.Error.{Error}
 use Rattle.gimli_read.specs.Topmost.{last}
 use Rattle.gimli_line.specs.declared.row.LineRow.{LineRow}
-use Rattle.gimli_line.specs.Rises.{NeverFalls}
+use Rattle.gimli_line.specs.Rises.{NeverFalls, rows_before}
+use Rattle.gimli_line.specs.Taking.{fault_after}
 use Rattle.addr2line_lines.specs.declared.row.Row.{Row}
 use Rattle.gimli_read.specs.Reading.{result_map}
+use Rattle.addr2line_lines.specs.Rows.{read_all}
 use Rattle.addr2line_lines.specs.Sequences.{Sequence, stored_row, sequence_of, sequences_of}
 use Rattle.addr2line_lines.specs.declared.sequence.LineSequence.{LineSequence}
 use Rattle.addr2line_lines.specs.Building.{Built, IsBuilder, all_taken, built, closed, built_ended, has_address, nothing_built, row_taken, with_row, without_last}
@@ -165,6 +168,27 @@ module _ (rows : List Row) (ss : List LineSequence) (first : ℕ) (is : IsBuilde
       let same : length rows - 1 - first ≡ length (drop first rows) - 1 = omega arith in
       built_take (length rows - 1) (omega arith) e ∙ ap (λ n. record { sequences = map (unpacked rows) ss; pending = take n (drop first rows) }) same
 
+  -- another row in the place of the last one
+  pub built_replaced : (r : Row) → first < length rows → new ≡ take (length rows - 1) rows ++ r ∷ []
+      → built new ss first ≡ record { sequences = map (unpacked rows) ss; pending = take (length (drop first rows) - 1) (drop first rows) ++ r ∷ [] }
+  built_replaced r l e =
+      let n : ℕ = length rows - 1 in
+      let short : List Row = take n rows in
+      let len = length-drop first rows in
+      let long = length-take-le n rows (omega arith) in
+      let sum : first + (n - first) ≡ n = omega arith in
+      let same : n - first ≡ length (drop first rows) - 1 = omega arith in
+      same_built _ _ _ _
+      (all_same rows new first ss (ap (take first) e ∙ take-append-le first short (r ∷ []) (omega arith) ∙ take-take first n rows (omega arith)) is.each)
+      (ap (drop first) e ∙ drop-append-le first short (r ∷ []) (omega arith)
+      ∙ ap (λ xs. xs ++ r ∷ []) (ap (λ m. drop first (take m rows)) (sym sum) ∙ drop-take first (n - first) rows ∙ ap (λ m. take m (drop first rows)) same))
+
+  pub replaced_is : (r : Row) → first < length rows → new ≡ take (length rows - 1) rows ++ r ∷ [] → IsBuilder new ss first
+  replaced_is r l e =
+      let long = length-take-le (length rows - 1) rows (omega arith) in
+      let all : length new ≡ length (take (length rows - 1) rows) + 1 = ap length e ∙ length_push (take (length rows - 1) rows) r in
+      record { upto = omega arith; each = is.each; no_others = is.no_others }
+
   pub finished_is : (xs : List LineSequence) → new ≡ take first rows → xs ≡ ss → map (unpacked new) xs ≡ map (unpacked rows) ss
   finished_is xs e f = ap (map (unpacked new)) f ∙ all_same rows new first ss (ap (take first) e ∙ take-take first first rows (omega arith)) is.each
 
@@ -208,3 +232,14 @@ closes_is rows ss first is s at all xs e n len =
       each = subst P (sym e) (all_push (RowsEndBy n) ss s (all_within first n ss (omega arith) is.each) (omega arith));
       no_others = omega arith;
     }
+
+-- rows that went to a builder one after another
+pub read_fault : {X : Type 0} (left : List (Result X Error)) (e : Error) → fault_after left ≡ Err e → read_all left ≡ Err e
+read_fault [] e h = absurd (cc (h))
+read_fault (Ok x ∷ rest) e h = ap (result_map (λ xs. x ∷ xs)) (read_fault rest e h)
+read_fault (Err d ∷ rest) e h = let same : d ≡ e = cc in ap Err same
+
+pub read_whole : {X : Type 0} (left : List (Result X Error)) → fault_after left ≡ Ok tt → read_all left ≡ Ok (rows_before left)
+read_whole [] h = refl
+read_whole (Ok x ∷ rest) h = ap (result_map (λ xs. x ∷ xs)) (read_whole rest h)
+read_whole (Err d ∷ rest) h = absurd (cc (h))

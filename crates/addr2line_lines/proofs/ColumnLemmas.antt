@@ -1,7 +1,7 @@
 -- The rows that columns show (on specs/Columns.antt).
-use Rattle.std.proofs.Common.{ℕ, ◌≡◌, ◌<◌, List, [], ◌∷◌, ◌++◌, Some, length, take, slice_index, arith, ◌∙◌, ap, sym, refl, zero, suc}
+use Rattle.std.proofs.Common.{ℕ, ◌≡◌, ◌+◌, ◌<◌, List, [], ◌∷◌, ◌++◌, Some, length, take, set, slice_index, arith, ◌∙◌, ap, sym, refl, zero, suc}
 use Rattle.std.specs.List.{slice_get}
-use Rattle.std.proofs.lemmas.List.{length_push, length-take}
+use Rattle.std.proofs.lemmas.List.{length_push, length-take, set_split, drop_all, take_all, take-append-le}
 use Rattle.std.proofs.lemmas.Option.{get_or_from_slice_get}
 use Rattle.addr2line_lines.specs.declared.row.Row.{Row}
 use Rattle.addr2line_lines.specs.Columns.{rows_of_columns, AreEven}
@@ -90,3 +90,24 @@ module _ (xs fs ls cs : List ℕ) (even : AreEven xs fs ls cs) where
 
 pub same_row : (a b f g l m c d : ℕ) → a ≡ b → f ≡ g → l ≡ m → c ≡ d → row_of a f l c ≡ row_of b g m d
 same_row a b f g l m c d p q r s = cc
+
+-- the last element is another one
+pub set_last : {X : Type 0} (xs : List X) (i : ℕ) (x : X) → i + 1 ≡ length xs → set xs i x ≡ take i xs ++ x ∷ []
+set_last xs i x e = set_split xs i x (omega arith) ∙ ap (λ rest. take i xs ++ x ∷ rest) (drop_all (suc i) xs (omega arith))
+
+-- a column that was cut after one element more is as before
+pub cut_back : {X : Type 0} (xs ys zs : List X) (x : X) (n : ℕ) → n ≡ length xs → ys ≡ xs ++ x ∷ [] → zs ≡ take n ys → zs ≡ xs
+cut_back xs ys zs x n e f g = g ∙ ap (take n) f ∙ take-append-le n xs (x ∷ []) (omega arith) ∙ take_all n xs (omega arith)
+
+-- another row in the place of those from place n on
+pub replaced_rows : (xs fs ls cs : List ℕ) → AreEven xs fs ls cs → (n : ℕ) (ys gs ms ds : List ℕ) (r : Row)
+    → ys ≡ take n xs ++ r.address ∷ [] → gs ≡ take n fs ++ r.file_index ∷ [] → ms ≡ take n ls ++ r.line ∷ [] → ds ≡ take n cs ++ r.column ∷ []
+    → rows_of_columns ys gs ms ds ≡ take n (rows_of_columns xs fs ls cs) ++ r ∷ []
+replaced_rows xs fs ls cs even n ys gs ms ds r a f l c =
+    pushed_rows (take n xs) (take n fs) (take n ls) (take n cs) (taken_even xs fs ls cs even n _ _ _ _ refl refl refl refl) ys gs ms ds r a f l c
+    ∙ ap (λ (rows : List Row). rows ++ r ∷ []) (taken_rows xs fs ls cs even n _ _ _ _ refl refl refl refl)
+
+pub replaced_even : (xs fs ls cs : List ℕ) → AreEven xs fs ls cs → (n : ℕ) (ys gs ms ds : List ℕ) (r : Row)
+    → ys ≡ take n xs ++ r.address ∷ [] → gs ≡ take n fs ++ r.file_index ∷ [] → ms ≡ take n ls ++ r.line ∷ [] → ds ≡ take n cs ++ r.column ∷ [] → AreEven ys gs ms ds
+replaced_even xs fs ls cs even n ys gs ms ds r a f l c =
+    pushed_even (take n xs) (take n fs) (take n ls) (take n cs) (taken_even xs fs ls cs even n _ _ _ _ refl refl refl refl) ys gs ms ds r a f l c

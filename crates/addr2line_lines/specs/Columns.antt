@@ -1,6 +1,5 @@
 -- Rows in columns, as the private functions see them.
-use Rattle.std.specs.Prelude.{ℕ, ◌≡◌, ◌<◌, ◌^◌, Bool, false, nat_le, List, [], ◌∷◌, length}
-use Rattle.std.specs.Vec.{vec_len, vec_capacity}
+use Rattle.std.specs.Prelude.{ℕ, ◌≡◌, ◌^◌, Bool, false, nat_le, List, [], ◌∷◌, length}
 use Rattle.addr2line_lines.specs.declared.columns.FileIndexes.{FileIndexes}
 use Rattle.addr2line_lines.specs.declared.columns.FileIndexes.TheVariants.{Narrow, Wide}
 use Rattle.addr2line_lines.specs.declared.row.Row.{Row}
@@ -18,11 +17,6 @@ narrow_end = 2 ^ 16
 abbrev pub is_beyond : FileIndexes → ℕ → Bool
 is_beyond (Narrow v) n = nat_le narrow_end n
 is_beyond (Wide v) n = false
-
--- there is room for one index more, which fits
-abbrev pub HasRoom : FileIndexes → ℕ → Type 0
-HasRoom (Narrow v) n = (n < narrow_end) × (vec_len v < vec_capacity v)
-HasRoom (Wide v) n = vec_len v < vec_capacity v
 
 -- the rows of columns, as far as each column goes
 abbrev pub rows_of_columns : List ℕ → List ℕ → List ℕ → List ℕ → List Row

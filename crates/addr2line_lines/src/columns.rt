@@ -1,7 +1,7 @@
 //! Rows in columns.
 
-ghost use Rattle.std.specs.Prelude.{◌≡◌, ◌<◌, [], ◌∷◌, ◌++◌, length, map, take, slice_get, slice_index, vec_len, vec_capacity, IfOk, OnOk, OnErr, Some};
-ghost use Rattle.addr2line_lines.specs.Columns.{indexes_of, is_beyond, HasRoom};
+ghost use Rattle.std.specs.Prelude.{◌≡◌, ℕ, ◌+◌, ◌-◌, ◌<◌, false, [], ◌∷◌, ◌++◌, length, map, take, slice_get, slice_index, vec_len, IfOk, OnOk, OnErr, Some};
+ghost use Rattle.addr2line_lines.specs.Columns.{indexes_of, is_beyond};
 ghost use Rattle.addr2line_lines.specs.Packed.{row_address_at};
 
 use crate::row::Row;
@@ -20,12 +20,25 @@ pub(crate) enum FileIndexes {
     Wide(Vec<u64>),
 }
 
-// Adds an element to a column that has room for it.
-fn push_within<T: Copy>(column: &mut Vec<T>, element: T)
-    requires room { vec_len column.old < vec_capacity column.old }
-    ensures gives { column.new.items ≡ column.old.items ++ element ∷ [] }
+// Adds an element to a column.
+#[inline(always)]
+fn push_one<T: Copy>(column: &mut Vec<T>, element: T) -> Result<(), AllocError>
+    ensures gives { OnOk result (column.new.items ≡ column.old.items ++ element ∷ []) }
+    ensures refused { OnErr result (column.new.items ≡ column.old.items) }
 {
-    let _pushed = column.push(element).is_ok();
+    if column.push(element).is_err() {
+        return Err(AllocError);
+    }
+    Ok(())
+}
+
+// Puts an element in the place of the last one.
+#[inline(always)]
+fn set_last<T: Copy>(column: &mut Vec<T>, last: usize, element: T)
+    requires last { last + 1 ≡ vec_len column.old }
+    ensures gives { column.new.items ≡ take last column.old.items ++ element ∷ [] }
+{
+    column[last] = element;
 }
 
 impl FileIndexes {
@@ -49,30 +62,56 @@ impl FileIndexes {
         }
     }
 
-    // Makes room for one index more.
-    fn grow(&mut self, alloc: Global, index: u64) -> Result<(), AllocError>
-        ensures room { OnOk result (HasRoom self.new index) }
+    // Takes the indexes as wide ones.
+    #[inline(never)]
+    fn widen(&mut self, alloc: Global) -> Result<(), AllocError>
+        ensures fits { OnOk result ((index : ℕ) → is_beyond self.new index ≡ false) }
+        ensures kept { indexes_of self.new ≡ indexes_of self.old }
+    {
+        let wide = self.widened(alloc)?;
+        *self = FileIndexes::Wide(wide);
+        Ok(())
+    }
+
+    // Takes the indexes as wide ones, if this one doesn't fit.
+    #[inline(always)]
+    fn widen_for(&mut self, alloc: Global, index: u64) -> Result<(), AllocError>
+        ensures fits { OnOk result (is_beyond self.new index ≡ false) }
         ensures kept { indexes_of self.new ≡ indexes_of self.old }
     {
         if self.is_beyond(index) {
-            let wide = self.widened(alloc)?;
-            *self = FileIndexes::Wide(wide);
+            return self.widen(alloc);
         }
+        Ok(())
+    }
+
+    // Adds an index.
+    #[inline(always)]
+    fn push(&mut self, alloc: Global, index: u64) -> Result<(), AllocError>
+        ensures gives { OnOk result (indexes_of self.new ≡ indexes_of self.old ++ index ∷ []) }
+        ensures refused { OnErr result (indexes_of self.new ≡ indexes_of self.old) }
+    {
+        self.widen_for(alloc, index)?;
         match self {
-            FileIndexes::Narrow(narrow) => narrow.try_reserve(1),
-            FileIndexes::Wide(wide) => wide.try_reserve(1),
+            FileIndexes::Narrow(narrow) => push_one(narrow, index as u16),
+            FileIndexes::Wide(wide) => push_one(wide, index),
         }
     }
 
-    // Adds an index, for which there is room.
-    fn push(&mut self, index: u64)
-        requires room { HasRoom self.old index }
-        ensures gives { indexes_of self.new ≡ indexes_of self.old ++ index ∷ [] }
+    // Puts an index in the place of the last one.
+    #[inline(always)]
+    fn set_last(&mut self, alloc: Global, last: usize, index: u64) -> Result<(), AllocError>
+        requires last { last + 1 ≡ length (indexes_of self.old) }
+        ensures gives { OnOk result
+            (indexes_of self.new ≡ take last (indexes_of self.old) ++ index ∷ []) }
+        ensures refused { OnErr result (indexes_of self.new ≡ indexes_of self.old) }
     {
+        self.widen_for(alloc, index)?;
         match self {
-            FileIndexes::Narrow(narrow) => push_within(narrow, index as u16),
-            FileIndexes::Wide(wide) => push_within(wide, index),
+            FileIndexes::Narrow(narrow) => set_last(narrow, last, index as u16),
+            FileIndexes::Wide(wide) => set_last(wide, last, index),
         }
+        Ok(())
     }
 
     // Keeps the first indexes.
@@ -171,19 +210,44 @@ impl Columns {
         self.addresses[place]
     }
 
-    /// Adds a row. All columns are grown before it is stored; a refused growth keeps nothing of it.
+    /// Adds a row. A refused growth keeps nothing of it.
+    #[inline(always)]
     pub(crate) fn push(&mut self, alloc: Global, row: Row) -> Result<(), AllocError>
         ensures gives { OnOk result (self.new ≡ self.old ++ row ∷ []) }
         ensures refused { OnErr result (self.new ≡ self.old) }
     {
-        self.file_indexes.grow(alloc, row.file_index)?;
-        self.addresses.try_reserve(1)?;
-        self.lines.try_reserve(1)?;
-        self.columns.try_reserve(1)?;
-        push_within(&mut self.addresses, row.address);
-        self.file_indexes.push(row.file_index);
-        push_within(&mut self.lines, row.line);
-        push_within(&mut self.columns, row.column);
+        let len = self.addresses.len();
+        self.file_indexes.push(alloc, row.file_index)?;
+        if let Err(fault) = push_one(&mut self.addresses, row.address) {
+            self.file_indexes.truncate(len);
+            return Err(fault);
+        }
+        if let Err(fault) = push_one(&mut self.lines, row.line) {
+            self.file_indexes.truncate(len);
+            self.addresses.truncate(len);
+            return Err(fault);
+        }
+        if let Err(fault) = push_one(&mut self.columns, row.column) {
+            self.file_indexes.truncate(len);
+            self.addresses.truncate(len);
+            self.lines.truncate(len);
+            return Err(fault);
+        }
+        Ok(())
+    }
+
+    /// Puts a row in the place of the last one. A refused growth changes nothing.
+    #[inline(always)]
+    pub(crate) fn set_last(&mut self, alloc: Global, row: Row) -> Result<(), AllocError>
+        requires some { 0 < length self.old }
+        ensures gives { OnOk result (self.new ≡ take (length self.old - 1) self.old ++ row ∷ []) }
+        ensures refused { OnErr result (self.new ≡ self.old) }
+    {
+        let last = self.addresses.len() - 1;
+        self.file_indexes.set_last(alloc, last, row.file_index)?;
+        set_last(&mut self.addresses, last, row.address);
+        set_last(&mut self.lines, last, row.line);
+        set_last(&mut self.columns, last, row.column);
         Ok(())
     }
 

@@ -16,6 +16,8 @@ ghost use Rattle.addr2line_lines.specs.Location.{location_at, location_of_row};
 ghost use Rattle.addr2line_lines.specs.SeenLocation.{seen_location};
 ghost use Rattle.addr2line_lines.specs.Spans.{row_at};
 
+mod looks;
+
 use crate::count::Count;
 use crate::files::read_file_texts;
 use crate::location::{Location, file_text, row_location};

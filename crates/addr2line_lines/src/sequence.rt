@@ -1,6 +1,6 @@
 //! Sequences, from the rows of a line program.
 
-ghost use Rattle.std.specs.Prelude.{◌≡◌, ◌+◌, ◌++◌, drop, map, length, option_map, IfOk, IfSome, OnOk};
+ghost use Rattle.std.specs.Prelude.{◌≡◌, ◌+◌, [], ◌∷◌, ◌++◌, drop, map, length, option_map, IfOk, IfSome, OnOk};
 ghost use Rattle.std.specs.List.{AllByRecursion};
 ghost use Rattle.gimli_read.specs.Topmost.{last};
 ghost use Rattle.gimli_read.specs.Reading.{ExactlyUnlessOom, result_map};
@@ -9,11 +9,11 @@ ghost use Rattle.addr2line_lines.specs.UnitLines.{IsFaultAtOnce};
 ghost use Rattle.addr2line_lines.specs.Sequences.{sequences_of};
 ghost use Rattle.gimli_line.specs.Rises.{NeverFalls};
 ghost use Rattle.addr2line_lines.specs.Packed.{IsAmong, RowsEndBy, packed_rows_in, unpacked};
-ghost use Rattle.addr2line_lines.specs.Building.{closed, built_ended, has_address, nothing_built, row_taken, without_last};
+ghost use Rattle.addr2line_lines.specs.Building.{closed, built_ended, has_address, nothing_built, without_last};
 
 use crate::columns::Columns;
-use crate::row::stored_row;
-use gimli_line::{LineRow, LineRows};
+use crate::row::{Row, stored_row};
+use gimli_line::{LineRow, LineRows, RowSink};
 use gimli_read::{Error, Reader};
 use std::alloc::{AllocError, Global};
 use std::marker::Model;
@@ -64,6 +64,7 @@ fn closed(rows: &Columns, first: usize, end: LineRow) -> Option<LineSequence>
 // The rows so far, and the sequences of those before the first one of the sequence that goes on.
 #[derive(Drop)]
 struct Builder {
+    alloc: Global,
     rows: Columns,
     sequences: Vec<LineSequence>,
     first: usize,
@@ -85,6 +86,7 @@ impl Builder {
         ensures gives { result ≡ nothing_built }
     {
         Builder {
+            alloc,
             rows: Columns::new(alloc),
             sequences: Vec::new(alloc),
             first: 0,
@@ -105,27 +107,17 @@ impl Builder {
         Ok(())
     }
 
-    // Drops the last row of the sequence that goes on, if it has the address.
-    fn drop_last_at(&mut self, address: u64)
-        ensures gives { self.new ≡ record self.old {
-          pending = without_last address self.old.pending;
-        } }
+    // Takes a row of the sequence that goes on: it replaces the last one, or follows it.
+    #[inline(always)]
+    fn put(&mut self, row: Row) -> Result<(), AllocError>
+        ensures gives { OnOk result (self.new ≡ record self.old {
+          pending = without_last row.address self.old.pending ++ row ∷ [];
+        }) }
     {
-        if ends_at(&self.rows, self.first, address) {
-            self.rows.truncate(self.rows.len() - 1);
+        if ends_at(&self.rows, self.first, row.address) {
+            return self.rows.set_last(self.alloc, row);
         }
-    }
-
-    // Takes a row: it ends the sequence that goes on, replaces the last row, or follows it.
-    fn take_row(&mut self, alloc: Global, row: LineRow) -> Result<(), AllocError>
-        ensures gives { OnOk result (self.new ≡ row_taken self.old row) }
-    {
-        if row.end_sequence {
-            return self.close(row);
-        }
-        self.drop_last_at(row.address);
-        self.rows.push(alloc, stored_row(&row))?;
-        Ok(())
+        self.rows.push(self.alloc, row)
     }
 
     // The rows and the sequences, without the rows that no end row follows.
@@ -140,6 +132,21 @@ impl Builder {
         rows.shrink();
         sequences.shrink_to_fit();
         UnitRows { rows, sequences }
+    }
+}
+
+impl RowSink for Builder {
+    ghost use Rattle.addr2line_lines.specs.Building.{row_taken};
+
+    ghost taken = { row_taken };
+
+    // An end row ends the sequence that goes on.
+    #[inline(always)]
+    fn take(&mut self, row: LineRow) -> Result<(), AllocError> {
+        if row.end_sequence {
+            return self.close(row);
+        }
+        self.put(stored_row(&row))
     }
 }
 
@@ -177,8 +184,6 @@ pub(crate) fn read_sequences<R: Reader>(
 {
     never_falls(rows);
     let mut builder = Builder::new(alloc);
-    while let Some(row) = rows.next_row()? {
-        builder.take_row(alloc, row)?;
-    }
+    rows.take_rows(&mut builder)?;
     Ok(builder.finish())
 }

@@ -28,9 +28,16 @@ pub mod ParseLemmas
 pub mod CachedParseLemmas
 pub mod ReadyLemmas
 pub mod ReachedLemmas
+pub mod NumberLemmas
 pub mod NumberedFrames
 pub mod FramesLookupLemmas
 pub mod WalkLemmas
 pub mod OpenLemmas
 pub mod LoadLemmas
 pub mod LoadLawLemmas
+pub mod StayLemmas
+pub mod ReadByLemmas
+pub mod StateLemmas
+pub mod NewUnitsLemmas
+pub mod AskLemmas
+pub mod WalkedLemmas

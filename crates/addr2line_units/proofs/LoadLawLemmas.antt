@@ -53,7 +53,7 @@ module _ (load : ℕ → Option SplitLoad) (own : (k : ℕ) (l : SplitLoad) → 
   listed_first n m None loads e same h = let k : is_some (load m) ≡ true = subst (λ x. is_some (load x) ≡ true) same h in let f : is_some (load m) ≡ false = ap is_some e in let g : true ≡ false = sym k ∙ f in absurd cc
   listed_first n m (Some l) loads e same h = inl (own m l e ∙ sym same)
 
-  listed_there : (n : ℕ) → is_some (load n) ≡ true → (ranges : List UnitRange) → LeadTo ranges n → IsListed n (loads_along load ranges)
+  pub listed_there : (n : ℕ) → is_some (load n) ≡ true → (ranges : List UnitRange) → LeadTo ranges n → IsListed n (loads_along load ranges)
   listed_there n h [] k = absurd k
   listed_there n h (r ∷ ranges) (inl e) = listed_first n r.unit (load r.unit) (loads_along load ranges) refl e h
   listed_there n h (r ∷ ranges) (inr k) = listed_before n (load r.unit) (loads_along load ranges) (listed_there n h ranges k)
@@ -123,7 +123,7 @@ module _ (d : Sections) (us : List UnitRecord) where
   abbrev load_or_none : ℕ → Option (Option Sections) → Option UnitRecord → Option SplitLoad
   load_or_none n a o = elim o [ None ↦ None | Some u ↦ awaited_load d n u a ]
 
-  load_own : (answers : FirstAnswers) (k : ℕ) (l : SplitLoad) → load_of_number d us answers k ≡ Some l → l.unit ≡ k
+  pub load_own : (answers : FirstAnswers) (k : ℕ) (l : SplitLoad) → load_of_number d us answers k ≡ Some l → l.unit ≡ k
   load_own answers k l e = by (slice_get us k) e
     where
       by : (o : Option UnitRecord) → ◌≡◌ {A = Option SplitLoad} (elim o [ None ↦ None | Some u ↦ awaited_load d k u (answer_of answers k) ]) (Some l) → l.unit ≡ k
@@ -131,7 +131,7 @@ module _ (d : Sections) (us : List UnitRecord) where
       by (Some u) f = awaited_unit d k u (answer_of answers k) l f
 
   -- what is decided waits for no load
-  answered_load : (n : ℕ) (u : UnitRecord) (answer : Option (Option Sections)) (given : Option Sections) → awaited_load d n u (decided_answer d u answer given) ≡ None
+  pub answered_load : (n : ℕ) (u : UnitRecord) (answer : Option (Option Sections)) (given : Option Sections) → awaited_load d n u (decided_answer d u answer given) ≡ None
   answered_load n u answer given = by (is_open d u answer) refl
     where
       none : (r : Result (Option SplitLoad) Error) → awaited_by r (Some given) ≡ None
@@ -143,7 +143,7 @@ module _ (d : Sections) (us : List UnitRecord) where
       by true e = ap (awaited_load d n u) (decided_if_open d u answer given e) ∙ none (load_of_unit d n u)
       by false e = ap (awaited_load d n u) (decided_if_not d u answer given e) ∙ no_answer (awaited_load d n u answer) (sym (open_awaits d n u answer) ∙ e)
 
-  load_gone : (answers : FirstAnswers) (n : ℕ) (given : Option Sections) → length us ≡ length answers → load_of_number d us (with_answer d us answers n given) n ≡ None
+  pub load_gone : (answers : FirstAnswers) (n : ℕ) (given : Option Sections) → length us ≡ length answers → load_of_number d us (with_answer d us answers n given) n ≡ None
   load_gone answers n given many = by (slice_get us n) refl
     where
       by : (o : Option UnitRecord) → slice_get us n ≡ o → load_of_number d us (with_answer d us answers n given) n ≡ None
@@ -161,7 +161,7 @@ module _ (d : Sections) (us : List UnitRecord) where
       by None = refl
       by (Some u) = ap (λ x. unwrap_or x None) (others_stay answers n k (decided_answer d u (answer_of answers n) given) ne)
 
-  load_others : (answers : FirstAnswers) (n : ℕ) (given : Option Sections) (k : ℕ) → k ≢ n → load_of_number d us (with_answer d us answers n given) k ≡ load_of_number d us answers k
+  pub load_others : (answers : FirstAnswers) (n : ℕ) (given : Option Sections) (k : ℕ) → k ≢ n → load_of_number d us (with_answer d us answers n given) k ≡ load_of_number d us answers k
   load_others answers n given k ne = ap (λ a. load_or_none k a (slice_get us k)) (answers_others answers n given k ne)
 
   -- a unit that is open waits for its load

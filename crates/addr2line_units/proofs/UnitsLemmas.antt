@@ -66,7 +66,7 @@ stay_indexed (u ∷ us) (r ∷ rs) [] a = absurd a
 stay_indexed (u ∷ us) (r ∷ rs) (s ∷ ss) a = ap (λ l. record { unit = u; language = l } ∷ indexed_units us ss) a.0.language ∙ ap (λ xs. indexed_unit u r ∷ xs) (stay_indexed us rs ss a.1)
 
 -- there are as many
-stay_length : (rs ss : List ResUnit) → StayUnits rs ss → length ss ≡ length rs
+pub stay_length : (rs ss : List ResUnit) → StayUnits rs ss → length ss ≡ length rs
 stay_length [] [] a = refl
 stay_length [] (s ∷ ss) a = absurd a
 stay_length (r ∷ rs) [] a = absurd a

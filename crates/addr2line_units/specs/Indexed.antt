@@ -13,7 +13,7 @@ use Rattle.addr2line_units.specs.declared.aranges.UnitArange.{UnitArange}
 use Rattle.addr2line_units.specs.declared.index.UnitRange.{UnitRange}
 use Rattle.addr2line_units.specs.declared.unit.ResUnit.{ResUnit}
 use Rattle.addr2line_units.specs.declared.units.Index.{Index}
-use Rattle.addr2line_units.specs.declared.units.ResUnits.{ResUnits}
+use Rattle.addr2line_units.specs.declared.units.IndexedUnits.{IndexedUnits}
 use Rattle.addr2line_units.specs.CachedLines.{indexed_unit, indexed_units, parsed_units}
 use Rattle.addr2line_units.specs.UnitIndex.{sup_sections}
 use Rattle.addr2line_units.specs.RangedUnits.{IndexedUnit, indexed_of, RangedUnit, has_lines, is_type_unit, range_of_unit, ranged_units, unit_ranges_from, unit_of_header, unit_ranges, units_of}
@@ -108,14 +108,10 @@ index_seen i = record {
   parsed = parsed_units i.units.items;
 }
 
--- the units that a context has, and their languages
-abbrev pub units_in : {R : Type 0} → ResUnits R → List IndexedUnit
-units_in u = indexed_units u.dw_units.items u.units.items
-
--- what a context has
-abbrev pub units_seen : {R : Type 0} → ResUnits R → IndexState
+-- the units of a file and their ranges
+abbrev pub units_seen : {R : Type 0} → IndexedUnits R → IndexState
 units_seen u = record {
-  units = units_in u;
+  units = indexed_units u.dw_units.items u.units.items;
   ranges = u.ranges;
   parsed = parsed_units u.units.items;
 }

@@ -37,3 +37,8 @@ pub mod FunctionParses
 pub mod CachedParses
 pub mod FunctionParseLaws
 pub mod Suspended
+pub mod StaysKnown
+pub mod UnitsState
+pub mod AfterUnits
+pub mod StoredUnits
+pub mod AskedUnits

@@ -1,28 +1,26 @@
 //! Answers to the loads of units that no lookup waits for, and the loads that an address waits for.
 
-ghost use Rattle.std.specs.Prelude.{◌≡◌, ◌≢◌, ◌⊎◌, ◌++◌, ◌<◌, ℕ, IfErr, IfOk, IsOk, None, Ok, OnOk, Some, false, length, not, option_map, slice_get, true};
+ghost use Rattle.std.specs.Prelude.{◌≡◌, ◌++◌, ◌<◌, IfErr, IfOk, IsOk, None, Ok, OnOk, Some, false, length, not, option_map, slice_get, true};
 ghost use Rattle.std.specs.List.{AllByRecursion};
 ghost use Rattle.std.specs.Option.{option_to_list};
 ghost use Rattle.gimli_read.specs.declared.error.Error.TheVariants.{OutOfMemory};
 ghost use Rattle.gimli_read.specs.Reading.{IsUnlessOom};
-ghost use Rattle.gimli.specs.Unit.{UnitRecord};
 ghost use Rattle.addr2line_lines.specs.SeenScope.{seen_scope};
-ghost use Rattle.addr2line_units.specs.Cover.{cover};
-ghost use Rattle.addr2line_units.specs.FramesLookup.{answer_of, with_answer};
+ghost use Rattle.addr2line_units.specs.AfterUnits.{AfterForget, AfterListing, AfterLoad};
 ghost use Rattle.addr2line_units.specs.CachedEntries.{AreEntriesOf, StayEntries, first_answer_of};
 ghost use Rattle.addr2line_units.specs.CachedUnits.{HaveEntriesOf, StayAllEntries, answers_in, decided_at};
 ghost use Rattle.addr2line_units.specs.CachedViews.{is_decided};
 ghost use Rattle.addr2line_units.specs.ListedLoads.{MarksLoad, MarksUnit, if_new, is_marked};
-ghost use Rattle.addr2line_units.specs.Loads.{NoneOpen, forget_result, forgotten, is_open_at, load_of_number, load_result, loads_along, view_fault};
-ghost use Rattle.gimli_read.specs.Alike.{HadMemory};
+ghost use Rattle.addr2line_units.specs.Loads.{NoneOpen, forget_result, is_open_at, load_of_number, load_result, loads_along, view_fault};
 ghost use Rattle.addr2line_units.specs.UnitRangesLeft.{ranges_left};
 ghost use Rattle.addr2line_units.specs.Views.{awaited_load, is_open, verdict};
 ghost use Rattle.addr2line_units.specs.SeenUnit.{scope_in};
 
+use crate::frames_lookup::FramesStop;
 use crate::range_iter::UnitRangeIter;
 use crate::sup::SupUnits;
 use crate::unit_frames::UnitEntries;
-use crate::units::ResUnits;
+use crate::units::Units;
 use crate::view::{SplitDwarfLoad, UnitToken};
 use addr2line_lines::{FileUnits, Scope};
 use gimli::read::{Error, Reader};
@@ -43,113 +41,48 @@ impl<R: Reader> UnitEntries<R> {
     }
 }
 
-impl<R: Reader> ResUnits<R> {
-    // The fault of the view of the unit of a number, which is decided, if it has one. Takes no
-    // memory.
-    fn check_view(&self, dwarf: &Dwarf<R>, sup: &SupUnits<R>, number: usize) -> Result<(), Error>
-        requires right { HaveEntriesOf (scope_in dwarf.now self.now.dw_units.items sup.now)
-            self.now.dw_units.items self.now.entries.items }
-        requires decided { decided_at self.now.entries.items number ≡ true }
-        ensures gives { (u : UnitRecord) → slice_get self.now.dw_units.items number ≡ Some u
-            → result ≡ view_fault (verdict dwarf.now u
-            (answer_of (answers_in self.now.entries.items) number)) }
-    {
-        let scope = Scope {
-            file: FileUnits {
-                dwarf,
-                units: &self.dw_units,
-            },
-            sup: sup.file(),
-        };
-        self.entries[number].check_view(scope, &self.dw_units[number])
-    }
-
+impl<R: Reader> Units<R> {
     /// Answers the load of a unit: decides it if it is open, and else leaves it as it is.
     ///
     /// Refused `UnknownToken` where there is no such unit; then nothing is changed. Refused by the
     /// fault of the view that the unit has then; the unit is decided all the same. May fail with
-    /// `OutOfMemory` instead, only of an open unit that is given sections; then all that is cached
-    /// stays, and only that the unit was looked at may be new.
+    /// `OutOfMemory` instead, only of an open unit that is given sections.
     pub fn load_unit(
         &mut self,
-        alloc: Global,
-        dwarf: &Dwarf<R>,
-        sup: &SupUnits<R>,
         token: UnitToken,
         sections: Option<Rc<Dwarf<R>>>,
     ) -> Result<(), Error>
-        requires right { HaveEntriesOf (scope_in dwarf.now self.old.dw_units.items sup.now)
-            self.old.dw_units.items self.old.entries.items }
-        ensures gives { IsUnlessOom result (load_result dwarf.now
-            self.old.dw_units.items (answers_in self.old.entries.items) token.number
+        ensures gives { IsUnlessOom result (load_result self.old.scope.file.sections
+            self.old.scope.file.units self.old.answers token.number
             (option_map (λ d. d.value) sections)) }
-        ensures answers { HadMemory result → answers_in self.new.entries.items
-            ≡ with_answer dwarf.now self.old.dw_units.items (answers_in self.old.entries.items)
-            token.number (option_map (λ d. d.value) sections) }
-        ensures begun { (answers_in self.new.entries.items ≡ answers_in self.old.entries.items)
-            ⊎ (answers_in self.new.entries.items ≡ with_answer dwarf.now
-            self.old.dw_units.items (answers_in self.old.entries.items) token.number
-            (option_map (λ d. d.value) sections)) }
-        ensures refused { result ≢ load_result dwarf.now self.old.dw_units.items
-            (answers_in self.old.entries.items) token.number (option_map (λ d. d.value) sections)
-            → (answers_in self.new.entries.items ≡ answers_in self.old.entries.items)
-            × StayAllEntries self.old.entries.items self.new.entries.items }
-        ensures same { decided_at self.old.entries.items token.number ≡ true
-            → (self.new.entries.items ≡ self.old.entries.items)
-            × (result ≡ load_result dwarf.now self.old.dw_units.items
-            (answers_in self.old.entries.items) token.number
-            (option_map (λ d. d.value) sections)) }
-        ensures not_open { is_open_at dwarf.now self.old.dw_units.items
-            (answers_in self.old.entries.items) token.number ≡ false
-            → result ≡ load_result dwarf.now self.old.dw_units.items
-            (answers_in self.old.entries.items) token.number
-            (option_map (λ d. d.value) sections) }
-        ensures no_sections { sections ≡ None → result ≡ load_result dwarf.now
-            self.old.dw_units.items (answers_in self.old.entries.items) token.number None }
-        ensures others { (n : ℕ) → n ≢ token.number → slice_get self.new.entries.items n
-            ≡ slice_get self.old.entries.items n }
-        ensures right { HaveEntriesOf (scope_in dwarf.now self.new.dw_units.items sup.now)
-            self.new.dw_units.items self.new.entries.items }
-        ensures dw_units { self.new.dw_units.items ≡ self.old.dw_units.items }
-        ensures units { self.new.units.items ≡ self.old.units.items }
-        ensures ranges { self.new.ranges ≡ self.old.ranges }
+        ensures after { AfterLoad token.number (option_map (λ d. d.value) sections) result self.old
+            self.new }
     {
-        if token.number >= self.dw_units.len() {
+        self.stop = FramesStop::FindsNothing;
+        let scope = self.sources.scope();
+        let Some(dw_unit) = scope.file.units.get(token.number) else {
             return Err(Error::UnknownToken);
-        }
-        self.answer(alloc, dwarf, sup, token.number, sections)?;
-        self.check_view(dwarf, sup, token.number)
+        };
+        let entries = &mut self.entries[token.number];
+        entries.answer(self.alloc, scope, dw_unit, sections)?;
+        entries.check_view(scope, dw_unit)
     }
 
     /// Takes the answer to the load of a unit back, if there is one, with what was read of its
     /// view; its lines stay. Takes no memory.
     ///
     /// Refused `UnknownToken` where there is no such unit; then nothing is changed.
-    pub fn forget_unit(
-        &mut self,
-        dwarf: &Dwarf<R>,
-        sup: &SupUnits<R>,
-        token: UnitToken,
-    ) -> Result<(), Error>
-        requires right { HaveEntriesOf (scope_in dwarf.now self.old.dw_units.items sup.now)
-            self.old.dw_units.items self.old.entries.items }
-        ensures gives { result ≡ forget_result self.old.dw_units.items token.number }
-        ensures answers { answers_in self.new.entries.items
-            ≡ forgotten (answers_in self.old.entries.items) token.number }
-        ensures same { answer_of (answers_in self.old.entries.items) token.number ≡ None
-            → self.new.entries.items ≡ self.old.entries.items }
-        ensures others { (n : ℕ) → n ≢ token.number → slice_get self.new.entries.items n
-            ≡ slice_get self.old.entries.items n }
-        ensures right { HaveEntriesOf (scope_in dwarf.now self.new.dw_units.items sup.now)
-            self.new.dw_units.items self.new.entries.items }
-        ensures dw_units { self.new.dw_units.items ≡ self.old.dw_units.items }
-        ensures units { self.new.units.items ≡ self.old.units.items }
-        ensures ranges { self.new.ranges ≡ self.old.ranges }
+    pub fn forget(&mut self, token: UnitToken) -> Result<(), Error>
+        ensures gives { result ≡ forget_result self.old.scope.file.units token.number }
+        ensures after { AfterForget token.number self.old self.new }
     {
-        if token.number >= self.dw_units.len() {
+        self.stop = FramesStop::FindsNothing;
+        let scope = self.sources.scope();
+        let Some(dw_unit) = scope.file.units.get(token.number) else {
             return Err(Error::UnknownToken);
-        }
-        self.forget(dwarf, sup, token.number);
+        };
+        let entries = &mut self.entries[token.number];
+        entries.forget(scope, dw_unit);
         Ok(())
     }
 }
@@ -299,44 +232,28 @@ fn read_loads<R: Reader>(
     Ok(loads)
 }
 
-impl<R: Reader> ResUnits<R> {
-    /// The loads of the open units that cover an address, each once, in the order of its first
-    /// range. Whether a unit is open is read and cached.
+impl<R: Reader> Units<R> {
+    /// The loads of the open units that ranges lead to, each once, in the order of its first range.
+    /// Whether a unit is open is read and cached.
     ///
     /// Refused `OutOfMemory` alone, and not where none of these units is open.
-    pub fn preload(
-        &mut self,
-        alloc: Global,
-        dwarf: &Rc<Dwarf<R>>,
-        sup: &SupUnits<R>,
-        probe: u64,
-    ) -> Result<Vec<SplitDwarfLoad<R>>, Error>
-        requires right { HaveEntriesOf (scope_in dwarf.now.value self.old.dw_units.items sup.now)
-            self.old.dw_units.items self.old.entries.items }
-        ensures gives { IfOk result (λ loads. loads.items ≡ loads_along
-            (load_of_number dwarf.now.value self.old.dw_units.items
-            (answers_in self.old.entries.items)) (cover probe self.old.ranges)) }
+    pub fn preload(&mut self, ranges: UnitRangeIter<'_>) -> Result<Vec<SplitDwarfLoad<R>>, Error>
+        ensures gives { IfOk result (λ loads. loads.items ≡ loads_along (load_of_number
+            self.old.scope.file.sections self.old.scope.file.units self.old.answers)
+            (ranges_left ranges.entry)) }
         ensures refused { IfErr result (λ e. e ≡ OutOfMemory) }
-        ensures memory { AllByRecursion (λ r. decided_at self.old.entries.items r.unit ≡ true)
-            (cover probe self.old.ranges) → IsOk result }
-        ensures none_open { NoneOpen dwarf.now.value self.old.dw_units.items
-            (answers_in self.old.entries.items) (cover probe self.old.ranges) → IsOk result }
-        ensures answers { answers_in self.new.entries.items
-            ≡ answers_in self.old.entries.items }
-        ensures stay { StayAllEntries self.old.entries.items self.new.entries.items }
-        ensures right { HaveEntriesOf (scope_in dwarf.now.value self.new.dw_units.items sup.now)
-            self.new.dw_units.items self.new.entries.items }
-        ensures dw_units { self.new.dw_units.items ≡ self.old.dw_units.items }
-        ensures units { self.new.units.items ≡ self.old.units.items }
-        ensures ranges { self.new.ranges ≡ self.old.ranges }
+        ensures none_open { NoneOpen self.old.scope.file.sections self.old.scope.file.units
+            self.old.answers (ranges_left ranges.entry) → IsOk result }
+        ensures after { AfterListing self.old self.new }
     {
+        self.stop = FramesStop::FindsNothing;
         read_loads(
-            alloc,
-            dwarf,
-            &self.dw_units,
-            sup,
+            self.alloc,
+            &self.sources.dwarf,
+            &self.sources.units,
+            &self.sources.sup,
             &mut self.entries,
-            self.ranges.find(probe),
+            ranges,
         )
     }
 }

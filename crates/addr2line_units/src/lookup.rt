@@ -1,18 +1,26 @@
-//! Lookups of addresses among units.
+//! Lookups of addresses among units, by their lines.
 
-ghost use Rattle.std.specs.Prelude.{◌≡◌, ◌+◌, ◌<◌, ◌≤◌, [], None, true, IfErr, OnOk, Ok, option_map, slice_get};
+ghost use Rattle.std.specs.Prelude.{◌≡◌, ◌+◌, ◌<◌, ◌≤◌, true, IfErr, IfOk, IfSome, OnOk, Ok, option_map, slice_get};
 ghost use Rattle.gimli_read.specs.declared.error.Error.TheVariants.{OutOfMemory};
-ghost use Rattle.gimli_read.specs.Reading.{Exactly, ExactlyUnlessOom, IsUnlessOom, fault_of};
-ghost use Rattle.addr2line_units.specs.Located.{all_lines, along, is_found, location_in, looks_along, looks_in};
 ghost use Rattle.gimli_read.specs.Alike.{HadMemory};
+ghost use Rattle.gimli_read.specs.Reading.{Exactly, ExactlyUnlessOom, IsUnlessOom, fault_of};
+ghost use Rattle.addr2line_lines.specs.Location.{location_of_row};
+ghost use Rattle.addr2line_lines.specs.SeenLocation.{seen_location};
+ghost use Rattle.addr2line_units.specs.AfterUnits.{AfterCaching, AfterLineParse, AfterRow};
+ghost use Rattle.addr2line_units.specs.CachedLines.{HaveLinesOf, StayUnits, cached_files, indexed_units, lines_result_at, location_of_unit_row, parsed_units, unit_row};
+ghost use Rattle.addr2line_units.specs.Located.{all_lines, along, is_found, location_in, looks_along, looks_in, spans_along};
+ghost use Rattle.addr2line_units.specs.LocationsLeft.{locations_left};
 ghost use Rattle.addr2line_units.specs.Parsed.{AllAskFor, AreAllParsed, AreParsed, AreReadyForAll, AsksFor, LeadTo, ParsesOnly, has_parsed, ready_along};
 ghost use Rattle.addr2line_units.specs.UnitRangesLeft.{ranges_left};
-ghost use Rattle.addr2line_units.specs.CachedLines.{HaveLinesOf, StayUnits, indexed_units, lines_result_at, location_of_unit_row, parsed_units, unit_row};
+ghost use Rattle.addr2line_units.specs.UnitsState.{row_location};
 
+use crate::frames_lookup::FramesStop;
+use crate::range::LocationRangeIter;
 use crate::range_iter::UnitRangeIter;
-use crate::unit::ResUnit;
+use crate::unit::{LazyLines, ResUnit};
 use crate::unit_row::UnitRow;
-use addr2line_lines::{Count, Row};
+use crate::units::Units;
+use addr2line_lines::{Count, Location, Row};
 use gimli::read::{Error, Reader};
 use gimli::{Dwarf, Unit};
 use std::alloc::Global;
@@ -88,7 +96,8 @@ pub(crate) fn find_place_along<R: Reader>(
         (indexed_units dw_units.now units.old.items) (ranges_left ranges.entry) }
     ensures raised { looks.old ≤ looks.new }
     ensures counted { is_found result ≡ true → looks.old < looks.new }
-    ensures none { ranges_left ranges.entry ≡ [] → result ≡ Ok None }
+    ensures found { IfOk result (λ place. IfSome place (λ p.
+        has_parsed (parsed_units units.new.items) p.unit ≡ true)) }
 {
     while let Some(range) = ranges.next() {
         if let Some(row) = find_row_in(alloc, dwarf, dw_units, units, range.unit, looks, probe)? {
@@ -213,4 +222,108 @@ pub(crate) fn read_all_lines<R: Reader>(
         read_lines_in(alloc, dwarf, dw_units, units, number)?;
     }
     Ok(())
+}
+
+// The location of a row in cached lines.
+fn location_of(lines: &LazyLines, row: Row) -> Location<'_>
+    ensures gives { seen_location result ≡ location_of_row (cached_files lines.now) row }
+{
+    match lines {
+        LazyLines::Read(lines) => lines.location(row),
+        LazyLines::Faulty(_) | LazyLines::Unread => Location::without_file(row),
+    }
+}
+
+impl<R: Reader> Units<R> {
+    /// The row of an address in the first unit along ranges which has one. The lines of each unit
+    /// up to it are parsed then, unless they are, and stay parsed, their fault too; no other lines
+    /// are parsed.
+    ///
+    /// Refused by the first such fault; may fail with `OutOfMemory` instead, which is never cached.
+    /// Takes no memory where the lines that it asks for are parsed.
+    pub fn find_row(
+        &mut self,
+        ranges: UnitRangeIter<'_>,
+        probe: u64,
+    ) -> Result<Option<UnitRow>, Error>
+        ensures gives { ExactlyUnlessOom (option_map (row_location self.old)) result
+            (along self.old.scope.file.sections self.old.units probe (ranges_left ranges.entry)) }
+        ensures parsed { IfOk result (λ place. IfSome place (λ p.
+            has_parsed self.new.parsed p.unit ≡ true)) }
+        ensures after { AfterRow probe (ranges_left ranges.entry) result self.old self.new }
+    {
+        self.stop = FramesStop::FindsNothing;
+        find_place_along(
+            self.alloc,
+            &self.sources.dwarf,
+            &self.sources.units,
+            &mut self.units,
+            ranges,
+            &mut self.looks,
+            probe,
+        )
+    }
+
+    /// The location of a row of a unit whose lines are parsed. Takes no memory.
+    pub fn location(&self, place: UnitRow) -> Location<'_>
+        requires parsed { has_parsed self.now.parsed place.unit ≡ true }
+        ensures gives { seen_location result ≡ row_location self.now place }
+    {
+        match self.units.get(place.unit) {
+            Some(unit) => location_of(&unit.lines, place.row),
+            None => Location::without_file(place.row),
+        }
+    }
+
+    /// Parses the lines of the units that ranges lead to, unless they are; they stay parsed, and
+    /// their faults too. No other lines are parsed.
+    ///
+    /// Refused `OutOfMemory` alone, which is never cached; takes no memory where they are parsed.
+    pub fn cache_lines(&mut self, ranges: UnitRangeIter<'_>) -> Result<(), Error>
+        ensures after { AfterCaching (ranges_left ranges.entry) result self.old self.new }
+    {
+        self.stop = FramesStop::FindsNothing;
+        cache_lines_along(
+            self.alloc,
+            &self.sources.dwarf,
+            &self.sources.units,
+            &mut self.units,
+            ranges,
+        )
+    }
+
+    /// The rows that the addresses from `low` up to `high` meet in ranges of units whose lines are
+    /// parsed. Takes no memory.
+    pub fn find_location_range<'x>(
+        &'x self,
+        ranges: UnitRangeIter<'x>,
+        low: u64,
+        high: u64,
+    ) -> LocationRangeIter<'x, R>
+        requires parsed { AreParsed self.now.parsed (ranges_left ranges) }
+        ensures gives { locations_left result ≡ spans_along self.now.scope.file.sections
+            self.now.units low high (ranges_left ranges.entry) }
+    {
+        LocationRangeIter::new(&self.units, ranges, low, high)
+    }
+
+    /// Parses the lines of all units in their order, unless they are parsed, up to the first fault;
+    /// they stay parsed, and that fault is cached too. The lines of the units behind it are left as
+    /// they are.
+    ///
+    /// Refused by the first fault; may fail with `OutOfMemory` instead, which is never cached.
+    /// Takes no memory where the lines up to the first fault are parsed.
+    pub fn parse_lines(&mut self) -> Result<(), Error>
+        ensures gives { IsUnlessOom result
+            (fault_of (all_lines self.old.scope.file.sections self.old.units)) }
+        ensures after { AfterLineParse result self.old self.new }
+    {
+        self.stop = FramesStop::FindsNothing;
+        read_all_lines(
+            self.alloc,
+            &self.sources.dwarf,
+            &self.sources.units,
+            &mut self.units,
+        )
+    }
 }

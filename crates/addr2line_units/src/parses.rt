@@ -6,25 +6,25 @@ ghost use Rattle.addr2line_lines.specs.References.{IsScope};
 ghost use Rattle.addr2line_lines.specs.SeenScope.{seen_scope};
 ghost use Rattle.addr2line_units.specs.declared.parses.ReadingDepth.TheVariants.{Details, Functions};
 ghost use Rattle.addr2line_units.specs.FramesLookup.{with_answer};
-ghost use Rattle.addr2line_units.specs.FunctionParses.{AreFirstDecided, AreReadBefore, AreReadyFor, IsReadyFor, answers_after_parse, read_of_functions, read_of_number, read_of_unit, read_of_units, read_of_view};
+ghost use Rattle.addr2line_units.specs.FunctionParses.{AreFirstDecided, AreReadBefore, IsReadyFor, answers_after_parse, read_of_functions, read_of_number, read_of_unit, read_of_units, read_of_view};
 ghost use Rattle.addr2line_units.specs.CachedEntries.{AreEntriesOf, StayEntries, first_answer_of};
 ghost use Rattle.addr2line_units.specs.CachedFunctions.{AreFunctionsOf, StayFunctions};
-ghost use Rattle.addr2line_units.specs.CachedUnits.{HaveEntriesOf, StayAllEntries, answers_in, has_entries_at};
-ghost use Rattle.addr2line_units.specs.CachedParses.{AreDecided, AreReadyUnits, ChangesOnly, HasRead, HaveFunctions, HaveRead, IsReadyUnit, StayDecided};
+ghost use Rattle.addr2line_units.specs.CachedUnits.{HaveEntriesOf, answers_in};
+ghost use Rattle.addr2line_units.specs.CachedParses.{AreReadyUnits, ChangesOnly, HasRead, HaveFunctions, HaveRead, IsReadyUnit, StayDecided};
 ghost use Rattle.addr2line_units.specs.CachedViews.{is_decided, seen_first_answer};
-ghost use Rattle.addr2line_units.specs.KnownEntries.{known_by, known_functions, known_in};
+ghost use Rattle.addr2line_units.specs.KnownEntries.{known_by, known_functions};
 ghost use Rattle.gimli_read.specs.Alike.{HadMemory};
+ghost use Rattle.addr2line_units.specs.AfterUnits.{AfterReading};
 ghost use Rattle.addr2line_units.specs.Views.{decided_answer, verdict};
-ghost use Rattle.addr2line_units.specs.SeenUnit.{scope_in};
 
+use crate::frames_lookup::FramesStop;
 use crate::functions::LazyFunctions;
-use crate::sup::SupUnits;
 use crate::unit_frames::UnitEntries;
-use crate::units::ResUnits;
+use crate::units::Units;
 use crate::view::UnitView;
-use addr2line_lines::{FileUnits, Scope};
+use addr2line_lines::Scope;
+use gimli::Unit;
 use gimli::read::{Error, Reader};
-use gimli::{Dwarf, Unit};
 use std::alloc::Global;
 
 /// What is read of each unit.
@@ -253,7 +253,7 @@ fn read_all_functions<R: Reader>(
     Ok(())
 }
 
-impl<R: Reader> ResUnits<R> {
+impl<R: Reader> Units<R> {
     /// Reads the functions of all units in their order, or their functions and the details of these
     /// in the order of the entries, up to the first fault, and caches them, that fault too. A unit
     /// that waits for an answer is decided by none first. The units behind the first fault are left
@@ -263,62 +263,13 @@ impl<R: Reader> ResUnits<R> {
     /// `OutOfMemory` instead, which is never cached: then some of the first units that it would
     /// decide are decided. Takes no memory, and changes nothing, where all that it reads is cached,
     /// up to the first fault, and that fault. Source: DWARF 5, sections 3.3.1 and 3.3.8.
-    pub fn read_functions(
-        &mut self,
-        alloc: Global,
-        dwarf: &Dwarf<R>,
-        sup: &SupUnits<R>,
-        reads: ReadingDepth,
-    ) -> Result<(), Error>
-        requires in_order { IsScope (scope_in dwarf.now self.old.dw_units.items sup.now) }
-        requires right { HaveEntriesOf (scope_in dwarf.now self.old.dw_units.items sup.now)
-            self.old.dw_units.items self.old.entries.items }
-        ensures gives { IsUnlessOom result (read_of_units reads
-            (scope_in dwarf.now self.old.dw_units.items sup.now) self.old.dw_units.items
-            (answers_in self.old.entries.items)) }
-        ensures right { HaveEntriesOf (scope_in dwarf.now self.new.dw_units.items sup.now)
-            self.new.dw_units.items self.new.entries.items }
-        ensures answers { HadMemory result → answers_in self.new.entries.items
-            ≡ answers_after_parse reads (scope_in dwarf.now self.old.dw_units.items sup.now)
-            self.old.dw_units.items (answers_in self.old.entries.items) }
-        ensures begun { AreFirstDecided reads
-            (scope_in dwarf.now self.old.dw_units.items sup.now) self.old.dw_units.items
-            (answers_in self.old.entries.items) (answers_in self.new.entries.items) }
-        ensures stay { StayDecided self.old.entries.items self.new.entries.items }
-        ensures only { ChangesOnly (AreReadBefore reads
-            (scope_in dwarf.now self.old.dw_units.items sup.now) self.old.dw_units.items
-            (answers_in self.old.entries.items)) self.old.entries.items self.new.entries.items }
-        ensures read { OnOk result (HaveRead reads self.new.entries.items) }
-        ensures decided { OnOk result (AreDecided self.new.entries.items) }
-        ensures found { reads ≡ Details → OnOk result ((probe n : ℕ)
-            → has_entries_at probe self.new.entries.items n ≡ true) }
-        ensures memory { HaveRead reads self.old.entries.items → result ≡ Ok tt }
-        ensures same { HaveRead reads self.old.entries.items
-            → StayAllEntries self.old.entries.items self.new.entries.items }
-        ensures ready_for_all { HadMemory result → AreReadyFor reads
-            (scope_in dwarf.now self.old.dw_units.items sup.now) self.old.dw_units.items
-            (answers_in self.new.entries.items) (known_in self.new.entries.items) }
-        ensures exact { AreReadyFor reads (scope_in dwarf.now self.old.dw_units.items sup.now)
-            self.old.dw_units.items (answers_in self.old.entries.items)
-            (known_in self.old.entries.items)
-            → result ≡ read_of_units reads
-            (scope_in dwarf.now self.old.dw_units.items sup.now) self.old.dw_units.items
-            (answers_in self.old.entries.items) }
-        ensures unchanged { AreReadyFor reads
-            (scope_in dwarf.now self.old.dw_units.items sup.now) self.old.dw_units.items
-            (answers_in self.old.entries.items) (known_in self.old.entries.items)
-            → self.new.entries.items ≡ self.old.entries.items }
-        ensures dw_units { self.new.dw_units.items ≡ self.old.dw_units.items }
-        ensures units { self.new.units.items ≡ self.old.units.items }
-        ensures ranges { self.new.ranges ≡ self.old.ranges }
+    pub fn read_functions(&mut self, reads: ReadingDepth) -> Result<(), Error>
+        ensures gives { IsUnlessOom result (read_of_units reads self.old.scope
+            self.old.scope.file.units self.old.answers) }
+        ensures after { AfterReading reads result self.old self.new }
     {
-        let scope = Scope {
-            file: FileUnits {
-                dwarf,
-                units: &self.dw_units,
-            },
-            sup: sup.file(),
-        };
-        read_all_functions(alloc, scope, &mut self.entries, reads)
+        self.stop = FramesStop::FindsNothing;
+        let scope = self.sources.scope();
+        read_all_functions(self.alloc, scope, &mut self.entries, reads)
     }
 }

@@ -1,45 +1,73 @@
 //! The units of a context, and the ranges that lead to them.
 
-ghost use Rattle.std.specs.Prelude.{◌≡◌, ◌+◌, ◌++◌, ◌<◌, ◌≤◌, [], None, IfErr, IfOk, IfSome, IsOk, Ok, OnOk, map, option_map, true};
+ghost use Rattle.std.specs.Prelude.{◌≡◌, ◌++◌, [], IfErr, IfOk, IfSome, IsOk, OnOk, map, option_map};
 ghost use Rattle.gimli_read.specs.declared.error.Error.TheVariants.{OutOfMemory};
-ghost use Rattle.gimli_read.specs.Reading.{Exactly, ExactlyUnlessOom, IsUnlessOom, ExactlyUnlessOomIf, fault_of};
-ghost use Rattle.addr2line_units.specs.RangedUnits.{range_of_unit, unit_of_header};
-ghost use Rattle.addr2line_units.specs.Indexed.{index_seen, index_takes_memory, indexed, indexed_with, no_index, ranged_seen, indexed_unit_takes_memory, units_in, units_seen, units_take_memory, with_header, with_ranged};
-ghost use Rattle.addr2line_units.specs.CachedLines.{HaveLinesOf, IsUnparsed, StayUnits, cached_files, location_of_unit_row, parsed_units};
+ghost use Rattle.gimli_read.specs.Reading.{ExactlyUnlessOomIf};
+ghost use Rattle.addr2line_lines.specs.SeenScope.{seen_scope};
+ghost use Rattle.addr2line_units.specs.CachedLines.{HaveLinesOf, IsUnparsed};
 ghost use Rattle.addr2line_units.specs.CachedUnits.{AreFreshOf};
-ghost use Rattle.addr2line_units.specs.LocationsLeft.{locations_left};
-ghost use Rattle.addr2line_units.specs.Located.{all_lines, along, is_found, looks_along};
-ghost use Rattle.gimli_read.specs.Alike.{HadMemory};
-ghost use Rattle.addr2line_units.specs.Parsed.{AllAskFor, AreAllParsed, AreParsed, AreReadyForAll, AsksFor, LeadTo, ParsesOnly, ready_along};
-ghost use Rattle.addr2line_units.specs.RangeLookup.{cached_along};
-ghost use Rattle.addr2line_units.specs.Cover.{cover, cover_range};
-ghost use Rattle.addr2line_lines.specs.LastAddress.{last_address};
-ghost use Rattle.addr2line_lines.specs.Location.{location_of_row};
-ghost use Rattle.addr2line_lines.specs.SeenLocation.{seen_location};
+ghost use Rattle.addr2line_units.specs.Indexed.{context_takes_memory, index_seen, index_takes_memory, indexed, indexed_with, no_index, ranged_seen, indexed_unit_takes_memory, units_seen, units_take_memory, with_header, with_ranged};
+ghost use Rattle.addr2line_units.specs.RangedUnits.{range_of_unit, unit_of_header};
+ghost use Rattle.addr2line_units.specs.StoredUnits.{scope_of};
+ghost use Rattle.addr2line_units.specs.UnitsState.{new_units};
 
 use crate::aranges::UnitAranges;
+use crate::frames_lookup::FramesStop;
 use crate::index::{UnitRange, UnitRanges};
-use crate::lookup::{cache_lines_along, find_place_along, read_all_lines};
-use crate::range::LocationRangeIter;
-use crate::unit::{LazyLines, ResUnit, is_type_unit, read_ranged_unit};
+use crate::sup::SupUnits;
+use crate::unit::{ResUnit, is_type_unit, read_ranged_unit};
 use crate::unit_frames::UnitEntries;
-use crate::unit_row::UnitRow;
-use addr2line_lines::{Count, Location, Row};
+use addr2line_lines::{Count, FileUnits, Scope};
 use gimli::read::{Error, Range, Reader};
 use gimli::{AbbreviationsCache, Dwarf, Unit, UnitHeader};
 use std::alloc::Global;
+use std::marker::Model;
+use std::rc::Rc;
 
-/// The units of a context, and the ranges that lead to them.
+/// The sections of a file, its units, and those of the supplementary file: what never changes.
 #[derive(Drop)]
-pub struct ResUnits<R: Reader> {
-    /// The units, in the order of `.debug_info`.
-    pub dw_units: Vec<Unit<R>>,
-    /// The language and the cached lines of each, in the same order.
-    pub units: Vec<ResUnit>,
+pub(crate) struct Sources<R: Reader> {
+    pub(crate) dwarf: Rc<Dwarf<R>>,
+    // In the order of `.debug_info`.
+    pub(crate) units: Vec<Unit<R>>,
+    pub(crate) sup: SupUnits<R>,
+}
+
+/// The units of a context, with what is cached of them.
+#[derive(Drop)]
+pub struct Units<R: Reader> {
+    pub(crate) alloc: Global,
+    pub(crate) sources: Sources<R>,
+    // The language and the cached lines of each unit, in the order of the units.
+    pub(crate) units: Vec<ResUnit>,
     // What is cached of the entries of each, in the same order.
     pub(crate) entries: Vec<UnitEntries<R>>,
-    /// The ranges that lead to them.
-    pub ranges: UnitRanges,
+    // What the last lookup of frames or of a unit has come to, from which it is lent.
+    pub(crate) stop: FramesStop,
+    // How often the lines of units were looked at, for contracts alone: it has no bytes.
+    pub(crate) looks: Count,
+}
+
+impl<R: Reader> Model for Units<R> {
+    ghost use Rattle.addr2line_units.specs.CachedFrames.{seen_stop};
+    ghost use Rattle.addr2line_units.specs.StoredUnits.{AreUnits, scope_of, seen_units};
+    ghost use Rattle.addr2line_units.specs.UnitsState.{UnitsState};
+
+    ghost Value = { UnitsState };
+
+    ghost view = { λ u. seen_units (scope_of u.sources) u.units.items u.entries.items u.looks
+        (seen_stop u.units.items u.entries.items u.stop) };
+
+    ghost invariant = { λ u. AreUnits (scope_of u.sources) u.units.items u.entries.items u.stop };
+}
+
+// The units of a file as they are read, and the ranges that lead to them.
+#[derive(Drop)]
+struct IndexedUnits<R: Reader> {
+    dw_units: Vec<Unit<R>>,
+    units: Vec<ResUnit>,
+    entries: Vec<UnitEntries<R>>,
+    ranges: UnitRanges,
 }
 
 // The units and ranges that were read so far.
@@ -49,16 +77,6 @@ struct Index<R: Reader> {
     units: Vec<ResUnit>,
     entries: Vec<UnitEntries<R>>,
     ranges: Vec<UnitRange>,
-}
-
-// The location of a row in cached lines.
-fn location_of(lines: &LazyLines, row: Row) -> Location<'_>
-    ensures gives { seen_location result ≡ location_of_row (cached_files lines.now) row }
-{
-    match lines {
-        LazyLines::Read(lines) => lines.location(row),
-        LazyLines::Faulty(_) | LazyLines::Unread => Location::without_file(row),
-    }
 }
 
 // The unit of a header, its language and lines, and its given ranges; none where it is passed over.
@@ -199,21 +217,10 @@ fn read_units<R: Reader>(
     Ok(index)
 }
 
-impl<R: Reader> ResUnits<R> {
-    /// The units of `.debug_info` that a context has, and the ranges that lead to them.
-    ///
-    /// All sets of `.debug_aranges` are read first. A unit is read whole before the next header: a
-    /// type unit and a unit whose record is faulty are passed over; a partial unit of version 5 has
-    /// no range and no language. The line program of a unit is run here only where no range is
-    /// given for it: by its range list if it has one, else by `.debug_aranges`, else by its other
-    /// attributes.
-    ///
-    /// Refused by the first fault of a set's header, of a unit's header, or of the range attributes
-    /// of a unit whose record can be read. May fail with `OutOfMemory` instead where a set lists a
-    /// range, up to the first fault of a set's header; and, where there is none, where bytes are
-    /// shared or the header can be read of a unit that is no type unit and has abbreviations.
-    /// Source: DWARF 5, sections 2.17, 3.1 and 6.1.2.
-    pub fn parse(alloc: Global, dwarf: &Dwarf<R>) -> Result<ResUnits<R>, Error>
+impl<R: Reader> IndexedUnits<R> {
+    // The units of `.debug_info` that a context has, and the ranges that lead to them, as
+    // `Units::parse` reads them.
+    fn parse(alloc: Global, dwarf: &Dwarf<R>) -> Result<IndexedUnits<R>, Error>
         ensures gives { ExactlyUnlessOomIf (index_takes_memory R.shares dwarf.now) units_seen result
             (indexed dwarf.now) }
         ensures read { IfOk result (λ u. HaveLinesOf dwarf.now u.dw_units.items u.units.items) }
@@ -227,7 +234,7 @@ impl<R: Reader> ResUnits<R> {
             ranges,
         } = read_units(alloc, dwarf, &aranges)?;
         let ranges = UnitRanges::new(alloc, ranges)?;
-        Ok(ResUnits {
+        Ok(IndexedUnits {
             dw_units,
             units,
             entries,
@@ -236,140 +243,61 @@ impl<R: Reader> ResUnits<R> {
     }
 }
 
-impl<R: Reader> ResUnits<R> {
-    /// The row of an address in the first unit among those that cover it which has one. The lines
-    /// of each unit up to it are cached then, or their fault, and those of no other unit. `looks`
-    /// is raised by one with each look at them.
-    ///
-    /// Refused by the first such fault; may fail with `OutOfMemory` instead, which is never cached.
-    /// Takes no memory where the lines that it asks for are cached, nor where no unit covers the
-    /// address.
-    pub fn find_place(
-        &mut self,
-        alloc: Global,
-        dwarf: &Dwarf<R>,
-        looks: &mut Count,
-        probe: u64,
-    ) -> Result<Option<UnitRow>, Error>
-        requires read { HaveLinesOf dwarf.now self.old.dw_units.items self.old.units.items }
-        ensures gives { ExactlyUnlessOom (option_map (location_of_unit_row self.new.units.items))
-            result (along dwarf.now (units_in self.old) probe
-            (cover probe self.old.ranges)) }
-        ensures exact { ready_along dwarf.now (units_in self.old)
-            (parsed_units self.old.units.items) probe (cover probe self.old.ranges) ≡ true
-            → Exactly (option_map (location_of_unit_row self.new.units.items)) result
-            (along dwarf.now (units_in self.old) probe
-            (cover probe self.old.ranges)) }
-        ensures ready { HadMemory result → ready_along dwarf.now
-            (units_in self.old) (parsed_units self.new.units.items) probe
-            (cover probe self.old.ranges) ≡ true }
-        ensures memory { ready_along dwarf.now (units_in self.old)
-            (parsed_units self.new.units.items) probe (cover probe self.old.ranges) ≡ true
-            → HadMemory result }
-        ensures only { ParsesOnly (AsksFor dwarf.now (units_in self.old) probe
-            (cover probe self.old.ranges))
-            (parsed_units self.old.units.items) (parsed_units self.new.units.items) }
-        ensures last { probe ≡ last_address → result ≡ Ok None }
-        ensures stay { StayUnits self.old.units.items self.new.units.items }
-        ensures dw_units { self.new.dw_units.items ≡ self.old.dw_units.items }
-        ensures entries { self.new.entries.items ≡ self.old.entries.items }
-        ensures ranges { self.new.ranges ≡ self.old.ranges }
-        ensures read { HaveLinesOf dwarf.now self.new.dw_units.items self.new.units.items }
-        ensures cost { looks.new ≤ looks.old + looks_along dwarf.now
-            (units_in self.old) (cover probe self.old.ranges) }
-        ensures raised { looks.old ≤ looks.new }
-        ensures counted { is_found result ≡ true → looks.old < looks.new }
+impl<R: Reader> Sources<R> {
+    // Where references lead from the units of the file. Takes no memory.
+    pub(crate) fn scope(&self) -> Scope<'_, R>
+        ensures gives { seen_scope result ≡ scope_of self.now }
     {
-        find_place_along(
-            alloc,
-            dwarf,
-            &self.dw_units,
-            &mut self.units,
-            self.ranges.find(probe),
-            looks,
-            probe,
-        )
-    }
-
-    /// The location of a row of a unit, by its cached lines. Takes no memory.
-    pub fn location(&self, place: UnitRow) -> Location<'_>
-        ensures gives { seen_location result ≡ location_of_unit_row self.now.units.items place }
-    {
-        match self.units.get(place.unit) {
-            Some(unit) => location_of(&unit.lines, place.row),
-            None => Location::without_file(place.row),
+        Scope {
+            file: FileUnits {
+                dwarf: &self.dwarf,
+                units: &self.units,
+            },
+            sup: self.sup.file(),
         }
     }
+}
 
-    /// Caches the lines of the units that a range of addresses meets, or their faults, and those
-    /// of no other unit.
+impl<R: Reader> Units<R> {
+    /// The units of `.debug_info` that a context has, and the ranges that lead to them.
     ///
-    /// Refused `OutOfMemory` alone, which is never cached; takes no memory where they are cached.
-    pub fn cache_lines(
-        &mut self,
-        alloc: Global,
-        dwarf: &Dwarf<R>,
-        low: u64,
-        high: u64,
-    ) -> Result<(), Error>
-        requires read { HaveLinesOf dwarf.now self.old.dw_units.items self.old.units.items }
-        ensures exact { AreParsed (parsed_units self.old.units.items)
-            (cover_range low high self.old.ranges) → result ≡ Ok tt }
-        ensures parsed { OnOk result (AreParsed (parsed_units self.new.units.items)
-            (cover_range low high self.old.ranges)) }
-        ensures memory { AreParsed (parsed_units self.new.units.items)
-            (cover_range low high self.old.ranges) → HadMemory result }
-        ensures only { ParsesOnly (LeadTo (cover_range low high self.old.ranges))
-            (parsed_units self.old.units.items) (parsed_units self.new.units.items) }
-        ensures refused { IfErr result (λ e. e ≡ OutOfMemory) }
-        ensures stay { StayUnits self.old.units.items self.new.units.items }
-        ensures dw_units { self.new.dw_units.items ≡ self.old.dw_units.items }
-        ensures entries { self.new.entries.items ≡ self.old.entries.items }
-        ensures ranges { self.new.ranges ≡ self.old.ranges }
-        ensures read { HaveLinesOf dwarf.now self.new.dw_units.items self.new.units.items }
+    /// All sets of `.debug_aranges` are read first. A unit is read whole before the next header: a
+    /// type unit and a unit whose record is faulty are passed over; a partial unit of version 5 has
+    /// no range and no language. The line program of a unit is run here only where no range is
+    /// given for it: by its range list if it has one, else by `.debug_aranges`, else by its other
+    /// attributes. The units of the supplementary file come last.
+    ///
+    /// Refused by the first fault of a set's header, of a unit's header, or of the range attributes
+    /// of a unit whose record can be read; then by that of a header of the supplementary file. May
+    /// fail with `OutOfMemory` instead where a set lists a range, up to the first fault of a set's
+    /// header; and, where there is none, where bytes are shared or the header can be read of a unit
+    /// that is no type unit and has abbreviations; and for the supplementary file, where the units
+    /// have no fault. Source: DWARF 5, sections 2.17, 3.1, 6.1.2 and 7.3.6.
+    pub fn parse(alloc: Global, dwarf: Rc<Dwarf<R>>) -> Result<(Units<R>, UnitRanges), Error>
+        ensures gives { ExactlyUnlessOomIf (context_takes_memory R.shares dwarf.value)
+            (λ x. (x.0, x.1)) result (new_units dwarf.value) }
     {
-        cache_lines_along(
-            alloc,
+        let indexed = IndexedUnits::parse(alloc, &dwarf)?;
+        let sup = SupUnits::parse(alloc, &dwarf)?;
+        let IndexedUnits {
+            dw_units,
+            units,
+            entries,
+            ranges,
+        } = indexed;
+        let sources = Sources {
             dwarf,
-            &self.dw_units,
-            &mut self.units,
-            self.ranges.find_range(low, high),
-        )
-    }
-
-    /// The rows that a range of addresses meets, by the cached lines. Takes no memory.
-    pub fn find_location_range(&self, low: u64, high: u64) -> LocationRangeIter<'_, R>
-        ensures gives { locations_left result ≡ cached_along self.now.units.items low high
-            (cover_range low high self.now.ranges) }
-    {
-        LocationRangeIter::new(&self.units, self.ranges.find_range(low, high), low, high)
-    }
-
-    /// Reads the lines of all units in their order, unless they are cached, and caches them, or
-    /// their fault; those of the units behind the first fault are left as they are.
-    ///
-    /// Refused by the first fault; may fail with `OutOfMemory` instead, which is never cached.
-    /// Takes no memory where all lines are cached, up to the first fault.
-    pub fn parse_lines(&mut self, alloc: Global, dwarf: &Dwarf<R>) -> Result<(), Error>
-        requires read { HaveLinesOf dwarf.now self.old.dw_units.items self.old.units.items }
-        ensures gives { IsUnlessOom result
-            (fault_of (all_lines dwarf.now (units_in self.old))) }
-        ensures exact { AreReadyForAll dwarf.now (units_in self.old)
-            (parsed_units self.old.units.items) → Exactly (λ x. x) result
-            (fault_of (all_lines dwarf.now (units_in self.old))) }
-        ensures ready { HadMemory result → AreReadyForAll dwarf.now
-            (units_in self.old) (parsed_units self.new.units.items) }
-        ensures memory { AreReadyForAll dwarf.now (units_in self.old)
-            (parsed_units self.new.units.items) → HadMemory result }
-        ensures parsed { OnOk result (AreAllParsed (parsed_units self.new.units.items)) }
-        ensures only { ParsesOnly (AllAskFor dwarf.now (units_in self.old))
-            (parsed_units self.old.units.items) (parsed_units self.new.units.items) }
-        ensures stay { StayUnits self.old.units.items self.new.units.items }
-        ensures dw_units { self.new.dw_units.items ≡ self.old.dw_units.items }
-        ensures entries { self.new.entries.items ≡ self.old.entries.items }
-        ensures ranges { self.new.ranges ≡ self.old.ranges }
-        ensures read { HaveLinesOf dwarf.now self.new.dw_units.items self.new.units.items }
-    {
-        read_all_lines(alloc, dwarf, &self.dw_units, &mut self.units)
+            units: dw_units,
+            sup,
+        };
+        let units = Units {
+            alloc,
+            sources,
+            units,
+            entries,
+            stop: FramesStop::FindsNothing,
+            looks: Count::new(),
+        };
+        Ok((units, ranges))
     }
 }

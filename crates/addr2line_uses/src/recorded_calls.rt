@@ -1,6 +1,7 @@
 //! Calls that were recorded, made again.
 
 ghost use Rattle.std.specs.Prelude.{◌≡◌, ◌∷◌, [], IfOk, map};
+ghost use Rattle.addr2line.specs.SeenCalls.{seen_call};
 ghost use Rattle.addr2line.specs.History.{AsksFrames, AsksLocation, ParsesLines, replies_to};
 ghost use Rattle.addr2line.specs.SeenReplies.{seen_reply};
 
@@ -23,4 +24,23 @@ pub fn replies_at<R: Reader>(
     calls.push(Call::Frames(address, Vec::new(alloc)))?;
     calls.push(Call::ParseLines)?;
     replay(context, &calls)
+}
+
+/// The replies of two contexts to the same calls. They are equal where the contexts are of equal
+/// sections and have the same first answers, whatever their readers.
+pub fn replies_of_both<R: Reader, S: Reader>(
+    one: &mut Context<R>,
+    other: &mut Context<S>,
+    calls_of_one: &[Call<R>],
+    calls_of_other: &[Call<S>],
+) -> Result<(Vec<Reply>, Vec<Reply>), Error>
+    requires sections { other.old.sections ≡ one.old.sections }
+    requires answers { other.old.answers ≡ one.old.answers }
+    requires calls { map seen_call calls_of_other.now ≡ map seen_call calls_of_one.now }
+    ensures equal { IfOk result (λ both.
+        map seen_reply both.1.items ≡ map seen_reply both.0.items) }
+{
+    let replies_of_one = replay(one, calls_of_one)?;
+    let replies_of_other = replay(other, calls_of_other)?;
+    Ok((replies_of_one, replies_of_other))
 }

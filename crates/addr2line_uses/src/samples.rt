@@ -1,11 +1,16 @@
 //! Samples of a profiler, named without memory.
 
+ghost use Rattle.std.specs.Prelude.{OnOk};
+ghost use Rattle.addr2line.specs.WarmUp.{IsWarm};
+
 use addr2line::gimli::read::{Error, Reader};
 use addr2line::{Context, LookupResult};
 
 /// Reads all that lookups ask for. After it no lookup takes memory at whose address at most 16
 /// inlined functions stand.
-pub fn warm_up<R: Reader>(context: &mut Context<R>) -> Result<(), Error> {
+pub fn warm_up<R: Reader>(context: &mut Context<R>) -> Result<(), Error>
+    ensures warm { OnOk result (IsWarm context.new) }
+{
     context.parse_lines()?;
     context.parse_inlined_functions()
 }

@@ -2,6 +2,8 @@
 -- that GNU's tools had before it, in sections named .zdebug_).
 -- Own: damage is BadElf: a header that isn't whole, a stream that isn't one, and one that inflates
 -- to another size than its header tells. Another compression than zlib's is CompressedSection.
+-- Own: a section named .zdebug_ is read in the older form, whatever its flag says. What a header says
+-- of alignment, and its reserved number, aren't looked at.
 use Rattle.std.specs.Prelude.{ℕ, ◌+◌, ◌*◌, ◌==◌, ◌&&◌, ◌||◌, Bool, not, List, [], Option, Some, None, Result, Ok, Err, if◌then◌else◌, drop, length, nat_eq, nat_lt, codes}
 use Rattle.std.specs.List.{position, slice_get, starts_with}
 use Rattle.std.specs.Option.{option_map_or}

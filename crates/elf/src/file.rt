@@ -142,7 +142,7 @@ impl ElfFile {
     ///
     /// | Refusal | When |
     /// |---|---|
-    /// | `BadElf` | it isn't wholly within the file; its stream is damaged, or of another size |
+    /// | `BadElf` | it isn't wholly within the file; its header or its stream is damaged, or its size |
     /// | `CompressedSection` | it is compressed, and not by zlib |
     /// | `RelocationsNeeded` | a relocatable file has a nonempty REL or RELA section for it |
     /// | `OutOfMemory` | a growth was refused |

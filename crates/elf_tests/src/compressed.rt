@@ -19,6 +19,9 @@ const HEADERS: [&[u8]; 4] = [
 // The header of the first shape with a size of 4, and with another compression.
 const OTHER_SIZE: &[u8] = b"\x01\0\0\0\0\0\0\0\x04\0\0\0\0\0\0\0\x01\0\0\0\0\0\0\0";
 
+// The same with a size of 2^62, for which no memory is taken.
+const LARGE_SIZE: &[u8] = b"\x01\0\0\0\0\0\0\0\0\0\0\0\0\0\0\x40\x01\0\0\0\0\0\0\0";
+
 const ZSTD: &[u8] = b"\x02\0\0\0\0\0\0\0\x03\0\0\0\0\0\0\0\x01\0\0\0\0\0\0\0";
 
 // What stands before the stream in a section with `.zdebug_`.
@@ -76,8 +79,9 @@ fn each_class_and_order_has_its_header(rt: HostRuntime) {
 #[test]
 fn damage_and_other_compressions_are_refused(rt: HostRuntime) {
     let cut = &STREAM[..10];
-    let cases: [(&str, u64, &[u8], &[u8], [u64; 2]); 7] = [
+    let cases: [(&str, u64, &[u8], &[u8], [u64; 2]); 8] = [
         (".debug_info", SHF_COMPRESSED, OTHER_SIZE, STREAM, [23, 24]),
+        (".debug_info", SHF_COMPRESSED, LARGE_SIZE, STREAM, [23, 24]),
         (".debug_info", SHF_COMPRESSED, ZSTD, STREAM, [24, 24]),
         (".debug_info", SHF_COMPRESSED, HEADERS[0], cut, [23, 24]),
         (".debug_info", SHF_COMPRESSED, STREAM, &[], [23, 24]),

@@ -9,3 +9,6 @@ pub mod TableLemmas
 pub mod ProgramLemmas
 pub mod AheadLemmas
 pub mod Rising
+pub mod ShortNumbers
+pub mod FirstOpcode
+pub mod Passing

@@ -12,3 +12,4 @@ pub mod Lines
 pub mod Rises
 pub mod Steps
 pub mod Left
+pub mod Taking

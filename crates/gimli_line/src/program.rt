@@ -1,19 +1,24 @@
 //! Line programs and their rows.
 
-ghost use Rattle.std.specs.Prelude.{◌≡◌, [], ◌∷◌, true, false, OnOk, OnErr, IfOk, IfErr, Ok, Err, None};
-ghost use Rattle.gimli_read.specs.Reading.{ExactlyUnlessOomIf};
+ghost use Rattle.std.specs.Prelude.{◌≡◌, ◌≢◌, ◌<◌, ◌≤◌, [], ◌∷◌, ◌++◌, length, true, false, OnOk, OnErr, IfOk, IfErr, Ok, Err, None};
+ghost use Rattle.gimli_read.specs.declared.error.Error.{Error as Fault};
+ghost use Rattle.gimli_read.specs.declared.error.Error.TheVariants.{OutOfMemory};
+ghost use Rattle.gimli_read.specs.Reading.{ExactlyUnlessOom, ExactlyUnlessOomIf};
 ghost use Rattle.gimli_line.specs.Header.{header_copy_takes_memory};
 ghost use Rattle.gimli_line.specs.Lines.{lines_of, YieldsUnlessOom, KeepsFiles, DefinesAhead, IsOver};
 ghost use Rattle.gimli_line.specs.Opcode.{is_file, gives_file, coded_instruction_at};
 ghost use Rattle.gimli_line.specs.Steps.{IsRunning, taken, step_instruction};
 ghost use Rattle.gimli_line.specs.Left.{rows_left, files_left, ahead_left, DefinesOn, Finds};
+ghost use Rattle.gimli_line.specs.Taking.{Passes, all_taken, fault_after};
 
 use crate::constants::DW_LNS_extended_op;
 use crate::copies::duplicate_header;
+use crate::frequent::run_frequent;
 use crate::header::{FileEntry, LineProgramHeader};
 use crate::opcode::{LineInstruction, Opcode, read_extended};
 use crate::registers::Registers;
 use crate::row::LineRow;
+use crate::sink::RowSink;
 use crate::standard::step_standard;
 use gimli_read::{Error, Reader};
 use std::marker::Model;
@@ -115,6 +120,38 @@ impl<R: Reader> LineRows<R> {
         }
         found
     }
+
+    /// Gives all rows that are left to a sink, one after another.
+    ///
+    /// Refused with the fault after them, as `next_row` is; may fail with `OutOfMemory` instead,
+    /// where the sink does or a file is defined, but never where a fault comes before the first row
+    /// and before a file that is defined. After a refusal the sink has taken some of the rows before
+    /// it. Where it isn't refused, the header has each file that is defined. Source: DWARF 5,
+    /// section 6.2.5.
+    #[inline(always)]
+    pub fn take_rows<S: RowSink>(&mut self, sink: &mut S) -> Result<(), Error>
+        ensures gives { ExactlyUnlessOom (λ x. tt) result (fault_after self.old.left) }
+        ensures taken { OnOk result (sink.new ≡ all_taken S.taken sink.old self.old.left) }
+        ensures files { OnOk result (self.new.header.file_names
+            ≡ self.old.header.file_names ++ self.old.to_define) }
+        ensures at_once { (e : Fault) → self.old.ahead ≡ [] → self.old.left ≡ Err e ∷ []
+            → result ≡ Err e }
+    {
+        let result = run(
+            &mut self.header,
+            &mut self.registers,
+            &mut self.program,
+            sink,
+        );
+        let header = &self.header;
+        let _operations = header
+            .parameters
+            .encoding
+            .maximum_operations_per_instruction;
+        skip_rest(&mut self.program);
+        self.registers = Registers::start();
+        result
+    }
 }
 
 // Leaves nothing to read.
@@ -204,4 +241,83 @@ fn find_row<R: Reader>(
         }
     }
     Ok(None)
+}
+
+// Takes the next instruction in, and gives its row to the sink, if it appends one.
+fn take_next<R: Reader, S: RowSink>(
+    header: &mut LineProgramHeader<R>,
+    registers: &mut Registers,
+    program: &mut R,
+    sink: &mut S,
+) -> Result<(), Error>
+    requires running { IsRunning header.old.line_encoding registers.old }
+    requires some { 0 < length (R.section program.old).bytes }
+    ensures passes { OnOk result (Passes S.taken
+        header.old registers.old (R.section program.old) sink.old
+        header.new registers.new (R.section program.new) sink.new) }
+    ensures shorter { OnOk result
+        (length (R.section program.new).bytes < length (R.section program.old).bytes) }
+    ensures fault { IfErr result (λ e. e ≢ OutOfMemory
+        → rows_left header.old registers.old (R.section program.old) ≡ Err e ∷ []) }
+    ensures at_once { IfErr result (λ e. (d : Fault)
+        → ahead_left header.old registers.old (R.section program.old) ≡ []
+        → rows_left header.old registers.old (R.section program.old) ≡ Err d ∷ [] → e ≡ d) }
+    ensures running { OnOk result (IsRunning header.new.line_encoding registers.new) }
+{
+    let code = program.read_u8()?;
+    if let Some(row) = step_instruction(header, registers, code, program)? {
+        sink.take(row)?;
+    }
+    Ok(())
+}
+
+// Takes frequent instructions in, and gives their rows to the sink. Fails only where that does.
+#[inline(always)]
+fn take_frequent<R: Reader, S: RowSink>(
+    header: &LineProgramHeader<R>,
+    registers: &mut Registers,
+    program: &mut R,
+    sink: &mut S,
+) -> Result<(), Error>
+    requires running { IsRunning header.now.line_encoding registers.old }
+    ensures passes { OnOk result (Passes S.taken
+        header.now registers.old (R.section program.old) sink.old
+        header.now registers.new (R.section program.new) sink.new) }
+    ensures shorter { OnOk result
+        (length (R.section program.new).bytes ≤ length (R.section program.old).bytes) }
+    ensures fault { IfErr result (λ e. e ≡ OutOfMemory) }
+    ensures at_once { OnErr result ((d : Fault)
+        → rows_left header.now registers.old (R.section program.old) ≡ Err d ∷ [] → ⊥) }
+    ensures running { OnOk result (IsRunning header.now.line_encoding registers.new) }
+{
+    let len = run_frequent(header, registers, program.to_slice(), sink)?;
+    program.skip(len as u64)?;
+    Ok(())
+}
+
+// Runs the program to its end, and gives its rows to the sink.
+#[inline(always)]
+fn run<R: Reader, S: RowSink>(
+    header: &mut LineProgramHeader<R>,
+    registers: &mut Registers,
+    program: &mut R,
+    sink: &mut S,
+) -> Result<(), Error>
+    requires running { IsRunning header.old.line_encoding registers.old }
+    ensures gives { ExactlyUnlessOom (λ x. tt) result
+        (fault_after (rows_left header.old registers.old (R.section program.old))) }
+    ensures taken { OnOk result (sink.new ≡ all_taken S.taken sink.old
+        (rows_left header.old registers.old (R.section program.old))) }
+    ensures files { OnOk result (header.new.file_names
+        ≡ header.old.file_names ++ files_left header.old (R.section program.old)) }
+    ensures at_once { (e : Fault)
+        → ahead_left header.old registers.old (R.section program.old) ≡ []
+        → rows_left header.old registers.old (R.section program.old) ≡ Err e ∷ []
+        → result ≡ Err e }
+{
+    while !program.is_empty() {
+        take_next(header, registers, program, sink)?;
+        take_frequent(header, registers, program, sink)?;
+    }
+    Ok(())
 }

@@ -79,7 +79,7 @@ fn ends(opcode: Opcode) -> bool
     matches!(opcode, Opcode::EndSequence)
 }
 
-fn shows(opcode: Opcode) -> bool
+pub(crate) fn shows(opcode: Opcode) -> bool
     ensures gives { result ≡ makes_row opcode }
 {
     matches!(opcode, Opcode::Special(_) | Opcode::Copy)
@@ -162,7 +162,7 @@ impl Registers {
 
     // The registers after an opcode.
     #[inline(always)]
-    fn step(&mut self, parameters: &LineParameters, opcode: Opcode) -> Result<(), Error>
+    pub(crate) fn step(&mut self, parameters: &LineParameters, opcode: Opcode) -> Result<(), Error>
         requires running { IsRunning parameters.now.encoding self.old }
         ensures gives { Exactly (λ _. self.new) result
             (fitting parameters.now.encoding (step parameters.now.encoding self.old opcode)) }
@@ -188,7 +188,7 @@ impl Registers {
     }
 
     // The row that the registers show.
-    fn row(&self, end_sequence: bool) -> LineRow
+    pub(crate) fn row(&self, end_sequence: bool) -> LineRow
         ensures gives { result ≡ row self.now end_sequence }
     {
         LineRow {

@@ -3,3 +3,4 @@ pub mod CodeLemmas
 pub mod ItemLemmas
 pub mod AdlerLemmas
 pub mod BlockLemmas
+pub mod TableLemmas

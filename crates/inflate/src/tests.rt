@@ -80,6 +80,11 @@ const FAR: [u8; 9] = [0x03, 0xde, 0xff, 0x0f, 0x00, 0x37, 0x33, 0x65, 0x31];
 fn streams_inflate(rt: HostRuntime) -> Result<(), Fail> {
     let alloc = rt.alloc();
     assert_eq!(rt; inflate(alloc, &STORED, 5)?.as_slice(), b"hello".as_slice());
+    // No memory is taken for what the size says.
+    assert_eq!(rt;
+        inflate(alloc, &STORED, u64::MAX)?.as_slice(),
+        b"hello".as_slice()
+    );
     assert_eq!(rt; inflate(alloc, &EMPTY_BLOCKS, 0)?.len(), 0);
     assert_eq!(rt;
         inflate(alloc, &OVER_ITS_END, 7)?.as_slice(),
@@ -145,6 +150,21 @@ fn damage_is_refused_by_its_name(rt: HostRuntime) {
         inflate(alloc, &STORED[1..], 5).err(),
         Some(InflateFault::BadHeader)
     );
+}
+
+// A window of 64 KB; a dynamic block with 287 literals and lengths, and one with 31 distances.
+const PAST_LIMITS: [(&[u8], InflateFault); 3] = [
+    (&[0x88, 0x1c, 0x00], InflateFault::BadHeader),
+    (&[0x78, 0x01, 0xf5, 0x00, 0x00], InflateFault::BadLengths),
+    (&[0x78, 0x01, 0x05, 0x1e, 0x00], InflateFault::BadLengths),
+];
+
+#[test]
+fn limits_are_those_of_the_formats(rt: HostRuntime) {
+    let alloc = rt.alloc();
+    for (stream, fault) in PAST_LIMITS {
+        assert_eq!(rt; inflate(alloc, stream, 9).err(), Some(fault));
+    }
 }
 
 #[test]

@@ -13,7 +13,7 @@ use std::io::Write;
 use std::process::ExitCode;
 use std::{env, fs, io};
 
-// A stream, the most bytes that it may inflate to, and what is behind it.
+// A stream, the most bytes that it may inflate to, and what comes after it.
 #[derive(Drop)]
 struct Stream<'a> {
     bytes: &'a [u8],

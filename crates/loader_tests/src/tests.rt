@@ -1,5 +1,7 @@
 //! Worked cases: split files, symbols and sections of ELF files, and why a file can't be loaded.
 
+mod compressed;
+mod growths;
 mod host;
 mod late;
 mod symbols;

@@ -2,6 +2,7 @@
 
 use crate::command_line::{Request, WordFault, command_line};
 use crate::options::{Options, Probes};
+use addr2line::CompressedSections;
 use clap::error::ErrorKind;
 use std::alloc::Global;
 use std::test::Fail;
@@ -48,8 +49,8 @@ fn code_of(alloc: Global, line: &str) -> Result<u32, Fail> {
     })
 }
 
-// The texts of a request: the program's name, its file, the file beside it, the section, and the
-// addresses, each behind its own mark.
+// The texts of a request: the program's name, its file, the file beside it, whether sections are
+// decompressed, the section, and the addresses, each behind its own mark.
 fn texts_of(alloc: Global, request: &Request) -> Result<String, Fail> {
     let mut texts = String::new(alloc);
     texts.push_str(request.options.name.as_str())?;
@@ -58,6 +59,9 @@ fn texts_of(alloc: Global, request: &Request) -> Result<String, Fail> {
     if let Some(sup) = &request.sup {
         texts.push_str(" and ")?;
         texts.push_str(sup.as_str())?;
+    }
+    if request.compressed == CompressedSections::Decompressed {
+        texts.push_str(" decompressed")?;
     }
     if let Some(section) = &request.options.section {
         texts.push_str(" in ")?;
@@ -137,6 +141,10 @@ fn each_value_stands_in_its_place(rt: HostRuntime) -> Result<(), Fail> {
             "a2l of f at 2 at 0x10 at 2 at -3",
         ),
         ("a2l -e f --llvm --all --sup g", "a2l of f and g"),
+        (
+            "a2l --decompress -e f -j .x --sup g",
+            "a2l of f and g decompressed in .x",
+        ),
     ];
     for (line, want) in cases {
         let words = words_in(rt.alloc(), line)?;

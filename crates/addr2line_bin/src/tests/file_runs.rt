@@ -3,11 +3,14 @@
 use crate::exit::{Exit, status_of};
 use crate::input::ReaderInput;
 use crate::tests::runs::run_files;
-use crate::tests::sample_files::{LAST_LENGTH, NAMED_APART, PLAIN, SPLIT, SUPPLEMENTARY, WAITING};
+use crate::tests::sample_files::{
+    LAST_LENGTH, LINE_FLAGS, LINE_OFFSET, LINE_SIZE, NAMED_APART, PACKED_LINES, PLAIN, SPLIT,
+    SUPPLEMENTARY, WAITING,
+};
 use crate::tests::streams::{Streams, words};
 use crate::whole_run::run_program;
 use addr2line::HostFiles;
-use std::alloc::Global;
+use std::alloc::{AllocError, Global};
 use std::test::Fail;
 
 // Whether a run of words over files writes these texts and ends so.
@@ -82,6 +85,47 @@ fn a_run_over_a_file(rt: HostRuntime) -> Result<(), Fail> {
             goes(rt.alloc(), &given, &files, (out, err, Exit::Done))?,
             "{out}"
         );
+    }
+    Ok(())
+}
+
+// The sample file with its lines compressed, at its end, of which so many bytes are there.
+fn packed_file(alloc: Global, lines: &[u8]) -> Result<Vec<u8>, AllocError> {
+    let mut file = PLAIN;
+    file[LINE_FLAGS + 1] = 8;
+    file[LINE_OFFSET] = 0x15;
+    file[LINE_OFFSET + 1] = 2;
+    file[LINE_SIZE] = (lines.len() % 256) as u8;
+    let mut bytes = Vec::from_slice(alloc, &file)?;
+    bytes.extend_from_slice(lines)?;
+    Ok(bytes)
+}
+
+#[test]
+fn compressed_sections_are_read_on_request(rt: HostRuntime) -> Result<(), Fail> {
+    let refused = (
+        "",
+        "a2l: failed to load debug info: compressed section\n",
+        Exit::Failed,
+    );
+    let malformed = (
+        "",
+        "a2l: failed to load debug info: malformed ELF file\n",
+        Exit::Failed,
+    );
+    let lines = ("/w/a.c:1\n/w/a.c:3\n", "", Exit::Done);
+    let plainly: &[&str] = &["a2l", "-e", "f", "10", "2f"];
+    let decompressed: &[&str] = &["a2l", "--decompress", "-e", "f", "10", "2f"];
+    let cases: [(&[&str], &[u8], (&str, &str, Exit)); 4] = [
+        (plainly, PACKED_LINES, refused),
+        (decompressed, PACKED_LINES, lines),
+        (plainly, &PACKED_LINES[..68], refused),
+        (decompressed, &PACKED_LINES[..68], malformed),
+    ];
+    for (given, packed, want) in cases {
+        let file = packed_file(rt.alloc(), packed)?;
+        let files: [(&str, &[u8]); 1] = [("f", &file)];
+        assert!(rt; goes(rt.alloc(), given, &files, want)?, "{given:?}");
     }
     Ok(())
 }

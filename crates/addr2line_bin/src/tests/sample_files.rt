@@ -41,6 +41,18 @@ pub const PLAIN: [u8; 533] = [
 /// Where the length of its line program's last opcode lies.
 pub const LAST_LENGTH: usize = 162;
 
+/// Where the header of its lines has the flags, the offset and the size.
+pub const LINE_FLAGS: usize = 413;
+
+pub const LINE_OFFSET: usize = 429;
+
+pub const LINE_SIZE: usize = 437;
+
+/// Its lines as zlib compresses them at level 9, behind a compression header.
+pub const PACKED_LINES: &[u8; 69] = b"\x01\0\0\0\0\0\0\0\x37\0\0\0\0\0\0\0\x01\0\0\0\0\0\0\0\
+    \x78\xda\x33\x66\x60\x60\x60\x61\x90\x06\x92\x8c\x8c\x8c\xbf\xf9\x78\x41\x14\x23\x88\x07\x42\
+    \x89\x7a\xc9\x0c\x60\xc0\xc9\x24\x00\x61\x30\x30\x7e\x01\x32\x19\x19\x01\x5f\x3d\x03\x88";
+
 /// The lines of `data/plain.elf`, a function `f` in [0x10, 0x30), and in it a call of `g` in line 7
 /// that is inlined at [0x20, 0x28); `.text` is at 0x10 with size 0x20.
 pub const INLINED: [u8; 710] = [

@@ -26,6 +26,7 @@ Options:
 What is looked up:
   -e, --exe <FILE>      The ELF file; it has to be named
       --sup <FILE>      Its supplementary file, from dwz -m [default: none]
+      --decompress      Debug sections compressed by zlib too [default: they are refused]
   -j, --section <NAME>  Addresses are offsets in this section [default: as the file has them]
       --all             Each address that has a line [default: the ones that are given]
 

@@ -88,22 +88,21 @@ fn sequences_have_ranges_in_order(rt: HostRuntime) {
     assert_eq!(rt; ranges_in(rt.alloc(), &FOUR_SEQUENCES), want);
 }
 
-// The line at an address, with and without the count of looks; 0 for none.
-fn lines_at(lines: &Lines, probe: u64) -> [u32; 2] {
+// The line at an address, with and without the count of looks, and with that which a search raises
+// as it runs; 0 for none.
+fn lines_at(lines: &Lines, probe: u64) -> [u32; 3] {
     let mut looks = Count::new();
     let counted = lines.find_location_counted(&mut looks, probe);
     let plain = lines.find_location(probe);
-    [
-        counted.and_then(|location| location.line).unwrap_or(0),
-        plain.and_then(|location| location.line).unwrap_or(0),
-    ]
+    let (watched, _) = lines.find_location_watched(probe);
+    [counted, plain, watched].map(|found| found.and_then(|location| location.line).unwrap_or(0))
 }
 
 // The same at four addresses by the line program; a fault's number where there are no lines.
-fn lines_in(alloc: Global, line: &[u8], probes: [u64; 4]) -> [[u32; 2]; 4] {
+fn lines_in(alloc: Global, line: &[u8], probes: [u64; 4]) -> [[u32; 3]; 4] {
     match lines_of(alloc, &INFO_WIDE, line) {
         Ok(lines) => probes.map(|probe| lines_at(&lines, probe)),
-        Err(error) => [[fault_code(error); 2]; 4],
+        Err(error) => [[fault_code(error); 3]; 4],
     }
 }
 
@@ -122,22 +121,80 @@ fn a_lookup_that_counts_answers_alike(rt: HostRuntime) {
     for (line, probes, want) in cases {
         assert_eq!(rt;
             lines_in(rt.alloc(), line, probes),
-            want.map(|line| [line, line])
+            want.map(|line| [line; 3])
         );
     }
 }
 
-// The lines at four addresses, as each way gives them.
-const FOUR_LINES: [[u32; 2]; 4] = [[4, 4], [0, 0], [3, 3], [0, 0]];
+// The least and the most looks of searches: of those that find a row, and of the others.
+#[derive(Clone, Copy, Debug)]
+struct Looks {
+    least: u64,
+    most: u64,
+    other_least: u64,
+    other_most: u64,
+}
 
-fn four_lines(alloc: Global) -> [[u32; 2]; 4] {
+impl Looks {
+    // One more search.
+    fn add(&mut self, lines: &Lines, probe: u64) {
+        let (found, number) = lines.find_location_watched(probe);
+        if found.is_some() {
+            self.least = self.least.min(number);
+            self.most = self.most.max(number);
+        } else {
+            self.other_least = self.other_least.min(number);
+            self.other_most = self.other_most.max(number);
+        }
+    }
+
+    // Whether a search for a row looks at a sequence and a row at least, any other at a sequence,
+    // and none more often than that.
+    fn are_bounded(self, most: u64) -> bool {
+        self.least >= 2 && self.most <= most && self.other_least >= 1 && self.other_most <= most
+    }
+}
+
+// The looks of searches for all addresses up to 0x2000; none are bounded where there are no lines.
+fn looks_in(alloc: Global, line: &[u8]) -> Looks {
+    let mut looks = Looks {
+        least: u64::MAX,
+        most: 0,
+        other_least: u64::MAX,
+        other_most: 0,
+    };
+    match lines_of(alloc, &INFO_WIDE, line) {
+        Ok(lines) => {
+            for probe in 0..0x2000 {
+                looks.add(&lines, probe);
+            }
+        }
+        Err(_) => looks.most = u64::MAX,
+    }
+    looks
+}
+
+#[test]
+fn a_search_looks_at_few_blocks_and_rows(rt: HostRuntime) {
+    // The digits of the number of sequences and of that of the four blocks, and the rows of one.
+    let cases: [(&[u8], u64); 2] = [(&TWO_HUNDRED_ROWS, 1 + 3 + 64), (&SHARED_BLOCK, 2 + 3 + 64)];
+    for (line, most) in cases {
+        let looks = looks_in(rt.alloc(), line);
+        assert!(rt; looks.are_bounded(most), "{looks:?}");
+    }
+}
+
+// The lines at four addresses, as each way gives them.
+const FOUR_LINES: [[u32; 3]; 4] = [[4; 3], [0; 3], [3; 3], [0; 3]];
+
+fn four_lines(alloc: Global) -> [[u32; 3]; 4] {
     lines_in(alloc, &FOUR_SEQUENCES, [2, 5, 0x18, 8])
 }
 
 // The same by a second parse where the first is refused memory.
-fn parsed_again(alloc: Global) -> [[u32; 2]; 4] {
+fn parsed_again(alloc: Global) -> [[u32; 3]; 4] {
     let lines = four_lines(alloc);
-    if lines == [[fault_code(Error::OutOfMemory); 2]; 4] {
+    if lines == [[fault_code(Error::OutOfMemory); 3]; 4] {
         return four_lines(alloc);
     }
     lines

@@ -16,12 +16,13 @@ fn text_in(loader: Result<Loader, LoaderError>) -> [u64; 3] {
     }
 }
 
-// What loaders over the host's files say: of that file, of no file, of an empty one, of these beside
-// each other, and of what is no regular file: a folder, a device without an end.
-fn told(rt: HostRuntime, file: &str, empty: &str) -> [[u64; 3]; 8] {
+// What loaders over the host's files say: of that file, twice, of no file, of an empty one, of
+// these beside each other, and of what is no regular file: a folder, a device without an end.
+fn told(rt: HostRuntime, file: &str, empty: &str) -> [[u64; 3]; 9] {
     let none = "/there/is/none";
     [
         text_in(Loader::new(rt, file)),
+        text_in(Loader::new_decompressing(rt, file)),
         text_in(Loader::new(rt, none)),
         text_in(Loader::new(rt, empty)),
         text_in(Loader::new_with_sup(rt, file, file)),
@@ -52,7 +53,7 @@ fn files_of_the_host_are_loaded_or_refused(rt: HostRuntime) -> Result<(), Fail> 
     let no_file = [21, 0, 9];
     let no_elf = [22, 0, 9];
     let wanted = [
-        text, no_file, no_elf, text, no_file, no_elf, no_file, no_file,
+        text, text, no_file, no_elf, text, no_file, no_elf, no_file, no_file,
     ];
     assert_eq!(rt; told, wanted);
     Ok(())

@@ -1,22 +1,17 @@
 use Rattle.std.proofs.Common.{option_map}
 use Rattle.addr2line_units.specs.declared.frames_lookup.Faults.TheVariants.{End}
-use Rattle.addr2line.proofs.AnsweredLemmas.{unit_waited_for}
+use Rattle.addr2line.specs.Files.{as_read_if_known}
 use Rattle.addr2line.proofs.AskedLemmas.{reads_answered}
 use Rattle.addr2line.proofs.ByFilesLemmas.{answered_by_file, one_answered}
 use Rattle.addr2line.proofs.SkippedLemmas.{waits_true}
 use Rattle.addr2line.proofs.by_files.answer_load.Goals as goal
-
-pub answer-requires : goal.answer-requires
-answer-requires g c = record {
-  there = unit_waited_for End c.args.ctx.now.sections c.args.ctx.now.answers c.args.probe c.args.number (waits_true c.args.number _ c.requires.waits);
-}
 
 pub returns-clause-after : goal.returns-clause-after
 returns-clause-after g c =
     let was = c.in_ok-sections.ensures.gives in
     let given = option_map (λ d. d.value) c.in_ok-sections.sections in
     let e = c.answer.ensures in
-    answered_by_file (g.F.FileSource.files c.args.files.now) c.args.probe c.args.number was.0 c.args.ctx.now c.requires.waits was.1 given was.2 _ c.answer.new.self e.after
+    answered_by_file (as_read_if_known c.args.compressed (g.F.FileSource.files c.args.files.now)) c.args.probe c.args.number was.0 c.args.ctx.now c.requires.waits was.1 given was.2 _ c.answer.new.self e.after
     (e.fewer End c.args.probe (waits_true c.args.number _ c.requires.waits))
 
 pub returns-clause-one : goal.returns-clause-one

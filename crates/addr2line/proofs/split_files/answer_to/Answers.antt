@@ -1,6 +1,7 @@
 use Rattle.std.proofs.Common.{option_map, subst, sym, Some, ap, ◌∙◌}
 use Rattle.std.proofs.lemmas.Option.{IfSome_then}
 use Rattle.elf.specs.Loading.{LoadsUnlessOom}
+use Rattle.addr2line.specs.Files.{as_read}
 use Rattle.addr2line.proofs.LoadingLemmas.{or_oom}
 use Rattle.addr2line.proofs.SplitFileLemmas.{given_is}
 use Rattle.addr2line.proofs.split_files.answer_to.Goals as goal
@@ -12,7 +13,7 @@ returns-in-Some-2 g c =
     record {
       gives = IfSome_then _ bytes (λ held e.
           subst (λ given. LoadsUnlessOom (option_map (λ d. d.value)) c.without_fault.result given)
-          (sym (given_is held c.args.load.now c.deref.result.now c.in_ok-text_of.field-0.now c.in-Some-2.bytes.items (ap Some c.deref.ensures.value ∙ path) c.in_ok-text_of.ensures.gives e))
+          (sym (given_is (as_read c.args.compressed held) c.args.load.now c.deref.result.now c.in_ok-text_of.field-0.now c.in-Some-2.bytes.items (ap Some c.deref.ensures.value ∙ path) c.in_ok-text_of.ensures.gives e))
           (c.without_fault.ensures.gives _ c.read_split_file.ensures.gives));
       stays_open = or_oom c.without_fault.result c.without_fault.ensures.refused;
     }

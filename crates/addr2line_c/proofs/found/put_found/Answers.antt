@@ -1,22 +1,31 @@
-use Rattle.std.proofs.Common.{rules, ◌≡◌, [], Ok, Some, ap, refl, subst, nat_le, length, option_map}
+use Rattle.std.proofs.Common.{rules, ◌≡◌, ◌<◌, ◌^◌, [], Ok, Some, ap, refl, sym, subst, nat_le, length, option_map, arith}
 use Rattle.gimli_read.specs.Reading.{ExactlyUnlessOom}
 use Rattle.addr2line_lines.specs.SeenLocation.{seen_location}
 use Rattle.addr2line.specs.SplitFiles.{of_file}
+use Rattle.addr2line_c.specs.declared.location.WrittenLocation.{WrittenLocation}
 use Rattle.addr2line_c.specs.Filled.{IsFilled}
-use Rattle.addr2line_c.specs.Texts.{joined}
-use Rattle.addr2line_c.specs.Written.{IsWrittenLocation}
+use Rattle.addr2line_c.specs.Texts.{NamesText, given_text, joined}
+use Rattle.addr2line_c.specs.Written.{IsWrittenLocation, file_of}
 use Rattle.addr2line_c.proofs.AnswerLemmas.{says_there}
+use Rattle.addr2line_c.proofs.TextLemmas.{text_alone}
 use Rattle.addr2line_c.proofs.found.put_found.Goals as goal
 
-pub returns-in-Ok-Some : goal.returns-in-Ok-Some
-returns-in-Ok-Some c =
+pub returns-in-Ok-Some-clause-gives : goal.returns-in-Ok-Some-clause-gives
+returns-in-Ok-Some-clause-gives c = λ given told.
     let l = seen_location c.in-Ok-Some.location in
     let new = c.put_location.new in
+    let small : length new.buffer < 2 ^ 64 = omega (arith, c.put_location.ensures.same) in
     let empty : IsFilled 0 c.args.buffer.now (joined []) = record { needed = refl; front = λ _. refl } in
     let found : c.args.found ≡ Ok (Some c.in-Ok-Some.location) = search rules in
-    record {
-      gives = λ given told.
-          let is : given ≡ Ok (Some l) = subst (λ r. ExactlyUnlessOom (option_map seen_location) r given) found told in
-          says_there (of_file given) (IsWrittenLocation c.put_location.result new.buffer new.used) (nat_le new.used (length new.buffer)) c.done_if.result c.done_if.ensures.gives
-          (l, ap of_file is, record { parts = c.put_location.ensures.part [] empty; texts = c.put_location.ensures.gives [] empty });
-    }
+    let is : given ≡ Ok (Some l) = subst (λ r. ExactlyUnlessOom (option_map seen_location) r given) found told in
+    let parts = c.put_location.ensures.part [] empty in
+    let texts : IsFilled new.used new.buffer (joined (given_text (file_of (Some l)))) = c.put_location.ensures.gives [] empty in
+    says_there (of_file given) (IsWrittenLocation c.put_location.result new.buffer new.used) (nat_le new.used (length new.buffer)) c.done_if.result c.done_if.ensures.gives (
+      l,
+      ap of_file is,
+      record {
+        parts = parts;
+        texts = texts;
+        named = λ fits. subst (λ (w : WrittenLocation). NamesText new.buffer w.file (file_of (Some l))) (sym parts) (text_alone new.buffer new.used (file_of (Some l)) small texts fits);
+      },
+    )

@@ -5,7 +5,7 @@ use Rattle.addr2line_units.specs.CachedLines.{indexed_units, parsed_units}
 use Rattle.addr2line_units.specs.Located.{along, looks_along}
 use Rattle.addr2line_units.specs.Parsed.{AsksFor, decides, ready_along}
 use Rattle.addr2line_units.specs.UnitRangesLeft.{ranges_left}
-use Rattle.addr2line_units.proofs.UnitsLemmas.{along_fault, along_none, along_some, looks_counted, looks_first, looks_of_step, looks_raised, looks_within, none_first, only_more, ready_both, ready_decided, ready_first, ready_rest, rest_shorter, stay_all, stay_indexed, stay_over, stay_parsed}
+use Rattle.addr2line_units.proofs.UnitsLemmas.{along_fault, along_none, along_some, looks_counted, looks_first, looks_of_step, looks_raised, looks_within, only_more, ready_both, ready_decided, ready_first, ready_rest, rest_shorter, stay_all, stay_indexed, stay_over, stay_parsed}
 use Rattle.addr2line_units.proofs.lookup.find_place_along.Goals as goal
 
 pub loop-range-init : goal.loop-range-init
@@ -19,7 +19,6 @@ loop-range-init g c = record {
   parsed = λ n e. inl e;
   cost = omega arith;
   raised = omega arith;
-  none = λ e. e;
 }
 
 pub returns-in_err-row-clause-gives : goal.returns-in_err-row-clause-gives
@@ -142,7 +141,6 @@ loop-range-preserved g c =
       parsed = only_more (AsksFor d units c.args.probe (ranges_left c.args.ranges)) _ _ _ r.unit i.parsed c.in_ok-row.ensures.only (i.only r.unit (subst (λ rs. AsksFor d units c.args.probe rs r.unit) (sym c.in-Some.ensures.steps) (inl refl)));
       cost = looks_within _ _ _ _ (looks_along d units rest) _ cost i.cost (ap (looks_along d units) c.in-Some.ensures.steps ∙ looks_first d units r rest);
       raised = looks_raised _ _ _ i.raised c.in_ok-row.ensures.raised;
-      none = λ e. absurd (none_first r rest (sym (i.none e) ∙ c.in-Some.ensures.steps));
     }
 
 pub returns-clause-ready : goal.returns-clause-ready
@@ -163,17 +161,11 @@ returns-in_err-row-clause-read g c = c.in_err-row.ensures.read
 pub returns-in_err-row-clause-raised : goal.returns-in_err-row-clause-raised
 returns-in_err-row-clause-raised g c = looks_raised _ _ _ c.loop-range.invariant.raised c.in_err-row.ensures.raised
 
-pub returns-in_err-row-clause-none : goal.returns-in_err-row-clause-none
-returns-in_err-row-clause-none g c = λ e. absurd (none_first c.in-Some.range (ranges_left c.next.new.self) (sym (c.loop-range.invariant.none e) ∙ c.in-Some.ensures.steps))
-
 pub returns-in-Some-2-clause-read : goal.returns-in-Some-2-clause-read
 returns-in-Some-2-clause-read g c = c.in_ok-row.ensures.read
 
 pub returns-in-Some-2-clause-raised : goal.returns-in-Some-2-clause-raised
 returns-in-Some-2-clause-raised g c = looks_raised _ _ _ c.loop-range.invariant.raised c.in_ok-row.ensures.raised
-
-pub returns-in-Some-2-clause-none : goal.returns-in-Some-2-clause-none
-returns-in-Some-2-clause-none g c = λ e. absurd (none_first c.in-Some.range (ranges_left c.next.new.self) (sym (c.loop-range.invariant.none e) ∙ c.in-Some.ensures.steps))
 
 pub returns-in_err-row-clause-counted : goal.returns-in_err-row-clause-counted
 returns-in_err-row-clause-counted g c = λ found.
@@ -215,5 +207,5 @@ returns-clause-raised g c = c.loop-range.invariant.raised
 pub returns-clause-counted : goal.returns-clause-counted
 returns-clause-counted g c = λ found. absurd (false≢true found)
 
-pub returns-clause-none : goal.returns-clause-none
-returns-clause-none g c = λ e. refl
+pub returns-in-Some-2-clause-found : goal.returns-in-Some-2-clause-found
+returns-in-Some-2-clause-found g c = c.in_ok-row.ensures.parsed tt

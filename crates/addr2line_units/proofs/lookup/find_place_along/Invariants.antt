@@ -1,4 +1,4 @@
-use Rattle.std.proofs.Common.{ℕ, List, [], Bool, true, ◌≡◌, ◌+◌, ◌≤◌, length}
+use Rattle.std.proofs.Common.{ℕ, List, Bool, true, ◌≡◌, ◌+◌, ◌≤◌, length}
 use Rattle.addr2line_units.specs.CachedLines.{HaveLinesOf, StayUnits, indexed_units, parsed_units}
 use Rattle.addr2line_units.specs.Located.{along, looks_along}
 use Rattle.addr2line_units.specs.Parsed.{AsksFor, ParsesOnly, StaysParsed, ready_along}
@@ -20,7 +20,6 @@ invariant-loop-range g l =
       parsed : ParsesOnly (AsksFor d units l.probe (ranges_left l.fn.ranges)) first (parsed_units l.units.items);
       cost : l.looks + looks_along d units (ranges_left l.ranges) ≤ l.fn.looks + looks_along d units (ranges_left l.fn.ranges);
       raised : l.fn.looks ≤ l.looks;
-      none : ranges_left l.fn.ranges ≡ [] → ranges_left l.ranges ≡ [];
     }
 
 abbrev pub decreases-loop-range : goal.decreases-loop-range

@@ -1,18 +1,25 @@
-use Rattle.std.proofs.Common.{◌≡◌, ◌∙◌, ◌+◌, ◌*◌, ◌%◌, ◌<◌, ap, sym, arith, take, sum, length, List, ℕ, refl}
-use Rattle.std.proofs.lemmas.List.{take_all, get_or_read}
-use Rattle.inflate.specs.Stream.{adler32_of, sums_from}
+use Rattle.std.proofs.Common.{◌≡◌, ◌+◌, ◌%◌, arith, take, get_or, refl}
+use Rattle.std.proofs.lemmas.List.{take_all}
+use Rattle.inflate.specs.Stream.{adler32_of}
 use Rattle.inflate.proofs.AdlerLemmas.{low_next, high_next}
 use Rattle.inflate.proofs.adler.adler32.Goals as goal
+use Rattle.inflate.proofs.adler.adler32.Goals.{then-high-ge-SUM_LIMIT, else-high-ge-SUM_LIMIT}
 
 pub loop-byte-preserved : goal.loop-byte-preserved
 loop-byte-preserved c =
     let i = c.loop-byte.invariant in
-    let low = low_next c.args.bytes.now c.loop-byte.byte-index _ c.loop-byte.low c.added-low.result c.loop-byte-test.true refl i.low_is c.added-low.ensures.gives in
+    let xs = c.args.bytes.now in
+    let n = c.loop-byte.byte-index in
+    let byte = get_or xs n 0 in
+    let joined = c.if-high-ge-SUM_LIMIT in
+    let low_mod : joined.low % 65521 ≡ (c.loop-byte.low + byte) % 65521 = elim joined.branch [ then-high-ge-SUM_LIMIT w ↦ omega (arith, w.low-is) | else-high-ge-SUM_LIMIT w ↦ omega (arith, w.low-is) ] in
+    let high_mod : joined.high % 65521 ≡ (c.loop-byte.high + joined.low) % 65521 = elim joined.branch [ then-high-ge-SUM_LIMIT w ↦ omega (arith, w.low-is, w.high-is) | else-high-ge-SUM_LIMIT w ↦ omega (arith, w.low-is, w.high-is) ] in
+    let low = low_next xs n byte c.loop-byte.low joined.low c.loop-byte-test.true refl i.low_is low_mod in
     record {
       low_is = low;
-      high_is = high_next c.args.bytes.now c.loop-byte.byte-index _ c.added-low.result c.loop-byte.high c.added-high.result c.loop-byte-test.true refl low i.high_is c.added-high.ensures.gives;
-      low_small = c.added-low.ensures.small;
-      high_small = c.added-high.ensures.small;
+      high_is = high_next xs n byte joined.low c.loop-byte.high joined.high c.loop-byte-test.true refl low i.high_is high_mod;
+      low_small = elim joined.branch [ then-high-ge-SUM_LIMIT w ↦ omega (arith, w.low-is, w.high-is) | else-high-ge-SUM_LIMIT w ↦ omega (arith, w.low-is, w.high-is) ];
+      high_small = elim joined.branch [ then-high-ge-SUM_LIMIT w ↦ omega (arith, w.low-is, w.high-is) | else-high-ge-SUM_LIMIT w ↦ omega (arith, w.if-high-ge-SUM_LIMIT.false, w.low-is, w.high-is) ];
     }
 
 pub returns : goal.returns

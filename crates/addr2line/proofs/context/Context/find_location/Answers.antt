@@ -1,89 +1,79 @@
-use Rattle.std.proofs.Common.{refl, sym, ap, subst, ◌∙◌, Ok, Some}
+use Rattle.std.proofs.Common.{Err, None, Ok, Some, ap, refl, sym, ◌∙◌}
 use Rattle.std.proofs.lemmas.Result.{err_from_is_err_and}
-use Rattle.addr2line_units.specs.CachedFrames.{seen_stop}
-use Rattle.addr2line_units.specs.FramesLookup.{FindsNothing}
-use Rattle.addr2line_units.specs.CachedLines.{HaveLinesOf}
-use Rattle.addr2line.proofs.ContextLemmas.{after_lookup, location_is, still_a_context}
+use Rattle.addr2line_lines.specs.Location.{location_of_row}
+use Rattle.addr2line_units.specs.UnitsState.{UnitsState, row_location}
+use Rattle.addr2line.proofs.ContextLemmas.{after_lookup, exactly_told, lines_context, location_is, none_covered, ready_told}
 use Rattle.addr2line.proofs.context.Context.find_location.Goals as goal
 
 pub invariant_of-self : goal.invariant_of-self
 invariant_of-self g c =
     let s = c.self.inside in
-    let e = c.find_place.ensures in
-    let now = c.find_place.new.self in
-    (still_a_context s.dwarf.value s.units.dw_units.items s.units.units.items s.units.entries.items s.units.ranges _ _ c.self.invariant.0 _ e.dw_units _ e.stay _ e.entries _ e.ranges (subst (λ d. HaveLinesOf d now.dw_units.items now.units.items) c.deref.ensures e.read), tt)
+    let a = rw c.find.ensures.gives at c.find_row.ensures.after in
+    lines_context s.ranges s.units c.self.invariant _ c.find_row.new.self a.lines
 
 pub invariant_of-self-in-Some : goal.invariant_of-self-in-Some
 invariant_of-self-in-Some g c =
     let s = c.self.inside in
-    let e = c.find_place.ensures in
-    let now = c.find_place.new.self in
-    (still_a_context s.dwarf.value s.units.dw_units.items s.units.units.items s.units.entries.items s.units.ranges _ _ c.self.invariant.0 _ e.dw_units _ e.stay _ e.entries _ e.ranges (subst (λ d. HaveLinesOf d now.dw_units.items now.units.items) c.deref.ensures e.read), tt)
+    let a = rw c.find.ensures.gives at c.find_row.ensures.after in
+    lines_context s.ranges s.units c.self.invariant _ c.find_row.new.self a.lines
 
 pub invariant_of-self-in-None : goal.invariant_of-self-in-None
 invariant_of-self-in-None g c =
     let s = c.self.inside in
-    let e = c.find_place.ensures in
-    let now = c.find_place.new.self in
-    (still_a_context s.dwarf.value s.units.dw_units.items s.units.units.items s.units.entries.items s.units.ranges _ _ c.self.invariant.0 _ e.dw_units _ e.stay _ e.entries _ e.ranges (subst (λ d. HaveLinesOf d now.dw_units.items now.units.items) c.deref.ensures e.read), tt)
+    let a = rw c.find.ensures.gives at c.find_row.ensures.after in
+    lines_context s.ranges s.units c.self.invariant _ c.find_row.new.self a.lines
+
+pub location-requires : goal.location-requires
+location-requires g c =
+    let e = rw c.in-Some.is at c.in_ok-place.ensures.parsed in
+    record { parsed = e }
 
 pub returns-in_err-place : goal.returns-in_err-place
 returns-in_err-place g c =
-    let i = c.self.invariant.0 in
-    let d = c.self.inside.dwarf.value in
-    let us = c.self.inside.units.dw_units.items in
-    let old = c.self.inside.units.units.items in
-    let new = c.find_place.new.self.units.items in
-    let ranges = c.self.inside.units.ranges in
-    let sup = c.self.inside.sup_units.units.items in
-    let e = rw c.deref.ensures at c.in_err-place.ensures in
+    let s = c.self.inside in
+    let i = c.self.invariant in
     let p = err_from_is_err_and c.from_residual.result c.from_residual.ensures.1 in
-    let is = location_is d us old ranges sup i.made_is c.args.probe in
+    let e = rw c.find.ensures.gives at c.in_err-place.ensures in
+    let now = c.find_row.new.self in
+    let is = location_is s.ranges s.units i c.args.probe in
     rw (p.1, p.2, sym c.self.view_is) (
-      (refl, (λ _. tt), after_lookup d us old ranges sup i.made_is new e.stay _ _ e.entries c.self.inside.looks c.find_place.new.looks (seen_stop c.self.inside.units.units.items c.self.inside.units.entries.items c.self.inside.stop) FindsNothing c.args.probe _ e.ready e.memory e.only e.raised e.counted e.cost),
+      (refl, (λ _. tt), after_lookup s.ranges s.units i c.args.probe (Err c.in_err-place.field-0.0) now e.after (Err c.in_err-place.field-0.0) (λ h. h) (λ h. h) (λ h. h)),
       record {
         gives = λ n. is ∙ e.gives n;
-        exact = λ ready. is ∙ e.exact (ready _ i.made_is);
-        last = λ q. let whole = e.last q in cc;
+        exact = λ ready. is ∙ e.gives (ready_told s.ranges s.units i c.args.probe (Err c.in_err-place.field-0.0) now e.after ready);
+        last = λ q. let none = none_covered s.ranges s.units i (row_location s.units) c.args.probe (Err c.in_err-place.field-0.0) now e.after e.gives (sym c.find.ensures.gives ∙ c.find.ensures.last q) in cc;
         kept = tt;
       },
     )
 
 pub returns-in-Some : goal.returns-in-Some
 returns-in-Some g c =
-    let i = c.self.invariant.0 in
-    let d = c.self.inside.dwarf.value in
-    let us = c.self.inside.units.dw_units.items in
-    let old = c.self.inside.units.units.items in
-    let new = c.find_place.new.self.units.items in
-    let ranges = c.self.inside.units.ranges in
-    let sup = c.self.inside.sup_units.units.items in
-    let e = rw (c.deref.ensures, c.in-Some.is) at c.in_ok-place.ensures in
-    let is = location_is d us old ranges sup i.made_is c.args.probe in
-    let found = is ∙ e.gives ∙ ap (λ l. Ok (Some l)) (sym c.location.ensures.gives) in
+    let s = c.self.inside in
+    let i = c.self.invariant in
+    let e = rw (c.find.ensures.gives, c.in-Some.is) at c.in_ok-place.ensures in
+    let now = c.find_row.new.self in
+    let place = c.in-Some.place in
+    let same = ap (λ (x : UnitsState). row_location x place) e.after.lines.same in
+    let found = location_is s.ranges s.units i c.args.probe ∙ e.gives ∙ ap (λ l. Ok (Some l)) (sym (c.location.ensures.gives ∙ same)) in
     rw (sym c.self.view_is) (
-      (refl, (λ _. tt), after_lookup d us old ranges sup i.made_is new e.stay _ _ e.entries c.self.inside.looks c.find_place.new.looks (seen_stop c.self.inside.units.units.items c.self.inside.units.entries.items c.self.inside.stop) FindsNothing c.args.probe _ e.ready e.memory e.only e.raised e.counted e.cost),
+      (refl, (λ _. tt), after_lookup s.ranges s.units i c.args.probe (Ok (Some place)) now e.after (Ok (Some c.location.result)) (λ h. h) (λ h. h) (λ h. h)),
       record {
         gives = found;
         exact = λ ready. found;
-        last = λ q. let whole = e.last q in cc;
+        last = λ q. let none = none_covered s.ranges s.units i (row_location s.units) c.args.probe (Ok (Some place)) now e.after e.gives (sym c.find.ensures.gives ∙ c.find.ensures.last q) in cc;
         kept = tt;
       },
     )
 
 pub returns-in-None : goal.returns-in-None
 returns-in-None g c =
-    let i = c.self.invariant.0 in
-    let d = c.self.inside.dwarf.value in
-    let us = c.self.inside.units.dw_units.items in
-    let old = c.self.inside.units.units.items in
-    let new = c.find_place.new.self.units.items in
-    let ranges = c.self.inside.units.ranges in
-    let sup = c.self.inside.sup_units.units.items in
-    let e = rw (c.deref.ensures, c.in-None.is) at c.in_ok-place.ensures in
-    let is = location_is d us old ranges sup i.made_is c.args.probe in
+    let s = c.self.inside in
+    let i = c.self.invariant in
+    let e = rw (c.find.ensures.gives, c.in-None.is) at c.in_ok-place.ensures in
+    let now = c.find_row.new.self in
+    let is = location_is s.ranges s.units i c.args.probe in
     rw (sym c.self.view_is) (
-      (refl, (λ _. tt), after_lookup d us old ranges sup i.made_is new e.stay _ _ e.entries c.self.inside.looks c.find_place.new.looks (seen_stop c.self.inside.units.units.items c.self.inside.units.entries.items c.self.inside.stop) FindsNothing c.args.probe _ e.ready e.memory e.only e.raised e.counted e.cost),
+      (refl, (λ _. tt), after_lookup s.ranges s.units i c.args.probe (Ok None) now e.after (Ok None) (λ h. h) (λ h. h) (λ h. h)),
       record {
         gives = is ∙ e.gives;
         exact = λ ready. is ∙ e.gives;

@@ -1,7 +1,6 @@
 use Rattle.std.proofs.Common.{ap, rules}
 use Rattle.std.proofs.lemmas.Result.{err_from_is_err_and}
 use Rattle.addr2line_units.specs.FramesLookup.{is_waiting}
-use Rattle.addr2line.proofs.AnsweredLemmas.{unit_waited_for}
 use Rattle.addr2line.proofs.SkippedLemmas.{after_skip, skipped_look, skipped_more, skipped_none, skipped_refused, told_ended, told_waits, waits_true}
 use Rattle.addr2line.proofs.context.Context.skip_loads.Goals as goal
 
@@ -14,13 +13,6 @@ returns-in_err-walk-clause-after g c =
     let e = c.in_err-walk.ensures in
     rw (p.1, p.2) (after_skip c.args.faults c.args.probe c.args.self.now c.walk.new.self (skipped_look c.args.faults c.args.probe c.args.self.now c.loop-self.self c.loop-self.invariant _ c.walk.new.self e.after) _
     (λ told. ap is_waiting (e.gives told)) (λ told. e.after.ready told))
-
-pub answer-requires : goal.answer-requires
-answer-requires g c =
-    let n = c.in-Some.number in
-    let mid = c.walk.new.self in
-    let waits = told_waits n mid.stop _ c.in_ok-walk.ensures.gives (search rules) in
-    record { there = unit_waited_for c.args.faults mid.sections mid.answers c.args.probe n (waits_true n _ waits) }
 
 pub loop-self-preserved : goal.loop-self-preserved
 loop-self-preserved g c =

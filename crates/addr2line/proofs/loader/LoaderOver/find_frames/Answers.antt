@@ -2,6 +2,7 @@ use Rattle.std.proofs.Common.{◌≡◌, Ok, ap, refl, sym, ◌∙◌}
 use Rattle.std.proofs.lemmas.Result.{err_from_is_err_and}
 use Rattle.addr2line_units.specs.declared.frames_lookup.Faults.TheVariants.{End}
 use Rattle.addr2line_units.specs.FramesLeft.{frames_left}
+use Rattle.addr2line.specs.Files.{as_read_if_known}
 use Rattle.addr2line.specs.FramesByFiles.{ended_frames_of, stop_frames}
 use Rattle.addr2line.specs.LoadsByFiles.{WaitsForNone}
 use Rattle.addr2line.specs.AfterLookups.{IsKnownFew}
@@ -12,7 +13,7 @@ use Rattle.addr2line.proofs.loader.LoaderOver.find_frames.Goals as goal
 pub returns-in_err-answer_loads : goal.returns-in_err-answer_loads
 returns-in_err-answer_loads g c =
     let p = err_from_is_err_and c.from_residual.result c.from_residual.ensures.1 in
-    let files = g.F.FileSource.files c.args.self.now.files in
+    let files = as_read_if_known c.args.self.now.compressed (g.F.FileSource.files c.args.self.now.files) in
     let probe = c.args.probe in
     let first = c.args.self.now.context in
     let mid = c.answer_loads.new.ctx in
@@ -49,7 +50,7 @@ returns-in_err-answer_loads g c =
 
 pub returns : goal.returns
 returns g c =
-    let files = g.F.FileSource.files c.args.self.now.files in
+    let files = as_read_if_known c.args.self.now.compressed (g.F.FileSource.files c.args.self.now.files) in
     let probe = c.args.probe in
     let first = c.args.self.now.context in
     let mid = c.answer_loads.new.ctx in

@@ -1,5 +1,5 @@
 -- `closed` makes a handle at null, which owns nothing.
-use Rattle.std.proofs.Common.{◌≡◌, List, [], ◌∷◌, ◌++◌, refl, sym, subst, lit<}
+use Rattle.std.proofs.Common.{◌≡◌, List, [], ◌∷◌, ◌++◌, refl, sym, subst}
 use mir.Syntax.{impl, tnil, dnil}
 use mir.Val.{Val}
 use base.Logic.{SProp, ent, emp, id⊢}

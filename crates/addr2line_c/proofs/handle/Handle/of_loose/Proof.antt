@@ -2,7 +2,7 @@
 use Rattle.std.proofs.Common.{◌≡◌, List, [], ◌∷◌, ◌++◌, refl, sym, subst}
 use mir.Raw.{raw as bare}
 use mir.Val.{Val, vptr}
-use base.Logic.{SProp, ent, emp, sep, guard, guard_i, via, snd∗, id⊢}
+use base.Logic.{SProp, ent, emp, guard, guard_i, via, snd∗, id⊢}
 use base.Fml.{ftrue}
 use seplogic.Ra.Ura.{Ura}
 use prog.Wp.{WpFn}
@@ -16,7 +16,7 @@ use contract.Running.{tables}
 use denote.RattleType.{RattleType, owns}
 use denote.Memory.{lone}
 use denote.Signature.{types_at, plain}
-use denote.RawPtr.{Ptr, block_ptr, lies_at, Testable}
+use denote.RawPtr.{Ptr, block_ptr, Testable}
 use denote.Steps.{nothing}
 use denote.Triple.Entry.{alive}
 use denote.Triple.Walked.{Stays, stay_dropped, walk_of}

@@ -1,0 +1,190 @@
+-- The context that a lookup leaves, by its status (on specs/Left.antt).
+use Rattle.std.proofs.Common.{◌≡◌, ◌≢◌, ◌⊎◌, ◌∙◌, ℕ, Bool, true, false, Option, Some, None, option_map, Result, Ok, Err, refl, sym, subst}
+use Rattle.gimli_read.specs.declared.error.Error.{Error}
+use Rattle.gimli_read.specs.Alike.{HadMemory}
+use Rattle.gimli_read.specs.Reading.{result_map}
+use Rattle.elf.specs.declared.error.LoaderError.TheVariants.{OutOfMemory}
+use Rattle.elf.specs.Text.{loader_error_of}
+use Rattle.addr2line_units.specs.declared.frames_lookup.Faults.TheVariants.{End}
+use Rattle.addr2line_units.specs.Located.{is_found}
+use Rattle.addr2line.specs.AfterLookups.{AfterFrames, IsKnownFew}
+use Rattle.addr2line.specs.Context.{AfterLookup, AfterRangeLookup, ContextState, IsReady, IsReadyForRange}
+use Rattle.addr2line.specs.LoadsByFiles.{WaitsForNone}
+use Rattle.addr2line.proofs.LoadingLemmas.{not_told}
+use Rattle.addr2line.proofs.NoLoadLemmas.{few_stays}
+use Rattle.addr2line_c.specs.declared.status.Status.{Status}
+use Rattle.addr2line_c.specs.declared.status.Status.TheVariants.{Nothing, Refused, Waits}
+use Rattle.addr2line_c.specs.Answered.{done_if}
+use Rattle.addr2line_c.specs.Left.{LeavesFrames, LeavesLocation, LeavesRange, found_some, status_by, was_made}
+use Rattle.addr2line_c.specs.Status.{after_reply}
+
+-- what was found is no refusal
+done_is_no_refusal : (fits : Bool) → done_if fits ≢ Refused OutOfMemory
+done_is_no_refusal true q = absurd cc
+done_is_no_refusal false q = absurd cc
+
+-- a lookup that had memory is not refused it
+pub had_memory : {X : Type 0} (missing : Status) (fits : Bool) (r : Result (Option X) Error) (s : Status)
+    → missing ≢ Refused OutOfMemory → s ≡ status_by missing fits r → HadMemory r → s ≢ Refused OutOfMemory
+had_memory missing fits (Ok (Some x)) s ne is had q = done_is_no_refusal fits (sym is ∙ q)
+had_memory missing fits (Ok None) s ne is had q = ne (sym is ∙ q)
+had_memory missing fits (Err e) s ne is had q = refused (sym is ∙ q)
+  where
+    refused : Refused (loader_error_of e) ≡ Refused OutOfMemory → ⊥
+    refused w = not_told e had cc
+
+had_memory_reply : {X : Type 0} (fits : Bool) (r : Result X Error) (s : Status)
+    → s ≡ after_reply (was_made r) (done_if fits) → HadMemory r → s ≢ Refused OutOfMemory
+had_memory_reply fits (Ok x) s is had q = done_is_no_refusal fits (sym is ∙ q)
+had_memory_reply fits (Err e) s is had q = refused (sym is ∙ q)
+  where
+    refused : Refused (loader_error_of e) ≡ Refused OutOfMemory → ⊥
+    refused w = not_told e had cc
+
+-- nothing of what was found but whether there is something
+abbrev came_to : {X : Type 0} → Result (Option X) Error → Result (Option (Unit {0})) Error
+came_to r = result_map (option_map (λ _. tt {0})) r
+
+came_status : {X : Type 0} (missing : Status) (fits : Bool) (r : Result (Option X) Error)
+    → status_by missing fits r ≡ status_by missing fits (came_to r)
+came_status missing fits (Ok (Some x)) = refl
+came_status missing fits (Ok None) = refl
+came_status missing fits (Err e) = refl
+
+-- a lookup has left the same context whatever it found
+looked_alike : {X Y : Type 0} (probe : ℕ) (r : Result (Option X) Error) (q : Result (Option Y) Error)
+    (old new : ContextState) → (HadMemory q → HadMemory r) → (HadMemory r → HadMemory q)
+    → is_found q ≡ is_found r → AfterLookup probe r old new → AfterLookup probe q old new
+looked_alike probe r q old new to from found a = record {
+  stays = a.stays;
+  ready = λ had. a.ready (to had);
+  memory = λ ready. from (a.memory ready);
+  only = a.only;
+  same = a.same;
+  raised = a.raised;
+  counted = λ is. a.counted (sym found ∙ is);
+  cost = a.cost;
+}
+
+looked_came : {X : Type 0} (probe : ℕ) (r : Result (Option X) Error) (old new : ContextState)
+    → AfterLookup probe r old new → AfterLookup probe (came_to r) old new
+looked_came probe (Ok (Some x)) old new a = looked_alike probe (Ok (Some x)) (Ok (Some tt)) old new (λ h. h) (λ h. h) refl a
+looked_came {X} probe (Ok None) old new a = looked_alike {X = X} probe (Ok None) (Ok None) old new (λ h. h) (λ h. h) refl a
+looked_came {X} probe (Err e) old new a = looked_alike {X = X} probe (Err e) (Err e) old new (λ h. h) (λ h. h) refl a
+
+pub leaves_location : {X : Type 0} (probe : ℕ) (fits : Bool) (s : Status) (r : Result (Option X) Error)
+    (old new : ContextState) → s ≡ status_by Nothing fits r → AfterLookup probe r old new
+    → LeavesLocation probe fits s old new
+leaves_location probe fits s r old new is a = record {
+  came = came_to r;
+  status = is ∙ came_status Nothing fits r;
+  after = looked_came probe r old new a;
+}
+
+-- where it was ready, it had memory
+pub located_had_memory : {X : Type 0} (probe : ℕ) (fits : Bool) (s : Status) (r : Result (Option X) Error)
+    (old new : ContextState) → s ≡ status_by Nothing fits r → AfterLookup probe r old new
+    → IsReady old probe → s ≢ Refused OutOfMemory
+located_had_memory probe fits s r old new is a ready = had_memory Nothing fits r s (λ q. absurd cc) is
+    (a.memory (subst (λ d. IsReady (record new { sections = d }) probe) (sym a.stays.sections)
+    (subst (λ p. IsReady (record old { parsed = p }) probe) (sym (a.same ready)) ready)))
+
+-- the same of the rows of a range
+range_came : {X : Type 0} (low high : ℕ) (r : Result X Error) (old new : ContextState)
+    → AfterRangeLookup low high r old new
+    → AfterRangeLookup low high (was_made r) old new
+range_came low high (Ok x) old new a = record {
+  stays = a.stays;
+  ready = a.ready;
+  memory = a.memory;
+  only = a.only;
+  same = a.same;
+  looks = a.looks;
+}
+range_came low high (Err e) old new a = record {
+  stays = a.stays;
+  ready = a.ready;
+  memory = a.memory;
+  only = a.only;
+  same = a.same;
+  looks = a.looks;
+}
+
+pub leaves_range : {X : Type 0} (low high : ℕ) (fits : Bool) (s : Status) (r : Result X Error)
+    (old new : ContextState) → s ≡ after_reply (was_made r) (done_if fits)
+    → AfterRangeLookup low high r old new → LeavesRange low high fits s old new
+leaves_range low high fits s r old new is a =
+    record { came = was_made r; status = is; after = range_came low high r old new a }
+
+pub range_had_memory : {X : Type 0} (low high : ℕ) (fits : Bool) (s : Status) (r : Result X Error)
+    (old new : ContextState) → s ≡ after_reply (was_made r) (done_if fits)
+    → AfterRangeLookup low high r old new → IsReadyForRange old low high → s ≢ Refused OutOfMemory
+range_had_memory low high fits s r old new is a ready = had_memory_reply fits r s is
+    (a.memory (subst (λ d. IsReadyForRange (record new { sections = d }) low high) (sym a.stays.sections)
+    (subst (λ p. IsReadyForRange (record old { parsed = p }) low high) (sym (a.same ready)) ready)))
+
+-- the same of frames
+frames_came : {X : Type 0} (probe : ℕ) (r : Result X Error) (old new : ContextState)
+    → AfterFrames End probe r old new
+    → AfterFrames End probe (found_some r) old new
+frames_came probe (Ok x) old new a = record {
+  sections = a.sections;
+  answers = a.answers;
+  parsed = a.parsed;
+  known = a.known;
+  only = a.only;
+  learns = a.learns;
+  raised = a.raised;
+  ready = a.ready;
+  memory = a.memory;
+}
+frames_came probe (Err e) old new a = record {
+  sections = a.sections;
+  answers = a.answers;
+  parsed = a.parsed;
+  known = a.known;
+  only = a.only;
+  learns = a.learns;
+  raised = a.raised;
+  ready = a.ready;
+  memory = a.memory;
+}
+
+pub leaves_frames : {X : Type 0} (probe : ℕ) (fits : Bool) (s : Status) (r : Result X Error)
+    (old new : ContextState)
+    → (s ≡ Refused OutOfMemory) ⊎ (s ≡ status_by Waits fits (found_some r))
+    → AfterFrames End probe r old new → LeavesFrames probe fits s old new
+leaves_frames probe fits s r old new is a =
+    record { came = found_some r; status = is; after = frames_came probe r old new a }
+
+-- a lookup that waits has left the context so
+pub leaves_waiting : (probe : ℕ) (fits : Bool) (s : Status) (old new held : ContextState)
+    → (s ≡ Refused OutOfMemory) ⊎ (s ≡ Waits) → new ≡ held
+    → AfterFrames {X = Unit {0}} End probe (Ok tt) old held → LeavesFrames probe fits s old new
+leaves_waiting probe fits s old new held is same a =
+    subst (λ n. LeavesFrames probe fits s old n) (sym same) (record {
+      came = Ok None;
+      status = is;
+      after = record {
+        sections = a.sections;
+        answers = a.answers;
+        parsed = a.parsed;
+        known = a.known;
+        only = a.only;
+        learns = a.learns;
+        raised = a.raised;
+        ready = a.ready;
+        memory = a.memory;
+      };
+    })
+
+pub frames_had_memory : {X : Type 0} (probe : ℕ) (fits : Bool) (s : Status) (r : Result X Error)
+    (old new : ContextState) → s ≡ status_by Waits fits (found_some r)
+    → AfterFrames End probe r old new → WaitsForNone old probe → IsKnownFew End old probe
+    → s ≢ Refused OutOfMemory
+frames_had_memory {X} probe fits s r old new is a ended few =
+    had_memory Waits fits (found_some r) s (λ q. absurd cc) is (by r a)
+  where
+    by : (r : Result X Error) → AfterFrames End probe r old new → HadMemory (found_some r)
+    by (Ok x) b = tt
+    by (Err e) b = b.memory (few_stays probe old new b.sections b.answers b.known b.parsed few) ended

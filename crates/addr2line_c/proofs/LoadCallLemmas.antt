@@ -1,0 +1,126 @@
+-- What answers to loads come to (on specs/LoadCalls.antt).
+use Rattle.std.proofs.Common.{◌≡◌, ◌≢◌, ◌&&◌, ◌∙◌, inl, ℕ, Bool, true, false, not, List, [], Option, Some, None, Result, Ok, Err, ap, refl, sym, subst}
+use Rattle.std.specs.Prelude.{OnOk, is_some, if◌then◌else◌}
+use Rattle.gimli_read.specs.declared.error.Error.{Error}
+use Rattle.gimli_read.specs.declared.error.Error.TheVariants as reading
+use Rattle.gimli_read.specs.Reading.{IsUnlessOom}
+use Rattle.gimli.specs.Sections.{Sections}
+use Rattle.elf.specs.declared.error.LoaderError.{LoaderError}
+use Rattle.elf.specs.declared.error.LoaderError.TheVariants as loading
+use Rattle.elf.specs.Loading.{Loading, LoadsUnlessOom}
+use Rattle.addr2line_units.specs.Parsed.{AreAllParsed}
+use Rattle.addr2line_units.specs.Views.{SplitLoad}
+use Rattle.addr2line.specs.Context.{ContextState, lines_of_all}
+use Rattle.addr2line.specs.Loads.{AfterLoad, IsAllKnown, ReachesAllOf, load_reply}
+use Rattle.addr2line.specs.SplitFiles.{or_none}
+use Rattle.addr2line_units.proofs.StayLemmas.{same_stays_known}
+use Rattle.addr2line_c.specs.declared.loads.AskedLoad.{AskedLoad}
+use Rattle.addr2line_c.specs.declared.status.Status.{Status}
+use Rattle.addr2line_c.specs.declared.status.Status.TheVariants.{Done, OtherUnit, Refused}
+use Rattle.addr2line.specs.WarmUp.{IsWarm}
+use Rattle.addr2line_c.specs.LoadCalls.{AnswersLoadAs, AsksForAll, AsksForSome, is_out_of_memory, status_of_answer}
+use Rattle.addr2line_c.specs.Status.{after_reply, status_of_error}
+
+-- what is said of a file that could be read
+pub found_status : (has_file is_found : Bool) (found : Option Sections) → is_some found ≡ is_found
+    → (if has_file && not is_found then OtherUnit else Done) ≡ status_of_answer has_file (Ok found)
+found_status true true None is = absurd cc
+found_status true false None is = refl
+found_status true true (Some d) is = refl
+found_status true false (Some d) is = absurd cc
+found_status false b None is = refl
+found_status false b (Some d) is = refl
+
+-- where memory is refused before a load is answered, nothing is changed
+pub no_answer : (n : ℕ) (given : Option Sections) (c : ContextState)
+    → AfterLoad n given (Err reading.OutOfMemory) c c
+no_answer n given c = record {
+  stays = record { sections = refl; parsed = refl; looks = refl };
+  answers = λ had. absurd (had refl);
+  begun = inl refl;
+  refused = λ ne. (refl, λ k. same_stays_known k c.known c.known refl);
+  known = λ m e shut k. same_stays_known k c.known c.known refl;
+  same = λ first is. refl;
+  others = λ k ne. refl;
+}
+
+-- the load was answered by what was read
+pub answers_as : (has_file : Bool) (given read : Loading (Option Sections)) (n : ℕ) (s : Status)
+    (old new : ContextState) (reply : Result (Unit {0}) Error) → given ≡ read
+    → IsUnlessOom reply (load_reply old.sections old.answers n (or_none read))
+    → s ≡ after_reply reply (status_of_answer has_file read) → AfterLoad n (or_none read) reply old new
+    → AnswersLoadAs has_file given n s old new
+answers_as has_file given read n s old new reply is told status after =
+    subst (λ g. AnswersLoadAs has_file g n s old new) (sym is)
+    (record { reply = reply; gives = told; status = status; after = after })
+
+-- what was read of a file that is refused
+pub loads_refused : {X Y : Type 0} (see : X → Y) (r : Loading X) (given : Loading Y) (e : LoaderError)
+    → r ≡ Err e → LoadsUnlessOom see r given → e ≢ loading.OutOfMemory → given ≡ Err e
+loads_refused see r given e is told = subst (λ x. LoadsUnlessOom see x given) is told
+
+-- memory was refused while the file was read
+pub answers_refused : (has_file : Bool) (given : Loading (Option Sections)) (n : ℕ) (c : ContextState)
+    → AnswersLoadAs has_file given n (status_of_error reading.OutOfMemory) c c
+answers_refused has_file given n c = record {
+  reply = Err reading.OutOfMemory;
+  gives = λ ne. absurd (ne refl);
+  status = refl;
+  after = no_answer n (or_none given) c;
+}
+
+-- whether it is memory that a refusal says was refused
+is_oom : (e : LoaderError) → is_out_of_memory (Refused e) ≡ true → e ≡ loading.OutOfMemory
+is_oom loading.OutOfMemory h = refl
+is_oom _ h = absurd cc
+
+not_oom : (e : LoaderError) → is_out_of_memory (Refused e) ≡ false → e ≢ loading.OutOfMemory
+not_oom e is q = let t : true ≡ false = sym (ap (λ x. is_out_of_memory (Refused x)) q) ∙ is in absurd cc
+
+-- the file of a load was refused
+pub none_refused : (has_file : Bool) (given : Loading (Option Sections)) (n : ℕ) (e : LoaderError)
+    (s : Status) (c : ContextState) → s ≡ Refused e → is_out_of_memory s ≡ true
+    → AnswersLoadAs has_file given n s c c
+none_refused has_file given n e s c is out =
+    let oom : e ≡ loading.OutOfMemory = is_oom e (ap is_out_of_memory (sym is) ∙ out) in
+    subst (λ x. AnswersLoadAs has_file given n x c c) (sym (is ∙ ap (λ x. Refused x) oom))
+    (answers_refused has_file given n c)
+
+pub none_given : (has_file : Bool) (given : Loading (Option Sections)) (n : ℕ) (e : LoaderError)
+    (s refused : Status) (old new : ContextState) (reply : Result (Unit {0}) Error)
+    → refused ≡ Refused e → is_out_of_memory refused ≡ false
+    → (e ≢ loading.OutOfMemory → given ≡ Err e)
+    → IsUnlessOom reply (load_reply old.sections old.answers n None)
+    → s ≡ after_reply reply refused → AfterLoad n None reply old new
+    → AnswersLoadAs has_file given n s old new
+none_given has_file given n e s refused old new reply is out told gives status after =
+    answers_as has_file given (Err e) n s old new reply
+    (told (not_oom e (ap is_out_of_memory (sym is) ∙ out))) gives
+    (status ∙ ap (after_reply reply) is) after
+
+module _ {R : Type 0} where
+  -- memory was refused for a load
+  pub asks_some : (loads : List SplitLoad) (asked left : List (AskedLoad R)) (e : Error) (s : Status)
+      → s ≡ status_of_error e → e ≡ reading.OutOfMemory → AsksForSome loads asked left
+      → AsksForAll loads asked left s
+  asks_some loads asked left e s is oom some =
+      subst (AsksForAll loads asked left) (sym (is ∙ ap status_of_error oom)) (refl, some)
+
+  -- before any was asked for
+  pub asks_none : (loads : List SplitLoad) (asked : List (AskedLoad R)) → AsksForSome loads asked asked
+  asks_none loads asked = ([], loads, refl, refl)
+
+-- all is read where neither parse was refused
+pub warm_when_done : (lines functions : Result (Unit {0}) Error) (old mid new : ContextState)
+    → IsUnlessOom lines (lines_of_all old.sections) → OnOk lines (AreAllParsed mid.parsed)
+    → mid.sections ≡ old.sections → new.sections ≡ mid.sections → new.parsed ≡ mid.parsed
+    → OnOk functions (IsAllKnown new) → OnOk functions (ReachesAllOf new)
+    → after_reply lines (after_reply functions Done) ≡ Done → IsWarm new
+warm_when_done (Err e) functions old mid new told parsed same stay stays known reaches done = absurd cc
+warm_when_done (Ok x) (Err e) old mid new told parsed same stay stays known reaches done = absurd cc
+warm_when_done (Ok x) (Ok y) old mid new told parsed same stay stays known reaches done = record {
+  lines = ap lines_of_all (stay ∙ same) ∙ told;
+  parsed = subst AreAllParsed (sym stays) parsed;
+  known = known;
+  reaches = reaches;
+}

@@ -1,0 +1,170 @@
+-- What the calls of an open file answer, write and leave, and what C gets of them by a handle.
+-- Own: a handle that isn't open answers so, and stays as it is.
+use Rattle.std.specs.Prelude.{◌≡◌, ◌≢◌, ◌⊎◌, ◌&&◌, ◌==◌, ◌∷◌, ℕ, Bool, true, false, List, [], length, nat_le, Option, Some, None, Ok, Err, if◌then◌else◌}
+use Rattle.elf.specs.declared.error.LoaderError.{LoaderError}
+use Rattle.elf.specs.declared.error.LoaderError.TheVariants.{OutOfMemory}
+use Rattle.elf.specs.Sections.{section_range_at}
+use Rattle.elf.specs.Symbols.{symbol_at}
+use Rattle.addr2line_units.specs.declared.frames_lookup.Faults.TheVariants.{End}
+use Rattle.addr2line_units.specs.Located.{location_of}
+use Rattle.addr2line.specs.declared.compressed.CompressedSections.TheVariants as compressed
+use Rattle.addr2line.specs.AfterLookups.{IsKnownFew}
+use Rattle.addr2line.specs.Context.{IsReady, IsReadyForRange}
+use Rattle.addr2line.specs.Loaded.{loaded_bytes}
+use Rattle.addr2line.specs.Loads.{AfterPreload}
+use Rattle.addr2line.specs.LoadsByFiles.{WaitsForNone}
+use Rattle.addr2line.specs.SplitFiles.{of_file}
+use Rattle.addr2line.specs.WaitingLookups.{frames_of_context}
+use Rattle.addr2line.specs.WarmUp.{IsWarm}
+use Rattle.addr2line_c.specs.declared.file.OpenFile.{OpenFile}
+use Rattle.addr2line_c.specs.declared.frames.WrittenFrame.{WrittenFrame}
+use Rattle.addr2line_c.specs.declared.loads.WrittenLoad.{WrittenLoad}
+use Rattle.addr2line_c.specs.declared.location.WrittenLocation.{WrittenLocation}
+use Rattle.addr2line_c.specs.declared.spans.WrittenSpan.{WrittenSpan}
+use Rattle.addr2line_c.specs.declared.status.Status.{Status}
+use Rattle.addr2line_c.specs.declared.status.Status.TheVariants.{Done, Closed, Nothing, Refused}
+use Rattle.addr2line_c.specs.declared.symbols.WrittenSymbol.{WrittenSymbol}
+use Rattle.addr2line_c.specs.Answered.{HasMemory, IfNothing, SaysOrWaits, SaysWhatIsThere, done_if}
+use Rattle.addr2line_c.specs.AskedLoads.{waiting_load}
+use Rattle.addr2line_c.specs.Filled.{IsFilled}
+use Rattle.addr2line_c.specs.Left.{AsksIfWaiting, LeavesFrames, LeavesLocation, LeavesRange}
+use Rattle.addr2line_c.specs.LoadCalls.{AnswersTokenAs, ForgetsToken, ParsesAllAs, PreloadsAs}
+use Rattle.addr2line_c.specs.Loads.{IsWrittenLoad}
+use Rattle.addr2line_c.specs.Status.{status_number, status_text}
+use Rattle.addr2line_c.specs.Texts.{joined}
+use Rattle.addr2line_c.specs.Written.{IsWrittenFrames, IsWrittenLocation}
+use Rattle.addr2line_c.specs.WrittenSpans.{IsWrittenSpans, spans_from}
+use Rattle.addr2line_c.specs.WrittenSymbols.{IsWrittenRange, IsWrittenSymbol}
+
+-- what a handle owns before and after a call, and the number that it answers: those of a call of the open file, or nothing, and
+-- that it is closed
+abbrev pub CallsFile : {F : Type 0} → Option F → Option F → ℕ → (F → F → Status → Type 0) → Type 0
+CallsFile None new number says = (new ≡ None) × (number ≡ status_number Closed)
+CallsFile {F} (Some old) new number says = (left : F) × (s : Status)
+    × (new ≡ Some left) × (number ≡ status_number s) × says old left s
+
+-- nothing but the context is another one
+abbrev pub ChangesContext : OpenFile → OpenFile → Type 0
+ChangesContext old new = new ≡ record old { context = new.context }
+
+-- nothing but the context, and the loads that were asked for, are others
+abbrev pub ChangesLoads : OpenFile → OpenFile → Type 0
+ChangesLoads old new = new ≡ record old { context = new.context; loads = new.loads }
+
+-- the location at the probe was looked up
+pub record LocatesAt (probe : ℕ) (out : WrittenLocation) (buffer : List ℕ) (needed : ℕ)
+    (old new : OpenFile) (s : Status) : Type 0 where
+  pub gives : SaysWhatIsThere (of_file (location_of old.context.sections probe))
+      (IsWrittenLocation out buffer needed) (nat_le needed (length buffer)) s
+  pub none : IfNothing s (needed ≡ 0)
+  pub left : LeavesLocation probe (nat_le needed (length buffer)) s old.context new.context
+  pub memory : IsReady old.context probe → s ≢ Refused OutOfMemory
+  pub others : ChangesContext old new
+
+-- the frames at the probe were looked up, with names in their language or not
+pub record FramesAt (probe : ℕ) (demangles : Bool) (out : List WrittenFrame) (count : ℕ)
+    (buffer : List ℕ) (needed : ℕ) (old new : OpenFile) (s : Status) : Type 0 where
+  pub gives : SaysOrWaits (of_file (frames_of_context old.context probe))
+      (IsWrittenFrames demangles out count buffer needed)
+      (nat_le count (length out) && nat_le needed (length buffer)) s
+  pub none : IfNothing s ((count ≡ 0) × (needed ≡ 0))
+  pub left : LeavesFrames probe (nat_le count (length out) && nat_le needed (length buffer)) s
+      old.context new.context
+  pub asks : AsksIfWaiting probe old.context old.loads.loads.items new.loads.loads.items s
+  pub memory : demangles ≡ false → WaitsForNone old.context probe
+      → IsKnownFew End old.context probe → s ≢ Refused OutOfMemory
+  pub others : ChangesLoads old new
+
+-- the rows that a range of addresses meets were looked up, from a place on, so many at most
+pub record SpansFrom (low high first most : ℕ) (out : List WrittenSpan) (count : ℕ)
+    (buffer : List ℕ) (needed : ℕ) (old new : OpenFile) (s : Status) : Type 0 where
+  pub gives : SaysWhatIsThere (of_file (spans_from old.context.sections low high first most))
+      (IsWrittenSpans out count buffer needed) (nat_le needed (length buffer)) s
+  pub none : IfNothing s ((count ≡ 0) × (needed ≡ 0))
+  pub left : LeavesRange low high (nat_le needed (length buffer)) s old.context new.context
+  pub memory : IsReadyForRange old.context low high → s ≢ Refused OutOfMemory
+  pub others : ChangesContext old new
+
+-- the first load that waits was told
+pub record TellsLoad (out : WrittenLoad) (buffer : List ℕ) (needed : ℕ) (old new : OpenFile)
+    (s : Status) : Type 0 where
+  pub gives : SaysWhatIsThere (Ok (waiting_load old.loads.loads.items))
+      (IsWrittenLoad out buffer needed) (nat_le needed (length buffer)) s
+  pub none : IfNothing s (needed ≡ 0)
+  pub memory : HasMemory s
+  pub others : new ≡ old
+
+-- the load of a token was answered by the file that bytes are
+pub record AnswersToken (token : ℕ) (bytes : List ℕ) (old new : OpenFile) (s : Status)
+    : Type 0 where
+  pub gives : AnswersTokenAs token bytes s old.context new.context old.loads.loads.items
+      new.loads.loads.items
+  pub others : ChangesLoads old new
+
+-- the answer to the load of a token was taken back
+pub record ForgetsAnswer (token : ℕ) (old new : OpenFile) (s : Status) : Type 0 where
+  pub gives : ForgetsToken token s old.context new.context old.loads.loads.items
+      new.loads.loads.items
+  pub others : ChangesLoads old new
+
+-- the loads of an address were asked for
+pub record PreloadsAt (probe : ℕ) (old new : OpenFile) (s : Status) : Type 0 where
+  pub gives : PreloadsAs probe old.context old.loads.loads.items new.loads.loads.items s
+  pub after : AfterPreload old.context new.context
+  pub others : ChangesLoads old new
+
+-- the lines and the functions of all units were read
+pub record ParsesAll (old new : OpenFile) (s : Status) : Type 0 where
+  pub gives : ParsesAllAs s old.context new.context
+  pub ready : s ≡ Done → IsWarm new.context
+  pub others : ChangesContext old new
+
+-- the symbol at the probe was looked up
+pub record SymbolAt (probe : ℕ) (out : WrittenSymbol) (buffer : List ℕ) (needed : ℕ)
+    (old new : OpenFile) (s : Status) : Type 0 where
+  pub gives : SaysWhatIsThere (Ok (symbol_at probe old.object))
+      (IsWrittenSymbol out buffer needed) (nat_le needed (length buffer)) s
+  pub none : IfNothing s (needed ≡ 0)
+  pub memory : HasMemory s
+  pub others : new ≡ old
+
+-- the section of a name was looked up
+pub record SectionNamed (name : List ℕ) (begin end : ℕ) (old new : OpenFile) (s : Status)
+    : Type 0 where
+  pub gives : SaysWhatIsThere (Ok (section_range_at name old.object))
+      (IsWrittenRange begin end) true s
+  pub memory : HasMemory s
+  pub others : new ≡ old
+
+-- the bytes of a supplementary file, if there are any
+abbrev pub given_sup : List ℕ → Option (List ℕ)
+given_sup sup = if length sup == 0 then None else Some sup
+
+-- a new file of these bytes: its sections are read, and nothing was asked for
+pub record IsOpened (bytes sup : List ℕ) (file : OpenFile) : Type 0 where
+  pub loaded : loaded_bytes compressed.Refused bytes (given_sup sup) ≡ Ok (file.object, file.context)
+  pub loads : file.loads.loads.items ≡ []
+
+-- a handle has the file of these bytes, or nothing, and the number says why
+abbrev pub OpensFile : List ℕ → List ℕ → Option OpenFile → ℕ → Type 0
+OpensFile bytes sup (Some file) number = (number ≡ status_number Done) × IsOpened bytes sup file
+OpensFile bytes sup None number = (e : LoaderError) × (number ≡ status_number (Refused e))
+    × (e ≢ OutOfMemory → loaded_bytes compressed.Refused bytes (given_sup sup) ≡ Err e)
+
+-- the text of a status of this number was written, and the answer says whether it had room
+pub record TellsStatus (number : ℕ) (buffer : List ℕ) (needed answer : ℕ) : Type 0 where
+  pub status : Status
+  pub number_is : number ≡ status_number status
+  pub texts : IsFilled needed buffer (joined (status_text status ∷ []))
+  pub answer_is : answer ≡ status_number (done_if (nat_le needed (length buffer)))
+
+-- no status has this number, and the answer says so
+pub record TellsNothing (number needed answer : ℕ) : Type 0 where
+  pub unknown : (s : Status) → number ≢ status_number s
+  pub answer_is : answer ≡ status_number Nothing
+  pub needed_is : needed ≡ 0
+
+-- the status of a number was told, or there is none
+abbrev pub TellsStatusIfAny : ℕ → List ℕ → ℕ → ℕ → Type 0
+TellsStatusIfAny number buffer needed answer =
+    TellsStatus number buffer needed answer ⊎ TellsNothing number needed answer

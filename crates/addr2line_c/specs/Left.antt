@@ -1,0 +1,62 @@
+-- The context that a lookup leaves, by the status that it answers (on specs/Context.antt and
+-- specs/AfterLookups.antt of addr2line).
+-- Own: a status says what a lookup came to, but where memory was refused for something else.
+use Rattle.std.specs.Prelude.{◌≡◌, ◌⊎◌, ℕ, Bool, List, Option, Some, None, Result, Ok, Err}
+use Rattle.gimli_read.specs.declared.error.Error.{Error}
+use Rattle.gimli_read.specs.Reading.{result_map}
+use Rattle.elf.specs.declared.error.LoaderError.TheVariants.{OutOfMemory}
+use Rattle.addr2line_units.specs.declared.frames_lookup.Faults.TheVariants.{End}
+use Rattle.addr2line_units.specs.FramesLookup.{Waits as WaitsFor}
+use Rattle.addr2line_units.specs.Views.{SplitLoad}
+use Rattle.addr2line.specs.AfterLookups.{AfterFrames}
+use Rattle.addr2line.specs.Context.{AfterLookup, AfterRangeLookup, ContextState}
+use Rattle.addr2line.specs.Lookups.{IsLoadOf, lookup_stop}
+use Rattle.addr2line_c.specs.declared.loads.AskedLoad.{AskedLoad}
+use Rattle.addr2line_c.specs.declared.status.Status.{Status}
+use Rattle.addr2line_c.specs.declared.status.Status.TheVariants.{Nothing, Refused, Waits}
+use Rattle.addr2line_c.specs.Answered.{done_if}
+use Rattle.addr2line_c.specs.AskedLoads.{with_load}
+use Rattle.addr2line_c.specs.Status.{after_reply, status_of_error}
+
+-- the status of what a lookup came to: whether what it found had room, what it says of none, or the
+-- fault
+abbrev pub status_by : {X : Type 0} → Status → Bool → Result (Option X) Error → Status
+status_by missing fits (Ok (Some x)) = done_if fits
+status_by missing fits (Ok None) = missing
+status_by missing fits (Err e) = status_of_error e
+
+-- that something was found, or the fault
+abbrev pub found_some : {X : Type 0} → Result X Error → Result (Option (Unit {0})) Error
+found_some r = result_map (λ _. Some (tt {0})) r
+
+-- that a lookup was made, or its fault
+abbrev pub was_made : {X : Type 0} → Result X Error → Result (Unit {0}) Error
+was_made r = result_map (λ _. tt {0}) r
+
+-- a lookup of the location at the probe has left a context
+pub record LeavesLocation (probe : ℕ) (fits : Bool) (s : Status) (old new : ContextState) : Type 0 where
+  pub came : Result (Option (Unit {0})) Error
+  pub status : s ≡ status_by Nothing fits came
+  pub after : AfterLookup probe came old new
+
+-- a lookup of the rows that a range of addresses meets has left a context
+pub record LeavesRange (low high : ℕ) (fits : Bool) (s : Status) (old new : ContextState) : Type 0 where
+  pub came : Result (Unit {0}) Error
+  pub status : s ≡ after_reply came (done_if fits)
+  pub after : AfterRangeLookup low high came old new
+
+-- a lookup of the frames at the probe has left a context; one that waits comes to none
+pub record LeavesFrames (probe : ℕ) (fits : Bool) (s : Status) (old new : ContextState) : Type 0 where
+  pub came : Result (Option (Unit {0})) Error
+  pub status : (s ≡ Refused OutOfMemory) ⊎ (s ≡ status_by Waits fits came)
+  pub after : AfterFrames End probe came old new
+
+-- a lookup of the frames at the probe that waits has asked for the load of the unit that it waits
+-- for, and any other has asked for none
+module _ {R : Type 0} where
+  abbrev pub AsksIfWaiting : ℕ → ContextState → List (AskedLoad R) → List (AskedLoad R) → Status
+      → Type 0
+  AsksIfWaiting probe c asked left Waits = (n : ℕ) × (load : SplitLoad)
+      × (lookup_stop End c.sections c.answers probe ≡ Ok (WaitsFor n)) × IsLoadOf c.sections n load
+      × (left ≡ with_load asked load)
+  AsksIfWaiting probe c asked left s = left ≡ asked

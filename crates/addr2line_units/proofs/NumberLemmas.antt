@@ -1,0 +1,149 @@
+-- What is answered, loaded and forgotten of the unit of a number (on specs/AfterUnits.antt and
+-- specs/StoredUnits.antt).
+use Rattle.std.proofs.Common.{◌≡◌, inl, inr, ℕ, ◌<◌, ◌≤◌, Bool, true, false, List, length, get_or, slice_get, Option, Some, None, Result, Ok, Err, refl, sym, ap, subst, ◌∙◌, arith}
+use Rattle.std.proofs.Math.ListN.{set}
+use Rattle.std.proofs.lemmas.Option.{get_or_from_slice_get, slice_get_within}
+use Rattle.std.specs.Prelude.{IfErr, OnOk, is_some}
+use Rattle.gimli_read.specs.declared.error.Error.{Error}
+use Rattle.gimli_read.specs.declared.error.Error.TheVariants.{OutOfMemory, UnknownToken}
+use Rattle.gimli_read.specs.Reading.{◌>>=◌}
+use Rattle.gimli.specs.Sections.{Sections}
+use Rattle.gimli.specs.Unit.{UnitRecord}
+use Rattle.addr2line_lines.specs.References.{Scope}
+use Rattle.addr2line_units.specs.declared.frames_lookup.FramesStop.{FramesStop}
+use Rattle.addr2line_units.specs.declared.frames_lookup.FramesStop.TheVariants as stops
+use Rattle.addr2line_units.specs.declared.unit.ResUnit.{ResUnit}
+use Rattle.addr2line_units.specs.declared.unit_frames.UnitEntries.{UnitEntries}
+use Rattle.addr2line_units.specs.AfterUnits.{AfterAnswer, AfterForget, AfterLoad}
+use Rattle.addr2line_units.specs.CachedEntries.{AreEntriesOf, StayEntries, first_answer_of}
+use Rattle.addr2line_units.specs.CachedUnits.{answers_in, decided_at}
+use Rattle.addr2line_units.specs.CachedViews.{is_decided}
+use Rattle.addr2line_units.specs.FramesLookup.{FindsNothing, Stop, answer_of}
+use Rattle.addr2line_units.specs.Loads.{load_result, view_fault}
+use Rattle.addr2line_units.specs.StoredUnits.{AreUnits, seen_units}
+use Rattle.addr2line_units.specs.UnitsState.{UnitsState}
+use Rattle.addr2line_units.specs.Views.{decided_answer, is_open, verdict}
+use Rattle.addr2line_units.proofs.AnswerLemmas.{answer_at, answered_if_ok, answers_if_refused, answers_set, decided_there, others_stay, same_set}
+use Rattle.addr2line_units.proofs.CachedUnitLemmas.{as_many_entries, entries_at, entries_set}
+use Rattle.addr2line_units.proofs.LoadLemmas.{as_many_answers, past_set, slice_get_none, this_unit, unknown_answer, unknown_load}
+use Rattle.addr2line_units.proofs.OpenLemmas.{not_open_there}
+use Rattle.addr2line_units.proofs.StateLemmas.{after_answer, after_forget, after_load}
+
+-- the unit of a number
+module _ {R : Type 0} (scope : Scope) (units : List ResUnit) (held : List (UnitEntries R)) (last : FramesStop) (i : AreUnits scope units held last) (n : ℕ) where
+  abbrev d : Sections
+  d = scope.file.sections
+
+  abbrev us : List UnitRecord
+  us = scope.file.units
+
+  -- there is none
+  module _ (none : slice_get us n ≡ None) (given : Option Sections) (looks : ℕ) (was : Stop) where
+    pub none_answered : AfterAnswer n given (Ok tt) (seen_units scope units held looks was) (seen_units scope units held looks FindsNothing)
+    none_answered = record {
+      stays = refl;
+      answers = sym (unknown_answer d us (answers_in held) n given none);
+      refused = tt;
+      others = λ k ne. refl;
+      beside = as_many_entries scope us held i.entries ∙ sym (as_many_answers held);
+    }
+
+    pub none_loaded : AfterLoad n given (Err UnknownToken) (seen_units scope units held looks was) (seen_units scope units held looks FindsNothing)
+    none_loaded = record {
+      stays = refl;
+      answers = λ told. sym (unknown_answer d us (answers_in held) n given none);
+      begun = inl refl;
+      refused = λ ne. (refl, λ k. record { at = λ probe q. q; whole = λ kind q. q });
+      known = λ shut k. record { at = λ probe q. q; whole = λ kind q. q };
+      same = λ one e. refl;
+      others = λ k ne. refl;
+      not_open = λ shut. sym (unknown_load d us (answers_in held) n given none);
+      none = λ e. sym (unknown_load d us (answers_in held) n None none);
+    }
+
+    pub none_forgotten : AfterForget n (seen_units scope units held looks was) (seen_units scope units held looks FindsNothing)
+    none_forgotten = record {
+      stays = refl;
+      answers = sym (past_set (answers_in held) n None past);
+      same = λ e. refl;
+      others = λ k ne. refl;
+    }
+      where
+        past : length (answers_in held) ≤ n
+        past =
+            let a = slice_get_none us n none in
+            let b = as_many_entries scope us held i.entries in
+            let c = as_many_answers held in
+            omega (arith, a, b, c)
+
+  module _ (u : UnitRecord) (there : slice_get us n ≡ Some u) where
+    unit : u ≡ get_or us n u
+    unit = sym (get_or_from_slice_get us n u u there)
+
+    within : n < length us
+    within = slice_get_within us n u there
+
+    pub in_entries : n < length held
+    in_entries = subst (λ m. n < m) (as_many_entries scope us held i.entries) within
+
+    module _ (v : UnitEntries R) (at : v ≡ get_or held n v) where
+      pub right_there : AreEntriesOf scope u v
+      right_there = entries_at scope us held n u v in_entries unit at i.entries
+
+      answer_is : answer_of (answers_in held) n ≡ first_answer_of v
+      answer_is = answer_at held n v in_entries at
+
+      load_is : (given : Option Sections) → load_result d us (answers_in held) n given ≡ view_fault (verdict d u (decided_answer d u (first_answer_of v) given))
+      load_is given =
+          ap (λ r. r >>= λ x. view_fault (verdict d x (decided_answer d x (answer_of (answers_in held) n) given))) (this_unit us n u there)
+          ∙ ap (λ a. view_fault (verdict d u (decided_answer d u a given))) answer_is
+
+      module _ (w : UnitEntries R) where
+        abbrev now : List (UnitEntries R)
+        now = set held n w
+
+        pub still_units : AreEntriesOf scope u w → AreUnits scope units now stops.FindsNothing
+        still_units own = record { in_order = i.in_order; lines = i.lines; entries = entries_set scope us held n u w unit i.entries own; stop = tt }
+
+        pub load_told : (given : Option Sections) (r : Result (Unit {0}) Error) → first_answer_of w ≡ decided_answer d u (first_answer_of v) given → r ≡ view_fault (verdict d u (first_answer_of w)) → r ≡ load_result d us (answers_in held) n given
+        load_told given r same e = e ∙ ap (λ a. view_fault (verdict d u a)) same ∙ sym (load_is given)
+
+        module _ (given : Option Sections) (b : Bool) (some : is_some given ≡ b) (looks : ℕ) (was : Stop) where
+          abbrev old : UnitsState
+          old = seen_units scope units held looks was
+
+          abbrev new : UnitsState
+          new = seen_units scope units now looks FindsNothing
+
+          pub answered_there : (r : Result (Unit {0}) Error) → OnOk r (first_answer_of w ≡ decided_answer d u (first_answer_of v) given) → IfErr r (λ e. (e ≡ OutOfMemory) × StayEntries v w × (b ≡ true)) → AfterAnswer n given r old new
+          answered_there r answer refused = after_answer scope units held i.entries now looks was n given r (λ h. some ∙ h)
+              (answered_if_ok d us held n u v w given r within in_entries unit at answer)
+              (answers_if_refused held n v w r (b ≡ true) in_entries at refused) (λ k ne. others_stay held n k w ne)
+
+          module _ (own : AreEntriesOf scope u w) (same : is_decided v.view.state ≡ true → w ≡ v) where
+            same_decided : decided_at held n ≡ true → now ≡ held
+            same_decided h = same_set held n v w at (same (decided_there held n v at h))
+
+            many : length us ≡ length now
+            many = as_many_entries scope us now (entries_set scope us held n u w unit i.entries own)
+
+            -- the answer was given
+            pub loaded_there : (r : Result (Unit {0}) Error) → first_answer_of w ≡ decided_answer d u (first_answer_of v) given → r ≡ view_fault (verdict d u (first_answer_of w)) → AfterLoad n given r old new
+            loaded_there r answer fault =
+                let told = load_told given r answer fault in
+                let answers = answered_if_ok d us held n u v w given (Ok tt) within in_entries unit at answer in
+                after_load scope units held i.entries now looks was n (λ k ne. others_stay held n k w ne) same_decided many given r (λ h. answers) (inr answers) (λ ne. absurd (ne told)) (λ shut. told)
+                (λ e. told ∙ ap (load_result d us (answers_in held) n) e)
+
+            -- memory was refused
+            pub refused_there : (e : Error) → (e ≡ OutOfMemory) × StayEntries v w × (b ≡ true) → (is_open d u (first_answer_of v) ≡ false → ◌≡◌ {A = Result (Unit {0}) Error} (Err e) (Ok tt)) → AfterLoad n given (Err e) old new
+            refused_there e refused shut =
+                let r = answers_if_refused held n v w (Err e) (b ≡ true) in_entries at refused in
+                after_load scope units held i.entries now looks was n (λ k ne. others_stay held n k w ne) same_decided many given (Err e) (λ told. absurd (told refused.0)) (inl r.1) (λ ne. (r.1, r.2))
+                (λ h. absurd (let no = shut (not_open_there d us held n u v there in_entries at h) in cc))
+                (λ none. absurd (let f : false ≡ true = ap is_some (sym none) ∙ some ∙ refused.2 in cc))
+
+        pub forgotten_there : (looks : ℕ) (was : Stop) → first_answer_of w ≡ None → (first_answer_of v ≡ None → w ≡ v) → AfterForget n (seen_units scope units held looks was) (seen_units scope units now looks FindsNothing)
+        forgotten_there looks was none same = after_forget scope units held i.entries now looks was n
+            (answers_set held n w ∙ ap (λ a. set (answers_in held) n a) none)
+            (λ h. same_set held n v w at (same (sym answer_is ∙ h))) (λ k ne. others_stay held n k w ne)

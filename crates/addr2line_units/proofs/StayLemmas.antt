@@ -1,0 +1,136 @@
+-- What was known of units stays known (on specs/StaysKnown.antt).
+use Rattle.std.proofs.Common.{◌≡◌, ◌⊎◌, inl, inr, ℕ, zero, suc, ◌≤◌, arith, true, false, List, [], ◌∷◌, length, slice_get, Option, Some, None, option_map, Result, Ok, Err, refl, sym, ◌∙◌, subst}
+use Rattle.std.specs.Prelude.{IfSome, unwrap_or}
+use Rattle.std.specs.List.{AllZip}
+use Rattle.gimli_read.specs.declared.error.Error.{Error}
+use Rattle.gimli.specs.Unit.{UnitRecord}
+use Rattle.addr2line_lines.specs.Details.{Detail}
+use Rattle.addr2line_lines.specs.FunctionDetails.{AreCachedToFault, IsCachedToFault, IsFunctionMore, IsTableMore}
+use Rattle.addr2line_lines.specs.FunctionTable.{CachedFunction, FunctionTable}
+use Rattle.addr2line_lines.specs.References.{Scope}
+use Rattle.addr2line_units.specs.declared.functions.LazyFunctions.{LazyFunctions}
+use Rattle.addr2line_units.specs.declared.functions.LazyFunctions.TheVariants as lazy
+use Rattle.addr2line_units.specs.declared.parses.ReadingDepth.{ReadingDepth}
+use Rattle.addr2line_units.specs.declared.parses.ReadingDepth.TheVariants as kinds
+use Rattle.addr2line_units.specs.declared.unit_frames.UnitEntries.{UnitEntries}
+use Rattle.addr2line_units.specs.declared.view.ViewState.{ViewState}
+use Rattle.addr2line_units.specs.declared.view.ViewState.TheVariants as states
+use Rattle.addr2line_units.specs.FunctionParses.{IsReadyFor}
+use Rattle.addr2line_units.specs.CachedEntries.{StayEntries}
+use Rattle.addr2line_units.specs.CachedFunctions.{StayFunctions}
+use Rattle.addr2line_units.specs.CachedUnits.{HaveEntriesOf, StayAllEntries, answers_in, decided_at}
+use Rattle.addr2line_units.specs.CachedParses.{StayDecided}
+use Rattle.addr2line_units.specs.CachedViews.{was_looked_at}
+use Rattle.addr2line_units.specs.KnownEntries.{KnownEntries, FunctionsKnown, is_known_at, known_answer, known_by, known_functions, known_in}
+use Rattle.addr2line_units.specs.Loads.{is_open_at}
+use Rattle.addr2line_units.proofs.AnswerLemmas.{looked_waits}
+use Rattle.addr2line_units.proofs.FoundLemmas.{looked_is_decided}
+use Rattle.addr2line_units.proofs.CachedUnitLemmas.{entries_more_at}
+use Rattle.addr2line_units.proofs.KnownLemmas.{known_is}
+use Rattle.addr2line_units.specs.StaysKnown.{IsReadyAt, StaysKnown, StaysKnownOf}
+
+pub known_of_twice : (n : ℕ) (old mid new : List KnownEntries) → StaysKnownOf n old mid → StaysKnownOf n mid new → StaysKnownOf n old new
+known_of_twice n old mid new a b = record {
+  at = λ probe e. b.at probe (a.at probe e);
+  whole = λ reads h. b.whole reads (a.whole reads h);
+}
+
+pub known_twice : (old mid new : List KnownEntries) → StaysKnown old mid → StaysKnown mid new → StaysKnown old new
+known_twice old mid new a b n = known_of_twice n old mid new (a n) (b n)
+
+-- what is the same of a unit stays known
+pub same_stays_known : (n : ℕ) (old new : List KnownEntries) → slice_get new n ≡ slice_get old n → StaysKnownOf n old new
+same_stays_known n old new same = record {
+  at = λ probe e. subst (λ o. unwrap_or (option_map (is_known_at probe) o) true ≡ true) (sym same) e;
+  whole = λ reads h. subst (λ o. IfSome o (IsReadyFor reads)) (sym same) h;
+}
+
+-- details that were cached up to the first fault still are where more is cached
+cached_more : (fs gs : List CachedFunction) → AllZip IsFunctionMore fs gs → AreCachedToFault fs → AreCachedToFault gs
+cached_more [] [] a h = tt
+cached_more [] (g ∷ gs) a h = absurd a
+cached_more (f ∷ fs) [] a h = absurd a
+cached_more (f ∷ fs) (g ∷ gs) a h = by (λ k. cached_more fs gs a.1 k) f.detail refl h
+  where
+    by : (AreCachedToFault fs → AreCachedToFault gs) → (o : Option (Result Detail Error)) → f.detail ≡ o → IsCachedToFault o (AreCachedToFault fs) → IsCachedToFault g.detail (AreCachedToFault gs)
+    by more None e k = absurd k
+    by more (Some (Ok d)) e k = subst (λ o. IsCachedToFault o (AreCachedToFault gs)) (sym (a.0.detail (Ok d) e)) (more k)
+    by more (Some (Err x)) e k = subst (λ o. IsCachedToFault o (AreCachedToFault gs)) (sym (a.0.detail (Err x) e)) k
+
+table_whole : (r : ReadingDepth) (t u : FunctionTable) → IsTableMore t u → IsReadyFor r (FunctionsKnown t) → IsReadyFor r (FunctionsKnown u)
+table_whole kinds.Functions t u a h = tt
+table_whole kinds.Details t u a h = cached_more t.functions u.functions a.functions h
+
+module _ {R : Type 0} where
+  functions_whole : (r : ReadingDepth) (f g : LazyFunctions R) → StayFunctions f g → IsReadyFor r (known_functions f) → IsReadyFor r (known_functions g)
+  functions_whole r lazy.Unread g a h = absurd h
+  functions_whole r (lazy.Read t) lazy.Unread a h = absurd a
+  functions_whole r (lazy.Read t) (lazy.Read u) a h = table_whole r t u a h
+  functions_whole r (lazy.Read t) (lazy.Faulty e) a h = absurd a
+  functions_whole r (lazy.Faulty e) g a h = subst (λ f. IsReadyFor r (known_functions f)) (sym a) h
+
+  answer_whole : {X : Type 0} (r : ReadingDepth) (x : Result X Error) (f g : LazyFunctions R) → StayFunctions f g → IsReadyFor r (known_answer x f) → IsReadyFor r (known_answer x g)
+  answer_whole r (Ok x) f g a h = functions_whole r f g a h
+  answer_whole r (Err e) f g a h = h
+
+  view_whole : (r : ReadingDepth) (s : ViewState R) (f g : LazyFunctions R) → StayFunctions f g → IsReadyFor r (known_by s f) → IsReadyFor r (known_by s g)
+  view_whole r states.Undecided f g a h = absurd h
+  view_whole r states.Open f g a h = tt
+  view_whole r states.Main f g a h = functions_whole r f g a h
+  view_whole r (states.Unnamed x) f g a h = h
+  view_whole r (states.Answered x) f g a h = answer_whole r x.unit f g a h
+
+  whole_was_looked_at : (r : ReadingDepth) (s : ViewState R) (f : LazyFunctions R) → IsReadyFor r (known_by s f) → was_looked_at s ≡ true
+  whole_was_looked_at r states.Undecided f h = absurd h
+  whole_was_looked_at r states.Open f h = refl
+  whole_was_looked_at r states.Main f h = refl
+  whole_was_looked_at r (states.Unnamed x) f h = refl
+  whole_was_looked_at r (states.Answered x) f h = refl
+
+  entries_whole : (r : ReadingDepth) (v w : UnitEntries R) → StayEntries v w → IsReadyFor r (known_by v.view.state v.functions) → IsReadyFor r (known_by w.view.state w.functions)
+  entries_whole r v w a h =
+      subst (λ y. IsReadyFor r (known_by y.state w.functions)) (sym (a.view (whole_was_looked_at r v.view.state v.functions h)))
+      (view_whole r v.view.state v.functions w.functions a.functions h)
+
+  all_whole : (r : ReadingDepth) (vs ws : List (UnitEntries R)) → StayAllEntries vs ws → (n : ℕ) → IsReadyAt r (known_in vs) n → IsReadyAt r (known_in ws) n
+  all_whole r [] [] a n h = h
+  all_whole r [] (w ∷ ws) a n h = absurd a
+  all_whole r (v ∷ vs) [] a n h = absurd a
+  all_whole r (v ∷ vs) (w ∷ ws) a zero h = entries_whole r v w a.0 h
+  all_whole r (v ∷ vs) (w ∷ ws) a (suc n) h = all_whole r vs ws a.1 n h
+
+  -- where what is cached stays, so does what is known
+  pub stays_known : (vs ws : List (UnitEntries R)) → StayAllEntries vs ws → StaysKnown (known_in vs) (known_in ws)
+  stays_known vs ws a n = record {
+    at = λ probe e. known_is probe ws n ∙ entries_more_at probe vs ws a n (sym (known_is probe vs n) ∙ e);
+    whole = λ r h. all_whole r vs ws a n h;
+  }
+
+  -- the same of units that aren't open
+  pub whole_decided : (r : ReadingDepth) (scope : Scope) (us : List UnitRecord) (vs ws : List (UnitEntries R)) (n : ℕ) → HaveEntriesOf scope us vs → StayDecided vs ws → is_open_at scope.file.sections us (answers_in vs) n ≡ false
+      → IsReadyAt r (known_in vs) n → IsReadyAt r (known_in ws) n
+  whole_decided r scope [] [] [] n own stay shut h = h
+  whole_decided r scope [] [] (w ∷ ws) n own stay shut h = absurd stay
+  whole_decided r scope [] (v ∷ vs) ws n own stay shut h = absurd own
+  whole_decided r scope (u ∷ us) [] ws n own stay shut h = absurd own
+  whole_decided r scope (u ∷ us) (v ∷ vs) [] n own stay shut h = absurd stay
+  whole_decided r scope (u ∷ us) (v ∷ vs) (w ∷ ws) zero own stay shut h =
+      let looked = whole_was_looked_at r v.view.state v.functions h in
+      entries_whole r v w (stay.0 (looked_is_decided v.view.state looked (looked_waits scope.file.sections u v.view own.0.view looked ∙ shut))) h
+  whole_decided r scope (u ∷ us) (v ∷ vs) (w ∷ ws) (suc n) own stay shut h = whole_decided r scope us vs ws n own.1 stay.1 shut h
+
+  pub whole_is_decided : (r : ReadingDepth) (scope : Scope) (us : List UnitRecord) (vs : List (UnitEntries R)) (n : ℕ) → HaveEntriesOf scope us vs → is_open_at scope.file.sections us (answers_in vs) n ≡ false
+      → IsReadyAt r (known_in vs) n → (decided_at vs n ≡ true) ⊎ (length us ≤ n)
+  whole_is_decided r scope [] [] n own shut h = inr (omega arith)
+  whole_is_decided r scope [] (v ∷ vs) n own shut h = absurd own
+  whole_is_decided r scope (u ∷ us) [] n own shut h = absurd own
+  whole_is_decided r scope (u ∷ us) (v ∷ vs) zero own shut h =
+      let looked = whole_was_looked_at r v.view.state v.functions h in
+      inl (looked_is_decided v.view.state looked (looked_waits scope.file.sections u v.view own.0.view looked ∙ shut))
+  whole_is_decided r scope (u ∷ us) (v ∷ vs) (suc n) own shut h = elim (whole_is_decided r scope us vs n own.1 shut h) [ inl d ↦ inl d | inr m ↦ inr (omega (arith, m)) ]
+
+  -- nothing is read of a unit that there isn't
+  pub none_whole : (r : ReadingDepth) (vs : List (UnitEntries R)) (n : ℕ) → length vs ≤ n → IsReadyAt r (known_in vs) n
+  none_whole r [] n h = tt
+  none_whole r (v ∷ vs) zero h = absurd (omega (arith, h))
+  none_whole r (v ∷ vs) (suc n) h = none_whole r vs n (omega (arith, h))

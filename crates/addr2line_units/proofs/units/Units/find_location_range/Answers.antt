@@ -1,0 +1,12 @@
+use Rattle.std.proofs.Common.{sym, ◌∙◌}
+use Rattle.addr2line_units.specs.UnitRangesLeft.{ranges_left}
+use Rattle.addr2line_units.proofs.StateLemmas.{spans_cached}
+use Rattle.addr2line_units.proofs.units.Units.find_location_range.Goals as goal
+
+pub returns : goal.returns
+returns g c =
+    let s = c.self.inside in
+    let parsed = rw (sym c.self.view_is) at c.requires.parsed in
+    rw (sym c.self.view_is) (record {
+      gives = c.new.ensures.gives ∙ sym (spans_cached s.sources.dwarf.value c.args.low c.args.high s.sources.units.items s.units.items (ranges_left c.args.ranges) c.self.invariant.lines parsed);
+    })

@@ -1,0 +1,32 @@
+use Rattle.std.proofs.Common.{ap, ltb-false, ltb-true, refl, sym, ◌∙◌}
+use Rattle.std.proofs.lemmas.Option.{slice_get_past, slice_get_read}
+use Rattle.addr2line_lines.specs.Location.{location_of_row}
+use Rattle.addr2line_units.specs.CachedLines.{cached_files, lines_in_cache, location_of_unit_row}
+use Rattle.addr2line_units.proofs.StateLemmas.{files_are}
+use Rattle.addr2line_units.proofs.units.Units.location.Goals as goal
+
+pub returns-in-Some : goal.returns-in-Some
+returns-in-Some g c =
+    let s = c.self.inside in
+    let place = c.args.place in
+    let parsed = rw (sym c.self.view_is) at c.requires.parsed in
+    let found = c.in-Some.ensures.lookup in
+    let at = slice_get_read c.deref.result.now _ place.unit c.in-Some.unit.now refl (ltb-true _ _ (sym found.0)) found.1 in
+    rw (sym c.self.view_is) (record {
+      gives =
+          c.location_of.ensures.gives ∙ ap (λ u. location_of_row (cached_files (lines_in_cache u)) place.row) (sym at) ∙ ap (λ units. location_of_unit_row units place) c.deref.ensures.value
+          ∙ ap (λ files. location_of_row files place.row) (sym (files_are s.sources.dwarf.value s.sources.units.items s.units.items place.unit c.self.invariant.lines parsed));
+    })
+
+pub returns-in-None : goal.returns-in-None
+returns-in-None g c =
+    let s = c.self.inside in
+    let place = c.args.place in
+    let parsed = rw (sym c.self.view_is) at c.requires.parsed in
+    let found = c.in-None.ensures.lookup in
+    let at = slice_get_past c.deref.result.now place.unit (ltb-false _ _ (sym found.0)) in
+    rw (sym c.self.view_is) (record {
+      gives =
+          c.without_file.ensures.gives ∙ ap (λ u. location_of_row (cached_files (lines_in_cache u)) place.row) (sym at) ∙ ap (λ units. location_of_unit_row units place) c.deref.ensures.value
+          ∙ ap (λ files. location_of_row files place.row) (sym (files_are s.sources.dwarf.value s.sources.units.items s.units.items place.unit c.self.invariant.lines parsed));
+    })

@@ -1,0 +1,44 @@
+use Rattle.std.proofs.Common.{subst, sym, ◌≡◌}
+use Rattle.gimli_read.specs.Reading.{ExactlyUnlessOom}
+use Rattle.addr2line_lines.specs.References.{IsScope}
+use Rattle.addr2line_lines.specs.SeenScope.{seen_scope}
+use Rattle.addr2line_units.specs.AfterUnits.{AfterReading}
+use Rattle.addr2line_units.specs.CachedFrames.{seen_stop}
+use Rattle.addr2line_units.specs.CachedUnits.{HaveEntriesOf, answers_in}
+use Rattle.addr2line_units.specs.FramesLookup.{FindsNothing}
+use Rattle.addr2line_units.specs.FunctionParses.{read_of_units}
+use Rattle.addr2line_units.specs.StoredUnits.{scope_of, seen_units}
+use Rattle.addr2line_units.proofs.StateLemmas.{after_reading}
+use Rattle.addr2line_units.proofs.units.Units.read_functions.Goals as goal
+
+pub read_all_functions-requires : goal.read_all_functions-requires
+read_all_functions-requires g c =
+    let s = c.self.inside in
+    let gives = c.scope-scope.ensures.gives in
+    record {
+      in_order = subst IsScope (sym gives) c.self.invariant.in_order;
+      right = subst (λ S. HaveEntriesOf S S.file.units s.entries.items) (sym gives) c.self.invariant.entries;
+    }
+
+pub invariant_of-self : goal.invariant_of-self
+invariant_of-self g c =
+    let i = c.self.invariant in
+    let e = c.read_all_functions in
+    record { in_order = i.in_order; lines = i.lines; entries = subst (λ S. HaveEntriesOf S S.file.units e.new.entries.items) c.scope-scope.ensures.gives e.ensures.right; stop = tt }
+
+pub returns-clause-gives : goal.returns-clause-gives
+returns-clause-gives g c =
+    let s = c.self.inside in
+    subst (λ x. ExactlyUnlessOom (λ y. y) c.read_all_functions.result (read_of_units c.args.reads x.scope x.scope.file.units x.answers)) c.self.view_is
+    (subst (λ S. ExactlyUnlessOom (λ x. x) c.read_all_functions.result (read_of_units c.args.reads S S.file.units (answers_in s.entries.items))) c.scope-scope.ensures.gives c.read_all_functions.ensures.gives)
+
+pub returns-clause-after : goal.returns-clause-after
+returns-clause-after g c =
+    let s = c.self.inside in
+    let new = c.read_all_functions.new.entries.items in
+    let e = c.read_all_functions.ensures in
+    let scope = seen_scope c.scope-scope.result in
+    let was = seen_stop s.units.items s.entries.items s.stop in
+    let kept = subst (λ S. HaveEntriesOf S S.file.units s.entries.items) (sym c.scope-scope.ensures.gives) c.self.invariant.entries in
+    rw (sym c.self.view_is) (subst (λ S. AfterReading c.args.reads c.read_all_functions.result (seen_units S s.units.items s.entries.items s.looks was) (seen_units S s.units.items new s.looks FindsNothing)) c.scope-scope.ensures.gives
+    (after_reading scope s.units.items s.entries.items kept new s.looks was c.args.reads c.read_all_functions.result e.right e.answers e.begun e.stay e.only e.read e.memory e.ready_for_all e.exact e.same))

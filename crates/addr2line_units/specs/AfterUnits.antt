@@ -1,0 +1,168 @@
+-- What calls leave of the units of a context (DWARF 5, sections 3.1.2, 3.3, 6.2 and 7.3.2).
+-- Own: a lookup parses what it asks for and nothing else, and nothing that is known is parsed
+-- again; the first answer to a unit's load counts until the unit is forgotten.
+use Rattle.std.specs.Prelude.{◌≡◌, ◌≢◌, ◌⊎◌, ◌+◌, ◌<◌, ◌≤◌, ℕ, Bool, true, false, List, length, IfErr, OnOk, is_some, slice_get, Option, Some, None, Result, Ok, Err}
+use Rattle.std.specs.List.{AllByRecursion}
+use Rattle.gimli_read.specs.declared.error.Error.{Error}
+use Rattle.gimli_read.specs.declared.error.Error.TheVariants.{OutOfMemory}
+use Rattle.gimli_read.specs.Alike.{HadMemory}
+use Rattle.gimli.specs.Sections.{Sections}
+use Rattle.addr2line_units.specs.declared.frames_lookup.Faults.{Faults}
+use Rattle.addr2line_units.specs.declared.index.UnitRange.{UnitRange}
+use Rattle.addr2line_units.specs.declared.parses.ReadingDepth.{ReadingDepth}
+use Rattle.addr2line_units.specs.declared.parses.ReadingDepth.TheVariants as kinds
+use Rattle.addr2line_units.specs.FramesLookup.{FindsNothing, LookupAsks, answer_of, asks_lines_of, holds_along, with_answer}
+use Rattle.addr2line_units.specs.FunctionParses.{AreFirstDecided, AreReadBefore, AreReadyFor, answers_after_parse, read_of_units}
+use Rattle.addr2line_units.specs.KnownEntries.{knows_at}
+use Rattle.addr2line_units.specs.Loads.{forgotten, is_open_at, load_result}
+use Rattle.addr2line_units.specs.Located.{is_found, looks_along}
+use Rattle.addr2line_units.specs.Parsed.{AllAskFor, AreAllParsed, AreParsed, AreReadyForAll, AsksFor, LeadTo, ParsesOnly, StaysParsed, ready_along}
+use Rattle.addr2line_units.specs.StaysKnown.{IsReadBy, IsReadyAt, StaysKnown}
+use Rattle.addr2line_units.specs.UnitsState.{UnitsState, asked_by, has_all_at, has_few_at}
+
+-- nothing is changed but which lines are parsed, and how often they were looked at: those stay
+-- parsed that were, and no others are but those that are asked for
+pub record AfterLines (asks : ℕ → Type 0) (old new : UnitsState) : Type 0 where
+  pub same : new ≡ record old { parsed = new.parsed; looks = new.looks; stop = FindsNothing }
+  pub many : length new.parsed ≡ length old.parsed
+  pub parsed : StaysParsed old.parsed new.parsed
+  pub only : ParsesOnly asks old.parsed new.parsed
+
+-- after a lookup of a row along ranges the same lookup parses nothing more, but after OutOfMemory
+pub record AfterRow {X : Type 0} (probe : ℕ) (ranges : List UnitRange)
+    (result : Result (Option X) Error) (old new : UnitsState) : Type 0 where
+  pub lines : AfterLines (AsksFor old.scope.file.sections old.units probe ranges) old new
+  pub ready : HadMemory result
+      → ready_along old.scope.file.sections old.units new.parsed probe ranges ≡ true
+  pub memory : ready_along old.scope.file.sections old.units new.parsed probe ranges ≡ true
+      → HadMemory result
+  pub raised : old.looks ≤ new.looks
+  pub counted : is_found result ≡ true → old.looks < new.looks
+  pub cost : new.looks ≤ old.looks + looks_along old.scope.file.sections old.units ranges
+
+-- after the lines of units along ranges were parsed, or after OutOfMemory
+pub record AfterCaching {X : Type 0} (ranges : List UnitRange) (result : Result X Error)
+    (old new : UnitsState) : Type 0 where
+  pub lines : AfterLines (LeadTo ranges) old new
+  pub looks : new.looks ≡ old.looks
+  pub parsed : OnOk result (AreParsed new.parsed ranges)
+  pub memory : AreParsed new.parsed ranges → HadMemory result
+  pub refused : IfErr result (λ e. e ≡ OutOfMemory)
+
+-- after the lines of all units were parsed, up to the first fault, or after OutOfMemory
+pub record AfterLineParse (result : Result (Unit {0}) Error) (old new : UnitsState) : Type 0 where
+  pub lines : AfterLines (AllAskFor old.scope.file.sections old.units) old new
+  pub looks : new.looks ≡ old.looks
+  pub ready : HadMemory result → AreReadyForAll old.scope.file.sections old.units new.parsed
+  pub memory : AreReadyForAll old.scope.file.sections old.units new.parsed → HadMemory result
+  pub parsed : OnOk result (AreAllParsed new.parsed)
+
+-- units were asked for the probe: what was read stays, and nothing is read of others
+pub record WereAsked (asks : ℕ → Type 0) (probe : ℕ) (old new : UnitsState) : Type 0 where
+  pub scope : new.scope ≡ old.scope
+  pub units : new.units ≡ old.units
+  pub answers : new.answers ≡ old.answers
+  pub parsed : StaysParsed old.parsed new.parsed
+  pub known : StaysKnown old.known new.known
+  pub only : ParsesOnly (λ n. asks n
+      × (asks_lines_of old.scope old.units old.answers probe n ≡ true)) old.parsed new.parsed
+  pub learns : (n : ℕ) → (slice_get new.known n ≡ slice_get old.known n) ⊎ asks n
+  pub raised : old.looks ≤ new.looks
+
+-- and the same asks nothing more to be read, but after OutOfMemory
+pub record AfterAsking {X : Type 0} (asks : ℕ → Type 0) (probe : ℕ) (all few : UnitsState → Bool)
+    (result : Result X Error) (old new : UnitsState) : Type 0 where
+  pub asked : WereAsked asks probe old new
+  pub ready : HadMemory result → all new ≡ true
+  pub memory : few new ≡ true → HadMemory result
+
+-- after a lookup along ranges
+abbrev pub AfterWalk : {X : Type 0} → Faults → ℕ → List UnitRange → Result X Error → UnitsState
+    → UnitsState → Type 0
+AfterWalk faults probe ranges result old = AfterAsking
+    (LookupAsks (asked_by faults probe old) ranges) probe
+    (λ s. holds_along (has_all_at probe s) (asked_by faults probe old) ranges)
+    (λ s. holds_along (has_few_at probe s) (asked_by faults probe old) ranges) result old
+
+-- nothing is changed but first answers, and what is known of units' entries
+abbrev pub StayRead : UnitsState → UnitsState → Type 0
+StayRead old new = new
+    ≡ record old { answers = new.answers; known = new.known; stop = FindsNothing }
+
+-- after an answer to the load of the unit of a number nothing is changed but of that unit; after
+-- OutOfMemory in the place of given sections all first answers are as before, and what was known
+-- stays known
+pub record AfterAnswer (n : ℕ) (given : Option Sections) (result : Result (Unit {0}) Error)
+    (old new : UnitsState) : Type 0 where
+  pub stays : StayRead old new
+  pub answers : OnOk result (new.answers
+      ≡ with_answer old.scope.file.sections old.scope.file.units old.answers n given)
+  pub refused : IfErr result (λ e. (e ≡ OutOfMemory) × (new.answers ≡ old.answers)
+      × StaysKnown old.known new.known × (is_some given ≡ true))
+  pub others : (k : ℕ) → k ≢ n → slice_get new.known k ≡ slice_get old.known k
+  pub beside : length old.scope.file.units ≡ length old.answers
+
+-- the same outside a lookup, where the fault of the unit's view refuses too: nothing is changed of
+-- a unit that had an answer, and of one that wasn't open what was known stays
+pub record AfterLoad (n : ℕ) (given : Option Sections) (result : Result (Unit {0}) Error)
+    (old new : UnitsState) : Type 0 where
+  pub stays : StayRead old new
+  pub answers : HadMemory result → new.answers
+      ≡ with_answer old.scope.file.sections old.scope.file.units old.answers n given
+  pub begun : (new.answers ≡ old.answers) ⊎ (new.answers
+      ≡ with_answer old.scope.file.sections old.scope.file.units old.answers n given)
+  pub refused : result ≢ load_result old.scope.file.sections old.scope.file.units old.answers n given
+      → (new.answers ≡ old.answers) × StaysKnown old.known new.known
+  pub known : is_open_at old.scope.file.sections old.scope.file.units old.answers n ≡ false
+      → StaysKnown old.known new.known
+  pub same : (first : Option Sections) → answer_of old.answers n ≡ Some first
+      → new.known ≡ old.known
+  pub others : (k : ℕ) → k ≢ n → slice_get new.known k ≡ slice_get old.known k
+  pub not_open : is_open_at old.scope.file.sections old.scope.file.units old.answers n ≡ false
+      → result ≡ load_result old.scope.file.sections old.scope.file.units old.answers n given
+  pub none : given ≡ None
+      → result ≡ load_result old.scope.file.sections old.scope.file.units old.answers n None
+
+-- after the unit of a number is forgotten nothing is changed but of that unit, and nothing at all
+-- where it had no answer
+pub record AfterForget (n : ℕ) (old new : UnitsState) : Type 0 where
+  pub stays : StayRead old new
+  pub answers : new.answers ≡ forgotten old.answers n
+  pub same : answer_of old.answers n ≡ None → new.known ≡ old.known
+  pub others : (k : ℕ) → k ≢ n → slice_get new.known k ≡ slice_get old.known k
+
+-- after loads were listed nothing is changed but that more may be known
+pub record AfterListing (old new : UnitsState) : Type 0 where
+  pub stays : StayRead old new
+  pub answers : new.answers ≡ old.answers
+  pub known : StaysKnown old.known new.known
+
+-- after a parse of all functions open units are decided by none, up to the first fault; where
+-- memory was refused, some of the first ones. What was known of the others stays. Unless memory was
+-- refused all is known that the parse reads; where it was before, no memory is wanted, and nothing
+-- is changed of what is known and answered
+pub record AfterReading (reads : ReadingDepth) (result : Result (Unit {0}) Error)
+    (old new : UnitsState) : Type 0 where
+  pub stays : StayRead old new
+  pub answers : HadMemory result → new.answers
+      ≡ answers_after_parse reads old.scope old.scope.file.units old.answers
+  pub begun : AreFirstDecided reads old.scope old.scope.file.units old.answers new.answers
+  pub known : (probe n : ℕ)
+      → is_open_at old.scope.file.sections old.scope.file.units old.answers n ≡ false
+      → knows_at old.known probe n ≡ true → knows_at new.known probe n ≡ true
+  pub whole : (kind : ReadingDepth) (n : ℕ)
+      → is_open_at old.scope.file.sections old.scope.file.units old.answers n ≡ false
+      → IsReadyAt kind old.known n → IsReadyAt kind new.known n
+  pub only : (n : ℕ) → (slice_get new.known n ≡ slice_get old.known n)
+      ⊎ AreReadBefore reads old.scope old.scope.file.units old.answers n
+  pub read : OnOk result (AllByRecursion (IsReadBy reads) new.known)
+  pub memory : AllByRecursion (IsReadBy reads) old.known → result ≡ Ok tt
+  pub ready : HadMemory result
+      → AreReadyFor reads old.scope old.scope.file.units new.answers new.known
+  pub exact : AreReadyFor reads old.scope old.scope.file.units old.answers old.known
+      → result ≡ read_of_units reads old.scope old.scope.file.units old.answers
+  pub same : AreReadyFor reads old.scope old.scope.file.units old.answers old.known
+      → (new.answers ≡ old.answers) × (new.known ≡ old.known)
+  pub all : reads ≡ kinds.Details → OnOk result
+      ((probe n : ℕ) → knows_at new.known probe n ≡ true)
+  pub beside : length old.scope.file.units ≡ length old.answers

@@ -1,0 +1,30 @@
+-- What stays known of the entries of units, and what a parse of functions has read of them.
+use Rattle.std.specs.Prelude.{◌≡◌, ℕ, true, List, IfSome, slice_get}
+use Rattle.std.specs.List.{AllByRecursion}
+use Rattle.addr2line_lines.specs.FunctionDetails.{HasDetail}
+use Rattle.addr2line_units.specs.declared.parses.ReadingDepth.{ReadingDepth}
+use Rattle.addr2line_units.specs.declared.parses.ReadingDepth.TheVariants as kinds
+use Rattle.addr2line_units.specs.FunctionParses.{IsReadyFor}
+use Rattle.addr2line_units.specs.KnownEntries.{AllKnown, FunctionsKnown, KnownEntries, NothingKnown, knows_at}
+
+-- all is known that a parse of functions reads of the unit of a number that isn't open, up to the
+-- first fault, and that fault too
+abbrev pub IsReadyAt : ReadingDepth → List KnownEntries → ℕ → Type 0
+IsReadyAt reads known n = IfSome (slice_get known n) (IsReadyFor reads)
+
+-- what was known of the unit of a number stays known: what a lookup asks, and all that a parse of
+-- functions reads
+pub record StaysKnownOf (n : ℕ) (old new : List KnownEntries) : Type 0 where
+  pub at : (probe : ℕ) → knows_at old probe n ≡ true → knows_at new probe n ≡ true
+  pub whole : (reads : ReadingDepth) → IsReadyAt reads old n → IsReadyAt reads new n
+
+-- the same of all units
+abbrev pub StaysKnown : List KnownEntries → List KnownEntries → Type 0
+StaysKnown old new = (n : ℕ) → StaysKnownOf n old new
+
+-- all is known that a parse of functions reads of a unit
+abbrev pub IsReadBy : ReadingDepth → KnownEntries → Type 0
+IsReadBy reads NothingKnown = ⊥
+IsReadBy reads AllKnown = ⊥
+IsReadBy kinds.Functions (FunctionsKnown t) = Unit {0}
+IsReadBy kinds.Details (FunctionsKnown t) = AllByRecursion HasDetail t.functions

@@ -1,0 +1,92 @@
+-- The units of a context as callers see them (DWARF 5, sections 3.1, 3.1.2 and 7.3.2): where
+-- references lead from them, their languages, the first answers to their loads, of which units the
+-- lines are parsed, what is known of the entries of each, how often lines were looked at, and what
+-- the last lookup of frames or of a unit has come to.
+use Rattle.std.specs.Prelude.{ℕ, Bool, ◌&&◌, ◌||◌, not, List, [], map, slice_get, Option, Some, None, Result, Ok, Err}
+use Rattle.gimli_read.specs.declared.error.Error.{Error}
+use Rattle.gimli_read.specs.Reading.{◌>>=◌}
+use Rattle.gimli.specs.Sections.{Sections}
+use Rattle.gimli.specs.Unit.{UnitRecord}
+use Rattle.addr2line_lines.specs.Location.{LineTable, Location, location_of_row}
+use Rattle.addr2line_lines.specs.References.{Scope}
+use Rattle.addr2line_units.specs.declared.frames_lookup.Faults.{Faults}
+use Rattle.addr2line_units.specs.declared.index.UnitRange.{UnitRange}
+use Rattle.addr2line_units.specs.declared.unit_row.UnitRow.{UnitRow}
+use Rattle.addr2line_units.specs.FramesLookup.{FindsNothing, Stop, Waits, asked_frames, asks_lines_of, has_many_of, main_scope, stop_along}
+use Rattle.addr2line_units.specs.KnownEntries.{KnownEntries, NothingKnown, knows_at}
+use Rattle.addr2line_units.specs.Located.{lines_of_unit}
+use Rattle.addr2line_units.specs.Parsed.{has_parsed}
+use Rattle.addr2line_units.specs.RangedUnits.{IndexedUnit, RangedUnit, has_lines, indexed_of, ranged_units, unit_ranges_from}
+use Rattle.addr2line_units.specs.UnitFrames.{FramesResult}
+use Rattle.addr2line_units.specs.UnitIndex.{sup_units}
+use Rattle.addr2line_units.specs.Views.{FirstAnswers}
+
+pub record UnitsState : Type 0 where
+  pub scope : Scope
+  pub units : List IndexedUnit
+  pub answers : FirstAnswers
+  pub parsed : List Bool
+  pub known : List KnownEntries
+  pub looks : ℕ
+  pub stop : Stop
+
+-- units as they are read, and those of the supplementary file
+abbrev pub first_state : Sections → List RangedUnit → List UnitRecord → UnitsState
+first_state d units sup = record {
+  scope = main_scope d (record {
+    units = map indexed_of units;
+    ranges = unit_ranges_from d 0 units;
+    sup_units = sup;
+  });
+  units = map indexed_of units;
+  answers = map (λ _. None) units;
+  parsed = map has_lines units;
+  known = map (λ _. NothingKnown) units;
+  looks = 0;
+  stop = FindsNothing;
+}
+
+-- the units of sections and the ranges that lead to them, or the first fault
+abbrev pub new_units : Sections → Result (UnitsState × List UnitRange) Error
+new_units d = do
+  units ← ranged_units d
+  sup ← sup_units d.sup
+  Ok (first_state d units sup, unit_ranges_from d 0 units)
+
+-- what a lookup asks the unit of a number for
+abbrev pub asked_by : Faults → ℕ → UnitsState → ℕ → FramesResult
+asked_by faults probe s = asked_frames faults s.scope s.units s.answers probe
+
+-- what a lookup comes to along ranges
+abbrev pub stop_of : Faults → ℕ → UnitsState → List UnitRange → Result Stop Error
+stop_of faults probe s ranges = stop_along (asked_by faults probe s) ranges
+
+-- the unit that a lookup waits for, if it waits for one
+abbrev pub waiting_unit : Stop → Option ℕ
+waiting_unit (Waits n) = Some n
+waiting_unit stop = None
+
+-- whether all is known that a lookup asks the unit of a number for
+abbrev pub has_all_at : ℕ → UnitsState → ℕ → Bool
+has_all_at probe s n = knows_at s.known probe n
+    && (not (asks_lines_of s.scope s.units s.answers probe n) || has_parsed s.parsed n)
+
+-- the same, and at most 16 inlined functions stand there
+abbrev pub has_few_at : ℕ → UnitsState → ℕ → Bool
+has_few_at probe s n =
+    has_all_at probe s n && not (has_many_of s.scope s.units s.answers probe n)
+
+-- the texts of the files of lines, none where these can't be read
+abbrev pub files_in : Result LineTable Error → List (List ℕ)
+files_in (Ok lines) = lines.files
+files_in (Err e) = []
+
+-- those of the lines of a unit, none where there is no unit
+abbrev pub files_of : Sections → Option IndexedUnit → List (List ℕ)
+files_of d None = []
+files_of d (Some u) = files_in (lines_of_unit d u)
+
+-- the location of a row in the lines of a unit
+abbrev pub row_location : UnitsState → UnitRow → Location
+row_location s place =
+    location_of_row (files_of s.scope.file.sections (slice_get s.units place.unit)) place.row

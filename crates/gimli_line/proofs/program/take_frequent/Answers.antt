@@ -1,0 +1,23 @@
+use Rattle.std.proofs.Common.{◌≡◌, List, ℕ, [], ◌∷◌, Err, drop, sym, subst}
+use Rattle.gimli_read.specs.Section.{Section}
+use Rattle.gimli_line.specs.Left.{rows_left}
+use Rattle.gimli_line.specs.Taking.{Passes}
+use Rattle.gimli_line.proofs.AheadLemmas.{after_refusal}
+use Rattle.gimli_line.proofs.FirstOpcode.{at}
+use Rattle.gimli_line.proofs.Passing.{skipped_is}
+use Rattle.gimli_line.proofs.program.take_frequent.Goals as goal
+
+pub returns-in_err-len-clause-at_once : goal.returns-in_err-len-clause-at_once
+returns-in_err-len-clause-at_once g c = after_refusal c.from_residual.result (λ d left.
+    let s : Section = g.R.Reader.section c.args.program.now in
+    let P : List ℕ → Type 0 = λ bytes. rows_left c.args.header.now c.args.registers.now (at s.endian bytes) ≡ Err d ∷ [] in
+    c.in_err-len.ensures.refused s.endian d (subst P (sym c.to_slice.ensures.gives) left))
+
+pub returns-clause-passes : goal.returns-clause-passes
+returns-clause-passes g c =
+    let s : Section = g.R.Reader.section c.args.program.now in
+    let h = c.args.header.now in
+    let q = c.run_frequent.new.registers in
+    let P : List ℕ → Type 0 = λ bytes. Passes g.S.RowSink.taken h c.args.registers.now (at s.endian bytes) c.args.sink.now h q (at s.endian (drop c.in_ok-len.len bytes)) c.run_frequent.new.sink in
+    let Q : Section → Type 0 = λ t. Passes g.S.RowSink.taken h c.args.registers.now s c.args.sink.now h q t c.run_frequent.new.sink in
+    subst Q (skipped_is c.in_ok-len.len s (g.R.Reader.section c.skip.new.self) _ c.in_ok-skip.ensures.gives) (subst P c.to_slice.ensures.gives (c.in_ok-len.ensures.gives s.endian))

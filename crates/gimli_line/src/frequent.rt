@@ -1,0 +1,203 @@
+//! The frequent opcodes of line programs, which are run on bytes. None of them takes memory.
+
+ghost use Rattle.std.specs.Prelude.{◌≡◌, ◌≤◌, ◌<◌, ℕ, List, [], ◌∷◌, length, drop, false, IfOk, IfSome, OnOk, OnErr, Ok, Err, pos, ◌-ℤ◌};
+ghost use Rattle.gimli_read.specs.declared.endian.RunTimeEndian.{RunTimeEndian};
+ghost use Rattle.gimli_read.specs.declared.error.Error.{Error};
+ghost use Rattle.gimli_read.specs.Leb128.{uleb128_in, sleb128_in};
+ghost use Rattle.gimli_line.specs.Left.{rows_left};
+ghost use Rattle.gimli_line.specs.Rows.{is_end};
+ghost use Rattle.gimli_line.specs.Steps.{IsRunning};
+ghost use Rattle.gimli_line.specs.Taking.{IsShort, Passes, TakesFirst, TakesOpcode};
+
+use crate::constants::{
+    DW_LNS_advance_line, DW_LNS_advance_pc, DW_LNS_const_add_pc, DW_LNS_copy, DW_LNS_negate_stmt,
+    DW_LNS_set_basic_block, DW_LNS_set_column, DW_LNS_set_epilogue_begin, DW_LNS_set_file,
+    DW_LNS_set_prologue_end,
+};
+use crate::header::LineProgramHeader;
+use crate::opcode::Opcode;
+use crate::parameters::LineParameters;
+use crate::registers::{Registers, shows};
+use crate::sink::RowSink;
+use gimli_read::Reader;
+use std::alloc::AllocError;
+
+// The most bytes of a frequent opcode.
+const FREQUENT_LEN: usize = 3;
+
+/// What taking in the opcode at the front of some bytes came to.
+#[derive(Clone, Copy)]
+pub enum Frequent {
+    /// It isn't a frequent one, or has a fault.
+    Other,
+    /// It has so many bytes, and appends no row.
+    Quiet(usize),
+    /// It has so many bytes, and appends the row that the registers show.
+    Shows(usize),
+}
+
+// An unsigned number of one byte or two, and how many bytes an opcode with it has.
+#[inline(always)]
+fn short_unsigned(first: u8, second: u8) -> Option<(u64, usize)>
+    ensures gives { IfSome result (λ x. (code : ℕ) (rest : List ℕ) →
+        uleb128_in (first ∷ second ∷ rest) ≡ Ok (x.0, drop x.1 (code ∷ first ∷ second ∷ rest))) }
+    ensures short { IfSome result (λ x. (0 < x.1) × (x.1 ≤ FREQUENT_LEN)) }
+{
+    if first < 128 {
+        return Some((u64::from(first), 2));
+    }
+    if second < 128 {
+        return Some((u64::from(first % 128) + u64::from(second) * 128, 3));
+    }
+    None
+}
+
+// A number less another one, both of few bits.
+#[inline(always)]
+fn difference(number: u64, less: u64) -> i64
+    requires number { number < 65536 }
+    requires less { less < 65536 }
+    ensures gives { result ≡ pos number -ℤ pos less }
+{
+    number as i64 - less as i64
+}
+
+// A signed number of one byte or two, and how many bytes an opcode with it has.
+#[inline(always)]
+fn short_signed(first: u8, second: u8) -> Option<(i64, usize)>
+    ensures gives { IfSome result (λ x. (code : ℕ) (rest : List ℕ) →
+        sleb128_in (first ∷ second ∷ rest) ≡ Ok (x.0, drop x.1 (code ∷ first ∷ second ∷ rest))) }
+    ensures short { IfSome result (λ x. (0 < x.1) × (x.1 ≤ FREQUENT_LEN)) }
+{
+    if first < 128 {
+        return Some((difference(u64::from(first), u64::from(first / 64) * 128), 2));
+    }
+    if second < 128 {
+        let number = u64::from(first % 128) + u64::from(second) * 128;
+        return Some((difference(number, u64::from(second / 64) * 16384), 3));
+    }
+    None
+}
+
+// Takes in an opcode of so many bytes; where it has a fault nothing changes.
+#[inline(always)]
+#[tactic(auto, unfolding(crate::specs::Steps::executed))]
+fn take_opcode(
+    parameters: &LineParameters,
+    registers: &mut Registers,
+    opcode: Opcode,
+    len: usize,
+) -> Frequent
+    requires running { IsRunning parameters.now.encoding registers.old }
+    requires no_end { is_end opcode ≡ false }
+    ensures gives { TakesOpcode parameters.now.encoding registers.old opcode len
+        result registers.new }
+    ensures running { IsRunning parameters.now.encoding registers.new }
+{
+    let mut next = *registers;
+    if next.step(parameters, opcode).is_err() {
+        return Frequent::Other;
+    }
+    *registers = next;
+    if shows(opcode) && !next.dropping {
+        return Frequent::Shows(len);
+    }
+    Frequent::Quiet(len)
+}
+
+// Takes in the opcode at the front of the bytes, if it is a frequent one.
+#[inline(always)]
+fn take_first<R: Reader>(
+    header: &LineProgramHeader<R>,
+    parameters: &LineParameters,
+    registers: &mut Registers,
+    code: u8,
+    first: u8,
+    second: u8,
+) -> Frequent
+    requires same { parameters.now.encoding ≡ header.now.line_encoding }
+    requires running { IsRunning header.now.line_encoding registers.old }
+    ensures gives { (rest : List ℕ) → TakesFirst header.now registers.old
+        (code ∷ first ∷ second ∷ rest) result registers.new }
+    ensures short { IsShort result }
+    ensures running { IsRunning header.now.line_encoding registers.new }
+{
+    // Code 0 is that of extended opcodes, also where it isn't below the base.
+    let base = parameters.encoding.opcode_base.max(1);
+    if code >= base {
+        let special = Opcode::Special(code - parameters.encoding.opcode_base);
+        return take_opcode(parameters, registers, special, 1);
+    }
+    match code {
+        DW_LNS_copy => take_opcode(parameters, registers, Opcode::Copy, 1),
+        DW_LNS_advance_pc => match short_unsigned(first, second) {
+            Some((n, len)) => take_opcode(parameters, registers, Opcode::AdvancePc(n), len),
+            None => Frequent::Other,
+        },
+        DW_LNS_advance_line => match short_signed(first, second) {
+            Some((z, len)) => take_opcode(parameters, registers, Opcode::AdvanceLine(z), len),
+            None => Frequent::Other,
+        },
+        DW_LNS_set_file => match short_unsigned(first, second) {
+            Some((n, len)) => take_opcode(parameters, registers, Opcode::SetFile(n), len),
+            None => Frequent::Other,
+        },
+        DW_LNS_set_column => match short_unsigned(first, second) {
+            Some((n, len)) => take_opcode(parameters, registers, Opcode::SetColumn(n), len),
+            None => Frequent::Other,
+        },
+        DW_LNS_negate_stmt => take_opcode(parameters, registers, Opcode::Other, 1),
+        DW_LNS_set_basic_block => take_opcode(parameters, registers, Opcode::Other, 1),
+        DW_LNS_const_add_pc => take_opcode(parameters, registers, Opcode::ConstAddPc, 1),
+        DW_LNS_set_prologue_end => take_opcode(parameters, registers, Opcode::Other, 1),
+        DW_LNS_set_epilogue_begin => take_opcode(parameters, registers, Opcode::Other, 1),
+        _ => Frequent::Other,
+    }
+}
+
+/// Takes in frequent opcodes from the front of the bytes on, up to the first that isn't one, and
+/// gives their rows to the sink; the number of their bytes. Fails only where the sink does.
+pub(crate) fn run_frequent<R: Reader, S: RowSink>(
+    header: &LineProgramHeader<R>,
+    registers: &mut Registers,
+    bytes: &[u8],
+    sink: &mut S,
+) -> Result<usize, AllocError>
+    requires running { IsRunning header.now.line_encoding registers.old }
+    ensures gives { IfOk result (λ len. (endian : RunTimeEndian) → Passes S.taken
+        header.now registers.old (record { bytes = bytes.now; endian = endian }) sink.old
+        header.now registers.new (record { bytes = drop len bytes.now; endian = endian })
+        sink.new) }
+    ensures within { IfOk result (λ len. len ≤ length bytes.now) }
+    ensures refused { OnErr result ((endian : RunTimeEndian) (e : Error) → rows_left header.now
+        registers.old (record { bytes = bytes.now; endian = endian }) ≡ Err e ∷ [] → ⊥) }
+    ensures running { OnOk result (IsRunning header.now.line_encoding registers.new) }
+{
+    // A copy, which no store to the sink can change: so its numbers stay in registers.
+    let parameters = header.parameters;
+    let mut now = *registers;
+    let mut at = 0;
+    let end = bytes.len().saturating_sub(FREQUENT_LEN - 1);
+    while at < end {
+        match take_first(
+            header,
+            &parameters,
+            &mut now,
+            bytes[at],
+            bytes[at + 1],
+            bytes[at + 2],
+        ) {
+            Frequent::Quiet(len) => at += len,
+            Frequent::Shows(len) => {
+                sink.take(now.row(false))?;
+                at += len;
+            }
+            Frequent::Other => {
+                *registers = now;
+                return Ok(at);
+            }
+        }
+    }
+    *registers = now;
+    Ok(at)
+}

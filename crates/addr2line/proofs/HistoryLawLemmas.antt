@@ -58,7 +58,7 @@ module _ (faults : Faults) (d : Sections) (m : UnitIndex) (probe : ℕ) (e : ind
   pub answers_are : (answers : FirstAnswers) (n : ℕ) (x : Option Sections) → answered d answers n x ≡ with_answer d us answers n x
   answers_are answers n x = ap (λ (r : Result UnitIndex Error). elim r [ Err f ↦ answers | Ok i ↦ with_answer d (unit_records i.units) answers n x ]) e
 
-  waits_for_listed : (answers : FirstAnswers) (n : ℕ) → lookup_stop faults d answers probe ≡ Ok (Waits n) → IsListed n (listed answers)
+  pub waits_for_listed : (answers : FirstAnswers) (n : ℕ) → lookup_stop faults d answers probe ≡ Ok (Waits n) → IsListed n (listed answers)
   waits_for_listed answers n w =
       let stop : stop_in faults d answers probe m ≡ Ok (Waits n) = sym (ap (λ r. r >>= stop_in faults d answers probe) e) ∙ w in
       (waits_listed faults (main_scope d m) m.units answers probe n (cover probe m.ranges) stop).1

@@ -7,6 +7,7 @@ pub mod LoadLemmas
 pub mod HistoryLemmas
 pub mod HistoryLawLemmas
 pub mod AnswerLawLemmas
+pub mod SkipLawLemmas
 pub mod WarmUpLemmas
 pub mod FrameLawLemmas
 pub mod SkippedLemmas

@@ -166,7 +166,7 @@ none_closed d u None = of_open (is_open d u None)
     of_open true = refl
     of_open false = refl
 
-none_after : (d : Sections) (answers : FirstAnswers) (n : ℕ) → with_none (answered d answers n None) ≡ with_none answers
+pub none_after : (d : Sections) (answers : FirstAnswers) (n : ℕ) → with_none (answered d answers n None) ≡ with_none answers
 none_after d answers n = of_index (index_units d)
   where
     some_none : Option (Option Sections) → Option (Option Sections)

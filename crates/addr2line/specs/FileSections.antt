@@ -57,8 +57,8 @@ main_section compressed file id = section_by compressed (section_name id) file
 
 -- the section of a name in a split file, if split files have it
 abbrev pub section_if : CompressedSections → ObjectFile → Option (List ℕ) → Loading Section
-section_if compressed file None = Ok no_bytes
-section_if compressed file (Some name) = section_by compressed name file
+section_if choice file None = Ok no_bytes
+section_if choice file (Some name) = section_by choice name file
 
 -- a section of a split file
 abbrev pub split_section : CompressedSections → ObjectFile → SectionId → Loading Section

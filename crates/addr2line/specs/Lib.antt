@@ -10,6 +10,7 @@ pub mod Skips
 pub mod WaitingLookups
 pub mod HistoryLaws
 pub mod AnswerLaws
+pub mod SkipLaws
 pub mod WarmUp
 pub mod FrameLaws
 pub mod SeenReplies

@@ -67,9 +67,9 @@ loaded read path sup_path = do
 
 -- the sections of the supplementary file that bytes are, none where there are no bytes
 abbrev pub sup_of_bytes : CompressedSections → Option (List ℕ) → Loading (Option SupSections)
-sup_of_bytes compressed None = Ok None
-sup_of_bytes compressed (Some bytes) =
-    as_sup (object_file_of bytes >>= sections_of_file compressed)
+sup_of_bytes choice None = Ok None
+sup_of_bytes choice (Some bytes) =
+    as_sup (object_file_of bytes >>= sections_of_file choice)
 
 -- what bytes are, and those of a supplementary file: the file, and the context of its sections
 unfoldable pub loaded_bytes : CompressedSections → List ℕ → Option (List ℕ)

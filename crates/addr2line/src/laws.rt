@@ -3,6 +3,7 @@
 ghost use Rattle.addr2line.specs.AnswerLaws.{FirstAnswersStay, WaitsForNoneAnswered};
 ghost use Rattle.addr2line.specs.FrameLaws.{HasFrameOfEach};
 ghost use Rattle.addr2line.specs.HistoryLaws.{WaitsForEachOnce};
+ghost use Rattle.addr2line.specs.SkipLaws.{SkippedGivesSame, SkippedWaitsForNone};
 ghost use Rattle.addr2line.specs.WarmUp.{FindsAllWhenWarm, LocatesWhenWarm};
 
 /// Whatever its loads are answered, a lookup waits for different units, one after another: for
@@ -17,6 +18,14 @@ pub fn waits_for_each_once()
 pub fn answers_stay()
     ensures first { FirstAnswersStay }
     ensures none { WaitsForNoneAnswered }
+{}
+
+/// Where none is the answer to each load that a lookup may wait for, in turn, the same lookup waits
+/// for none. It gives what `skip_all_loads` gives: what it gives where each unit that has no answer
+/// is answered none.
+pub fn skipped_lookups_end()
+    ensures ends { SkippedWaitsForNone }
+    ensures gives { SkippedGivesSame }
 {}
 
 /// What `find_frames` finds has one frame more than functions are inlined at the address; a

@@ -1,0 +1,124 @@
+-- Lookups of which none is answered to each load (on specs/SkipLaws.antt).
+use Rattle.std.proofs.Common.{◌≡◌, ◌≢◌, ℕ, zero, suc, ◌<◌, ◌≤◌, arith, false, List, length, Option, Some, None, Result, Ok, Err, refl, sym, ap, subst, ◌∙◌}
+use Rattle.std.proofs.lemmas.List.{length-map}
+use Rattle.gimli_read.specs.declared.error.Error.{Error}
+use Rattle.gimli_read.specs.Reading.{◌>>=◌}
+use Rattle.gimli.specs.Sections.{Sections}
+use Rattle.gimli.specs.Unit.{UnitRecord}
+use Rattle.addr2line_units.specs.declared.frames_lookup.Faults.{Faults}
+use Rattle.addr2line_units.specs.declared.frames_lookup.Faults.TheVariants.{End, PassOver}
+use Rattle.addr2line_units.specs.Cover.{cover}
+use Rattle.addr2line_units.specs.FramesLookup.{Stop, Waits, Finds, FindsNothing, is_waiting, with_answer}
+use Rattle.addr2line_units.specs.LoadLaws as laws
+use Rattle.addr2line_units.specs.UnitIndex.{UnitIndex, index_units}
+use Rattle.addr2line_units.specs.RangedUnits.{IndexedUnit, unit_records}
+use Rattle.addr2line_units.specs.Views.{FirstAnswers, SplitLoad}
+use Rattle.addr2line_units.proofs.LoadLawLemmas.{fewer_left}
+use Rattle.addr2line.proofs.HistoryLawLemmas.{answers_are, as_many, loads_are, waits_for_listed}
+use Rattle.addr2line.proofs.SkipLemmas.{decided_frames, decided_unit_of, none_after}
+use Rattle.addr2line.specs.Answers.{answered}
+use Rattle.addr2line.specs.History.{answers_given, where_waiting}
+use Rattle.addr2line.specs.Lookups.{frames_of, frames_told, loads_at, lookup_stop, stop_in, unit_of, unit_told, with_none}
+use Rattle.addr2line.specs.SkipLaws.{SkippedGivesSame, SkippedWaitsForNone}
+use Rattle.addr2line.specs.Skips.{nones, skipped_answers}
+
+module _ (faults : Faults) (d : Sections) (m : UnitIndex) (probe : ℕ) (e : index_units d ≡ Ok m) where
+  abbrev us : List UnitRecord
+  us = unit_records m.units
+
+  abbrev listed : FirstAnswers → List SplitLoad
+  listed answers = laws.loads_of d us answers (cover probe m.ranges)
+
+  -- fewer loads are listed once none is the answer to the one that a lookup waits for
+  fewer : (answers : FirstAnswers) (k : ℕ) → length us ≡ length answers → lookup_stop faults d answers probe ≡ Ok (Waits k)
+      → length (loads_at d (answered d answers k None) probe) < length (loads_at d answers probe)
+  fewer answers k many waits =
+      let now_is : loads_at d (answered d answers k None) probe ≡ listed (with_answer d us answers k None) =
+      loads_are faults d m probe e (answered d answers k None) ∙ ap listed (answers_are faults d m probe e answers k None) in
+      subst (λ l. length l < length (loads_at d answers probe)) (sym now_is)
+      (subst (λ l. length (listed (with_answer d us answers k None)) < length l) (sym (loads_are faults d m probe e answers))
+      (fewer_left d us answers k None (cover probe m.ranges) many (waits_for_listed faults d m probe e answers k waits)))
+
+  many_still : (answers : FirstAnswers) (k : ℕ) → length us ≡ length answers → length us ≡ length (answered d answers k None)
+  many_still answers k many =
+      many ∙ sym (ap (λ (a : FirstAnswers). length a) (answers_are faults d m probe e answers k None) ∙ as_many faults d m probe e answers k None)
+
+  -- so often as there are loads, and the lookup waits for none
+  ends : (n : ℕ) (answers : FirstAnswers) → length us ≡ length answers → length (loads_at d answers probe) ≤ n
+      → is_waiting (lookup_stop faults d (answers_given faults d probe answers (nones n)) probe) ≡ false
+  ends zero answers many few = by (lookup_stop faults d answers probe) refl
+    where
+      by : (s : Result Stop Error) → lookup_stop faults d answers probe ≡ s → is_waiting s ≡ false
+      by (Ok (Waits k)) q = let less = fewer answers k many q in absurd (omega (arith, few, less))
+      by (Ok (Finds k frames)) q = refl
+      by (Ok FindsNothing) q = refl
+      by (Err x) q = refl
+  ends (suc n) answers many few = by (λ k. ends n (answered d answers k None)) (lookup_stop faults d answers probe) refl
+    where
+      by : ((k : ℕ) → length us ≡ length (answered d answers k None) → length (loads_at d (answered d answers k None) probe) ≤ n
+          → is_waiting (lookup_stop faults d (answers_given faults d probe (answered d answers k None) (nones n)) probe) ≡ false)
+          → (s : Result Stop Error) → lookup_stop faults d answers probe ≡ s
+          → is_waiting (lookup_stop faults d (where_waiting (λ k. answers_given faults d probe (answered d answers k None) (nones n)) answers s) probe) ≡ false
+      by further (Ok (Waits k)) q =
+          let less = fewer answers k many q in
+          further k (many_still answers k many) (omega (arith, few, less))
+      by further (Ok (Finds k frames)) q = ap is_waiting q
+      by further (Ok FindsNothing) q = ap is_waiting q
+      by further (Err x) q = ap is_waiting q
+
+-- of units without an answer none is the answer, before and after
+none_given : (faults : Faults) (d : Sections) (probe n : ℕ) (answers : FirstAnswers)
+    → with_none (answers_given faults d probe answers (nones n)) ≡ with_none answers
+none_given faults d probe zero answers = refl
+none_given faults d probe (suc n) answers = by (λ k. none_given faults d probe n (answered d answers k None)) (lookup_stop faults d answers probe)
+  where
+    by : ((k : ℕ) → with_none (answers_given faults d probe (answered d answers k None) (nones n)) ≡ with_none (answered d answers k None))
+        → (s : Result Stop Error) → with_none (where_waiting (λ k. answers_given faults d probe (answered d answers k None) (nones n)) answers s) ≡ with_none answers
+    by further (Ok (Waits k)) = further k ∙ none_after d answers k
+    by further (Ok (Finds k frames)) = refl
+    by further (Ok FindsNothing) = refl
+    by further (Err x) = refl
+
+pub skipped_waits_for_none : SkippedWaitsForNone
+skipped_waits_for_none faults d m probe answers e many =
+    let all : length (loads_at d answers probe) ≤ length (loads_at d answers probe) = omega arith in
+    ends faults d m probe e (length (loads_at d answers probe)) answers (length-map m.units (λ (u : IndexedUnit). u.unit) ∙ many) all
+
+-- what doesn't wait gives something, or a fault
+some_frames : (s : Result Stop Error) → is_waiting s ≡ false → (s >>= λ x. Ok (frames_told x)) ≢ Ok None
+some_frames (Err x) w h = absurd cc
+some_frames (Ok (Waits k)) w h = absurd cc
+some_frames (Ok (Finds k frames)) w h = absurd cc
+some_frames (Ok FindsNothing) w h = absurd cc
+
+some_unit : (d : Sections) (answers : FirstAnswers) (m : UnitIndex) (s : Result Stop Error) → is_waiting s ≡ false → (s >>= λ x. Ok (unit_told d answers m x)) ≢ Ok None
+some_unit d answers m (Err x) w h = absurd cc
+some_unit d answers m (Ok (Waits k)) w h = absurd cc
+some_unit d answers m (Ok (Finds k frames)) w h = absurd cc
+some_unit d answers m (Ok FindsNothing) w h = absurd cc
+
+pub skipped_gives_same : SkippedGivesSame
+skipped_gives_same d m probe answers e many = (frames, unit)
+  where
+    left : Faults → FirstAnswers
+    left faults = skipped_answers faults d probe answers
+
+    same : (faults : Faults) → with_none (left faults) ≡ with_none answers
+    same faults = none_given faults d probe (length (loads_at d answers probe)) answers
+
+    ended : (faults : Faults) → is_waiting (lookup_stop faults d (left faults) probe) ≡ false
+    ended faults = skipped_waits_for_none faults d m probe answers e many
+
+    frames : frames_of d (left End) probe ≡ frames_of d (with_none answers) probe
+    frames = sym (decided_frames d (left End) probe (some_frames (lookup_stop End d (left End) probe) (ended End)))
+        ∙ ap (λ a. frames_of d a probe) (same End)
+
+    by_index : unit_of d (left PassOver) probe ≡ (stop_in PassOver d (left PassOver) probe m >>= λ x. Ok (unit_told d (left PassOver) m x))
+    by_index = ap (λ r. r >>= λ i. stop_in PassOver d (left PassOver) probe i >>= λ x. Ok (unit_told d (left PassOver) i x)) e
+
+    ended_in : is_waiting (stop_in PassOver d (left PassOver) probe m) ≡ false
+    ended_in = sym (ap (λ r. is_waiting (r >>= stop_in PassOver d (left PassOver) probe)) e) ∙ ended PassOver
+
+    unit : unit_of d (left PassOver) probe ≡ unit_of d (with_none answers) probe
+    unit = sym (decided_unit_of d (left PassOver) probe (λ h. some_unit d (left PassOver) m (stop_in PassOver d (left PassOver) probe m) ended_in (sym by_index ∙ h)))
+        ∙ ap (λ a. unit_of d a probe) (same PassOver)

@@ -1,0 +1,25 @@
+-- Laws of lookups of which none is answered to each load (on Skips and Lookups).
+use Rattle.std.specs.Prelude.{◌≡◌, ℕ, false, length, Ok}
+use Rattle.gimli.specs.Sections.{Sections}
+use Rattle.addr2line_units.specs.declared.frames_lookup.Faults.{Faults}
+use Rattle.addr2line_units.specs.declared.frames_lookup.Faults.TheVariants.{End, PassOver}
+use Rattle.addr2line_units.specs.FramesLookup.{is_waiting}
+use Rattle.addr2line_units.specs.UnitIndex.{UnitIndex, index_units}
+use Rattle.addr2line_units.specs.Views.{FirstAnswers}
+use Rattle.addr2line.specs.Lookups.{frames_of, lookup_stop, unit_of, with_none}
+use Rattle.addr2line.specs.Skips.{skipped_answers}
+
+-- once none is the answer to each load that a lookup may wait for, the same lookup waits for none
+abbrev pub SkippedWaitsForNone : Type 0
+SkippedWaitsForNone = (faults : Faults) (d : Sections) (m : UnitIndex) (probe : ℕ)
+    (answers : FirstAnswers) → index_units d ≡ Ok m → length m.units ≡ length answers
+    → is_waiting (lookup_stop faults d (skipped_answers faults d probe answers) probe) ≡ false
+
+-- what a lookup gives then is what it gives where each unit that has no answer is answered none
+abbrev pub SkippedGivesSame : Type 0
+SkippedGivesSame = (d : Sections) (m : UnitIndex) (probe : ℕ) (answers : FirstAnswers)
+    → index_units d ≡ Ok m → length m.units ≡ length answers
+    → (frames_of d (skipped_answers End d probe answers) probe
+    ≡ frames_of d (with_none answers) probe)
+    × (unit_of d (skipped_answers PassOver d probe answers) probe
+    ≡ unit_of d (with_none answers) probe)

@@ -8,9 +8,11 @@ use Rattle.gimli_read.specs.Form.{NamedValue, rest_of}
 use Rattle.gimli_read.specs.Reading.{Reading, ◌>>=◌}
 use Rattle.gimli_read.specs.Run.{Run}
 use Rattle.gimli_read.specs.Section.{Section}
-use Rattle.gimli.specs.Entries.{entries_at, entry_bytes_from}
-use Rattle.gimli.specs.Entry.{EntriesLeft, EntryCursor, EntryUnit, attributes_at, entry_abbreviation_at}
-use Rattle.gimli.specs.Items.{Entry, Item, depth_after, item_at, item_from, items_from, items_inside, next_item_at, next_offset_of, subtree_of}
+use Rattle.gimli.specs.Entries.{entry_bytes_from}
+use Rattle.gimli.specs.Entry.{EntryUnit, attributes_at}
+use Rattle.gimli.specs.Items.{Entry, Item, depth_after, items_inside, subtree_of}
+use Rattle.gimli.specs.EntryCursor.{EntriesLeft, EntryCursor, entries_at, entry_abbreviation_at, items_left, next_item_at, next_offset_of}
+use Rattle.gimli.proofs.CursorLemmas.{item_from, item_here}
 use Rattle.gimli.specs.Sections.{Sections}
 use Rattle.gimli.specs.Unit.{UnitRecord}
 use Rattle.gimli.proofs.ItemLemmas.{next_is}
@@ -18,7 +20,7 @@ use Rattle.gimli.proofs.ItemReads.{items_more}
 use Rattle.addr2line_lines.specs.declared.function.RangeAttributes.{RangeAttributes}
 use Rattle.addr2line_lines.specs.declared.picks.InlinedFunctionAddress.{InlinedFunctionAddress}
 use Rattle.addr2line_lines.specs.InlinedEntries.{InlinedAttributes, InlinedRange, inlined_attributes_of, inlined_entry, inlined_ranges, is_inlined}
-use Rattle.addr2line_lines.specs.Details.{PlacedItem, detail_at, detail_takes_memory, item_entry, inlined_gives_a_range, is_in_function, item_has_children, items_take_memory, lists_a_range, open_after, placed_items, placed_inside, with_inlined, with_inlined_entry}
+use Rattle.addr2line_lines.specs.Details.{PlacedItem, detail_at, detail_takes_memory, inlined_gives_a_range, is_in_function, item_has_children, items_take_memory, lists_a_range, open_after, placed_items, placed_inside, with_inlined, with_inlined_entry}
 use Rattle.addr2line_lines.specs.FoundItems.{FoundAround, inside_takes_memory, item_found_at, inlined_item_takes_memory, items_left_take_memory, next_takes_memory, with_item_found}
 use Rattle.addr2line_lines.specs.FoundInlined.{FoundInlined, entry_found_at, entry_lists_a_range, inlined_address, inlined_more, read_lists_a_range, with_entry_found, with_inlined_found, with_inlined_ranges}
 use Rattle.addr2line_lines.specs.FoundDetails.{abbreviation_of, detail_found_at, detail_takes_memory_at, function_takes_memory_at, is_memory_taken}
@@ -27,6 +29,7 @@ use Rattle.addr2line_lines.specs.FoundNames.{name_after}
 use Rattle.addr2line_lines.specs.Names.{name_of}
 use Rattle.addr2line_lines.specs.RangeAttributes.{attribute_ranges, gives_a_range}
 use Rattle.addr2line_lines.specs.References.{Scope}
+use Rattle.addr2line_lines.proofs.WholeEntries.{item_entry, placed_is, placed_read}
 use Rattle.addr2line_lines.proofs.DetailOrder.{AgreesDetail, closed_is, detail_agrees, listed_is, opened_is, some_left}
 use Rattle.addr2line_lines.proofs.FunctionLemmas.{or_first, or_second}
 use Rattle.addr2line_lines.proofs.FunctionMemory.{listed_well}
@@ -45,7 +48,7 @@ pushed_well d u a depth function old new e l = by_ranges (attribute_ranges d u a
 module _ (scope : Scope) (u : UnitRecord) (unit : EntryUnit) where
   -- the item of an entry whose attributes are read
   abbrev entry_item : EntryCursor → EntryCursor → Abbrev → Reading (List NamedValue) → Result (Option Item × EntryCursor) Error
-  entry_item c t a read = read >>= λ x. Ok (Some (item_at unit c (Some (record { abbreviation = a; attributes = x.0 }))), record { left = x.1; depth = t.depth })
+  entry_item c t a read = read >>= λ x. Ok (Some (item_here unit c (Some (record { abbreviation = a; attributes = x.0 }))), record { left = x.1; depth = t.depth })
 
   next_entry : (c t : EntryCursor) (a : Abbrev) → u.header.encoding ≡ unit.encoding → entry_abbreviation_at unit.abbreviations c ≡ Ok (Some a, t) → next_item_at unit c ≡ entry_item c t a (attributes_at u.header.encoding a.attributes t.left)
   next_entry c t a e h =
@@ -87,12 +90,12 @@ module _ (scope : Scope) (u : UnitRecord) (unit : EntryUnit) where
   one_takes : (c t : EntryCursor) (state : FoundAround) (x : Item) → int_lt (pos 0) c.depth ≡ true → next_item_at unit c ≡ Ok (Some x, t) → inside_takes_memory scope u unit c state ≡ (inlined_item_takes_memory scope u state x || after_takes t (with_item_found scope u state x))
   one_takes c t state x h q =
       let next = next_is unit c t x q in
-      ap (λ (r : Run Item EntryCursor). items_left_take_memory scope u state (items_inside (pos 0) c.depth r.items r.end).items) (items_more unit c t x q)
-      ∙ ap (λ (r : Run Item (Unit {0})). items_left_take_memory scope u state r.items) (one_inside scope u unit c.depth x (items_from unit t) h)
+      ap (λ (r : Run Item Section). items_left_take_memory scope u state (items_inside (pos 0) c.depth r.items r.end).items) (items_more unit c t x q)
+      ∙ ap (λ (r : Run Item (Unit {0})). items_left_take_memory scope u state r.items) (one_inside scope u unit c.depth x (items_left unit t) h)
       ∙ ap (λ (z : ℤ). inlined_item_takes_memory scope u state x || after z (with_item_found scope u state x)) (sym next.after)
     where
       after : ℤ → Result FoundAround Error → Bool
-      after z r = elim r [ Ok more ↦ items_left_take_memory scope u more (items_inside (pos 0) z (items_from unit t).items (items_from unit t).end).items | Err e ↦ false ]
+      after z r = elim r [ Ok more ↦ items_left_take_memory scope u more (items_inside (pos 0) z (items_left unit t).items (items_left unit t).end).items | Err e ↦ false ]
 
   pub inside_next : (c : EntryCursor) (state : FoundAround) → int_lt (pos 0) c.depth ≡ true → next_takes_memory scope u state (next_item_at unit c) ≡ true → inside_takes_memory scope u unit c state ≡ true
   inside_next c state h k = by_cases (next_item_at unit c) refl k
@@ -233,55 +236,52 @@ module _ (scope : Scope) (u : UnitRecord) (offset : ℕ) (found : FoundInlined) 
   pub found_takes : (x : Option Section × FoundInlined) → detail_found_at scope u offset found ≡ Ok x → detail_takes_memory scope u offset ≡ true
   found_takes x h = or_first (is_ok (detail_at scope u offset)) (taken (placed_inside scope u offset)) (ap is_ok (subst (AgreesDetail scope u offset found (detail_at scope u offset)) h (detail_agrees scope u offset found)).0)
 
-  abbrev placed_of_left : EntriesLeft → Result (Option Item × EntryCursor) Error → Result (List PlacedItem) Error
-  placed_of_left left r = r >>= λ next. item_entry offset next.0 >>= λ function. name_of scope u function.1.attributes >>= λ name. Ok (placed_items [] (subtree_of function.0 (items_from left.unit next.1)).items)
-
   abbrev takes_of_left : EntriesLeft → Result (Option Abbrev × EntryCursor) Error → Result Bool Error
   takes_of_left left r = r >>= λ code. abbreviation_of offset code.0 >>= λ a. function_takes_memory_at scope u left.unit code.1 found a
 
   -- what stands inside a function whose entry was read
-  inside_taken : (unit : EntryUnit) (x : Item) (c : EntryCursor) → x.depth ≡ pos 0 → c.depth ≡ depth_after x → inside_takes_memory scope u unit c (record { found = found; around = [] }) ≡ true → items_take_memory scope u (placed_items [] (subtree_of x (items_from unit c)).items) ≡ true
+  inside_taken : (unit : EntryUnit) (x : Item) (c : EntryCursor) → x.depth ≡ pos 0 → c.depth ≡ depth_after x → inside_takes_memory scope u unit c (record { found = found; around = [] }) ≡ true → items_take_memory scope u (placed_items [] (subtree_of x (items_left unit c)).items) ≡ true
   inside_taken unit x c d e h =
       ap (λ z. inside_of z (depth_after x)) d ∙ ap (inside_of (pos 0)) (sym e)
-      ∙ items_take scope u (items_inside (pos 0) c.depth (items_from unit c).items (items_from unit c).end).items [] found h
+      ∙ items_take scope u (items_inside (pos 0) c.depth (items_left unit c).items (items_left unit c).end).items [] found h
     where
       inside_of : ℤ → ℤ → Bool
-      inside_of z now = items_take_memory scope u (placed_items [] (items_inside z now (items_from unit c).items (items_from unit c).end).items)
+      inside_of z now = items_take_memory scope u (placed_items [] (items_inside z now (items_left unit c).items (items_left unit c).end).items)
 
-  left_taken : (s : Section) → (length s.bytes == 0) ≡ false → let left = entries_at u.header u.abbreviations s in is_memory_taken (takes_of_left left (entry_abbreviation_at left.unit.abbreviations left.cursor)) ≡ true → taken (placed_of_left left (next_item_at left.unit left.cursor)) ≡ true
-  left_taken s some h = ap (λ r. taken (placed_of_left left r)) (coded scope u left.unit left.cursor some) ∙ by_code (entry_abbreviation_at left.unit.abbreviations left.cursor) refl h
+  left_taken : (s : Section) → (length s.bytes == 0) ≡ false → let left = entries_at u.header u.abbreviations s in is_memory_taken (takes_of_left left (entry_abbreviation_at left.unit.abbreviations left.cursor)) ≡ true → taken (placed_read scope u offset left (next_item_at left.unit left.cursor)) ≡ true
+  left_taken s some h = ap (λ r. taken (placed_read scope u offset left r)) (coded scope u left.unit left.cursor some) ∙ by_code (entry_abbreviation_at left.unit.abbreviations left.cursor) refl h
     where
       left : EntriesLeft
       left = entries_at u.header u.abbreviations s
 
       by_name : (x : Item) (c : EntryCursor) → x.depth ≡ pos 0 → c.depth ≡ depth_after x → (r : Result (Option Section) Error) → is_memory_taken (r >>= λ name. Ok (inside_takes_memory scope u left.unit c (record { found = found; around = [] }))) ≡ true
-          → taken (r >>= λ name. Ok (placed_items [] (subtree_of x (items_from left.unit c)).items)) ≡ true
+          → taken (r >>= λ name. Ok (placed_items [] (subtree_of x (items_left left.unit c)).items)) ≡ true
       by_name x c d e (Ok name) h = inside_taken left.unit x c d e h
       by_name x c d e (Err f) h = absurd cc
 
       by_read : (a : Abbrev) (t : EntryCursor) → entry_abbreviation_at left.unit.abbreviations left.cursor ≡ Ok (Some a, t) → (r : Reading (List NamedValue)) → attributes_at u.header.encoding a.attributes t.left ≡ r
           → is_memory_taken (name_after scope u (Ok None) r >>= λ name. rest_of r >>= λ rest. Ok (inside_takes_memory scope u left.unit (record { left = rest; depth = t.depth }) (record { found = found; around = [] }))) ≡ true
-          → taken (placed_of_left left (◌>>=◌ {B = Option Item × EntryCursor} r (λ x. Ok (Some (item_at left.unit left.cursor (Some (record { abbreviation = a; attributes = x.0 }))), record { left = x.1; depth = t.depth })))) ≡ true
+          → taken (placed_read scope u offset left (◌>>=◌ {B = Option Item × EntryCursor} r (λ x. Ok (Some (item_here left.unit left.cursor (Some (record { abbreviation = a; attributes = x.0 }))), record { left = x.1; depth = t.depth })))) ≡ true
       by_read a t q (Err f) k h = absurd cc
       by_read a t q (Ok x) k h =
-          let item = item_at left.unit left.cursor (Some (record { abbreviation = a; attributes = x.0 })) in
+          let item = item_here left.unit left.cursor (Some (record { abbreviation = a; attributes = x.0 })) in
           let end : EntryCursor = record { left = x.1; depth = t.depth } in
           let is : next_item_at left.unit left.cursor ≡ Ok (Some item, end) = coded scope u left.unit left.cursor some ∙ ap (λ r. r >>= λ y. item_from left.unit left.cursor y) q
-          ∙ ap (λ (r : Reading (List NamedValue)). ◌>>=◌ {B = Option Item × EntryCursor} r (λ y. Ok (Some (item_at left.unit left.cursor (Some (record { abbreviation = a; attributes = y.0 }))), record { left = y.1; depth = t.depth }))) k in
+          ∙ ap (λ (r : Reading (List NamedValue)). ◌>>=◌ {B = Option Item × EntryCursor} r (λ y. Ok (Some (item_here left.unit left.cursor (Some (record { abbreviation = a; attributes = y.0 }))), record { left = y.1; depth = t.depth }))) k in
           let next = next_is left.unit left.cursor end item is in
           by_name item end refl next.after (name_of scope u x.0) h
 
-      by_code : (r : Result (Option Abbrev × EntryCursor) Error) → entry_abbreviation_at left.unit.abbreviations left.cursor ≡ r → is_memory_taken (takes_of_left left r) ≡ true → taken (placed_of_left left (r >>= λ y. item_from left.unit left.cursor y)) ≡ true
+      by_code : (r : Result (Option Abbrev × EntryCursor) Error) → entry_abbreviation_at left.unit.abbreviations left.cursor ≡ r → is_memory_taken (takes_of_left left r) ≡ true → taken (placed_read scope u offset left (r >>= λ y. item_from left.unit left.cursor y)) ≡ true
       by_code (Err f) q h = absurd cc
       by_code (Ok (None, t)) q h = absurd cc
       by_code (Ok (Some a, t)) q h = by_read a t q (attributes_at u.header.encoding a.attributes t.left) refl h
 
   -- where memory is taken inside the function, it is for its detail
   pub detail_takes : is_memory_taken (detail_takes_memory_at scope u offset found) ≡ true → detail_takes_memory scope u offset ≡ true
-  unfolding placed_inside detail_takes_memory_at
-  detail_takes h = or_second (is_ok (detail_at scope u offset)) (taken (placed_inside scope u offset)) (by_bytes (entry_bytes_from u.header (Some offset)) refl h)
+  unfolding detail_takes_memory_at
+  detail_takes h = or_second (is_ok (detail_at scope u offset)) (taken (placed_inside scope u offset)) (ap taken (placed_is scope u offset) ∙ by_bytes (entry_bytes_from u.header (Some offset)) refl h)
     where
       by_bytes : (r : Result Section Error) → entry_bytes_from u.header (Some offset) ≡ r → is_memory_taken ((r >>= λ s. Ok (entries_at u.header u.abbreviations s)) >>= λ left. takes_of_left left (entry_abbreviation_at left.unit.abbreviations left.cursor)) ≡ true
-          → taken ((r >>= λ s. Ok (entries_at u.header u.abbreviations s)) >>= λ left. placed_of_left left (next_item_at left.unit left.cursor)) ≡ true
+          → taken ((r >>= λ s. Ok (entries_at u.header u.abbreviations s)) >>= λ left. placed_read scope u offset left (next_item_at left.unit left.cursor)) ≡ true
       by_bytes (Err f) q h = absurd cc
       by_bytes (Ok s) q h = left_taken s (some_left u.header offset s q) h

@@ -13,15 +13,17 @@ use Rattle.gimli_read.specs.Form.{NamedValue, rest_of}
 use Rattle.gimli_read.specs.Reading.{Reading, ◌>>=◌}
 use Rattle.gimli_read.specs.Run.{Run, fold_run}
 use Rattle.gimli_read.specs.Section.{Section, after}
-use Rattle.gimli.specs.Entries.{entries_at, entry_bytes_from, unit_length}
-use Rattle.gimli.specs.Entry.{EntriesLeft, EntryCursor, EntryUnit, attributes_at, entry_abbreviation_at}
+use Rattle.gimli.specs.Entries.{entry_bytes_from, unit_length}
+use Rattle.gimli.specs.Entry.{EntryUnit, attributes_at}
 use Rattle.gimli.specs.Header.{UnitHeaderFields}
-use Rattle.gimli.specs.Items.{Entry, Item, depth_after, item_at, item_from, items_from, items_inside, next_item_at}
+use Rattle.gimli.specs.Items.{Entry, Item, depth_after, items_inside, subtree_of}
+use Rattle.gimli.specs.EntryCursor.{EntriesLeft, EntryCursor, entries_at, entry_abbreviation_at, items_left, next_item_at}
+use Rattle.gimli.proofs.CursorLemmas.{item_from, item_here}
 use Rattle.gimli.specs.Unit.{UnitRecord}
 use Rattle.gimli.proofs.ItemLemmas.{next_is}
 use Rattle.addr2line_lines.specs.declared.nesting.Kind.{Kind}
 use Rattle.addr2line_lines.specs.declared.nesting.Kind.TheVariants.{Inlined, Other, Subprogram}
-use Rattle.addr2line_lines.specs.Details.{Detail, detail_at, item_entry, inlined_in, is_in_function, open_after, placed_items, with_inlined}
+use Rattle.addr2line_lines.specs.Details.{Detail, detail_at, inlined_in, is_in_function, open_after, placed_items, with_inlined}
 use Rattle.addr2line_lines.specs.InlinedEntries.{InlinedAttributes, InlinedRange, inlined_attributes_of, inlined_entry, inlined_ranges, is_inlined}
 use Rattle.addr2line_lines.specs.FoundItems.{FoundAround, inside_found, with_item_found}
 use Rattle.addr2line_lines.specs.FoundInlined.{FoundInlined, inlined_more, range_among, found_ranges_from, with_entry_found, with_inlined_found}
@@ -34,6 +36,7 @@ use Rattle.addr2line_lines.specs.RangeAttributes.{attribute_ranges}
 use Rattle.addr2line_lines.specs.References.{Scope}
 use Rattle.addr2line_lines.proofs.DetailRanges.{AreFrom, more_places, more_ranges, none_from}
 use Rattle.addr2line_lines.proofs.NestingLemmas.{coded}
+use Rattle.addr2line_lines.proofs.WholeEntries.{detail_is, detail_read, item_entry}
 
 -- what the kinds of open entries tell
 abbrev kind_at : ℕ → Kind
@@ -160,9 +163,9 @@ module _ (scope : Scope) (u : UnitRecord) (before n : ℕ) where
   inlined_run found inside = fold_run (with_inlined scope u) (found_ranges_from n found) (placed_items [] inside.items) inside.end >>= λ f. Ok f.0
 
   inside_agrees : (unit : EntryUnit) (c : EntryCursor) (found : FoundInlined) → AreFrom before n found
-      → Agrees before n (inlined_run found (items_inside (pos 0) c.depth (items_from unit c).items (items_from unit c).end)) (inside_found scope u unit c (record { found = found; around = [] }))
+      → Agrees before n (inlined_run found (items_inside (pos 0) c.depth (items_left unit c).items (items_left unit c).end)) (inside_found scope u unit c (record { found = found; around = [] }))
   inside_agrees unit c found all =
-      let inside = items_inside (pos 0) c.depth (items_from unit c).items (items_from unit c).end in
+      let inside = items_inside (pos 0) c.depth (items_left unit c).items (items_left unit c).end in
       last _ _ (fold_agrees inside.items inside.end [] found all)
     where
       last : (w : Result (List InlinedRange × Unit {0}) Error) (m : Result (FoundAround × Unit {0}) Error) → AgreesEnd w m → Agrees before n (w >>= λ f. Ok f.0) (m >>= λ more. Ok more.0.found)
@@ -204,9 +207,9 @@ module _ (scope : Scope) (u : UnitRecord) (offset : ℕ) (found : FoundInlined) 
   by_inside name w (Err f) h = ap (detailed name) h
 
   -- what stands inside a function whose entry was read
-  inlined_agrees : (unit : EntryUnit) (x : Item) (c : EntryCursor) → x.depth ≡ pos 0 → c.depth ≡ depth_after x → Agrees before n (inlined_in scope u (record { unit = unit; cursor = c }) x) (inside_found scope u unit c (record { found = found; around = [] }))
+  inlined_agrees : (unit : EntryUnit) (x : Item) (c : EntryCursor) → x.depth ≡ pos 0 → c.depth ≡ depth_after x → Agrees before n (inlined_in scope u (subtree_of x (items_left unit c))) (inside_found scope u unit c (record { found = found; around = [] }))
   inlined_agrees unit x c d e =
-      let items = items_from unit c in
+      let items = items_left unit c in
       subst (λ z. Agrees before n (inlined_of [] z (depth_after x)) (inside_found scope u unit c (record { found = found; around = [] }))) (sym d)
       (subst (λ z. Agrees before n (inlined_of [] (pos 0) z) (inside_found scope u unit c (record { found = found; around = [] }))) e
       (subst (λ xs. Agrees before n (inlined_of xs (pos 0) c.depth) (inside_found scope u unit c (record { found = found; around = [] }))) (ap (λ xs. map (range_among found.entries) xs) (drop-length found.ranges))
@@ -214,52 +217,49 @@ module _ (scope : Scope) (u : UnitRecord) (offset : ℕ) (found : FoundInlined) 
     where
       inlined_of : List InlinedRange → ℤ → ℤ → Result (List InlinedRange) Error
       inlined_of xs d now =
-          let inside = items_inside d now (items_from unit c).items (items_from unit c).end in
+          let inside = items_inside d now (items_left unit c).items (items_left unit c).end in
           fold_run (with_inlined scope u) xs (placed_items [] inside.items) inside.end >>= λ f. Ok f.0
-
-  abbrev detail_read : EntriesLeft → Result (Option Item × EntryCursor) Error → Result Detail Error
-  detail_read left r = r >>= λ next. item_entry offset next.0 >>= λ function. name_of scope u function.1.attributes >>= λ name. detailed name (inlined_in scope u (record { unit = left.unit; cursor = next.1 }) function.0)
 
   abbrev found_of : EntriesLeft → Result (Option Abbrev × EntryCursor) Error → Result (Option Section × FoundInlined) Error
   found_of left r = r >>= λ code. abbreviation_of offset code.0 >>= λ a. function_found_at scope u left.unit code.1 found a
 
-  left_agrees : (s : Section) → (length s.bytes == 0) ≡ false → let left = entries_at u.header u.abbreviations s in AgreesDetail (detail_read left (next_item_at left.unit left.cursor)) (found_of left (entry_abbreviation_at left.unit.abbreviations left.cursor))
+  left_agrees : (s : Section) → (length s.bytes == 0) ≡ false → let left = entries_at u.header u.abbreviations s in AgreesDetail (detail_read scope u offset left (next_item_at left.unit left.cursor)) (found_of left (entry_abbreviation_at left.unit.abbreviations left.cursor))
   left_agrees s some =
-      subst (λ r. AgreesDetail (detail_read left r) (found_of left (entry_abbreviation_at left.unit.abbreviations left.cursor))) (sym (coded scope u left.unit left.cursor some))
+      subst (λ r. AgreesDetail (detail_read scope u offset left r) (found_of left (entry_abbreviation_at left.unit.abbreviations left.cursor))) (sym (coded scope u left.unit left.cursor some))
       (by_code (entry_abbreviation_at left.unit.abbreviations left.cursor) refl)
     where
       left : EntriesLeft
       left = entries_at u.header u.abbreviations s
 
       named_item : (x : Item) (c : EntryCursor) → x.depth ≡ pos 0 → c.depth ≡ depth_after x → (r : Result (Option Section) Error)
-          → AgreesDetail (r >>= λ name. detailed name (inlined_in scope u (record { unit = left.unit; cursor = c }) x)) (◌>>=◌ {B = Option Section × FoundInlined} r (λ name. inside_found scope u left.unit c (record { found = found; around = [] }) >>= λ more. Ok (name, more)))
+          → AgreesDetail (r >>= λ name. detailed name (inlined_in scope u (subtree_of x (items_left left.unit c)))) (◌>>=◌ {B = Option Section × FoundInlined} r (λ name. inside_found scope u left.unit c (record { found = found; around = [] }) >>= λ more. Ok (name, more)))
       named_item x c d e (Err f) = refl
       named_item x c d e (Ok name) = by_inside name _ _ (inlined_agrees left.unit x c d e)
 
       by_read : (a : Abbrev) (t : EntryCursor) → entry_abbreviation_at left.unit.abbreviations left.cursor ≡ Ok (Some a, t) → (r : Reading (List NamedValue)) → attributes_at u.header.encoding a.attributes t.left ≡ r
-          → AgreesDetail (detail_read left (◌>>=◌ {B = Option Item × EntryCursor} r (λ x. Ok (Some (item_at left.unit left.cursor (Some (record { abbreviation = a; attributes = x.0 }))), record { left = x.1; depth = t.depth }))))
+          → AgreesDetail (detail_read scope u offset left (◌>>=◌ {B = Option Item × EntryCursor} r (λ x. Ok (Some (item_here left.unit left.cursor (Some (record { abbreviation = a; attributes = x.0 }))), record { left = x.1; depth = t.depth }))))
           (name_after scope u (Ok None) r >>= λ name. rest_of r >>= λ rest. ◌>>=◌ {B = Option Section × FoundInlined} (inside_found scope u left.unit (record { left = rest; depth = t.depth }) (record { found = found; around = [] })) (λ more. Ok (name, more)))
       by_read a t q (Err f) k = refl
       by_read a t q (Ok x) k =
-          let item = item_at left.unit left.cursor (Some (record { abbreviation = a; attributes = x.0 })) in
+          let item = item_here left.unit left.cursor (Some (record { abbreviation = a; attributes = x.0 })) in
           let end : EntryCursor = record { left = x.1; depth = t.depth } in
           let is : next_item_at left.unit left.cursor ≡ Ok (Some item, end) = coded scope u left.unit left.cursor some ∙ ap (λ r. r >>= λ y. item_from left.unit left.cursor y) q
-          ∙ ap (λ (r : Reading (List NamedValue)). ◌>>=◌ {B = Option Item × EntryCursor} r (λ y. Ok (Some (item_at left.unit left.cursor (Some (record { abbreviation = a; attributes = y.0 }))), record { left = y.1; depth = t.depth }))) k in
+          ∙ ap (λ (r : Reading (List NamedValue)). ◌>>=◌ {B = Option Item × EntryCursor} r (λ y. Ok (Some (item_here left.unit left.cursor (Some (record { abbreviation = a; attributes = y.0 }))), record { left = y.1; depth = t.depth }))) k in
           let next = next_is left.unit left.cursor end item is in
           named_item item end refl next.after (name_of scope u x.0)
 
-      by_code : (r : Result (Option Abbrev × EntryCursor) Error) → entry_abbreviation_at left.unit.abbreviations left.cursor ≡ r → AgreesDetail (detail_read left (r >>= λ y. item_from left.unit left.cursor y)) (found_of left r)
+      by_code : (r : Result (Option Abbrev × EntryCursor) Error) → entry_abbreviation_at left.unit.abbreviations left.cursor ≡ r → AgreesDetail (detail_read scope u offset left (r >>= λ y. item_from left.unit left.cursor y)) (found_of left r)
       by_code (Err f) q = refl
       by_code (Ok (None, t)) q = refl
       by_code (Ok (Some a, t)) q = by_read a t q (attributes_at u.header.encoding a.attributes t.left) refl
 
   -- the details of a function are what is found of it
   pub detail_agrees : AgreesDetail (detail_at scope u offset) (detail_found_at scope u offset found)
-  unfolding detail_at detail_found_at
-  detail_agrees = by_bytes (entry_bytes_from u.header (Some offset)) refl
+  unfolding detail_found_at
+  detail_agrees = subst (λ w. AgreesDetail w (detail_found_at scope u offset found)) (sym (detail_is scope u offset)) (by_bytes (entry_bytes_from u.header (Some offset)) refl)
     where
       by_bytes : (r : Result Section Error) → entry_bytes_from u.header (Some offset) ≡ r
-          → AgreesDetail ((r >>= λ s. Ok (entries_at u.header u.abbreviations s)) >>= λ left. detail_read left (next_item_at left.unit left.cursor)) ((r >>= λ s. Ok (entries_at u.header u.abbreviations s)) >>= λ left. found_of left (entry_abbreviation_at left.unit.abbreviations left.cursor))
+          → AgreesDetail ((r >>= λ s. Ok (entries_at u.header u.abbreviations s)) >>= λ left. detail_read scope u offset left (next_item_at left.unit left.cursor)) ((r >>= λ s. Ok (entries_at u.header u.abbreviations s)) >>= λ left. found_of left (entry_abbreviation_at left.unit.abbreviations left.cursor))
       by_bytes (Err f) q = refl
       by_bytes (Ok s) q = left_agrees s (some_left u.header offset s q)
 

@@ -8,8 +8,8 @@ use Rattle.gimli_read.specs.Abbreviations.{Abbrev, Specification}
 use Rattle.gimli_read.specs.Section.{Section}
 use Rattle.gimli_read.specs.Reading.{Reading, ◌>>=◌, Exactly, ExactlyUnlessOomIf}
 use Rattle.gimli_read.specs.Form.{NamedValue, attribute_at, rest_of}
-use Rattle.gimli.specs.Entry.{EntryCursor, EntryUnit, attributes_at, entry_abbreviation_at}
-use Rattle.gimli.specs.Items.{next_offset_of}
+use Rattle.gimli.specs.Entry.{EntryUnit, attributes_at}
+use Rattle.gimli.specs.EntryCursor.{EntryCursor, entry_abbreviation_at, next_offset_of}
 use Rattle.gimli.specs.Sections.{Sections}
 use Rattle.gimli.specs.Unit.{UnitRecord}
 use Rattle.addr2line_lines.specs.declared.function.RangeAttributes.{RangeAttributes}

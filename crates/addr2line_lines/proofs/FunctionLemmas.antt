@@ -9,8 +9,10 @@ use Rattle.gimli_read.specs.Reading.{Reading, ◌>>=◌, Exactly, ExactlyUnlessO
 use Rattle.gimli_read.specs.Form.{NamedValue, rest_of}
 use Rattle.gimli_read.specs.Run.{Run, cons, fold_of, fold_run}
 use Rattle.gimli_read.proofs.SkipLemmas.{attributes_leave}
-use Rattle.gimli.specs.Entry.{EntryCursor, EntryUnit, attributes_at, entry_abbreviation_at}
-use Rattle.gimli.specs.Items.{Item, item_at, item_from, items_from, next_item_at, next_offset_of}
+use Rattle.gimli.specs.Entry.{EntryUnit, attributes_at}
+use Rattle.gimli.specs.Items.{Item}
+use Rattle.gimli.specs.EntryCursor.{EntryCursor, entry_abbreviation_at, items_left, next_item_at, next_offset_of}
+use Rattle.gimli.proofs.CursorLemmas.{item_from, item_is, item_here}
 use Rattle.gimli.specs.Sections.{Sections}
 use Rattle.gimli.specs.Unit.{UnitRecord}
 use Rattle.gimli.proofs.EntryLemmas.{abbreviation_takes}
@@ -63,8 +65,7 @@ module _ (d : Sections) (u : UnitRecord) (unit : EntryUnit) where
   found_after found r = r >>= λ x. elim x.0 [ None ↦ Ok (found, x.1) | Some item ↦ with_found d u found item >>= λ more. Ok (more, x.1) ]
 
   coded : (c : EntryCursor) → (length c.left.bytes == 0) ≡ false → next_item_at unit c ≡ (entry_abbreviation_at unit.abbreviations c >>= λ x. item_from unit c x)
-  unfolding next_item_at
-  coded c h = ap (λ b. cond b (Ok (None, c)) (entry_abbreviation_at unit.abbreviations c >>= λ x. item_from unit c x)) h
+  coded c h = item_is unit c ∙ ap (λ b. cond b (Ok (None, c)) (entry_abbreviation_at unit.abbreviations c >>= λ x. item_from unit c x)) h
 
   at_code : (c : EntryCursor) (found : FoundFunctions) (r : Result (Option Abbrev × EntryCursor) Error) → (length c.left.bytes == 0) ≡ false → entry_abbreviation_at unit.abbreviations c ≡ r → found_at d u unit c found ≡ found_after found (r >>= λ x. item_from unit c x)
   at_code c found r h k = ap (found_after found) (coded c h ∙ ap (λ s. s >>= λ x. item_from unit c x) k)
@@ -77,7 +78,7 @@ module _ (d : Sections) (u : UnitRecord) (unit : EntryUnit) where
 
   -- what is found at an entry whose attributes are read
   abbrev found_entry : EntryCursor → EntryCursor → FoundFunctions → Abbrev → Reading (List NamedValue) → Result (FoundFunctions × EntryCursor) Error
-  found_entry c t found a read = found_after found (read >>= λ x. Ok (Some (item_at unit c (Some (record { abbreviation = a; attributes = x.0 }))), record { left = x.1; depth = t.depth }))
+  found_entry c t found a read = found_after found (read >>= λ x. Ok (Some (item_here unit c (Some (record { abbreviation = a; attributes = x.0 }))), record { left = x.1; depth = t.depth }))
 
   at_entry : (c t : EntryCursor) (found : FoundFunctions) (a : Abbrev) (e : Encoding) → (length c.left.bytes == 0) ≡ false → entry_abbreviation_at unit.abbreviations c ≡ Ok (Some a, t) → e ≡ unit.encoding → found_at d u unit c found ≡ found_entry c t found a (attributes_at e a.attributes t.left)
   at_entry c t found a e h k q = at_code c found (Ok (Some a, t)) h k ∙ ap (λ f. found_entry c t found a (attributes_at f a.attributes t.left)) (sym q)
@@ -141,7 +142,7 @@ module _ (d : Sections) (u : UnitRecord) (unit : EntryUnit) where
       ap (item_has_function d u) (coded c h ∙ ap (λ s. s >>= λ x. item_from unit c x) k ∙ ap (λ f. entry_item (attributes_at f a.attributes t.left)) (sym q)) ∙ whole (attributes_at e a.attributes t.left) m
     where
       entry_item : Reading (List NamedValue) → Result (Option Item × EntryCursor) Error
-      entry_item read = read >>= λ x. Ok (Some (item_at unit c (Some (record { abbreviation = a; attributes = x.0 }))), record { left = x.1; depth = t.depth })
+      entry_item read = read >>= λ x. Ok (Some (item_here unit c (Some (record { abbreviation = a; attributes = x.0 }))), record { left = x.1; depth = t.depth })
 
       given : Result RangeAttributes Error → Bool
       given v = elim v [ Ok x ↦ gives_a_range d u x | Err f ↦ false ]
@@ -168,7 +169,7 @@ module _ (d : Sections) (u : UnitRecord) (unit : EntryUnit) where
   pub some_item : (c t : EntryCursor) → (length c.left.bytes == 0) ≡ false → next_item_at unit c ≡ Ok (None, t) → ⊥
   some_item c t h k = by_code (entry_abbreviation_at unit.abbreviations c) (sym (coded c h) ∙ k)
     where
-      by_values : (r : Reading (List NamedValue)) (a : Abbrev) (z : EntryCursor) → ◌≡◌ {A = Result (Option Item × EntryCursor) Error} (r >>= λ x. Ok (Some (item_at unit c (Some (record { abbreviation = a; attributes = x.0 }))), record { left = x.1; depth = z.depth })) (Ok (None, t)) → ⊥
+      by_values : (r : Reading (List NamedValue)) (a : Abbrev) (z : EntryCursor) → ◌≡◌ {A = Result (Option Item × EntryCursor) Error} (r >>= λ x. Ok (Some (item_here unit c (Some (record { abbreviation = a; attributes = x.0 }))), record { left = x.1; depth = z.depth })) (Ok (None, t)) → ⊥
       by_values (Ok x) a z e = let no = ap gives_item e in absurd cc
       by_values (Err f) a z e = absurd cc
 
@@ -178,14 +179,14 @@ module _ (d : Sections) (u : UnitRecord) (unit : EntryUnit) where
       by_code (Err f) e = absurd cc
 
   -- what is found of a run of items
-  abbrev found_run : FoundFunctions → Run Item EntryCursor → Result FoundFunctions Error
+  abbrev found_run : FoundFunctions → Run Item Section → Result FoundFunctions Error
   found_run found items = fold_of (with_found d u) found items >>= λ more. Ok more.0
 
   pub found_end : (c : EntryCursor) (found : FoundFunctions) → (length c.left.bytes == 0) ≡ true → found_from d u unit c found ≡ Ok found
-  unfolding next_item_at fold_run
-  found_end c found h = ap (found_run found) (items_end unit c c (ap (λ b. cond b (Ok (None, c)) (entry_abbreviation_at unit.abbreviations c >>= λ x. item_from unit c x)) h))
+  unfolding fold_run
+  found_end c found h = ap (found_run found) (items_end unit c c (item_is unit c ∙ ap (λ b. cond b (Ok (None, c)) (entry_abbreviation_at unit.abbreviations c >>= λ x. item_from unit c x)) h))
 
-  pub one_found : (r : Result FoundFunctions Error) (items : Run Item EntryCursor) (more : FoundFunctions) (s t : EntryCursor) → ending t r ≡ Ok (more, s) → (r ≡ Ok more) × (t ≡ s)
+  pub one_found : (r : Result FoundFunctions Error) (items : Run Item Section) (more : FoundFunctions) (s t : EntryCursor) → ending t r ≡ Ok (more, s) → (r ≡ Ok more) × (t ≡ s)
   one_found (Ok v) items more s t e = let p : ◌≡◌ {A = FoundFunctions × EntryCursor} (v, t) (more, s) = cc in (ap Ok (ap (λ x. x.0) p), ap (λ x. x.1) p)
   one_found (Err f) items more s t e = absurd cc
 
@@ -193,7 +194,7 @@ module _ (d : Sections) (u : UnitRecord) (unit : EntryUnit) where
   none_one (Ok v) t e h = absurd cc
   none_one (Err f) t e h = let same : f ≡ e = cc in ap Err same
 
-  found_with : (found : FoundFunctions) (x : Item) (items : Run Item EntryCursor) → found_run found (cons x items) ≡ (with_found d u found x >>= λ more. found_run more items)
+  found_with : (found : FoundFunctions) (x : Item) (items : Run Item Section) → found_run found (cons x items) ≡ (with_found d u found x >>= λ more. found_run more items)
   unfolding fold_run
   found_with found x items = nested (with_found d u found x)
     where
@@ -208,9 +209,9 @@ module _ (d : Sections) (u : UnitRecord) (unit : EntryUnit) where
       by_cases (Err e) q k = absurd cc
       by_cases (Ok (None, t)) q k = absurd (some_item c t h q)
       by_cases (Ok (Some x, t)) q k =
-          let one = one_found (with_found d u found x) (items_from unit t) more s t k in
-          ap (found_run found) (items_more unit c t x q) ∙ found_with found x (items_from unit t)
-          ∙ ap (λ r. r >>= λ v. found_run v (items_from unit t)) one.0 ∙ ap (λ v. found_run more (items_from unit v)) one.1
+          let one = one_found (with_found d u found x) (items_left unit t) more s t k in
+          ap (found_run found) (items_more unit c t x q) ∙ found_with found x (items_left unit t)
+          ∙ ap (λ r. r >>= λ v. found_run v (items_left unit t)) one.0 ∙ ap (λ v. found_run more (items_left unit v)) one.1
 
   pub found_fault : (c : EntryCursor) (found : FoundFunctions) (e : Error) → (length c.left.bytes == 0) ≡ false → found_at d u unit c found ≡ Err e → found_from d u unit c found ≡ Err e
   unfolding fold_run
@@ -220,8 +221,8 @@ module _ (d : Sections) (u : UnitRecord) (unit : EntryUnit) where
       by_cases (Err f) q k = let same : f ≡ e = cc in ap (found_run found) (items_fault unit c f q) ∙ ap Err same
       by_cases (Ok (None, t)) q k = absurd (some_item c t h q)
       by_cases (Ok (Some x, t)) q k =
-          ap (found_run found) (items_more unit c t x q) ∙ found_with found x (items_from unit t)
-          ∙ ap (λ r. r >>= λ v. found_run v (items_from unit t)) (none_one (with_found d u found x) t e k)
+          ap (found_run found) (items_more unit c t x q) ∙ found_with found x (items_left unit t)
+          ∙ ap (λ r. r >>= λ v. found_run v (items_left unit t)) (none_one (with_found d u found x) t e k)
 
 -- the function of an entry, by the ranges of its attributes
 module _ (d : Sections) (u : UnitRecord) (attributes : RangeAttributes) (offset function : ℕ) (found : FoundFunctions) where

@@ -5,8 +5,10 @@ use Rattle.gimli_read.specs.declared.error.Error.{Error}
 use Rattle.gimli_read.specs.declared.range.Range.{Range}
 use Rattle.gimli_read.specs.Reading.{◌>>=◌}
 use Rattle.gimli_read.specs.Run.{Run, fold_run}
-use Rattle.gimli.specs.Entry.{EntryCursor, EntryUnit}
-use Rattle.gimli.specs.Items.{Entry, Item, items_from, items_of, next_item_at}
+use Rattle.gimli_read.specs.Section.{Section}
+use Rattle.gimli.specs.Entry.{EntryUnit}
+use Rattle.gimli.specs.Items.{Entry, Item, items_of}
+use Rattle.gimli.specs.EntryCursor.{EntryCursor, items_left, next_item_at}
 use Rattle.gimli.specs.Sections.{Sections}
 use Rattle.gimli.specs.Unit.{UnitRecord}
 use Rattle.gimli.proofs.ItemReads.{items_more}
@@ -57,26 +59,26 @@ module _ (d : Sections) (u : UnitRecord) where
 
 module _ (d : Sections) (u : UnitRecord) (unit : EntryUnit) where
   -- where the items that are left have a function, so have those before
-  pub have_step : (c s : EntryCursor) (found more : FoundFunctions) → (length c.left.bytes == 0) ≡ false → found_at d u unit c found ≡ Ok (more, s) → have_function d u (items_from unit s).items ≡ true → have_function d u (items_from unit c).items ≡ true
+  pub have_step : (c s : EntryCursor) (found more : FoundFunctions) → (length c.left.bytes == 0) ≡ false → found_at d u unit c found ≡ Ok (more, s) → have_function d u (items_left unit s).items ≡ true → have_function d u (items_left unit c).items ≡ true
   have_step c s found more h k left = by_cases (next_item_at unit c) refl k
     where
-      by_cases : (r : Result (Option Item × EntryCursor) Error) → next_item_at unit c ≡ r → found_after d u unit found r ≡ Ok (more, s) → have_function d u (items_from unit c).items ≡ true
+      by_cases : (r : Result (Option Item × EntryCursor) Error) → next_item_at unit c ≡ r → found_after d u unit found r ≡ Ok (more, s) → have_function d u (items_left unit c).items ≡ true
       by_cases (Err e) q k = absurd cc
       by_cases (Ok (None, t)) q k = absurd (some_item d u unit c t h q)
       by_cases (Ok (Some x, t)) q k =
-          let one = one_found d u unit (with_found d u found x) (items_from unit t) more s t k in
-          ap (λ (r : Run Item EntryCursor). have_function d u r.items) (items_more unit c t x q)
-          ∙ have_rest d u found more x (items_from unit t).items one.0 (ap (λ v. have_function d u (items_from unit v).items) one.1 ∙ left)
+          let one = one_found d u unit (with_found d u found x) (items_left unit t) more s t k in
+          ap (λ (r : Run Item Section). have_function d u r.items) (items_more unit c t x q)
+          ∙ have_rest d u found more x (items_left unit t).items one.0 (ap (λ v. have_function d u (items_left unit v).items) one.1 ∙ left)
 
-  pub have_next : (shares : Bool) (c : EntryCursor) → item_takes_memory shares d u unit c ≡ true → (shares || have_function d u (items_from unit c).items) ≡ true
-  have_next shares c e = or_more shares (item_has_function d u (next_item_at unit c)) (have_function d u (items_from unit c).items) (by_cases (next_item_at unit c) refl) e
+  pub have_next : (shares : Bool) (c : EntryCursor) → item_takes_memory shares d u unit c ≡ true → (shares || have_function d u (items_left unit c).items) ≡ true
+  have_next shares c e = or_more shares (item_has_function d u (next_item_at unit c)) (have_function d u (items_left unit c).items) (by_cases (next_item_at unit c) refl) e
     where
-      by_cases : (r : Result (Option Item × EntryCursor) Error) → next_item_at unit c ≡ r → item_has_function d u r ≡ true → have_function d u (items_from unit c).items ≡ true
+      by_cases : (r : Result (Option Item × EntryCursor) Error) → next_item_at unit c ≡ r → item_has_function d u r ≡ true → have_function d u (items_left unit c).items ≡ true
       by_cases (Err e) q k = absurd cc
       by_cases (Ok (None, t)) q k = absurd cc
       by_cases (Ok (Some x, t)) q k =
-          ap (λ (r : Run Item EntryCursor). have_function d u r.items) (items_more unit c t x q)
-          ∙ or_first (has_function d u x) (is_ok (with_function d u [] x) && have_function d u (items_from unit t).items) k
+          ap (λ (r : Run Item Section). have_function d u r.items) (items_more unit c t x q)
+          ∙ or_first (has_function d u x) (is_ok (with_function d u [] x) && have_function d u (items_left unit t).items) k
 
 -- ranges that are pushed
 module _ (d : Sections) (u : UnitRecord) where
@@ -118,9 +120,9 @@ module _ (d : Sections) (u : UnitRecord) where
       by_entry None h = let same : found ≡ more = cc in inl (subst (λ (f : FoundFunctions). 0 < length f.addresses) (sym same) l)
       by_entry (Some a) h = by_test a (is_subprogram a.abbreviation) h
 
-  fold_has : (items : List Item) (end : Result EntryCursor Error) (found m : FoundFunctions) (z : EntryCursor) → fold_run (with_found d u) found items end ≡ Ok (m, z) → 0 < length m.addresses → (0 < length found.addresses) ⊎ (have_function d u items ≡ true)
+  fold_has : (items : List Item) (end : Result Section Error) (found m : FoundFunctions) (z : Section) → fold_run (with_found d u) found items end ≡ Ok (m, z) → 0 < length m.addresses → (0 < length found.addresses) ⊎ (have_function d u items ≡ true)
   unfolding fold_run
-  fold_has [] (Ok y) found m z e l = let p : ◌≡◌ {A = FoundFunctions × EntryCursor} (found, y) (m, z) = cc in inl (subst (λ (f : FoundFunctions). 0 < length f.addresses) (sym (ap (λ x. x.0) p)) l)
+  fold_has [] (Ok y) found m z e l = let p : ◌≡◌ {A = FoundFunctions × Section} (found, y) (m, z) = cc in inl (subst (λ (f : FoundFunctions). 0 < length f.addresses) (sym (ap (λ x. x.0) p)) l)
   fold_has [] (Err f) found m z e l = absurd cc
   fold_has (x ∷ xs) end found m z e l = by_step (with_found d u found x) refl e (λ more k. fold_has xs end more m z k l)
     where
@@ -136,7 +138,7 @@ module _ (d : Sections) (u : UnitRecord) where
   pub found_has : (found : FoundFunctions) → found_in d u ≡ Ok found → nat_lt 0 (length found.addresses) ≡ true → have_function d u (items_of u).items ≡ true
   found_has found e l = by_fold (fold_run (with_found d u) none_found (items_of u).items (items_of u).end) refl e
     where
-      by_fold : (r : Result (FoundFunctions × EntryCursor) Error) → fold_run (with_found d u) none_found (items_of u).items (items_of u).end ≡ r → (r >>= λ more. Ok more.0) ≡ Ok found → have_function d u (items_of u).items ≡ true
+      by_fold : (r : Result (FoundFunctions × Section) Error) → fold_run (with_found d u) none_found (items_of u).items (items_of u).end ≡ r → (r >>= λ more. Ok more.0) ≡ Ok found → have_function d u (items_of u).items ≡ true
       by_fold (Ok p) q f =
           let same : p.0 ≡ found = cc in
           let some : 0 < length found.addresses = grind (arith, nat_tests) in

@@ -1,5 +1,5 @@
 -- The places of functions are in the order of their entries (on specs/FoundFunctions.antt).
-use Rattle.std.proofs.Common.{◌≡◌, ℕ, ◌+◌, ◌<◌, ◌≤◌, Bool, true, false, cond, nat_lt, List, [], ◌∷◌, ◌++◌, map, length, slice_index_or, Option, Some, None, Result, Ok, Err, refl, ap, sym, subst, ◌∙◌, arith, inl, inr, length-append, append-nil, zero, suc, ℤ}
+use Rattle.std.proofs.Common.{◌≡◌, ℕ, ◌+◌, ◌<◌, ◌≤◌, Bool, true, false, cond, nat_lt, List, [], ◌∷◌, ◌++◌, map, length, slice_index_or, Option, Some, None, Result, Ok, Err, refl, ap, sym, subst, ◌∙◌, arith, inl, inr, length-append, append-nil, zero, suc, ℤ, pos}
 use Rattle.std.specs.List.{All}
 use Rattle.std.specs.Option.{option_map}
 use Rattle.std.proofs.lemmas.Bool.Decides.{nat_tests}
@@ -12,9 +12,10 @@ use Rattle.gimli_read.specs.declared.range.Range.{Range}
 use Rattle.gimli_read.specs.declared.value.UnitOffset.{UnitOffset}
 use Rattle.gimli_read.specs.Reading.{◌>>=◌}
 use Rattle.gimli_read.specs.Run.{fold_run}
-use Rattle.gimli.specs.Entry.{EntryCursor, EntryUnit}
-use Rattle.gimli.specs.Entries.{entries_at}
-use Rattle.gimli.specs.Items.{Entry, Item, depth_after, items_of, next_offset_of}
+use Rattle.gimli_read.specs.Section.{Section}
+use Rattle.gimli.specs.Entry.{EntryUnit}
+use Rattle.gimli.specs.Entries.{entry_unit}
+use Rattle.gimli.specs.Items.{Entry, Item, depth_after, items_of, offset_of}
 use Rattle.gimli.specs.ItemLaws.{AreItems, IsEntryText}
 use Rattle.gimli.specs.Sections.{Sections}
 use Rattle.gimli.specs.Unit.{UnitRecord}
@@ -84,7 +85,7 @@ abbrev pub Agrees : Result (List FunctionRange) Error → Result FoundFunctions 
 Agrees w (Ok more) = (w ≡ Ok (ranges_found more)) × AreInPlace more
 Agrees w (Err e) = w ≡ Err e
 
-abbrev AgreesEnd : Result (List FunctionRange × EntryCursor) Error → Result (FoundFunctions × EntryCursor) Error → Type 0
+abbrev AgreesEnd : Result (List FunctionRange × Section) Error → Result (FoundFunctions × Section) Error → Type 0
 AgreesEnd w (Ok m) = (w ≡ Ok (ranges_found m.0, m.1)) × AreInPlace m.0
 AgreesEnd w (Err e) = w ≡ Err e
 
@@ -169,7 +170,7 @@ module _ (d : Sections) (u : UnitRecord) where
       by_test true = by_attributes (range_attributes_of d u e.attributes)
       by_test false = (refl, all)
 
-  fold_agrees : (items : List Item) (end : Result EntryCursor Error) (found : FoundFunctions) → AreInPlace found → AgreesEnd (fold_run (with_function d u) (ranges_found found) items end) (fold_run (with_found d u) found items end)
+  fold_agrees : (items : List Item) (end : Result Section Error) (found : FoundFunctions) → AreInPlace found → AgreesEnd (fold_run (with_function d u) (ranges_found found) items end) (fold_run (with_found d u) found items end)
   unfolding fold_run
   fold_agrees [] (Ok z) found all = (refl, all)
   fold_agrees [] (Err e) found all = refl
@@ -181,7 +182,7 @@ module _ (d : Sections) (u : UnitRecord) where
       by_step w (Ok more) h rest = subst (λ v. AgreesEnd (v >>= λ b. fold_run (with_function d u) b xs end) (fold_run (with_found d u) more xs end)) (sym h.0) (rest more h.1)
       by_step w (Err e) h rest = ap (λ v. v >>= λ b. fold_run (with_function d u) b xs end) h
 
-  last_agrees : (w : Result (List FunctionRange × EntryCursor) Error) (m : Result (FoundFunctions × EntryCursor) Error) → AgreesEnd w m → Agrees (w >>= λ f. Ok f.0) (m >>= λ more. Ok more.0)
+  last_agrees : (w : Result (List FunctionRange × Section) Error) (m : Result (FoundFunctions × Section) Error) → AgreesEnd w m → Agrees (w >>= λ f. Ok f.0) (m >>= λ more. Ok more.0)
   last_agrees w (Ok p) h = (ap (λ r. r >>= λ f. Ok f.0) h.0, h.1)
   last_agrees w (Err e) h = ap (λ r. r >>= λ f. Ok f.0) h
 
@@ -207,11 +208,11 @@ module _ (d : Sections) (u : UnitRecord) where
       by_test true e = by_attributes (range_attributes_of d u x.attributes) e
       by_test false e = let same : found ≡ more = cc in subst (λ (f : FoundFunctions). AreFoundBelow f n) same (found_below_more found offset n [] h l)
 
-  below_fold : (unit : EntryUnit) (order : RunTimeEndian) (offset : ℕ) (depth : ℤ) (items : List Item) (bytes : List ℕ) (end : Result EntryCursor Error) (found : FoundFunctions) → AreItems unit order offset depth items bytes → AreFoundBelow found offset
-      → (m : FoundFunctions) (z : EntryCursor) → fold_run (with_found d u) found items end ≡ Ok (m, z) → (n : ℕ) × AreFoundBelow m n
+  below_fold : (unit : EntryUnit) (order : RunTimeEndian) (offset : ℕ) (depth : ℤ) (items : List Item) (bytes : List ℕ) (end : Result Section Error) (found : FoundFunctions) → AreItems unit order offset depth items bytes → AreFoundBelow found offset
+      → (m : FoundFunctions) (z : Section) → fold_run (with_found d u) found items end ≡ Ok (m, z) → (n : ℕ) × AreFoundBelow m n
   unfolding fold_run
   below_fold unit order offset depth [] bytes (Ok y) found h b m z e =
-      let p : ◌≡◌ {A = FoundFunctions × EntryCursor} (found, y) (m, z) = cc in
+      let p : ◌≡◌ {A = FoundFunctions × Section} (found, y) (m, z) = cc in
       (offset, subst (λ (f : FoundFunctions). AreFoundBelow f offset) (ap (λ x. x.0) p) b)
   below_fold unit order offset depth [] bytes (Err f) found h b m z e = absurd cc
   below_fold unit order offset depth (x ∷ xs) bytes end found h b m z e = by_step (with_found d u found x) refl e (λ more c. below_fold unit order (offset + length h.0) (depth_after x) xs h.1 end more h.6 c m z)
@@ -225,9 +226,9 @@ module _ (d : Sections) (u : UnitRecord) where
           rest more c e
       by_step (Err f) q e rest = absurd cc
 
-  fold_end : (items : List Item) (end : Result EntryCursor Error) (found m : FoundFunctions) (z : EntryCursor) → fold_run (with_found d u) found items end ≡ Ok (m, z) → end ≡ Ok z
+  fold_end : (items : List Item) (end : Result Section Error) (found m : FoundFunctions) (z : Section) → fold_run (with_found d u) found items end ≡ Ok (m, z) → end ≡ Ok z
   unfolding fold_run
-  fold_end [] (Ok y) found m z e = let p : ◌≡◌ {A = FoundFunctions × EntryCursor} (found, y) (m, z) = cc in ap Ok (ap (λ x. x.1) p)
+  fold_end [] (Ok y) found m z e = let p : ◌≡◌ {A = FoundFunctions × Section} (found, y) (m, z) = cc in ap Ok (ap (λ x. x.1) p)
   fold_end [] (Err f) found m z e = absurd cc
   fold_end (x ∷ xs) end found m z e = by_step (with_found d u found x) e (λ more. fold_end xs end more m z)
     where
@@ -239,12 +240,13 @@ module _ (d : Sections) (u : UnitRecord) where
   pub are_functions : (found : FoundFunctions) → found_in d u ≡ Ok found → AreFunctions found.offsets found.addresses
   are_functions found e = by_fold (fold_run (with_found d u) none_found (items_of u).items (items_of u).end) refl e
     where
-      by_fold : (r : Result (FoundFunctions × EntryCursor) Error) → fold_run (with_found d u) none_found (items_of u).items (items_of u).end ≡ r → (r >>= λ more. Ok more.0) ≡ Ok found → AreFunctions found.offsets found.addresses
+      by_fold : (r : Result (FoundFunctions × Section) Error) → fold_run (with_found d u) none_found (items_of u).items (items_of u).end ≡ r → (r >>= λ more. Ok more.0) ≡ Ok found → AreFunctions found.offsets found.addresses
       by_fold (Ok p) q f =
           let same : p.0 ≡ found = cc in
-          let left = entries_at u.header u.abbreviations u.header.entries in
-          let cover = items_cover left.unit left.cursor p.1 (omega arith) (fold_end (items_of u).items (items_of u).end none_found p.0 p.1 q) in
-          let b = below_fold left.unit left.cursor.left.endian (next_offset_of left.unit left.cursor) left.cursor.depth (items_of u).items left.cursor.left.bytes (items_of u).end none_found cover
+          let unit = entry_unit u.header u.abbreviations in
+          let left = u.header.entries in
+          let cover = items_cover unit (pos 0) left p.1 (omega arith) (fold_end (items_of u).items (items_of u).end none_found p.0 p.1 q) in
+          let b = below_fold unit left.endian (offset_of unit left) (pos 0) (items_of u).items left.bytes (items_of u).end none_found cover
           (record { below = record { below = λ k o l. absurd (omega arith); rising = λ i j o l m. absurd (omega arith) }; places = λ k a l. absurd (omega arith); listed = refl }) p.0 p.1 q in
           let all = subst (λ (f : FoundFunctions). AreFoundBelow f b.0) same b.1 in
           record { places = all.places; rising = all.below.rising; listed = all.listed }

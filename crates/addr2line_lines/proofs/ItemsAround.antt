@@ -8,26 +8,26 @@ use Rattle.std.proofs.lemmas.Bool.Decides.{nat_tests}
 use Rattle.std.proofs.lemmas.List.Sums.{length-filter}
 use Rattle.std.proofs.lemmas.List.Elements.{All-append, All-from_recursion, All-map}
 use Rattle.gimli_read.specs.declared.error.Error.{Error}
-use Rattle.gimli_read.specs.declared.error.Error.TheVariants.{OffsetOutOfBounds, UnexpectedEof}
+use Rattle.gimli_read.specs.declared.error.Error.TheVariants.{NoEntryAtGivenOffset, OffsetOutOfBounds, UnexpectedEof}
 use Rattle.gimli_read.specs.declared.range.Range.{Range}
 use Rattle.gimli_read.specs.Abbreviations.{Abbrev}
-use Rattle.gimli_read.specs.Reading.{◌>>=◌}
-use Rattle.gimli_read.specs.Run.{Run, cons, continued, fold_run, next_of, run_within}
+use Rattle.gimli_read.specs.Reading.{Reading, ◌>>=◌}
+use Rattle.gimli_read.specs.Run.{Run, cons, fold_run}
 use Rattle.gimli_read.specs.Section.{Section, after as section_after}
 use Rattle.gimli_read.proofs.Steps.{bind_ok, same_value}
-use Rattle.gimli.specs.Entries.{entries_at, entries_from, entry_bytes_from, unit_length}
-use Rattle.gimli.specs.Entry.{EntriesLeft, EntryCursor, EntryUnit}
-use Rattle.gimli.specs.Items.{Entry, Item, depth_after, depth_behind, items_from, items_inside, next_item_at, next_offset_of, subtree_of}
+use Rattle.gimli.specs.Entries.{entry_bytes_from, entry_unit, unit_length}
+use Rattle.gimli.specs.Entry.{EntryUnit}
+use Rattle.gimli.specs.Items.{Entry, Item, depth_after, depth_behind, item_at, items_after, items_at, items_from, items_inside, items_within, offset_of, subtree_of}
 use Rattle.gimli.specs.Unit.{UnitRecord}
-use Rattle.gimli.proofs.ItemTexts.{text_is}
-use Rattle.gimli.proofs.ItemLemmas.{run}
-use Rattle.addr2line_lines.specs.Details.{Detail, PlacedItem, detail_at, item_entry, inlined_in, is_in_function, open_after, placed_items, with_inlined, with_inlined_entry}
+use Rattle.gimli.proofs.ItemTexts.{item_text}
+use Rattle.addr2line_lines.specs.Details.{Detail, PlacedItem, WholeEntry, detail_at, first_whole, inlined_in, is_in_function, open_after, placed_items, whole_entry_at, with_inlined, with_inlined_entry}
 use Rattle.addr2line_lines.specs.InlinedEntries.{InlinedRange, inlined_attributes_of, inlined_entry, inlined_ranges, is_inlined}
 use Rattle.addr2line_lines.specs.ItemsAround.{DepthsAreNumbers, InsideIsRead, OpenAreAround, abbreviations_of, have_item, inlined_depth, is_inlined_item, items_around, items_inside_at, nearest_inlined}
 use Rattle.addr2line_lines.specs.Names.{name_of}
 use Rattle.addr2line_lines.specs.RangeAttributes.{attribute_ranges}
 use Rattle.addr2line_lines.specs.References.{Scope}
 use Rattle.addr2line_lines.proofs.FunctionOrder.{text_some}
+use Rattle.addr2line_lines.proofs.WholeEntries.{detail_of}
 
 -- items one after another: each lies at the depth after the one before, and begins after it
 abbrev pub IsWalk : ℕ → ℤ → List Item → Type 0
@@ -295,89 +295,84 @@ unfolding opened_after
 all_placed low now items w = placed_from low now items [] items [] w refl refl tt
 
 -- the items that are read of a unit are a walk
-walk_within : (unit : EntryUnit) (n : ℕ) (c : EntryCursor) → length c.left.bytes ≤ unit.length → IsWalk (next_offset_of unit c) c.depth (run unit n c).items
-unfolding run_within
-walk_within unit zero c l = tt
-walk_within unit (suc n) c l = at (walk_within unit n) (next_item_at unit c) refl
+walk_within : (unit : EntryUnit) (n : ℕ) (depth : ℤ) (s : Section) → length s.bytes ≤ unit.length → IsWalk (offset_of unit s) depth (items_within unit n depth s).items
+unfolding items_within
+walk_within unit zero depth s l = tt
+walk_within unit (suc n) depth s l = at (walk_within unit n) (item_at unit depth s) refl
   where
     lower : (m k : ℕ) (now : ℤ) (xs : List Item) → m ≤ k → IsWalk k now xs → IsWalk m now xs
     lower m k now [] l w = tt
     lower m k now (x ∷ xs) l w = ((let h = w.0 in omega arith), w.1, w.2)
 
-    at : ((d : EntryCursor) → length d.left.bytes ≤ unit.length → IsWalk (next_offset_of unit d) d.depth (run unit n d).items)
-        → (r : Result (Option Item × EntryCursor) Error) → next_item_at unit c ≡ r → IsWalk (next_offset_of unit c) c.depth (continued (run unit n) (next_of r)).items
+    at : ((z : ℤ) (rest : Section) → length rest.bytes ≤ unit.length → IsWalk (offset_of unit rest) z (items_within unit n z rest).items)
+        → (r : Reading (Option Item)) → item_at unit depth s ≡ r → IsWalk (offset_of unit s) depth (items_after (items_within unit n) r).items
     at ih (Err e) h = tt
-    at ih (Ok (None, d)) h = tt
-    at ih (Ok (Some x, d)) h =
-        let t = text_is unit c d x h in
-        let some = text_some unit c.left.endian x.entry t.text t.is in
-        let whole : length c.left.bytes ≡ length (t.text ++ d.left.bytes) = ap (λ (u : Section). length u.bytes) t.rest in
-        let long = length-append t.text d.left.bytes in
+    at ih (Ok (None, rest)) h = tt
+    at ih (Ok (Some x, rest)) h =
+        let t = item_text unit depth s rest x h in
+        let some = text_some unit s.endian x.entry t.text t.is in
+        let whole : length s.bytes ≡ length (t.text ++ rest.bytes) = ap (λ (u : Section). length u.bytes) t.rest in
+        let long = length-append t.text rest.bytes in
         let begins = t.offset in
-        let left : length d.left.bytes ≤ unit.length = omega arith in
-        let next : x.offset + 1 ≤ next_offset_of unit d = omega arith in
-        (omega arith, t.depth, lower (x.offset + 1) (next_offset_of unit d) (depth_after x) (run unit n d).items next (subst (λ z. IsWalk (next_offset_of unit d) z (run unit n d).items) t.after (ih d left)))
-
--- the items inside an entry, and what is read up to them
-record IsReadInside (u : UnitRecord) (offset : ℕ) (items : List Item) : Type 0 where
-  left : EntriesLeft
-  from : entries_from u (Some offset) ≡ Ok left
-  next : Option Item × EntryCursor
-  read : next_item_at left.unit left.cursor ≡ Ok next
-  entry : Item × Entry
-  is : item_entry offset next.0 ≡ Ok entry
-  items_are : (subtree_of entry.0 (items_from left.unit next.1)).items ≡ items
-
-read_inside : (u : UnitRecord) (offset : ℕ) (items : List Item) → items_inside_at u offset ≡ Ok items → IsReadInside u offset items
-read_inside u offset items h =
-    let a = bind_ok (entries_from u (Some offset)) (λ left. next_item_at left.unit left.cursor >>= λ next. item_entry offset next.0 >>= λ entry. Ok (subtree_of entry.0 (items_from left.unit next.1)).items) items h in
-    let b = bind_ok (next_item_at a.0.unit a.0.cursor) (λ next. item_entry offset next.0 >>= λ entry. Ok (subtree_of entry.0 (items_from a.0.unit next.1)).items) items a.2 in
-    let c = bind_ok (item_entry offset b.0.0) (λ entry. Ok (subtree_of entry.0 (items_from a.0.unit b.0.1)).items) items b.2 in
-    record { left = a.0; from = a.1; next = b.0; read = b.1; entry = c.0; is = c.1; items_are = (let e = c.2 in cc) }
+        let left : length rest.bytes ≤ unit.length = omega arith in
+        let next : x.offset + 1 ≤ offset_of unit rest = omega arith in
+        (omega arith, t.depth, lower (x.offset + 1) (offset_of unit rest) (depth_after x) (items_within unit n (depth_after x) rest).items next (ih (depth_after x) rest left))
 
 -- no more bytes are left of a unit than it has
-left_in_unit : (u : UnitRecord) (offset : ℕ) (left : EntriesLeft) → entries_from u (Some offset) ≡ Ok left → length left.cursor.left.bytes ≤ left.unit.length
-left_in_unit u offset left h =
-    let a = bind_ok (entry_bytes_from u.header (Some offset)) (λ s. Ok (entries_at u.header u.abbreviations s)) left h in
-    let same : entries_at u.header u.abbreviations a.0 ≡ left = (let e = a.2 in cc) in
-    subst (λ (l : EntriesLeft). length l.cursor.left.bytes ≤ l.unit.length) same (few a.0 (nat_lt offset u.header.header_length) (nat_lt offset (unit_length u.header)) a.1)
+left_in_unit : (u : UnitRecord) (offset : ℕ) (s : Section) → entry_bytes_from u.header (Some offset) ≡ Ok s → length s.bytes ≤ unit_length u.header
+left_in_unit u offset s h = few (nat_lt offset u.header.header_length) (nat_lt offset (unit_length u.header)) h
   where
-    few : (s : Section) (b c : Bool) → cond {A = Result Section Error} b (Err OffsetOutOfBounds) (cond c (Ok (section_after (offset - u.header.header_length) u.header.entries)) (Err OffsetOutOfBounds)) ≡ Ok s → length s.bytes ≤ unit_length u.header
-    few s true c e = absurd cc
-    few s false false e = absurd cc
-    few s false true e =
+    few : (b c : Bool) → cond {A = Result Section Error} b (Err OffsetOutOfBounds) (cond c (Ok (section_after (offset - u.header.header_length) u.header.entries)) (Err OffsetOutOfBounds)) ≡ Ok s → length s.bytes ≤ unit_length u.header
+    few true c e = absurd cc
+    few false false e = absurd cc
+    few false true e =
         let same : section_after (offset - u.header.header_length) u.header.entries ≡ s = cc in
         let long : length s.bytes ≡ length u.header.entries.bytes - (offset - u.header.header_length) = ap (λ (t : Section). length t.bytes) (sym same) ∙ length-drop (offset - u.header.header_length) u.header.entries.bytes in
         omega arith
 
--- the items inside an entry are a walk
+-- the items of a unit from an offset on are a walk, and so are those inside an entry
 record IsSomeWalk (items : List Item) : Type 0 where
   low : ℕ
   now : ℤ
   walk : IsWalk low now items
 
-inside_walk : (u : UnitRecord) (offset : ℕ) (items : List Item) → IsReadInside u offset items → IsSomeWalk items
-inside_walk u offset items h = by_next h.next h.read h.is h.items_are
+walk_from : (u : UnitRecord) (offset : ℕ) → IsSomeWalk (items_at u offset).items
+walk_from u offset = by_bytes (entry_bytes_from u.header (Some offset)) refl
   where
-    by_next : (next : Option Item × EntryCursor) → next_item_at h.left.unit h.left.cursor ≡ Ok next → item_entry offset next.0 ≡ Ok h.entry
-        → (subtree_of h.entry.0 (items_from h.left.unit next.1)).items ≡ items → IsSomeWalk items
-    by_next (None, c) read is are = absurd cc
-    by_next (Some x, c) read is are =
-        let t = text_is h.left.unit h.left.cursor c x read in
-        let whole : length h.left.cursor.left.bytes ≡ length (t.text ++ c.left.bytes) = ap (λ (s : Section). length s.bytes) t.rest in
-        let long = length-append t.text c.left.bytes in
-        let few = left_in_unit u offset h.left h.from in
-        let fits : length c.left.bytes ≤ h.left.unit.length = omega (arith, whole, long, few) in
-        let w = walk_within h.left.unit (length c.left.bytes + 1) c fits in
-        record {
-          low = next_offset_of h.left.unit c;
-          now = c.depth;
-          walk = subst (IsWalk (next_offset_of h.left.unit c) c.depth) are
-              (inside_walks h.entry.0.depth (items_from h.left.unit c).end (next_offset_of h.left.unit c) c.depth (depth_after h.entry.0) (items_from h.left.unit c).items w);
-        }
+    unit : EntryUnit
+    unit = entry_unit u.header u.abbreviations
+
+    items : Result Section Error → Run Item Section
+    items r = elim r [ Ok s ↦ items_from unit (pos 0) s | Err e ↦ record { items = []; end = Err e } ]
+
+    by_bytes : (r : Result Section Error) → entry_bytes_from u.header (Some offset) ≡ r → IsSomeWalk (items r).items
+    by_bytes (Ok s) h = record { low = offset_of unit s; now = pos 0; walk = walk_within unit (length s.bytes + 1) (pos 0) s (left_in_unit u offset s h) }
+    by_bytes (Err e) h = record { low = 0; now = pos 0; walk = tt }
+
+walk_in : (offset low : ℕ) (now : ℤ) (items : List Item) (end : Result Section Error) (x : WholeEntry) → IsWalk low now items → first_whole offset items end ≡ Ok x → IsSomeWalk x.inside.items
+walk_in offset low now [] (Ok z) x w h = absurd cc
+walk_in offset low now [] (Err e) x w h = absurd cc
+walk_in offset low now (y ∷ ys) end x w h = by_entry y.entry h
+  where
+    inside_it : Run Item (Unit {0})
+    inside_it = subtree_of y (record { items = ys; end = end })
+
+    by_entry : (o : Option Entry) → ◌≡◌ {A = Result WholeEntry Error} (elim o [ None ↦ Err (NoEntryAtGivenOffset offset) | Some e ↦ Ok (record { entry = e; inside = inside_it }) ]) (Ok x) → IsSomeWalk x.inside.items
+    by_entry None e = absurd cc
+    by_entry (Some f) e =
+        let same : ◌≡◌ {A = WholeEntry} (record { entry = f; inside = inside_it }) x = cc in
+        subst (λ (v : WholeEntry). IsSomeWalk v.inside.items) same
+        (record { low = y.offset + 1; now = depth_after y; walk = inside_walks y.depth end (y.offset + 1) (depth_after y) (depth_after y) ys w.2 })
+
+inside_walk : (u : UnitRecord) (offset : ℕ) (items : List Item) → items_inside_at u offset ≡ Ok items → IsSomeWalk items
+inside_walk u offset items h =
+    let a = bind_ok (whole_entry_at u offset) (λ x. Ok x.inside.items) items h in
+    let same : a.0.inside.items ≡ items = (let e = a.2 in cc) in
+    let w = walk_from u offset in
+    subst IsSomeWalk same (walk_in offset w.low w.now (items_at u offset).items (items_at u offset).end a.0 w.walk a.1)
 
 placed_inside : (u : UnitRecord) (offset : ℕ) (items : List Item) → items_inside_at u offset ≡ Ok items → AllByRecursion (IsPlaced items) (placed_items [] items)
-placed_inside u offset items h = let w = inside_walk u offset items (read_inside u offset items h) in all_placed w.low w.now items w.walk
+placed_inside u offset items h = let w = inside_walk u offset items h in all_placed w.low w.now items w.walk
 
 pub open_are_around : OpenAreAround
 open_are_around u offset items h = λ k d l. (All-from_recursion (IsPlaced items) (placed_items [] items) (placed_inside u offset items h) k d l).around
@@ -466,32 +461,18 @@ module _ (scope : Scope) (u : UnitRecord) (items : List Item) where
 pub all_listed : (scope : Scope) (u : UnitRecord) (offset : ℕ) (items : List Item) (detail : Detail) → items_inside_at u offset ≡ Ok items → detail_at scope u offset ≡ Ok detail → All (IsListed items) detail.inlined
 unfolding detail_at
 all_listed scope u offset items detail e f =
-    let n = bind_ok (name_of scope u h.entry.1.attributes) (λ name. listed >>= λ inlined. Ok (record { name = name; inlined = inlined })) detail (sym whole ∙ f) in
+    let a = bind_ok (whole_entry_at u offset) (λ x. Ok x.inside.items) items e in
+    let x = a.0 in
+    let items_are : x.inside.items ≡ items = (let q = a.2 in cc) in
+    let listed = inlined_in scope u x.inside in
+    let n = bind_ok (name_of scope u x.entry.attributes) (λ name. listed >>= λ inlined. Ok (record { name = name; inlined = inlined })) detail (sym (ap (λ r. r >>= λ y. detail_of scope u offset y) a.1) ∙ f) in
     let l = bind_ok listed (λ inlined. Ok (record { name = n.0; inlined = inlined })) detail n.2 in
     let same : ◌≡◌ {A = Detail} (record { name = n.0; inlined = l.0 }) detail = (let q = l.2 in cc) in
-    let r = bind_ok (fold_run (with_inlined scope u) [] (placed_items [] inside_it.items) inside_it.end) (λ found. Ok found.0) l.0 l.1 in
+    let r = bind_ok (fold_run (with_inlined scope u) [] (placed_items [] x.inside.items) x.inside.end) (λ found. Ok found.0) l.0 l.1 in
     let last : r.0.0 ≡ l.0 = (let q = r.2 in cc) in
-    let placed_is = subst (λ xs. AllByRecursion (IsPlaced items) (placed_items [] xs)) (sym h.items_are) (placed_inside u offset items e) in
-    let all = fold_listed scope u items (placed_items [] inside_it.items) inside_it.end [] r.0.0 r.0.1 placed_is (λ k d l. absurd (omega arith)) r.1 in
+    let placed_is = subst (λ xs. AllByRecursion (IsPlaced items) (placed_items [] xs)) (sym items_are) (placed_inside u offset items e) in
+    let all = fold_listed scope u items (placed_items [] x.inside.items) x.inside.end [] r.0.0 r.0.1 placed_is (λ k d l. absurd (omega arith)) r.1 in
     subst (All (IsListed items)) (last ∙ ap (λ (d : Detail). d.inlined) same) all
-  where
-    h : IsReadInside u offset items
-    h = read_inside u offset items e
-
-    inside_it : Run Item (Unit {0})
-    inside_it = subtree_of h.entry.0 (items_from h.left.unit h.next.1)
-
-    listed : Result (List InlinedRange) Error
-    listed = inlined_in scope u (record { unit = h.left.unit; cursor = h.next.1 }) h.entry.0
-
-    of_entry : EntriesLeft → Option Item × EntryCursor → Result (Item × Entry) Error → Result Detail Error
-    of_entry left next r = r >>= λ function. name_of scope u function.1.attributes >>= λ name. inlined_in scope u (record { unit = left.unit; cursor = next.1 }) function.0 >>= λ inlined. Ok (record { name = name; inlined = inlined })
-
-    of_next : EntriesLeft → Result (Option Item × EntryCursor) Error → Result Detail Error
-    of_next left r = r >>= λ next. of_entry left next (item_entry offset next.0)
-
-    whole : detail_at scope u offset ≡ (name_of scope u h.entry.1.attributes >>= λ name. listed >>= λ inlined. Ok (record { name = name; inlined = inlined }))
-    whole = ap (λ r. r >>= λ left. of_next left (next_item_at left.unit left.cursor)) h.from ∙ ap (of_next h.left) h.read ∙ ap (of_entry h.left h.next) h.is
 
 pub depths_are_numbers : DepthsAreNumbers
 depths_are_numbers scope u offset items detail e f = λ k d l. (all_listed scope u offset items detail e f k d l).depth
@@ -512,18 +493,5 @@ none_nearest items x h zero_is = ap (option_map (λ (y : Item). y.offset)) (none
 pub inside_is_read : InsideIsRead
 unfolding detail_at
 inside_is_read scope u offset detail e =
-    let a = bind_ok (entries_from u (Some offset)) (λ left. by_next left (next_item_at left.unit left.cursor)) detail e in
-    let b = bind_ok (next_item_at a.0.unit a.0.cursor) (λ next. by_entry a.0 next (item_entry offset next.0)) detail a.2 in
-    let c = bind_ok (item_entry offset b.0.0) (λ function. named a.0 b.0 function) detail b.2 in
-    ap is_ok (ap (λ r. r >>= λ left. next_item_at left.unit left.cursor >>= λ next. item_entry offset next.0 >>= λ entry. Ok (subtree_of entry.0 (items_from left.unit next.1)).items) a.1
-    ∙ ap (λ r. r >>= λ next. item_entry offset next.0 >>= λ entry. Ok (subtree_of entry.0 (items_from a.0.unit next.1)).items) b.1
-    ∙ ap (λ r. r >>= λ entry. Ok (subtree_of entry.0 (items_from a.0.unit b.0.1)).items) c.1)
-  where
-    named : EntriesLeft → Option Item × EntryCursor → Item × Entry → Result Detail Error
-    named left next function = name_of scope u function.1.attributes >>= λ name. inlined_in scope u (record { unit = left.unit; cursor = next.1 }) function.0 >>= λ inlined. Ok (record { name = name; inlined = inlined })
-
-    by_entry : EntriesLeft → Option Item × EntryCursor → Result (Item × Entry) Error → Result Detail Error
-    by_entry left next r = r >>= λ function. named left next function
-
-    by_next : EntriesLeft → Result (Option Item × EntryCursor) Error → Result Detail Error
-    by_next left r = r >>= λ next. by_entry left next (item_entry offset next.0)
+    let a = bind_ok (whole_entry_at u offset) (detail_of scope u offset) detail e in
+    ap is_ok (ap (λ r. r >>= λ x. Ok x.inside.items) a.1)

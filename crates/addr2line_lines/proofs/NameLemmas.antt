@@ -1,5 +1,5 @@
 -- What attributes say of names (on specs/Names.antt).
-use Rattle.std.proofs.Common.{ℕ, zero, suc, ◌+◌, ◌-◌, ◌<◌, ◌≤◌, ◌≡◌, ◌≢◌, ◌==◌, ◌||◌, Bool, true, false, cond, nat_lt, List, [], ◌∷◌, ◌++◌, length, take, drop, slice_index_or, Option, Some, None, is_some, option_map, Result, Ok, Err, add-one, arith, refl, ap, sym, ◌∙◌, append-nil, length-append, length-drop, length-take}
+use Rattle.std.proofs.Common.{ℕ, zero, suc, ◌+◌, ◌-◌, ◌<◌, ◌≤◌, ◌≡◌, ◌≢◌, ◌==◌, ◌||◌, Bool, true, false, cond, nat_lt, List, [], ◌∷◌, ◌++◌, length, take, drop, slice_index_or, Option, Some, None, is_some, option_map, Result, Ok, Err, add-one, arith, refl, ap, sym, ◌∙◌, append-nil, length-append, length-drop, length-take, ℤ, pos}
 use Rattle.std.specs.List.{All, position, position_or_len}
 use Rattle.std.specs.Option.{option_or}
 use Rattle.std.specs.Result.{result_ok}
@@ -14,12 +14,13 @@ use Rattle.gimli_read.specs.declared.endian.Encoding.{Encoding}
 use Rattle.gimli_read.specs.declared.error.Error.{Error}
 use Rattle.gimli_read.specs.declared.error.Error.TheVariants.{OutOfMemory}
 use Rattle.gimli_read.specs.declared.value.AttributeValue.{AttributeValue}
-use Rattle.gimli_read.specs.Abbreviations.{Specification}
+use Rattle.gimli_read.specs.Abbreviations.{Abbrev, Specification}
 use Rattle.gimli_read.specs.Form.{NamedValue, attribute_at, attributes_at, implicit_of, named_value, rest_of, seen_value, value_at}
 use Rattle.gimli_read.specs.Reading.{Reading, ExactlyUnlessOomIf, ◌>>=◌}
 use Rattle.gimli_read.specs.Section.{Section}
-use Rattle.gimli.specs.Entries.{entries_from}
-use Rattle.gimli.specs.Entry.{EntriesLeft, entry_abbreviation_at}
+use Rattle.gimli.specs.Entries.{entry_bytes_from}
+use Rattle.gimli.specs.Entry.{entry_code_at}
+use Rattle.gimli.specs.EntryCursor.{EntriesLeft, EntryCursor, depth_after_code, entries_at, entries_from, entry_abbreviation_at}
 use Rattle.gimli.specs.Unit.{UnitRecord, attr_string_of}
 use Rattle.addr2line_lines.specs.declared.name.NameOrOrigin.{NameOrOrigin as NameOrOriginOf}
 use Rattle.addr2line_lines.specs.FoundNames.{HasNoName, IsSplitAtName, is_name_attribute, seen_name_or_origin, with_linkage}
@@ -196,10 +197,32 @@ entry_read place entries = do
   specifications ← entry_specifications place.offset entry.0
   named_at place.scope place.unit specifications entry.1.left no_name
 
+visited_is : (place : EntryPlace) → visited place ≡ (entries_from place.unit (Some place.offset) >>= λ entries. entry_read place entries)
+unfolding visited entry_abbreviation_at
+visited_is place = by_bytes (entry_bytes_from place.unit.header (Some place.offset))
+  where
+    by_code : (depth : ℤ) (r : Reading (Option Abbrev))
+        → (r >>= λ entry. entry_specifications place.offset entry.0 >>= λ specifications. named_at place.scope place.unit specifications entry.1 no_name)
+        ≡ (◌>>=◌ {B = Option Abbrev × EntryCursor} r (λ code. Ok (code.0, record { left = code.1; depth = depth_after_code code.0 depth })) >>= λ entry. entry_specifications place.offset entry.0 >>= λ specifications. named_at place.scope place.unit specifications entry.1.left no_name)
+    by_code depth (Ok code) = refl
+    by_code depth (Err e) = refl
+
+    by_bytes : (r : Result Section Error)
+        → (r >>= λ left. entry_code_at place.unit.abbreviations left >>= λ entry. entry_specifications place.offset entry.0 >>= λ specifications. named_at place.scope place.unit specifications entry.1 no_name)
+        ≡ ((r >>= λ left. Ok (entries_at place.unit.header place.unit.abbreviations left)) >>= λ entries. entry_read place entries)
+    by_bytes (Ok s) = by_code (pos 0) (entry_code_at place.unit.abbreviations s)
+    by_bytes (Err e) = refl
+
 -- an entry whose reading can't begin
 pub visited_fault : (place : EntryPlace) (e : Error) → entries_from place.unit (Some place.offset) ≡ Err e → visited place ≡ Err e
-unfolding visited
-visited_fault place e h = ap (λ (r : Result EntriesLeft Error). r >>= λ entries. entry_read place entries) h
+visited_fault place e h = visited_is place ∙ ap (λ (r : Result EntriesLeft Error). r >>= λ entries. entry_read place entries) h
+
+-- an entry whose code is read, or isn't
+pub visited_by : (place : EntryPlace) (left : EntriesLeft) (r : Result (Option Abbrev × EntryCursor) Error) → entries_from place.unit (Some place.offset) ≡ Ok left → entry_abbreviation_at left.unit.abbreviations left.cursor ≡ r
+    → visited place ≡ (r >>= λ entry. entry_specifications place.offset entry.0 >>= λ specifications. named_at place.scope place.unit specifications entry.1.left no_name)
+visited_by place left r h k =
+    visited_is place ∙ ap (λ (q : Result EntriesLeft Error). q >>= λ entries. entry_read place entries) h
+    ∙ ap (λ (q : Result (Option Abbrev × EntryCursor) Error). q >>= λ entry. entry_specifications place.offset entry.0 >>= λ specifications. named_at place.scope place.unit specifications entry.1.left no_name) k
 
 -- the name after what an entry says
 abbrev pub after_visit : ℕ → EntryPlace → NameOrOrigin → Result (Option Section) Error

@@ -11,9 +11,11 @@ use Rattle.gimli_read.specs.Form.{NamedValue, rest_of}
 use Rattle.gimli_read.specs.Reading.{Reading, ◌>>=◌, ExactlyUnlessOomIf}
 use Rattle.gimli_read.specs.Run.{Run, cons, fold_of, fold_run}
 use Rattle.gimli_read.specs.Section.{Section}
-use Rattle.gimli.specs.Entries.{entries_at, entries_from, entry_bytes_from}
-use Rattle.gimli.specs.Entry.{EntriesLeft, EntryCursor, EntryUnit, attributes_at, depth_after_closing, entry_abbreviation_at, opening_entry}
-use Rattle.gimli.specs.Items.{Item, depth_after, item_at, item_from, items_from, items_inside, next_item_at, next_offset_of}
+use Rattle.gimli.specs.Entries.{entry_bytes_from}
+use Rattle.gimli.specs.Entry.{EntryUnit, attributes_at, depth_after_closing}
+use Rattle.gimli.specs.Items.{Item, depth_after, items_inside}
+use Rattle.gimli.specs.EntryCursor.{EntriesLeft, EntryCursor, entries_at, entries_from, entry_abbreviation_at, items_left, next_item_at, next_offset_of}
+use Rattle.gimli.proofs.CursorLemmas.{abbreviation_is, item_from, item_is, item_here, opening_entry}
 use Rattle.gimli.specs.Unit.{UnitRecord}
 use Rattle.gimli.proofs.EntryLemmas.{abbreviation_takes}
 use Rattle.gimli.proofs.ItemLemmas.{next_is}
@@ -50,9 +52,9 @@ pub some_bytes : (table : List Abbrev) (c t : EntryCursor) (o : Option Abbrev) �
 some_bytes table c t o h = let l = abbreviation_takes table c t o h in ne_eqb (length c.left.bytes) 0 (λ e. absurd (omega arith))
 
 no_code : (table : List Abbrev) (c : EntryCursor) → c.left.bytes ≡ [] → entry_abbreviation_at table c ≡ Err UnexpectedEof
-unfolding entry_abbreviation_at
 no_code table c h =
-    ap (λ (r : Reading ℕ). ◌>>=◌ {B = Option Abbrev × EntryCursor} r (λ code. cond (code.0 == 0) (Ok (None, record { left = code.1; depth = depth_after_closing c.depth })) (opening_entry (with_code code.0 table) (record { left = code.1; depth = c.depth })))) (empty_code c.left h)
+    abbreviation_is table c
+    ∙ ap (λ (r : Reading ℕ). ◌>>=◌ {B = Option Abbrev × EntryCursor} r (λ code. cond (code.0 == 0) (Ok (None, record { left = code.1; depth = depth_after_closing c.depth })) (opening_entry (with_code code.0 table) (record { left = code.1; depth = c.depth })))) (empty_code c.left h)
 
 -- an answer of a call that takes memory only where an entry opens, beside what it left
 pub entered : {X Y : Type 0} (may opens : Bool) (r : Result (Unit {0}) Error) (f : X → Y) (x y : X) (whole : Result Y Error) → (opens ≡ true → may ≡ true) → whole ≡ Ok (f y) → OnOk r (x ≡ y) → OnErr r ((r ≡ Err OutOfMemory) × (opens ≡ true)) → ExactlyUnlessOomIf may (λ _. f x) r whole
@@ -69,12 +71,10 @@ module _ (scope : Scope) (u : UnitRecord) (unit : EntryUnit) where
   item_read state r = r >>= λ x. elim x.0 [ None ↦ Err UnexpectedEof | Some item ↦ with_item_found scope u state item >>= λ more. Ok (more, x.1) ]
 
   pub coded : (c : EntryCursor) → (length c.left.bytes == 0) ≡ false → next_item_at unit c ≡ (entry_abbreviation_at unit.abbreviations c >>= λ x. item_from unit c x)
-  unfolding next_item_at
-  coded c h = ap (λ b. cond b (Ok (None, c)) (entry_abbreviation_at unit.abbreviations c >>= λ x. item_from unit c x)) h
+  coded c h = item_is unit c ∙ ap (λ b. cond b (Ok (None, c)) (entry_abbreviation_at unit.abbreviations c >>= λ x. item_from unit c x)) h
 
   ended : (c : EntryCursor) → (length c.left.bytes == 0) ≡ true → next_item_at unit c ≡ Ok (None, c)
-  unfolding next_item_at
-  ended c h = ap (λ b. cond b (Ok (None, c)) (entry_abbreviation_at unit.abbreviations c >>= λ x. item_from unit c x)) h
+  ended c h = item_is unit c ∙ ap (λ b. cond b (Ok (None, c)) (entry_abbreviation_at unit.abbreviations c >>= λ x. item_from unit c x)) h
 
   at_code : (c : EntryCursor) (state : FoundAround) (r : Result (Option Abbrev × EntryCursor) Error) → (length c.left.bytes == 0) ≡ false → entry_abbreviation_at unit.abbreviations c ≡ r → item_found_at scope u unit c state ≡ item_read state (r >>= λ x. item_from unit c x)
   at_code c state r h k = ap (item_read state) (coded c h ∙ ap (λ s. s >>= λ x. item_from unit c x) k)
@@ -111,7 +111,7 @@ module _ (scope : Scope) (u : UnitRecord) (unit : EntryUnit) where
       nested x (Ok m) = refl
       nested x (Err f) = refl
 
-      by_read : (read : Reading (List NamedValue)) → item_read state (◌>>=◌ {B = Option Item × EntryCursor} read (λ x. Ok (Some (item_at unit c (Some (record { abbreviation = a; attributes = x.0 }))), record { left = x.1; depth = t.depth }))) ≡ whole read
+      by_read : (read : Reading (List NamedValue)) → item_read state (◌>>=◌ {B = Option Item × EntryCursor} read (λ x. Ok (Some (item_here unit c (Some (record { abbreviation = a; attributes = x.0 }))), record { left = x.1; depth = t.depth }))) ≡ whole read
       by_read (Ok x) = nested x (with_entry_found scope u state.around (next_offset_of unit c) state.found (record { abbreviation = a; attributes = x.0 }))
       by_read (Err f) = refl
 
@@ -128,22 +128,22 @@ module _ (scope : Scope) (u : UnitRecord) (unit : EntryUnit) where
   abbrev folded : FoundAround → Run Item (Unit {0}) → Result FoundInlined Error
   folded state r = fold_of (with_item_found scope u) state r >>= λ more. Ok more.0.found
 
-  abbrev inside_of : FoundAround → ℤ → Run Item EntryCursor → Result FoundInlined Error
+  abbrev inside_of : FoundAround → ℤ → Run Item Section → Result FoundInlined Error
   inside_of state now r = folded state (items_inside (pos 0) now r.items r.end)
 
-  none_inside : (now : ℤ) (items : List Item) (end : Result EntryCursor Error) → int_lt (pos 0) now ≡ false → items_inside (pos 0) now items end ≡ record { items = []; end = Ok tt }
+  none_inside : (now : ℤ) (items : List Item) (end : Result Section Error) → int_lt (pos 0) now ≡ false → items_inside (pos 0) now items end ≡ record { items = []; end = Ok tt }
   none_inside now [] end h = ap (λ b. cond {A = Run Item (Unit {0})} b (record { items = []; end = end >>= λ z. Err UnexpectedEof }) (record { items = []; end = Ok tt })) h
   none_inside now (x ∷ items) end h = ap (λ b. cond {A = Run Item (Unit {0})} b (cons x (items_inside (pos 0) (depth_after x) items end)) (record { items = []; end = Ok tt })) h
 
-  no_more : (now : ℤ) (end : Result EntryCursor Error) → int_lt (pos 0) now ≡ true → items_inside (pos 0) now [] end ≡ record { items = []; end = end >>= λ z. Err UnexpectedEof }
+  no_more : (now : ℤ) (end : Result Section Error) → int_lt (pos 0) now ≡ true → items_inside (pos 0) now [] end ≡ record { items = []; end = end >>= λ z. Err UnexpectedEof }
   no_more now end h = ap (λ b. cond {A = Run Item (Unit {0})} b (record { items = []; end = end >>= λ z. Err UnexpectedEof }) (record { items = []; end = Ok tt })) h
 
-  pub one_inside : (now : ℤ) (x : Item) (r : Run Item EntryCursor) → int_lt (pos 0) now ≡ true → items_inside (pos 0) now (x ∷ r.items) r.end ≡ cons x (items_inside (pos 0) (depth_after x) r.items r.end)
+  pub one_inside : (now : ℤ) (x : Item) (r : Run Item Section) → int_lt (pos 0) now ≡ true → items_inside (pos 0) now (x ∷ r.items) r.end ≡ cons x (items_inside (pos 0) (depth_after x) r.items r.end)
   one_inside now x r h = ap (λ b. cond {A = Run Item (Unit {0})} b (cons x (items_inside (pos 0) (depth_after x) r.items r.end)) (record { items = []; end = Ok tt })) h
 
   pub inside-end : (c : EntryCursor) (state : FoundAround) → int_lt (pos 0) c.depth ≡ false → inside_found scope u unit c state ≡ Ok state.found
   unfolding fold_run
-  inside-end c state h = ap (folded state) (none_inside c.depth (items_from unit c).items (items_from unit c).end h)
+  inside-end c state h = ap (folded state) (none_inside c.depth (items_left unit c).items (items_left unit c).end h)
 
   folded_with : (state : FoundAround) (x : Item) (r : Run Item (Unit {0})) → folded state (cons x r) ≡ (with_item_found scope u state x >>= λ more. folded more r)
   unfolding fold_run
@@ -157,9 +157,9 @@ module _ (scope : Scope) (u : UnitRecord) (unit : EntryUnit) where
   at_item c t state x h q =
       let next = next_is unit c t x q in
       ap (inside_of state c.depth) (items_more unit c t x q)
-      ∙ ap (folded state) (one_inside c.depth x (items_from unit t) h)
-      ∙ folded_with state x (items_inside (pos 0) (depth_after x) (items_from unit t).items (items_from unit t).end)
-      ∙ ap (λ z. with_item_found scope u state x >>= λ more. inside_of more z (items_from unit t)) (sym next.after)
+      ∙ ap (folded state) (one_inside c.depth x (items_left unit t) h)
+      ∙ folded_with state x (items_inside (pos 0) (depth_after x) (items_left unit t).items (items_left unit t).end)
+      ∙ ap (λ z. with_item_found scope u state x >>= λ more. inside_of more z (items_left unit t)) (sym next.after)
 
   pub one_found : (r : Result FoundAround Error) (more : FoundAround) (s t : EntryCursor) → ◌>>=◌ {B = FoundAround × EntryCursor} r (λ v. Ok (v, t)) ≡ Ok (more, s) → (r ≡ Ok more) × (t ≡ s)
   one_found (Ok v) more s t e = let p : ◌≡◌ {A = FoundAround × EntryCursor} (v, t) (more, s) = cc in (ap Ok (ap (λ x. x.0) p), ap (λ x. x.1) p)
@@ -185,7 +185,7 @@ module _ (scope : Scope) (u : UnitRecord) (unit : EntryUnit) where
     where
       by_cases : (r : Result (Option Item × EntryCursor) Error) → next_item_at unit c ≡ r → item_read state r ≡ Err e → inside_found scope u unit c state ≡ Err e
       by_cases (Err f) q k = let same : f ≡ e = cc in ap (inside_of state c.depth) (items_fault unit c f q) ∙ ap (folded state) (no_more c.depth (Err f) h) ∙ ap Err same
-      by_cases (Ok (None, t)) q k = let same : UnexpectedEof ≡ e = cc in ap (inside_of state c.depth) (items_end unit c t q) ∙ ap (folded state) (no_more c.depth (Ok t) h) ∙ ap Err same
+      by_cases (Ok (None, t)) q k = let same : UnexpectedEof ≡ e = cc in ap (inside_of state c.depth) (items_end unit c t q) ∙ ap (folded state) (no_more c.depth (Ok t.left) h) ∙ ap Err same
       by_cases (Ok (Some x, t)) q k = at_item c t state x h q ∙ ap (λ r. r >>= λ v. inside_found scope u unit t v) (none_found (with_item_found scope u state x) t e k)
 
   -- a function whose attributes follow

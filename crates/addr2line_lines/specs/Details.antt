@@ -6,11 +6,9 @@ use Rattle.gimli_read.specs.declared.error.Error.{Error}
 use Rattle.gimli_read.specs.declared.error.Error.TheVariants.{NoEntryAtGivenOffset}
 use Rattle.gimli_read.specs.Abbreviations.{Abbrev}
 use Rattle.gimli_read.specs.Reading.{◌>>=◌}
-use Rattle.gimli_read.specs.Run.{fold_run}
+use Rattle.gimli_read.specs.Run.{Run, fold_run}
 use Rattle.gimli_read.specs.Section.{Section}
-use Rattle.gimli.specs.Entries.{entries_from}
-use Rattle.gimli.specs.Entry.{EntriesLeft}
-use Rattle.gimli.specs.Items.{Entry, Item, items_from, next_item_at, subtree_of}
+use Rattle.gimli.specs.Items.{Entry, Item, items_at, subtree_of}
 use Rattle.gimli.specs.Unit.{UnitRecord}
 use Rattle.addr2line_lines.specs.Functions.{is_subprogram}
 use Rattle.addr2line_lines.specs.Names.{name_of}
@@ -67,39 +65,49 @@ with_inlined scope u found x = elim x.item.entry [
       else Ok found
 ]
 
--- the ranges of the inlined entries among the items inside an item, in their order, or the first
+-- the ranges of the inlined entries among the items inside a function, in their order, or the first
 -- fault
-abbrev pub inlined_in : Scope → UnitRecord → EntriesLeft → Item → Result (List InlinedRange) Error
-inlined_in scope u left x =
-    let inside = subtree_of x (items_from left.unit left.cursor) in
+abbrev pub inlined_in : Scope → UnitRecord → Run Item (Unit {0})
+    → Result (List InlinedRange) Error
+inlined_in scope u inside =
     fold_run (with_inlined scope u) [] (placed_items [] inside.items) inside.end
     >>= λ found. Ok found.0
 
--- the entry of an item, which a closing entry isn't
-abbrev pub item_entry : ℕ → Option Item → Result (Item × Entry) Error
-item_entry offset None = Err (NoEntryAtGivenOffset offset)
-item_entry offset (Some x) =
-    elim x.entry [ None ↦ Err (NoEntryAtGivenOffset offset) | Some e ↦ Ok (x, e) ]
+-- an entry, and the items inside it
+pub record WholeEntry : Type 0 where
+  pub entry : Entry
+  pub inside : Run Item (Unit {0})
+
+-- the first of items that begin at an offset, whole, which a closing entry isn't
+abbrev pub first_whole : {Z : Type 0} → ℕ → List Item → Result Z Error → Result WholeEntry Error
+first_whole offset [] end = end >>= λ z. Err (NoEntryAtGivenOffset offset)
+first_whole offset (x ∷ items) end = elim x.entry [
+  | None ↦ Err (NoEntryAtGivenOffset offset)
+  | Some e ↦ Ok (record {
+    entry = e;
+    inside = subtree_of x (record { items = items; end = end });
+  })
+]
+
+-- the entry that begins at an offset of its unit, whole
+abbrev pub whole_entry_at : UnitRecord → ℕ → Result WholeEntry Error
+whole_entry_at u offset = first_whole offset (items_at u offset).items (items_at u offset).end
 
 -- the details of the function whose entry begins at an offset of its unit, or the first fault
 unfoldable pub detail_at : Scope → UnitRecord → ℕ → Result Detail Error
 detail_at scope u offset = do
-  left ← entries_from u (Some offset)
-  next ← next_item_at left.unit left.cursor
-  function ← item_entry offset next.0
-  name ← name_of scope u function.1.attributes
-  inlined ← inlined_in scope u (record left { cursor = next.1 }) function.0
+  function ← whole_entry_at u offset
+  name ← name_of scope u function.entry.attributes
+  inlined ← inlined_in scope u function.inside
   Ok (record { name = name; inlined = inlined })
 
 -- the items inside the function whose entry begins at an offset of its unit, with the entries that
 -- are open around each, or the first fault of that entry and its name
 unfoldable pub placed_inside : Scope → UnitRecord → ℕ → Result (List PlacedItem) Error
 placed_inside scope u offset = do
-  left ← entries_from u (Some offset)
-  next ← next_item_at left.unit left.cursor
-  function ← item_entry offset next.0
-  name ← name_of scope u function.1.attributes
-  Ok (placed_items [] (subtree_of function.0 (items_from left.unit next.1)).items)
+  function ← whole_entry_at u offset
+  name ← name_of scope u function.entry.attributes
+  Ok (placed_items [] function.inside.items)
 
 -- whether the attributes of an inlined entry give a range before any fault
 abbrev pub inlined_gives_a_range : Scope → UnitRecord → Entry → Bool

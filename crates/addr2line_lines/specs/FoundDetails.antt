@@ -6,8 +6,8 @@ use Rattle.gimli_read.specs.Abbreviations.{Abbrev}
 use Rattle.gimli_read.specs.Form.{rest_of}
 use Rattle.gimli_read.specs.Reading.{◌>>=◌}
 use Rattle.gimli_read.specs.Section.{Section}
-use Rattle.gimli.specs.Entries.{entries_from}
-use Rattle.gimli.specs.Entry.{EntryCursor, EntryUnit, attributes_at, entry_abbreviation_at}
+use Rattle.gimli.specs.Entry.{EntryUnit, attributes_at}
+use Rattle.gimli.specs.EntryCursor.{EntryCursor, entries_from, entry_abbreviation_at}
 use Rattle.gimli.specs.Unit.{UnitRecord}
 use Rattle.addr2line_lines.specs.References.{Scope}
 use Rattle.addr2line_lines.specs.FoundNames.{name_after}

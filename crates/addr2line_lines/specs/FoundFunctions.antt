@@ -6,8 +6,9 @@ use Rattle.gimli_read.specs.declared.range.Range.{Range}
 use Rattle.gimli_read.specs.declared.value.UnitOffset.{UnitOffset}
 use Rattle.gimli_read.specs.Reading.{◌>>=◌}
 use Rattle.gimli_read.specs.Run.{fold_of}
-use Rattle.gimli.specs.Entry.{EntryCursor, EntryUnit}
-use Rattle.gimli.specs.Items.{Item, items_from, items_of, next_item_at}
+use Rattle.gimli.specs.Entry.{EntryUnit}
+use Rattle.gimli.specs.Items.{Item, items_of}
+use Rattle.gimli.specs.EntryCursor.{EntryCursor, items_left, next_item_at}
 use Rattle.gimli.specs.Ranges.{ranges_at}
 use Rattle.gimli.specs.Sections.{Sections}
 use Rattle.gimli.specs.Unit.{UnitRecord}
@@ -92,7 +93,7 @@ item_takes_memory shares d u unit cursor =
 abbrev pub found_from : Sections → UnitRecord → EntryUnit → EntryCursor → FoundFunctions
     → Result FoundFunctions Error
 found_from d u unit cursor found =
-    fold_of (with_found d u) found (items_from unit cursor) >>= λ more. Ok more.0
+    fold_of (with_found d u) found (items_left unit cursor) >>= λ more. Ok more.0
 
 -- what is found in a unit
 abbrev pub found_in : Sections → UnitRecord → Result FoundFunctions Error

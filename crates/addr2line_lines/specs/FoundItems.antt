@@ -4,8 +4,9 @@ use Rattle.gimli_read.specs.declared.error.Error.{Error}
 use Rattle.gimli_read.specs.declared.error.Error.TheVariants.{UnexpectedEof}
 use Rattle.gimli_read.specs.Reading.{◌>>=◌}
 use Rattle.gimli_read.specs.Run.{fold_of}
-use Rattle.gimli.specs.Entry.{EntryCursor, EntryUnit}
-use Rattle.gimli.specs.Items.{Item, items_from, items_inside, next_item_at}
+use Rattle.gimli.specs.Entry.{EntryUnit}
+use Rattle.gimli.specs.Items.{Item, items_inside}
+use Rattle.gimli.specs.EntryCursor.{EntryCursor, items_left, next_item_at}
 use Rattle.gimli.specs.Unit.{UnitRecord}
 use Rattle.addr2line_lines.specs.declared.inlined_lists.InlinedLists.{InlinedLists}
 use Rattle.addr2line_lines.specs.declared.nesting.Kind.{Kind}
@@ -46,7 +47,7 @@ item_found_at scope u unit cursor state = next_item_at unit cursor >>= λ x. eli
 abbrev pub inside_found : Scope → UnitRecord → EntryUnit → EntryCursor → FoundAround
     → Result FoundInlined Error
 inside_found scope u unit cursor state =
-    let items = items_from unit cursor in
+    let items = items_left unit cursor in
     let inside = items_inside (pos 0) cursor.depth items.items items.end in
     fold_of (with_item_found scope u) state inside >>= λ more. Ok more.0.found
 
@@ -76,6 +77,6 @@ items_left_take_memory scope u state (x ∷ items) = inlined_item_takes_memory s
 -- whether memory is taken for the items that are left of a function
 abbrev pub inside_takes_memory : Scope → UnitRecord → EntryUnit → EntryCursor → FoundAround → Bool
 inside_takes_memory scope u unit cursor state =
-    let items = items_from unit cursor in
+    let items = items_left unit cursor in
     items_left_take_memory scope u state
     (items_inside (pos 0) cursor.depth items.items items.end).items

@@ -6,20 +6,15 @@ use Rattle.std.specs.List.{All, list_any}
 use Rattle.gimli_read.specs.declared.error.Error.{Error}
 use Rattle.gimli_read.specs.Abbreviations.{Abbrev}
 use Rattle.gimli_read.specs.Reading.{◌>>=◌}
-use Rattle.gimli.specs.Entries.{entries_from}
-use Rattle.gimli.specs.Items.{Item, items_from, next_item_at, subtree_of}
+use Rattle.gimli.specs.Items.{Item, subtree_of}
 use Rattle.gimli.specs.Unit.{UnitRecord}
-use Rattle.addr2line_lines.specs.Details.{Detail, detail_at, item_entry, placed_items}
+use Rattle.addr2line_lines.specs.Details.{Detail, detail_at, placed_items, whole_entry_at}
 use Rattle.addr2line_lines.specs.InlinedEntries.{is_inlined}
 use Rattle.addr2line_lines.specs.References.{Scope}
 
 -- the items inside the entry that begins at an offset of its unit, up to its end or the first fault
 abbrev pub items_inside_at : UnitRecord → ℕ → Result (List Item) Error
-items_inside_at u offset = do
-  left ← entries_from u (Some offset)
-  next ← next_item_at left.unit left.cursor
-  entry ← item_entry offset next.0
-  Ok (subtree_of entry.0 (items_from left.unit next.1)).items
+items_inside_at u offset = whole_entry_at u offset >>= λ x. Ok x.inside.items
 
 -- the subtree of an item among the items after it
 abbrev pub subtree_among : Item → List Item → List Item

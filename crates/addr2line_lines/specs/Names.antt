@@ -15,8 +15,8 @@ use Rattle.gimli_read.specs.Abbreviations.{Abbrev, Specification}
 use Rattle.gimli_read.specs.Form.{NamedValue, attribute_at}
 use Rattle.gimli_read.specs.Reading.{◌>>=◌}
 use Rattle.gimli_read.specs.Section.{Section}
-use Rattle.gimli.specs.Entries.{entries_from}
-use Rattle.gimli.specs.Entry.{entry_abbreviation_at}
+use Rattle.gimli.specs.Entries.{entry_bytes_from}
+use Rattle.gimli.specs.Entry.{entry_code_at}
 use Rattle.gimli.specs.Unit.{UnitRecord, attr_string_of}
 use Rattle.addr2line_lines.specs.References.{EntryPlace, Scope, referred}
 
@@ -71,10 +71,10 @@ entry_specifications offset (Some a) = Ok a.attributes
 -- what the entry at a place says of its name
 unfoldable pub visited : EntryPlace → Result NameOrOrigin Error
 visited place = do
-  entries ← entries_from place.unit (Some place.offset)
-  entry ← entry_abbreviation_at entries.unit.abbreviations entries.cursor
+  left ← entry_bytes_from place.unit.header (Some place.offset)
+  entry ← entry_code_at place.unit.abbreviations left
   specifications ← entry_specifications place.offset entry.0
-  named_at place.scope place.unit specifications entry.1.left no_name
+  named_at place.scope place.unit specifications entry.1 no_name
 
 -- the most entries that are visited for one name
 abbrev pub most_visited : ℕ

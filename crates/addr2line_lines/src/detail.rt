@@ -4,7 +4,7 @@ ghost use Rattle.std.specs.Prelude.{◌≡◌, ◌<◌, ◌||◌, [], None, Ok, 
 ghost use Rattle.gimli_read.specs.Form.{rest_of};
 ghost use Rattle.gimli_read.specs.Reading.{ExactlyUnlessOomIf};
 ghost use Rattle.gimli.specs.Entry.{attributes_at};
-ghost use Rattle.gimli.specs.Items.{next_item_at};
+ghost use Rattle.gimli.specs.EntryCursor.{next_item_at};
 ghost use Rattle.addr2line_lines.specs.FoundInlined.{IsFoundMore, entry_found_at, read_lists_a_range, seen_lists};
 ghost use Rattle.addr2line_lines.specs.FoundAttributes.{IsTakenIn};
 ghost use Rattle.addr2line_lines.specs.FoundNames.{with_read_name, name_after};

@@ -204,7 +204,6 @@ fn read_names<R: Reader>(
 }
 
 // What the entry at a place says of its name.
-#[tactic(auto, unfolding(crate::specs::Names::visited))]
 fn visit<R: Reader>(place: EntryPlace<'_, R>) -> Result<NameOrOrigin<R>, Error>
     ensures gives { ExactlyUnlessOomIf R.shares (seen_name_or_origin R.section) result
         (visited (seen_place place.entry)) }

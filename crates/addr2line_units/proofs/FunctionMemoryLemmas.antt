@@ -5,7 +5,7 @@ use Rattle.gimli_read.specs.declared.error.Error.{Error}
 use Rattle.gimli_read.specs.declared.range.Range.{Range}
 use Rattle.gimli_read.specs.Reading.{◌>>=◌}
 use Rattle.gimli_read.specs.Run.{fold_run}
-use Rattle.gimli.specs.Entry.{EntryCursor}
+use Rattle.gimli_read.specs.Section.{Section}
 use Rattle.gimli.specs.Items.{Entry, Item, items_of}
 use Rattle.gimli.specs.Sections.{Sections}
 use Rattle.gimli.specs.Unit.{UnitRecord}
@@ -69,9 +69,9 @@ module _ (d : Sections) (u : UnitRecord) where
       by_entry None h = let same : found ≡ more = cc in inl (subst (λ (f : List FunctionRange). 0 < length f) (sym same) l)
       by_entry (Some a) h = by_test a (is_subprogram a.abbreviation) h
 
-  fold_has : (items : List Item) (end : Result EntryCursor Error) (found m : List FunctionRange) (z : EntryCursor) → fold_run (with_function d u) found items end ≡ Ok (m, z) → 0 < length m → (0 < length found) ⊎ (have_function d u items ≡ true)
+  fold_has : (items : List Item) (end : Result Section Error) (found m : List FunctionRange) (z : Section) → fold_run (with_function d u) found items end ≡ Ok (m, z) → 0 < length m → (0 < length found) ⊎ (have_function d u items ≡ true)
   unfolding fold_run
-  fold_has [] (Ok y) found m z e l = let p : ◌≡◌ {A = List FunctionRange × EntryCursor} (found, y) (m, z) = cc in inl (subst (λ (f : List FunctionRange). 0 < length f) (sym (ap (λ x. x.0) p)) l)
+  fold_has [] (Ok y) found m z e l = let p : ◌≡◌ {A = List FunctionRange × Section} (found, y) (m, z) = cc in inl (subst (λ (f : List FunctionRange). 0 < length f) (sym (ap (λ x. x.0) p)) l)
   fold_has [] (Err f) found m z e l = absurd cc
   fold_has (x ∷ xs) end found m z e l = by_step (with_function d u found x) refl e (λ more k. fold_has xs end more m z k l)
     where
@@ -87,7 +87,7 @@ module _ (d : Sections) (u : UnitRecord) where
   functions_have : (ranges : List FunctionRange) → functions_of d u ≡ Ok ranges → 0 < length ranges → have_function d u (items_of u).items ≡ true
   functions_have ranges e l = by_fold (fold_run (with_function d u) [] (items_of u).items (items_of u).end) refl e
     where
-      by_fold : (r : Result (List FunctionRange × EntryCursor) Error) → fold_run (with_function d u) [] (items_of u).items (items_of u).end ≡ r → (r >>= λ found. Ok found.0) ≡ Ok ranges → have_function d u (items_of u).items ≡ true
+      by_fold : (r : Result (List FunctionRange × Section) Error) → fold_run (with_function d u) [] (items_of u).items (items_of u).end ≡ r → (r >>= λ found. Ok found.0) ≡ Ok ranges → have_function d u (items_of u).items ≡ true
       by_fold (Ok p) q f =
           let same : p.0 ≡ ranges = cc in
           elim (fold_has (items_of u).items (items_of u).end [] p.0 p.1 q (subst (λ (v : List FunctionRange). 0 < length v) (sym same) l)) [ inl none ↦ absurd (omega arith) | inr h ↦ h ]

@@ -110,7 +110,6 @@ fn read_attributes<R: Reader>(
 /// then by the first index of an address or of a range list that isn't wholly in its section; may
 /// fail with `OutOfMemory` instead, where bytes are shared. Source: DWARF 5, sections 2.17 and
 /// 3.1.1.
-#[tactic(auto, unfolding(gimli::specs::Entry::root_attributes))]
 pub fn read_unit_attributes<R: Reader>(unit: UnitRef<'_, R>) -> Result<UnitAttributes, Error>
     ensures gives { ExactlyUnlessOomIf R.shares (λ a. a) result
         (unit_attributes unit.entry.dwarf.now unit.entry.unit.now) }

@@ -1,5 +1,5 @@
 -- Each level of depth took a byte of the unit (on specs/Entry.antt).
-use Rattle.std.proofs.Common.{◌≡◌, ℕ, zero, suc, ◌+◌, ◌^◌, ◌<◌, ◌≤◌, ◌++◌, ◌==◌, Bool, true, false, cond, List, Option, Some, None, IfOk, length, Ok, Err, ap, arith, ℤ, pos, negsuc, ◌+ℤ◌, FitsSigned, w64, length-append}
+use Rattle.std.proofs.Common.{◌≡◌, ℕ, zero, suc, ◌+◌, ◌^◌, ◌<◌, ◌≤◌, ◌++◌, ◌==◌, Bool, true, false, cond, List, Option, Some, None, IfOk, length, Ok, Err, ap, sym, ◌∙◌, arith, ℤ, pos, negsuc, ◌+ℤ◌, FitsSigned, w64, length-append}
 use Rattle.std.specs.Prelude.{unsigned_abs}
 use Rattle.std.proofs.lemmas.Grind.{common_steps}
 use Rattle.std.proofs.lemmas.Result.{IfOk-at_ok}
@@ -12,7 +12,9 @@ use Rattle.gimli_read.specs.Leb128.{uleb128_at}
 use Rattle.gimli_read.specs.Form.{NamedValue, attribute_at}
 use Rattle.gimli_read.proofs.Shorter.{Shorter, shorter_at, uleb128-shorter}
 use Rattle.gimli_read.proofs.AttributeTexts.{attribute_alone}
-use Rattle.gimli.specs.Entry.{EntryCursor, IsInUnit, depth_after_entry, depth_after_closing, opening_entry, entry_abbreviation_at}
+use Rattle.gimli.specs.Entry.{depth_after_entry, depth_after_closing}
+use Rattle.gimli.specs.EntryCursor.{EntryCursor, IsInUnit, entry_abbreviation_at}
+use Rattle.gimli.proofs.CursorLemmas.{abbreviation_is, opening_entry}
 
 -- a code takes a byte at least
 pub code_takes : (s t : Section) (n : ℕ) → uleb128_at s ≡ Ok (n, t) → length t.bytes < length s.bytes
@@ -20,8 +22,7 @@ code_takes s t n h = shorter_at (uleb128-shorter s) n t h
 
 -- so does the code of an entry
 pub abbreviation_takes : (table : List Abbrev) (c d : EntryCursor) (a : Option Abbrev) → entry_abbreviation_at table c ≡ Ok (a, d) → length d.left.bytes < length c.left.bytes
-unfolding entry_abbreviation_at
-abbreviation_takes table c d a h = IfOk-at_ok Fewer h (at (uleb128_at c.left) (uleb128-shorter c.left))
+abbreviation_takes table c d a h = IfOk-at_ok Fewer (sym (abbreviation_is table c) ∙ h) (at (uleb128_at c.left) (uleb128-shorter c.left))
   where
     Fewer : Option Abbrev × EntryCursor → Type 0
     Fewer x = length x.1.left.bytes < length c.left.bytes

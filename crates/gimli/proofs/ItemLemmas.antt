@@ -10,9 +10,11 @@ use Rattle.gimli_read.specs.Reading.{Reading, ◌>>=◌}
 use Rattle.gimli_read.specs.Leb128.{uleb128_at}
 use Rattle.gimli_read.specs.Abbreviations.{Abbrev, with_code}
 use Rattle.gimli_read.specs.Form.{NamedValue, attributes_at}
-use Rattle.gimli_read.specs.Run.{Run, next_of, cons, continued, run_within}
-use Rattle.gimli.specs.Entry.{EntryCursor, EntryUnit, depth_after_entry, depth_after_closing, opening_entry, entry_abbreviation_at}
-use Rattle.gimli.specs.Items.{Item, depth_after, item_at, item_from, next_item_at, items_from, items_inside}
+use Rattle.gimli_read.specs.Run.{Run, cons}
+use Rattle.gimli.specs.Entry.{EntryUnit, depth_after_entry, depth_after_closing}
+use Rattle.gimli.specs.Items.{Item, depth_after, item_at, items_after, items_inside, items_within}
+use Rattle.gimli.specs.EntryCursor.{EntryCursor, entry_abbreviation_at, next_item_at}
+use Rattle.gimli.proofs.CursorLemmas.{abbreviation_is, item_from, item_is, item_here, next_of_item, opening_entry}
 use Rattle.gimli.specs.ItemLaws.{SubtreesLieDeeper}
 
 -- an item that is read lies at the depth where it begins, and the next one at the depth after it
@@ -28,8 +30,7 @@ abbrev Opened : EntryCursor → Option Abbrev × EntryCursor → Type 0
 Opened start x = elim x.0 [ None ↦ x.1.depth ≡ depth_after_closing start.depth | Some a ↦ x.1.depth ≡ depth_after_entry a.has_children start.depth ]
 
 opened : (table : List Abbrev) (start : EntryCursor) → IfOk (entry_abbreviation_at table start) (Opened start)
-unfolding entry_abbreviation_at
-opened table start = at (uleb128_at start.left)
+opened table start = subst (λ r. IfOk r (Opened start)) (sym (abbreviation_is table start)) (at (uleb128_at start.left))
   where
     found : (o : Option Abbrev) (t : Section) → IfOk (opening_entry o (record { left = t; depth = start.depth })) (Opened start)
     found None t = tt
@@ -51,8 +52,7 @@ not_some x c d h =
     cc
 
 nexts : (unit : EntryUnit) (start : EntryCursor) → Nexts start (next_item_at unit start)
-unfolding next_item_at
-nexts unit start = at (length start.left.bytes == 0) (entry_abbreviation_at unit.abbreviations start) (opened unit.abbreviations start)
+nexts unit start = subst (Nexts start) (sym (item_is unit start)) (at (length start.left.bytes == 0) (entry_abbreviation_at unit.abbreviations start) (opened unit.abbreviations start))
   where
     same_item : (x : Item) (c : EntryCursor) (y : Item) (d : EntryCursor) → ◌≡◌ {A = Result (Option Item × EntryCursor) Error} (Ok (Some y, d)) (Ok (Some x, c)) → IsNext start d y → IsNext start c x
     same_item x c y d h n =
@@ -63,12 +63,12 @@ nexts unit start = at (length start.left.bytes == 0) (entry_abbreviation_at unit
         subst (λ z. IsNext start c z) is (subst (λ z. IsNext start z y) to n)
 
     read : (a : Abbrev) (cursor : EntryCursor) → cursor.depth ≡ depth_after_entry a.has_children start.depth → (r : Reading (List NamedValue))
-        → Nexts start (r >>= λ x. Ok (Some (item_at unit start (Some (record { abbreviation = a; attributes = x.0 }))), record { left = x.1; depth = cursor.depth }))
-    read a cursor h (Ok x) = record { by = λ y c k. same_item y c (item_at unit start (Some (record { abbreviation = a; attributes = x.0 }))) (record { left = x.1; depth = cursor.depth }) k (record { depth = refl; after = h }) }
+        → Nexts start (r >>= λ x. Ok (Some (item_here unit start (Some (record { abbreviation = a; attributes = x.0 }))), record { left = x.1; depth = cursor.depth }))
+    read a cursor h (Ok x) = record { by = λ y c k. same_item y c (item_here unit start (Some (record { abbreviation = a; attributes = x.0 }))) (record { left = x.1; depth = cursor.depth }) k (record { depth = refl; after = h }) }
     read a cursor h (Err e) = record { by = λ y c k. absurd cc }
 
     coded : (r : Result (Option Abbrev × EntryCursor) Error) → IfOk r (Opened start) → Nexts start (r >>= λ x. item_from unit start x)
-    coded (Ok (None, cursor)) h = record { by = λ y c k. same_item y c (item_at unit start None) cursor k (record { depth = refl; after = h }) }
+    coded (Ok (None, cursor)) h = record { by = λ y c k. same_item y c (item_here unit start None) cursor k (record { depth = refl; after = h }) }
     coded (Ok (Some a, cursor)) h = read a cursor h (attributes_at unit.encoding a.attributes cursor.left)
     coded (Err e) h = record { by = λ y c k. absurd cc }
 
@@ -79,37 +79,38 @@ nexts unit start = at (length start.left.bytes == 0) (entry_abbreviation_at unit
 pub next_is : (unit : EntryUnit) (start following : EntryCursor) (x : Item) → next_item_at unit start ≡ Ok (Some x, following) → IsNext start following x
 next_is unit start following x h = (nexts unit start).by x following h
 
--- the items that are read of at most n from a place on
-abbrev pub run : EntryUnit → ℕ → EntryCursor → Run Item EntryCursor
-run unit n c = run_within (λ d. next_of (next_item_at unit d)) n c
-
 pub less : (a b : ℤ) → int_lt a b ≡ true → a <ℤ b
 less a b h = grind (arith, ints)
 
+-- an item that is read lies at the depth where the reading begins
+pub depth_is : (unit : EntryUnit) (depth : ℤ) (s rest : Section) (x : Item) → item_at unit depth s ≡ Ok (Some x, rest) → x.depth ≡ depth
+depth_is unit depth s rest x h = (next_is unit (record { left = s; depth = depth }) (record { left = rest; depth = depth_after x }) x (next_of_item unit depth s rest (Some x) h)).depth
+
 -- those inside lie deeper
-abbrev AreDeeper : ℤ → ℤ → Run Item EntryCursor → Type 0
+abbrev AreDeeper : ℤ → ℤ → Run Item Section → Type 0
 AreDeeper depth now r = AllByRecursion (λ y. depth <ℤ y.depth) (items_inside depth now r.items r.end).items
 
-none_deeper : {Z : Type 0} (depth now : ℤ) (end : Result Z Error) → AllByRecursion (λ y. depth <ℤ y.depth) (items_inside depth now [] end).items
+none_deeper : (depth now : ℤ) (end : Result Section Error) → AllByRecursion (λ y. depth <ℤ y.depth) (items_inside depth now [] end).items
 none_deeper depth now end = at (int_lt depth now)
   where
     at : (b : Bool) → AllByRecursion (λ y. depth <ℤ y.depth) (cond {A = Run Item (Unit {0})} b (record { items = []; end = end >>= λ z. Err UnexpectedEof }) (record { items = []; end = Ok tt })).items
     at true = tt
     at false = tt
 
-deeper_within : (unit : EntryUnit) (depth : ℤ) (n : ℕ) (c : EntryCursor) → AreDeeper depth c.depth (run unit n c)
-unfolding run_within
-deeper_within unit depth zero c = none_deeper {Z = EntryCursor} depth c.depth (Err UnexpectedEof)
-deeper_within unit depth (suc n) c = at (deeper_within unit depth n) (next_item_at unit c) (λ x d h. next_is unit c d x h)
+deeper_within : (unit : EntryUnit) (depth : ℤ) (n : ℕ) (now : ℤ) (s : Section) → AreDeeper depth now (items_within unit n now s)
+unfolding items_within
+deeper_within unit depth zero now s = none_deeper depth now (Err UnexpectedEof)
+deeper_within unit depth (suc n) now s = at (deeper_within unit depth n) (item_at unit now s) (λ x t h. depth_is unit now s t x h)
   where
-    more : ((d : EntryCursor) → AreDeeper depth d.depth (run unit n d)) → (x : Item) (d : EntryCursor) → IsNext c d x → (b : Bool) → int_lt depth c.depth ≡ b → AllByRecursion (λ y. depth <ℤ y.depth) (cond {A = Run Item (Unit {0})} b (cons x (items_inside depth (depth_after x) (run unit n d).items (run unit n d).end)) (record { items = []; end = Ok tt })).items
-    more ih x d h true k = (subst (λ z. depth <ℤ z) (sym h.depth) (less depth c.depth k), subst (λ z. AreDeeper depth z (run unit n d)) h.after (ih d))
-    more ih x d h false k = tt
+    more : ((z : ℤ) (t : Section) → AreDeeper depth z (items_within unit n z t)) → (x : Item) (t : Section) → x.depth ≡ now → (b : Bool) → int_lt depth now ≡ b
+        → AllByRecursion (λ y. depth <ℤ y.depth) (cond {A = Run Item (Unit {0})} b (cons x (items_inside depth (depth_after x) (items_within unit n (depth_after x) t).items (items_within unit n (depth_after x) t).end)) (record { items = []; end = Ok tt })).items
+    more ih x t h true k = (subst (λ z. depth <ℤ z) (sym h) (less depth now k), ih (depth_after x) t)
+    more ih x t h false k = tt
 
-    at : ((d : EntryCursor) → AreDeeper depth d.depth (run unit n d)) → (r : Result (Option Item × EntryCursor) Error) → ((x : Item) (d : EntryCursor) → r ≡ Ok (Some x, d) → IsNext c d x) → AreDeeper depth c.depth (continued (run unit n) (next_of r))
-    at ih (Err e) h = none_deeper {Z = EntryCursor} depth c.depth (Err e)
-    at ih (Ok (None, d)) h = none_deeper {Z = EntryCursor} depth c.depth (Ok d)
-    at ih (Ok (Some x, d)) h = more ih x d (h x d refl) (int_lt depth c.depth) refl
+    at : ((z : ℤ) (t : Section) → AreDeeper depth z (items_within unit n z t)) → (r : Reading (Option Item)) → ((x : Item) (t : Section) → r ≡ Ok (Some x, t) → x.depth ≡ now) → AreDeeper depth now (items_after (items_within unit n) r)
+    at ih (Err e) h = none_deeper depth now (Err e)
+    at ih (Ok (None, t)) h = none_deeper depth now (Ok t)
+    at ih (Ok (Some x, t)) h = more ih x t (h x t refl) (int_lt depth now) refl
 
 pub subtrees_lie_deeper : SubtreesLieDeeper
-subtrees_lie_deeper unit start following x h = subst (λ z. AreDeeper x.depth z (items_from unit following)) (next_is unit start following x h).after (deeper_within unit x.depth (length following.left.bytes + 1) following)
+subtrees_lie_deeper unit depth s rest x h = deeper_within unit x.depth (length rest.bytes + 1) (depth_after x) rest

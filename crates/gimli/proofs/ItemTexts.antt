@@ -1,5 +1,5 @@
 -- The texts of items, one after another (on specs/ItemLaws.antt).
-use Rattle.std.proofs.Common.{◌≡◌, ℕ, zero, suc, ◌+◌, ◌≤◌, ◌==◌, Bool, true, false, cond, List, [], ◌∷◌, ◌++◌, length, IfOk, Option, Some, None, Result, Ok, Err, refl, sym, ap, subst, ◌∙◌, arith, length-append, append_assoc}
+use Rattle.std.proofs.Common.{◌≡◌, ℕ, zero, suc, ◌+◌, ◌≤◌, ◌==◌, Bool, true, false, cond, List, [], ◌∷◌, ◌++◌, length, IfOk, Option, Some, None, Result, Ok, Err, refl, sym, ap, subst, ◌∙◌, arith, length-append, append_assoc, ℤ}
 use Rattle.std.proofs.lemmas.Bool.{eqb-true, eqb-false}
 use Rattle.std.proofs.lemmas.List.{nil_from_length}
 use Rattle.gimli_read.specs.declared.error.Error.{Error}
@@ -9,15 +9,15 @@ use Rattle.gimli_read.specs.Reading.{Reading, ◌>>=◌}
 use Rattle.gimli_read.specs.Leb128.{IsUleb128, uleb128_in, uleb128_at}
 use Rattle.gimli_read.specs.Abbreviations.{Abbrev, Specification, with_code}
 use Rattle.gimli_read.specs.Form.{NamedValue, attribute_at, attributes_at}
-use Rattle.gimli_read.specs.Run.{next_of, continued, run_within}
 use Rattle.gimli_read.specs.Value.{section_of}
 use Rattle.gimli_read.specs.ValueLaws.{IsTextAndRest}
 use Rattle.gimli_read.proofs.Steps.{bind_ok, same_rest, same_value}
 use Rattle.gimli_read.proofs.Leb128Texts.{uleb128_alone}
 use Rattle.gimli_read.proofs.AttributeTexts.{attribute_alone}
-use Rattle.gimli.specs.Entry.{EntryCursor, EntryUnit, depth_after_entry, depth_after_closing, opening_entry, entry_abbreviation_at}
-use Rattle.gimli.specs.Items.{Item, depth_after, next_offset_of, item_at, item_from, next_item_at}
-use Rattle.gimli.proofs.ItemLemmas.{run}
+use Rattle.gimli.specs.Entry.{EntryUnit, depth_after_entry, depth_after_closing}
+use Rattle.gimli.specs.Items.{Item, depth_after, item_at, items_after, items_within, offset_of}
+use Rattle.gimli.specs.EntryCursor.{EntryCursor, entry_abbreviation_at, next_item_at, next_offset_of}
+use Rattle.gimli.proofs.CursorLemmas.{abbreviation_is, item_from, item_is, item_here, next_of_item, opening_entry}
 use Rattle.gimli.specs.ItemLaws.{AreAttributes, IsEntryText, AreItems, ItemsCover}
 
 -- the text of a code
@@ -61,23 +61,22 @@ record Texts (unit : EntryUnit) (start : EntryCursor) (r : Result (Option Item �
   by : IfOk r (λ p. (x : Item) → p.0 ≡ Some x → IsItemText unit start p.1 x)
 
 texts : (unit : EntryUnit) (start : EntryCursor) → Texts unit start (next_item_at unit start)
-unfolding next_item_at entry_abbreviation_at
-texts unit start = at (length start.left.bytes == 0)
+texts unit start = subst (Texts unit start) (sym (item_is unit start)) (subst (λ (r : Result (Option Abbrev × EntryCursor) Error). Texts unit start (cond (length start.left.bytes == 0) (Ok (None, start)) (r >>= λ x. item_from unit start x))) (sym (abbreviation_is unit.abbreviations start)) (at (length start.left.bytes == 0)))
   where
     closing : (t : Section) → uleb128_at start.left ≡ Ok (0, t) → Texts unit start (item_from unit start (None, record { left = t; depth = depth_after_closing start.depth }))
     closing t h = record {
       by = λ x k.
-          let is : item_at unit start None ≡ x = cc in
+          let is : item_here unit start None ≡ x = cc in
           let f = code_alone start.left t 0 h in
           subst (λ y. IsItemText unit start (record { left = t; depth = depth_after_closing start.depth }) y) is (record { text = f.0; is = f.1; rest = f.2; offset = refl; depth = refl; after = refl });
     }
 
     read : (code : ℕ) (t : Section) (a : Abbrev) → uleb128_at start.left ≡ Ok (code, t) → (code == 0) ≡ false → with_code code unit.abbreviations ≡ Some a
         → (r : Reading (List NamedValue)) → attributes_at unit.encoding a.attributes t ≡ r
-        → Texts unit start (r >>= λ x. Ok (Some (item_at unit start (Some (record { abbreviation = a; attributes = x.0 }))), record { left = x.1; depth = depth_after_entry a.has_children start.depth }))
+        → Texts unit start (r >>= λ x. Ok (Some (item_here unit start (Some (record { abbreviation = a; attributes = x.0 }))), record { left = x.1; depth = depth_after_entry a.has_children start.depth }))
     read code t a h z w (Ok x) k = record {
       by = λ y q.
-          let is : item_at unit start (Some (record { abbreviation = a; attributes = x.0 })) ≡ y = cc in
+          let is : item_here unit start (Some (record { abbreviation = a; attributes = x.0 })) ≡ y = cc in
           let f = code_alone start.left t code h in
           let m = attributes_alone unit.encoding a.attributes t x.1 x.0 k in
           let order : start.left.endian ≡ t.endian = ap (λ (u : Section). u.endian) f.2 in
@@ -107,7 +106,7 @@ texts unit start = at (length start.left.bytes == 0)
     coded (Ok code) h = picked code.0 code.1 h (code.0 == 0) refl
     coded (Err e) h = record { by = tt }
 
-    at : (b : Bool) → Texts unit start (cond b (Ok (None, start)) (entry_abbreviation_at unit.abbreviations start >>= λ x. item_from unit start x))
+    at : (b : Bool) → Texts unit start (cond b (Ok (None, start)) ((uleb128_at start.left >>= λ code. cond {A = Result (Option Abbrev × EntryCursor) Error} (code.0 == 0) (Ok (None, record { left = code.1; depth = depth_after_closing start.depth })) (opening_entry (with_code code.0 unit.abbreviations) (record { left = code.1; depth = start.depth }))) >>= λ x. item_from unit start x))
     at true = record { by = λ x k. absurd cc }
     at false = coded (uleb128_at start.left) refl
 
@@ -125,15 +124,15 @@ text_is unit start following x h = on (next_item_at unit start) (texts unit star
     on (Err d) t q = absurd cc
 
 -- where the next item begins
-offset_after : (unit : EntryUnit) (start following : EntryCursor) (text : List ℕ) → length start.left.bytes ≤ unit.length → IsTextAndRest start.left text following.left → next_offset_of unit following ≡ next_offset_of unit start + length text
-offset_after unit start following text l h =
-    let whole : length start.left.bytes ≡ length (text ++ following.left.bytes) = ap (λ (u : Section). length u.bytes) h in
-    omega (arith, l, whole, length-append text following.left.bytes)
+offset_after : (unit : EntryUnit) (s rest : Section) (text : List ℕ) → length s.bytes ≤ unit.length → IsTextAndRest s text rest → offset_of unit rest ≡ offset_of unit s + length text
+offset_after unit s rest text l h =
+    let whole : length s.bytes ≡ length (text ++ rest.bytes) = ap (λ (u : Section). length u.bytes) h in
+    omega (arith, l, whole, length-append text rest.bytes)
 
-left_within : (unit : EntryUnit) (start following : EntryCursor) (text : List ℕ) → length start.left.bytes ≤ unit.length → IsTextAndRest start.left text following.left → length following.left.bytes ≤ unit.length
-left_within unit start following text l h =
-    let whole : length start.left.bytes ≡ length (text ++ following.left.bytes) = ap (λ (u : Section). length u.bytes) h in
-    omega (arith, l, whole, length-append text following.left.bytes)
+left_within : (unit : EntryUnit) (s rest : Section) (text : List ℕ) → length s.bytes ≤ unit.length → IsTextAndRest s text rest → length rest.bytes ≤ unit.length
+left_within unit s rest text l h =
+    let whole : length s.bytes ≡ length (text ++ rest.bytes) = ap (λ (u : Section). length u.bytes) h in
+    omega (arith, l, whole, length-append text rest.bytes)
 
 no_item : (x : Item) (c d : EntryCursor) → ◌≡◌ {A = Result (Option Item × EntryCursor) Error} (Ok (Some x, d)) (Ok (None, c)) → ⊥
 no_item x c d h =
@@ -143,10 +142,9 @@ no_item x c d h =
 
 -- at the end of the items nothing is left
 none_left : (unit : EntryUnit) (start c : EntryCursor) → next_item_at unit start ≡ Ok (None, c) → start.left.bytes ≡ []
-unfolding next_item_at
-none_left unit start c = at (length start.left.bytes == 0) refl
+none_left unit start c h = at (length start.left.bytes == 0) refl (sym (item_is unit start) ∙ h)
   where
-    read : (a : Abbrev) (cursor : EntryCursor) (r : Reading (List NamedValue)) → ◌>>=◌ {B = Option Item × EntryCursor} r (λ x. Ok (Some (item_at unit start (Some (record { abbreviation = a; attributes = x.0 }))), record { left = x.1; depth = cursor.depth })) ≡ Ok (None, c) → ⊥
+    read : (a : Abbrev) (cursor : EntryCursor) (r : Reading (List NamedValue)) → ◌>>=◌ {B = Option Item × EntryCursor} r (λ x. Ok (Some (item_here unit start (Some (record { abbreviation = a; attributes = x.0 }))), record { left = x.1; depth = cursor.depth })) ≡ Ok (None, c) → ⊥
     read a cursor (Ok x) h = no_item _ _ _ h
     read a cursor (Err d) h = cc
 
@@ -159,29 +157,34 @@ none_left unit start c = at (length start.left.bytes == 0) refl
     at true k h = nil_from_length _ (eqb-true _ _ k)
     at false k h = absurd (coded (entry_abbreviation_at unit.abbreviations start) h)
 
--- the law, for at most n items
-cover_within : (unit : EntryUnit) (n : ℕ) (start end : EntryCursor) → length start.left.bytes ≤ unit.length → (run unit n start).end ≡ Ok end
-    → AreItems unit start.left.endian (next_offset_of unit start) start.depth (run unit n start).items start.left.bytes
-unfolding run_within
-cover_within unit zero start end l h = absurd cc
-cover_within unit (suc n) start end l h = at (λ c. cover_within unit n c end) (next_item_at unit start) refl h
-  where
-    more : ((c : EntryCursor) → length c.left.bytes ≤ unit.length → (run unit n c).end ≡ Ok end → AreItems unit c.left.endian (next_offset_of unit c) c.depth (run unit n c).items c.left.bytes)
-        → (x : Item) (c : EntryCursor) → IsItemText unit start c x → (run unit n c).end ≡ Ok end → AreItems unit start.left.endian (next_offset_of unit start) start.depth (x ∷ (run unit n c).items) start.left.bytes
-    more ih x c t q =
-        let order : c.left.endian ≡ start.left.endian = sym (ap (λ (u : Section). u.endian) t.rest) in
-        let rest = ih c (left_within unit start c t.text l t.rest) q in
-        let joined : start.left.bytes ≡ t.text ++ c.left.bytes = ap (λ (u : Section). u.bytes) t.rest in
-        let moved = subst (λ o. AreItems unit o (next_offset_of unit c) c.depth (run unit n c).items c.left.bytes) order rest in
-        let deep = subst (λ d. AreItems unit start.left.endian (next_offset_of unit c) d (run unit n c).items c.left.bytes) t.after moved in
-        (t.text, c.left.bytes, joined, t.is, t.offset, t.depth, subst (λ o. AreItems unit start.left.endian o (depth_after x) (run unit n c).items c.left.bytes) (offset_after unit start c t.text l t.rest) deep)
+-- the text of an item that is read of bytes
+pub item_text : (unit : EntryUnit) (depth : ℤ) (s rest : Section) (x : Item) → item_at unit depth s ≡ Ok (Some x, rest) → IsItemText unit (record { left = s; depth = depth }) (record { left = rest; depth = depth_after x }) x
+item_text unit depth s rest x h = text_is unit (record { left = s; depth = depth }) (record { left = rest; depth = depth_after x }) x (next_of_item unit depth s rest (Some x) h)
 
-    at : ((c : EntryCursor) → length c.left.bytes ≤ unit.length → (run unit n c).end ≡ Ok end → AreItems unit c.left.endian (next_offset_of unit c) c.depth (run unit n c).items c.left.bytes)
-        → (r : Result (Option Item × EntryCursor) Error) → next_item_at unit start ≡ r → (continued (run unit n) (next_of r)).end ≡ Ok end
-        → AreItems unit start.left.endian (next_offset_of unit start) start.depth (continued (run unit n) (next_of r)).items start.left.bytes
+-- the law, for at most n items
+cover_within : (unit : EntryUnit) (n : ℕ) (depth : ℤ) (s end : Section) → length s.bytes ≤ unit.length → (items_within unit n depth s).end ≡ Ok end
+    → AreItems unit s.endian (offset_of unit s) depth (items_within unit n depth s).items s.bytes
+unfolding items_within
+cover_within unit zero depth s end l h = absurd cc
+cover_within unit (suc n) depth s end l h = at (λ z t. cover_within unit n z t end) (item_at unit depth s) refl h
+  where
+    Covers : Type 0
+    Covers = (z : ℤ) (t : Section) → length t.bytes ≤ unit.length → (items_within unit n z t).end ≡ Ok end → AreItems unit t.endian (offset_of unit t) z (items_within unit n z t).items t.bytes
+
+    more : Covers → (x : Item) (t : Section) → IsItemText unit (record { left = s; depth = depth }) (record { left = t; depth = depth_after x }) x → (items_within unit n (depth_after x) t).end ≡ Ok end
+        → AreItems unit s.endian (offset_of unit s) depth (x ∷ (items_within unit n (depth_after x) t).items) s.bytes
+    more ih x t i q =
+        let order : t.endian ≡ s.endian = sym (ap (λ (u : Section). u.endian) i.rest) in
+        let rest = ih (depth_after x) t (left_within unit s t i.text l i.rest) q in
+        let joined : s.bytes ≡ i.text ++ t.bytes = ap (λ (u : Section). u.bytes) i.rest in
+        let moved = subst (λ o. AreItems unit o (offset_of unit t) (depth_after x) (items_within unit n (depth_after x) t).items t.bytes) order rest in
+        (i.text, t.bytes, joined, i.is, i.offset, i.depth, subst (λ o. AreItems unit s.endian o (depth_after x) (items_within unit n (depth_after x) t).items t.bytes) (offset_after unit s t i.text l i.rest) moved)
+
+    at : Covers → (r : Reading (Option Item)) → item_at unit depth s ≡ r → (items_after (items_within unit n) r).end ≡ Ok end
+        → AreItems unit s.endian (offset_of unit s) depth (items_after (items_within unit n) r).items s.bytes
     at ih (Err e) k q = absurd cc
-    at ih (Ok (None, c)) k q = none_left unit start c k
-    at ih (Ok (Some x, c)) k q = more ih x c (text_is unit start c x k) q
+    at ih (Ok (None, t)) k q = none_left unit (record { left = s; depth = depth }) (record { left = t; depth = depth }) (next_of_item unit depth s t None k)
+    at ih (Ok (Some x, t)) k q = more ih x t (item_text unit depth s t x k) q
 
 pub items_cover : ItemsCover
-items_cover unit start end l h = cover_within unit (length start.left.bytes + 1) start end l h
+items_cover unit depth s end l h = cover_within unit (length s.bytes + 1) depth s end l h

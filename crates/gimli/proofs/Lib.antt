@@ -5,6 +5,7 @@ pub mod EntryLemmas
 pub mod FrontLemmas
 pub mod HeaderLemmas
 pub mod RangeLemmas
+pub mod CursorLemmas
 pub mod ItemLemmas
 pub mod ItemReads
 pub mod ItemTexts

@@ -4,12 +4,13 @@ use Rattle.std.specs.Prelude.{int_lt, ◌+ℤ◌}
 use Rattle.std.proofs.lemmas.Int.{ints}
 use Rattle.gimli_read.specs.declared.error.Error.{Error}
 use Rattle.gimli_read.specs.declared.error.Error.TheVariants.{UnexpectedEof}
-use Rattle.gimli_read.specs.Reading.{◌>>=◌}
-use Rattle.gimli_read.specs.Run.{Run, next_of, cons, continued, run_within}
-use Rattle.gimli.specs.Entry.{EntryCursor, EntryUnit}
-use Rattle.gimli.specs.Items.{Entry, Item, depth_after, depth_behind, next_item_at, items_from, items_inside}
+use Rattle.gimli_read.specs.Reading.{Reading, ◌>>=◌}
+use Rattle.gimli_read.specs.Run.{Run, cons}
+use Rattle.gimli_read.specs.Section.{Section}
+use Rattle.gimli.specs.Entry.{EntryUnit}
+use Rattle.gimli.specs.Items.{Entry, Item, depth_after, depth_behind, item_at, items_after, items_inside, items_within}
 use Rattle.gimli.specs.ItemLaws.{Closes, SubtreesClose}
-use Rattle.gimli.proofs.ItemLemmas.{IsNext, less, next_is, run}
+use Rattle.gimli.proofs.ItemLemmas.{depth_is, less}
 
 equal : (a b : ℤ) → int_lt a b ≡ false → int_lt b a ≡ false → b ≡ a
 equal a b h k = grind (arith, ints)
@@ -60,32 +61,29 @@ none_closes {Z} depth now end h = at (int_lt depth now) refl end
     at true k (Err e) = (refl, less depth now k, refl)
     at false k end = ([], refl, equal depth now k h)
 
-closes_within : (unit : EntryUnit) (depth : ℤ) (n : ℕ) (c : EntryCursor) → int_lt c.depth depth ≡ false → Closed depth c.depth (run unit n c)
-unfolding run_within
-closes_within unit depth zero c low = none_closes {Z = EntryCursor} depth c.depth (Err UnexpectedEof) low
-closes_within unit depth (suc n) c low = at (closes_within unit depth n) (next_item_at unit c) (λ x d h. next_is unit c d x h)
+closes_within : (unit : EntryUnit) (depth : ℤ) (n : ℕ) (now : ℤ) (s : Section) → int_lt now depth ≡ false → Closed depth now (items_within unit n now s)
+unfolding items_within
+closes_within unit depth zero now s low = none_closes {Z = Section} depth now (Err UnexpectedEof) low
+closes_within unit depth (suc n) now s low = at (closes_within unit depth n) (item_at unit now s) (λ x t h. depth_is unit now s t x h)
   where
-    wider : (x : Item) (r : Run Item EntryCursor) (items : List Item) (end : Result (Unit {0}) Error) → Closes depth (depth_after x) r items end → Closes depth c.depth (cons x r) (x ∷ items) end
+    wider : (x : Item) (r : Run Item Section) (items : List Item) (end : Result (Unit {0}) Error) → Closes depth (depth_after x) r items end → Closes depth now (cons x r) (x ∷ items) end
     wider x r items (Ok u) h = (h.0, ap (λ (l : List Item). x ∷ l) h.1, h.2)
     wider x r items (Err e) h = (ap (λ (l : List Item). x ∷ l) h.0, h.1, h.2)
 
-    more : ((d : EntryCursor) → int_lt d.depth depth ≡ false → Closed depth d.depth (run unit n d)) → (x : Item) (d : EntryCursor) → IsNext c d x → (b : Bool) → int_lt depth c.depth ≡ b
-        → Closes depth c.depth (cons x (run unit n d)) (cond {A = Run Item (Unit {0})} b (cons x (items_inside depth (depth_after x) (run unit n d).items (run unit n d).end)) (record { items = []; end = Ok tt })).items
-        (cond {A = Run Item (Unit {0})} b (cons x (items_inside depth (depth_after x) (run unit n d).items (run unit n d).end)) (record { items = []; end = Ok tt })).end
-    more ih x d h true k =
-        let high : int_lt depth x.depth ≡ true = subst (λ z. int_lt depth z ≡ true) (sym h.depth) k in
-        let next : int_lt d.depth depth ≡ false = subst (λ z. int_lt z depth ≡ false) (sym h.after) (not_lower depth x.depth x.entry high) in
-        wider x (run unit n d) _ _ (subst (λ z. Closed depth z (run unit n d)) h.after (ih d next))
-    more ih x d h false k = (x ∷ (run unit n d).items, refl, equal depth c.depth k low)
+    more : ((z : ℤ) (t : Section) → int_lt z depth ≡ false → Closed depth z (items_within unit n z t)) → (x : Item) (t : Section) → x.depth ≡ now → (b : Bool) → int_lt depth now ≡ b
+        → let r = items_within unit n (depth_after x) t in Closes depth now (cons x r) (cond {A = Run Item (Unit {0})} b (cons x (items_inside depth (depth_after x) r.items r.end)) (record { items = []; end = Ok tt })).items
+        (cond {A = Run Item (Unit {0})} b (cons x (items_inside depth (depth_after x) r.items r.end)) (record { items = []; end = Ok tt })).end
+    more ih x t h true k =
+        let high : int_lt depth x.depth ≡ true = subst (λ z. int_lt depth z ≡ true) (sym h) k in
+        wider x (items_within unit n (depth_after x) t) _ _ (ih (depth_after x) t (not_lower depth x.depth x.entry high))
+    more ih x t h false k = (x ∷ (items_within unit n (depth_after x) t).items, refl, equal depth now k low)
 
-    at : ((d : EntryCursor) → int_lt d.depth depth ≡ false → Closed depth d.depth (run unit n d)) → (r : Result (Option Item × EntryCursor) Error) → ((x : Item) (d : EntryCursor) → r ≡ Ok (Some x, d) → IsNext c d x) → Closed depth c.depth (continued (run unit n) (next_of r))
-    at ih (Err e) h = none_closes {Z = EntryCursor} depth c.depth (Err e) low
-    at ih (Ok (None, d)) h = none_closes {Z = EntryCursor} depth c.depth (Ok d) low
-    at ih (Ok (Some x, d)) h = more ih x d (h x d refl) (int_lt depth c.depth) refl
+    at : ((z : ℤ) (t : Section) → int_lt z depth ≡ false → Closed depth z (items_within unit n z t)) → (r : Reading (Option Item)) → ((x : Item) (t : Section) → r ≡ Ok (Some x, t) → x.depth ≡ now) → Closed depth now (items_after (items_within unit n) r)
+    at ih (Err e) h = none_closes {Z = Section} depth now (Err e) low
+    at ih (Ok (None, t)) h = none_closes {Z = Section} depth now (Ok t) low
+    at ih (Ok (Some x, t)) h = more ih x t (h x t refl) (int_lt depth now) refl
 
 pub subtrees_close : SubtreesClose
-subtrees_close unit start following x e h is =
-    let n = next_is unit start following x h in
+subtrees_close unit depth s rest x e h is =
     let low : int_lt (depth_after x) x.depth ≡ false = subst (λ o. int_lt (depth_behind o x.depth) x.depth ≡ false) (sym is) (entry_not_lower x.depth e) in
-    let here : int_lt following.depth x.depth ≡ false = subst (λ z. int_lt z x.depth ≡ false) (sym n.after) low in
-    subst (λ z. Closed x.depth z (items_from unit following)) n.after (closes_within unit x.depth (length following.left.bytes + 1) following here)
+    closes_within unit x.depth (length rest.bytes + 1) (depth_after x) rest low

@@ -1,5 +1,5 @@
 -- A unit whose root entry is read has abbreviations, which take memory (on specs/Unit.antt).
-use Rattle.std.proofs.Common.{◌≡◌, ℕ, ◌==◌, ◌||◌, pos, Bool, true, false, cond, List, [], Option, Some, None, IfOk, Result, Ok, Err, refl, ap, sym, ◌∙◌}
+use Rattle.std.proofs.Common.{◌≡◌, ℕ, ◌==◌, ◌||◌, Bool, true, false, cond, List, [], Option, Some, None, IfOk, Result, Ok, Err, refl, ap, sym, ◌∙◌}
 use Rattle.gimli_read.specs.declared.error.Error.{Error}
 use Rattle.gimli_read.specs.declared.error.Error.TheVariants.{UnknownAbbreviation}
 use Rattle.gimli_read.specs.declared.endian.Encoding.{Encoding}
@@ -9,7 +9,7 @@ use Rattle.gimli_read.specs.Leb128.{uleb128_at}
 use Rattle.gimli_read.specs.Abbreviations.{Abbrev}
 use Rattle.gimli_read.specs.Abbrev.{abbreviation_at, table_at, takes_memory}
 use Rattle.gimli_read.proofs.AbbrevLemmas.{table_ends, table_fault, abbreviation_front}
-use Rattle.gimli.specs.Entry.{EntryCursor, depth_after_closing, entry_abbreviation_at, root_specifications, root_attributes, attributes_at}
+use Rattle.gimli.specs.Entry.{entry_code_at, root_specifications, root_attributes, attributes_at}
 use Rattle.gimli.specs.Header.{UnitHeaderFields}
 use Rattle.gimli.specs.Record.{RootValues, root_values_of}
 use Rattle.gimli.specs.Sections.{Sections}
@@ -26,26 +26,26 @@ never_bind {r = Ok x} f h = absurd h.by
 never_bind {r = Err e} f h = record { by = tt }
 
 -- the entry of an empty table closes, if one is read
-closing_alone : (cursor : EntryCursor) → IfOk (entry_abbreviation_at [] cursor) (λ x. x.0 ≡ None)
-unfolding entry_abbreviation_at
-closing_alone cursor = at (uleb128_at cursor.left)
+closing_alone : (s : Section) → IfOk (entry_code_at [] s) (λ x. x.0 ≡ None)
+unfolding entry_code_at
+closing_alone s = at (uleb128_at s)
   where
-    at_code : (code : ℕ × Section) (b : Bool) → IfOk {T = Option Abbrev × EntryCursor} (cond b (Ok (None, record { left = code.1; depth = depth_after_closing cursor.depth })) (Err UnknownAbbreviation)) (λ x. x.0 ≡ None)
+    at_code : (code : ℕ × Section) (b : Bool) → IfOk {T = Option Abbrev × Section} (cond b (Ok (None, code.1)) (Err UnknownAbbreviation)) (λ x. x.0 ≡ None)
     at_code code true = refl
     at_code code false = tt
 
-    at : (r : Reading ℕ) → IfOk {T = Option Abbrev × EntryCursor} (r >>= λ code. cond (code.0 == 0) (Ok (None, record { left = code.1; depth = depth_after_closing cursor.depth })) (Err UnknownAbbreviation)) (λ x. x.0 ≡ None)
+    at : (r : Reading ℕ) → IfOk {T = Option Abbrev × Section} (r >>= λ code. cond (code.0 == 0) (Ok (None, code.1)) (Err UnknownAbbreviation)) (λ x. x.0 ≡ None)
     at (Ok code) = at_code code (code.0 == 0)
     at (Err e) = tt
 
 attributes_never : (e : Encoding) (s : Section) → NeverOk (root_attributes e [] s)
 unfolding root_attributes
-attributes_never e s = at (entry_abbreviation_at [] (record { left = s; depth = pos 0 })) (closing_alone (record { left = s; depth = pos 0 }))
+attributes_never e s = at (entry_code_at [] s) (closing_alone s)
   where
-    at : (r : Result (Option Abbrev × EntryCursor) Error) → IfOk r (λ x. x.0 ≡ None)
-        → NeverOk (r >>= λ root. root_specifications root.0 >>= λ specifications. attributes_at e specifications root.1.left >>= λ attributes. Ok attributes.0)
-    at (Ok (None, c)) h = record { by = tt }
-    at (Ok (Some a, c)) h = absurd cc
+    at : (r : Reading (Option Abbrev)) → IfOk r (λ x. x.0 ≡ None)
+        → NeverOk (r >>= λ root. root_specifications root.0 >>= λ specifications. attributes_at e specifications root.1 >>= λ attributes. Ok attributes.0)
+    at (Ok (None, t)) h = record { by = tt }
+    at (Ok (Some a, t)) h = absurd cc
     at (Err d) h = record { by = tt }
 
 -- no root entry is read by an empty table

@@ -1,27 +1,24 @@
 -- The entries of a unit from an offset on (DWARF 5, section 7.5).
 -- Own: an offset counts from the start of the unit's length, and is valid from the end of the
 -- header to below the unit's end; any other is OffsetOutOfBounds.
-use Rattle.std.specs.Prelude.{ℕ, ◌+◌, ◌-◌, nat_lt, pos, List, length, Option, Some, None, Result, Ok, Err, if◌then◌else◌}
+use Rattle.std.specs.Prelude.{ℕ, ◌+◌, ◌-◌, nat_lt, List, length, Option, Some, None, Result, Ok, Err, if◌then◌else◌}
 use Rattle.gimli_read.specs.declared.error.Error.{Error}
 use Rattle.gimli_read.specs.declared.error.Error.TheVariants.{OffsetOutOfBounds}
 use Rattle.gimli_read.specs.Abbreviations.{Abbrev}
 use Rattle.gimli_read.specs.Section.{Section, after}
-use Rattle.gimli_read.specs.Reading.{◌>>=◌}
 use Rattle.gimli_read.specs.Form.{NamedValue}
 use Rattle.gimli.specs.Header.{UnitHeaderFields}
-use Rattle.gimli.specs.Entry.{EntriesLeft, root_attributes}
+use Rattle.gimli.specs.Entry.{EntryUnit, root_attributes}
 use Rattle.gimli.specs.Unit.{UnitRecord}
 
 -- how many bytes a unit has, with its header
 abbrev pub unit_length : UnitHeaderFields → ℕ
 unit_length header = header.header_length + length header.entries.bytes
 
--- the entries of a unit, of which these bytes are left, at depth 0
-abbrev pub entries_at : UnitHeaderFields → List Abbrev → Section → EntriesLeft
-entries_at header table left = record {
-  unit = record { encoding = header.encoding; abbreviations = table; length = unit_length header };
-  cursor = record { left = left; depth = pos 0 };
-}
+-- what the entries of a unit are read by
+abbrev pub entry_unit : UnitHeaderFields → List Abbrev → EntryUnit
+entry_unit header table =
+    record { encoding = header.encoding; abbreviations = table; length = unit_length header }
 
 -- the bytes of the entries from an offset on, or from the root entry
 abbrev pub entry_bytes_from : UnitHeaderFields → Option ℕ → Result Section Error
@@ -31,11 +28,6 @@ entry_bytes_from header (Some offset) =
     else if nat_lt offset (unit_length header)
     then Ok (after (offset - header.header_length) header.entries)
     else Err OffsetOutOfBounds
-
--- the entries of a unit from an offset on, or from the root entry
-abbrev pub entries_from : UnitRecord → Option ℕ → Result EntriesLeft Error
-entries_from u offset =
-    entry_bytes_from u.header offset >>= λ left. Ok (entries_at u.header u.abbreviations left)
 
 -- the attributes of a unit's root entry, in their order
 abbrev pub root_attributes_of : UnitRecord → Result (List NamedValue) Error

@@ -15,9 +15,9 @@ use Rattle.gimli_read.specs.Leb128.{IsUleb128}
 use Rattle.gimli_read.specs.Form.{NamedValue}
 use Rattle.gimli_read.specs.Value.{IsAttribute}
 use Rattle.gimli.specs.Header.{UnitHeaderFields, headers_of}
-use Rattle.gimli.specs.Entry.{EntryCursor, EntryUnit}
+use Rattle.gimli.specs.Entry.{EntryUnit}
 use Rattle.gimli.specs.Entries.{unit_length}
-use Rattle.gimli.specs.Items.{Entry, Item, depth_after, next_offset_of, next_item_at, items_from, subtree_of}
+use Rattle.gimli.specs.Items.{Entry, Item, depth_after, offset_of, item_at, items_from, subtree_of}
 
 -- the bytes of a unit, its length among them, in those of its section
 abbrev pub unit_text : List ℕ → UnitHeaderFields → List ℕ
@@ -66,25 +66,25 @@ AreItems unit order offset depth (x ∷ xs) bytes =
 -- the items that are read to the unit's end cover its bytes
 abbrev pub ItemsCover : Type 0
 ItemsCover =
-    (unit : EntryUnit) (start end : EntryCursor) → length start.left.bytes ≤ unit.length
-    → (items_from unit start).end ≡ Ok end
-    → AreItems unit start.left.endian (next_offset_of unit start) start.depth
-    (items_from unit start).items start.left.bytes
+    (unit : EntryUnit) (depth : ℤ) (s end : Section) → length s.bytes ≤ unit.length
+    → (items_from unit depth s).end ≡ Ok end
+    → AreItems unit s.endian (offset_of unit s) depth (items_from unit depth s).items s.bytes
 
 -- and any items whose texts cover them are those that are read
 abbrev pub ItemsAlone : Type 0
 ItemsAlone =
-    (unit : EntryUnit) (start : EntryCursor) (items : List Item)
-    → length start.left.bytes ≤ unit.length
-    → AreItems unit start.left.endian (next_offset_of unit start) start.depth items start.left.bytes
-    → ((items_from unit start).items ≡ items) × IsOk (items_from unit start).end
+    (unit : EntryUnit) (depth : ℤ) (s : Section) (items : List Item)
+    → length s.bytes ≤ unit.length
+    → AreItems unit s.endian (offset_of unit s) depth items s.bytes
+    → ((items_from unit depth s).items ≡ items) × IsOk (items_from unit depth s).end
 
 -- the items between an item and the end of its subtree lie deeper than it
 abbrev pub SubtreesLieDeeper : Type 0
 SubtreesLieDeeper =
-    (unit : EntryUnit) (start following : EntryCursor) (x : Item)
-    → next_item_at unit start ≡ Ok (Some x, following)
-    → AllByRecursion (λ y. x.depth <ℤ y.depth) (subtree_of x (items_from unit following)).items
+    (unit : EntryUnit) (depth : ℤ) (s rest : Section) (x : Item)
+    → item_at unit depth s ≡ Ok (Some x, rest)
+    → AllByRecursion (λ y. x.depth <ℤ y.depth)
+    (subtree_of x (items_from unit (depth_after x) rest)).items
 
 -- the depth after items, of which the first lies at a depth
 abbrev pub depth_after_all : ℤ → List Item → ℤ
@@ -105,7 +105,8 @@ Closes depth now following items (Err e) =
 -- there is no such front, and its fault is that of the items, or UnexpectedEof
 abbrev pub SubtreesClose : Type 0
 SubtreesClose =
-    (unit : EntryUnit) (start following : EntryCursor) (x : Item) (e : Entry)
-    → next_item_at unit start ≡ Ok (Some x, following) → x.entry ≡ Some e
-    → Closes x.depth (depth_after x) (items_from unit following)
-    (subtree_of x (items_from unit following)).items (subtree_of x (items_from unit following)).end
+    (unit : EntryUnit) (depth : ℤ) (s rest : Section) (x : Item) (e : Entry)
+    → item_at unit depth s ≡ Ok (Some x, rest) → x.entry ≡ Some e
+    → let following = items_from unit (depth_after x) rest in
+    Closes x.depth (depth_after x) following (subtree_of x following).items
+    (subtree_of x following).end

@@ -2,15 +2,16 @@
 -- end lists of children, in the order of their bytes.
 -- Own: depths count from where the reading begins, and a closing entry takes one also below 0.
 -- Own: a subtree that isn't closed before the items end is UnexpectedEof.
-use Rattle.std.specs.Prelude.{ℕ, ◌+◌, ◌-◌, ◌==◌, ℤ, int_lt, List, [], ◌∷◌, length, Option, Some, None, Result, Ok, Err, if◌then◌else◌}
+use Rattle.std.specs.Prelude.{ℕ, zero, suc, ◌+◌, ◌-◌, ◌==◌, ℤ, pos, int_lt, List, [], ◌∷◌, length, Option, Some, None, Result, Ok, Err, if◌then◌else◌}
 use Rattle.gimli_read.specs.declared.error.Error.{Error}
 use Rattle.gimli_read.specs.declared.error.Error.TheVariants.{UnexpectedEof}
 use Rattle.gimli_read.specs.Abbreviations.{Abbrev}
-use Rattle.gimli_read.specs.Reading.{◌>>=◌}
+use Rattle.gimli_read.specs.Section.{Section}
+use Rattle.gimli_read.specs.Reading.{Reading, ◌>>=◌}
 use Rattle.gimli_read.specs.Form.{NamedValue, attributes_at}
-use Rattle.gimli_read.specs.Run.{Run, next_of, cons, run_within}
-use Rattle.gimli.specs.Entry.{EntryCursor, EntryUnit, EntriesLeft, depth_after_entry, depth_after_closing, entry_abbreviation_at}
-use Rattle.gimli.specs.Entries.{entries_at}
+use Rattle.gimli_read.specs.Run.{Run, cons}
+use Rattle.gimli.specs.Entry.{EntryUnit, depth_after_entry, depth_after_closing, entry_code_at}
+use Rattle.gimli.specs.Entries.{entry_bytes_from, entry_unit}
 use Rattle.gimli.specs.Unit.{UnitRecord}
 
 -- an entry: its abbreviation, and its attributes in their order
@@ -34,43 +35,54 @@ depth_behind (Some e) depth = depth_after_entry e.abbreviation.has_children dept
 abbrev pub depth_after : Item → ℤ
 depth_after x = depth_behind x.entry x.depth
 
--- where the next item begins
-abbrev pub next_offset_of : EntryUnit → EntryCursor → ℕ
-next_offset_of unit cursor = unit.length - length cursor.left.bytes
+-- where bytes begin that go to a unit's end
+abbrev pub offset_of : EntryUnit → Section → ℕ
+offset_of unit s = unit.length - length s.bytes
 
--- an item that begins at a place
-abbrev pub item_at : EntryUnit → EntryCursor → Option Entry → Item
-item_at unit start entry =
-    record { offset = next_offset_of unit start; depth = start.depth; entry = entry }
+-- the entry whose code is read, with its attributes, which a closing entry hasn't
+abbrev pub entry_of_code : EntryUnit → Option Abbrev × Section → Reading (Option Entry)
+entry_of_code unit (None, s) = Ok (None, s)
+entry_of_code unit (Some a, s) = attributes_at unit.encoding a.attributes s >>= λ x.
+    Ok (Some (record { abbreviation = a; attributes = x.0 }), x.1)
 
--- the item whose code is read: a closing entry, or an entry, whose attributes follow
-abbrev pub item_from : EntryUnit → EntryCursor → Option Abbrev × EntryCursor
-    → Result (Option Item × EntryCursor) Error
-item_from unit start (None, cursor) = Ok (Some (item_at unit start None), cursor)
-item_from unit start (Some a, cursor) =
-    attributes_at unit.encoding a.attributes cursor.left >>= λ x. Ok (
-      Some (item_at unit start (Some (record { abbreviation = a; attributes = x.0 }))),
-      record { left = x.1; depth = cursor.depth },
-    )
+-- the next entry, none of a closing entry
+abbrev pub entry_at : EntryUnit → Section → Reading (Option Entry)
+entry_at unit s = entry_code_at unit.abbreviations s >>= λ code. entry_of_code unit code
 
--- the next item and where it ends, or none at the unit's end
-unfoldable pub next_item_at : EntryUnit → EntryCursor → Result (Option Item × EntryCursor) Error
-next_item_at unit cursor =
-    if length cursor.left.bytes == 0 then Ok (None, cursor)
-    else (entry_abbreviation_at unit.abbreviations cursor >>= λ x. item_from unit cursor x)
+-- the item that begins here, at a depth, or none at the unit's end
+unfoldable pub item_at : EntryUnit → ℤ → Section → Reading (Option Item)
+item_at unit depth s =
+    if length s.bytes == 0 then Ok (None, s)
+    else (entry_at unit s >>= λ x.
+    Ok (Some (record { offset = offset_of unit s; depth = depth; entry = x.0 }), x.1))
 
--- the items from a place on, up to the unit's end or the first fault
-abbrev pub items_from : EntryUnit → EntryCursor → Run Item EntryCursor
-items_from unit cursor =
-    run_within (λ c. next_of (next_item_at unit c)) (length cursor.left.bytes + 1) cursor
+-- the item that was read, and the items after it; or none, at the end or the fault in its place
+abbrev pub items_after : (ℤ → Section → Run Item Section) → Reading (Option Item)
+    → Run Item Section
+items_after following (Err e) = record { items = []; end = Err e }
+items_after following (Ok (None, rest)) = record { items = []; end = Ok rest }
+items_after following (Ok (Some x, rest)) = cons x (following (depth_after x) rest)
 
--- the items that are left to read
-abbrev pub items_left : EntriesLeft → Run Item EntryCursor
-items_left entries = items_from entries.unit entries.cursor
+-- at most n items
+unfoldable pub items_within : EntryUnit → ℕ → ℤ → Section → Run Item Section
+items_within unit zero depth s = record { items = []; end = Err UnexpectedEof }
+items_within unit (suc n) depth s = items_after (items_within unit n) (item_at unit depth s)
+
+-- the items from here on, of which the first lies at a depth, up to the unit's end or the first
+-- fault
+abbrev pub items_from : EntryUnit → ℤ → Section → Run Item Section
+items_from unit depth s = items_within unit (length s.bytes + 1) depth s
 
 -- the items of a unit
-abbrev pub items_of : UnitRecord → Run Item EntryCursor
-items_of u = items_left (entries_at u.header u.abbreviations u.header.entries)
+abbrev pub items_of : UnitRecord → Run Item Section
+items_of u = items_from (entry_unit u.header u.abbreviations) (pos 0) u.header.entries
+
+-- the items of a unit from an offset on, of which the first lies at depth 0
+abbrev pub items_at : UnitRecord → ℕ → Run Item Section
+items_at u offset = elim (entry_bytes_from u.header (Some offset)) [
+  | Ok s ↦ items_from (entry_unit u.header u.abbreviations) (pos 0) s
+  | Err e ↦ record { items = []; end = Err e }
+]
 
 -- items, at first at a depth `now`, up to the first after which the depth is no greater than this
 abbrev pub items_inside : {Z : Type 0} → ℤ → ℤ → List Item → Result Z Error → Run Item (Unit {0})

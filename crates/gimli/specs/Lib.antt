@@ -18,5 +18,6 @@ pub mod Ranges
 pub mod RangesLeft
 pub mod RangesOffset
 pub mod Items
+pub mod EntryCursor
 pub mod ItemLaws
 pub mod HeaderOrder

@@ -4,8 +4,8 @@ ghost use Rattle.std.specs.Prelude.{◌≡◌, ◌<◌, ◌≤◌, ◌+◌, ◌-
 ghost use Rattle.gimli_read.specs.Reading.{Exactly, ExactlyUnlessOomFor};
 ghost use Rattle.gimli_read.specs.HeldBytes.{gives_attribute_bytes};
 ghost use Rattle.gimli_read.specs.Form.{attribute_at, attributes_at, rest_of};
-ghost use Rattle.gimli.specs.Entry.{depth_after_entry, depth_after_closing, entry_abbreviation_at};
-ghost use Rattle.gimli.specs.Entries.{entries_at};
+ghost use Rattle.gimli.specs.Entry.{depth_after_entry, depth_after_closing};
+ghost use Rattle.gimli.specs.EntryCursor.{entries_at, entry_abbreviation_at};
 
 use crate::unit::UnitHeader;
 use gimli_read::{
@@ -28,7 +28,7 @@ pub struct EntriesRaw<'a, R: Reader> {
 }
 
 impl<'a, R: Reader> Model for EntriesRaw<'a, R> {
-    ghost use Rattle.gimli.specs.Entry.{EntriesLeft, IsInUnit};
+    ghost use Rattle.gimli.specs.EntryCursor.{EntriesLeft, IsInUnit};
 
     ghost Value = { EntriesLeft };
 
@@ -105,7 +105,7 @@ impl<'a, R: Reader> EntriesRaw<'a, R> {
 
     // Reads the code of the next entry. After a refusal the reading may stand anywhere.
     #[inline(always)]
-    #[tactic(auto, unfolding(crate::specs::Entry::entry_abbreviation_at), using(crate::proofs::EntryLemmas::code_takes, crate::proofs::EntryLemmas::entry_in_unit, crate::proofs::EntryLemmas::closing_in_unit, crate::proofs::EntryLemmas::still_in_unit, crate::proofs::EntryLemmas::next_fits))]
+    #[tactic(auto, unfolding(crate::specs::EntryCursor::entry_abbreviation_at, crate::specs::Entry::entry_code_at), using(crate::proofs::EntryLemmas::code_takes, crate::proofs::EntryLemmas::entry_in_unit, crate::proofs::EntryLemmas::closing_in_unit, crate::proofs::EntryLemmas::still_in_unit, crate::proofs::EntryLemmas::next_fits))]
     fn read_code(&mut self) -> Result<Option<&'a Abbreviation>, Error>
         ensures gives { Exactly (λ a. (option_map (λ r. r.now) a, self.new.cursor)) result
             (entry_abbreviation_at self.old.unit.abbreviations self.old.cursor) }

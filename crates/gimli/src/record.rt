@@ -185,7 +185,6 @@ fn read_root_attributes<R: Reader>(
 ///
 /// Refused `UnexpectedEof` where no entry is, `MissingUnitDie` at a closing entry,
 /// `UnknownAbbreviation`, what an attribute's value is refused for, and `OutOfMemory`.
-#[tactic(auto, unfolding(crate::specs::Record::root_values_of, crate::specs::Entry::root_attributes))]
 pub(crate) fn read_root<R: Reader>(
     header: &UnitHeader<R>,
     abbreviations: &Abbreviations,

@@ -5,7 +5,8 @@ ghost use Rattle.gimli_read.specs.Reading.{Exactly, ExactlyUnlessOomFor};
 ghost use Rattle.gimli_read.specs.Form.{seen_value};
 ghost use Rattle.gimli.specs.Text.{indexed_number, string_takes_memory};
 ghost use Rattle.gimli.specs.Unit.{attr_string_of};
-ghost use Rattle.gimli.specs.Entries.{entry_bytes_from, entries_from};
+ghost use Rattle.gimli.specs.Entries.{entry_bytes_from};
+ghost use Rattle.gimli.specs.EntryCursor.{entries_from};
 ghost use Rattle.gimli.specs.Ranges.{ranges_at};
 ghost use Rattle.gimli.specs.RangesOffset.{ranges_offset_of};
 

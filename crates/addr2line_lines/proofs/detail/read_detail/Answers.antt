@@ -4,7 +4,8 @@ use Rattle.gimli_read.specs.declared.error.Error.{Error}
 use Rattle.gimli_read.specs.Abbreviations.{Abbrev}
 use Rattle.gimli_read.specs.Reading.{ExactlyUnlessOomIf}
 use Rattle.gimli_read.specs.Section.{Section}
-use Rattle.gimli.specs.Entry.{EntryCursor, EntryUnit}
+use Rattle.gimli.specs.Entry.{EntryUnit}
+use Rattle.gimli.specs.EntryCursor.{EntryCursor}
 use Rattle.gimli.specs.Unit.{UnitRecord}
 use Rattle.addr2line_lines.specs.FoundInlined.{FoundInlined, seen_lists}
 use Rattle.addr2line_lines.specs.FoundDetails.{function_found_at, function_takes_memory_at, is_memory_taken}

@@ -1,6 +1,6 @@
 use Rattle.std.proofs.Common.{sym, ap, ◌∙◌}
 use Rattle.std.proofs.lemmas.Result.{err_from_is_err_and}
-use Rattle.gimli.specs.Items.{items_from}
+use Rattle.gimli.specs.EntryCursor.{items_left}
 use Rattle.addr2line_lines.specs.Functions.{have_function}
 use Rattle.addr2line_lines.specs.FoundFunctions.{found_from, seen_functions}
 use Rattle.addr2line_lines.proofs.FunctionLemmas.{found_end, found_fault, found_step, or_more}
@@ -17,7 +17,7 @@ loop-unit-preserved g c =
       gives = ap (λ v. found_from d u v now.entries.cursor (seen_functions now.found)) c.in_ok-read_item.ensures.unit
           ∙ sym (found_step d u _ _ _ _ _ (sym c.loop-unit-test.ensures.gives) c.in_ok-read_item.ensures.gives) ∙ i.gives;
       unit = ap (λ v. v.encoding) c.in_ok-read_item.ensures.unit ∙ i.unit;
-      has = λ e. i.has (have_step d u _ _ _ _ _ (sym c.loop-unit-test.ensures.gives) c.in_ok-read_item.ensures.gives (ap (λ v. have_function d u (items_from v now.entries.cursor).items) (sym c.in_ok-read_item.ensures.unit) ∙ e));
+      has = λ e. i.has (have_step d u _ _ _ _ _ (sym c.loop-unit-test.ensures.gives) c.in_ok-read_item.ensures.gives (ap (λ v. have_function d u (items_left v now.entries.cursor).items) (sym c.in_ok-read_item.ensures.unit) ∙ e));
       unread = c.in_ok-read_item.ensures.unread i.unread;
     }
 

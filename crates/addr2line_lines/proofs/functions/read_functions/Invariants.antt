@@ -1,5 +1,6 @@
 use Rattle.std.proofs.Common.{◌≡◌, true, length}
-use Rattle.gimli.specs.Items.{items_from, items_of}
+use Rattle.gimli.specs.Items.{items_of}
+use Rattle.gimli.specs.EntryCursor.{items_left}
 use Rattle.addr2line_lines.specs.Functions.{have_function}
 use Rattle.addr2line_lines.specs.FoundFunctions.{AreFoundUnread, found_from, found_in, seen_functions}
 use Rattle.addr2line_lines.proofs.functions.read_functions.Given as goal
@@ -11,7 +12,7 @@ invariant-loop-unit g l =
     record {
       gives : found_from d u l.entries.unit l.entries.cursor (seen_functions l.found) ≡ found_in d u;
       unit : l.entries.unit.encoding ≡ u.header.encoding;
-      has : have_function d u (items_from l.entries.unit l.entries.cursor).items ≡ true → have_function d u (items_of u).items ≡ true;
+      has : have_function d u (items_left l.entries.unit l.entries.cursor).items ≡ true → have_function d u (items_of u).items ≡ true;
       unread : AreFoundUnread l.found;
     }
 

@@ -1,0 +1,93 @@
+-- The entry at an offset of its unit and the items inside it, by places among the entries (on
+-- specs/Details.antt).
+use Rattle.std.proofs.Common.{◌≡◌, ℕ, List, [], ◌∷◌, Option, Some, None, Result, Ok, Err, refl, ap, ◌∙◌, pos}
+use Rattle.gimli_read.specs.declared.error.Error.{Error}
+use Rattle.gimli_read.specs.declared.error.Error.TheVariants.{NoEntryAtGivenOffset}
+use Rattle.gimli_read.specs.Reading.{◌>>=◌}
+use Rattle.gimli_read.specs.Run.{Run}
+use Rattle.gimli_read.specs.Section.{Section}
+use Rattle.gimli.specs.Entries.{entry_bytes_from, entry_unit}
+use Rattle.gimli.specs.EntryCursor.{EntriesLeft, EntryCursor, entries_at, entries_from, items_left, next_item_at}
+use Rattle.gimli.specs.Items.{Entry, Item, items_from, subtree_of}
+use Rattle.gimli.specs.Unit.{UnitRecord}
+use Rattle.gimli.proofs.ItemReads.{items_end, items_fault, items_more}
+use Rattle.addr2line_lines.specs.Details.{Detail, PlacedItem, WholeEntry, detail_at, first_whole, inlined_in, placed_inside, placed_items, whole_entry_at}
+use Rattle.addr2line_lines.specs.InlinedEntries.{InlinedRange}
+use Rattle.addr2line_lines.specs.Names.{name_of}
+use Rattle.addr2line_lines.specs.References.{Scope}
+
+-- the entry of an item, which a closing entry isn't
+abbrev pub item_entry : ℕ → Option Item → Result (Item × Entry) Error
+item_entry offset None = Err (NoEntryAtGivenOffset offset)
+item_entry offset (Some x) = elim x.entry [ None ↦ Err (NoEntryAtGivenOffset offset) | Some e ↦ Ok (x, e) ]
+
+-- the entry of an item that was read at a place, whole
+abbrev pub whole_read : ℕ → EntriesLeft → Result (Option Item × EntryCursor) Error → Result WholeEntry Error
+whole_read offset left r = r >>= λ next. item_entry offset next.0 >>= λ x. Ok (record { entry = x.1; inside = subtree_of x.0 (items_left left.unit next.1) })
+
+whole_left : (u : UnitRecord) (offset : ℕ) (s : Section) → let left = entries_at u.header u.abbreviations s in let items = items_left left.unit left.cursor in first_whole offset items.items items.end ≡ whole_read offset left (next_item_at left.unit left.cursor)
+whole_left u offset s = by_item (next_item_at left.unit left.cursor) refl
+  where
+    left : EntriesLeft
+    left = entries_at u.header u.abbreviations s
+
+    first : Run Item Section → Result WholeEntry Error
+    first r = first_whole offset r.items r.end
+
+    by_entry : (x : Item) (d : EntryCursor) (o : Option Entry)
+        → elim o [ None ↦ Err (NoEntryAtGivenOffset offset) | Some e ↦ Ok (record { entry = e; inside = subtree_of x (items_left left.unit d) }) ]
+        ≡ (◌>>=◌ {A = Item × Entry} {B = WholeEntry} (elim o [ None ↦ Err (NoEntryAtGivenOffset offset) | Some e ↦ Ok (x, e) ]) (λ y. Ok (record { entry = y.1; inside = subtree_of y.0 (items_left left.unit d) })))
+    by_entry x d None = refl
+    by_entry x d (Some e) = refl
+
+    by_item : (r : Result (Option Item × EntryCursor) Error) → next_item_at left.unit left.cursor ≡ r → first (items_left left.unit left.cursor) ≡ whole_read offset left r
+    by_item (Err e) q = ap first (items_fault left.unit left.cursor e q)
+    by_item (Ok (None, d)) q = ap first (items_end left.unit left.cursor d q)
+    by_item (Ok (Some x, d)) q = ap first (items_more left.unit left.cursor d x q) ∙ by_entry x d x.entry
+
+pub whole_is : (u : UnitRecord) (offset : ℕ) → whole_entry_at u offset ≡ (entries_from u (Some offset) >>= λ left. whole_read offset left (next_item_at left.unit left.cursor))
+whole_is u offset = by_bytes (entry_bytes_from u.header (Some offset))
+  where
+    items : Result Section Error → Run Item Section
+    items r = elim r [ Ok s ↦ items_from (entry_unit u.header u.abbreviations) (pos 0) s | Err e ↦ record { items = []; end = Err e } ]
+
+    by_bytes : (r : Result Section Error) → first_whole offset (items r).items (items r).end ≡ ((r >>= λ s. Ok (entries_at u.header u.abbreviations s)) >>= λ left. whole_read offset left (next_item_at left.unit left.cursor))
+    by_bytes (Ok s) = whole_left u offset s
+    by_bytes (Err e) = refl
+
+module _ (scope : Scope) (u : UnitRecord) (offset : ℕ) where
+  -- the details of a function, of which the item at a place is the entry
+  abbrev pub detail_of : WholeEntry → Result Detail Error
+  detail_of x = name_of scope u x.entry.attributes >>= λ name. inlined_in scope u x.inside >>= λ inlined. Ok (record { name = name; inlined = inlined })
+
+  abbrev pub detail_read : EntriesLeft → Result (Option Item × EntryCursor) Error → Result Detail Error
+  detail_read left r = r >>= λ next. item_entry offset next.0 >>= λ x. detail_of (record { entry = x.1; inside = subtree_of x.0 (items_left left.unit next.1) })
+
+  -- the items inside it, with the entries that are open around each
+  abbrev pub placed_of : WholeEntry → Result (List PlacedItem) Error
+  placed_of x = name_of scope u x.entry.attributes >>= λ name. Ok (placed_items [] x.inside.items)
+
+  abbrev pub placed_read : EntriesLeft → Result (Option Item × EntryCursor) Error → Result (List PlacedItem) Error
+  placed_read left r = r >>= λ next. item_entry offset next.0 >>= λ x. placed_of (record { entry = x.1; inside = subtree_of x.0 (items_left left.unit next.1) })
+
+  nested : {A : Type 0} (f : WholeEntry → Result A Error) (r : Result EntriesLeft Error)
+      → ((r >>= λ left. whole_read offset left (next_item_at left.unit left.cursor)) >>= f)
+      ≡ (r >>= λ left. next_item_at left.unit left.cursor >>= λ next. item_entry offset next.0 >>= λ x. f (record { entry = x.1; inside = subtree_of x.0 (items_left left.unit next.1) }))
+  nested {A} f (Err e) = refl
+  nested {A} f (Ok left) = by_item (next_item_at left.unit left.cursor)
+    where
+      by_entry : (d : EntryCursor) (r : Result (Item × Entry) Error) → ((r >>= λ x. Ok (record { entry = x.1; inside = subtree_of x.0 (items_left left.unit d) })) >>= f) ≡ (r >>= λ x. f (record { entry = x.1; inside = subtree_of x.0 (items_left left.unit d) }))
+      by_entry d (Ok x) = refl
+      by_entry d (Err e) = refl
+
+      by_item : (r : Result (Option Item × EntryCursor) Error) → (whole_read offset left r >>= f) ≡ (r >>= λ next. item_entry offset next.0 >>= λ x. f (record { entry = x.1; inside = subtree_of x.0 (items_left left.unit next.1) }))
+      by_item (Ok next) = by_entry next.1 (item_entry offset next.0)
+      by_item (Err e) = refl
+
+  pub detail_is : detail_at scope u offset ≡ (entries_from u (Some offset) >>= λ left. detail_read left (next_item_at left.unit left.cursor))
+  unfolding detail_at
+  detail_is = ap (λ r. r >>= detail_of) (whole_is u offset) ∙ nested detail_of (entries_from u (Some offset))
+
+  pub placed_is : placed_inside scope u offset ≡ (entries_from u (Some offset) >>= λ left. placed_read left (next_item_at left.unit left.cursor))
+  unfolding placed_inside
+  placed_is = ap (λ r. r >>= placed_of) (whole_is u offset) ∙ nested placed_of (entries_from u (Some offset))

@@ -1,0 +1,21 @@
+use Rattle.std.proofs.Common.{sym, subst}
+use Rattle.std.proofs.lemmas.Result.{err_from_is_err_and}
+use Rattle.gimli_read.specs.Reading.{ExactlyUnlessOomIf}
+use Rattle.addr2line_units.proofs.AttributeLemmas.{attributes-by}
+use Rattle.addr2line_units.proofs.attributes.read_unit_attributes.Goals as goal
+
+pub returns-in_err-abbreviation : goal.returns-in_err-abbreviation
+returns-in_err-abbreviation g c =
+    let p = err_from_is_err_and c.from_residual-in_err-abbreviation.result c.from_residual-in_err-abbreviation.ensures.1 in
+    record { gives = rw (p.1, p.2) (λ ne. attributes-by _ _ _ _ c.in_ok-entries.ensures.gives c.in_err-abbreviation.ensures.gives) }
+
+pub returns-in-Some : goal.returns-in-Some
+returns-in-Some g c =
+    let code = rw c.in-Some.is at c.in_ok-abbreviation.ensures.gives in
+    let given = rw c.attributes.ensures.gives at c.read_attributes.ensures.gives in
+    record { gives = subst (ExactlyUnlessOomIf g.R.Reader.shares (λ a. a) c.read_attributes.result) (sym (attributes-by _ _ _ _ c.in_ok-entries.ensures.gives code)) given }
+
+pub returns : goal.returns
+returns g c =
+    let code = rw c.in-None.is at c.in_ok-abbreviation.ensures.gives in
+    record { gives = λ ne. attributes-by _ _ _ _ c.in_ok-entries.ensures.gives code }

@@ -3,4 +3,5 @@ pub mod CodeLemmas
 pub mod ItemLemmas
 pub mod AdlerLemmas
 pub mod BlockLemmas
+pub mod MemoryLemmas
 pub mod TableLemmas

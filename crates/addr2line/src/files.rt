@@ -20,9 +20,8 @@ pub trait FileSource: Drop {
 
     /// The bytes of the file at a path, none where there is no file or it can't be read.
     ///
-    /// Fails where a growth was refused; takes no memory where it is known that no file is there, or
-    /// one without a byte.
-    /// Source: own.
+    /// Fails where a growth was refused; takes no memory where it is known that no file is there,
+    /// or one without a byte. Source: own.
     fn read(&self, alloc: Global, path: &str) -> Result<Option<Vec<u8>>, AllocError>
         ensures gives { IfSome (files self.now) (λ held. IfOk result (λ found.
             option_map (λ (v : _). v.items) found ≡ held path.now)) }

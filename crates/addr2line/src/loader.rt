@@ -165,7 +165,8 @@ impl<F: FileSource> LoaderOver<F> {
     /// | `Dwarf` | as `Context::from_dwarf` is refused |
     ///
     /// May fail with `OutOfMemory` instead, but not where it is known that no file is at `path`, or
-    /// one without a byte. No section is copied. Source: DWARF 5, sections 7.3.6 and 7.5. Own: the order.
+    /// one without a byte. No section is copied. Source: DWARF 5, sections 7.3.6 and 7.5. Own: the
+    /// order.
     pub fn over(
         alloc: Global,
         files: F,

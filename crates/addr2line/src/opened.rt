@@ -60,7 +60,8 @@ fn dwarf_of_bytes(
 /// file that other bytes are, if there are any.
 ///
 /// No byte is copied. Refused as `LoaderOver::over` is, but never `Io`; may fail with `OutOfMemory`
-/// instead, but not where the bytes are no ELF file. Source: DWARF 5, sections 7.3.6 and 7.5. Own: the order of the refusals.
+/// instead, but not where the bytes are no ELF file. Source: DWARF 5, sections 7.3.6 and 7.5. Own:
+/// the order of the refusals.
 #[tactic(auto, unfolding(crate::specs::Loaded::loaded_bytes))]
 pub fn open_bytes(
     alloc: Global,

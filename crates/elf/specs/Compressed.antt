@@ -67,8 +67,9 @@ number_zdebug name file = position (is_zdebug (section_names_of file) name) file
 
 -- that section, beside its number
 abbrev pub first_zdebug : List ℕ → ObjectFile → Option (ℕ × SectionHeader)
-first_zdebug name file = option_and_then (λ n.
-    option_map (λ (s : SectionHeader). (n, s)) (slice_get file.sections n)) (number_zdebug name file)
+first_zdebug name file = option_and_then
+    (λ n. option_map (λ (s : SectionHeader). (n, s)) (slice_get file.sections n))
+    (number_zdebug name file)
 
 -- the bytes of a section of such a name
 unfoldable pub zdebug_of : ObjectFile → ℕ → SectionHeader → Loading Section

@@ -147,7 +147,7 @@ impl ElfFile {
     /// | `BadElf` | it isn't wholly within the file; its header or its stream is damaged, or its size |
     /// | `CompressedSection` | it is compressed, and not by zlib |
     /// | `RelocationsNeeded` | a relocatable file has a nonempty REL or RELA section for it |
-    /// | `OutOfMemory` | a growth was refused; its stream takes memory, or it has a byte without one |
+    /// | `OutOfMemory` | a growth was refused; its stream takes memory, or a part of the file does |
     #[tactic(auto, unfolding(crate::specs::Compressed::decompressed_at, crate::specs::DecompressionMemory::decompression_takes_memory))]
     pub fn decompressed_section(
         &self,

@@ -1,4 +1,4 @@
-use Rattle.std.proofs.Common.{◌≡◌, List, ℕ, [], Err, Ok, IfErr, ap, refl, ◌∙◌}
+use Rattle.std.proofs.Common.{◌≡◌, [], Err, Ok, IfErr, ap, refl, ◌∙◌}
 use Rattle.elf.specs.declared.error.LoaderError.{LoaderError}
 use Rattle.elf.specs.declared.error.LoaderError.TheVariants.{NotElf}
 use Rattle.elf.specs.Header.{ident_in}

@@ -1,6 +1,6 @@
 -- Files by their paths, and what becomes of sections of theirs that are compressed.
 -- Own: a path has the bytes of one file, or none: no file is there, or it can't be read.
-use Rattle.std.specs.Prelude.{◌≡◌, ℕ, List, Option, Some, None, find, if◌then◌else◌, option_map, string_bytes, Vec}
+use Rattle.std.specs.Prelude.{◌≡◌, ℕ, List, [], Option, Some, None, find, if◌then◌else◌, option_map, string_bytes, Vec}
 use Rattle.std.specs.Str.{bytes_eq}
 use Rattle.std.specs.declared.alloc.Global.{Global}
 use Rattle.std.specs.declared.string.String.{String}
@@ -26,6 +26,10 @@ as_read_if_known compressed files = option_map (as_read compressed) files
 -- it is known what files there are, and that none is at a path
 abbrev pub HasNoFile : Option Files → List ℕ → Type 0
 HasNoFile files path = option_map (λ (held : Files). held path) files ≡ Some None
+
+-- it is known what files there are, and that the one at a path has no byte
+abbrev pub HasEmptyFile : Option Files → List ℕ → Type 0
+HasEmptyFile files path = option_map (λ (held : Files). held path) files ≡ Some (Some [])
 
 -- the files after one is put at a path, in place of one that was there
 abbrev pub with_file : Files → List ℕ → List ℕ → Files

@@ -1,6 +1,6 @@
 //! Where files come from.
 
-ghost use Rattle.std.specs.Prelude.{◌≡◌, ℕ, List, [], OnErr, OnOk};
+ghost use Rattle.std.specs.Prelude.{◌≡◌, ℕ, List, [], IfOk, IsOk, OnErr, OnOk};
 ghost use Rattle.addr2line.specs.Files.{listed_files, with_file};
 
 use std::alloc::{AllocError, Global};
@@ -11,20 +11,23 @@ use std::os::unix::fs::FileExt;
 
 /// What gives whole files by their paths.
 pub trait FileSource: Drop {
-    ghost use Rattle.std.specs.Prelude.{IfOk, IfSome, None, Ok, Option, option_map};
-    ghost use Rattle.addr2line.specs.Files.{Files, HasNoFile};
+    ghost use Rattle.std.specs.Prelude.{[], IfOk, IfSome, None, Ok, Option, Some, option_map};
+    ghost use Rattle.gimli_read.specs.Reading.{result_map};
+    ghost use Rattle.addr2line.specs.Files.{Files, HasEmptyFile, HasNoFile};
 
     /// What stands at each path, where that is known.
     ghost files: { Self → Option Files } = { λ _. None };
 
     /// The bytes of the file at a path, none where there is no file or it can't be read.
     ///
-    /// Fails where a growth was refused; takes no memory where it is known that no file is there.
-    /// Source: own.
+    /// Fails where a growth was refused; takes no memory where it is known that no file is there,
+    /// or one without a byte. Source: own.
     fn read(&self, alloc: Global, path: &str) -> Result<Option<Vec<u8>>, AllocError>
         ensures gives { IfSome (files self.now) (λ held. IfOk result (λ found.
             option_map (λ (v : _). v.items) found ≡ held path.now)) }
-        ensures none { HasNoFile (files self.now) path.now → result ≡ Ok None };
+        ensures none { HasNoFile (files self.now) path.now → result ≡ Ok None }
+        ensures empty { HasEmptyFile (files self.now) path.now
+            → result_map (option_map (λ (v : _). v.items)) result ≡ Ok (Some []) };
 }
 
 /// Files in memory.
@@ -70,6 +73,17 @@ impl MemoryFiles {
     }
 }
 
+// The same bytes once more. Takes no memory where there are none.
+fn copied(alloc: Global, bytes: &[u8]) -> Result<Vec<u8>, AllocError>
+    ensures gives { IfOk result (λ v. v.items ≡ bytes.now) }
+    ensures none { bytes.now ≡ [] → IsOk result }
+{
+    if bytes.is_empty() {
+        return Ok(Vec::new(alloc));
+    }
+    Vec::from_slice(alloc, bytes)
+}
+
 impl FileSource for MemoryFiles {
     ghost use Rattle.std.specs.Prelude.{Some};
     ghost use Rattle.addr2line.specs.Files.{listed_files};
@@ -79,7 +93,7 @@ impl FileSource for MemoryFiles {
     fn read(&self, alloc: Global, path: &str) -> Result<Option<Vec<u8>>, AllocError> {
         for (name, bytes) in self.entries.iter() {
             if path == name.as_str() {
-                return Ok(Some(Vec::from_slice(alloc, bytes.as_slice())?));
+                return Ok(Some(copied(alloc, bytes.as_slice())?));
             }
         }
         Ok(None)

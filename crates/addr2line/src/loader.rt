@@ -2,7 +2,7 @@
 
 ghost use Rattle.std.specs.Prelude.{◌≡◌, [], Err, IfErr, IfOk, IfSome, IsOk, None, Ok, Option, Some, false, is_some, option_map, true};
 ghost use Rattle.std.specs.Borrow.{sem};
-ghost use Rattle.elf.specs.declared.error.LoaderError.TheVariants.{Io, OutOfMemory};
+ghost use Rattle.elf.specs.declared.error.LoaderError.TheVariants.{Io, NotElf, OutOfMemory};
 ghost use Rattle.gimli_read.specs.Reading.{Exactly};
 ghost use Rattle.elf.specs.Loading.{Loading, LoadsUnlessOom};
 ghost use Rattle.elf.specs.Sections.{section_range_at};
@@ -16,7 +16,7 @@ ghost use Rattle.addr2line_units.specs.Located.{location_of, spans_of};
 ghost use Rattle.addr2line_units.specs.LocationsLeft.{locations_left};
 ghost use Rattle.addr2line.specs.declared.compressed.CompressedSections.TheVariants.{Decompressed, Refused};
 ghost use Rattle.addr2line.specs.Context.{IsReady, IsReadyForRange};
-ghost use Rattle.addr2line.specs.Files.{HasNoFile, as_read, as_read_if_known};
+ghost use Rattle.addr2line.specs.Files.{HasEmptyFile, HasNoFile, as_read, as_read_if_known};
 ghost use Rattle.addr2line.specs.FramesByFiles.{ended_frames_of, frames_by_files};
 ghost use Rattle.addr2line.specs.Loaded.{AreSectionsOf, AreSupOfBytes, IsFileOfBytes, IsLoaded, as_sup, context_at, dwarf_at, loaded, main_with_sup, object_at, sup_at};
 ghost use Rattle.addr2line.specs.Loader.{AfterLoads, AfterLocation, AfterLocationRange, seen_loader};
@@ -45,6 +45,7 @@ fn open<F: FileSource>(alloc: Global, files: &F, path: &str) -> Result<ElfFile, 
     ensures gives { IfSome (F.files files.now) (λ held. LoadsUnlessOom (λ f. f) result
         (object_at held path.now)) }
     ensures none { HasNoFile (F.files files.now) path.now → result ≡ Err Io }
+    ensures empty { HasEmptyFile (F.files files.now) path.now → result ≡ Err NotElf }
     ensures made { IfOk result IsFileOfBytes }
 {
     match files.read(alloc, path)? {
@@ -163,8 +164,9 @@ impl<F: FileSource> LoaderOver<F> {
     /// | all of these | as those before, of the supplementary file |
     /// | `Dwarf` | as `Context::from_dwarf` is refused |
     ///
-    /// May fail with `OutOfMemory` instead, but not where it is known that no file is at `path`. No
-    /// section is copied. Source: DWARF 5, sections 7.3.6 and 7.5. Own: the order.
+    /// May fail with `OutOfMemory` instead, but not where it is known that no file is at `path`, or
+    /// one without a byte. No section is copied. Source: DWARF 5, sections 7.3.6 and 7.5. Own: the
+    /// order.
     pub fn over(
         alloc: Global,
         files: F,
@@ -175,6 +177,7 @@ impl<F: FileSource> LoaderOver<F> {
             LoadsUnlessOom (λ l. (l.object, l.context)) result
             (loaded (as_read Refused held) path.now (option_map (λ p. p.now) sup_path.entry))) }
         ensures none { HasNoFile (F.files files) path.now → result ≡ Err Io }
+        ensures empty { HasEmptyFile (F.files files) path.now → result ≡ Err NotElf }
         ensures made { IfOk result
             (λ l. IsLoaded Refused (is_some sup_path.entry) l.object l.context) }
         ensures files { IfOk result (λ l. l.files ≡ files) }
@@ -203,6 +206,7 @@ impl<F: FileSource> LoaderOver<F> {
             (loaded (as_read Decompressed held) path.now
             (option_map (λ p. p.now) sup_path.entry))) }
         ensures none { HasNoFile (F.files files) path.now → result ≡ Err Io }
+        ensures empty { HasEmptyFile (F.files files) path.now → result ≡ Err NotElf }
         ensures made { IfOk result
             (λ l. IsLoaded Decompressed (is_some sup_path.entry) l.object l.context) }
         ensures files { IfOk result (λ l. l.files ≡ files) }
@@ -231,6 +235,7 @@ impl<F: FileSource> LoaderOver<F> {
             (loaded (as_read compressed held) path.now
             (option_map (λ p. p.now) sup_path.entry))) }
         ensures none { HasNoFile (F.files files) path.now → result ≡ Err Io }
+        ensures empty { HasEmptyFile (F.files files) path.now → result ≡ Err NotElf }
         ensures made { IfOk result
             (λ l. IsLoaded compressed (is_some sup_path.entry) l.object l.context) }
         ensures files { IfOk result (λ l. l.files ≡ files) }

@@ -1,7 +1,8 @@
 //! ELF files that are opened from shared bytes.
 
-ghost use Rattle.std.specs.Prelude.{◌≡◌, option_map};
+ghost use Rattle.std.specs.Prelude.{◌≡◌, Err, IfErr, option_map};
 ghost use Rattle.elf.specs.Loading.{LoadsUnlessOom};
+ghost use Rattle.elf.specs.ObjectFile.{object_file_of};
 ghost use Rattle.addr2line.specs.declared.compressed.CompressedSections.TheVariants.{Refused};
 ghost use Rattle.addr2line.specs.Loaded.{dwarf_with, loaded_bytes, sup_of_bytes};
 
@@ -59,7 +60,8 @@ fn dwarf_of_bytes(
 /// file that other bytes are, if there are any.
 ///
 /// No byte is copied. Refused as `LoaderOver::over` is, but never `Io`; may fail with `OutOfMemory`
-/// instead. Source: DWARF 5, sections 7.3.6 and 7.5. Own: the order of the refusals.
+/// instead, but not where the bytes are no ELF file. Source: DWARF 5, sections 7.3.6 and 7.5. Own:
+/// the order of the refusals.
 #[tactic(auto, unfolding(crate::specs::Loaded::loaded_bytes))]
 pub fn open_bytes(
     alloc: Global,
@@ -67,6 +69,7 @@ pub fn open_bytes(
     sup: Option<Bytes>,
 ) -> Result<(ElfFile, Context<EndianBytes>), LoaderError>
     ensures gives { LoadsUnlessOom (λ l. (l.0, l.1)) result (loaded_bytes Refused bytes sup) }
+    ensures refused { IfErr (object_file_of bytes) (λ e. result ≡ Err e) }
 {
     let object = parse_bytes(alloc, bytes)?;
     let context = context_of(alloc, dwarf_of_bytes(alloc, &object, sup))?;

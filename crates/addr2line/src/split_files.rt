@@ -1,9 +1,9 @@
 //! The split files of units, which answer their loads.
 
-ghost use Rattle.std.specs.Prelude.{◌≡◌, IfErr, IfOk, IfSome, None, Ok, Option, Some, option_map};
+ghost use Rattle.std.specs.Prelude.{◌≡◌, [], Err, IfErr, IfOk, IfSome, None, Ok, Option, Some, option_map};
 ghost use Rattle.gimli_read.specs.Reading.{Exactly};
 ghost use Rattle.gimli.specs.Sections.{Sections};
-ghost use Rattle.elf.specs.declared.error.LoaderError.TheVariants.{OutOfMemory, PathNotUtf8};
+ghost use Rattle.elf.specs.declared.error.LoaderError.TheVariants.{NotElf, OutOfMemory, PathNotUtf8};
 ghost use Rattle.elf.specs.Loading.{Loading, LoadsUnlessOom};
 ghost use Rattle.elf.specs.ObjectFile.{object_file_of};
 ghost use Rattle.addr2line.specs.declared.compressed.CompressedSections.TheVariants.{Refused};
@@ -25,6 +25,7 @@ use std::str;
 // The ELF file that bytes are. Byte 5 of them gives their order, whatever is given here.
 pub(crate) fn parse_bytes(alloc: Global, bytes: Bytes) -> Result<ElfFile, LoaderError>
     ensures gives { LoadsUnlessOom (λ f. f) result (object_file_of bytes) }
+    ensures refused { IfErr (object_file_of bytes) (λ e. result ≡ Err e) }
 {
     ElfFile::parse(alloc, EndianBytes::new(bytes, RunTimeEndian::Little))
 }
@@ -32,6 +33,7 @@ pub(crate) fn parse_bytes(alloc: Global, bytes: Bytes) -> Result<ElfFile, Loader
 // The ELF file that owned bytes are.
 pub(crate) fn parse_file(alloc: Global, bytes: Vec<u8>) -> Result<ElfFile, LoaderError>
     ensures gives { LoadsUnlessOom (λ f. f) result (object_file_of bytes.items) }
+    ensures empty { bytes.items ≡ [] → result ≡ Err NotElf }
 {
     parse_bytes(alloc, Bytes::from_vec(bytes)?)
 }
@@ -87,6 +89,7 @@ fn path_of<R: Reader>(
 ) -> Result<Option<Vec<u8>>, AllocError>
     ensures gives { IfOk result (λ path. option_map (λ (v : _). v.items) path
         ≡ split_path load.now) }
+    ensures none { split_path load.now ≡ None → result ≡ Ok None }
 {
     match &load.path {
         Some(name) => Ok(Some(join(alloc, bytes_of(&load.comp_dir), name.to_slice())?)),
@@ -210,7 +213,7 @@ fn without_fault<R: Reader>(
     }
 }
 
-// The answer to the load of a unit, by the files.
+// The answer to the load of a unit, by the files. Takes no memory where the load has no path.
 #[tactic(auto, unfolding(crate::specs::SplitFiles::given_by_files))]
 pub(crate) fn answer_to<F: FileSource>(
     alloc: Global,
@@ -222,6 +225,7 @@ pub(crate) fn answer_to<F: FileSource>(
         LoadsUnlessOom (option_map (λ d. d.value)) result
         (given_by_files (as_read compressed held) load.now)) }
     ensures stays_open { IfErr result LeavesOpen }
+    ensures unnamed { split_path load.now ≡ None → result ≡ Ok None }
 {
     let Some(path) = path_of(alloc, load)? else {
         return Ok(None);

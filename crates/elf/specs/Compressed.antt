@@ -4,7 +4,7 @@
 -- to another size than its header tells. Another compression than zlib's is CompressedSection.
 -- Own: a section named .zdebug_ is read in the older form, whatever its flag says. What a header says
 -- of alignment, and its reserved number, aren't looked at.
-use Rattle.std.specs.Prelude.{ℕ, ◌+◌, ◌*◌, ◌==◌, ◌&&◌, ◌||◌, Bool, not, List, [], Option, Some, None, Result, Ok, Err, if◌then◌else◌, drop, length, nat_eq, nat_lt, codes}
+use Rattle.std.specs.Prelude.{ℕ, ◌*◌, ◌==◌, ◌||◌, not, List, Option, Ok, Err, if◌then◌else◌, drop, length, nat_eq, nat_lt, codes, option_map, option_and_then}
 use Rattle.std.specs.List.{position, slice_get, starts_with}
 use Rattle.std.specs.Option.{option_map_or}
 use Rattle.gimli_read.specs.declared.endian.RunTimeEndian.{RunTimeEndian}
@@ -65,6 +65,12 @@ decompressed_of file n s =
 abbrev pub number_zdebug : List ℕ → ObjectFile → Option ℕ
 number_zdebug name file = position (is_zdebug (section_names_of file) name) file.sections
 
+-- that section, beside its number
+abbrev pub first_zdebug : List ℕ → ObjectFile → Option (ℕ × SectionHeader)
+first_zdebug name file = option_and_then
+    (λ n. option_map (λ (s : SectionHeader). (n, s)) (slice_get file.sections n))
+    (number_zdebug name file)
+
 -- the bytes of a section of such a name
 unfoldable pub zdebug_of : ObjectFile → ℕ → SectionHeader → Loading Section
 zdebug_of file n s = option_map_or
@@ -73,9 +79,8 @@ zdebug_of file n s = option_map_or
 
 -- the answer for a name that no section has: no bytes, or those of a section with .zdebug_ for it
 unfoldable pub missing_decompressed : List ℕ → ObjectFile → Loading Section
-missing_decompressed name file = option_map_or
-    (λ n. option_map_or (zdebug_of file n) (slice_get file.sections n) (Ok (empty_contents file)))
-    (number_zdebug name file) (Ok (empty_contents file))
+missing_decompressed name file = option_map_or (λ found. zdebug_of file found.0 found.1)
+    (first_zdebug name file) (Ok (empty_contents file))
 
 -- the bytes of the first section of a name, decompressed where they are compressed
 unfoldable pub decompressed_at : List ℕ → ObjectFile → Loading Section

@@ -9,3 +9,4 @@ pub mod Symbols
 pub mod TextStarts
 pub mod SymbolTable
 pub mod Compressed
+pub mod DecompressionMemory

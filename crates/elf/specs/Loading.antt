@@ -1,8 +1,8 @@
 -- What a loading of an ELF file gives, and what an answer has to do with it.
 -- A loading gives a value, or the first fault in the order of its steps.
 -- Own: no loading gives OutOfMemory, which only a refused growth answers.
-use Rattle.std.specs.Prelude.{Bool, true, Result}
-use Rattle.gimli_read.specs.Reading.{ExactlyUnless, ExactlyUnlessFor}
+use Rattle.std.specs.Prelude.{◌≡◌, ◌≢◌, Bool, true, Result}
+use Rattle.gimli_read.specs.Reading.{ExactlyUnless, ExactlyUnlessFor, ExactlyWhere}
 use Rattle.elf.specs.declared.error.LoaderError.{LoaderError}
 use Rattle.elf.specs.declared.error.LoaderError.TheVariants.{OutOfMemory}
 
@@ -13,6 +13,11 @@ Loading A = Result A LoaderError
 -- the answer, seen by view, is what is given, or OutOfMemory
 abbrev pub LoadsUnlessOom : {X Y : Type 0} → (X → Y) → Loading X → Loading Y → Type 0
 LoadsUnlessOom view result given = ExactlyUnless OutOfMemory view result given
+
+-- the same, where OutOfMemory is an answer only if memory may be taken
+abbrev pub LoadsUnlessOomIf : {X Y : Type 0} → Bool → (X → Y) → Loading X → Loading Y → Type 0
+LoadsUnlessOomIf may view result given =
+    ExactlyWhere (λ _ e. may ≡ true → e ≢ OutOfMemory) view result given
 
 -- the answer is what is given, or OutOfMemory, which is an answer only if what is given takes
 -- memory

@@ -2,8 +2,9 @@
 
 ghost use Rattle.std.specs.Prelude.{◌≡◌, ◌≤◌, ◌+◌, length, take, drop, option_map, Ok};
 ghost use Rattle.gimli_read.specs.Reading.{Exactly};
-ghost use Rattle.elf.specs.Compressed.{unpacked_contents, decompressed_of, zdebug_of, missing_decompressed, decompressed_at};
-ghost use Rattle.elf.specs.Loading.{LoadsUnlessOom, LoadsUnlessOomFor};
+ghost use Rattle.elf.specs.Compressed.{first_zdebug, unpacked_contents, decompressed_of, zdebug_of, missing_decompressed, decompressed_at};
+ghost use Rattle.elf.specs.DecompressionMemory.{unpacking_takes_memory, contents_take_memory, zdebug_takes_memory, missing_takes_memory, decompression_takes_memory};
+ghost use Rattle.elf.specs.Loading.{LoadsUnlessOomFor, LoadsUnlessOomIf};
 ghost use Rattle.elf.specs.ObjectFile.{ObjectFile, object_file_of, name_table_of, gives_sections};
 ghost use Rattle.elf.specs.Symbols.{named_address, nearest_symbol, symbol_names_of, symbols_of, symbol_at};
 ghost use Rattle.elf.specs.SymbolTable.{HasSymbols};
@@ -138,21 +139,23 @@ impl ElfFile {
 
     /// The bytes of the first section of a name, decompressed where zlib compressed them: behind a
     /// compression header, or in a section with `.zdebug_` for `.debug_` where there is none of the
-    /// name. All else is as `section` has it. Takes memory for what they inflate to.
+    /// name. All else is as `section` has it. Takes memory for what they inflate to, where the
+    /// stream takes any, and else where `section` does.
     ///
     /// | Refusal | When |
     /// |---|---|
     /// | `BadElf` | it isn't wholly within the file; its header or its stream is damaged, or its size |
     /// | `CompressedSection` | it is compressed, and not by zlib |
     /// | `RelocationsNeeded` | a relocatable file has a nonempty REL or RELA section for it |
-    /// | `OutOfMemory` | a growth was refused |
-    #[tactic(auto, unfolding(crate::specs::Compressed::decompressed_at))]
+    /// | `OutOfMemory` | a growth was refused; its stream takes memory, or a part of the file does |
+    #[tactic(auto, unfolding(crate::specs::Compressed::decompressed_at, crate::specs::DecompressionMemory::decompression_takes_memory))]
     pub fn decompressed_section(
         &self,
         alloc: Global,
         name: &str,
     ) -> Result<EndianBytes, LoaderError>
-        ensures gives { LoadsUnlessOom (λ b. b) result (decompressed_at name.now self.now) }
+        ensures gives { LoadsUnlessOomIf (decompression_takes_memory name.now self.now) (λ b. b)
+            result (decompressed_at name.now self.now) }
     {
         match self.first_named(name.as_bytes()) {
             Some((number, section)) => self.decompressed(alloc, number, &section),
@@ -275,8 +278,8 @@ impl ElfFile {
         size: u64,
         text: &[u8],
     ) -> Result<EndianBytes, LoaderError>
-        ensures gives { LoadsUnlessOom (λ b. b) result
-            (unpacked_contents self.now number (size, text.now)) }
+        ensures gives { LoadsUnlessOomIf (unpacking_takes_memory self.now number (size, text.now))
+            (λ b. b) result (unpacked_contents self.now number (size, text.now)) }
     {
         if self.is_relocatable && section::is_relocated(&self.sections, number) {
             return Err(LoaderError::RelocationsNeeded);
@@ -296,8 +299,8 @@ impl ElfFile {
         number: usize,
         section: &SectionHeader,
     ) -> Result<EndianBytes, LoaderError>
-        ensures gives { LoadsUnlessOom (λ b. b) result
-            (decompressed_of self.now number section.now) }
+        ensures gives { LoadsUnlessOomIf (contents_take_memory self.now number section.now)
+            (λ b. b) result (decompressed_of self.now number section.now) }
     {
         let file = self.bytes.to_slice();
         if section.is_nobits() || section.is_outside(file) || !section.is_compressed() {
@@ -317,7 +320,8 @@ impl ElfFile {
         number: usize,
         section: &SectionHeader,
     ) -> Result<EndianBytes, LoaderError>
-        ensures gives { LoadsUnlessOom (λ b. b) result (zdebug_of self.now number section.now) }
+        ensures gives { LoadsUnlessOomIf (zdebug_takes_memory self.now number section.now) (λ b. b)
+            result (zdebug_of self.now number section.now) }
     {
         let Some(own) = section.bytes_in(self.bytes.to_slice()) else {
             return Err(LoaderError::BadElf);
@@ -326,17 +330,24 @@ impl ElfFile {
         self.unpacked_contents(alloc, number, size, text)
     }
 
-    // The answer for a name that no section has.
-    #[tactic(auto, unfolding(crate::specs::Compressed::missing_decompressed))]
-    fn missing_decompressed(&self, alloc: Global, name: &[u8]) -> Result<EndianBytes, LoaderError>
-        ensures gives { LoadsUnlessOom (λ b. b) result (missing_decompressed name.now self.now) }
+    // The first section with `.zdebug_` for the `.debug_` of a name, beside its number.
+    fn first_zdebug(&self, name: &[u8]) -> Option<(usize, SectionHeader)>
+        ensures gives { result ≡ first_zdebug name.now self.now }
     {
-        let Some(number) = section::zdebug_number(&self.sections, self.section_names(), name) else {
-            return Ok(self.empty_contents());
-        };
-        let Some(section) = self.sections.get(number) else {
-            return Ok(self.empty_contents());
-        };
-        self.zdebug(alloc, number, section)
+        let number = section::zdebug_number(&self.sections, self.section_names(), name)?;
+        let section = self.sections.get(number)?;
+        Some((number, *section))
+    }
+
+    // The answer for a name that no section has.
+    #[tactic(auto, unfolding(crate::specs::Compressed::missing_decompressed, crate::specs::DecompressionMemory::missing_takes_memory))]
+    fn missing_decompressed(&self, alloc: Global, name: &[u8]) -> Result<EndianBytes, LoaderError>
+        ensures gives { LoadsUnlessOomIf (missing_takes_memory name.now self.now) (λ b. b) result
+            (missing_decompressed name.now self.now) }
+    {
+        match self.first_zdebug(name) {
+            Some((number, section)) => self.zdebug(alloc, number, &section),
+            None => Ok(self.empty_contents()),
+        }
     }
 }

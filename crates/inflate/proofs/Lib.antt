@@ -2,5 +2,8 @@ pub mod BitsLemmas
 pub mod CodeLemmas
 pub mod ItemLemmas
 pub mod AdlerLemmas
+pub mod FaultLemmas
 pub mod BlockLemmas
+pub mod MemoryLemmas
+pub mod OutputLemmas
 pub mod TableLemmas

@@ -7,4 +7,5 @@ pub mod Items
 pub mod Dynamic
 pub mod Blocks
 pub mod Stream
+pub mod Memory
 pub mod CodesOf

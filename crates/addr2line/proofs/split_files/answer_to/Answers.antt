@@ -6,14 +6,14 @@ use Rattle.addr2line.proofs.LoadingLemmas.{or_oom}
 use Rattle.addr2line.proofs.SplitFileLemmas.{given_is}
 use Rattle.addr2line.proofs.split_files.answer_to.Goals as goal
 
-pub returns-in-Some-2 : goal.returns-in-Some-2
-returns-in-Some-2 g c =
+pub returns-in-Some-2-clause-gives : goal.returns-in-Some-2-clause-gives
+returns-in-Some-2-clause-gives g c =
     let path = rw c.in-Some.is at c.in_ok-path.ensures.gives in
     let bytes = rw c.in-Some-2.is at c.in_ok-bytes.ensures.gives in
-    record {
-      gives = IfSome_then _ bytes (λ held e.
-          subst (λ given. LoadsUnlessOom (option_map (λ d. d.value)) c.without_fault.result given)
-          (sym (given_is (as_read c.args.compressed held) c.args.load.now c.deref.result.now c.in_ok-text_of.field-0.now c.in-Some-2.bytes.items (ap Some c.deref.ensures.value ∙ path) c.in_ok-text_of.ensures.gives e))
-          (c.without_fault.ensures.gives _ c.read_split_file.ensures.gives));
-      stays_open = or_oom c.without_fault.result c.without_fault.ensures.refused;
-    }
+    IfSome_then _ bytes (λ held e.
+    subst (λ given. LoadsUnlessOom (option_map (λ d. d.value)) c.without_fault.result given)
+    (sym (given_is (as_read c.args.compressed held) c.args.load.now c.deref.result.now c.in_ok-text_of.field-0.now c.in-Some-2.bytes.items (ap Some c.deref.ensures.value ∙ path) c.in_ok-text_of.ensures.gives e))
+    (c.without_fault.ensures.gives _ c.read_split_file.ensures.gives))
+
+pub returns-in-Some-2-clause-stays_open : goal.returns-in-Some-2-clause-stays_open
+returns-in-Some-2-clause-stays_open g c = or_oom c.without_fault.result c.without_fault.ensures.refused

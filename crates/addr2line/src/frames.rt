@@ -14,7 +14,6 @@ ghost use Rattle.addr2line.specs.Skips.{AfterSkip};
 ghost use Rattle.addr2line.specs.WaitingLookups.{HoldsIn, SuspendsAgainIn, SuspendsIn, count_loads, frames_answered, frames_of_context, frames_skipped, frames_with_none};
 
 use crate::context::Context;
-use crate::continuation::{FramesLookup, FramesLookupWith};
 use addr2line_units::FrameIter;
 use addr2line_units::continuation::{LookupContinuation, LookupResult};
 use addr2line_units::frames_lookup::Faults;
@@ -22,6 +21,35 @@ use addr2line_units::view::SplitDwarfLoad;
 use gimli::Dwarf;
 use gimli::read::{Error, Reader};
 use std::rc::Rc;
+
+/// The rest of a lookup of frames that waits for the load `B`.
+///
+/// It holds the context for writing. Dropping it ends the lookup, as `abandon` does: the unit that
+/// it waits for stays open.
+pub struct FramesLookupWith<'ctx, R: Reader, B> {
+    pub(crate) ctx: &'ctx mut Context<R>,
+    pub(crate) probe: u64,
+    pub(crate) number: usize,
+    pub(crate) load: B,
+    ghost stands: { waits_for number (lookup_stop End ctx.now.sections ctx.now.answers probe)
+        ≡ true },
+}
+
+/// The rest of a lookup of frames that waits for a split file.
+pub type FramesLookup<'ctx, R> = FramesLookupWith<'ctx, R, SplitDwarfLoad<R>>;
+
+impl<'ctx, R: Reader, B: Drop> Drop for FramesLookupWith<'ctx, R, B> {
+    fn drop(self)
+        ensures kept { self.exit.0.now ≡ self.entry.ctx.now }
+    {
+        let FramesLookupWith {
+            ctx: _,
+            probe: _,
+            number: _,
+            load: _,
+        } = self;
+    }
+}
 
 // What a lookup of frames gives that the context has stored.
 fn lend<R: Reader>(

@@ -5,7 +5,6 @@ mod answers;
 mod by_files;
 mod compressed;
 mod context;
-mod continuation;
 mod copies;
 mod file_sections;
 mod files;
@@ -24,8 +23,8 @@ mod units;
 
 pub use crate::compressed::CompressedSections;
 pub use crate::context::Context;
-pub use crate::continuation::{FramesLookup, UnitLookup};
 pub use crate::files::{FileSource, HostFiles, MemoryFiles};
+pub use crate::frames::FramesLookup;
 pub use crate::loader::{Loader, LoaderOver};
 pub use crate::opened::open_bytes;
 pub use crate::reply::{
@@ -33,6 +32,7 @@ pub use crate::reply::{
 };
 pub use crate::session::{Answer, Call, replay};
 pub use crate::split_files::read_split_sections;
+pub use crate::units::UnitLookup;
 pub use addr2line_lines::Location;
 pub use addr2line_units::continuation::{LookupContinuation, LookupResult};
 pub use addr2line_units::frame::{demangle, demangle_auto};

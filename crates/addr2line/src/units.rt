@@ -15,13 +15,41 @@ ghost use Rattle.addr2line.specs.Skips.{AfterSkip};
 ghost use Rattle.addr2line.specs.WaitingLookups.{HoldsIn, SuspendsAgainIn, SuspendsIn, count_loads, unit_answered, unit_of_context, unit_skipped, unit_with_none};
 
 use crate::context::Context;
-use crate::continuation::{UnitLookup, UnitLookupWith};
 use addr2line_units::continuation::{LookupContinuation, LookupResult};
 use addr2line_units::frames_lookup::Faults;
 use addr2line_units::view::SplitDwarfLoad;
 use gimli::read::{Error, Reader};
 use gimli::{Dwarf, UnitRef};
 use std::rc::Rc;
+
+/// The rest of a lookup of a unit that waits for the load `B`.
+///
+/// It holds the context for writing. Dropping it ends the lookup, as `abandon` does: the unit that
+/// it waits for stays open.
+pub struct UnitLookupWith<'ctx, R: Reader, B> {
+    pub(crate) ctx: &'ctx mut Context<R>,
+    pub(crate) probe: u64,
+    pub(crate) number: usize,
+    pub(crate) load: B,
+    ghost stands: { waits_for number
+        (lookup_stop PassOver ctx.now.sections ctx.now.answers probe) ≡ true },
+}
+
+/// The rest of a lookup of a unit that waits for a split file.
+pub type UnitLookup<'ctx, R> = UnitLookupWith<'ctx, R, SplitDwarfLoad<R>>;
+
+impl<'ctx, R: Reader, B: Drop> Drop for UnitLookupWith<'ctx, R, B> {
+    fn drop(self)
+        ensures kept { self.exit.0.now ≡ self.entry.ctx.now }
+    {
+        let UnitLookupWith {
+            ctx: _,
+            probe: _,
+            number: _,
+            load: _,
+        } = self;
+    }
+}
 
 // What a lookup of a unit gives that the context has stored.
 fn lend<R: Reader>(

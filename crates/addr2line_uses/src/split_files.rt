@@ -1,5 +1,7 @@
 //! Split files, found by the caller.
 
+ghost use Rattle.std.specs.Prelude.{◌≡◌};
+
 use addr2line::gimli::read::{Error, Reader};
 use addr2line::gimli::{Dwarf, DwoId};
 use addr2line::{Context, FrameIter, LookupContinuation, LookupResult, SplitDwarfLoad};
@@ -41,5 +43,19 @@ pub fn frames_at<'a, R: Reader>(
                 lookup = continuation.resume(sections);
             }
         }
+    }
+}
+
+/// Whether the frames at an address wait for a split file. The lookup is let go then, and no unit
+/// is answered by it.
+pub fn waits_at<R: Reader>(context: &mut Context<R>, address: u64) -> bool
+    ensures answers { context.new.answers ≡ context.old.answers }
+{
+    match context.find_frames(address) {
+        LookupResult::Load { continuation } => {
+            let _ = continuation;
+            true
+        }
+        LookupResult::Output(_) => false,
     }
 }

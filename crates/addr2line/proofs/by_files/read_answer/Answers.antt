@@ -26,8 +26,8 @@ module _ {X : Type 0} (view : X → Option Sections) (files : Option ReadFiles) 
 -- what files answer to a load that are known, they answer as they are read
 answered : {X : Type 0} (view : X → Option Sections) (compressed : CompressedSections) (files : Option Files) (load : SplitLoad) (r : Loading X) → IfSome files (λ held. LoadsUnlessOom view r (given_by_files (as_read compressed held) load))
     → IfSome (as_read_if_known compressed files) (λ held. LoadsUnlessOom view r (given_by_files held load))
-answered view compressed None load r h = tt
-answered view compressed (Some held) load r h = h
+answered view choice None load r h = tt
+answered view choice (Some held) load r h = h
 
 pub returns-clause-gives : goal.returns-clause-gives
 returns-clause-gives g c = given_by (option_map (λ d. d.value)) (as_read_if_known c.args.compressed (g.F.FileSource.files c.args.files.now)) c.in_ok-load.load c.args.ctx.now.sections c.args.number c.in_ok-load.ensures.gives c.answer_to.result (answered (option_map (λ d. d.value)) c.args.compressed (g.F.FileSource.files c.args.files.now) c.in_ok-load.load c.answer_to.result c.answer_to.ensures.gives)

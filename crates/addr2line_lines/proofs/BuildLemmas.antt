@@ -1,5 +1,5 @@
 -- Rows taken one after another make the sequences of the rows (on specs/Building.antt).
-use Rattle.std.proofs.Common.{ℕ, ◌≡◌, ◌+◌, ◌-◌, ◌<◌, ◌≤◌, ◌==◌, ◌⊎◌, Bool, true, false, cond, List, [], ◌∷◌, ◌++◌, Option, Some, None, map, length, take, drop, get_or, arith, inl, inr, ◌∙◌, ap, sym, subst, refl, append_assoc, append-nil, Result, Ok, Err, IfOk}
+use Rattle.std.proofs.Common.{ℕ, ◌≡◌, ◌+◌, ◌-◌, ◌<◌, ◌≤◌, ◌==◌, ◌||◌, ◌⊎◌, Bool, true, false, cond, List, [], ◌∷◌, ◌++◌, Option, Some, None, map, length, take, drop, get_or, arith, inl, inr, ◌∙◌, ap, sym, subst, refl, append_assoc, append-nil, fold, Result, Ok, Err, IfOk}
 use Rattle.std.specs.List.{AllByRecursion, cons_option}
 use Rattle.std.proofs.lemmas.List.Sums.{sum_by_push}
 use Rattle.std.specs.Option.{option_to_list}
@@ -17,7 +17,7 @@ use Rattle.gimli_read.specs.Reading.{result_map}
 use Rattle.addr2line_lines.specs.Rows.{read_all}
 use Rattle.addr2line_lines.specs.Sequences.{Sequence, stored_row, sequence_of, sequences_of}
 use Rattle.addr2line_lines.specs.declared.sequence.LineSequence.{LineSequence}
-use Rattle.addr2line_lines.specs.Building.{Built, IsBuilder, all_taken, built, closed, built_ended, has_address, nothing_built, row_taken, with_row, without_last}
+use Rattle.addr2line_lines.specs.Building.{Built, IsBuilder, StoredBuilt, need_wide, row_needs_wide, stored_taken, all_taken, built, closed, built_ended, has_address, nothing_built, row_taken, with_row, without_last}
 use Rattle.addr2line_lines.specs.Packed.{RowsEndBy, row_address_at, packed_rows_in, unpacked}
 use Rattle.addr2line_lines.proofs.PackedLemmas.{all_push, all_same, all_within}
 use Rattle.addr2line_lines.proofs.SeekLemmas.{last_is}
@@ -243,3 +243,21 @@ pub read_whole : {X : Type 0} (left : List (Result X Error)) → fault_after lef
 read_whole [] h = refl
 read_whole (Ok x ∷ rest) h = ap (result_map (λ xs. x ∷ xs)) (read_whole rest h)
 read_whole (Err d ∷ rest) h = absurd (cc (h))
+
+-- what is built of rows doesn't depend on how wide their file indexes are, and these are wide where
+-- a row needs it
+pub stored_sequences : (b : StoredBuilt) (rows : List LineRow) → (fold stored_taken b rows).built.sequences ≡ (all_taken b.built rows).sequences
+stored_sequences b [] = refl
+stored_sequences b (r ∷ rows) = stored_sequences (stored_taken b r) rows
+
+pub stored_wide : (b : StoredBuilt) (rows : List LineRow) → (fold stored_taken b rows).wide ≡ (b.wide || need_wide rows)
+stored_wide b [] = sym (or_none b.wide)
+  where
+    or_none : (w : Bool) → (w || false) ≡ w
+    or_none true = refl
+    or_none false = refl
+stored_wide b (r ∷ rows) = stored_wide (stored_taken b r) rows ∙ or_again b.wide (row_needs_wide r) (need_wide rows)
+  where
+    or_again : (w x y : Bool) → ((w || x) || y) ≡ (w || (x || y))
+    or_again true x y = refl
+    or_again false x y = refl

@@ -1,5 +1,5 @@
 -- Rows in columns, as the private functions see them.
-use Rattle.std.specs.Prelude.{ℕ, ◌≡◌, ◌^◌, Bool, false, nat_le, List, [], ◌∷◌, length}
+use Rattle.std.specs.Prelude.{ℕ, ◌≡◌, ◌^◌, ◌++◌, ◌||◌, Bool, true, false, nat_le, List, [], ◌∷◌, length}
 use Rattle.addr2line_lines.specs.declared.columns.FileIndexes.{FileIndexes}
 use Rattle.addr2line_lines.specs.declared.columns.FileIndexes.TheVariants.{Narrow, Wide}
 use Rattle.addr2line_lines.specs.declared.row.Row.{Row}
@@ -13,9 +13,18 @@ indexes_of (Wide v) = v.items
 abbrev pub narrow_end : ℕ
 narrow_end = 2 ^ 16
 
+-- whether an index needs more than 16 bits
+abbrev pub needs_wide : ℕ → Bool
+needs_wide n = nat_le narrow_end n
+
+-- whether the indexes have 64 bits
+abbrev pub is_wide : FileIndexes → Bool
+is_wide (Narrow v) = false
+is_wide (Wide v) = true
+
 -- the index doesn't fit where the indexes have 16 bits
 abbrev pub is_beyond : FileIndexes → ℕ → Bool
-is_beyond (Narrow v) n = nat_le narrow_end n
+is_beyond (Narrow v) n = needs_wide n
 is_beyond (Wide v) n = false
 
 -- the rows of columns, as far as each column goes
@@ -30,3 +39,16 @@ pub record AreEven (addresses files lines columns : List ℕ) : Type 0 where
   pub files_even : length files ≡ length addresses
   pub lines_even : length lines ≡ length addresses
   pub columns_even : length columns ≡ length addresses
+
+-- the rows that are stored, and whether their file indexes have 64 bits
+pub record StoredRows : Type 0 where
+  pub rows : List Row
+  pub wide : Bool
+
+-- before the first row
+abbrev pub none_stored : StoredRows
+none_stored = record { rows = []; wide = false }
+
+-- the same width, or 64 bits where a row needs them
+abbrev pub wide_after : Bool → Row → Bool
+wide_after wide row = wide || needs_wide row.file_index

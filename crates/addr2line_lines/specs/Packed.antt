@@ -58,9 +58,11 @@ abbrev pub ArePastFrom : ℕ → List Row → LineSequence → ℕ → Type 0
 ArePastFrom probe rows s from =
     (j : ℕ) → from ≤ j → j < s.first + s.len → probe < row_address_at rows j
 
--- the rows, and the sequences in the program's order and as they are searched
+-- the rows, whether their file indexes have 64 bits, and the sequences in the program's order and
+-- as they are searched
 pub record Packed : Type 0 where
   pub rows : List Row
+  pub wide : Bool
   pub listed : List LineSequence
   pub sequences : List LineSequence
 

@@ -1,7 +1,7 @@
 //! Rows in columns.
 
-ghost use Rattle.std.specs.Prelude.{◌≡◌, ℕ, ◌+◌, ◌-◌, ◌<◌, false, [], ◌∷◌, ◌++◌, length, map, take, slice_get, slice_index, vec_len, IfOk, OnOk, OnErr, Some};
-ghost use Rattle.addr2line_lines.specs.Columns.{indexes_of, is_beyond};
+ghost use Rattle.std.specs.Prelude.{◌≡◌, ◌||◌, ℕ, ◌+◌, ◌-◌, ◌<◌, true, false, [], ◌∷◌, ◌++◌, length, map, take, slice_get, slice_index, vec_len, IfOk, OnOk, OnErr, Some};
+ghost use Rattle.addr2line_lines.specs.Columns.{indexes_of, is_beyond, is_wide, needs_wide, none_stored, wide_after};
 ghost use Rattle.addr2line_lines.specs.Packed.{row_address_at};
 
 use crate::row::Row;
@@ -66,6 +66,7 @@ impl FileIndexes {
     #[inline(never)]
     fn widen(&mut self, alloc: Global) -> Result<(), AllocError>
         ensures fits { OnOk result ((index : ℕ) → is_beyond self.new index ≡ false) }
+        ensures wide { OnOk result (is_wide self.new ≡ true) }
         ensures kept { indexes_of self.new ≡ indexes_of self.old }
     {
         let wide = self.widened(alloc)?;
@@ -77,6 +78,7 @@ impl FileIndexes {
     #[inline(always)]
     fn widen_for(&mut self, alloc: Global, index: u64) -> Result<(), AllocError>
         ensures fits { OnOk result (is_beyond self.new index ≡ false) }
+        ensures wide { OnOk result (is_wide self.new ≡ (is_wide self.old || needs_wide index)) }
         ensures kept { indexes_of self.new ≡ indexes_of self.old }
     {
         if self.is_beyond(index) {
@@ -89,6 +91,7 @@ impl FileIndexes {
     #[inline(always)]
     fn push(&mut self, alloc: Global, index: u64) -> Result<(), AllocError>
         ensures gives { OnOk result (indexes_of self.new ≡ indexes_of self.old ++ index ∷ []) }
+        ensures wide { OnOk result (is_wide self.new ≡ (is_wide self.old || needs_wide index)) }
         ensures refused { OnErr result (indexes_of self.new ≡ indexes_of self.old) }
     {
         self.widen_for(alloc, index)?;
@@ -104,6 +107,7 @@ impl FileIndexes {
         requires last { last + 1 ≡ length (indexes_of self.old) }
         ensures gives { OnOk result
             (indexes_of self.new ≡ take last (indexes_of self.old) ++ index ∷ []) }
+        ensures wide { OnOk result (is_wide self.new ≡ (is_wide self.old || needs_wide index)) }
         ensures refused { OnErr result (indexes_of self.new ≡ indexes_of self.old) }
     {
         self.widen_for(alloc, index)?;
@@ -117,6 +121,7 @@ impl FileIndexes {
     // Keeps the first indexes.
     fn truncate(&mut self, len: usize)
         ensures gives { indexes_of self.new ≡ take len (indexes_of self.old) }
+        ensures wide { is_wide self.new ≡ is_wide self.old }
     {
         match self {
             FileIndexes::Narrow(narrow) => narrow.truncate(len),
@@ -127,6 +132,7 @@ impl FileIndexes {
     // Gives memory back that no index needs.
     fn shrink(&mut self)
         ensures kept { indexes_of self.new ≡ indexes_of self.old }
+        ensures wide { is_wide self.new ≡ is_wide self.old }
     {
         match self {
             FileIndexes::Narrow(narrow) => narrow.shrink_to_fit(),
@@ -156,14 +162,15 @@ pub(crate) struct Columns {
 }
 
 impl Model for Columns {
-    ghost use Rattle.std.specs.Prelude.{List};
-    ghost use Rattle.addr2line_lines.specs.declared.row.Row.{Row};
-    ghost use Rattle.addr2line_lines.specs.Columns.{indexes_of, rows_of_columns, AreEven};
+    ghost use Rattle.addr2line_lines.specs.Columns.{indexes_of, is_wide, rows_of_columns, AreEven, StoredRows};
 
-    ghost Value = { List Row };
+    ghost Value = { StoredRows };
 
-    ghost view = { λ c. rows_of_columns c.addresses.items (indexes_of c.file_indexes) c.lines.items
-        c.columns.items };
+    ghost view = { λ c. record {
+      rows = rows_of_columns c.addresses.items (indexes_of c.file_indexes) c.lines.items
+          c.columns.items;
+      wide = is_wide c.file_indexes;
+    } };
 
     ghost invariant = { λ c. AreEven c.addresses.items (indexes_of c.file_indexes) c.lines.items
         c.columns.items };
@@ -172,7 +179,7 @@ impl Model for Columns {
 impl Columns {
     /// No rows. Takes no memory.
     pub(crate) fn new(alloc: Global) -> Columns
-        ensures gives { result ≡ [] }
+        ensures gives { result ≡ none_stored }
     {
         Columns {
             addresses: Vec::new(alloc),
@@ -184,15 +191,15 @@ impl Columns {
 
     /// The number of rows.
     pub(crate) fn len(&self) -> usize
-        ensures gives { result ≡ length self.now }
+        ensures gives { result ≡ length self.now.rows }
     {
         self.addresses.len()
     }
 
     /// A row by its place.
     pub(crate) fn row(&self, place: usize) -> Row
-        requires there { place < length self.now }
-        ensures gives { slice_get self.now place ≡ Some result }
+        requires there { place < length self.now.rows }
+        ensures gives { slice_get self.now.rows place ≡ Some result }
     {
         Row {
             address: self.addresses[place],
@@ -204,8 +211,8 @@ impl Columns {
 
     /// The address of a row by its place.
     pub(crate) fn address(&self, place: usize) -> u64
-        requires there { place < length self.now }
-        ensures gives { result ≡ row_address_at self.now place }
+        requires there { place < length self.now.rows }
+        ensures gives { result ≡ row_address_at self.now.rows place }
     {
         self.addresses[place]
     }
@@ -213,8 +220,9 @@ impl Columns {
     /// Adds a row. A refused growth keeps nothing of it.
     #[inline(always)]
     pub(crate) fn push(&mut self, alloc: Global, row: Row) -> Result<(), AllocError>
-        ensures gives { OnOk result (self.new ≡ self.old ++ row ∷ []) }
-        ensures refused { OnErr result (self.new ≡ self.old) }
+        ensures gives { OnOk result (self.new.rows ≡ self.old.rows ++ row ∷ []) }
+        ensures wide { OnOk result (self.new.wide ≡ wide_after self.old.wide row) }
+        ensures refused { OnErr result (self.new.rows ≡ self.old.rows) }
     {
         let len = self.addresses.len();
         self.file_indexes.push(alloc, row.file_index)?;
@@ -239,9 +247,11 @@ impl Columns {
     /// Puts a row in the place of the last one. A refused growth changes nothing.
     #[inline(always)]
     pub(crate) fn set_last(&mut self, alloc: Global, row: Row) -> Result<(), AllocError>
-        requires some { 0 < length self.old }
-        ensures gives { OnOk result (self.new ≡ take (length self.old - 1) self.old ++ row ∷ []) }
-        ensures refused { OnErr result (self.new ≡ self.old) }
+        requires some { 0 < length self.old.rows }
+        ensures gives { OnOk result
+            (self.new.rows ≡ take (length self.old.rows - 1) self.old.rows ++ row ∷ []) }
+        ensures wide { OnOk result (self.new.wide ≡ wide_after self.old.wide row) }
+        ensures refused { OnErr result (self.new.rows ≡ self.old.rows) }
     {
         let last = self.addresses.len() - 1;
         self.file_indexes.set_last(alloc, last, row.file_index)?;
@@ -253,7 +263,8 @@ impl Columns {
 
     /// Keeps the first rows.
     pub(crate) fn truncate(&mut self, len: usize)
-        ensures gives { self.new ≡ take len self.old }
+        ensures gives { self.new.rows ≡ take len self.old.rows }
+        ensures wide { self.new.wide ≡ self.old.wide }
     {
         self.addresses.truncate(len);
         self.file_indexes.truncate(len);

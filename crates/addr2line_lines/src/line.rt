@@ -56,11 +56,11 @@ impl Model for Lines {
 
 // The lines of files, rows and sequences. Refused `OutOfMemory` alone.
 fn make_lines(alloc: Global, files: Vec<String>, unit: UnitRows) -> Result<Lines, Error>
-    requires among { AllByRecursion (IsAmong unit.rows) unit.sequences.items }
-    requires no_others { length unit.rows ≡ packed_rows_in unit.sequences.items }
+    requires among { AllByRecursion (IsAmong unit.rows.rows) unit.sequences.items }
+    requires no_others { length unit.rows.rows ≡ packed_rows_in unit.sequences.items }
     ensures gives { IsUnlessOom result (Ok (record {
       files = map string_bytes files.items;
-      sequences = map (unpacked unit.rows) unit.sequences.items;
+      sequences = map (unpacked unit.rows.rows) unit.sequences.items;
     })) }
 {
     let packed = PackedRows::new(alloc, unit)?;

@@ -1,6 +1,6 @@
 //! The rows and the sequences of a unit, as they are searched.
 
-ghost use Rattle.std.specs.Prelude.{◌≡◌, [], ◌<◌, ◌^◌, length, slice_get, Some, IfOk, OnOk, OnErr};
+ghost use Rattle.std.specs.Prelude.{◌≡◌, [], false, ◌<◌, ◌^◌, length, slice_get, Some, IfOk, OnOk, OnErr};
 ghost use Rattle.std.specs.List.{AllByRecursion};
 ghost use Rattle.addr2line_lines.specs.InOrder.{in_order};
 ghost use Rattle.addr2line_lines.specs.Packed.{AreBlocks, IsAmong, row_address_at, IsTable, packed_rows_in, packed_sooner};
@@ -31,18 +31,19 @@ impl Model for PackedRows {
     ghost Value = { Packed };
 
     ghost view = { λ p. record {
-      rows = p.rows;
+      rows = p.rows.rows;
+      wide = p.rows.wide;
       listed = p.listed.value.items;
       sequences = p.sequences.items;
     } };
 
-    ghost invariant = { λ p. IsPacked p.rows p.coarse.items p.listed.value.items
+    ghost invariant = { λ p. IsPacked p.rows.rows p.coarse.items p.listed.value.items
         p.sequences.items };
 }
 
 // The first address of each block.
 fn first_addresses(alloc: Global, rows: &Columns) -> Result<Vec<u64>, AllocError>
-    ensures gives { IfOk result (λ coarse. AreBlocks rows.now coarse.items) }
+    ensures gives { IfOk result (λ coarse. AreBlocks rows.now.rows coarse.items) }
 {
     let count = rows.len() / BLOCK_ROWS + usize::from(rows.len() % BLOCK_ROWS > 0);
     let mut coarse = Vec::with_capacity(alloc, count)?;
@@ -67,6 +68,7 @@ impl PackedRows {
     /// No rows and no sequences. Takes no memory.
     pub(crate) fn none(alloc: Global) -> PackedRows
         ensures rows { result.rows ≡ [] }
+        ensures wide { result.wide ≡ false }
         ensures listed { result.listed ≡ [] }
     {
         let sequences = Vec::new(alloc);
@@ -80,9 +82,10 @@ impl PackedRows {
 
     /// Rows and sequences, which are put in order. Fails only where a growth is refused.
     pub(crate) fn new(alloc: Global, unit: UnitRows) -> Result<PackedRows, AllocError>
-        requires among { AllByRecursion (IsAmong unit.rows) unit.sequences.items }
-        requires no_others { length unit.rows ≡ packed_rows_in unit.sequences.items }
-        ensures rows { IfOk result (λ p. p.rows ≡ unit.rows) }
+        requires among { AllByRecursion (IsAmong unit.rows.rows) unit.sequences.items }
+        requires no_others { length unit.rows.rows ≡ packed_rows_in unit.sequences.items }
+        ensures rows { IfOk result (λ p. p.rows ≡ unit.rows.rows) }
+        ensures wide { IfOk result (λ p. p.wide ≡ unit.rows.wide) }
         ensures listed { IfOk result (λ p. p.listed ≡ unit.sequences.items) }
     {
         let coarse = first_addresses(alloc, &unit.rows)?;

@@ -1,6 +1,6 @@
 //! Sequences, from the rows of a line program.
 
-ghost use Rattle.std.specs.Prelude.{◌≡◌, ◌+◌, [], ◌∷◌, ◌++◌, drop, map, length, option_map, IfOk, IfSome, OnOk};
+ghost use Rattle.std.specs.Prelude.{◌≡◌, ◌+◌, [], ◌∷◌, ◌++◌, drop, map, length, option_map, IfOk, IfSome, Ok, OnOk};
 ghost use Rattle.std.specs.List.{AllByRecursion};
 ghost use Rattle.gimli_read.specs.Topmost.{last};
 ghost use Rattle.gimli_read.specs.Reading.{ExactlyUnlessOom, result_map};
@@ -9,7 +9,8 @@ ghost use Rattle.addr2line_lines.specs.UnitLines.{IsFaultAtOnce};
 ghost use Rattle.addr2line_lines.specs.Sequences.{sequences_of};
 ghost use Rattle.gimli_line.specs.Rises.{NeverFalls};
 ghost use Rattle.addr2line_lines.specs.Packed.{IsAmong, RowsEndBy, packed_rows_in, unpacked};
-ghost use Rattle.addr2line_lines.specs.Building.{closed, built_ended, has_address, nothing_built, without_last};
+ghost use Rattle.addr2line_lines.specs.Building.{closed, built_ended, has_address, need_wide, nothing_stored, without_last};
+ghost use Rattle.addr2line_lines.specs.Columns.{wide_after};
 
 use crate::columns::Columns;
 use crate::row::{Row, stored_row};
@@ -33,7 +34,7 @@ pub struct LineSequence {
 
 // Whether the last row, if one is at place `first` or after it, has the address.
 fn ends_at(rows: &Columns, first: usize, address: u64) -> bool
-    ensures gives { result ≡ has_address address (last (drop first rows.now)) }
+    ensures gives { result ≡ has_address address (last (drop first rows.now.rows)) }
 {
     let len = rows.len();
     len > first && rows.address(len - 1) == address
@@ -41,9 +42,10 @@ fn ends_at(rows: &Columns, first: usize, address: u64) -> bool
 
 // The sequence of the rows from place `first` on with their end row, if they are one.
 fn closed(rows: &Columns, first: usize, end: LineRow) -> Option<LineSequence>
-    ensures gives { option_map (unpacked rows.now) result ≡ closed (drop first rows.now) end }
+    ensures gives { option_map (unpacked rows.now.rows) result ≡
+        closed (drop first rows.now.rows) end }
     ensures first { IfSome result (λ s. s.first ≡ first) }
-    ensures all { IfSome result (λ s. s.first + s.len ≡ length rows.now) }
+    ensures all { IfSome result (λ s. s.first + s.len ≡ length rows.now.rows) }
 {
     let len = rows.len().saturating_sub(first);
     if len == 0 || end.dropped {
@@ -71,19 +73,22 @@ struct Builder {
 }
 
 impl Model for Builder {
-    ghost use Rattle.addr2line_lines.specs.Building.{Built, built, IsBuilder};
+    ghost use Rattle.addr2line_lines.specs.Building.{StoredBuilt, built, IsBuilder};
 
-    ghost Value = { Built };
+    ghost Value = { StoredBuilt };
 
-    ghost view = { λ b. built b.rows b.sequences.items b.first };
+    ghost view = { λ b. record {
+      built = built b.rows.rows b.sequences.items b.first;
+      wide = b.rows.wide;
+    } };
 
-    ghost invariant = { λ b. IsBuilder b.rows b.sequences.items b.first };
+    ghost invariant = { λ b. IsBuilder b.rows.rows b.sequences.items b.first };
 }
 
 impl Builder {
     // Nothing yet.
     fn new(alloc: Global) -> Builder
-        ensures gives { result ≡ nothing_built }
+        ensures gives { result ≡ nothing_stored }
     {
         Builder {
             alloc,
@@ -95,7 +100,8 @@ impl Builder {
 
     // Ends the sequence that goes on; where it is none, its rows are dropped.
     fn close(&mut self, end: LineRow) -> Result<(), AllocError>
-        ensures gives { OnOk result (self.new ≡ built_ended self.old end) }
+        ensures gives { OnOk result (self.new.built ≡ built_ended self.old.built end) }
+        ensures wide { OnOk result (self.new.wide ≡ self.old.wide) }
     {
         match closed(&self.rows, self.first, end) {
             Some(sequence) => {
@@ -110,9 +116,10 @@ impl Builder {
     // Takes a row of the sequence that goes on: it replaces the last one, or follows it.
     #[inline(always)]
     fn put(&mut self, row: Row) -> Result<(), AllocError>
-        ensures gives { OnOk result (self.new ≡ record self.old {
-          pending = without_last row.address self.old.pending ++ row ∷ [];
+        ensures gives { OnOk result (self.new.built ≡ record self.old.built {
+          pending = without_last row.address self.old.built.pending ++ row ∷ [];
         }) }
+        ensures wide { OnOk result (self.new.wide ≡ wide_after self.old.wide row) }
     {
         if ends_at(&self.rows, self.first, row.address) {
             return self.rows.set_last(self.alloc, row);
@@ -122,9 +129,12 @@ impl Builder {
 
     // The rows and the sequences, without the rows that no end row follows.
     fn finish(self) -> UnitRows
-        ensures gives { map (unpacked result.rows) result.sequences.items ≡ self.sequences }
-        ensures within { AllByRecursion (RowsEndBy (length result.rows)) result.sequences.items }
-        ensures no_others { length result.rows ≡ packed_rows_in result.sequences.items }
+        ensures gives { map (unpacked result.rows.rows) result.sequences.items ≡
+            self.built.sequences }
+        ensures wide { result.rows.wide ≡ self.wide }
+        ensures within { AllByRecursion (RowsEndBy (length result.rows.rows))
+            result.sequences.items }
+        ensures no_others { length result.rows.rows ≡ packed_rows_in result.sequences.items }
     {
         let mut rows = self.rows;
         let mut sequences = self.sequences;
@@ -136,9 +146,9 @@ impl Builder {
 }
 
 impl RowSink for Builder {
-    ghost use Rattle.addr2line_lines.specs.Building.{row_taken};
+    ghost use Rattle.addr2line_lines.specs.Building.{stored_taken};
 
-    ghost taken = { row_taken };
+    ghost taken = { stored_taken };
 
     // An end row ends the sequence that goes on.
     #[inline(always)]
@@ -166,7 +176,8 @@ fn never_falls<R: Reader>(rows: &LineRows<R>)
     rows.rises();
 }
 
-/// The rows and sequences of a line program.
+/// The rows and sequences of a line program. File indexes have 64 bits where a row, which isn't an
+/// end row, has one past 65,535, else 16.
 ///
 /// Refused with the program's fault; may fail with `OutOfMemory` instead, unless the fault comes
 /// before the first row and before a file is defined.
@@ -174,10 +185,13 @@ pub(crate) fn read_sequences<R: Reader>(
     alloc: Global,
     rows: &mut LineRows<R>,
 ) -> Result<UnitRows, Error>
-    ensures gives { ExactlyUnlessOom (λ u. map (unpacked u.rows) u.sequences.items) result
+    ensures gives { ExactlyUnlessOom (λ u. map (unpacked u.rows.rows) u.sequences.items) result
         (result_map sequences_of (read_all rows.old.left)) }
-    ensures among { IfOk result (λ u. AllByRecursion (IsAmong u.rows) u.sequences.items) }
-    ensures no_others { IfOk result (λ u. length u.rows ≡ packed_rows_in u.sequences.items) }
+    ensures wide { IfOk result (λ u.
+        result_map need_wide (read_all rows.old.left) ≡ Ok u.rows.wide) }
+    ensures among { IfOk result (λ u. AllByRecursion (IsAmong u.rows.rows) u.sequences.items) }
+    ensures no_others { IfOk result (λ u.
+        length u.rows.rows ≡ packed_rows_in u.sequences.items) }
     ensures files { OnOk result
         (rows.new.header.file_names ≡ rows.old.header.file_names ++ rows.old.to_define) }
     ensures exact { IsFaultAtOnce rows.old result }

@@ -16,5 +16,5 @@ loop-block-preserved c =
     let items = c.loop-block.coarse.items in
     record {
       len = ap length c.in_ok-push.ensures.items ∙ length_push items c.address.result ∙ ap (λ n. n + 1) i.len;
-      each = each_pushed items c.push.new.self.items c.address.result c.loop-block.block (λ j. row_address_at c.args.rows.now (64 * j)) c.in_ok-push.ensures.items i.len i.each c.address.ensures.gives;
+      each = each_pushed items c.push.new.self.items c.address.result c.loop-block.block (λ j. row_address_at c.args.rows.now.rows (64 * j)) c.in_ok-push.ensures.items i.len i.each c.address.ensures.gives;
     }

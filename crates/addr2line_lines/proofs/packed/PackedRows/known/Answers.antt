@@ -7,6 +7,6 @@ pub returns-clause-table : goal.returns-clause-table
 returns-clause-table c =
     let i = c.self.invariant in
     let e = c.len-rows.ensures.gives in
-    let few : length c.self.inside.rows < 2 ^ 64 = omega arith in
+    let few : length c.self.inside.rows.rows < 2 ^ 64 = omega arith in
     let P : Packed → Type 0 = λ p. IsTable p.sequences p.rows in
     subst P c.self.view_is (table_of _ _ _ i.sorted_is few i.among)

@@ -1,14 +1,15 @@
 use Rattle.std.proofs.Common.{List, [], ◌∷◌, ◌++◌, drop, map, ap, sym, ◌∙◌}
 use Rattle.std.proofs.lemmas.Result.{on_ok_weaker}
-use Rattle.addr2line_lines.specs.Building.{Built, without_last}
+use Rattle.addr2line_lines.specs.Building.{Built, StoredBuilt, without_last}
 use Rattle.addr2line_lines.specs.declared.row.Row.{Row}
+use Rattle.addr2line_lines.specs.Columns.{wide_after}
 use Rattle.addr2line_lines.specs.Packed.{unpacked}
 use Rattle.addr2line_lines.proofs.BuildLemmas.{built_push, built_replaced, ends_inside, without_is, without_none}
 use Rattle.addr2line_lines.proofs.sequence.Builder.put.Goals as goal
 
 pub returns-then-ends_at : goal.returns-then-ends_at
 returns-then-ends_at c =
-    let rows : List Row = c.self.inside.rows in
+    let rows : List Row = c.self.inside.rows.rows in
     let first = c.self.inside.first in
     let a = c.args.row.address in
     let r : Row = c.args.row in
@@ -17,12 +18,13 @@ returns-then-ends_at c =
       gives = on_ok_weaker c.set_last.result (λ e.
           built_replaced rows _ first c.self.invariant _ r (ends_inside rows first a t) e
           ∙ ap (λ (p : List Row). record { sequences = map (unpacked rows) c.self.inside.sequences.items; pending = p ++ r ∷ [] }) (sym (without_is (drop first rows) a t))
-          ∙ ap (λ (b : Built). record { sequences = b.sequences; pending = without_last a b.pending ++ r ∷ [] }) c.self.view_is) c.set_last.ensures.gives;
+          ∙ ap (λ (b : Built). record { sequences = b.sequences; pending = without_last a b.pending ++ r ∷ [] }) (ap (λ (v : StoredBuilt). v.built) c.self.view_is)) c.set_last.ensures.gives;
+      wide = on_ok_weaker c.set_last.result (λ e. e ∙ ap (λ (v : StoredBuilt). wide_after v.wide r) c.self.view_is) c.set_last.ensures.wide;
     }
 
 pub returns : goal.returns
 returns c =
-    let rows : List Row = c.self.inside.rows in
+    let rows : List Row = c.self.inside.rows.rows in
     let first = c.self.inside.first in
     let a = c.args.row.address in
     let r : Row = c.args.row in
@@ -31,5 +33,6 @@ returns c =
       gives = on_ok_weaker c.push.result (λ e.
           built_push rows _ first c.self.invariant _ r e
           ∙ ap (λ (p : List Row). record { sequences = map (unpacked rows) c.self.inside.sequences.items; pending = p ++ r ∷ [] }) (sym (without_none (drop first rows) a t))
-          ∙ ap (λ (b : Built). record { sequences = b.sequences; pending = without_last a b.pending ++ r ∷ [] }) c.self.view_is) c.push.ensures.gives;
+          ∙ ap (λ (b : Built). record { sequences = b.sequences; pending = without_last a b.pending ++ r ∷ [] }) (ap (λ (v : StoredBuilt). v.built) c.self.view_is)) c.push.ensures.gives;
+      wide = on_ok_weaker c.push.result (λ e. e ∙ ap (λ (v : StoredBuilt). wide_after v.wide r) c.self.view_is) c.push.ensures.wide;
     }

@@ -29,7 +29,7 @@ use Rattle.addr2line_lines.specs.FoundNames.{name_after}
 use Rattle.addr2line_lines.specs.Names.{name_of}
 use Rattle.addr2line_lines.specs.RangeAttributes.{attribute_ranges, gives_a_range}
 use Rattle.addr2line_lines.specs.References.{Scope}
-use Rattle.addr2line_lines.proofs.WholeEntries.{item_entry, placed_is, placed_read}
+use Rattle.addr2line_lines.proofs.WholeEntries.{placed_is, placed_read}
 use Rattle.addr2line_lines.proofs.DetailOrder.{AgreesDetail, closed_is, detail_agrees, listed_is, opened_is, some_left}
 use Rattle.addr2line_lines.proofs.FunctionLemmas.{or_first, or_second}
 use Rattle.addr2line_lines.proofs.FunctionMemory.{listed_well}

@@ -36,7 +36,7 @@ use Rattle.addr2line_lines.specs.RangeAttributes.{attribute_ranges}
 use Rattle.addr2line_lines.specs.References.{Scope}
 use Rattle.addr2line_lines.proofs.DetailRanges.{AreFrom, more_places, more_ranges, none_from}
 use Rattle.addr2line_lines.proofs.NestingLemmas.{coded}
-use Rattle.addr2line_lines.proofs.WholeEntries.{detail_is, detail_read, item_entry}
+use Rattle.addr2line_lines.proofs.WholeEntries.{detail_is, detail_read}
 
 -- what the kinds of open entries tell
 abbrev kind_at : ℕ → Kind

@@ -1,6 +1,6 @@
 -- The entry at an offset of its unit and the items inside it, by places among the entries (on
 -- specs/Details.antt).
-use Rattle.std.proofs.Common.{◌≡◌, ℕ, List, [], ◌∷◌, Option, Some, None, Result, Ok, Err, refl, ap, ◌∙◌, pos}
+use Rattle.std.proofs.Common.{◌≡◌, ℕ, List, [], Option, Some, None, Result, Ok, Err, refl, ap, ◌∙◌, pos}
 use Rattle.gimli_read.specs.declared.error.Error.{Error}
 use Rattle.gimli_read.specs.declared.error.Error.TheVariants.{NoEntryAtGivenOffset}
 use Rattle.gimli_read.specs.Reading.{◌>>=◌}
@@ -12,7 +12,6 @@ use Rattle.gimli.specs.Items.{Entry, Item, items_from, subtree_of}
 use Rattle.gimli.specs.Unit.{UnitRecord}
 use Rattle.gimli.proofs.ItemReads.{items_end, items_fault, items_more}
 use Rattle.addr2line_lines.specs.Details.{Detail, PlacedItem, WholeEntry, detail_at, first_whole, inlined_in, placed_inside, placed_items, whole_entry_at}
-use Rattle.addr2line_lines.specs.InlinedEntries.{InlinedRange}
 use Rattle.addr2line_lines.specs.Names.{name_of}
 use Rattle.addr2line_lines.specs.References.{Scope}
 

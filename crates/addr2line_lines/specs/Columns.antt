@@ -1,5 +1,5 @@
 -- Rows in columns, as the private functions see them.
-use Rattle.std.specs.Prelude.{ℕ, ◌≡◌, ◌^◌, ◌++◌, ◌||◌, Bool, true, false, nat_le, List, [], ◌∷◌, length}
+use Rattle.std.specs.Prelude.{ℕ, ◌≡◌, ◌^◌, ◌||◌, Bool, true, false, nat_le, List, [], ◌∷◌, length}
 use Rattle.addr2line_lines.specs.declared.columns.FileIndexes.{FileIndexes}
 use Rattle.addr2line_lines.specs.declared.columns.FileIndexes.TheVariants.{Narrow, Wide}
 use Rattle.addr2line_lines.specs.declared.row.Row.{Row}

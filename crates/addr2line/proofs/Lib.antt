@@ -18,5 +18,6 @@ pub mod FileSectionLemmas
 pub mod SplitFileLemmas
 pub mod AskedLemmas
 pub mod ByFilesLemmas
+pub mod UncoveredLemmas
 pub mod NoLoadLemmas
 pub mod LoadedLemmas

@@ -39,6 +39,12 @@ stop_ended : (walked : Result (Unit {0}) Error) (stop : Stop) (r : Result Stop E
 stop_ended (Ok x) stop r h w = sym (ap is_waiting h) ∙ w
 stop_ended (Err e) stop r h w = refl
 
+none_waits : (walked : Result (Unit {0}) Error) (stop : Stop) → OnOk walked (waiting_unit stop ≡ None) → is_waiting (walked >>= λ _. Ok stop) ≡ false
+none_waits (Ok x) (Waits n) h = absurd cc
+none_waits (Ok x) (Finds n frames) h = refl
+none_waits (Ok x) FindsNothing h = refl
+none_waits (Err e) stop h = refl
+
 -- a lookup that was stored and has ended waits for no unit
 pub never_waits : (walked : Result (Unit {0}) Error) (stop : Stop) (n : ℕ) → OnOk walked (waiting_unit stop ≡ None) → walked ≡ Ok tt → stop ≡ Waits n → ⊥
 never_waits walked stop n ended is waits =
@@ -76,15 +82,16 @@ module _ (faults : Faults) (probe : ℕ) (old mid : ContextState) (walked : Resu
 
   module _ (a : AfterSkip faults probe walked old mid) where
     -- the output of a lookup of which none was answered to each load
-    pub skip_after : {L X D S : Type 0} (new : ContextState) (result : LookupResult L (Result X Error) D S) → IfOutput result (λ o. (new ≡ mid) × IsLent walked mid.stop o) → IfOutput result (λ o. AfterSkip faults probe o old new)
-    skip_after new (Load c) h = tt
-    skip_after {X = X} new (Output o) h = subst (λ n. AfterSkip {X = X} faults probe o old n) (sym h.0) (record {
+    pub skip_after : {L X D S : Type 0} (new : ContextState) (result : LookupResult L (Result X Error) D S) → OnOk walked (waiting_unit mid.stop ≡ None) → IfOutput result (λ o. (new ≡ mid) × IsLent walked mid.stop o) → IfOutput result (λ o. AfterSkip faults probe o old new)
+    skip_after new (Load c) ended h = tt
+    skip_after {X = X} new (Output o) ended h = subst (λ n. AfterSkip {X = X} faults probe o old n) (sym h.0) (record {
       sections = a.sections;
       answers = λ told. a.answers (h.1.ready told);
       begun = a.begun;
       parsed = a.parsed;
       raised = a.raised;
       ready = λ told. a.ready (h.1.ready told);
+      memory = λ few. h.1.memory (none_waits walked mid.stop ended) (a.memory few);
     })
 
     pub outputs_skipped : {L V X D S : Type 0} (reading : Sections → FirstAnswers → ℕ → Result V Error) (see : X → V) (new : ContextState) (result : LookupResult L (Result X Error) D S) → IfOutput result (λ o. (new ≡ mid) × IsLent walked mid.stop o)

@@ -22,7 +22,7 @@ use Rattle.addr2line_units.specs.UnitIndex.{UnitIndex, index_units, sup_units}
 use Rattle.addr2line_units.specs.UnitsState.{UnitsState, first_state, new_units}
 use Rattle.addr2line_units.proofs.NewUnitsLemmas.{ok_is}
 use Rattle.addr2line_units.proofs.UnitsLemmas.{ready_both, ready_first}
-use Rattle.addr2line.specs.Context.{AfterLookup, AfterRangeLookup, ContextState, IsContext, IsReady, IsReadyForAll, IsReadyForRange, ParsesToFault, Stays, lines_of_all, new_context, seen_context}
+use Rattle.addr2line.specs.Context.{AfterLookup, AfterRangeLookup, ContextState, IsContext, IsReady, IsUncovered, IsReadyForAll, IsReadyForRange, ParsesToFault, Stays, lines_of_all, new_context, seen_context}
 
 -- an answer that isn't OutOfMemory is exactly what is given
 pub exactly_told : {X Y : Type 0} (see : X → Y) (r : Result X Error) (given : Result Y Error) → ExactlyUnlessOom see r given → HadMemory r → Exactly see r given
@@ -178,6 +178,10 @@ module _ (ranges : List UnitRange) (u : UnitsState) (i : IsContext ranges u) whe
       counted = λ found. a.counted (k found);
       cost = of_made (λ s xs rs. now.looks ≤ u.looks + looks_along s.file.sections xs (cover probe rs)) a.cost;
     }
+
+  -- where the sections tell that no unit covers the probe, none does
+  pub covers_none : (probe : ℕ) → IsUncovered (seen_context u) probe → cover probe ranges ≡ []
+  covers_none probe h = ap (cover probe) i.ranges ∙ ap (λ (m : UnitIndex). cover probe m.ranges) (ok_is i.made h.0 (sym i.made_is ∙ h.1)) ∙ h.2
 
   -- where no unit covers the probe nothing is found, and no memory is taken
   pub none_covered : {Y : Type 0} (see : Y → Location) (probe : ℕ) (r : Result (Option Y) Error) (now : UnitsState) → left.AfterRow probe (cover probe ranges) r u now → ExactlyUnlessOom (option_map see) r (along d u.units probe (cover probe ranges))

@@ -19,5 +19,6 @@ pub mod FileSectionLemmas
 pub mod SplitFileLemmas
 pub mod AskedLemmas
 pub mod ByFilesLemmas
+pub mod UncoveredLemmas
 pub mod NoLoadLemmas
 pub mod LoadedLemmas

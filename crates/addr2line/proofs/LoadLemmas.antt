@@ -1,7 +1,7 @@
 -- Answers to loads outside a lookup, in a context (on specs/Loads.antt).
-use Rattle.std.proofs.Common.{◌≡◌, ◌⊎◌, inl, inr, ℕ, false, true, List, length, slice_get, Option, Result, Ok, Err, sym, ap, subst, ◌∙◌}
+use Rattle.std.proofs.Common.{◌≡◌, ◌⊎◌, inl, inr, ℕ, false, true, List, [], length, slice_get, Option, Result, Ok, Err, sym, ap, subst, ◌∙◌}
 use Rattle.std.proofs.lemmas.List.{length-map}
-use Rattle.std.specs.Prelude.{OnOk}
+use Rattle.std.specs.Prelude.{IfOk, IsOk, IsOkAnd, OnOk}
 use Rattle.gimli_read.specs.declared.error.Error.{Error}
 use Rattle.gimli_read.specs.Alike.{HadMemory}
 use Rattle.gimli_read.specs.Reading.{◌>>=◌, ExactlyUnlessOom, fault_of}
@@ -18,19 +18,24 @@ use Rattle.addr2line_units.specs.FramesLookup.{asked_frames, main_scope, stop_al
 use Rattle.addr2line_units.specs.FunctionParseLaws.{IsReached}
 use Rattle.addr2line_units.specs.FunctionParses.{AreFirstDecided, AreReadBefore, AreReadyFor, answers_after_parse, read_of_units}
 use Rattle.addr2line_units.specs.KnownEntries.{knows_at}
-use Rattle.addr2line_units.specs.Loads.{NoneOpen, forget_result, is_open_at, load_result}
+use Rattle.addr2line_units.specs.Loads.{NoneOpen, forget_result, is_open_at, load_result, loads_along}
 use Rattle.addr2line_units.specs.Located.{all_lines}
 use Rattle.addr2line_units.specs.RangedUnits.{IndexedUnit}
 use Rattle.addr2line_units.specs.StaysKnown.{IsReadyAt, StaysKnown}
 use Rattle.addr2line_units.specs.UnitIndex.{UnitIndex, index_units}
 use Rattle.addr2line_units.specs.UnitsState.{UnitsState}
-use Rattle.addr2line_units.specs.Views.{FirstAnswers}
+use Rattle.addr2line_units.specs.Views.{FirstAnswers, SplitLoad}
 use Rattle.addr2line_units.proofs.ReachedLemmas.{reached_all}
 use Rattle.addr2line.specs.Context.{IsContext, lines_of_all, seen_context}
 use Rattle.addr2line.specs.Loads.{AfterForget, AfterLoad, AfterParse, AfterPreload, IsAllKnown, IsNotOpen, NoneOpenAt, ReachesAllOf, StaysRead, forget_reply, load_reply, parse_reply, parsed_answers}
 use Rattle.addr2line.specs.Lookups.{lookup_stop}
 use Rattle.addr2line.proofs.AnsweredLemmas.{answers_are, scope_same, units_same}
-use Rattle.addr2line.proofs.ContextLemmas.{at_made, by_made, of_made, of_now, or_made, still_context}
+use Rattle.addr2line.proofs.ContextLemmas.{at_made, at_now, by_made, of_made, of_now, or_made, still_context}
+
+-- along no ranges no loads are listed
+pub none_listed : {X : Type 0} (items : X → List SplitLoad) (load : ℕ → Option SplitLoad) (ranges : List UnitRange) (r : Result X Error) → ranges ≡ [] → IsOk r → IfOk r (λ x. items x ≡ loads_along load ranges) → IsOkAnd r (λ x. items x ≡ [])
+none_listed items load ranges (Ok x) none ok h = h ∙ ap (loads_along load) none
+none_listed items load ranges (Err e) none ok h = absurd cc
 
 module _ (ranges : List UnitRange) (u : UnitsState) (i : IsContext ranges u) where
   abbrev d : Sections
@@ -91,7 +96,8 @@ module _ (ranges : List UnitRange) (u : UnitsState) (i : IsContext ranges u) whe
       whole = of_made ranges u i (λ s xs rs. (kind : ReadingDepth) (n : ℕ) → is_open_at s.file.sections s.file.units u.answers n ≡ false → IsReadyAt kind u.known n → IsReadyAt kind now.known n) a.whole;
       only = of_made ranges u i (λ s xs rs. (n : ℕ) → (slice_get now.known n ≡ slice_get u.known n) ⊎ AreReadBefore reads s s.file.units u.answers n) a.only;
       read = a.read;
-      memory = a.memory;
+      whole_known = a.whole_known;
+      memory = λ known. a.memory (at_now ranges u i now (scope_same ranges u i now a.stays) (units_same ranges u i now a.stays) (λ s xs rs. AreReadyFor reads s s.file.units now.answers now.known) known);
       ready = λ told. of_now ranges u i now (scope_same ranges u i now a.stays) (units_same ranges u i now a.stays) (λ s xs rs. AreReadyFor reads s s.file.units now.answers now.known) (a.ready told);
       exact = λ known. a.exact (at_made ranges u i (λ s xs rs. AreReadyFor reads s s.file.units u.answers u.known) known) ∙ sym (parse_is reads);
       same = λ known. a.same (at_made ranges u i (λ s xs rs. AreReadyFor reads s s.file.units u.answers u.known) known);

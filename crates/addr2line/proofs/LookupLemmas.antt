@@ -19,7 +19,7 @@ use Rattle.addr2line_units.specs.UnitFrames.{FramesResult}
 use Rattle.addr2line_units.specs.UnitsState.{UnitsState, has_all_at, has_few_at, stop_of}
 use Rattle.addr2line_units.specs.Views.{FirstAnswers, SplitLoad, load_of_unit}
 use Rattle.addr2line.specs.Context.{IsContext, seen_context}
-use Rattle.addr2line.specs.AfterLookups.{AfterFrames}
+use Rattle.addr2line.specs.AfterLookups.{AfterFrames, IsKnownFew}
 use Rattle.addr2line.specs.Lookups.{IsLoadOf, lookup_stop}
 use Rattle.addr2line.proofs.ContextLemmas.{at_made, by_made, of_made, still_context}
 
@@ -75,6 +75,11 @@ module _ (ranges : List UnitRange) (u : UnitsState) (i : IsContext ranges u) (fa
     abbrev few_by : Scope → List IndexedUnit → ℕ → Bool
     few_by s xs n = all_by s xs n && not (has_many_of s xs now.answers probe n)
 
+    -- where all is known that a lookup asks for it is refused no memory
+    pub walk_memory : IsKnownFew faults (seen_context now) probe → HadMemory r
+    walk_memory few = w.memory (as_before (λ s xs a. holds_along (has_few_at probe now) (asked_frames faults s xs a probe) (cover probe ranges) ≡ true)
+        (at_made ranges now walked_context (λ s xs rs. holds_along (few_by s xs) (asked_frames faults s xs now.answers probe) (cover probe rs) ≡ true) few))
+
     pub after_frames : AfterFrames faults probe r (seen_context u) (seen_context now)
     after_frames = record {
       sections = ap (λ (s : Scope). s.file.sections) w.asked.scope;
@@ -86,6 +91,5 @@ module _ (ranges : List UnitRange) (u : UnitsState) (i : IsContext ranges u) (fa
       raised = w.asked.raised;
       ready = λ told. of_made ranges now walked_context (λ s xs rs. holds_along (all_by s xs) (asked_frames faults s xs now.answers probe) (cover probe rs) ≡ true)
           (as_after (λ s xs a. holds_along (has_all_at probe now) (asked_frames faults s xs a probe) (cover probe ranges) ≡ true) (w.ready told));
-      memory = λ few ended. w.memory (as_before (λ s xs a. holds_along (has_few_at probe now) (asked_frames faults s xs a probe) (cover probe ranges) ≡ true)
-          (at_made ranges now walked_context (λ s xs rs. holds_along (few_by s xs) (asked_frames faults s xs now.answers probe) (cover probe rs) ≡ true) few));
+      memory = λ few ended. walk_memory few;
     }

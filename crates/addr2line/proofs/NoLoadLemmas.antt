@@ -1,5 +1,5 @@
 -- Lookups by files that answer no load (on specs/LoadsByFiles.antt).
-use Rattle.std.proofs.Common.{◌≡◌, ◌≢◌, ◌&&◌, ◌||◌, ℕ, Bool, true, false, not, List, [], ◌∷◌, Option, Ok, Err, refl, sym, ap, subst, ◌∙◌}
+use Rattle.std.proofs.Common.{◌≡◌, ◌≢◌, ◌&&◌, ◌||◌, inl, inr, ℕ, Bool, true, false, not, List, [], ◌∷◌, Option, Result, Ok, Err, refl, sym, ap, subst, ◌∙◌}
 use Rattle.gimli_read.specs.declared.error.Error.{Error}
 use Rattle.gimli_read.specs.Reading.{◌>>=◌}
 use Rattle.gimli.specs.Sections.{Sections}
@@ -11,7 +11,7 @@ use Rattle.addr2line_units.specs.declared.frames_lookup.Faults.TheVariants.{End}
 use Rattle.addr2line_units.specs.declared.index.UnitRange.{UnitRange}
 use Rattle.addr2line_units.specs.Cover.{cover}
 use Rattle.addr2line_units.specs.Frames.{FrameRecord}
-use Rattle.addr2line_units.specs.FramesLookup.{Waits, FindsNothing, answer_of, asks_lines_of, ends_lookup, has_many_of, holds_along, is_waiting, main_scope, stop_along}
+use Rattle.addr2line_units.specs.FramesLookup.{LookupAsks, Waits, answer_of, asks_lines_of, ends_lookup, has_many_of, holds_along, is_waiting, main_scope}
 use Rattle.addr2line_units.specs.KnownEntries.{knows_at}
 use Rattle.addr2line_units.specs.Parsed.{StaysParsed, has_parsed}
 use Rattle.addr2line_units.specs.UnitIndex.{UnitIndex, index_units}
@@ -19,12 +19,13 @@ use Rattle.addr2line_units.specs.UnitFrames.{FramesResult}
 use Rattle.addr2line.specs.Context.{ContextState, IsUncovered}
 use Rattle.addr2line.specs.Files.{ReadFiles}
 use Rattle.addr2line.specs.FramesByFiles.{ended_frames_of, stop_frames}
-use Rattle.addr2line.specs.LoadsByFiles.{AfterAnswers, AnswersInTurn, WaitsForNone}
-use Rattle.addr2line.specs.AfterLookups.{IsKnownFew, has_few_of}
+use Rattle.addr2line.specs.LoadsByFiles.{AfterAnswers, AnswersInTurn, MayLackMemory, WaitsForNone}
+use Rattle.addr2line.specs.AfterLookups.{IsKnownFew, TakesMemory, has_few_of}
 use Rattle.addr2line_units.specs.StaysKnown.{StaysKnown}
-use Rattle.addr2line.specs.Lookups.{asked_of, lookup_stop, stop_in}
+use Rattle.addr2line.specs.Lookups.{asked_of, lookup_stop}
 use Rattle.addr2line.proofs.HistoryLemmas.{given_ended}
 use Rattle.addr2line_units.proofs.NewUnitsLemmas.{ok_is}
+use Rattle.addr2line.proofs.UncoveredLemmas.{uncovered_few, uncovered_stop}
 use Rattle.addr2line_units.specs.Views.{FirstAnswers}
 
 more : (a b c x y : Bool) → (a ≡ true → x ≡ true) → (c ≡ true → y ≡ true) → (a && (b || c)) ≡ true → (x && (b || y)) ≡ true
@@ -37,6 +38,41 @@ pub holds_more : (h k : ℕ → Bool) (frames : ℕ → FramesResult) (ranges : 
 holds_more h k frames [] f e = refl
 holds_more h k frames (r ∷ ranges) f e =
     more (h r.unit) (ends_lookup (frames r.unit)) (holds_along h frames ranges) (k r.unit) (holds_along k frames ranges) (f r.unit) (holds_more h k frames ranges f) e
+
+-- a number of which something doesn't hold that doesn't hold along ranges
+lacks_along : (h : ℕ → Bool) (frames : ℕ → FramesResult) (ranges : List UnitRange) → holds_along h frames ranges ≡ false → (n : ℕ) × LookupAsks frames ranges n × (h n ≡ false)
+lacks_along h frames [] e = absurd cc
+lacks_along h frames (r ∷ ranges) e = by (h r.unit) (ends_lookup (frames r.unit)) refl refl (lacks_along h frames ranges) e
+  where
+    by : (a b : Bool) → h r.unit ≡ a → ends_lookup (frames r.unit) ≡ b → (holds_along h frames ranges ≡ false → (n : ℕ) × LookupAsks frames ranges n × (h n ≡ false)) → (a && (b || holds_along h frames ranges)) ≡ false
+        → (n : ℕ) × LookupAsks frames (r ∷ ranges) n × (h n ≡ false)
+    by false b p q later k = (r.unit, inl refl, p)
+    by true true p q later k = absurd cc
+    by true false p q later k = let rest = later k in (rest.0, inr (q, rest.1), rest.2)
+
+-- whether all is known that a lookup asks for, and at most 16 inlined functions stand there
+abbrev few_along : ContextState → ℕ → UnitIndex → Bool
+few_along c probe m = holds_along (has_few_of c probe m) (asked_of End c.sections c.answers probe m) (cover probe m.ranges)
+
+-- where it isn't so, a lookup takes memory
+takes_if_not : (c : ContextState) (probe : ℕ) → (IsKnownFew End c probe → ⊥) → TakesMemory End c probe
+takes_if_not c probe never = by_index (index_units c.sections) refl
+  where
+    by_held : (m : UnitIndex) → index_units c.sections ≡ Ok m → (b : Bool) → few_along c probe m ≡ b → TakesMemory End c probe
+    by_held m is true k = absurd (never (λ x e. subst (λ y. few_along c probe y ≡ true) (ok_is m x (sym is ∙ e)) k))
+    by_held m is false k = (m, is, lacks_along (has_few_of c probe m) (asked_of End c.sections c.answers probe m) (cover probe m.ranges) k)
+
+    by_index : (r : Result UnitIndex Error) → index_units c.sections ≡ r → TakesMemory End c probe
+    by_index (Ok m) is = by_held m is (few_along c probe m) refl
+    by_index (Err e) is = absurd (never (λ x q. absurd (let f : ◌≡◌ {A = Result UnitIndex Error} (Err e) (Ok x) = sym is ∙ q in cc)))
+
+-- where memory was refused
+pub lacks_memory : (e : LoaderError) (c : ContextState) (probe : ℕ) → (WaitsForNone c probe → IsKnownFew End c probe → e ≢ OutOfMemory) → e ≡ OutOfMemory → MayLackMemory c probe
+lacks_memory e c probe h oom = by_stop (is_waiting (lookup_stop End c.sections c.answers probe)) refl
+  where
+    by_stop : (b : Bool) → is_waiting (lookup_stop End c.sections c.answers probe) ≡ b → MayLackMemory c probe
+    by_stop true w = inl w
+    by_stop false w = inr (w, takes_if_not c probe (λ few. h w few oom))
 
 -- where all was known that a lookup asks for, it still is
 module _ (probe : ℕ) (old new : ContextState) where
@@ -85,28 +121,8 @@ module _ (files : Option ReadFiles) (probe : ℕ) (first now : ContextState) (a 
   pub found_ended : (frames : List FrameRecord) → ended_frames_of now probe ≡ Ok frames → ended_frames_of first probe ≡ Ok frames
   found_ended frames h = ap stop_frames (sym (a.ended probe w)) ∙ h
 
--- no unit covers the probe
-module _ (probe : ℕ) (c : ContextState) (u : IsUncovered c probe) where
-  uncovered_stop : lookup_stop End c.sections c.answers probe ≡ Ok FindsNothing
-  uncovered_stop =
-      ap (λ r. r >>= stop_in End c.sections c.answers probe) u.1
-      ∙ ap (λ ranges. stop_along (asked_of End c.sections c.answers probe u.0) ranges) u.2
-
-  uncovered_ended : WaitsForNone c probe
-  uncovered_ended = ap is_waiting uncovered_stop
-
-  uncovered_few : IsKnownFew End c probe
-  uncovered_few = λ m e.
-      let none = subst (λ (x : UnitIndex). cover probe x.ranges ≡ []) (ok_is _ _ (sym u.1 ∙ e)) u.2 in
-      ap (λ ranges. holds_along (has_few_of c probe m) (asked_of End c.sections c.answers probe m) ranges) none
-
-  uncovered_frames : ended_frames_of c probe ≡ Ok []
-  uncovered_frames = ap stop_frames uncovered_stop
-
--- what it comes to there, where no memory is refused
+-- what it comes to where no unit covers the probe, and no memory is refused
 pub last_frames : (probe : ℕ) (c : ContextState) → IsUncovered c probe → (given : Loading (List FrameRecord)) → (WaitsForNone c probe → IsKnownFew End c probe → ended_frames_of c probe ≡ given) → ◌≡◌ {A = Loading (List FrameRecord)} (Ok []) given
-last_frames probe c u given h = sym (uncovered_frames probe c u) ∙ h (uncovered_ended probe c u) (uncovered_few probe c u)
-
--- which units cover it is told by the sections alone
-pub still_uncovered : (probe : ℕ) (old new : ContextState) → new.sections ≡ old.sections → IsUncovered new probe → IsUncovered old probe
-still_uncovered probe old new s u = (u.0, ap index_units (sym s) ∙ u.1, u.2)
+last_frames probe c u given h =
+    let stop = uncovered_stop End probe c u in
+    sym (ap stop_frames stop) ∙ h (ap is_waiting stop) (uncovered_few End probe c u)

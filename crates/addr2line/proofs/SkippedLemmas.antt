@@ -10,7 +10,7 @@ use Rattle.addr2line.proofs.HistoryLemmas.{HasGiven, given_all, given_ended, giv
 use Rattle.addr2line.specs.Answers.{AfterAnswer, answered}
 use Rattle.addr2line.specs.Context.{ContextState}
 use Rattle.addr2line.specs.History.{Given, Answered, answers_given}
-use Rattle.addr2line.specs.AfterLookups.{AfterFrames, IsKnown}
+use Rattle.addr2line.specs.AfterLookups.{AfterFrames, IsKnown, IsKnownFew}
 use Rattle.addr2line.specs.Lookups.{loads_at, lookup_stop, waits_for}
 use Rattle.addr2line_units.specs.UnitsState.{waiting_unit}
 use Rattle.addr2line.specs.Skips.{AfterSkip, nones, skipped_answers}
@@ -116,14 +116,15 @@ module _ (faults : Faults) (probe : ℕ) (first : ContextState) where
         ∙ given_ended faults first.sections probe now.answers (nones (total - so.count)) (ap (λ d. is_waiting (lookup_stop faults d now.answers probe)) (sym so.sections) ∙ ended)
 
     -- the state that is left
-    pub after_skip : {X : Type 0} (r : Result X Error) → (HadMemory r → is_waiting (lookup_stop faults now.sections now.answers probe) ≡ false) → (HadMemory r → IsKnown faults now probe) → AfterSkip faults probe r first now
-    after_skip r ended ready = record {
+    pub after_skip : {X : Type 0} (r : Result X Error) → (HadMemory r → is_waiting (lookup_stop faults now.sections now.answers probe) ≡ false) → (HadMemory r → IsKnown faults now probe) → (IsKnownFew faults now probe → HadMemory r) → AfterSkip faults probe r first now
+    after_skip r ended ready memory = record {
       sections = so.sections;
       answers = λ told. sym (skip_end (ended told));
       begun = (so.count, sym (given_all faults first.sections probe first.answers now.answers (nones so.count) so.given));
       parsed = so.parsed;
       raised = so.raised;
       ready = ready;
+      memory = memory;
     }
 
 pub waits_true : (n : ℕ) (r : Result Stop Error) → r ≡ Ok (Waits n) → waits_for n r ≡ true

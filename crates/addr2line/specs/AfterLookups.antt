@@ -50,6 +50,12 @@ abbrev pub AsksUnit : Faults → ContextState → ℕ → UnitIndex → ℕ → 
 AsksUnit faults c probe m n =
     LookupAsks (asked_of faults c.sections c.answers probe m) (cover probe m.ranges) n
 
+-- a lookup of the probe asks a unit of which not all is known that it asks for, or in which more
+-- than 16 inlined functions stand there
+abbrev pub TakesMemory : Faults → ContextState → ℕ → Type 0
+TakesMemory faults c probe = (m : UnitIndex) × (index_units c.sections ≡ Ok m)
+    × ((n : ℕ) × AsksUnit faults c probe m n × (has_few_of c probe m n ≡ false))
+
 -- no lines are parsed but those that a lookup asks for in this context
 abbrev pub ParsesAsked : Faults → ℕ → ContextState → ContextState → ContextState → Type 0
 ParsesAsked faults probe c old new = (m : UnitIndex) → index_units c.sections ≡ Ok m

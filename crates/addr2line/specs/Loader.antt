@@ -14,7 +14,7 @@ use Rattle.addr2line.specs.declared.loader.LoaderOver.{LoaderOver}
 use Rattle.addr2line.specs.Context.{AfterLookup, AfterRangeLookup, ContextState}
 use Rattle.addr2line.specs.Files.{Files, ReadFiles, as_read_if_known}
 use Rattle.addr2line.specs.FramesByFiles.{ended_frames_of}
-use Rattle.addr2line.specs.LoadsByFiles.{AfterAnswers, AnswersInTurn, HasEnded, ReadsAsked, WaitsForNone, WaitsForOne}
+use Rattle.addr2line.specs.LoadsByFiles.{AfterAnswers, AnswersInTurn, HasEnded, MayLackMemory, ReadsAsked, WaitsForNone, WaitsForOne}
 use Rattle.addr2line.specs.AfterLookups.{IsKnown, IsKnownFew}
 use Rattle.addr2line.specs.SplitFiles.{of_file}
 
@@ -36,8 +36,8 @@ seen_loader files l = record {
 -- the main file are the same, and nothing was read but what it asks for; once it has ended, at a
 -- fault too, each unit that it came to is decided, all is known that it asks for, and its answer is
 -- that of the first answers which are left, whatever the files are. A path that isn't UTF-8 leaves
--- the unit open that it came to. Memory is refused only where it waits, something is left to read,
--- or more than 16 inlined functions stand there
+-- the unit open that it came to. Memory is refused only where it waits still, or asks a unit of
+-- which something is left to read, or in which more than 16 inlined functions stand there
 pub record AfterLoads {X : Type 0} (see : X → List FrameRecord) (probe : ℕ) (result : Loading X)
     (old new : LoaderState) : Type 0 where
   pub files : new.files ≡ old.files
@@ -51,6 +51,7 @@ pub record AfterLoads {X : Type 0} (see : X → List FrameRecord) (probe : ℕ) 
   pub waits : IfErr result (λ e. e ≡ PathNotUtf8 → WaitsForOne new.context probe)
   pub memory : WaitsForNone new.context probe → IsKnownFew End new.context probe
       → IfErr result (λ e. e ≢ OutOfMemory)
+  pub refused : IfErr result (λ e. e ≡ OutOfMemory → MayLackMemory new.context probe)
 
 -- a lookup of locations in the context has this answer, and has left the context as it leaves one;
 -- the files and the main file are the same

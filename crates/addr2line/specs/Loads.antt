@@ -7,7 +7,6 @@ use Rattle.std.specs.List.{AllByRecursion}
 use Rattle.gimli_read.specs.declared.error.Error.{Error}
 use Rattle.gimli_read.specs.Reading.{◌>>=◌}
 use Rattle.gimli.specs.Sections.{Sections}
-use Rattle.addr2line_lines.specs.FunctionDetails.{HasDetail}
 use Rattle.addr2line_units.specs.declared.frames_lookup.Faults.{Faults}
 use Rattle.addr2line_units.specs.declared.parses.ReadingDepth.{ReadingDepth}
 use Rattle.addr2line_units.specs.declared.parses.ReadingDepth.TheVariants as kinds
@@ -15,7 +14,7 @@ use Rattle.addr2line_units.specs.Cover.{cover}
 use Rattle.addr2line_units.specs.FramesLookup.{answer_of, main_scope}
 use Rattle.addr2line_units.specs.FunctionParseLaws.{IsReached}
 use Rattle.addr2line_units.specs.FunctionParses.{AreFirstDecided, AreReadBefore, AreReadyFor, answers_after_parse, read_of_units}
-use Rattle.addr2line_units.specs.KnownEntries.{KnownEntries, NothingKnown, AllKnown, FunctionsKnown, knows_at}
+use Rattle.addr2line_units.specs.KnownEntries.{knows_at}
 use Rattle.addr2line_units.specs.Loads.{NoneOpen, forget_result, forgotten, is_open_at, load_result}
 use Rattle.gimli_read.specs.Alike.{HadMemory}
 use Rattle.addr2line_units.specs.UnitIndex.{UnitIndex, index_units}
@@ -108,8 +107,8 @@ IsReadyToRead reads c = (m : UnitIndex) → index_units c.sections ≡ Ok m
 
 -- after a parse of all functions open units are decided by none, up to the first fault; where
 -- memory was refused, some of the first ones. What was known of the others stays. Unless memory was
--- refused all is known that the parse reads; where it was before, no memory is wanted, and nothing
--- is changed of what is known and answered
+-- refused all is known that the parse reads, and where it is, none was refused; where it was before,
+-- nothing is changed of what is known and answered
 pub record AfterParse (reads : ReadingDepth) (result : Result (Unit {0}) Error)
     (old new : ContextState) : Type 0 where
   pub stays : StaysRead old new
@@ -127,8 +126,9 @@ pub record AfterParse (reads : ReadingDepth) (result : Result (Unit {0}) Error)
       → (slice_get new.known n ≡ slice_get old.known n)
       ⊎ AreReadBefore reads (main_scope old.sections m) (unit_records m.units) old.answers n
   pub read : OnOk result (AreReadBy reads new)
-  pub memory : AreReadBy reads old → result ≡ Ok tt
+  pub whole_known : AreReadBy reads old → result ≡ Ok tt
   pub ready : HadMemory result → IsReadyToRead reads new
+  pub memory : IsReadyToRead reads new → HadMemory result
   pub exact : IsReadyToRead reads old → result ≡ parse_reply reads old.sections old.answers
   pub same : IsReadyToRead reads old → (new.answers ≡ old.answers) × (new.known ≡ old.known)
 

@@ -17,7 +17,7 @@ use Rattle.addr2line.specs.Files.{ReadFiles}
 use Rattle.addr2line.specs.FramesByFiles.{frames_by_files}
 use Rattle.addr2line.specs.History.{Given, answers_given}
 use Rattle.addr2line.specs.Lookups.{IsLoadOf, lookup_stop}
-use Rattle.addr2line.specs.AfterLookups.{LearnsAsked, ParsesAsked}
+use Rattle.addr2line.specs.AfterLookups.{LearnsAsked, ParsesAsked, TakesMemory}
 use Rattle.addr2line_units.specs.StaysKnown.{StaysKnownOf}
 use Rattle.addr2line.specs.SplitFiles.{given_by_files}
 
@@ -38,6 +38,11 @@ WaitsForNone c probe = is_waiting (lookup_stop End c.sections c.answers probe) �
 -- a lookup of the probe waits for an answer
 abbrev pub WaitsForOne : ContextState → ℕ → Type 0
 WaitsForOne c probe = is_waiting (lookup_stop End c.sections c.answers probe) ≡ true
+
+-- a lookup of the probe waits for an answer, whose load may take memory, or for none, and may take
+-- memory itself
+abbrev pub MayLackMemory : ContextState → ℕ → Type 0
+MayLackMemory c probe = WaitsForOne c probe ⊎ (WaitsForNone c probe × TakesMemory End c probe)
 
 -- a lookup that waits for no answer comes to the same later
 abbrev pub StayEnded : ContextState → ContextState → Type 0

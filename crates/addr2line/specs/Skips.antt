@@ -9,7 +9,7 @@ use Rattle.addr2line_units.specs.Parsed.{StaysParsed}
 use Rattle.addr2line.specs.Context.{ContextState}
 use Rattle.addr2line.specs.History.{Given, Answered, answers_given}
 use Rattle.addr2line.specs.Lookups.{loads_at}
-use Rattle.addr2line.specs.AfterLookups.{IsKnown}
+use Rattle.addr2line.specs.AfterLookups.{IsKnown, IsKnownFew}
 use Rattle.addr2line_units.specs.Views.{FirstAnswers}
 
 -- none as the answer to each of so many loads
@@ -22,7 +22,8 @@ skipped_answers faults d probe answers =
     answers_given faults d probe answers (nones (length (loads_at d answers probe)))
 
 -- after a lookup of which none is answered to each load: the units that waited are decided by none,
--- and stay so; after OutOfMemory some of the first ones
+-- and stay so; after OutOfMemory some of the first ones. Memory is refused only where something is
+-- left to read, or more than 16 inlined functions stand there
 pub record AfterSkip {X : Type 0} (faults : Faults) (probe : ℕ) (result : Result X Error)
     (old new : ContextState) : Type 0 where
   pub sections : new.sections ≡ old.sections
@@ -33,3 +34,4 @@ pub record AfterSkip {X : Type 0} (faults : Faults) (probe : ℕ) (result : Resu
   pub parsed : StaysParsed old.parsed new.parsed
   pub raised : old.looks ≤ new.looks
   pub ready : HadMemory result → IsKnown faults new probe
+  pub memory : IsKnownFew faults new probe → HadMemory result

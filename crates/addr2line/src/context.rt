@@ -12,7 +12,7 @@ ghost use Rattle.addr2line_units.specs.Located.{location_of, spans_of};
 ghost use Rattle.addr2line_units.specs.LocationsLeft.{locations_left};
 ghost use Rattle.gimli_read.specs.Alike.{HadMemory};
 ghost use Rattle.addr2line_units.specs.Parsed.{AreAllParsed};
-ghost use Rattle.addr2line.specs.Context.{new_context, lines_of_all, AfterLookup, AfterRangeLookup, IsReady, IsReadyForAll, IsReadyForRange, ParsesToFault, Stays};
+ghost use Rattle.addr2line.specs.Context.{new_context, lines_of_all, AfterLookup, AfterRangeLookup, IsReady, IsUncovered, IsReadyForAll, IsReadyForRange, ParsesToFault, Stays};
 
 use addr2line_lines::Location;
 use addr2line_units::index::UnitRanges;
@@ -158,6 +158,7 @@ impl<R: Reader> Context<R> {
         ensures exact { IsReady self.old probe → Exactly (option_map seen_location) result
             (location_of self.old.sections probe) }
         ensures last { probe ≡ last_address → result ≡ Ok None }
+        ensures uncovered { IsUncovered self.old probe → result ≡ Ok None }
         ensures* kept { sem 𝓛 (EndsAs R.row R.Reader self.entry
             (AfterLookup probe result self.old)) }
     {

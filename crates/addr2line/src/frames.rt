@@ -5,9 +5,11 @@ ghost use Rattle.std.specs.Borrow.{sem};
 ghost use Rattle.gimli_read.specs.Reading.{ExactlyUnlessOom};
 ghost use Rattle.addr2line_units.specs.declared.frames_lookup.Faults.TheVariants.{End};
 ghost use Rattle.addr2line_units.specs.FramesLeft.{frames_left};
-ghost use Rattle.addr2line_units.specs.Suspended.{IfLoad, IfOutput, SkipsTo};
+ghost use Rattle.addr2line_lines.specs.LastAddress.{last_address};
+ghost use Rattle.addr2line_units.specs.Suspended.{IfLoad, IfOutput, IsOkOutput, SkipsTo};
 ghost use Rattle.addr2line.specs.Answers.{AfterResume};
 ghost use Rattle.addr2line.specs.Borrowed.{RestsAs};
+ghost use Rattle.addr2line.specs.Context.{IsUncovered};
 ghost use Rattle.addr2line.specs.AfterLookups.{AfterFrames, IsLent, IsStored};
 ghost use Rattle.addr2line.specs.Lookups.{lookup_stop, waits_for};
 ghost use Rattle.addr2line.specs.Skips.{AfterSkip};
@@ -241,6 +243,7 @@ impl<R: Reader> Context<R> {
     /// Refused by the first fault of the view, the functions, the detail or the lines of a unit
     /// that it asks; may fail with `OutOfMemory` instead, which is never cached. An output takes no
     /// memory where all that it asks for is cached and at most 16 inlined functions stand there.
+    /// Where no unit covers `probe`, as at 2^64 - 1, it waits for nothing and takes no memory.
     ///
     /// Source: DWARF 5, sections 2.17, 3.3, 3.1.2 and 7.3.2. Own: which unit counts, and what a
     /// lookup waits for.
@@ -251,7 +254,10 @@ impl<R: Reader> Context<R> {
             SuspendsIn End self.entry probe c.ctx c.probe c.number c.load) }
         ensures output { IfOutput result (λ o. ExactlyUnlessOom (λ i. Some (frames_left i)) o
             (frames_of_context self.old probe)) }
+        ensures last { probe ≡ last_address → IsOkOutput result }
+        ensures uncovered { IsUncovered self.old probe → IsOkOutput result }
     {
-        begin(self, probe)
+        let walked = self.walk(probe, Faults::End);
+        lend(self, probe, walked)
     }
 }

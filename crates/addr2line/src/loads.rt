@@ -1,9 +1,11 @@
 //! Answers to loads outside a lookup, and what forgets them.
 
-ghost use Rattle.std.specs.Prelude.{◌≡◌, IfErr, IfOk, IsOk, None, option_map};
+ghost use Rattle.std.specs.Prelude.{◌≡◌, [], IfErr, IfOk, IsOk, IsOkAnd, None, option_map};
 ghost use Rattle.gimli_read.specs.declared.error.Error.TheVariants.{OutOfMemory};
 ghost use Rattle.gimli_read.specs.Reading.{IsUnlessOom};
+ghost use Rattle.addr2line_lines.specs.LastAddress.{last_address};
 ghost use Rattle.addr2line_units.specs.Loads.{token_number};
+ghost use Rattle.addr2line.specs.Context.{IsUncovered};
 ghost use Rattle.addr2line.specs.Loads.{AfterForget, AfterLoad, AfterPreload, IsNotOpen, NoneOpenAt, forget_reply, load_reply};
 ghost use Rattle.addr2line.specs.Lookups.{loads_at};
 
@@ -18,7 +20,8 @@ impl<R: Reader> Context<R> {
     /// asks the units. Whether a unit is open is read and cached.
     ///
     /// `probe` is an address as the file has it. Refused `OutOfMemory` alone; takes no memory where
-    /// no unit that covers the address is open.
+    /// no unit that covers the address is open. Where none covers it, as at 2^64 - 1, there are no
+    /// loads.
     ///
     /// Source: DWARF 5, section 7.3.2. Own: the order.
     pub fn preload_units(&mut self, probe: u64) -> Result<Vec<SplitDwarfLoad<R>>, Error>
@@ -26,6 +29,9 @@ impl<R: Reader> Context<R> {
             ≡ loads_at self.old.sections self.old.answers probe) }
         ensures refused { IfErr result (λ e. e ≡ OutOfMemory) }
         ensures memory { NoneOpenAt self.old probe → IsOk result }
+        ensures last { probe ≡ last_address → IsOkAnd result (λ loads. loads.items ≡ []) }
+        ensures uncovered { IsUncovered self.old probe
+            → IsOkAnd result (λ loads. loads.items ≡ []) }
         ensures after { AfterPreload self.old self.new }
     {
         self.units.preload(self.ranges.find(probe))

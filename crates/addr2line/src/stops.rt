@@ -2,13 +2,14 @@
 
 ghost use Rattle.std.specs.Prelude.{◌≡◌, IfErr, IfOk};
 ghost use Rattle.gimli_read.specs.declared.error.Error.TheVariants.{OutOfMemory};
+ghost use Rattle.gimli_read.specs.Alike.{HadMemory};
 ghost use Rattle.addr2line_lines.specs.LastAddress.{last_address};
 ghost use Rattle.addr2line_units.specs.declared.frames_lookup.Faults.TheVariants.{PassOver};
 ghost use Rattle.addr2line_units.specs.FramesLeft.{frames_left};
 ghost use Rattle.addr2line_units.specs.FramesLookup.{Waits, frames_found};
 ghost use Rattle.addr2line_units.specs.SeenUnit.{seen_unit};
 ghost use Rattle.addr2line.specs.Context.{IsUncovered};
-ghost use Rattle.addr2line.specs.AfterLookups.{AfterFrames, IsFoundUnit, IsStored};
+ghost use Rattle.addr2line.specs.AfterLookups.{AfterFrames, IsFoundUnit, IsKnownFew, IsStored};
 ghost use Rattle.addr2line.specs.Lookups.{IsLoadOf};
 ghost use Rattle.addr2line_units.specs.UnitsState.{waiting_unit};
 ghost use Rattle.std.specs.Prelude.{option_map};
@@ -27,6 +28,7 @@ impl<R: Reader> Context<R> {
         ensures refused { faults ≡ PassOver → IfErr result (λ e. e ≡ OutOfMemory) }
         ensures last { probe ≡ last_address → IsUncovered self.old probe }
         ensures after { AfterFrames faults probe result self.old self.new }
+        ensures memory { IsKnownFew faults self.new probe → HadMemory result }
     {
         self.units.walk(self.ranges.find(probe), probe, faults)
     }

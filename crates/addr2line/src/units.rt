@@ -6,9 +6,11 @@ ghost use Rattle.gimli_read.specs.declared.error.Error.TheVariants.{OutOfMemory}
 ghost use Rattle.gimli_read.specs.Reading.{ExactlyUnlessOom};
 ghost use Rattle.addr2line_units.specs.declared.frames_lookup.Faults.TheVariants.{PassOver};
 ghost use Rattle.addr2line_units.specs.SeenUnit.{seen_found};
-ghost use Rattle.addr2line_units.specs.Suspended.{IfLoad, IfOutput, SkipsTo};
+ghost use Rattle.addr2line_lines.specs.LastAddress.{last_address};
+ghost use Rattle.addr2line_units.specs.Suspended.{IfLoad, IfOutput, IsOkOutput, SkipsTo};
 ghost use Rattle.addr2line.specs.Answers.{AfterResume};
 ghost use Rattle.addr2line.specs.Borrowed.{RestsAs};
+ghost use Rattle.addr2line.specs.Context.{IsUncovered};
 ghost use Rattle.addr2line.specs.AfterLookups.{AfterFrames, IsLent, IsStored};
 ghost use Rattle.addr2line.specs.Lookups.{lookup_stop, waits_for};
 ghost use Rattle.addr2line.specs.Skips.{AfterSkip};
@@ -246,7 +248,8 @@ impl<R: Reader> Context<R> {
     /// read of units that it doesn't ask.
     ///
     /// Refused `OutOfMemory` alone, which is never cached. An output takes no memory where all that
-    /// it asks for is cached and at most 16 inlined functions stand there.
+    /// it asks for is cached and at most 16 inlined functions stand there. Where no unit covers
+    /// `probe`, as at 2^64 - 1, it waits for nothing and takes no memory.
     ///
     /// Source: DWARF 5, sections 2.17, 3.3, 3.1.2 and 7.3.2. Own: which unit counts, and what a
     /// lookup waits for.
@@ -259,7 +262,10 @@ impl<R: Reader> Context<R> {
         ensures output { IfOutput result
             (λ o. ExactlyUnlessOom seen_found o (unit_of_context self.old probe)) }
         ensures refused { IfOutput result (λ o. IfErr o (λ e. e ≡ OutOfMemory)) }
+        ensures last { probe ≡ last_address → IsOkOutput result }
+        ensures uncovered { IsUncovered self.old probe → IsOkOutput result }
     {
-        begin(self, probe)
+        let walked = self.walk(probe, Faults::PassOver);
+        lend(self, probe, walked)
     }
 }

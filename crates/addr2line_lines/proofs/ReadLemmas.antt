@@ -168,6 +168,15 @@ next_cached (g ∷ fs) zero f all before at =
 next_cached (g ∷ fs) (suc n) f all before at =
     next_cached fs n f (subst (λ d. IsCachedToFault d (AreCachedToFault fs)) before.0.1 all) before.1 at
 
+-- and where it is a fault, that isn't OutOfMemory
+next_fault : (fs : List CachedFunction) (n : ℕ) (f : CachedFunction) (e : Error) → AreCachedToFault fs → AllByRecursion HasDetail (take n fs) → slice_get fs n ≡ Some f → f.detail ≡ Some (Err e) → e ≢ OutOfMemory
+next_fault [] n f e all before at q = absurd cc
+next_fault (g ∷ fs) zero f e all before at q =
+    let same : g ≡ f = cc in
+    subst (λ d. IsCachedToFault d (AreCachedToFault fs)) q (subst (λ (h : CachedFunction). IsCachedToFault h.detail (AreCachedToFault fs)) same all)
+next_fault (g ∷ fs) (suc n) f e all before at q =
+    next_fault fs n f e (subst (λ d. IsCachedToFault d (AreCachedToFault fs)) before.0.1 all) before.1 at q
+
 -- and no memory is taken
 pub no_memory_to_fault : (shares : Bool) (scope : Scope) (u : UnitRecord) (fs : List CachedFunction) → AreCachedToFault fs → details_take_memory shares scope u fs ≡ false
 no_memory_to_fault shares scope u [] all = refl
@@ -304,6 +313,24 @@ fault_ready shares scope u old now next n e h l k ne =
     let at = some_at now.functions n below in
     let step = fault_step scope u n at.0 now next e below at.1 ne k in
     to_fault next.functions n step.now e ne (step.before h.cached) step.at step.is
+
+-- where they are, no memory was refused
+pub had_memory : (shares : Bool) (scope : Scope) (u : UnitRecord) (old now next : FunctionTable) (n : ℕ) (e : Error) → IsReadTo shares scope u old now n → n < length old.functions → IsReadAt scope u n now (Err e) next → AreCachedToFault next.functions → e ≢ OutOfMemory
+had_memory shares scope u old now next n e h l k ready oom = by_function (some_at now.functions n (let many = same_number shares scope u old now n h in omega arith))
+  where
+    by_detail : (f : CachedFunction) → slice_get now.functions n ≡ Some f → (o : Option (Result Detail Error)) → f.detail ≡ o → IsReadOnce scope u n f o now (Err e) next → ⊥
+    by_detail f at None q r =
+        let was = subst (λ (t : FunctionTable). AreCachedToFault t.functions) (r.1 oom) ready in
+        let cached = next_cached now.functions n f was h.cached at in
+        let no : ◌≡◌ {A = Option (Result Detail Error)} None (Some cached.0) = sym q ∙ cached.1 in
+        cc
+    by_detail f at (Some (Ok d)) q r = let no = r.0 in cc
+    by_detail f at (Some (Err x)) q r =
+        let same : x ≡ e = (let both = r.0 in cc) in
+        next_fault now.functions n f x (subst (λ (t : FunctionTable). AreCachedToFault t.functions) r.1 ready) h.cached at q (same ∙ oom)
+
+    by_function : (f : CachedFunction) × (slice_get now.functions n ≡ Some f) → ⊥
+    by_function at = by_detail at.0 at.1 at.0.detail refl (subst (λ o. IsReadOf scope u n o now (Err e) next) at.1 k)
 
 pub all_ready : (shares : Bool) (scope : Scope) (u : UnitRecord) (old now : FunctionTable) (n : ℕ) → IsReadTo shares scope u old now n → length old.functions ≤ n → AreCachedToFault now.functions
 all_ready shares scope u old now n h l = all_to_fault now.functions (all_read shares scope u old now n h l).1

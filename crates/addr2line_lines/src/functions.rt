@@ -332,6 +332,7 @@ impl<R: Reader> Functions<R> {
             → AreDetailsOf (seen_scope scope.entry) unit.now self.new }
         ensures cached { OnOk result (AllByRecursion HasDetail self.new.functions) }
         ensures ready_for_all { result ≢ Err OutOfMemory → AreCachedToFault self.new.functions }
+        ensures memory { AreCachedToFault self.new.functions → result ≢ Err OutOfMemory }
         ensures exact { AreDetailsOf (seen_scope scope.entry) unit.now self.old
             → AreCachedToFault self.old.functions
             → result ≡ details_fault (seen_scope scope.entry) unit.now self.old.functions }

@@ -1,4 +1,4 @@
--- What is known of the entries of units (on specs/KnownEntries.antt).
+-- What is known of the entries of units (on specs/KnownEntries.antt and specs/CachedKnown.antt).
 use Rattle.std.proofs.Common.{◌≡◌, ◌∙◌, ap, sym, refl, ℕ, Bool, true, false, List, [], ◌∷◌, map, Option, Some, None, option_map, unwrap_or, slice_get, Result, Ok, Err, if◌then◌else◌}
 use Rattle.std.proofs.lemmas.Option.{slice_get-map}
 use Rattle.gimli_read.specs.declared.error.Error.{Error}
@@ -12,7 +12,9 @@ use Rattle.addr2line_units.specs.CachedEntries.{has_answered, has_entries, has_e
 use Rattle.addr2line_units.specs.CachedFunctions.{cached_has_function, is_cached_fault}
 use Rattle.addr2line_units.specs.CachedUnits.{AreFreshOf, has_entries_at}
 use Rattle.addr2line_units.specs.CachedViews.{was_looked_at}
-use Rattle.addr2line_units.specs.KnownEntries.{AllKnown, KnownEntries, NothingKnown, is_known_at, known_answer, known_by, known_fault, known_functions, known_in, knows_at}
+use Rattle.addr2line_units.proofs.KnownTableLemmas.{table_known}
+use Rattle.addr2line_units.specs.CachedKnown.{known_answer, known_by, known_fault, known_functions, known_in}
+use Rattle.addr2line_units.specs.KnownEntries.{AllKnown, KnownEntries, NothingKnown, is_known_at, knows_at}
 
 fault_known : (probe : ℕ) (e : Error) → is_known_at probe (known_fault e) ≡ is_cached_fault e
 fault_known probe e = by (is_cached_fault e)
@@ -24,7 +26,7 @@ fault_known probe e = by (is_cached_fault e)
 module _ {R : Type 0} (probe : ℕ) where
   functions_known : (f : LazyFunctions R) → is_known_at probe (known_functions f) ≡ cached_has_function probe f
   functions_known lazy.Unread = refl
-  functions_known (lazy.Read t) = refl
+  functions_known (lazy.Read t) = table_known probe t
   functions_known (lazy.Faulty e) = fault_known probe e
 
   answer_known : {X : Type 0} (r : Result X Error) (f : LazyFunctions R) → is_known_at probe (known_answer r f) ≡ has_answered probe r f

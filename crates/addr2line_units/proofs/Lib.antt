@@ -22,6 +22,7 @@ pub mod ScopeLemmas
 pub mod WaitLemmas
 pub mod FoundLemmas
 pub mod DecidedLemmas
+pub mod KnownTableLemmas
 pub mod KnownLemmas
 pub mod CachedUnitLemmas
 pub mod ParseLemmas

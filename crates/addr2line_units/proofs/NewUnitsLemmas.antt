@@ -15,7 +15,8 @@ use Rattle.addr2line_units.specs.CachedLines.{HaveLinesOf, indexed_units, parsed
 use Rattle.addr2line_units.specs.CachedUnits.{AreFreshOf, answers_in}
 use Rattle.addr2line_units.specs.FramesLookup.{FindsNothing, main_scope}
 use Rattle.addr2line_units.specs.Indexed.{IndexState, context_takes_memory, index_of, index_takes_memory, sup_takes_memory}
-use Rattle.addr2line_units.specs.KnownEntries.{KnownEntries, NothingKnown, known_in}
+use Rattle.addr2line_units.specs.CachedKnown.{known_in}
+use Rattle.addr2line_units.specs.KnownEntries.{KnownEntries, NothingKnown}
 use Rattle.addr2line_units.specs.RangedUnits.{IndexedUnit, RangedUnit, has_lines, indexed_of, ranged_units, unit_ranges_from, unit_records}
 use Rattle.addr2line_units.specs.SeenUnit.{scope_in}
 use Rattle.addr2line_units.specs.StoredUnits.{AreUnits, seen_units}

@@ -20,9 +20,11 @@ use Rattle.addr2line_units.specs.CachedUnits.{HaveEntriesOf, answers_in, decided
 use Rattle.addr2line_units.specs.FramesLookup.{answer_of}
 use Rattle.addr2line_units.specs.CachedViews.{answer_in, is_decided}
 use Rattle.addr2line_units.specs.CachedParses.{HaveFunctions, HaveRead, StayDecided, has_view}
-use Rattle.addr2line_units.specs.KnownEntries.{NothingKnown, AllKnown, known_answer, known_by, known_functions, known_in}
+use Rattle.addr2line_units.specs.CachedKnown.{known_answer, known_by, known_functions, known_in}
+use Rattle.addr2line_units.specs.KnownEntries.{NothingKnown, AllKnown}
 use Rattle.addr2line_units.proofs.AnswerLemmas.{looked_waits}
 use Rattle.addr2line_units.proofs.FoundLemmas.{looked_is_decided}
+use Rattle.addr2line_units.proofs.KnownTableLemmas.{all_are_read, all_have_detail}
 use Rattle.addr2line_units.proofs.CachedUnitLemmas.{entries_more}
 use Rattle.addr2line_units.proofs.WaitLemmas.{known_was_looked_at}
 use Rattle.addr2line_units.specs.StaysKnown.{IsReadBy}
@@ -36,7 +38,7 @@ module _ {R : Type 0} where
   read_functions reads lazy.Unread h = absurd h
   read_functions reads (lazy.Faulty e) h = absurd h
   read_functions kinds.Functions (lazy.Read t) h = tt
-  read_functions kinds.Details (lazy.Read t) h = h
+  read_functions kinds.Details (lazy.Read t) h = all_are_read t.functions h
 
   read_answer : {X : Type 0} (reads : ReadingDepth) (r : Result X Error) (f : LazyFunctions R) → is_ok r ≡ true → HaveFunctions reads f → IsReadBy reads (known_answer r f)
   read_answer reads (Ok x) f e h = read_functions reads f h
@@ -62,7 +64,7 @@ module _ {R : Type 0} where
   cached_functions reads lazy.Unread h = absurd h
   cached_functions reads (lazy.Faulty e) h = absurd (never_fault reads (is_cached_fault e) h)
   cached_functions kinds.Functions (lazy.Read t) h = tt
-  cached_functions kinds.Details (lazy.Read t) h = h
+  cached_functions kinds.Details (lazy.Read t) h = all_have_detail t.functions h
 
   cached_in_answer : {X : Type 0} (reads : ReadingDepth) (r : Result X Error) (f : LazyFunctions R) → IsReadBy reads (known_answer r f) → (is_ok r ≡ true) × HaveFunctions reads f
   cached_in_answer reads (Ok x) f h = (refl, cached_functions reads f h)

@@ -18,12 +18,13 @@ use Rattle.addr2line_units.specs.declared.parses.ReadingDepth.TheVariants as rea
 use Rattle.addr2line_units.specs.declared.unit_frames.UnitEntries.{UnitEntries}
 use Rattle.addr2line_units.specs.declared.view.ViewState.{ViewState}
 use Rattle.addr2line_units.specs.declared.view.ViewState.TheVariants as states
-use Rattle.addr2line_units.specs.FunctionParses.{AreReadyFor, IsReadyFor, answers_after_parse, read_of_number, read_of_unit, unless_fault}
+use Rattle.addr2line_units.specs.FunctionParses.{AreReadBefore, AreReadyFor, IsReadyFor, answers_after_parse, first_decided, read_of_number, read_of_unit, unless_fault}
 use Rattle.addr2line_units.specs.CachedFunctions.{details_at, functions_fault, were_read}
 use Rattle.addr2line_units.specs.CachedUnits.{HaveEntriesOf, answers_in}
 use Rattle.addr2line_units.specs.CachedParses.{AreReadyUnits, ChangesOnly, HasRead, HaveFunctions, IsReadyUnit, has_view}
 use Rattle.addr2line_units.specs.CachedViews.{is_decided, seen_sections, verdict_in, view_by, was_looked_at}
-use Rattle.addr2line_units.specs.KnownEntries.{AllKnown, NothingKnown, known_answer, known_by, known_fault, known_functions, known_in}
+use Rattle.addr2line_units.specs.CachedKnown.{known_answer, known_by, known_fault, known_functions, known_in}
+use Rattle.addr2line_units.specs.KnownEntries.{AllKnown, NothingKnown}
 use Rattle.addr2line_units.specs.Loads.{is_open_at}
 use Rattle.gimli_read.specs.Alike.{HadMemory}
 use Rattle.addr2line_units.specs.Views.{FirstAnswers, View}
@@ -32,6 +33,7 @@ use Rattle.addr2line_units.proofs.EntryLemmas.{not_open}
 use Rattle.addr2line_units.proofs.FoundLemmas.{looked_is_decided}
 use Rattle.addr2line_units.proofs.CachedParseLemmas.{got_entry, got_set, read_decided}
 use Rattle.addr2line_units.proofs.CachedPlaceLemmas.{cached_unless_oom}
+use Rattle.addr2line_units.proofs.KnownTableLemmas.{to_fault_known}
 use Rattle.addr2line_units.proofs.ParseLemmas.{at_or_behind, below_next, unit_again}
 
 pub not_oom : {X : Type 0} (r : Result X Error) → HadMemory r → r ≢ Err OutOfMemory
@@ -41,6 +43,16 @@ not_oom (Err e) h = λ q. h (let same : e ≡ OutOfMemory = cc in same)
 -- a fault that is cached is known
 pub ready_fault : (r : ReadingDepth) (e : Error) → e ≢ OutOfMemory → IsReadyFor r (known_fault e)
 ready_fault r e ne = subst (λ (b : Bool). IsReadyFor r (if b then AllKnown else NothingKnown)) (sym (cached_unless_oom e ne)) tt
+
+-- a fault that is known isn't OutOfMemory
+pub known_not_oom : (r : ReadingDepth) (e : Error) → IsReadyFor r (known_fault e) → e ≢ OutOfMemory
+known_not_oom r OutOfMemory h = absurd h
+known_not_oom r _ h = λ q. absurd cc
+
+-- an answer that isn't OutOfMemory
+pub had_not_oom : {X : Type 0} (r : Result X Error) → r ≢ Err OutOfMemory → HadMemory r
+had_not_oom (Ok x) h = tt
+had_not_oom (Err e) h = λ q. h (ap (λ x. Err x) q)
 
 module _ {R : Type 0} (r : ReadingDepth) where
   -- functions that are known were read
@@ -54,7 +66,7 @@ module _ {R : Type 0} (r : ReadingDepth) where
   functions_ready q lazy.Unread h = absurd h
   functions_ready q (lazy.Faulty e) h = absurd h
   functions_ready reads.Functions (lazy.Read t) h = tt
-  functions_ready reads.Details (lazy.Read t) h = all_to_fault t.functions h
+  functions_ready reads.Details (lazy.Read t) h = to_fault_known t.functions (all_to_fault t.functions h)
 
   answer_ready : {X : Type 0} (a : Result X Error) (f : LazyFunctions R) → is_ok a ≡ true → IsReadyFor r (known_functions f) → IsReadyFor r (known_answer a f)
   answer_ready (Ok x) f e h = h
@@ -122,6 +134,18 @@ number_again r scope (u ∷ us) (a ∷ answers) (suc m) = by_unit (number_again 
     by_unit rest (Ok y) = rest
     by_unit rest (Err e) = refl
 
+-- nor where units are decided, up to some number
+number_decided : (r : ReadingDepth) (scope : Scope) (us : List UnitRecord) (answers : FirstAnswers) (n m : ℕ) → read_of_number r scope us (first_decided scope.file.sections n us answers) m ≡ read_of_number r scope us answers m
+number_decided r scope us answers zero m = refl
+number_decided r scope [] answers (suc n) m = refl
+number_decided r scope (u ∷ us) [] (suc n) m = refl
+number_decided r scope (u ∷ us) (a ∷ answers) (suc n) zero = unit_again r scope u a
+number_decided r scope (u ∷ us) (a ∷ answers) (suc n) (suc m) = number_decided r scope us answers n m
+
+-- what could be read before a unit, can be read then
+pub before_decided : (r : ReadingDepth) (scope : Scope) (us : List UnitRecord) (old new : FirstAnswers) (n k : ℕ) → new ≡ first_decided scope.file.sections n us old → AreReadBefore r scope us old k → AreReadBefore r scope us new k
+before_decided r scope us old new n k is before m l = ap (λ a. read_of_number r scope us a m) is ∙ number_decided r scope us old n m ∙ before m l
+
 module _ {R : Type 0} (r : ReadingDepth) where
   ready_looked : (s : ViewState R) (f : LazyFunctions R) → IsReadyFor r (known_by s f) → was_looked_at s ≡ true
   ready_looked states.Undecided f h = absurd h
@@ -178,6 +202,9 @@ module _ {R : Type 0} (r : ReadingDepth) where
   -- what is known of the unit of a number
   pub ready_set : (vs : List (UnitEntries R)) (n : ℕ) (w : UnitEntries R) → n < length vs → IsReadyUnit r w → IfSome (slice_get (set vs n w) n) (IsReadyUnit r)
   ready_set vs n w h k = subst (λ (o : Option (UnitEntries R)). IfSome o (IsReadyUnit r)) (sym (got_set vs n w h)) k
+
+  pub ready_was_set : (vs : List (UnitEntries R)) (n : ℕ) (w : UnitEntries R) → n < length vs → IfSome (slice_get (set vs n w) n) (IsReadyUnit r) → IsReadyUnit r w
+  ready_was_set vs n w h k = subst (λ (o : Option (UnitEntries R)). IfSome o (IsReadyUnit r)) (got_set vs n w h) k
 
   pub ready_entry : (vs : List (UnitEntries R)) (n : ℕ) (v : UnitEntries R) → n < length vs → v ≡ get_or vs n v → IfSome (slice_get vs n) (IsReadyUnit r) → IsReadyUnit r v
   ready_entry vs n v h e k = subst (λ (o : Option (UnitEntries R)). IfSome o (IsReadyUnit r)) (got_entry vs n v h e) k

@@ -33,7 +33,8 @@ use Rattle.addr2line_units.specs.CachedParses.{AreReadyUnits, ChangesOnly, HaveR
 use Rattle.addr2line_units.specs.CachedUnits.{HaveEntriesOf, ReadsOnly, StayAllEntries, answers_in, decided_at, has_entries_at, waits_at}
 use Rattle.addr2line_units.specs.FramesLookup.{FindsNothing, LookupAsks, Stop, Waits, answer_of, asks_lines_of, ends_lookup, has_many_of, holds_along, with_answer}
 use Rattle.addr2line_units.specs.FunctionParses.{AreFirstDecided, AreReadBefore, IsReadyFor, answers_after_parse, read_of_units}
-use Rattle.addr2line_units.specs.KnownEntries.{known_in, knows_at}
+use Rattle.addr2line_units.specs.CachedKnown.{known_in}
+use Rattle.addr2line_units.specs.KnownEntries.{knows_at}
 use Rattle.addr2line_units.specs.Loads.{forgotten, is_open_at, load_result}
 use Rattle.addr2line_units.specs.Located.{along, is_found, looks_along, spans_along, spans_in, spans_or_fault}
 use Rattle.addr2line_units.specs.Parsed.{AllAskFor, AreAllParsed, AreParsed, AreReadyForAll, AsksFor, LeadTo, ParsesOnly, has_parsed, ready_along}
@@ -314,9 +315,9 @@ module _ {R : Type 0} (scope : Scope) (units : List ResUnit) (held : List (UnitE
 
     pub after_reading : (reads : ReadingDepth) (result : Result (Unit {0}) Error) → HaveEntriesOf scope us entries → (HadMemory result → answers_in entries ≡ answers_after_parse reads scope us (answers_in held)) → AreFirstDecided reads scope us (answers_in held) (answers_in entries)
         → StayDecided held entries → ChangesOnly (AreReadBefore reads scope us (answers_in held)) held entries → OnOk result (HaveRead reads entries) → (HaveRead reads held → result ≡ Ok tt)
-        → (HadMemory result → AreReadyUnits reads scope us (answers_in held) entries) → (AreReadyUnits reads scope us (answers_in held) held → result ≡ read_of_units reads scope us (answers_in held))
+        → (HadMemory result → AreReadyUnits reads scope us (answers_in held) entries) → (AreReadyUnits reads scope us (answers_in entries) entries → HadMemory result) → (AreReadyUnits reads scope us (answers_in held) held → result ≡ read_of_units reads scope us (answers_in held))
         → (AreReadyUnits reads scope us (answers_in held) held → entries ≡ held) → AfterReading reads result old new
-    after_reading reads result right answers begun stay only read memory ready exact unchanged = record {
+    after_reading reads result right answers begun stay only read whole ready memory exact unchanged = record {
       stays = refl;
       answers = answers;
       begun = begun;
@@ -324,8 +325,9 @@ module _ {R : Type 0} (scope : Scope) (units : List ResUnit) (held : List (UnitE
       whole = λ kind n shut k. whole_decided kind scope us held entries n own stay shut k;
       only = λ n. elim (only n) [ inl k ↦ inl (known_unchanged held entries n k) | inr q ↦ inr q ];
       read = read_after reads result entries read;
-      memory = λ all. memory (read_before reads held all);
+      whole_known = λ all. whole (read_before reads held all);
       ready = λ told. ready_after reads scope us (answers_in held) entries right (answers told) (ready told);
+      memory = λ known. memory (ready_before reads scope us entries right known);
       exact = λ known. exact (ready_before reads scope us held own known);
       same = λ known. let e = unchanged (ready_before reads scope us held own known) in (ap answers_in e, ap known_in e);
       all = λ is. all_known result (found_if_ok reads result entries is read);

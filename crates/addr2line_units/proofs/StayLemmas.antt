@@ -21,12 +21,14 @@ use Rattle.addr2line_units.specs.CachedFunctions.{StayFunctions}
 use Rattle.addr2line_units.specs.CachedUnits.{HaveEntriesOf, StayAllEntries, answers_in, decided_at}
 use Rattle.addr2line_units.specs.CachedParses.{StayDecided}
 use Rattle.addr2line_units.specs.CachedViews.{was_looked_at}
-use Rattle.addr2line_units.specs.KnownEntries.{KnownEntries, FunctionsKnown, is_known_at, known_answer, known_by, known_functions, known_in}
+use Rattle.addr2line_units.specs.CachedKnown.{known_answer, known_by, known_functions, known_in, known_table}
+use Rattle.addr2line_units.specs.KnownEntries.{KnownEntries, is_known_at}
 use Rattle.addr2line_units.specs.Loads.{is_open_at}
 use Rattle.addr2line_units.proofs.AnswerLemmas.{looked_waits}
 use Rattle.addr2line_units.proofs.FoundLemmas.{looked_is_decided}
 use Rattle.addr2line_units.proofs.CachedUnitLemmas.{entries_more_at}
 use Rattle.addr2line_units.proofs.KnownLemmas.{known_is}
+use Rattle.addr2line_units.proofs.KnownTableLemmas.{to_fault_cached, to_fault_known}
 use Rattle.addr2line_units.specs.StaysKnown.{IsReadyAt, StaysKnown, StaysKnownOf}
 
 pub known_of_twice : (n : ℕ) (old mid new : List KnownEntries) → StaysKnownOf n old mid → StaysKnownOf n mid new → StaysKnownOf n old new
@@ -57,9 +59,9 @@ cached_more (f ∷ fs) (g ∷ gs) a h = by (λ k. cached_more fs gs a.1 k) f.det
     by more (Some (Ok d)) e k = subst (λ o. IsCachedToFault o (AreCachedToFault gs)) (sym (a.0.detail (Ok d) e)) (more k)
     by more (Some (Err x)) e k = subst (λ o. IsCachedToFault o (AreCachedToFault gs)) (sym (a.0.detail (Err x) e)) k
 
-table_whole : (r : ReadingDepth) (t u : FunctionTable) → IsTableMore t u → IsReadyFor r (FunctionsKnown t) → IsReadyFor r (FunctionsKnown u)
+table_whole : (r : ReadingDepth) (t u : FunctionTable) → IsTableMore t u → IsReadyFor r (known_table t) → IsReadyFor r (known_table u)
 table_whole kinds.Functions t u a h = tt
-table_whole kinds.Details t u a h = cached_more t.functions u.functions a.functions h
+table_whole kinds.Details t u a h = to_fault_known u.functions (cached_more t.functions u.functions a.functions (to_fault_cached t.functions h))
 
 module _ {R : Type 0} where
   functions_whole : (r : ReadingDepth) (f g : LazyFunctions R) → StayFunctions f g → IsReadyFor r (known_functions f) → IsReadyFor r (known_functions g)

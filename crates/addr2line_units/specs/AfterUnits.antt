@@ -139,8 +139,8 @@ pub record AfterListing (old new : UnitsState) : Type 0 where
 
 -- after a parse of all functions open units are decided by none, up to the first fault; where
 -- memory was refused, some of the first ones. What was known of the others stays. Unless memory was
--- refused all is known that the parse reads; where it was before, no memory is wanted, and nothing
--- is changed of what is known and answered
+-- refused all is known that the parse reads, and where it is, none was refused; where it was before,
+-- nothing is changed of what is known and answered
 pub record AfterReading (reads : ReadingDepth) (result : Result (Unit {0}) Error)
     (old new : UnitsState) : Type 0 where
   pub stays : StayRead old new
@@ -156,9 +156,11 @@ pub record AfterReading (reads : ReadingDepth) (result : Result (Unit {0}) Error
   pub only : (n : ℕ) → (slice_get new.known n ≡ slice_get old.known n)
       ⊎ AreReadBefore reads old.scope old.scope.file.units old.answers n
   pub read : OnOk result (AllByRecursion (IsReadBy reads) new.known)
-  pub memory : AllByRecursion (IsReadBy reads) old.known → result ≡ Ok tt
+  pub whole_known : AllByRecursion (IsReadBy reads) old.known → result ≡ Ok tt
   pub ready : HadMemory result
       → AreReadyFor reads old.scope old.scope.file.units new.answers new.known
+  pub memory : AreReadyFor reads old.scope old.scope.file.units new.answers new.known
+      → HadMemory result
   pub exact : AreReadyFor reads old.scope old.scope.file.units old.answers old.known
       → result ≡ read_of_units reads old.scope old.scope.file.units old.answers
   pub same : AreReadyFor reads old.scope old.scope.file.units old.answers old.known

@@ -15,7 +15,7 @@ use Rattle.addr2line_units.specs.declared.view.ViewState.TheVariants as states
 use Rattle.addr2line_units.specs.FunctionParses.{AreReadBefore, IsReadyFor}
 use Rattle.addr2line_units.specs.CachedEntries.{StayEntries}
 use Rattle.addr2line_units.specs.CachedViews.{is_decided}
-use Rattle.addr2line_units.specs.KnownEntries.{known_by}
+use Rattle.addr2line_units.specs.CachedKnown.{known_by}
 use Rattle.addr2line_units.specs.Views.{FirstAnswers}
 
 -- whether the view is known, and has no fault

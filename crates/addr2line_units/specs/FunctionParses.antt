@@ -3,19 +3,18 @@
 -- Own: units are read in their order, up to the first that has a fault; one that waits for an
 -- answer is decided by none first. The first fault counts of the view of a unit, of its functions,
 -- and, where they are asked for, of their details in the order of the entries.
-use Rattle.std.specs.Prelude.{ℕ, zero, suc, ◌≡◌, ◌⊎◌, ◌<◌, false, List, ◌∷◌, slice_get, Option, Some, None, IfSome, Result, Ok, Err}
+use Rattle.std.specs.Prelude.{ℕ, zero, suc, ◌≡◌, ◌⊎◌, ◌<◌, false, List, [], ◌∷◌, slice_get, Option, Some, None, IfSome, Result, Ok, Err}
 use Rattle.gimli_read.specs.declared.error.Error.{Error}
 use Rattle.gimli_read.specs.Reading.{◌>>=◌, fault_of}
 use Rattle.gimli.specs.Sections.{Sections}
 use Rattle.gimli.specs.Unit.{UnitRecord}
 use Rattle.addr2line_lines.specs.Functions.{functions_of}
-use Rattle.addr2line_lines.specs.FunctionDetails.{AreCachedToFault}
 use Rattle.addr2line_lines.specs.References.{Scope}
 use Rattle.addr2line_units.specs.declared.parses.ReadingDepth.{ReadingDepth}
 use Rattle.addr2line_units.specs.declared.parses.ReadingDepth.TheVariants as reads
 use Rattle.addr2line_units.specs.FramesLookup.{answer_of}
 use Rattle.addr2line_units.specs.CachedFunctions.{functions_fault}
-use Rattle.addr2line_units.specs.KnownEntries.{KnownEntries, NothingKnown, AllKnown, FunctionsKnown}
+use Rattle.addr2line_units.specs.KnownEntries.{KnownDetail, NotRead, IsRead, HasFault, KnownFunction, KnownEntries, NothingKnown, AllKnown, FunctionsKnown}
 use Rattle.addr2line_units.specs.Loads.{is_open_at}
 use Rattle.addr2line_units.specs.Views.{FirstAnswers, View, decided_answer, verdict, view_scope}
 
@@ -56,12 +55,24 @@ abbrev pub AreReadBefore : ReadingDepth → Scope → List UnitRecord → FirstA
 AreReadBefore reads scope us answers n =
     (m : ℕ) → m < n → read_of_number reads scope us answers m ≡ Ok tt
 
+-- a detail is known, and where it has no fault, so is what follows
+abbrev pub IsKnownToFault : KnownDetail → Type 0 → Type 0
+IsKnownToFault NotRead rest = ⊥
+IsKnownToFault IsRead rest = rest
+IsKnownToFault HasFault rest = Unit {0}
+
+-- the details of functions are known in their order, up to the first that has a fault, and that
+-- fault too
+abbrev pub AreKnownToFault : List KnownFunction → Type 0
+AreKnownToFault [] = Unit {0}
+AreKnownToFault (f ∷ functions) = IsKnownToFault f.detail (AreKnownToFault functions)
+
 -- what a parse reads of a unit that isn't open is known, up to the first fault, and that fault too
 abbrev pub IsReadyFor : ReadingDepth → KnownEntries → Type 0
 IsReadyFor reads NothingKnown = ⊥
 IsReadyFor reads AllKnown = Unit {0}
-IsReadyFor reads.Functions (FunctionsKnown t) = Unit {0}
-IsReadyFor reads.Details (FunctionsKnown t) = AreCachedToFault t.functions
+IsReadyFor reads.Functions (FunctionsKnown ranges functions) = Unit {0}
+IsReadyFor reads.Details (FunctionsKnown ranges functions) = AreKnownToFault functions
 
 -- the same of each unit before which all can be read; none of these is open
 abbrev pub AreReadyFor : ReadingDepth → Scope → List UnitRecord → FirstAnswers

@@ -30,6 +30,7 @@ pub mod CachedEntries
 pub mod CachedFrames
 pub mod CachedUnits
 pub mod KnownEntries
+pub mod CachedKnown
 pub mod Loads
 pub mod ListedLoads
 pub mod LoadLaws

@@ -1,11 +1,10 @@
 -- What stays known of the entries of units, and what a parse of functions has read of them.
 use Rattle.std.specs.Prelude.{◌≡◌, ℕ, true, List, IfSome, slice_get}
 use Rattle.std.specs.List.{AllByRecursion}
-use Rattle.addr2line_lines.specs.FunctionDetails.{HasDetail}
 use Rattle.addr2line_units.specs.declared.parses.ReadingDepth.{ReadingDepth}
 use Rattle.addr2line_units.specs.declared.parses.ReadingDepth.TheVariants as kinds
 use Rattle.addr2line_units.specs.FunctionParses.{IsReadyFor}
-use Rattle.addr2line_units.specs.KnownEntries.{AllKnown, FunctionsKnown, KnownEntries, NothingKnown, knows_at}
+use Rattle.addr2line_units.specs.KnownEntries.{AllKnown, FunctionsKnown, IsRead, KnownEntries, KnownFunction, NothingKnown, knows_at}
 
 -- all is known that a parse of functions reads of the unit of a number that isn't open, up to the
 -- first fault, and that fault too
@@ -22,9 +21,10 @@ pub record StaysKnownOf (n : ℕ) (old new : List KnownEntries) : Type 0 where
 abbrev pub StaysKnown : List KnownEntries → List KnownEntries → Type 0
 StaysKnown old new = (n : ℕ) → StaysKnownOf n old new
 
--- all is known that a parse of functions reads of a unit
+-- all is known that a parse of functions reads of a unit, and none of it has a fault
 abbrev pub IsReadBy : ReadingDepth → KnownEntries → Type 0
 IsReadBy reads NothingKnown = ⊥
 IsReadBy reads AllKnown = ⊥
-IsReadBy kinds.Functions (FunctionsKnown t) = Unit {0}
-IsReadBy kinds.Details (FunctionsKnown t) = AllByRecursion HasDetail t.functions
+IsReadBy kinds.Functions (FunctionsKnown ranges functions) = Unit {0}
+IsReadBy kinds.Details (FunctionsKnown ranges functions) =
+    AllByRecursion (λ (f : KnownFunction). f.detail ≡ IsRead) functions

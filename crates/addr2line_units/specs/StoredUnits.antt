@@ -9,7 +9,7 @@ use Rattle.addr2line_units.specs.CachedFrames.{IsLendable}
 use Rattle.addr2line_units.specs.CachedLines.{HaveLinesOf, indexed_units, parsed_units}
 use Rattle.addr2line_units.specs.CachedUnits.{HaveEntriesOf, answers_in}
 use Rattle.addr2line_units.specs.FramesLookup.{Stop}
-use Rattle.addr2line_units.specs.KnownEntries.{known_in}
+use Rattle.addr2line_units.specs.CachedKnown.{known_in}
 use Rattle.addr2line_units.specs.SeenUnit.{scope_in}
 use Rattle.addr2line_units.specs.UnitsState.{UnitsState}
 

@@ -1,11 +1,16 @@
 -- What a lookup gives that may wait for a split file (DWARF 5, section 7.3.2): a load with the rest
 -- of the lookup, or its output.
 -- Own: each answer to a load leaves fewer units that wait for one.
-use Rattle.std.specs.Prelude.{◌≡◌, ℕ, suc}
+use Rattle.std.specs.Prelude.{◌≡◌, ℕ, suc, IsOk, Result}
 use Rattle.std.specs.Borrow.{Fml, RattleType, MutBor, GName, follows_so}
 use mathlib.Core.Option as maybe
 use Rattle.addr2line_units.specs.declared.continuation.LookupResult.{LookupResult}
 use Rattle.addr2line_units.specs.declared.continuation.LookupResult.TheVariants.{Load, Output}
+
+-- what is given is an output, and that has no fault
+abbrev pub IsOkOutput : {L X E D S : Type 0} → LookupResult L (Result X E) D S → Type 0
+IsOkOutput (Load c) = ⊥
+IsOkOutput (Output o) = IsOk o
 
 module _ {L O D S : Type 0} where
   -- what holds of a lookup that waits

@@ -12,7 +12,7 @@ ghost use Rattle.addr2line_units.specs.declared.parses.ReadingDepth.TheVariants 
 ghost use Rattle.addr2line_units.specs.Frames.{function_at};
 ghost use Rattle.addr2line_units.specs.FunctionParses.{IsReadyFor};
 ghost use Rattle.addr2line_units.specs.CachedFunctions.{AreFunctionsOf, ArePlacesIn, IsTableOf, ReadsNoOther, StayFunctions, table_has_many, find_takes_memory, function_of_place, functions_fault, cached_has_function, has_table, cached_functions, reading_takes_memory, table_takes_memory, were_read};
-ghost use Rattle.addr2line_units.specs.KnownEntries.{known_functions};
+ghost use Rattle.addr2line_units.specs.CachedKnown.{known_functions};
 ghost use Rattle.gimli_read.specs.Alike.{HadMemory};
 ghost use Rattle.addr2line_units.specs.UnitFrames.{is_many};
 
@@ -198,6 +198,8 @@ impl<R: Reader> LazyFunctions<R> {
             ≡ table_has_many probe (cached_functions self.new)) }
         ensures ready_for_all { HadMemory result
             → IsReadyFor kinds.Details (known_functions self.new) }
+        ensures had_memory { IsReadyFor kinds.Details (known_functions self.new)
+            → HadMemory result }
         ensures exact { IsReadyFor kinds.Details (known_functions self.old)
             → result ≡ functions_fault (seen_scope scope.entry) view.now }
         ensures same { IsReadyFor kinds.Details (known_functions self.old)

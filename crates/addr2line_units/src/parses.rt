@@ -12,7 +12,7 @@ ghost use Rattle.addr2line_units.specs.CachedFunctions.{AreFunctionsOf, StayFunc
 ghost use Rattle.addr2line_units.specs.CachedUnits.{HaveEntriesOf, answers_in};
 ghost use Rattle.addr2line_units.specs.CachedParses.{AreReadyUnits, ChangesOnly, HasRead, HaveFunctions, HaveRead, IsReadyUnit, StayDecided};
 ghost use Rattle.addr2line_units.specs.CachedViews.{is_decided, seen_first_answer};
-ghost use Rattle.addr2line_units.specs.KnownEntries.{known_by, known_functions};
+ghost use Rattle.addr2line_units.specs.CachedKnown.{known_by, known_functions};
 ghost use Rattle.gimli_read.specs.Alike.{HadMemory};
 ghost use Rattle.addr2line_units.specs.AfterUnits.{AfterReading};
 ghost use Rattle.addr2line_units.specs.Views.{decided_answer, verdict};
@@ -55,6 +55,7 @@ impl<R: Reader> LazyFunctions<R> {
         ensures memory { HaveFunctions Functions self.old → result ≡ Ok tt }
         ensures ready_for_all { HadMemory result
             → IsReadyFor Functions (known_functions self.new) }
+        ensures had_memory { IsReadyFor Functions (known_functions self.new) → HadMemory result }
         ensures exact { IsReadyFor Functions (known_functions self.old)
             → result ≡ read_of_functions Functions (seen_scope scope.entry) view.now }
         ensures same { IsReadyFor Functions (known_functions self.old) → self.new ≡ self.old }
@@ -84,6 +85,7 @@ impl<R: Reader> LazyFunctions<R> {
         ensures read { OnOk result (HaveFunctions reads self.new) }
         ensures memory { HaveFunctions reads self.old → result ≡ Ok tt }
         ensures ready_for_all { HadMemory result → IsReadyFor reads (known_functions self.new) }
+        ensures had_memory { IsReadyFor reads (known_functions self.new) → HadMemory result }
         ensures exact { IsReadyFor reads (known_functions self.old)
             → result ≡ read_of_functions reads (seen_scope scope.entry) view.now }
         ensures same { IsReadyFor reads (known_functions self.old) → self.new ≡ self.old }
@@ -119,6 +121,8 @@ fn read_in_view<'x, R: Reader>(
         → result ≡ Ok tt }
     ensures ready_for_all { HadMemory result
         → IsReadyFor reads (known_by view.now.state functions.new) }
+    ensures had_memory { IsReadyFor reads (known_by view.now.state functions.new)
+        → HadMemory result }
     ensures exact { IsReadyFor reads (known_by view.now.state functions.old)
         → result ≡ read_of_view reads (seen_scope scope.entry)
         (verdict scope.entry.file.dwarf.now dw_unit.now (seen_first_answer view.now)) }
@@ -158,6 +162,7 @@ impl<R: Reader> UnitEntries<R> {
         ensures read { OnOk result (HasRead reads self.new) }
         ensures memory { HasRead reads self.old → result ≡ Ok tt }
         ensures ready_for_all { HadMemory result → IsReadyUnit reads self.new }
+        ensures had_memory { IsReadyUnit reads self.new → HadMemory result }
         ensures exact { IsReadyUnit reads self.old → result ≡ read_of_unit reads
             (seen_scope scope.entry) dw_unit.now (first_answer_of self.old) }
         ensures same { IsReadyUnit reads self.old → self.new ≡ self.old }
@@ -197,6 +202,8 @@ fn read_functions_in<R: Reader>(
         → result ≡ Ok tt }
     ensures ready_for_all { HadMemory result
         → IfSome (slice_get entries.new.items number) (IsReadyUnit reads) }
+    ensures had_memory { IfSome (slice_get entries.new.items number) (IsReadyUnit reads)
+        → HadMemory result }
     ensures exact { IfSome (slice_get entries.old.items number) (IsReadyUnit reads)
         → result ≡ read_of_number reads (seen_scope scope.entry) scope.entry.file.units.now
         (answers_in entries.old.items) number }
@@ -238,6 +245,9 @@ fn read_all_functions<R: Reader>(
     ensures memory { HaveRead reads entries.old.items → result ≡ Ok tt }
     ensures ready_for_all { HadMemory result → AreReadyUnits reads (seen_scope scope.entry)
         scope.entry.file.units.now (answers_in entries.old.items) entries.new.items }
+    ensures had_memory { AreReadyUnits reads (seen_scope scope.entry)
+        scope.entry.file.units.now (answers_in entries.new.items) entries.new.items
+        → HadMemory result }
     ensures exact { AreReadyUnits reads (seen_scope scope.entry) scope.entry.file.units.now
         (answers_in entries.old.items) entries.old.items
         → result ≡ read_of_units reads (seen_scope scope.entry) scope.entry.file.units.now

@@ -5,7 +5,8 @@ use Rattle.addr2line.specs.Files.{as_read_if_known}
 use Rattle.addr2line.specs.FramesByFiles.{stop_frames}
 use Rattle.addr2line.proofs.ByFilesLemmas.{fault_before, has_answered_after, has_answered_none, has_looked, in_turn, looked_memory, stop_fault, waits_no_more}
 use Rattle.addr2line.proofs.LoadingLemmas.{no_oom, no_path}
-use Rattle.addr2line.proofs.NoLoadLemmas.{still_uncovered, stop_fault_is, waits_never}
+use Rattle.addr2line.proofs.NoLoadLemmas.{stop_fault_is, waits_never}
+use Rattle.addr2line.proofs.UncoveredLemmas.{still_uncovered}
 use Rattle.addr2line.proofs.SkippedLemmas.{stored_waits, told_ended, told_waits}
 use Rattle.addr2line.proofs.by_files.answer_loads.Goals as goal
 

@@ -9,7 +9,7 @@ use Rattle.addr2line_units.specs.CachedParses.{HasRead, IsReadyUnit}
 use Rattle.addr2line_units.proofs.CachedUnitLemmas.{as_many_entries}
 use Rattle.addr2line_units.proofs.CachedParseLemmas.{all_read, before_less, behind_more, changes_all, changes_then, decided_over, decided_same, many_answers, read_more, read_number}
 use Rattle.addr2line_units.proofs.ParseLemmas.{after_end, after_stop, before_more, decided_more, number_behind, read_end, read_stop}
-use Rattle.addr2line_units.proofs.ReadyLemmas.{ready_stop, some_ready}
+use Rattle.addr2line_units.proofs.ReadyLemmas.{before_decided, ready_stop, some_ready}
 use Rattle.addr2line_units.proofs.parses.read_all_functions.Goals as goal
 
 pub loop-number-init : goal.loop-number-init
@@ -244,3 +244,24 @@ returns-clause-exact g c = λ _.
 
 pub returns-clause-same : goal.returns-clause-same
 returns-clause-same g c = c.loop-number.invariant.same
+
+pub returns-in_err-read_functions_in-clause-had_memory : goal.returns-in_err-read_functions_in-clause-had_memory
+returns-in_err-read_functions_in-clause-had_memory g c =
+    let p = err_from_is_err_and c.from_residual.result c.from_residual.ensures.1 in
+    let i = c.loop-number.invariant in
+    let d = c.args.scope.file.dwarf.now in
+    let scope = seen_scope c.args.scope in
+    let us = c.args.scope.file.units.now in
+    let vs = c.args.entries.now.items in
+    let new = c.read_functions_in.new.entries.items in
+    let k = c.loop-number.number in
+    let first = as_many_entries scope us vs c.requires.right in
+    let below = c.loop-number-test.true in
+    let count = i.count in
+    let h : k < length us = omega (arith, first, below, count) in
+    let many = many_answers scope us vs c.requires.right in
+    let before : AreReadBefore c.args.reads scope us (answers_in new) k = elim c.in_err-read_functions_in.ensures.memory_answers [
+      | inl e ↦ before_decided c.args.reads scope us (answers_in vs) (answers_in new) k k (e ∙ i.answers) i.before
+      | inr e ↦ before_decided c.args.reads scope us (answers_in vs) (answers_in new) (suc k) k (e ∙ ap (λ a. with_answer d us a k None) i.answers ∙ decided_more d us (answers_in vs) k h many) i.before
+    ] in
+    rw (p.1, p.2) (λ ready. c.in_err-read_functions_in.ensures.had_memory (ready k before))

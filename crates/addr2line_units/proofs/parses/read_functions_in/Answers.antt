@@ -6,7 +6,7 @@ use Rattle.addr2line_units.proofs.AnswerLemmas.{answered_all, answers_stay}
 use Rattle.addr2line_units.proofs.CachedUnitLemmas.{as_many_entries, entries_at, entries_set}
 use Rattle.addr2line_units.proofs.CachedParseLemmas.{changes_set, decided_same, decided_set, number_is, read_entry, read_set}
 use Rattle.addr2line_units.proofs.NumberedFrames.{none_past}
-use Rattle.addr2line_units.proofs.ReadyLemmas.{ready_entry, ready_set, same_set}
+use Rattle.addr2line_units.proofs.ReadyLemmas.{ready_entry, ready_set, ready_was_set, same_set}
 use Rattle.addr2line_units.proofs.parses.read_functions_in.Goals as goal
 
 pub read-requires-clause-right : goal.read-requires-clause-right
@@ -157,3 +157,7 @@ returns-in_default-clause-exact g c = λ ready.
     let many = as_many_entries (seen_scope c.args.scope) us c.args.entries.now.items c.requires.right in
     let there = c.requires.there in
     absurd (omega (arith, past, many, there))
+
+pub returns-clause-had_memory : goal.returns-clause-had_memory
+returns-clause-had_memory g c = λ ready.
+    c.read.ensures.had_memory (ready_was_set c.args.reads c.args.entries.now.items c.args.number c.read.new.self c.requires.there ready)

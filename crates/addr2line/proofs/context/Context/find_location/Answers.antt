@@ -2,7 +2,7 @@ use Rattle.std.proofs.Common.{Err, None, Ok, Some, ap, refl, sym, ◌∙◌}
 use Rattle.std.proofs.lemmas.Result.{err_from_is_err_and}
 use Rattle.addr2line_lines.specs.Location.{location_of_row}
 use Rattle.addr2line_units.specs.UnitsState.{UnitsState, row_location}
-use Rattle.addr2line.proofs.ContextLemmas.{after_lookup, exactly_told, lines_context, location_is, none_covered, ready_told}
+use Rattle.addr2line.proofs.ContextLemmas.{after_lookup, covers_none, exactly_told, lines_context, location_is, none_covered, ready_told}
 use Rattle.addr2line.proofs.context.Context.find_location.Goals as goal
 
 pub invariant_of-self : goal.invariant_of-self
@@ -42,6 +42,7 @@ returns-in_err-place g c =
         gives = λ n. is ∙ e.gives n;
         exact = λ ready. is ∙ e.gives (ready_told s.ranges s.units i c.args.probe (Err c.in_err-place.field-0.0) now e.after ready);
         last = λ q. let none = none_covered s.ranges s.units i (row_location s.units) c.args.probe (Err c.in_err-place.field-0.0) now e.after e.gives (sym c.find.ensures.gives ∙ c.find.ensures.last q) in cc;
+        uncovered = λ q. let none = none_covered s.ranges s.units i (row_location s.units) c.args.probe (Err c.in_err-place.field-0.0) now e.after e.gives (covers_none s.ranges s.units i c.args.probe q) in cc;
         kept = tt;
       },
     )
@@ -61,6 +62,7 @@ returns-in-Some g c =
         gives = found;
         exact = λ ready. found;
         last = λ q. let none = none_covered s.ranges s.units i (row_location s.units) c.args.probe (Ok (Some place)) now e.after e.gives (sym c.find.ensures.gives ∙ c.find.ensures.last q) in cc;
+        uncovered = λ q. let none = none_covered s.ranges s.units i (row_location s.units) c.args.probe (Ok (Some place)) now e.after e.gives (covers_none s.ranges s.units i c.args.probe q) in cc;
         kept = tt;
       },
     )
@@ -78,6 +80,7 @@ returns-in-None g c =
         gives = is ∙ e.gives;
         exact = λ ready. is ∙ e.gives;
         last = λ q. refl;
+        uncovered = λ q. refl;
         kept = tt;
       },
     )

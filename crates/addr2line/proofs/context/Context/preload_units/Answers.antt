@@ -1,7 +1,10 @@
-use Rattle.std.proofs.Common.{subst, sym, ◌≡◌}
+use Rattle.std.proofs.Common.{[], subst, sym, ◌∙◌, ◌≡◌}
 use Rattle.std.specs.Prelude.{IfOk}
 use Rattle.addr2line.proofs.AnsweredLemmas.{loads_are, read_context}
-use Rattle.addr2line.proofs.LoadLemmas.{after_preload, none_open_are}
+use Rattle.addr2line.proofs.LoadLemmas.{after_preload, none_listed, none_open_are}
+use Rattle.addr2line.proofs.ContextLemmas.{covers_none}
+use Rattle.addr2line_units.specs.Cover.{cover}
+use Rattle.addr2line_units.specs.Loads.{NoneOpen, load_of_number}
 use Rattle.addr2line.proofs.context.Context.preload_units.Goals as goal
 
 pub invariant_of-self : goal.invariant_of-self
@@ -25,3 +28,23 @@ returns-clause-memory g c =
     let s = c.self.inside in
     let e = rw c.find.ensures.gives at c.preload.ensures in
     rw (sym c.self.view_is) (λ shut. e.none_open (none_open_are s.ranges s.units c.self.invariant c.args.probe shut))
+
+pub returns-clause-last : goal.returns-clause-last
+returns-clause-last g c =
+    let s = c.self.inside in
+    let d = s.units.scope.file in
+    let e = rw c.find.ensures.gives at c.preload.ensures in
+    λ q.
+    let none = sym c.find.ensures.gives ∙ c.find.ensures.last q in
+    none_listed (λ loads. loads.items) (load_of_number d.sections d.units s.units.answers) (cover c.args.probe s.ranges) c.preload.result none
+    (e.none_open (subst (NoneOpen d.sections d.units s.units.answers) (sym none) tt)) e.gives
+
+pub returns-clause-uncovered : goal.returns-clause-uncovered
+returns-clause-uncovered g c =
+    let s = c.self.inside in
+    let d = s.units.scope.file in
+    let e = rw c.find.ensures.gives at c.preload.ensures in
+    rw (sym c.self.view_is) (λ q.
+    let none = covers_none s.ranges s.units c.self.invariant c.args.probe q in
+    none_listed (λ loads. loads.items) (load_of_number d.sections d.units s.units.answers) (cover c.args.probe s.ranges) c.preload.result none
+    (e.none_open (subst (NoneOpen d.sections d.units s.units.answers) (sym none) tt)) e.gives)

@@ -12,7 +12,7 @@ returns-in_err-walk-clause-after g c =
     let p = err_from_is_err_and c.from_residual.result c.from_residual.ensures.1 in
     let e = c.in_err-walk.ensures in
     rw (p.1, p.2) (after_skip c.args.faults c.args.probe c.args.self.now c.walk.new.self (skipped_look c.args.faults c.args.probe c.args.self.now c.loop-self.self c.loop-self.invariant _ c.walk.new.self e.after) _
-    (λ told. ap is_waiting (e.gives told)) (λ told. e.after.ready told))
+    (λ told. ap is_waiting (e.gives told)) (λ told. e.after.ready told) e.memory)
 
 pub loop-self-preserved : goal.loop-self-preserved
 loop-self-preserved g c =
@@ -31,11 +31,11 @@ returns-in_err-answer-in-Some-clause-after g c =
     let e = c.in_err-answer-in-Some.ensures in
     let so = skipped_look c.args.faults c.args.probe c.args.self.now c.loop-self.self c.loop-self.invariant _ mid c.in_ok-walk.ensures.after in
     rw (p.1, p.2) (after_skip c.args.faults c.args.probe c.args.self.now c.answer.new.self (skipped_refused c.args.faults c.args.probe c.args.self.now mid so n _ c.answer.new.self e.after) _
-    (λ told. absurd (told e.after.refused.0)) (λ told. absurd (told e.after.refused.0)))
+    (λ told. absurd (told e.after.refused.0)) (λ told. absurd (told e.after.refused.0)) (λ few. absurd (let no = e.after.refused.3 in cc)))
 
 pub returns-in-None-clause-after : goal.returns-in-None-clause-after
 returns-in-None-clause-after g c =
     let a = c.in_ok-walk.ensures.after in
     let mid = c.walk.new.self in
     after_skip c.args.faults c.args.probe c.args.self.now mid (skipped_look c.args.faults c.args.probe c.args.self.now c.loop-self.self c.loop-self.invariant _ mid a) _
-    (λ told. told_ended mid.stop _ c.in_ok-walk.ensures.gives (search rules)) (λ told. a.ready tt)
+    (λ told. told_ended mid.stop _ c.in_ok-walk.ensures.gives (search rules)) (λ told. a.ready tt) (λ few. tt)

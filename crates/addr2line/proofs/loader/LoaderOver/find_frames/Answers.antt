@@ -7,7 +7,7 @@ use Rattle.addr2line.specs.FramesByFiles.{ended_frames_of, stop_frames}
 use Rattle.addr2line.specs.LoadsByFiles.{WaitsForNone}
 use Rattle.addr2line.specs.AfterLookups.{IsKnownFew}
 use Rattle.addr2line.proofs.ByFilesLemmas.{found_by_files}
-use Rattle.addr2line.proofs.NoLoadLemmas.{found_ended, last_frames, refused_exactly}
+use Rattle.addr2line.proofs.NoLoadLemmas.{found_ended, lacks_memory, last_frames, refused_exactly}
 use Rattle.addr2line.proofs.loader.LoaderOver.find_frames.Goals as goal
 
 pub returns-in_err-answer_loads : goal.returns-in_err-answer_loads
@@ -37,6 +37,7 @@ returns-in_err-answer_loads g c =
           told = so.told;
           waits = so.waits;
           memory = so.memory;
+          refused = lacks_memory e mid probe so.memory;
         },
       ),
       record {
@@ -74,6 +75,7 @@ returns g c =
           told = λ _. told;
           waits = tt;
           memory = λ w few. tt;
+          refused = tt;
         },
       ),
       record {

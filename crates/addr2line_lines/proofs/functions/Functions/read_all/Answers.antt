@@ -1,10 +1,11 @@
 use Rattle.std.proofs.Common.{◌≡◌, true, false, List, [], ◌∷◌, Err, length, map, suc, refl, ap, sym, ◌∙◌, arith}
 use Rattle.std.proofs.lemmas.Result.{err_from_is_err_and}
+use Rattle.gimli_read.specs.declared.error.Error.TheVariants.{OutOfMemory}
 use Rattle.addr2line_lines.specs.FunctionTable.{FunctionTable}
 use Rattle.addr2line_lines.specs.FunctionCache.{seen_function}
 use Rattle.addr2line_lines.specs.CachedDetails.{seen_details}
 use Rattle.addr2line_lines.specs.SeenScope.{seen_scope}
-use Rattle.addr2line_lines.proofs.ReadLemmas.{all_read, all_ready, fault_kept, fault_read, fault_ready, no_memory_to_fault, none_read, one_read, reads_nothing}
+use Rattle.addr2line_lines.proofs.ReadLemmas.{all_read, all_ready, fault_kept, fault_read, fault_ready, had_memory, no_memory_to_fault, none_read, one_read, reads_nothing}
 use Rattle.addr2line_lines.proofs.functions.Functions.read_all.Goals as goal
 
 long : {X Y : Type 0} (f : X → Y) (xs : List X) → length (map f xs) ≡ length xs
@@ -97,3 +98,10 @@ returns-clause-exact g c = λ right. λ _.
 
 pub returns-clause-same : goal.returns-clause-same
 returns-clause-same g c = c.loop-place.invariant.read.same
+
+pub returns-in_err-read-clause-memory : goal.returns-in_err-read-clause-memory
+returns-in_err-read-clause-memory g c =
+    let p = err_from_is_err_and c.from_residual.result c.from_residual.ensures.1 in
+    let i = c.loop-place.invariant in
+    let l = c.loop-place-test.true in
+    rw (p.1, p.2) (λ ready. λ q. had_memory g.R.Reader.shares (seen_scope c.args.scope) c.args.unit.now c.args.self.now c.loop-place.self c.read.new.self c.loop-place.place c.in_err-read.field-0.0 i.read (let m = i.count in omega arith) c.in_err-read.ensures.gives ready (let same : c.in_err-read.field-0.0 ≡ OutOfMemory = cc in same))

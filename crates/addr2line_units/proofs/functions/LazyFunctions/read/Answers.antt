@@ -4,7 +4,7 @@ use Rattle.addr2line_lines.specs.SeenScope.{seen_scope}
 use Rattle.addr2line_units.specs.FunctionParses.{IsReadyFor, read_of_functions}
 use Rattle.addr2line_units.specs.CachedParses.{HaveFunctions}
 use Rattle.addr2line_units.specs.CachedFunctions.{functions_fault, reading_takes_memory}
-use Rattle.addr2line_units.specs.KnownEntries.{known_functions}
+use Rattle.addr2line_units.specs.CachedKnown.{known_functions}
 use Rattle.addr2line_units.proofs.EntryLemmas.{exactly_unless_oom}
 use Rattle.addr2line_units.proofs.CachedParseLemmas.{details_have, details_cached}
 use Rattle.addr2line_units.proofs.functions.LazyFunctions.read.Goals as goal
@@ -55,3 +55,11 @@ returns-in-Functions-clause-exact g c = λ ready.
 
 pub returns-in-Functions-clause-same : goal.returns-in-Functions-clause-same
 returns-in-Functions-clause-same g c = λ ready. c.read_alone.ensures.same (subst (λ r. IsReadyFor r (known_functions c.args.self.now)) c.in-Functions.is ready)
+
+pub returns-in-Details-clause-had_memory : goal.returns-in-Details-clause-had_memory
+returns-in-Details-clause-had_memory g c = λ ready.
+    c.read_all.ensures.had_memory (subst (λ r. IsReadyFor r (known_functions c.read_all.new.self)) c.in-Details.is ready)
+
+pub returns-in-Functions-clause-had_memory : goal.returns-in-Functions-clause-had_memory
+returns-in-Functions-clause-had_memory g c = λ ready.
+    c.read_alone.ensures.had_memory (subst (λ r. IsReadyFor r (known_functions c.read_alone.new.self)) c.in-Functions.is ready)

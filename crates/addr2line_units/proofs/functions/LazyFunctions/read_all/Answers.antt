@@ -13,7 +13,8 @@ use Rattle.addr2line_units.specs.declared.functions.LazyFunctions.TheVariants as
 use Rattle.addr2line_units.specs.declared.parses.ReadingDepth.TheVariants as reads
 use Rattle.addr2line_units.specs.CachedFunctions.{AreFunctionsOf, functions_fault, reading_takes_memory, were_read}
 use Rattle.addr2line_units.proofs.CachedFunctionLemmas.{all_ready, exactly_weaker, fault_is, on_ok, reading_before, stay_faulty, stay_read, table_more}
-use Rattle.addr2line_units.proofs.ReadyLemmas.{fault_of_functions, not_oom, ready_fault, ready_same, ready_then, ready_were_read}
+use Rattle.addr2line_units.proofs.ReadyLemmas.{fault_of_functions, had_not_oom, known_not_oom, not_oom, ready_fault, ready_same, ready_then, ready_were_read}
+use Rattle.addr2line_units.proofs.KnownTableLemmas.{to_fault_cached, to_fault_known}
 use Rattle.addr2line_units.proofs.functions.LazyFunctions.read_all.Goals as goal
 
 pub returns-in-Read-clause-gives : goal.returns-in-Read-clause-gives
@@ -50,7 +51,7 @@ returns-in_err-cache-clause-exact g c = λ ready.
     absurd (let no = (c.in_err-cache.ensures.kept (ready_were_read reads.Details c.args.self.now ready)).1 in cc)
 
 pub returns-in-Read-clause-ready_for_all : goal.returns-in-Read-clause-ready_for_all
-returns-in-Read-clause-ready_for_all g c = λ ne. c.read_all.ensures.ready_for_all (not_oom c.read_all.result ne)
+returns-in-Read-clause-ready_for_all g c = λ ne. to_fault_known c.read_all.new.self.functions (c.read_all.ensures.ready_for_all (not_oom c.read_all.result ne))
 
 pub returns-in-Read-clause-exact : goal.returns-in-Read-clause-exact
 returns-in-Read-clause-exact g c = λ ready.
@@ -58,12 +59,12 @@ returns-in-Read-clause-exact g c = λ ready.
     let view = c.args.view.now in
     let t = c.in-Read.functions in
     let table = subst (λ x. AreFunctionsOf scope view x) c.in-Read.is c.cache.ensures.right in
-    c.read_all.ensures.exact table.details (ready_then reads.Details c.args.self.now c.cache.new.self (λ read. (c.cache.ensures.kept read).0) ready (lazy.Read t) c.in-Read.is) ∙ sym (fault_is scope view t table)
+    c.read_all.ensures.exact table.details (to_fault_cached t.functions (ready_then reads.Details c.args.self.now c.cache.new.self (λ read. (c.cache.ensures.kept read).0) ready (lazy.Read t) c.in-Read.is)) ∙ sym (fault_is scope view t table)
 
 pub returns-in-Read-clause-same : goal.returns-in-Read-clause-same
 returns-in-Read-clause-same g c = λ ready.
     let t = c.in-Read.functions in
-    ap lazy.Read (c.read_all.ensures.same (ready_then reads.Details c.args.self.now c.cache.new.self (λ read. (c.cache.ensures.kept read).0) ready (lazy.Read t) c.in-Read.is))
+    ap lazy.Read (c.read_all.ensures.same (to_fault_cached t.functions (ready_then reads.Details c.args.self.now c.cache.new.self (λ read. (c.cache.ensures.kept read).0) ready (lazy.Read t) c.in-Read.is)))
     ∙ sym c.in-Read.is ∙ ready_same reads.Details c.args.self.now c.cache.new.self (λ read. (c.cache.ensures.kept read).0) ready
 
 pub returns-in-Faulty-clause-ready_for_all : goal.returns-in-Faulty-clause-ready_for_all
@@ -98,3 +99,14 @@ returns-in_err-cache-clause-gives g c =
     let view = c.args.view.now in
     rw (p.1, p.2) (λ may. fault_of_functions scope view _
     (unread_takes g.R.Reader.shares scope view c.args.self.now _ (λ read. let no = (c.in_err-cache.ensures.kept read).1 in cc) c.in_err-cache.ensures.refused.0 c.in_err-cache.ensures.memory may))
+
+pub returns-in_err-cache-clause-had_memory : goal.returns-in_err-cache-clause-had_memory
+returns-in_err-cache-clause-had_memory g c = λ ready.
+    let read = ap (λ f. were_read f) (sym c.in_err-cache.ensures.refused.1) ∙ ready_were_read reads.Details c.cache.new.self ready in
+    absurd (let no = (c.in_err-cache.ensures.kept read).1 in cc)
+
+pub returns-in-Read-clause-had_memory : goal.returns-in-Read-clause-had_memory
+returns-in-Read-clause-had_memory g c = λ ready. had_not_oom c.read_all.result (c.read_all.ensures.memory (to_fault_cached c.read_all.new.self.functions ready))
+
+pub returns-in-Faulty-clause-had_memory : goal.returns-in-Faulty-clause-had_memory
+returns-in-Faulty-clause-had_memory g c = λ ready. known_not_oom reads.Details c.in-Faulty.error ready

@@ -1,9 +1,9 @@
-use Rattle.std.proofs.Common.{subst, sym, ◌∙◌}
+use Rattle.std.proofs.Common.{ap, subst, sym, ◌∙◌}
 use Rattle.addr2line_lines.specs.SeenScope.{seen_scope}
 use Rattle.addr2line_units.specs.declared.parses.ReadingDepth.TheVariants.{Functions}
-use Rattle.addr2line_units.specs.CachedFunctions.{AreFunctionsOf, StayFunctions}
+use Rattle.addr2line_units.specs.CachedFunctions.{AreFunctionsOf, StayFunctions, were_read}
 use Rattle.addr2line_units.proofs.CachedParseLemmas.{alone_fault, cached_stay, have_no_fault, have_were_read}
-use Rattle.addr2line_units.proofs.ReadyLemmas.{ready_fault, ready_same, ready_were_read}
+use Rattle.addr2line_units.proofs.ReadyLemmas.{known_not_oom, ready_fault, ready_same, ready_were_read}
 use Rattle.addr2line_units.proofs.functions.LazyFunctions.read_alone.Goals as goal
 
 pub returns-in-Read-clause-stay : goal.returns-in-Read-clause-stay
@@ -39,3 +39,11 @@ returns-in-Faulty-clause-same g c = λ ready.
 pub returns-in-Read-clause-same : goal.returns-in-Read-clause-same
 returns-in-Read-clause-same g c = λ ready.
     ready_same Functions c.args.self.now c.cache.new.self (λ read. (c.cache.ensures.kept read).0) ready
+
+pub returns-in_err-cache-clause-had_memory : goal.returns-in_err-cache-clause-had_memory
+returns-in_err-cache-clause-had_memory g c = λ ready.
+    let read = ap (λ f. were_read f) (sym c.in_err-cache.ensures.refused.1) ∙ ready_were_read Functions c.cache.new.self ready in
+    absurd (let no = (c.in_err-cache.ensures.kept read).1 in cc)
+
+pub returns-in-Faulty-clause-had_memory : goal.returns-in-Faulty-clause-had_memory
+returns-in-Faulty-clause-had_memory g c = λ ready. known_not_oom Functions c.in-Faulty.error ready

@@ -59,3 +59,10 @@ returns-clause-same g c = λ ready.
   where
     with_functions : {R : Type 0} → UnitEntries R → LazyFunctions R → UnitEntries R
     with_functions v f = record { view = v.view; functions = f }
+
+pub returns-in_err-answer-clause-had_memory : goal.returns-in_err-answer-clause-had_memory
+returns-in_err-answer-clause-had_memory g c = λ ready.
+    absurd (let no = c.in_err-answer.ensures.refused.2 in cc)
+
+pub returns-clause-had_memory : goal.returns-clause-had_memory
+returns-clause-had_memory g c = λ ready. c.read_in_view.ensures.had_memory ready.known

@@ -1,0 +1,59 @@
+-- Lookups of an address that no unit covers (on specs/Context.antt and specs/AfterLookups.antt).
+use Rattle.std.proofs.Common.{◌≡◌, ℕ, true, false, [], Result, Ok, Err, is_ok, ap, refl, subst, sym, ◌∙◌}
+use Rattle.gimli_read.specs.declared.error.Error.{Error}
+use Rattle.gimli_read.specs.Alike.{HadMemory}
+use Rattle.gimli_read.specs.Reading.{◌>>=◌, ExactlyUnlessOom}
+use Rattle.addr2line_units.specs.declared.continuation.LookupResult.{LookupResult}
+use Rattle.addr2line_units.specs.declared.continuation.LookupResult.TheVariants.{Load, Output}
+use Rattle.addr2line_units.specs.declared.frames_lookup.Faults.{Faults}
+use Rattle.addr2line_units.specs.declared.frames_lookup.Faults.TheVariants.{End, PassOver}
+use Rattle.addr2line_units.specs.Cover.{cover}
+use Rattle.addr2line_units.specs.FramesLookup.{FindsNothing, Waits, holds_along, is_waiting, stop_along}
+use Rattle.addr2line_units.specs.Suspended.{IfLoad, IfOutput, IsOkOutput}
+use Rattle.addr2line_units.specs.UnitIndex.{UnitIndex, index_units}
+use Rattle.addr2line_units.proofs.NewUnitsLemmas.{ok_is}
+use Rattle.addr2line.specs.AfterLookups.{AfterFrames, IsKnownFew, has_few_of}
+use Rattle.addr2line.specs.Context.{ContextState, IsUncovered}
+use Rattle.addr2line.specs.Lookups.{asked_of, frames_of, frames_of_stop, lookup_stop, stop_in, unit_of, unit_told}
+
+-- which units cover an address is told by the sections alone
+pub still_uncovered : (probe : ℕ) (old new : ContextState) → new.sections ≡ old.sections → IsUncovered new probe → IsUncovered old probe
+still_uncovered probe old new s u = (u.0, ap index_units (sym s) ∙ u.1, u.2)
+
+-- all is known that a lookup asks for there
+pub uncovered_few : (faults : Faults) (probe : ℕ) (c : ContextState) → IsUncovered c probe → IsKnownFew faults c probe
+uncovered_few faults probe c u = λ m e.
+    let none = subst (λ (x : UnitIndex). cover probe x.ranges ≡ []) (ok_is _ _ (sym u.1 ∙ e)) u.2 in
+    ap (λ ranges. holds_along (has_few_of c probe m) (asked_of faults c.sections c.answers probe m) ranges) none
+
+module _ (faults : Faults) (probe : ℕ) (c : ContextState) (u : IsUncovered c probe) where
+  pub uncovered_stop : lookup_stop faults c.sections c.answers probe ≡ Ok FindsNothing
+  uncovered_stop =
+      ap (λ r. r >>= stop_in faults c.sections c.answers probe) u.1
+      ∙ ap (λ ranges. stop_along (asked_of faults c.sections c.answers probe u.0) ranges) u.2
+
+  -- a lookup of it is refused no memory
+  uncovered_told : {X : Type 0} (r : Result X Error) (new : ContextState) → AfterFrames faults probe r c new → HadMemory r
+  uncovered_told r new a =
+      a.memory (uncovered_few faults probe new (still_uncovered probe new c (sym a.sections) u)) (ap is_waiting uncovered_stop)
+
+  -- and it ends without a fault
+  pub uncovered_ends : {L V X D S : Type 0} (see : X → V) (given : Result V Error) → is_ok given ≡ true → (new : ContextState) (result : LookupResult L (Result X Error) D S)
+      → IfLoad result (λ _. (n : ℕ) × (lookup_stop faults c.sections c.answers probe ≡ Ok (Waits n))) → IfOutput result (λ o. AfterFrames faults probe o c new) → IfOutput result (λ o. ExactlyUnlessOom see o given) → IsOkOutput result
+  uncovered_ends see given ok new (Load x) load after output =
+      let f : true ≡ false = sym (ap is_waiting load.1) ∙ ap is_waiting uncovered_stop in
+      absurd cc
+  uncovered_ends see given ok new (Output (Ok x)) load after output = refl
+  uncovered_ends see given ok new (Output (Err e)) load after output =
+      let f : false ≡ true = sym (ap is_ok (output (uncovered_told (Err e) new after))) ∙ ok in
+      absurd cc
+
+-- what it gives there
+module _ (probe : ℕ) (c : ContextState) (u : IsUncovered c probe) where
+  pub uncovered_frames_ok : is_ok (frames_of c.sections c.answers probe) ≡ true
+  uncovered_frames_ok = ap (λ s. is_ok (frames_of_stop s)) (uncovered_stop End probe c u)
+
+  pub uncovered_unit_ok : is_ok (unit_of c.sections c.answers probe) ≡ true
+  uncovered_unit_ok =
+      ap (λ (r : Result UnitIndex Error). is_ok (r >>= λ m. stop_in PassOver c.sections c.answers probe m >>= λ s. Ok (unit_told c.sections c.answers m s))) u.1
+      ∙ ap (λ ranges. is_ok (stop_along (asked_of PassOver c.sections c.answers probe u.0) ranges >>= λ s. Ok (unit_told c.sections c.answers u.0 s))) u.2

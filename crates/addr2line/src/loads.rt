@@ -1,9 +1,10 @@
 //! Answers to loads outside a lookup, and what forgets them.
 
-ghost use Rattle.std.specs.Prelude.{◌≡◌, [], IfErr, IfOk, IsOk, IsOkAnd, None, option_map};
+ghost use Rattle.std.specs.Prelude.{◌≡◌, [], IfErr, IfOk, IsOk, IsOkAnd, None, false, option_map};
 ghost use Rattle.gimli_read.specs.declared.error.Error.TheVariants.{OutOfMemory};
 ghost use Rattle.gimli_read.specs.Reading.{IsUnlessOom};
 ghost use Rattle.addr2line_lines.specs.LastAddress.{last_address};
+ghost use Rattle.addr2line_units.specs.AnswerMemory.{answer_takes_memory};
 ghost use Rattle.addr2line_units.specs.Loads.{token_number};
 ghost use Rattle.addr2line.specs.Context.{IsUncovered};
 ghost use Rattle.addr2line.specs.Loads.{AfterForget, AfterLoad, AfterPreload, IsNotOpen, NoneOpenAt, forget_reply, load_reply};
@@ -42,8 +43,9 @@ impl<R: Reader> Context<R> {
     ///
     /// Refused `UnknownToken` where there is no such unit, and then nothing is changed; refused by
     /// the fault of the view that the unit has then, and the unit is decided all the same. May fail
-    /// with `OutOfMemory` instead, where the unit is open and is given sections; then all first
-    /// answers are as before. A token of another context counts by its number.
+    /// with `OutOfMemory` instead, where the unit is open and is given sections, and where bytes are
+    /// shared or the header of their first unit can be read; then all first answers are as before.
+    /// A token of another context counts by its number.
     ///
     /// Source: DWARF 5, section 7.3.2. Own: which answer counts.
     pub fn load_unit(
@@ -58,6 +60,9 @@ impl<R: Reader> Context<R> {
             (option_map (λ d. d.value) sections) }
         ensures no_sections { sections ≡ None → result ≡ load_reply self.old.sections
             self.old.answers (token_number unit) None }
+        ensures exact { answer_takes_memory R.shares (option_map (λ d. d.value) sections) ≡ false
+            → result ≡ load_reply self.old.sections self.old.answers (token_number unit)
+            (option_map (λ d. d.value) sections) }
         ensures after { AfterLoad (token_number unit) (option_map (λ d. d.value) sections) result
             self.old self.new }
     {

@@ -108,6 +108,9 @@ module _ {R : Type 0} (scope : Scope) (units : List ResUnit) (held : List (UnitE
         pub load_told : (given : Option Sections) (r : Result (Unit {0}) Error) → first_answer_of w ≡ decided_answer d u (first_answer_of v) given → r ≡ view_fault (verdict d u (first_answer_of w)) → r ≡ load_result d us (answers_in held) n given
         load_told given r same e = e ∙ ap (λ a. view_fault (verdict d u a)) same ∙ sym (load_is given)
 
+        pub fault_told : (given : Option Sections) (r : Result (Unit {0}) Error) → r ≡ view_fault (verdict d u (decided_answer d u (first_answer_of v) given)) → r ≡ load_result d us (answers_in held) n given
+        fault_told given r e = e ∙ sym (load_is given)
+
         module _ (given : Option Sections) (b : Bool) (some : is_some given ≡ b) (looks : ℕ) (was : Stop) where
           abbrev old : UnitsState
           old = seen_units scope units held looks was

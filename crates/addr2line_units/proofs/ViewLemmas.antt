@@ -147,6 +147,15 @@ waited_by d n u name None h e = cc
 waited_by d n u (Ok path) (Some id) h e = cc
 waited_by d n u (Err x) (Some id) h e = cc
 
+-- the fault of the split unit of an answer is that of its view
+pub split_fault : (d : Sections) (u : UnitRecord) (answer : Option Sections) (e : Error) → split_unit u answer ≡ Err e → answered_view d u answer ≡ Err e
+split_fault d u None e h = absurd cc
+split_fault d u (Some split) e h = by (first_unit split) h
+  where
+    by : (r : Result (Option UnitRecord) Error) → (r >>= λ x. Ok (option_map (λ y. relocated y u) x)) ≡ Err e → (r >>= λ x. Ok (first_view d u split x)) ≡ Err e
+    by (Ok x) k = absurd cc
+    by (Err f) k = let same : f ≡ e = cc in ap (λ x. Err x) same
+
 -- a unit that waits has a load
 pub open_has_load : (d : Sections) (n : ℕ) (u : UnitRecord) → verdict d u None ≡ None → load_of_unit d n u ≢ Ok None
 unfolding load_of_unit

@@ -20,6 +20,7 @@ pub mod Frames
 pub mod CachedFunctions
 pub mod Views
 pub mod ViewLaws
+pub mod AnswerMemory
 pub mod CachedViews
 pub mod SeenFrame
 pub mod SeenUnit

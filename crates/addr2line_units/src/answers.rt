@@ -1,11 +1,13 @@
 //! The answers to the loads of units.
 
-ghost use Rattle.std.specs.Prelude.{◌≡◌, IfErr, IfOk, None, OnOk, Ok, Some, false, is_some, option_map, true};
+ghost use Rattle.std.specs.Prelude.{◌≡◌, Err, IfErr, IfOk, None, OnOk, Ok, Some, false, is_some, option_map, true};
 ghost use Rattle.gimli_read.specs.declared.error.Error.TheVariants.{OutOfMemory};
 ghost use Rattle.addr2line_lines.specs.SeenScope.{seen_scope};
 ghost use Rattle.addr2line_units.specs.CachedEntries.{AreEntriesOf, StayEntries, first_answer_of};
 ghost use Rattle.addr2line_units.specs.CachedViews.{IsViewOf, is_decided, waits};
-ghost use Rattle.addr2line_units.specs.Views.{decided_answer, is_open, load_of_unit};
+ghost use Rattle.addr2line_units.specs.AnswerMemory.{answer_takes_memory};
+ghost use Rattle.addr2line_units.specs.Loads.{view_fault};
+ghost use Rattle.addr2line_units.specs.Views.{answered_view, decided_answer, is_open, load_of_unit, verdict};
 
 use crate::functions::LazyFunctions;
 use crate::unit_frames::UnitEntries;
@@ -41,6 +43,9 @@ impl<R: Reader> UnitEntries<R> {
         ensures decided { OnOk result (is_decided self.new.view.state ≡ true) }
         ensures refused { IfErr result (λ e. (e ≡ OutOfMemory) × (self.new ≡ self.old)
             × (is_some sections ≡ true)) }
+        ensures exact { answer_takes_memory R.shares (option_map (λ d. d.value) sections) ≡ false
+            → IfErr result (λ e. answered_view scope.entry.file.dwarf.now dw_unit.now
+            (option_map (λ d. d.value) sections) ≡ Err e) }
     {
         self.view.decide(alloc, scope.file.dwarf, dw_unit, sections)
     }
@@ -99,6 +104,10 @@ impl<R: Reader> UnitEntries<R> {
             → (self.new ≡ self.old) × (result ≡ Ok tt) }
         ensures not_open { is_open scope.entry.file.dwarf.now dw_unit.now (first_answer_of self.old)
             ≡ false → result ≡ Ok tt }
+        ensures exact { answer_takes_memory R.shares (option_map (λ d. d.value) sections) ≡ false
+            → IfErr result (λ e. view_fault (verdict scope.entry.file.dwarf.now dw_unit.now
+            (decided_answer scope.entry.file.dwarf.now dw_unit.now (first_answer_of self.old)
+            (option_map (λ d. d.value) sections))) ≡ Err e) }
     {
         self.look(scope, dw_unit);
         if self.is_open() {

@@ -6,6 +6,7 @@ ghost use Rattle.std.specs.Option.{option_to_list};
 ghost use Rattle.gimli_read.specs.declared.error.Error.TheVariants.{OutOfMemory};
 ghost use Rattle.gimli_read.specs.Reading.{IsUnlessOom};
 ghost use Rattle.addr2line_lines.specs.SeenScope.{seen_scope};
+ghost use Rattle.addr2line_units.specs.AnswerMemory.{answer_takes_memory};
 ghost use Rattle.addr2line_units.specs.AfterUnits.{AfterForget, AfterListing, AfterLoad};
 ghost use Rattle.addr2line_units.specs.CachedEntries.{AreEntriesOf, StayEntries, first_answer_of};
 ghost use Rattle.addr2line_units.specs.CachedUnits.{HaveEntriesOf, StayAllEntries, answers_in, decided_at};
@@ -46,7 +47,8 @@ impl<R: Reader> Units<R> {
     ///
     /// Refused `UnknownToken` where there is no such unit; then nothing is changed. Refused by the
     /// fault of the view that the unit has then; the unit is decided all the same. May fail with
-    /// `OutOfMemory` instead, only of an open unit that is given sections.
+    /// `OutOfMemory` instead, only of an open unit that is given sections, and where bytes are shared
+    /// or the header of their first unit can be read.
     pub fn load_unit(
         &mut self,
         token: UnitToken,
@@ -55,6 +57,9 @@ impl<R: Reader> Units<R> {
         ensures gives { IsUnlessOom result (load_result self.old.scope.file.sections
             self.old.scope.file.units self.old.answers token.number
             (option_map (λ d. d.value) sections)) }
+        ensures exact { answer_takes_memory R.shares (option_map (λ d. d.value) sections) ≡ false
+            → result ≡ load_result self.old.scope.file.sections self.old.scope.file.units
+            self.old.answers token.number (option_map (λ d. d.value) sections) }
         ensures after { AfterLoad token.number (option_map (λ d. d.value) sections) result self.old
             self.new }
     {

@@ -7,6 +7,7 @@ ghost use Rattle.gimli.specs.Sections.{Sections};
 ghost use Rattle.gimli.specs.Unit.{UnitRecord};
 ghost use Rattle.addr2line_lines.specs.References.{IsScope};
 ghost use Rattle.addr2line_lines.specs.SeenScope.{seen_scope};
+ghost use Rattle.addr2line_units.specs.AnswerMemory.{answer_takes_memory};
 ghost use Rattle.addr2line_units.specs.CachedViews.{IsViewOf, answer_in, is_decided, parts_or_fault, seen_first_answer, seen_sections, split_file_by, split_file_in, split_unit, verdict_in, view_in, waits, was_looked_at};
 ghost use Rattle.addr2line_units.specs.Views.{answered_view, first_unit, first_unit_takes_memory, load_of_unit, split_name_of, verdict, view_scope};
 
@@ -152,7 +153,8 @@ fn read_split_unit<R: Reader>(
     main: &Unit<R>,
     sections: &Option<Rc<Dwarf<R>>>,
 ) -> Result<Option<Unit<R>>, Error>
-    ensures gives { ExactlyUnlessOomIf (is_some sections.now) (λ u. u) result
+    ensures gives { ExactlyUnlessOomIf (answer_takes_memory R.shares
+        (option_map (λ d. d.value) sections.now)) (λ u. u) result
         (split_unit main.now (option_map (λ d. d.value) sections.now)) }
 {
     let Some(dwarf) = sections else {
@@ -287,6 +289,9 @@ impl<R: Reader> UnitView<R> {
         ensures verdict { OnOk result (verdict dwarf.now dw_unit.now (seen_first_answer self.new)
             ≡ Some (answered_view dwarf.now dw_unit.now
             (option_map (λ d. d.value) sections))) }
+        ensures exact { answer_takes_memory R.shares (option_map (λ d. d.value) sections) ≡ false
+            → IfErr result (λ e. answered_view dwarf.now dw_unit.now
+            (option_map (λ d. d.value) sections) ≡ Err e) }
     {
         let unit = match read_split_unit(alloc, dw_unit, &sections) {
             Ok(unit) => Ok(unit),

@@ -31,3 +31,9 @@ returns-clause-no_sections g c =
     let s = c.self.inside in
     let n = c.args.unit.number in
     rw (sym c.self.view_is) (λ h. c.load_unit.ensures.after.none (rw h refl) ∙ sym (load_is s.ranges s.units c.self.invariant n None))
+
+pub returns-clause-exact : goal.returns-clause-exact
+returns-clause-exact g c =
+    let s = c.self.inside in
+    let given = option_map (λ x. x.value) c.args.sections in
+    rw (sym c.self.view_is) (λ takes. c.load_unit.ensures.exact takes ∙ sym (load_is s.ranges s.units c.self.invariant c.args.unit.number given))

@@ -1,7 +1,11 @@
-use Rattle.std.proofs.Common.{◌≡◌, ◌∙◌, option_map, refl, subst, sym, true, false, rules}
+use Rattle.std.proofs.Common.{◌≡◌, ◌∙◌, Result, ap, option_map, refl, subst, sym, true, false, rules}
 use Rattle.std.proofs.lemmas.Result.{err_from_is_err_and}
 use Rattle.addr2line_units.specs.CachedEntries.{StayEntries, first_answer_of}
-use Rattle.addr2line_units.specs.Views.{is_open}
+use Rattle.gimli_read.specs.Reading.{fault_of}
+use Rattle.gimli_read.specs.declared.error.Error.{Error}
+use Rattle.addr2line_units.specs.Loads.{view_fault}
+use Rattle.addr2line_units.specs.Views.{View, is_open, verdict}
+use Rattle.addr2line_units.proofs.ViewLemmas.{verdict_of_open, waiting_is_open}
 use Rattle.addr2line_units.proofs.AnswerLemmas.{decided_if_not, decided_if_open, decided_was_looked_at, never_waits, open_by_look}
 use Rattle.addr2line_units.proofs.EntryLemmas.{looked_decides}
 use Rattle.addr2line_units.proofs.OpenLemmas.{waits_only_open}
@@ -58,3 +62,16 @@ returns-else-is_open-clause-same g c h =
 pub returns-in_err-decide-clause-not_open : goal.returns-in_err-decide-clause-not_open
 returns-in_err-decide-clause-not_open g c h =
     absurd (waits_only_open c.args.scope.file.dwarf.now c.args.dw_unit.now c.args.self.now.view c.look.new.self.view c.look.ensures.right.view c.look.ensures.looked c.look.ensures.stay.answer (search rules) h)
+
+pub returns-in_err-decide-clause-exact : goal.returns-in_err-decide-clause-exact
+returns-in_err-decide-clause-exact g c =
+    let p = err_from_is_err_and c.from_residual.result c.from_residual.ensures.1 in
+    let d = c.args.scope.file.dwarf.now in
+    let u = c.args.dw_unit.now in
+    let s = c.args.self.now in
+    let n = c.look.new.self in
+    let given = option_map (λ x. x.value) c.args.sections in
+    let was : is_open d u (first_answer_of s) ≡ true = open_by_look d u s.view n.view true c.look.ensures.right.view c.look.ensures.looked c.look.ensures.stay.answer (search rules) in
+    let waiting = waiting_is_open d u n.view.state (search rules) c.look.ensures.right.view in
+    rw (p.1, p.2) (λ takes. ap (λ a. view_fault (verdict d u a)) (decided_if_open d u (first_answer_of s) given was) ∙ ap view_fault (verdict_of_open d u given waiting)
+    ∙ ap (λ (r : Result View Error). fault_of r) (c.in_err-decide.ensures.exact takes))

@@ -9,7 +9,7 @@ use Rattle.addr2line_units.specs.StoredUnits.{scope_of}
 use Rattle.addr2line_units.specs.Views.{is_open}
 use Rattle.addr2line_units.specs.CachedUnits.{answers_in}
 use Rattle.addr2line_units.proofs.LoadLemmas.{exactly_this, unknown_load}
-use Rattle.addr2line_units.proofs.NumberLemmas.{in_entries, load_told, loaded_there, none_loaded, refused_there, right_there, still_units}
+use Rattle.addr2line_units.proofs.NumberLemmas.{fault_told, in_entries, load_told, loaded_there, none_loaded, refused_there, right_there, still_units}
 use Rattle.addr2line_units.proofs.StateLemmas.{some_given}
 use Rattle.addr2line_units.proofs.units.Units.load_unit.Goals as goal
 
@@ -137,3 +137,46 @@ returns-clause-after g c =
     let fault = rw sections_is at c.check_view.ensures.gives in
     rw (sym c.self.view_is) (loaded_there (scope_of s.sources) s.units.items s.entries.items s.stop c.self.invariant n u there v at w (option_map (λ x. x.value) c.args.sections) _ (some_given _ c.args.sections) s.looks (seen_stop s.units.items s.entries.items s.stop)
     e.right (λ h. (e.same h).0) c.check_view.result e.answer fault)
+
+pub returns-in_default-clause-exact : goal.returns-in_default-clause-exact
+returns-in_default-clause-exact g c =
+    let s = c.self.inside in
+    let n = c.args.token.number in
+    let scope = c.scope-scope.result in
+    let units_is : scope.file.units.now ≡ s.sources.units.items = ap (λ (x : Scope). x.file.units) c.scope-scope.ensures.gives in
+    let none : slice_get s.sources.units.items n ≡ None = subst (λ xs. slice_get xs n ≡ None) units_is (slice_get_past scope.file.units.now n (ltb-false _ _ (sym c.in_default.ensures.lookup.0))) in
+    rw (sym c.self.view_is) (λ takes. sym (unknown_load s.sources.dwarf.value s.sources.units.items (answers_in s.entries.items) n (option_map (λ x. x.value) c.args.sections) none))
+
+pub returns-in_err-answer-clause-exact : goal.returns-in_err-answer-clause-exact
+returns-in_err-answer-clause-exact g c =
+    let s = c.self.inside in
+    let n = c.args.token.number in
+    let scope = c.scope-scope.result in
+    let units_is : scope.file.units.now ≡ s.sources.units.items = ap (λ (x : Scope). x.file.units) c.scope-scope.ensures.gives in
+    let p = err_from_is_err_and c.from_residual.result c.from_residual.ensures.1 in
+    let sections_is : scope.file.dwarf.now ≡ s.sources.dwarf.value = ap (λ (x : Scope). x.file.sections) c.scope-scope.ensures.gives in
+    let u = c.in-Some.dw_unit.now in
+    let there : slice_get s.sources.units.items n ≡ Some u = subst (λ xs. slice_get xs n ≡ Some u) units_is (slice_get_read scope.file.units.now _ n u refl (ltb-true _ _ (sym c.in-Some.ensures.lookup.0)) c.in-Some.ensures.lookup.1) in
+    let v = c.index_mut-entries.result.now in
+    let at = c.index_mut-entries.ensures.value in
+    let w = c.answer.new.self in
+    let given = option_map (λ x. x.value) c.args.sections in
+    let e = rw (c.scope-scope.ensures.gives, sections_is) at c.in_err-answer.ensures in
+    rw (p.1, p.2, sym c.self.view_is) (λ takes. fault_told (scope_of s.sources) s.units.items s.entries.items s.stop c.self.invariant n u there v at w given _ (sym (e.exact takes)))
+
+pub returns-clause-exact : goal.returns-clause-exact
+returns-clause-exact g c =
+    let s = c.self.inside in
+    let n = c.args.token.number in
+    let scope = c.scope-scope.result in
+    let units_is : scope.file.units.now ≡ s.sources.units.items = ap (λ (x : Scope). x.file.units) c.scope-scope.ensures.gives in
+    let sections_is : scope.file.dwarf.now ≡ s.sources.dwarf.value = ap (λ (x : Scope). x.file.sections) c.scope-scope.ensures.gives in
+    let u = c.in-Some.dw_unit.now in
+    let there : slice_get s.sources.units.items n ≡ Some u = subst (λ xs. slice_get xs n ≡ Some u) units_is (slice_get_read scope.file.units.now _ n u refl (ltb-true _ _ (sym c.in-Some.ensures.lookup.0)) c.in-Some.ensures.lookup.1) in
+    let v = c.index_mut-entries.result.now in
+    let at = c.index_mut-entries.ensures.value in
+    let w = c.answer.new.self in
+    let given = option_map (λ x. x.value) c.args.sections in
+    let e = rw (c.scope-scope.ensures.gives, sections_is) at c.in_ok-answer.ensures in
+    let fault = rw sections_is at c.check_view.ensures.gives in
+    rw (sym c.self.view_is) (λ takes. load_told (scope_of s.sources) s.units.items s.entries.items s.stop c.self.invariant n u there v at w given c.check_view.result e.answer fault)

@@ -10,7 +10,7 @@
  *   - A handle is used by one call at a time, and stays on the thread that opened it. Threads may each have
  *     handles of their own, also over the same bytes.
  *   - Each call writes only into what its arguments point to, which must not overlap one another. A pointer
- *     to a buffer, or to bytes, whose length is 0 is not read, and may be NULL; no other pointer may be.
+ *     to a buffer, or to bytes, whose length is 0 is not touched, and may be NULL; no other may be.
  *   - Addresses are as the file has them. For an address of a running program, take the address at which
  *     the file is loaded from it first; for one that a call returns to, take 1 too.
  *
@@ -60,7 +60,7 @@ typedef uint32_t addr2line_status;
 #define ADDR2LINE_RELOCATIONS_NEEDED 21u /* a section that is needed isn't linked yet */
 #define ADDR2LINE_PATH_NOT_UTF8 22u      /* of addr2line_file.h alone: the path of a split file */
 
-/* Refusals of DWARF bytes. */
+/* Refusals of DWARF bytes; addr2line_status_text says what each means. */
 #define ADDR2LINE_UNEXPECTED_EOF 32u
 #define ADDR2LINE_BAD_LEB128 33u
 #define ADDR2LINE_UNKNOWN_RESERVED_LENGTH 34u
@@ -164,8 +164,8 @@ addr2line_status addr2line_status_text(addr2line_status status, char *text, size
  * wrote), none where sup_size is 0. What the handle held is closed first; where the file is refused it
  * stays closed.
  *
- * Refused ADDR2LINE_NOT_ELF, then ADDR2LINE_BAD_ELF, then for the first of its debug sections by name
- * that is, then the same for the supplementary file, then by the first fault of a unit's header or
+ * Refused ADDR2LINE_NOT_ELF, then ADDR2LINE_BAD_ELF, then by the first debug section, in the order
+ * of names, that is compressed or not linked, then the same for the supplementary file, then by the first fault of a unit's header or
  * ranges. May be refused ADDR2LINE_OUT_OF_MEMORY instead. Line programs are read by the lookups that
  * need them, once.
  */
@@ -240,7 +240,7 @@ addr2line_status addr2line_preload(addr2line *handle, uint64_t address);
  * Reads the lines and functions of all units. Where it gives ADDR2LINE_OK, later lookups take no
  * memory, wait for no split file and have no fault, but those of more than 16 inlined functions and
  * those that demangle. Units that wait are answered none; so answer the loads that are wanted before.
- * Loads that were asked for are told as before: forget one before you answer it.
+ * Loads that were asked for before are still listed: forget one before you answer it.
  *
  * Lines are read up to the first unit whose lines are refused, and functions up to the first whose
  * functions are. The refusal of lines is told first.

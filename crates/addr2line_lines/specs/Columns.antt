@@ -1,5 +1,5 @@
 -- Rows in columns, as the private functions see them.
-use Rattle.std.specs.Prelude.{ℕ, ◌≡◌, ◌^◌, ◌||◌, Bool, true, false, nat_le, List, [], ◌∷◌, length}
+use Rattle.std.specs.Prelude.{ℕ, ◌≡◌, ◌⊎◌, ◌^◌, ◌&&◌, ◌||◌, not, Bool, true, false, nat_le, List, [], ◌∷◌, length}
 use Rattle.addr2line_lines.specs.declared.columns.FileIndexes.{FileIndexes}
 use Rattle.addr2line_lines.specs.declared.columns.FileIndexes.TheVariants.{Narrow, Wide}
 use Rattle.addr2line_lines.specs.declared.row.Row.{Row}
@@ -22,10 +22,13 @@ abbrev pub is_wide : FileIndexes → Bool
 is_wide (Narrow v) = false
 is_wide (Wide v) = true
 
--- the index doesn't fit where the indexes have 16 bits
-abbrev pub is_beyond : FileIndexes → ℕ → Bool
-is_beyond (Narrow v) n = needs_wide n
-is_beyond (Wide v) n = false
+-- whether an index doesn't fit among indexes that have 64 bits, or else 16
+abbrev pub is_beyond : Bool → ℕ → Bool
+is_beyond wide n = not wide && needs_wide n
+
+-- indexes have 64 bits as before, or as they need them for one more
+abbrev pub IsWidthFor : ℕ → Bool → Bool → Type 0
+IsWidthFor n old new = (new ≡ old) ⊎ (new ≡ (old || needs_wide n))
 
 -- the rows of columns, as far as each column goes
 abbrev pub rows_of_columns : List ℕ → List ℕ → List ℕ → List ℕ → List Row

@@ -1,7 +1,7 @@
 //! Rows in columns.
 
 ghost use Rattle.std.specs.Prelude.{◌≡◌, ◌||◌, ℕ, ◌+◌, ◌-◌, ◌<◌, true, false, [], ◌∷◌, ◌++◌, length, map, take, slice_get, slice_index, vec_len, IfOk, OnOk, OnErr, Some};
-ghost use Rattle.addr2line_lines.specs.Columns.{indexes_of, is_beyond, is_wide, needs_wide, none_stored, wide_after};
+ghost use Rattle.addr2line_lines.specs.Columns.{IsWidthFor, indexes_of, is_beyond, is_wide, needs_wide, none_stored, wide_after};
 ghost use Rattle.addr2line_lines.specs.Packed.{row_address_at};
 
 use crate::row::Row;
@@ -44,7 +44,7 @@ fn set_last<T: Copy>(column: &mut Vec<T>, last: usize, element: T)
 impl FileIndexes {
     // Whether an index doesn't fit.
     fn is_beyond(&self, index: u64) -> bool
-        ensures gives { result ≡ is_beyond self.now index }
+        ensures gives { result ≡ is_beyond (is_wide self.now) index }
     {
         match self {
             FileIndexes::Narrow(_) => index > GREATEST_NARROW,
@@ -65,9 +65,10 @@ impl FileIndexes {
     // Takes the indexes as wide ones.
     #[inline(never)]
     fn widen(&mut self, alloc: Global) -> Result<(), AllocError>
-        ensures fits { OnOk result ((index : ℕ) → is_beyond self.new index ≡ false) }
+        ensures fits { OnOk result ((index : ℕ) → is_beyond (is_wide self.new) index ≡ false) }
         ensures wide { OnOk result (is_wide self.new ≡ true) }
         ensures kept { indexes_of self.new ≡ indexes_of self.old }
+        ensures refused { OnErr result (is_wide self.new ≡ is_wide self.old) }
     {
         let wide = self.widened(alloc)?;
         *self = FileIndexes::Wide(wide);
@@ -77,9 +78,11 @@ impl FileIndexes {
     // Takes the indexes as wide ones, if this one doesn't fit.
     #[inline(always)]
     fn widen_for(&mut self, alloc: Global, index: u64) -> Result<(), AllocError>
-        ensures fits { OnOk result (is_beyond self.new index ≡ false) }
+        ensures fits { OnOk result (is_beyond (is_wide self.new) index ≡ false) }
         ensures wide { OnOk result (is_wide self.new ≡ (is_wide self.old || needs_wide index)) }
         ensures kept { indexes_of self.new ≡ indexes_of self.old }
+        ensures memory { OnErr result (is_beyond (is_wide self.old) index ≡ true) }
+        ensures refused { OnErr result (is_wide self.new ≡ is_wide self.old) }
     {
         if self.is_beyond(index) {
             return self.widen(alloc);
@@ -92,7 +95,8 @@ impl FileIndexes {
     fn push(&mut self, alloc: Global, index: u64) -> Result<(), AllocError>
         ensures gives { OnOk result (indexes_of self.new ≡ indexes_of self.old ++ index ∷ []) }
         ensures wide { OnOk result (is_wide self.new ≡ (is_wide self.old || needs_wide index)) }
-        ensures refused { OnErr result (indexes_of self.new ≡ indexes_of self.old) }
+        ensures refused { OnErr result ((indexes_of self.new ≡ indexes_of self.old)
+            × IsWidthFor index (is_wide self.old) (is_wide self.new)) }
     {
         self.widen_for(alloc, index)?;
         match self {
@@ -108,7 +112,9 @@ impl FileIndexes {
         ensures gives { OnOk result
             (indexes_of self.new ≡ take last (indexes_of self.old) ++ index ∷ []) }
         ensures wide { OnOk result (is_wide self.new ≡ (is_wide self.old || needs_wide index)) }
-        ensures refused { OnErr result (indexes_of self.new ≡ indexes_of self.old) }
+        ensures memory { OnErr result (is_beyond (is_wide self.old) index ≡ true) }
+        ensures refused { OnErr result ((indexes_of self.new ≡ indexes_of self.old)
+            × (is_wide self.new ≡ is_wide self.old)) }
     {
         self.widen_for(alloc, index)?;
         match self {
@@ -217,12 +223,14 @@ impl Columns {
         self.addresses[place]
     }
 
-    /// Adds a row. A refused growth keeps nothing of it.
+    /// Adds a row. A refused growth keeps nothing of it, but the indexes of files may have got 64
+    /// bits where it needs them.
     #[inline(always)]
     pub(crate) fn push(&mut self, alloc: Global, row: Row) -> Result<(), AllocError>
         ensures gives { OnOk result (self.new.rows ≡ self.old.rows ++ row ∷ []) }
         ensures wide { OnOk result (self.new.wide ≡ wide_after self.old.wide row) }
-        ensures refused { OnErr result (self.new.rows ≡ self.old.rows) }
+        ensures refused { OnErr result ((self.new.rows ≡ self.old.rows)
+            × IsWidthFor row.file_index self.old.wide self.new.wide) }
     {
         let len = self.addresses.len();
         self.file_indexes.push(alloc, row.file_index)?;
@@ -244,14 +252,16 @@ impl Columns {
         Ok(())
     }
 
-    /// Puts a row in the place of the last one. A refused growth changes nothing.
+    /// Puts a row in the place of the last one. Grows only where the indexes of files have 16 bits
+    /// and this one doesn't fit. A refused growth changes nothing.
     #[inline(always)]
     pub(crate) fn set_last(&mut self, alloc: Global, row: Row) -> Result<(), AllocError>
         requires some { 0 < length self.old.rows }
         ensures gives { OnOk result
             (self.new.rows ≡ take (length self.old.rows - 1) self.old.rows ++ row ∷ []) }
         ensures wide { OnOk result (self.new.wide ≡ wide_after self.old.wide row) }
-        ensures refused { OnErr result (self.new.rows ≡ self.old.rows) }
+        ensures memory { OnErr result (is_beyond self.old.wide row.file_index ≡ true) }
+        ensures refused { OnErr result (self.new ≡ self.old) }
     {
         let last = self.addresses.len() - 1;
         self.file_indexes.set_last(alloc, last, row.file_index)?;

@@ -1,6 +1,6 @@
 //! Sequences, from the rows of a line program.
 
-ghost use Rattle.std.specs.Prelude.{◌≡◌, ◌+◌, [], ◌∷◌, ◌++◌, drop, map, length, option_map, IfOk, IfSome, Ok, OnOk};
+ghost use Rattle.std.specs.Prelude.{◌≡◌, ◌+◌, [], ◌∷◌, ◌++◌, drop, map, length, option_map, true, IfOk, IfSome, Ok, OnErr, OnOk};
 ghost use Rattle.std.specs.List.{AllByRecursion};
 ghost use Rattle.gimli_read.specs.Topmost.{last};
 ghost use Rattle.gimli_read.specs.Reading.{ExactlyUnlessOom, result_map};
@@ -10,7 +10,7 @@ ghost use Rattle.addr2line_lines.specs.Sequences.{sequences_of};
 ghost use Rattle.gimli_line.specs.Rises.{NeverFalls};
 ghost use Rattle.addr2line_lines.specs.Packed.{IsAmong, RowsEndBy, packed_rows_in, unpacked};
 ghost use Rattle.addr2line_lines.specs.Building.{closed, built_ended, has_address, need_wide, nothing_stored, without_last};
-ghost use Rattle.addr2line_lines.specs.Columns.{wide_after};
+ghost use Rattle.addr2line_lines.specs.Columns.{is_beyond, wide_after};
 
 use crate::columns::Columns;
 use crate::row::{Row, stored_row};
@@ -113,13 +113,16 @@ impl Builder {
         Ok(())
     }
 
-    // Takes a row of the sequence that goes on: it replaces the last one, or follows it.
+    // Takes a row of the sequence that goes on: it replaces the last one, or follows it. To replace
+    // one grows only where the indexes of files have 16 bits and this one doesn't fit.
     #[inline(always)]
     fn put(&mut self, row: Row) -> Result<(), AllocError>
         ensures gives { OnOk result (self.new.built ≡ record self.old.built {
           pending = without_last row.address self.old.built.pending ++ row ∷ [];
         }) }
         ensures wide { OnOk result (self.new.wide ≡ wide_after self.old.wide row) }
+        ensures memory { OnErr result (has_address row.address (last self.old.built.pending) ≡ true
+            → is_beyond self.old.wide row.file_index ≡ true) }
     {
         if ends_at(&self.rows, self.first, row.address) {
             return self.rows.set_last(self.alloc, row);

@@ -103,13 +103,14 @@ impl<'a, R: Reader> EntriesRaw<'a, R> {
         self.depth
     }
 
-    // Reads the code of the next entry. After a refusal the reading may stand anywhere.
+    // Reads the code of the next entry. After a refusal the bytes that are left aren't said.
     #[inline(always)]
     #[tactic(auto, unfolding(crate::specs::EntryCursor::entry_abbreviation_at, crate::specs::Entry::entry_code_at), using(crate::proofs::EntryLemmas::code_takes, crate::proofs::EntryLemmas::entry_in_unit, crate::proofs::EntryLemmas::closing_in_unit, crate::proofs::EntryLemmas::still_in_unit, crate::proofs::EntryLemmas::next_fits))]
     fn read_code(&mut self) -> Result<Option<&'a Abbreviation>, Error>
         ensures gives { Exactly (λ a. (option_map (λ r. r.now) a, self.new.cursor)) result
             (entry_abbreviation_at self.old.unit.abbreviations self.old.cursor) }
         ensures unit { self.new.unit ≡ self.old.unit }
+        ensures depth { OnErr result (self.new.cursor.depth ≡ self.old.cursor.depth) }
     {
         let code = self.input.read_uleb128()?;
         if code == CLOSING_CODE {
@@ -128,7 +129,8 @@ impl<'a, R: Reader> EntriesRaw<'a, R> {
     /// Reads the code of the next entry: its abbreviation, or none of a closing entry.
     ///
     /// Refused `UnexpectedEof` and `BadLeb128` for the code, and `UnknownAbbreviation` where the
-    /// unit's table hasn't it. After a refusal nothing is left to read. Takes no memory.
+    /// unit's table hasn't it. After a refusal nothing is left to read, at the same depth. Takes no
+    /// memory.
     /// Source: DWARF 5, section 7.5.2.
     #[inline(always)]
     #[tactic(auto, using(crate::proofs::EntryLemmas::still_in_unit))]
@@ -137,6 +139,7 @@ impl<'a, R: Reader> EntriesRaw<'a, R> {
             (entry_abbreviation_at self.old.unit.abbreviations self.old.cursor) }
         ensures refused { OnErr result (self.new.cursor.left.bytes ≡ []) }
         ensures unit { self.new.unit ≡ self.old.unit }
+        ensures depth { OnErr result (self.new.cursor.depth ≡ self.old.cursor.depth) }
     {
         match self.read_code() {
             Ok(abbreviation) => Ok(abbreviation),

@@ -1,6 +1,7 @@
 -- The details of a function: its name, and the inlined entries inside it (DWARF 5, section 3.3.8).
--- Own: the depth of an inlined entry is the number of inlined entries around it. Nested subprograms
--- are skipped whole. An entry without ranges counts for the depth of those inside it alone.
+-- Own: the depth of an inlined entry is how many inlined entries of the function are open where it
+-- begins, also of those without a range, which aren't listed. None inside a nested subprogram is
+-- listed; its entries are read all the same, and one that can't be read is a fault.
 use Rattle.std.specs.Prelude.{ℕ, ◌==◌, ◌||◌, ◌&&◌, Bool, false, List, [], ◌∷◌, ◌++◌, count_by, Option, Some, None, Result, Ok, Err, is_ok, if◌then◌else◌}
 use Rattle.gimli_read.specs.declared.error.Error.{Error}
 use Rattle.gimli_read.specs.declared.error.Error.TheVariants.{NoEntryAtGivenOffset}
@@ -21,7 +22,8 @@ pub record Detail : Type 0 where
   pub name : Option Section
   pub inlined : List InlinedRange
 
--- an item, and the entries that are open around it
+-- an item inside a function, and the entries inside the function that are open where it begins, the
+-- innermost first
 pub record PlacedItem : Type 0 where
   pub item : Item
   pub around : List Abbrev

@@ -2,7 +2,8 @@
 -- that of the supplementary file).
 -- Own: a section offset leads to the unit among whose entries it lies. In a split file none does,
 -- and in the supplementary file those of this file. Without a supplementary file, and from it on, a
--- reference to one leads nowhere; so does a value that is no reference.
+-- reference to one leads nowhere. Nor does one by the signature of a type (DW_FORM_ref_sig8) lead
+-- anywhere, nor a value that is no reference.
 use Rattle.std.specs.Prelude.{ℕ, ◌+◌, ◌≤◌, List, [], ◌∷◌, Option, Some, None, Result, Ok, Err}
 use Rattle.std.specs.List.{All}
 use Rattle.gimli_read.specs.declared.error.Error.{Error}
@@ -54,7 +55,7 @@ abbrev pub entry_in_sup : Option FileRecord → ℕ → Result (Option EntryPlac
 entry_in_sup None offset = Ok None
 entry_in_sup (Some file) offset = entry_in (sup_scope file) offset
 
--- the entry that a value of an attribute refers to, if it is a reference
+-- the entry that a value of an attribute refers to by an offset; none of another value
 abbrev pub referred : Scope → UnitRecord → AttributeValue Section
     → Result (Option EntryPlace) Error
 referred scope u (values.UnitRef offset) =

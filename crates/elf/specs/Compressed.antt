@@ -1,9 +1,11 @@
 -- Sections whose bytes are compressed (System V ABI, Object Files: Section Compression; the form
 -- that GNU's tools had before it, in sections named .zdebug_).
--- Own: damage is BadElf: a header that isn't whole, a stream that isn't one, and one that inflates
--- to another size than its header tells. Another compression than zlib's is CompressedSection.
--- Own: a section named .zdebug_ is read in the older form, whatever its flag says. What a header says
--- of alignment, and its reserved number, aren't looked at.
+-- Own: refused, in this order, are a section outside the file or whose header isn't whole (BadElf),
+-- another compression than zlib's (CompressedSection), a section that still needs relocations
+-- (RelocationsNeeded), and a stream that isn't one or inflates to another size than its header
+-- tells (BadElf).
+-- Own: a section named .zdebug_ is read in the older form, whatever its flag says; one that is
+-- NOBITS has no header. What a header says of alignment, and its reserved number, aren't looked at.
 use Rattle.std.specs.Prelude.{ℕ, ◌*◌, ◌==◌, ◌||◌, not, List, Option, Ok, Err, if◌then◌else◌, drop, length, nat_eq, nat_lt, codes, option_map, option_and_then}
 use Rattle.std.specs.List.{position, slice_get, starts_with}
 use Rattle.std.specs.Option.{option_map_or}

@@ -139,15 +139,18 @@ impl ElfFile {
 
     /// The bytes of the first section of a name, decompressed where zlib compressed them: behind a
     /// compression header, or in a section with `.zdebug_` for `.debug_` where there is none of the
-    /// name. All else is as `section` has it. Takes memory for what they inflate to, where the
-    /// stream takes any, and else where `section` does.
+    /// name; such a one has no stream where it is NOBITS. All else is as `section` has it. Takes
+    /// memory for what they inflate to, where the stream takes any, and else where `section` does.
     ///
-    /// | Refusal | When |
+    /// | Refusal, in this order | When |
     /// |---|---|
-    /// | `BadElf` | it isn't wholly within the file; its header or its stream is damaged, or its size |
+    /// | `BadElf` | it isn't wholly within the file, or no whole header stands before its stream |
     /// | `CompressedSection` | it is compressed, and not by zlib |
     /// | `RelocationsNeeded` | a relocatable file has a nonempty REL or RELA section for it |
-    /// | `OutOfMemory` | a growth was refused; its stream takes memory, or a part of the file does |
+    /// | `BadElf` | its stream is damaged, or inflates to another size than the header tells |
+    /// | `OutOfMemory` | a growth was refused; the stream, or a part of the file, takes memory |
+    ///
+    /// A growth may be refused before the damage of a stream is met.
     #[tactic(auto, unfolding(crate::specs::Compressed::decompressed_at, crate::specs::DecompressionMemory::decompression_takes_memory))]
     pub fn decompressed_section(
         &self,

@@ -13,7 +13,8 @@ use Rattle.gimli.specs.Header.{UnitHeaderFields}
 use Rattle.gimli.specs.Items.{Item, depth_after, item_at, items_from, offset_of}
 use Rattle.gimli.specs.Unit.{UnitRecord}
 
--- the bytes that are left of a unit's entries, and how many entries are open around the next one
+-- the bytes that are left of a unit's entries, and the depth of the next item: how many entries
+-- with children were read since the reading began, less the closing entries
 pub record EntryCursor : Type 0 where
   pub left : Section
   pub depth : ℤ
@@ -23,7 +24,7 @@ pub record EntriesLeft : Type 0 where
   pub unit : EntryUnit
   pub cursor : EntryCursor
 
--- each level of depth took a byte of the unit, which has fewer than 2 ^ 63
+-- each step of depth, up or down, took a byte of the unit, which has fewer than 2 ^ 63
 abbrev pub IsInUnit : ℕ → Section → ℤ → Type 0
 IsInUnit unit_length left depth =
     (unsigned_abs depth + length left.bytes ≤ unit_length) × (unit_length < 2 ^ 63)

@@ -63,13 +63,14 @@ items_after following (Err e) = record { items = []; end = Err e }
 items_after following (Ok (None, rest)) = record { items = []; end = Ok rest }
 items_after following (Ok (Some x, rest)) = cons x (following (depth_after x) rest)
 
--- at most n items
+-- the items from here on, if they are fewer than n; else the first n of them, and UnexpectedEof for
+-- their end
 unfoldable pub items_within : EntryUnit → ℕ → ℤ → Section → Run Item Section
 items_within unit zero depth s = record { items = []; end = Err UnexpectedEof }
 items_within unit (suc n) depth s = items_after (items_within unit n) (item_at unit depth s)
 
 -- the items from here on, of which the first lies at a depth, up to the unit's end or the first
--- fault
+-- fault; each has a byte at least, so they are fewer than the bytes and one
 abbrev pub items_from : EntryUnit → ℤ → Section → Run Item Section
 items_from unit depth s = items_within unit (length s.bytes + 1) depth s
 

@@ -1,4 +1,4 @@
-//! The sum of a stream's output (RFC 1950, section 8.2).
+//! The sum of a stream's output (RFC 1950, section 2.2).
 
 ghost use Rattle.std.specs.Prelude.{◌≡◌};
 ghost use Rattle.inflate.specs.Stream.{adler32_of};

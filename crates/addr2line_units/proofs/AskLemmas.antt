@@ -19,12 +19,12 @@ use Rattle.addr2line_units.specs.declared.unit.ResUnit.{ResUnit}
 use Rattle.addr2line_units.specs.declared.unit_frames.UnitEntries.{UnitEntries}
 use Rattle.addr2line_units.specs.declared.unit_frames.UnitFrames.{UnitFrames}
 use Rattle.addr2line_units.specs.AskedUnits.{AfterAsk, found_stop, stop_at}
-use Rattle.addr2line_units.specs.AskMemory.{functions_in_take_memory, lines_take_memory}
+use Rattle.addr2line_units.specs.AskMemory.{functions_in_take_memory, lines_of_take_memory, lines_take_memory}
 use Rattle.addr2line_units.specs.CachedEntries.{AreEntriesOf, AreFramesIn, AsksNoMemoryIn, ReadsEntriesOf, StayEntries, first_answer_of, frames_of_place, has_entries}
 use Rattle.addr2line_units.specs.CachedFrames.{AreFoundAt, IsLendable, IsStopIn, found_after_fault, frames_found_at, has_frames_at, seen_stop, stop_of_found}
 use Rattle.addr2line_units.specs.CachedLines.{AreLinesOf, StaysUnit, StayUnits, indexed_unit, indexed_units, is_uncached, parsed_units}
 use Rattle.addr2line_units.specs.CachedUnits.{StayAllEntries, answers_in, has_entries_at}
-use Rattle.addr2line_units.specs.FramesLookup.{FindsNothing, Stop, after_fault, asked_frames, asks_lines_of, ends_lookup, functions_of_take_memory, has_many_of, holds_along, lines_of_take_memory, or_stop, stop_along}
+use Rattle.addr2line_units.specs.FramesLookup.{FindsNothing, Stop, after_fault, asked_frames, asks_lines_of, ends_lookup, functions_of_take_memory, has_many_of, holds_along, or_stop, stop_along}
 use Rattle.addr2line_units.specs.Parsed.{has_parsed}
 use Rattle.addr2line_units.specs.RangedUnits.{IndexedUnit}
 use Rattle.addr2line_units.specs.StoredUnits.{AreUnits, seen_units}

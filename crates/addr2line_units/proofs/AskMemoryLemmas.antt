@@ -1,7 +1,8 @@
 -- What is read without memory (on specs/AskMemory.antt).
-use Rattle.std.proofs.Common.{◌≡◌, ◌∙◌, ◌++◌, ℕ, ap, sym, refl, ◌||◌, not, is_some, Bool, true, false, List, [], ◌∷◌, Option, Some, None, Result, Ok, Err}
+use Rattle.std.proofs.Common.{◌≡◌, ◌≢◌, ◌∙◌, ◌++◌, ℕ, ap, sym, refl, ◌||◌, not, is_some, Bool, true, false, List, [], ◌∷◌, Option, Some, None, Result, Ok, Err}
 use Rattle.std.specs.Prelude.{IfErr, IfSome}
 use Rattle.gimli_read.specs.declared.error.Error.{Error}
+use Rattle.gimli_read.specs.declared.error.Error.TheVariants.{OutOfMemory}
 use Rattle.gimli_read.specs.Reading.{◌>>=◌, ExactlyUnlessOomIf}
 use Rattle.gimli_line.specs.declared.row.LineRow.{LineRow}
 use Rattle.gimli_line.specs.Header.{File, Program, header_copy_takes_memory}
@@ -74,3 +75,9 @@ find_takes_none shares scope view probe (lazy.Read t) right none = by_test (tabl
     by_test true e = let no : false ≡ true = sym none ∙ place_takes shares scope view t right probe e in absurd cc
     by_test false e = e
 find_takes_none shares scope view probe (lazy.Faulty e) right none = refl
+
+-- where lines are parsed, or take no memory, a refusal is what is given
+pub alone_if_none : {X : Type 0} (parsed takes : Bool) (e : Error) (given : Result X Error) → (parsed || not takes) ≡ true → (parsed ≡ true → e ≢ OutOfMemory) → (e ≢ OutOfMemory → given ≡ Err e) → (takes ≡ false → given ≡ Err e) → given ≡ Err e
+alone_if_none true takes e given none known gives alone = gives (known refl)
+alone_if_none false true e given none known gives alone = cc
+alone_if_none false false e given none known gives alone = alone refl

@@ -14,9 +14,9 @@ use Rattle.addr2line_units.specs.declared.unit.ResUnit.{ResUnit}
 use Rattle.addr2line_units.specs.declared.unit_frames.UnitEntries.{UnitEntries}
 use Rattle.addr2line_units.specs.declared.unit_frames.UnitFrames.{UnitFrames}
 use Rattle.addr2line_units.specs.declared.unit_frames.UnitFrames.TheVariants as found
-use Rattle.addr2line_units.specs.AskMemory.{functions_in_take_memory, lines_take_memory}
+use Rattle.addr2line_units.specs.AskMemory.{any_lines_take_memory, functions_in_take_memory, lines_of_take_memory, lines_take_memory}
 use Rattle.addr2line_units.specs.CachedLines.{HaveLinesOf, indexed_unit, indexed_units, is_uncached, parsed_units}
-use Rattle.addr2line_units.specs.FramesLookup.{asks_lines_of, frames_of_number, functions_of_take_memory, has_many_of, lines_of_take_memory}
+use Rattle.addr2line_units.specs.FramesLookup.{asks_lines_of, frames_of_number, functions_of_take_memory, has_many_of}
 use Rattle.addr2line_units.specs.CachedEntries.{AreFramesIn, AsksNoMemoryIn, frames_of_place, has_entries, first_answer_of}
 use Rattle.addr2line_units.specs.CachedFrames.{AreFoundAt, frames_found_at, functions_at, has_frames_at, language_at}
 use Rattle.addr2line_units.specs.CachedUnits.{HaveEntriesOf, answers_in, has_entries_at}
@@ -81,7 +81,7 @@ module _ {R : Type 0} (scope : Scope) (probe : ℕ) (us : List UnitRecord) (rs :
     functions_take shares = rw (unit_is, functions_of_take_memory, answer_is) refl
 
     pub lines_take : (shares : Bool) → lines_of_take_memory shares (indexed_units us rs) n ≡ lines_take_memory shares u
-    lines_take shares = rw (unit_is, lines_of_take_memory) refl
+    lines_take shares = ap (any_lines_take_memory shares) unit_is
 
     found_at : (f : UnitFrames) → frames_of_place s w f ≡ frames_found_at (set rs n s) (set vs n w) n f
     found_at found.Open = refl

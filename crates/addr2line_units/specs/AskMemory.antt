@@ -2,7 +2,7 @@
 -- 6.2): its lines, and the functions in its view.
 -- Own: unless readers share their bytes none is taken for lines whose program has a fault before its
 -- first row, nor for functions where a view has none.
-use Rattle.std.specs.Prelude.{◌||◌, not, Bool, true, false, List, [], ◌∷◌, Option, Some, None, Result, Ok, Err}
+use Rattle.std.specs.Prelude.{ℕ, ◌||◌, not, Bool, true, false, List, [], ◌∷◌, slice_get, Option, Some, None, Result, Ok, Err}
 use Rattle.gimli_read.specs.declared.error.Error.{Error}
 use Rattle.gimli_line.specs.declared.row.LineRow.{LineRow}
 use Rattle.gimli_line.specs.Header.{File, Program, header_copy_takes_memory}
@@ -11,6 +11,7 @@ use Rattle.gimli.specs.Sections.{Sections}
 use Rattle.gimli.specs.Unit.{UnitRecord}
 use Rattle.addr2line_lines.specs.Functions.{functions_take_memory}
 use Rattle.addr2line_lines.specs.References.{Scope}
+use Rattle.addr2line_units.specs.RangedUnits.{IndexedUnit}
 use Rattle.addr2line_units.specs.Views.{View, verdict, view_scope}
 
 -- whether a fault stands before any row, and before any file that a program defines
@@ -31,6 +32,15 @@ any_program_takes_memory shares (Some p) = program_takes_memory shares p
 -- whether memory may be taken for the lines of a unit
 unfoldable pub lines_take_memory : Bool → UnitRecord → Bool
 lines_take_memory shares u = any_program_takes_memory shares u.line_program
+
+-- the same, if there is a unit
+abbrev pub any_lines_take_memory : Bool → Option IndexedUnit → Bool
+any_lines_take_memory shares None = false
+any_lines_take_memory shares (Some u) = lines_take_memory shares u.unit
+
+-- the same of the unit of a number
+abbrev pub lines_of_take_memory : Bool → List IndexedUnit → ℕ → Bool
+lines_of_take_memory shares units n = any_lines_take_memory shares (slice_get units n)
 
 -- whether memory may be taken for the functions of a view: none are read where there is no view, or
 -- where it has a fault

@@ -10,7 +10,7 @@ use Rattle.addr2line_lines.specs.References.{Scope}
 use Rattle.addr2line_units.specs.declared.index.UnitRange.{UnitRange}
 use Rattle.addr2line_units.specs.declared.frames_lookup.Faults.{Faults}
 use Rattle.addr2line_units.specs.declared.frames_lookup.Faults.TheVariants.{End, PassOver}
-use Rattle.addr2line_units.specs.AskMemory.{functions_in_take_memory, lines_take_memory}
+use Rattle.addr2line_units.specs.AskMemory.{functions_in_take_memory}
 use Rattle.addr2line_units.specs.Cover.{ComesTo, holds_until}
 use Rattle.addr2line_units.specs.Frames.{FrameRecord}
 use Rattle.addr2line_units.specs.UnitFrames.{FramesResult, asks_lines_in, frames_in, has_many}
@@ -124,11 +124,6 @@ functions_of_take_memory shares scope units answers n = elim (slice_get units n)
   | None ↦ false
   | Some u ↦ functions_in_take_memory shares scope u.unit (answer_of answers n)
 ]
-
--- the same of its lines
-abbrev pub lines_of_take_memory : Bool → List IndexedUnit → ℕ → Bool
-lines_of_take_memory shares units n = elim (slice_get units n)
-    [ None ↦ false | Some u ↦ lines_take_memory shares u.unit ]
 
 -- the first answers with one to the load of the unit of a number, which counts where it is open
 abbrev pub with_answer : Sections → List UnitRecord → FirstAnswers → ℕ

@@ -12,7 +12,8 @@ use Rattle.addr2line_lines.specs.References.{Scope}
 use Rattle.addr2line_units.specs.declared.frames_lookup.Faults.{Faults}
 use Rattle.addr2line_units.specs.declared.index.UnitRange.{UnitRange}
 use Rattle.addr2line_units.specs.declared.unit_row.UnitRow.{UnitRow}
-use Rattle.addr2line_units.specs.FramesLookup.{FindsNothing, Stop, Waits, asked_frames, asks_lines_of, frames_of_number, functions_of_take_memory, has_many_of, lines_of_take_memory, main_scope, stop_along}
+use Rattle.addr2line_units.specs.AskMemory.{lines_of_take_memory}
+use Rattle.addr2line_units.specs.FramesLookup.{FindsNothing, Stop, Waits, asked_frames, asks_lines_of, frames_of_number, functions_of_take_memory, has_many_of, main_scope, stop_along}
 use Rattle.addr2line_units.specs.KnownEntries.{KnownEntries, NothingKnown, knows_at}
 use Rattle.addr2line_units.specs.Located.{lines_of_unit}
 use Rattle.addr2line_units.specs.Parsed.{has_parsed}

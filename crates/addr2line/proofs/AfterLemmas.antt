@@ -80,8 +80,8 @@ module _ (faults : Faults) (probe : ℕ) (old mid : ContextState) (walked : Resu
     pub frames_over : {L X D S : Type 0} (shares : Bool) → (NeedsNoMemory shares faults mid probe → IfErr walked (IsFaultOfAsked faults old.sections old.answers probe)) → (new : ContextState) (result : LookupResult L (Result X Error) D S) → IfOutput result (λ o. (new ≡ mid) × IsLent walked mid.stop o)
         → IfOutput result (λ o. AfterFramesOver shares faults probe o old new)
     frames_over shares alone new (Load c) h = tt
-    frames_over {L} {X} {D} {S} shares alone new (Output o) h = record {
-      after = frames_after {L} {X} {D} {S} new (Output o) h;
+    frames_over {L = L} {X = X} {D = D} {S = S} shares alone new (Output o) h = record {
+      after = frames_after {L = L} {X = X} {D = D} {S = S} new (Output o) h;
       no_memory = λ none ended. lent_alone walked (IsFaultOfAsked faults old.sections old.answers probe) o (alone (subst (λ n. NeedsNoMemory shares faults n probe) h.0 none))
           (h.1.refused (stop_ended walked mid.stop (lookup_stop faults mid.sections mid.answers probe) stored (ap is_waiting same_lookup ∙ ended)));
     }

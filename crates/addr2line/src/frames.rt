@@ -243,8 +243,10 @@ impl<R: Reader> Context<R> {
     ///
     /// Refused by the first fault of the view, the functions, the detail or the lines of a unit
     /// that it asks; may fail with `OutOfMemory` instead, which is never cached. An output takes no
-    /// memory where all that it asks for is cached and at most 16 inlined functions stand there.
-    /// Where no unit covers `probe`, as at 2^64 - 1, it waits for nothing and takes no memory.
+    /// memory where all that it asks for is cached, or takes none to read, and at most 16 inlined
+    /// functions stand there. Unless readers share their bytes, functions take none where a view
+    /// has none, nor do lines whose program has a fault before its first row. Where no unit covers
+    /// `probe`, as at 2^64 - 1, it waits for nothing and takes no memory.
     ///
     /// Source: DWARF 5, sections 2.17, 3.3, 3.1.2 and 7.3.2. Own: which unit counts, and what a
     /// lookup waits for.

@@ -42,8 +42,8 @@ pub record AfterAnswer (n : ℕ) (given : Option Sections) (result : Result (Uni
       × StaysKnown old.known new.known × (is_some given ≡ true))
   pub others : (k : ℕ) → k ≢ n → slice_get new.known k ≡ slice_get old.known k
 
--- after an answer with which a lookup went on, or after OutOfMemory in the answer's place; that is
--- refused only where the answer takes memory
+-- after an answer with which a lookup went on, or after OutOfMemory in the answer's place, which is
+-- its fault where the answer takes no memory
 abbrev pub AfterResume : {X : Type 0} → Bool → Faults → ℕ → ℕ → Option Sections → Result X Error
     → ContextState → ContextState → Type 0
 AfterResume shares faults probe n given result old new =

@@ -112,8 +112,8 @@ pub record AfterLookup {X : Type 0} (probe : ℕ) (result : Result (Option X) Er
   pub counted : is_found result ≡ true → old.looks < new.looks
   pub cost : LooksWithin probe old new
 
--- the same over readers that share their bytes or don't: where the lookup takes no memory, a refusal
--- is the fault of lines
+-- the same over readers that share their bytes or don't: where the lookup takes no memory, a
+-- refusal is the fault of lines
 pub record AfterLookupOver {X : Type 0} (shares : Bool) (probe : ℕ)
     (result : Result (Option X) Error) (old new : ContextState) : Type 0 where
   pub after : AfterLookup probe result old new

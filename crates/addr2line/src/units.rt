@@ -249,9 +249,9 @@ impl<R: Reader> Context<R> {
     /// read of units that it doesn't ask.
     ///
     /// Refused `OutOfMemory` alone, which is never cached. An output takes no memory where all that
-    /// it asks for is cached, or takes none to read, as `find_frames` has it, and at most 16 inlined
-    /// functions stand there. Where no unit covers `probe`, as at 2^64 - 1, it waits for nothing and
-    /// takes no memory.
+    /// it asks for is cached, or takes none to read, as `find_frames` has it, and at most 16
+    /// inlined functions stand there. Where no unit covers `probe`, as at 2^64 - 1, it waits for
+    /// nothing and takes no memory.
     ///
     /// Source: DWARF 5, sections 2.17, 3.3, 3.1.2 and 7.3.2. Own: which unit counts, and what a
     /// lookup waits for.

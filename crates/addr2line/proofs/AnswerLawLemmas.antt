@@ -1,5 +1,5 @@
 -- Answers to loads, whatever calls come after them (on specs/AnswerLaws.antt).
-use Rattle.std.proofs.Common.{◌≡◌, ◌≢◌, ◌⊎◌, inl, inr, ℕ, zero, suc, ◌++◌, ◌==◌, Bool, true, false, List, [], ◌∷◌, length, map, slice_get, Option, Some, None, Result, Ok, Err, refl, sym, ap, subst, ◌∙◌}
+use Rattle.std.proofs.Common.{◌≡◌, ◌≢◌, ◌⊎◌, inl, inr, ℕ, zero, suc, ◌++◌, ◌==◌, Bool, true, false, List, [], ◌∷◌, length, slice_get, Option, Some, None, Result, Ok, Err, refl, sym, ap, subst, ◌∙◌}
 use Rattle.std.proofs.Math.ListN.{set}
 use Rattle.std.proofs.lemmas.List.{length-map, length-set}
 use Rattle.std.proofs.lemmas.Bool.Decides.{eqb_tells}
@@ -29,7 +29,7 @@ use Rattle.addr2line_units.proofs.LoadLawLemmas.{answered_load, listed_there, lo
 use Rattle.addr2line.specs.Answers.{answered}
 use Rattle.addr2line.specs.History.{Given, Answered, Abandoned, HistoryCall, AsksLocation, AsksRange, AsksFrames, AsksUnit, AsksLoads, AnswersLoad, Forgets, ParsesLines, ParsesFunctions, answers_after, answers_given, answers_left, where_waiting}
 use Rattle.addr2line.specs.Loads.{parsed_answers}
-use Rattle.addr2line.specs.Lookups.{loads_at, lookup_stop, stop_in}
+use Rattle.addr2line.specs.Lookups.{lookup_stop, stop_in}
 use Rattle.addr2line.specs.AnswerLaws.{FirstAnswersStay, ForgetsNone, IsAnsweredBy, WaitsForNoneAnswered, answering}
 use Rattle.addr2line.proofs.HistoryLawLemmas.{answers_are, as_many, loads_are}
 

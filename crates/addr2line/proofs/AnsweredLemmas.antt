@@ -1,6 +1,6 @@
 -- What an answer to the load of a unit makes of a context, and of a lookup that waits for it (on
 -- specs/Answers.antt and specs/Lookups.antt).
-use Rattle.std.proofs.Common.{◌≡◌, ℕ, ◌<◌, [], length, List, Option, Result, Ok, Err, refl, sym, ap, subst, ◌∙◌, true}
+use Rattle.std.proofs.Common.{◌≡◌, ℕ, ◌<◌, [], length, List, Option, Result, Ok, Err, sym, ap, subst, ◌∙◌, true}
 use Rattle.std.proofs.lemmas.Bool.{eqb-true}
 use Rattle.std.specs.Prelude.{IfErr, OnOk}
 use Rattle.gimli_read.specs.declared.error.Error.{Error}
@@ -15,7 +15,7 @@ use Rattle.addr2line_units.specs.FramesLookup.{Stop, Waits, Finds, FindsNothing,
 use Rattle.addr2line_units.specs.LoadLaws.{IsListed}
 use Rattle.addr2line_units.specs.Loads.{load_result}
 use Rattle.addr2line_units.specs.LoadLaws as laws
-use Rattle.addr2line_units.specs.UnitIndex.{UnitIndex, index_units}
+use Rattle.addr2line_units.specs.UnitIndex.{UnitIndex}
 use Rattle.addr2line_units.specs.UnitsState.{UnitsState}
 use Rattle.addr2line_units.specs.Views.{FirstAnswers}
 use Rattle.addr2line_units.proofs.LoadLawLemmas.{fewer_left, waits_listed}

@@ -11,7 +11,6 @@ use Rattle.addr2line_lines.specs.References.{Scope}
 use Rattle.addr2line_units.specs.declared.frames_lookup.Faults.TheVariants.{End}
 use Rattle.addr2line_units.specs.declared.index.UnitRange.{UnitRange}
 use Rattle.addr2line_units.specs.Cover.{cover}
-use Rattle.addr2line_units.specs.Frames.{FrameRecord}
 use Rattle.addr2line_units.specs.FramesLookup.{LookupAsks, Stop, Waits, answer_of, asked_frames, asks_lines_of, ends_lookup, main_scope, or_stop, stop_along, with_answer}
 use Rattle.addr2line_units.specs.KnownEntries.{KnownEntries}
 use Rattle.addr2line_units.specs.Parsed.{ParsesOnly, has_parsed}

@@ -15,14 +15,14 @@ use Rattle.addr2line_units.specs.declared.frames_lookup.Faults.TheVariants.{End,
 use Rattle.addr2line_units.specs.declared.index.UnitRange.{UnitRange}
 use Rattle.gimli.specs.Sections.{Sections}
 use Rattle.addr2line_units.specs.Cover.{cover}
-use Rattle.addr2line_units.specs.Frames.{FoundFunction, FrameRecord, found_frames, frames_from, location_frames}
-use Rattle.addr2line_units.specs.FramesLookup.{Stop, Waits, Finds, FindsNothing, after_fault, answer_of, asked_frames, frames_of_number, main_scope, or_stop, stop_along}
+use Rattle.addr2line_units.specs.Frames.{FoundFunction, FrameRecord, found_frames, frames_from}
+use Rattle.addr2line_units.specs.FramesLookup.{Stop, Waits, Finds, FindsNothing, after_fault, answer_of, frames_of_number, main_scope, or_stop, stop_along}
 use Rattle.addr2line_units.specs.RangedUnits.{IndexedUnit}
 use Rattle.addr2line_units.specs.UnitFrames.{FramesResult, frames_by, frames_in, function_in}
-use Rattle.addr2line_units.specs.UnitIndex.{UnitIndex, index_units}
+use Rattle.addr2line_units.specs.UnitIndex.{UnitIndex}
 use Rattle.addr2line_units.specs.Views.{FirstAnswers, is_open}
 use Rattle.addr2line.specs.FrameLaws.{HasFrameOfEach, frame_count, function_of_number}
-use Rattle.addr2line.specs.Lookups.{lookup_stop, stop_in}
+use Rattle.addr2line.specs.Lookups.{stop_in}
 
 -- one frame more than there are inlined functions
 one_more : (files : List (List ℕ)) (language : Option DwLang) (offset : ℕ) (name : Option Section) (entries : List InlinedEntry) (location : Option Location) → length (frames_from files language offset name entries location) ≡ suc (length entries)

@@ -3,7 +3,6 @@ use Rattle.std.proofs.Common.{◌≡◌, ◌⊎◌, inl, inr, ℕ, false, true, 
 use Rattle.std.proofs.lemmas.List.{length-map}
 use Rattle.std.specs.Prelude.{IfOk, IsOk, IsOkAnd, OnOk}
 use Rattle.gimli_read.specs.declared.error.Error.{Error}
-use Rattle.gimli_read.specs.Alike.{HadMemory}
 use Rattle.gimli_read.specs.Reading.{◌>>=◌, ExactlyUnlessOom, fault_of}
 use Rattle.gimli.specs.Sections.{Sections}
 use Rattle.gimli.specs.Unit.{UnitRecord}
@@ -24,13 +23,13 @@ use Rattle.addr2line_units.specs.RangedUnits.{IndexedUnit}
 use Rattle.addr2line_units.specs.StaysKnown.{IsReadyAt, StaysKnown}
 use Rattle.addr2line_units.specs.UnitIndex.{UnitIndex, index_units}
 use Rattle.addr2line_units.specs.UnitsState.{UnitsState}
-use Rattle.addr2line_units.specs.Views.{FirstAnswers, SplitLoad}
+use Rattle.addr2line_units.specs.Views.{SplitLoad}
 use Rattle.addr2line_units.proofs.ReachedLemmas.{reached_all}
 use Rattle.addr2line.specs.Context.{IsContext, lines_of_all, seen_context}
 use Rattle.addr2line.specs.Loads.{AfterForget, AfterLoad, AfterParse, AfterPreload, IsAllKnown, IsNotOpen, NoneOpenAt, ReachesAllOf, StaysRead, forget_reply, load_reply, parse_reply, parsed_answers}
 use Rattle.addr2line.specs.Lookups.{lookup_stop}
 use Rattle.addr2line.proofs.AnsweredLemmas.{answers_are, scope_same, units_same}
-use Rattle.addr2line.proofs.ContextLemmas.{at_made, at_now, by_made, of_made, of_now, or_made, still_context}
+use Rattle.addr2line.proofs.ContextLemmas.{at_made, at_now, by_made, of_made, of_now, or_made}
 
 -- along no ranges no loads are listed
 pub none_listed : {X : Type 0} (items : X → List SplitLoad) (load : ℕ → Option SplitLoad) (ranges : List UnitRange) (r : Result X Error) → ranges ≡ [] → IsOk r → IfOk r (λ x. items x ≡ loads_along load ranges) → IsOkAnd r (λ x. items x ≡ [])

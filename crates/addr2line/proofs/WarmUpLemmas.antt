@@ -1,19 +1,18 @@
 -- Lookups in a context that has read all (on specs/WarmUp.antt).
-use Rattle.std.proofs.Common.{◌≡◌, ℕ, ◌&&◌, ◌||◌, Bool, true, false, not, List, [], ◌∷◌, Option, Result, Ok, Err, refl, sym, ap, subst, ◌∙◌}
+use Rattle.std.proofs.Common.{◌≡◌, ℕ, ◌&&◌, ◌||◌, Bool, true, false, not, List, [], ◌∷◌, Result, Ok, Err, refl, sym, ap, subst, ◌∙◌}
 use Rattle.gimli_read.specs.declared.error.Error.{Error}
 use Rattle.gimli.specs.Sections.{Sections}
 use Rattle.addr2line_units.specs.declared.frames_lookup.Faults.{Faults}
 use Rattle.addr2line_units.specs.declared.index.UnitRange.{UnitRange}
 use Rattle.addr2line_units.specs.Cover.{cover, holds_until}
-use Rattle.addr2line_units.specs.FramesLookup.{Stop, Waits, Finds, FindsNothing, asks_lines_of, ends_lookup, has_many_of, holds_along, is_waiting, main_scope}
+use Rattle.addr2line_units.specs.FramesLookup.{Stop, Waits, Finds, FindsNothing, asks_lines_of, has_many_of, holds_along, is_waiting, main_scope}
 use Rattle.addr2line_units.specs.FunctionParseLaws.{IsReached}
 use Rattle.addr2line_units.specs.KnownEntries.{knows_at}
 use Rattle.addr2line_units.specs.Parsed.{StaysParsed, has_parsed, unit_decides}
-use Rattle.addr2line_units.specs.UnitFrames.{FramesResult}
 use Rattle.addr2line_units.specs.UnitIndex.{UnitIndex, index_units}
 use Rattle.addr2line_units.specs.Views.{FirstAnswers}
 use Rattle.addr2line.specs.AfterLookups.{IsKnownFew, has_few_of}
-use Rattle.addr2line.specs.Context.{ContextState, IsReady, lines_of_all}
+use Rattle.addr2line.specs.Context.{ContextState, lines_of_all}
 use Rattle.addr2line.specs.Loads.{IsAllKnown}
 use Rattle.addr2line.specs.Lookups.{asked_of, lookup_stop}
 use Rattle.addr2line.specs.WarmUp.{FindsAllWhenWarm, IsFewInlined, IsWarm, LocatesWhenWarm}

@@ -2,17 +2,14 @@
 -- parsed for them (DWARF 5, sections 3.1.2, 3.3 and 7.3.2).
 -- Own: a lookup parses what it asks for and nothing else, and nothing that is known is parsed
 -- again.
-use Rattle.std.specs.Prelude.{◌≡◌, ◌⊎◌, ℕ, ◌≤◌, Bool, true, false, List, slice_get, Option, IfErr, IfSome, Result, Ok, Err}
+use Rattle.std.specs.Prelude.{◌≡◌, ◌⊎◌, ℕ, ◌≤◌, Bool, true, false, slice_get, Option, IfErr, Result, Ok, Err}
 use Rattle.gimli_read.specs.declared.error.Error.{Error}
 use Rattle.gimli_read.specs.Reading.{◌>>=◌, ExactlyUnlessOom}
 use Rattle.gimli.specs.Sections.{Sections}
 use Rattle.gimli.specs.Unit.{UnitRecord}
 use Rattle.addr2line_units.specs.declared.frames_lookup.Faults.{Faults}
-use Rattle.addr2line_units.specs.declared.parses.ReadingDepth.{ReadingDepth}
 use Rattle.addr2line_units.specs.Cover.{cover}
 use Rattle.addr2line_units.specs.FramesLookup.{Stop, Waits, LookupAsks, asks_lines_of, holds_along, is_waiting, main_scope, unit_found}
-use Rattle.addr2line_units.specs.FunctionParses.{IsReadyFor}
-use Rattle.addr2line_units.specs.KnownEntries.{KnownEntries}
 use Rattle.gimli_read.specs.Alike.{HadMemory}
 use Rattle.addr2line_units.specs.Parsed.{ParsesOnly, StaysParsed}
 use Rattle.addr2line_units.specs.RangedUnits.{unit_records}

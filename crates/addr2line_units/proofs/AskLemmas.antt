@@ -24,16 +24,14 @@ use Rattle.addr2line_units.specs.CachedEntries.{AreEntriesOf, AreFramesIn, AsksN
 use Rattle.addr2line_units.specs.CachedFrames.{AreFoundAt, IsLendable, IsStopIn, found_after_fault, frames_found_at, has_frames_at, seen_stop, stop_of_found}
 use Rattle.addr2line_units.specs.CachedLines.{AreLinesOf, StaysUnit, StayUnits, indexed_unit, indexed_units, is_uncached, parsed_units}
 use Rattle.addr2line_units.specs.CachedUnits.{StayAllEntries, answers_in, has_entries_at}
-use Rattle.addr2line_units.specs.FramesLookup.{FindsNothing, Stop, after_fault, asked_frames, asks_lines_of, ends_lookup, functions_of_take_memory, has_many_of, holds_along, or_stop, stop_along}
+use Rattle.addr2line_units.specs.FramesLookup.{FindsNothing, Stop, after_fault, asks_lines_of, ends_lookup, functions_of_take_memory, has_many_of, or_stop}
 use Rattle.addr2line_units.specs.Parsed.{has_parsed}
-use Rattle.addr2line_units.specs.RangedUnits.{IndexedUnit}
 use Rattle.addr2line_units.specs.StoredUnits.{AreUnits, seen_units}
 use Rattle.addr2line_units.specs.UnitFrames.{FramesResult, asks_lines_in, frames_in, has_many}
-use Rattle.addr2line_units.specs.UnitsState.{IsFaultAt, UnitsState, asked_by, asks_no_memory_at, has_all_at, has_few_at, reads_no_memory_at}
-use Rattle.addr2line_units.specs.Views.{FirstAnswers}
+use Rattle.addr2line_units.specs.UnitsState.{IsFaultAt, UnitsState, asked_by, asks_no_memory_at, has_all_at, reads_no_memory_at}
 use Rattle.addr2line_units.proofs.CachedUnitLemmas.{as_many_entries, entries_at, entries_set, reads_set, same_answers, stay_entries_set}
 use Rattle.addr2line_units.proofs.FoundLemmas.{lendable_if_told}
-use Rattle.addr2line_units.proofs.FramesLookupLemmas.{gives_after, no_stop, oom_after, oom_before, refused_before, stop_is, stop_there, there_after}
+use Rattle.addr2line_units.proofs.FramesLookupLemmas.{gives_after, no_stop, oom_before, refused_before, stop_is, stop_there, there_after}
 use Rattle.addr2line_units.proofs.KnownLemmas.{known_is, known_unchanged}
 use Rattle.addr2line_units.proofs.NumberedFrames.{asks_are, frames_are, frames_given, functions_take, known_then, lines_only, lines_take, many_are, none_known, none_past, nothing_at, places_there, then_known, then_no_memory}
 use Rattle.addr2line_units.proofs.StayLemmas.{stays_known}

@@ -9,13 +9,13 @@ use Rattle.gimli_read.specs.declared.error.Error.{Error}
 use Rattle.gimli_read.specs.declared.error.Error.TheVariants.{OutOfMemory}
 use Rattle.addr2line_lines.specs.Details.{Detail}
 use Rattle.addr2line_lines.specs.FunctionDetails.{AreCachedToFault, HasDetail, IsCachedToFault}
-use Rattle.addr2line_lines.specs.FunctionTable.{CachedFunction, FunctionTable, cached_detail}
+use Rattle.addr2line_lines.specs.FunctionTable.{CachedFunction, FunctionTable}
 use Rattle.addr2line_lines.specs.Functions.{function_offset_at}
 use Rattle.addr2line_lines.proofs.PlaceLemmas.{some_at}
 use Rattle.addr2line_units.specs.CachedFunctions.{has_detail, has_place, has_table, is_cached_fault}
 use Rattle.addr2line_units.specs.CachedKnown.{known_detail, known_function, known_table}
 use Rattle.addr2line_units.specs.FunctionParses.{AreKnownToFault, IsKnownToFault}
-use Rattle.addr2line_units.specs.KnownEntries.{HasFault, IsRead, KnownDetail, KnownFunction, NotRead, is_detail_known, is_known_at}
+use Rattle.addr2line_units.specs.KnownEntries.{HasFault, IsRead, KnownFunction, NotRead, is_detail_known, is_known_at}
 use Rattle.addr2line_units.proofs.CachedPlaceLemmas.{cached_is_not_oom, cached_unless_oom}
 
 fault_known : (b : Bool) → is_detail_known (if b then HasFault else NotRead) ≡ b

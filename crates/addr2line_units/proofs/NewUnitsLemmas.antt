@@ -17,7 +17,7 @@ use Rattle.addr2line_units.specs.FramesLookup.{FindsNothing, main_scope}
 use Rattle.addr2line_units.specs.Indexed.{IndexState, context_takes_memory, index_of, index_takes_memory, sup_takes_memory}
 use Rattle.addr2line_units.specs.CachedKnown.{known_in}
 use Rattle.addr2line_units.specs.KnownEntries.{KnownEntries, NothingKnown}
-use Rattle.addr2line_units.specs.RangedUnits.{IndexedUnit, RangedUnit, has_lines, indexed_of, ranged_units, unit_ranges_from, unit_records}
+use Rattle.addr2line_units.specs.RangedUnits.{IndexedUnit, RangedUnit, indexed_of, ranged_units, unit_ranges_from, unit_records}
 use Rattle.addr2line_units.specs.SeenUnit.{scope_in}
 use Rattle.addr2line_units.specs.StoredUnits.{AreUnits, seen_units}
 use Rattle.addr2line_units.specs.UnitIndex.{UnitIndex, index_units, sup_sections, sup_units}

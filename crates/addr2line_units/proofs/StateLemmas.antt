@@ -36,7 +36,7 @@ use Rattle.addr2line_units.specs.FunctionParses.{AreFirstDecided, AreReadBefore,
 use Rattle.addr2line_units.specs.CachedKnown.{known_in}
 use Rattle.addr2line_units.specs.KnownEntries.{knows_at}
 use Rattle.addr2line_units.specs.Loads.{forgotten, is_open_at, load_result}
-use Rattle.addr2line_units.specs.Located.{along, is_found, looks_along, spans_along, spans_in, spans_or_fault}
+use Rattle.addr2line_units.specs.Located.{is_found, looks_along, spans_along, spans_in, spans_or_fault}
 use Rattle.addr2line_units.specs.Parsed.{AllAskFor, AreAllParsed, AreParsed, AreReadyForAll, AsksFor, LeadTo, ParsesOnly, has_parsed, ready_along}
 use Rattle.addr2line_units.specs.RangedUnits.{IndexedUnit}
 use Rattle.addr2line_units.specs.RangeLookup.{cached_along}

@@ -1,7 +1,7 @@
 -- What calls leave of the units of a context (DWARF 5, sections 3.1.2, 3.3, 6.2 and 7.3.2).
 -- Own: a lookup parses what it asks for and nothing else, and nothing that is known is parsed
 -- again; the first answer to a unit's load counts until the unit is forgotten.
-use Rattle.std.specs.Prelude.{◌≡◌, ◌≢◌, ◌⊎◌, ◌+◌, ◌<◌, ◌≤◌, ℕ, Bool, true, false, List, length, IfErr, OnOk, is_some, slice_get, Option, Some, None, Result, Ok, Err}
+use Rattle.std.specs.Prelude.{◌≡◌, ◌≢◌, ◌⊎◌, ◌+◌, ◌<◌, ◌≤◌, ℕ, Bool, true, false, List, length, IfErr, OnOk, is_some, slice_get, Option, Some, None, Result, Ok}
 use Rattle.std.specs.List.{AllByRecursion}
 use Rattle.gimli_read.specs.declared.error.Error.{Error}
 use Rattle.gimli_read.specs.declared.error.Error.TheVariants.{OutOfMemory}

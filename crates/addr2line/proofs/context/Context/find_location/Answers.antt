@@ -1,8 +1,7 @@
 use Rattle.std.proofs.Common.{Err, None, Ok, Some, ap, refl, sym, ◌∙◌}
 use Rattle.std.proofs.lemmas.Result.{err_from_is_err_and}
-use Rattle.addr2line_lines.specs.Location.{location_of_row}
 use Rattle.addr2line_units.specs.UnitsState.{UnitsState, row_location}
-use Rattle.addr2line.proofs.ContextLemmas.{after_lookup, covers_none, exactly_told, lines_context, located_alone, location_is, none_covered, ready_told}
+use Rattle.addr2line.proofs.ContextLemmas.{after_lookup, covers_none, lines_context, located_alone, location_is, none_covered, ready_told}
 use Rattle.addr2line.proofs.context.Context.find_location.Goals as goal
 
 pub invariant_of-self : goal.invariant_of-self

@@ -1,6 +1,4 @@
-use Rattle.std.proofs.Common.{Ok, Some, Result, Err, option_map, slice_get, sym, ◌≡◌}
-use Rattle.addr2line.proofs.ContextLemmas.{of_made}
-use Rattle.addr2line_units.specs.Views.{load_of_unit}
+use Rattle.std.proofs.Common.{sym}
 use Rattle.addr2line.proofs.LookupLemmas.{load_told}
 use Rattle.addr2line.proofs.context.Context.load_of.Goals as goal
 

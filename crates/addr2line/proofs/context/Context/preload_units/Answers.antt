@@ -1,4 +1,4 @@
-use Rattle.std.proofs.Common.{[], subst, sym, ◌∙◌, ◌≡◌}
+use Rattle.std.proofs.Common.{subst, sym, ◌∙◌, ◌≡◌}
 use Rattle.std.specs.Prelude.{IfOk}
 use Rattle.addr2line.proofs.AnsweredLemmas.{loads_are, read_context}
 use Rattle.addr2line.proofs.LoadLemmas.{after_preload, none_listed, none_open_are}

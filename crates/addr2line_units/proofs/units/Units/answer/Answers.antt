@@ -1,11 +1,8 @@
 use Rattle.std.proofs.Common.{None, Some, ap, arith, ltb-false, ltb-true, option_map, refl, slice_get, subst, sym, ◌≡◌}
 use Rattle.std.proofs.lemmas.Option.{slice_get_past, slice_get_read}
 use Rattle.addr2line_lines.specs.References.{Scope}
-use Rattle.addr2line_lines.specs.SeenScope.{seen_scope}
-use Rattle.addr2line_units.specs.AfterUnits.{AfterAnswer}
 use Rattle.addr2line_units.specs.CachedFrames.{seen_stop}
 use Rattle.addr2line_units.specs.CachedEntries.{AreEntriesOf}
-use Rattle.addr2line_units.specs.FramesLookup.{FindsNothing}
 use Rattle.addr2line_units.proofs.NumberLemmas.{answered_there, in_entries, none_answered, refused_told, right_there, still_units}
 use Rattle.addr2line_units.proofs.StateLemmas.{some_given}
 use Rattle.addr2line_units.specs.StoredUnits.{scope_of}

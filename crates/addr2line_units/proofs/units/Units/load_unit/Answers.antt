@@ -1,12 +1,10 @@
-use Rattle.std.proofs.Common.{Err, None, Some, ap, arith, false, ltb-false, ltb-true, option_map, refl, slice_get, subst, sym, ◌≡◌, Ok}
+use Rattle.std.proofs.Common.{None, Some, ap, arith, ltb-false, ltb-true, option_map, refl, slice_get, subst, sym, ◌≡◌}
 use Rattle.std.proofs.lemmas.Option.{slice_get_past, slice_get_read}
 use Rattle.std.proofs.lemmas.Result.{err_from_is_err_and}
-use Rattle.gimli_read.specs.Reading.{ExactlyUnlessOom}
 use Rattle.addr2line_lines.specs.References.{Scope}
 use Rattle.addr2line_units.specs.CachedFrames.{seen_stop}
-use Rattle.addr2line_units.specs.CachedEntries.{AreEntriesOf, first_answer_of}
+use Rattle.addr2line_units.specs.CachedEntries.{AreEntriesOf}
 use Rattle.addr2line_units.specs.StoredUnits.{scope_of}
-use Rattle.addr2line_units.specs.Views.{is_open}
 use Rattle.addr2line_units.specs.CachedUnits.{answers_in}
 use Rattle.addr2line_units.proofs.LoadLemmas.{exactly_this, unknown_load}
 use Rattle.addr2line_units.proofs.NumberLemmas.{fault_told, in_entries, load_told, loaded_there, none_loaded, refused_there, right_there, still_units}

@@ -1,4 +1,4 @@
-use Rattle.std.proofs.Common.{subst, sym, ◌≡◌}
+use Rattle.std.proofs.Common.{subst, sym}
 use Rattle.gimli_read.specs.Reading.{ExactlyUnlessOom}
 use Rattle.addr2line_lines.specs.References.{IsScope}
 use Rattle.addr2line_lines.specs.SeenScope.{seen_scope}
@@ -7,7 +7,7 @@ use Rattle.addr2line_units.specs.CachedFrames.{seen_stop}
 use Rattle.addr2line_units.specs.CachedUnits.{HaveEntriesOf, answers_in}
 use Rattle.addr2line_units.specs.FramesLookup.{FindsNothing}
 use Rattle.addr2line_units.specs.FunctionParses.{read_of_units}
-use Rattle.addr2line_units.specs.StoredUnits.{scope_of, seen_units}
+use Rattle.addr2line_units.specs.StoredUnits.{seen_units}
 use Rattle.addr2line_units.proofs.StateLemmas.{after_reading}
 use Rattle.addr2line_units.proofs.units.Units.read_functions.Goals as goal
 

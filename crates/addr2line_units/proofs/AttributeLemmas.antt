@@ -1,42 +1,50 @@
--- The attributes of a root entry, one at a time (on specs/UnitAttributes.antt).
-use Rattle.std.proofs.Common.{◌≡◌, ℕ, ◌+◌, ◌<◌, ◌≤◌, List, ◌∷◌, length, drop, fold, get_or, Option, Some, None, Result, Ok, Err, refl, ap, ◌∙◌, pos}
-use Rattle.std.proofs.lemmas.List.{at_drop_more, at_drop_all}
+-- The attributes of a root entry (on specs/UnitAttributes.antt).
+use Rattle.std.proofs.Common.{◌≡◌, ◌==◌, ◌||◌, Bool, true, false, cond, List, fold, Option, Some, None, Result, Ok, Err, refl, ap, ◌∙◌, pos}
+use Rattle.std.specs.Option.{option_or}
+use Rattle.gimli_read.specs.declared.constants.TheConstants.DwAt.{DW_AT_high_pc, DW_AT_language, DW_AT_low_pc, DW_AT_ranges}
 use Rattle.gimli_read.specs.declared.error.Error.{Error}
-use Rattle.gimli_read.specs.declared.endian.Encoding.{Encoding}
-use Rattle.gimli_read.specs.Abbreviations.{Abbrev, Specification}
-use Rattle.gimli_read.specs.Section.{Section}
+use Rattle.gimli_read.specs.Abbreviations.{Abbrev}
 use Rattle.gimli_read.specs.Reading.{Reading, ◌>>=◌}
-use Rattle.gimli_read.specs.Form.{NamedValue, attribute_at}
+use Rattle.gimli_read.specs.Form.{NamedValue}
 use Rattle.gimli.specs.Sections.{Sections}
 use Rattle.gimli.specs.Entry.{attributes_at, entry_code_at, root_attributes, root_specifications}
 use Rattle.gimli.specs.EntryCursor.{EntriesLeft, EntryCursor, depth_after_code, entries_at, entries_from, entry_abbreviation_at}
 use Rattle.gimli.specs.Unit.{UnitRecord}
+use Rattle.addr2line_lines.specs.declared.function.RangeAttributes.{RangeAttributes}
+use Rattle.addr2line_lines.specs.RangeAttributes.{with_range_attribute}
 use Rattle.addr2line_units.specs.declared.attributes.UnitAttributes.{UnitAttributes}
-use Rattle.addr2line_units.specs.UnitAttributes.{no_unit_attributes, or_with_unit_attribute, unit_attributes, unit_attributes_after}
+use Rattle.addr2line_units.specs.UnitAttributes.{language_after, language_of, no_unit_attributes, or_with_unit_attribute, unit_attributes, unit_attributes_after, with_unit_attribute}
+use Rattle.addr2line_units.specs.WantedAttributes.{is_unit_name}
 
-module _ (d : Sections) (u : UnitRecord) (e : Encoding) (r : Result UnitAttributes Error) (xs : List Specification) (i : ℕ) where
-  -- the next attribute, and those after it
-  abbrev next : Reading NamedValue → Result UnitAttributes Error
-  next read = unit_attributes_after d u r (read >>= λ x. attributes_at e (drop (i + 1) xs) x.1 >>= λ more. Ok (x.0 ∷ more.0, more.1))
+-- no test of a chain holds
+pass_all : {X : Type 0} (a b c : Bool) (p q r z : X) → (a || b || c) ≡ false → cond a p (cond b q (cond c r z)) ≡ z
+pass_all true b c p q r z h = absurd cc
+pass_all false true c p q r z h = absurd cc
+pass_all false false true p q r z h = absurd cc
+pass_all false false false p q r z h = refl
 
-  pub attributes-more : (x : Specification) (s t : Section) (a : NamedValue) → i < length xs → attribute_at e (get_or xs i x) s ≡ Ok (a, t)
-      → unit_attributes_after d u r (attributes_at e (drop i xs) s) ≡ unit_attributes_after d u (or_with_unit_attribute d u r a) (attributes_at e (drop (i + 1) xs) t)
-  unfolding attributes_at
-  attributes-more x s t a h k =
-      at_drop_more (λ ys. unit_attributes_after d u r (attributes_at e ys s)) xs i x h ∙ ap next k ∙ front (attributes_at e (drop (i + 1) xs) t)
-    where
-      front : (read : Reading (List NamedValue)) → unit_attributes_after d u r (read >>= λ more. Ok (a ∷ more.0, more.1)) ≡ unit_attributes_after d u (or_with_unit_attribute d u r a) read
-      front (Ok x) = refl
-      front (Err x) = refl
+-- neither of two holds
+neither : (b c : Bool) → (b || c) ≡ false → (b ≡ false) × (c ≡ false)
+neither true c h = absurd cc
+neither false true h = absurd cc
+neither false false h = (refl, refl)
 
-  pub attributes-fault : (x : Specification) (s : Section) (f : Error) → i < length xs → attribute_at e (get_or xs i x) s ≡ Err f
-      → unit_attributes_after d u r (attributes_at e (drop i xs) s) ≡ Err f
-  unfolding attributes_at
-  attributes-fault x s f h k = at_drop_more (λ ys. unit_attributes_after d u r (attributes_at e ys s)) xs i x h ∙ ap next k
+-- an attribute of no such name says nothing
+module _ (d : Sections) (u : UnitRecord) where
+  same_ranges : (r : RangeAttributes) (a : NamedValue) → (a.name.0 == DW_AT_low_pc.0 || a.name.0 == DW_AT_high_pc.0 || a.name.0 == DW_AT_ranges.0) ≡ false → with_range_attribute d u r a ≡ Ok r
+  unfolding with_range_attribute
+  same_ranges r a h = pass_all (a.name.0 == DW_AT_low_pc.0) (a.name.0 == DW_AT_high_pc.0) (a.name.0 == DW_AT_ranges.0) _ _ _ (Ok r) h
 
-  pub attributes-end : (s : Section) → length xs ≤ i → unit_attributes_after d u r (attributes_at e (drop i xs) s) ≡ r
-  unfolding attributes_at
-  attributes-end s h = at_drop_all (λ ys. unit_attributes_after d u r (attributes_at e ys s)) xs i h
+  same_attributes : (r : UnitAttributes) (a : NamedValue) → is_unit_name a.name ≡ false → with_unit_attribute d u r a ≡ Ok r
+  unfolding with_unit_attribute
+  same_attributes r a h =
+      let p = neither (a.name.0 == DW_AT_low_pc.0 || a.name.0 == DW_AT_high_pc.0 || a.name.0 == DW_AT_ranges.0) (a.name.0 == DW_AT_language.0) h in
+      ap (λ (x : Result RangeAttributes Error). x >>= λ ranges. Ok (record { ranges = ranges; language = language_after r.language a })) (same_ranges r.ranges a p.0)
+      ∙ ap (λ b. Ok (record { ranges = r.ranges; language = cond b (option_or (language_of a.value) r.language) r.language })) p.1
+
+  pub still_unit : (r : Result UnitAttributes Error) (a : NamedValue) → is_unit_name a.name ≡ false → or_with_unit_attribute d u r a ≡ r
+  still_unit (Ok r) a h = same_attributes r a h
+  still_unit (Err f) a h = refl
 
 -- what a root entry says, by the place where it begins
 module _ (d : Sections) (u : UnitRecord) where

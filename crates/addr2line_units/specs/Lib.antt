@@ -4,6 +4,7 @@ pub mod LegacyText
 pub mod LegacyLaws
 pub mod UnitAranges
 pub mod UnitAttributes
+pub mod WantedAttributes
 pub mod Cover
 pub mod LeastBegins
 pub mod RangedUnits

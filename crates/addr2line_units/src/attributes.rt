@@ -1,9 +1,12 @@
 //! What the root entry of a unit says for lookups.
 
-ghost use Rattle.std.specs.Prelude.{◌≡◌, Ok};
+ghost use Rattle.std.specs.Prelude.{◌≡◌, ◌<◌, None, Ok, IfSome, length};
+ghost use Rattle.std.specs.List.{position};
 ghost use Rattle.gimli_read.specs.Reading.{Exactly, ExactlyUnlessOomIf};
 ghost use Rattle.gimli.specs.Entry.{attributes_at};
+ghost use Rattle.gimli.specs.WantedAttributes.{HasNoWanted, IsSplitAtWanted};
 ghost use Rattle.addr2line_units.specs.UnitAttributes.{language_after, language_of_number, no_unit_attributes, or_with_unit_attribute, unit_attributes, unit_attributes_after, with_unit_attribute};
+ghost use Rattle.addr2line_units.specs.WantedAttributes.{is_unit_name, is_unit_specification};
 
 use addr2line_lines::RangeAttributes;
 use gimli::read::{Attribute, AttributeSpecification, DwAt, DwLang, Error, Reader};
@@ -83,8 +86,50 @@ fn with_attribute<R: Reader>(
     }
 }
 
-// What the attributes of specifications say. A value that can't be read is a fault before that of
-// an index, so the first of these waits until all values are read.
+// Whether an attribute says of its unit's addresses or language.
+fn is_unit_name(name: DwAt) -> bool
+    ensures gives { result ≡ is_unit_name name }
+{
+    matches!(
+        name,
+        DwAt::DW_AT_low_pc | DwAt::DW_AT_high_pc | DwAt::DW_AT_ranges | DwAt::DW_AT_language
+    )
+}
+
+// The place of the first attribute that says of its unit's addresses or language.
+fn first_unit_attribute(specifications: &[AttributeSpecification]) -> Option<usize>
+    ensures gives { result ≡ position is_unit_specification specifications.now }
+    ensures within { IfSome result (λ k. k < length specifications.now) }
+{
+    specifications
+        .iter()
+        .position(|specification| is_unit_name(specification.name()))
+}
+
+// The first attribute that says of its unit's addresses or language, among others.
+#[derive(Clone, Copy)]
+struct AtUnit<'a> {
+    before: &'a [AttributeSpecification],
+    specification: AttributeSpecification,
+    after: &'a [AttributeSpecification],
+}
+
+// Attributes, split at the first that says of its unit's addresses or language.
+fn split_at_unit(all: &[AttributeSpecification]) -> Option<AtUnit<'_>>
+    ensures split { IfSome result (λ x.
+        IsSplitAtWanted is_unit_name all.now x.before.now x.specification x.after.now) }
+    ensures none { result ≡ None → HasNoWanted is_unit_name all.now }
+{
+    let place = first_unit_attribute(all)?;
+    Some(AtUnit {
+        before: &all[..place],
+        specification: all[place],
+        after: &all[place + 1..],
+    })
+}
+
+// What the attributes of specifications say; others are passed over. A value that can't be read is
+// a fault before that of an index, so the first of these waits until all values are read.
 fn read_attributes<R: Reader>(
     unit: UnitRef<'_, R>,
     entries: &mut EntriesRaw<'_, R>,
@@ -97,10 +142,14 @@ fn read_attributes<R: Reader>(
         entries.old.cursor.left)) }
 {
     let mut attributes = Ok(UnitAttributes::new());
-    for specification in specifications {
-        let attribute = entries.read_attribute(*specification)?;
+    let mut rest = specifications;
+    while let Some(next) = split_at_unit(rest) {
+        entries.skip_attributes(next.before)?;
+        let attribute = entries.read_attribute(next.specification)?;
         attributes = with_attribute(unit, attributes, attribute);
+        rest = next.after;
     }
+    entries.skip_attributes(rest)?;
     attributes
 }
 

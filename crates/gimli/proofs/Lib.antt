@@ -11,6 +11,7 @@ pub mod ItemReads
 pub mod ItemTexts
 pub mod SubtreeLemmas
 pub mod UnitTexts
+pub mod WantedLemmas
 pub mod RecordLemmas
 pub mod StringLemmas
 pub mod StringPlaces

@@ -1,39 +1,77 @@
--- The attributes of a unit's root entry, one at a time (on specs/Record.antt).
-use Rattle.std.proofs.Common.{◌≡◌, ℕ, ◌+◌, ◌<◌, ◌≤◌, List, ◌∷◌, length, drop, fold, get_or, Option, Some, None, Result, Ok, Err, refl, ap, ◌∙◌}
-use Rattle.std.proofs.lemmas.List.{at_drop_more, at_drop_all}
+-- The attributes of a unit's root entry (on specs/Record.antt).
+use Rattle.std.proofs.Common.{◌≡◌, ◌==◌, ◌||◌, Bool, true, false, cond, List, fold, Option, Some, None, Result, Ok, Err, refl, ap, ◌∙◌}
+use Rattle.gimli_read.specs.declared.constants.TheConstants.DwAt.{DW_AT_name, DW_AT_comp_dir, DW_AT_low_pc, DW_AT_stmt_list, DW_AT_str_offsets_base, DW_AT_addr_base, DW_AT_GNU_addr_base, DW_AT_rnglists_base, DW_AT_GNU_ranges_base, DW_AT_GNU_dwo_id, DW_AT_GNU_dwo_name, DW_AT_dwo_name}
+use Rattle.std.specs.Option.{option_or}
 use Rattle.gimli_read.specs.declared.error.Error.{Error}
 use Rattle.gimli_read.specs.declared.endian.Encoding.{Encoding}
-use Rattle.gimli_read.specs.Abbreviations.{Abbrev, Specification}
+use Rattle.gimli_read.specs.Abbreviations.{Abbrev}
 use Rattle.gimli_read.specs.Section.{Section}
 use Rattle.gimli_read.specs.Reading.{Reading, ◌>>=◌}
-use Rattle.gimli_read.specs.Form.{NamedValue, attribute_at}
+use Rattle.gimli_read.specs.Form.{NamedValue, constant_of}
+use Rattle.gimli_read.specs.Version.{is_before_5}
 use Rattle.gimli.specs.Entry.{attributes_at, entry_code_at, root_attributes, root_specifications}
 use Rattle.gimli.specs.EntryCursor.{EntryCursor, depth_after_code, entry_abbreviation_at}
-use Rattle.gimli.specs.Record.{RootValues, no_root_values, with_root_attribute, root_values_after, root_values_of}
+use Rattle.gimli.specs.Record.{RootValues, address_value, dwo_name_attribute, line_offset, no_root_values, section_offset, with_root_attribute, root_values_after, root_values_of}
+use Rattle.gimli.specs.WantedAttributes.{is_root_name}
 
--- one attribute, and those that follow
-pub root_values-more : (e : Encoding) (root : RootValues) (xs : List Specification) (i : ℕ) (d : Specification) (s t : Section) (a : NamedValue) → i < length xs → attribute_at e (get_or xs i d) s ≡ Ok (a, t)
-    → root_values_after e root (attributes_at e (drop i xs) s) ≡ root_values_after e (with_root_attribute e root a) (attributes_at e (drop (i + 1) xs) t)
-unfolding attributes_at
-root_values-more e root xs i d s t a h k =
-    at_drop_more (λ ys. root_values_after e root (attributes_at e ys s)) xs i d h
-    ∙ ap (λ r. root_values_after e root (r >>= λ x. attributes_at e (drop (i + 1) xs) x.1 >>= λ more. Ok (x.0 ∷ more.0, more.1))) k
-    ∙ front (attributes_at e (drop (i + 1) xs) t)
-  where
-    front : (r : Reading (List NamedValue)) → root_values_after e root (r >>= λ more. Ok (a ∷ more.0, more.1)) ≡ root_values_after e (with_root_attribute e root a) r
-    front (Ok x) = refl
-    front (Err x) = refl
+-- neither of two holds
+neither : (b c : Bool) → (b || c) ≡ false → (b ≡ false) × (c ≡ false)
+neither true c h = absurd cc
+neither false true h = absurd cc
+neither false false h = (refl, refl)
 
-pub root_values-fault : (e : Encoding) (root : RootValues) (xs : List Specification) (i : ℕ) (d : Specification) (s : Section) (f : Error) → i < length xs → attribute_at e (get_or xs i d) s ≡ Err f
-    → root_values_after e root (attributes_at e (drop i xs) s) ≡ Err f
-unfolding attributes_at
-root_values-fault e root xs i d s f h k =
-    at_drop_more (λ ys. root_values_after e root (attributes_at e ys s)) xs i d h
-    ∙ ap (λ r. root_values_after e root (r >>= λ x. attributes_at e (drop (i + 1) xs) x.1 >>= λ more. Ok (x.0 ∷ more.0, more.1))) k
+-- nor does any
+none_either : (b c : Bool) → b ≡ false → c ≡ false → (b || c) ≡ false
+none_either true c h k = absurd cc
+none_either false c h k = k
 
-pub root_values-end : (e : Encoding) (root : RootValues) (xs : List Specification) (i : ℕ) (s : Section) → length xs ≤ i → root_values_after e root (attributes_at e (drop i xs) s) ≡ Ok root
-unfolding attributes_at
-root_values-end e root xs i s h = at_drop_all (λ ys. root_values_after e root (attributes_at e ys s)) xs i h
+-- a test that fails
+pass : {X : Type 0} (b : Bool) (x y z : X) → b ≡ false → y ≡ z → cond b x y ≡ z
+pass true x y z h k = absurd cc
+pass false x y z h k = k
+
+-- an attribute that names a split file in no version
+no_split_file : (old : Bool) (root : RootValues) (a : NamedValue) → (a.name.0 == DW_AT_GNU_dwo_name.0) ≡ false → (a.name.0 == DW_AT_dwo_name.0) ≡ false → cond (a.name.0 == (cond old DW_AT_GNU_dwo_name DW_AT_dwo_name).0) (record root { dwo_name = Some a.value }) root ≡ root
+no_split_file true root a h k = pass (a.name.0 == DW_AT_GNU_dwo_name.0) (record root { dwo_name = Some a.value }) root root h refl
+no_split_file false root a h k = pass (a.name.0 == DW_AT_dwo_name.0) (record root { dwo_name = Some a.value }) root root k refl
+
+-- no test of a chain holds
+pass_all : {X : Type 0} (a b c d e f g h i j k l : Bool) (p q r s t u v w y z : X) → (a || b || c || d || e || f || g || h || i || j || k || l) ≡ false → (k ≡ false → l ≡ false → y ≡ z)
+    → cond a p (cond b q (cond c r (cond d s (cond e t (cond (f || g) u (cond (h || i) v (cond j w y))))))) ≡ z
+pass_all a b c d e f g h i j k l p q r s t u v w y z none last =
+    let nl = neither (a || b || c || d || e || f || g || h || i || j || k) l none in
+    let nk = neither (a || b || c || d || e || f || g || h || i || j) k nl.0 in
+    let nj = neither (a || b || c || d || e || f || g || h || i) j nk.0 in
+    let ni = neither (a || b || c || d || e || f || g || h) i nj.0 in
+    let nh = neither (a || b || c || d || e || f || g) h ni.0 in
+    let ng = neither (a || b || c || d || e || f) g nh.0 in
+    let nf = neither (a || b || c || d || e) f ng.0 in
+    let ne = neither (a || b || c || d) e nf.0 in
+    let nd = neither (a || b || c) d ne.0 in
+    let nc = neither (a || b) c nd.0 in
+    let nb = neither a b nc.0 in
+    pass a p _ z nb.0 (pass b q _ z nb.1 (pass c r _ z nc.1 (pass d s _ z nd.1 (pass e t _ z ne.1 (pass (f || g) u _ z (none_either f g nf.1 ng.1) (pass (h || i) v _ z (none_either h i nh.1 ni.1) (pass j w y z nj.1 (last nk.1 nl.1))))))))
+
+-- an attribute of no such name changes nothing
+pub still_root : (e : Encoding) (root : RootValues) (a : NamedValue) → is_root_name a.name ≡ false → with_root_attribute e root a ≡ root
+still_root e root a h =
+    let n = a.name.0 in
+    pass_all
+    (n == DW_AT_name.0) (n == DW_AT_comp_dir.0) (n == DW_AT_low_pc.0) (n == DW_AT_stmt_list.0) (n == DW_AT_str_offsets_base.0)
+    (n == DW_AT_addr_base.0) (n == DW_AT_GNU_addr_base.0) (n == DW_AT_rnglists_base.0) (n == DW_AT_GNU_ranges_base.0) (n == DW_AT_GNU_dwo_id.0)
+    (n == DW_AT_GNU_dwo_name.0) (n == DW_AT_dwo_name.0)
+    (record root { name = Some a.value })
+    (record root { comp_dir = Some a.value })
+    (record root { low_pc = option_or (address_value a.value) root.low_pc })
+    (record root { stmt_list = option_or (line_offset e a.value) root.stmt_list })
+    (record root { str_offsets_base = option_or (section_offset a.value) root.str_offsets_base })
+    (record root { addr_base = option_or (section_offset a.value) root.addr_base })
+    (record root { rnglists_base = option_or (section_offset a.value) root.rnglists_base })
+    (record root { dwo_id = option_or (constant_of a.value) root.dwo_id })
+    (cond (n == (dwo_name_attribute e).0) (record root { dwo_name = Some a.value }) root)
+    root
+    h
+    (no_split_file (is_before_5 e.version) root a)
 
 -- the values of a root entry, by the place where it begins
 pub root_values_is : (e : Encoding) (table : List Abbrev) (c : EntryCursor)

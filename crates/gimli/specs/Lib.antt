@@ -5,6 +5,7 @@ pub mod Text
 pub mod StringPlaces
 pub mod Entry
 pub mod Record
+pub mod WantedAttributes
 pub mod Unit
 pub mod UnitMemory
 pub mod CachedTables

@@ -1,10 +1,12 @@
 //! The record of a unit: what its root entry's attributes give.
 
-ghost use Rattle.std.specs.Prelude.{◌≡◌};
+ghost use Rattle.std.specs.Prelude.{◌≡◌, ◌<◌, None, IfSome, length};
+ghost use Rattle.std.specs.List.{position};
 ghost use Rattle.gimli_read.specs.Reading.{ExactlyUnlessOomIf};
 ghost use Rattle.gimli_read.specs.Form.{seen_value};
 ghost use Rattle.gimli.specs.Entry.{attributes_at};
 ghost use Rattle.gimli.specs.Record.{address_value, section_offset, line_offset, dwo_name_attribute, with_root_attribute, no_root_values, root_values_after, root_values_of};
+ghost use Rattle.gimli.specs.WantedAttributes.{HasNoWanted, IsSplitAtWanted, is_root_name, is_root_specification};
 
 use crate::entries::EntriesRaw;
 use crate::unit::UnitHeader;
@@ -162,7 +164,60 @@ impl<R: Reader> RootAttributes<R> {
     }
 }
 
-// The values of the attributes of an entry.
+// Whether an attribute of a root entry may give a value of the unit's record.
+fn is_root_name(name: DwAt) -> bool
+    ensures gives { result ≡ is_root_name name }
+{
+    matches!(
+        name,
+        DwAt::DW_AT_name
+            | DwAt::DW_AT_comp_dir
+            | DwAt::DW_AT_low_pc
+            | DwAt::DW_AT_stmt_list
+            | DwAt::DW_AT_str_offsets_base
+            | DwAt::DW_AT_addr_base
+            | DwAt::DW_AT_GNU_addr_base
+            | DwAt::DW_AT_rnglists_base
+            | DwAt::DW_AT_GNU_ranges_base
+            | DwAt::DW_AT_GNU_dwo_id
+            | DwAt::DW_AT_GNU_dwo_name
+            | DwAt::DW_AT_dwo_name
+    )
+}
+
+// The place of the first attribute that may give a value of the unit's record.
+fn first_root_attribute(specifications: &[AttributeSpecification]) -> Option<usize>
+    ensures gives { result ≡ position is_root_specification specifications.now }
+    ensures within { IfSome result (λ k. k < length specifications.now) }
+{
+    specifications
+        .iter()
+        .position(|specification| is_root_name(specification.name()))
+}
+
+// The first attribute that may give a value of the unit's record, among others.
+#[derive(Clone, Copy)]
+struct AtRoot<'a> {
+    before: &'a [AttributeSpecification],
+    specification: AttributeSpecification,
+    after: &'a [AttributeSpecification],
+}
+
+// Attributes, split at the first that may give a value of the unit's record.
+fn split_at_root(all: &[AttributeSpecification]) -> Option<AtRoot<'_>>
+    ensures split { IfSome result (λ x.
+        IsSplitAtWanted is_root_name all.now x.before.now x.specification x.after.now) }
+    ensures none { result ≡ None → HasNoWanted is_root_name all.now }
+{
+    let place = first_root_attribute(all)?;
+    Some(AtRoot {
+        before: &all[..place],
+        specification: all[place],
+        after: &all[place + 1..],
+    })
+}
+
+// The values of the attributes of an entry. Those that give none are passed over.
 fn read_root_attributes<R: Reader>(
     entries: &mut EntriesRaw<'_, R>,
     encoding: Encoding,
@@ -174,10 +229,14 @@ fn read_root_attributes<R: Reader>(
         (attributes_at encoding specifications.now entries.old.cursor.left)) }
 {
     let mut root = RootAttributes::new();
-    for specification in specifications {
-        let attribute = entries.read_attribute(*specification)?;
+    let mut rest = specifications;
+    while let Some(next) = split_at_root(rest) {
+        entries.skip_attributes(next.before)?;
+        let attribute = entries.read_attribute(next.specification)?;
         root.take(encoding, attribute);
+        rest = next.after;
     }
+    entries.skip_attributes(rest)?;
     Ok(root)
 }
 

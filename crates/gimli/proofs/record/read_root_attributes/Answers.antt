@@ -1,26 +1,52 @@
-use Rattle.std.proofs.Common.{◌≡◌, sym, ap, ◌∙◌}
+use Rattle.std.proofs.Common.{Ok, ap, refl, sym, ◌∙◌}
 use Rattle.std.proofs.lemmas.Result.{err_from_is_err_and}
-use Rattle.gimli.proofs.RecordLemmas.{root_values-more, root_values-fault, root_values-end}
+use Rattle.gimli.specs.Record.{with_root_attribute}
+use Rattle.gimli.specs.WantedAttributes.{is_root_name}
+use Rattle.gimli.proofs.RecordLemmas.{still_root}
+use Rattle.gimli.proofs.WantedLemmas.{wanted_end, wanted_fault, wanted_next, wanted_passed}
 use Rattle.gimli.proofs.record.read_root_attributes.Goals as goal
+
+pub returns-in_err-skip_attributes : goal.returns-in_err-skip_attributes
+returns-in_err-skip_attributes g c =
+    let p = err_from_is_err_and c.from_residual.result c.from_residual.ensures.1 in
+    let i = c.loop-next.invariant in
+    let e = c.args.encoding in
+    let fault = rw i.same at c.in_err-skip_attributes.ensures.gives in
+    record { gives = rw (p.1, p.2) (λ _. sym i.gives ∙ wanted_passed e is_root_name (with_root_attribute e) Ok (still_root e) _ _ _ _ _ _ _ c.in-Some.ensures.split fault) }
 
 pub returns-in_err-attribute : goal.returns-in_err-attribute
 returns-in_err-attribute g c =
-    let p = err_from_is_err_and c.from_residual.result c.from_residual.ensures.1 in
-    let i = c.loop-specification.invariant in
-    let fault = rw (i.same, c.specification-item.is) at c.in_err-attribute.ensures.gives in
-    record { gives = rw (p.1, p.2) (λ ne. sym i.gives ∙ root_values-fault _ _ _ _ _ _ _ c.loop-specification-test.true (fault (λ shares _. ne shares))) }
+    let p = err_from_is_err_and c.from_residual-in_err-attribute.result c.from_residual-in_err-attribute.ensures.1 in
+    let i = c.loop-next.invariant in
+    let e = c.args.encoding in
+    let skipped = rw i.same at c.in_ok-skip_attributes.ensures.gives in
+    let encoding = ap (λ v. v.encoding) c.in_ok-skip_attributes.ensures.unit ∙ i.same in
+    let fault = rw encoding at c.in_err-attribute.ensures.gives in
+    record { gives = rw (p.1, p.2) (λ ne. sym i.gives ∙ wanted_fault e is_root_name (with_root_attribute e) Ok (still_root e) _ _ _ _ _ _ _ _ c.in-Some.ensures.split skipped (fault (λ shares _. ne shares))) }
 
-pub loop-specification-preserved : goal.loop-specification-preserved
-loop-specification-preserved g c =
-    let i = c.loop-specification.invariant in
-    let given = rw (i.same, c.specification-item.is) at c.in_ok-attribute.ensures.gives in
-    let same : c.read_attribute.new.self.unit.encoding ≡ c.args.encoding = ap (λ u. u.encoding) c.in_ok-attribute.ensures.unit ∙ i.same in
+pub loop-next-preserved : goal.loop-next-preserved
+loop-next-preserved g c =
+    let i = c.loop-next.invariant in
+    let e = c.args.encoding in
+    let skipped = rw i.same at c.in_ok-skip_attributes.ensures.gives in
+    let encoding = ap (λ v. v.encoding) c.in_ok-skip_attributes.ensures.unit ∙ i.same in
+    let given = rw encoding at c.in_ok-attribute.ensures.gives in
     record {
-      gives = rw (c.take.ensures.gives) (sym (root_values-more _ _ _ _ _ _ _ _ c.loop-specification-test.true given) ∙ i.gives);
-      same = same;
+      gives = rw (c.take.ensures.gives) (sym (wanted_next e is_root_name (with_root_attribute e) Ok (still_root e) _ _ _ _ _ _ _ _ _ c.in-Some.ensures.split skipped given) ∙ i.gives);
+      same = ap (λ v. v.encoding) c.in_ok-attribute.ensures.unit ∙ encoding;
     }
+
+pub returns-in_err-skip_attributes-2 : goal.returns-in_err-skip_attributes-2
+returns-in_err-skip_attributes-2 g c =
+    let p = err_from_is_err_and c.from_residual-in_err-skip_attributes-2.result c.from_residual-in_err-skip_attributes-2.ensures.1 in
+    let i = c.loop-next.invariant in
+    let e = c.args.encoding in
+    let fault = rw i.same at c.in_err-skip_attributes-2.ensures.gives in
+    record { gives = rw (p.1, p.2) (λ _. sym i.gives ∙ wanted_end e is_root_name (with_root_attribute e) Ok (still_root e) _ _ _ _ (c.in_default.ensures.none refl) fault) }
 
 pub returns : goal.returns
 returns g c =
-    let i = c.loop-specification.invariant in
-    record { gives = sym i.gives ∙ root_values-end _ _ _ _ _ c.loop-specification-test.false }
+    let i = c.loop-next.invariant in
+    let e = c.args.encoding in
+    let skipped = rw i.same at c.in_ok-skip_attributes-2.ensures.gives in
+    record { gives = sym i.gives ∙ wanted_end e is_root_name (with_root_attribute e) Ok (still_root e) _ _ _ _ (c.in_default.ensures.none refl) skipped }

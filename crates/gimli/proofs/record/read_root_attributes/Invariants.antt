@@ -1,12 +1,15 @@
-use Rattle.std.proofs.Common.{◌≡◌, drop}
+use Rattle.std.proofs.Common.{◌≡◌, length}
 use Rattle.gimli.specs.Entry.{attributes_at}
 use Rattle.gimli.specs.Record.{no_root_values, root_values_after}
 use Rattle.gimli.proofs.record.read_root_attributes.Given as goal
 
-abbrev pub invariant-loop-specification : goal.invariant-loop-specification
-invariant-loop-specification g l =
+abbrev pub invariant-loop-next : goal.invariant-loop-next
+invariant-loop-next g l =
     let encoding = l.fn.encoding in
     record {
-      gives : root_values_after encoding l.root (attributes_at encoding (drop l.specification-index l.specifications) (l.entries.cursor.left)) ≡ root_values_after encoding no_root_values (attributes_at encoding l.specifications (l.fn.entries.cursor.left));
+      gives : root_values_after encoding l.root (attributes_at encoding l.rest l.entries.cursor.left) ≡ root_values_after encoding no_root_values (attributes_at encoding l.specifications l.fn.entries.cursor.left);
       same : l.entries.unit.encoding ≡ encoding;
     }
+
+abbrev pub decreases-loop-next : goal.decreases-loop-next
+decreases-loop-next g l = length l.rest

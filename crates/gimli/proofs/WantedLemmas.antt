@@ -1,0 +1,123 @@
+-- Attributes that are asked for, among others that are passed over (on specs/WantedAttributes.antt).
+use Rattle.std.proofs.Common.{ℕ, zero, suc, ◌+◌, ◌-◌, ◌<◌, ◌≤◌, ◌≡◌, ◌==◌, Bool, true, false, cond, nat_lt, List, [], ◌∷◌, ◌++◌, fold, length, take, drop, slice_index_or, Option, Some, None, Result, Ok, Err, arith, refl, ap, sym, ◌∙◌, append-nil, length-drop, length-take}
+use Rattle.std.specs.List.{All, position, position_or_len}
+use Rattle.std.proofs.lemmas.Bool.Decides.{nat_tests}
+use Rattle.std.proofs.lemmas.List.{drop_more, get_or-take, take-append-drop, take_all}
+use Rattle.std.proofs.lemmas.List.Quantifiers.{position-Some}
+use Rattle.std.proofs.lemmas.List.Sums.{fails_before_first}
+use Rattle.gimli_read.specs.declared.constants.DwAt.{DwAt}
+use Rattle.gimli_read.specs.declared.constants.TheConstants.DwForm.{DW_FORM_implicit_const}
+use Rattle.gimli_read.specs.declared.endian.Encoding.{Encoding}
+use Rattle.gimli_read.specs.declared.error.Error.{Error}
+use Rattle.gimli_read.specs.declared.value.AttributeValue.{AttributeValue}
+use Rattle.gimli_read.specs.Abbreviations.{Specification}
+use Rattle.gimli_read.specs.Form.{NamedValue, attribute_at, implicit_of, named_value, rest_of, value_at}
+use Rattle.gimli_read.specs.Reading.{Reading, ◌>>=◌}
+use Rattle.gimli_read.specs.Section.{Section}
+use Rattle.gimli.specs.Entry.{attributes_at}
+use Rattle.gimli.specs.WantedAttributes.{HasNoWanted, IsSplitAtWanted}
+
+-- where no place is the first of a test the test fails everywhere
+pub none_split : (p : Specification → Bool) (xs : List Specification) → position p xs ≡ None → All (λ x. p x ≡ false) xs
+none_split p xs h k d l = at (nat_lt (position_or_len p xs) (length xs)) refl h
+  where
+    at : (b : Bool) → nat_lt (position_or_len p xs) (length xs) ≡ b → ◌≡◌ {A = Option ℕ} (cond b (Some (position_or_len p xs)) None) None → p (slice_index_or xs k d) ≡ false
+    at true e h = absurd cc
+    at false e h = fails_before_first p xs k d (let m : length xs ≤ position_or_len p xs = grind (arith, nat_tests) in omega arith)
+
+-- a list is what comes before a place, what stands there, and what comes after it
+pub split_at : (p : Specification → Bool) (xs : List Specification) (n : ℕ) (x : Specification) → position p xs ≡ Some n → x ≡ slice_index_or xs n x → (xs ≡ take n xs ++ x ∷ take (length xs - (n + 1)) (drop (n + 1) xs)) × All (λ y. p y ≡ false) (take n xs)
+split_at p xs n x h is =
+    let q = position-Some p xs n x h in
+    let l = length-take n xs in
+    let m = length-drop (n + 1) xs in (
+      sym (take-append-drop n xs)
+          ∙ ap (λ ys. take n xs ++ ys) (drop_more xs n x q.0 ∙ ap (λ y. y ∷ drop (n + 1) xs) (sym is) ∙ ap (λ ys. x ∷ ys) (sym (take_all (length xs - (n + 1)) (drop (n + 1) xs) (omega arith)))),
+      λ k d b. ap p (get_or-take n xs k d (omega arith)) ∙ fails k d (omega arith),
+    )
+  where
+    fails : (k : ℕ) (d : Specification) → k < n → p (slice_index_or xs k d) ≡ false
+    fails k d b = (position-Some p xs n d h).2 k b
+
+-- an attribute has the name of its specification
+named : (e : Encoding) (x : Specification) (s t : Section) (a : NamedValue) → attribute_at e x s ≡ Ok (a, t) → a.name ≡ x.name
+unfolding attribute_at
+named e x s t a h = by_form (x.form.0 == DW_FORM_implicit_const.0) h
+  where
+    implicit : (r : Result (AttributeValue Section) Error) → ◌≡◌ {A = Reading NamedValue} (r >>= λ value. Ok (named_value x value, s)) (Ok (a, t)) → a.name ≡ x.name
+    implicit (Ok v) h = let same : ◌≡◌ {A = NamedValue × Section} (named_value x v, s) (a, t) = cc in ap (λ n. n.0.name) (sym same)
+    implicit (Err f) h = absurd cc
+
+    valued : (r : Reading (AttributeValue Section)) → ◌≡◌ {A = Reading NamedValue} (r >>= λ v. Ok (named_value x v.0, v.1)) (Ok (a, t)) → a.name ≡ x.name
+    valued (Ok v) h = let same : ◌≡◌ {A = NamedValue × Section} (named_value x v.0, v.1) (a, t) = cc in ap (λ n. n.0.name) (sym same)
+    valued (Err f) h = absurd cc
+
+    by_form : (b : Bool) → ◌≡◌ {A = Reading NamedValue} (cond b (implicit_of x.constant >>= λ value. Ok (named_value x value, s)) (value_at e x.form.0 s >>= λ v. Ok (named_value x v.0, v.1))) (Ok (a, t)) → a.name ≡ x.name
+    by_form true h = implicit (implicit_of x.constant) h
+    by_form false h = valued (value_at e x.form.0 s) h
+
+-- one more attribute, and those after it
+abbrev before_more : NamedValue → Reading (List NamedValue) → Reading (List NamedValue)
+before_more a read = read >>= λ more. Ok (a ∷ more.0, more.1)
+
+-- what attributes say, where one that isn't asked for changes nothing
+module _ {X Y : Type 0} (e : Encoding) (wanted : DwAt → Bool) (more : X → NamedValue → X) (end : X → Result Y Error) (still : (x : X) (a : NamedValue) → wanted a.name ≡ false → more x a ≡ x) where
+  abbrev said : X → Reading (List NamedValue) → Result Y Error
+  said x read = read >>= λ y. end (fold more x y.0)
+
+  -- the first of the attributes that are read
+  front : (x : X) (a : NamedValue) (read : Reading (List NamedValue)) → said x (before_more a read) ≡ said (more x a) read
+  front x a (Ok y) = refl
+  front x a (Err f) = refl
+
+  -- those that aren't asked for are passed over
+  said_over : (x : X) (xs ys : List Specification) (left : Section) → HasNoWanted wanted xs
+      → said x (attributes_at e (xs ++ ys) left) ≡ (rest_of (attributes_at e xs left) >>= λ t. said x (attributes_at e ys t))
+  unfolding attributes_at
+  said_over x [] ys left h = refl
+  said_over x (s ∷ xs) ys left h = at (λ t. said_over x xs ys t (λ k y l. h (suc k) y (omega arith))) (attribute_at e s left) refl
+    where
+      rest : (a : NamedValue) (read : Reading (List NamedValue)) → (rest_of read >>= λ t. said x (attributes_at e ys t)) ≡ (rest_of (before_more a read) >>= λ t. said x (attributes_at e ys t))
+      rest a (Ok z) = refl
+      rest a (Err f) = refl
+
+      at : ((t : Section) → said x (attributes_at e (xs ++ ys) t) ≡ (rest_of (attributes_at e xs t) >>= λ z. said x (attributes_at e ys z))) → (q : Reading NamedValue) → attribute_at e s left ≡ q
+          → said x (q >>= λ a. before_more a.0 (attributes_at e (xs ++ ys) a.1)) ≡ (rest_of (q >>= λ a. before_more a.0 (attributes_at e xs a.1)) >>= λ t. said x (attributes_at e ys t))
+      at over (Err f) k = refl
+      at over (Ok a) k =
+          let other : wanted a.0.name ≡ false = ap wanted (named e s left a.1 a.0 k) ∙ h zero s (omega arith) in
+          front x a.0 (attributes_at e (xs ++ ys) a.1)
+          ∙ ap (λ v. said v (attributes_at e (xs ++ ys) a.1)) (still x a.0 other)
+          ∙ over a.1
+          ∙ rest a.0 (attributes_at e xs a.1)
+
+  -- where none is asked for
+  pub wanted_end : (x : X) (xs : List Specification) (left : Section) (t : Result Section Error) → HasNoWanted wanted xs → rest_of (attributes_at e xs left) ≡ t → said x (attributes_at e xs left) ≡ (t >>= λ z. end x)
+  unfolding attributes_at
+  wanted_end x xs left t h k =
+      ap (λ ys. said x (attributes_at e ys left)) (sym (append-nil xs)) ∙ said_over x xs [] left h
+      ∙ ap (λ (v : Result Section Error). v >>= λ z. end x) k
+
+  -- up to the next that is asked for the others are passed over
+  pub wanted_passed : (x : X) (all before : List Specification) (s : Specification) (after : List Specification) (left : Section) (t : Result Section Error) → IsSplitAtWanted wanted all before s after → rest_of (attributes_at e before left) ≡ t
+      → said x (attributes_at e all left) ≡ (t >>= λ z. said x (attributes_at e (s ∷ after) z))
+  wanted_passed x all before s after left t h k =
+      ap (λ xs. said x (attributes_at e xs left)) h.0 ∙ said_over x before (s ∷ after) left h.1
+      ∙ ap (λ (v : Result Section Error). v >>= λ z. said x (attributes_at e (s ∷ after) z)) k
+
+  -- with the next that is asked for
+  pub wanted_next : (x : X) (all before : List Specification) (s : Specification) (after : List Specification) (left t rest : Section) (a : NamedValue) → IsSplitAtWanted wanted all before s after → rest_of (attributes_at e before left) ≡ Ok t → attribute_at e s t ≡ Ok (a, rest)
+      → said x (attributes_at e all left) ≡ said (more x a) (attributes_at e after rest)
+  unfolding attributes_at
+  wanted_next x all before s after left t rest a h k n =
+      wanted_passed x all before s after left (Ok t) h k
+      ∙ ap (λ (v : Reading NamedValue). said x (v >>= λ y. before_more y.0 (attributes_at e after y.1))) n
+      ∙ front x a (attributes_at e after rest)
+
+  -- where it can't be read
+  pub wanted_fault : (x : X) (all before : List Specification) (s : Specification) (after : List Specification) (left t : Section) (f : Error) → IsSplitAtWanted wanted all before s after → rest_of (attributes_at e before left) ≡ Ok t → attribute_at e s t ≡ Err f
+      → said x (attributes_at e all left) ≡ Err f
+  unfolding attributes_at
+  wanted_fault x all before s after left t f h k n =
+      wanted_passed x all before s after left (Ok t) h k
+      ∙ ap (λ (v : Reading NamedValue). said x (v >>= λ y. before_more y.0 (attributes_at e after y.1))) n

@@ -1,0 +1,10 @@
+use Rattle.std.proofs.Common.{sym}
+use Rattle.gimli.specs.WantedAttributes.{is_root_specification}
+use Rattle.gimli.proofs.WantedLemmas.{none_split, split_at}
+use Rattle.gimli.proofs.record.split_at_root.Goals as goal
+
+pub returns-in_err-place-clause-none : goal.returns-in_err-place-clause-none
+returns-in_err-place-clause-none c = λ none. none_split is_root_specification c.args.all.now (sym c.in_err-place.ensures.gives)
+
+pub returns-clause-split : goal.returns-clause-split
+returns-clause-split c = split_at is_root_specification c.args.all.now c.in_ok-place.place c.index-all-place.result (sym c.in_ok-place.ensures.gives) c.index-all-place.is

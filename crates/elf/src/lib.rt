@@ -6,6 +6,7 @@ mod constants;
 mod error;
 mod file;
 mod header;
+mod image;
 mod layout;
 mod section;
 mod symbol;
@@ -13,4 +14,5 @@ mod text_starts;
 
 pub use crate::error::LoaderError;
 pub use crate::file::ElfFile;
+pub use crate::image::FileImage;
 pub use crate::symbol::Symbol;

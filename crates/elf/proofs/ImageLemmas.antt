@@ -1,10 +1,10 @@
 -- What the pieces of a file say of its bytes (on specs/FileImage.antt).
 use Rattle.std.proofs.Common.{◌≡◌, ◌∙◌, ℕ, zero, suc, ◌⊎◌, inl, inr, ◌+◌, ◌-◌, ◌≤◌, ◌<◌, Bool, true, false, cond, List, [], ◌∷◌, ◌++◌, Option, Some, None, length, take, drop, get_or, replicate, set, is_some, option_map, ap, append-nil, arith, refl, sym, subst}
-use Rattle.std.specs.Prelude.{IfSome}
+use Rattle.std.specs.Prelude.{IfOk, IfSome, Ok, Result}
 use Rattle.std.specs.List.{find}
 use Rattle.std.proofs.lemmas.Bool.{cases_lt}
 use Rattle.std.proofs.lemmas.Bool.Decides.{nat_tests}
-use Rattle.std.proofs.lemmas.List.{drop-drop, get_or-drop, take_more, take_more_set, drop-append-le, take-append-le, length-append, length-replicate, length-drop, length-take-le, get_or_append_left, get_or-append_right}
+use Rattle.std.proofs.lemmas.List.{drop-drop, drop-take, take-take, get_or-drop, take_more, take_more_set, drop-append-le, take-append-le, length-append, length-replicate, length-drop, length-take-le, get_or_append_left, get_or-append_right}
 use Rattle.std.proofs.Math.Seq.{drop-append-add}
 use Rattle.byteorder.specs.Endian.{big_from, little_from}
 use Rattle.byteorder.specs.Numbers.{big_from-take, little_from-take}
@@ -12,7 +12,7 @@ use Rattle.gimli_read.specs.declared.endian.RunTimeEndian.{RunTimeEndian}
 use Rattle.gimli_read.specs.declared.endian.RunTimeEndian.TheVariants.{Little, Big}
 use Rattle.gimli_read.specs.Number.{number_of}
 use Rattle.elf.specs.declared.image.Piece.{Piece}
-use Rattle.elf.specs.FileImage.{Image, HasPart, IsWhole, AreInOrder, bytes_from, holds, image_bytes, is_held, piece_end}
+use Rattle.elf.specs.FileImage.{Image, HasPart, IsWhole, AreInOrder, bytes_from, holds, image_bytes, is_held, piece_end, ArePiecesOf, IsPieceOf, Shows}
 use Rattle.elf.specs.Layout.{number_at}
 
 -- where a piece stands that has n bytes at s, behind a place at
@@ -193,3 +193,60 @@ one_more shown bytes start i b place room inside at is e =
     let left = length-drop start bytes in
     let there : b ≡ get_or (drop start bytes) i 0 = is ∙ ap (λ k. get_or bytes k 0) at ∙ sym (get_or-drop start bytes i 0) in
     take_more_set shown i b room ∙ ap (λ xs. xs ++ b ∷ []) e ∙ ap (λ x. take i (drop start bytes) ++ x ∷ []) there ∙ sym (take_more (drop start bytes) i 0 (omega (arith, inside, left)))
+
+-- the piece that is found is one of them
+found_of : (bytes : List ℕ) (s n : ℕ) (ps : List Piece) (p : Piece) → ArePiecesOf bytes ps → find (holds s n) ps ≡ Some p → IsPieceOf bytes p
+found_of bytes s n [] p h e = absurd cc
+found_of bytes s n (q ∷ ps) p h e = by_cases (holds s n q) refl (λ r. found_of bytes s n ps p h.1 r)
+  where
+    by_cases : (b : Bool) → holds s n q ≡ b → (find (holds s n) ps ≡ Some p → IsPieceOf bytes p) → IsPieceOf bytes p
+    by_cases true t next = let same : q ≡ p = cc in subst (IsPieceOf bytes) same h.0
+    by_cases false t next = next cc
+
+-- a part of a piece is the same part of the file
+part_same : (bytes own : List ℕ) (start s n : ℕ) → own ≡ take (length own) (drop start bytes) → start ≤ s → s + n ≤ start + length own → take n (drop (s - start) own) ≡ take n (drop s bytes)
+part_same bytes own start s n is begins ends =
+    let k = s - start in
+    let m = length own in
+    let fits : k + (m - k) ≡ m = omega (arith, begins, ends) in
+    let place : start + k ≡ s = omega (arith, begins) in
+    let cut : drop k own ≡ take (m - k) (drop s bytes) =
+    ap (drop k) is ∙ ap (λ j. drop k (take j (drop start bytes))) (sym fits) ∙ drop-take k (m - k) (drop start bytes) ∙ ap (take (m - k)) (drop-drop k start bytes) ∙ ap (λ j. take (m - k) (drop j bytes)) place in
+    ap (take n) cut ∙ take-take n (m - k) (drop s bytes) (omega (arith, begins, ends))
+
+-- pieces of a file show it
+pub pieces_show : (len : ℕ) (ps : List Piece) (bytes : List ℕ) → AreInOrder 0 len ps → len ≡ length bytes → ArePiecesOf bytes ps → Shows (record { len = len; pieces = ps }) bytes
+pieces_show len ps bytes o size are =
+    let i : Image = record { len = len; pieces = ps } in
+    record { len = bytes_length i o ∙ size; same = λ s n h. by_search i s n (find (holds s n) ps) refl h }
+  where
+    by_search : (i : Image) (s n : ℕ) (r : Option Piece) → find (holds s n) ps ≡ r → is_some (find (holds s n) ps) ≡ true
+        → take n (drop s (image_bytes (record { len = len; pieces = ps }))) ≡ take n (drop s bytes)
+    by_search i s n None e h = absurd cc
+    by_search i s n (Some p) e h =
+        let has = has_part (record { len = len; pieces = ps }) s n p o e in
+        let held = holds_is s n p has.held in
+        sym has.part ∙ part_same bytes p.bytes.bytes p.start s n (found_of bytes s n ps p are e) held.0 held.1
+
+-- a file shows its own bytes
+pub shows_itself : (i : Image) (bytes : List ℕ) → image_bytes i ≡ bytes → Shows i bytes
+shows_itself i bytes e = record { len = ap length e; same = λ s n h. ap (λ b. take n (drop s b)) e }
+
+-- one more piece
+pub more_pieces : (bytes : List ℕ) (ps : List Piece) (p : Piece) → ArePiecesOf bytes ps → IsPieceOf bytes p → ArePiecesOf bytes (ps ++ p ∷ [])
+more_pieces bytes [] p h is = (is, tt)
+more_pieces bytes (q ∷ ps) p h is = (h.0, more_pieces bytes ps p h.1 is)
+
+-- the first piece and the others
+pub first_and_rest : (ps : List Piece) (first : Piece) → first ≡ get_or ps 0 first → 0 < length ps → first ∷ drop 1 ps ≡ ps
+first_and_rest [] first e h = absurd (omega (arith, h))
+first_and_rest (p ∷ ps) first e h = ap (λ q. q ∷ ps) e
+
+-- one more piece that was read
+pub read_more : {E : Type 0} (o : Option (List ℕ)) (r : Result (Option Piece) E) (found : Option Piece) (ps : List Piece) (p : Piece) → r ≡ Ok found → found ≡ Some p
+    → IfSome o (λ b. IfOk r (λ f. IfSome f (IsPieceOf b))) → IfSome o (λ b. ArePiecesOf b ps) → IfSome o (λ b. ArePiecesOf b (ps ++ p ∷ []))
+read_more None r found ps p is some gives are = tt
+read_more {E} (Some b) r found ps p is some gives are =
+    let G : Result (Option Piece) E → Type 0 = λ x. IfOk x (λ f. IfSome f (IsPieceOf b)) in
+    let H : Option Piece → Type 0 = λ f. IfSome f (IsPieceOf b) in
+    more_pieces b ps p are (subst H some (subst G is gives))

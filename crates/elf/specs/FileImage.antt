@@ -46,3 +46,18 @@ is_held at n image = is_some (find (holds at n) image.pieces)
 -- one piece has any bytes of the file that stand side by side
 abbrev pub IsWhole : Image → Type 0
 IsWhole image = (at n : ℕ) → at + n ≤ length (image_bytes image) → is_held at n image ≡ true
+
+-- the pieces are those of a file: it has the same length, and the same bytes where one piece stands
+pub record Shows (image : Image) (bytes : List ℕ) : Type 0 where
+  pub len : length (image_bytes image) ≡ length bytes
+  pub same : (at n : ℕ) → is_held at n image ≡ true
+      → take n (drop at (image_bytes image)) ≡ take n (drop at bytes)
+
+-- a piece has bytes of a file, at their place
+abbrev pub IsPieceOf : List ℕ → Piece → Type 0
+IsPieceOf bytes p = p.bytes.bytes ≡ take (length p.bytes.bytes) (drop p.start bytes)
+
+-- each piece does
+abbrev pub ArePiecesOf : List ℕ → List Piece → Type 0
+ArePiecesOf bytes [] = Unit {0}
+ArePiecesOf bytes (p ∷ pieces) = IsPieceOf bytes p × ArePiecesOf bytes pieces

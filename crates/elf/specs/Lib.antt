@@ -12,3 +12,4 @@ pub mod SymbolTable
 pub mod FileTables
 pub mod Compressed
 pub mod DecompressionMemory
+pub mod Wanted

@@ -61,8 +61,8 @@ impl Model for ElfFile {
     } };
 }
 
-// The number of the section that has the sections' names.
-fn name_table_in(index: u64, sections: &[SectionHeader]) -> u64
+/// The number of the section that has the sections' names.
+pub(crate) fn name_table_in(index: u64, sections: &[SectionHeader]) -> u64
     ensures gives { result ≡ name_table_of index sections.now }
 {
     if index != SHN_XINDEX {

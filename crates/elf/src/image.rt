@@ -1,8 +1,8 @@
 //! The bytes of a file of which only some pieces were read.
 
-ghost use Rattle.std.specs.Prelude.{◌≡◌, ◌≤◌, ◌+◌, ◌-◌, ◌∷◌, length, take, drop, get_or, is_some, option_map, IfErr, IfOk, IfSome, None, Ok, true};
+ghost use Rattle.std.specs.Prelude.{◌≡◌, ◌≤◌, ◌+◌, ◌-◌, ℕ, List, ◌∷◌, length, take, drop, get_or, is_some, option_map, IfErr, IfOk, IfSome, None, Ok, true};
 ghost use Rattle.std.specs.List.{find};
-ghost use Rattle.elf.specs.FileImage.{HasPart, IsWhole, holds, image_bytes, is_held};
+ghost use Rattle.elf.specs.FileImage.{AreInOrder, ArePiecesOf, HasPart, IsWhole, Shows, holds, image_bytes, is_held};
 ghost use Rattle.elf.specs.declared.layout.Class.TheVariants as class;
 ghost use Rattle.elf.specs.declared.error.LoaderError.TheVariants.{OutOfMemory};
 ghost use Rattle.elf.specs.Layout.{layout_of, number_at};
@@ -78,6 +78,21 @@ fn find_piece<'a>(first: &'a Piece, others: &'a [Piece], start: u64, len: u64) -
     None
 }
 
+// Whether pieces stand in order in a file of `len` bytes.
+fn are_in_order(pieces: &[Piece], len: u64) -> bool
+    ensures in_order { result ≡ true → AreInOrder 0 len pieces.now }
+{
+    let mut end = 0;
+    for piece in pieces {
+        let own = piece.bytes.len();
+        if piece.start < end || own > len || piece.start > len - own {
+            return false;
+        }
+        end = piece.start + own;
+    }
+    true
+}
+
 /// The bytes of a file of which only some pieces were read. Zeros stand for the others.
 #[derive(Drop)]
 pub struct FileImage {
@@ -111,6 +126,24 @@ impl FileImage {
             first: Piece { start: 0, bytes },
             others: Vec::new(alloc),
         }
+    }
+
+    // A file of these pieces; none where they don't stand in order in it, or where there is none.
+    pub(crate) fn of_pieces(alloc: Global, len: u64, pieces: Vec<Piece>) -> Option<FileImage>
+        ensures shows { IfSome result (λ image. (bytes : List ℕ) → len ≡ length bytes
+            → ArePiecesOf bytes pieces.items → Shows image bytes) }
+    {
+        if pieces.is_empty() || !are_in_order(&pieces, len) {
+            return None;
+        }
+        let mut others = pieces;
+        let first = others.remove(0);
+        Some(FileImage {
+            alloc,
+            len,
+            first,
+            others,
+        })
     }
 
     /// How many bytes the file has.

@@ -190,8 +190,8 @@ fn first_of(sections: &[SectionHeader], kind: u64) -> Option<SectionHeader>
         .find(|section| section.kind == kind)
 }
 
-// The section that is the symbol table.
-fn table_in(sections: &[SectionHeader]) -> Option<SectionHeader>
+/// The section that is the symbol table.
+pub(crate) fn table_in(sections: &[SectionHeader]) -> Option<SectionHeader>
     ensures gives { result ≡ symbol_table sections.now }
 {
     match first_of(sections, SHT_SYMTAB) {

@@ -1,8 +1,10 @@
 -- What a loader is made from, whatever its files hold (on specs/Loaded.antt).
-use Rattle.std.proofs.Common.{◌≡◌, Bool, true, List, ℕ, Option, Some, Result, Ok, Err, refl, ap, ◌∙◌}
+use Rattle.std.proofs.Common.{◌≡◌, ◌≢◌, Bool, true, List, ℕ, Option, Some, Result, Ok, Err, refl, ap, ◌∙◌}
 use Rattle.std.specs.Prelude.{IfOk}
 use Rattle.gimli_read.specs.Reading.{◌>>=◌}
 use Rattle.gimli.specs.Sections.{Sections, SupSections}
+use Rattle.elf.specs.declared.error.LoaderError.{LoaderError}
+use Rattle.elf.specs.declared.error.LoaderError.TheVariants.{OutOfMemory}
 use Rattle.elf.specs.Loading.{Loading, LoadsUnlessOom}
 use Rattle.elf.specs.ObjectFile.{ObjectFile, object_file_of}
 use Rattle.addr2line.specs.Context.{ContextState, new_context}
@@ -49,3 +51,11 @@ unfolding loaded
 loaded_by held path sup_path object context e f =
     ap (λ r. r >>= λ file. context_at (dwarf_at held file sup_path) >>= λ c. Ok (file, c)) e
     ∙ ap (λ r. r >>= λ c. Ok (object, c)) f
+
+-- the fault of the second one
+pub loaded_fault : {X : Type 0} (view : X → ObjectFile × ContextState) (held : ReadFiles) (path : List ℕ) (sup_path : Option (List ℕ)) (object : ObjectFile) (r : Loading X) (x e : LoaderError) → r ≡ Err x → x ≡ e
+    → object_at held.files path ≡ Ok object → (e ≢ OutOfMemory → context_at (dwarf_at held object sup_path) ≡ Err e) → LoadsUnlessOom view r (loaded held path sup_path)
+unfolding loaded
+loaded_fault view held path sup_path object r x e is same p f = rw (is, same) (λ ne.
+    ap (λ r. r >>= λ file. context_at (dwarf_at held file sup_path) >>= λ c. Ok (file, c)) p
+    ∙ ap (λ r. r >>= λ c. Ok (object, c)) (f ne))

@@ -1,17 +1,33 @@
 //! Where files come from.
 
 ghost use Rattle.std.specs.Prelude.{◌≡◌, ℕ, List, [], IfOk, IsOk, OnErr, OnOk};
+ghost use Rattle.elf.specs.FileImage.{image_bytes};
 ghost use Rattle.addr2line.specs.Files.{listed_files, with_file};
 
+use bytes::Bytes;
+use elf::{FileImage, PartSource, read_wanted};
+use gimli::read::{EndianBytes, RunTimeEndian};
 use std::alloc::{AllocError, Global};
 use std::fs::{self, File, OpenFile};
 use std::io::{self, ErrorKind};
 use std::marker::Model;
 use std::os::unix::fs::FileExt;
 
-/// What gives whole files by their paths.
+// A file of which all bytes are there. Takes no memory where there are none.
+fn whole_file(alloc: Global, bytes: Vec<u8>) -> Result<FileImage, AllocError>
+    ensures gives { IfOk result (λ file. image_bytes file ≡ bytes.items) }
+    ensures none { bytes.items ≡ [] → IsOk result }
+{
+    match Bytes::from_vec(bytes) {
+        Ok(bytes) => Ok(FileImage::whole(alloc, EndianBytes::new(bytes, RunTimeEndian::Little))),
+        Err(_) => Err(AllocError),
+    }
+}
+
+/// What gives files by their paths.
 pub trait FileSource: Drop {
     ghost use Rattle.std.specs.Prelude.{[], IfOk, IfSome, None, Ok, Option, Some, option_map};
+    ghost use Rattle.elf.specs.FileImage.{image_bytes};
     ghost use Rattle.gimli_read.specs.Reading.{result_map};
     ghost use Rattle.addr2line.specs.Files.{Files, HasEmptyFile, HasNoFile};
 
@@ -28,6 +44,24 @@ pub trait FileSource: Drop {
         ensures none { HasNoFile (files self.now) path.now → result ≡ Ok None }
         ensures empty { HasEmptyFile (files self.now) path.now
             → result_map (option_map (λ (v : _). v.items)) result ≡ Ok (Some []) };
+
+    /// The file at a path, of which only the pieces may be read that lookups ask for, as
+    /// `read_wanted` reads them; none where there is no file or it can't be read. Where it is known
+    /// what files there are, it is all of the file.
+    ///
+    /// Fails as `read` does. Source: own.
+    fn read_image(&self, alloc: Global, path: &str) -> Result<Option<FileImage>, AllocError>
+        ensures gives { IfSome (files self.now) (λ held. IfOk result (λ found.
+            option_map image_bytes found ≡ held path.now)) }
+        ensures none { HasNoFile (files self.now) path.now → result ≡ Ok None }
+        ensures empty { HasEmptyFile (files self.now) path.now
+            → result_map (option_map image_bytes) result ≡ Ok (Some []) }
+    {
+        match self.read(alloc, path)? {
+            Some(bytes) => Ok(Some(whole_file(alloc, bytes)?)),
+            None => Ok(None),
+        }
+    }
 }
 
 /// Files in memory.
@@ -114,25 +148,60 @@ impl HostFiles {
     }
 }
 
-// The bytes of a regular file, as many as it says it has; nothing of anything else, which isn't
-// opened, since opening a pipe may wait for ever and a device may have no end.
-fn read_regular(rt: &HostRuntime, alloc: Global, path: &str) -> io::Result<Option<Vec<u8>>> {
+// A regular file of the host that is open, and how many bytes it says it has.
+#[derive(Drop)]
+struct HostFile {
+    file: File,
+    len: u64,
+}
+
+impl PartSource for HostFile {
+    fn len(&self) -> u64 {
+        self.len
+    }
+
+    fn part(&self, alloc: Global, start: u64, len: usize) -> Result<Option<Vec<u8>>, AllocError> {
+        let mut bytes = Vec::from_elem(alloc, 0u8, len)?;
+        match self.file.read_exact_at(bytes.as_mut_slice(), start) {
+            Ok(()) => Ok(Some(bytes)),
+            Err(error) if error.kind() == ErrorKind::OutOfMemory => Err(AllocError),
+            Err(_) => Ok(None),
+        }
+    }
+}
+
+// A regular file that is opened; nothing of anything else, which isn't opened, since opening a pipe
+// may wait for ever and a device may have no end.
+fn open_regular(rt: &HostRuntime, path: &str) -> io::Result<Option<HostFile>> {
     if !fs::metadata(rt, path)?.is_file() {
         return Ok(None);
     }
     let file = File::open(rt, path)?;
     let len = file.metadata()?.len();
-    let mut bytes = Vec::from_elem(alloc, 0u8, len as usize)?;
-    file.read_exact_at(bytes.as_mut_slice(), 0)?;
-    Ok(Some(bytes))
+    Ok(Some(HostFile { file, len }))
+}
+
+// The same, or nothing where it can't be opened.
+fn opened(rt: &HostRuntime, path: &str) -> Result<Option<HostFile>, AllocError> {
+    match open_regular(rt, path) {
+        Ok(file) => Ok(file),
+        Err(error) if error.kind() == ErrorKind::OutOfMemory => Err(AllocError),
+        Err(_) => Ok(None),
+    }
 }
 
 impl FileSource for HostFiles {
     fn read(&self, alloc: Global, path: &str) -> Result<Option<Vec<u8>>, AllocError> {
-        match read_regular(&self.rt, alloc, path) {
-            Ok(bytes) => Ok(bytes),
-            Err(error) if error.kind() == ErrorKind::OutOfMemory => Err(AllocError),
-            Err(_) => Ok(None),
+        match opened(&self.rt, path)? {
+            Some(file) => file.part(alloc, 0, file.len as usize),
+            None => Ok(None),
+        }
+    }
+
+    fn read_image(&self, alloc: Global, path: &str) -> Result<Option<FileImage>, AllocError> {
+        match opened(&self.rt, path)? {
+            Some(file) => read_wanted(alloc, &file),
+            None => Ok(None),
         }
     }
 }

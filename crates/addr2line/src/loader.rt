@@ -29,7 +29,7 @@ use crate::compressed::CompressedSections;
 use crate::context::Context;
 use crate::file_sections::{MainFile, OpenFile, as_dwarf, read_sections};
 use crate::files::{FileSource, HostFiles};
-use crate::split_files::parse_file;
+use crate::split_files::parse_image;
 use addr2line_lines::Location;
 use addr2line_units::FrameIter;
 use addr2line_units::range::LocationRangeIter;
@@ -48,8 +48,8 @@ fn open<F: FileSource>(alloc: Global, files: &F, path: &str) -> Result<ElfFile, 
     ensures empty { HasEmptyFile (F.files files.now) path.now → result ≡ Err NotElf }
     ensures made { IfOk result IsFileOfBytes }
 {
-    match files.read(alloc, path)? {
-        Some(bytes) => parse_file(alloc, bytes),
+    match files.read_image(alloc, path)? {
+        Some(file) => parse_image(alloc, file),
         None => Err(LoaderError::Io),
     }
 }

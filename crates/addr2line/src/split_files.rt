@@ -4,6 +4,7 @@ ghost use Rattle.std.specs.Prelude.{◌≡◌, [], Err, IfErr, IfOk, IfSome, Non
 ghost use Rattle.gimli_read.specs.Reading.{Exactly};
 ghost use Rattle.gimli.specs.Sections.{Sections};
 ghost use Rattle.elf.specs.declared.error.LoaderError.TheVariants.{NotElf, OutOfMemory, PathNotUtf8};
+ghost use Rattle.elf.specs.FileImage.{image_bytes};
 ghost use Rattle.elf.specs.Loading.{Loading, LoadsUnlessOom};
 ghost use Rattle.elf.specs.ObjectFile.{object_file_of};
 ghost use Rattle.addr2line.specs.declared.compressed.CompressedSections.TheVariants.{Refused};
@@ -15,7 +16,7 @@ use crate::file_sections::{OpenFile, SectionSource, SplitFile, as_dwarf, read_se
 use crate::files::FileSource;
 use addr2line_units::view::{SplitDwarfLoad, read_first_unit};
 use bytes::Bytes;
-use elf::{ElfFile, LoaderError};
+use elf::{ElfFile, FileImage, LoaderError};
 use gimli::read::{EndianBytes, Reader, RunTimeEndian};
 use gimli::{Dwarf, DwarfFileType, DwoId, Unit};
 use std::alloc::{AllocError, Global};
@@ -30,12 +31,12 @@ pub(crate) fn parse_bytes(alloc: Global, bytes: Bytes) -> Result<ElfFile, Loader
     ElfFile::parse(alloc, EndianBytes::new(bytes, RunTimeEndian::Little))
 }
 
-// The ELF file that owned bytes are.
-pub(crate) fn parse_file(alloc: Global, bytes: Vec<u8>) -> Result<ElfFile, LoaderError>
-    ensures gives { LoadsUnlessOom (λ f. f) result (object_file_of bytes.items) }
-    ensures empty { bytes.items ≡ [] → result ≡ Err NotElf }
+// The ELF file of which pieces were read.
+pub(crate) fn parse_image(alloc: Global, file: FileImage) -> Result<ElfFile, LoaderError>
+    ensures gives { LoadsUnlessOom (λ f. f) result (object_file_of (image_bytes file)) }
+    ensures empty { image_bytes file ≡ [] → result ≡ Err NotElf }
 {
-    parse_bytes(alloc, Bytes::from_vec(bytes)?)
+    ElfFile::parse_image(alloc, file)
 }
 
 // The bytes of a text that may be there.

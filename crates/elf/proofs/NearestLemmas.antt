@@ -12,15 +12,10 @@ use Rattle.std.proofs.lemmas.List.Elements.{All-head, All-tail, filter_agree}
 use Rattle.std.proofs.lemmas.List.Sorted.{sorted_far, ranks_by}
 use Rattle.std.proofs.lemmas.Option.{get_or_from_slice_get}
 use Rattle.elf.specs.declared.symbol.SymbolEntry.{SymbolEntry}
-use Rattle.gimli_read.specs.declared.endian.RunTimeEndian.{RunTimeEndian}
-use Rattle.elf.specs.declared.layout.Class.{Class}
-use Rattle.elf.specs.declared.section.SectionHeader.{SectionHeader}
-use Rattle.elf.specs.Layout.{layout_of}
-use Rattle.elf.specs.SectionBytes.{string_table_in}
 use Rattle.gimli_read.specs.Topmost.{greatest, topmost, last}
 use Rattle.gimli_read.proofs.TopmostLemmas.{In, In-last, In-filter, In-passes, All-passing, filter-filter, greatest_is, last-cond}
-use Rattle.elf.specs.Symbols.{preference, nearest_symbol, symbol_names_number, symbol_bytes, usable_in}
-use Rattle.elf.specs.SymbolTable.{precedes, IsSymbolTable, HasSymbols, IsBelow, IsAbove}
+use Rattle.elf.specs.Symbols.{preference, nearest_symbol}
+use Rattle.elf.specs.SymbolTable.{precedes, IsSymbolTable, IsBelow, IsAbove}
 
 module _ {X : Type 0} where
   In-get : (xs : List X) (k : ℕ) (d : X) → k < length xs → In (get_or xs k d) xs
@@ -172,10 +167,3 @@ rises symbols table is i j d le lt =
     let up = sorted_far precedes order table is.sorted i j d le lt in
     let at = before_from (get_or table j d).address (preference (get_or table j d)) (get_or table i d).address (preference (get_or table i d)) up in
     elim at [ inl l ↦ omega arith | inr e ↦ (let same = e.0 in omega arith) ]
-
--- the table of a file is that of its symbols
-pub table_is : (bytes : List ℕ) (endian : RunTimeEndian) (class : Class) (sections : List SectionHeader) (strings : ℕ) (table : List SymbolEntry) → HasSymbols bytes endian class sections strings table
-    → IsSymbolTable (usable_in endian (layout_of class) (string_table_in bytes sections (symbol_names_number sections)) (symbol_bytes bytes sections)) table
-table_is bytes endian class sections strings table h =
-    let P : ℕ → Type 0 = λ n. IsSymbolTable (usable_in endian (layout_of class) (string_table_in bytes sections n) (symbol_bytes bytes sections)) table in
-    subst P h.named_by h.symbols

@@ -1,17 +1,17 @@
 -- When a file takes memory (on specs/ObjectFile.antt).
-use Rattle.std.proofs.Common.{ℕ, zero, suc, ◌≡◌, ◌≢◌, ◌∙◌, ◌==◌, true, not, List, [], ◌∷◌, Ok, length, drop, arith, ap, subst, refl}
+use Rattle.std.proofs.Common.{ℕ, zero, suc, ◌≡◌, ◌≢◌, ◌∙◌, ◌==◌, true, not, List, [], Ok, Err, length, drop, arith, ap, subst, refl}
 use Rattle.std.proofs.lemmas.Bool.Decides.{nat_tests}
 use Rattle.gimli_read.specs.Reading.{◌>>=◌}
 use Rattle.gimli_read.specs.declared.endian.RunTimeEndian.{RunTimeEndian}
 use Rattle.elf.specs.declared.layout.Layout.{Layout}
 use Rattle.elf.specs.declared.header.Ident.{Ident}
 use Rattle.elf.specs.declared.header.FileHeader.{FileHeader}
-use Rattle.elf.specs.declared.section.SectionHeader.{SectionHeader}
 use Rattle.elf.specs.Layout.{layout_of}
 use Rattle.elf.specs.Header.{ident_in, header_in, sections_in}
-use Rattle.elf.specs.Loading.{Loading}
-use Rattle.elf.specs.ObjectFile.{object_file_of, object_file_with, gives_sections}
-use Rattle.elf.specs.Symbols.{symbol_bytes}
+use Rattle.elf.specs.declared.error.LoaderError.{LoaderError}
+use Rattle.elf.specs.declared.error.LoaderError.TheVariants.{OutOfMemory}
+use Rattle.elf.specs.Loading.{Loading, LoadsUnlessOomFor}
+use Rattle.elf.specs.ObjectFile.{ObjectFile, object_file_of, object_file_with, gives_sections}
 
 -- so many section headers are read
 pub sections_length : (o : RunTimeEndian) (l : Layout) (n : ℕ) (bytes : List ℕ) → length (sections_in o l n bytes) ≡ n
@@ -35,7 +35,11 @@ takes_memory bytes ident header is_ident is_header some =
     let G : Loading Ident → Type 0 = λ i. gives_sections (i >>= λ j. header_in j.endian (layout_of j.class) bytes >>= λ x. Ok (object_file_with bytes j x)) ≡ true in
     subst G is_ident (subst H is_header known)
 
--- without section headers no symbol table has bytes
-pub no_symbols : (bytes : List ℕ) (sections : List SectionHeader) → length sections ≡ 0 → symbol_bytes bytes sections ≡ []
-no_symbols bytes [] e = refl
-no_symbols bytes (s ∷ sections) e = absurd (omega arith)
+-- where memory is refused, the file has a section
+pub memory_refused : (bytes : List ℕ) (r : Loading ObjectFile) (e : LoaderError) → r ≡ Err e → e ≡ OutOfMemory → gives_sections (object_file_of bytes) ≡ true
+    → LoadsUnlessOomFor gives_sections r (object_file_of bytes)
+memory_refused bytes r e is out takes = rw (is, out) (λ h. absurd (h refl takes refl))
+
+-- without section headers none is read
+pub no_sections : (o : RunTimeEndian) (l : Layout) (n : ℕ) (bytes : List ℕ) → n ≡ 0 → sections_in o l n bytes ≡ []
+no_sections o l n bytes e = ap (λ k. sections_in o l k bytes) e

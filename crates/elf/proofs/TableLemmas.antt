@@ -13,6 +13,11 @@ pub room_next : (n k size a b : ℕ) → n ≡ suc k → n * size ≤ a → b + 
 room_next n k size a b is room more =
     let all : suc k * size ≤ a = rw is at room in omega (arith, all, more)
 
+-- the same by places
+pub room_after : (n k size at place len : ℕ) → n ≡ suc k → at + n * size ≤ len → place ≡ at + size → place + k * size ≤ len
+room_after n k size at place len is room next =
+    let all : at + suc k * size ≤ len = rw is at room in omega (arith, all, next)
+
 -- one more section header
 pub sections_next : (o : RunTimeEndian) (l : Layout) (n k : ℕ) (rest after : List ℕ) (read more all : List SectionHeader) (s : SectionHeader) → n ≡ suc k
     → read ++ sections_in o l n rest ≡ all → after ≡ drop l.section_size rest → more ≡ read ++ s ∷ [] → s ≡ section_in o l rest → more ++ sections_in o l k after ≡ all

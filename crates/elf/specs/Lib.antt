@@ -3,10 +3,13 @@ pub mod Text
 pub mod Layout
 pub mod Header
 pub mod SectionBytes
+pub mod FileImage
 pub mod ObjectFile
 pub mod Sections
 pub mod Symbols
 pub mod TextStarts
 pub mod SymbolTable
+pub mod FileTables
 pub mod Compressed
 pub mod DecompressionMemory
+pub mod Wanted

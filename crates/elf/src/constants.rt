@@ -6,6 +6,9 @@ pub(crate) const HALF_SIZE: usize = 2;
 // The size of an Elf32_Word or Elf64_Word, in bytes.
 pub(crate) const WORD_SIZE: usize = 4;
 
+// The size of an Elf64_Ehdr, in bytes, which no other header passes.
+pub(crate) const EHDR_SIZE_MAX: u64 = 64;
+
 // The first byte of e_ident.
 pub(crate) const ELFMAG0: u8 = 0x7f;
 

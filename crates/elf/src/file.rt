@@ -1,19 +1,25 @@
 //! A whole file.
 
-ghost use Rattle.std.specs.Prelude.{◌≡◌, ◌≤◌, ◌+◌, length, take, drop, option_map, Ok};
+ghost use Rattle.std.specs.Prelude.{◌≡◌, [], Some, false, slice_get, true, option_map, IfErr, IfOk, IsOk};
 ghost use Rattle.gimli_read.specs.Reading.{Exactly};
 ghost use Rattle.elf.specs.Compressed.{first_zdebug, unpacked_contents, decompressed_of, zdebug_of, missing_decompressed, decompressed_at};
 ghost use Rattle.elf.specs.DecompressionMemory.{unpacking_takes_memory, contents_take_memory, zdebug_takes_memory, missing_takes_memory, decompression_takes_memory};
 ghost use Rattle.elf.specs.Loading.{LoadsUnlessOomFor, LoadsUnlessOomIf};
+ghost use Rattle.elf.specs.declared.error.LoaderError.TheVariants.{OutOfMemory};
+ghost use Rattle.elf.specs.FileImage.{image_bytes};
+ghost use Rattle.elf.specs.FileTables.{AreReadable, HasTables, is_packed};
 ghost use Rattle.elf.specs.ObjectFile.{ObjectFile, object_file_of, name_table_of, gives_sections};
-ghost use Rattle.elf.specs.Symbols.{named_address, nearest_symbol, symbol_names_of, symbols_of, symbol_at};
-ghost use Rattle.elf.specs.SymbolTable.{HasSymbols};
+ghost use Rattle.elf.specs.Layout.{layout_of};
+ghost use Rattle.elf.specs.Symbols.{named_address, nearest_symbol, symbol_bytes, symbol_names_of, symbols_of, symbol_at, usable_in};
+ghost use Rattle.elf.specs.SymbolTable.{IsSymbolTable};
+ghost use Rattle.elf.specs.SectionBytes.{bytes_at, is_nobits, is_outside, section_bytes_in};
 ghost use Rattle.elf.specs.Sections.{section_names_of, number_named, first_named, section_range_at, empty_contents, contents_of, missing_section, section_at, gives_bytes_of_file};
 
 use crate::compressed;
 use crate::constants::SHN_XINDEX;
 use crate::error::LoaderError;
 use crate::header::{self, Ident};
+use crate::image::FileImage;
 use crate::layout::Class;
 use crate::section::{self, SectionHeader};
 use crate::symbol::{self, Symbol, SymbolEntry};
@@ -25,12 +31,14 @@ use std::marker::Model;
 /// An ELF file: its bytes, which its sections share, and its headers.
 #[derive(Drop)]
 pub struct ElfFile {
-    bytes: EndianBytes,
+    file: FileImage,
     class: Class,
+    endian: RunTimeEndian,
     is_relocatable: bool,
     sections: Vec<SectionHeader>,
     name_table: u64,
-    symbol_names: u64,
+    section_names: EndianBytes,
+    symbol_names: EndianBytes,
     symbols: Vec<SymbolEntry>,
 }
 
@@ -38,21 +46,23 @@ impl Model for ElfFile {
     ghost Value = { ObjectFile };
 
     ghost view = { λ f. record {
-      bytes = f.bytes.bytes;
+      bytes = image_bytes f.file;
       class = f.class;
-      endian = f.bytes.endian;
+      endian = f.endian;
       is_relocatable = f.is_relocatable;
       sections = f.sections.items;
       name_table = f.name_table;
     } };
 
-    ghost invariant = { λ f.
-        HasSymbols f.bytes.bytes f.bytes.endian f.class f.sections.items f.symbol_names
-        f.symbols.items };
+    ghost invariant = { λ f. record {
+      tables : HasTables (image_bytes f.file) f.endian f.class f.sections.items f.name_table
+          f.section_names f.symbol_names f.symbols.items;
+      readable : AreReadable f.file f.section_names.bytes f.sections.items;
+    } };
 }
 
-// The number of the section that has the sections' names.
-fn name_table_in(index: u64, sections: &[SectionHeader]) -> u64
+/// The number of the section that has the sections' names.
+pub(crate) fn name_table_in(index: u64, sections: &[SectionHeader]) -> u64
     ensures gives { result ≡ name_table_of index sections.now }
 {
     if index != SHN_XINDEX {
@@ -64,18 +74,52 @@ fn name_table_in(index: u64, sections: &[SectionHeader]) -> u64
     }
 }
 
-// The `len` bytes of a file from a place, shared with it.
-fn share(file: &EndianBytes, start: u64, len: u64) -> Result<EndianBytes, LoaderError>
-    requires within { start + len ≤ length file.now.bytes }
-    ensures gives { LoadsUnlessOomFor gives_bytes_of_file result
-        (Ok (record { bytes = take len (drop start file.now.bytes); endian = file.now.endian })) }
+// The string tables of a file, and its sorted symbols.
+#[derive(Drop)]
+struct Tables {
+    section_names: EndianBytes,
+    symbol_names: EndianBytes,
+    symbols: Vec<SymbolEntry>,
+}
+
+// The sorted symbols of a file, by the table of their names.
+fn read_symbols(
+    alloc: Global,
+    file: &FileImage,
+    sections: &[SectionHeader],
+    names: &[u8],
+    ident: Ident,
+) -> Result<Vec<SymbolEntry>, LoaderError>
+    ensures sorted { IfOk result (λ v. IsSymbolTable (usable_in ident.endian (layout_of ident.class)
+        names.now (symbol_bytes (image_bytes file.now) sections.now)) v.items) }
+    ensures none { sections.now ≡ [] → IsOk result }
+    ensures refused { IfErr result (λ e. e ≡ OutOfMemory) }
 {
-    if len == 0 {
-        return Ok(EndianBytes::new(Bytes::new(), file.endian()));
-    }
-    let mut rest = file.duplicate()?;
-    rest.skip(start)?;
-    Ok(rest.split(len)?)
+    let table = symbol::table_bytes(file, sections, ident.endian)?;
+    Ok(symbol::sorted(alloc, table.to_slice(), names, ident)?)
+}
+
+// The string tables of a file, and its sorted symbols.
+fn read_tables(
+    alloc: Global,
+    file: &FileImage,
+    sections: &[SectionHeader],
+    name_table: u64,
+    ident: Ident,
+) -> Result<Tables, LoaderError>
+    ensures gives { IfOk result (λ t. HasTables (image_bytes file.now) ident.endian ident.class
+        sections.now name_table t.section_names t.symbol_names t.symbols.items) }
+    ensures none { sections.now ≡ [] → IsOk result }
+    ensures refused { IfErr result (λ e. e ≡ OutOfMemory) }
+{
+    let number = symbol::names_number(sections);
+    let symbol_names = section::string_table(file, sections, number, ident.endian)?;
+    let symbols = read_symbols(alloc, file, sections, symbol_names.to_slice(), ident)?;
+    Ok(Tables {
+        section_names: section::string_table(file, sections, name_table, ident.endian)?,
+        symbol_names,
+        symbols,
+    })
 }
 
 impl ElfFile {
@@ -88,31 +132,34 @@ impl ElfFile {
     /// | `OutOfMemory` | a growth was refused; the file has a section |
     ///
     /// Source: System V ABI, Object Files.
-    #[tactic(auto, unfolding(crate::specs::ObjectFile::object_file_of))]
     pub fn parse(alloc: Global, bytes: EndianBytes) -> Result<ElfFile, LoaderError>
         ensures gives { LoadsUnlessOomFor gives_sections result (object_file_of bytes.bytes) }
     {
-        let file = bytes.to_slice();
-        let ident = header::read_ident(file)?;
-        let header = header::read_header(file, ident)?;
-        let (_, rest) = file.split_at(header.start);
-        let sections = section::headers(alloc, rest, header.count, ident)?;
+        ElfFile::parse_image(alloc, FileImage::whole(alloc, bytes))
+    }
+
+    /// The same of a file of which only some pieces were read.
+    #[tactic(auto, unfolding(crate::specs::ObjectFile::object_file_of))]
+    pub fn parse_image(alloc: Global, file: FileImage) -> Result<ElfFile, LoaderError>
+        ensures gives { LoadsUnlessOomFor gives_sections result (object_file_of (image_bytes file)) }
+    {
+        let ident = header::read_ident(&file)?;
+        let header = header::read_header(&file, ident)?;
+        let start = header.start as u64;
+        let sections = section::headers(alloc, &file, start, header.count, ident)?;
         let name_table = name_table_in(header.name_index, &sections);
-        let symbol_names = symbol::names_number(&sections);
-        let symbols = symbol::sorted(
-            alloc,
-            symbol::table_bytes(file, &sections),
-            section::string_table(file, &sections, symbol_names),
-            ident,
-        )?;
+        let tables = read_tables(alloc, &file, &sections, name_table, ident)?;
+        let file = section::with_readable(file, &sections, tables.section_names.to_slice())?;
         Ok(ElfFile {
-            bytes: bytes.with_endian(ident.endian),
+            file,
             class: ident.class,
+            endian: ident.endian,
             is_relocatable: header.is_relocatable,
             sections,
             name_table,
-            symbol_names,
-            symbols,
+            section_names: tables.section_names,
+            symbol_names: tables.symbol_names,
+            symbols: tables.symbols,
         })
     }
 
@@ -205,14 +252,14 @@ impl ElfFile {
     fn symbol_names(&self) -> &[u8]
         ensures gives { result.now ≡ symbol_names_of self.now }
     {
-        section::string_table(self.bytes.to_slice(), &self.sections, self.symbol_names)
+        self.symbol_names.to_slice()
     }
 
     // The table of the sections' names.
     fn section_names(&self) -> &[u8]
         ensures gives { result.now ≡ section_names_of self.now }
     {
-        section::string_table(self.bytes.to_slice(), &self.sections, self.name_table)
+        self.section_names.to_slice()
     }
 
     // The number of the first section of a name.
@@ -238,7 +285,7 @@ impl ElfFile {
     fn empty_contents(&self) -> EndianBytes
         ensures gives { result ≡ empty_contents self.now }
     {
-        EndianBytes::new(Bytes::new(), self.bytes.endian())
+        EndianBytes::new(Bytes::new(), self.endian)
     }
 
     // The bytes of a section.
@@ -250,7 +297,7 @@ impl ElfFile {
         if section.is_nobits() {
             return Ok(self.empty_contents());
         }
-        if section.is_outside(self.bytes.to_slice()) {
+        if section.is_outside(&self.file) {
             return Err(LoaderError::BadElf);
         }
         if section.is_compressed() {
@@ -259,7 +306,7 @@ impl ElfFile {
         if self.is_relocatable && section::is_relocated(&self.sections, number) {
             return Err(LoaderError::RelocationsNeeded);
         }
-        share(&self.bytes, section.offset, section.size)
+        self.file.share(section.offset, section.size, self.endian)
     }
 
     // The answer for a name that no section has.
@@ -289,8 +336,22 @@ impl ElfFile {
         }
         let bytes = compressed::unpacked(alloc, size, text)?;
         match Bytes::from_vec(bytes) {
-            Ok(bytes) => Ok(EndianBytes::new(bytes, self.bytes.endian())),
+            Ok(bytes) => Ok(EndianBytes::new(bytes, self.endian)),
             Err(_) => Err(LoaderError::OutOfMemory),
+        }
+    }
+
+    // The bytes of a packed section that are in the file.
+    fn packed_bytes(&self, number: usize, section: &SectionHeader) -> &[u8]
+        requires of_number { slice_get self.now.sections number ≡ Some section.now }
+        requires packed { is_packed (section_names_of self.now) section.now ≡ true }
+        requires within { is_outside self.now.bytes section.now ≡ false }
+        ensures gives { result.now ≡ bytes_at self.now.bytes section.now }
+    {
+        match self.file.slice(section.offset, section.size) {
+            Some(own) => own,
+            // No file has such a section.
+            None => &[],
         }
     }
 
@@ -302,17 +363,31 @@ impl ElfFile {
         number: usize,
         section: &SectionHeader,
     ) -> Result<EndianBytes, LoaderError>
+        requires of_number { slice_get self.now.sections number ≡ Some section.now }
         ensures gives { LoadsUnlessOomIf (contents_take_memory self.now number section.now)
             (λ b. b) result (decompressed_of self.now number section.now) }
     {
-        let file = self.bytes.to_slice();
-        if section.is_nobits() || section.is_outside(file) || !section.is_compressed() {
+        if section.is_nobits() || section.is_outside(&self.file) || !section.is_compressed() {
             return self.contents(number, section);
         }
-        let (_, rest) = file.split_at(section.offset as usize);
-        let (own, _) = rest.split_at(section.size as usize);
-        let (size, text) = compressed::packed(own, self.class, self.bytes.endian())?;
+        let own = self.packed_bytes(number, section);
+        let (size, text) = compressed::packed(own, self.class, self.endian)?;
         self.unpacked_contents(alloc, number, size, text)
+    }
+
+    // The bytes of a packed section, no bytes for NOBITS; `None` where they are outside the file.
+    fn packed_bytes_in(&self, number: usize, section: &SectionHeader) -> Option<&[u8]>
+        requires of_number { slice_get self.now.sections number ≡ Some section.now }
+        requires packed { is_packed (section_names_of self.now) section.now ≡ true }
+        ensures gives { option_map (λ b. b.now) result ≡ section_bytes_in self.now.bytes section.now }
+    {
+        if section.is_nobits() {
+            return Some(&[]);
+        }
+        if section.is_outside(&self.file) {
+            return None;
+        }
+        Some(self.packed_bytes(number, section))
     }
 
     // The bytes of a section with `.zdebug_` for `.debug_`.
@@ -323,10 +398,12 @@ impl ElfFile {
         number: usize,
         section: &SectionHeader,
     ) -> Result<EndianBytes, LoaderError>
+        requires of_number { slice_get self.now.sections number ≡ Some section.now }
+        requires packed { is_packed (section_names_of self.now) section.now ≡ true }
         ensures gives { LoadsUnlessOomIf (zdebug_takes_memory self.now number section.now) (λ b. b)
             result (zdebug_of self.now number section.now) }
     {
-        let Some(own) = section.bytes_in(self.bytes.to_slice()) else {
+        let Some(own) = self.packed_bytes_in(number, section) else {
             return Err(LoaderError::BadElf);
         };
         let (size, text) = compressed::zdebug_packed(own)?;

@@ -1,16 +1,22 @@
 //! Section headers, and the bytes of a section (System V ABI, Object Files: Sections).
 
-ghost use Rattle.std.specs.Prelude.{◌≡◌, ◌≤◌, ◌*◌, length, drop, option_map, IfOk, IsOk};
-ghost use Rattle.std.specs.List.{list_any, position};
+ghost use Rattle.std.specs.Prelude.{◌≡◌, ◌≤◌, ◌+◌, ◌*◌, [], length, drop, option_map, IfErr, IfOk, IsOk, Ok};
+ghost use Rattle.std.specs.List.{list_all, list_any, position};
+ghost use Rattle.std.specs.Option.{option_map_or};
+ghost use Rattle.elf.specs.declared.error.LoaderError.TheVariants.{OutOfMemory};
+ghost use Rattle.elf.specs.FileImage.{image_bytes};
+ghost use Rattle.elf.specs.FileTables.{AreReadable, has_zdebug_name, is_packed, is_readable};
 ghost use Rattle.elf.specs.Layout.{layout_of};
 ghost use Rattle.elf.specs.Header.{section_in, sections_in};
 ghost use Rattle.elf.specs.SectionBytes.{is_nobits, is_outside, section_bytes_in, string_table_in, front_text, table_text_at, short_text_at};
 ghost use Rattle.elf.specs.Sections.{addresses_of, is_compressed, is_named, is_zdebug_text, is_zdebug, relocates};
 
 use crate::constants::{SHF_COMPRESSED, SHN_UNDEF, SHT_NOBITS, SHT_REL, SHT_RELA, WORD_SIZE};
+use crate::error::LoaderError;
 use crate::header::Ident;
-use crate::layout;
-use gimli_read::{Range, zero_of};
+use crate::image::FileImage;
+use bytes::Bytes;
+use gimli_read::{EndianBytes, Range, Reader, RunTimeEndian, zero_of};
 use std::alloc::{AllocError, Global};
 
 /// A section header of either class.
@@ -26,43 +32,45 @@ pub(crate) struct SectionHeader {
     pub(crate) info: u64,
 }
 
-// The section header at the front.
-fn header_at(bytes: &[u8], ident: Ident) -> SectionHeader
-    requires whole { (layout_of ident.class).section_size ≤ length bytes.now }
-    ensures gives { result ≡ section_in ident.endian (layout_of ident.class) bytes.now }
+// The section header at a place.
+fn header_at(file: &FileImage, at: u64, ident: Ident) -> SectionHeader
+    requires whole { at + (layout_of ident.class).section_size ≤ length (image_bytes file.now) }
+    ensures gives { result ≡ section_in ident.endian (layout_of ident.class)
+        (drop at (image_bytes file.now)) }
 {
     let layout = ident.class.layout();
     SectionHeader {
-        name: layout::number(bytes, layout.sh_name, WORD_SIZE, ident.endian),
-        kind: layout::number(bytes, layout.sh_type, WORD_SIZE, ident.endian),
-        flags: layout::number(bytes, layout.sh_flags, layout.address_size, ident.endian),
-        address: layout::number(bytes, layout.sh_addr, layout.address_size, ident.endian),
-        offset: layout::number(bytes, layout.sh_offset, layout.address_size, ident.endian),
-        size: layout::number(bytes, layout.sh_size, layout.address_size, ident.endian),
-        link: layout::number(bytes, layout.sh_link, WORD_SIZE, ident.endian),
-        info: layout::number(bytes, layout.sh_info, WORD_SIZE, ident.endian),
+        name: file.number(at, layout.sh_name, WORD_SIZE, ident.endian),
+        kind: file.number(at, layout.sh_type, WORD_SIZE, ident.endian),
+        flags: file.number(at, layout.sh_flags, layout.address_size, ident.endian),
+        address: file.number(at, layout.sh_addr, layout.address_size, ident.endian),
+        offset: file.number(at, layout.sh_offset, layout.address_size, ident.endian),
+        size: file.number(at, layout.sh_size, layout.address_size, ident.endian),
+        link: file.number(at, layout.sh_link, WORD_SIZE, ident.endian),
+        info: file.number(at, layout.sh_info, WORD_SIZE, ident.endian),
     }
 }
 
-/// Reads `count` section headers, one after another. Takes memory for one or more.
+/// Reads `count` section headers from a place on. Takes memory for one or more.
 pub(crate) fn headers(
     alloc: Global,
-    bytes: &[u8],
+    file: &FileImage,
+    start: u64,
     count: usize,
     ident: Ident,
 ) -> Result<Vec<SectionHeader>, AllocError>
-    requires whole { count * (layout_of ident.class).section_size ≤ length bytes.now }
-    ensures gives { IfOk result (λ v.
-        v.items ≡ sections_in ident.endian (layout_of ident.class) count bytes.now) }
+    requires whole { start + count * (layout_of ident.class).section_size
+        ≤ length (image_bytes file.now) }
+    ensures gives { IfOk result (λ v. v.items ≡ sections_in ident.endian (layout_of ident.class)
+        count (drop start (image_bytes file.now))) }
     ensures none { count ≡ 0 → IsOk result }
 {
     let size = ident.class.layout().section_size;
     let mut all = Vec::new(alloc);
-    let mut rest = bytes;
+    let mut at = start;
     for _ in 0..count {
-        all.push(header_at(rest, ident))?;
-        let (_, after) = rest.split_at(size);
-        rest = after;
+        all.push(header_at(file, at, ident))?;
+        at = file.place(at, size as u64);
     }
     Ok(all)
 }
@@ -76,10 +84,10 @@ impl SectionHeader {
     }
 
     /// Whether the section's bytes aren't all within the file.
-    pub(crate) fn is_outside(&self, file: &[u8]) -> bool
-        ensures gives { result ≡ is_outside file.now self.now }
+    pub(crate) fn is_outside(&self, file: &FileImage) -> bool
+        ensures gives { result ≡ is_outside (image_bytes file.now) self.now }
     {
-        let len = file.len() as u64;
+        let len = file.len();
         self.offset > len || self.size > len - self.offset
     }
 
@@ -109,19 +117,45 @@ impl SectionHeader {
         })
     }
 
-    /// The bytes of the section, no bytes for NOBITS; `None` where they are outside the file.
-    pub(crate) fn bytes_in<'a>(&self, file: &'a [u8]) -> Option<&'a [u8]>
-        ensures gives { option_map (λ b. b.now) result ≡ section_bytes_in file.now self.now }
+    /// The bytes of the section, shared with the file: no bytes for NOBITS, or where they are
+    /// outside the file. Takes memory for one byte or more.
+    pub(crate) fn share_in(
+        &self,
+        file: &FileImage,
+        endian: RunTimeEndian,
+    ) -> Result<EndianBytes, LoaderError>
+        ensures gives { IfOk result (λ b. b.bytes
+            ≡ option_map_or (λ t. t) (section_bytes_in (image_bytes file.now) self.now) []) }
+        ensures refused { IfErr result (λ e. e ≡ OutOfMemory) }
     {
-        if self.is_nobits() {
-            return Some(&file[..0]);
+        if self.is_nobits() || self.is_outside(file) {
+            return Ok(EndianBytes::new(Bytes::new(), endian));
         }
-        if self.is_outside(file) {
-            return None;
+        file.share(self.offset, self.size, endian)
+    }
+
+    // Whether the section's name begins with `.zdebug_`.
+    fn has_zdebug_name(&self, names: &[u8]) -> bool
+        ensures gives { result ≡ has_zdebug_name names.now self.now }
+    {
+        match text_at(names, self.name) {
+            Some(text) => text.starts_with(b".zdebug_".as_slice()),
+            None => false,
         }
-        let (_, rest) = file.split_at(self.offset as usize);
-        let (own, _) = rest.split_at(self.size as usize);
-        Some(own)
+    }
+
+    // Whether the section's bytes are a header and a stream.
+    fn is_packed(&self, names: &[u8]) -> bool
+        ensures gives { result ≡ is_packed names.now self.now }
+    {
+        self.is_compressed() || self.has_zdebug_name(names)
+    }
+
+    // Whether its bytes, if it is packed and they are in the file, stand in one piece.
+    fn is_readable(&self, file: &FileImage, names: &[u8]) -> bool
+        ensures gives { result ≡ is_readable file.now names.now self.now }
+    {
+        !self.is_packed(names) || (self.is_outside(file) || file.is_held(self.offset, self.size))
     }
 
     /// Whether a text of the table is the section's name.
@@ -182,17 +216,49 @@ fn is_zdebug_text(name: &[u8], text: &[u8]) -> bool
     &text[zdebug.len()..] == &name[debug.len()..]
 }
 
-/// The string table that a section number names.
-pub(crate) fn string_table<'a>(file: &'a [u8], sections: &[SectionHeader], number: u64) -> &'a [u8]
-    ensures gives { result.now ≡ string_table_in file.now sections.now number }
+/// The string table that a section number names. Takes memory for one byte or more.
+pub(crate) fn string_table(
+    file: &FileImage,
+    sections: &[SectionHeader],
+    number: u64,
+    endian: RunTimeEndian,
+) -> Result<EndianBytes, LoaderError>
+    ensures gives { IfOk result (λ b.
+        b.bytes ≡ string_table_in (image_bytes file.now) sections.now number) }
+    ensures none { sections.now ≡ [] → IsOk result }
+    ensures refused { IfErr result (λ e. e ≡ OutOfMemory) }
 {
     if number == SHN_UNDEF || number >= sections.len() as u64 {
-        return &file[..0];
+        return Ok(EndianBytes::new(Bytes::new(), endian));
     }
-    match sections[number as usize].bytes_in(file) {
-        Some(table) => table,
-        None => &file[..0],
+    sections[number as usize].share_in(file, endian)
+}
+
+// Whether each section is readable.
+fn are_readable(file: &FileImage, sections: &[SectionHeader], names: &[u8]) -> bool
+    ensures gives { result ≡ list_all (is_readable file.now names.now) sections.now }
+{
+    sections
+        .iter()
+        .all(|section| section.is_readable(file, names))
+}
+
+/// The file with each packed section in one piece, if need be with all in one. Takes memory only
+/// where the file has a section.
+pub(crate) fn with_readable(
+    file: FileImage,
+    sections: &[SectionHeader],
+    names: &[u8],
+) -> Result<FileImage, LoaderError>
+    ensures gives { IfOk result (λ f. image_bytes f ≡ image_bytes file) }
+    ensures readable { IfOk result (λ f. AreReadable f names.now sections.now) }
+    ensures none { sections.now ≡ [] → IsOk result }
+    ensures refused { IfErr result (λ e. e ≡ OutOfMemory) }
+{
+    if are_readable(&file, sections, names) {
+        return Ok(file);
     }
+    file.flattened()
 }
 
 // The text at the front, up to its zero byte.

@@ -1,7 +1,9 @@
 //! Symbols (System V ABI, Object Files: Symbol Table).
 
-ghost use Rattle.std.specs.Prelude.{◌≡◌, ◌≤◌, ◌==◌, ℕ, List, [], ◌∷◌, ◌++◌, length, filter, is_some, option_map, OnOk, IfOk, IsOk};
+ghost use Rattle.std.specs.Prelude.{◌≡◌, ◌≤◌, ◌==◌, ℕ, List, [], ◌∷◌, ◌++◌, length, filter, is_some, option_map, OnOk, IfErr, IfOk, IsOk};
 ghost use Rattle.std.specs.List.{find, slice_get};
+ghost use Rattle.elf.specs.declared.error.LoaderError.TheVariants.{OutOfMemory};
+ghost use Rattle.elf.specs.FileImage.{image_bytes};
 ghost use Rattle.elf.specs.Layout.{layout_of};
 ghost use Rattle.elf.specs.Symbols.{named_address, symbol_table, symbol_bytes, symbol_names_number, symbol_entry_in, utf8_from, name_from, symbol_entry_name, symbol_type, symbol_bind, is_usable_type, is_usable, usable_in, is_preferred_bind, preference, covers, nearest_symbol};
 ghost use Rattle.std.specs.List.Sorted.{IsNonDecreasingBy, IsPartitionPoint};
@@ -13,10 +15,14 @@ use crate::constants::{
     SHN_UNDEF, SHT_DYNSYM, SHT_SYMTAB, ST_TYPE_COUNT, STB_GLOBAL, STB_WEAK, STT_FUNC, STT_NOTYPE,
     STT_OBJECT,
 };
+use crate::error::LoaderError;
 use crate::header::Ident;
+use crate::image::FileImage;
 use crate::layout;
 use crate::section::{self, SectionHeader};
 use crate::text_starts::{TextStarts, text_starts};
+use bytes::Bytes;
+use gimli_read::{EndianBytes, RunTimeEndian};
 use std::alloc::{AllocError, Global};
 use std::str;
 
@@ -185,8 +191,8 @@ fn first_of(sections: &[SectionHeader], kind: u64) -> Option<SectionHeader>
         .find(|section| section.kind == kind)
 }
 
-// The section that is the symbol table.
-fn table_in(sections: &[SectionHeader]) -> Option<SectionHeader>
+/// The section that is the symbol table.
+pub(crate) fn table_in(sections: &[SectionHeader]) -> Option<SectionHeader>
     ensures gives { result ≡ symbol_table sections.now }
 {
     match first_of(sections, SHT_SYMTAB) {
@@ -195,13 +201,20 @@ fn table_in(sections: &[SectionHeader]) -> Option<SectionHeader>
     }
 }
 
-/// The bytes of the symbol table.
-pub(crate) fn table_bytes<'a>(file: &'a [u8], sections: &[SectionHeader]) -> &'a [u8]
-    ensures gives { result.now ≡ symbol_bytes file.now sections.now }
+/// The bytes of the symbol table. Takes memory for one byte or more.
+pub(crate) fn table_bytes(
+    file: &FileImage,
+    sections: &[SectionHeader],
+    endian: RunTimeEndian,
+) -> Result<EndianBytes, LoaderError>
+    ensures gives { IfOk result (λ b.
+        b.bytes ≡ symbol_bytes (image_bytes file.now) sections.now) }
+    ensures none { sections.now ≡ [] → IsOk result }
+    ensures refused { IfErr result (λ e. e ≡ OutOfMemory) }
 {
     match table_in(sections) {
-        Some(section) => section.bytes_in(file).unwrap_or(&file[..0]),
-        None => &file[..0],
+        Some(section) => section.share_in(file, endian),
+        None => Ok(EndianBytes::new(Bytes::new(), endian)),
     }
 }
 

@@ -1,16 +1,21 @@
-use Rattle.std.proofs.Common.{rules, ◌≡◌, ◌∙◌, ◌+◌, ◌-◌, suc, ap, drop, arith}
+use Rattle.std.proofs.Common.{rules, ◌≡◌, ◌∙◌, ◌+◌, ◌-◌, suc, ap, drop, arith, sym}
+use Rattle.std.proofs.lemmas.List.{drop-drop}
+use Rattle.elf.specs.FileImage.{image_bytes}
 use Rattle.elf.specs.Layout.{layout_of}
-use Rattle.elf.proofs.TableLemmas.{room_next, sections_next, sections_end}
+use Rattle.elf.proofs.TableLemmas.{room_after, sections_next, sections_end}
 use Rattle.elf.proofs.section.headers.Goals as goal
 
 pub loop-preserved : goal.loop-preserved
 loop-preserved c =
     let inv = c.loop.invariant in
+    let bytes = image_bytes c.args.file.now in
     let n : c.args.count - c.loop.counter ≡ suc (c.args.count - (c.loop.counter + 1)) = omega arith in
-    let cut : c.split_at.result.1.now ≡ drop (layout_of c.args.ident.class).section_size c.loop.rest.now = c.split_at.ensures.back ∙ ap (λ k. drop k c.loop.rest.now) inv.size_is in
+    let next = c.place-at.ensures.gives in
+    let cut : drop c.place-at.result bytes ≡ drop (layout_of c.args.ident.class).section_size (drop c.loop.at bytes) =
+    ap (λ k. drop k bytes) next ∙ ap (λ k. drop (c.loop.at + k) bytes) inv.size_is ∙ sym (drop-drop (layout_of c.args.ident.class).section_size c.loop.at bytes) in
     record {
       size_is = inv.size_is;
-      room = room_next _ _ _ _ _ n inv.room c.split_at.ensures.back_len;
+      room = room_after _ _ _ c.loop.at c.place-at.result _ n inv.room next;
       read = sections_next _ (layout_of c.args.ident.class) _ _ _ _ _ _ _ c.header_at.result n inv.read cut c.in_ok-push.ensures.items c.header_at.ensures.gives;
     }
 

@@ -1,4 +1,5 @@
-use Rattle.std.proofs.Common.{◌≡◌, ◌≤◌, ◌*◌, ◌-◌, ◌++◌, length}
+use Rattle.std.proofs.Common.{◌≡◌, ◌≤◌, ◌+◌, ◌*◌, ◌-◌, ◌++◌, drop, length}
+use Rattle.elf.specs.FileImage.{image_bytes}
 use Rattle.elf.specs.Layout.{layout_of}
 use Rattle.elf.specs.Header.{sections_in}
 use Rattle.elf.proofs.section.headers.Given as goal
@@ -6,6 +7,6 @@ use Rattle.elf.proofs.section.headers.Given as goal
 abbrev pub invariant-loop : goal.invariant-loop
 invariant-loop l = record {
   size_is : l.size ≡ (layout_of l.ident.class).section_size;
-  room : (l.count - l.counter) * l.size ≤ length l.rest;
-  read : l.all.items ++ sections_in l.ident.endian (layout_of l.ident.class) (l.count - l.counter) l.rest ≡ sections_in l.ident.endian (layout_of l.ident.class) l.count l.bytes;
+  room : l.at + (l.count - l.counter) * l.size ≤ length (image_bytes l.file);
+  read : l.all.items ++ sections_in l.ident.endian (layout_of l.ident.class) (l.count - l.counter) (drop l.at (image_bytes l.file)) ≡ sections_in l.ident.endian (layout_of l.ident.class) l.count (drop l.start (image_bytes l.file));
 }

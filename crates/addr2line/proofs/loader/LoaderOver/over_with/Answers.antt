@@ -1,6 +1,7 @@
 use Rattle.std.proofs.Common.{is_some}
+use Rattle.std.proofs.lemmas.Result.{err_from_is_err_and}
 use Rattle.addr2line.specs.Files.{as_read}
-use Rattle.addr2line.proofs.LoadedLemmas.{loaded_by, loader_made}
+use Rattle.addr2line.proofs.LoadedLemmas.{loaded_by, loaded_fault, loader_made}
 use Rattle.addr2line.proofs.LoadingLemmas.{if_some_both}
 use Rattle.addr2line.proofs.loader.LoaderOver.over_with.Goals as goal
 
@@ -11,3 +12,9 @@ pub returns-clause-gives : goal.returns-clause-gives
 returns-clause-gives g c =
     if_some_both (g.F.FileSource.files c.args.files) c.in_ok-object.ensures.gives c.read_dwarf-dwarf.ensures.gives
     (λ held p q. loaded_by (as_read c.args.compressed held) _ _ c.in_ok-object.object c.in_ok-context.context p (c.in_ok-context.ensures.gives _ q))
+
+pub returns-in_err-context-clause-gives : goal.returns-in_err-context-clause-gives
+returns-in_err-context-clause-gives g c =
+    let p = err_from_is_err_and c.from_residual-in_err-context.result c.from_residual-in_err-context.ensures.1 in
+    if_some_both (g.F.FileSource.files c.args.files) c.in_ok-object.ensures.gives c.read_dwarf-dwarf.ensures.gives
+    (λ held is q. loaded_fault _ (as_read c.args.compressed held) _ _ c.in_ok-object.object _ p.0 _ p.1 p.2 is (c.in_err-context.ensures.gives _ q))

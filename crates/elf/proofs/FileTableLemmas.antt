@@ -1,0 +1,91 @@
+-- Sections that stand in one piece (on specs/FileTables.antt).
+use Rattle.std.proofs.Common.{◌≡◌, ◌∙◌, ◌≤◌, ◌+◌, ℕ, zero, suc, Bool, true, false, ◌&&◌, ◌||◌, not, List, [], ◌∷◌, Option, Some, None, drop, get_or, length, nat_eq, option_map, ap, arith, refl, sym}
+use Rattle.std.specs.Prelude.{slice_get, option_and_then}
+use Rattle.std.specs.List.{list_all, position, starts_with}
+use Rattle.std.specs.Option.{option_map_or}
+use Rattle.std.specs.Str.{bytes_eq}
+use Rattle.std.proofs.lemmas.Bool.Decides.{nat_tests}
+use Rattle.std.proofs.lemmas.List.Quantifiers.{position-Some}
+use Rattle.elf.specs.declared.section.SectionHeader.{SectionHeader}
+use Rattle.elf.specs.FileImage.{Image, IsWhole, image_bytes, is_held}
+use Rattle.elf.specs.FileTables.{AreReadable, has_zdebug_name, is_packed, is_readable}
+use Rattle.elf.specs.Compressed.{first_zdebug}
+use Rattle.elf.specs.ObjectFile.{ObjectFile}
+use Rattle.elf.specs.SectionBytes.{is_outside, table_text_at}
+use Rattle.elf.specs.Sections.{debug_prefix, zdebug_prefix, is_compressed, is_zdebug, is_zdebug_text, section_names_of}
+
+-- what holds of all holds of each
+pub all_at : {X : Type 0} (p : X → Bool) (xs : List X) (n : ℕ) (x : X) → list_all p xs ≡ true → slice_get xs n ≡ Some x → p x ≡ true
+all_at p [] n x h e = absurd cc
+all_at p (y ∷ ys) zero x h e = first (p y) refl
+  where
+    first : (b : Bool) → p y ≡ b → p x ≡ true
+    first true t = let same : y ≡ x = cc in ap p (sym same) ∙ t
+    first false t = absurd cc
+all_at p (y ∷ ys) (suc n) x h e = rest (p y) refl (λ r. all_at p ys n x r e)
+  where
+    rest : (b : Bool) → p y ≡ b → (list_all p ys ≡ true → p x ≡ true) → p x ≡ true
+    rest true t next = next cc
+    rest false t next = absurd cc
+
+or_true : (b : Bool) → (b || true) ≡ true
+or_true true = refl
+or_true false = refl
+
+-- where one piece has all bytes of a file, it has those of each section
+pub whole_readable : (image : Image) (names : List ℕ) (sections : List SectionHeader) → IsWhole image → AreReadable image names sections
+whole_readable image names sections whole n s e = by_cases (is_outside (image_bytes image) s) refl
+  where
+    by_cases : (b : Bool) → is_outside (image_bytes image) s ≡ b → is_readable image names s ≡ true
+    by_cases true h = ap (λ b. not (is_packed names s) || (b || is_held s.offset s.size image)) h ∙ or_true (not (is_packed names s))
+    by_cases false h =
+        let within : s.offset + s.size ≤ length (image_bytes image) = grind (arith, nat_tests) in
+        ap (λ b. not (is_packed names s) || (b || is_held s.offset s.size image)) h ∙ ap (λ b. not (is_packed names s) || b) (whole s.offset s.size within) ∙ or_true (not (is_packed names s))
+
+-- a packed section in the file stands in one piece
+pub readable_is_held : (image : Image) (names : List ℕ) (s : SectionHeader) → is_readable image names s ≡ true → is_packed names s ≡ true → is_outside (image_bytes image) s ≡ false
+    → is_held s.offset s.size image ≡ true
+readable_is_held image names s h packed within =
+    sym (ap (λ b. not b || (is_outside (image_bytes image) s || is_held s.offset s.size image)) packed ∙ ap (λ b. b || is_held s.offset s.size image) within) ∙ h
+
+-- the name with .zdebug_ in place of .debug_ begins with .zdebug_
+zdebug_name : (names name : List ℕ) (s : SectionHeader) → is_zdebug names name s ≡ true → has_zdebug_name names s ≡ true
+zdebug_name names name s h = by_text (table_text_at names s.name) h
+  where
+    by_text : (t : Option (List ℕ)) → option_map_or (is_zdebug_text name) t false ≡ true → option_map_or (λ text. starts_with nat_eq text zdebug_prefix) t false ≡ true
+    by_text None e = absurd cc
+    by_text (Some text) e = middle (starts_with nat_eq name debug_prefix) (starts_with nat_eq text zdebug_prefix) (bytes_eq (drop (length zdebug_prefix) text) (drop (length debug_prefix) name)) e
+      where
+        middle : (a b c : Bool) → (a && (b && c)) ≡ true → b ≡ true
+        middle true true c e = refl
+        middle true false c e = absurd cc
+        middle false b c e = absurd cc
+
+-- the element at a place
+get_at : (xs : List SectionHeader) (n : ℕ) (s : SectionHeader) → slice_get xs n ≡ Some s → get_or xs n s ≡ s
+get_at [] n s e = absurd cc
+get_at (x ∷ xs) zero s e = cc
+get_at (x ∷ xs) (suc n) s e = get_at xs n s e
+
+-- the section that is found for such a name is packed
+pub zdebug_is_packed : (name : List ℕ) (file : ObjectFile) (n : ℕ) (s : SectionHeader) → first_zdebug name file ≡ Some (n, s) → is_packed (section_names_of file) s ≡ true
+zdebug_is_packed name file n s e = by_place (position (is_zdebug names name) file.sections) refl e
+  where
+    names : List ℕ
+    names = section_names_of file
+
+    by_section : (m : ℕ) → position (is_zdebug names name) file.sections ≡ Some m → (o : Option SectionHeader) → slice_get file.sections m ≡ o
+        → option_map {U = ℕ × SectionHeader} (λ x. (m, x)) o ≡ Some (n, s) → is_packed names s ≡ true
+    by_section m at None there e = absurd cc
+    by_section m at (Some x) there e =
+        let pair : (m, x) ≡ (n, s) = cc in
+        let same : x ≡ s = ap (λ (q : ℕ × SectionHeader). q.1) pair in
+        let passes = (position-Some (is_zdebug names name) file.sections m x at).1 in
+        let is : is_zdebug names name x ≡ true = sym (ap (is_zdebug names name) (get_at file.sections m x there)) ∙ passes in
+        let named = zdebug_name names name x is in
+        ap (is_packed names) (sym same) ∙ ap (λ b. is_compressed x || b) named ∙ or_true (is_compressed x)
+
+    by_place : (o : Option ℕ) → position (is_zdebug names name) file.sections ≡ o
+        → option_and_then (λ m. option_map {U = ℕ × SectionHeader} (λ x. (m, x)) (slice_get file.sections m)) o ≡ Some (n, s) → is_packed names s ≡ true
+    by_place None at e = absurd cc
+    by_place (Some m) at e = by_section m at (slice_get file.sections m) refl e

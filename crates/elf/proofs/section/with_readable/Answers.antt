@@ -1,0 +1,20 @@
+use Rattle.std.proofs.Common.{◌≡◌, ◌∙◌, true, Result, Ok, Err, sym}
+use Rattle.std.specs.Prelude.{IfOk}
+use Rattle.std.specs.List.{list_all}
+use Rattle.elf.specs.declared.error.LoaderError.{LoaderError}
+use Rattle.elf.specs.FileImage.{Image, IsWhole}
+use Rattle.elf.specs.FileTables.{AreReadable, is_readable}
+use Rattle.elf.proofs.FileTableLemmas.{all_at, whole_readable}
+use Rattle.elf.proofs.section.with_readable.Goals as goal
+
+pub returns-then-are_readable-clause-readable : goal.returns-then-are_readable-clause-readable
+returns-then-are_readable-clause-readable c = λ n s e.
+    let all : list_all (is_readable c.args.file c.args.names.now) c.args.sections.now ≡ true = sym c.are_readable.ensures.gives ∙ c.if-are_readable.true in
+    all_at (is_readable c.args.file c.args.names.now) c.args.sections.now n s all e
+
+pub returns-clause-readable : goal.returns-clause-readable
+returns-clause-readable c = by_result c.flattened.result c.flattened.ensures.whole
+  where
+    by_result : (r : Result Image LoaderError) → IfOk r IsWhole → IfOk r (λ f. AreReadable f c.args.names.now c.args.sections.now)
+    by_result (Ok f) w = whole_readable f c.args.names.now c.args.sections.now w
+    by_result (Err e) w = tt

@@ -1,0 +1,63 @@
+-- The bytes of a file of which only some pieces were read.
+-- Own: zeros stand for the bytes that no piece has.
+use Rattle.std.specs.Prelude.{◌≡◌, ℕ, ◌+◌, ◌-◌, ◌≤◌, ◌&&◌, Bool, true, List, [], ◌∷◌, ◌++◌, drop, is_some, length, nat_le, replicate, take}
+use Rattle.std.specs.List.{find}
+use Rattle.elf.specs.declared.image.Piece.{Piece}
+
+-- a file, as far as it was read: its length, and its pieces in order
+pub record Image : Type 0 where
+  pub len : ℕ
+  pub pieces : List Piece
+
+-- where a piece ends
+abbrev pub piece_end : Piece → ℕ
+piece_end p = p.start + length p.bytes.bytes
+
+-- the bytes from a place of a file on: those of the pieces from there, and zeros between and after
+-- them
+abbrev pub bytes_from : ℕ → ℕ → List Piece → List ℕ
+bytes_from at len [] = replicate (len - at) 0
+bytes_from at len (p ∷ pieces) =
+    (replicate (p.start - at) 0 ++ p.bytes.bytes) ++ bytes_from (piece_end p) len pieces
+
+-- the pieces stand one after another from a place on, and none passes the file's end
+abbrev pub AreInOrder : ℕ → ℕ → List Piece → Type 0
+AreInOrder at len [] = at ≤ len
+AreInOrder at len (p ∷ pieces) = (at ≤ p.start) × AreInOrder (piece_end p) len pieces
+
+-- the bytes of the file
+unfoldable pub image_bytes : Image → List ℕ
+image_bytes image = bytes_from 0 image.len image.pieces
+
+-- whether a piece has the n bytes at a place
+abbrev pub holds : ℕ → ℕ → Piece → Bool
+holds at n p = nat_le p.start at && nat_le (at + n) (piece_end p)
+
+-- a piece has the n bytes of a file at a place
+pub record HasPart (at n : ℕ) (image : Image) (p : Piece) : Type 0 where
+  pub held : holds at n p ≡ true
+  pub part : take n (drop (at - p.start) p.bytes.bytes) ≡ take n (drop at (image_bytes image))
+  pub len : length (take n (drop at (image_bytes image))) ≡ n
+
+-- whether one piece has the n bytes at a place
+abbrev pub is_held : ℕ → ℕ → Image → Bool
+is_held at n image = is_some (find (holds at n) image.pieces)
+
+-- one piece has any bytes of the file that stand side by side
+abbrev pub IsWhole : Image → Type 0
+IsWhole image = (at n : ℕ) → at + n ≤ length (image_bytes image) → is_held at n image ≡ true
+
+-- the pieces are those of a file: it has the same length, and the same bytes where one piece stands
+pub record Shows (image : Image) (bytes : List ℕ) : Type 0 where
+  pub len : length (image_bytes image) ≡ length bytes
+  pub same : (at n : ℕ) → is_held at n image ≡ true
+      → take n (drop at (image_bytes image)) ≡ take n (drop at bytes)
+
+-- a piece has bytes of a file, at their place
+abbrev pub IsPieceOf : List ℕ → Piece → Type 0
+IsPieceOf bytes p = p.bytes.bytes ≡ take (length p.bytes.bytes) (drop p.start bytes)
+
+-- each piece does
+abbrev pub ArePiecesOf : List ℕ → List Piece → Type 0
+ArePiecesOf bytes [] = Unit {0}
+ArePiecesOf bytes (p ∷ pieces) = IsPieceOf bytes p × ArePiecesOf bytes pieces

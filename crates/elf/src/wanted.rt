@@ -1,0 +1,397 @@
+//! The parts of a file that lookups read.
+
+ghost use Rattle.std.specs.Prelude.{◌≡◌, ◌≤◌, ◌+◌, ◌*◌, ◌||◌, length, not, true, IfOk, IfSome};
+ghost use Rattle.std.specs.List.{list_all};
+ghost use Rattle.std.specs.Option.{option_map_or};
+ghost use Rattle.elf.specs.FileImage.{Shows, image_bytes};
+ghost use Rattle.elf.specs.Layout.{layout_of};
+ghost use Rattle.elf.specs.SectionBytes.{string_table_in};
+ghost use Rattle.elf.specs.Symbols.{symbol_names_number, symbol_table};
+ghost use Rattle.elf.specs.Wanted.{HasWanted, has_wanted, is_shown, is_shown_at, is_stem_text, is_table_stem, is_unit_stem, is_wanted, is_wanted_stem, is_wanted_text, shows_all};
+
+use crate::constants::{EHDR_SIZE_MAX, SHN_UNDEF};
+use crate::file::name_table_in;
+use crate::header::{self, FileHeader, Ident};
+use crate::image::FileImage;
+use crate::parts::{PartSource, read_ranges, read_whole};
+use crate::section::{self, SectionHeader};
+use crate::symbol;
+use gimli_read::Range;
+use std::alloc::{AllocError, Global};
+
+// Sections of fewer bytes are read whatever their names are.
+const SMALL: u64 = 4096;
+
+// Two ranges with fewer bytes between them are read as one.
+const GAP: u64 = 65536;
+
+// Whether a text is a stem, or one with `.dwo` behind it.
+fn is_stem_text(text: &[u8], stem: &[u8]) -> bool
+    ensures gives { result ≡ is_stem_text text.now stem.now }
+{
+    text.starts_with(stem)
+        && (text.len() == stem.len() || &text[stem.len()..] == b".dwo".as_slice())
+}
+
+// Whether it is the stem of a section that has units or lines.
+fn is_unit_stem(text: &[u8]) -> bool
+    ensures gives { result ≡ is_unit_stem text.now }
+{
+    is_stem_text(text, b"abbrev".as_slice())
+        || (is_stem_text(text, b"info".as_slice())
+            || (is_stem_text(text, b"line".as_slice())
+                || is_stem_text(text, b"line_str".as_slice())))
+}
+
+// Whether it is that of one that units name ranges or addresses in, or texts.
+fn is_table_stem(text: &[u8]) -> bool
+    ensures gives { result ≡ is_table_stem text.now }
+{
+    is_stem_text(text, b"addr".as_slice())
+        || (is_stem_text(text, b"aranges".as_slice())
+            || (is_stem_text(text, b"ranges".as_slice())
+                || (is_stem_text(text, b"rnglists".as_slice())
+                    || (is_stem_text(text, b"str".as_slice())
+                        || is_stem_text(text, b"str_offsets".as_slice())))))
+}
+
+// Whether it is one of both.
+fn is_wanted_stem(text: &[u8]) -> bool
+    ensures gives { result ≡ is_wanted_stem text.now }
+{
+    is_unit_stem(text) || is_table_stem(text)
+}
+
+// Whether a text is the name of a section of debug information that lookups read.
+fn is_wanted_text(text: &[u8]) -> bool
+    ensures gives { result ≡ is_wanted_text text.now }
+{
+    let debug = b".debug_".as_slice();
+    let zdebug = b".zdebug_".as_slice();
+    (text.starts_with(debug) && is_wanted_stem(&text[debug.len()..]))
+        || (text.starts_with(zdebug) && is_wanted_stem(&text[zdebug.len()..]))
+}
+
+// Whether a section has such a name.
+fn is_wanted(section: &SectionHeader, names: &[u8]) -> bool
+    ensures gives { result ≡ is_wanted names.now section.now }
+{
+    match section::text_at(names, section.name) {
+        Some(text) => is_wanted_text(text),
+        None => false,
+    }
+}
+
+// Whether one piece has the bytes of a section, if it has any and they are in the file.
+fn is_shown(section: &SectionHeader, file: &FileImage) -> bool
+    ensures gives { result ≡ is_shown file.now section.now }
+{
+    section.is_nobits() || (section.is_outside(file) || file.is_held(section.offset, section.size))
+}
+
+// The same of the section of a number, if there is one.
+fn is_shown_at(sections: &[SectionHeader], number: u64, file: &FileImage) -> bool
+    ensures gives { result ≡ is_shown_at file.now sections.now number }
+{
+    if number >= sections.len() as u64 {
+        return true;
+    }
+    is_shown(&sections[number as usize], file)
+}
+
+// The same of the symbol table, if there is one.
+fn is_table_shown(sections: &[SectionHeader], file: &FileImage) -> bool
+    ensures gives { result ≡ option_map_or (is_shown file.now) (symbol_table sections.now) true }
+{
+    match symbol::table_in(sections) {
+        Some(section) => is_shown(&section, file),
+        None => true,
+    }
+}
+
+// The same of each section of debug information.
+fn are_shown(sections: &[SectionHeader], names: &[u8], file: &FileImage) -> bool
+    ensures gives { result ≡ list_all (λ s. not (is_wanted names.now s) || is_shown file.now s)
+        sections.now }
+{
+    sections.iter().all(|section| !is_wanted(section, names) || is_shown(section, file))
+}
+
+// The string table of a number, if one piece has it.
+fn names_in<'a>(file: &'a FileImage, sections: &[SectionHeader], number: u64) -> Option<&'a [u8]>
+    ensures gives { IfSome result (λ b.
+        b.now ≡ string_table_in (image_bytes file.now) sections.now number) }
+{
+    if number == SHN_UNDEF || number >= sections.len() as u64 {
+        return Some(&[]);
+    }
+    let section = &sections[number as usize];
+    if section.is_nobits() || section.is_outside(file) {
+        return Some(&[]);
+    }
+    file.slice(section.offset, section.size)
+}
+
+// Whether pieces have the tables of a file, and its sections of debug information.
+fn shows_sections(file: &FileImage, sections: &[SectionHeader], name_table: u64) -> bool
+    ensures tables { result ≡ true
+        → (is_shown_at file.now sections.now name_table ≡ true)
+        × (is_shown_at file.now sections.now (symbol_names_number sections.now) ≡ true)
+        × (option_map_or (is_shown file.now) (symbol_table sections.now) true ≡ true) }
+    ensures sections { result ≡ true → list_all (λ s.
+        not (is_wanted (string_table_in (image_bytes file.now) sections.now name_table) s)
+        || is_shown file.now s) sections.now ≡ true }
+{
+    if !is_shown_at(sections, name_table, file)
+        || !is_shown_at(sections, symbol::names_number(sections), file)
+        || !is_table_shown(sections, file)
+    {
+        return false;
+    }
+    match names_in(file, sections, name_table) {
+        Some(names) => are_shown(sections, names, file),
+        None => false,
+    }
+}
+
+// Whether pieces have the section headers, and what is wanted of the sections.
+fn shows_all(
+    alloc: Global,
+    file: &FileImage,
+    ident: Ident,
+    header: FileHeader,
+) -> Result<bool, AllocError>
+    requires within { header.start + header.count * (layout_of ident.class).section_size
+        ≤ length (image_bytes file.now) }
+    ensures wanted { IfOk result (λ b. b ≡ true → shows_all file.now ident header ≡ true) }
+{
+    let Some(range) = headers_range(ident, header) else {
+        return Ok(false);
+    };
+    let size = ident.class.layout().section_size as u64;
+    if !file.is_held(range.begin, size) || !file.is_held(range.begin, range.end - range.begin) {
+        return Ok(false);
+    }
+    let sections = section::headers(alloc, file, range.begin, header.count, ident)?;
+    let name_table = name_table_in(header.name_index, &sections);
+    Ok(shows_sections(file, &sections, name_table))
+}
+
+// Whether pieces have all of a file that is wanted.
+#[tactic(auto, unfolding(crate::specs::Wanted::has_wanted))]
+fn has_wanted(alloc: Global, file: &FileImage) -> Result<bool, AllocError>
+    ensures wanted { IfOk result (λ b. b ≡ true → has_wanted file.now ≡ true) }
+{
+    if !file.is_held(0, EHDR_SIZE_MAX) {
+        return Ok(false);
+    }
+    let Ok(ident) = header::read_ident(file) else {
+        return Ok(false);
+    };
+    let Ok(header) = header::read_header(file, ident) else {
+        return Ok(false);
+    };
+    shows_all(alloc, file, ident, header)
+}
+
+// Where the section headers stand, if their end fits 64 bits.
+fn headers_range(ident: Ident, header: FileHeader) -> Option<Range>
+    ensures gives { IfSome result (λ r. (r.begin ≡ header.start)
+        × (r.end ≡ header.start + header.count * (layout_of ident.class).section_size)) }
+{
+    let begin = header.start as u64;
+    let size = (header.count as u64).checked_mul(ident.class.layout().section_size as u64)?;
+    let end = begin.checked_add(size)?;
+    Some(Range { begin, end })
+}
+
+// The header of a file, if it has one.
+fn read_header<S: PartSource>(
+    alloc: Global,
+    source: &S,
+) -> Result<Option<(Ident, FileHeader)>, AllocError> {
+    let range = Range {
+        begin: 0,
+        end: EHDR_SIZE_MAX,
+    };
+    let Some(file) = read_ranges(alloc, source, [range].as_slice())? else {
+        return Ok(None);
+    };
+    let Ok(ident) = header::read_ident(&file) else {
+        return Ok(None);
+    };
+    match header::read_header(&file, ident) {
+        Ok(header) => Ok(Some((ident, header))),
+        Err(_) => Ok(None),
+    }
+}
+
+// The section headers of a file, if they are in it.
+fn read_section_headers<S: PartSource>(
+    alloc: Global,
+    source: &S,
+    ident: Ident,
+    header: FileHeader,
+) -> Result<Option<Vec<SectionHeader>>, AllocError> {
+    let Some(range) = headers_range(ident, header) else {
+        return Ok(None);
+    };
+    if range.end > source.len() {
+        return Ok(None);
+    }
+    let Some(file) = read_ranges(alloc, source, [range].as_slice())? else {
+        return Ok(None);
+    };
+    if range.end > file.len() {
+        return Ok(None);
+    }
+    let sections = section::headers(alloc, &file, range.begin, header.count, ident)?;
+    Ok(Some(sections))
+}
+
+// Where a section has bytes in a file of `len`.
+fn range_of(section: &SectionHeader, len: u64) -> Option<Range> {
+    if section.is_nobits() {
+        return None;
+    }
+    let end = section.offset.checked_add(section.size)?;
+    if end > len {
+        return None;
+    }
+    Some(Range {
+        begin: section.offset,
+        end,
+    })
+}
+
+// The names of the sections, if they are in the file.
+fn read_names<S: PartSource>(
+    alloc: Global,
+    source: &S,
+    sections: &[SectionHeader],
+    name_table: u64,
+) -> Result<Option<Vec<u8>>, AllocError> {
+    if name_table >= sections.len() as u64 {
+        return Ok(None);
+    }
+    let section = &sections[name_table as usize];
+    match range_of(section, source.len()) {
+        Some(range) => source.part(alloc, range.begin, section.size as usize),
+        None => Ok(None),
+    }
+}
+
+// Adds where a section has bytes in a file of `len`.
+fn push_section(
+    ranges: &mut Vec<Range>,
+    section: &SectionHeader,
+    len: u64,
+) -> Result<(), AllocError> {
+    if let Some(range) = range_of(section, len) {
+        ranges.push(range)?;
+    }
+    Ok(())
+}
+
+// Where the header stands, the section headers and the sections that are wanted, in order.
+fn wanted_ranges(
+    alloc: Global,
+    sections: &[SectionHeader],
+    names: &[u8],
+    name_table: u64,
+    headers: Range,
+    len: u64,
+) -> Result<Vec<Range>, AllocError> {
+    let mut ranges = Vec::new(alloc);
+    ranges.push(headers)?;
+    let symbol_names = symbol::names_number(sections);
+    for (number, section) in sections.iter().enumerate() {
+        let is_table = number as u64 == name_table || number as u64 == symbol_names;
+        if is_table || section.size < SMALL || is_wanted(section, names) {
+            push_section(&mut ranges, section, len)?;
+        }
+    }
+    if let Some(table) = symbol::table_in(sections) {
+        push_section(&mut ranges, &table, len)?;
+    }
+    ranges.sort_by_key(|range| range.begin)?;
+    Ok(ranges)
+}
+
+// Ranges in order, and the header before them, those as one that have few bytes between them.
+fn joined(alloc: Global, ranges: &[Range]) -> Result<Vec<Range>, AllocError> {
+    let mut all = Vec::new(alloc);
+    let mut last = Range {
+        begin: 0,
+        end: EHDR_SIZE_MAX,
+    };
+    for range in ranges {
+        if range.begin <= last.end.saturating_add(GAP) {
+            last.end = last.end.max(range.end);
+        } else {
+            all.push(last)?;
+            last = *range;
+        }
+    }
+    all.push(last)?;
+    Ok(all)
+}
+
+// The ranges of a file to be read, by its header and its section headers.
+fn planned<S: PartSource>(alloc: Global, source: &S) -> Result<Option<Vec<Range>>, AllocError> {
+    let Some((ident, header)) = read_header(alloc, source)? else {
+        return Ok(None);
+    };
+    let Some(headers) = headers_range(ident, header) else {
+        return Ok(None);
+    };
+    let Some(sections) = read_section_headers(alloc, source, ident, header)? else {
+        return Ok(None);
+    };
+    let name_table = name_table_in(header.name_index, &sections);
+    let Some(names) = read_names(alloc, source, &sections, name_table)? else {
+        return Ok(None);
+    };
+    let len = source.len();
+    let ranges = wanted_ranges(alloc, &sections, &names, name_table, headers, len)?;
+    Ok(Some(joined(alloc, &ranges)?))
+}
+
+// The parts of a file that are wanted; none where these can't be told or read.
+fn read_planned<S: PartSource>(alloc: Global, source: &S) -> Result<Option<FileImage>, AllocError>
+    ensures gives { IfSome (S.bytes source.now) (λ bytes. IfOk result (λ found. IfSome found (λ f.
+        Shows f bytes))) }
+    ensures wanted { IfOk result (λ found. IfSome found (λ f. has_wanted f ≡ true)) }
+{
+    let Some(ranges) = planned(alloc, source)? else {
+        return Ok(None);
+    };
+    let Some(file) = read_ranges(alloc, source, &ranges)? else {
+        return Ok(None);
+    };
+    if !has_wanted(alloc, &file)? {
+        return Ok(None);
+    }
+    Ok(Some(file))
+}
+
+/// The parts of an ELF file that lookups read, or all of a file of which these can't be told; none
+/// where the file can't be read.
+///
+/// They are the header, the section headers with their names, the symbols with theirs, and the
+/// sections of debug information that `SectionId` names, also those of split files and compressed
+/// ones. Fails where a growth was refused. Source: System V ABI, Object Files; DWARF 5, section
+/// 7.5. Own: which parts.
+pub fn read_wanted<S: PartSource>(
+    alloc: Global,
+    source: &S,
+) -> Result<Option<FileImage>, AllocError>
+    ensures gives { IfSome (S.bytes source.now) (λ bytes. IfOk result (λ found. IfSome found (λ f.
+        Shows f bytes))) }
+    ensures wanted { IfOk result (λ found. IfSome found HasWanted) }
+{
+    match read_planned(alloc, source)? {
+        Some(file) => Ok(Some(file)),
+        None => read_whole(alloc, source),
+    }
+}

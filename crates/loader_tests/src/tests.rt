@@ -4,6 +4,7 @@ mod compressed;
 mod growths;
 mod host;
 mod late;
+mod parts;
 mod symbols;
 
 use addr2line::gimli::read::{Error, Reader};

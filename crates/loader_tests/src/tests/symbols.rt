@@ -35,7 +35,7 @@ fn symbols_files(alloc: Global) -> Result<MemoryFiles, AllocError> {
 }
 
 // The name of the symbol of an address, alone and beside its own address.
-fn symbol_at<F: FileSource>(loader: &LoaderOver<F>, probe: u64) -> [u64; 3] {
+pub(super) fn symbol_at<F: FileSource>(loader: &LoaderOver<F>, probe: u64) -> [u64; 3] {
     let name = loader.find_symbol(probe).map_or(0, |name| letter(name));
     match loader.find_symbol_info(probe) {
         Some(symbol) => [name, letter(symbol.name()), symbol.address()],
